@@ -1,0 +1,2 @@
+-- Laws of signed integers.
+pub mod Integers

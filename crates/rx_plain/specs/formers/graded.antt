@@ -1,0 +1,2 @@
+-- The list that counts first.
+pub mod Graded
