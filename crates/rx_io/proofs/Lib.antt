@@ -1,0 +1,4 @@
+pub mod HeldLemmas
+pub mod MemoryLemmas
+pub mod OutsideLemmas
+pub mod PutsLemmas
