@@ -1,0 +1,10 @@
+pub mod Counting
+pub mod RankOrder
+pub mod MultisetOrder
+pub mod Induction
+pub mod Chains
+pub mod UnderFrames
+pub mod Conversion
+pub mod UniqueResults
+pub mod SmallerWeights
+pub mod Example

@@ -1,0 +1,4 @@
+pub mod Terms
+pub mod Steps
+pub mod Ranks
+pub mod Premises

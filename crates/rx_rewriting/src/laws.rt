@@ -1,0 +1,72 @@
+//! Systems of rules and hypotheses: inside terms reach results, hypotheses convert no more than
+//! the rules, and results are unique.
+
+ghost use Rattle.std.specs.Prelude.{◌≡◌, ℕ, ◌-◌, ◌≤◌};
+ghost use Rattle.rx_rewriting.specs.Terms.{Ground, Relation, TermSet, IsResult};
+ghost use Rattle.rx_rewriting.specs.Steps.{Reaches, ReachesIn, Convertible, Joins, Either};
+ghost use Rattle.rx_rewriting.specs.Steps.{IsSingleValued};
+ghost use Rattle.rx_rewriting.specs.Ranks.{Weight};
+ghost use Rattle.rx_rewriting.specs.Premises.{Lowers, Stays, Moves, IsReplaceable, ResultsRest};
+ghost use Rattle.rx_rewriting.specs.Premises.{EndsInside, EndAlike};
+
+/// Rules and hypotheses, as relations between terms with no frames over them, a weight of each
+/// term, and the terms that are inside.
+pub trait System {
+    ghost rule: { Relation };
+
+    ghost hypothesis: { Relation };
+
+    ghost weight: { Ground → Weight };
+
+    ghost inside: { TermSet };
+}
+
+/// Where rule steps from inside terms give smaller weights and stay inside, and each inside term
+/// that is no result has one, every inside term reaches a result.
+pub fn inside_terms_reach_results<S: System>()
+    requires lowers { Lowers S.weight S.inside S.rule }
+    requires stays { Stays S.inside S.rule }
+    requires moves { Moves S.inside S.rule }
+    ensures { (s : Ground) → S.inside s → EndsInside S.inside S.rule s }
+{}
+
+/// Let steps by rules or hypotheses from inside terms give smaller weights and stay inside, and
+/// let each hypothesis step from an inside term be replaceable by a rule step and a join. Then
+/// what is reached from an inside term by rules and hypotheses is convertible with it by the rules
+/// alone, and so are two inside terms that join. Where all terms are inside, what is convertible
+/// by rules and hypotheses is so by the rules.
+pub fn reached_terms_are_convertible<S: System>()
+    requires lowers { Lowers S.weight S.inside (Either S.rule S.hypothesis) }
+    requires stays { Stays S.inside (Either S.rule S.hypothesis) }
+    requires replaceable { IsReplaceable S.inside S.rule S.hypothesis }
+    ensures reached { (s t : Ground) → S.inside s →
+        Reaches (Either S.rule S.hypothesis) s t → Convertible S.rule s t }
+    ensures joined { (s t : Ground) → S.inside s → S.inside t →
+        Joins (Either S.rule S.hypothesis) s t → Convertible S.rule s t }
+    ensures everywhere { ((u : Ground) → S.inside u) → (s t : Ground) →
+        Convertible (Either S.rule S.hypothesis) s t → Convertible S.rule s t }
+{}
+
+/// Under the same premises, and where each inside term that is no result has a rule step, two
+/// inside terms that join reach results that are convertible by the rules.
+pub fn joined_terms_reach_convertible_results<S: System>()
+    requires lowers { Lowers S.weight S.inside (Either S.rule S.hypothesis) }
+    requires stays { Stays S.inside (Either S.rule S.hypothesis) }
+    requires replaceable { IsReplaceable S.inside S.rule S.hypothesis }
+    requires moves { Moves S.inside S.rule }
+    ensures { (s t : Ground) → S.inside s → S.inside t →
+        Joins (Either S.rule S.hypothesis) s t → EndAlike S.inside S.rule s t }
+{}
+
+/// Where the rules are single-valued and no step starts at a result: convertible results are
+/// equal; a term that is convertible to a result reaches it; and what is reached in `i` steps from
+/// a term that reaches a result in `m` steps reaches that result in the `m - i` steps that are
+/// left.
+pub fn single_valued_rules_give_one_result<S: System>()
+    requires single { IsSingleValued S.rule }
+    requires rest { ResultsRest S.rule }
+    ensures equal { (s t : Ground) → IsResult s → IsResult t → Convertible S.rule s t → s ≡ t }
+    ensures found { (s t : Ground) → IsResult t → Convertible S.rule s t → Reaches S.rule s t }
+    ensures left { (s t u : Ground) (m i : ℕ) → IsResult t → ReachesIn S.rule m s t →
+        ReachesIn S.rule i s u → (i ≤ m) × ReachesIn S.rule (m - i) u t }
+{}
