@@ -1,0 +1,21 @@
+-- Lemmas on the definitions of specs/.
+pub mod Adjacent
+pub mod Constants
+pub mod Depths
+pub mod DivisionLaws
+pub mod Joining
+pub mod Levels
+pub mod Merging
+pub mod NormLaws
+pub mod OrderLemmas
+pub mod PolyLaws
+pub mod ProductLaws
+pub mod Pushing
+pub mod Running
+pub mod Same
+pub mod Scaling
+pub mod SortedLaws
+pub mod Substituting
+pub mod SubstitutedValue
+pub mod TermLaws
+pub mod Walks

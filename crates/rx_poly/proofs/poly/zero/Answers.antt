@@ -1,0 +1,6 @@
+-- 0 is a polynomial.
+use Rattle.rx_poly.proofs.PolyLaws.{zero_poly}
+use Rattle.rx_poly.proofs.poly.zero.Goals as goal
+
+pub invariant_of-result : goal.invariant_of-result
+invariant_of-result c = rw c.new.ensures zero_poly

@@ -1,0 +1,13 @@
+-- What the polynomials of this crate are, what they are worth, and what is formed of them.
+pub mod Substitution
+pub mod Terms
+pub mod Order
+pub mod Value
+pub mod Limits
+pub mod Normal
+pub mod Products
+pub mod Reading
+pub mod Signs
+pub mod Constants
+pub mod Division
+pub mod Norm

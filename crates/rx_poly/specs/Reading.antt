@@ -1,0 +1,23 @@
+-- What can be read from a polynomial: the number that it is, and the coefficient that a monomial has in it.
+use Rattle.std.specs.Prelude.{Option, Some, None, if◌then◌else◌, List, [], ◌∷◌, ℤ, pos}
+use Rattle.std.specs.declared.cmp.Ordering.{Ordering}
+use Rattle.std.specs.declared.cmp.Ordering.TheVariants.{Less, Equal, Greater}
+use Rattle.rx_poly.specs.Normal.{is_number}
+use Rattle.rx_poly.specs.Order.{mono_cmp}
+use Rattle.rx_poly.specs.declared.body.Mono.{Mono}
+
+-- the number that a sum is, where it is one
+abbrev pub constant_of : List (Mono × ℤ) → Option ℤ
+constant_of [] = Some (pos 0)
+constant_of (t ∷ ts) = if is_number (t ∷ ts) then Some t.1 else None
+
+-- the coefficient of a term, or what is found further on, by how the monomial stands to that of the term
+abbrev pub found : Ordering → ℤ → ℤ → ℤ
+found Less c further = further
+found Equal c further = c
+found Greater c further = further
+
+-- the coefficient of the monomial, 0 where it has none
+abbrev pub coefficient : Mono → List (Mono × ℤ) → ℤ
+coefficient k [] = pos 0
+coefficient k (t ∷ ts) = found (mono_cmp k t.0) t.1 (coefficient k ts)

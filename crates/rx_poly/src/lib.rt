@@ -1,0 +1,25 @@
+//! Integer polynomials over variables and truncating quotients and remainders, in one normal form.
+#![tactic(auto)]
+
+mod body;
+mod division;
+mod iterm;
+mod merge;
+mod multiple;
+mod normal_form;
+mod normal_test;
+mod poly;
+mod poly_end;
+mod product;
+mod sign;
+mod size;
+mod substitution;
+#[cfg(test)]
+mod tests;
+
+pub use body::{Atom, Body, Mono};
+pub use iterm::ITerm;
+pub use normal_form::norm;
+pub use poly::Poly;
+pub use poly_end::PolyEnd;
+pub use rx_plain::NoMemory;

@@ -1,0 +1,126 @@
+//! The sum or difference of two sums whose monomials rise, merged from the front.
+ghost use Rattle.std.specs.Prelude.{◌≡◌, ◌+◌, ◌<◌, [], ◌∷◌, ◌++◌, true, false, length, ◌+ℤ◌, ◌*ℤ◌, IfOk, IfErr, OnOk};
+ghost use Rattle.rx_poly.specs.Limits.{all_fit, fits_i128, is_sum};
+ghost use Rattle.rx_poly.specs.Order.{mono_cmp};
+ghost use Rattle.rx_poly.specs.Signs.{signed, with_sign};
+ghost use Rattle.rx_poly.specs.Terms.{add_terms, put, times_number};
+
+use crate::body::Mono;
+use crate::poly_end::PolyEnd;
+use crate::sign::{Sign, sum_of, with_its_sign};
+use rx_plain::Items;
+use std::alloc::{AllocError, Global};
+use std::cmp::Ordering;
+
+/// Copies `term` behind the others.
+fn push_term(
+    terms: &mut Items<(Mono, i128)>,
+    alloc: Global,
+    term: &(Mono, i128),
+) -> Result<(), AllocError>
+    ensures { OnOk result (terms.new ≡ terms.old ++ term.now ∷ []) }
+{
+    let mono = term.0.try_clone(alloc)?;
+    terms.push((mono, term.1))
+}
+
+/// Copies `term` with that sign behind the others.
+fn push_signed(
+    terms: &mut Items<(Mono, i128)>,
+    alloc: Global,
+    term: &(Mono, i128),
+    sign: Sign,
+) -> Result<(), PolyEnd>
+    ensures ok { OnOk result (terms.new ≡ terms.old ++ (term.now.0, signed sign term.now.1) ∷ []) }
+    ensures within { OnOk result (fits_i128 (signed sign term.now.1) ≡ true) }
+    ensures large { IfErr result (λ e. e ≡ PolyEnd.Large → fits_i128 (signed sign term.now.1) ≡ false) }
+{
+    let Some(number) = with_its_sign(&term.1, sign) else {
+        return Err(PolyEnd::Large);
+    };
+    let mono = term.0.try_clone(alloc)?;
+    terms.push((mono, number))?;
+    Ok(())
+}
+
+/// Puts the one term plus or minus the other of the same monomial behind the others, unless that is 0.
+fn push_sum(
+    terms: &mut Items<(Mono, i128)>,
+    alloc: Global,
+    left: &(Mono, i128),
+    right: &(Mono, i128),
+    sign: Sign,
+) -> Result<(), PolyEnd>
+    ensures ok { OnOk result (terms.new ≡ terms.old ++ put left.now.0 (left.now.1 +ℤ signed sign right.now.1) []) }
+    ensures within { OnOk result (fits_i128 (left.now.1 +ℤ signed sign right.now.1) ≡ true) }
+    ensures large { IfErr result (λ e. e ≡ PolyEnd.Large → fits_i128 (left.now.1 +ℤ signed sign right.now.1) ≡ false) }
+{
+    let Some(sum) = sum_of(&left.1, &right.1, sign) else {
+        return Err(PolyEnd::Large);
+    };
+    if sum == 0 {
+        return Ok(());
+    }
+    let mono = left.0.try_clone(alloc)?;
+    terms.push((mono, sum))?;
+    Ok(())
+}
+
+/// Copies the terms of `more` with that sign behind the others.
+fn push_all(
+    terms: &mut Items<(Mono, i128)>,
+    alloc: Global,
+    more: &[(Mono, i128)],
+    sign: Sign,
+) -> Result<(), PolyEnd>
+    ensures ok { OnOk result (terms.new ≡ terms.old ++ with_sign sign more.now) }
+    ensures within { OnOk result (all_fit (with_sign sign more.now) ≡ true) }
+    ensures large { IfErr result (λ e. e ≡ PolyEnd.Large → all_fit (with_sign sign more.now) ≡ false) }
+{
+    for term in more {
+        push_signed(terms, alloc, term, sign)?;
+    }
+    Ok(())
+}
+
+/// The one sum plus or minus the other, each with rising monomials and no coefficient 0.
+pub(crate) fn merge(
+    alloc: Global,
+    left: &[(Mono, i128)],
+    right: &[(Mono, i128)],
+    sign: Sign,
+) -> Result<Items<(Mono, i128)>, PolyEnd>
+    requires left { is_sum left.now ≡ true }
+    requires right { is_sum right.now ≡ true }
+    ensures terms { IfOk result (λ ts. ts ≡ add_terms mono_cmp left.now (with_sign sign right.now)) }
+    ensures within { OnOk result (all_fit (add_terms mono_cmp left.now (with_sign sign right.now)) ≡ true) }
+    ensures large { IfErr result (λ e. e ≡ PolyEnd.Large → all_fit (add_terms mono_cmp left.now (with_sign sign right.now)) ≡ false) }
+{
+    let mut sum = Items::new(alloc);
+    let mut ts = left;
+    let mut us = right;
+    while let Some((t, ts_behind)) = ts.split_first() {
+        let Some((u, us_behind)) = us.split_first() else {
+            push_term(&mut sum, alloc, t)?;
+            ts = ts_behind;
+            continue;
+        };
+        match t.0.cmp(&u.0) {
+            Ordering::Less => {
+                push_term(&mut sum, alloc, t)?;
+                ts = ts_behind;
+            }
+            Ordering::Equal => {
+                push_sum(&mut sum, alloc, t, u, sign)?;
+                ts = ts_behind;
+                us = us_behind;
+            }
+            Ordering::Greater => {
+                push_signed(&mut sum, alloc, u, sign)?;
+                us = us_behind;
+            }
+        }
+    }
+    push_all(&mut sum, alloc, us, sign)?;
+    Ok(sum)
+}

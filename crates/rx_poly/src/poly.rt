@@ -1,0 +1,269 @@
+//! A polynomial that is in normal form and within the limits.
+ghost use Rattle.std.specs.Prelude.{◌≡◌, ◌↔◌, ◌+ℤ◌, ◌-ℤ◌, ◌*ℤ◌, ℕ, ℤ, true, false, IsTrue, IfOk, IfSome, IsSome, IfErr, OnOk};
+ghost use Rattle.std.specs.Prelude.{[]};
+ghost use Rattle.rx_poly.specs.Limits.{added, of_terms, is_small, is_within, scaled_by, subtracted};
+ghost use Rattle.rx_poly.specs.Normal.{is_normal, is_normal_atom, is_normal_mono, is_poly};
+ghost use Rattle.rx_poly.specs.Constants.{number, variable};
+ghost use Rattle.rx_poly.specs.Division.{atom_alone};
+ghost use Rattle.rx_poly.specs.Products.{scaled, multiplied, mul_within};
+ghost use Rattle.rx_poly.specs.Reading.{coefficient, constant_of};
+ghost use Rattle.rx_poly.specs.Signs.{combined};
+ghost use Rattle.rx_poly.specs.Terms.{is_zero};
+ghost use Rattle.rx_poly.specs.declared.body.Body.{out-Body};
+ghost use Rattle.rx_poly.specs.Value.{value};
+
+use crate::body::{Atom, Body, Mono};
+use crate::merge::merge;
+use crate::multiple::multiple;
+use crate::normal_test::body_is_normal;
+use crate::poly_end::PolyEnd;
+use crate::product::scale;
+use crate::sign::Sign;
+use crate::size::is_within_limits;
+use rx_plain::{Graded, Items};
+use std::alloc::{AllocError, Global};
+use std::marker::Model;
+
+/// One polynomial: at every level in normal form, with coefficients in i128, a size of at most 4,096,
+/// and quotients and remainders nested at most 64 deep.
+#[derive(Debug, Drop, PartialEq, Eq, PartialOrd, Ord)]
+pub struct Poly {
+    body: Body,
+}
+
+impl Model for Poly {
+    ghost use Rattle.std.specs.Prelude.{◌≡◌, true};
+    ghost use Rattle.std.specs.Coded.{codes};
+    ghost use Rattle.rx_poly.specs.contracts.body.Body as body_row;
+    ghost use Rattle.rx_poly.specs.declared.body.Body.{Body};
+
+    ghost Value = { Body };
+
+    ghost coded = { Prim.hlevel (codes, body_row.the_row.coded) };
+
+    ghost use Rattle.rx_poly.specs.Normal.{is_poly};
+
+    ghost view = { λ p. p.body };
+
+    ghost invariant = { λ p. is_poly p.body ≡ true };
+
+    ghost inverse = { λ b. record { body = b } };
+}
+
+/// The polynomial of a normal form; Large where its size or depth passes the limits.
+pub(crate) fn within_limits(body: Body) -> Result<Poly, PolyEnd>
+    requires { is_normal body ≡ true }
+    ensures same { IfOk result (λ p. p ≡ body) }
+    ensures within { OnOk result (is_small body ≡ true) }
+    ensures large { IfErr result (λ e. is_small body ≡ false) }
+{
+    if is_within_limits(&body) {
+        Ok(Poly { body })
+    } else {
+        Err(PolyEnd::Large)
+    }
+}
+
+impl Poly {
+    /// The polynomial as a plain tree, lent.
+    pub fn body(&self) -> &Body
+        ensures body { result.now ≡ self.now }
+        ensures normal { is_poly self.now ≡ true }
+    {
+        &self.body
+    }
+
+    /// The polynomial with that body; None exactly where the body is, at some level, no normal form, or
+    /// passes the limits. Takes no memory.
+    pub fn from_body(body: Body) -> Option<Poly>
+        ensures same { IfSome result (λ p. p ≡ body) }
+        ensures exact { IsSome result ↔ (is_poly body ≡ true) }
+    {
+        if is_within_limits(&body) && body_is_normal(&body) {
+            Some(Poly { body })
+        } else {
+            None
+        }
+    }
+
+    /// Whether the two are one polynomial.
+    pub fn is_same(&self, other: &Poly) -> bool
+        ensures { IsTrue result ↔ (self.now ≡ other.now) }
+    {
+        self.body == other.body
+    }
+
+    /// The number that the polynomial is, where it is one. Takes no memory.
+    pub fn is_constant(&self) -> Option<i128>
+        ensures number { result ≡ constant_of (out-Body self.now).terms }
+        ensures value { IfSome result (λ k. (a : ℕ → ℤ) → value a self.now ≡ k) }
+    {
+        let Some((term, more)) = self.body.terms.as_slice().split_first() else {
+            return Some(0);
+        };
+        if more.is_empty() && term.0.atoms.is_empty() {
+            Some(term.1)
+        } else {
+            None
+        }
+    }
+
+    /// The coefficient of the monomial, 0 where it has none. Takes no memory.
+    pub fn coeff(&self, at: &Mono) -> i128
+        ensures { result ≡ coefficient at.now (out-Body self.now).terms }
+    {
+        for term in self.body.terms.as_slice() {
+            if at.cmp(&term.0).is_eq() {
+                return term.1;
+            }
+        }
+        0
+    }
+
+    /// The same polynomial once more; fails only for want of memory.
+    pub fn try_clone(&self, alloc: Global) -> Result<Poly, AllocError>
+        ensures { IfOk result (λ p. p ≡ self.now) }
+    {
+        let body = self.body.try_clone(alloc)?;
+        Ok(Poly { body })
+    }
+
+    /// The sum of the two; Large exactly where the sum passes the limits.
+    pub fn add(&self, alloc: Global, other: &Poly) -> Result<Poly, PolyEnd>
+        ensures normal { IfOk result (λ p. p ≡ added self.now other.now) }
+        ensures value { IfOk result (λ p. (a : ℕ → ℤ) → value a p ≡ value a self.now +ℤ value a other.now) }
+        ensures within { OnOk result (is_within (added self.now other.now) ≡ true) }
+        ensures large { IfErr result (λ e. e ≡ PolyEnd.Large → is_within (added self.now other.now) ≡ false) }
+    {
+        combine(alloc, self, other, Sign::Plus)
+    }
+
+    /// This polynomial minus the other, coefficient by coefficient; Large exactly where the difference
+    /// passes the limits. A polynomial minus itself is always 0.
+    pub fn sub(&self, alloc: Global, other: &Poly) -> Result<Poly, PolyEnd>
+        ensures normal { IfOk result (λ p. p ≡ subtracted self.now other.now) }
+        ensures value { IfOk result (λ p. (a : ℕ → ℤ) → value a p ≡ value a self.now -ℤ value a other.now) }
+        ensures within { OnOk result (is_within (subtracted self.now other.now) ≡ true) }
+        ensures large { IfErr result (λ e. e ≡ PolyEnd.Large → is_within (subtracted self.now other.now) ≡ false) }
+    {
+        combine(alloc, self, other, Sign::Minus)
+    }
+
+    /// The polynomial times a number; Large exactly where that passes the limits.
+    pub fn scale(&self, alloc: Global, by: i128) -> Result<Poly, PolyEnd>
+        ensures normal { IfOk result (λ p. p ≡ scaled_by by self.now) }
+        ensures value { IfOk result (λ p. (a : ℕ → ℤ) → value a p ≡ by *ℤ value a self.now) }
+        ensures within { OnOk result (is_within (scaled_by by self.now) ≡ true) }
+        ensures large { IfErr result (λ e. e ≡ PolyEnd.Large → is_within (scaled_by by self.now) ≡ false) }
+    {
+        times_number(alloc, self, &by)
+    }
+
+    /// The product of the two. Large exactly where the product of one term of this polynomial with the
+    /// whole other one passes the limits, or the sum of the first such products does.
+    pub fn mul(&self, alloc: Global, other: &Poly) -> Result<Poly, PolyEnd>
+        ensures normal { IfOk result (λ p. p ≡ multiplied self.now other.now) }
+        ensures value { IfOk result (λ p. (a : ℕ → ℤ) → value a p ≡ value a self.now *ℤ value a other.now) }
+        ensures within { OnOk result (mul_within self.now other.now ≡ true) }
+        ensures large { IfErr result (λ e. e ≡ PolyEnd.Large → mul_within self.now other.now ≡ false) }
+    {
+        let mut sum = zero(alloc);
+        for term in self.body.terms.as_slice() {
+            let product = times_term(alloc, term, other)?;
+            sum = sum.add(alloc, &product)?;
+        }
+        Ok(sum)
+    }
+}
+
+/// The polynomial 0.
+pub(crate) fn zero(alloc: Global) -> Poly
+    ensures { result ≡ of_terms [] }
+{
+    Poly {
+        body: Body {
+            terms: Items::new(alloc),
+        },
+    }
+}
+
+/// One term times a polynomial; Large exactly where that product passes the limits.
+fn times_term(alloc: Global, term: &(Mono, i128), factor: &Poly) -> Result<Poly, PolyEnd>
+    requires normal { is_normal_mono term.now.0 ≡ true }
+    requires nonzero { is_zero term.now.1 ≡ false }
+    ensures same { IfOk result (λ p. p ≡ of_terms (scaled term.now (out-Body factor.now).terms)) }
+    ensures within { OnOk result (is_within (of_terms (scaled term.now (out-Body factor.now).terms)) ≡ true) }
+    ensures large { IfErr result (λ e. e ≡ PolyEnd.Large → is_within (of_terms (scaled term.now (out-Body factor.now).terms)) ≡ false) }
+{
+    let terms = scale(alloc, term, factor.body.terms.as_slice())?;
+    within_limits(Body { terms })
+}
+
+/// The polynomial that is one variable.
+pub(crate) fn of_variable(alloc: Global, at: u32) -> Result<Poly, AllocError>
+    ensures { IfOk result (λ p. p ≡ variable at) }
+{
+    let mut atoms = Graded::new(alloc);
+    atoms.push(Atom::Var(at))?;
+    let mut terms = Items::new(alloc);
+    terms.push((Mono { atoms }, 1))?;
+    Ok(Poly {
+        body: Body { terms },
+    })
+}
+
+/// The polynomial that is one number.
+pub(crate) fn of_number(alloc: Global, by: &i128) -> Result<Poly, AllocError>
+    ensures { IfOk result (λ p. p ≡ number by.now) }
+{
+    if *by == 0 {
+        return Ok(zero(alloc));
+    }
+    let one = Mono {
+        atoms: Graded::new(alloc),
+    };
+    let mut terms = Items::new(alloc);
+    terms.push((one, *by))?;
+    Ok(Poly {
+        body: Body { terms },
+    })
+}
+
+/// The first polynomial plus or minus the second; Large exactly where that passes the limits.
+fn combine(alloc: Global, left: &Poly, right: &Poly, sign: Sign) -> Result<Poly, PolyEnd>
+    ensures same { IfOk result (λ p. p ≡ combined sign left.now right.now) }
+    ensures within { OnOk result (is_within (combined sign left.now right.now) ≡ true) }
+    ensures large { IfErr result (λ e. e ≡ PolyEnd.Large → is_within (combined sign left.now right.now) ≡ false) }
+{
+    let terms = merge(
+        alloc,
+        left.body.terms.as_slice(),
+        right.body.terms.as_slice(),
+        sign,
+    )?;
+    within_limits(Body { terms })
+}
+
+/// The polynomial times a number; Large exactly where that passes the limits.
+fn times_number(alloc: Global, poly: &Poly, by: &i128) -> Result<Poly, PolyEnd>
+    ensures same { IfOk result (λ p. p ≡ scaled_by by.now poly.now) }
+    ensures within { OnOk result (is_within (scaled_by by.now poly.now) ≡ true) }
+    ensures large { IfErr result (λ e. e ≡ PolyEnd.Large → is_within (scaled_by by.now poly.now) ≡ false) }
+{
+    let terms = multiple(alloc, poly.body.terms.as_slice(), by)?;
+    within_limits(Body { terms })
+}
+
+/// The polynomial that is one atom; Large where that passes the limits.
+pub(crate) fn of_atom(alloc: Global, atom: Atom) -> Result<Poly, PolyEnd>
+    requires { is_normal_atom atom ≡ true }
+    ensures same { IfOk result (λ p. p ≡ atom_alone atom) }
+    ensures within { OnOk result (is_within (atom_alone atom) ≡ true) }
+    ensures large { IfErr result (λ e. e ≡ PolyEnd.Large → is_within (atom_alone atom) ≡ false) }
+{
+    let mut atoms = Graded::new(alloc);
+    atoms.push(atom)?;
+    let mut terms = Items::new(alloc);
+    terms.push((Mono { atoms }, 1))?;
+    within_limits(Body { terms })
+}
