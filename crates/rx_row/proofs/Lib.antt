@@ -1,0 +1,8 @@
+-- Lemmas on the definitions of specs/.
+pub mod Lawful
+pub mod PartLaws
+pub mod RowLaws
+pub mod Same
+pub mod Substituting
+pub mod SubstitutionLaws
+pub mod Summing

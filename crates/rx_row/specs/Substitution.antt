@@ -1,0 +1,24 @@
+-- Polynomials put in place of variables in rows: the rows, and whether all that is formed on the way keeps the limits.
+use Rattle.std.specs.Prelude.{ℕ, Bool, List, map}
+use Rattle.std.specs.List.{list_all}
+use Rattle.rx_poly.specs.Substitution.{in_body}
+use Rattle.rx_poly.specs.declared.body.Body.{Body}
+use Rattle.rx_row.specs.Parts.{poly_of}
+use Rattle.rx_row.specs.declared.row.Row.{Row}
+use Rattle.rx_row.specs.declared.row.Row.TheVariants.{Ge, Eq, Ne}
+
+-- the same is said of the polynomial with the others in place of their variables
+abbrev pub in_row : List (ℕ × Body) → Row → Row
+in_row ws (Ge p) = Ge (in_body ws p).form
+in_row ws (Eq p) = Eq (in_body ws p).form
+in_row ws (Ne p) = Ne (in_body ws p).form
+
+abbrev pub row_within : List (ℕ × Body) → Row → Bool
+row_within ws row = (in_body ws (poly_of row)).within
+
+-- as many rows in the same order
+abbrev pub in_rows : List (ℕ × Body) → List Row → List Row
+in_rows ws rows = map (in_row ws) rows
+
+abbrev pub rows_within : List (ℕ × Body) → List Row → Bool
+rows_within ws rows = list_all (row_within ws) rows

@@ -1,0 +1,131 @@
+//! Lists of rows, all of which are to hold.
+ghost use Rattle.std.specs.Prelude.{◌≡◌, ◌↔◌, true, false, IfErr, ℕ, ℤ, [], ◌∷◌, ◌++◌, Contains, IsTrue, IsOk, IfOk, OnOk, OnErr};
+ghost use Rattle.rx_row.specs.Holds.{AllHold, RowHolds};
+ghost use Rattle.rx_row.specs.Substitution.{in_row, in_rows, row_within, rows_within};
+ghost use Rattle.rx_poly.specs.Substitution.{worth};
+
+use crate::row::Row;
+use rx_plain::{Items, NoMemory};
+use rx_poly::{Poly, PolyEnd};
+use std::alloc::{AllocError, Global};
+use std::marker::Model;
+
+/// A list of rows, all of which are to hold.
+#[derive(Debug, Drop, PartialEq, Eq, PartialOrd, Ord)]
+pub struct Constraint {
+    rows: Items<Row>,
+}
+
+impl Model for Constraint {
+    ghost use Rattle.std.specs.Prelude.{List};
+    ghost use Rattle.std.specs.Coded.{codes};
+    ghost use Rattle.rx_row.specs.contracts.row.Row as row_row;
+    ghost use Rattle.rx_row.specs.declared.row.Row.{Row};
+
+    ghost Value = { List Row };
+
+    ghost coded = { Prim.hlevel (codes, row_row.the_row.coded) };
+
+    ghost view = { λ c. c.rows };
+
+    ghost inverse = { λ rows. record { rows = rows } };
+}
+
+/// Puts the row behind the others, with those polynomials in place of their variables.
+fn push_substituted(
+    rows: &mut Vec<Row>,
+    alloc: Global,
+    row: &Row,
+    with: &[(u32, Poly)],
+) -> Result<(), PolyEnd>
+    ensures ok { OnOk result (rows.new.items ≡ rows.old.items ++ in_row with.now row.now ∷ []) }
+    ensures within { OnOk result (row_within with.now row.now ≡ true) }
+    ensures large { IfErr result (λ e. e ≡ PolyEnd.Large → row_within with.now row.now ≡ false) }
+{
+    let changed = row.subst(alloc, with)?;
+    rows.push(changed).map_err(AllocError::from)?;
+    Ok(())
+}
+
+impl Constraint {
+    /// Exactly these rows, in their order, also where one stands there twice. Takes no memory.
+    pub fn from_rows(rows: Vec<Row>) -> Constraint
+        ensures { result ≡ rows.items }
+    {
+        Constraint {
+            rows: Items::from_vec(rows),
+        }
+    }
+
+    /// The rows in order, lent.
+    pub fn rows(&self) -> &[Row]
+        ensures { result.now ≡ self.now }
+    {
+        self.rows.as_slice()
+    }
+
+    /// Whether the row stands there. Takes no memory.
+    pub fn contains(&self, row: &Row) -> bool
+        ensures { IsTrue result ↔ Contains self.now row.now }
+    {
+        for standing in self.rows.as_slice() {
+            if standing.is_same(row) {
+                return true;
+            }
+        }
+        false
+    }
+
+    /// Puts the row behind the others, unless it stands there; such a row changes nothing. Where there is no
+    /// memory the rows stay as they were.
+    pub fn push(&mut self, row: Row) -> Result<(), NoMemory>
+        ensures known { Contains self.old row → self.new ≡ self.old }
+        ensures ready { Contains self.old row → IsOk result }
+        ensures new { OnOk result (¬ (Contains self.old row) → self.new ≡ self.old ++ row ∷ []) }
+        ensures holds { OnOk result ((a : ℕ → ℤ) → AllHold a self.new ↔ (AllHold a self.old × RowHolds a row)) }
+        ensures refused { OnErr result (self.new ≡ self.old) }
+    {
+        if self.contains(&row) {
+            return Ok(());
+        }
+        self.rows.push(row)?;
+        Ok(())
+    }
+
+    /// As many rows in the same order, each with those polynomials in place of their variables. Large exactly
+    /// where a polynomial on the way to one of them passes the limits.
+    pub fn subst(&self, alloc: Global, with: &[(u32, Poly)]) -> Result<Constraint, PolyEnd>
+        ensures rows { IfOk result (λ c. c ≡ in_rows with.now self.now) }
+        ensures holds { IfOk result (λ c. (a : ℕ → ℤ) → AllHold a c ↔ AllHold (worth a with.now) self.now) }
+        ensures within { OnOk result (rows_within with.now self.now ≡ true) }
+        ensures large { IfErr result (λ e. e ≡ PolyEnd.Large → rows_within with.now self.now ≡ false) }
+    {
+        let mut changed = Vec::new(alloc);
+        for row in self.rows.as_slice() {
+            push_substituted(&mut changed, alloc, row, with)?;
+        }
+        Ok(Constraint {
+            rows: Items::from_vec(changed),
+        })
+    }
+
+    /// Whether the two have the same rows in the same order.
+    pub fn is_same(&self, other: &Constraint) -> bool
+        ensures { IsTrue result ↔ (self.now ≡ other.now) }
+    {
+        self.rows == other.rows
+    }
+
+    /// The same rows once more; fails only for want of memory.
+    pub fn try_clone(&self, alloc: Global) -> Result<Constraint, AllocError>
+        ensures { IfOk result (λ c. c ≡ self.now) }
+    {
+        let mut copies = Vec::new(alloc);
+        for row in self.rows.as_slice() {
+            copies.push(row.try_clone(alloc)?)?;
+        }
+        Ok(Constraint {
+            rows: Items::from_vec(copies),
+        })
+    }
+}

@@ -1,0 +1,15 @@
+//! Rows over polynomials, `p >= 0`, `p = 0` and `p != 0`, lists of rows that are all to hold, and the
+//! sums of their multiples.
+#![tactic(auto)]
+
+mod constraint;
+mod parts;
+mod row;
+#[cfg(test)]
+mod tests;
+
+pub use constraint::Constraint;
+pub use parts::combine;
+pub use row::Row;
+pub use rx_plain::NoMemory;
+pub use rx_poly::PolyEnd;

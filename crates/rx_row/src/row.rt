@@ -1,0 +1,114 @@
+//! Rows: a polynomial with what is said of it.
+ghost use Rattle.std.specs.Prelude.{◌≡◌, ◌↔◌, ℕ, ℤ, true, false, IsTrue, IfOk, IfErr, OnOk};
+ghost use Rattle.rx_row.specs.Holds.{RowHolds};
+ghost use Rattle.rx_row.specs.Negation.{minus_one_more, minus_one_more_within, negation, negation_within};
+ghost use Rattle.rx_row.specs.Parts.{poly_of};
+ghost use Rattle.rx_row.specs.Substitution.{in_row, row_within};
+ghost use Rattle.rx_poly.specs.Substitution.{worth};
+ghost use Rattle.rx_poly.specs.Constants.{number};
+
+use rx_poly::{ITerm, Poly, PolyEnd, norm};
+use std::alloc::{AllocError, Global};
+
+/// What is said of one polynomial.
+#[derive(Debug, Drop, PartialEq, Eq, PartialOrd, Ord)]
+pub enum Row {
+    /// The polynomial is at least 0.
+    Ge(Poly),
+    /// The polynomial is 0.
+    Eq(Poly),
+    /// The polynomial is not 0.
+    Ne(Poly),
+}
+
+/// The polynomial that is one number.
+pub(crate) fn constant(alloc: Global, value: &i128) -> Result<Poly, PolyEnd>
+    ensures same { IfOk result (λ p. p ≡ number value.now) }
+    ensures memory { IfErr result (λ e. e ≡ PolyEnd.NoMemory) }
+{
+    norm(alloc, &ITerm::Lit(*value))
+}
+
+/// `-p - 1`: p scaled by -1, minus 1. Large exactly where one of the two passes the limits.
+fn below_zero(alloc: Global, poly: &Poly) -> Result<Poly, PolyEnd>
+    ensures same { IfOk result (λ p. p ≡ minus_one_more poly.now) }
+    ensures within { OnOk result (minus_one_more_within poly.now ≡ true) }
+    ensures large { IfErr result (λ e. e ≡ PolyEnd.Large → minus_one_more_within poly.now ≡ false) }
+{
+    let opposite = poly.scale(alloc, -1)?;
+    let one = constant(alloc, &1)?;
+    opposite.sub(alloc, &one)
+}
+
+impl Row {
+    /// The row that holds exactly where this one doesn't: `-p - 1 >= 0` for `p >= 0`, and for an equation
+    /// the disequality, and the other way round. Large exactly where `-p` or `-p - 1` passes the limits.
+    pub fn negate(&self, alloc: Global) -> Result<Row, PolyEnd>
+        ensures negation { IfOk result (λ r. r ≡ negation self.now) }
+        ensures holds { IfOk result (λ r. (a : ℕ → ℤ) → RowHolds a r ↔ ¬ (RowHolds a self.now)) }
+        ensures within { OnOk result (negation_within self.now ≡ true) }
+        ensures large { IfErr result (λ e. e ≡ PolyEnd.Large → negation_within self.now ≡ false) }
+    {
+        match self {
+            Row::Ge(poly) => Ok(Row::Ge(below_zero(alloc, poly)?)),
+            Row::Eq(poly) => Ok(Row::Ne(poly.try_clone(alloc)?)),
+            Row::Ne(poly) => Ok(Row::Eq(poly.try_clone(alloc)?)),
+        }
+    }
+
+    /// The row of its polynomial with those polynomials in place of their variables. Large exactly where a
+    /// polynomial on the way to that passes the limits.
+    pub fn subst(&self, alloc: Global, with: &[(u32, Poly)]) -> Result<Row, PolyEnd>
+        ensures row { IfOk result (λ r. r ≡ in_row with.now self.now) }
+        ensures holds { IfOk result (λ r. (a : ℕ → ℤ) → RowHolds a r ↔ RowHolds (worth a with.now) self.now) }
+        ensures within { OnOk result (row_within with.now self.now ≡ true) }
+        ensures large { IfErr result (λ e. e ≡ PolyEnd.Large → row_within with.now self.now ≡ false) }
+    {
+        match self {
+            Row::Ge(poly) => Ok(Row::Ge(poly.subst(alloc, with)?)),
+            Row::Eq(poly) => Ok(Row::Eq(poly.subst(alloc, with)?)),
+            Row::Ne(poly) => Ok(Row::Ne(poly.subst(alloc, with)?)),
+        }
+    }
+
+    /// Whether the row is an inequality, `p >= 0`. Takes no memory.
+    pub fn is_ge(&self) -> bool
+        ensures { IsTrue result ↔ (self.now ≡ Row.Ge (poly_of self.now)) }
+    {
+        matches!(self, Row::Ge(_))
+    }
+
+    /// The row's polynomial, lent.
+    pub fn poly(&self) -> &Poly
+        ensures { result.now ≡ poly_of self.now }
+    {
+        match self {
+            Row::Ge(poly) => poly,
+            Row::Eq(poly) => poly,
+            Row::Ne(poly) => poly,
+        }
+    }
+
+    /// Whether the two are one row.
+    pub fn is_same(&self, other: &Row) -> bool
+        ensures { IsTrue result ↔ (self.now ≡ other.now) }
+    {
+        match (self, other) {
+            (Row::Ge(left), Row::Ge(right)) => left.is_same(right),
+            (Row::Eq(left), Row::Eq(right)) => left.is_same(right),
+            (Row::Ne(left), Row::Ne(right)) => left.is_same(right),
+            _ => false,
+        }
+    }
+
+    /// The same row once more; fails only for want of memory.
+    pub fn try_clone(&self, alloc: Global) -> Result<Row, AllocError>
+        ensures { IfOk result (λ r. r ≡ self.now) }
+    {
+        match self {
+            Row::Ge(poly) => Ok(Row::Ge(poly.try_clone(alloc)?)),
+            Row::Eq(poly) => Ok(Row::Eq(poly.try_clone(alloc)?)),
+            Row::Ne(poly) => Ok(Row::Ne(poly.try_clone(alloc)?)),
+        }
+    }
+}
