@@ -1,0 +1,4 @@
+pub mod Scans
+pub mod Lines
+pub mod Runs
+pub mod Found
