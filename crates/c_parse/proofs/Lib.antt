@@ -1,0 +1,9 @@
+pub mod Lookahead
+pub mod Chains
+pub mod Choices
+pub mod Operands
+pub mod Passing
+pub mod Phrases
+pub mod Lists
+pub mod Names
+pub mod Unique

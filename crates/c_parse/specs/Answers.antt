@@ -1,0 +1,38 @@
+-- What `parse` answers: the program that is spelled, or the first of the refusals that has its cause.
+use Rattle.std.specs.Prelude.{◌≡◌, ℕ, ◌+◌, ◌-◌, ◌≤◌, Option, Some, None, List, [], ◌∷◌, length, nat_lt, if◌then◌else◌, Result, Ok, Err}
+use Rattle.c_lex.specs.declared.token.Token.{Token}
+use Rattle.c_lex.specs.declared.token.TokenKind.{TokenKind}
+use Rattle.c_lex.specs.declared.token.TokenKind.TheVariants.{Mark}
+use Rattle.c_lex.specs.declared.token.Mark.TheVariants.{LeftParen, RightParen, LeftBrace, RightBrace}
+use Rattle.c_ast.specs.declared.program.Function.{Function}
+use Rattle.c_ast.specs.declared.program.Program.{Program}
+use Rattle.c_parse.specs.declared.error.ParseEnd.{ParseEnd}
+use Rattle.c_parse.specs.declared.error.ParseEnd.TheVariants.{Syntax, TooDeep, TooManyParams, NoMemory, NotARowForm}
+use Rattle.c_parse.specs.Programs.{Spells}
+
+-- how many brackets are open behind a token, of those that are open before it: a closing one lowers the count if it is above 0
+abbrev pub open_behind : ℕ → TokenKind → ℕ
+open_behind count (Mark LeftParen) = count + 1
+open_behind count (Mark LeftBrace) = count + 1
+open_behind count (Mark RightParen) = count - 1
+open_behind count (Mark RightBrace) = count - 1
+open_behind count _ = count
+
+-- the number of the first token that opens a bracket where 200 are open, if there is one, with the count and the number that the list begins with
+abbrev pub too_deep : ℕ → ℕ → List Token → Option ℕ
+too_deep count at [] = None
+too_deep count at (t ∷ ts) = if nat_lt 200 (open_behind count t.kind) then Some at else too_deep (open_behind count t.kind) (at + 1) ts
+
+-- the name of the first function with more than 16 parameters, if there is one
+abbrev pub too_many : List Function → Option ℕ
+too_many [] = None
+too_many (f ∷ fs) = if nat_lt 16 (length f.params) then Some f.name else too_many fs
+
+-- the answer for a list of tokens: the cases exclude each other, and want of memory alone is free
+abbrev pub Answers : List Token → Result Program ParseEnd → Type 0
+Answers ts (Ok p) = (too_deep 0 0 ts ≡ None) × Spells ts p × (too_many p.functions ≡ None)
+Answers ts (Err (TooDeep token)) = too_deep 0 0 ts ≡ Some token
+Answers ts (Err (Syntax token)) = (too_deep 0 0 ts ≡ None) × ((p : Program) → Spells ts p → ⊥) × (token ≤ length ts)
+Answers ts (Err (TooManyParams token)) = (too_deep 0 0 ts ≡ None) × ((p : Program) × (Spells ts p × (too_many p.functions ≡ Some token)))
+Answers ts (Err NoMemory) = Unit {0}
+Answers ts (Err NotARowForm) = ⊥

@@ -1,0 +1,6 @@
+-- What the parser answers: the grammar as relations between spans of tokens and trees, and the three refusals.
+pub mod Grammar
+pub mod Programs
+pub mod Names
+pub mod Answers
+pub mod Readers
