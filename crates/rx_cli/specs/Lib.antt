@@ -1,0 +1,11 @@
+pub mod Agreement
+pub mod Answers
+pub mod Ends
+pub mod InMemory
+pub mod Names
+pub mod Pairs
+pub mod ProofText
+pub mod Run
+pub mod Straight
+pub mod Texts
+pub mod Words

@@ -1,0 +1,35 @@
+-- The line of each verdict.
+use Rattle.std.specs.Prelude.{ℕ, List, [], ◌++◌, ⊤, codes, decimal}
+use Rattle.c_lex.specs.declared.error.LexEnd.{LexEnd}
+use Rattle.c_lex.specs.declared.error.LexEnd.TheVariants as Fault
+use Rattle.rx_cli.specs.declared.verdicts.Verdict.{Verdict}
+use Rattle.rx_cli.specs.declared.verdicts.Verdict.TheVariants as Said
+
+-- a fault of the tokens, by its word and its place
+abbrev pub fault_line : List ℕ → ℕ → List ℕ
+fault_line word at = codes "REFUSED lex " ++ (word ++ (codes " at " ++ (decimal at ++ codes "\n")))
+
+-- the line of a text that is no list of tokens; want of memory has none
+abbrev pub lex_line : LexEnd → List ℕ
+lex_line (Fault.BadByte at) = fault_line (codes "bad-byte") at
+lex_line (Fault.OpenComment at) = fault_line (codes "open-comment") at
+lex_line (Fault.LiteralTooLarge at) = fault_line (codes "literal-too-large") at
+lex_line (Fault.LeadingZero at) = fault_line (codes "leading-zero") at
+lex_line (Fault.Directive at) = fault_line (codes "directive") at
+lex_line Fault.NoMemory = []
+
+-- the line of a verdict
+abbrev pub text_of : Verdict → List ℕ
+text_of Said.Equivalent = codes "EQUIVALENT\n"
+text_of (Said.Depth depth) = codes "UNKNOWN depth " ++ decimal depth ++ codes "\n"
+text_of Said.LongSource = codes "REFUSED long source\n"
+text_of (Said.Lex fault) = lex_line fault
+text_of Said.NotStraight = codes "REFUSED not-straight\n"
+text_of Said.Usage = codes "usage: ctrl MODE FILE [F] [G] [LOG] [--pre E] [--depth N] [--budget N]\n"
+text_of Said.ReadFault = codes "READ FAULT\n"
+text_of Said.LargeTranslate = codes "LARGE translate\n"
+
+-- it has a line: no end inside is want of memory
+abbrev pub HasLine : Verdict → Type 0
+HasLine (Said.Lex Fault.NoMemory) = ⊥
+HasLine verdict = ⊤

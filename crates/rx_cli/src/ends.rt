@@ -1,0 +1,34 @@
+//! How a run ends.
+ghost use Rattle.std.specs.Prelude.{◌≡◌};
+
+/// How a run ends, as the program's exit status tells it.
+#[derive(Clone, Copy, Debug, PartialEq, Eq)]
+pub enum Status {
+    /// The two functions compute the same.
+    Equivalent,
+    /// Whether they do was not found out.
+    Unknown,
+    /// The input was refused; the report says why.
+    Refused,
+    /// The words ask for nothing that the program does.
+    Usage,
+    /// A file could not be read.
+    ReadFault,
+    /// The report could not be written whole.
+    WriteFault,
+    /// There was no memory. Nothing was reported.
+    NoMemory,
+    /// A number or a term passed the limits.
+    Large,
+}
+
+impl Status {
+    ghost use Rattle.rx_cli.specs.Ends.{code_of};
+
+    /// The exit status: 0 to 7, in the order of the variants.
+    pub fn code(&self) -> u8
+        ensures { result ≡ code_of self.now }
+    {
+        *self as u8
+    }
+}

@@ -1,0 +1,21 @@
+//! The commands of ctrl: the words, what is answered to them, the reports, and the run of the program.
+#![tactic(auto)]
+
+mod answers;
+mod ends;
+mod in_memory;
+mod logs;
+mod reports;
+mod straight;
+#[cfg(test)]
+mod tests;
+mod top;
+mod verdicts;
+mod words;
+
+pub use ends::Status;
+pub use in_memory::run_in_memory;
+pub use reports::report;
+pub use rx_plain::NoMemory;
+pub use top::run;
+pub use verdicts::Verdict;

@@ -1,0 +1,58 @@
+//! The text of a report of one line.
+ghost use Rattle.std.specs.Prelude.{◌≡◌, IfOk, string_bytes};
+ghost use Rattle.rx_cli.specs.Texts.{HasLine, fault_line, lex_line, text_of};
+
+use crate::{NoMemory, Verdict};
+use c_lex::LexEnd;
+use std::alloc::{AllocError, Global};
+
+// A fault of the tokens, by its word and its place.
+fn fault_line(alloc: Global, word: &str, at: u32) -> Result<String, AllocError>
+    ensures { IfOk result (λ line. string_bytes line ≡ fault_line word.now at) }
+{
+    format!(in alloc; "REFUSED lex {word} at {at}\n")
+}
+
+fn lex_line(alloc: Global, fault: LexEnd) -> Result<String, AllocError>
+    ensures { IfOk result (λ line. string_bytes line ≡ lex_line fault) }
+{
+    match fault {
+        LexEnd::BadByte { at } => fault_line(alloc, "bad-byte", at),
+        LexEnd::OpenComment { at } => fault_line(alloc, "open-comment", at),
+        LexEnd::LiteralTooLarge { at } => fault_line(alloc, "literal-too-large", at),
+        LexEnd::LeadingZero { at } => fault_line(alloc, "leading-zero", at),
+        LexEnd::Directive { at } => fault_line(alloc, "directive", at),
+        LexEnd::NoMemory => Ok(String::new(alloc)),
+    }
+}
+
+fn depth_line(alloc: Global, depth: u32) -> Result<String, AllocError>
+    ensures { IfOk result (λ line. string_bytes line ≡ text_of (Verdict.Depth depth)) }
+{
+    format!(in alloc; "UNKNOWN depth {depth}\n")
+}
+
+fn line(alloc: Global, verdict: &Verdict) -> Result<String, AllocError>
+    ensures { IfOk result (λ line. string_bytes line ≡ text_of verdict.now) }
+{
+    match verdict {
+        Verdict::Equivalent => String::from_str(alloc, "EQUIVALENT\n"),
+        Verdict::Depth(depth) => depth_line(alloc, *depth),
+        Verdict::LongSource => String::from_str(alloc, "REFUSED long source\n"),
+        Verdict::Lex(fault) => lex_line(alloc, *fault),
+        Verdict::NotStraight => String::from_str(alloc, "REFUSED not-straight\n"),
+        Verdict::Usage => String::from_str(alloc, USAGE),
+        Verdict::ReadFault => String::from_str(alloc, "READ FAULT\n"),
+        Verdict::LargeTranslate => String::from_str(alloc, "LARGE translate\n"),
+    }
+}
+
+const USAGE: &str = "usage: ctrl MODE FILE [F] [G] [LOG] [--pre E] [--depth N] [--budget N]\n";
+
+/// The report of a verdict: one line with its line end.
+pub fn report(alloc: Global, verdict: &Verdict) -> Result<Vec<u8>, NoMemory>
+    requires { HasLine verdict.now }
+    ensures text { IfOk result (λ text. text.items ≡ text_of verdict.now) }
+{
+    Ok(line(alloc, verdict)?.into_bytes())
+}

@@ -1,0 +1,44 @@
+//! What a report of one line says.
+ghost use Rattle.std.specs.Prelude.{◌≡◌};
+
+use crate::Status;
+use c_lex::LexEnd;
+
+/// What a report of one line says.
+#[derive(Clone, Copy, Debug, PartialEq, Eq)]
+pub enum Verdict {
+    /// A log was accepted.
+    Equivalent,
+    /// No proof was found within this depth.
+    Depth(u32),
+    /// The source has more than 1,048,576 bytes.
+    LongSource,
+    /// The source is no list of tokens.
+    Lex(LexEnd),
+    /// The source has another form than straight-line functions.
+    NotStraight,
+    /// The words ask for nothing that the program does.
+    Usage,
+    /// A file could not be read.
+    ReadFault,
+    /// A polynomial that is formed on the way to one of the two normal forms passes the limits.
+    LargeTranslate,
+}
+
+impl Verdict {
+    ghost use Rattle.rx_cli.specs.Ends.{status_of};
+
+    /// How a run ends that reports this.
+    pub fn status(&self) -> Status
+        ensures { result ≡ status_of self.now }
+    {
+        match self {
+            Verdict::Equivalent => Status::Equivalent,
+            Verdict::Depth(_) => Status::Unknown,
+            Verdict::LongSource | Verdict::Lex(_) | Verdict::NotStraight => Status::Refused,
+            Verdict::Usage => Status::Usage,
+            Verdict::ReadFault => Status::ReadFault,
+            Verdict::LargeTranslate => Status::Large,
+        }
+    }
+}
