@@ -1,0 +1,8 @@
+-- Lemmas on the definitions of specs/.
+pub mod Coefficients
+pub mod InnerLaws
+pub mod Locality
+pub mod Pieces
+pub mod Prefixes
+pub mod Unchanged
+pub mod VariableLaws

@@ -1,0 +1,42 @@
+//! Laws of normal forms.
+ghost use Rattle.std.specs.Prelude.{◌≡◌, ◌<◌, ℕ, ℤ, true, All, List};
+ghost use Rattle.rx_poly.specs.Normal.{is_poly};
+ghost use Rattle.rx_poly.specs.Constants.{variable};
+ghost use Rattle.rx_poly.specs.Reading.{coefficient};
+ghost use Rattle.rx_poly.specs.Substitution.{in_body, replaced};
+ghost use Rattle.rx_poly.specs.Value.{value};
+ghost use Rattle.rx_poly.specs.declared.body.Body.{Body, out-Body};
+ghost use Rattle.rx_poly.specs.declared.body.Mono.{Mono};
+ghost use Rattle.rx_poly_laws.specs.Inner.{inner};
+ghost use Rattle.rx_poly_laws.specs.Variables.{uses_below, variables};
+
+/// A polynomial is determined by its coefficients: two of them in which each monomial has one
+/// coefficient are the same.
+#[tactic(auto, using(crate::proofs::Coefficients::one_polynomial))]
+pub fn equal_coefficients_make_one_polynomial()
+    ensures { (p q : Body) → is_poly p ≡ true → is_poly q ≡ true →
+        ((m : Mono) → coefficient m (out-Body p).terms ≡ coefficient m (out-Body q).terms) → p ≡ q }
+{}
+
+/// Two assignments that agree on the variables of a sum, at every level, give it one value.
+#[tactic(auto, using(crate::proofs::Locality::same_value, crate::proofs::Locality::same_value_below))]
+pub fn variables_alone_decide_the_value()
+    ensures agree { (a b : ℕ → ℤ) (p : Body) → All (λ v. a v ≡ b v) (variables p) → value a p ≡ value b p }
+    ensures below { (a b : ℕ → ℤ) (n : ℕ) (p : Body) → ((v : ℕ) → v < n → a v ≡ b v) → uses_below n p ≡ true → value a p ≡ value b p }
+{}
+
+/// The dividends and divisors in a polynomial are polynomials themselves: normal forms within the limits.
+#[tactic(auto, using(crate::proofs::InnerLaws::inner_polys))]
+pub fn inner_polynomials_keep_the_limits()
+    ensures { (p : Body) → is_poly p ≡ true → All (λ q. is_poly q ≡ true) (inner p) }
+{}
+
+/// A polynomial whose variables all stay what they are is unchanged by a substitution, and nothing that
+/// is formed on the way passes the limits.
+#[tactic(auto, using(crate::proofs::Unchanged::same_form, crate::proofs::Unchanged::all_within))]
+pub fn unchanged_variables_keep_the_polynomial()
+    ensures same { (ws : List (ℕ × Body)) (p : Body) → is_poly p ≡ true →
+        All (λ v. replaced ws v ≡ variable v) (variables p) → (in_body ws p).form ≡ p }
+    ensures within { (ws : List (ℕ × Body)) (p : Body) → is_poly p ≡ true →
+        All (λ v. replaced ws v ≡ variable v) (variables p) → (in_body ws p).within ≡ true }
+{}

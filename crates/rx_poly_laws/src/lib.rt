@@ -1,0 +1,17 @@
+//! The variables of a polynomial, and laws of normal forms that the crates above rest on.
+//!
+//! What a reader may rely on: `uses_below` asks for the variables at every level, inside quotients and
+//! remainders too. Every other public function has an empty body, and its contract is a law of all
+//! polynomials. The lemmas of `proofs/` are the same laws for the proofs of the crates above.
+#![tactic(auto)]
+
+mod laws;
+#[cfg(test)]
+mod tests;
+mod variables;
+
+pub use laws::{
+    equal_coefficients_make_one_polynomial, inner_polynomials_keep_the_limits,
+    unchanged_variables_keep_the_polynomial, variables_alone_decide_the_value,
+};
+pub use variables::uses_below;
