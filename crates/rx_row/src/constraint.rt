@@ -47,6 +47,20 @@ fn push_substituted(
     Ok(())
 }
 
+/// As many rows in the same order, each with those polynomials in place of their variables. Large exactly
+/// where a polynomial on the way to one of them passes the limits.
+pub fn subst_rows(alloc: Global, rows: &[Row], with: &[(u32, Poly)]) -> Result<Vec<Row>, PolyEnd>
+    ensures rows { IfOk result (λ v. v.items ≡ in_rows with.now rows.now) }
+    ensures within { OnOk result (rows_within with.now rows.now ≡ true) }
+    ensures large { IfErr result (λ e. e ≡ PolyEnd.Large → rows_within with.now rows.now ≡ false) }
+{
+    let mut changed = Vec::new(alloc);
+    for row in rows {
+        push_substituted(&mut changed, alloc, row, with)?;
+    }
+    Ok(changed)
+}
+
 impl Constraint {
     /// Exactly these rows, in their order, also where one stands there twice. Takes no memory.
     pub fn from_rows(rows: Vec<Row>) -> Constraint
@@ -100,12 +114,9 @@ impl Constraint {
         ensures within { OnOk result (rows_within with.now self.now ≡ true) }
         ensures large { IfErr result (λ e. e ≡ PolyEnd.Large → rows_within with.now self.now ≡ false) }
     {
-        let mut changed = Vec::new(alloc);
-        for row in self.rows.as_slice() {
-            push_substituted(&mut changed, alloc, row, with)?;
-        }
+        let rows = subst_rows(alloc, self.rows.as_slice(), with)?;
         Ok(Constraint {
-            rows: Items::from_vec(changed),
+            rows: Items::from_vec(rows),
         })
     }
 

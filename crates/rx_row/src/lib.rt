@@ -8,8 +8,8 @@ mod row;
 #[cfg(test)]
 mod tests;
 
-pub use constraint::Constraint;
-pub use parts::combine;
+pub use constraint::{Constraint, subst_rows};
+pub use parts::{combine, combine_rows};
 pub use row::Row;
 pub use rx_plain::NoMemory;
 pub use rx_poly::PolyEnd;

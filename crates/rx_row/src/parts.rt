@@ -77,6 +77,23 @@ fn sum_of_multiples(alloc: Global, rows: &[Row], parts: &[(u32, i128)]) -> Resul
 /// is not lawful: where its row is missing or its number is not above that of the part before, where an
 /// inequality has no positive multiplier or an equation the multiplier 0, and on any disequality. That is
 /// seen before anything is multiplied. Large exactly where a multiple, or the sum up to it, passes the limits.
+pub fn combine_rows(
+    alloc: Global,
+    rows: &[Row],
+    parts: &[(u32, i128)],
+) -> Result<Option<Poly>, PolyEnd>
+    ensures sum { IfOk result (λ s. s ≡ sum_of rows.now parts.now) }
+    ensures holds { IfOk result (λ s. IfSome s (λ p. (a : ℕ → ℤ) → AllHold a rows.now → pos 0 ≤ℤ value a p)) }
+    ensures within { OnOk result (parts_within rows.now parts.now ≡ true) }
+    ensures large { IfErr result (λ e. e ≡ PolyEnd.Large → parts_within rows.now parts.now ≡ false) }
+{
+    if !are_lawful_parts(rows, parts) {
+        return Ok(None);
+    }
+    Ok(Some(sum_of_multiples(alloc, rows, parts)?))
+}
+
+/// The sum of the parts of the rows of a constraint, as `combine_rows` says.
 pub fn combine(
     alloc: Global,
     rows: &Constraint,
@@ -87,9 +104,5 @@ pub fn combine(
     ensures within { OnOk result (parts_within rows.now parts.now ≡ true) }
     ensures large { IfErr result (λ e. e ≡ PolyEnd.Large → parts_within rows.now parts.now ≡ false) }
 {
-    let rows = rows.rows();
-    if !are_lawful_parts(rows, parts) {
-        return Ok(None);
-    }
-    Ok(Some(sum_of_multiples(alloc, rows, parts)?))
+    combine_rows(alloc, rows.rows(), parts)
 }

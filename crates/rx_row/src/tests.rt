@@ -1,6 +1,6 @@
 // What no clause says: that each call can succeed, and that the definitions mean what is meant, at
 // values of an independent program.
-use crate::{Constraint, Row, combine};
+use crate::{Constraint, Row, combine, combine_rows, subst_rows};
 use Kind::{Eq, Ge, Ne};
 use rx_plain::{Graded, Items};
 use rx_poly::{Atom, Body, Mono, Poly, PolyEnd};
@@ -359,5 +359,24 @@ fn a_substituted_row_may_be_too_large(rt: HostRuntime) -> Result<(), Fail> {
     let large = poly(rt.alloc(), &[(&[1], HALF)])?;
     let rows = constraint(rt.alloc(), &[(Eq, &[(&[0], 3)])])?;
     assert!(rt; rows.subst(rt.alloc(), &[(0, large)]) == Err(PolyEnd::Large));
+    Ok(())
+}
+
+#[test]
+fn lent_rows_are_summed_and_substituted(rt: HostRuntime) -> Result<(), Fail> {
+    let rows = some_rows(rt.alloc())?;
+    let sum = combine_rows(rt.alloc(), rows.rows(), &[(0, 5), (3, 5)])?;
+    assert!(rt; sum == Some(poly(rt.alloc(), &[(&[], -5)])?));
+    let first = poly(rt.alloc(), &[(&[1], 1), (&[], 2)])?;
+    let two = constraint(
+        rt.alloc(),
+        &[(Ge, &[(&[0], 1)]), (Eq, &[(&[0], 1), (&[1], -1)])],
+    )?;
+    let expected = constraint(
+        rt.alloc(),
+        &[(Ge, &[(&[1], 1), (&[], 2)]), (Eq, &[(&[], 2)])],
+    )?;
+    let changed = subst_rows(rt.alloc(), two.rows(), &[(0, first)])?;
+    assert!(rt; Constraint::from_rows(changed).is_same(&expected));
     Ok(())
 }

@@ -4,13 +4,11 @@ use Rattle.rx_poly.specs.Substitution.{worth}
 use Rattle.rx_row.specs.Holds.{AllHold}
 use Rattle.rx_row.specs.Substitution.{in_rows}
 use Rattle.rx_row.specs.declared.row.Row.{Row}
-use Rattle.rx_row.proofs.Substituting.{finished}
 use Rattle.rx_row.proofs.SubstitutionLaws.{in_rows-hold}
 use Rattle.rx_row.proofs.constraint.Constraint.subst.Goals as goal
 
 pub returns-clause-holds : goal.returns-clause-holds
 returns-clause-holds c = λ a.
     let e : c.from_vec.result ≡ in_rows c.args.with.now c.args.self.now =
-    c.from_vec.ensures ∙ (finished c.args.with.now c.loop-row.changed.items c.as_slice-row-items.result.now c.loop-row.row-index c.loop-row-test.false c.loop-row.invariant).0
-    ∙ ap (in_rows c.args.with.now) (c.as_slice-row-items.ensures ∙ c.self.view_is) in
+    c.from_vec.ensures ∙ c.in_ok-rows.ensures.rows ∙ ap (in_rows c.args.with.now) (c.as_slice.ensures ∙ c.self.view_is) in
     subst (λ (rs : List Row). AllHold a rs ↔ AllHold (worth a c.args.with.now) c.args.self.now) (sym e) (in_rows-hold a c.args.with.now c.args.self.now)
