@@ -1,0 +1,13 @@
+-- Lemmas on the definitions of specs/.
+pub mod ConditionLaws
+pub mod DifferenceLaws
+pub mod DivisionLaws
+pub mod EliminationLaws
+pub mod Equations
+pub mod FindingLaws
+pub mod Law
+pub mod OccurrenceLaws
+pub mod QuotientLaws
+pub mod Rounded
+pub mod RoundingLaws
+pub mod SumLaws

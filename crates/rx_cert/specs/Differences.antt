@@ -1,0 +1,27 @@
+-- What is not 0 is at least 1 or at most -1.
+use Rattle.std.specs.Prelude.{Bool, false, Option, Some, None, List, [], ◌∷◌, ◌++◌, pos}
+use Rattle.rx_poly.specs.Constants.{number}
+use Rattle.rx_poly.specs.Limits.{is_within, subtracted}
+use Rattle.rx_poly.specs.declared.body.Body.{Body}
+use Rattle.rx_row.specs.Negation.{negation, negation_within}
+use Rattle.rx_row.specs.declared.row.Row.{Row}
+use Rattle.rx_row.specs.declared.row.Row.TheVariants.{Ge, Eq, Ne}
+use Rattle.rx_cert.specs.Findings.{both, within}
+
+-- the polynomial of a row p != 0
+abbrev pub disequal : Option Row → Option Body
+disequal None = None
+disequal (Some (Ge p)) = None
+disequal (Some (Eq p)) = None
+disequal (Some (Ne p)) = Some p
+
+-- p - 1
+abbrev pub one_less : Body → Body
+one_less p = subtracted p (number (pos 1))
+
+-- with p - 1 >= 0 behind the others, and with -p - 1 >= 0, the negation of p >= 0
+abbrev pub differ_finding : Option Body → List Row → (List Row → Option Bool) → (List Row → Option Bool) → Option Bool
+differ_finding None rows above below = Some false
+differ_finding (Some p) rows above below = both
+    (within (is_within (one_less p)) (above (rows ++ Ge (one_less p) ∷ [])))
+    (within (negation_within (Ge p)) (below (rows ++ negation (Ge p) ∷ [])))

@@ -1,0 +1,114 @@
+-- A variable that rows say the value of: p = 0, where it stands in p once, alone, with coefficient 1 or -1. It is replaced in all rows.
+use Rattle.std.specs.Prelude.{ℕ, Bool, true, false, ◌&&◌, ◌||◌, ◌==◌, if◌then◌else◌, Option, Some, None, List, [], ◌∷◌, slice_get, ℤ, pos, negsuc, ◌+ℤ◌}
+use Rattle.std.specs.List.{list_any}
+use Rattle.std.specs.Ordering.{int_eq, is_eq}
+use Rattle.rx_poly.specs.Constants.{variable}
+use Rattle.rx_poly.specs.Limits.{added, is_within, of_atoms, scaled_by, subtracted}
+use Rattle.rx_poly.specs.Order.{mono_cmp}
+use Rattle.rx_poly.specs.Reading.{coefficient}
+use Rattle.rx_poly.specs.Terms.{is_zero}
+use Rattle.rx_poly.specs.declared.body.Atom.{Atom, Atom-F, fold-Atom}
+use Rattle.rx_poly.specs.declared.body.Atom.TheVariants.{Var}
+use Rattle.rx_poly.specs.declared.body.Mono.{Mono, Mono-F, fold-Mono}
+use Rattle.rx_poly.specs.declared.body.Body.{Body, Body-F, fold-Body, out-Body}
+use Rattle.rx_row.specs.Substitution.{in_rows, rows_within}
+use Rattle.rx_row.specs.declared.row.Row.{Row}
+use Rattle.rx_row.specs.declared.row.Row.TheVariants.{Ge, Eq, Ne}
+use Rattle.rx_cert.specs.Findings.{within}
+
+-- ---- which polynomial is 0
+
+-- the same monomials with opposite coefficients; nothing is formed
+abbrev pub are_opposite : List (Mono × ℤ) → List (Mono × ℤ) → Bool
+are_opposite [] [] = true
+are_opposite [] (u ∷ us) = false
+are_opposite (t ∷ ts) [] = false
+are_opposite (t ∷ ts) (u ∷ us) = (is_eq (mono_cmp t.0 u.0) && is_zero (t.1 +ℤ u.1)) && are_opposite ts us
+
+-- p = 0, named twice
+abbrev pub of_equation : Bool → Body → Option Body
+of_equation same p = if same then Some p else None
+
+-- p >= 0 and -p >= 0
+abbrev pub of_opposites : Body → Option Row → Option Body
+of_opposites p None = None
+of_opposites p (Some (Ge q)) = if are_opposite (out-Body p).terms (out-Body q).terms then Some p else None
+of_opposites p (Some (Eq q)) = None
+of_opposites p (Some (Ne q)) = None
+
+-- the polynomial that the first and the second row say to be 0, where they do, and whether their numbers are the same
+abbrev pub zero_of : Bool → Option Row → Option Row → Option Body
+zero_of same None second = None
+zero_of same (Some (Ge p)) second = of_opposites p second
+zero_of same (Some (Eq p)) second = of_equation same p
+zero_of same (Some (Ne p)) second = None
+
+abbrev pub zero_polynomial : List Row → ℕ → ℕ → Option Body
+zero_polynomial rows first second = zero_of (first == second) (slice_get rows first) (slice_get rows second)
+
+-- ---- where a variable stands, at every level
+
+module _ (x : ℕ) where
+  abbrev pub atom_names : Atom-F Bool Bool Bool → Bool
+  atom_names (Atom-F.Var n) = n == x
+  atom_names (Atom-F.Div p q) = p || q
+  atom_names (Atom-F.Mod p q) = p || q
+
+  abbrev pub body_names : Body-F Bool Bool Bool → Bool
+  body_names b = list_any (λ (t : Bool × ℤ). t.0) b.terms
+
+  abbrev pub mono_names : Mono-F Bool Bool Bool → Bool
+  mono_names m = list_any (λ b. b) m.atoms
+
+  -- the variable is the atom, or stands inside it
+  abbrev pub stands_in_atom : Atom → Bool
+  stands_in_atom = fold-Atom Bool Bool Bool atom_names body_names mono_names
+
+  -- the variable stands in a factor
+  abbrev pub stands_in_mono : Mono → Bool
+  stands_in_mono = fold-Mono Bool Bool Bool atom_names body_names mono_names
+
+  -- the variable stands in a term
+  abbrev pub stands_in : Body → Bool
+  stands_in = fold-Body Bool Bool Bool atom_names body_names mono_names
+
+-- ---- what the variable is
+
+-- the coefficient of the variable alone
+abbrev pub coefficient_of : ℕ → Body → ℤ
+coefficient_of x p = coefficient (of_atoms (Var x ∷ [])) (out-Body p).terms
+
+-- p has the variable with coefficient 1: the rest is p without it, and the variable is -rest, unless it stands there too
+abbrev pub solution_plus : ℕ → Body → Option Body
+solution_plus x rest = if stands_in x rest then None else Some (scaled_by (negsuc 0) rest)
+
+abbrev pub solution_plus_within : ℕ → Body → Bool
+solution_plus_within x rest = is_within rest && (stands_in x rest || is_within (scaled_by (negsuc 0) rest))
+
+-- p has it with coefficient -1: the variable is the rest
+abbrev pub solution_minus : ℕ → Body → Option Body
+solution_minus x rest = if stands_in x rest then None else Some rest
+
+-- what the variable is where p = 0; none where it doesn't stand in p once, alone, with coefficient 1 or -1
+abbrev pub solution : ℕ → Body → Option Body
+solution x p =
+    if int_eq (coefficient_of x p) (pos 1) then solution_plus x (subtracted p (variable x))
+    else (if int_eq (coefficient_of x p) (negsuc 0) then solution_minus x (added p (variable x)) else None)
+
+-- the rest, which is no larger than p, and its multiple by -1 keep the limits
+abbrev pub solution_within : ℕ → Body → Bool
+solution_within x p =
+    if int_eq (coefficient_of x p) (pos 1) then solution_plus_within x (subtracted p (variable x))
+    else (if int_eq (coefficient_of x p) (negsuc 0) then is_within (added p (variable x)) else true)
+
+-- ---- the rows behind it
+
+-- what is found of the rows with the value in place of the variable
+abbrev pub replaced_finding : ℕ → Option Body → List Row → (List Row → Option Bool) → Option Bool
+replaced_finding x None rows rest = Some false
+replaced_finding x (Some e) rows rest = within (rows_within ((x, e) ∷ []) rows) (rest (in_rows ((x, e) ∷ []) rows))
+
+-- what is found, by the polynomial that the rows say to be 0, where they do
+abbrev pub solve_finding : ℕ → Option Body → List Row → (List Row → Option Bool) → Option Bool
+solve_finding x None rows rest = Some false
+solve_finding x (Some p) rows rest = within (solution_within x p) (replaced_finding x (solution x p) rows rest)

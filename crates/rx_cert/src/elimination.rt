@@ -1,0 +1,126 @@
+//! Variables that rows say the value of.
+ghost use Rattle.std.specs.Prelude.{◌≡◌, ◌∷◌, ◌==◌, [], slice_get, true, false, ◌&&◌, ◌+ℤ◌, IfOk, IfErr, IfSome, OnOk, OnSome};
+ghost use Rattle.std.specs.Option.{option_copied};
+ghost use Rattle.std.specs.Ordering.{is_eq};
+ghost use Rattle.rx_cert.specs.Elimination.{are_opposite, coefficient_of, zero_polynomial, of_opposites, solution, solution_minus, solution_plus, solution_plus_within, solution_within};
+ghost use Rattle.rx_poly.specs.Constants.{variable};
+ghost use Rattle.rx_poly.specs.Limits.{added, is_within, subtracted};
+ghost use Rattle.rx_poly.specs.Order.{mono_cmp};
+ghost use Rattle.rx_poly.specs.Terms.{is_zero};
+ghost use Rattle.rx_poly.specs.declared.body.Body.{out-Body};
+
+use crate::occurrence::names_variable;
+use rx_plain::Graded;
+use rx_poly::{Atom, ITerm, Mono, Poly, PolyEnd, norm};
+use rx_row::Row;
+use std::alloc::{AllocError, Global};
+
+/// Whether the two terms have one monomial and opposite coefficients.
+fn is_opposite(left: &(Mono, i128), right: &(Mono, i128)) -> bool
+    ensures { result ≡ (is_eq (mono_cmp left.now.0 right.now.0) && is_zero (left.now.1 +ℤ right.now.1)) }
+{
+    left.0.cmp(&right.0).is_eq() && are_opposite_numbers(&left.1, &right.1)
+}
+
+/// Whether the two numbers have the sum 0.
+fn are_opposite_numbers(left: &i128, right: &i128) -> bool
+    ensures { result ≡ is_zero (left.now +ℤ right.now) }
+{
+    match left.checked_add(*right) {
+        Some(sum) => sum == 0,
+        None => false,
+    }
+}
+
+/// Whether the two sums have the same monomials with opposite coefficients.
+fn are_opposites(left: &[(Mono, i128)], right: &[(Mono, i128)]) -> bool
+    ensures { result ≡ are_opposite left.now right.now }
+{
+    let mut others = right;
+    for term in left {
+        match others.split_first() {
+            Some((other, more)) if is_opposite(term, other) => others = more,
+            _ => return false,
+        }
+    }
+    others.is_empty()
+}
+
+/// The polynomial, where the other row says that its opposite is at least 0.
+fn opposed<'a>(poly: &'a Poly, other: Option<&Row>) -> Option<&'a Poly>
+    ensures { option_copied result ≡ of_opposites poly.now (option_copied other.entry) }
+{
+    match other {
+        Some(Row::Ge(opposite))
+            if are_opposites(
+                poly.body().terms.as_slice(),
+                opposite.body().terms.as_slice(),
+            ) => { Some(poly) }
+        _ => None,
+    }
+}
+
+/// The polynomial that the two rows say to be 0, where they do: an equation, named twice, or `p >= 0` and
+/// `-p >= 0`. Nothing is formed.
+pub(crate) fn polynomial_at_zero(rows: &[Row], first: u32, second: u32) -> Option<&Poly>
+    ensures { option_copied result ≡ zero_polynomial rows.now first second }
+{
+    match rows.get(first as usize) {
+        Some(Row::Ge(poly)) => opposed(poly, rows.get(second as usize)),
+        Some(Row::Eq(poly)) if first == second => Some(poly),
+        _ => None,
+    }
+}
+
+/// The coefficient of the variable alone.
+fn coefficient_at(alloc: Global, poly: &Poly, var: u32) -> Result<i128, AllocError>
+    ensures { IfOk result (λ k. k ≡ coefficient_of var poly.now) }
+{
+    let mut atoms = Graded::new(alloc);
+    atoms.push(Atom::Var(var))?;
+    Ok(poly.coeff(&Mono { atoms }))
+}
+
+/// The opposite of what stands beside the variable, where its coefficient is 1 and it stands nowhere else.
+fn solved_plus(alloc: Global, poly: &Poly, alone: &Poly, var: u32) -> Result<Option<Poly>, PolyEnd>
+    ensures value { IfOk result (λ s. s ≡ solution_plus var (subtracted poly.now alone.now)) }
+    ensures within { OnOk result (solution_plus_within var (subtracted poly.now alone.now) ≡ true) }
+    ensures large { IfErr result (λ e. e ≡ PolyEnd.Large → solution_plus_within var (subtracted poly.now alone.now) ≡ false) }
+{
+    let rest = poly.sub(alloc, alone)?;
+    if names_variable(var, rest.body()) {
+        return Ok(None);
+    }
+    Ok(Some(rest.scale(alloc, -1)?))
+}
+
+/// What stands beside the variable, where its coefficient is -1 and it stands nowhere else.
+fn solved_minus(alloc: Global, poly: &Poly, alone: &Poly, var: u32) -> Result<Option<Poly>, PolyEnd>
+    ensures value { IfOk result (λ s. s ≡ solution_minus var (added poly.now alone.now)) }
+    ensures within { OnOk result (is_within (added poly.now alone.now) ≡ true) }
+    ensures large { IfErr result (λ e. e ≡ PolyEnd.Large → is_within (added poly.now alone.now) ≡ false) }
+{
+    let rest = poly.add(alloc, alone)?;
+    if names_variable(var, rest.body()) {
+        return Ok(None);
+    }
+    Ok(Some(rest))
+}
+
+/// The value of the variable where the polynomial is 0; none where the variable doesn't stand in it once,
+/// alone, with coefficient 1 or -1. Large exactly where a polynomial on the way passes the limits.
+pub(crate) fn solve(alloc: Global, poly: &Poly, var: u32) -> Result<Option<Poly>, PolyEnd>
+    ensures value { IfOk result (λ s. s ≡ solution var poly.now) }
+    ensures within { OnOk result (solution_within var poly.now ≡ true) }
+    ensures large { IfErr result (λ e. e ≡ PolyEnd.Large → solution_within var poly.now ≡ false) }
+{
+    let alone = norm(alloc, &ITerm::Var(var))?;
+    let coefficient = coefficient_at(alloc, poly, var)?;
+    if coefficient == 1 {
+        return solved_plus(alloc, poly, &alone, var);
+    }
+    if coefficient == -1 {
+        return solved_minus(alloc, poly, &alone, var);
+    }
+    Ok(None)
+}

@@ -1,0 +1,22 @@
+//! Certificates: proofs by linear arithmetic, case splits, elimination and division facts that no integers
+//! meet a list of rows. Anybody can check one, whoever wrote it.
+#![tactic(auto)]
+
+mod cert;
+mod conditions;
+mod differences;
+mod division_facts;
+mod elimination;
+mod examination;
+mod occurrence;
+mod refutation;
+mod rounding;
+mod sums;
+#[cfg(test)]
+mod tests;
+
+pub use cert::{Cert, Parts};
+pub use conditions::{ConditionsAnswer, check_conditions, is_plain};
+pub use refutation::{shows, shows_row};
+pub use rx_plain::NoMemory;
+pub use rx_poly::PolyEnd;
