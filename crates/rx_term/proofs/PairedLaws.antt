@@ -1,0 +1,252 @@
+-- Paired sets are single-valued, and have a step at each fitting term that is no result.
+use Rattle.std.proofs.Common.{◌≡◌, ◌∙◌, ap, sym, subst, refl, Bool, true, false, ℕ, zero, suc, ◌+◌, ◌≤◌, ◌<◌, ◌⊎◌, inl, inr, Option, Some, None, List, [], ◌∷◌, length, map, ℤ, pos, arith}
+use Rattle.std.specs.Prelude.{Contains, slice_get, nat_eq, nat_le}
+use Rattle.std.specs.Option.{option_map}
+use Rattle.std.proofs.lemmas.Bool.{and_from, eq-eqb, le-leb}
+use Rattle.std.proofs.lemmas.List.{length-map}
+use Rattle.std.proofs.Math.Nat.{eq-or-lt_of_le}
+use Rattle.std.proofs.lemmas.List.Elements.{All-cons, All-contains, All-head, All-nil, filter_passes}
+use Rattle.std.proofs.lemmas.Option.{slice_get-map}
+use Rattle.rx_poly.specs.Constants.{number, variable}
+use Rattle.rx_poly.specs.Value.{value}
+use Rattle.rx_poly.proofs.Constants.{value-number, value-variable}
+use Rattle.rx_rewriting.specs.Terms as stack
+use Rattle.rx_rewriting.specs.Terms.{Ground, Symbol, Declares, Fits, IsResult}
+use Rattle.rx_rewriting.specs.Steps.{Step, Here, IsSingleValued}
+use Rattle.rx_rewriting.specs.Premises.{Moves}
+use Rattle.rx_rewriting.proofs.UnderFrames.{Fits-inner, moves_under_frames, single_valued_under_frames}
+use Rattle.rx_row.specs.Holds.{AllHold, RowHolds}
+use Rattle.rx_row.specs.Negation.{negation}
+use Rattle.rx_row.specs.declared.row.Row.{Row}
+use Rattle.rx_row.proofs.RowLaws.{holds_or_not, holds_not_both}
+use Rattle.rx_row.proofs.SubstitutionLaws.{in_rows-hold}
+use Rattle.rx_poly.specs.Substitution.{worth}
+use Rattle.rx_term.specs.Fitting.{is_alike, is_declared, term_fits}
+use Rattle.rx_term.specs.Meaning.{Instance, IsRedex, CallRedex, ReturnRedex, FailRedex, values, ground_at, matched, signature, symbol_of}
+use Rattle.rx_term.specs.Paired.{IsPair, One, Two, IsPaired, rules_of_shape}
+use Rattle.rx_term.specs.Shapes.{same_shape, shape_of}
+use Rattle.rx_term.specs.Substitution.{in_term}
+use Rattle.rx_term.specs.WellMade.{IsWellMade, variables_from, width}
+use Rattle.rx_term.specs.declared.rule.Rule.{Rule}
+use Rattle.rx_term.specs.declared.rule_set.RuleParts.{RuleParts}
+use Rattle.rx_term.specs.declared.rule_set.SymInfo.{SymInfo}
+use Rattle.rx_term.specs.declared.term.Sym.{Sym}
+use Rattle.rx_term.specs.declared.term.Term.{Term}
+use Rattle.rx_term.specs.declared.term.Term.TheVariants.{Return, Fail, Call, Frame}
+use Rattle.rx_term.proofs.Equations.{fits-Return, fits-Fail, fits-Call, fits-Frame, ground-Return, ground-Fail, ground-Call, ground-Frame}
+use Rattle.rx_term.proofs.Kept.{first_one, first_or_other, kept, other_one, was_there}
+use Rattle.rx_term.proofs.Locality.{hold_too, same_ground_below}
+use Rattle.rx_term.proofs.Matching.{left_arguments}
+use Rattle.rx_term.proofs.RuleLaws.{left_redex, redex_shape, shape_itself, told_shape, rule_made, rule_steps, results_rest}
+use Rattle.rx_term.proofs.ShapeLaws.{declared_so, ground_alike, same_count, same_parts_shape}
+
+-- ---- two rules of one shape
+
+-- one rule, or two of which the one has a row and the other its negation
+pub data Opposed (r q : Rule) : Type 0 where
+  Equal : r ≡ q → Opposed r q
+  First : (row : Row) → r.rows ≡ row ∷ [] → q.rows ≡ negation row ∷ [] → Opposed r q
+  Second : (row : Row) → q.rows ≡ row ∷ [] → r.rows ≡ negation row ∷ [] → Opposed r q
+
+none_there : (x : Rule) → Contains {X = Rule} [] x → ⊥
+none_there x (k, below, is) = omega arith
+
+only_one : (r x : Rule) → Contains (r ∷ []) x → r ≡ x
+only_one r x h = elim (first_or_other r [] x h) [ inl same ↦ same | inr none ↦ absurd (none_there x none) ]
+
+pub data OneOf (r q x : Rule) : Type 0 where
+  IsFirst : r ≡ x → OneOf r q x
+  IsSecond : q ≡ x → OneOf r q x
+
+one_of : (r q x : Rule) → Contains (r ∷ q ∷ []) x → OneOf r q x
+one_of r q x h = elim (first_or_other r (q ∷ []) x h) [ inl same ↦ IsFirst same | inr other ↦ IsSecond (only_one q x other) ]
+
+opposed_two : (r q x y : Rule) (row : Row) → r.rows ≡ row ∷ [] → q.rows ≡ negation row ∷ [] → OneOf r q x → OneOf r q y → Opposed x y
+opposed_two r q x y row e f (IsFirst s) (IsFirst t) = Equal (sym s ∙ t)
+opposed_two r q x y row e f (IsFirst s) (IsSecond t) = First row (ap (λ (z : Rule). z.rows) (sym s) ∙ e) (ap (λ (z : Rule). z.rows) (sym t) ∙ f)
+opposed_two r q x y row e f (IsSecond s) (IsFirst t) = Second row (ap (λ (z : Rule). z.rows) (sym t) ∙ e) (ap (λ (z : Rule). z.rows) (sym s) ∙ f)
+opposed_two r q x y row e f (IsSecond s) (IsSecond t) = Equal (sym s ∙ t)
+
+opposed : (rules : List Rule) → IsPair rules → (x y : Rule) → Contains rules x → Contains rules y → Opposed x y
+opposed _ (One r e) x y h k = Equal (sym (only_one r x h) ∙ only_one r y k)
+opposed _ (Two r q row e f) x y h k = opposed_two r q x y row e f (one_of r q x h) (one_of r q y k)
+
+-- ---- assignments that give a left side one ground term
+
+same_variables : (a b : ℕ → ℤ) (k n : ℕ) → values a (variables_from k n) ≡ values b (variables_from k n) → (v : ℕ) → k ≤ v → v < k + n → a v ≡ b v
+same_variables a b k zero e v low high = absurd (omega arith)
+same_variables a b k (suc n) e v low high = at (eq-or-lt_of_le low) (same_variables a b (k + 1) n rest v) where
+  first : value a (variable k) ≡ value b (variable k)
+  first = cc
+
+  rest : values a (variables_from (k + 1) n) ≡ values b (variables_from (k + 1) n)
+  rest = cc
+
+  at : (k ≡ v) ⊎ (k < v) → (k + 1 ≤ v → v < (k + 1) + n → a v ≡ b v) → a v ≡ b v
+  at (inl same) further = ap a (sym same) ∙ sym (value-variable a k) ∙ first ∙ value-variable b k ∙ ap b same
+  at (inr more) further = further (omega arith) (omega arith)
+
+one_row : (a : ℕ → ℤ) (rows : List Row) (row : Row) → rows ≡ row ∷ [] → AllHold a rows → RowHolds a row
+one_row a rows row e h = All-head (RowHolds a) row [] (subst (AllHold a) e h)
+
+row_alone : (a : ℕ → ℤ) (rows : List Row) (row : Row) → rows ≡ row ∷ [] → RowHolds a row → AllHold a rows
+row_alone a rows row e h = subst (AllHold a) (sym e) (All-cons (RowHolds a) row [] h (All-nil (RowHolds a)))
+
+-- ---- ground terms as terms of numbers
+
+abbrev pub symbol : ℕ → Sym
+symbol f = record { 0 = f }
+
+abbrev pub written : Ground → Term
+written (stack.Ret k) = Return (number k)
+written (stack.Fail c) = Fail c
+written (stack.Call f xs) = Call (symbol f) (map number xs)
+written (stack.Frame f xs s) = Frame (symbol f) (map number xs) (written s)
+
+values-numbers : (a : ℕ → ℤ) (xs : List ℤ) → values a (map number xs) ≡ xs
+values-numbers a [] = refl
+values-numbers a (x ∷ xs) = (λ i. value-number a x i ∷ values-numbers a xs i)
+
+-- they mean the ground term that they were written from
+pub ground-written : (a : ℕ → ℤ) (s : Ground) → ground_at a (written s) ≡ s
+ground-written a (stack.Ret k) = ground-Return a (number k) ∙ ap stack.Ret (value-number a k)
+ground-written a (stack.Fail c) = ground-Fail a c
+ground-written a (stack.Call f xs) = ground-Call a (symbol f) (map number xs) ∙ ap (stack.Call f) (values-numbers a xs)
+ground-written a (stack.Frame f xs s) =
+    ground-Frame a (symbol f) (map number xs) (written s) ∙ ap (λ zs. stack.Frame f zs (ground_at a (written s))) (values-numbers a xs)
+    ∙ ap (stack.Frame f xs) (ground-written a s)
+
+alike_itself : (b : Bool) → is_alike b b ≡ true
+alike_itself true = refl
+alike_itself false = refl
+
+told_back : (o : Option SymInfo) (b : Bool) (n : ℕ) → option_map symbol_of o ≡ Some (record { arity = n; is_frame = b }) → declared_so o b n ≡ true
+told_back None b n h = cc
+told_back (Some s) b n h =
+    let whole : symbol_of s ≡ record { arity = n; is_frame = b } = cc in
+    let arity : s.arity ≡ n = ap (λ (x : Symbol). x.arity) whole in
+    let frame : s.frame ≡ b = ap (λ (x : Symbol). x.is_frame) whole in
+    and_from (is_alike s.frame b) (nat_eq s.arity n) (ap (is_alike s.frame) (sym frame) ∙ alike_itself s.frame) (eq-eqb s.arity n arity)
+
+declared_back : (parts : RuleParts) (f : ℕ) (b : Bool) (xs : List ℤ) → Declares (signature parts) f b (length xs) → is_declared parts.symbols (symbol f) b (length (map number xs)) ≡ true
+declared_back parts f b xs h =
+    ap (is_declared parts.symbols (symbol f) b) (length-map xs number)
+    ∙ told_back (slice_get parts.symbols f) b (length xs) (sym (slice_get-map symbol_of parts.symbols f) ∙ h)
+
+-- and fit where it does
+pub written_fits : (parts : RuleParts) (s : Ground) → Fits (signature parts) s → term_fits parts (written s) ≡ true
+written_fits parts (stack.Ret k) fits = fits-Return parts (number k)
+written_fits parts (stack.Fail c) fits = fits-Fail parts c ∙ and_from (nat_le 1 c) (nat_le c parts.fails) (le-leb 1 c fits.0) (le-leb c parts.fails fits.1)
+written_fits parts (stack.Call f xs) fits = fits-Call parts (symbol f) (map number xs) ∙ declared_back parts f false xs fits
+written_fits parts (stack.Frame f xs s) fits =
+    fits-Frame parts (symbol f) (map number xs) (written s)
+    ∙ and_from (is_declared parts.symbols (symbol f) true (length (map number xs))) (term_fits parts (written s)) (declared_back parts f true xs fits.0) (written_fits parts s fits.1)
+
+written_over_result : (f : ℕ) (xs : List ℤ) (s : Ground) → IsResult s → IsRedex (written (stack.Frame f xs s))
+written_over_result f xs (stack.Ret k) result = ReturnRedex (symbol f) (map number xs) (number k)
+written_over_result f xs (stack.Fail c) result = FailRedex (symbol f) (map number xs) c
+written_over_result f xs (stack.Call g ys) result = absurd result
+written_over_result f xs (stack.Frame g ys s) result = absurd result
+
+module _ (parts : RuleParts) (made : IsWellMade parts) (paired : IsPaired parts) where
+  abbrev rules : List Rule
+  rules = parts.rules
+
+  abbrev Steps : Ground → Ground → Type 0
+  Steps = Instance parts.rules
+
+  -- ---- at most one step
+
+  agree : (a b : ℕ → ℤ) (r q : Rule) → Contains rules r → Contains rules q → ground_at a r.left ≡ ground_at b q.left → (v : ℕ) → v < width r.left → a v ≡ b v
+  agree a b r q in_r in_q e v below =
+      let alike = ground_alike a b r.left q.left e in
+      let count : width r.left ≡ width q.left = same_count r.left q.left alike.parts in
+      let first = left_arguments r.left (rule_made parts made r in_r).form in
+      let second = left_arguments q.left (rule_made parts made q in_q).form ∙ ap (variables_from 0) (sym count) in
+      same_variables a b 0 (width r.left) (ap (values a) (sym first) ∙ alike.equal ∙ ap (values b) second) v (omega arith) (omega arith)
+
+  opposed_once : (s t u : Ground) (i : Steps s t) (j : Steps s u) → Opposed i.rule j.rule → t ≡ u
+  opposed_once s t u i j (Equal same) =
+      let is = rule_made parts made i.rule i.among in
+      i.right
+      ∙ same_ground_below i.at j.at (width i.rule.left) (agree i.at j.at i.rule j.rule i.among j.among (sym i.left ∙ j.left)) i.rule.right is.right_variables
+      ∙ ap (λ (r : Rule). ground_at j.at r.right) same ∙ sym j.right
+  opposed_once s t u i j (First row e f) =
+      let is = rule_made parts made i.rule i.among in
+      let moved = hold_too i.at j.at (width i.rule.left) (agree i.at j.at i.rule j.rule i.among j.among (sym i.left ∙ j.left)) i.rule.rows is.row_variables i.holds in
+      absurd (holds_not_both j.at row (one_row j.at i.rule.rows row e moved) (one_row j.at j.rule.rows (negation row) f j.holds))
+  opposed_once s t u i j (Second row e f) =
+      let is = rule_made parts made i.rule i.among in
+      let moved = hold_too i.at j.at (width i.rule.left) (agree i.at j.at i.rule j.rule i.among j.among (sym i.left ∙ j.left)) i.rule.rows is.row_variables i.holds in
+      absurd (holds_not_both j.at row (one_row j.at j.rule.rows row e j.holds) (one_row j.at i.rule.rows (negation row) f moved))
+
+  once : (s t u : Ground) → Steps s t → Steps s u → t ≡ u
+  once s t u i j =
+      let is = rule_made parts made i.rule i.among in
+      let alike = ground_alike i.at j.at i.rule.left j.rule.left (sym i.left ∙ j.left) in
+      let shape = shape_of i.rule.left in
+      let test = λ (r : Rule). same_shape (shape_of r.left) shape in
+      let pair = paired shape (redex_shape parts i.rule.left (left_redex i.rule.left is.form) is.left_fits) in
+      let first = kept test rules i.rule i.among (shape_itself shape) in
+      let second = kept test rules j.rule j.among (ap (λ z. same_shape z shape) (sym (same_parts_shape i.rule.left j.rule.left alike.parts)) ∙ shape_itself shape) in
+      opposed_once s t u i j (opposed (rules_of_shape shape rules) pair i.rule j.rule first second)
+
+  over_result : (left : Term) → IsRedex left → (a : ℕ → ℤ) (f : ℕ) (xs : List ℤ) (s : Ground) → stack.Frame f xs s ≡ ground_at a left → IsResult s
+  over_result _ (CallRedex g ps) a f xs s e = let wrong : stack.Frame f xs s ≡ stack.Call g.0 (values a ps) = e ∙ ground-Call a g ps in cc
+  over_result _ (ReturnRedex g ps p) a f xs s e =
+      let whole : stack.Frame f xs s ≡ stack.Frame g.0 (values a ps) (ground_at a (Return p)) = e ∙ ground-Frame a g ps (Return p) in
+      let inner : s ≡ ground_at a (Return p) = cc in
+      subst IsResult (sym (inner ∙ ground-Return a p)) tt
+  over_result _ (FailRedex g ps c) a f xs s e =
+      let whole : stack.Frame f xs s ≡ stack.Frame g.0 (values a ps) (ground_at a (Fail c)) = e ∙ ground-Frame a g ps (Fail c) in
+      let inner : s ≡ ground_at a (Fail c) = cc in
+      subst IsResult (sym (inner ∙ ground-Fail a c)) tt
+
+  frames_rest : (f : ℕ) (xs : List ℤ) (s t u : Ground) → Steps (stack.Frame f xs s) t → Step Steps s u → ⊥
+  frames_rest f xs s t u i step =
+      results_rest parts made s u (over_result i.rule.left (left_redex i.rule.left (rule_made parts made i.rule i.among).form) i.at f xs s i.left) step
+
+  -- no term has two different steps
+  pub single_valued : IsSingleValued Steps
+  single_valued = single_valued_under_frames Steps once frames_rest
+
+  -- ---- at least one
+
+  module _ (a : ℕ → ℤ) (t : Term) (fits : term_fits parts t ≡ true) where
+    abbrev test : Rule → Bool
+    test r = same_shape (shape_of r.left) (shape_of t)
+
+    abbrev Goes : Type 0
+    Goes = (u : Ground) × Steps (ground_at a t) u
+
+    by_rule : (r : Rule) → Contains (rules_of_shape (shape_of t) rules) r → AllHold (worth a (matched t)) r.rows → Goes
+    by_rule r among holds =
+        let passes = All-contains (λ (x : Rule). test x ≡ true) (rules_of_shape (shape_of t) rules) r (filter_passes test rules) among in (
+          ground_at a (in_term (matched t) r.right),
+          rule_steps parts made a r t (was_there test rules r among) fits (told_shape (shape_of r.left) (shape_of t) passes) ((in_rows-hold a (matched t) r.rows).1 holds),
+        )
+
+    by_pair : (rs : List Rule) → IsPair rs → ((r : Rule) → Contains rs r → AllHold (worth a (matched t)) r.rows → Goes) → Goes
+    by_pair _ (One r e) go = go r (first_one r []) (subst (AllHold (worth a (matched t))) (sym e) (All-nil (RowHolds (worth a (matched t)))))
+    by_pair _ (Two r q row e f) go = elim (holds_or_not (worth a (matched t)) row) [
+      | inl holds ↦ go r (first_one r (q ∷ [])) (row_alone (worth a (matched t)) r.rows row e holds)
+      | inr fails ↦ go q (other_one r (q ∷ []) q (first_one q [])) (row_alone (worth a (matched t)) q.rows (negation row) f fails)
+    ]
+
+    -- a redex that fits has a step
+    pub redex_goes : IsRedex t → Goes
+    redex_goes is = by_pair (rules_of_shape (shape_of t) rules) (paired (shape_of t) (redex_shape parts t is fits)) by_rule
+
+  abbrev at_zero : ℕ → ℤ
+  at_zero v = pos 0
+
+  written_goes : (s : Ground) → Fits (signature parts) s → IsRedex (written s) → (u : Ground) × Step Steps s u
+  written_goes s fits is =
+      let (u, one) = redex_goes at_zero (written s) (written_fits parts s fits) is in
+      (u, Here (subst (λ x. Steps x u) (ground-written at_zero s) one))
+
+  -- each fitting term that is no result has a step
+  pub moves : Moves (Fits (signature parts)) Steps
+  moves = moves_under_frames (Fits (signature parts)) Steps (Fits-inner (signature parts))
+      (λ f xs fits. written_goes (stack.Call f xs) fits (CallRedex (symbol f) (map number xs)))
+      (λ f xs s fits result. written_goes (stack.Frame f xs s) fits (written_over_result f xs s result))

@@ -1,0 +1,9 @@
+use Rattle.std.proofs.Common.{◌≡◌}
+use Rattle.rx_term.specs.Stacks.{depth_of, onto}
+use Rattle.rx_term.proofs.term.Term.onto.Given as goal
+
+abbrev pub invariant-loop-upper : goal.invariant-loop-upper
+invariant-loop-upper l = onto l.upper l.whole ≡ onto l.fn.self l.fn.inner
+
+abbrev pub decreases-loop-upper : goal.decreases-loop-upper
+decreases-loop-upper l = depth_of l.upper

@@ -1,0 +1,10 @@
+-- Terms as stacks, what they mean as ground terms, and rule sets.
+pub mod Fitting
+pub mod MadeTest
+pub mod Meaning
+pub mod Paired
+pub mod Shapes
+pub mod Stacks
+pub mod Substitution
+pub mod Variables
+pub mod WellMade

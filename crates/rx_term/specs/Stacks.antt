@@ -1,0 +1,69 @@
+-- Terms as stacks: their frames, the part behind some of them, and what stands in place of that part.
+use Rattle.std.specs.Prelude.{ℕ, zero, suc, ◌+◌, Option, Some, None}
+use Rattle.std.specs.Option.{option_map_or}
+use Rattle.rx_term.specs.declared.term.Term.{Term, Term-F, fold-Term, out-Term}
+use Rattle.rx_term.specs.declared.term.Term.TheVariants.{Frame}
+
+-- how many frames there are
+abbrev pub depth_level : Term-F ℕ → ℕ
+depth_level (Term-F.Return p) = 0
+depth_level (Term-F.Fail c) = 0
+depth_level (Term-F.Call f ps) = 0
+depth_level (Term-F.Frame f ps inner) = 1 + inner
+
+abbrev pub depth_of : Term → ℕ
+depth_of = fold-Term ℕ depth_level
+
+-- how many frames stand over the redex: none over a call, all but the innermost over a result; a result has none
+abbrev pub redex_place_level : Term-F (Option ℕ) → Option ℕ
+redex_place_level (Term-F.Return p) = None
+redex_place_level (Term-F.Fail c) = None
+redex_place_level (Term-F.Call f ps) = Some 0
+redex_place_level (Term-F.Frame f ps inner) = Some (option_map_or (λ n. 1 + n) inner 0)
+
+abbrev pub redex_place : Term → Option ℕ
+redex_place = fold-Term (Option ℕ) redex_place_level
+
+-- what is found under the outermost frame, if there is one
+abbrev pub under_frame : Term-F Term → (Term → Option Term) → Option Term
+under_frame (Term-F.Return p) find = None
+under_frame (Term-F.Fail c) find = None
+under_frame (Term-F.Call f ps) find = None
+under_frame (Term-F.Frame f ps inner) find = find inner
+
+-- the part behind so many frames, if there are so many
+abbrev pub behind : ℕ → Term → Option Term
+behind zero t = Some t
+behind (suc n) t = under_frame (out-Term t) (behind n)
+
+-- the frames of the first, its innermost outside, over the second
+abbrev pub onto_level : Term-F (Term → Term) → Term → Term
+onto_level (Term-F.Return p) = λ inner. inner
+onto_level (Term-F.Fail c) = λ inner. inner
+onto_level (Term-F.Call f ps) = λ inner. inner
+onto_level (Term-F.Frame f ps upper) = λ inner. upper (Frame f ps inner)
+
+abbrev pub onto : Term → Term → Term
+onto = fold-Term (Term → Term) onto_level
+
+-- the outermost frame kept over what `change` makes of the part under it; without a frame, `end`
+abbrev pub over_frame : Term-F Term → Term → (Term → Term) → Term
+over_frame (Term-F.Return p) end change = end
+over_frame (Term-F.Fail c) end change = end
+over_frame (Term-F.Call f ps) end change = end
+over_frame (Term-F.Frame f ps inner) end change = Frame f ps (change inner)
+
+-- so many outer frames, or all where there are fewer, over the other term
+abbrev pub replaced : ℕ → Term → Term → Term
+replaced zero t inner = inner
+replaced (suc n) t inner = over_frame (out-Term t) inner (λ rest. replaced n rest inner)
+
+-- the outermost frame over the other term, and what that frame was over; without a frame, the other term
+abbrev pub turned_level : Term-F Term → Term → Term × Option Term
+turned_level (Term-F.Return p) upper = (upper, None)
+turned_level (Term-F.Fail c) upper = (upper, None)
+turned_level (Term-F.Call f ps) upper = (upper, None)
+turned_level (Term-F.Frame f ps inner) upper = (Frame f ps upper, Some inner)
+
+abbrev pub turned : Term → Term → Term × Option Term
+turned t upper = turned_level (out-Term t) upper

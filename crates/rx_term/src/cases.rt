@@ -1,0 +1,117 @@
+// Terms and rules of the tests, with what an independent program answers for each.
+
+/// The sums that a letter names, from `a` on: the sum's number, a coefficient, and at most two variables, `9` for none.
+pub(super) const MONOMIALS: [(usize, i128, u32, u32); 28] = [
+    (1, 1, 9, 9),
+    (2, 1, 0, 9),
+    (3, 1, 1, 9),
+    (4, 1, 2, 9),
+    (5, 1, 0, 9),
+    (5, 1, 9, 9),
+    (6, -2, 0, 9),
+    (6, 1, 1, 9),
+    (7, 1, 0, 0),
+    (7, 3, 2, 9),
+    (8, 2, 0, 1),
+    (8, -7, 9, 9),
+    (9, 1, 5, 9),
+    (10, 2, 1, 1),
+    (10, 4, 1, 9),
+    (10, -7, 9, 9),
+    (11, 1, 1, 9),
+    (11, 3, 9, 9),
+    (12, -1, 1, 9),
+    (12, -4, 9, 9),
+    (13, 1, 1, 9),
+    (13, 2, 9, 9),
+    (14, 9, 0, 1),
+    (14, 1, 1, 1),
+    (14, 4, 1, 9),
+    (14, 1, 9, 9),
+    (15, 3, 0, 1),
+    (15, -1, 9, 9),
+];
+
+/// How many sums there are.
+pub(super) const SUMS: usize = 16;
+
+/// What stands in place of the variables.
+pub(super) const WITH: [(u32, usize); 2] = [(0, 13), (2, 15)];
+
+/// A term is written from its innermost part outwards, each part behind its polynomials: `ab0C` is a call of the
+/// symbol 0, `cR` a returned value, `1X` a failure, and `d2F` a frame of the symbol 2 over what stands before it.
+/// A line has the term, its depth, the place of its redex, a place, the part behind it, another term, that term put
+/// there, the term with the polynomials in place of the variables, and whether it fits.
+pub(super) const TERMS: [&str; 44] = [
+    "aRi2Ff2F 2 1 2 aR dR dRi2Ff2F aRk2Fl2F yes",
+    "g2Cig0Fb2Fj2Fg2F 4 4 0 g2Cig0Fb2Fj2Fg2F dR dR m2Ckm0Fb2Fj2Fm2F no",
+    "cR 0 - 0 cR dR dR nR yes",
+    "i0Cj4Fib0F 2 2 2 i0C 1X 1Xj4Fib0F k0Cj4Fkb0F no",
+    "hi0C3F3F3Fhf5F 4 4 1 hi0C3F3F3F dR dRhf5F ok0C3F3F3Fol5F yes",
+    "db0Chf5Fjb5F 2 2 2 db0C c4C c4Chf5Fjb5F db0Col5Fjb5F yes",
+    "fR 0 - 0 fR c4C c4C lR yes",
+    "bRff5F 1 0 1 bR dR dRff5F bRll5F yes",
+    "2Xb2F3F 2 1 2 2X c4C c4Cb2F3F 2Xb2F3F yes",
+    "eRhe5Ffa5F3F 3 2 0 eRhe5Ffa5F3F c4C c4C pRop5Fla5F3F yes",
+    "de0Cd2F3F3F3F 4 4 0 de0Cd2F3F3F3F 1X 1X dp0Cd2F3F3F3F yes",
+    "1C 0 0 0 1C dR dR 1C yes",
+    "2Xgf5F 1 0 2 - 1Cb2F 1Cb2Fgf5F 2Xml5F yes",
+    "cR7Fj2Fa2F 3 2 1 cR7Fj2F 1Cb2F 1Cb2Fa2F nR7Fj2Fa2F no",
+    "1Cjf5F 1 1 0 1Cjf5F 1Cb2F 1Cb2F 1Cjl5F yes",
+    "9Xg4F 1 0 2 - 1Cb2F 1Cb2Fg4F 9Xm4F no",
+    "hg0Cd2Fd2F3F 3 3 4 - 1Cb2F 1Cb2Fd2Fd2F3F om0Cd2Fd2F3F yes",
+    "j2Cf2F 1 1 2 - c4C c4Cf2F j2Cl2F no",
+    "jg0Ce2F3Ffh5Fb2F 4 4 5 - dR dRe2F3Ffh5Fb2F jm0Cp2F3Flo5Fb2F yes",
+    "hRfe0F3Fd2F 3 2 1 hRfe0F3F c4C c4Cd2F oRlp0F3Fd2F no",
+    "i4Ci2F3Fbe5Ffc5F 4 4 1 i4Ci2F3Fbe5F dR dRfc5F k4Ck2F3Fbp5Fln5F yes",
+    "3X7Fd2F 2 1 3 - c4C c4C7Fd2F 3X7Fd2F no",
+    "aRe2F 1 0 0 aRe2F dR dR aRp2F yes",
+    "f4C3Ffb5Fd3F 3 3 0 f4C3Ffb5Fd3F 1X 1X l4C3Flb5Fd3F no",
+    "j4Ch2Ffb5F 2 2 2 j4C 1Cb2F 1Cb2Fh2Ffb5F j4Co2Flb5F yes",
+    "3X 0 - 0 3X 1X 1X 3X no",
+    "f4Cg2F 1 1 0 f4Cg2F 1Cb2F 1Cb2F l4Cm2F yes",
+    "cc0Cc3Fhf5Fc2F 3 3 4 - c4C c4Cc3Fhf5Fc2F nn0Cn3Fol5Fn2F no",
+    "b4C 0 0 0 b4C c4C c4C b4C yes",
+    "dR7F3Fig5F2F 4 3 0 dR7F3Fig5F2F 1Cb2F 1Cb2F dR7F3Fkm5F2F no",
+    "2Xci5Fi2Fah5F 3 2 1 2Xci5Fi2F dR dRah5F 2Xnk5Fk2Fao5F yes",
+    "1X3F 1 0 1 1X 1Cb2F 1Cb2F3F 1X3F yes",
+    "iR 0 - 0 iR c4C c4C kR yes",
+    "1Xbi0F3Fj2Fde5F 4 3 2 1Xbi0F3F c4C c4Cj2Fde5F 1Xbk0F3Fj2Fdp5F no",
+    "1Xie5Fdh5Fg2F 3 2 4 - c4C c4Cie5Fdh5Fg2F 1Xkp5Fdo5Fm2F yes",
+    "9C 0 0 0 9C 1X 1X 9C no",
+    "e4Cc2Ffc5F3F 3 3 2 e4Cc2F dR dRfc5F3F p4Cn2Fln5F3F yes",
+    "bR3F 1 0 1 bR dR dR3F bR3F yes",
+    "1Xgi5F 1 0 0 1Xgi5F c4C c4C 1Xmk5F yes",
+    "f2Ch2F3F3F 3 3 3 f2C 1X 1Xh2F3F3F l2Co2F3F3F no",
+    "bd0Cb2F3F3Fc2F 4 4 3 bd0Cb2F c4C c4C3F3Fc2F bd0Cb2F3F3Fn2F yes",
+    "9X3Fjh5F 2 1 1 9X3F dR dRjh5F 9X3Fjo5F no",
+    "cg0Ce2Fb2F 2 2 0 cg0Ce2Fb2F 1X 1X nm0Cp2Fb2F yes",
+    "h2Ci2F3F 2 2 2 h2C 1X 1Xi2F3F o2Ck2F3F no",
+];
+
+/// A line has the left side, the right side, a sum that is to be at least 0, and whether the rule is well made.
+pub(super) const RULES: [&str; 23] = [
+    "cd0C 1C - yes",
+    "dc0C 1C - no",
+    "cd0C eR - no",
+    "cd0C gR - yes",
+    "dRc2F cd0C - yes",
+    "eRc2F 1C - no",
+    "1Xc2F 1X - yes",
+    "3Xc2F 1X - no",
+    "1Xc2F 3X - no",
+    "1Xc2F dR - no",
+    "1Cc2F 1X - no",
+    "cR 1X - no",
+    "c0C 1X - no",
+    "c2C 1X - no",
+    "cd0C 1X e no",
+    "cd0C 1X d yes",
+    "1C 1C3F - yes",
+    "f4C 1X - no",
+    "cc0C 1X - no",
+    "dRc2F c4Cd2Fg2F g yes",
+    "1Xc2F 1X d no",
+    "1C aR - yes",
+    "1C cR - no",
+];

@@ -1,0 +1,121 @@
+//! What terms and rules mean as ground terms: laws, each a function with an empty body.
+ghost use Rattle.std.specs.Prelude.{◌≡◌, ℕ, ℤ, true, Some, List, Contains};
+ghost use Rattle.std.specs.Option.{option_map};
+ghost use Rattle.rx_poly.specs.Substitution.{worth};
+ghost use Rattle.rx_poly.specs.declared.body.Body.{Body};
+ghost use Rattle.rx_rewriting.specs.Premises.{Moves, ResultsRest, Stays};
+ghost use Rattle.rx_rewriting.specs.Steps.{IsSingleValued, Step};
+ghost use Rattle.rx_rewriting.specs.Terms.{Fits, under};
+ghost use Rattle.rx_row.specs.Holds.{AllHold};
+ghost use Rattle.rx_row.specs.Substitution.{in_rows};
+ghost use Rattle.rx_term.specs.Fitting.{term_fits};
+ghost use Rattle.rx_term.specs.Meaning.{Instance, IsRedex, ground_at, ground_redex, matched, outer_frames, redex_of, signature, values};
+ghost use Rattle.rx_term.specs.Paired.{IsPaired};
+ghost use Rattle.rx_term.specs.Shapes.{shape_of};
+ghost use Rattle.rx_term.specs.Stacks.{behind, replaced};
+ghost use Rattle.rx_term.specs.Substitution.{in_polys, in_term};
+ghost use Rattle.rx_term.specs.Variables.{arguments_of};
+ghost use Rattle.rx_term.specs.WellMade.{IsWellMade};
+ghost use Rattle.rx_term.specs.declared.rule.Rule.{Rule};
+ghost use Rattle.rx_term.specs.declared.rule_set.RuleParts.{RuleParts};
+ghost use Rattle.rx_term.specs.declared.term.Term.{Term};
+
+/// A term with polynomials in place of its variables means what the term does where each variable is worth its
+/// polynomial.
+pub fn substitution_and_values_commute()
+    ensures { (a : ℕ → ℤ) (ws : List (ℕ × Body)) (t : Term) →
+        ground_at a (in_term ws t) ≡ ground_at (worth a ws) t }
+{}
+
+/// With polynomials in place of its variables a term keeps its shape, its polynomials in order, each changed, and
+/// whether it fits.
+#[tactic(auto, using(crate::proofs::KeepingLaws::arguments_in_term))]
+pub fn substitution_keeps_the_stack()
+    ensures shape { (ws : List (ℕ × Body)) (t : Term) → shape_of (in_term ws t) ≡ shape_of t }
+    ensures arguments { (ws : List (ℕ × Body)) (t : Term) →
+        arguments_of (in_term ws t) ≡ in_polys ws (arguments_of t) }
+    ensures fits { (ws : List (ℕ × Body)) (parts : RuleParts) (t : Term) →
+        term_fits parts (in_term ws t) ≡ term_fits parts t }
+{}
+
+/// The parts of a fitting term fit, and a fitting term in place of one makes a fitting term.
+pub fn replacing_keeps_fitting()
+    ensures behind { (parts : RuleParts) (n : ℕ) (t s : Term) →
+        term_fits parts t ≡ true → behind n t ≡ Some s → term_fits parts s ≡ true }
+    ensures replaced { (parts : RuleParts) (inner : Term) → term_fits parts inner ≡ true →
+        (n : ℕ) (t : Term) → term_fits parts t ≡ true → term_fits parts (replaced n t inner) ≡ true }
+{}
+
+/// Two fitting terms of one shape whose polynomials have equal values, one by one, mean one ground term.
+pub fn equal_values_make_one_ground_term()
+    ensures { (parts : RuleParts) (a b : ℕ → ℤ) (s t : Term) →
+        term_fits parts s ≡ true → term_fits parts t ≡ true → shape_of s ≡ shape_of t →
+        values a (arguments_of s) ≡ values b (arguments_of t) → ground_at a s ≡ ground_at b t }
+{}
+
+/// The part behind outer frames means what stands under the same ground frames, and so does what replaces it.
+#[tactic(auto, using(crate::proofs::RedexLaws::ground_behind, crate::proofs::RedexLaws::ground_replaced))]
+pub fn parts_stand_under_ground_frames()
+    ensures behind { (a : ℕ → ℤ) (n : ℕ) (t s : Term) → behind n t ≡ Some s →
+        ground_at a t ≡ under (outer_frames a n t) (ground_at a s) }
+    ensures replaced { (a : ℕ → ℤ) (n : ℕ) (t inner : Term) →
+        ground_at a (replaced n t inner) ≡ under (outer_frames a n t) (ground_at a inner) }
+{}
+
+/// The redex of a term is a call, or a frame over a result, and means the redex of the ground term; the one has
+/// none exactly where the other has none.
+#[tactic(auto, using(crate::proofs::RedexLaws::redex_is))]
+pub fn redexes_mean_redexes()
+    ensures form { (t s : Term) → redex_of t ≡ Some s → IsRedex s }
+    ensures ground { (a : ℕ → ℤ) (t : Term) →
+        option_map (ground_at a) (redex_of t) ≡ ground_redex (ground_at a t) }
+{}
+
+/// The ground terms of a fitting term fit.
+pub fn fitting_terms_have_fitting_ground_terms()
+    ensures { (parts : RuleParts) (a : ℕ → ℤ) (t : Term) →
+        term_fits parts t ≡ true → Fits (signature parts) (ground_at a t) }
+{}
+
+/// A rule steps each term that means what its left side does, with polynomials in place of its variables, where
+/// its rows hold so; and so it does where the term stands behind outer frames. This is said of any list of rules,
+/// and so of hypotheses too.
+pub fn rules_step_their_instances()
+    ensures here { (rules : List Rule) (a : ℕ → ℤ) (rule : Rule) (ws : List (ℕ × Body)) (t : Term) →
+        Contains rules rule → ground_at a (in_term ws rule.left) ≡ ground_at a t → AllHold a (in_rows ws rule.rows) →
+        Instance rules (ground_at a t) (ground_at a (in_term ws rule.right)) }
+    ensures inside { (rules : List Rule) (a : ℕ → ℤ) (rule : Rule) (ws : List (ℕ × Body)) (t : Term) →
+        Contains rules rule → ground_at a (in_term ws rule.left) ≡ ground_at a t → AllHold a (in_rows ws rule.rows) →
+        (n : ℕ) (whole : Term) → behind n whole ≡ Some t →
+        Step (Instance rules) (ground_at a whole) (ground_at a (replaced n whole (in_term ws rule.right))) }
+{}
+
+/// A rule of a well made set steps each fitting term of its shape at which its rows hold, with the term's
+/// polynomials in place of its variables; so it does where that term stands behind outer frames.
+pub fn rules_step_terms_of_their_shape()
+    ensures here { (parts : RuleParts) → IsWellMade parts → (a : ℕ → ℤ) (rule : Rule) (t : Term) →
+        Contains parts.rules rule → term_fits parts t ≡ true → shape_of rule.left ≡ shape_of t →
+        AllHold a (in_rows (matched t) rule.rows) →
+        Instance parts.rules (ground_at a t) (ground_at a (in_term (matched t) rule.right)) }
+    ensures inside { (parts : RuleParts) → IsWellMade parts → (a : ℕ → ℤ) (rule : Rule) (n : ℕ) (t part : Term) →
+        Contains parts.rules rule → behind n t ≡ Some part → term_fits parts part ≡ true →
+        shape_of rule.left ≡ shape_of part → AllHold a (in_rows (matched part) rule.rows) →
+        Step (Instance parts.rules) (ground_at a t) (ground_at a (replaced n t (in_term (matched part) rule.right))) }
+{}
+
+/// Steps by a well made set lead from fitting terms to fitting terms, and none starts at a result.
+#[tactic(auto, using(crate::proofs::RuleLaws::steps_fit, crate::proofs::RuleLaws::results_rest))]
+pub fn well_made_sets_keep_fitting()
+    ensures fit { (parts : RuleParts) → IsWellMade parts →
+        Stays (Fits (signature parts)) (Instance parts.rules) }
+    ensures rest { (parts : RuleParts) → IsWellMade parts → ResultsRest (Instance parts.rules) }
+{}
+
+/// A paired set is single-valued, and has a step at every fitting term that is no result.
+#[tactic(auto, using(crate::proofs::PairedLaws::single_valued, crate::proofs::PairedLaws::moves))]
+pub fn paired_sets_step_once()
+    ensures once { (parts : RuleParts) → IsWellMade parts → IsPaired parts →
+        IsSingleValued (Instance parts.rules) }
+    ensures moves { (parts : RuleParts) → IsWellMade parts → IsPaired parts →
+        Moves (Fits (signature parts)) (Instance parts.rules) }
+{}

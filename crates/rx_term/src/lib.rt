@@ -1,0 +1,26 @@
+//! Terms that rewriting is done on, rules, and sets of rules. A term is a stack: frames outside, then a call
+//! or a result. All walks down a stack are loops, so a term may have as many frames as memory holds.
+#![tactic(auto)]
+
+mod arguments;
+#[cfg(test)]
+mod cases;
+mod laws;
+mod left_side;
+mod rule;
+mod rule_set;
+mod term;
+#[cfg(test)]
+mod tests;
+
+pub use laws::{
+    equal_values_make_one_ground_term, fitting_terms_have_fitting_ground_terms,
+    paired_sets_step_once, parts_stand_under_ground_frames, redexes_mean_redexes,
+    replacing_keeps_fitting, rules_step_terms_of_their_shape, rules_step_their_instances,
+    substitution_and_values_commute, substitution_keeps_the_stack, well_made_sets_keep_fitting,
+};
+pub use rule::{Equation, Rule};
+pub use rule_set::{RuleParts, RuleSet, SymInfo};
+pub use rx_plain::NoMemory;
+pub use rx_poly::PolyEnd;
+pub use term::{Sym, Term};

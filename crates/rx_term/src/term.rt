@@ -1,0 +1,267 @@
+//! Terms as stacks: frames outside, then a call or a result.
+ghost use Rattle.std.specs.Prelude.{◌≡◌, ◌↔◌, ◌<◌, ◌^◌, ℕ, ℤ, true, false, IsNone, IsTrue, IfOk, IfErr, OnOk};
+ghost use Rattle.std.specs.Option.{option_copied};
+ghost use Rattle.rx_poly.specs.Substitution.{worth};
+ghost use Rattle.rx_term.specs.Meaning.{ground_at};
+ghost use Rattle.rx_term.specs.Shapes.{shape_of};
+ghost use Rattle.rx_term.specs.Stacks.{behind, depth_of, onto, redex_place, replaced, turned};
+ghost use Rattle.rx_term.specs.Substitution.{in_term, term_within};
+ghost use Rattle.rx_term.specs.Variables.{term_uses_below};
+
+use crate::arguments::{are_below, are_same, copied, substituted};
+use rx_plain::{Boxed, Items};
+use rx_poly::{Poly, PolyEnd};
+use rx_poly_laws::uses_below;
+use std::alloc::{AllocError, Global};
+
+/// The number of a symbol.
+#[derive(Clone, Copy, Debug, PartialEq, Eq)]
+pub struct Sym(pub u32);
+
+/// A stack: frames outside, then a call or a result.
+pub enum Term {
+    /// A returned value.
+    Return(Poly),
+    /// A failure with its code.
+    Fail(u8),
+    /// A call of a symbol with its arguments.
+    Call(Sym, Items<Poly>),
+    /// A frame with its arguments, over what it waits for.
+    Frame(Sym, Items<Poly>, Boxed<Term>),
+}
+
+impl Drop for Term {
+    fn drop(mut self) {
+        loop {
+            match self {
+                Term::Return(_value) => return,
+                Term::Fail(_code) => return,
+                Term::Call(_sym, _args) => return,
+                Term::Frame(_sym, _args, inner) => self = inner.into_inner(),
+            }
+        }
+    }
+}
+
+impl Term {
+    /// How many frames there are. Takes no memory.
+    pub fn depth(&self) -> u32
+        requires { depth_of self.now < 2 ^ 32 }
+        ensures { result ≡ depth_of self.now }
+    {
+        let mut here = self;
+        let mut count = 0;
+        while let Term::Frame(_, _, inner) = here {
+            count += 1;
+            here = inner.get();
+        }
+        count
+    }
+
+    /// The part behind `place` frames, lent; None exactly where there are fewer. Takes no memory.
+    #[tactic(auto, using(crate::proofs::KeepingLaws::behind_ends))]
+    pub fn suffix(&self, place: u32) -> Option<&Term>
+        ensures part { option_copied result ≡ behind place self.now }
+        ensures fewer { IsNone result ↔ (depth_of self.now < place) }
+    {
+        let mut here = self;
+        let mut left = place;
+        while left > 0 {
+            match here {
+                Term::Frame(_, _, inner) => here = inner.get(),
+                _ => return None,
+            }
+            left -= 1;
+        }
+        Some(here)
+    }
+
+    /// How many frames stand over the redex: the innermost call, or the innermost frame where that stands
+    /// over a result. None exactly where the term is a result. Takes no memory.
+    pub fn redex_place(&self) -> Option<u32>
+        requires { depth_of self.now < 2 ^ 32 }
+        ensures { result ≡ redex_place self.now }
+    {
+        let mut here = self;
+        let mut count = 0;
+        while let Term::Frame(_, _, inner) = here {
+            count += 1;
+            here = inner.get();
+        }
+        match here {
+            Term::Call(_, _) => Some(count),
+            _ if count == 0 => None,
+            _ => Some(count - 1),
+        }
+    }
+
+    /// The frames of this term, its innermost outside, over the other. Takes no memory.
+    fn onto(self, inner: Term) -> Term
+        ensures { result ≡ onto self inner }
+    {
+        let mut upper = self;
+        let mut whole = inner;
+        loop {
+            let further = match &mut upper {
+                Term::Frame(_, _, below) => below.replace(whole),
+                _ => return whole,
+            };
+            whole = upper;
+            upper = further;
+        }
+    }
+
+    /// The outermost frame over `upper`, and what that frame was over. Without a frame, `upper` alone.
+    fn turn(self, upper: Term) -> (Term, Option<Term>)
+        ensures { result ≡ turned self upper }
+    {
+        let mut whole = self;
+        let below = match &mut whole {
+            Term::Frame(_, _, inner) => inner.replace(upper),
+            _ => return (upper, None),
+        };
+        (whole, Some(below))
+    }
+
+    /// The `place` outer frames, or all where there are fewer, over `inner`. Takes no memory.
+    pub fn replace(self, place: u32, inner: Term) -> Term
+        ensures { result ≡ replaced place self inner }
+    {
+        let mut rest = self;
+        let mut upper = Term::Fail(0);
+        let mut left = place;
+        while left > 0 {
+            let (further, below) = rest.turn(upper);
+            upper = further;
+            match below {
+                Some(below) => rest = below,
+                None => return upper.onto(inner),
+            }
+            left -= 1;
+        }
+        upper.onto(inner)
+    }
+
+    /// Whether the two are one term. Takes no memory.
+    pub fn is_same(&self, other: &Term) -> bool
+        ensures { IsTrue result ↔ (self.now ≡ other.now) }
+    {
+        let mut here = self;
+        let mut there = other;
+        loop {
+            match (here, there) {
+                (Term::Return(value), Term::Return(other)) => return value.is_same(other),
+                (Term::Fail(code), Term::Fail(other)) => return *code == *other,
+                (Term::Call(f, args), Term::Call(g, others)) => {
+                    return f.0 == g.0 && are_same(args.as_slice(), others.as_slice());
+                }
+                (Term::Frame(f, args, inner), Term::Frame(g, others, further)) => {
+                    if f.0 != g.0 || !are_same(args.as_slice(), others.as_slice()) {
+                        return false;
+                    }
+                    here = inner.get();
+                    there = further.get();
+                }
+                _ => return false,
+            }
+        }
+    }
+
+    /// Whether all variables of the term, at every level of its polynomials, are below the number. Takes no memory.
+    pub fn uses_below(&self, bound: u32) -> bool
+        ensures { result ≡ term_uses_below bound self.now }
+    {
+        let mut here = self;
+        loop {
+            match here {
+                Term::Return(value) => return uses_below(value, bound),
+                Term::Fail(_) => return true,
+                Term::Call(_, args) => return are_below(args.as_slice(), bound),
+                Term::Frame(_, args, inner) => {
+                    if !are_below(args.as_slice(), bound) {
+                        return false;
+                    }
+                    here = inner.get();
+                }
+            }
+        }
+    }
+
+    /// Whether the two have one shape: the same frames, call and failure code, whatever their polynomials. Takes
+    /// no memory.
+    pub fn has_shape_of(&self, other: &Term) -> bool
+        ensures { IsTrue result ↔ (shape_of self.now ≡ shape_of other.now) }
+    {
+        let mut here = self;
+        let mut there = other;
+        loop {
+            match (here, there) {
+                (Term::Return(_), Term::Return(_)) => return true,
+                (Term::Fail(code), Term::Fail(other)) => return *code == *other,
+                (Term::Call(f, _), Term::Call(g, _)) => return f.0 == g.0,
+                (Term::Frame(f, _, inner), Term::Frame(g, _, further)) => {
+                    if f.0 != g.0 {
+                        return false;
+                    }
+                    here = inner.get();
+                    there = further.get();
+                }
+                _ => return false,
+            }
+        }
+    }
+
+    /// The same term once more; fails only for want of memory.
+    pub fn try_clone(&self, alloc: Global) -> Result<Term, AllocError>
+        ensures { IfOk result (λ t. t ≡ self.now) }
+    {
+        let mut here = self;
+        let mut upper = Term::Fail(0);
+        loop {
+            match here {
+                Term::Return(value) => {
+                    return Ok(upper.onto(Term::Return(value.try_clone(alloc)?)));
+                }
+                Term::Fail(code) => return Ok(upper.onto(Term::Fail(*code))),
+                Term::Call(sym, args) => {
+                    let args = copied(alloc, args.as_slice())?;
+                    return Ok(upper.onto(Term::Call(*sym, args)));
+                }
+                Term::Frame(sym, args, inner) => {
+                    let args = copied(alloc, args.as_slice())?;
+                    upper = Term::Frame(*sym, args, Boxed::new(alloc, upper)?);
+                    here = inner.get();
+                }
+            }
+        }
+    }
+
+    /// The same stack, each of its polynomials with those polynomials in place of their variables. Large
+    /// exactly where a polynomial on the way to them passes the limits.
+    pub fn subst(&self, alloc: Global, with: &[(u32, Poly)]) -> Result<Term, PolyEnd>
+        ensures term { IfOk result (λ t. t ≡ in_term with.now self.now) }
+        ensures value { IfOk result (λ t. (a : ℕ → ℤ) → ground_at a t ≡ ground_at (worth a with.now) self.now) }
+        ensures within { OnOk result (term_within with.now self.now ≡ true) }
+        ensures large { IfErr result (λ e. e ≡ PolyEnd.Large → term_within with.now self.now ≡ false) }
+    {
+        let mut here = self;
+        let mut upper = Term::Fail(0);
+        loop {
+            match here {
+                Term::Return(value) => {
+                    return Ok(upper.onto(Term::Return(value.subst(alloc, with)?)));
+                }
+                Term::Fail(code) => return Ok(upper.onto(Term::Fail(*code))),
+                Term::Call(sym, args) => {
+                    let args = substituted(alloc, args.as_slice(), with)?;
+                    return Ok(upper.onto(Term::Call(*sym, args)));
+                }
+                Term::Frame(sym, args, inner) => {
+                    let args = substituted(alloc, args.as_slice(), with)?;
+                    upper = Term::Frame(*sym, args, Boxed::new(alloc, upper)?);
+                    here = inner.get();
+                }
+            }
+        }
+    }
+}
