@@ -1,0 +1,31 @@
+-- What the evaluation of an expression and the execution of a statement lead to. Numbers as 6.8.6 are sections of ISO/IEC 9899:1999.
+use Rattle.std.specs.Prelude.{List, ℤ}
+
+-- an outcome with some number of rounds: a value; the division error, which ends the whole computation; or 'more rounds are needed'
+pub data Outcome (A : Type 0) : Type 0 where
+  Value : A → Outcome A
+  DivisionError : Outcome A
+  More : Outcome A
+
+-- goes on with a value; the division error and 'more' end what is computed
+abbrev pub on_value : {A B : Type 0} → Outcome A → (A → Outcome B) → Outcome B
+on_value (Value x) go_on = go_on x
+on_value DivisionError go_on = DivisionError
+on_value More go_on = More
+
+-- the outcome isn't 'more'
+abbrev pub IsAnswer : {A : Type 0} → Outcome A → Type 0
+IsAnswer (Value x) = Unit {0}
+IsAnswer DivisionError = Unit {0}
+IsAnswer More = ⊥
+
+-- a state: the integer of each slot in scope, from slot 0 on
+abbrev pub State : Type 0
+State = List ℤ
+
+-- where a statement leads: behind it (next), to a break or to a continue (6.8.6), each in a state; or to a return with its integer
+pub data Flow : Type 0 where
+  Next : State → Flow
+  Break : State → Flow
+  Continue : State → Flow
+  Return : ℤ → Flow
