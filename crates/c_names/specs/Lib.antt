@@ -1,0 +1,5 @@
+-- How names are spelled, which tokens have one name, and which slot a name stands for.
+pub mod Spellings
+pub mod Names
+pub mod Seen
+pub mod Slots
