@@ -1,0 +1,79 @@
+//! What comes of a statement, and how two of them join.
+ghost use Rattle.std.specs.Prelude.{◌≡◌, []};
+ghost use Rattle.std.specs.Option.{option_or};
+ghost use Rattle.c_assigned.specs.Flows as spec;
+
+use crate::sets::{cut, meet};
+use rx_plain::Items;
+
+/// The sets of surely assigned slots behind a statement, at its `break`s and at its `continue`s, where none is what
+/// no way reaches, and the token of the first variable that is read where it may have no value.
+#[derive(Debug, Drop)]
+pub struct Flow {
+    /// Behind the statement.
+    pub behind: Option<Items<bool>>,
+    /// At its `break`s.
+    pub breaks: Option<Items<bool>>,
+    /// At its `continue`s.
+    pub continues: Option<Items<bool>>,
+    /// The first variable that may be unset where it is read.
+    pub unset: Option<u32>,
+}
+
+/// What passes to the next statement alone.
+pub fn passing(behind: Option<Items<bool>>, unset: Option<u32>) -> Flow
+    ensures { result ≡ (spec.passing [] behind unset).flow }
+{
+    Flow {
+        behind,
+        breaks: None,
+        continues: None,
+        unset,
+    }
+}
+
+/// The first of the two.
+pub fn first_of(first: Option<u32>, second: Option<u32>) -> Option<u32>
+    ensures { result ≡ option_or first second }
+{
+    match first {
+        Some(token) => Some(token),
+        None => second,
+    }
+}
+
+/// A flow that goes on with another behind it.
+pub fn joined(first: Flow, rest: Flow) -> Flow
+    ensures { result ≡ spec.joined first rest }
+{
+    Flow {
+        behind: rest.behind,
+        breaks: meet(first.breaks, rest.breaks),
+        continues: meet(first.continues, rest.continues),
+        unset: first_of(first.unset, rest.unset),
+    }
+}
+
+/// At the end of a scope.
+pub fn leave(slots: usize, flow: Flow) -> Flow
+    ensures { result ≡ spec.leave slots flow }
+{
+    Flow {
+        behind: cut(slots, flow.behind),
+        breaks: cut(slots, flow.breaks),
+        continues: cut(slots, flow.continues),
+        unset: flow.unset,
+    }
+}
+
+/// Two branches, behind a test.
+pub fn branched(tested: Option<u32>, holds: Flow, fails: Flow) -> Flow
+    ensures { result ≡ spec.branched tested holds fails }
+{
+    Flow {
+        behind: meet(holds.behind, fails.behind),
+        breaks: meet(holds.breaks, fails.breaks),
+        continues: meet(holds.continues, fails.continues),
+        unset: first_of(tested, first_of(holds.unset, fails.unset)),
+    }
+}
