@@ -1,0 +1,40 @@
+-- Functions: the place of one by its name, and each with the names in it resolved.
+use Rattle.std.specs.Prelude.{ℕ, ◌+◌, ◌≤◌, false, List, [], ◌∷◌, length, map, Option, Ok}
+use Rattle.c_lex.specs.declared.token.Token.{Token}
+use Rattle.c_ast.specs.declared.program.Function.{Function}
+use Rattle.c_names.specs.Names.{name_at}
+use Rattle.c_names.specs.Spellings.{spellings, place_of}
+use Rattle.c_scope.specs.Slots.{Scope, nothing, declare}
+use Rattle.c_scope.specs.Statements.{in_order, resolved_stmt}
+use Rattle.c_scope.specs.Steps.{Found, on_found, all_found}
+
+-- the place of the first definition whose name these bytes spell
+abbrev pub place_of_function : List ℕ → List Token → List Function → List ℕ → Option ℕ
+place_of_function source tokens functions name = place_of (spellings source tokens (map (λ (f : Function). f.name) functions)) name
+
+-- as few parameters as there may be slots
+abbrev pub HasFewParams : Function → Type 0
+HasFewParams f = length f.params ≤ 64
+
+-- the first so many numbers, from this one on
+abbrev pub numbered : {A : Type 0} → ℕ → List A → List ℕ
+numbered slot [] = []
+numbered slot (x ∷ xs) = slot ∷ numbered (slot + 1) xs
+
+module _ (names : List ℕ) where
+  -- the parameters are declared in their order
+  abbrev pub with_params : List ℕ → Scope → Found Scope
+  with_params [] s = Ok s
+  with_params (token ∷ tokens) s = on_found (declare token (name_at names token) s) (with_params tokens)
+
+  module _ (functions : List Function) where
+    -- a function with its names resolved: parameters share the scope of the body's outermost block (6.2.1p4)
+    abbrev pub resolved_function : Function → Found Function
+    resolved_function f =
+        on_found (with_params f.params nothing) (λ s.
+        on_found (in_order (map (resolved_stmt names functions) f.body) s false) (λ body.
+        Ok (record { name = f.name; params = numbered 0 f.params; body = body.what })))
+
+    -- all functions with their names resolved, in the order of the text
+    abbrev pub resolved_functions : Found (List Function)
+    resolved_functions = all_found (map resolved_function functions)

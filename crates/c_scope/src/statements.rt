@@ -1,0 +1,180 @@
+//! The names of statements, in the order of the text.
+ghost use Rattle.std.specs.Prelude.{◌≡◌, map, option_map};
+ghost use Rattle.c_scope.specs.Statements as spec;
+ghost use Rattle.c_scope.specs.Statements.{GivesPlaced, resolved_stmt};
+ghost use Rattle.c_scope.specs.Steps.{Gives};
+ghost use Rattle.c_scope.specs.Views.{Knows, seen};
+
+use crate::definitions::Definitions;
+use crate::error::ScopeEnd;
+use crate::expressions::{resolve_expr, slot_at};
+use crate::slots::Scope;
+use c_ast::{Expr, Stmt};
+use rx_plain::{Boxed, Items};
+use std::alloc::Global;
+
+// An expression that may be left out.
+fn resolve_optional(
+    alloc: Global,
+    definitions: &Definitions,
+    scope: &Scope,
+    e: &Option<Expr>,
+) -> Result<Option<Expr>, ScopeEnd>
+    requires { Knows definitions.now }
+    ensures { Gives result (spec.resolved_optional definitions.now.names.now definitions.now.functions.now (seen scope.now) e.now) }
+{
+    match e {
+        None => Ok(None),
+        Some(e) => Ok(Some(resolve_expr(alloc, definitions, scope, e)?)),
+    }
+}
+
+// The declaration of one variable, with its initial value.
+fn declare(
+    alloc: Global,
+    definitions: &Definitions,
+    scope: &mut Scope,
+    token: u32,
+    value: &Option<Expr>,
+) -> Result<Stmt, ScopeEnd>
+    requires { Knows definitions.now }
+    ensures { GivesPlaced result (seen scope.new) (spec.declared definitions.now.names.now definitions.now.functions.now token value.now (seen scope.old)) }
+{
+    let slot = scope.declare(definitions.names, token)?;
+    let value = resolve_optional(alloc, definitions, scope, value)?;
+    Ok(Stmt::Declare(slot, value))
+}
+
+// An assignment.
+fn assign(
+    alloc: Global,
+    definitions: &Definitions,
+    scope: &Scope,
+    token: u32,
+    value: &Expr,
+) -> Result<Stmt, ScopeEnd>
+    requires { Knows definitions.now }
+    ensures { GivesPlaced result (seen scope.now) (spec.assigned definitions.now.names.now definitions.now.functions.now token value.now (seen scope.now)) }
+{
+    let slot = slot_at(definitions.names, scope, token)?;
+    let value = resolve_expr(alloc, definitions, scope, value)?;
+    Ok(Stmt::Assign(slot, value))
+}
+
+// A `break` or a `continue`, whose token this is.
+fn jump(in_loop: bool, jump: Stmt, token: u32) -> Result<Stmt, ScopeEnd>
+    ensures { Gives result (spec.only_in_loops jump token in_loop) }
+{
+    if in_loop {
+        Ok(jump)
+    } else {
+        Err(ScopeEnd::StrayBreak { token })
+    }
+}
+
+/// A statement with its names resolved, or its first fault. What it declares is in scope behind it.
+#[cycle(statements)]
+pub fn resolve_stmt(
+    alloc: Global,
+    definitions: &Definitions,
+    scope: &mut Scope,
+    in_loop: bool,
+    s: &Stmt,
+) -> Result<Stmt, ScopeEnd>
+    requires { Knows definitions.now }
+    ensures { GivesPlaced result (seen scope.new) (resolved_stmt definitions.now.names.now definitions.now.functions.now s.now (seen scope.old) in_loop) }
+{
+    match s {
+        Stmt::Empty => Ok(Stmt::Empty),
+        Stmt::Declare(token, value) => declare(alloc, definitions, scope, *token, value),
+        Stmt::Assign(token, value) => assign(alloc, definitions, scope, *token, value),
+        Stmt::If(test, inner, other) => Ok(Stmt::If(
+            resolve_expr(alloc, definitions, scope, test)?,
+            inside(alloc, definitions, scope, in_loop, inner)?,
+            inside_optional(alloc, definitions, scope, in_loop, other)?,
+        )),
+        Stmt::While(test, inner) => Ok(Stmt::While(
+            resolve_expr(alloc, definitions, scope, test)?,
+            inside(alloc, definitions, scope, true, inner)?,
+        )),
+        Stmt::DoWhile(inner, test) => Ok(Stmt::DoWhile(
+            inside(alloc, definitions, scope, true, inner)?,
+            resolve_expr(alloc, definitions, scope, test)?,
+        )),
+        Stmt::For(first, test, change, inner) => {
+            let mut begun = scope.opened(alloc)?;
+            let first = in_order(alloc, definitions, &mut begun, false, first)?;
+            let test = resolve_optional(alloc, definitions, &begun, test)?;
+            let change = inside_optional(alloc, definitions, &begun, false, change)?;
+            let within = begun.opened(alloc)?;
+            let inner = inside(alloc, definitions, &within, true, inner)?;
+            Ok(Stmt::For(first, test, change, inner))
+        }
+        Stmt::Break(token) => jump(in_loop, Stmt::Break(*token), *token),
+        Stmt::Continue(token) => jump(in_loop, Stmt::Continue(*token), *token),
+        Stmt::Return(value) => Ok(Stmt::Return(resolve_expr(alloc, definitions, scope, value)?)),
+        Stmt::Block(inner) => {
+            let mut within = scope.opened(alloc)?;
+            let inner = in_order(alloc, definitions, &mut within, in_loop, inner)?;
+            Ok(Stmt::Block(inner))
+        }
+    }
+}
+
+// A part of a statement: what it declares is gone behind it.
+#[cycle(statements)]
+fn inside(
+    alloc: Global,
+    definitions: &Definitions,
+    scope: &Scope,
+    in_loop: bool,
+    part: &Boxed<Stmt>,
+) -> Result<Boxed<Stmt>, ScopeEnd>
+    requires { Knows definitions.now }
+    ensures { Gives result (spec.inside (resolved_stmt definitions.now.names.now definitions.now.functions.now part.now) (seen scope.now) in_loop) }
+{
+    let mut within = scope.try_clone(alloc)?;
+    let part = resolve_stmt(alloc, definitions, &mut within, in_loop, part.get())?;
+    Ok(Boxed::new(alloc, part)?)
+}
+
+// Such a part that may be left out.
+#[cycle(statements)]
+fn inside_optional(
+    alloc: Global,
+    definitions: &Definitions,
+    scope: &Scope,
+    in_loop: bool,
+    part: &Option<Boxed<Stmt>>,
+) -> Result<Option<Boxed<Stmt>>, ScopeEnd>
+    requires { Knows definitions.now }
+    ensures { Gives result (spec.inside_optional (option_map (resolved_stmt definitions.now.names.now definitions.now.functions.now) part.now) (seen scope.now) in_loop) }
+{
+    match part {
+        None => Ok(None),
+        Some(part) => {
+            let mut within = scope.try_clone(alloc)?;
+            let part = resolve_stmt(alloc, definitions, &mut within, in_loop, part.get())?;
+            Ok(Some(Boxed::new(alloc, part)?))
+        }
+    }
+}
+
+/// Statements in their order, each in the scope behind the one before.
+#[cycle(statements)]
+pub fn in_order(
+    alloc: Global,
+    definitions: &Definitions,
+    scope: &mut Scope,
+    in_loop: bool,
+    statements: &Items<Stmt>,
+) -> Result<Items<Stmt>, ScopeEnd>
+    requires { Knows definitions.now }
+    ensures { GivesPlaced result (seen scope.new) (spec.in_order (map (resolved_stmt definitions.now.names.now definitions.now.functions.now) statements.now) (seen scope.old) in_loop) }
+{
+    let mut resolved = Items::new(alloc);
+    for statement in statements.as_slice() {
+        resolved.push(resolve_stmt(alloc, definitions, scope, in_loop, statement)?)?;
+    }
+    Ok(resolved)
+}
