@@ -1,219 +1,232 @@
--- Lists of parameters and of functions, while they are read.
-use Rattle.std.proofs.Common.{◌≡◌, ℕ, suc, ◌+◌, ◌≤◌, ◌<◌, Some, None, List, [], ◌∷◌, ◌++◌, length, append_assoc, refl, sym, ◌∙◌, ap, arith}
-use Rattle.std.specs.List.{All}
-use Rattle.std.proofs.lemmas.List.Elements.{All-head, All-push}
+-- Parameters, while they are read.
+use Rattle.std.proofs.Common.{◌≡◌, ℕ, ◌+◌, ◌≤◌, ◌<◌, Option, Some, None, List, [], ◌∷◌, ◌++◌, length, append_assoc, refl, sym, ◌∙◌, ap, arith}
 use Rattle.c_lex.specs.declared.token.Token.{Token}
-use Rattle.c_lex.specs.declared.token.TokenKind.TheVariants.{Name, Mark}
+use Rattle.c_lex.specs.declared.token.TokenKind.TheVariants.{Name, Word, Mark}
+use Rattle.c_lex.specs.declared.token.Keyword.TheVariants.{Int, Void}
 use Rattle.c_lex.specs.declared.token.Mark.TheVariants.{RightParen, Comma}
-use Rattle.c_ast.specs.declared.program.Function.{Function}
+use Rattle.c_ast.specs.Height.{of_option}
 use Rattle.c_parse.specs.declared.read.Span.{Span}
-use Rattle.c_parse.specs.declared.read.ReadFunctions.TheVariants.{Spelled, Stopped}
 use Rattle.c_parse.specs.Grammar.{kind_at}
-use Rattle.c_parse.specs.Programs.{Others, closed, another, Parameters, empty, void, listed, Defines, Functions, finished, followed, IsParameter, IsVoid, IsLow}
-use Rattle.c_parse.specs.Readers.{IsThat, Gives, LowFunction, Listing, Collecting, ReadsAll}
+use Rattle.c_parse.specs.Programs.{IsVoid, Parameter, named, nameless, Listed, last_parameter, next_parameter, Parameters, unsaid, void, listed}
+use Rattle.c_parse.specs.Readers.{IsThat, Gives, Listing}
 use Rattle.c_parse.proofs.Lookahead.{kind_within}
+use Rattle.c_parse.proofs.Building.{Built}
+use Rattle.c_parse.proofs.UniqueExprs.{Same}
 
--- a list with nothing behind it
-append_nothing : {A : Type 0} (xs : List A) → xs ++ [] ≡ xs
-append_nothing [] = refl
-append_nothing (x ∷ xs) = ap (λ ys. x ∷ ys) (append_nothing xs)
+-- what one parameter can be
+pub data Sort (ts : List Token) (i j : ℕ) (o : Option ℕ) : Type 0 where
+  sort_named : kind_at ts i ≡ Some (Word Int) → kind_at ts (i + 1) ≡ Some Name → j ≡ i + 2 → o ≡ Some (i + 1) → Sort ts i j o
+  sort_nameless : kind_at ts i ≡ Some (Word Int) → (kind_at ts (i + 1) ≡ Some Name → ⊥) → j ≡ i + 1 → o ≡ None → Sort ts i j o
 
--- what the parameters behind the first can be
-pub data Further (ts : List Token) (i j : ℕ) (names : List ℕ) : Type 0 where
-  further_closed : kind_at ts i ≡ Some (Mark RightParen) → j ≡ i + 1 → names ≡ [] → Further ts i j names
-  further_another : (rest : List ℕ) → kind_at ts i ≡ Some (Mark Comma) → IsParameter ts (i + 1) → Others ts (i + 3) j rest → names ≡ (i + 2) ∷ rest
-      → Further ts i j names
+pub sort_of : (ts : List Token) (i j : ℕ) (o : Option ℕ) → Parameter ts i j o → Sort ts i j o
+sort_of ts i j o (named _ _ h g) = sort_named h g refl refl
+sort_of ts i j o (nameless _ _ h g) = sort_nameless h g refl refl
 
-pub further_of : (ts : List Token) (i j : ℕ) (names : List ℕ) → Others ts i j names → Further ts i j names
-further_of ts i j names (closed _ _ h) = further_closed h refl refl
-further_of ts i j names (another _ _ _ rest h p o) = further_another rest h p o refl
+-- a parameter begins with `int`
+sort_begins : (ts : List Token) (i j : ℕ) (o : Option ℕ) → Sort ts i j o → kind_at ts i ≡ Some (Word Int)
+sort_begins ts i j o (sort_named h g p q) = h
+sort_begins ts i j o (sort_nameless h g p q) = h
 
--- what a list of parameters can be
-pub data Parts (ts : List Token) (i j : ℕ) (names : List ℕ) : Type 0 where
-  part_empty : kind_at ts i ≡ Some (Mark RightParen) → j ≡ i + 1 → names ≡ [] → Parts ts i j names
-  part_void : IsVoid ts i → j ≡ i + 2 → names ≡ [] → Parts ts i j names
-  part_listed : (rest : List ℕ) → IsParameter ts i → Others ts (i + 2) j rest → names ≡ (i + 1) ∷ rest → Parts ts i j names
+-- a parameter takes a token
+sort_further : (ts : List Token) (i j : ℕ) (o : Option ℕ) → Sort ts i j o → i + 1 ≤ j
+sort_further ts i j o (sort_named h g p q) = omega arith
+sort_further ts i j o (sort_nameless h g p q) = omega arith
 
-pub parts_of : (ts : List Token) (i j : ℕ) (names : List ℕ) → Parameters ts i j names → Parts ts i j names
-parts_of ts i j names (empty _ _ h) = part_empty h refl refl
-parts_of ts i j names (void _ _ h) = part_void h refl refl
-parts_of ts i j names (listed _ _ _ rest p o) = part_listed rest p o refl
+-- a parameter and its end are determined by where it begins
+sort_unique : (ts : List Token) (i j k : ℕ) (o r : Option ℕ) → Sort ts i j o → Sort ts i k r → Same j k o r
+sort_unique ts i j k o r (sort_named h g p q) (sort_named _ _ a b) = (p ∙ sym a, q ∙ sym b)
+sort_unique ts i j k o r (sort_named h g p q) (sort_nameless _ n a b) = absurd (n g)
+sort_unique ts i j k o r (sort_nameless h n p q) (sort_named _ g a b) = absurd (n g)
+sort_unique ts i j k o r (sort_nameless h n p q) (sort_nameless _ _ a b) = (p ∙ sym a, q ∙ sym b)
+
+pub parameter_unique : (ts : List Token) (i j k : ℕ) (o r : Option ℕ) → Parameter ts i j o → Parameter ts i k r → Same j k o r
+parameter_unique ts i j k o r p q = sort_unique ts i j k o r (sort_of ts i j o p) (sort_of ts i k r q)
+
+-- a parameter with its name is read
+pub reads_named : (ts : List Token) (at : ℕ) (x : Span (Option ℕ)) → kind_at ts at ≡ Some (Word Int) → kind_at ts (at + 1) ≡ Some Name → x.value ≡ Some (at + 1) → x.end ≡ at + 2
+    → Gives (Parameter ts at) at (length ts) (Some x)
+reads_named ts at x h g xv xe =
+    let within : at + 1 < length ts = kind_within ts (at + 1) Name g in
+    let spelled : Parameter ts at x.end x.value = rw (xe, xv) (named ts at h g) in
+    record {
+      found = record { spelled = spelled; further = omega arith; within = omega arith };
+      only = λ j o p. parameter_unique ts at x.end j x.value o spelled p;
+    }
+
+-- a parameter without a name is read
+pub reads_nameless : (ts : List Token) (at : ℕ) (x : Span (Option ℕ)) → kind_at ts at ≡ Some (Word Int) → (kind_at ts (at + 1) ≡ Some Name → ⊥) → x.value ≡ None → x.end ≡ at + 1
+    → Gives (Parameter ts at) at (length ts) (Some x)
+reads_nameless ts at x h g xv xe =
+    let within : at < length ts = kind_within ts at (Word Int) h in
+    let spelled : Parameter ts at x.end x.value = rw (xe, xv) (nameless ts at h g) in
+    record {
+      found = record { spelled = spelled; further = omega arith; within = omega arith };
+      only = λ j o p. parameter_unique ts at x.end j x.value o spelled p;
+    }
+
+-- what parameters can be
+pub data Enlisted (ts : List Token) (i k : ℕ) (os : List (Option ℕ)) : Type 0 where
+  enlisted_last : (j : ℕ) → (o : Option ℕ) → Parameter ts i j o → kind_at ts j ≡ Some (Mark RightParen) → k ≡ j + 1 → os ≡ o ∷ [] → Enlisted ts i k os
+  enlisted_next : (j : ℕ) → (o : Option ℕ) → (rest : List (Option ℕ)) → Parameter ts i j o → kind_at ts j ≡ Some (Mark Comma) → Listed ts (j + 1) k rest → os ≡ o ∷ rest → Enlisted ts i k os
+
+pub enlisted_of : (ts : List Token) (i k : ℕ) (os : List (Option ℕ)) → Listed ts i k os → Enlisted ts i k os
+enlisted_of ts i k os (last_parameter _ _ j o p h) = enlisted_last j o p h refl refl
+enlisted_of ts i k os (next_parameter _ _ j _ o rest p h r) = enlisted_next j o rest p h r refl
+
+-- parameters begin with `int`
+listed_begins : (ts : List Token) (i k : ℕ) (os : List (Option ℕ)) → Listed ts i k os → kind_at ts i ≡ Some (Word Int)
+listed_begins ts i k os (last_parameter _ _ j o p h) = sort_begins ts i j o (sort_of ts i j o p)
+listed_begins ts i k os (next_parameter _ _ j _ o rest p h r) = sort_begins ts i j o (sort_of ts i j o p)
+
+-- each parameter takes a token
+listed_short : (ts : List Token) (i k : ℕ) (os : List (Option ℕ)) → Listed ts i k os → i + length os ≤ k
+listed_short ts i k os (last_parameter _ _ j o p h) = let further : i + 1 ≤ j = sort_further ts i j o (sort_of ts i j o p) in omega arith
+listed_short ts i k os (next_parameter _ _ j l o rest p h r) =
+    let further : i + 1 ≤ j = sort_further ts i j o (sort_of ts i j o p) in
+    let more : j + 1 + length rest ≤ l = listed_short ts (j + 1) l rest r in omega arith
+
+-- parameters and their end are determined by where they begin
+listed_unique : (ts : List Token) (i j k : ℕ) (os rs : List (Option ℕ)) → Listed ts i j os → Enlisted ts i k rs → Same j k os rs
+listed_unique ts i j k os rs (last_parameter _ _ l o p h) (enlisted_last m r q g a b) =
+    let same : Same l m o r = parameter_unique ts i l m o r p q in
+    (ap (λ z. z + 1) same.0 ∙ sym a, ap (λ z. z ∷ []) same.1 ∙ sym b)
+listed_unique ts i j k os rs (last_parameter _ _ l o p h) (enlisted_next m r rest q g t b) =
+    let same : Same l m o r = parameter_unique ts i l m o r p q in
+    let there : kind_at ts m ≡ Some (Mark RightParen) = rw same.0 at h in absurd cc
+listed_unique ts i j k os rs (next_parameter _ _ l _ o more p h s) (enlisted_last m r q g a b) =
+    let same : Same l m o r = parameter_unique ts i l m o r p q in
+    let there : kind_at ts m ≡ Some (Mark Comma) = rw same.0 at h in absurd cc
+listed_unique ts i j k os rs (next_parameter _ _ l _ o more p h s) (enlisted_next m r rest q g t b) =
+    let same : Same l m o r = parameter_unique ts i l m o r p q in
+    let there : Listed ts (l + 1) k rest = rw same.0 t in
+    let tail : Same j k more rest = listed_unique ts (l + 1) j k more rest s (enlisted_of ts (l + 1) k rest there) in
+    let list : o ∷ more ≡ r ∷ rest = rw (same.1, tail.1) refl in
+    (tail.0, list ∙ sym b)
+
+-- nothing is read
+pub listing_begins : (ts : List Token) (at : ℕ) → at ≤ length ts → Listing ts at [] at
+listing_begins ts at inside = record {
+  forward = λ j os h. h;
+  only = λ j all h. (all, (refl, h));
+  begun = omega arith;
+  within = inside;
+}
+
+module _ (ts : List Token) (at : ℕ) (found : List (Option ℕ)) (end : ℕ) (l : Listing ts at found end) where
+  none_only : Gives (Parameter ts end) end (length ts) None → (k : ℕ) (os : List (Option ℕ)) → Enlisted ts end k os → ⊥
+  none_only g k os (enlisted_last j o p h a b) = g.only j o p
+  none_only g k os (enlisted_next j o rest p h r b) = g.only j o p
+
+  -- no parameter follows
+  pub listing_stops : Gives (Parameter ts end) end (length ts) None → Gives (Listed ts at) at (length ts) None
+  listing_stops g = record { found = tt; only = λ k all p. let go = l.only k all p in none_only g k go.0 (enlisted_of ts end k go.0 go.1.1) }
+
+  module _ (x : Span (Option ℕ)) (g : Gives (Parameter ts end) end (length ts) (Some x)) where
+    -- the last parameter
+    pub listing_ends : (y : Span (List (Option ℕ))) → kind_at ts x.end ≡ Some (Mark RightParen) → y.value ≡ found ++ x.value ∷ [] → y.end ≡ x.end + 1
+        → Gives (Listed ts at) at (length ts) (Some y)
+    listing_ends y o yv ye =
+        let whole : Listed ts at (x.end + 1) (found ++ x.value ∷ []) = l.forward (x.end + 1) (x.value ∷ []) (last_parameter ts end x.end x.value g.found.spelled o) in
+        let spelled : Listed ts at y.end y.value = rw (ye, yv) whole in
+        let begun : at ≤ end = l.begun in
+        let further : end < x.end = g.found.further in
+        let within : x.end < length ts = kind_within ts x.end (Mark RightParen) o in
+        record {
+          found = record { spelled = spelled; further = omega arith; within = omega arith };
+          only = λ k all p. listed_unique ts at y.end k y.value all spelled (enlisted_of ts at k all p);
+        }
+
+    next_only : kind_at ts x.end ≡ Some (Mark Comma) → (k : ℕ) (all os : List (Option ℕ)) → all ≡ found ++ os → Enlisted ts end k os
+        → (rest : List (Option ℕ)) × ((all ≡ (found ++ x.value ∷ []) ++ rest) × Listed ts (x.end + 1) k rest)
+    next_only c k all os same (enlisted_last j o p h a b) =
+        let is : (x.end ≡ j) × (x.value ≡ o) = g.only j o p in
+        let there : kind_at ts j ≡ Some (Mark Comma) = rw is.0 at c in absurd cc
+    next_only c k all os same (enlisted_next j o rest p h r b) =
+        let is : (x.end ≡ j) × (x.value ≡ o) = g.only j o p in
+        let there : Listed ts (x.end + 1) k rest = rw is.0 r in
+        let joined : all ≡ (found ++ x.value ∷ []) ++ rest =
+        same ∙ (ap (λ zs. found ++ zs) (b ∙ ap (λ z. z ∷ rest) (sym is.1)) ∙ sym (append_assoc found (x.value ∷ []) rest)) in
+        (rest, (joined, there))
+
+    -- one more parameter
+    pub listing_goes : kind_at ts x.end ≡ Some (Mark Comma) → Listing ts at (found ++ x.value ∷ []) (x.end + 1)
+    listing_goes c =
+        let before : at ≤ end = l.begun in
+        let further : end < x.end = g.found.further in
+        let inside : x.end < length ts = kind_within ts x.end (Mark Comma) c in
+        record {
+          forward = λ k os d. rw (append_assoc found (x.value ∷ []) os) (l.forward k (x.value ∷ os) (next_parameter ts end x.end k x.value os g.found.spelled c d));
+          only = λ k all p. let go = l.only k all p in next_only c k all go.0 go.1.0 (enlisted_of ts end k go.0 go.1.1);
+          begun = omega arith;
+          within = omega arith;
+        }
+
+    broken_only : (kind_at ts x.end ≡ Some (Mark RightParen) → ⊥) → (kind_at ts x.end ≡ Some (Mark Comma) → ⊥) → (k : ℕ) (os : List (Option ℕ)) → Enlisted ts end k os → ⊥
+    broken_only a b k os (enlisted_last j o p h c d) = let is : (x.end ≡ j) × (x.value ≡ o) = g.only j o p in a (rw is.0 h)
+    broken_only a b k os (enlisted_next j o rest p h r d) = let is : (x.end ≡ j) × (x.value ≡ o) = g.only j o p in b (rw is.0 h)
+
+    -- neither a comma nor the closing parenthesis
+    pub listing_breaks : (kind_at ts x.end ≡ Some (Mark RightParen) → ⊥) → (kind_at ts x.end ≡ Some (Mark Comma) → ⊥) → Gives (Listed ts at) at (length ts) None
+    listing_breaks a b = record { found = tt; only = λ k all p. let go = l.only k all p in broken_only a b k go.0 (enlisted_of ts end k go.0 go.1.1) }
+
+-- what can stand in the parentheses
+pub data Parts (ts : List Token) (i j : ℕ) (ps : Option (List (Option ℕ))) : Type 0 where
+  part_unsaid : kind_at ts i ≡ Some (Mark RightParen) → j ≡ i + 1 → ps ≡ None → Parts ts i j ps
+  part_void : IsVoid ts i → j ≡ i + 2 → ps ≡ Some [] → Parts ts i j ps
+  part_listed : (os : List (Option ℕ)) → Listed ts i j os → ps ≡ Some os → Parts ts i j ps
+
+pub parts_of : (ts : List Token) (i j : ℕ) (ps : Option (List (Option ℕ))) → Parameters ts i j ps → Parts ts i j ps
+parts_of ts i j ps (unsaid _ _ h) = part_unsaid h refl refl
+parts_of ts i j ps (void _ _ h) = part_void h refl refl
+parts_of ts i j ps (listed _ _ _ os r) = part_listed os r refl
+
+-- there are no more parameters than tokens
+pub parameters_short : (ts : List Token) (i j : ℕ) (ps : Option (List (Option ℕ))) → Parameters ts i j ps → of_option (λ (os : List (Option ℕ)). length os) ps ≤ j
+parameters_short ts i j ps (unsaid _ _ h) = omega arith
+parameters_short ts i j ps (void _ _ h) = omega arith
+parameters_short ts i j ps (listed _ _ k os r) = let short : i + length os ≤ k = listed_short ts i k os r in omega arith
+
+-- what stands in the parentheses is determined by where it begins
+pub parts_unique : (ts : List Token) (i j k : ℕ) (ps qs : Option (List (Option ℕ))) → Parts ts i j ps → Parts ts i k qs → Same j k ps qs
+parts_unique ts i j k ps qs (part_unsaid h p q) (part_unsaid g a b) = (p ∙ sym a, q ∙ sym b)
+parts_unique ts i j k ps qs (part_unsaid h p q) (part_void g a b) = let there = g.0 in absurd cc
+parts_unique ts i j k ps qs (part_unsaid h p q) (part_listed os r b) = let there = listed_begins ts i k os r in absurd cc
+parts_unique ts i j k ps qs (part_void h p q) (part_unsaid g a b) = let here = h.0 in absurd cc
+parts_unique ts i j k ps qs (part_void h p q) (part_void g a b) = (p ∙ sym a, q ∙ sym b)
+parts_unique ts i j k ps qs (part_void h p q) (part_listed os r b) = let here = h.0 in let there = listed_begins ts i k os r in absurd cc
+parts_unique ts i j k ps qs (part_listed os r b) (part_unsaid h p q) = let there = listed_begins ts i j os r in absurd cc
+parts_unique ts i j k ps qs (part_listed os r b) (part_void h p q) = let here = h.0 in let there = listed_begins ts i j os r in absurd cc
+parts_unique ts i j k ps qs (part_listed os r b) (part_listed us t d) =
+    let same : Same j k os us = listed_unique ts i j k os us r (enlisted_of ts i k us t) in (same.0, b ∙ (ap (λ z. Some z) same.1 ∙ sym d))
 
 module _ (ts : List Token) (at : ℕ) where
-  empty_only : (x : Span (List ℕ)) → kind_at ts at ≡ Some (Mark RightParen) → x.end ≡ at + 1 → x.value ≡ [] → (j : ℕ) (names : List ℕ) → Parts ts at j names → IsThat (Some x) j names
-  empty_only x h xe xv j names (part_empty g p q) = (xe ∙ sym p, xv ∙ sym q)
-  empty_only x h xe xv j names (part_void g p q) = let other = g.0 in cc
-  empty_only x h xe xv j names (part_listed rest g o q) = let other = g.0 in cc
-
-  -- an empty list of parameters
-  pub gives_empty : (x : Span (List ℕ)) → kind_at ts at ≡ Some (Mark RightParen) → x.end ≡ at + 1 → x.value ≡ [] → Gives (Parameters ts at) at (length ts) (Some x)
-  gives_empty x h xe xv =
+  -- empty parentheses
+  pub reads_unsaid : (x : Span (Option (List (Option ℕ)))) → kind_at ts at ≡ Some (Mark RightParen) → x.value ≡ None → x.end ≡ at + 1 → Gives (Parameters ts at) at (length ts) (Some x)
+  reads_unsaid x h xv xe =
       let within : at < length ts = kind_within ts at (Mark RightParen) h in
       record {
-        found = record { spelled = rw (xe, xv) (empty ts at h); further = omega arith; within = omega arith };
-        only = λ j names p. empty_only x h xe xv j names (parts_of ts at j names p);
+        found = record { spelled = rw (xe, xv) (unsaid ts at h); further = omega arith; within = omega arith };
+        only = λ j ps p. parts_unique ts at x.end j x.value ps (part_unsaid h xe xv) (parts_of ts at j ps p);
       }
 
-  void_only : (x : Span (List ℕ)) → IsVoid ts at → x.end ≡ at + 2 → x.value ≡ [] → (j : ℕ) (names : List ℕ) → Parts ts at j names → IsThat (Some x) j names
-  void_only x h xe xv j names (part_empty g p q) = let here = h.0 in cc
-  void_only x h xe xv j names (part_void g p q) = (xe ∙ sym p, xv ∙ sym q)
-  void_only x h xe xv j names (part_listed rest g o q) = let here = h.0 in let other = g.0 in cc
-
-  -- the word `void` in place of parameters
-  pub gives_void : (x : Span (List ℕ)) → IsVoid ts at → x.end ≡ at + 2 → x.value ≡ [] → Gives (Parameters ts at) at (length ts) (Some x)
-  gives_void x h xe xv =
+  -- the word `void`
+  pub reads_void : (x : Span (Option (List (Option ℕ)))) → IsVoid ts at → x.value ≡ Some [] → x.end ≡ at + 2 → Gives (Parameters ts at) at (length ts) (Some x)
+  reads_void x h xv xe =
       let within : at + 1 < length ts = kind_within ts (at + 1) (Mark RightParen) h.1 in
       record {
         found = record { spelled = rw (xe, xv) (void ts at h); further = omega arith; within = omega arith };
-        only = λ j names p. void_only x h xe xv j names (parts_of ts at j names p);
+        only = λ j ps p. parts_unique ts at x.end j x.value ps (part_void h xe xv) (parts_of ts at j ps p);
       }
 
-  nothing_only : (kind_at ts at ≡ Some (Mark RightParen) → ⊥) → (IsParameter ts at → ⊥) → (IsVoid ts at → ⊥) → (j : ℕ) (names : List ℕ) → Parts ts at j names → ⊥
-  nothing_only a b c j names (part_empty g p q) = a g
-  nothing_only a b c j names (part_void g p q) = c g
-  nothing_only a b c j names (part_listed rest g o q) = b g
+  listed_from : (kind_at ts at ≡ Some (Mark RightParen) → ⊥) → (IsVoid ts at → ⊥) → (j : ℕ) (ps : Option (List (Option ℕ))) → Parts ts at j ps
+      → (os : List (Option ℕ)) × (Listed ts at j os × (ps ≡ Some os))
+  listed_from a b j ps (part_unsaid h p q) = absurd (a h)
+  listed_from a b j ps (part_void h p q) = absurd (b h)
+  listed_from a b j ps (part_listed os r q) = (os, (r, q))
 
-  -- no list of parameters begins here
-  pub gives_nothing : (kind_at ts at ≡ Some (Mark RightParen) → ⊥) → (IsParameter ts at → ⊥) → (IsVoid ts at → ⊥) → Gives (Parameters ts at) at (length ts) None
-  gives_nothing a b c = record { found = tt; only = λ j names p. nothing_only a b c j names (parts_of ts at j names p) }
-
-  begun_only : IsParameter ts at → (j : ℕ) (all : List ℕ) → Parts ts at j all → (names : List ℕ) × ((all ≡ ((at + 1) ∷ []) ++ names) × Others ts (at + 2) j names)
-  begun_only h j all (part_empty g p q) = let here = h.0 in absurd cc
-  begun_only h j all (part_void g p q) = let here = h.0 in let other = g.0 in absurd cc
-  begun_only h j all (part_listed rest g o q) = (rest, (q, o))
-
-  -- the first parameter
-  pub listing_begins : IsParameter ts at → Listing ts at ((at + 1) ∷ []) (at + 2)
-  listing_begins h =
-      let within : at + 1 < length ts = kind_within ts (at + 1) Name h.1 in
-      record {
-        forward = λ j names o. listed ts at j names h o;
-        only = λ j all p. begun_only h j all (parts_of ts at j all p);
-        further = omega arith;
-        within = omega arith;
-      }
-
-  went_only : (found : List ℕ) (end : ℕ) → kind_at ts end ≡ Some (Mark Comma) → (j : ℕ) (all names : List ℕ) → all ≡ found ++ names → Further ts end j names
-      → (rest : List ℕ) × ((all ≡ (found ++ (end + 2) ∷ []) ++ rest) × Others ts (end + 3) j rest)
-  went_only found end h j all names same (further_closed g p q) = absurd cc
-  went_only found end h j all names same (further_another rest g i o q) =
-      (rest, (same ∙ (ap (λ xs. found ++ xs) q ∙ sym (append_assoc found ((end + 2) ∷ []) rest)), o))
-
-  -- one more parameter
-  pub listing_goes : (found : List ℕ) (end : ℕ) → Listing ts at found end → kind_at ts end ≡ Some (Mark Comma) → IsParameter ts (end + 1)
-      → Listing ts at (found ++ (end + 2) ∷ []) (end + 3)
-  listing_goes found end l h p =
-      let within : end + 1 + 1 < length ts = kind_within ts (end + 1 + 1) Name p.1 in
-      let further : at < end = l.further in
-      record {
-        forward = λ j names o. rw (append_assoc found ((end + 2) ∷ []) names) (l.forward j ((end + 2) ∷ names) (another ts end j names h p o));
-        only = λ j all q. let go = l.only j all q in went_only found end h j all go.0 go.1.0 (further_of ts end j go.0 go.1.1);
-        further = omega arith;
-        within = omega arith;
-      }
-
-  closed_only : (found : List ℕ) (end : ℕ) (x : Span (List ℕ)) → kind_at ts end ≡ Some (Mark RightParen) → x.end ≡ end + 1 → x.value ≡ found
-      → (j : ℕ) (all names : List ℕ) → all ≡ found ++ names → Further ts end j names → IsThat (Some x) j all
-  closed_only found end x h xe xv j all names same (further_closed g p q) =
-      (xe ∙ sym p, xv ∙ sym (same ∙ (ap (λ xs. found ++ xs) q ∙ append_nothing found)))
-  closed_only found end x h xe xv j all names same (further_another rest g i o q) = cc
-
-  -- the closing parenthesis
-  pub listing_ends : (found : List ℕ) (end : ℕ) (x : Span (List ℕ)) → Listing ts at found end → kind_at ts end ≡ Some (Mark RightParen) → x.end ≡ end + 1 → x.value ≡ found
-      → Gives (Parameters ts at) at (length ts) (Some x)
-  listing_ends found end x l h xe xv =
-      let within : end < length ts = kind_within ts end (Mark RightParen) h in
-      let further : at < end = l.further in
-      let spelled : Parameters ts at (end + 1) (found ++ []) = l.forward (end + 1) [] (closed ts end h) in
-      record {
-        found = record { spelled = rw (xe, xv) (rw append_nothing at spelled); further = omega arith; within = omega arith };
-        only = λ j all q. let go = l.only j all q in closed_only found end x h xe xv j all go.0 go.1.0 (further_of ts end j go.0 go.1.1);
-      }
-
-  open_only : (end : ℕ) → (kind_at ts end ≡ Some (Mark RightParen) → ⊥) → (kind_at ts end ≡ Some (Mark Comma) → ⊥) → (j : ℕ) (names : List ℕ) → Further ts end j names → ⊥
-  open_only end a b j names (further_closed g p q) = a g
-  open_only end a b j names (further_another rest g i o q) = b g
-
-  -- neither a comma nor the closing parenthesis
-  pub listing_stops : (found : List ℕ) (end : ℕ) → Listing ts at found end → (kind_at ts end ≡ Some (Mark RightParen) → ⊥) → (kind_at ts end ≡ Some (Mark Comma) → ⊥)
-      → Gives (Parameters ts at) at (length ts) None
-  listing_stops found end l a b = record {
-    found = tt;
-    only = λ j all q. let go = l.only j all q in open_only end a b j go.0 (further_of ts end j go.0 go.1.1);
+  -- parameters, one or more
+  pub builds_listed : (kind_at ts at ≡ Some (Mark RightParen) → ⊥) → (IsVoid ts at → ⊥) → Built (λ (os : List (Option ℕ)). Some os) (Listed ts at) (Parameters ts at)
+  builds_listed a b = record {
+    make = λ j os p. listed ts at j os p;
+    part = λ j ps q. listed_from a b j ps (parts_of ts at j ps q);
   }
-
-  broken_only : (end : ℕ) → kind_at ts end ≡ Some (Mark Comma) → (IsParameter ts (end + 1) → ⊥) → (j : ℕ) (names : List ℕ) → Further ts end j names → ⊥
-  broken_only end h a j names (further_closed g p q) = cc
-  broken_only end h a j names (further_another rest g i o q) = a i
-
-  -- a comma without a parameter behind it
-  pub listing_breaks : (found : List ℕ) (end : ℕ) → Listing ts at found end → kind_at ts end ≡ Some (Mark Comma) → (IsParameter ts (end + 1) → ⊥)
-      → Gives (Parameters ts at) at (length ts) None
-  listing_breaks found end l h a = record {
-    found = tt;
-    only = λ j all q. let go = l.only j all q in broken_only end h a j go.0 (further_of ts end j go.0 go.1.1);
-  }
-
--- what a list of functions can be
-pub data Fellows (ts : List Token) (i j : ℕ) (fs : List Function) : Type 0 where
-  fellow_none : i ≡ j → fs ≡ [] → Fellows ts i j fs
-  fellow_more : (k : ℕ) → (f : Function) → (rest : List Function) → Defines ts i k f → Functions ts k j rest → fs ≡ f ∷ rest → Fellows ts i j fs
-
-pub fellows_of : (ts : List Token) (i j : ℕ) (fs : List Function) → Functions ts i j fs → Fellows ts i j fs
-fellows_of ts i j fs (finished _ _) = fellow_none refl refl
-fellows_of ts i j fs (followed _ _ k _ f rest d r) = fellow_more k f rest d r refl
-
--- what holds of each behind the first
-low_rest : (f : Function) (fs : List Function) → All IsLow (f ∷ fs) → All IsLow fs
-low_rest f fs low = λ k d h. low (suc k) d (omega arith)
-
-module _ (ts : List Token) where
-  -- nothing is read
-  pub collecting_begins : Collecting ts [] 0
-  collecting_begins = record {
-    forward = λ fs h. h;
-    low = λ k d h. absurd (omega arith);
-    only = λ all h low. (all, (refl, (h, low)));
-    within = omega arith;
-  }
-
-  one_more : (found : List Function) (at : ℕ) (x : Span Function) → at < length ts → Gives (LowFunction ts at) at (length ts) (Some x)
-      → (all fs : List Function) → all ≡ found ++ fs → All IsLow fs → Fellows ts at (length ts) fs
-      → (rest : List Function) × ((all ≡ (found ++ x.value ∷ []) ++ rest) × (Functions ts x.end (length ts) rest × All IsLow rest))
-  one_more found at x within g all fs same low (fellow_none p q) = absurd (omega arith)
-  one_more found at x within g all fs same low (fellow_more k f rest d r q) =
-      let both : All IsLow (f ∷ rest) = rw q at low in
-      let is : (x.end ≡ k) × (x.value ≡ f) = g.only k f (d, All-head IsLow f rest both) in
-      let there : Functions ts x.end (length ts) rest = rw is.0 r in
-      let joined : all ≡ (found ++ x.value ∷ []) ++ rest = same ∙ (ap (λ xs. found ++ xs) (q ∙ ap (λ g. g ∷ rest) (sym is.1)) ∙ sym (append_assoc found (x.value ∷ []) rest)) in
-      (rest, (joined, (there, low_rest f rest both)))
-
-  -- one more function
-  pub collecting_goes : (found : List Function) (at : ℕ) (x : Span Function) → Collecting ts found at → at < length ts → Gives (LowFunction ts at) at (length ts) (Some x)
-      → Collecting ts (found ++ x.value ∷ []) x.end
-  collecting_goes found at x c within g = record {
-    forward = λ fs h. rw (append_assoc found (x.value ∷ []) fs) (c.forward (x.value ∷ fs) (followed ts at x.end (length ts) x.value fs g.found.spelled.0 h));
-    low = All-push IsLow found x.value c.low g.found.spelled.1;
-    only = λ all h low. let go = c.only all h low in one_more found at x within g all go.0 go.1.0 go.1.1.1 (fellows_of ts at (length ts) go.0 go.1.1.0);
-    within = g.found.within;
-  }
-
-  unread : (at : ℕ) → at < length ts → Gives (LowFunction ts at) at (length ts) None → (fs : List Function) → All IsLow fs → Fellows ts at (length ts) fs → ⊥
-  unread at within g fs low (fellow_none p q) = omega arith
-  unread at within g fs low (fellow_more k f rest d r q) =
-      let both : All IsLow (f ∷ rest) = rw q at low in
-      g.only k f (d, All-head IsLow f rest both)
-
-  -- a place at which no function stands
-  pub collecting_stops : (found : List Function) (at : ℕ) → Collecting ts found at → at < length ts → Gives (LowFunction ts at) at (length ts) None → ReadsAll ts (Stopped at)
-  collecting_stops found at c within g =
-      (λ all h low. let go = c.only all h low in unread at within g go.0 go.1.1.1 (fellows_of ts at (length ts) go.0 go.1.1.0), omega arith)
-
-  -- the end of the list
-  pub collecting_ends : (found : List Function) (at : ℕ) → Collecting ts found at → length ts ≤ at → ReadsAll ts (Spelled found)
-  collecting_ends found at c past =
-      let within : at ≤ length ts = c.within in
-      let same : at ≡ length ts = omega arith in
-      let nothing : Functions ts at (length ts) [] = rw same (finished ts (length ts)) in
-      let spelled : Functions ts 0 (length ts) (found ++ []) = c.forward [] nothing in
-      (rw append_nothing at spelled, c.low)

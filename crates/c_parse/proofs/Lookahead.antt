@@ -50,7 +50,7 @@ fewer_stop ts n i s = record {
 }
 
 -- a token that goes on with no expression stops every level
-token_stops : (ts : List Token) (n i : ℕ) (k : TokenKind) → kind_at ts i ≡ Some k → binary_of (Some k) ≡ None → (k ≡ Mark Question → ⊥) → (k ≡ Mark LeftParen → ⊥) → Stops ts n i
+pub token_stops : (ts : List Token) (n i : ℕ) (k : TokenKind) → kind_at ts i ≡ Some k → binary_of (Some k) ≡ None → (k ≡ Mark Question → ⊥) → (k ≡ Mark LeftParen → ⊥) → Stops ts n i
 token_stops ts n i k h no_operator no_question no_call = record {
   operator = λ m op g. absurd (not_infixed ts i m op k no_operator h g);
   choice = λ g. let same : k ≡ Mark Question = cc in absurd (no_question same);

@@ -2,6 +2,7 @@
 use Rattle.std.proofs.Common.{◌≡◌, ℕ, suc, zero, ◌+◌, ◌-◌, ◌≤◌, ◌<◌, max, Option, Some, None, List, [], ◌∷◌, ◌++◌, length, map, append_assoc, refl, sym, ◌∙◌, ap, arith}
 use Rattle.c_lex.specs.declared.token.Token.{Token}
 use Rattle.c_lex.specs.declared.token.TokenKind.TheVariants.{Name, Number, Mark}
+use Rattle.c_lex.specs.declared.token.Mark.{Mark as TheMark}
 use Rattle.c_lex.specs.declared.token.Mark.TheVariants.{LeftParen, RightParen, Comma}
 use Rattle.c_ast.specs.declared.expr.Expr.{Expr}
 use Rattle.c_ast.specs.Height.{greatest, expr_height}
@@ -23,25 +24,30 @@ greatest_append [] ys = omega arith
 greatest_append (x ∷ xs) ys =
     let rest : greatest (map expr_height (xs ++ ys)) ≡ max (greatest (map expr_height xs)) (greatest (map expr_height ys)) = greatest_append xs ys in omega arith
 
-mutual
-  -- no expression begins with a closing parenthesis
-  pub whole_opens : (ts : List Token) (i j : ℕ) (e : Expr) → Whole ts i j e → kind_at ts i ≡ Some (Mark RightParen) → ⊥
-  whole_opens ts i j e (plain _ _ _ _ l) h = level_opens ts levels i j e l h
-  whole_opens ts i j e (choice _ _ k _ _ c a b l q w p u) h = level_opens ts levels i k c l h
+module _ (m : TheMark) (no_sign : unary_of (Some (Mark m)) ≡ None) (no_call : m ≡ LeftParen → ⊥) where
+  mutual
+    -- no expression begins with a mark that is neither an operator before an operand nor `(`
+    pub whole_begins : (ts : List Token) (i j : ℕ) (e : Expr) → Whole ts i j e → kind_at ts i ≡ Some (Mark m) → ⊥
+    whole_begins ts i j e (plain _ _ _ _ l) h = level_begins ts levels i j e l h
+    whole_begins ts i j e (choice _ _ k _ _ c a b l q w p u) h = level_begins ts levels i k c l h
 
-  level_opens : (ts : List Token) (n i j : ℕ) (e : Expr) → Level ts n i j e → kind_at ts i ≡ Some (Mark RightParen) → ⊥
-  level_opens ts n i j e (signed _ _ _ _ s) h = signed_opens ts i j e s h
-  level_opens ts n i j e (chain _ m _ k _ a _ l r) h = level_opens ts m i k a l h
+    level_begins : (ts : List Token) (n i j : ℕ) (e : Expr) → Level ts n i j e → kind_at ts i ≡ Some (Mark m) → ⊥
+    level_begins ts n i j e (signed _ _ _ _ s) h = signed_begins ts i j e s h
+    level_begins ts n i j e (chain _ o _ k _ a _ l r) h = level_begins ts o i k a l h
 
-  signed_opens : (ts : List Token) (i j : ℕ) (e : Expr) → Signed ts i j e → kind_at ts i ≡ Some (Mark RightParen) → ⊥
-  signed_opens ts i j e (unsigned _ _ _ _ p) h = primary_opens ts i j e p h
-  signed_opens ts i j e (prefixed _ _ _ op a g s) h = let contradiction : None ≡ Some op = ap unary_of (sym h) ∙ g in cc
+    signed_begins : (ts : List Token) (i j : ℕ) (e : Expr) → Signed ts i j e → kind_at ts i ≡ Some (Mark m) → ⊥
+    signed_begins ts i j e (unsigned _ _ _ _ p) h = primary_begins ts i j e p h
+    signed_begins ts i j e (prefixed _ _ _ op a g s) h = let contradiction : None ≡ Some op = sym no_sign ∙ (ap unary_of (sym h) ∙ g) in cc
 
-  primary_opens : (ts : List Token) (i j : ℕ) (e : Expr) → Primary ts i j e → kind_at ts i ≡ Some (Mark RightParen) → ⊥
-  primary_opens ts i j e (number _ _ value g) h = cc
-  primary_opens ts i j e (name _ _ g) h = cc
-  primary_opens ts i j e (call _ _ _ es g p r) h = cc
-  primary_opens ts i j e (parens _ _ k _ g w c) h = cc
+    primary_begins : (ts : List Token) (i j : ℕ) (e : Expr) → Primary ts i j e → kind_at ts i ≡ Some (Mark m) → ⊥
+    primary_begins ts i j e (number _ _ value g) h = cc
+    primary_begins ts i j e (name _ _ g) h = cc
+    primary_begins ts i j e (call _ _ _ es g p r) h = cc
+    primary_begins ts i j e (parens _ _ k _ g w c) h = let same : m ≡ LeftParen = cc in no_call same
+
+-- no expression begins with a closing parenthesis
+pub whole_opens : (ts : List Token) (i j : ℕ) (e : Expr) → Whole ts i j e → kind_at ts i ≡ Some (Mark RightParen) → ⊥
+whole_opens ts i j e w h = whole_begins RightParen refl (λ q. cc) ts i j e w h
 
 -- what arguments can be
 pub data Given (ts : List Token) (i j : ℕ) (es : List Expr) : Type 0 where

@@ -1,193 +1,246 @@
--- Statements, blocks and functions: each is read as a sequence of phrases whose ends are known.
-use Rattle.std.proofs.Common.{◌≡◌, ℕ, suc, ◌+◌, ◌≤◌, ◌<◌, Some, None, List, [], ◌∷◌, length, refl, sym, ◌∙◌, ap, arith}
+-- Functions and prototypes, and the program that they are, while they are read.
+use Rattle.std.proofs.Common.{◌≡◌, ℕ, suc, ◌+◌, ◌≤◌, ◌<◌, Option, Some, None, List, [], ◌∷◌, ◌++◌, length, append_assoc, refl, sym, ◌∙◌, ap, arith}
 use Rattle.std.specs.List.{All}
-use Rattle.std.proofs.lemmas.List.Elements.{All-head, All-push}
+use Rattle.std.specs.Option.{option_map}
+use Rattle.std.proofs.lemmas.List.Elements.{All-head, All-tail, All-push}
 use Rattle.c_lex.specs.declared.token.Token.{Token}
 use Rattle.c_lex.specs.declared.token.TokenKind.TheVariants.{Word, Mark}
-use Rattle.c_lex.specs.declared.token.Keyword.TheVariants.{Return as ReturnWord}
-use Rattle.c_lex.specs.declared.token.Mark.TheVariants.{LeftBrace, RightBrace, Semicolon}
-use Rattle.c_ast.specs.declared.expr.Expr.{Expr}
+use Rattle.c_lex.specs.declared.token.Keyword.TheVariants.{Int}
+use Rattle.c_lex.specs.declared.token.Mark.TheVariants.{LeftBrace, Semicolon}
 use Rattle.c_ast.specs.declared.stmt.Stmt.{Stmt}
-use Rattle.c_ast.specs.declared.stmt.Stmt.TheVariants.{Return}
 use Rattle.c_ast.specs.declared.program.Function.{Function}
-use Rattle.c_ast.specs.Height.{expr_height, stmt_height}
-use Rattle.c_ast.proofs.Equations.{height-Return}
-use Rattle.c_parse.specs.declared.read.Read.{Read}
+use Rattle.c_ast.specs.declared.program.Prototype.{Prototype}
+use Rattle.c_ast.specs.declared.program.Program.{Program}
 use Rattle.c_parse.specs.declared.read.Span.{Span}
-use Rattle.c_parse.specs.Grammar.{kind_at, levels, Whole}
-use Rattle.c_parse.specs.Programs.{Parameters, Statement, returns, Block, block, Defines, function, IsHeading, IsLow}
-use Rattle.c_parse.specs.Readers.{Reads, IsThat, Gives, LowStatement, LowBlock, LowFunction}
-use Rattle.c_parse.proofs.Lookahead.{kind_within, semicolon_stops}
+use Rattle.c_parse.specs.declared.read.External.{External}
+use Rattle.c_parse.specs.declared.read.External.TheVariants.{Defined, Declared}
+use Rattle.c_parse.specs.declared.read.ReadProgram.TheVariants.{Spelled, Stopped}
+use Rattle.c_parse.specs.Grammar.{kind_at}
+use Rattle.c_parse.specs.Statements.{Blocks}
+use Rattle.c_parse.specs.Programs.{list_height, IsHeading, Parameters, names_of, ExternalDeclaration, function, prototype, Externals, finished, followed, functions_of, prototypes_of, program_of, IsLow, Spells}
+use Rattle.c_parse.specs.Readers.{IsThat, Gives, Low, LowExternal, added, Collecting, ReadsAll}
+use Rattle.c_parse.proofs.Lookahead.{kind_within}
 
--- the parts of a statement
-pub data Returned (ts : List Token) (i j : ℕ) (s : Stmt) : Type 0 where
-  returned : (k : ℕ) → (e : Expr) → kind_at ts i ≡ Some (Word ReturnWord) → Whole ts (i + 1) k e → kind_at ts k ≡ Some (Mark Semicolon)
-      → j ≡ k + 1 → s ≡ Return e → Returned ts i j s
+-- a function of this name, these parameters and this body
+abbrev pub the_function : ℕ → List ℕ → List Stmt → External
+the_function name params body = Defined (record { name = name; params = params; body = body })
 
-pub returned_of : (ts : List Token) (i j : ℕ) (s : Stmt) → Statement ts i j s → Returned ts i j s
-returned_of ts i j s (returns _ _ k e h w c) = returned k e h w c refl refl
+-- a prototype of this name with that many parameters
+abbrev pub the_prototype : ℕ → Option ℕ → External
+the_prototype name params = Declared (record { name = name; params = params })
 
--- the parts of a block
-pub data Blocked (ts : List Token) (i j : ℕ) (ss : List Stmt) : Type 0 where
-  blocked : (k : ℕ) → (s : Stmt) → kind_at ts i ≡ Some (Mark LeftBrace) → Statement ts (i + 1) k s → kind_at ts k ≡ Some (Mark RightBrace)
-      → j ≡ k + 1 → ss ≡ s ∷ [] → Blocked ts i j ss
+-- what a function or a prototype can be
+pub data Outer (ts : List Token) (i j : ℕ) (x : External) : Type 0 where
+  outer_function : (k : ℕ) → (ps : Option (List (Option ℕ))) → (names : List ℕ) → (body : List Stmt)
+      → IsHeading ts i → Parameters ts (i + 3) k ps → names_of ps ≡ Some names → Blocks ts k j body → x ≡ the_function (i + 1) names body → Outer ts i j x
+  outer_prototype : (k : ℕ) → (ps : Option (List (Option ℕ)))
+      → IsHeading ts i → Parameters ts (i + 3) k ps → kind_at ts k ≡ Some (Mark Semicolon) → j ≡ k + 1 → x ≡ the_prototype (i + 1) (option_map (λ (os : List (Option ℕ)). length os) ps) → Outer ts i j x
 
-pub blocked_of : (ts : List Token) (i j : ℕ) (ss : List Stmt) → Block ts i j ss → Blocked ts i j ss
-blocked_of ts i j ss (block _ _ k s h r c) = blocked k s h r c refl refl
+pub outer_of : (ts : List Token) (i j : ℕ) (x : External) → ExternalDeclaration ts i j x → Outer ts i j x
+outer_of ts i j x (function _ _ k _ ps names body h p n b) = outer_function k ps names body h p n b refl
+outer_of ts i j x (prototype _ _ k ps h p c) = outer_prototype k ps h p c refl refl
 
--- the parts of a function
-pub data Defined (ts : List Token) (i j : ℕ) (f : Function) : Type 0 where
-  defined : (k : ℕ) → (names : List ℕ) → (body : List Stmt) → IsHeading ts i → Parameters ts (i + 3) k names → Block ts k j body
-      → f ≡ record { name = i + 1; params = names; body = body } → Defined ts i j f
+-- each begins with `int`
+pub outer_begins : (ts : List Token) (i j : ℕ) (x : External) → Outer ts i j x → kind_at ts i ≡ Some (Word Int)
+outer_begins ts i j x (outer_function k ps names body h p n b q) = h.0
+outer_begins ts i j x (outer_prototype k ps h p c a q) = h.0
 
-pub defined_of : (ts : List Token) (i j : ℕ) (f : Function) → Defines ts i j f → Defined ts i j f
-defined_of ts i j f (function _ _ k _ names body h p b) = defined k names body h p b refl
+-- no block begins with a semicolon
+no_block : (ts : List Token) (i j : ℕ) (body : List Stmt) → kind_at ts i ≡ Some (Mark Semicolon) → Blocks ts i j body → ⊥
+no_block ts i j body h b = let here = b.0 in cc
 
 module _ (ts : List Token) (at : ℕ) where
-  -- a returned value is low enough exactly where its statement is
-  value_fits : (s : Stmt) (e : Expr) → s ≡ Return e → stmt_height s ≤ 200 → expr_height e ≤ 199
-  value_fits s e same fits =
-      let one : stmt_height (Return e) ≡ 1 + expr_height e = height-Return e in
-      let high : stmt_height s ≡ stmt_height (Return e) = ap stmt_height same in omega arith
+  headless_only : (IsHeading ts at → ⊥) → (j : ℕ) (x : External) → Outer ts at j x → ⊥
+  headless_only headless j x (outer_function k ps names body h p n b q) = headless h
+  headless_only headless j x (outer_prototype k ps h p c a q) = headless h
 
-  statement_only : (x : Read) (y : Span Stmt) → Reads (Whole ts) ts (suc levels) (at + 1) 199 (Some x) → y.value ≡ Return x.tree → y.end ≡ x.end + 1
-      → (j : ℕ) (s : Stmt) → Returned ts at j s → stmt_height s ≤ 200 → IsThat (Some y) j s
-  statement_only x y r yv ye j s (returned k e h w c p q) fits =
-      let is : (x.end ≡ k) × (x.tree ≡ e) = r.only k e w (semicolon_stops ts (suc levels) k c) (value_fits s e q fits) in
-      (cc, yv ∙ (ap Return is.1 ∙ sym q))
+  -- without a heading there is neither
+  pub gives_headless : (IsHeading ts at → ⊥) → Gives (LowExternal ts at) at (length ts) None
+  gives_headless headless = record { found = tt; only = λ j x low. headless_only headless j x (outer_of ts at j x low.0) }
 
-  -- a statement is read
-  pub gives_statement : (x : Read) (y : Span Stmt) → kind_at ts at ≡ Some (Word ReturnWord) → Reads (Whole ts) ts (suc levels) (at + 1) 199 (Some x)
-      → kind_at ts x.end ≡ Some (Mark Semicolon) → y.value ≡ Return x.tree → y.end ≡ x.end + 1 → Gives (LowStatement ts at) at (length ts) (Some y)
-  gives_statement x y h r c yv ye =
-      let further : at + 1 < x.end = r.found.further in
-      let within : x.end < length ts = kind_within ts x.end (Mark Semicolon) c in
-      let fits : x.height ≤ 199 = r.found.fits in
-      let high : x.height ≡ expr_height x.tree = r.found.high in
-      let one : stmt_height (Return x.tree) ≡ 1 + expr_height x.tree = height-Return x.tree in
-      record {
-        found = record {
-          spelled = rw (ye, yv) (returns ts at x.end x.tree h r.found.spelled c, omega arith);
-          further = omega arith;
-          within = omega arith;
-        };
-        only = λ j s low. statement_only x y r yv ye j s (returned_of ts at j s low.0) low.1;
-      }
+  listless_only : Gives (Parameters ts (at + 3)) (at + 3) (length ts) None → (j : ℕ) (x : External) → Outer ts at j x → ⊥
+  listless_only r j x (outer_function k ps names body h p n b q) = r.only k ps p
+  listless_only r j x (outer_prototype k ps h p c a q) = r.only k ps p
 
-  unended_only : (x : Read) → Reads (Whole ts) ts (suc levels) (at + 1) 199 (Some x) → (kind_at ts x.end ≡ Some (Mark Semicolon) → ⊥)
-      → (j : ℕ) (s : Stmt) → Returned ts at j s → stmt_height s ≤ 200 → ⊥
-  unended_only x r unended j s (returned k e h w c p q) fits =
-      let is : (x.end ≡ k) × (x.tree ≡ e) = r.only k e w (semicolon_stops ts (suc levels) k c) (value_fits s e q fits) in
-      unended (rw is.0 c)
+  -- without parameters there is neither
+  pub gives_listless : Gives (Parameters ts (at + 3)) (at + 3) (length ts) None → Gives (LowExternal ts at) at (length ts) None
+  gives_listless r = record { found = tt; only = λ j x low. listless_only r j x (outer_of ts at j x low.0) }
 
-  -- a value without a semicolon behind it is no statement
-  pub gives_unended : (x : Read) → Reads (Whole ts) ts (suc levels) (at + 1) 199 (Some x) → (kind_at ts x.end ≡ Some (Mark Semicolon) → ⊥)
-      → Gives (LowStatement ts at) at (length ts) None
-  gives_unended x r unended = record { found = tt; only = λ j s low. unended_only x r unended j s (returned_of ts at j s low.0) low.1 }
+  module _ (x : Span (Option (List (Option ℕ)))) (r : Gives (Parameters ts (at + 3)) (at + 3) (length ts) (Some x)) where
+    prototype_only : (y : Span External) → kind_at ts x.end ≡ Some (Mark Semicolon) → y.value ≡ the_prototype (at + 1) (option_map (λ (os : List (Option ℕ)). length os) x.value)
+        → y.end ≡ x.end + 1 → (j : ℕ) (z : External) → Outer ts at j z → IsThat (Some y) j z
+    prototype_only y c yv ye j z (outer_function k ps names body h p n b q) =
+        let is : (x.end ≡ k) × (x.value ≡ ps) = r.only k ps p in
+        let there : kind_at ts k ≡ Some (Mark Semicolon) = rw is.0 at c in absurd (no_block ts k j body there b)
+    prototype_only y c yv ye j z (outer_prototype k ps h p d a q) =
+        let is : (x.end ≡ k) × (x.value ≡ ps) = r.only k ps p in
+        (ye ∙ (ap (λ w. w + 1) is.0 ∙ sym a), yv ∙ (ap (λ w. the_prototype (at + 1) (option_map (λ (os : List (Option ℕ)). length os) w)) is.1 ∙ sym q))
 
-  valueless_only : Reads (Whole ts) ts (suc levels) (at + 1) 199 None → (j : ℕ) (s : Stmt) → Returned ts at j s → stmt_height s ≤ 200 → ⊥
-  valueless_only r j s (returned k e h w c p q) fits = r.only k e w (semicolon_stops ts (suc levels) k c) (value_fits s e q fits)
+    -- a prototype
+    pub gives_prototype : (y : Span External) → IsHeading ts at → kind_at ts x.end ≡ Some (Mark Semicolon)
+        → y.value ≡ the_prototype (at + 1) (option_map (λ (os : List (Option ℕ)). length os) x.value) → y.end ≡ x.end + 1 → Gives (LowExternal ts at) at (length ts) (Some y)
+    gives_prototype y h c yv ye =
+        let further : at + 3 < x.end = r.found.further in
+        let within : x.end < length ts = kind_within ts x.end (Mark Semicolon) c in
+        record {
+          found = record { spelled = rw (ye, yv) (prototype ts at x.end x.value h r.found.spelled c, tt); further = omega arith; within = omega arith };
+          only = λ j z low. prototype_only y c yv ye j z (outer_of ts at j z low.0);
+        }
 
-  -- without a value there is no statement
-  pub gives_valueless : Reads (Whole ts) ts (suc levels) (at + 1) 199 None → Gives (LowStatement ts at) at (length ts) None
-  gives_valueless r = record { found = tt; only = λ j s low. valueless_only r j s (returned_of ts at j s low.0) low.1 }
+    module _ (continued : kind_at ts x.end ≡ Some (Mark Semicolon) → ⊥) where
+      nameless_only : names_of x.value ≡ None → (j : ℕ) (z : External) → Outer ts at j z → ⊥
+      nameless_only none j z (outer_function k ps names body h p n b q) =
+          let is : (x.end ≡ k) × (x.value ≡ ps) = r.only k ps p in
+          let contradiction : None ≡ Some names = sym none ∙ (ap names_of is.1 ∙ n) in cc
+      nameless_only none j z (outer_prototype k ps h p c a q) =
+          let is : (x.end ≡ k) × (x.value ≡ ps) = r.only k ps p in continued (rw is.0 c)
 
-  -- one low statement alone
-  one_low : (s : Stmt) → stmt_height s ≤ 200 → All (λ t. stmt_height t ≤ 200) (s ∷ [])
-  one_low s low = All-push (λ t. stmt_height t ≤ 200) [] s (λ k d h. absurd (omega arith)) low
+      -- a parameter of a function without a name
+      pub gives_nameless : names_of x.value ≡ None → Gives (LowExternal ts at) at (length ts) None
+      gives_nameless none = record { found = tt; only = λ j z low. nameless_only none j z (outer_of ts at j z low.0) }
 
-  block_only : (x : Span Stmt) (y : Span (List Stmt)) → Gives (LowStatement ts (at + 1)) (at + 1) (length ts) (Some x) → y.value ≡ x.value ∷ [] → y.end ≡ x.end + 1
-      → (j : ℕ) (ss : List Stmt) → Blocked ts at j ss → All (λ t. stmt_height t ≤ 200) ss → IsThat (Some y) j ss
-  block_only x y r yv ye j ss (blocked k s h w c p q) low =
-      let head : stmt_height s ≤ 200 = All-head (λ t. stmt_height t ≤ 200) s [] (rw q at low) in
-      let is : (x.end ≡ k) × (x.value ≡ s) = r.only k s (w, head) in
-      (cc, yv ∙ (ap (λ t. t ∷ []) is.1 ∙ sym q))
+      bodiless_only : Gives (Low list_height 200 (Blocks ts x.end)) x.end (length ts) None → (j : ℕ) (z : External) → Outer ts at j z → IsLow z → ⊥
+      bodiless_only b j z (outer_function k ps names body h p n w q) low =
+          let is : (x.end ≡ k) × (x.value ≡ ps) = r.only k ps p in
+          let body_low : list_height body ≤ 200 = rw q at low in
+          let here : Blocks ts x.end j body = rw is.0 w in
+          b.only j body (here, body_low)
+      bodiless_only b j z (outer_prototype k ps h p c a q) low =
+          let is : (x.end ≡ k) × (x.value ≡ ps) = r.only k ps p in continued (rw is.0 c)
 
-  -- a block is read
-  pub gives_block : (x : Span Stmt) (y : Span (List Stmt)) → kind_at ts at ≡ Some (Mark LeftBrace) → Gives (LowStatement ts (at + 1)) (at + 1) (length ts) (Some x)
-      → kind_at ts x.end ≡ Some (Mark RightBrace) → y.value ≡ x.value ∷ [] → y.end ≡ x.end + 1 → Gives (LowBlock ts at) at (length ts) (Some y)
-  gives_block x y h r c yv ye =
-      let further : at + 1 < x.end = r.found.further in
-      let within : x.end < length ts = kind_within ts x.end (Mark RightBrace) c in
-      record {
-        found = record {
-          spelled = rw (ye, yv) (block ts at x.end x.value h r.found.spelled.0 c, one_low x.value r.found.spelled.1);
-          further = omega arith;
-          within = omega arith;
-        };
-        only = λ j ss low. block_only x y r yv ye j ss (blocked_of ts at j ss low.0) low.1;
-      }
+      -- without a body there is no function
+      pub gives_bodiless : Gives (Low list_height 200 (Blocks ts x.end)) x.end (length ts) None → Gives (LowExternal ts at) at (length ts) None
+      gives_bodiless b = record { found = tt; only = λ j z low. bodiless_only b j z (outer_of ts at j z low.0) low.1 }
 
-  unclosed_only : (x : Span Stmt) → Gives (LowStatement ts (at + 1)) (at + 1) (length ts) (Some x) → (kind_at ts x.end ≡ Some (Mark RightBrace) → ⊥)
-      → (j : ℕ) (ss : List Stmt) → Blocked ts at j ss → All (λ t. stmt_height t ≤ 200) ss → ⊥
-  unclosed_only x r unclosed j ss (blocked k s h w c p q) low =
-      let head : stmt_height s ≤ 200 = All-head (λ t. stmt_height t ≤ 200) s [] (rw q at low) in
-      let is : (x.end ≡ k) × (x.value ≡ s) = r.only k s (w, head) in
-      unclosed (rw is.0 c)
+      function_only : (names : List ℕ) (y : Span (List Stmt)) (w : Span External) → names_of x.value ≡ Some names → Gives (Low list_height 200 (Blocks ts x.end)) x.end (length ts) (Some y)
+          → w.value ≡ the_function (at + 1) names y.value → w.end ≡ y.end → (j : ℕ) (z : External) → Outer ts at j z → IsLow z → IsThat (Some w) j z
+      function_only names y w given b wv we j z (outer_function k ps others body h p n v q) low =
+          let is : (x.end ≡ k) × (x.value ≡ ps) = r.only k ps p in
+          let body_low : list_height body ≤ 200 = rw q at low in
+          let here : Blocks ts x.end j body = rw is.0 v in
+          let that : (y.end ≡ j) × (y.value ≡ body) = b.only j body (here, body_low) in
+          let lists : Some names ≡ Some others = sym given ∙ (ap names_of is.1 ∙ n) in
+          let same : names ≡ others = cc in
+          let tree : the_function (at + 1) names y.value ≡ the_function (at + 1) others body = rw (same, that.1) refl in
+          (we ∙ that.0, wv ∙ (tree ∙ sym q))
+      function_only names y w given b wv we j z (outer_prototype k ps h p c a q) low =
+          let is : (x.end ≡ k) × (x.value ≡ ps) = r.only k ps p in absurd (continued (rw is.0 c))
 
-  -- a block that isn't closed is none
-  pub gives_unclosed : (x : Span Stmt) → Gives (LowStatement ts (at + 1)) (at + 1) (length ts) (Some x) → (kind_at ts x.end ≡ Some (Mark RightBrace) → ⊥)
-      → Gives (LowBlock ts at) at (length ts) None
-  gives_unclosed x r unclosed = record { found = tt; only = λ j ss low. unclosed_only x r unclosed j ss (blocked_of ts at j ss low.0) low.1 }
+      -- a function
+      pub gives_function : (names : List ℕ) (y : Span (List Stmt)) (w : Span External) → IsHeading ts at → names_of x.value ≡ Some names
+          → Gives (Low list_height 200 (Blocks ts x.end)) x.end (length ts) (Some y) → w.value ≡ the_function (at + 1) names y.value → w.end ≡ y.end
+          → Gives (LowExternal ts at) at (length ts) (Some w)
+      gives_function names y w h given b wv we =
+          let first : at + 3 < x.end = r.found.further in
+          let second : x.end < y.end = b.found.further in
+          let within : y.end ≤ length ts = b.found.within in
+          record {
+            found = record {
+              spelled = rw (we, wv) (function ts at x.end y.end x.value names y.value h r.found.spelled given b.found.spelled.0, b.found.spelled.1);
+              further = omega arith;
+              within = omega arith;
+            };
+            only = λ j z low. function_only names y w given b wv we j z (outer_of ts at j z low.0) low.1;
+          }
 
-  hollow_only : Gives (LowStatement ts (at + 1)) (at + 1) (length ts) None → (j : ℕ) (ss : List Stmt) → Blocked ts at j ss → All (λ t. stmt_height t ≤ 200) ss → ⊥
-  hollow_only r j ss (blocked k s h w c p q) low = r.only k s (w, All-head (λ t. stmt_height t ≤ 200) s [] (rw q at low))
+-- what functions and prototypes in a row can be
+pub data Fellows (ts : List Token) (i j : ℕ) (xs : List External) : Type 0 where
+  fellow_none : i ≡ j → xs ≡ [] → Fellows ts i j xs
+  fellow_more : (k : ℕ) → (x : External) → (rest : List External) → ExternalDeclaration ts i k x → Externals ts k j rest → xs ≡ x ∷ rest → Fellows ts i j xs
 
-  -- without a statement there is no block
-  pub gives_hollow : Gives (LowStatement ts (at + 1)) (at + 1) (length ts) None → Gives (LowBlock ts at) at (length ts) None
-  gives_hollow r = record { found = tt; only = λ j ss low. hollow_only r j ss (blocked_of ts at j ss low.0) low.1 }
+pub fellows_of : (ts : List Token) (i j : ℕ) (xs : List External) → Externals ts i j xs → Fellows ts i j xs
+fellows_of ts i j xs (finished _ _) = fellow_none refl refl
+fellows_of ts i j xs (followed _ _ k _ x rest d r) = fellow_more k x rest d r refl
 
-  function_only : (x : Span (List ℕ)) (y : Span (List Stmt)) (z : Span Function) → Gives (Parameters ts (at + 3)) (at + 3) (length ts) (Some x)
-      → Gives (LowBlock ts x.end) x.end (length ts) (Some y) → z.value ≡ record { name = at + 1; params = x.value; body = y.value } → z.end ≡ y.end
-      → (j : ℕ) (f : Function) → Defined ts at j f → IsLow f → IsThat (Some z) j f
-  function_only x y z p b zv ze j f (defined k names body h q w same) low =
-      let is : (x.end ≡ k) × (x.value ≡ names) = p.only k names q in
-      let body_low : All (λ t. stmt_height t ≤ 200) body = rw same at low in
-      let block_here : Block ts x.end j body = rw is.0 w in
-      let that : (y.end ≡ j) × (y.value ≡ body) = b.only j body (block_here, body_low) in
-      let made : z.value ≡ f = zv ∙ (rw (is.1, that.1) (sym same)) in
-      (ze ∙ that.0, made)
+-- a list with nothing behind it
+append_nothing : {A : Type 0} (xs : List A) → xs ++ [] ≡ xs
+append_nothing [] = refl
+append_nothing (x ∷ xs) = ap (λ ys. x ∷ ys) (append_nothing xs)
 
-  -- a function is read
-  pub gives_function : (x : Span (List ℕ)) (y : Span (List Stmt)) (z : Span Function) → IsHeading ts at → Gives (Parameters ts (at + 3)) (at + 3) (length ts) (Some x)
-      → Gives (LowBlock ts x.end) x.end (length ts) (Some y) → z.value ≡ record { name = at + 1; params = x.value; body = y.value } → z.end ≡ y.end
-      → Gives (LowFunction ts at) at (length ts) (Some z)
-  gives_function x y z h p b zv ze =
-      let first : at + 3 < x.end = p.found.further in
-      let second : x.end < y.end = b.found.further in
-      let within : y.end ≤ length ts = b.found.within in
-      record {
-        found = record {
-          spelled = rw (ze, zv) (function ts at x.end y.end x.value y.value h p.found.spelled b.found.spelled.0, b.found.spelled.1);
-          further = omega arith;
-          within = omega arith;
-        };
-        only = λ j f low. function_only x y z p b zv ze j f (defined_of ts at j f low.0) low.1;
-      }
+-- the functions of a list with one more
+functions_push : (xs : List External) (f : Function) → functions_of (xs ++ Defined f ∷ []) ≡ functions_of xs ++ f ∷ []
+functions_push [] f = refl
+functions_push (Defined g ∷ xs) f = ap (λ gs. g ∷ gs) (functions_push xs f)
+functions_push (Declared q ∷ xs) f = functions_push xs f
 
-  bodiless_only : (x : Span (List ℕ)) → Gives (Parameters ts (at + 3)) (at + 3) (length ts) (Some x) → Gives (LowBlock ts x.end) x.end (length ts) None
-      → (j : ℕ) (f : Function) → Defined ts at j f → IsLow f → ⊥
-  bodiless_only x p b j f (defined k names body h q w same) low =
-      let is : (x.end ≡ k) × (x.value ≡ names) = p.only k names q in
-      let body_low : All (λ t. stmt_height t ≤ 200) body = rw same at low in
-      let block_here : Block ts x.end j body = rw is.0 w in
-      b.only j body (block_here, body_low)
+functions_keep : (xs : List External) (p : Prototype) → functions_of (xs ++ Declared p ∷ []) ≡ functions_of xs
+functions_keep [] p = refl
+functions_keep (Defined g ∷ xs) p = ap (λ gs. g ∷ gs) (functions_keep xs p)
+functions_keep (Declared q ∷ xs) p = functions_keep xs p
 
-  -- without a body there is no function
-  pub gives_bodiless : (x : Span (List ℕ)) → Gives (Parameters ts (at + 3)) (at + 3) (length ts) (Some x) → Gives (LowBlock ts x.end) x.end (length ts) None
-      → Gives (LowFunction ts at) at (length ts) None
-  gives_bodiless x p b = record { found = tt; only = λ j f low. bodiless_only x p b j f (defined_of ts at j f low.0) low.1 }
+-- and the prototypes
+prototypes_push : (xs : List External) (p : Prototype) → prototypes_of (xs ++ Declared p ∷ []) ≡ prototypes_of xs ++ p ∷ []
+prototypes_push [] p = refl
+prototypes_push (Defined g ∷ xs) p = prototypes_push xs p
+prototypes_push (Declared q ∷ xs) p = ap (λ qs. q ∷ qs) (prototypes_push xs p)
 
-  listless_only : Gives (Parameters ts (at + 3)) (at + 3) (length ts) None → (j : ℕ) (f : Function) → Defined ts at j f → ⊥
-  listless_only p j f (defined k names body h q w same) = p.only k names q
+prototypes_keep : (xs : List External) (f : Function) → prototypes_of (xs ++ Defined f ∷ []) ≡ prototypes_of xs
+prototypes_keep [] f = refl
+prototypes_keep (Defined g ∷ xs) f = prototypes_keep xs f
+prototypes_keep (Declared q ∷ xs) f = ap (λ qs. q ∷ qs) (prototypes_keep xs f)
 
-  -- without parameters there is no function
-  pub gives_listless : Gives (Parameters ts (at + 3)) (at + 3) (length ts) None → Gives (LowFunction ts at) at (length ts) None
-  gives_listless p = record { found = tt; only = λ j f low. listless_only p j f (defined_of ts at j f low.0) }
+-- a program of these functions and prototypes
+abbrev made_of : List Function → List Prototype → Program
+made_of fs ps = record { functions = fs; prototypes = ps }
 
-  headless_only : (IsHeading ts at → ⊥) → (j : ℕ) (f : Function) → Defined ts at j f → ⊥
-  headless_only headless j f (defined k names body h q w same) = headless h
+-- the program of a list with one more
+program_push : (xs : List External) (x : External) → program_of (xs ++ x ∷ []) ≡ added (program_of xs) x
+program_push xs (Defined f) =
+    ap (λ fs. made_of fs (prototypes_of (xs ++ Defined f ∷ []))) (functions_push xs f) ∙ ap (λ ps. made_of (functions_of xs ++ f ∷ []) ps) (prototypes_keep xs f)
+program_push xs (Declared p) =
+    ap (λ fs. made_of fs (prototypes_of (xs ++ Declared p ∷ []))) (functions_keep xs p) ∙ ap (λ ps. made_of (functions_of xs) ps) (prototypes_push xs p)
 
-  -- without a heading there is no function
-  pub gives_headless : (IsHeading ts at → ⊥) → Gives (LowFunction ts at) at (length ts) None
-  gives_headless headless = record { found = tt; only = λ j f low. headless_only headless j f (defined_of ts at j f low.0) }
+module _ (ts : List Token) where
+  -- nothing is read
+  pub collecting_begins : (p : Program) → p ≡ program_of [] → Collecting ts p 0
+  collecting_begins p is = record {
+    found = [];
+    is = is;
+    forward = λ xs h. h;
+    low = λ k d h. absurd (omega arith);
+    only = λ all h low. (all, (refl, (h, low)));
+    within = omega arith;
+  }
+
+  one_more : (found : List External) (at : ℕ) (x : Span External) → at < length ts → Gives (LowExternal ts at) at (length ts) (Some x)
+      → (all xs : List External) → all ≡ found ++ xs → All IsLow xs → Fellows ts at (length ts) xs
+      → (rest : List External) × ((all ≡ (found ++ x.value ∷ []) ++ rest) × (Externals ts x.end (length ts) rest × All IsLow rest))
+  one_more found at x within g all xs same low (fellow_none p q) = absurd (omega arith)
+  one_more found at x within g all xs same low (fellow_more k y rest d r q) =
+      let both : All IsLow (y ∷ rest) = rw q at low in
+      let is : (x.end ≡ k) × (x.value ≡ y) = g.only k y (d, All-head IsLow y rest both) in
+      let there : Externals ts x.end (length ts) rest = rw is.0 r in
+      let joined : all ≡ (found ++ x.value ∷ []) ++ rest = same ∙ (ap (λ zs. found ++ zs) (q ∙ ap (λ g. g ∷ rest) (sym is.1)) ∙ sym (append_assoc found (x.value ∷ []) rest)) in
+      (rest, (joined, (there, All-tail IsLow y rest both)))
+
+  -- one more function or prototype
+  pub collecting_goes : (p : Program) (at : ℕ) (x : Span External) → Collecting ts p at → at < length ts → Gives (LowExternal ts at) at (length ts) (Some x)
+      → Collecting ts (added p x.value) x.end
+  collecting_goes p at x c within g = record {
+    found = c.found ++ x.value ∷ [];
+    is = ap (λ q. added q x.value) c.is ∙ sym (program_push c.found x.value);
+    forward = λ xs h. rw (append_assoc c.found (x.value ∷ []) xs) (c.forward (x.value ∷ xs) (followed ts at x.end (length ts) x.value xs g.found.spelled.0 h));
+    low = All-push IsLow c.found x.value c.low g.found.spelled.1;
+    only = λ all h low. let go = c.only all h low in one_more c.found at x within g all go.0 go.1.0 go.1.1.1 (fellows_of ts at (length ts) go.0 go.1.1.0);
+    within = g.found.within;
+  }
+
+  unread : (at : ℕ) → at < length ts → Gives (LowExternal ts at) at (length ts) None → (xs : List External) → All IsLow xs → Fellows ts at (length ts) xs → ⊥
+  unread at within g xs low (fellow_none p q) = omega arith
+  unread at within g xs low (fellow_more k y rest d r q) =
+      let both : All IsLow (y ∷ rest) = rw q at low in
+      g.only k y (d, All-head IsLow y rest both)
+
+  -- a place at which neither stands
+  pub collecting_stops : (p : Program) (at : ℕ) → Collecting ts p at → at < length ts → Gives (LowExternal ts at) at (length ts) None → ReadsAll ts (Stopped at)
+  collecting_stops p at c within g =
+      (λ q s. let go = c.only s.externals s.spelled s.low in unread at within g go.0 go.1.1.1 (fellows_of ts at (length ts) go.0 go.1.1.0), omega arith)
+
+  -- the end of the list
+  pub collecting_ends : (p : Program) (at : ℕ) → Collecting ts p at → length ts ≤ at → ReadsAll ts (Spelled p)
+  collecting_ends p at c past =
+      let within : at ≤ length ts = c.within in
+      let same : at ≡ length ts = omega arith in
+      let nothing : Externals ts at (length ts) [] = rw same (finished ts (length ts)) in
+      let spelled : Externals ts 0 (length ts) (c.found ++ []) = c.forward [] nothing in
+      record { externals = c.found; spelled = rw append_nothing at spelled; low = c.low; is = c.is }

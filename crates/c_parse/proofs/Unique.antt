@@ -1,213 +1,62 @@
 -- A list of tokens spells at most one program.
-use Rattle.std.proofs.Common.{◌≡◌, ℕ, zero, suc, ◌+◌, ◌≤◌, ◌<◌, Some, None, List, [], ◌∷◌, length, refl, sym, ◌∙◌, ap, arith}
+use Rattle.std.proofs.Common.{◌≡◌, ℕ, ◌+◌, ◌≤◌, ◌<◌, Option, Some, List, [], ◌∷◌, length, refl, sym, ◌∙◌, ap, arith}
+use Rattle.std.specs.Option.{option_map}
 use Rattle.c_lex.specs.declared.token.Token.{Token}
-use Rattle.c_lex.specs.declared.token.TokenKind.TheVariants.{Name, Number, Word, Mark}
+use Rattle.c_lex.specs.declared.token.TokenKind.TheVariants.{Word, Mark}
 use Rattle.c_lex.specs.declared.token.Keyword.TheVariants.{Int}
-use Rattle.c_lex.specs.declared.token.Mark.TheVariants.{LeftParen, RightParen, LeftBrace, RightBrace, Comma, Semicolon, Question}
-use Rattle.c_ast.specs.declared.expr.Expr.{Expr}
-use Rattle.c_ast.specs.declared.expr.UnOp.{UnOp}
-use Rattle.c_ast.specs.declared.expr.Expr.TheVariants.{Unary, Binary, Choose, Apply}
-use Rattle.c_ast.specs.declared.stmt.Stmt.{Stmt}
-use Rattle.c_ast.specs.declared.stmt.Stmt.TheVariants.{Return}
-use Rattle.c_ast.specs.declared.program.Function.{Function}
-use Rattle.c_ast.specs.declared.program.Prototype.{Prototype}
+use Rattle.c_lex.specs.declared.token.Mark.TheVariants.{Semicolon}
 use Rattle.c_ast.specs.declared.program.Program.{Program}
-use Rattle.c_parse.specs.Grammar.{kind_at, unary_of, levels, Whole, plain, choice, Level, signed, chain, Rest, done, more, Signed, unsigned, prefixed, Primary, number, name, call, parens, Arguments, no_arguments, arguments, Following, last_argument, next_argument}
-use Rattle.c_parse.specs.Programs.{Others, closed, another, Block, Functions, finished, followed, OneProgram}
-use Rattle.c_parse.specs.Readers.{Stops}
-use Rattle.c_parse.proofs.Lookahead.{kind_within, rest_stops, fewer_stop, question_stops, colon_stops, paren_stops, semicolon_stops}
-use Rattle.c_parse.proofs.Choices.{Chosen, chosen_plain, chosen_choice, chosen_of}
-use Rattle.c_parse.proofs.Passing.{Given, given_none, given_some, given_of, Gone, gone_last, gone_next, gone_of, argument_stops, whole_opens}
-use Rattle.c_parse.proofs.Chains.{Going, stopped, went, going_of, not_stopped}
-use Rattle.c_parse.proofs.Operands.{Leaf, leaf_number, leaf_name, leaf_call, leaf_parens, leaf_of, no_sign, Prefix, prefix_none, prefix_some, prefix_of, signed_of}
-use Rattle.c_parse.proofs.Phrases.{Returned, returned, returned_of, Blocked, blocked, blocked_of, Defined, defined, defined_of}
-use Rattle.c_parse.proofs.Lists.{Further, further_closed, further_another, further_of, Parts, part_empty, part_void, part_listed, parts_of, Fellows, fellow_none, fellow_more, fellows_of}
+use Rattle.c_parse.specs.declared.read.External.{External}
+use Rattle.c_parse.specs.Grammar.{kind_at}
+use Rattle.c_parse.specs.Statements.{Blocks}
+use Rattle.c_parse.specs.Programs.{Parameters, names_of, Externals, finished, followed, program_of, Spells, OneProgram}
+use Rattle.c_parse.proofs.Lookahead.{kind_within}
+use Rattle.c_parse.proofs.Lists.{parts_of, parts_unique}
+use Rattle.c_parse.proofs.Phrases.{the_function, the_prototype, Outer, outer_function, outer_prototype, outer_of, outer_begins, Fellows, fellow_none, fellow_more, fellows_of}
+use Rattle.c_parse.proofs.UniqueExprs.{Same}
+use Rattle.c_parse.proofs.UniqueStatements.{blocks_unique}
 
--- the two ends and the two values are the same
-abbrev Same : {A : Type 0} → ℕ → ℕ → A → A → Type 0
-Same j k x y = (j ≡ k) × (x ≡ y)
+-- what stands in the parentheses of a heading is determined by where it begins
+parameters_unique : (ts : List Token) (i j k : ℕ) (ps qs : Option (List (Option ℕ))) → Parameters ts i j ps → Parameters ts i k qs → Same j k ps qs
+parameters_unique ts i j k ps qs p q = parts_unique ts i j k ps qs (parts_of ts i j ps p) (parts_of ts i k qs q)
 
--- the two parts of a chain
-record Halves (ts : List Token) (n i k : ℕ) (e : Expr) : Type 0 where
-  middle : ℕ
-  first : Expr
-  left : Level ts n i middle first
-  right : Rest ts n first middle k e
+-- so are a function and a prototype
+outer_unique : (ts : List Token) (i j k : ℕ) (x y : External) → Outer ts i j x → Outer ts i k y → Same j k x y
+outer_unique ts i j k x y (outer_function m ps names body h p n b a) (outer_function l qs others inner g q o c d) =
+    let first : Same m l ps qs = parameters_unique ts (i + 3) m l ps qs p q in
+    let lists : Some names ≡ Some others = sym n ∙ (ap names_of first.1 ∙ o) in
+    let same : names ≡ others = cc in
+    let there : Blocks ts m k inner = rw first.0 c in
+    let second : Same j k body inner = blocks_unique ts m j k body inner b there in
+    let tree : the_function (i + 1) names body ≡ the_function (i + 1) others inner = rw (same, second.1) refl in
+    (second.0, a ∙ (tree ∙ sym d))
+outer_unique ts i j k x y (outer_function m ps names body h p n b a) (outer_prototype l qs g q c e d) =
+    let first : Same m l ps qs = parameters_unique ts (i + 3) m l ps qs p q in
+    let there : kind_at ts m ≡ Some (Mark Semicolon) = rw first.0 c in
+    let here = b.0 in absurd cc
+outer_unique ts i j k x y (outer_prototype l qs g q c e d) (outer_function m ps names body h p n b a) =
+    let first : Same l m qs ps = parameters_unique ts (i + 3) l m qs ps q p in
+    let there : kind_at ts m ≡ Some (Mark Semicolon) = rw first.0 at c in
+    let here = b.0 in absurd cc
+outer_unique ts i j k x y (outer_prototype l qs g q c e d) (outer_prototype m ps h p o b a) =
+    let first : Same l m qs ps = parameters_unique ts (i + 3) l m qs ps q p in
+    (e ∙ (ap (λ z. z + 1) first.0 ∙ sym b), d ∙ (ap (λ z. the_prototype (i + 1) (option_map (λ (os : List (Option ℕ)). length os) z)) first.1 ∙ sym a))
 
-halves_of : (ts : List Token) (n i k : ℕ) (e : Expr) → Level ts (suc n) i k e → Halves ts n i k e
-halves_of ts n i k e (chain _ _ _ j _ a _ l r) = record { middle = j; first = a; left = l; right = r }
-
--- where no operator goes on, a question mark doesn't stand
-unasked : (ts : List Token) (i j : ℕ) → i ≡ j → kind_at ts i ≡ Some (Mark Question) → Stops ts (suc levels) j → ⊥
-unasked ts i j same h s =
-    let there : kind_at ts j ≡ Some (Mark Question) = rw same at h in
-    let past : suc levels ≤ levels = s.choice there in omega arith
-
--- an operand after an operator isn't one without
-unsignable : (ts : List Token) (i j : ℕ) (op : UnOp) (e : Expr) → unary_of (kind_at ts i) ≡ Some op → Leaf ts i j e → ⊥
-unsignable ts i j op e h l = let contradiction : None ≡ Some op = sym (no_sign ts i j e l) ∙ h in cc
-
-mutual
-  -- an expression and its end are determined by where it begins, if nothing goes on behind it
-  whole_unique : (ts : List Token) (i j k : ℕ) (e f : Expr) → Whole ts i j e → Chosen ts i k f → Stops ts (suc levels) j → Stops ts (suc levels) k → Same j k e f
-  whole_unique ts i j k e f (plain _ _ _ _ l) (chosen_plain m) s t = level_unique ts levels i j k e f l m (fewer_stop ts levels j s) (fewer_stop ts levels k t)
-  whole_unique ts i j k e f (plain _ _ _ _ l) (chosen_choice g h c a b m q w p u same) s t =
-      let one : Same j g e c = level_unique ts levels i j g e c l m (fewer_stop ts levels j s) (question_stops ts g q) in
-      absurd (unasked ts g j (sym one.0) q s)
-  whole_unique ts i j k e f (choice _ _ g h _ c a b l q w p u) (chosen_plain m) s t =
-      let one : Same g k c f = level_unique ts levels i g k c f l m (question_stops ts g q) (fewer_stop ts levels k t) in
-      absurd (unasked ts g k one.0 q t)
-  whole_unique ts i j k e f (choice _ _ g h _ c a b l q w p u) (chosen_choice g' h' c' a' b' m q' w' p' u' same) s t =
-      let one : Same g g' c c' = level_unique ts levels i g g' c c' l m (question_stops ts g q) (question_stops ts g' q') in
-      let first : Whole ts (g + 1) h' a' = rw one.0 w' in
-      let two : Same h h' a a' = whole_unique ts (g + 1) h h' a a' w (chosen_of ts (g + 1) h' a' first) (colon_stops ts (suc levels) h p) (colon_stops ts (suc levels) h' p') in
-      let second : Whole ts (h + 1) k b' = rw two.0 u' in
-      let three : Same j k b b' = whole_unique ts (h + 1) j k b b' u (chosen_of ts (h + 1) k b' second) s t in
-      let tree : Choose c a b ≡ Choose c' a' b' = rw (one.1, two.1, three.1) refl in
-      (three.0, tree ∙ sym same)
-
-  level_unique : (ts : List Token) (n i j k : ℕ) (e f : Expr) → Level ts n i j e → Level ts n i k f → Stops ts n j → Stops ts n k → Same j k e f
-  level_unique ts n i j k e f (signed _ _ _ _ p) m s t = signed_unique ts i j k e f p (prefix_of ts i k f (signed_of ts i k f m)) s t
-  level_unique ts n i j k e f (chain _ o _ h _ a _ l r) m s t =
-      let u = halves_of ts o i k f m in
-      let same : Same h u.middle a u.first =
-      level_unique ts o i h u.middle a u.first l u.left (rest_stops ts o a h j e r s) (rest_stops ts o u.first u.middle k f u.right t) in
-      let there : Rest ts o a h k f = rw (same.0, same.1) u.right in
-      rest_unique ts o a h j k e f r (going_of ts o a h k f there) s t
-
-  rest_unique : (ts : List Token) (n : ℕ) (a : Expr) (i j k : ℕ) (e f : Expr) → Rest ts n a i j e → Going ts n a i k f → Stops ts (suc n) j → Stops ts (suc n) k → Same j k e f
-  rest_unique ts n a i j k e f (done _ _ _ _) (stopped p q) s t = (p, q)
-  rest_unique ts n a i j k e f (done _ _ _ _) (went h op b o l r) s t = absurd (not_stopped ts n i i op o refl s)
-  rest_unique ts n a i j k e f (more _ _ _ _ h _ op b _ o l r) (stopped p q) s t = absurd (not_stopped ts n i k op o p t)
-  rest_unique ts n a i j k e f (more _ _ _ _ h _ op b _ o l r) (went g other c u m q) s t =
-      let same : Same h g b c = level_unique ts n (i + 1) h g b c l m (rest_stops ts n (Binary op a b) h j e r s) (rest_stops ts n (Binary other a c) g k f q t) in
-      let one : op ≡ other = cc in
-      let there : Rest ts n (Binary op a b) h k f = rw (one, same.0, same.1) q in
-      rest_unique ts n (Binary op a b) h j k e f r (going_of ts n (Binary op a b) h k f there) s t
-
-  signed_unique : (ts : List Token) (i j k : ℕ) (e f : Expr) → Signed ts i j e → Prefix ts i k f → Stops ts zero j → Stops ts zero k → Same j k e f
-  signed_unique ts i j k e f (unsigned _ _ _ _ p) (prefix_none q) s t = primary_unique ts i j k e f p (leaf_of ts i k f q) s t
-  signed_unique ts i j k e f (unsigned _ _ _ _ p) (prefix_some op a h q same) s t = absurd (unsignable ts i j op e h (leaf_of ts i j e p))
-  signed_unique ts i j k e f (prefixed _ _ _ op a h r) (prefix_none q) s t = absurd (unsignable ts i k op f h (leaf_of ts i k f q))
-  signed_unique ts i j k e f (prefixed _ _ _ op a h r) (prefix_some other b g q same) s t =
-      let one : Same j k a b = signed_unique ts (i + 1) j k a b r (prefix_of ts (i + 1) k b q) s t in
-      let equal : op ≡ other = cc in
-      let tree : Unary op a ≡ Unary other b = rw (equal, one.1) refl in
-      (one.0, tree ∙ sym same)
-
-  primary_unique : (ts : List Token) (i j k : ℕ) (e f : Expr) → Primary ts i j e → Leaf ts i k f → Stops ts zero j → Stops ts zero k → Same j k e f
-  primary_unique ts i j k e f (number _ _ value h) (leaf_number other g p q) s t = (sym p, cc)
-  primary_unique ts i j k e f (number _ _ value h) (leaf_name g p q) s t = absurd cc
-  primary_unique ts i j k e f (number _ _ value h) (leaf_call es g p r q) s t = absurd cc
-  primary_unique ts i j k e f (number _ _ value h) (leaf_parens m g w c p) s t = absurd cc
-  primary_unique ts i j k e f (name _ _ h) (leaf_number other g p q) s t = absurd cc
-  primary_unique ts i j k e f (name _ _ h) (leaf_name g p q) s t = (sym p, sym q)
-  primary_unique ts i j k e f (name _ _ h) (leaf_call es g p r q) s t = absurd (s.call p)
-  primary_unique ts i j k e f (name _ _ h) (leaf_parens m g w c p) s t = absurd cc
-  primary_unique ts i j k e f (call _ _ _ es h o r) (leaf_number other g p q) s t = absurd cc
-  primary_unique ts i j k e f (call _ _ _ es h o r) (leaf_name g p q) s t = absurd (t.call (rw p o))
-  primary_unique ts i j k e f (call _ _ _ es h o r) (leaf_call us g p a q) s t =
-      let same : Same j k es us = arguments_unique ts (i + 2) j k es us r (given_of ts (i + 2) k us a) in
-      (same.0, ap (λ zs. Apply i zs) same.1 ∙ sym q)
-  primary_unique ts i j k e f (call _ _ _ es h o r) (leaf_parens m g w c p) s t = absurd cc
-  primary_unique ts i j k e f (parens _ _ l _ h v d) (leaf_number other g p q) s t = absurd cc
-  primary_unique ts i j k e f (parens _ _ l _ h v d) (leaf_name g p q) s t = absurd cc
-  primary_unique ts i j k e f (parens _ _ l _ h v d) (leaf_call es g p a q) s t = absurd cc
-  primary_unique ts i j k e f (parens _ _ l _ h v d) (leaf_parens m g w c p) s t =
-      let same : Same l m e f = whole_unique ts (i + 1) l m e f v (chosen_of ts (i + 1) m f w) (paren_stops ts (suc levels) l d) (paren_stops ts (suc levels) m c) in
-      (ap (λ x. x + 1) same.0 ∙ sym p, same.1)
-
-  arguments_unique : (ts : List Token) (i j k : ℕ) (es fs : List Expr) → Arguments ts i j es → Given ts i k fs → Same j k es fs
-  arguments_unique ts i j k es fs (no_arguments _ _ h) (given_none g p q) = (sym p, sym q)
-  arguments_unique ts i j k es fs (no_arguments _ _ h) (given_some m e rest w f q) = absurd (whole_opens ts i m e w h)
-  arguments_unique ts i j k es fs (arguments _ _ l _ e rest w r) (given_none g p q) = absurd (whole_opens ts i l e w g)
-  arguments_unique ts i j k es fs (arguments _ _ l _ e rest w r) (given_some m f others v u q) =
-      let one : Same l m e f = whole_unique ts i l m e f w (chosen_of ts i m f v) (argument_stops ts (suc levels) l j rest r) (argument_stops ts (suc levels) m k others u) in
-      let there : Following ts l k others = rw one.0 u in
-      let two : Same j k rest others = following_unique ts l j k rest others r (gone_of ts l k others there) in
-      let list : e ∷ rest ≡ f ∷ others = rw (one.1, two.1) refl in
-      (two.0, list ∙ sym q)
-
-  following_unique : (ts : List Token) (i j k : ℕ) (es fs : List Expr) → Following ts i j es → Gone ts i k fs → Same j k es fs
-  following_unique ts i j k es fs (last_argument _ _ h) (gone_last g p q) = (sym p, sym q)
-  following_unique ts i j k es fs (last_argument _ _ h) (gone_next m e rest g w f q) = absurd cc
-  following_unique ts i j k es fs (next_argument _ _ l _ e rest h w r) (gone_last g p q) = absurd cc
-  following_unique ts i j k es fs (next_argument _ _ l _ e rest h w r) (gone_next m f others g v u q) =
-      let one : Same l m e f = whole_unique ts (i + 1) l m e f w (chosen_of ts (i + 1) m f v) (argument_stops ts (suc levels) l j rest r) (argument_stops ts (suc levels) m k others u) in
-      let there : Following ts l k others = rw one.0 u in
-      let two : Same j k rest others = following_unique ts l j k rest others r (gone_of ts l k others there) in
-      let list : e ∷ rest ≡ f ∷ others = rw (one.1, two.1) refl in
-      (two.0, list ∙ sym q)
-
--- a statement and its end are determined by where it begins
-statement_unique : (ts : List Token) (i j k : ℕ) (s t : Stmt) → Returned ts i j s → Returned ts i k t → Same j k s t
-statement_unique ts i j k s t (returned m e h w c p q) (returned n f g v d x y) =
-    let same : Same m n e f = whole_unique ts (i + 1) m n e f w (chosen_of ts (i + 1) n f v) (semicolon_stops ts (suc levels) m c) (semicolon_stops ts (suc levels) n d) in
-    (p ∙ (ap (λ z. z + 1) same.0 ∙ sym x), q ∙ (ap Return same.1 ∙ sym y))
-
--- so is a block
-block_unique : (ts : List Token) (i j k : ℕ) (ss us : List Stmt) → Blocked ts i j ss → Blocked ts i k us → Same j k ss us
-block_unique ts i j k ss us (blocked m s h w c p q) (blocked n t g v d x y) =
-    let same : Same m n s t = statement_unique ts (i + 1) m n s t (returned_of ts (i + 1) m s w) (returned_of ts (i + 1) n t v) in
-    (p ∙ (ap (λ z. z + 1) same.0 ∙ sym x), q ∙ (ap (λ z. z ∷ []) same.1 ∙ sym y))
-
--- so are the parameters behind the first
-others_unique : (ts : List Token) (i j k : ℕ) (ms ns : List ℕ) → Others ts i j ms → Further ts i k ns → Same j k ms ns
-others_unique ts i j k ms ns (closed _ _ h) (further_closed g p q) = (sym p, sym q)
-others_unique ts i j k ms ns (closed _ _ h) (further_another rest g x o q) = absurd cc
-others_unique ts i j k ms ns (another _ _ _ rest h x o) (further_closed g p q) = absurd cc
-others_unique ts i j k ms ns (another _ _ _ rest h x o) (further_another more_names g y u q) =
-    let same : Same j k rest more_names = others_unique ts (i + 3) j k rest more_names o (further_of ts (i + 3) k more_names u) in
-    (same.0, ap (λ zs. (i + 2) ∷ zs) same.1 ∙ sym q)
-
--- so is a list of parameters
-parameters_unique : (ts : List Token) (i j k : ℕ) (ms ns : List ℕ) → Parts ts i j ms → Parts ts i k ns → Same j k ms ns
-parameters_unique ts i j k ms ns (part_empty h p q) (part_empty g x y) = (p ∙ sym x, q ∙ sym y)
-parameters_unique ts i j k ms ns (part_empty h p q) (part_void g x y) = let there = g.0 in absurd cc
-parameters_unique ts i j k ms ns (part_empty h p q) (part_listed rest g o y) = let there = g.0 in absurd cc
-parameters_unique ts i j k ms ns (part_void h p q) (part_empty g x y) = let here = h.0 in absurd cc
-parameters_unique ts i j k ms ns (part_void h p q) (part_void g x y) = (p ∙ sym x, q ∙ sym y)
-parameters_unique ts i j k ms ns (part_void h p q) (part_listed rest g o y) = let here = h.0 in let there = g.0 in absurd cc
-parameters_unique ts i j k ms ns (part_listed rest h o q) (part_empty g x y) = let here = h.0 in absurd cc
-parameters_unique ts i j k ms ns (part_listed rest h o q) (part_void g x y) = let here = h.0 in let there = g.0 in absurd cc
-parameters_unique ts i j k ms ns (part_listed rest h o q) (part_listed more_names g u y) =
-    let same : Same j k rest more_names = others_unique ts (i + 2) j k rest more_names o (further_of ts (i + 2) k more_names u) in
-    (same.0, q ∙ (ap (λ zs. (i + 1) ∷ zs) same.1 ∙ sym y))
-
--- so is a function
-function_unique : (ts : List Token) (i j k : ℕ) (f g : Function) → Defined ts i j f → Defined ts i k g → Same j k f g
-function_unique ts i j k f g (defined m names body h p b same) (defined n others_names other h' q c is) =
-    let first : Same m n names others_names = parameters_unique ts (i + 3) m n names others_names (parts_of ts (i + 3) m names p) (parts_of ts (i + 3) n others_names q) in
-    let there : Block ts m k other = rw first.0 c in
-    let second : Same j k body other = block_unique ts m j k body other (blocked_of ts m j body b) (blocked_of ts m k other there) in
-    let made : f ≡ g = same ∙ (rw (first.1, second.1) (sym is)) in
-    (second.0, made)
-
--- a function begins with a token
-heading_within : (ts : List Token) (i j : ℕ) (f : Function) → Defined ts i j f → i < length ts
-heading_within ts i j f (defined m names body h p b same) = kind_within ts i (Word Int) h.0.0
-
--- so are functions up to the end of the list
-functions_unique : (ts : List Token) (i j : ℕ) (fs gs : List Function) → j ≡ length ts → Functions ts i j fs → Fellows ts i j gs → fs ≡ gs
-functions_unique ts i j fs gs all (finished _ _) (fellow_none p q) = sym q
-functions_unique ts i j fs gs all (finished _ _) (fellow_more k g rest d r q) =
-    let within : i < length ts = heading_within ts i k g (defined_of ts i k g d) in absurd (omega arith)
-functions_unique ts i j fs gs all (followed _ _ k _ f rest d r) (fellow_none p q) =
-    let within : i < length ts = heading_within ts i k f (defined_of ts i k f d) in absurd (omega arith)
-functions_unique ts i j fs gs all (followed _ _ k _ f rest d r) (fellow_more m g more_functions c u q) =
-    let same : Same k m f g = function_unique ts i k m f g (defined_of ts i k f d) (defined_of ts i m g c) in
-    let there : Functions ts k j more_functions = rw same.0 u in
-    let tail : rest ≡ more_functions = functions_unique ts k j rest more_functions all r (fellows_of ts k j more_functions there) in
-    (ap (λ (x : Function). x ∷ rest) same.1 ∙ ap (λ (xs : List Function). g ∷ xs) tail) ∙ sym q
-
--- a program of these functions and prototypes
-abbrev made_of : List Function → List Prototype → Program
-made_of fs ps = record { functions = fs; prototypes = ps }
+-- so are functions and prototypes up to the end of the list
+externals_unique : (ts : List Token) (i j : ℕ) (xs ys : List External) → j ≡ length ts → Externals ts i j xs → Fellows ts i j ys → xs ≡ ys
+externals_unique ts i j xs ys all (finished _ _) (fellow_none p q) = sym q
+externals_unique ts i j xs ys all (finished _ _) (fellow_more k y rest d r q) =
+    let within : i < length ts = kind_within ts i (Word Int) (outer_begins ts i k y (outer_of ts i k y d)) in absurd (omega arith)
+externals_unique ts i j xs ys all (followed _ _ k _ x rest d r) (fellow_none p q) =
+    let within : i < length ts = kind_within ts i (Word Int) (outer_begins ts i k x (outer_of ts i k x d)) in absurd (omega arith)
+externals_unique ts i j xs ys all (followed _ _ k _ x rest d r) (fellow_more m y others c u q) =
+    let same : Same k m x y = outer_unique ts i k m x y (outer_of ts i k x d) (outer_of ts i m y c) in
+    let there : Externals ts k j others = rw same.0 u in
+    let tail : rest ≡ others = externals_unique ts k j rest others all r (fellows_of ts k j others there) in
+    (ap (λ (z : External). z ∷ rest) same.1 ∙ ap (λ (zs : List External). y ∷ zs) tail) ∙ sym q
 
 -- a list of tokens spells at most one program
 pub program_unique : OneProgram
 program_unique ts p q s t =
-    let functions : p.functions ≡ q.functions =
-    functions_unique ts 0 (length ts) p.functions q.functions refl s.functions (fellows_of ts 0 (length ts) q.functions t.functions) in
-    let prototypes : p.prototypes ≡ q.prototypes = s.prototypes ∙ sym t.prototypes in
-    ap (λ fs. made_of fs p.prototypes) functions ∙ ap (λ ps. made_of q.functions ps) prototypes
+    let same : s.externals ≡ t.externals = externals_unique ts 0 (length ts) s.externals t.externals refl s.spelled (fellows_of ts 0 (length ts) t.externals t.spelled) in
+    s.is ∙ (ap program_of same ∙ sym t.is)

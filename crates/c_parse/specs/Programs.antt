@@ -1,27 +1,28 @@
--- The grammar of functions and programs.
+-- The grammar of functions, prototypes and programs.
 --
---     program    = { function }
---     function   = "int" NAME "(" parameters ")" block
---     parameters = [ "void" | "int" NAME { "," "int" NAME } ]
---     block      = "{" statement "}"
---     statement  = "return" expr ";"
-use Rattle.std.specs.Prelude.{◌≡◌, ℕ, ◌+◌, ◌≤◌, Some, List, [], ◌∷◌, length}
+--     program    = { function | prototype }
+--     function   = "int" NAME "(" [ "void" | "int" NAME { "," "int" NAME } ] ")" block
+--     prototype  = "int" NAME "(" [ "void" | "int" [ NAME ] { "," "int" [ NAME ] } ] ")" ";"
+use Rattle.std.specs.Prelude.{◌≡◌, ℕ, ◌+◌, ◌≤◌, Option, Some, None, List, [], ◌∷◌, ◌++◌, length, map, ⊤}
 use Rattle.std.specs.List.{All}
+use Rattle.std.specs.Option.{option_map}
 use Rattle.c_lex.specs.declared.token.Token.{Token}
 use Rattle.c_lex.specs.declared.token.TokenKind.TheVariants.{Name, Word, Mark}
-use Rattle.c_lex.specs.declared.token.Keyword.TheVariants.{Int, Void, Return as ReturnWord}
-use Rattle.c_lex.specs.declared.token.Mark.TheVariants.{LeftParen, RightParen, LeftBrace, RightBrace, Comma, Semicolon}
-use Rattle.c_ast.specs.declared.expr.Expr.{Expr}
+use Rattle.c_lex.specs.declared.token.Keyword.TheVariants.{Int, Void}
+use Rattle.c_lex.specs.declared.token.Mark.TheVariants.{LeftParen, RightParen, Comma, Semicolon}
 use Rattle.c_ast.specs.declared.stmt.Stmt.{Stmt}
-use Rattle.c_ast.specs.declared.stmt.Stmt.TheVariants.{Return}
 use Rattle.c_ast.specs.declared.program.Function.{Function}
+use Rattle.c_ast.specs.declared.program.Prototype.{Prototype}
 use Rattle.c_ast.specs.declared.program.Program.{Program}
-use Rattle.c_ast.specs.Height.{stmt_height}
-use Rattle.c_parse.specs.Grammar.{kind_at, Whole}
+use Rattle.c_ast.specs.Height.{greatest, stmt_height}
+use Rattle.c_parse.specs.declared.read.External.{External}
+use Rattle.c_parse.specs.declared.read.External.TheVariants.{Defined, Declared}
+use Rattle.c_parse.specs.Grammar.{kind_at}
+use Rattle.c_parse.specs.Statements.{Blocks}
 
--- `int` and a name stand at a place
-abbrev pub IsParameter : List Token → ℕ → Type 0
-IsParameter ts i = (kind_at ts i ≡ Some (Word Int)) × (kind_at ts (i + 1) ≡ Some Name)
+-- the greatest height of statements, 0 where there is none
+abbrev pub list_height : List Stmt → ℕ
+list_height ss = greatest (map stmt_height ss)
 
 -- `void` and a closing parenthesis stand at a place
 abbrev pub IsVoid : List Token → ℕ → Type 0
@@ -29,52 +30,78 @@ IsVoid ts i = (kind_at ts i ≡ Some (Word Void)) × (kind_at ts (i + 1) ≡ Som
 
 -- `int`, a name and an opening parenthesis stand at a place
 abbrev pub IsHeading : List Token → ℕ → Type 0
-IsHeading ts i = IsParameter ts i × (kind_at ts (i + 2) ≡ Some (Mark LeftParen))
+IsHeading ts i = (kind_at ts i ≡ Some (Word Int)) × ((kind_at ts (i + 1) ≡ Some Name) × (kind_at ts (i + 2) ≡ Some (Mark LeftParen)))
 
--- the parameters behind the first, up to and with the closing parenthesis
-pub data Others : List Token → ℕ → ℕ → List ℕ → Type 0 where
-  closed : (ts : List Token) → (i : ℕ) → kind_at ts i ≡ Some (Mark RightParen) → Others ts i (i + 1) []
-  another : (ts : List Token) → (i j : ℕ) → (names : List ℕ)
-      → kind_at ts i ≡ Some (Mark Comma) → IsParameter ts (i + 1)
-      → Others ts (i + 3) j names → Others ts i j ((i + 2) ∷ names)
+-- one parameter, by its name if it has one
+pub data Parameter : List Token → ℕ → ℕ → Option ℕ → Type 0 where
+  named : (ts : List Token) → (i : ℕ) → kind_at ts i ≡ Some (Word Int) → kind_at ts (i + 1) ≡ Some Name → Parameter ts i (i + 2) (Some (i + 1))
+  nameless : (ts : List Token) → (i : ℕ) → kind_at ts i ≡ Some (Word Int) → (kind_at ts (i + 1) ≡ Some Name → ⊥) → Parameter ts i (i + 1) None
 
--- a list of parameters, from behind the opening parenthesis up to and with the closing one
-pub data Parameters : List Token → ℕ → ℕ → List ℕ → Type 0 where
-  empty : (ts : List Token) → (i : ℕ) → kind_at ts i ≡ Some (Mark RightParen) → Parameters ts i (i + 1) []
-  void : (ts : List Token) → (i : ℕ) → IsVoid ts i → Parameters ts i (i + 2) []
-  listed : (ts : List Token) → (i j : ℕ) → (names : List ℕ)
-      → IsParameter ts i → Others ts (i + 2) j names → Parameters ts i j ((i + 1) ∷ names)
+-- parameters, at least one, up to and with the closing parenthesis
+pub data Listed : List Token → ℕ → ℕ → List (Option ℕ) → Type 0 where
+  last_parameter : (ts : List Token) → (i j : ℕ) → (o : Option ℕ) → Parameter ts i j o → kind_at ts j ≡ Some (Mark RightParen) → Listed ts i (j + 1) (o ∷ [])
+  next_parameter : (ts : List Token) → (i j k : ℕ) → (o : Option ℕ) → (os : List (Option ℕ))
+      → Parameter ts i j o → kind_at ts j ≡ Some (Mark Comma) → Listed ts (j + 1) k os → Listed ts i k (o ∷ os)
 
--- a statement
-pub data Statement : List Token → ℕ → ℕ → Stmt → Type 0 where
-  returns : (ts : List Token) → (i j : ℕ) → (e : Expr)
-      → kind_at ts i ≡ Some (Word ReturnWord) → Whole ts (i + 1) j e → kind_at ts j ≡ Some (Mark Semicolon) → Statement ts i (j + 1) (Return e)
+-- what stands in the parentheses of a heading, from behind the opening one up to and with the closing one; none where they are empty
+pub data Parameters : List Token → ℕ → ℕ → Option (List (Option ℕ)) → Type 0 where
+  unsaid : (ts : List Token) → (i : ℕ) → kind_at ts i ≡ Some (Mark RightParen) → Parameters ts i (i + 1) None
+  void : (ts : List Token) → (i : ℕ) → IsVoid ts i → Parameters ts i (i + 2) (Some [])
+  listed : (ts : List Token) → (i j : ℕ) → (os : List (Option ℕ)) → Listed ts i j os → Parameters ts i j (Some os)
 
--- a block, by the statements in it
-pub data Block : List Token → ℕ → ℕ → List Stmt → Type 0 where
-  block : (ts : List Token) → (i j : ℕ) → (s : Stmt)
-      → kind_at ts i ≡ Some (Mark LeftBrace) → Statement ts (i + 1) j s → kind_at ts j ≡ Some (Mark RightBrace) → Block ts i (j + 1) (s ∷ [])
+-- the names of parameters, where each has one
+abbrev pub all_names : List (Option ℕ) → Option (List ℕ)
+all_names [] = Some []
+all_names (None ∷ os) = None
+all_names (Some name ∷ os) = option_map (λ names. name ∷ names) (all_names os)
 
--- a function, whose name and parameters are the numbers of their tokens
-pub data Defines : List Token → ℕ → ℕ → Function → Type 0 where
-  function : (ts : List Token) → (i j k : ℕ) → (names : List ℕ) → (body : List Stmt)
-      → IsHeading ts i → Parameters ts (i + 3) j names → Block ts j k body → Defines ts i k (record { name = i + 1; params = names; body = body })
+-- the names of the parameters of a function, where each has one; empty parentheses hold none
+abbrev pub names_of : Option (List (Option ℕ)) → Option (List ℕ)
+names_of None = Some []
+names_of (Some os) = all_names os
 
--- functions one behind the other
-pub data Functions : List Token → ℕ → ℕ → List Function → Type 0 where
-  finished : (ts : List Token) → (i : ℕ) → Functions ts i i []
-  followed : (ts : List Token) → (i j k : ℕ) → (f : Function) → (fs : List Function)
-      → Defines ts i j f → Functions ts j k fs → Functions ts i k (f ∷ fs)
+-- a function or a prototype; the name and the parameters of a function are the numbers of their tokens
+pub data ExternalDeclaration : List Token → ℕ → ℕ → External → Type 0 where
+  function : (ts : List Token) → (i j k : ℕ) → (ps : Option (List (Option ℕ))) → (names : List ℕ) → (body : List Stmt)
+      → IsHeading ts i → Parameters ts (i + 3) j ps → names_of ps ≡ Some names → Blocks ts j k body
+      → ExternalDeclaration ts i k (Defined (record { name = i + 1; params = names; body = body }))
+  prototype : (ts : List Token) → (i j : ℕ) → (ps : Option (List (Option ℕ)))
+      → IsHeading ts i → Parameters ts (i + 3) j ps → kind_at ts j ≡ Some (Mark Semicolon)
+      → ExternalDeclaration ts i (j + 1) (Declared (record { name = i + 1; params = option_map length ps }))
 
--- no statement of the function's body is higher than 200
-abbrev pub IsLow : Function → Type 0
-IsLow f = All (λ s. stmt_height s ≤ 200) f.body
+-- functions and prototypes one behind the other
+pub data Externals : List Token → ℕ → ℕ → List External → Type 0 where
+  finished : (ts : List Token) → (i : ℕ) → Externals ts i i []
+  followed : (ts : List Token) → (i j k : ℕ) → (x : External) → (xs : List External)
+      → ExternalDeclaration ts i j x → Externals ts j k xs → Externals ts i k (x ∷ xs)
+
+-- the functions among them, in order
+abbrev pub functions_of : List External → List Function
+functions_of [] = []
+functions_of (Defined f ∷ xs) = f ∷ functions_of xs
+functions_of (Declared p ∷ xs) = functions_of xs
+
+-- the prototypes among them, in order
+abbrev pub prototypes_of : List External → List Prototype
+prototypes_of [] = []
+prototypes_of (Defined f ∷ xs) = prototypes_of xs
+prototypes_of (Declared p ∷ xs) = p ∷ prototypes_of xs
+
+-- the program that they are
+abbrev pub program_of : List External → Program
+program_of xs = record { functions = functions_of xs; prototypes = prototypes_of xs }
+
+-- no statement of a function's body is higher than 200
+abbrev pub IsLow : External → Type 0
+IsLow (Defined f) = list_height f.body ≤ 200
+IsLow (Declared p) = ⊤
 
 -- the whole list of tokens spells the program, within the limit on heights
 pub record Spells (ts : List Token) (p : Program) : Type 0 where
-  pub functions : Functions ts 0 (length ts) p.functions
-  pub prototypes : p.prototypes ≡ []
-  pub low : All IsLow p.functions
+  pub externals : List External
+  pub spelled : Externals ts 0 (length ts) externals
+  pub low : All IsLow externals
+  pub is : p ≡ program_of externals
 
 -- a list of tokens spells at most one program
 abbrev pub OneProgram : Type 0

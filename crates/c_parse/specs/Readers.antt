@@ -1,22 +1,28 @@
 -- What a reader of one phrase promises: what it found is spelled from its place on, and whatever else is spelled there, ends where no
 -- operator goes on and is low enough, is what it found.
-use Rattle.std.specs.Prelude.{◌≡◌, ℕ, suc, ◌+◌, ◌≤◌, ◌<◌, Option, Some, None, List, ◌++◌, length, map}
+use Rattle.std.specs.Prelude.{◌≡◌, ℕ, suc, ◌+◌, ◌≤◌, ◌<◌, max, Option, Some, None, List, [], ◌∷◌, ◌++◌, length, map}
 use Rattle.std.specs.List.{All}
 use Rattle.c_lex.specs.declared.token.Token.{Token}
-use Rattle.c_lex.specs.declared.token.TokenKind.TheVariants.{Mark}
-use Rattle.c_lex.specs.declared.token.Mark.TheVariants.{LeftParen, Question}
+use Rattle.c_lex.specs.declared.token.TokenKind.TheVariants.{Word, Mark}
+use Rattle.c_lex.specs.declared.token.Keyword.TheVariants as word
+use Rattle.c_lex.specs.declared.token.Mark.{Mark as TheMark}
+use Rattle.c_lex.specs.declared.token.Mark.TheVariants.{LeftParen, LeftBrace, Semicolon, Question}
 use Rattle.c_ast.specs.declared.expr.BinOp.{BinOp}
 use Rattle.c_ast.specs.declared.expr.Expr.{Expr}
 use Rattle.c_ast.specs.declared.stmt.Stmt.{Stmt}
-use Rattle.c_ast.specs.declared.program.Function.{Function}
-use Rattle.c_ast.specs.Height.{greatest, expr_height, stmt_height}
+use Rattle.c_ast.specs.declared.program.Program.{Program}
+use Rattle.c_ast.specs.Height.{greatest, of_option, expr_height, stmt_height}
 use Rattle.c_parse.specs.declared.read.Read.{Read}
 use Rattle.c_parse.specs.declared.read.Span.{Span}
-use Rattle.c_parse.specs.declared.read.ReadFunctions.{ReadFunctions}
-use Rattle.c_parse.specs.declared.read.ReadFunctions.TheVariants.{Spelled, Stopped}
+use Rattle.c_parse.specs.declared.read.Head.{Head}
+use Rattle.c_parse.specs.declared.read.External.{External}
+use Rattle.c_parse.specs.declared.read.External.TheVariants.{Defined, Declared}
+use Rattle.c_parse.specs.declared.read.ReadProgram.{ReadProgram}
+use Rattle.c_parse.specs.declared.read.ReadProgram.TheVariants.{Spelled, Stopped}
 use Rattle.c_parse.specs.declared.read.ReadArguments.{ReadArguments}
 use Rattle.c_parse.specs.Grammar.{kind_at, infixed, binary_of, levels, Level, Rest, Arguments, Following}
-use Rattle.c_parse.specs.Programs.{Others, Parameters, Statement, Block, Defines, Functions, IsLow}
+use Rattle.c_parse.specs.Statements.{updated, unit}
+use Rattle.c_parse.specs.Programs.{list_height, Listed, ExternalDeclaration, Externals, program_of, IsLow, Spells}
 
 -- the token at a place goes on with no expression of the lowest n levels; beyond all levels of operators comes `?`
 pub record Stops (ts : List Token) (n i : ℕ) : Type 0 where
@@ -110,34 +116,68 @@ pub record Gives {A : Type 0} (Spells : ℕ → A → Type 0) (at bound : ℕ) (
   pub found : Given Spells at bound r
   pub only : (j : ℕ) → (value : A) → Spells j value → IsThat r j value
 
--- a statement no higher than 200
-abbrev pub LowStatement : List Token → ℕ → ℕ → Stmt → Type 0
-LowStatement ts i j s = Statement ts i j s × (stmt_height s ≤ 200)
+-- what is spelled, and no higher than `room`
+abbrev pub Low : {A : Type 0} → (A → ℕ) → ℕ → (ℕ → A → Type 0) → ℕ → A → Type 0
+Low height room Spells j x = Spells j x × (height x ≤ room)
 
--- a block of such statements
-abbrev pub LowBlock : List Token → ℕ → ℕ → List Stmt → Type 0
-LowBlock ts i j ss = Block ts i j ss × All (λ s. stmt_height s ≤ 200) ss
+-- a list of statements while it is read, each no higher than `room`: those found go on to whatever the whole can be
+pub record Collected (room : ℕ) (Whole : ℕ → List Stmt → Type 0) (Rest : ℕ → ℕ → List Stmt → Type 0) (bound at : ℕ) (found : List Stmt) (end : ℕ) : Type 0 where
+  pub forward : (j : ℕ) → (ss : List Stmt) → Rest end j ss → Whole j (found ++ ss)
+  pub only : (j : ℕ) → (all : List Stmt) → Whole j all → list_height all ≤ room → (ss : List Stmt) × ((all ≡ found ++ ss) × Rest end j ss)
+  pub low : list_height found ≤ room
+  pub begun : at ≤ end
+  pub within : end ≤ bound
 
--- a function with such a body
-abbrev pub LowFunction : List Token → ℕ → ℕ → Function → Type 0
-LowFunction ts i j f = Defines ts i j f × IsLow f
+-- the greatest height of what stands in the head of a `for`
+abbrev pub head_height : Head → ℕ
+head_height h = max (max (list_height h.first) (of_option expr_height h.test)) (of_option stmt_height h.change)
+
+-- no block, `if` or loop begins at a place
+pub record IsSimple (ts : List Token) (at : ℕ) : Type 0 where
+  pub no_block : kind_at ts at ≡ Some (Mark LeftBrace) → ⊥
+  pub no_if : kind_at ts at ≡ Some (Word word.If) → ⊥
+  pub no_while : kind_at ts at ≡ Some (Word word.While) → ⊥
+  pub no_do : kind_at ts at ≡ Some (Word word.Do) → ⊥
+  pub no_for : kind_at ts at ≡ Some (Word word.For) → ⊥
+
+-- the statement of one keyword at a place is read where a semicolon stands behind it
+abbrev pub Jumps : List Token → ℕ → Stmt → Option (Span Stmt) → Type 0
+Jumps ts at value None = kind_at ts (at + 1) ≡ Some (Mark Semicolon) → ⊥
+Jumps ts at value (Some x) = (kind_at ts (at + 1) ≡ Some (Mark Semicolon)) × ((x.value ≡ value) × (x.end ≡ at + 2))
+
+-- a step of a name by an operator, where the mark stands at a place
+pub record IsStep (m : TheMark) (ts : List Token) (name : ℕ) (op : BinOp) (at j : ℕ) (s : Stmt) : Type 0 where
+  pub marked : kind_at ts at ≡ Some (Mark m)
+  pub behind : j ≡ at + 1
+  pub is : s ≡ updated name op unit
+
+-- a function or a prototype of which no statement is higher than 200
+abbrev pub LowExternal : List Token → ℕ → ℕ → External → Type 0
+LowExternal ts i j x = ExternalDeclaration ts i j x × IsLow x
 
 -- a list of parameters while it is read: those found go on to whatever the whole can be
-pub record Listing (ts : List Token) (at : ℕ) (found : List ℕ) (end : ℕ) : Type 0 where
-  pub forward : (j : ℕ) → (names : List ℕ) → Others ts end j names → Parameters ts at j (found ++ names)
-  pub only : (j : ℕ) → (all : List ℕ) → Parameters ts at j all → (names : List ℕ) × ((all ≡ found ++ names) × Others ts end j names)
-  pub further : at < end
+pub record Listing (ts : List Token) (at : ℕ) (found : List (Option ℕ)) (end : ℕ) : Type 0 where
+  pub forward : (j : ℕ) → (os : List (Option ℕ)) → Listed ts end j os → Listed ts at j (found ++ os)
+  pub only : (j : ℕ) → (all : List (Option ℕ)) → Listed ts at j all → (os : List (Option ℕ)) × ((all ≡ found ++ os) × Listed ts end j os)
+  pub begun : at ≤ end
   pub within : end ≤ length ts
 
--- the functions while they are read: those found go on to whatever the whole can be
-pub record Collecting (ts : List Token) (found : List Function) (at : ℕ) : Type 0 where
-  pub forward : (fs : List Function) → Functions ts at (length ts) fs → Functions ts 0 (length ts) (found ++ fs)
+-- a program with one function or prototype more
+abbrev pub added : Program → External → Program
+added p (Defined f) = record { functions = p.functions ++ f ∷ []; prototypes = p.prototypes }
+added p (Declared q) = record { functions = p.functions; prototypes = p.prototypes ++ q ∷ [] }
+
+-- a program while it is read: what was found goes on to whatever the whole can be
+pub record Collecting (ts : List Token) (p : Program) (at : ℕ) : Type 0 where
+  pub found : List External
+  pub is : p ≡ program_of found
+  pub forward : (xs : List External) → Externals ts at (length ts) xs → Externals ts 0 (length ts) (found ++ xs)
   pub low : All IsLow found
-  pub only : (all : List Function) → Functions ts 0 (length ts) all → All IsLow all
-      → (fs : List Function) × ((all ≡ found ++ fs) × (Functions ts at (length ts) fs × All IsLow fs))
+  pub only : (all : List External) → Externals ts 0 (length ts) all → All IsLow all
+      → (xs : List External) × ((all ≡ found ++ xs) × (Externals ts at (length ts) xs × All IsLow xs))
   pub within : at ≤ length ts
 
--- all functions are read exactly where the list spells functions with such bodies
-abbrev pub ReadsAll : List Token → ReadFunctions → Type 0
-ReadsAll ts (Spelled fs) = Functions ts 0 (length ts) fs × All IsLow fs
-ReadsAll ts (Stopped place) = ((fs : List Function) → Functions ts 0 (length ts) fs → All IsLow fs → ⊥) × (place ≤ length ts)
+-- the whole program is read exactly where the list spells one
+abbrev pub ReadsAll : List Token → ReadProgram → Type 0
+ReadsAll ts (Spelled p) = Spells ts p
+ReadsAll ts (Stopped place) = ((p : Program) → Spells ts p → ⊥) × (place ≤ length ts)

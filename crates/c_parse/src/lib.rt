@@ -1,18 +1,24 @@
 //! From tokens to trees: the parser of the C subset.
 //!
 //! `parse` answers a program exactly where the tokens spell that program within the limits, and each refusal
-//! exactly where it has its cause. Expressions are read whole. What is read of the rest now is a list of
-//! functions whose body is a single `return`; later parts of the grammar join the same relations.
+//! exactly where it has its cause. `parse_pre` does the same for a precondition.
 #![tactic(auto)]
 
+mod declare;
 mod depth;
 mod error;
 mod expr;
+mod external;
+mod head;
+mod parts;
+mod precondition;
 mod program;
 mod read;
+mod statement;
 mod token;
 
 pub use error::ParseEnd;
+pub use precondition::{one_expression, parse_pre};
 pub use program::{one_program, parse};
 pub use rx_plain::NoMemory;
 

@@ -1,32 +1,29 @@
-//! Functions and programs.
-ghost use Rattle.std.specs.Prelude.{◌≡◌, ◌+◌, ◌≤◌, ◌<◌, ◌^◌, length, IfOk, MatchBool};
+//! Programs.
+ghost use Rattle.std.specs.Prelude.{◌≡◌, ◌<◌, ◌^◌, length, IfOk, OnOk};
 ghost use Rattle.std.specs.List.{All};
-ghost use Rattle.c_parse.specs.Answers.{Answers, too_many};
+ghost use Rattle.c_parse.specs.Answers.{Answers, earlier, is_long, long_function, long_prototype, too_many};
 ghost use Rattle.c_parse.specs.Names.{IsNamed};
-ghost use Rattle.c_parse.specs.Readers.{Gives, LowStatement, LowBlock, LowFunction, ReadsAll};
-ghost use Rattle.c_parse.specs.Programs.{OneProgram, Parameters, IsHeading, IsParameter, IsVoid};
+ghost use Rattle.c_parse.specs.Programs.{OneProgram};
+ghost use Rattle.c_parse.specs.Readers.{ReadsAll, added};
 
 use crate::depth::too_deep;
 use crate::error::ParseEnd;
-use crate::expr::whole;
-use crate::read::{ReadFunctions, Span};
-use crate::token::{names, says, stands};
-use c_ast::{Function, Program, Stmt};
-use c_lex::{Keyword, Mark, Token};
+use crate::external::external;
+use crate::read::{External, ReadProgram};
+use c_ast::{Function, Program, Prototype};
+use c_lex::Token;
 use rx_plain::{Items, NoMemory};
 use std::alloc::Global;
 
-// How high a statement may be.
-const MAX_HEIGHT: u32 = 200;
-
-// How many parameters a function may have.
+// How many parameters a function or a prototype may have.
 const MAX_PARAMETERS: usize = 16;
 
 /// The program that the tokens spell, each name by the number of its token.
 ///
 /// Refused, in this order: `TooDeep` at the first `(` or `{` that stands where 200 brackets are open already (a
 /// closing one lowers the count if it is above 0); `Syntax` where the tokens spell no program whose statements are
-/// at most 200 high; `TooManyParams` at the name of the first function with more than 16 parameters. The grammar is
+/// at most 200 high; `TooManyParams` at the name of the
+/// first function or prototype with more than 16 parameters. The grammar is
 /// a part of that of ISO/IEC 9899:1999, 6.5, 6.8 and 6.9.1.
 pub fn parse(alloc: Global, tokens: &[Token]) -> Result<Program, ParseEnd>
     requires { length tokens.now < 2 ^ 32 }
@@ -36,22 +33,29 @@ pub fn parse(alloc: Global, tokens: &[Token]) -> Result<Program, ParseEnd>
     if let Some(token) = too_deep(tokens) {
         return Err(ParseEnd::TooDeep { token });
     }
-    match functions(alloc, tokens) {
+    match program(alloc, tokens) {
         Err(_) => Err(ParseEnd::NoMemory),
-        Ok(ReadFunctions::Stopped(token)) => Err(ParseEnd::Syntax { token }),
-        Ok(ReadFunctions::Spelled(functions)) => match too_many(functions.as_slice()) {
+        Ok(ReadProgram::Stopped(token)) => Err(ParseEnd::Syntax { token }),
+        Ok(ReadProgram::Spelled(program)) => match too_many(&program) {
             Some(token) => Err(ParseEnd::TooManyParams { token }),
-            None => Ok(Program {
-                functions,
-                prototypes: Items::new(alloc),
-            }),
+            None => Ok(program),
         },
     }
 }
 
+// The name of the first function or prototype with more than 16 parameters, if there is one.
+fn too_many(program: &Program) -> Option<u32>
+    ensures { result ≡ too_many program.now }
+{
+    earlier(
+        long_function(program.functions.as_slice()),
+        long_prototype(program.prototypes.as_slice()),
+    )
+}
+
 // The name of the first function with more than 16 parameters, if there is one.
-fn too_many(functions: &[Function]) -> Option<u32>
-    ensures { result ≡ too_many functions.now }
+fn long_function(functions: &[Function]) -> Option<u32>
+    ensures { result ≡ long_function functions.now }
 {
     for function in functions {
         if function.params.len() > MAX_PARAMETERS {
@@ -61,170 +65,68 @@ fn too_many(functions: &[Function]) -> Option<u32>
     None
 }
 
-// All functions, or the place of the one that can't be read.
-fn functions(alloc: Global, tokens: &[Token]) -> Result<ReadFunctions, NoMemory>
+// The name of the first prototype with more than 16 parameters, if there is one.
+fn long_prototype(prototypes: &[Prototype]) -> Option<u32>
+    ensures { result ≡ long_prototype prototypes.now }
+{
+    for prototype in prototypes {
+        if is_long(prototype.params) {
+            return Some(prototype.name);
+        }
+    }
+    None
+}
+
+// Whether there are more than 16 parameters.
+fn is_long(params: Option<u32>) -> bool
+    ensures { result ≡ is_long params }
+{
+    match params {
+        None => false,
+        Some(count) => count as usize > MAX_PARAMETERS,
+    }
+}
+
+// The one of two tokens that stands first.
+fn earlier(first: Option<u32>, second: Option<u32>) -> Option<u32>
+    ensures { result ≡ earlier first second }
+{
+    match (first, second) {
+        (Some(first), Some(second)) => Some(first.min(second)),
+        (Some(first), None) => Some(first),
+        (None, second) => second,
+    }
+}
+
+// The whole program, or the place of the function or prototype that can't be read.
+fn program(alloc: Global, tokens: &[Token]) -> Result<ReadProgram, NoMemory>
     requires { length tokens.now < 2 ^ 32 }
     ensures { IfOk result (ReadsAll tokens.now) }
 {
-    let mut found = Items::new(alloc);
+    let mut program = Program {
+        functions: Items::new(alloc),
+        prototypes: Items::new(alloc),
+    };
     let mut at = 0;
     while at < tokens.len() {
-        let Some(read) = function(alloc, tokens, at)? else {
-            return Ok(ReadFunctions::Stopped(at as u32));
+        let Some(read) = external(alloc, tokens, at)? else {
+            return Ok(ReadProgram::Stopped(at as u32));
         };
-        found.push(read.value)?;
+        add(&mut program, read.value)?;
         at = read.end;
     }
-    Ok(ReadFunctions::Spelled(found))
+    Ok(ReadProgram::Spelled(program))
 }
 
-// The function at `at`.
-fn function(alloc: Global, tokens: &[Token], at: usize) -> Result<Option<Span<Function>>, NoMemory>
-    requires few { length tokens.now < 2 ^ 32 }
-    requires inside { at ≤ length tokens.now }
-    ensures { IfOk result (Gives (LowFunction tokens.now at) at (length tokens.now)) }
+// Adds the function or prototype behind those before it.
+fn add(program: &mut Program, external: External) -> Result<(), NoMemory>
+    ensures { OnOk result (program.new ≡ added program.old external) }
 {
-    if !is_heading(tokens, at) {
-        return Ok(None);
+    match external {
+        External::Defined(function) => program.functions.push(function)?,
+        External::Declared(prototype) => program.prototypes.push(prototype)?,
     }
-    let Some(params) = parameters(alloc, tokens, at + 3)? else {
-        return Ok(None);
-    };
-    let Some(body) = block(alloc, tokens, params.end)? else {
-        return Ok(None);
-    };
-    Ok(Some(Span {
-        value: Function {
-            name: (at + 1) as u32,
-            params: params.value,
-            body: body.value,
-        },
-        end: body.end,
-    }))
-}
-
-// Whether `int`, a name and an opening parenthesis stand at `at`.
-fn is_heading(tokens: &[Token], at: usize) -> bool
-    requires few { length tokens.now < 2 ^ 32 }
-    requires inside { at ≤ length tokens.now }
-    ensures { MatchBool result (IsHeading tokens.now at) (IsHeading tokens.now at → ⊥) }
-{
-    is_parameter(tokens, at) && stands(tokens, at + 2, Mark::LeftParen)
-}
-
-// Whether `int` and a name stand at `at`.
-fn is_parameter(tokens: &[Token], at: usize) -> bool
-    requires { at < 2 ^ 33 }
-    ensures { MatchBool result (IsParameter tokens.now at) (IsParameter tokens.now at → ⊥) }
-{
-    says(tokens, at, Keyword::Int) && names(tokens, at + 1)
-}
-
-// Whether `void` and a closing parenthesis stand at `at`.
-fn is_void(tokens: &[Token], at: usize) -> bool
-    requires { at < 2 ^ 33 }
-    ensures { MatchBool result (IsVoid tokens.now at) (IsVoid tokens.now at → ⊥) }
-{
-    says(tokens, at, Keyword::Void) && stands(tokens, at + 1, Mark::RightParen)
-}
-
-// The parameters behind the opening parenthesis, up to and with the closing one.
-fn parameters(
-    alloc: Global,
-    tokens: &[Token],
-    at: usize,
-) -> Result<Option<Span<Items<u32>>>, NoMemory>
-    requires few { length tokens.now < 2 ^ 32 }
-    requires inside { at ≤ length tokens.now }
-    ensures { IfOk result (Gives (Parameters tokens.now at) at (length tokens.now)) }
-{
-    if stands(tokens, at, Mark::RightParen) {
-        return Ok(Some(Span {
-            value: Items::new(alloc),
-            end: at + 1,
-        }));
-    }
-    if is_parameter(tokens, at) {
-        return listed(alloc, tokens, at);
-    }
-    if is_void(tokens, at) {
-        return Ok(Some(Span {
-            value: Items::new(alloc),
-            end: at + 2,
-        }));
-    }
-    Ok(None)
-}
-
-// The parameters of which the first stands at `at`, up to and with the closing parenthesis.
-fn listed(alloc: Global, tokens: &[Token], at: usize) -> Result<Option<Span<Items<u32>>>, NoMemory>
-    requires few { length tokens.now < 2 ^ 32 }
-    requires first { IsParameter tokens.now at }
-    ensures { IfOk result (Gives (Parameters tokens.now at) at (length tokens.now)) }
-{
-    let mut names = Items::new(alloc);
-    names.push((at + 1) as u32)?;
-    let mut end = at + 2;
-    'more: while stands(tokens, end, Mark::Comma) {
-        if !is_parameter(tokens, end + 1) {
-            return Ok(None);
-        }
-        names.push((end + 2) as u32)?;
-        end += 3;
-    }
-    if stands(tokens, end, Mark::RightParen) {
-        Ok(Some(Span {
-            value: names,
-            end: end + 1,
-        }))
-    } else {
-        Ok(None)
-    }
-}
-
-// The statements of the block at `at`.
-fn block(alloc: Global, tokens: &[Token], at: usize) -> Result<Option<Span<Items<Stmt>>>, NoMemory>
-    requires few { length tokens.now < 2 ^ 32 }
-    requires inside { at ≤ length tokens.now }
-    ensures { IfOk result (Gives (LowBlock tokens.now at) at (length tokens.now)) }
-{
-    if !stands(tokens, at, Mark::LeftBrace) {
-        return Ok(None);
-    }
-    let Some(read) = statement(alloc, tokens, at + 1)? else {
-        return Ok(None);
-    };
-    if !stands(tokens, read.end, Mark::RightBrace) {
-        return Ok(None);
-    }
-    let mut statements = Items::new(alloc);
-    statements.push(read.value)?;
-    Ok(Some(Span {
-        value: statements,
-        end: read.end + 1,
-    }))
-}
-
-// The statement at `at`.
-fn statement(alloc: Global, tokens: &[Token], at: usize) -> Result<Option<Span<Stmt>>, NoMemory>
-    requires few { length tokens.now < 2 ^ 32 }
-    requires inside { at ≤ length tokens.now }
-    ensures { IfOk result (Gives (LowStatement tokens.now at) at (length tokens.now)) }
-{
-    if !says(tokens, at, Keyword::Return) {
-        return Ok(None);
-    }
-    let Some(value) = whole(alloc, tokens, at + 1, MAX_HEIGHT - 1)? else {
-        return Ok(None);
-    };
-    if stands(tokens, value.end, Mark::Semicolon) {
-        Ok(Some(Span {
-            value: Stmt::Return(value.tree),
-            end: value.end + 1,
-        }))
-    } else {
-        Ok(None)
-    }
+    Ok(())
 }
 
 /// A list of tokens spells at most one program: what `parse` answers is the only one. A law; it does nothing.

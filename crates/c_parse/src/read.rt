@@ -1,6 +1,6 @@
 //! What a reader found, and the place behind it.
-use c_ast::{Expr, Function};
-use rx_plain::Items;
+use c_ast::{Expr, Function, Program, Prototype, Stmt};
+use rx_plain::{Boxed, Items};
 
 /// An expression, with its height.
 #[derive(Drop)]
@@ -18,6 +18,14 @@ pub struct ReadArguments {
     pub height: u32,
 }
 
+/// The head of a `for`.
+#[derive(Drop)]
+pub struct Head {
+    pub first: Items<Stmt>,
+    pub test: Option<Expr>,
+    pub change: Option<Boxed<Stmt>>,
+}
+
 /// Anything else.
 #[derive(Drop)]
 pub struct Span<T> {
@@ -25,9 +33,16 @@ pub struct Span<T> {
     pub end: usize,
 }
 
-/// All functions of a list of tokens, or the place of the first that can't be read.
+/// A function or a prototype.
 #[derive(Drop)]
-pub enum ReadFunctions {
-    Spelled(Items<Function>),
+pub enum External {
+    Defined(Function),
+    Declared(Prototype),
+}
+
+/// The program of a list of tokens, or the place of the first function or prototype that can't be read.
+#[derive(Drop)]
+pub enum ReadProgram {
+    Spelled(Program),
     Stopped(u32),
 }

@@ -2,6 +2,7 @@
 ghost use Rattle.std.specs.Prelude.{◌≡◌, Some, None, MatchBool, MatchOption};
 ghost use Rattle.c_ast.specs.declared.expr.BinOp.{BinOp};
 ghost use Rattle.c_parse.specs.Grammar.{kind_at, infixed, binary_of, unary_of};
+ghost use Rattle.c_parse.specs.Statements.{changing_of, update, step};
 
 use c_ast::{BinOp, UnOp};
 use c_lex::{Keyword, Mark, Token, TokenKind};
@@ -91,6 +92,59 @@ pub fn sign_at(tokens: &[Token], at: usize) -> Option<UnOp>
         Some(TokenKind::Mark(Mark::Plus)) => Some(UnOp::Plus),
         Some(TokenKind::Mark(Mark::Minus)) => Some(UnOp::Minus),
         Some(TokenKind::Mark(Mark::Not)) => Some(UnOp::Not),
+        _ => None,
+    }
+}
+
+// The operator of `op=` at `at`, if one stands there.
+pub fn update_at(tokens: &[Token], at: usize) -> Option<BinOp>
+    ensures { MatchOption result
+        ((op : BinOp) → changing_of (kind_at tokens.now at) ≡ Some (update op) → ⊥)
+        (λ op. changing_of (kind_at tokens.now at) ≡ Some (update op)) }
+{
+    match kind_at(tokens, at) {
+        Some(TokenKind::Mark(mark)) => update_of(mark),
+        _ => None,
+    }
+}
+
+// The operator of `op=` that the mark is, if it is one.
+fn update_of(mark: Mark) -> Option<BinOp>
+    ensures { MatchOption result
+        ((op : BinOp) → changing_of (Some (TokenKind.Mark mark)) ≡ Some (update op) → ⊥)
+        (λ op. changing_of (Some (TokenKind.Mark mark)) ≡ Some (update op)) }
+{
+    match mark {
+        Mark::PlusAssign => Some(BinOp::Add),
+        Mark::MinusAssign => Some(BinOp::Sub),
+        Mark::StarAssign => Some(BinOp::Mul),
+        Mark::SlashAssign => Some(BinOp::Div),
+        Mark::PercentAssign => Some(BinOp::Rem),
+        _ => None,
+    }
+}
+
+// The operator of `++` or `--` at `at`, if one stands there.
+pub fn step_at(tokens: &[Token], at: usize) -> Option<BinOp>
+    ensures { MatchOption result
+        ((op : BinOp) → changing_of (kind_at tokens.now at) ≡ Some (step op) → ⊥)
+        (λ op. changing_of (kind_at tokens.now at) ≡ Some (step op)) }
+{
+    match kind_at(tokens, at) {
+        Some(TokenKind::Mark(mark)) => step_of(mark),
+        _ => None,
+    }
+}
+
+// The operator of `++` or `--` that the mark is, if it is one.
+fn step_of(mark: Mark) -> Option<BinOp>
+    ensures { MatchOption result
+        ((op : BinOp) → changing_of (Some (TokenKind.Mark mark)) ≡ Some (step op) → ⊥)
+        (λ op. changing_of (Some (TokenKind.Mark mark)) ≡ Some (step op)) }
+{
+    match mark {
+        Mark::PlusPlus => Some(BinOp::Add),
+        Mark::MinusMinus => Some(BinOp::Sub),
         _ => None,
     }
 }
