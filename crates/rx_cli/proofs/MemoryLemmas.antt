@@ -21,6 +21,7 @@ never_cut (Line Said.Equivalent) e = cc
 never_cut (Line (Said.Depth depth)) e = cc
 never_cut (Line Said.LongSource) e = cc
 never_cut (Line (Said.Lex fault)) e = cc
+never_cut (Line (Said.Parse end)) e = cc
 never_cut (Line Said.NotStraight) e = cc
 never_cut (Line Said.Usage) e = cc
 never_cut (Line Said.ReadFault) e = cc
@@ -30,6 +31,7 @@ never_cut (Proof order) e = cc
 -- no comparison has the status of a read fault
 never_unread : (outcome : Outcome) → status_in (answer_of outcome) ≡ Ends.ReadFault → ⊥
 never_unread (Found.Lex fault) e = cc
+never_unread (Found.Parse end) e = cc
 never_unread Found.NotStraight e = cc
 never_unread Found.Large e = cc
 never_unread Found.Differ e = cc

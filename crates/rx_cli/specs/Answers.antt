@@ -21,6 +21,7 @@ longest_source = 1048576
 -- the answer to a comparison
 abbrev pub answer_of : Outcome → Answer
 answer_of (Found.Lex fault) = Line (Said.Lex fault)
+answer_of (Found.Parse end) = Line (Said.Parse end)
 answer_of Found.NotStraight = Line Said.NotStraight
 answer_of Found.Large = Line Said.LargeTranslate
 answer_of Found.Differ = Line (Said.Depth 5)

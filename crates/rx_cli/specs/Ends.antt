@@ -22,6 +22,7 @@ status_of Said.Equivalent = Ends.Equivalent
 status_of (Said.Depth depth) = Ends.Unknown
 status_of Said.LongSource = Ends.Refused
 status_of (Said.Lex fault) = Ends.Refused
+status_of (Said.Parse end) = Ends.Refused
 status_of Said.NotStraight = Ends.Refused
 status_of Said.Usage = Ends.Usage
 status_of Said.ReadFault = Ends.ReadFault

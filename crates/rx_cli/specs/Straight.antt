@@ -4,13 +4,15 @@ use Rattle.c_lex.specs.declared.error.LexEnd.TheVariants as Fault
 use Rattle.c_lex.specs.declared.token.Token.{Token}
 use Rattle.c_lex.specs.Tokens.{tokens_of}
 use Rattle.c_ast.specs.declared.program.Program.{Program}
+use Rattle.c_parse.specs.declared.error.ParseEnd.{ParseEnd}
+use Rattle.c_parse.specs.declared.error.ParseEnd.TheVariants as Refusal
 use Rattle.c_parse.specs.Answers.{Answers}
 use Rattle.rx_poly.specs.Norm.{norm_of, norm_within, term_value}
 use Rattle.rx_cli.specs.declared.straight.pairs.Pair.{Pair}
 use Rattle.rx_cli.specs.declared.straight.Sameness.{Sameness}
 use Rattle.rx_cli.specs.declared.straight.Sameness.TheVariants as Normal
 use Rattle.rx_cli.specs.declared.straight.form.Form.{Form}
-use Rattle.rx_cli.specs.declared.straight.form.Form.TheVariants.{Faulty, Other, Straight}
+use Rattle.rx_cli.specs.declared.straight.form.Form.TheVariants.{Faulty, Refused, Other, Straight}
 use Rattle.rx_cli.specs.declared.straight.Outcome.{Outcome}
 use Rattle.rx_cli.specs.declared.straight.Outcome.TheVariants as Says
 use Rattle.rx_cli.specs.Pairs.{pair_of}
@@ -38,15 +40,25 @@ abbrev pub IsPairAmong : List ℕ → List ℕ → List ℕ → Option Pair → 
 IsPairAmong source first second (Some pair) = MeetsForm source first second pair
 IsPairAmong source first second None = HasNoForm source first second
 
--- the text is a list of tokens
-abbrev pub IsLexed : List ℕ → Type 0
-IsLexed source = (tokens : List Token) × (tokens_of source ≡ Ok tokens)
+-- the text is a list of tokens, and the parser refuses it for that cause
+abbrev pub IsRefused : List ℕ → ParseEnd → Type 0
+IsRefused source end = (tokens : List Token) × ((tokens_of source ≡ Ok tokens) × (Answers tokens (Err end) × (end ≢ Refusal.NoMemory)))
+
+-- the text spells a program within the parser's limits
+abbrev pub IsSpelled : List ℕ → Type 0
+IsSpelled source = (tokens : List Token) × ((program : Program) × IsProgram source tokens program)
 
 -- what form a text has for two names
 abbrev pub IsForm : List ℕ → List ℕ → List ℕ → Form → Type 0
 IsForm source first second (Faulty fault) = (tokens_of source ≡ Err fault) × (fault ≢ Fault.NoMemory)
-IsForm source first second Other = IsLexed source × HasNoForm source first second
+IsForm source first second (Refused end) = IsRefused source end
+IsForm source first second Other = IsSpelled source × HasNoForm source first second
 IsForm source first second (Straight pair) = MeetsForm source first second pair
+
+-- the form that a program has for two names, by the pair that they have there
+abbrev pub IsFormOf : Option Pair → Form → Type 0
+IsFormOf (Some pair) form = form ≡ Straight pair
+IsFormOf None form = form ≡ Other
 
 -- both normal forms, and all that leads to them, keep the limits
 abbrev pub IsWithinLimits : Pair → Type 0
@@ -58,7 +70,8 @@ PassesLimits pair = (norm_within pair.left ≡ false) ⊎ (norm_within pair.righ
 -- what is said, and when: the cases exclude each other
 abbrev pub IsOutcome : List ℕ → List ℕ → List ℕ → Outcome → Type 0
 IsOutcome source first second (Says.Lex fault) = tokens_of source ≡ Err fault
-IsOutcome source first second Says.NotStraight = IsLexed source × HasNoForm source first second
+IsOutcome source first second (Says.Parse end) = IsRefused source end
+IsOutcome source first second Says.NotStraight = IsSpelled source × HasNoForm source first second
 IsOutcome source first second Says.Large =
     (pair : Pair) × MeetsForm source first second pair × PassesLimits pair
 IsOutcome source first second Says.Differ =
@@ -78,9 +91,11 @@ abbrev pub IsEqual : Outcome → Type 0
 IsEqual (Says.Equal order) = ⊤
 IsEqual _ = ⊥
 
--- it can be said in a line: a fault of tokens is no want of memory
+-- it can be said in a line: what is wrong with the text is no want of memory, and nothing that is said of preconditions alone
 abbrev pub IsSayable : Outcome → Type 0
 IsSayable (Says.Lex Fault.NoMemory) = ⊥
+IsSayable (Says.Parse Refusal.NoMemory) = ⊥
+IsSayable (Says.Parse Refusal.NotARowForm) = ⊥
 IsSayable _ = ⊤
 
 -- how two terms compare by their normal forms

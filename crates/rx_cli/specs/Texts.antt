@@ -2,6 +2,8 @@
 use Rattle.std.specs.Prelude.{ℕ, List, [], ◌++◌, ⊤, codes, decimal}
 use Rattle.c_lex.specs.declared.error.LexEnd.{LexEnd}
 use Rattle.c_lex.specs.declared.error.LexEnd.TheVariants as Fault
+use Rattle.c_parse.specs.declared.error.ParseEnd.{ParseEnd}
+use Rattle.c_parse.specs.declared.error.ParseEnd.TheVariants as Refusal
 use Rattle.rx_cli.specs.declared.verdicts.Verdict.{Verdict}
 use Rattle.rx_cli.specs.declared.verdicts.Verdict.TheVariants as Said
 
@@ -18,18 +20,33 @@ lex_line (Fault.LeadingZero at) = fault_line (codes "leading-zero") at
 lex_line (Fault.Directive at) = fault_line (codes "directive") at
 lex_line Fault.NoMemory = []
 
+-- a refusal of the parser, by its word and its token
+abbrev pub token_line : List ℕ → ℕ → List ℕ
+token_line word token = codes "REFUSED " ++ (word ++ (codes " at " ++ (decimal token ++ codes "\n")))
+
+-- the line of a text that spells no program within the limits; want of memory has none, and what is said of preconditions alone has none
+abbrev pub parse_line : ParseEnd → List ℕ
+parse_line (Refusal.Syntax token) = codes "REFUSED syntax\n"
+parse_line (Refusal.TooDeep token) = token_line (codes "deep") token
+parse_line (Refusal.TooManyParams token) = token_line (codes "params") token
+parse_line Refusal.NoMemory = []
+parse_line Refusal.NotARowForm = []
+
 -- the line of a verdict
 abbrev pub text_of : Verdict → List ℕ
 text_of Said.Equivalent = codes "EQUIVALENT\n"
 text_of (Said.Depth depth) = codes "UNKNOWN depth " ++ decimal depth ++ codes "\n"
 text_of Said.LongSource = codes "REFUSED long source\n"
 text_of (Said.Lex fault) = lex_line fault
+text_of (Said.Parse end) = parse_line end
 text_of Said.NotStraight = codes "REFUSED not-straight\n"
 text_of Said.Usage = codes "usage: ctrl MODE FILE [F] [G] [LOG] [--pre E] [--depth N] [--budget N]\n"
 text_of Said.ReadFault = codes "READ FAULT\n"
 text_of Said.LargeTranslate = codes "LARGE translate\n"
 
--- it has a line: no end inside is want of memory
+-- it has a line: no end inside is want of memory, or one of preconditions alone
 abbrev pub HasLine : Verdict → Type 0
 HasLine (Said.Lex Fault.NoMemory) = ⊥
+HasLine (Said.Parse Refusal.NoMemory) = ⊥
+HasLine (Said.Parse Refusal.NotARowForm) = ⊥
 HasLine verdict = ⊤

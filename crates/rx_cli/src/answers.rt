@@ -49,6 +49,7 @@ fn answer_of(outcome: Outcome) -> Answer
 {
     match outcome {
         Outcome::Lex(fault) => Answer::Line(Verdict::Lex(fault)),
+        Outcome::Parse(end) => Answer::Line(Verdict::Parse(end)),
         Outcome::NotStraight => Answer::Line(Verdict::NotStraight),
         Outcome::Large => Answer::Line(Verdict::LargeTranslate),
         Outcome::Differ => Answer::Line(Verdict::Depth(5)),

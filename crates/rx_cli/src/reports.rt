@@ -1,9 +1,10 @@
 //! The text of a report of one line.
 ghost use Rattle.std.specs.Prelude.{◌≡◌, IfOk, string_bytes};
-ghost use Rattle.rx_cli.specs.Texts.{HasLine, fault_line, lex_line, text_of};
+ghost use Rattle.rx_cli.specs.Texts.{HasLine, fault_line, lex_line, parse_line, text_of, token_line};
 
 use crate::{NoMemory, Verdict};
 use c_lex::LexEnd;
+use c_parse::ParseEnd;
 use std::alloc::{AllocError, Global};
 
 // A fault of the tokens, by its word and its place.
@@ -26,6 +27,24 @@ fn lex_line(alloc: Global, fault: LexEnd) -> Result<String, AllocError>
     }
 }
 
+// A refusal of the parser, by its word and its token.
+fn token_line(alloc: Global, word: &str, token: u32) -> Result<String, AllocError>
+    ensures { IfOk result (λ line. string_bytes line ≡ token_line word.now token) }
+{
+    format!(in alloc; "REFUSED {word} at {token}\n")
+}
+
+fn parse_line(alloc: Global, end: ParseEnd) -> Result<String, AllocError>
+    ensures { IfOk result (λ line. string_bytes line ≡ parse_line end) }
+{
+    match end {
+        ParseEnd::Syntax { token: _ } => String::from_str(alloc, "REFUSED syntax\n"),
+        ParseEnd::TooDeep { token } => token_line(alloc, "deep", token),
+        ParseEnd::TooManyParams { token } => token_line(alloc, "params", token),
+        ParseEnd::NoMemory | ParseEnd::NotARowForm => Ok(String::new(alloc)),
+    }
+}
+
 fn depth_line(alloc: Global, depth: u32) -> Result<String, AllocError>
     ensures { IfOk result (λ line. string_bytes line ≡ text_of (Verdict.Depth depth)) }
 {
@@ -40,6 +59,7 @@ fn line(alloc: Global, verdict: &Verdict) -> Result<String, AllocError>
         Verdict::Depth(depth) => depth_line(alloc, *depth),
         Verdict::LongSource => String::from_str(alloc, "REFUSED long source\n"),
         Verdict::Lex(fault) => lex_line(alloc, *fault),
+        Verdict::Parse(end) => parse_line(alloc, *end),
         Verdict::NotStraight => String::from_str(alloc, "REFUSED not-straight\n"),
         Verdict::Usage => String::from_str(alloc, USAGE),
         Verdict::ReadFault => String::from_str(alloc, "READ FAULT\n"),

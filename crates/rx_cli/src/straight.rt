@@ -10,6 +10,7 @@ mod terms;
 
 use crate::straight::form::{Form, form_of};
 use c_lex::LexEnd;
+use c_parse::ParseEnd;
 pub use pairs::{Order, Pair};
 use rx_plain::NoMemory;
 use rx_poly::{PolyEnd, norm};
@@ -20,6 +21,8 @@ use std::alloc::Global;
 pub enum Outcome {
     /// The text has a fault of tokens.
     Lex(LexEnd),
+    /// The text spells no program within the parser's limits.
+    Parse(ParseEnd),
     /// The text isn't in the straight-line form for these names.
     NotStraight,
     /// A polynomial that is formed on the way to a normal form passes the limits.
@@ -67,6 +70,7 @@ pub fn compare(alloc: Global, source: &[u8], first: &str, second: &str) -> Resul
 {
     match form_of(alloc, source, first.as_bytes(), second.as_bytes())? {
         Form::Faulty(fault) => Ok(Outcome::Lex(fault)),
+        Form::Refused(end) => Ok(Outcome::Parse(end)),
         Form::Other => Ok(Outcome::NotStraight),
         Form::Straight(pair) => match compare_terms(alloc, &pair)? {
             Sameness::Large => Ok(Outcome::Large),

@@ -277,7 +277,7 @@ fn other_texts_are_not_straight(rt: HostRuntime) -> Result<(), Fail> {
         "int a(int x){return x;} int b(int x){return x/1;}",
         "int a(int x){return x;} int b(int x){return a(x);}",
         "int a(int x){return x;} int b(int x){return x;} int c(int x){return z;}",
-        "int a(int x){return x;} int b(int x){return x}",
+        "int b(int x); int a(int x){return x;} int c(int y){return y;}",
         "int a(int n){int s=0;for(int i=1;i<=n;i++)s+=i;return s;} int b(int n){if(n<=0)return 0;return n+b(n-1);}",
     ] {
         check_answer(
@@ -288,6 +288,43 @@ fn other_texts_are_not_straight(rt: HostRuntime) -> Result<(), Fail> {
             Status::Refused,
             b"REFUSED not-straight\n",
         )?;
+    }
+    Ok(())
+}
+
+#[test]
+fn a_prototype_says_nothing_of_the_value(rt: HostRuntime) -> Result<(), Fail> {
+    let source = "int b(int); int a(int x){return x+x;} int b(int y){return 2*y;}";
+    check_answer(
+        &rt,
+        rt.alloc(),
+        ASKED,
+        source,
+        Status::Equivalent,
+        FIRST_BEFORE,
+    )
+}
+
+#[test]
+fn what_the_parser_refuses_comes_before_the_form(rt: HostRuntime) -> Result<(), Fail> {
+    let alloc = rt.alloc();
+    let mut deep = String::from_str(alloc, "int a(){return ")?;
+    for _ in 0..200 {
+        deep.push_str("(")?;
+    }
+    for (source, want) in [
+        (
+            "int a(int x){return x;} int b(int x){return x}",
+            b"REFUSED syntax\n".as_slice(),
+        ),
+        ("while", b"REFUSED syntax\n".as_slice()),
+        (
+            "int a(); int b(int,int,int,int,int,int,int,int,int,int,int,int,int,int,int,int,int);",
+            b"REFUSED params at 6\n".as_slice(),
+        ),
+        (deep.as_str(), b"REFUSED deep at 205\n".as_slice()),
+    ] {
+        check_answer(&rt, alloc, ASKED, source, Status::Refused, want)?;
     }
     Ok(())
 }

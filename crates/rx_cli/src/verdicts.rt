@@ -3,6 +3,7 @@ ghost use Rattle.std.specs.Prelude.{◌≡◌};
 
 use crate::Status;
 use c_lex::LexEnd;
+use c_parse::ParseEnd;
 
 /// What a report of one line says.
 #[derive(Clone, Copy, Debug, PartialEq, Eq)]
@@ -15,6 +16,8 @@ pub enum Verdict {
     LongSource,
     /// The source is no list of tokens.
     Lex(LexEnd),
+    /// The source spells no program within the parser's limits.
+    Parse(ParseEnd),
     /// The source has another form than straight-line functions.
     NotStraight,
     /// The words ask for nothing that the program does.
@@ -35,7 +38,8 @@ impl Verdict {
         match self {
             Verdict::Equivalent => Status::Equivalent,
             Verdict::Depth(_) => Status::Unknown,
-            Verdict::LongSource | Verdict::Lex(_) | Verdict::NotStraight => Status::Refused,
+            Verdict::LongSource | Verdict::Lex(_) | Verdict::Parse(_) | Verdict::NotStraight =>
+                Status::Refused,
             Verdict::Usage => Status::Usage,
             Verdict::ReadFault => Status::ReadFault,
             Verdict::LargeTranslate => Status::Large,

@@ -2,7 +2,7 @@
 ghost use Rattle.std.specs.Prelude.{◌≡◌, ◌<◌, ◌≤◌, ◌^◌, Ok, length, IfOk};
 ghost use Rattle.c_lex.specs.Tokens.{tokens_of};
 ghost use Rattle.rx_cli.specs.Names.{IsWithin};
-ghost use Rattle.rx_cli.specs.Straight.{IsForm, IsPairAmong};
+ghost use Rattle.rx_cli.specs.Straight.{IsForm, IsFormOf};
 
 use crate::straight::pairs::{Pair, pair_of};
 use c_lex::{LexEnd, Token, tokens};
@@ -15,33 +15,45 @@ use std::alloc::Global;
 pub enum Form {
     /// It has a fault of tokens.
     Faulty(LexEnd),
+    /// It spells no program within the parser's limits.
+    Refused(ParseEnd),
     /// It isn't in the straight-line form for these names.
     Other,
     /// It is, and these are the two functions.
     Straight(Pair),
 }
 
-// The pair of functions that these names have in a text of these tokens.
-fn pair_among(
+// The form that a program has for two names, by the pair that they have there.
+fn form_in(pair: Option<Pair>) -> Form
+    ensures { IsFormOf pair result }
+{
+    match pair {
+        Some(pair) => Form::Straight(pair),
+        None => Form::Other,
+    }
+}
+
+// The form of a text of these tokens for two names.
+fn form_among(
     alloc: Global,
     source: &[u8],
     tokens: &[Token],
     first: &[u8],
     second: &[u8],
-) -> Result<Option<Pair>, NoMemory>
+) -> Result<Form, NoMemory>
     requires few { length tokens.now < 2 ^ 32 }
     requires within { IsWithin source.now tokens.now }
     requires lexed { tokens_of source.now ≡ Ok tokens.now }
-    ensures { IfOk result (IsPairAmong source.now first.now second.now) }
+    ensures { IfOk result (IsForm source.now first.now second.now) }
 {
     match parse(alloc, tokens) {
         Ok(program) => {
             let pair = pair_of(alloc, source, tokens, &program, first, second)?;
-            Ok(pair)
+            Ok(form_in(pair))
         }
         Err(end) => match end {
             ParseEnd::NoMemory => Err(NoMemory),
-            _ => Ok(None),
+            refusal => Ok(Form::Refused(refusal)),
         },
     }
 }
@@ -58,8 +70,5 @@ pub fn form_of(alloc: Global, source: &[u8], first: &[u8], second: &[u8]) -> Res
             fault => return Ok(Form::Faulty(fault)),
         },
     };
-    match pair_among(alloc, source, &tokens, first, second)? {
-        Some(pair) => Ok(Form::Straight(pair)),
-        None => Ok(Form::Other),
-    }
+    form_among(alloc, source, &tokens, first, second)
 }

@@ -1,9 +1,21 @@
 use Rattle.std.proofs.Common.{refl, subst}
 use Rattle.rx_cli.specs.declared.straight.Sameness.TheVariants as Normal
-use Rattle.rx_cli.specs.declared.straight.form.Form.TheVariants.{Other, Straight}
-use Rattle.rx_cli.specs.Straight.{Compares, MeetsForm}
-use Rattle.rx_cli.proofs.FormLaws.{agrees, formed}
+use Rattle.rx_cli.specs.declared.straight.form.Form.TheVariants.{Refused, Other, Straight}
+use Rattle.rx_cli.specs.Straight.{Compares, IsRefused, MeetsForm}
+use Rattle.rx_cli.proofs.FormLaws.{agrees, formed, sayable}
 use Rattle.rx_cli.proofs.straight.compare.Goals as goal
+
+pub returns-in-Refused-clause-outcome : goal.returns-in-Refused-clause-outcome
+returns-in-Refused-clause-outcome c =
+    formed c.args.source.now c.as_bytes.result.now c.as_bytes-2.result.now c.args.first.now c.args.second.now c.as_bytes.ensures.value c.as_bytes-2.ensures.value
+    c.in_ok-fault.field-0 (Refused c.in-Refused.end) c.in_ok-fault.ensures c.in-Refused.is
+
+pub returns-in-Refused-clause-sayable : goal.returns-in-Refused-clause-sayable
+returns-in-Refused-clause-sayable c =
+    let refused : IsRefused c.args.source.now c.in-Refused.end =
+    formed c.args.source.now c.as_bytes.result.now c.as_bytes-2.result.now c.args.first.now c.args.second.now c.as_bytes.ensures.value c.as_bytes-2.ensures.value
+    c.in_ok-fault.field-0 (Refused c.in-Refused.end) c.in_ok-fault.ensures c.in-Refused.is in
+    sayable c.args.source.now c.in-Refused.end refused
 
 pub returns-in-Other-clause-outcome : goal.returns-in-Other-clause-outcome
 returns-in-Other-clause-outcome c =
