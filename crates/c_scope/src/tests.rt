@@ -1,5 +1,7 @@
 // What no clause says: that the definitions of scopes and slots mean what is meant, at texts whose answers another
 // program gave, and that each call succeeds where there is memory.
+ghost use Rattle.std.specs.Prelude.{◌≡◌, length, IfOk};
+
 use crate::{ScopeEnd, find_function, resolve, resolve_pre};
 use c_ast::{Expr, Function, Program, Resolved, Stmt, UnOp};
 use c_lex::tokens;
@@ -23,7 +25,9 @@ fn body(alloc: Global, numbers: [u32; 5]) -> Result<Items<Stmt>, AllocError> {
 }
 
 // One function of one parameter, whose name is token 1.
-fn functions(alloc: Global, param: u32, body: Items<Stmt>) -> Result<Items<Function>, AllocError> {
+fn functions(alloc: Global, param: u32, body: Items<Stmt>) -> Result<Items<Function>, AllocError>
+    ensures { IfOk result (λ functions. length functions ≡ 1) }
+{
     let mut params = Items::new(alloc);
     params.push(param)?;
     let mut functions = Items::new(alloc);
@@ -35,7 +39,9 @@ fn functions(alloc: Global, param: u32, body: Items<Stmt>) -> Result<Items<Funct
     Ok(functions)
 }
 
-fn program(alloc: Global, returned: u32) -> Result<Program, AllocError> {
+fn program(alloc: Global, returned: u32) -> Result<Program, AllocError>
+    ensures { IfOk result (λ program. length program.functions ≡ 1) }
+{
     let body = body(alloc, [9, 11, 13, 15, returned])?;
     Ok(Program {
         functions: functions(alloc, 4, body)?,
