@@ -1,5 +1,5 @@
 -- The heights, the variables and the straight value of each form of tree, one equation for each.
-use Rattle.std.proofs.Common.{◌≡◌, Bool, true, ◌&&◌, ℕ, ◌+◌, ◌≤◌, max, ℤ, Option, Some, None, List, [], ◌∷◌, ◌++◌, map, refl, ◌∙◌, arith}
+use Rattle.std.proofs.Common.{◌≡◌, ℕ, ◌+◌, ◌≤◌, max, ℤ, Option, Some, None, List, [], ◌∷◌, ◌++◌, map, refl, ◌∙◌, arith}
 use Rattle.std.specs.List.{concat}
 use Rattle.c_ast.specs.Height.{greatest, expr_height, expr_height_level, stmt_height, stmt_height_level}
 use Rattle.c_ast.specs.Variables.{variables, variables_level, stmt_variables, stmt_variables_level}

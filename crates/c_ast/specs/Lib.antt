@@ -1,4 +1,5 @@
--- What the trees mean: heights, variables, and the value of an expression of literals, variables, sums and products.
+-- What the trees mean: heights, variables, and straight functions with the values of their expressions.
+pub mod Forms
 pub mod Height
 pub mod Straight
 pub mod Variables

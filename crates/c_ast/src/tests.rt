@@ -1,11 +1,11 @@
 //! What no clause says: that a copy is made where there is memory, that equal trees compare as equal and others
-//! don't, and that the heights are those that a reader counts by hand.
+//! don't, that the heights are those that a reader counts by hand, and which functions are straight.
 ghost use Rattle.std.specs.Prelude.{◌≡◌, IfOk};
 ghost use Rattle.c_ast.specs.Height.{expr_height, stmt_height};
 
 use super::{
     BinOp, Expr, Function, NoMemory, Program, Prototype, Resolved, Stmt, UnOp, expr_height,
-    stmt_height,
+    stmt_height, straight,
 };
 use rx_plain::{Boxed, Items};
 use std::alloc::Global;
@@ -88,5 +88,38 @@ fn copies_are_made_and_equal(rt: HostRuntime) -> Result<(), Fail> {
         functions: copied.functions,
     };
     assert!(rt; resolved.try_clone(alloc)? == resolved);
+    Ok(())
+}
+
+// A function of one parameter, at slot 0, which returns this expression.
+fn returning(alloc: Global, e: Expr) -> Result<Function, NoMemory> {
+    let mut params = Items::new(alloc);
+    params.push(0)?;
+    let mut body = Items::new(alloc);
+    body.push(Stmt::Return(e))?;
+    Ok(Function {
+        name: 1,
+        params,
+        body,
+    })
+}
+
+fn doubled(alloc: Global, op: BinOp) -> Result<Expr, NoMemory> {
+    Ok(Expr::Binary(
+        op,
+        Boxed::new(alloc, Expr::Var(0))?,
+        Boxed::new(alloc, Expr::Lit(2))?,
+    ))
+}
+
+#[test]
+fn straight_functions_return_sums_and_products(rt: HostRuntime) -> Result<(), Fail> {
+    let alloc = rt.alloc();
+    let product = returning(alloc, doubled(alloc, BinOp::Mul)?)?;
+    assert!(rt; straight(&product) == Some(&doubled(alloc, BinOp::Mul)?));
+    let quotient = returning(alloc, doubled(alloc, BinOp::Div)?)?;
+    assert!(rt; straight(&quotient).is_none());
+    let other_slot = returning(alloc, negated_sum(alloc)?)?;
+    assert!(rt; straight(&other_slot).is_none());
     Ok(())
 }
