@@ -8,7 +8,7 @@ use Rattle.c_ast.specs.Height.{expr_height}
 use Rattle.c_ast.proofs.Equations.{height-Binary}
 use Rattle.c_parse.specs.declared.read.Read.{Read}
 use Rattle.c_parse.specs.Grammar.{kind_at, infixed, binary_of, Level, chain, Rest, done, more}
-use Rattle.c_parse.specs.Readers.{Stops, Found, IsRead, Reads, Turning}
+use Rattle.c_parse.specs.Readers.{Stops, IsRead, Reads, Turning}
 use Rattle.c_parse.proofs.Lookahead.{rest_stops, rest_higher}
 
 -- the two parts of a chain

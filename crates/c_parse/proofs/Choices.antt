@@ -1,5 +1,5 @@
 -- A choice by `?` and `:`, read behind its test.
-use Rattle.std.proofs.Common.{◌≡◌, ℕ, suc, ◌+◌, ◌-◌, ◌≤◌, ◌<◌, max, Option, Some, None, List, length, refl, sym, ◌∙◌, ap, arith}
+use Rattle.std.proofs.Common.{◌≡◌, ℕ, suc, ◌+◌, ◌-◌, ◌≤◌, ◌<◌, max, Some, None, List, length, refl, sym, ◌∙◌, ap, arith}
 use Rattle.c_lex.specs.declared.token.Token.{Token}
 use Rattle.c_lex.specs.declared.token.TokenKind.TheVariants.{Mark}
 use Rattle.c_lex.specs.declared.token.Mark.TheVariants.{Question, Colon}
@@ -10,7 +10,7 @@ use Rattle.c_ast.proofs.Equations.{height-Choose}
 use Rattle.c_parse.specs.declared.read.Read.{Read}
 use Rattle.c_parse.specs.Grammar.{kind_at, levels, Whole, plain, choice, Level}
 use Rattle.c_parse.specs.Readers.{Stops, IsRead, Reads}
-use Rattle.c_parse.proofs.Lookahead.{kind_within, fewer_stop, question_stops, colon_stops}
+use Rattle.c_parse.proofs.Lookahead.{fewer_stop, question_stops, colon_stops}
 
 -- what an expression can be
 pub data Chosen (ts : List Token) (i l : ℕ) (e : Expr) : Type 0 where

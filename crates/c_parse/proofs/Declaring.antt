@@ -1,8 +1,7 @@
 -- Declarations, while their names are read.
-use Rattle.std.proofs.Common.{◌≡◌, ◌⊎◌, inl, inr, ℕ, suc, ◌+◌, ◌-◌, ◌≤◌, ◌<◌, max, Option, Some, None, List, [], ◌∷◌, ◌++◌, length, append_assoc, refl, sym, ◌∙◌, ap, arith}
+use Rattle.std.proofs.Common.{◌≡◌, inl, inr, ℕ, suc, ◌+◌, ◌-◌, ◌≤◌, ◌<◌, max, Option, Some, None, List, [], ◌∷◌, ◌++◌, length, append_assoc, refl, sym, ◌∙◌, ap, arith}
 use Rattle.c_lex.specs.declared.token.Token.{Token}
-use Rattle.c_lex.specs.declared.token.TokenKind.TheVariants.{Name, Word, Mark}
-use Rattle.c_lex.specs.declared.token.Keyword.TheVariants.{Int}
+use Rattle.c_lex.specs.declared.token.TokenKind.TheVariants.{Name, Mark}
 use Rattle.c_lex.specs.declared.token.Mark.TheVariants.{Comma, Semicolon, Assign}
 use Rattle.c_ast.specs.declared.expr.Expr.{Expr}
 use Rattle.c_ast.specs.declared.stmt.Stmt.{Stmt}
@@ -11,12 +10,11 @@ use Rattle.c_ast.specs.Height.{of_option, expr_height, stmt_height}
 use Rattle.c_parse.specs.declared.read.Read.{Read}
 use Rattle.c_parse.specs.declared.read.Span.{Span}
 use Rattle.c_parse.specs.Grammar.{kind_at, levels, Whole}
-use Rattle.c_parse.specs.Statements.{IsParted, Declarator, bare, valued, Declarators, last_name, next_name, Declares}
+use Rattle.c_parse.specs.Statements.{IsParted, Declarator, bare, valued, Declarators, last_name, next_name}
 use Rattle.c_parse.specs.Programs.{list_height}
 use Rattle.c_parse.specs.Readers.{Stops, Reads, IsThat, Gives, Low, Collected}
 use Rattle.c_parse.proofs.Equations.{height-Declare, height-append}
 use Rattle.c_parse.proofs.Lookahead.{kind_within, comma_stops, semicolon_stops}
-use Rattle.c_parse.proofs.Building.{renamed}
 
 -- a comma and a semicolon go on with no expression
 pub parted_stops : (ts : List Token) (n i : ℕ) → IsParted ts i → Stops ts n i

@@ -1,7 +1,7 @@
 -- The height and the variables of each form of statement, one equation for each, and the heights of lists.
 use Rattle.std.proofs.Common.{◌≡◌, ℕ, ◌+◌, ◌≤◌, max, Option, Some, None, List, [], ◌∷◌, ◌++◌, map, refl, ◌∙◌, arith}
 use Rattle.std.specs.List.{concat}
-use Rattle.c_ast.specs.Height.{greatest, of_option, expr_height, stmt_height, stmt_height_level}
+use Rattle.c_ast.specs.Height.{of_option, expr_height, stmt_height, stmt_height_level}
 use Rattle.c_ast.specs.Variables.{variables, list_of_option, stmt_variables, stmt_variables_level}
 use Rattle.c_ast.specs.declared.expr.Expr.{Expr}
 use Rattle.c_ast.specs.declared.stmt.Stmt.{Stmt}

@@ -1,8 +1,8 @@
 -- Each form of statement, by its first token, and as it is read part by part.
-use Rattle.std.proofs.Common.{◌≡◌, ℕ, ◌+◌, ◌-◌, ◌≤◌, ◌<◌, max, Option, Some, None, Result, IfOk, List, [], ◌∷◌, length, subst, refl, sym, ◌∙◌, ap, arith}
+use Rattle.std.proofs.Common.{◌≡◌, ℕ, ◌+◌, ◌-◌, ◌≤◌, ◌<◌, max, Option, Some, None, Result, IfOk, List, length, subst, refl, sym, ◌∙◌, ap, arith}
 use Rattle.c_lex.specs.declared.token.Token.{Token}
 use Rattle.c_lex.specs.declared.token.TokenKind.{TokenKind}
-use Rattle.c_lex.specs.declared.token.TokenKind.TheVariants.{Name, Number, Word, Mark}
+use Rattle.c_lex.specs.declared.token.TokenKind.TheVariants.{Name, Word, Mark}
 use Rattle.c_lex.specs.declared.token.Keyword.TheVariants as word
 use Rattle.c_lex.specs.declared.token.Mark.TheVariants as mark
 use Rattle.c_ast.specs.declared.expr.Expr.{Expr}
@@ -14,7 +14,7 @@ use Rattle.c_parse.specs.declared.read.Head.{Head}
 use Rattle.rx_plain.specs.declared.no_memory.NoMemory.{NoMemory}
 use Rattle.c_parse.specs.declared.read.Span.{Span}
 use Rattle.c_parse.specs.Grammar.{kind_at}
-use Rattle.c_parse.specs.Statements.{Changing, step, changing_of, UpTo, Test, Change, Heads, Statement, nothing, block, changes, if_alone, if_else, while_loop, do_loop, for_loop, breaks, continues, returns, Inner}
+use Rattle.c_parse.specs.Statements.{step, changing_of, UpTo, Test, Change, Heads, Statement, nothing, block, changes, if_alone, if_else, while_loop, do_loop, for_loop, breaks, continues, returns, Inner}
 use Rattle.c_parse.specs.Programs.{list_height}
 use Rattle.c_parse.specs.Readers.{IsThat, Gives, Low, IsSimple, Jumps, head_height}
 use Rattle.c_parse.proofs.Equations.{height-Empty, height-alone, height-else, height-While, height-DoWhile, height-For, height-Break, height-Continue, height-Block}

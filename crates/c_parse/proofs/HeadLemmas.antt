@@ -1,7 +1,7 @@
 -- The head of a `for`, part by part.
 use Rattle.std.proofs.Common.{◌≡◌, ℕ, ◌+◌, ◌≤◌, ◌<◌, max, Option, Some, None, Result, IfOk, List, [], ◌∷◌, length, refl, sym, ◌∙◌, ap, arith}
 use Rattle.c_lex.specs.declared.token.Token.{Token}
-use Rattle.c_lex.specs.declared.token.TokenKind.TheVariants.{Name, Word, Mark}
+use Rattle.c_lex.specs.declared.token.TokenKind.TheVariants.{Word, Mark}
 use Rattle.c_lex.specs.declared.token.Keyword.TheVariants.{Int}
 use Rattle.c_lex.specs.declared.token.Mark.{Mark as TheMark}
 use Rattle.c_lex.specs.declared.token.Mark.TheVariants.{LeftParen, RightParen, Semicolon}
@@ -12,13 +12,13 @@ use Rattle.c_parse.specs.declared.read.Head.{Head}
 use Rattle.rx_plain.specs.declared.no_memory.NoMemory.{NoMemory}
 use Rattle.c_parse.specs.declared.read.Span.{Span}
 use Rattle.c_parse.specs.Grammar.{kind_at}
-use Rattle.c_parse.specs.Statements.{Changing, step, changing_of, UpTo, Change, Declares, Starts, no_start, start_change, start_names, Continues, no_test, a_test, Advances, no_change, a_change, Heads}
+use Rattle.c_parse.specs.Statements.{step, changing_of, UpTo, Change, Declares, Starts, no_start, start_change, start_names, Continues, no_test, a_test, Advances, no_change, a_change, Heads}
 use Rattle.c_parse.specs.Programs.{list_height}
 use Rattle.c_parse.specs.Readers.{IsThat, Gives, Low, head_height}
 use Rattle.c_parse.proofs.Lookahead.{kind_within}
 use Rattle.c_parse.proofs.Passing.{whole_begins}
 use Rattle.c_parse.proofs.PartLemmas.{ended_of, unchanging, Changed, changed_value, changed_update, changed_behind, changed_before, changed_of}
-use Rattle.c_parse.proofs.Building.{Built, renamed, renamed_ok}
+use Rattle.c_parse.proofs.Building.{Built, renamed_ok}
 
 -- no change begins with another mark
 pub change_opens : (m here : TheMark) (ts : List Token) (i j : ℕ) (s : Stmt) → kind_at ts i ≡ Some (Mark here) → changing_of (Some (Mark here)) ≡ None → Changed m ts i j s → ⊥

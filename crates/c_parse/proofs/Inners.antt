@@ -3,20 +3,19 @@ use Rattle.std.proofs.Common.{◌≡◌, ℕ, ◌+◌, ◌≤◌, ◌<◌, max, 
 use Rattle.c_lex.specs.declared.token.Token.{Token}
 use Rattle.c_lex.specs.declared.token.TokenKind.TheVariants.{Word, Mark}
 use Rattle.c_lex.specs.declared.token.Keyword.TheVariants.{Int}
-use Rattle.c_lex.specs.declared.token.Mark.TheVariants.{LeftBrace, RightBrace, Semicolon}
+use Rattle.c_lex.specs.declared.token.Mark.TheVariants.{RightBrace}
 use Rattle.c_ast.specs.declared.stmt.Stmt.{Stmt}
 use Rattle.c_ast.specs.Height.{stmt_height}
 use Rattle.rx_plain.specs.declared.no_memory.NoMemory.{NoMemory}
 use Rattle.c_parse.specs.declared.read.Span.{Span}
 use Rattle.c_parse.specs.Grammar.{kind_at}
-use Rattle.c_parse.specs.Statements.{Declares, Statement, Item, statement, declaration, Inner, closed, item, Blocks}
+use Rattle.c_parse.specs.Statements.{Declares, Statement, Item, statement, declaration, Inner, closed, item}
 use Rattle.c_parse.specs.Programs.{list_height}
 use Rattle.c_parse.specs.Readers.{IsThat, Gives, Low, Collected}
 use Rattle.c_parse.proofs.Equations.{height-append}
 use Rattle.c_parse.proofs.Lookahead.{kind_within}
-use Rattle.c_parse.proofs.Building.{Built, renamed, renamed_ok}
+use Rattle.c_parse.proofs.Building.{Built, renamed_ok}
 use Rattle.c_parse.proofs.Declaring.{later_fits}
-use Rattle.c_parse.proofs.PartLemmas.{changed_of}
 use Rattle.c_parse.proofs.Forms.{form_of}
 
 -- what an item can be

@@ -2,13 +2,13 @@
 use Rattle.std.proofs.Common.{◌≡◌, ℕ, ◌+◌, ◌≤◌, ◌<◌, Option, Some, None, List, [], ◌∷◌, ◌++◌, length, append_assoc, refl, sym, ◌∙◌, ap, arith}
 use Rattle.c_lex.specs.declared.token.Token.{Token}
 use Rattle.c_lex.specs.declared.token.TokenKind.TheVariants.{Name, Word, Mark}
-use Rattle.c_lex.specs.declared.token.Keyword.TheVariants.{Int, Void}
+use Rattle.c_lex.specs.declared.token.Keyword.TheVariants.{Int}
 use Rattle.c_lex.specs.declared.token.Mark.TheVariants.{RightParen, Comma}
 use Rattle.c_ast.specs.Height.{of_option}
 use Rattle.c_parse.specs.declared.read.Span.{Span}
 use Rattle.c_parse.specs.Grammar.{kind_at}
 use Rattle.c_parse.specs.Programs.{IsVoid, Parameter, named, nameless, Listed, last_parameter, next_parameter, Parameters, unsaid, void, listed}
-use Rattle.c_parse.specs.Readers.{IsThat, Gives, Listing}
+use Rattle.c_parse.specs.Readers.{Gives, Listing}
 use Rattle.c_parse.proofs.Lookahead.{kind_within}
 use Rattle.c_parse.proofs.Building.{Built}
 use Rattle.c_parse.proofs.UniqueExprs.{Same}

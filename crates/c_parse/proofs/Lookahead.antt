@@ -10,7 +10,7 @@ use Rattle.c_ast.specs.declared.expr.Expr.{Expr}
 use Rattle.c_ast.specs.declared.expr.Expr.TheVariants.{Binary}
 use Rattle.c_ast.specs.Height.{expr_height}
 use Rattle.c_ast.proofs.Equations.{height-Binary}
-use Rattle.c_parse.specs.Grammar.{kind_at, Operator, infixed, binary_of, unary_of, levels, Level, Rest, done, more}
+use Rattle.c_parse.specs.Grammar.{kind_at, Operator, infixed, binary_of, unary_of, levels, Rest, done, more}
 use Rattle.c_parse.specs.Readers.{Stops}
 
 -- where a token stands, the list goes on

@@ -1,5 +1,5 @@
 -- A tree that tokens spell names tokens that are names.
-use Rattle.std.proofs.Common.{◌≡◌, ℕ, ◌+◌, ◌<◌, List, [], ◌∷◌, ◌++◌, length, map, ℤ, pos, Option, Some, None, refl, sym, ap, arith}
+use Rattle.std.proofs.Common.{◌≡◌, ℕ, ◌+◌, ◌<◌, List, [], ◌∷◌, ◌++◌, length, map, pos, Option, Some, None, refl, sym, ap, arith}
 use Rattle.std.specs.List.{All, concat}
 use Rattle.std.specs.Option.{option_map}
 use Rattle.std.proofs.lemmas.List.Elements.{All-append, All-head, All-tail, All-push}
@@ -14,7 +14,7 @@ use Rattle.c_ast.specs.declared.stmt.Stmt.{Stmt}
 use Rattle.c_ast.specs.declared.program.Program.{Program}
 use Rattle.c_ast.specs.Variables.{variables, list_of_option, stmt_variables}
 use Rattle.c_ast.proofs.Equations.{variables-Lit, variables-Var, variables-Unary, variables-Binary, variables-Choose, variables-Apply, variables-Return}
-use Rattle.c_parse.specs.Grammar.{kind_at, levels, Whole, plain, choice, Level, signed, chain, Rest, done, more, Signed, unsigned, prefixed, Primary, number, name, call, parens, Arguments, no_arguments, arguments, Following, last_argument, next_argument}
+use Rattle.c_parse.specs.Grammar.{levels, Whole, plain, choice, Level, signed, chain, Rest, done, more, Signed, unsigned, prefixed, Primary, number, name, call, parens, Arguments, no_arguments, arguments, Following, last_argument, next_argument}
 use Rattle.c_parse.specs.Statements.{unit, updated, UpTo, ended, Change, by_value, by_update, by_step_behind, by_step_before, Declarator, bare, valued, Declarators, last_name, next_name, Starts, no_start, start_change, start_names, Continues, no_test, a_test, Advances, no_change, a_change, Statement, nothing, block, changes, if_alone, if_else, while_loop, do_loop, for_loop, breaks, continues, returns, Item, statement, declaration, Inner, closed, item}
 use Rattle.c_parse.specs.declared.read.External.{External}
 use Rattle.c_parse.specs.Programs.{Parameter, named, nameless, Listed, last_parameter, next_parameter, Parameters, unsaid, void, listed, all_names, names_of, function, prototype, Externals, finished, followed, functions_of, Spells}

@@ -11,7 +11,7 @@ use Rattle.c_ast.proofs.Equations.{height-Lit, height-Var, height-Unary, height-
 use Rattle.c_parse.specs.declared.read.Read.{Read}
 use Rattle.c_parse.specs.declared.read.ReadArguments.{ReadArguments}
 use Rattle.c_parse.specs.Grammar.{kind_at, unary_of, levels, Whole, Level, signed, Signed, unsigned, prefixed, Primary, number, name, call, parens, Arguments}
-use Rattle.c_parse.specs.Readers.{Stops, IsFound, Found, IsRead, Reads, ReadsList}
+use Rattle.c_parse.specs.Readers.{Stops, Found, IsRead, Reads, ReadsList}
 use Rattle.c_parse.proofs.Lookahead.{kind_within, paren_stops}
 
 -- what an operand without operators before it can be

@@ -1,10 +1,10 @@
 -- Expressions up to a mark, tests, and changes.
-use Rattle.std.proofs.Common.{◌≡◌, ◌≢◌, ℕ, suc, ◌+◌, ◌-◌, ◌≤◌, ◌<◌, max, ℤ, pos, Option, Some, None, Result, IfOk, List, length, refl, sym, ◌∙◌, ap, arith}
+use Rattle.std.proofs.Common.{◌≡◌, ◌≢◌, ℕ, suc, ◌+◌, ◌-◌, ◌≤◌, ◌<◌, max, pos, Option, Some, None, Result, IfOk, List, length, refl, sym, ◌∙◌, ap, arith}
 use Rattle.c_lex.specs.declared.token.Token.{Token}
 use Rattle.c_lex.specs.declared.token.TokenKind.{TokenKind}
 use Rattle.c_lex.specs.declared.token.TokenKind.TheVariants.{Name, Mark}
 use Rattle.c_lex.specs.declared.token.Mark.{Mark as TheMark}
-use Rattle.c_lex.specs.declared.token.Mark.TheVariants.{LeftParen, RightParen, Question, Assign as AssignMark}
+use Rattle.c_lex.specs.declared.token.Mark.TheVariants.{LeftParen, Question, Assign as AssignMark}
 use Rattle.c_ast.specs.declared.expr.BinOp.{BinOp}
 use Rattle.c_ast.specs.declared.expr.Expr.{Expr}
 use Rattle.c_ast.specs.declared.expr.Expr.TheVariants.{Var, Binary}
@@ -16,11 +16,11 @@ use Rattle.c_parse.specs.declared.read.Read.{Read}
 use Rattle.rx_plain.specs.declared.no_memory.NoMemory.{NoMemory}
 use Rattle.c_parse.specs.declared.read.Span.{Span}
 use Rattle.c_parse.specs.Grammar.{kind_at, binary_of, levels, Whole}
-use Rattle.c_parse.specs.Statements.{Changing, update, step, changing_of, unit, UpTo, ended, Test, updated, Change, by_value, by_update, by_step_behind, by_step_before}
-use Rattle.c_parse.specs.Readers.{Reads, IsThat, Gives, Low, IsStep}
+use Rattle.c_parse.specs.Statements.{Changing, update, step, changing_of, unit, UpTo, ended, updated, Change, by_value, by_update, by_step_behind, by_step_before}
+use Rattle.c_parse.specs.Readers.{Reads, Gives, Low, IsStep}
 use Rattle.c_parse.proofs.Equations.{height-Assign}
 use Rattle.c_parse.proofs.Lookahead.{kind_within, token_stops}
-use Rattle.c_parse.proofs.Building.{Built, built_none, built_some, renamed, renamed_ok}
+use Rattle.c_parse.proofs.Building.{Built, renamed_ok}
 
 -- the parts of an expression up to a mark
 pub record Ended (m : TheMark) (ts : List Token) (i j : ℕ) (e : Expr) : Type 0 where

@@ -1,12 +1,13 @@
 -- Functions and prototypes, and the program that they are, while they are read.
-use Rattle.std.proofs.Common.{◌≡◌, ℕ, suc, ◌+◌, ◌≤◌, ◌<◌, Option, Some, None, List, [], ◌∷◌, ◌++◌, length, append_assoc, refl, sym, ◌∙◌, ap, arith}
+use Rattle.std.proofs.Common.{◌≡◌, ℕ, ◌+◌, ◌≤◌, ◌<◌, Option, Some, None, List, [], ◌∷◌, ◌++◌, length, append_assoc, refl, sym, ◌∙◌, ap, arith}
 use Rattle.std.specs.List.{All}
+use Rattle.std.proofs.lemmas.List.{length-append}
 use Rattle.std.specs.Option.{option_map}
 use Rattle.std.proofs.lemmas.List.Elements.{All-head, All-tail, All-push}
 use Rattle.c_lex.specs.declared.token.Token.{Token}
 use Rattle.c_lex.specs.declared.token.TokenKind.TheVariants.{Word, Mark}
 use Rattle.c_lex.specs.declared.token.Keyword.TheVariants.{Int}
-use Rattle.c_lex.specs.declared.token.Mark.TheVariants.{LeftBrace, Semicolon}
+use Rattle.c_lex.specs.declared.token.Mark.TheVariants.{Semicolon}
 use Rattle.c_ast.specs.declared.stmt.Stmt.{Stmt}
 use Rattle.c_ast.specs.declared.program.Function.{Function}
 use Rattle.c_ast.specs.declared.program.Prototype.{Prototype}
@@ -17,7 +18,7 @@ use Rattle.c_parse.specs.declared.read.External.TheVariants.{Defined, Declared}
 use Rattle.c_parse.specs.declared.read.ReadProgram.TheVariants.{Spelled, Stopped}
 use Rattle.c_parse.specs.Grammar.{kind_at}
 use Rattle.c_parse.specs.Statements.{Blocks}
-use Rattle.c_parse.specs.Programs.{list_height, IsHeading, Parameters, names_of, ExternalDeclaration, function, prototype, Externals, finished, followed, functions_of, prototypes_of, program_of, IsLow, Spells}
+use Rattle.c_parse.specs.Programs.{list_height, IsHeading, Parameters, names_of, ExternalDeclaration, function, prototype, Externals, finished, followed, functions_of, prototypes_of, program_of, IsLow}
 use Rattle.c_parse.specs.Readers.{IsThat, Gives, Low, LowExternal, added, Collecting, ReadsAll}
 use Rattle.c_parse.proofs.Lookahead.{kind_within}
 
@@ -190,18 +191,12 @@ program_push xs (Defined f) =
 program_push xs (Declared p) =
     ap (λ fs. made_of fs (prototypes_of (xs ++ Declared p ∷ []))) (functions_keep xs p) ∙ ap (λ ps. made_of (functions_of xs) ps) (prototypes_push xs p)
 
-module _ (ts : List Token) where
-  -- nothing is read
-  pub collecting_begins : (p : Program) → p ≡ program_of [] → Collecting ts p 0
-  collecting_begins p is = record {
-    found = [];
-    is = is;
-    forward = λ xs h. h;
-    low = λ k d h. absurd (omega arith);
-    only = λ all h low. (all, (refl, (h, low)));
-    within = omega arith;
-  }
+-- one more function or prototype is at most one function more
+added_functions : (p : Program) (y : External) → length (added p y).functions ≤ length p.functions + 1
+added_functions p (Defined f) = let longer : length (p.functions ++ f ∷ []) ≡ length p.functions + 1 = length-append p.functions (f ∷ []) in omega (arith, longer)
+added_functions p (Declared q) = omega arith
 
+module _ (ts : List Token) where
   one_more : (found : List External) (at : ℕ) (x : Span External) → at < length ts → Gives (LowExternal ts at) at (length ts) (Some x)
       → (all xs : List External) → all ≡ found ++ xs → All IsLow xs → Fellows ts at (length ts) xs
       → (rest : List External) × ((all ≡ (found ++ x.value ∷ []) ++ rest) × (Externals ts x.end (length ts) rest × All IsLow rest))
@@ -223,6 +218,7 @@ module _ (ts : List Token) where
     low = All-push IsLow c.found x.value c.low g.found.spelled.1;
     only = λ all h low. let go = c.only all h low in one_more c.found at x within g all go.0 go.1.0 go.1.1.1 (fellows_of ts at (length ts) go.0 go.1.1.0);
     within = g.found.within;
+    few = let more = added_functions p x.value in let before = c.few in let further = g.found.further in omega (arith, more, before, further);
   }
 
   unread : (at : ℕ) → at < length ts → Gives (LowExternal ts at) at (length ts) None → (xs : List External) → All IsLow xs → Fellows ts at (length ts) xs → ⊥
@@ -243,4 +239,5 @@ module _ (ts : List Token) where
       let same : at ≡ length ts = omega arith in
       let nothing : Externals ts at (length ts) [] = rw same (finished ts (length ts)) in
       let spelled : Externals ts 0 (length ts) (c.found ++ []) = c.forward [] nothing in
-      record { externals = c.found; spelled = rw append_nothing at spelled; low = c.low; is = c.is }
+      let before : length p.functions ≤ at = c.few in
+      (record { externals = c.found; spelled = rw append_nothing at spelled; low = c.low; is = c.is }, omega arith)

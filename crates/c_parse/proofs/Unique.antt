@@ -1,15 +1,14 @@
 -- A list of tokens spells at most one program.
-use Rattle.std.proofs.Common.{◌≡◌, ℕ, ◌+◌, ◌≤◌, ◌<◌, Option, Some, List, [], ◌∷◌, length, refl, sym, ◌∙◌, ap, arith}
+use Rattle.std.proofs.Common.{◌≡◌, ℕ, ◌+◌, ◌<◌, Option, Some, List, ◌∷◌, length, refl, sym, ◌∙◌, ap, arith}
 use Rattle.std.specs.Option.{option_map}
 use Rattle.c_lex.specs.declared.token.Token.{Token}
 use Rattle.c_lex.specs.declared.token.TokenKind.TheVariants.{Word, Mark}
 use Rattle.c_lex.specs.declared.token.Keyword.TheVariants.{Int}
 use Rattle.c_lex.specs.declared.token.Mark.TheVariants.{Semicolon}
-use Rattle.c_ast.specs.declared.program.Program.{Program}
 use Rattle.c_parse.specs.declared.read.External.{External}
 use Rattle.c_parse.specs.Grammar.{kind_at}
 use Rattle.c_parse.specs.Statements.{Blocks}
-use Rattle.c_parse.specs.Programs.{Parameters, names_of, Externals, finished, followed, program_of, Spells, OneProgram}
+use Rattle.c_parse.specs.Programs.{Parameters, names_of, Externals, finished, followed, program_of, OneProgram}
 use Rattle.c_parse.proofs.Lookahead.{kind_within}
 use Rattle.c_parse.proofs.Lists.{parts_of, parts_unique}
 use Rattle.c_parse.proofs.Phrases.{the_function, the_prototype, Outer, outer_function, outer_prototype, outer_of, outer_begins, Fellows, fellow_none, fellow_more, fellows_of}

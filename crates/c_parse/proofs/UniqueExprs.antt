@@ -1,14 +1,14 @@
 -- An expression and its end are determined by where it begins.
-use Rattle.std.proofs.Common.{◌≡◌, ℕ, zero, suc, ◌+◌, ◌≤◌, ◌<◌, Some, None, List, [], ◌∷◌, length, refl, sym, ◌∙◌, ap, arith}
+use Rattle.std.proofs.Common.{◌≡◌, ℕ, zero, suc, ◌+◌, ◌≤◌, Some, None, List, ◌∷◌, refl, sym, ◌∙◌, ap, arith}
 use Rattle.c_lex.specs.declared.token.Token.{Token}
-use Rattle.c_lex.specs.declared.token.TokenKind.TheVariants.{Name, Number, Mark}
-use Rattle.c_lex.specs.declared.token.Mark.TheVariants.{LeftParen, RightParen, Comma, Question}
+use Rattle.c_lex.specs.declared.token.TokenKind.TheVariants.{Mark}
+use Rattle.c_lex.specs.declared.token.Mark.TheVariants.{Question}
 use Rattle.c_ast.specs.declared.expr.Expr.{Expr}
 use Rattle.c_ast.specs.declared.expr.UnOp.{UnOp}
 use Rattle.c_ast.specs.declared.expr.Expr.TheVariants.{Unary, Binary, Choose, Apply}
 use Rattle.c_parse.specs.Grammar.{kind_at, unary_of, levels, Whole, plain, choice, Level, signed, chain, Rest, done, more, Signed, unsigned, prefixed, Primary, number, name, call, parens, Arguments, no_arguments, arguments, Following, last_argument, next_argument}
 use Rattle.c_parse.specs.Readers.{Stops}
-use Rattle.c_parse.proofs.Lookahead.{kind_within, rest_stops, fewer_stop, question_stops, colon_stops, paren_stops}
+use Rattle.c_parse.proofs.Lookahead.{rest_stops, fewer_stop, question_stops, colon_stops, paren_stops}
 use Rattle.c_parse.proofs.Choices.{Chosen, chosen_plain, chosen_choice, chosen_of}
 use Rattle.c_parse.proofs.Passing.{Given, given_none, given_some, given_of, Gone, gone_last, gone_next, gone_of, argument_stops, whole_opens}
 use Rattle.c_parse.proofs.Chains.{Going, stopped, went, going_of, not_stopped}

@@ -1,8 +1,7 @@
 -- A statement and its end are determined by where it begins, and so is what stands in a block.
 use Rattle.std.proofs.Common.{◌≡◌, ◌≢◌, ℕ, suc, ◌+◌, Option, Some, None, List, [], ◌∷◌, ◌++◌, refl, sym, ◌∙◌, ap}
 use Rattle.c_lex.specs.declared.token.Token.{Token}
-use Rattle.c_lex.specs.declared.token.TokenKind.{TokenKind}
-use Rattle.c_lex.specs.declared.token.TokenKind.TheVariants.{Name, Word, Mark}
+use Rattle.c_lex.specs.declared.token.TokenKind.TheVariants.{Word, Mark}
 use Rattle.c_lex.specs.declared.token.Keyword.TheVariants as word
 use Rattle.c_lex.specs.declared.token.Mark.{Mark as TheMark}
 use Rattle.c_lex.specs.declared.token.Mark.TheVariants as mark
@@ -10,8 +9,8 @@ use Rattle.c_ast.specs.declared.expr.Expr.{Expr}
 use Rattle.c_ast.specs.declared.stmt.Stmt.{Stmt}
 use Rattle.c_ast.specs.declared.stmt.Stmt.TheVariants.{Empty, Declare, Assign, If, While, DoWhile, For, Break, Continue, Return, Block}
 use Rattle.c_parse.specs.declared.read.Head.{Head}
-use Rattle.c_parse.specs.Grammar.{kind_at, binary_of, levels, Whole}
-use Rattle.c_parse.specs.Statements.{unit, UpTo, Test, updated, Change, Declarator, Declarators, last_name, next_name, Declares, Starts, Continues, Advances, Heads, Statement, nothing, block, changes, if_alone, if_else, while_loop, do_loop, for_loop, breaks, continues, returns, Item, statement, declaration, Inner, closed, item, Blocks}
+use Rattle.c_parse.specs.Grammar.{kind_at, binary_of, levels}
+use Rattle.c_parse.specs.Statements.{UpTo, Test, updated, Change, Declarators, last_name, next_name, Declares, Continues, Advances, Heads, Statement, nothing, block, changes, if_alone, if_else, while_loop, do_loop, for_loop, breaks, continues, returns, Item, statement, declaration, Inner, closed, item, Blocks}
 use Rattle.c_parse.proofs.Lookahead.{token_stops}
 use Rattle.c_parse.proofs.Choices.{chosen_of}
 use Rattle.c_parse.proofs.Passing.{whole_begins}

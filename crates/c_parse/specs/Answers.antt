@@ -49,7 +49,7 @@ earlier (Some x) (Some y) = Some (min x y)
 abbrev pub too_many : Program → Option ℕ
 too_many p = earlier (long_function p.functions) (long_prototype p.prototypes)
 
--- the answer for a list of tokens: the cases exclude each other, and want of memory alone is free
+-- the answer for a list of tokens: the cases exclude each other; want of memory is free, and the place of a syntax error up to the number of tokens
 abbrev pub Answers : List Token → Result Program ParseEnd → Type 0
 Answers ts (Ok p) = (too_deep 0 0 ts ≡ None) × Spells ts p × (too_many p ≡ None)
 Answers ts (Err (TooDeep token)) = too_deep 0 0 ts ≡ Some token

@@ -8,7 +8,7 @@
 --     primary = NUMBER | NAME | NAME "(" [ expr { "," expr } ] ")" | "(" expr ")"
 --
 -- A repeated operator associates to the left, parentheses leave no trace, and a name is the number of its token.
-use Rattle.std.specs.Prelude.{◌≡◌, ℕ, zero, suc, ◌+◌, ◌≤◌, ℤ, Option, Some, None, List, [], ◌∷◌}
+use Rattle.std.specs.Prelude.{◌≡◌, ℕ, zero, suc, ◌+◌, ℤ, Option, Some, None, List, [], ◌∷◌}
 use Rattle.std.specs.List.{slice_get}
 use Rattle.std.specs.Option.{option_map}
 use Rattle.c_lex.specs.declared.token.Token.{Token}

@@ -1,25 +1,17 @@
 -- Preconditions, and what `parse_pre` answers.
-use Rattle.std.specs.Prelude.{◌≡◌, Bool, true, false, ◌&&◌, ℕ, ◌≤◌, Some, None, List, length, Result, Ok, Err}
+use Rattle.std.specs.Prelude.{◌≡◌, Bool, true, false, ◌&&◌, ◌≤◌, Some, None, List, length, Result, Ok, Err}
 use Rattle.c_lex.specs.declared.token.Token.{Token}
-use Rattle.c_ast.specs.declared.expr.UnOp.{UnOp}
-use Rattle.c_ast.specs.declared.expr.UnOp.TheVariants as sign
 use Rattle.c_ast.specs.declared.expr.BinOp.{BinOp}
 use Rattle.c_ast.specs.declared.expr.BinOp.TheVariants as binary
 use Rattle.c_ast.specs.declared.expr.Expr.{Expr}
 use Rattle.c_ast.specs.declared.expr.Expr.TheOpen.{Expr-F}
 use Rattle.c_ast.specs.declared.expr.Expr.TheFolds.{fold-Expr}
+use Rattle.c_ast.specs.Forms.{is_sign, is_sum_or_product}
 use Rattle.c_ast.specs.Height.{expr_height}
 use Rattle.c_parse.specs.declared.error.ParseEnd.{ParseEnd}
 use Rattle.c_parse.specs.declared.error.ParseEnd.TheVariants.{Syntax, TooDeep, TooManyParams, NoMemory, NotARowForm}
 use Rattle.c_parse.specs.Grammar.{Whole}
 use Rattle.c_parse.specs.Answers.{too_deep}
-
--- `+`, `-` and `*`
-abbrev pub is_sum : BinOp → Bool
-is_sum binary.Add = true
-is_sum binary.Sub = true
-is_sum binary.Mul = true
-is_sum _ = false
 
 -- `<`, `<=`, `>`, `>=`, `==` and `!=`
 abbrev pub is_comparison : BinOp → Bool
@@ -30,11 +22,6 @@ is_comparison binary.Ge = true
 is_comparison binary.Eq = true
 is_comparison binary.Ne = true
 is_comparison _ = false
-
--- `+` and `-` before an operand
-abbrev pub is_sign : UnOp → Bool
-is_sign sign.Not = false
-is_sign _ = true
 
 -- what an expression may be in a precondition
 pub record Forms : Type 0 where
@@ -51,14 +38,14 @@ abbrev pub forms_level : Expr-F Forms → Forms
 forms_level (Expr-F.Lit n) = record { straight = true; row = false }
 forms_level (Expr-F.Var v) = record { straight = true; row = false }
 forms_level (Expr-F.Unary op a) = record { straight = is_sign op && a.straight; row = false }
-forms_level (Expr-F.Binary op a b) = record { straight = is_sum op && (a.straight && b.straight); row = row_of op a b }
+forms_level (Expr-F.Binary op a b) = record { straight = is_sum_or_product op && (a.straight && b.straight); row = row_of op a b }
 forms_level (Expr-F.Choose c a b) = record { straight = false; row = false }
 forms_level (Expr-F.Apply name arguments) = record { straight = false; row = false }
 
 abbrev pub forms : Expr → Forms
 forms = fold-Expr Forms forms_level
 
--- an expression of literals, names, signs, `+`, `-` and `*`
+-- an expression made of literals, names, signs, `+`, `-` and `*`
 abbrev pub is_straight : Expr → Bool
 is_straight e = (forms e).straight
 
@@ -70,7 +57,7 @@ is_row_form e = (forms e).row
 abbrev pub IsExpression : List Token → Expr → Type 0
 IsExpression ts e = Whole ts 0 (length ts) e × (expr_height e ≤ 200)
 
--- the answer for a list of tokens: the cases exclude each other, and want of memory alone is free
+-- the answer for a list of tokens: the cases exclude each other; want of memory is free, and the place of a syntax error up to the number of tokens
 abbrev pub PreAnswers : List Token → Result Expr ParseEnd → Type 0
 PreAnswers ts (Ok e) = (too_deep 0 0 ts ≡ None) × (IsExpression ts e × (is_row_form e ≡ true))
 PreAnswers ts (Err (TooDeep token)) = too_deep 0 0 ts ≡ Some token

@@ -3,7 +3,7 @@
 --     program    = { function | prototype }
 --     function   = "int" NAME "(" [ "void" | "int" NAME { "," "int" NAME } ] ")" block
 --     prototype  = "int" NAME "(" [ "void" | "int" [ NAME ] { "," "int" [ NAME ] } ] ")" ";"
-use Rattle.std.specs.Prelude.{◌≡◌, ℕ, ◌+◌, ◌≤◌, Option, Some, None, List, [], ◌∷◌, ◌++◌, length, map, ⊤}
+use Rattle.std.specs.Prelude.{◌≡◌, ℕ, ◌+◌, ◌≤◌, Option, Some, None, List, [], ◌∷◌, length, map, ⊤}
 use Rattle.std.specs.List.{All}
 use Rattle.std.specs.Option.{option_map}
 use Rattle.c_lex.specs.declared.token.Token.{Token}

@@ -176,8 +176,9 @@ pub record Collecting (ts : List Token) (p : Program) (at : ℕ) : Type 0 where
   pub only : (all : List External) → Externals ts 0 (length ts) all → All IsLow all
       → (xs : List External) × ((all ≡ found ++ xs) × (Externals ts at (length ts) xs × All IsLow xs))
   pub within : at ≤ length ts
+  pub few : length p.functions ≤ at
 
--- the whole program is read exactly where the list spells one
+-- the whole program is read exactly where the list spells one, which has no more functions than tokens
 abbrev pub ReadsAll : List Token → ReadProgram → Type 0
-ReadsAll ts (Spelled p) = Spells ts p
+ReadsAll ts (Spelled p) = Spells ts p × (length p.functions ≤ length ts)
 ReadsAll ts (Stopped place) = ((p : Program) → Spells ts p → ⊥) × (place ≤ length ts)

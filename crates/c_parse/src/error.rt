@@ -18,10 +18,10 @@ pub enum ParseEnd {
         /// The number of the first such bracket's token.
         token: u32,
     },
-    /// A function has more than 16 parameters.
+    /// A function or prototype has more than 16 parameters.
     #[error("too many parameters at token {token}")]
     TooManyParams {
-        /// The number of the token that names the first such function.
+        /// The number of the token that names the first of them.
         token: u32,
     },
     /// There was no memory for the tree.

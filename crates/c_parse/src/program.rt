@@ -1,5 +1,5 @@
 //! Programs.
-ghost use Rattle.std.specs.Prelude.{◌≡◌, ◌<◌, ◌^◌, length, IfOk, OnOk};
+ghost use Rattle.std.specs.Prelude.{◌≡◌, ◌<◌, ◌≤◌, ◌^◌, length, IfOk, OnOk};
 ghost use Rattle.std.specs.List.{All};
 ghost use Rattle.c_parse.specs.Answers.{Answers, earlier, is_long, long_function, long_prototype, too_many};
 ghost use Rattle.c_parse.specs.Names.{IsNamed};
@@ -29,6 +29,7 @@ pub fn parse(alloc: Global, tokens: &[Token]) -> Result<Program, ParseEnd>
     requires { length tokens.now < 2 ^ 32 }
     ensures answer { Answers tokens.now result }
     ensures named { IfOk result (λ p. All (IsNamed tokens.now) p.functions) }
+    ensures few { IfOk result (λ p. length p.functions ≤ length tokens.now) }
 {
     if let Some(token) = too_deep(tokens) {
         return Err(ParseEnd::TooDeep { token });

@@ -1,4 +1,4 @@
-use Rattle.std.proofs.Common.{◌≡◌, ◌++◌, ◌∷◌, [], length, Some, None, refl}
+use Rattle.std.proofs.Common.{length, Some, None, refl}
 use Rattle.c_ast.specs.Height.{stmt_height}
 use Rattle.c_parse.specs.Statements.{Declarator}
 use Rattle.c_parse.specs.Readers.{Gives, Low}

@@ -1,5 +1,5 @@
 use Rattle.std.proofs.Common.{◌+◌, ◌-◌, ◌<◌, suc, length, Some, refl, arith}
-use Rattle.c_lex.specs.declared.token.TokenKind.TheVariants.{Name, Mark}
+use Rattle.c_lex.specs.declared.token.TokenKind.TheVariants.{Mark}
 use Rattle.c_lex.specs.declared.token.Mark.TheVariants.{Assign}
 use Rattle.c_parse.specs.Grammar.{Whole, levels}
 use Rattle.c_parse.specs.Readers.{Reads}

@@ -1,19 +1,19 @@
-use Rattle.std.proofs.Common.{◌≡◌, [], ◌∷◌, ◌+◌, ◌-◌, ◌≤◌, ◌<◌, suc, length, Some, None, ap, sym, refl, ◌∙◌, arith, rules, w64}
+use Rattle.std.proofs.Common.{◌≡◌, [], ◌∷◌, ◌+◌, ◌-◌, ◌≤◌, ◌<◌, suc, length, Some, None, ap, refl, ◌∙◌, arith, rules, w64}
 use mir.Val.{SFits, to_z, of_z}
 use Rattle.std.proofs.lemmas.Int.{to_z-of_z}
 use Rattle.c_lex.specs.declared.token.TokenKind.TheVariants.{Name, Number, Mark}
-use Rattle.c_lex.specs.declared.token.Mark.TheVariants.{LeftParen, RightParen, Question, Colon, Comma}
-use Rattle.c_ast.specs.declared.expr.Expr.TheVariants.{Lit, Var}
+use Rattle.c_lex.specs.declared.token.Mark.TheVariants.{LeftParen, Question, Colon, Comma}
+use Rattle.c_ast.specs.declared.expr.Expr.TheVariants.{Lit}
 use Rattle.c_ast.specs.Height.{expr_height}
 use Rattle.c_ast.proofs.Equations.{height-positive}
 use Rattle.c_parse.specs.declared.read.Read.{Read}
-use Rattle.c_parse.specs.Grammar.{kind_at, unary_of, Whole, Level, Primary, levels}
+use Rattle.c_parse.specs.Grammar.{kind_at, unary_of, Whole, Level, levels}
 use Rattle.c_parse.specs.Readers.{Reads, ReadsList}
 use Rattle.c_parse.proofs.Lookahead.{kind_within, operator_within, sign_within}
 use Rattle.c_parse.proofs.Chains.{turning_begins, turning_none, turning_ends, turning_full, turning_breaks, turning_goes}
 use Rattle.c_parse.proofs.Choices.{whole_none, whole_plain, whole_full, whole_valueless, whole_open, whole_halved, whole_choice}
-use Rattle.c_parse.proofs.Operands.{answers_unsigned, reads_crowded, reads_bare, reads_prefixed, reads_number, reads_name, reads_call, reads_uncalled, reads_parens, reads_open}
-use Rattle.c_parse.proofs.Passing.{list_empty, list_full, list_missing, passing_begins, passing_goes, passing_breaks, passing_ends, passing_stops}
+use Rattle.c_parse.proofs.Operands.{answers_unsigned, reads_crowded, reads_bare, reads_prefixed, reads_number, reads_name, reads_call, reads_parens}
+use Rattle.c_parse.proofs.Passing.{list_empty, list_missing, passing_begins, passing_goes, passing_breaks, passing_ends, passing_stops}
 use Rattle.c_parse.proofs.expr.+expr.Goals as goal
 
 pub chain-returns-in_default : goal.chain-returns-in_default

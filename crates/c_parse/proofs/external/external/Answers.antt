@@ -1,8 +1,6 @@
-use Rattle.std.proofs.Common.{◌+◌, ◌<◌, length, Some, None, arith}
+use Rattle.std.proofs.Common.{◌+◌, ◌<◌, length, arith}
 use Rattle.c_lex.specs.declared.token.TokenKind.TheVariants.{Mark}
 use Rattle.c_lex.specs.declared.token.Mark.TheVariants.{LeftParen}
-use Rattle.c_parse.specs.Programs.{Parameters}
-use Rattle.c_parse.specs.Readers.{Gives}
 use Rattle.c_parse.proofs.Lookahead.{kind_within}
 use Rattle.c_parse.proofs.external.external.Goals as goal
 

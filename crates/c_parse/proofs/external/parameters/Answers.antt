@@ -1,4 +1,4 @@
-use Rattle.std.proofs.Common.{◌≤◌, List, Option, ℕ, length, Some, refl, ap, arith}
+use Rattle.std.proofs.Common.{List, Option, ℕ, length, Some, refl, ap, arith}
 use Rattle.c_parse.specs.Programs.{Listed, Parameters}
 use Rattle.c_parse.specs.Readers.{Gives}
 use Rattle.c_parse.proofs.Building.{built_some}

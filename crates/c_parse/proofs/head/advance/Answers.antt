@@ -1,4 +1,4 @@
-use Rattle.std.proofs.Common.{◌≡◌, ◌≤◌, length, Some, refl, ap, arith}
+use Rattle.std.proofs.Common.{length, Some, refl, ap, arith}
 use Rattle.c_lex.specs.declared.token.Mark.TheVariants.{RightParen}
 use Rattle.c_ast.specs.declared.stmt.Stmt.{Stmt}
 use Rattle.c_ast.specs.Height.{of_option, stmt_height}

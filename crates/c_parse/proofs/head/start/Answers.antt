@@ -1,4 +1,4 @@
-use Rattle.std.proofs.Common.{◌≡◌, ◌≤◌, [], ◌∷◌, length, Some, refl, arith}
+use Rattle.std.proofs.Common.{◌≡◌, [], ◌∷◌, length, Some, refl, arith}
 use Rattle.c_lex.specs.declared.token.Mark.TheVariants.{Semicolon}
 use Rattle.c_ast.specs.declared.stmt.Stmt.{Stmt}
 use Rattle.c_ast.specs.Height.{stmt_height}

@@ -1,4 +1,4 @@
-use Rattle.std.proofs.Common.{◌≡◌, ◌+◌, ◌-◌, ◌≤◌, ◌<◌, length, Some, None, refl, arith}
+use Rattle.std.proofs.Common.{◌+◌, ◌-◌, ◌<◌, length, Some, None, refl, arith}
 use Rattle.c_lex.specs.declared.token.TokenKind.TheVariants.{Name, Mark}
 use Rattle.c_lex.specs.declared.token.Mark.TheVariants.{Assign as AssignMark}
 use Rattle.c_ast.specs.declared.stmt.Stmt.TheVariants.{Assign}

@@ -1,4 +1,4 @@
-use Rattle.std.proofs.Common.{◌+◌, suc, length, Some, refl}
+use Rattle.std.proofs.Common.{suc, Some, refl}
 use Rattle.c_parse.specs.Grammar.{Whole, levels}
 use Rattle.c_parse.specs.Readers.{Reads}
 use Rattle.c_parse.proofs.PartLemmas.{up_to_ends, up_to_misses}

@@ -1,4 +1,4 @@
-use Rattle.std.proofs.Common.{◌+◌, ◌-◌, ◌≤◌, ◌<◌, length, Some, refl, arith}
+use Rattle.std.proofs.Common.{◌+◌, ◌-◌, ◌<◌, length, Some, refl, arith}
 use Rattle.c_lex.specs.declared.token.TokenKind.TheVariants.{Word}
 use Rattle.c_lex.specs.declared.token.Keyword.TheVariants.{Return as ReturnWord}
 use Rattle.c_lex.specs.declared.token.Mark.TheVariants.{Semicolon}
