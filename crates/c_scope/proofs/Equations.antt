@@ -1,5 +1,5 @@
 -- What a resolved expression is where it is a call.
-use Rattle.std.proofs.Common.{◌≡◌, ◌∙◌, ap, ℕ, List, map, length, refl, Ok}
+use Rattle.std.proofs.Common.{◌≡◌, ◌∙◌, ap, ℕ, List, map, length, Ok}
 use Rattle.std.proofs.lemmas.List.{length-map}
 use Rattle.c_ast.specs.declared.expr.Expr.{Expr}
 use Rattle.c_ast.specs.declared.expr.Expr.TheVariants.{Apply, outs-Apply}

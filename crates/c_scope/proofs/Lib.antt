@@ -1,3 +1,4 @@
 -- Lemmas on the definitions of specs/.
 pub mod Equations
 pub mod Lists
+pub mod ResolvedPrograms

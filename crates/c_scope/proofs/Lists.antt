@@ -1,8 +1,7 @@
 -- A list of steps, of which some are done.
 use Rattle.std.proofs.Common.{◌≡◌, ◌∙◌, ap, sym, refl, ℕ, suc, ◌+◌, ◌<◌, List, [], ◌∷◌, ◌++◌, map, drop, length, get_or, Ok, Err, append_assoc, add-one, drop-cons, subst, below_more}
 use Rattle.std.proofs.lemmas.List.{get_or_default}
-use Rattle.c_scope.specs.Slots.{Scope}
-use Rattle.c_scope.specs.Statements.{Placed, Waiting, in_order}
+use Rattle.c_scope.specs.Statements.{Placed}
 use Rattle.c_ast.specs.declared.stmt.Stmt.{Stmt}
 use Rattle.c_scope.specs.Steps.{Found, on_found, all_found}
 use Rattle.c_scope.specs.declared.error.ScopeEnd.{ScopeEnd}

@@ -1,5 +1,4 @@
 use Rattle.std.proofs.Common.{◌≡◌, drop}
-use Rattle.std.specs.Borrow.{Bor}
 use Rattle.c_scope.specs.Functions.{place_of_function}
 use Rattle.c_scope.proofs.find.find_function.Given as goal
 use Rattle.std.specs.List.{position_from}
