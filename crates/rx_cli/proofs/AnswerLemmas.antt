@@ -7,7 +7,8 @@ use Rattle.rx_cli.specs.declared.answers.Answer.TheVariants.{Line}
 use Rattle.rx_cli.specs.declared.straight.Outcome.{Outcome}
 use Rattle.rx_cli.specs.declared.verdicts.Verdict.TheVariants as Said
 use Rattle.rx_cli.specs.Answers.{IsAnswered, IsComparison, IsHeld, IsProved, answer_of, longest_source}
-use Rattle.rx_cli.specs.Straight.{Agrees, IsOutcome}
+use Rattle.rx_cli.specs.Agreement.{Agrees}
+use Rattle.rx_cli.specs.Straight.{IsOutcome}
 use Rattle.rx_cli.specs.Words.{Question, asked_of}
 
 -- bytes that stand under a name were given under it

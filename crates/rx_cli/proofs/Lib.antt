@@ -1,8 +1,11 @@
 pub mod AnswerLemmas
-pub mod FormLaws
+pub mod FewParams
+pub mod FrontEndLaws
 pub mod LogLemmas
 pub mod MemoryLemmas
-pub mod NamesLemmas
-pub mod PairLaws
+pub mod OneOutcome
+pub mod OneRefusal
+pub mod Options
 pub mod RunLemmas
+pub mod StraightLaws
 pub mod TermLaws

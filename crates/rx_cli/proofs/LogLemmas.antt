@@ -1,7 +1,7 @@
 -- The log, from the parts that were added one after the other.
 use Rattle.std.proofs.Common.{◌≡◌, ◌++◌, ◌∙◌, ap, List, ℕ}
 use Rattle.std.specs.Prelude.{codes}
-use Rattle.rx_cli.specs.declared.straight.pairs.Order.{Order}
+use Rattle.rx_cli.specs.declared.straight.Order.{Order}
 use Rattle.rx_cli.specs.ProofText.{symbols_of, cover_line, rank_line, lines_below, step_lines, proof_text_of}
 
 -- six parts in order are the whole log

@@ -6,6 +6,10 @@ use Rattle.rx_cli.specs.declared.answers.Answer.{Answer}
 use Rattle.rx_cli.specs.declared.answers.Answer.TheVariants.{Line, Proof}
 use Rattle.rx_cli.specs.declared.ends.Status.{Status}
 use Rattle.rx_cli.specs.declared.ends.Status.TheVariants as Ends
+use Rattle.rx_cli.specs.declared.front_end.Refusal.{Refusal}
+use Rattle.rx_cli.specs.declared.front_end.Refusal.TheVariants as Why
+use Rattle.rx_cli.specs.Ends.{status_of}
+use Rattle.rx_cli.specs.FrontEnd.{verdict_of}
 use Rattle.rx_cli.specs.declared.straight.Outcome.{Outcome}
 use Rattle.rx_cli.specs.declared.straight.Outcome.TheVariants as Found
 use Rattle.rx_cli.specs.declared.verdicts.Verdict.TheVariants as Said
@@ -22,16 +26,26 @@ never_cut (Line (Said.Depth depth)) e = cc
 never_cut (Line Said.LongSource) e = cc
 never_cut (Line (Said.Lex fault)) e = cc
 never_cut (Line (Said.Parse end)) e = cc
+never_cut (Line (Said.Scope end)) e = cc
+never_cut (Line (Said.NoFunction name)) e = cc
+never_cut (Line (Said.Arity first second)) e = cc
 never_cut (Line Said.NotStraight) e = cc
 never_cut (Line Said.Usage) e = cc
 never_cut (Line Said.ReadFault) e = cc
 never_cut (Line Said.LargeTranslate) e = cc
 never_cut (Proof order) e = cc
 
+-- no refusal of the front end has the status of a read fault
+never_unread_refusal : (refusal : Refusal) → status_of (verdict_of refusal) ≡ Ends.ReadFault → ⊥
+never_unread_refusal (Why.Lex fault) e = cc
+never_unread_refusal (Why.Parse end) e = cc
+never_unread_refusal (Why.Scope end) e = cc
+never_unread_refusal (Why.NoFunction name) e = cc
+never_unread_refusal (Why.Arity first second) e = cc
+
 -- no comparison has the status of a read fault
 never_unread : (outcome : Outcome) → status_in (answer_of outcome) ≡ Ends.ReadFault → ⊥
-never_unread (Found.Lex fault) e = cc
-never_unread (Found.Parse end) e = cc
+never_unread (Found.Refused refusal) e = never_unread_refusal refusal e
 never_unread Found.NotStraight e = cc
 never_unread Found.Large e = cc
 never_unread Found.Differ e = cc

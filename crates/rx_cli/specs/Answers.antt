@@ -9,8 +9,10 @@ use Rattle.rx_cli.specs.declared.straight.Outcome.{Outcome}
 use Rattle.rx_cli.specs.declared.straight.Outcome.TheVariants as Found
 use Rattle.rx_cli.specs.declared.verdicts.Verdict.TheVariants as Said
 use Rattle.rx_cli.specs.Ends.{status_of}
+use Rattle.rx_cli.specs.FrontEnd.{verdict_of}
 use Rattle.rx_cli.specs.ProofText.{proof_text_of}
-use Rattle.rx_cli.specs.Straight.{Agrees, IsOutcome}
+use Rattle.rx_cli.specs.Agreement.{Agrees}
+use Rattle.rx_cli.specs.Straight.{IsOutcome}
 use Rattle.rx_cli.specs.Texts.{HasLine, text_of}
 use Rattle.rx_cli.specs.Words.{Question, asked_of}
 
@@ -20,8 +22,7 @@ longest_source = 1048576
 
 -- the answer to a comparison
 abbrev pub answer_of : Outcome → Answer
-answer_of (Found.Lex fault) = Line (Said.Lex fault)
-answer_of (Found.Parse end) = Line (Said.Parse end)
+answer_of (Found.Refused refusal) = Line (verdict_of refusal)
 answer_of Found.NotStraight = Line Said.NotStraight
 answer_of Found.Large = Line Said.LargeTranslate
 answer_of Found.Differ = Line (Said.Depth 5)
@@ -35,6 +36,10 @@ status_in (Proof order) = Ends.Equivalent
 abbrev pub text_in : Answer → List ℕ
 text_in (Line verdict) = text_of verdict
 text_in (Proof order) = proof_text_of order
+
+-- two outcomes are reported alike
+abbrev pub SameReport : Outcome → Outcome → Type 0
+SameReport x y = (status_in (answer_of x) ≡ status_in (answer_of y)) × (text_in (answer_of x) ≡ text_in (answer_of y))
 
 -- how an answer is reported: a relation, since the logs of later proofs hold certificates that nothing fixes
 abbrev pub IsReport : Answer → Status → List ℕ → Type 0

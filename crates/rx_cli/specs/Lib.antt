@@ -1,11 +1,12 @@
 pub mod Agreement
 pub mod Answers
 pub mod Ends
+pub mod FrontEnd
 pub mod InMemory
-pub mod Names
-pub mod Pairs
 pub mod ProofText
 pub mod Run
+pub mod Steps
 pub mod Straight
+pub mod Terms
 pub mod Texts
 pub mod Words

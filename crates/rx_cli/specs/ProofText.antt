@@ -1,7 +1,7 @@
--- The log of two straight-line functions whose normal forms are equal.
+-- The log of two straight functions whose normal forms are equal.
 use Rattle.std.specs.Prelude.{ℕ, suc, zero, List, [], ◌++◌, codes, decimal}
-use Rattle.rx_cli.specs.declared.straight.pairs.Order.{Order}
-use Rattle.rx_cli.specs.declared.straight.pairs.Order.TheVariants.{Same, FirstBefore, SecondBefore}
+use Rattle.rx_cli.specs.declared.straight.Order.{Order}
+use Rattle.rx_cli.specs.declared.straight.Order.TheVariants.{Same, FirstBefore, SecondBefore}
 
 -- each function has two symbols; one function may be named twice
 abbrev pub symbols_of : Order → ℕ

@@ -1,106 +1,67 @@
--- What the comparison of straight-line functions says of a text and two names.
-use Rattle.std.specs.Prelude.{◌≡◌, ◌≢◌, ◌⊎◌, true, false, ℕ, ℤ, ⊤, List, Option, Some, None, Ok, Err}
-use Rattle.c_lex.specs.declared.error.LexEnd.TheVariants as Fault
-use Rattle.c_lex.specs.declared.token.Token.{Token}
-use Rattle.c_lex.specs.Tokens.{tokens_of}
-use Rattle.c_ast.specs.declared.program.Program.{Program}
-use Rattle.c_parse.specs.declared.error.ParseEnd.{ParseEnd}
-use Rattle.c_parse.specs.declared.error.ParseEnd.TheVariants as Refusal
-use Rattle.c_parse.specs.Answers.{Answers}
-use Rattle.rx_poly.specs.Norm.{norm_of, norm_within, term_value}
-use Rattle.rx_cli.specs.declared.straight.pairs.Pair.{Pair}
-use Rattle.rx_cli.specs.declared.straight.Sameness.{Sameness}
-use Rattle.rx_cli.specs.declared.straight.Sameness.TheVariants as Normal
-use Rattle.rx_cli.specs.declared.straight.form.Form.{Form}
-use Rattle.rx_cli.specs.declared.straight.form.Form.TheVariants.{Faulty, Refused, Other, Straight}
+-- What the comparison of straight functions says of a text and two names.
+use Rattle.std.specs.Prelude.{◌≡◌, ◌≢◌, ◌⊎◌, true, false, ℕ, ⊤, List, None, Some, nat_eq, nat_lt, if◌then◌else◌}
+use Rattle.c_ast.specs.declared.program.Function.{Function}
+use Rattle.c_ast.specs.Forms.{straight_of}
+use Rattle.rx_poly.specs.Norm.{norm_of, norm_within}
+use Rattle.rx_cli.specs.declared.front_end.TwoFunctions.{TwoFunctions}
+use Rattle.rx_cli.specs.declared.straight.Order.{Order}
+use Rattle.rx_cli.specs.declared.straight.Order.TheVariants.{Same, FirstBefore, SecondBefore}
 use Rattle.rx_cli.specs.declared.straight.Outcome.{Outcome}
 use Rattle.rx_cli.specs.declared.straight.Outcome.TheVariants as Says
-use Rattle.rx_cli.specs.Pairs.{pair_of}
-use Rattle.rx_cli.specs.Agreement.{ReturnSame}
+use Rattle.rx_cli.specs.declared.straight.TwoTerms.{TwoTerms}
+use Rattle.rx_cli.specs.FrontEnd.{AreComparable, AreSyntax, IsRefused, IsSayable}
+use Rattle.rx_cli.specs.Terms.{function_term}
 
--- the tokens of the text spell this program, within the parser's limits
-pub record IsProgram (source : List ℕ) (tokens : List Token) (program : Program) : Type 0 where
-  pub lexed : tokens_of source ≡ Ok tokens
-  pub spelled : Answers tokens (Ok program)
+-- how two places stand to one another
+abbrev pub order_of : ℕ → ℕ → Order
+order_of i j = if nat_eq i j then Same else (if nat_lt i j then FirstBefore else SecondBefore)
 
--- The text has the straight-line form for the two names: it spells a program whose functions all are straight and differ in name, and these
--- names are two of them, of equally many parameters. The pair is what they return.
-pub record MeetsForm (source first second : List ℕ) (pair : Pair) : Type 0 where
-  pub tokens : List Token
-  pub program : Program
-  pub is : IsProgram source tokens program
-  pub paired : pair_of source tokens program first second ≡ Some pair
+-- the two names have functions of equally many parameters in the text, of which one or both aren't straight
+abbrev pub AreNotStraight : List ℕ → List ℕ → List ℕ → Type 0
+AreNotStraight source first second =
+    (two : TwoFunctions) × (left : Function) × (right : Function) × AreComparable source first second two left right
+    × ((straight_of left ≡ None) ⊎ (straight_of right ≡ None))
 
--- no pair has the form
-abbrev pub HasNoForm : List ℕ → List ℕ → List ℕ → Type 0
-HasNoForm source first second = (pair : Pair) → MeetsForm source first second pair → ⊥
-
--- the pair that two names have in a text of tokens, where it has the form
-abbrev pub IsPairAmong : List ℕ → List ℕ → List ℕ → Option Pair → Type 0
-IsPairAmong source first second (Some pair) = MeetsForm source first second pair
-IsPairAmong source first second None = HasNoForm source first second
-
--- the text is a list of tokens, and the parser refuses it for that cause
-abbrev pub IsRefused : List ℕ → ParseEnd → Type 0
-IsRefused source end = (tokens : List Token) × ((tokens_of source ≡ Ok tokens) × (Answers tokens (Err end) × (end ≢ Refusal.NoMemory)))
-
--- the text spells a program within the parser's limits
-abbrev pub IsSpelled : List ℕ → Type 0
-IsSpelled source = (tokens : List Token) × ((program : Program) × IsProgram source tokens program)
-
--- what form a text has for two names
-abbrev pub IsForm : List ℕ → List ℕ → List ℕ → Form → Type 0
-IsForm source first second (Faulty fault) = (tokens_of source ≡ Err fault) × (fault ≢ Fault.NoMemory)
-IsForm source first second (Refused end) = IsRefused source end
-IsForm source first second Other = IsSpelled source × HasNoForm source first second
-IsForm source first second (Straight pair) = MeetsForm source first second pair
-
--- the form that a program has for two names, by the pair that they have there
-abbrev pub IsFormOf : Option Pair → Form → Type 0
-IsFormOf (Some pair) form = form ≡ Straight pair
-IsFormOf None form = form ≡ Other
+-- the two names have straight functions of equally many parameters in the text, which return these terms and stand in this order
+pub record HaveTerms (source first second : List ℕ) (terms : TwoTerms) : Type 0 where
+  pub two : TwoFunctions
+  pub left : Function
+  pub right : Function
+  pub are_comparable : AreComparable source first second two left right
+  pub left_term : function_term left ≡ Some terms.left
+  pub right_term : function_term right ≡ Some terms.right
+  pub order : terms.order ≡ order_of two.first two.second
 
 -- both normal forms, and all that leads to them, keep the limits
-abbrev pub IsWithinLimits : Pair → Type 0
-IsWithinLimits pair = (norm_within pair.left ≡ true) × (norm_within pair.right ≡ true)
+abbrev pub IsWithinLimits : TwoTerms → Type 0
+IsWithinLimits terms = (norm_within terms.left ≡ true) × (norm_within terms.right ≡ true)
 
-abbrev pub PassesLimits : Pair → Type 0
-PassesLimits pair = (norm_within pair.left ≡ false) ⊎ (norm_within pair.right ≡ false)
+-- one of the two, or something that leads to it, doesn't
+abbrev pub PassesLimits : TwoTerms → Type 0
+PassesLimits terms = (norm_within terms.left ≡ false) ⊎ (norm_within terms.right ≡ false)
 
--- what is said, and when: the cases exclude each other
+-- what is said, and when. The cases exclude each other, but for the place of a syntax error
 abbrev pub IsOutcome : List ℕ → List ℕ → List ℕ → Outcome → Type 0
-IsOutcome source first second (Says.Lex fault) = tokens_of source ≡ Err fault
-IsOutcome source first second (Says.Parse end) = IsRefused source end
-IsOutcome source first second Says.NotStraight = IsSpelled source × HasNoForm source first second
+IsOutcome source first second (Says.Refused refusal) = IsRefused source first second refusal
+IsOutcome source first second Says.NotStraight = AreNotStraight source first second
 IsOutcome source first second Says.Large =
-    (pair : Pair) × MeetsForm source first second pair × PassesLimits pair
+    (terms : TwoTerms) × HaveTerms source first second terms × PassesLimits terms
 IsOutcome source first second Says.Differ =
-    (pair : Pair) × MeetsForm source first second pair × IsWithinLimits pair × (norm_of pair.left ≡ norm_of pair.right → ⊥)
+    (terms : TwoTerms) × HaveTerms source first second terms × IsWithinLimits terms × (norm_of terms.left ≢ norm_of terms.right)
 IsOutcome source first second (Says.Equal order) =
-    (pair : Pair) × MeetsForm source first second pair × IsWithinLimits pair × (norm_of pair.left ≡ norm_of pair.right) × (order ≡ pair.order)
+    (terms : TwoTerms) × HaveTerms source first second terms × IsWithinLimits terms × (norm_of terms.left ≡ norm_of terms.right) × (order ≡ terms.order)
 
--- the text spells a program in which both named functions return the same integer for all integers
-pub record Agrees (source first second : List ℕ) : Type 0 where
-  pub tokens : List Token
-  pub program : Program
-  pub is : IsProgram source tokens program
-  pub same : ReturnSame source tokens program first second
+-- one outcome, but for the place of a syntax error
+abbrev pub IsSameOutcome : Outcome → Outcome → Type 0
+IsSameOutcome (Says.Refused r) (Says.Refused s) = (r ≡ s) ⊎ AreSyntax r s
+IsSameOutcome x y = x ≡ y
 
 -- the two are said to be equal
 abbrev pub IsEqual : Outcome → Type 0
 IsEqual (Says.Equal order) = ⊤
-IsEqual _ = ⊥
+IsEqual outcome = ⊥
 
--- it can be said in a line: what is wrong with the text is no want of memory, and nothing that is said of preconditions alone
-abbrev pub IsSayable : Outcome → Type 0
-IsSayable (Says.Lex Fault.NoMemory) = ⊥
-IsSayable (Says.Parse Refusal.NoMemory) = ⊥
-IsSayable (Says.Parse Refusal.NotARowForm) = ⊥
-IsSayable _ = ⊤
-
--- how two terms compare by their normal forms
-abbrev pub Compares : Pair → Sameness → Type 0
-Compares pair Normal.Large = PassesLimits pair
-Compares pair Normal.Differ = IsWithinLimits pair × (norm_of pair.left ≡ norm_of pair.right → ⊥)
-Compares pair Normal.Equal =
-    IsWithinLimits pair × (norm_of pair.left ≡ norm_of pair.right) × ((a : ℕ → ℤ) → term_value a pair.left ≡ term_value a pair.right)
+-- it can be said in a line or a log
+abbrev pub IsSayableOutcome : Outcome → Type 0
+IsSayableOutcome (Says.Refused refusal) = IsSayable refusal
+IsSayableOutcome outcome = ⊤

@@ -3,7 +3,9 @@
 
 mod answers;
 mod ends;
+mod front_end;
 mod in_memory;
+mod laws;
 mod logs;
 mod reports;
 mod straight;
@@ -15,6 +17,7 @@ mod words;
 
 pub use ends::Status;
 pub use in_memory::run_in_memory;
+pub use laws::a_text_has_one_outcome;
 pub use reports::report;
 pub use rx_plain::NoMemory;
 pub use top::run;

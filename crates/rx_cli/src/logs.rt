@@ -1,4 +1,4 @@
-//! The log of a proof about straight-line functions.
+//! The log of a proof about straight functions.
 ghost use Rattle.std.specs.Prelude.{◌≡◌, ◌≤◌, ◌++◌, IfOk, OnOk, string_bytes};
 ghost use Rattle.rx_cli.specs.ProofText.{symbols_of, cover_line, rank_line, lines_below, step_lines, proof_text_of};
 
@@ -44,7 +44,7 @@ fn push_ranks(text: &mut String, symbols: u32) -> Result<(), AllocError>
     Ok(())
 }
 
-/// The log that shows two straight-line functions equal whose returned values have one normal form.
+/// The log that shows two straight functions equal whose returned values have one normal form.
 pub fn proof_text(alloc: Global, order: Order) -> Result<Vec<u8>, NoMemory>
     ensures text { IfOk result (λ text. text.items ≡ proof_text_of order) }
 {

@@ -5,7 +5,9 @@ ghost use Rattle.std.specs.Prelude.{◌≤◌};
 use crate::logs::proof_text;
 use crate::straight::Order;
 use crate::{Status, Verdict, report, run};
-use c_lex::LexEnd;
+use c_lex::{LexEnd, tokens};
+use c_parse::{parse, parse_pre};
+use c_scope::{ScopeEnd, resolve_pre};
 use rx_io::{MemoryFiles, MemorySink};
 use std::alloc::Global;
 use std::process::Abort;
@@ -134,6 +136,30 @@ fn each_fault_of_the_tokens_has_its_word(rt: HostRuntime) -> Result<(), Fail> {
 }
 
 #[test]
+fn each_fault_of_the_scope_has_its_word(rt: HostRuntime) -> Result<(), Fail> {
+    let alloc = rt.alloc();
+    let token = 9;
+    for (end, want) in [
+        (ScopeEnd::UnknownName { token }, "unknown-name"),
+        (ScopeEnd::TwiceDeclared { token }, "twice-declared"),
+        (ScopeEnd::WrongCount { token }, "wrong-count"),
+        (ScopeEnd::MayBeUnset { token }, "may-be-unset"),
+        (ScopeEnd::MayNotReturn { token }, "may-not-return"),
+        (ScopeEnd::StrayBreak { token }, "stray-break"),
+        (ScopeEnd::TooManySlots { token }, "too-many-slots"),
+    ] {
+        let line = report(alloc, &Verdict::Scope(end))?;
+        let want = format!(in alloc; "REFUSED scope {want} at 9\n")?;
+        assert_eq!(rt; line.as_slice(), want.as_bytes());
+    }
+    let none = report(alloc, &Verdict::NoFunction(2))?;
+    assert_eq!(rt; none.as_slice(), b"REFUSED no-function 2\n".as_slice());
+    let counts = report(alloc, &Verdict::Arity(1, 16))?;
+    assert_eq!(rt; counts.as_slice(), b"REFUSED arity 1 16\n".as_slice());
+    Ok(())
+}
+
+#[test]
 fn the_proof_of_two_functions_has_fourteen_lines(rt: HostRuntime) -> Result<(), Fail> {
     let alloc = rt.alloc();
     let text = proof_text(alloc, Order::FirstBefore)?;
@@ -175,6 +201,8 @@ fn a_source_is_read_and_answered_in_pieces(rt: HostRuntime) -> Result<(), Fail> 
     }
     Ok(())
 }
+
+mod programs;
 
 // Runs `prove` on a source, and compares the status and all that is put.
 fn check_answer(
@@ -222,190 +250,129 @@ fn the_order_of_the_names_chooses_the_log(rt: HostRuntime) -> Result<(), Fail> {
     )
 }
 
-#[test]
-fn equal_functions_are_found_equal(rt: HostRuntime) -> Result<(), Fail> {
-    for source in [
-        "int a(void){return 3;} int b(){return 1+2;}",
-        "#include <stdio.h>\n/* one */ int a(int x){return x;} // two\nint b(int y){return 0*y+y+0;}",
-        "int a(int x, int y){return -(x-y)*+3;} int b(int x, int y){return 3*y-x-x-x;}",
-        "int a(int x){return x-1-1;} int b(int x){return x-(1+1);}",
-        "int ab(int x){return 7;} int a(int x, int y){return x*y;} int b(int y, int x){return x*y;}",
-    ] {
-        check_answer(
-            &rt,
-            rt.alloc(),
-            ASKED,
-            source,
-            Status::Equivalent,
-            FIRST_BEFORE,
-        )?;
+// What is put for the program, and whether the two functions are found equal.
+fn answer_to(alloc: Global, names: &str, source: &str) -> Result<(Status, Vec<u8>), Fail> {
+    let line = format!(in alloc; "ctrl prove a.c {names}")?;
+    let mut files = files_of(alloc, source.as_bytes().to_vec(alloc)?, 4096, &[])?;
+    let mut out = sink_of(alloc, 4096, &[])?;
+    let status = run(
+        alloc,
+        &words_of(alloc, line.as_str())?,
+        &mut files,
+        &mut out,
+    );
+    Ok((status, out.put_so_far().to_vec(alloc)?))
+}
+
+// Compares the answer to a row: what the last line is to be, the two names, and the program.
+fn check_row(rt: &impl Abort, alloc: Global, row: &str) -> Result<(), Fail> {
+    let Some((want, rest)) = row.split_once(" | ") else {
+        assert_eq!(rt; row, "an answer, two names and a program");
+        return Ok(());
+    };
+    let Some((names, source)) = rest.split_once(" | ") else {
+        assert_eq!(rt; rest, "two names and a program");
+        return Ok(());
+    };
+    let want_line = format!(in alloc; "{want}\n")?;
+    let (status, text) = answer_to(alloc, names, source)?;
+    if want == "EQUIVALENT" {
+        assert_eq!(rt; status, Status::Equivalent, "of {source}");
+        assert!(rt; text.ends_with(want_line.as_bytes()));
+    } else {
+        assert_eq!(rt; text.as_slice(), want_line.as_bytes(), "of {source}");
+    }
+    Ok(())
+}
+
+// Compares the answers to all rows; a line that begins with `#` names a topic.
+fn check_rows(rt: &impl Abort, alloc: Global, table: &str) -> Result<(), Fail> {
+    for row in table.lines() {
+        if !row.starts_with("#") {
+            check_row(rt, alloc, row)?;
+        }
     }
     Ok(())
 }
 
 #[test]
-fn different_normal_forms_are_unknown(rt: HostRuntime) -> Result<(), Fail> {
-    for source in [
-        "int a(int x){return 2*x;} int b(int x){return x;}",
-        "int a(int x, int y){return x;} int b(int y, int x){return x;}",
-        "int a(int x){return x-1-1;} int b(int x){return x-(1-1);}",
-        "int a(int x){return -x;} int b(int x){return x;}",
-        "int a(){return 9223372036854775807;} int b(){return 9223372036854775806;}",
-    ] {
-        check_answer(
-            &rt,
-            rt.alloc(),
-            ASKED,
-            source,
-            Status::Unknown,
-            b"UNKNOWN depth 5\n",
-        )?;
-    }
-    Ok(())
+fn straight_functions_are_compared(rt: HostRuntime) -> Result<(), Fail> {
+    check_rows(&rt, rt.alloc(), programs::STRAIGHT)
 }
 
 #[test]
-fn other_texts_are_not_straight(rt: HostRuntime) -> Result<(), Fail> {
-    for source in [
-        "",
-        "int a(int x){return x;}",
-        "int a(int x){return x;} int b(int x, int y){return x;}",
-        "int a(int x){return x;} int b(int x){return x;} int a(int x){return x;}",
-        "int a(int x, int x){return x;} int b(int x, int y){return x;}",
-        "int a(int x){return x;} int b(int x){return y;}",
-        "int a(int x){return x;} int b(int x){return !x;}",
-        "int a(int x){return x;} int b(int x){return x/1;}",
-        "int a(int x){return x;} int b(int x){return a(x);}",
-        "int a(int x){return x;} int b(int x){return x;} int c(int x){return z;}",
-        "int b(int x); int a(int x){return x;} int c(int y){return y;}",
-        "int a(int n){int s=0;for(int i=1;i<=n;i++)s+=i;return s;} int b(int n){if(n<=0)return 0;return n+b(n-1);}",
-    ] {
-        check_answer(
-            &rt,
-            rt.alloc(),
-            ASKED,
-            source,
-            Status::Refused,
-            b"REFUSED not-straight\n",
-        )?;
-    }
-    Ok(())
+fn the_front_end_refuses_in_its_order(rt: HostRuntime) -> Result<(), Fail> {
+    check_rows(&rt, rt.alloc(), programs::FRONT)
 }
 
 #[test]
-fn a_prototype_says_nothing_of_the_value(rt: HostRuntime) -> Result<(), Fail> {
-    let source = "int b(int); int a(int x){return x+x;} int b(int y){return 2*y;}";
-    check_answer(
-        &rt,
-        rt.alloc(),
-        ASKED,
-        source,
-        Status::Equivalent,
-        FIRST_BEFORE,
-    )
+fn names_are_known_and_declared_once(rt: HostRuntime) -> Result<(), Fail> {
+    check_rows(&rt, rt.alloc(), programs::NAMES)
 }
 
 #[test]
-fn what_the_parser_refuses_comes_before_the_form(rt: HostRuntime) -> Result<(), Fail> {
+fn breaks_stand_in_loops_and_variables_in_slots(rt: HostRuntime) -> Result<(), Fail> {
+    check_rows(&rt, rt.alloc(), programs::SLOTS)
+}
+
+#[test]
+fn variables_are_assigned_before_they_are_read(rt: HostRuntime) -> Result<(), Fail> {
+    check_rows(&rt, rt.alloc(), programs::ASSIGNED)
+}
+
+#[test]
+fn functions_return_and_the_first_fault_is_the_answer(rt: HostRuntime) -> Result<(), Fail> {
+    check_rows(&rt, rt.alloc(), programs::RETURNED)
+}
+
+#[test]
+fn a_precondition_is_over_the_parameters(rt: HostRuntime) -> Result<(), Fail> {
     let alloc = rt.alloc();
-    let mut deep = String::from_str(alloc, "int a(){return ")?;
-    for _ in 0..200 {
-        deep.push_str("(")?;
-    }
-    for (source, want) in [
-        (
-            "int a(int x){return x;} int b(int x){return x}",
-            b"REFUSED syntax\n".as_slice(),
-        ),
-        ("while", b"REFUSED syntax\n".as_slice()),
-        (
-            "int a(); int b(int,int,int,int,int,int,int,int,int,int,int,int,int,int,int,int,int);",
-            b"REFUSED params at 6\n".as_slice(),
-        ),
-        (deep.as_str(), b"REFUSED deep at 205\n".as_slice()),
-    ] {
-        check_answer(&rt, alloc, ASKED, source, Status::Refused, want)?;
-    }
+    let found = tokens(alloc, SOURCE.as_slice())?;
+    let program = parse(alloc, &found)?;
+    let condition = tokens(alloc, b"z > 0".as_slice())?;
+    let tree = parse_pre(alloc, &condition)?;
+    let Some(function) = program.functions.as_slice().first() else {
+        assert!(rt; false);
+        return Ok(());
+    };
+    assert!(rt; function.params.len() <= 16);
+    let answer = resolve_pre(
+        alloc,
+        SOURCE.as_slice(),
+        &found,
+        function,
+        b"z > 0".as_slice(),
+        &condition,
+        &tree,
+    );
+    assert!(rt; answer.err() == Some(ScopeEnd::UnknownName { token: 0 }));
     Ok(())
 }
 
 #[test]
-fn a_fault_of_the_tokens_comes_before_the_form(rt: HostRuntime) -> Result<(), Fail> {
-    let line = "ctrl prove a.c f f";
-    let greatest = "int f(){return 9223372036854775807;}";
-    check_answer(&rt, rt.alloc(), line, greatest, Status::Equivalent, SAME)?;
-    let large = "int f(){return 9223372036854775808;}";
-    check_answer(
-        &rt,
-        rt.alloc(),
-        line,
-        large,
-        Status::Refused,
-        b"REFUSED lex literal-too-large at 15\n",
-    )?;
-    let octal = "int f(){return 012;}";
-    check_answer(
-        &rt,
-        rt.alloc(),
-        line,
-        octal,
-        Status::Refused,
-        b"REFUSED lex leading-zero at 15\n",
-    )?;
-    check_answer(
-        &rt,
-        rt.alloc(),
-        line,
-        "while @",
-        Status::Refused,
-        b"REFUSED lex bad-byte at 6\n",
-    )
-}
-
-#[test]
-fn a_product_beyond_128_bits_is_large_though_it_is_multiplied_by_0(
-    rt: HostRuntime,
-) -> Result<(), Fail> {
-    let source =
-        "int a(){return 0*(9223372036854775807*9223372036854775807*9223372036854775807);} int b(){return 0*9223372036854775807*9223372036854775807*9223372036854775807;}";
-    check_answer(
-        &rt,
-        rt.alloc(),
-        ASKED,
-        source,
-        Status::Large,
-        b"LARGE translate\n",
-    )?;
-    check_answer(
-        &rt,
-        rt.alloc(),
-        "ctrl prove a.c b b",
-        source,
-        Status::Equivalent,
-        SAME,
-    )
-}
-
-#[test]
-fn a_normal_form_beyond_128_bits_is_large(rt: HostRuntime) -> Result<(), Fail> {
-    let source =
-        "int a(){return 9223372036854775807*9223372036854775807*9223372036854775807;} int b(){return 1;}";
-    check_answer(
-        &rt,
-        rt.alloc(),
-        ASKED,
-        source,
-        Status::Large,
-        b"LARGE translate\n",
-    )?;
-    check_answer(
-        &rt,
-        rt.alloc(),
-        "ctrl prove a.c b a",
-        source,
-        Status::Large,
-        b"LARGE translate\n",
-    )
+fn comments_and_include_lines_are_blank(rt: HostRuntime) -> Result<(), Fail> {
+    let alloc = rt.alloc();
+    for (names, source, want) in [
+        ("a b", "", "REFUSED no-function 1\n"),
+        (
+            "up rec",
+            "#include <stdio.h>\n/* sums */ int up(int n) { int s = 0; for (int i = 1; i <= n; i++) s += i; return s; } // loop\nint rec(int n) { if (n <= 0) return 0; return n + rec(n - 1); }\n",
+            "REFUSED not-straight\n",
+        ),
+        (
+            "a b",
+            "int a(int x){return x;}\n#define Y 1\nint b(int x){return x;}",
+            "REFUSED lex directive at 24\n",
+        ),
+    ] {
+        let (status, text) = answer_to(alloc, names, source)?;
+        assert_eq!(rt; status, Status::Refused);
+        assert_eq!(rt; text.as_slice(), want.as_bytes());
+    }
+    let equal =
+        "#include <stdio.h>\n/* one */ int a(int x){return x;} // two\nint b(int y){return 0*y+y+0;}";
+    check_answer(&rt, alloc, ASKED, equal, Status::Equivalent, FIRST_BEFORE)
 }
 
 #[test]
@@ -440,7 +407,7 @@ fn a_failed_second_put_leaves_the_first(rt: HostRuntime) -> Result<(), Fail> {
 fn a_source_of_one_byte_too_many_is_long(rt: HostRuntime) -> Result<(), Fail> {
     let alloc = rt.alloc();
     for (size, text) in [
-        (1_048_576usize, b"REFUSED not-straight\n".as_slice()),
+        (1_048_576usize, b"REFUSED no-function 1\n".as_slice()),
         (1_048_577, b"REFUSED long source\n".as_slice()),
     ] {
         let mut files = files_of(alloc, vec![in alloc; b' '; size]?, 4096, &[])?;

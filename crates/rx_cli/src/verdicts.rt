@@ -4,6 +4,7 @@ ghost use Rattle.std.specs.Prelude.{◌≡◌};
 use crate::Status;
 use c_lex::LexEnd;
 use c_parse::ParseEnd;
+use c_scope::ScopeEnd;
 
 /// What a report of one line says.
 #[derive(Clone, Copy, Debug, PartialEq, Eq)]
@@ -18,7 +19,13 @@ pub enum Verdict {
     Lex(LexEnd),
     /// The source spells no program within the parser's limits.
     Parse(ParseEnd),
-    /// The source has another form than straight-line functions.
+    /// The program of the source isn't well formed.
+    Scope(ScopeEnd),
+    /// No function has the first of the two names, which is 1, or else the second, which is 2.
+    NoFunction(u8),
+    /// The two functions have different numbers of parameters, which these are.
+    Arity(u32, u32),
+    /// One of the two functions, or both, aren't straight.
     NotStraight,
     /// The words ask for nothing that the program does.
     Usage,
@@ -38,8 +45,13 @@ impl Verdict {
         match self {
             Verdict::Equivalent => Status::Equivalent,
             Verdict::Depth(_) => Status::Unknown,
-            Verdict::LongSource | Verdict::Lex(_) | Verdict::Parse(_) | Verdict::NotStraight =>
-                Status::Refused,
+            Verdict::LongSource
+            | Verdict::Lex(_)
+            | Verdict::Parse(_)
+            | Verdict::Scope(_)
+            | Verdict::NoFunction(_)
+            | Verdict::Arity(_, _)
+            | Verdict::NotStraight => Status::Refused,
             Verdict::Usage => Status::Usage,
             Verdict::ReadFault => Status::ReadFault,
             Verdict::LargeTranslate => Status::Large,
