@@ -12,12 +12,12 @@ use Rattle.rx_cli.specs.declared.front_end.Reading.TheVariants as Says
 use Rattle.rx_cli.specs.declared.front_end.TwoFunctions.{TwoFunctions}
 use Rattle.rx_cli.specs.declared.front_end.Refusal.TheVariants.{NoFunction, Arity}
 use Rattle.rx_cli.specs.FrontEnd.{AreNamed, IsReading, IsWellFormed, missing, place_in}
-use Rattle.rx_cli.proofs.Options.{full}
+use Rattle.std.proofs.lemmas.Option.{none-some}
 use Rattle.c_scope.proofs.ResolvedPrograms.{counted, counts_kept}
 
 -- the place found stands in the list
 within_from : {K : Type 0} (p : K → Bool) (i : ℕ) (xs : List K) (k : ℕ) → position_from p i xs ≡ Some k → k < i + length xs
-within_from p i [] k is = full is
+within_from p i [] k is = absurd (none-some _ is)
 within_from p i (x ∷ xs) k is = elim (p x) as (λ b. cond b (Some i) (position_from p (i + 1) xs) ≡ Some k → k < i + length (x ∷ xs)) [
   | true ↦ (λ e. let h : i ≡ k = cc in omega (arith, h))
   | false ↦ (λ e. let h = within_from p (i + 1) xs k e in omega (arith, h))
@@ -44,8 +44,8 @@ module _ (source : List ℕ) (tokens : List Token) (program : Program) (resolved
 
   stands_as : (i : ℕ) (f : Function) (o p : Option Function) → slice_get resolved.functions i ≡ o → slice_get program.functions i ≡ p → p ≡ Some f → counted o ≡ counted p → Stands i
   stands_as i f (Some g) (Some h) is_o is_p there e = let same : length g.params ≡ length h.params = cc in (g, is_o, same ∙ sym (ap count_at is_p))
-  stands_as i f None (Some h) is_o is_p there e = full e
-  stands_as i f o None is_o is_p there e = full there
+  stands_as i f None (Some h) is_o is_p there e = absurd (none-some _ e)
+  stands_as i f o None is_o is_p there e = absurd (none-some _ there)
 
   stands : (name : List ℕ) (i : ℕ) → place_in source tokens program name ≡ Some i → Stands i
   stands name i is =

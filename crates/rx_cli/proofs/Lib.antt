@@ -5,6 +5,7 @@ pub mod LogLemmas
 pub mod MemoryLemmas
 pub mod OneOutcome
 pub mod OneRefusal
+pub mod OneReport
 pub mod Options
 pub mod RunLemmas
 pub mod StraightLaws

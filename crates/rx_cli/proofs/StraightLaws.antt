@@ -27,27 +27,27 @@ use Rattle.rx_cli.specs.FrontEnd.{AreComparable}
 use Rattle.rx_cli.specs.Steps.{Compares, IsSaid, joined, term_at, terms_of}
 use Rattle.rx_cli.specs.Straight.{AreNotStraight, HaveTerms, IsEqual, IsOutcome, order_of}
 use Rattle.rx_cli.specs.Terms.{function_term, term_of}
-use Rattle.rx_cli.proofs.Options.{full}
+use Rattle.std.proofs.lemmas.Option.{none-some}
 use Rattle.rx_cli.proofs.TermLaws.{term_of_straight}
 
 -- a statement that returns an expression is that return
 is_return : (s : Stmt) (e : Expr) (x : Stmt-F Stmt) → out-Stmt s ≡ x → returned_by x ≡ Some e → s ≡ Syntax.Return e
 is_return s e (Stmt-F.Return d) opened is =
     let same : d ≡ e = cc in sym (roll-out-Stmt s) ∙ (ap roll-Stmt opened ∙ (Syntax.rolls-Return d ∙ ap Syntax.Return same))
-is_return s e _ opened is = full is
+is_return s e _ opened is = absurd (none-some _ is)
 
 -- a body that returns an expression is that return alone
 is_body : (body : List Stmt) (e : Expr) → returned body ≡ Some e → body ≡ Syntax.Return e ∷ []
-is_body [] e is = full is
+is_body [] e is = absurd (none-some _ is)
 is_body (s ∷ []) e is = ap (λ t. t ∷ []) (is_return s e (out-Stmt s) refl is)
-is_body (s ∷ t ∷ ts) e is = full is
+is_body (s ∷ t ∷ ts) e is = absurd (none-some _ is)
 
 -- what is kept of an expression is that expression, and it is straight
 kept_is : (count : ℕ) (e : Expr) (o : Option Expr) → only_straight count o ≡ Some e → (o ≡ Some e) × (is_straight count e ≡ true)
-kept_is count e None is = full is
+kept_is count e None is = absurd (none-some _ is)
 kept_is count e (Some d) is = elim (is_straight count d) as (λ b. is_straight count d ≡ b → (if b then Some d else None) ≡ Some e → (Some d ≡ Some e) × (is_straight count e ≡ true)) [
   | true ↦ (λ form kept. let same : d ≡ e = cc in (kept, ap (is_straight count) (sym same) ∙ form))
-  | false ↦ (λ form kept. full kept)
+  | false ↦ (λ form kept. absurd (none-some _ kept))
 ] refl is
 
 -- the function's body is one return of a straight expression
@@ -61,7 +61,7 @@ has_term f None is none = refl
 has_term f (Some e) is none =
     let body = straight_body f e is in
     let whole = term_of_straight (length f.params) (λ _. Some (pos 0)) (λ _. pos 0) (λ slot h. refl) e body.1 in
-    full (sym none ∙ whole.1)
+    absurd (none-some _ (sym none ∙ whole.1))
 
 pub termless : (f : Function) → function_term f ≡ None → straight_of f ≡ None
 termless f none = has_term f (straight_of f) refl none
@@ -122,7 +122,7 @@ returns_term program place f t there is arguments count = go (straight_of f) ref
     a k = get_or arguments k (pos 0)
 
     go : (o : Option Expr) → straight_of f ≡ o → option_and_then term_of o ≡ Some t → Returns program place arguments (Value (term_value a t))
-    go None straight term = full term
+    go None straight term = absurd (none-some _ term)
     go (Some e) straight term =
         let body = straight_body f e straight in
         let whole = term_of_straight (length f.params) (slice_get arguments) a (λ slot h. slice_get-get_or arguments slot (pos 0) (omega (arith, h, count))) e body.1 in

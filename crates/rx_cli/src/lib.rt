@@ -17,7 +17,7 @@ mod words;
 
 pub use ends::Status;
 pub use in_memory::run_in_memory;
-pub use laws::a_text_has_one_outcome;
+pub use laws::{a_text_has_one_outcome, words_have_one_report};
 pub use reports::report;
 pub use rx_plain::NoMemory;
 pub use top::run;
