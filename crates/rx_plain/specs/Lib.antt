@@ -1,3 +1,4 @@
--- The order of the graded list, and how the containers stand in a type that holds itself.
+-- What is formed within limits, the order of the graded list, and how the containers stand in a type that holds itself.
+pub mod Formed
 pub mod Graded
 pub mod formers

@@ -5,6 +5,7 @@ ghost use Rattle.rx_plain.specs.Graded.{graded_cmp, graded_partial_cmp, graded_o
 
 use std::alloc::{AllocError, Global};
 use std::cmp::Ordering;
+use std::hash::{Hash, Hasher};
 use std::marker::Model;
 
 /// A list on the heap. Of two lists the one with more elements comes first; lists of one length are
@@ -33,6 +34,22 @@ impl<T> Graded<T> {
         Graded {
             items: Vec::new(alloc),
         }
+    }
+
+    /// The empty list with room for `count` elements; fails only where there is no memory.
+    pub fn with_capacity(alloc: Global, count: usize) -> Result<Graded<T>, AllocError>
+        ensures { IfOk result (λ it. it ≡ []) }
+    {
+        let items = Vec::with_capacity(alloc, count)?;
+        Ok(Graded { items })
+    }
+
+    /// Makes room for `more` more elements, so that adding them takes no memory; the elements stay as they
+    /// were, also where there is no memory.
+    pub fn reserve(&mut self, more: usize) -> Result<(), AllocError>
+        ensures { self.new ≡ self.old }
+    {
+        self.items.reserve(more)
     }
 
     /// The elements of `items`, moved. Takes no memory.
@@ -143,5 +160,18 @@ impl<T: Ord> Ord for Graded<T> {
             Ordering::Equal => self.items.as_slice().cmp(&other.items.as_slice()),
             Ordering::Greater => Ordering::Greater,
         }
+    }
+}
+
+impl<T: Hash> Hash for Graded<T> {
+    ghost use Rattle.std.specs.Hash as fed;
+    ghost use Rattle.std.specs.Hash.{items_Alike};
+
+    ghost hash_input = { fed.slice T.hash_input };
+
+    ghost respects_eq = { (items_Alike (record { fed = T.respects_eq })).fed };
+
+    fn hash<H: Hasher>(&self, state: &mut H) {
+        self.items.as_slice().hash(state)
     }
 }

@@ -1,9 +1,10 @@
 //! A growing list that contracts see as the list of its elements.
-ghost use Rattle.std.specs.Prelude.{◌≡◌, [], ◌∷◌, ◌++◌, ◌<◌, length, slice_get, ◌↔◌, IsTrue, IfOk, MatchOption, OnOk, OnErr};
+ghost use Rattle.std.specs.Prelude.{◌≡◌, [], ◌∷◌, ◌++◌, ◌<◌, length, slice_get, take, ◌↔◌, IsTrue, IfOk, MatchOption, OnOk, OnErr};
 ghost use Rattle.std.specs.Cmp.Lexicographic.{pointwise, slice_cmp, slice_partial_cmp, lists_per, lists_equiv, lists_po, lists_total, lists_agrees, lists_ties};
 
 use std::alloc::{AllocError, Global};
 use std::cmp::Ordering;
+use std::hash::{Hash, Hasher};
 use std::marker::Model;
 
 /// A list on the heap. Two lists are equal, and ordered, as their elements are from the first on;
@@ -32,6 +33,22 @@ impl<T> Items<T> {
         Items {
             items: Vec::new(alloc),
         }
+    }
+
+    /// The empty list with room for `count` elements; fails only where there is no memory.
+    pub fn with_capacity(alloc: Global, count: usize) -> Result<Items<T>, AllocError>
+        ensures { IfOk result (λ it. it ≡ []) }
+    {
+        let items = Vec::with_capacity(alloc, count)?;
+        Ok(Items { items })
+    }
+
+    /// Makes room for `more` more elements, so that adding them takes no memory; the elements stay as they
+    /// were, also where there is no memory.
+    pub fn reserve(&mut self, more: usize) -> Result<(), AllocError>
+        ensures { self.new ≡ self.old }
+    {
+        self.items.reserve(more)
     }
 
     /// The elements of `items`, moved. Takes no memory.
@@ -77,14 +94,25 @@ impl<T> Items<T> {
         self.items.pop()
     }
 
-    /// Moves the elements of `more` behind the last; fails only for want of memory.
+    /// Moves the elements of `more` after the last; where there is no memory the list stays as it was and `more`
+    /// is let go.
     pub fn append(&mut self, more: Items<T>) -> Result<(), AllocError>
     where
         T: Drop,
-        ensures { OnOk result (self.new ≡ self.old ++ more) }
+        ensures ok { OnOk result (self.new ≡ self.old ++ more) }
+        ensures err { OnErr result (self.new ≡ self.old) }
     {
         let Items { mut items } = more;
         self.items.append(&mut items)
+    }
+}
+
+impl<T: Drop> Items<T> {
+    /// Lets go of the elements after the first `count`, where there are more.
+    pub fn truncate(&mut self, count: usize)
+        ensures { self.new ≡ take count self.old }
+    {
+        self.items.truncate(count)
     }
 }
 
@@ -144,5 +172,18 @@ impl<T: Ord> Ord for Items<T> {
 
     fn cmp(&self, other: &Items<T>) -> Ordering {
         self.items.as_slice().cmp(&other.items.as_slice())
+    }
+}
+
+impl<T: Hash> Hash for Items<T> {
+    ghost use Rattle.std.specs.Hash as fed;
+    ghost use Rattle.std.specs.Hash.{items_Alike};
+
+    ghost hash_input = { fed.slice T.hash_input };
+
+    ghost respects_eq = { (items_Alike (record { fed = T.respects_eq })).fed };
+
+    fn hash<H: Hasher>(&self, state: &mut H) {
+        self.items.as_slice().hash(state)
     }
 }
