@@ -8,8 +8,10 @@ pub mod Levels
 pub mod Merging
 pub mod NormLaws
 pub mod OrderLemmas
+pub mod Pieces
 pub mod PolyLaws
 pub mod ProductLaws
+pub mod ReadingLaws
 pub mod Pushing
 pub mod Running
 pub mod Same
@@ -18,4 +20,5 @@ pub mod SortedLaws
 pub mod Substituting
 pub mod SubstitutedValue
 pub mod TermLaws
+pub mod VariableLaws
 pub mod Walks

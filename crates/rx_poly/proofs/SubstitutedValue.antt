@@ -4,7 +4,7 @@ use lib.IntN.{+ℤ_assoc}
 use Rattle.rx_plain.proofs.Integers.{mul-one-int, mul-assoc-int, zero-add-int, add-zero-int}
 use Rattle.rx_poly.specs.Constants.{number}
 use Rattle.rx_poly.specs.Limits.{of_terms, added, is_within}
-use Rattle.rx_poly.specs.Norm.{Formed}
+use Rattle.rx_plain.specs.Formed.{Formed}
 use Rattle.rx_poly.specs.Products.{multiplied, mul_within}
 use Rattle.rx_poly.specs.Substitution.{worth, times_all, plus_all, in_atom, in_mono, in_body}
 use Rattle.rx_poly.specs.Value.{value, atom_value, mono_value, sum_terms, product_of, quotient, remainder}
@@ -48,7 +48,7 @@ module _ (a : ℕ → ℤ) (ws : List (ℕ × Body)) where
   abbrev bare_mono : Mono-F PartAtom PartBody PartMono → Mono-F Atom Body Mono
   bare_mono = map-Mono PartAtom PartBody PartMono Atom Body Mono (λ p. p.0) (λ p. p.0) (λ p. p.0)
 
-  abbrev form_worth : Formed → ℤ
+  abbrev form_worth : Formed Body → ℤ
   form_worth w = value a w.form
 
   atom_level : (y : Atom-F PartAtom PartBody PartMono) → WorthAtom (roll-Atom (bare_atom y))
@@ -61,7 +61,7 @@ module _ (a : ℕ → ℤ) (ws : List (ℕ × Body)) where
   atom_step : (x : Atom-F Atom Body Mono) (y : Atom-F PartAtom PartBody PartMono) → bare_atom y ≡ x → WorthAtom (roll-Atom x)
   atom_step x y is = subst (λ z. WorthAtom (roll-Atom z)) is (atom_level y)
 
-  times_worth : (ps : List PartAtom) (done : Formed) → form_worth (times_all done (map (in_atom ws) (map (λ (p : PartAtom). p.0) ps))) ≡ form_worth done *ℤ product_of (atom_value (worth a ws)) (map (λ (p : PartAtom). p.0) ps)
+  times_worth : (ps : List PartAtom) (done : Formed Body) → form_worth (times_all done (map (in_atom ws) (map (λ (p : PartAtom). p.0) ps))) ≡ form_worth done *ℤ product_of (atom_value (worth a ws)) (map (λ (p : PartAtom). p.0) ps)
   times_worth [] done = sym (mul-one-int (form_worth done))
   times_worth (p ∷ ps) done =
       let x = in_atom ws p.0 in
@@ -82,7 +82,7 @@ module _ (a : ℕ → ℤ) (ws : List (ℕ × Body)) where
   abbrev bare_term : PartMono × ℤ → Mono × ℤ
   bare_term t = ((t.0).0, t.1)
 
-  plus_worth : (ps : List (PartMono × ℤ)) (done : Formed) → form_worth (plus_all done (map (term_in ws) (map bare_term ps))) ≡ form_worth done +ℤ sum_terms (mono_value (worth a ws)) (map bare_term ps)
+  plus_worth : (ps : List (PartMono × ℤ)) (done : Formed Body) → form_worth (plus_all done (map (term_in ws) (map bare_term ps))) ≡ form_worth done +ℤ sum_terms (mono_value (worth a ws)) (map bare_term ps)
   plus_worth [] done = sym (add-zero-int (form_worth done))
   plus_worth (p ∷ ps) done =
       let x = in_mono ws (p.0).0 p.1 in

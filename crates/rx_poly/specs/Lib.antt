@@ -1,5 +1,6 @@
 -- What the polynomials of this crate are, what they are worth, and what is formed of them.
 pub mod Substitution
+pub mod Variables
 pub mod Terms
 pub mod Order
 pub mod Value

@@ -1,7 +1,8 @@
 -- Integer terms: what one is worth, its normal form, and whether all that is formed on the way keeps the limits.
-use Rattle.std.specs.Prelude.{ℕ, Bool, true, ◌&&◌, ℤ, negsuc, ◌+ℤ◌, ◌*ℤ◌, neg_ℤ}
+use Rattle.std.specs.Prelude.{ℕ, Bool, ℤ, negsuc, ◌+ℤ◌, ◌*ℤ◌, neg_ℤ}
+use Rattle.rx_plain.specs.Formed.{Formed, pure, kept, ◌>>=◌}
 use Rattle.rx_poly.specs.Limits.{added, scaled_by, is_within}
-use Rattle.rx_poly.specs.Products.{multiplied, mul_within}
+use Rattle.rx_poly.specs.Products.{product_formed}
 use Rattle.rx_poly.specs.Constants.{number, variable}
 use Rattle.rx_poly.specs.Division.{quotient_of, remainder_of}
 use Rattle.rx_poly.specs.Value.{quotient, remainder}
@@ -22,39 +23,33 @@ term_level a (ITerm-F.Mod l r) = remainder l r
 abbrev pub term_value : (ℕ → ℤ) → ITerm → ℤ
 term_value a = fold-ITerm ℤ (term_level a)
 
--- a normal form, with whether it and all that led to it keep the limits
-pub record Formed : Type 0 where
-  pub form : Body
-  pub within : Bool
-
 -- the left part, the right part, then the two joined; a turned sign is a multiple by -1
-abbrev pub norm_level : ITerm-F Formed → Formed
-norm_level (ITerm-F.Var n) = record { form = variable n; within = true }
-norm_level (ITerm-F.Lit k) = record { form = number k; within = true }
-norm_level (ITerm-F.Add l r) = record {
-  form = added l.form r.form;
-  within = l.within && (r.within && is_within (added l.form r.form));
-}
-norm_level (ITerm-F.Mul l r) = record {
-  form = multiplied l.form r.form;
-  within = l.within && (r.within && mul_within l.form r.form);
-}
-norm_level (ITerm-F.Neg t) = record {
-  form = scaled_by (negsuc 0) t.form;
-  within = t.within && is_within (scaled_by (negsuc 0) t.form);
-}
-norm_level (ITerm-F.Div l r) = record {
-  form = quotient_of l.form r.form;
-  within = l.within && (r.within && is_within (quotient_of l.form r.form));
-}
-norm_level (ITerm-F.Mod l r) = record {
-  form = remainder_of l.form r.form;
-  within = l.within && (r.within && is_within (remainder_of l.form r.form));
-}
+abbrev pub norm_level : ITerm-F (Formed Body) → Formed Body
+norm_level (ITerm-F.Var n) = pure (variable n)
+norm_level (ITerm-F.Lit k) = pure (number k)
+norm_level (ITerm-F.Add l r) = do
+  p ← l
+  q ← r
+  kept is_within (added p q)
+norm_level (ITerm-F.Mul l r) = do
+  p ← l
+  q ← r
+  product_formed p q
+norm_level (ITerm-F.Neg t) = do
+  p ← t
+  kept is_within (scaled_by (negsuc 0) p)
+norm_level (ITerm-F.Div l r) = do
+  p ← l
+  q ← r
+  kept is_within (quotient_of p q)
+norm_level (ITerm-F.Mod l r) = do
+  p ← l
+  q ← r
+  kept is_within (remainder_of p q)
 
 -- the normal form of a term, and whether it was formed within the limits
-abbrev pub formed : ITerm → Formed
-formed = fold-ITerm Formed norm_level
+abbrev pub formed : ITerm → Formed Body
+formed = fold-ITerm (Formed Body) norm_level
 
 -- the normal form of a term
 abbrev pub norm_of : ITerm → Body

@@ -2,6 +2,7 @@
 use Rattle.std.specs.Prelude.{Bool, true, ◌&&◌, if◌then◌else◌, List, [], ◌∷◌, map, ℤ, ◌*ℤ◌}
 use Rattle.std.specs.Ordering.{is_gt}
 use Rattle.std.specs.declared.cmp.Ordering.{Ordering}
+use Rattle.rx_plain.specs.Formed.{Formed}
 use Rattle.rx_poly.specs.Limits.{of_terms, of_atoms, is_within}
 use Rattle.rx_poly.specs.Order.{atom_cmp, mono_cmp}
 use Rattle.rx_poly.specs.Terms.{add_terms}
@@ -45,3 +46,7 @@ multiplied p q = of_terms (running [] (out-Body p).terms (out-Body q).terms)
 -- whether all that is formed on the way to it keeps the limits
 abbrev pub mul_within : Body → Body → Bool
 mul_within p q = running_within [] (out-Body p).terms (out-Body q).terms
+
+-- both at once
+abbrev pub product_formed : Body → Body → Formed Body
+product_formed p q = record { form = multiplied p q; within = mul_within p q }

@@ -8,7 +8,7 @@ use std::alloc::{AllocError, Global};
 /// What a polynomial treats as one unknown. Variables come first, then quotients, then remainders;
 /// two of one kind are ordered by their first part, then by their second.
 #[cycle(poly)]
-#[derive(Debug, Drop, PartialEq, Eq, PartialOrd, Ord)]
+#[derive(Debug, Drop, PartialEq, Eq, PartialOrd, Ord, Hash)]
 pub enum Atom {
     /// A variable, by its number.
     Var(u32),
@@ -21,7 +21,7 @@ pub enum Atom {
 /// A product of atoms, each as often as it stands in the list; the empty product is 1.
 /// The one with more atoms comes first; those as long are ordered atom by atom.
 #[cycle(poly)]
-#[derive(Debug, Drop, PartialEq, Eq, PartialOrd, Ord)]
+#[derive(Debug, Drop, PartialEq, Eq, PartialOrd, Ord, Hash)]
 pub struct Mono {
     /// The factors; in a normal form they are sorted.
     pub atoms: Graded<Atom>,
@@ -30,7 +30,7 @@ pub struct Mono {
 /// A sum of monomials with integer coefficients; the empty sum is 0. Ordered term by term, a
 /// proper beginning first.
 #[cycle(poly)]
-#[derive(Debug, Drop, PartialEq, Eq, PartialOrd, Ord)]
+#[derive(Debug, Drop, PartialEq, Eq, PartialOrd, Ord, Hash)]
 pub struct Body {
     /// The summands; in a normal form their monomials rise strictly and no coefficient is 0.
     pub terms: Items<(Mono, i128)>,

@@ -1,5 +1,6 @@
 //! Quotients and remainders of polynomials.
 ghost use Rattle.std.specs.Prelude.{◌≡◌, true, false, int_div, int_rem, SomeIff, IfOk, IfErr, OnOk};
+ghost use Rattle.rx_plain.specs.Formed.{Forms, kept};
 ghost use Rattle.rx_poly.specs.Division.{parts, quotient_of, remainder_of};
 ghost use Rattle.rx_poly.specs.Limits.{fits_i128, is_within};
 ghost use Rattle.rx_poly.specs.Terms.{is_zero};
@@ -58,6 +59,7 @@ pub(crate) fn divide(alloc: Global, num: &Poly, den: &Poly) -> Result<Poly, Poly
     ensures same { IfOk result (λ p. p ≡ quotient_of num.now den.now) }
     ensures within { OnOk result (is_within (quotient_of num.now den.now) ≡ true) }
     ensures large { IfErr result (λ e. e ≡ PolyEnd.Large → is_within (quotient_of num.now den.now) ≡ false) }
+    ensures forms { Forms PolyEnd.Large result (kept is_within (quotient_of num.now den.now)) }
 {
     match parts_of(num, den) {
         Parts::ByZero => Ok(zero(alloc)),
@@ -80,6 +82,7 @@ pub(crate) fn remainder(alloc: Global, num: &Poly, den: &Poly) -> Result<Poly, P
     ensures same { IfOk result (λ p. p ≡ remainder_of num.now den.now) }
     ensures within { OnOk result (is_within (remainder_of num.now den.now) ≡ true) }
     ensures large { IfErr result (λ e. e ≡ PolyEnd.Large → is_within (remainder_of num.now den.now) ≡ false) }
+    ensures forms { Forms PolyEnd.Large result (kept is_within (remainder_of num.now den.now)) }
 {
     match parts_of(num, den) {
         Parts::ByZero => Ok(zero(alloc)),

@@ -11,11 +11,13 @@ mod normal_test;
 mod poly;
 mod poly_end;
 mod product;
+mod reading;
 mod sign;
 mod size;
 mod substitution;
 #[cfg(test)]
 mod tests;
+mod variables;
 
 pub use body::{Atom, Body, Mono};
 pub use iterm::ITerm;
@@ -23,3 +25,4 @@ pub use normal_form::norm;
 pub use poly::Poly;
 pub use poly_end::PolyEnd;
 pub use rx_plain::NoMemory;
+pub use variables::{uses, uses_below, variable_bound, variables_of};

@@ -1,6 +1,7 @@
 //! From an integer term to its normal form.
 ghost use Rattle.std.specs.Prelude.{◌≡◌, ◌∷◌, [], ℕ, ℤ, true, false, IfOk, IfErr, OnOk};
-ghost use Rattle.rx_poly.specs.Norm.{norm_of, norm_within, term_value};
+ghost use Rattle.rx_plain.specs.Formed.{Forms};
+ghost use Rattle.rx_poly.specs.Norm.{formed, norm_of, norm_within, term_value};
 ghost use Rattle.rx_poly.specs.Value.{value};
 
 use crate::division::{divide, remainder};
@@ -16,6 +17,7 @@ pub fn norm(alloc: Global, term: &ITerm) -> Result<Poly, PolyEnd>
     ensures value { IfOk result (λ p. (a : ℕ → ℤ) → value a p ≡ term_value a term.now) }
     ensures within { OnOk result (norm_within term.now ≡ true) }
     ensures large { IfErr result (λ e. e ≡ PolyEnd.Large → norm_within term.now ≡ false) }
+    ensures forms { Forms PolyEnd.Large result (formed term.now) }
 {
     match term {
         ITerm::Var(number) => Ok(of_variable(alloc, *number)?),

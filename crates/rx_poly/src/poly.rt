@@ -1,18 +1,20 @@
 //! A polynomial that is in normal form and within the limits.
 ghost use Rattle.std.specs.Prelude.{◌≡◌, ◌↔◌, ◌+ℤ◌, ◌-ℤ◌, ◌*ℤ◌, ℕ, ℤ, true, false, IsTrue, IfOk, IfSome, IsSome, IfErr, OnOk};
 ghost use Rattle.std.specs.Prelude.{[]};
+ghost use Rattle.rx_plain.specs.Formed.{Forms, kept};
 ghost use Rattle.rx_poly.specs.Limits.{added, of_terms, is_small, is_within, scaled_by, subtracted};
 ghost use Rattle.rx_poly.specs.Normal.{is_normal, is_normal_atom, is_normal_mono, is_poly};
 ghost use Rattle.rx_poly.specs.Constants.{number, variable};
-ghost use Rattle.rx_poly.specs.Division.{atom_alone};
-ghost use Rattle.rx_poly.specs.Products.{scaled, multiplied, mul_within};
+ghost use Rattle.rx_poly.specs.Division.{atom_alone, quotient_of, remainder_of};
+ghost use Rattle.rx_poly.specs.Products.{scaled, multiplied, mul_within, product_formed};
 ghost use Rattle.rx_poly.specs.Reading.{coefficient, constant_of};
 ghost use Rattle.rx_poly.specs.Signs.{combined};
 ghost use Rattle.rx_poly.specs.Terms.{is_zero};
 ghost use Rattle.rx_poly.specs.declared.body.Body.{out-Body};
-ghost use Rattle.rx_poly.specs.Value.{value};
+ghost use Rattle.rx_poly.specs.Value.{quotient, remainder, value};
 
 use crate::body::{Atom, Body, Mono};
+use crate::division::{divide, remainder};
 use crate::merge::merge;
 use crate::multiple::multiple;
 use crate::normal_test::body_is_normal;
@@ -22,11 +24,12 @@ use crate::sign::Sign;
 use crate::size::is_within_limits;
 use rx_plain::{Graded, Items};
 use std::alloc::{AllocError, Global};
+use std::cmp::Ordering;
 use std::marker::Model;
 
 /// One polynomial: at every level in normal form, with coefficients in i128, a size of at most 4,096,
 /// and quotients and remainders nested at most 64 deep.
-#[derive(Debug, Drop, PartialEq, Eq, PartialOrd, Ord)]
+#[derive(Debug, Drop, PartialEq, Eq, PartialOrd, Ord, Hash)]
 pub struct Poly {
     body: Body,
 }
@@ -56,6 +59,7 @@ pub(crate) fn within_limits(body: Body) -> Result<Poly, PolyEnd>
     ensures same { IfOk result (λ p. p ≡ body) }
     ensures within { OnOk result (is_small body ≡ true) }
     ensures large { IfErr result (λ e. is_small body ≡ false) }
+    ensures forms { Forms PolyEnd.Large result (kept is_small body) }
 {
     if is_within_limits(&body) {
         Ok(Poly { body })
@@ -86,6 +90,31 @@ impl Poly {
         }
     }
 
+    /// The polynomial as a plain tree, moved out. Takes no memory.
+    pub fn into_body(self) -> Body
+        ensures body { result ≡ self }
+        ensures normal { is_poly self ≡ true }
+    {
+        let Poly { body } = self;
+        body
+    }
+
+    /// The polynomial that is one number; fails only where there is no memory.
+    pub fn constant(alloc: Global, k: i128) -> Result<Poly, AllocError>
+        ensures same { IfOk result (λ p. p ≡ number k) }
+        ensures value { IfOk result (λ p. (a : ℕ → ℤ) → value a p ≡ k) }
+    {
+        of_number(alloc, &k)
+    }
+
+    /// The polynomial that is one variable, by its number; fails only where there is no memory.
+    pub fn variable(alloc: Global, at: u32) -> Result<Poly, AllocError>
+        ensures same { IfOk result (λ p. p ≡ variable at) }
+        ensures value { IfOk result (λ p. (a : ℕ → ℤ) → value a p ≡ a at) }
+    {
+        of_variable(alloc, at)
+    }
+
     /// Whether the two are one polynomial.
     pub fn is_same(&self, other: &Poly) -> bool
         ensures { IsTrue result ↔ (self.now ≡ other.now) }
@@ -113,8 +142,12 @@ impl Poly {
         ensures { result ≡ coefficient at.now (out-Body self.now).terms }
     {
         for term in self.body.terms.as_slice() {
-            if at.cmp(&term.0).is_eq() {
-                return term.1;
+            match at.cmp(&term.0) {
+                Ordering::Less => return 0,
+                Ordering::Equal => {
+                    return term.1;
+                }
+                Ordering::Greater => {}
             }
         }
         0
@@ -134,6 +167,7 @@ impl Poly {
         ensures value { IfOk result (λ p. (a : ℕ → ℤ) → value a p ≡ value a self.now +ℤ value a other.now) }
         ensures within { OnOk result (is_within (added self.now other.now) ≡ true) }
         ensures large { IfErr result (λ e. e ≡ PolyEnd.Large → is_within (added self.now other.now) ≡ false) }
+        ensures forms { Forms PolyEnd.Large result (kept is_within (added self.now other.now)) }
     {
         combine(alloc, self, other, Sign::Plus)
     }
@@ -145,6 +179,7 @@ impl Poly {
         ensures value { IfOk result (λ p. (a : ℕ → ℤ) → value a p ≡ value a self.now -ℤ value a other.now) }
         ensures within { OnOk result (is_within (subtracted self.now other.now) ≡ true) }
         ensures large { IfErr result (λ e. e ≡ PolyEnd.Large → is_within (subtracted self.now other.now) ≡ false) }
+        ensures forms { Forms PolyEnd.Large result (kept is_within (subtracted self.now other.now)) }
     {
         combine(alloc, self, other, Sign::Minus)
     }
@@ -155,6 +190,7 @@ impl Poly {
         ensures value { IfOk result (λ p. (a : ℕ → ℤ) → value a p ≡ by *ℤ value a self.now) }
         ensures within { OnOk result (is_within (scaled_by by self.now) ≡ true) }
         ensures large { IfErr result (λ e. e ≡ PolyEnd.Large → is_within (scaled_by by self.now) ≡ false) }
+        ensures forms { Forms PolyEnd.Large result (kept is_within (scaled_by by self.now)) }
     {
         times_number(alloc, self, &by)
     }
@@ -166,6 +202,7 @@ impl Poly {
         ensures value { IfOk result (λ p. (a : ℕ → ℤ) → value a p ≡ value a self.now *ℤ value a other.now) }
         ensures within { OnOk result (mul_within self.now other.now ≡ true) }
         ensures large { IfErr result (λ e. e ≡ PolyEnd.Large → mul_within self.now other.now ≡ false) }
+        ensures forms { Forms PolyEnd.Large result (product_formed self.now other.now) }
     {
         let mut sum = zero(alloc);
         for term in self.body.terms.as_slice() {
@@ -173,6 +210,24 @@ impl Poly {
             sum = sum.add(alloc, &product)?;
         }
         Ok(sum)
+    }
+
+    /// The quotient of this polynomial by the other, truncated toward zero, and 0 where the other is 0. Of two
+    /// numbers it is a number, else it is one atom. Large exactly where that passes the limits.
+    pub fn quotient(&self, alloc: Global, by: &Poly) -> Result<Poly, PolyEnd>
+        ensures forms { Forms PolyEnd.Large result (kept is_within (quotient_of self.now by.now)) }
+        ensures value { IfOk result (λ p. (a : ℕ → ℤ) → value a p ≡ quotient (value a self.now) (value a by.now)) }
+    {
+        divide(alloc, self, by)
+    }
+
+    /// The remainder that belongs to that quotient, with the sign of this polynomial's value. Large exactly where
+    /// it passes the limits.
+    pub fn remainder(&self, alloc: Global, by: &Poly) -> Result<Poly, PolyEnd>
+        ensures forms { Forms PolyEnd.Large result (kept is_within (remainder_of self.now by.now)) }
+        ensures value { IfOk result (λ p. (a : ℕ → ℤ) → value a p ≡ remainder (value a self.now) (value a by.now)) }
+    {
+        remainder(alloc, self, by)
     }
 }
 
@@ -194,6 +249,7 @@ fn times_term(alloc: Global, term: &(Mono, i128), factor: &Poly) -> Result<Poly,
     ensures same { IfOk result (λ p. p ≡ of_terms (scaled term.now (out-Body factor.now).terms)) }
     ensures within { OnOk result (is_within (of_terms (scaled term.now (out-Body factor.now).terms)) ≡ true) }
     ensures large { IfErr result (λ e. e ≡ PolyEnd.Large → is_within (of_terms (scaled term.now (out-Body factor.now).terms)) ≡ false) }
+    ensures forms { Forms PolyEnd.Large result (kept is_within (of_terms (scaled term.now (out-Body factor.now).terms))) }
 {
     let terms = scale(alloc, term, factor.body.terms.as_slice())?;
     within_limits(Body { terms })
@@ -234,6 +290,7 @@ fn combine(alloc: Global, left: &Poly, right: &Poly, sign: Sign) -> Result<Poly,
     ensures same { IfOk result (λ p. p ≡ combined sign left.now right.now) }
     ensures within { OnOk result (is_within (combined sign left.now right.now) ≡ true) }
     ensures large { IfErr result (λ e. e ≡ PolyEnd.Large → is_within (combined sign left.now right.now) ≡ false) }
+    ensures forms { Forms PolyEnd.Large result (kept is_within (combined sign left.now right.now)) }
 {
     let terms = merge(
         alloc,
@@ -249,6 +306,7 @@ fn times_number(alloc: Global, poly: &Poly, by: &i128) -> Result<Poly, PolyEnd>
     ensures same { IfOk result (λ p. p ≡ scaled_by by.now poly.now) }
     ensures within { OnOk result (is_within (scaled_by by.now poly.now) ≡ true) }
     ensures large { IfErr result (λ e. e ≡ PolyEnd.Large → is_within (scaled_by by.now poly.now) ≡ false) }
+    ensures forms { Forms PolyEnd.Large result (kept is_within (scaled_by by.now poly.now)) }
 {
     let terms = multiple(alloc, poly.body.terms.as_slice(), by)?;
     within_limits(Body { terms })
@@ -260,6 +318,7 @@ pub(crate) fn of_atom(alloc: Global, atom: Atom) -> Result<Poly, PolyEnd>
     ensures same { IfOk result (λ p. p ≡ atom_alone atom) }
     ensures within { OnOk result (is_within (atom_alone atom) ≡ true) }
     ensures large { IfErr result (λ e. e ≡ PolyEnd.Large → is_within (atom_alone atom) ≡ false) }
+    ensures forms { Forms PolyEnd.Large result (kept is_within (atom_alone atom)) }
 {
     let mut atoms = Graded::new(alloc);
     atoms.push(atom)?;

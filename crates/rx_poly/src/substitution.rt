@@ -1,5 +1,6 @@
 //! Polynomials put in place of variables.
 ghost use Rattle.std.specs.Prelude.{◌≡◌, ◌*ℤ◌, ℕ, ℤ, true, false, IfOk, IfErr, OnOk};
+ghost use Rattle.rx_plain.specs.Formed.{Forms};
 ghost use Rattle.rx_poly.specs.Substitution.{in_atom, in_mono, in_body, replaced, worth};
 ghost use Rattle.rx_poly.specs.Value.{atom_value, mono_value, value};
 
@@ -27,6 +28,7 @@ fn atom_with(alloc: Global, atom: &Atom, with: &[(u32, Poly)]) -> Result<Poly, P
     ensures normal { IfOk result (λ p. p ≡ (in_atom with.now atom.now).form) }
     ensures within { OnOk result ((in_atom with.now atom.now).within ≡ true) }
     ensures large { IfErr result (λ e. e ≡ PolyEnd.Large → (in_atom with.now atom.now).within ≡ false) }
+    ensures forms { Forms PolyEnd.Large result (in_atom with.now atom.now) }
 {
     match atom {
         Atom::Var(number) => Ok(in_place_of(alloc, *number, with)?),
@@ -49,6 +51,7 @@ fn mono_with(alloc: Global, mono: &Mono, by: &i128, with: &[(u32, Poly)]) -> Res
     ensures normal { IfOk result (λ p. p ≡ (in_mono with.now mono.now by.now).form) }
     ensures within { OnOk result ((in_mono with.now mono.now by.now).within ≡ true) }
     ensures large { IfErr result (λ e. e ≡ PolyEnd.Large → (in_mono with.now mono.now by.now).within ≡ false) }
+    ensures forms { Forms PolyEnd.Large result (in_mono with.now mono.now by.now) }
 {
     let start = of_number(alloc, by)?;
     let mut product = start;
@@ -65,6 +68,7 @@ fn body_with(alloc: Global, body: &Body, with: &[(u32, Poly)]) -> Result<Poly, P
     ensures normal { IfOk result (λ p. p ≡ (in_body with.now body.now).form) }
     ensures within { OnOk result ((in_body with.now body.now).within ≡ true) }
     ensures large { IfErr result (λ e. e ≡ PolyEnd.Large → (in_body with.now body.now).within ≡ false) }
+    ensures forms { Forms PolyEnd.Large result (in_body with.now body.now) }
 {
     let mut sum = zero(alloc);
     for term in body.terms.as_slice() {
@@ -83,6 +87,7 @@ impl Poly {
         ensures value { IfOk result (λ p. (a : ℕ → ℤ) → value a p ≡ value (worth a with.now) self.now) }
         ensures within { OnOk result ((in_body with.now self.now).within ≡ true) }
         ensures large { IfErr result (λ e. e ≡ PolyEnd.Large → (in_body with.now self.now).within ≡ false) }
+        ensures forms { Forms PolyEnd.Large result (in_body with.now self.now) }
     {
         body_with(alloc, self.body(), with)
     }

@@ -2,7 +2,5 @@
 pub mod Coefficients
 pub mod InnerLaws
 pub mod Locality
-pub mod Pieces
 pub mod Prefixes
 pub mod Unchanged
-pub mod VariableLaws

@@ -12,9 +12,9 @@ use Rattle.rx_poly.specs.declared.body.Atom.{Atom, Atom-F, roll-Atom, map-Atom}
 use Rattle.rx_poly.specs.declared.body.Atom.TheVariants.{rolls-Var, rolls-Div, rolls-Mod}
 use Rattle.rx_poly.specs.declared.body.Mono.{Mono, Mono-F, out-Mono, roll-Mono, out-roll-Mono, map-Mono}
 use Rattle.rx_poly.specs.declared.body.Body.{Body, Body-F, out-Body, roll-Body, out-roll-Body, map-Body, ind-Body}
-use Rattle.rx_poly_laws.specs.Variables.{atom_variables, mono_variables, variables, uses_below}
-use Rattle.rx_poly_laws.proofs.Pieces.{all_parts}
-use Rattle.rx_poly_laws.proofs.VariableLaws.{variables_Var, variables_Div, variables_Mod, mono_variables_is, variables_is}
+use Rattle.rx_poly.specs.Variables.{atom_variables, mono_variables, variables, uses_below}
+use Rattle.rx_poly.proofs.Pieces.{all_parts}
+use Rattle.rx_poly.proofs.VariableLaws.{variables_Var, variables_Div, variables_Mod, mono_variables_is, variables_is}
 
 module _ (a b : ℕ → ℤ) where
   abbrev Agree : List ℕ → Type 0

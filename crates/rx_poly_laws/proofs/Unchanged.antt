@@ -11,7 +11,7 @@ use Rattle.rx_plain.proofs.Integers.{mul-one-int}
 use Rattle.rx_poly.specs.Constants.{variable}
 use Rattle.rx_poly.specs.Division.{parts, parts_of, by_number, atom_alone, division, quotient_of, remainder_of}
 use Rattle.rx_poly.specs.Limits.{of_terms, of_atoms, added, is_within, atom_size, mono_size, body_size, atom_depth, mono_depth, body_depth, fits_i128, all_fit, is_small}
-use Rattle.rx_poly.specs.Norm.{Formed}
+use Rattle.rx_plain.specs.Formed.{Formed}
 use Rattle.rx_poly.specs.Normal.{is_normal, is_normal_atom, is_normal_mono, is_open, is_empty, is_number, is_poly, is_sorted}
 use Rattle.rx_poly.specs.Order.{atom_cmp, mono_cmp}
 use Rattle.rx_poly.specs.Products.{join_sorted, multiplied, mul_within, running, running_within}
@@ -29,11 +29,11 @@ use Rattle.rx_poly.specs.declared.body.Atom.{Atom, Atom-F, roll-Atom, map-Atom}
 use Rattle.rx_poly.specs.declared.body.Atom.TheVariants.{Div, Mod, rolls-Var, rolls-Div, rolls-Mod}
 use Rattle.rx_poly.specs.declared.body.Mono.{Mono, Mono-F, out-Mono, roll-Mono, roll-out-Mono, out-roll-Mono, map-Mono}
 use Rattle.rx_poly.specs.declared.body.Body.{Body, Body-F, out-Body, roll-Body, roll-out-Body, out-roll-Body, map-Body, ind-Body}
-use Rattle.rx_poly_laws.specs.Variables.{atom_variables, mono_variables, variables}
+use Rattle.rx_poly.specs.Variables.{atom_variables, mono_variables, variables}
 use Rattle.rx_poly_laws.proofs.InnerLaws.{size_Div, size_Mod, depth_Div, depth_Mod, small_parts}
-use Rattle.rx_poly_laws.proofs.Pieces.{all_parts}
+use Rattle.rx_poly.proofs.Pieces.{all_parts}
 use Rattle.rx_poly_laws.proofs.Prefixes.{SmallAtoms, SmallTerms, atoms-prefix, terms-prefix, join-last, add-last, term_within, terms_within, greatest-last}
-use Rattle.rx_poly_laws.proofs.VariableLaws.{variables_Var, variables_Div, variables_Mod, mono_variables_is, variables_is}
+use Rattle.rx_poly.proofs.VariableLaws.{variables_Var, variables_Div, variables_Mod, mono_variables_is, variables_is}
 
 -- ---- a division that no rule computes stays an atom
 
@@ -109,7 +109,7 @@ alone_within x s d =
     term_within (x ∷ []) (pos 1) (record { sorted = refl; size = omega (arith, size); depth = omega arith }) refl
 
 -- what is formed of parts that are unchanged
-divided : (f : ℤ → ℤ → ℤ) (x : Atom) (p q : Body) (P Q : Formed) → P ≡ well p → Q ≡ well q → parts p q ≡ parts_of None None → is_within (atom_alone x) ≡ true → record { form = division f (atom_alone x) (parts p q); within = true && (true && is_within (division f (atom_alone x) (parts p q))) } ≡ well (atom_alone x)
+divided : (f : ℤ → ℤ → ℤ) (x : Atom) (p q : Body) (P Q : Formed Body) → P ≡ well p → Q ≡ well q → parts p q ≡ parts_of None None → is_within (atom_alone x) ≡ true → record { form = division f (atom_alone x) (parts p q); within = true && (true && is_within (division f (atom_alone x) (parts p q))) } ≡ well (atom_alone x)
 divided f x p q P Q pe qe o w =
     (λ i. record { form = division f (atom_alone x) (o i); within = true && (true && is_within (division f (atom_alone x) (o i))) })
     ∙ (λ i. record { form = atom_alone x; within = true && (true && w i) })
@@ -299,7 +299,7 @@ module _ (ws : List (ℕ × Body)) where
       kept p st n.0 s.0 s.1
 
   pub same_form : (p : Body) → is_poly p ≡ true → All (λ v. replaced ws v ≡ variable v) (variables p) → (in_body ws p).form ≡ p
-  same_form p h st = ap (λ (w : Formed). w.form) (unchanged p h st)
+  same_form p h st = ap (λ (w : Formed Body). w.form) (unchanged p h st)
 
   pub all_within : (p : Body) → is_poly p ≡ true → All (λ v. replaced ws v ≡ variable v) (variables p) → (in_body ws p).within ≡ true
-  all_within p h st = ap (λ (w : Formed). w.within) (unchanged p h st)
+  all_within p h st = ap (λ (w : Formed Body). w.within) (unchanged p h st)

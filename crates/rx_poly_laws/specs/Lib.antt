@@ -1,3 +1,2 @@
--- The variables of a polynomial, and the polynomials that stand inside one.
-pub mod Variables
+-- The polynomials that stand inside one.
 pub mod Inner

@@ -8,7 +8,7 @@ ghost use Rattle.rx_poly.specs.Value.{value};
 ghost use Rattle.rx_poly.specs.declared.body.Body.{Body, out-Body};
 ghost use Rattle.rx_poly.specs.declared.body.Mono.{Mono};
 ghost use Rattle.rx_poly_laws.specs.Inner.{inner};
-ghost use Rattle.rx_poly_laws.specs.Variables.{uses_below, variables};
+ghost use Rattle.rx_poly.specs.Variables.{uses_below, variables};
 
 /// A polynomial is determined by its coefficients: two of them in which each monomial has one
 /// coefficient are the same.

@@ -8,10 +8,9 @@
 mod laws;
 #[cfg(test)]
 mod tests;
-mod variables;
 
 pub use laws::{
     equal_coefficients_make_one_polynomial, inner_polynomials_keep_the_limits,
     unchanged_variables_keep_the_polynomial, variables_alone_decide_the_value,
 };
-pub use variables::uses_below;
+pub use rx_poly::uses_below;

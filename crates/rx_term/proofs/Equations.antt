@@ -13,7 +13,7 @@ use Rattle.rx_term.specs.declared.term.Term.TheFolds.{fold_out-Term, ind-Term, m
 use Rattle.rx_term.specs.declared.term.Term.TheVariants.{Return, Fail, Call, Frame, outs-Return, outs-Fail, outs-Call, outs-Frame}
 use Rattle.rx_term.specs.Meaning.{values, ground_at, ground_level, outer_frames, outer_level}
 use Rattle.rx_term.specs.Stacks.{behind, depth_of, depth_level, onto, onto_level, redex_place, redex_place_level, replaced, turned, turned_level, under_frame, over_frame}
-use Rattle.rx_poly_laws.specs.Variables.{uses_below}
+use Rattle.rx_poly.specs.Variables.{uses_below}
 use Rattle.rx_term.specs.Fitting.{code_fits, fits_level, is_declared, term_fits}
 use Rattle.rx_term.specs.Shapes.{Shape, Value, Failure, Called, Framed, shape_level, shape_of}
 use Rattle.rx_term.specs.Variables.{arguments_level, arguments_of, polys_use_below, term_below_level, term_uses_below}

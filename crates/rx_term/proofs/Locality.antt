@@ -3,7 +3,7 @@ use Rattle.std.proofs.Common.{◌≡◌, ◌∙◌, ap, sym, subst, refl, true, 
 use Rattle.std.proofs.lemmas.Bool.{and_parts}
 use Rattle.std.proofs.lemmas.List.Elements.{All-cons, All-head, All-nil, All-tail}
 use Rattle.rx_poly.specs.declared.body.Body.{Body}
-use Rattle.rx_poly_laws.specs.Variables.{uses_below}
+use Rattle.rx_poly.specs.Variables.{uses_below}
 use Rattle.rx_poly_laws.proofs.Locality.{same_value_below}
 use Rattle.rx_rewriting.specs.Terms as stack
 use Rattle.rx_row.specs.Holds.{AllHold, RowHolds}

@@ -2,7 +2,7 @@
 use Rattle.std.specs.Prelude.{ℕ, Bool, true, ◌&&◌, List, [], ◌∷◌, ◌++◌}
 use Rattle.std.specs.List.{list_all}
 use Rattle.rx_poly.specs.declared.body.Body.{Body}
-use Rattle.rx_poly_laws.specs.Variables.{uses_below}
+use Rattle.rx_poly.specs.Variables.{uses_below}
 use Rattle.rx_row.specs.Parts.{poly_of}
 use Rattle.rx_row.specs.declared.row.Row.{Row}
 use Rattle.rx_term.specs.declared.term.Term.{Term, Term-F, fold-Term}

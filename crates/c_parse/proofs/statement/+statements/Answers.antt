@@ -193,7 +193,7 @@ pub inner-items-preserved : goal.inner-items-preserved
 inner-items-preserved t c =
     let ts = c.args.tokens.now in
     let read : Gives (Low list_height c.args.room (Item ts c.items.end)) c.items.end (length ts) (Some c.in-Some.read) = rw c.in-Some.is at c.in_ok-read.ensures in
-    rw c.in_ok-append.ensures (inner_goes ts c.args.at c.args.room c.items.found c.items.end c.items.invariant c.in-Some.read read c.items-test.ensures)
+    rw c.in_ok-append.ensures.ok (inner_goes ts c.args.at c.args.room c.items.found c.items.end c.items.invariant c.in-Some.read read c.items-test.ensures)
 
 pub inner-returns : goal.inner-returns
 inner-returns t c =

@@ -2,8 +2,8 @@
 use Rattle.std.proofs.Common.{◌≡◌, drop, ℤ}
 use Rattle.std.specs.List.{list_all}
 use Rattle.rx_poly.specs.declared.body.Mono.{Mono}
-use Rattle.rx_poly_laws.specs.Variables.{atom_uses_below, mono_uses_below}
-use Rattle.rx_poly_laws.proofs.variables.+below.Given as goal
+use Rattle.rx_poly.specs.Variables.{atom_uses_below, mono_uses_below}
+use Rattle.rx_poly.proofs.variables.+below.Given as goal
 
 abbrev pub invariant-body_uses_below-loop-term : goal.invariant-body_uses_below-loop-term
 invariant-body_uses_below-loop-term l =

@@ -1,6 +1,7 @@
 -- The variables of atoms, monomials and sums, at every level, as often as they stand there.
-use Rattle.std.specs.Prelude.{ℕ, Bool, nat_lt, List, [], ◌∷◌, ◌++◌, ℤ}
-use Rattle.std.specs.List.{flat_map, list_all}
+use Rattle.std.specs.Prelude.{ℕ, ◌+◌, ◌==◌, Bool, nat_lt, List, [], ◌∷◌, ◌++◌, ℤ}
+use Rattle.std.specs.List.{flat_map, list_all, list_any}
+use Rattle.rx_poly.specs.Limits.{greatest}
 use Rattle.rx_poly.specs.declared.body.Atom.{Atom, Atom-F, fold-Atom}
 use Rattle.rx_poly.specs.declared.body.Mono.{Mono, Mono-F, fold-Mono}
 use Rattle.rx_poly.specs.declared.body.Body.{Body, Body-F, fold-Body}
@@ -46,3 +47,35 @@ mono_uses_below n m = all_below n (mono_variables m)
 -- those of a polynomial are
 abbrev pub uses_below : ℕ → Body → Bool
 uses_below n p = all_below n (variables p)
+
+-- the variable is one of these
+abbrev pub is_one_of : ℕ → List ℕ → Bool
+is_one_of x vs = list_any (λ v. v == x) vs
+
+-- the variable is one of an atom's
+abbrev pub atom_uses : ℕ → Atom → Bool
+atom_uses v x = is_one_of v (atom_variables x)
+
+-- of a monomial's
+abbrev pub mono_uses : ℕ → Mono → Bool
+mono_uses v m = is_one_of v (mono_variables m)
+
+-- of a polynomial's
+abbrev pub uses : ℕ → Body → Bool
+uses v p = is_one_of v (variables p)
+
+-- the least number above all of these, 0 where there is none
+abbrev pub bound_of : List ℕ → ℕ
+bound_of vs = greatest (λ v. v + 1) vs
+
+-- the least number above all variables of an atom
+abbrev pub atom_bound : Atom → ℕ
+atom_bound x = bound_of (atom_variables x)
+
+-- of a monomial
+abbrev pub mono_bound : Mono → ℕ
+mono_bound m = bound_of (mono_variables m)
+
+-- of a polynomial
+abbrev pub variable_bound : Body → ℕ
+variable_bound p = bound_of (variables p)

@@ -3,9 +3,9 @@ use Rattle.std.proofs.Common.{◌∙◌, ap, sym, ℤ}
 use Rattle.std.specs.List.{list_all}
 use Rattle.rx_poly.proofs.Walks.{one_fails, all_pass}
 use Rattle.rx_poly.specs.declared.body.Mono.{Mono}
-use Rattle.rx_poly_laws.specs.Variables.{atom_uses_below, mono_uses_below}
-use Rattle.rx_poly_laws.proofs.VariableLaws.{mono_below_is, below_is}
-use Rattle.rx_poly_laws.proofs.variables.+below.Goals as goal
+use Rattle.rx_poly.specs.Variables.{atom_uses_below, mono_uses_below}
+use Rattle.rx_poly.proofs.VariableLaws.{mono_below_is, below_is}
+use Rattle.rx_poly.proofs.variables.+below.Goals as goal
 
 pub body_uses_below-returns-then-not-mono_uses_below : goal.body_uses_below-returns-then-not-mono_uses_below
 body_uses_below-returns-then-not-mono_uses_below t c =
