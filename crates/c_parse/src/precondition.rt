@@ -2,11 +2,12 @@
 ghost use Rattle.std.specs.Prelude.{◌≡◌, ◌<◌, ◌^◌, suc, Some, None, length, IfOk};
 ghost use Rattle.std.specs.List.{All};
 ghost use Rattle.c_ast.specs.Forms.{is_sign, is_sum_or_product};
+ghost use Rattle.c_ast.specs.RowForms.{is_comparison, is_row_form, is_straight};
 ghost use Rattle.c_ast.specs.Variables.{variables};
 ghost use Rattle.c_parse.specs.Answers.{too_deep};
 ghost use Rattle.c_parse.specs.Grammar.{Whole, levels};
 ghost use Rattle.c_parse.specs.Names.{IsName};
-ghost use Rattle.c_parse.specs.Preconditions.{OneExpression, PreAnswers, is_comparison, is_row_form, is_straight};
+ghost use Rattle.c_parse.specs.Preconditions.{OneExpression, PreAnswers};
 ghost use Rattle.c_parse.specs.Readers.{Reads};
 
 use crate::depth::too_deep;
