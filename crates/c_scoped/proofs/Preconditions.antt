@@ -1,0 +1,159 @@
+-- A precondition with its names resolved keeps its form, and has no variables but parameters.
+use Rattle.std.proofs.Common.{◌≡◌, ◌∙◌, ap, sym, subst, ℕ, ◌<◌, ℤ, false, Option, Some, List, [], ◌++◌, length, Ok, Err}
+use Rattle.std.specs.List.{All}
+use Rattle.std.proofs.lemmas.List.Elements.{All-append, All-cons, All-nil}
+use Rattle.c_lex.specs.declared.token.Token.{Token}
+use Rattle.c_ast.specs.RowForms.{Forms, forms_level, forms, is_row_form}
+use Rattle.c_ast.specs.Variables.{variables}
+use Rattle.c_ast.proofs.Equations.{variables-Lit, variables-Var, variables-Unary, variables-Binary, variables-Choose}
+use Rattle.c_ast.proofs.FormEquations.{forms-Lit, forms-Var, forms-Unary, forms-Binary, forms-Choose}
+use Rattle.c_ast.specs.declared.expr.UnOp.{UnOp}
+use Rattle.c_ast.specs.declared.expr.BinOp.{BinOp}
+use Rattle.c_ast.specs.declared.expr.Expr.{Expr}
+use Rattle.c_ast.specs.declared.expr.Expr.TheVariants.{Lit, Var, Unary, Binary, Choose}
+use Rattle.c_ast.specs.declared.expr.Expr.TheOpen.{Expr-F}
+use Rattle.c_ast.specs.declared.expr.Expr.TheFolds.{fold-Expr, map-Expr, fold-roll-Expr, ind-Expr}
+use Rattle.c_ast.specs.declared.expr.Expr.TheViews.{roll-Expr}
+use Rattle.c_scope.specs.Expressions.{known}
+use Rattle.c_scope.specs.Preconditions.{pre_level, param_of, resolved_pre}
+use Rattle.c_scope.specs.Steps.{Found, on_found}
+use Rattle.c_scope.specs.declared.error.ScopeEnd.TheVariants.{UnknownName}
+use Rattle.c_scoped.proofs.Steps.{same_Ok, no_fault, found}
+use Rattle.c_scoped.proofs.Places.{parameter_within}
+use Rattle.c_scoped.proofs.Expressions.{known_is}
+
+module _ (slot : ℕ → Option ℕ) where
+  abbrev resolved : Expr → Found Expr
+  resolved = fold-Expr (Found Expr) (pre_level slot)
+
+  -- what was resolved is in these forms
+  abbrev HasForms : Found Expr → Forms → Type 0
+  HasForms whole these = (x : Expr) → whole ≡ Ok x → forms x ≡ these
+
+  abbrev FormPart : Type 0
+  FormPart = (e : Expr) × HasForms (resolved e) (forms e)
+
+  literal_forms : (k : ℤ) → HasForms (Ok (Lit k)) (forms_level (Expr-F.Lit k))
+  literal_forms k x is = ap forms (sym (same_Ok (Lit k) x is)) ∙ forms-Lit k
+
+  call_forms : (token : ℕ) → HasForms (Err (UnknownName token)) (record { straight = false; row = false })
+  call_forms token x is = no_fault (UnknownName token) x is
+
+  var_forms : (token : ℕ) → HasForms (on_found (known token (slot token)) (λ s. Ok (Var s))) (forms_level (Expr-F.Var token))
+  var_forms token x is = let h = found (known token (slot token)) _ x is in ap forms (sym (same_Ok (Var h.0) x h.2)) ∙ forms-Var h.0
+
+  unary_forms : (op : UnOp) (a : Found Expr) (f : Forms) → HasForms a f → HasForms (on_found a (λ u. Ok (Unary op u))) (forms_level (Expr-F.Unary op f))
+  unary_forms op a f fits x is =
+      let h = found _ _ x is in
+      ap forms (sym (same_Ok (Unary op h.0) x h.2)) ∙ forms-Unary op h.0 ∙ ap (λ k. forms_level (Expr-F.Unary op k)) (fits h.0 h.1)
+
+  binary_forms : (op : BinOp) (a b : Found Expr) (f g : Forms) → HasForms a f → HasForms b g
+      → HasForms (on_found a (λ u. on_found b (λ v. Ok (Binary op u v)))) (forms_level (Expr-F.Binary op f g))
+  binary_forms op a b f g left right x is =
+      let h = found _ _ x is in
+      let k = found _ _ x h.2 in
+      ap forms (sym (same_Ok (Binary op h.0 k.0) x k.2)) ∙ forms-Binary op h.0 k.0
+      ∙ (λ i. forms_level (Expr-F.Binary op (left h.0 h.1 i) (right k.0 k.1 i)))
+
+  choose_forms : (c a b : Found Expr) (e f g : Forms) → HasForms (on_found c (λ t. on_found a (λ u. on_found b (λ v. Ok (Choose t u v))))) (forms_level (Expr-F.Choose e f g))
+  choose_forms c a b e f g x is =
+      let t = found c _ x is in
+      let h = found a _ x t.2 in
+      let k = found b _ x h.2 in
+      ap forms (sym (same_Ok (Choose t.0 h.0 k.0) x k.2)) ∙ forms-Choose t.0 h.0 k.0
+
+  form_level : (y : Expr-F FormPart) → HasForms (pre_level slot (map-Expr Expr (Found Expr) resolved (map-Expr FormPart Expr (λ p. p.0) y)))
+      (forms_level (map-Expr Expr Forms forms (map-Expr FormPart Expr (λ p. p.0) y)))
+  form_level (Expr-F.Lit k) = literal_forms k
+  form_level (Expr-F.Var token) = var_forms token
+  form_level (Expr-F.Unary op p) = unary_forms op (resolved p.0) (forms p.0) p.1
+  form_level (Expr-F.Binary op p q) = binary_forms op (resolved p.0) (resolved q.0) (forms p.0) (forms q.0) p.1 q.1
+  form_level (Expr-F.Choose c p q) = choose_forms (resolved c.0) (resolved p.0) (resolved q.0) (forms c.0) (forms p.0) (forms q.0)
+  form_level (Expr-F.Apply token ps) = call_forms token
+
+  form_step : (x : Expr-F Expr) (y : Expr-F FormPart) → map-Expr FormPart Expr (λ p. p.0) y ≡ x → HasForms (resolved (roll-Expr x)) (forms (roll-Expr x))
+  form_step x y is =
+      let P : Expr-F Expr → Type 0 = λ z. HasForms (pre_level slot (map-Expr Expr (Found Expr) resolved z)) (forms_level (map-Expr Expr Forms forms z)) in
+      let opened : P x = subst P is (form_level y) in
+      let V : Forms → Type 0 = λ f. HasForms (pre_level slot (map-Expr Expr (Found Expr) resolved x)) f in
+      let M : Found Expr → Type 0 = λ m. HasForms m (forms (roll-Expr x)) in
+      subst M (sym (fold-roll-Expr (Found Expr) (pre_level slot) x)) (subst V (sym (fold-roll-Expr Forms forms_level x)) opened)
+
+  forms_kept : (e : Expr) → HasForms (resolved e) (forms e)
+  forms_kept = ind-Expr (λ e. HasForms (resolved e) (forms e)) form_step
+
+  -- each slot is below a number
+  module _ (n : ℕ) (below : (token s : ℕ) → slot token ≡ Some s → s < n) where
+    abbrev AreBelow : List ℕ → Type 0
+    AreBelow = All (λ v. v < n)
+
+    abbrev Bounded : Found Expr → Type 0
+    Bounded whole = (x : Expr) → whole ≡ Ok x → AreBelow (variables x)
+
+    abbrev BoundPart : Type 0
+    BoundPart = (e : Expr) × Bounded (resolved e)
+
+    literal_bounded : (k : ℤ) → Bounded (Ok (Lit k))
+    literal_bounded k x is =
+        subst (λ z. AreBelow (variables z)) (same_Ok (Lit k) x is) (subst AreBelow (sym (variables-Lit k)) (All-nil (λ v. v < n)))
+
+    call_bounded : (token : ℕ) → Bounded (Err (UnknownName token))
+    call_bounded token x is = no_fault (UnknownName token) x is
+
+    var_bounded : (token : ℕ) → Bounded (on_found (known token (slot token)) (λ s. Ok (Var s)))
+    var_bounded token x is =
+        let h = found _ _ x is in
+        let small : h.0 < n = below token h.0 (known_is token h.0 _ h.1) in
+        let alone = All-cons (λ v. v < n) h.0 [] small (All-nil (λ v. v < n)) in
+        subst (λ z. AreBelow (variables z)) (same_Ok (Var h.0) x h.2) (subst AreBelow (sym (variables-Var h.0)) alone)
+
+    unary_bounded : (op : UnOp) (a : Found Expr) → Bounded a → Bounded (on_found a (λ u. Ok (Unary op u)))
+    unary_bounded op a bounded x is =
+        let h = found _ _ x is in
+        subst (λ z. AreBelow (variables z)) (same_Ok (Unary op h.0) x h.2)
+        (subst AreBelow (sym (variables-Unary op h.0)) (bounded h.0 h.1))
+
+    binary_bounded : (op : BinOp) (a b : Found Expr) → Bounded a → Bounded b → Bounded (on_found a (λ u. on_found b (λ v. Ok (Binary op u v))))
+    binary_bounded op a b left right x is =
+        let h = found _ _ x is in
+        let k = found _ _ x h.2 in
+        let both = All-append (λ v. v < n) (variables h.0) (variables k.0) (left h.0 h.1) (right k.0 k.1) in
+        subst (λ z. AreBelow (variables z)) (same_Ok (Binary op h.0 k.0) x k.2) (subst AreBelow (sym (variables-Binary op h.0 k.0)) both)
+
+    choose_bounded : (c a b : Found Expr) → Bounded c → Bounded a → Bounded b → Bounded (on_found c (λ t. on_found a (λ u. on_found b (λ v. Ok (Choose t u v)))))
+    choose_bounded c a b test left right x is =
+        let t = found _ _ x is in
+        let h = found _ _ x t.2 in
+        let k = found _ _ x h.2 in
+        let front = All-append (λ v. v < n) (variables t.0) (variables h.0) (test t.0 t.1) (left h.0 h.1) in
+        let all = All-append (λ v. v < n) (variables t.0 ++ variables h.0) (variables k.0) front (right k.0 k.1) in
+        subst (λ z. AreBelow (variables z)) (same_Ok (Choose t.0 h.0 k.0) x k.2) (subst AreBelow (sym (variables-Choose t.0 h.0 k.0)) all)
+
+    bound_level : (y : Expr-F BoundPart) → Bounded (pre_level slot (map-Expr Expr (Found Expr) resolved (map-Expr BoundPart Expr (λ p. p.0) y)))
+    bound_level (Expr-F.Lit k) = literal_bounded k
+    bound_level (Expr-F.Var token) = var_bounded token
+    bound_level (Expr-F.Unary op p) = unary_bounded op (resolved p.0) p.1
+    bound_level (Expr-F.Binary op p q) = binary_bounded op (resolved p.0) (resolved q.0) p.1 q.1
+    bound_level (Expr-F.Choose c p q) = choose_bounded (resolved c.0) (resolved p.0) (resolved q.0) c.1 p.1 q.1
+    bound_level (Expr-F.Apply token ps) = call_bounded token
+
+    bound_step : (x : Expr-F Expr) (y : Expr-F BoundPart) → map-Expr BoundPart Expr (λ p. p.0) y ≡ x → Bounded (resolved (roll-Expr x))
+    bound_step x y is =
+        let P : Expr-F Expr → Type 0 = λ z. Bounded (pre_level slot (map-Expr Expr (Found Expr) resolved z)) in
+        let opened : P x = subst P is (bound_level y) in
+        let M : Found Expr → Type 0 = λ m. Bounded m in
+        subst M (sym (fold-roll-Expr (Found Expr) (pre_level slot) x)) opened
+
+    variables_below : (e : Expr) → Bounded (resolved e)
+    variables_below = ind-Expr (λ e. Bounded (resolved e)) bound_step
+
+module _ (source : List ℕ) (tokens : List Token) (params pre_source : List ℕ) (pre_tokens : List Token) (pre e : Expr) (is : resolved_pre source tokens params pre_source pre_tokens pre ≡ Ok e) where
+  -- a precondition is a row form where it was one
+  pub row_form_kept : is_row_form e ≡ is_row_form pre
+  row_form_kept = ap (λ (f : Forms). f.row) (forms_kept (param_of source tokens params pre_source pre_tokens) pre e is)
+
+  -- its variables are slots of parameters
+  pub parameters_alone : All (λ v. v < length params) (variables e)
+  parameters_alone =
+      variables_below (param_of source tokens params pre_source pre_tokens) (length params)
+      (λ token s at. parameter_within source tokens params _ s at) pre e is

@@ -1,0 +1,36 @@
+-- Steps of which each found something, and tests of which each passed.
+use Rattle.std.proofs.Common.{◌≡◌, Bool, true, false, ◌&&◌, ℕ, Option, Some, None, Ok, Err, refl}
+use Rattle.std.specs.Option.{option_or}
+use Rattle.c_scope.specs.Steps.{Found, on_found}
+use Rattle.c_scope.specs.declared.error.ScopeEnd.{ScopeEnd}
+
+-- what was found is one thing
+pub same_Ok : {A : Type 0} (x y : A) → ◌≡◌ {A = Found A} (Ok x) (Ok y) → x ≡ y
+same_Ok x y e = cc
+
+-- a fault is nothing found
+pub no_fault : {A P : Type 0} (fault : ScopeEnd) (y : A) → ◌≡◌ {A = Found A} (Err fault) (Ok y) → P
+no_fault fault y e = absurd (let no : ⊥ = cc in no)
+
+-- a step that was followed by another has found something
+pub found : {A B : Type 0} (x : Found A) (next : A → Found B) (y : B) → on_found x next ≡ Ok y → (a : A) × (x ≡ Ok a) × (next a ≡ Ok y)
+found (Ok a) next y is = (a, refl, is)
+found (Err fault) next y is = no_fault fault y is
+
+-- where neither of two is there, the first isn't, and the second isn't
+pub none_first : (x y : Option ℕ) → option_or x y ≡ None → x ≡ None
+none_first None y is = refl
+none_first (Some a) y is = is
+
+pub none_second : (x y : Option ℕ) → option_or x y ≡ None → y ≡ None
+none_second None y is = is
+none_second (Some a) y is = absurd (let no : ⊥ = cc in no)
+
+-- where both of two tests pass, both are true, and the other way round
+pub both_true : (a b : Bool) → a ≡ true → b ≡ true → (a && b) ≡ true
+both_true true b is_a is_b = is_b
+both_true false b is_a is_b = is_a
+
+pub first_true : (a b : Bool) → (a && b) ≡ true → a ≡ true
+first_true true b is = refl
+first_true false b is = is
