@@ -1,5 +1,6 @@
 -- Lemmas on the definitions of specs/.
 pub mod Changing
+pub mod CoveredLaws
 pub mod Equations
 pub mod Example
 pub mod FittingLaws
@@ -16,3 +17,4 @@ pub mod ShapeLaws
 pub mod Substituting
 pub mod VariableTests
 pub mod Walks
+pub mod Written

@@ -1,4 +1,4 @@
--- Paired sets are single-valued, and have a step at each fitting term that is no result.
+-- Paired sets are single-valued and covered.
 use Rattle.std.proofs.Common.{◌≡◌, ◌∙◌, ap, sym, subst, refl, Bool, true, false, ℕ, zero, suc, ◌+◌, ◌≤◌, ◌<◌, ◌⊎◌, inl, inr, Option, Some, None, List, [], ◌∷◌, length, map, ℤ, pos, arith}
 use Rattle.std.specs.Prelude.{Contains, slice_get, nat_eq, nat_le}
 use Rattle.std.specs.Option.{option_map}
@@ -21,7 +21,7 @@ use Rattle.rx_row.specs.declared.row.Row.{Row}
 use Rattle.rx_row.proofs.RowLaws.{holds_or_not, holds_not_both}
 use Rattle.rx_row.proofs.SubstitutionLaws.{in_rows-hold}
 use Rattle.rx_poly.specs.Substitution.{worth}
-use Rattle.rx_term.specs.Fitting.{is_alike, is_declared, term_fits}
+use Rattle.rx_term.specs.Covered.{IsCovered}
 use Rattle.rx_term.specs.Meaning.{Instance, IsRedex, CallRedex, ReturnRedex, FailRedex, values, ground_at, matched, signature, symbol_of}
 use Rattle.rx_term.specs.Paired.{IsPair, One, Two, IsPaired, rules_of_shape}
 use Rattle.rx_term.specs.Shapes.{same_shape, shape_of}
@@ -69,7 +69,7 @@ opposed_two r q x y row e f (IsSecond s) (IsSecond t) = Equal (sym s ∙ t)
 
 opposed : (rules : List Rule) → IsPair rules → (x y : Rule) → Contains rules x → Contains rules y → Opposed x y
 opposed _ (One r e) x y h k = Equal (sym (only_one r x h) ∙ only_one r y k)
-opposed _ (Two r q row e f) x y h k = opposed_two r q x y row e f (one_of r q x h) (one_of r q y k)
+opposed _ (Two r q row e f w) x y h k = opposed_two r q x y row e f (one_of r q x h) (one_of r q y k)
 
 -- ---- assignments that give a left side one ground term
 
@@ -91,62 +91,6 @@ one_row a rows row e h = All-head (RowHolds a) row [] (subst (AllHold a) e h)
 
 row_alone : (a : ℕ → ℤ) (rows : List Row) (row : Row) → rows ≡ row ∷ [] → RowHolds a row → AllHold a rows
 row_alone a rows row e h = subst (AllHold a) (sym e) (All-cons (RowHolds a) row [] h (All-nil (RowHolds a)))
-
--- ---- ground terms as terms of numbers
-
-abbrev pub symbol : ℕ → Sym
-symbol f = record { 0 = f }
-
-abbrev pub written : Ground → Term
-written (stack.Ret k) = Return (number k)
-written (stack.Fail c) = Fail c
-written (stack.Call f xs) = Call (symbol f) (map number xs)
-written (stack.Frame f xs s) = Frame (symbol f) (map number xs) (written s)
-
-values-numbers : (a : ℕ → ℤ) (xs : List ℤ) → values a (map number xs) ≡ xs
-values-numbers a [] = refl
-values-numbers a (x ∷ xs) = (λ i. value-number a x i ∷ values-numbers a xs i)
-
--- they mean the ground term that they were written from
-pub ground-written : (a : ℕ → ℤ) (s : Ground) → ground_at a (written s) ≡ s
-ground-written a (stack.Ret k) = ground-Return a (number k) ∙ ap stack.Ret (value-number a k)
-ground-written a (stack.Fail c) = ground-Fail a c
-ground-written a (stack.Call f xs) = ground-Call a (symbol f) (map number xs) ∙ ap (stack.Call f) (values-numbers a xs)
-ground-written a (stack.Frame f xs s) =
-    ground-Frame a (symbol f) (map number xs) (written s) ∙ ap (λ zs. stack.Frame f zs (ground_at a (written s))) (values-numbers a xs)
-    ∙ ap (stack.Frame f xs) (ground-written a s)
-
-alike_itself : (b : Bool) → is_alike b b ≡ true
-alike_itself true = refl
-alike_itself false = refl
-
-told_back : (o : Option SymInfo) (b : Bool) (n : ℕ) → option_map symbol_of o ≡ Some (record { arity = n; is_frame = b }) → declared_so o b n ≡ true
-told_back None b n h = cc
-told_back (Some s) b n h =
-    let whole : symbol_of s ≡ record { arity = n; is_frame = b } = cc in
-    let arity : s.arity ≡ n = ap (λ (x : Symbol). x.arity) whole in
-    let frame : s.frame ≡ b = ap (λ (x : Symbol). x.is_frame) whole in
-    and_from (is_alike s.frame b) (nat_eq s.arity n) (ap (is_alike s.frame) (sym frame) ∙ alike_itself s.frame) (eq-eqb s.arity n arity)
-
-declared_back : (parts : RuleParts) (f : ℕ) (b : Bool) (xs : List ℤ) → Declares (signature parts) f b (length xs) → is_declared parts.symbols (symbol f) b (length (map number xs)) ≡ true
-declared_back parts f b xs h =
-    ap (is_declared parts.symbols (symbol f) b) (length-map xs number)
-    ∙ told_back (slice_get parts.symbols f) b (length xs) (sym (slice_get-map symbol_of parts.symbols f) ∙ h)
-
--- and fit where it does
-pub written_fits : (parts : RuleParts) (s : Ground) → Fits (signature parts) s → term_fits parts (written s) ≡ true
-written_fits parts (stack.Ret k) fits = fits-Return parts (number k)
-written_fits parts (stack.Fail c) fits = fits-Fail parts c ∙ and_from (nat_le 1 c) (nat_le c parts.fails) (le-leb 1 c fits.0) (le-leb c parts.fails fits.1)
-written_fits parts (stack.Call f xs) fits = fits-Call parts (symbol f) (map number xs) ∙ declared_back parts f false xs fits
-written_fits parts (stack.Frame f xs s) fits =
-    fits-Frame parts (symbol f) (map number xs) (written s)
-    ∙ and_from (is_declared parts.symbols (symbol f) true (length (map number xs))) (term_fits parts (written s)) (declared_back parts f true xs fits.0) (written_fits parts s fits.1)
-
-written_over_result : (f : ℕ) (xs : List ℤ) (s : Ground) → IsResult s → IsRedex (written (stack.Frame f xs s))
-written_over_result f xs (stack.Ret k) result = ReturnRedex (symbol f) (map number xs) (number k)
-written_over_result f xs (stack.Fail c) result = FailRedex (symbol f) (map number xs) c
-written_over_result f xs (stack.Call g ys) result = absurd result
-written_over_result f xs (stack.Frame g ys s) result = absurd result
 
 module _ (parts : RuleParts) (made : IsWellMade parts) (paired : IsPaired parts) where
   abbrev rules : List Rule
@@ -210,43 +154,18 @@ module _ (parts : RuleParts) (made : IsWellMade parts) (paired : IsPaired parts)
   pub single_valued : IsSingleValued Steps
   single_valued = single_valued_under_frames Steps once frames_rest
 
-  -- ---- at least one
+-- ---- at least one
 
-  module _ (a : ℕ → ℤ) (t : Term) (fits : term_fits parts t ≡ true) where
-    abbrev test : Rule → Bool
-    test r = same_shape (shape_of r.left) (shape_of t)
+-- one of two rules, of which the one has a row and the other its negation, has rows that hold
+pub pair_holds : (a : ℕ → ℤ) (rs : List Rule) → IsPair rs → (r : Rule) × Contains rs r × AllHold a r.rows
+pair_holds a _ (One r e) = (r, first_one r [], subst (AllHold a) (sym e) (All-nil (RowHolds a)))
+pair_holds a _ (Two r q row e f w) = elim (holds_or_not a row) [
+  | inl holds ↦ (r, first_one r (q ∷ []), row_alone a r.rows row e holds)
+  | inr fails ↦ (q, other_one r (q ∷ []) q (first_one q []), row_alone a q.rows (negation row) f fails)
+]
 
-    abbrev Goes : Type 0
-    Goes = (u : Ground) × Steps (ground_at a t) u
-
-    by_rule : (r : Rule) → Contains (rules_of_shape (shape_of t) rules) r → AllHold (worth a (matched t)) r.rows → Goes
-    by_rule r among holds =
-        let passes = All-contains (λ (x : Rule). test x ≡ true) (rules_of_shape (shape_of t) rules) r (filter_passes test rules) among in (
-          ground_at a (in_term (matched t) r.right),
-          rule_steps parts made a r t (was_there test rules r among) fits (told_shape (shape_of r.left) (shape_of t) passes) ((in_rows-hold a (matched t) r.rows).1 holds),
-        )
-
-    by_pair : (rs : List Rule) → IsPair rs → ((r : Rule) → Contains rs r → AllHold (worth a (matched t)) r.rows → Goes) → Goes
-    by_pair _ (One r e) go = go r (first_one r []) (subst (AllHold (worth a (matched t))) (sym e) (All-nil (RowHolds (worth a (matched t)))))
-    by_pair _ (Two r q row e f) go = elim (holds_or_not (worth a (matched t)) row) [
-      | inl holds ↦ go r (first_one r (q ∷ [])) (row_alone (worth a (matched t)) r.rows row e holds)
-      | inr fails ↦ go q (other_one r (q ∷ []) q (first_one q [])) (row_alone (worth a (matched t)) q.rows (negation row) f fails)
-    ]
-
-    -- a redex that fits has a step
-    pub redex_goes : IsRedex t → Goes
-    redex_goes is = by_pair (rules_of_shape (shape_of t) rules) (paired (shape_of t) (redex_shape parts t is fits)) by_rule
-
-  abbrev at_zero : ℕ → ℤ
-  at_zero v = pos 0
-
-  written_goes : (s : Ground) → Fits (signature parts) s → IsRedex (written s) → (u : Ground) × Step Steps s u
-  written_goes s fits is =
-      let (u, one) = redex_goes at_zero (written s) (written_fits parts s fits) is in
-      (u, Here (subst (λ x. Steps x u) (ground-written at_zero s) one))
-
-  -- each fitting term that is no result has a step
-  pub moves : Moves (Fits (signature parts)) Steps
-  moves = moves_under_frames (Fits (signature parts)) Steps (Fits-inner (signature parts))
-      (λ f xs fits. written_goes (stack.Call f xs) fits (CallRedex (symbol f) (map number xs)))
-      (λ f xs s fits result. written_goes (stack.Frame f xs s) fits (written_over_result f xs s result))
+-- a paired set is covered
+pub paired_covers : (parts : RuleParts) → IsPaired parts → IsCovered parts
+paired_covers parts paired shape is a domain =
+    let (rule, among, holds) = pair_holds a (rules_of_shape shape parts.rules) (paired shape is) in
+    record { rule = rule; among = among; holds = holds }

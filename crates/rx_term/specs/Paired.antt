@@ -1,6 +1,6 @@
 -- Paired rule sets: for each shape of a redex one rule applies everywhere, or one of two rules as a row holds or not.
 use Rattle.std.specs.Prelude.{◌≡◌, ℕ, true, false, List, [], ◌∷◌, filter}
-use Rattle.rx_row.specs.Negation.{negation}
+use Rattle.rx_row.specs.Negation.{negation, negation_within}
 use Rattle.rx_row.specs.declared.row.Row.{Row}
 use Rattle.rx_term.specs.Fitting.{code_fits, is_declared}
 use Rattle.rx_term.specs.Shapes.{Shape, Value, Failure, Called, Framed, same_shape, shape_of}
@@ -18,10 +18,12 @@ pub data IsRedexShape (parts : RuleParts) : Shape → Type 0 where
 abbrev pub rules_of_shape : Shape → List Rule → List Rule
 rules_of_shape shape rules = filter (λ (r : Rule). same_shape (shape_of r.left) shape) rules
 
--- one rule without rows, or two with one row each, the second row the negation of the first
+-- one rule without rows, or two with one row each, the second row the negation of the first, which is formed within
+-- the limits
 pub data IsPair : List Rule → Type 0 where
   One : (r : Rule) → r.rows ≡ [] → IsPair (r ∷ [])
-  Two : (r q : Rule) (row : Row) → r.rows ≡ row ∷ [] → q.rows ≡ negation row ∷ [] → IsPair (r ∷ q ∷ [])
+  Two : (r q : Rule) (row : Row) → r.rows ≡ row ∷ [] → q.rows ≡ negation row ∷ []
+      → negation_within row ≡ true → IsPair (r ∷ q ∷ [])
 
 -- the rules of each shape are so
 abbrev pub IsPaired : RuleParts → Type 0

@@ -3,11 +3,12 @@ ghost use Rattle.std.specs.Prelude.{◌≡◌, ℕ, ℤ, true, Some, List, Conta
 ghost use Rattle.std.specs.Option.{option_map};
 ghost use Rattle.rx_poly.specs.Substitution.{worth};
 ghost use Rattle.rx_poly.specs.declared.body.Body.{Body};
-ghost use Rattle.rx_rewriting.specs.Premises.{Moves, ResultsRest, Stays};
+ghost use Rattle.rx_rewriting.specs.Premises.{KeepsInner, Moves, ResultsRest, Stays};
 ghost use Rattle.rx_rewriting.specs.Steps.{IsSingleValued, Step};
-ghost use Rattle.rx_rewriting.specs.Terms.{Fits, under};
+ghost use Rattle.rx_rewriting.specs.Terms.{Fits, Ground, TermSet, under};
 ghost use Rattle.rx_row.specs.Holds.{AllHold};
 ghost use Rattle.rx_row.specs.Substitution.{in_rows};
+ghost use Rattle.rx_term.specs.Covered.{CanStep, Domains, IsCovered, IsCoveredOver, KeepsDomains};
 ghost use Rattle.rx_term.specs.Fitting.{term_fits};
 ghost use Rattle.rx_term.specs.Meaning.{Instance, IsRedex, ground_at, ground_redex, matched, outer_frames, redex_of, signature, values};
 ghost use Rattle.rx_term.specs.Paired.{IsPaired};
@@ -111,11 +112,38 @@ pub fn well_made_sets_keep_fitting()
     ensures rest { (parts : RuleParts) → IsWellMade parts → ResultsRest (Instance parts.rules) }
 {}
 
-/// A paired set is single-valued, and has a step at every fitting term that is no result.
-#[tactic(auto, using(crate::proofs::PairedLaws::single_valued, crate::proofs::PairedLaws::moves))]
+/// A paired set is single-valued and covered, and has a step at every fitting term that is no result.
+#[tactic(auto, using(crate::proofs::PairedLaws::single_valued, crate::proofs::PairedLaws::paired_covers))]
 pub fn paired_sets_step_once()
     ensures once { (parts : RuleParts) → IsWellMade parts → IsPaired parts →
         IsSingleValued (Instance parts.rules) }
+    ensures covered { (parts : RuleParts) → IsPaired parts → IsCovered parts }
     ensures moves { (parts : RuleParts) → IsWellMade parts → IsPaired parts →
         Moves (Fits (signature parts)) (Instance parts.rules) }
+{}
+
+/// In a covered set each fitting redex has, at all values of its arguments, a rule that steps it, and
+/// each fitting term that is no result has a step.
+pub fn covered_sets_step()
+    ensures rule { (parts : RuleParts) → IsCovered parts → (t : Term) (a : ℕ → ℤ) →
+        IsRedex t → term_fits parts t ≡ true → CanStep parts.rules t a }
+    ensures moves { (parts : RuleParts) → IsWellMade parts → IsCovered parts →
+        Moves (Fits (signature parts)) (Instance parts.rules) }
+{}
+
+/// Terms that are inside, and the arguments that a redex of each shape may have there.
+pub trait Inside {
+    ghost inside: { TermSet };
+
+    ghost domains: { Domains };
+}
+
+/// The same inside a set of fitting terms that has the inner part of each of its terms: there the
+/// rules need to cover no more than the arguments that its redexes have.
+pub fn covered_sets_step_inside<I: Inside>()
+    requires inner { KeepsInner I.inside }
+    requires domains { KeepsDomains I.inside I.domains }
+    ensures { (parts : RuleParts) → IsWellMade parts → IsCoveredOver I.domains parts →
+        ((s : Ground) → I.inside s → Fits (signature parts) s) →
+        Moves I.inside (Instance parts.rules) }
 {}
