@@ -12,6 +12,7 @@ pub mod Matching
 pub mod MeaningLaws
 pub mod PairedLaws
 pub mod RedexLaws
+pub mod RedexWalks
 pub mod RuleLaws
 pub mod ShapeLaws
 pub mod Substituting

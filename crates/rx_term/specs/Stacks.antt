@@ -1,5 +1,5 @@
 -- Terms as stacks: their frames, the part behind some of them, and what stands in place of that part.
-use Rattle.std.specs.Prelude.{ℕ, zero, suc, ◌+◌, Option, Some, None}
+use Rattle.std.specs.Prelude.{ℕ, zero, suc, ◌+◌, Bool, true, false, Option, Some, None}
 use Rattle.std.specs.Option.{option_map_or}
 use Rattle.rx_term.specs.declared.term.Term.{Term, Term-F, fold-Term, out-Term}
 use Rattle.rx_term.specs.declared.term.Term.TheVariants.{Frame}
@@ -23,6 +23,26 @@ redex_place_level (Term-F.Frame f ps inner) = Some (option_map_or (λ n. 1 + n) 
 
 abbrev pub redex_place : Term → Option ℕ
 redex_place = fold-Term (Option ℕ) redex_place_level
+
+-- whether the term is a result: a returned value or a failure
+abbrev pub is_result_level : Term-F Term → Bool
+is_result_level (Term-F.Return p) = true
+is_result_level (Term-F.Fail c) = true
+is_result_level (Term-F.Call f ps) = false
+is_result_level (Term-F.Frame f ps inner) = false
+
+abbrev pub is_result : Term → Bool
+is_result t = is_result_level (out-Term t)
+
+-- whether it is a redex: a call, or a frame over a result
+abbrev pub is_redex_level : Term-F Term → Bool
+is_redex_level (Term-F.Return p) = false
+is_redex_level (Term-F.Fail c) = false
+is_redex_level (Term-F.Call f ps) = true
+is_redex_level (Term-F.Frame f ps inner) = is_result inner
+
+abbrev pub is_redex : Term → Bool
+is_redex t = is_redex_level (out-Term t)
 
 -- what is found under the outermost frame, if there is one
 abbrev pub under_frame : Term-F Term → (Term → Option Term) → Option Term
@@ -57,6 +77,10 @@ over_frame (Term-F.Frame f ps inner) end change = Frame f ps (change inner)
 abbrev pub replaced : ℕ → Term → Term → Term
 replaced zero t inner = inner
 replaced (suc n) t inner = over_frame (out-Term t) inner (λ rest. replaced n rest inner)
+
+-- the other term in place of the redex; a result stays as it is
+abbrev pub replace_redex : Term → Term → Term
+replace_redex t inner = option_map_or (λ n. replaced n t inner) (redex_place t) t
 
 -- the outermost frame over the other term, and what that frame was over; without a frame, the other term
 abbrev pub turned_level : Term-F Term → Term → Term × Option Term

@@ -2,9 +2,9 @@
 ghost use Rattle.std.specs.Prelude.{◌≡◌, ◌↔◌, ◌<◌, ◌^◌, ℕ, ℤ, true, false, IsNone, IsTrue, IfOk, IfErr, OnOk};
 ghost use Rattle.std.specs.Option.{option_copied};
 ghost use Rattle.rx_poly.specs.Substitution.{worth};
-ghost use Rattle.rx_term.specs.Meaning.{ground_at};
+ghost use Rattle.rx_term.specs.Meaning.{ground_at, redex_of};
 ghost use Rattle.rx_term.specs.Shapes.{shape_of};
-ghost use Rattle.rx_term.specs.Stacks.{behind, depth_of, onto, redex_place, replaced, turned};
+ghost use Rattle.rx_term.specs.Stacks.{behind, depth_of, is_redex, is_result, onto, redex_place, replace_redex, replaced, turned};
 ghost use Rattle.rx_term.specs.Substitution.{in_term, term_within};
 ghost use Rattle.rx_term.specs.Variables.{term_uses_below};
 
@@ -93,6 +93,66 @@ impl Term {
             _ if count == 0 => None,
             _ => Some(count - 1),
         }
+    }
+
+    /// Whether it is a result: a returned value or a failure.
+    pub fn is_result(&self) -> bool
+        ensures { result ≡ is_result self.now }
+    {
+        match self {
+            Term::Return(_) => true,
+            Term::Fail(_) => true,
+            Term::Call(_, _) => false,
+            Term::Frame(_, _, _) => false,
+        }
+    }
+
+    /// Whether it is a redex: a call, or a frame over a result.
+    pub fn is_redex(&self) -> bool
+        ensures { result ≡ is_redex self.now }
+    {
+        match self {
+            Term::Return(_) => false,
+            Term::Fail(_) => false,
+            Term::Call(_, _) => true,
+            Term::Frame(_, _, inner) => inner.get().is_result(),
+        }
+    }
+
+    /// The redex, borrowed: the innermost call, or the innermost frame where that is over a result. None
+    /// exactly where the term is a result. Takes no memory.
+    pub fn redex(&self) -> Option<&Term>
+        ensures redex { option_copied result ≡ redex_of self.now }
+        ensures none { IsNone result ↔ (is_result self.now ≡ true) }
+    {
+        let mut here = self;
+        while let Term::Frame(_, _, inner) = here {
+            if inner.get().is_result() {
+                return Some(here);
+            }
+            here = inner.get();
+        }
+        if here.is_result() { None } else { Some(here) }
+    }
+
+    /// The term with `inner` in place of its redex; a result stays as it is. Takes no memory.
+    pub fn replace_redex(self, inner: Term) -> Term
+        ensures { result ≡ replace_redex self inner }
+    {
+        if self.is_result() {
+            return self;
+        }
+        let mut rest = self;
+        let mut upper = Term::Fail(0);
+        while !rest.is_redex() {
+            let (further, below) = rest.turn(upper);
+            upper = further;
+            match below {
+                Some(below) => rest = below,
+                None => return upper.onto(inner),
+            }
+        }
+        upper.onto(inner)
     }
 
     /// The frames of this term, its innermost outside, over the other. Takes no memory.
