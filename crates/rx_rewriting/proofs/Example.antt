@@ -1,71 +1,16 @@
--- An example for which all premises hold: a small rule list over three symbols, and a hypothesis beside it.
---
---   down(x) -> 0 [x <= 0]      down(x) -> one_more(down(x - 1)) [x >= 1]
---   copy(x) -> 0 [x <= 0]      copy(x) -> one_more(copy(x - 1)) [x >= 1]      copy(x) = down(x), the hypothesis
---   one_more over a result k -> k + 1,   over a failure -> that failure
+-- The example meets all premises, and what the laws then say of it.
 use Rattle.std.proofs.Common.{◌≡◌, ℕ, zero, suc, Bool, true, false, true≢false, inl, inr, List, [], ◌∷◌, ℤ, pos, negsuc, ◌+ℤ◌, Option, Some, None, refl, ap, sym, subst, arith}
-use Rattle.rx_rewriting.specs.Terms.{Ground, Ret, Fail, Call, Frame, IsResult, Symbol, Symbols, Fits, Relation, TermSet}
-use Rattle.rx_rewriting.specs.Steps.{Step, Here, Under, Reaches, Stop, Go, Joins, Either, IsSingleValued}
-use Rattle.rx_rewriting.specs.Ranks.{Rank, RankLess, Weight, Smaller, weight_of}
-use Rattle.rx_rewriting.specs.Premises.{Lowers, Stays, Moves, IsReplaceable, ResultsRest, LowersHere, IsReplaceableHere}
-use Rattle.rx_rewriting.proofs.UnderFrames.{replaceable_under_frames, single_valued_under_frames, results_rest_under_frames, stays_under_frames, moves_under_frames, Fits-inner, Fits-exchange}
+use Rattle.std.proofs.lemmas.List.Elements.{All-cons, All-nil}
+use Rattle.rx_rewriting.specs.Terms.{Ground, Ret, Fail, Call, Frame, IsResult, Symbol, Fits}
+use Rattle.rx_rewriting.specs.Steps.{Step, Here, Under, Reaches, Stop, Go, Joins, Either}
+use Rattle.rx_rewriting.specs.Ranks.{Rank, RankLess, Smaller, weight_of}
+use Rattle.rx_rewriting.specs.Premises.{KeepsInner, ResultsRest, LowersHere, IsReplaceableHere}
+use Rattle.rx_rewriting.specs.Example.{symbols, down, copy, one_more, Rules, DownEnds, DownTurns, CopyEnds, CopyTurns, Adds, Passes, Hypothesis, CopyIsDown, above, rank, AtLeastZero, CallsCount, IsInside, PremisesHold}
+use Rattle.rx_rewriting.proofs.UnderFrames.{replaceable_under_frames, single_valued_under_frames, results_rest_under_frames, stays_under_frames, moves_under_frames}
 use Rattle.rx_rewriting.proofs.Chains.{Step-by_rule, Reaches-step, Joins-before_left}
 use Rattle.rx_rewriting.proofs.SmallerWeights.{lowers_under_frames}
 use Rattle.rx_rewriting.proofs.Conversion.{joined_end_alike}
 use Rattle.rx_rewriting.proofs.UniqueResults.{convertible_results_equal}
-
--- a symbol that is called with one argument
-abbrev pub called : Symbol
-called = record { arity = 1; is_frame = false }
-
--- the signature: down and copy are called with one argument, one_more is a frame with none, and there is one failure
-abbrev pub symbols : Symbols
-symbols = record {
-  declared = called ∷ called ∷ record { arity = 0; is_frame = true } ∷ [];
-  fails = 1;
-}
-
--- down at x
-abbrev pub down : ℤ → Ground
-down x = Call 0 (x ∷ [])
-
--- copy at x
-abbrev pub copy : ℤ → Ground
-copy x = Call 1 (x ∷ [])
-
--- one_more over a term
-abbrev pub one_more : Ground → Ground
-one_more s = Frame 2 [] s
-
--- the integer is at most 0
-abbrev pub AtMostZero : ℤ → Type 0
-AtMostZero (pos zero) = Unit {0}
-AtMostZero (pos (suc k)) = ⊥
-AtMostZero (negsuc k) = Unit {0}
-
--- the rule list, a constructor for each rule
-pub data Rules : Ground → Ground → Type 0 where
-  DownEnds : (x : ℤ) → AtMostZero x → Rules (Call 0 (x ∷ [])) (Ret (pos 0))
-  DownTurns : (k : ℕ) → Rules (Call 0 (pos (suc k) ∷ [])) (Frame 2 [] (Call 0 (pos k ∷ [])))
-  CopyEnds : (x : ℤ) → AtMostZero x → Rules (Call 1 (x ∷ [])) (Ret (pos 0))
-  CopyTurns : (k : ℕ) → Rules (Call 1 (pos (suc k) ∷ [])) (Frame 2 [] (Call 1 (pos k ∷ [])))
-  Adds : (k : ℤ) → Rules (Frame 2 [] (Ret k)) (Ret (k +ℤ pos 1))
-  Passes : (c : ℕ) → Rules (Frame 2 [] (Fail c)) (Fail c)
-
--- the hypothesis
-pub data Hypothesis : Ground → Ground → Type 0 where
-  CopyIsDown : (x : ℤ) → Hypothesis (Call 1 (x ∷ [])) (Call 0 (x ∷ []))
-
--- how far an integer is above 0
-abbrev pub above : ℤ → ℕ
-above (pos k) = k
-above (negsuc k) = 0
-
--- the ranks, of two columns: copy is above down, and either falls with its argument
-abbrev pub rank : ℕ → List ℤ → Rank
-rank zero (x ∷ []) = 0 ∷ above x ∷ []
-rank (suc zero) (x ∷ []) = 1 ∷ above x ∷ []
-rank f xs = 0 ∷ 0 ∷ []
 
 -- one rank gives way to none
 to_none : (r : Rank) → Smaller [] (r ∷ [])
@@ -130,6 +75,15 @@ rules_once s t u (CopyTurns k) (CopyEnds y low) = absurd low
 rules_once s t u (CopyTurns k) (CopyTurns j) = refl
 rules_once s t u (Adds k) (Adds j) = refl
 rules_once s t u (Passes c) (Passes d) = refl
+
+-- nor one whose call is at a negative integer
+rules_count : (s t : Ground) → CallsCount s → Rules s t → CallsCount t
+rules_count s t count (DownEnds x low) = tt
+rules_count s t count (DownTurns k) = All-cons AtLeastZero (pos k) [] tt (All-nil AtLeastZero)
+rules_count s t count (CopyEnds x low) = tt
+rules_count s t count (CopyTurns k) = All-cons AtLeastZero (pos k) [] tt (All-nil AtLeastZero)
+rules_count s t count (Adds k) = tt
+rules_count s t count (Passes c) = tt
 
 -- no rule starts at a result
 no_rule_at_result : (s t : Ground) → IsResult s → Rules s t → ⊥
@@ -211,51 +165,53 @@ copy_joins_down (negsuc k) =
     (Ret (pos 0), Here (CopyEnds (negsuc k) tt), (Ret (pos 0), Stop, Go (Here (inl (DownEnds (negsuc k) tt))) Stop))
 
 -- the hypothesis, with no frames over it, can be replaced
-replaceable_here : IsReplaceableHere (Fits symbols) Rules Hypothesis
-replaceable_here s t fits (CopyIsDown x) = copy_joins_down x
+replaceable_here : IsReplaceableHere IsInside Rules Hypothesis
+replaceable_here s t in_s (CopyIsDown x) = copy_joins_down x
 
--- all premises of the laws
-pub record PremisesHold (weight : Ground → Weight) (inside : TermSet) (R H : Relation) : Type 0 where
-  pub lowers : Lowers weight inside (Either R H)
-  pub stays : Stays inside (Either R H)
-  pub replaceable : IsReplaceable inside R H
-  pub moves : Moves inside R
-  pub single : IsSingleValued R
-  pub rest : ResultsRest R
+-- the inner part of an inside term is inside, and another inside term may be in its place
+inside_inner : KeepsInner IsInside
+inside_inner f xs s whole = (whole.0.1, whole.1)
 
--- all premises of the laws hold of these rules and this hypothesis, inside the fitting terms
-pub premises_hold : PremisesHold (weight_of rank) (Fits symbols) Rules Hypothesis
+inside_exchange : (f : ℕ) (xs : List ℤ) (s t : Ground) → IsInside (Frame f xs s) → IsInside t → IsInside (Frame f xs t)
+inside_exchange f xs s t whole inner = ((whole.0.0, inner.0), inner.1)
+
+-- all premises of the laws hold of these rules and this hypothesis, inside these terms
+pub premises_hold : PremisesHold (weight_of rank) IsInside Rules Hypothesis
 premises_hold =
     record {
-      lowers = lowers_under_frames rank (Fits symbols) (Either Rules Hypothesis) (Fits-inner symbols) lower;
-      stays = stays_under_frames (Fits symbols) (Either Rules Hypothesis) (Fits-inner symbols)
-          (Fits-exchange symbols) fit;
-      replaceable = replaceable_under_frames (Fits symbols) Rules Hypothesis (Fits-inner symbols) replaceable_here;
-      moves = moves_under_frames (Fits symbols) Rules (Fits-inner symbols) calls_step frames_step;
+      inner = inside_inner;
+      lowers = lowers_under_frames rank IsInside (Either Rules Hypothesis) inside_inner lower;
+      stays = stays_under_frames IsInside (Either Rules Hypothesis) inside_inner inside_exchange stay;
+      replaceable = replaceable_under_frames IsInside Rules Hypothesis inside_inner replaceable_here;
+      moves = moves_under_frames IsInside Rules inside_inner (λ f xs in_s. calls_step f xs in_s.0)
+          (λ f xs s in_s result. frames_step f xs s in_s.0 result);
       single = single_valued_under_frames Rules rules_once nothing_below;
       rest = results_rest;
     }
   where
-    lower : LowersHere (weight_of rank) (Fits symbols) (Either Rules Hypothesis)
-    lower s t fits (inl rule) = rules_lower s t rule
-    lower s t fits (inr hypothesis) = hypothesis_lowers s t hypothesis
+    lower : LowersHere (weight_of rank) IsInside (Either Rules Hypothesis)
+    lower s t in_s (inl rule) = rules_lower s t rule
+    lower s t in_s (inr hypothesis) = hypothesis_lowers s t hypothesis
 
-    fit : (s t : Ground) → Fits symbols s → Either Rules Hypothesis s t → Fits symbols t
-    fit s t fits (inl rule) = rules_fit s t fits rule
-    fit s t fits (inr (CopyIsDown x)) = refl
+    stay : (s t : Ground) → IsInside s → Either Rules Hypothesis s t → IsInside t
+    stay s t in_s (inl rule) = (rules_fit s t in_s.0 rule, rules_count s t in_s.1 rule)
+    stay s t in_s (inr (CopyIsDown x)) = (refl, in_s.1)
 
--- so, by the laws, copy and down reach one result at each integer, although no rule leads from the one to the other
-pub copy_is_down : (x : ℤ) → (k : Ground) × Reaches Rules (copy x) k × Reaches Rules (down x) k × IsResult k
+-- so, by the laws, copy and down reach one result at each integer from 0 on, although no rule leads from the one to
+-- the other
+pub copy_is_down : (x : ℕ)
+    → (k : Ground) × Reaches Rules (copy (pos x)) k × Reaches Rules (down (pos x)) k × IsResult k
 copy_is_down x =
     let p = premises_hold in
-    let (first, leads, joined) = copy_joins_down x in
-    let ends = joined_end_alike (weight_of rank) (Fits symbols) Rules Hypothesis p.lowers p.stays p.replaceable p.moves
-    (copy x) (down x) refl refl
-    (Joins-before_left (Either Rules Hypothesis) (copy x) first (down x)
+    let count = All-cons AtLeastZero (pos x) [] tt (All-nil AtLeastZero) in
+    let (first, leads, joined) = copy_joins_down (pos x) in
+    let ends = joined_end_alike (weight_of rank) IsInside Rules Hypothesis p.lowers p.stays p.replaceable p.moves
+    (copy (pos x)) (down (pos x)) (refl, count) (refl, count)
+    (Joins-before_left (Either Rules Hypothesis) (copy (pos x)) first (down (pos x))
     (Reaches-step (Step-by_rule Rules Hypothesis leads)) joined) in
     let left = ends.left in
     let right = ends.right in
     let same = convertible_results_equal Rules p.single p.rest left.end right.end
     left.is_result right.is_result ends.convertible in
-    let P : Ground → Type 0 = λ k. Reaches Rules (down x) k in
+    let P : Ground → Type 0 = λ k. Reaches Rules (down (pos x)) k in
     (left.end, left.reached, subst P (sym same) right.reached, left.is_result)

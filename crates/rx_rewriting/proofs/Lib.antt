@@ -8,3 +8,4 @@ pub mod Conversion
 pub mod UniqueResults
 pub mod SmallerWeights
 pub mod Example
+pub mod Unions

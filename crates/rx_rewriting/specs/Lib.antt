@@ -2,3 +2,4 @@ pub mod Terms
 pub mod Steps
 pub mod Ranks
 pub mod Premises
+pub mod Example

@@ -1,11 +1,12 @@
 //! Systems of rules and hypotheses: inside terms reach results, hypotheses convert no more than
 //! the rules, and results are unique.
 
-ghost use Rattle.std.specs.Prelude.{◌≡◌, ℕ, ◌-◌, ◌≤◌};
+ghost use Rattle.std.specs.Prelude.{◌≡◌, ℕ, pos, ◌-◌, ◌≤◌};
+ghost use Rattle.rx_rewriting.specs.Example.{Hypothesis, IsInside, PremisesHold, Rules, copy, down, rank};
 ghost use Rattle.rx_rewriting.specs.Terms.{Ground, Relation, TermSet, IsResult};
 ghost use Rattle.rx_rewriting.specs.Steps.{Reaches, ReachesIn, Convertible, Joins, Either};
 ghost use Rattle.rx_rewriting.specs.Steps.{IsSingleValued};
-ghost use Rattle.rx_rewriting.specs.Ranks.{Weight};
+ghost use Rattle.rx_rewriting.specs.Ranks.{Weight, weight_of};
 ghost use Rattle.rx_rewriting.specs.Premises.{Lowers, Stays, Moves, IsReplaceable, ResultsRest};
 ghost use Rattle.rx_rewriting.specs.Premises.{EndsInside, EndAlike};
 
@@ -69,4 +70,21 @@ pub fn single_valued_rules_give_one_result<S: System>()
     ensures found { (s t : Ground) → IsResult t → Convertible S.rule s t → Reaches S.rule s t }
     ensures left { (s t u : Ground) (m i : ℕ) → IsResult t → ReachesIn S.rule m s t →
         ReachesIn S.rule i s u → (i ≤ m) × ReachesIn S.rule (m - i) u t }
+{}
+
+/// Where steps by the rules from inside terms give smaller weights, and steps by the hypotheses do,
+/// steps by either do. Where both stay inside, so do steps by either.
+pub fn unions_keep_what_both_have<S: System>()
+    ensures lowers { Lowers S.weight S.inside S.rule → Lowers S.weight S.inside S.hypothesis →
+        Lowers S.weight S.inside (Either S.rule S.hypothesis) }
+    ensures stays { Stays S.inside S.rule → Stays S.inside S.hypothesis →
+        Stays S.inside (Either S.rule S.hypothesis) }
+{}
+
+/// All these premises can be met at once: by the rules and the hypothesis of the example, inside a
+/// set of terms that is smaller than that of the fitting ones. There the laws say what no rule says.
+pub fn the_premises_can_be_met()
+    ensures premises { PremisesHold (weight_of rank) IsInside Rules Hypothesis }
+    ensures results { (x : ℕ) → (k : Ground) × Reaches Rules (copy (pos x)) k ×
+        Reaches Rules (down (pos x)) k × IsResult k }
 {}

@@ -7,8 +7,8 @@
 //! The definitions stand in `specs/`: `Terms` (ground terms, and which fit a signature), `Steps`
 //! (steps under frames, reach, conversion, joins), `Ranks` (ranks, weights, smaller), `Premises`
 //! (what the laws ask). The lemmas of `proofs/` are the same laws for relations that depend on
-//! values, as those of a rule list do, and are for the crates above. `Example` there has rules and
-//! a hypothesis for which all premises hold.
+//! values, as those of a rule list do, and are for the crates above. `specs/Example` has rules and
+//! a hypothesis for which all premises hold (`the_premises_can_be_met`).
 //!
 //! The laws speak of what is *reached* from inside terms and of inside terms that *join*. A
 //! conversion whose middle is outside proves nothing: two inside results can be convertible by
@@ -33,7 +33,8 @@ pub use frames::{
 };
 pub use laws::{
     System, inside_terms_reach_results, joined_terms_reach_convertible_results,
-    reached_terms_are_convertible, single_valued_rules_give_one_result,
+    reached_terms_are_convertible, single_valued_rules_give_one_result, the_premises_can_be_met,
+    unions_keep_what_both_have,
 };
 pub use weights::{
     Property, chains_lower_the_weight, equal_ranks_keep_smaller, frames_add_their_ranks,
