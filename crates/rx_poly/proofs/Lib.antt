@@ -2,6 +2,7 @@
 pub mod Adjacent
 pub mod Constants
 pub mod Depths
+pub mod DivisionCases
 pub mod DivisionLaws
 pub mod Joining
 pub mod Levels

@@ -4,3 +4,5 @@ pub mod InnerLaws
 pub mod Locality
 pub mod Prefixes
 pub mod Unchanged
+pub mod TestLaws
+pub mod InstanceVariables

@@ -1,2 +1,3 @@
 -- The polynomials that stand inside one.
 pub mod Inner
+pub mod Tests

@@ -1,7 +1,10 @@
 //! Laws of normal forms.
-ghost use Rattle.std.specs.Prelude.{◌≡◌, ◌<◌, ℕ, ℤ, true, All, List};
+ghost use Rattle.std.specs.Prelude.{◌≡◌, ◌<◌, ℕ, ℤ, Bool, true, All, List};
 ghost use Rattle.rx_poly.specs.Normal.{is_poly};
-ghost use Rattle.rx_poly.specs.Constants.{variable};
+ghost use Rattle.rx_poly.specs.Constants.{number, variable};
+ghost use Rattle.rx_poly.specs.Division.{quotient_of, remainder_of};
+ghost use Rattle.rx_poly.specs.Limits.{added, scaled_by, subtracted};
+ghost use Rattle.rx_poly.specs.Products.{multiplied};
 ghost use Rattle.rx_poly.specs.Reading.{coefficient};
 ghost use Rattle.rx_poly.specs.Substitution.{in_body, replaced};
 ghost use Rattle.rx_poly.specs.Value.{value};
@@ -9,6 +12,7 @@ ghost use Rattle.rx_poly.specs.declared.body.Body.{Body, out-Body};
 ghost use Rattle.rx_poly.specs.declared.body.Mono.{Mono};
 ghost use Rattle.rx_poly_laws.specs.Inner.{inner};
 ghost use Rattle.rx_poly.specs.Variables.{uses_below, variables};
+ghost use Rattle.rx_poly_laws.specs.Tests.{passes};
 
 /// A polynomial is determined by its coefficients: two of them in which each monomial has one
 /// coefficient are the same.
@@ -39,4 +43,29 @@ pub fn unchanged_variables_keep_the_polynomial()
         All (λ v. replaced ws v ≡ variable v) (variables p) → (in_body ws p).form ≡ p }
     ensures within { (ws : List (ℕ × Body)) (p : Body) → is_poly p ≡ true →
         All (λ v. replaced ws v ≡ variable v) (variables p) → (in_body ws p).within ≡ true }
+{}
+
+/// What is formed of polynomials has no variables but theirs: where the variables of the parts, at every level,
+/// all pass a test, those of a sum, difference, multiple, product, quotient or remainder do. A number has none.
+pub fn results_have_the_variables_of_their_parts()
+    ensures number { (test : ℕ → Bool) (k : ℤ) → passes test (number k) ≡ true }
+    ensures variable { (test : ℕ → Bool) (n : ℕ) → test n ≡ true → passes test (variable n) ≡ true }
+    ensures sum { (test : ℕ → Bool) (p q : Body) → passes test p ≡ true → passes test q ≡ true →
+        passes test (added p q) ≡ true }
+    ensures difference { (test : ℕ → Bool) (p q : Body) → passes test p ≡ true → passes test q ≡ true →
+        passes test (subtracted p q) ≡ true }
+    ensures multiple { (test : ℕ → Bool) (k : ℤ) (p : Body) → passes test p ≡ true →
+        passes test (scaled_by k p) ≡ true }
+    ensures product { (test : ℕ → Bool) (p q : Body) → passes test p ≡ true → passes test q ≡ true →
+        passes test (multiplied p q) ≡ true }
+    ensures quotient { (test : ℕ → Bool) (p q : Body) → passes test p ≡ true → passes test q ≡ true →
+        passes test (quotient_of p q) ≡ true }
+    ensures remainder { (test : ℕ → Bool) (p q : Body) → passes test p ≡ true → passes test q ≡ true →
+        passes test (remainder_of p q) ≡ true }
+{}
+
+/// An instance has no variables but those of the polynomials that its variables are replaced by.
+pub fn instances_have_the_variables_of_their_replacements()
+    ensures { (test : ℕ → Bool) (ws : List (ℕ × Body)) (p : Body) →
+        All (λ v. passes test (replaced ws v) ≡ true) (variables p) → passes test (in_body ws p).form ≡ true }
 {}

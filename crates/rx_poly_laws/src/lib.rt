@@ -11,6 +11,8 @@ mod tests;
 
 pub use laws::{
     equal_coefficients_make_one_polynomial, inner_polynomials_keep_the_limits,
-    unchanged_variables_keep_the_polynomial, variables_alone_decide_the_value,
+    instances_have_the_variables_of_their_replacements,
+    results_have_the_variables_of_their_parts, unchanged_variables_keep_the_polynomial,
+    variables_alone_decide_the_value,
 };
 pub use rx_poly::uses_below;
