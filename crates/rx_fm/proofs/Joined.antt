@@ -22,7 +22,8 @@ use Rattle.rx_poly.specs.declared.body.Mono.{Mono}
 use Rattle.rx_fm.specs.Elimination.{at, cancelled, cancelled_within, common, common_within, joined, joined_within, reduced, weighed, weighed_within}
 use Rattle.rx_fm.specs.Numbers.{combined_within, gcd, size_fits}
 use Rattle.rx_fm.specs.declared.combination.Combination.{Combination}
-use Rattle.rx_fm.proofs.Coefficients.{coefficient-add, coefficient-each, coefficient-times, divides_coefficient}
+use Rattle.rx_fm.proofs.Coefficients.{coefficient-each, divides_coefficient}
+use Rattle.rx_poly_laws.proofs.SumCoefficients.{coefficient-add, coefficient-times}
 use Rattle.rx_fm.proofs.Dividing.{common_divides, divided_poly, each, exact}
 use Rattle.rx_fm.proofs.Gcd.{gcd_is, size_is}
 use Rattle.rx_fm.proofs.Sums.{swap}

@@ -22,7 +22,8 @@ absent k (t ∷ ts) h =
     let p = and_parts (is_lt (mono_cmp k t.0)) (is_before mono_cmp k ts) h in
     ap (λ r. found r t.1 (coefficient k ts)) (lt_is (mono_cmp k t.0) p.0) ∙ absent k ts p.1
 
-itself : (k : Mono) → mono_cmp k k ≡ Equal
+-- a monomial is level with itself
+pub itself : (k : Mono) → mono_cmp k k ≡ Equal
 itself k = own (mono_cmp k k) (mono_total.antisymm k k)
   where
     own : (r : Ordering) → r ≡ ordering_reverse r → r ≡ Equal

@@ -1,5 +1,5 @@
 -- The variables of an instance are those of what its variables are replaced by.
-use Rattle.std.proofs.Common.{◌≡◌, ◌∙◌, ap, subst, ℕ, Bool, true, ◌&&◌, refl, sym, List, [], ◌∷◌, ◌++◌, map, ℤ}
+use Rattle.std.proofs.Common.{◌≡◌, ◌∙◌, ap, subst, ℕ, Bool, true, ◌&&◌, sym, List, [], ◌∷◌, ◌++◌, map, ℤ}
 use Rattle.std.specs.List.{All, flat_map}
 use Rattle.std.proofs.lemmas.List.Elements.{All-head}
 use Rattle.rx_poly.specs.Constants.{number}

@@ -6,3 +6,6 @@ pub mod Prefixes
 pub mod Unchanged
 pub mod TestLaws
 pub mod InstanceVariables
+pub mod NormVariables
+pub mod SameInstance
+pub mod SumCoefficients

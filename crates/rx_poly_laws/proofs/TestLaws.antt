@@ -1,6 +1,6 @@
 -- The variables of what is formed of polynomials are those of its parts.
-use Rattle.std.proofs.Common.{◌≡◌, ◌∙◌, ap, subst, ℕ, Bool, true, ◌&&◌, refl, sym, List, [], ◌∷◌, map, ℤ, pos, ◌*ℤ◌, neg_ℤ}
-use Rattle.std.specs.List.{flat_map, list_all}
+use Rattle.std.proofs.Common.{◌≡◌, ◌∙◌, ap, ℕ, Bool, true, ◌&&◌, refl, sym, List, [], ◌∷◌, ℤ, pos}
+use Rattle.std.specs.List.{list_all}
 use Rattle.std.proofs.lemmas.Bool.{and_from, and_parts}
 use Rattle.std.proofs.lemmas.List.Folds.{list_all-append}
 use Rattle.rx_poly.specs.Constants.{number, variable}

@@ -1,18 +1,21 @@
 //! Laws of normal forms.
-ghost use Rattle.std.specs.Prelude.{◌≡◌, ◌<◌, ℕ, ℤ, Bool, true, All, List};
+ghost use Rattle.std.specs.Prelude.{◌≡◌, ◌<◌, ◌+ℤ◌, ◌-ℤ◌, ◌*ℤ◌, ℕ, ℤ, pos, Bool, true, All, List};
 ghost use Rattle.rx_poly.specs.Normal.{is_poly};
 ghost use Rattle.rx_poly.specs.Constants.{number, variable};
 ghost use Rattle.rx_poly.specs.Division.{quotient_of, remainder_of};
-ghost use Rattle.rx_poly.specs.Limits.{added, scaled_by, subtracted};
+ghost use Rattle.rx_poly.specs.Limits.{added, is_within, scaled_by, subtracted};
+ghost use Rattle.rx_poly.specs.Norm.{norm_of};
 ghost use Rattle.rx_poly.specs.Products.{multiplied};
 ghost use Rattle.rx_poly.specs.Reading.{coefficient};
 ghost use Rattle.rx_poly.specs.Substitution.{in_body, replaced};
 ghost use Rattle.rx_poly.specs.Value.{value};
 ghost use Rattle.rx_poly.specs.declared.body.Body.{Body, out-Body};
 ghost use Rattle.rx_poly.specs.declared.body.Mono.{Mono};
+ghost use Rattle.rx_poly.specs.declared.iterm.ITerm.{ITerm};
 ghost use Rattle.rx_poly_laws.specs.Inner.{inner};
 ghost use Rattle.rx_poly.specs.Variables.{uses_below, variables};
 ghost use Rattle.rx_poly_laws.specs.Tests.{passes};
+ghost use Rattle.rx_poly_laws.specs.Tests.{passes, term_passes};
 
 /// A polynomial is determined by its coefficients: two of them in which each monomial has one
 /// coefficient are the same.
@@ -62,10 +65,38 @@ pub fn results_have_the_variables_of_their_parts()
         passes test (quotient_of p q) ≡ true }
     ensures remainder { (test : ℕ → Bool) (p q : Body) → passes test p ≡ true → passes test q ≡ true →
         passes test (remainder_of p q) ≡ true }
+    ensures norm { (test : ℕ → Bool) (t : ITerm) → term_passes test t ≡ true →
+        passes test (norm_of t) ≡ true }
 {}
 
 /// An instance has no variables but those of the polynomials that its variables are replaced by.
 pub fn instances_have_the_variables_of_their_replacements()
     ensures { (test : ℕ → Bool) (ws : List (ℕ × Body)) (p : Body) →
         All (λ v. passes test (replaced ws v) ≡ true) (variables p) → passes test (in_body ws p).form ≡ true }
+{}
+
+/// What a polynomial becomes by a substitution depends only on what its own variables are replaced by; so does
+/// whether all that is formed on the way keeps the limits.
+pub fn an_instance_depends_on_what_its_variables_are_replaced_by()
+    ensures { (ws us : List (ℕ × Body)) (p : Body) →
+        All (λ v. replaced ws v ≡ replaced us v) (variables p) → in_body ws p ≡ in_body us p }
+{}
+
+/// A polynomial minus itself is 0, which passes no limit.
+pub fn a_polynomial_minus_itself_is_zero()
+    ensures same { (p : Body) → is_poly p ≡ true → subtracted p p ≡ number (pos 0) }
+    ensures within { (p : Body) → is_poly p ≡ true → is_within (subtracted p p) ≡ true }
+{}
+
+/// The coefficient of a monomial in a sum is the sum of its coefficients in both, in a difference their
+/// difference, and in a multiple the product with the number.
+pub fn coefficients_are_combined_one_by_one()
+    ensures sum { (m : Mono) (p q : Body) → is_poly p ≡ true → is_poly q ≡ true →
+        coefficient m (out-Body (added p q)).terms ≡
+        coefficient m (out-Body p).terms +ℤ coefficient m (out-Body q).terms }
+    ensures difference { (m : Mono) (p q : Body) → is_poly p ≡ true → is_poly q ≡ true →
+        coefficient m (out-Body (subtracted p q)).terms ≡
+        coefficient m (out-Body p).terms -ℤ coefficient m (out-Body q).terms }
+    ensures multiple { (m : Mono) (k : ℤ) (p : Body) → is_poly p ≡ true →
+        coefficient m (out-Body (scaled_by k p)).terms ≡ coefficient m (out-Body p).terms *ℤ k }
 {}

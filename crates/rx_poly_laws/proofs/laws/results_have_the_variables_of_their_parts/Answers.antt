@@ -1,3 +1,4 @@
+use Rattle.rx_poly_laws.proofs.NormVariables.{norm_passes}
 use Rattle.rx_poly_laws.proofs.TestLaws.{passes-number, passes-variable, passes-added, passes-subtracted, passes-scaled_by, passes-multiplied, passes-quotient_of, passes-remainder_of}
 use Rattle.rx_poly_laws.proofs.laws.results_have_the_variables_of_their_parts.Goals as goal
 
@@ -24,3 +25,6 @@ returns-clause-quotient c = passes-quotient_of
 
 pub returns-clause-remainder : goal.returns-clause-remainder
 returns-clause-remainder c = passes-remainder_of
+
+pub returns-clause-norm : goal.returns-clause-norm
+returns-clause-norm c = norm_passes
