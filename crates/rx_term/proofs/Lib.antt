@@ -1,4 +1,5 @@
 -- Lemmas on the definitions of specs/.
+pub mod AssignedLaws
 pub mod Changing
 pub mod CoveredLaws
 pub mod Equations

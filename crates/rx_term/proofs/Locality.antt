@@ -1,5 +1,5 @@
 -- What a term means, and whether rows hold, is decided by the variables that stand in them.
-use Rattle.std.proofs.Common.{◌≡◌, ◌∙◌, ap, sym, subst, refl, true, ℕ, ◌<◌, List, [], ◌∷◌, ℤ, pos, ◌≤ℤ◌}
+use Rattle.std.proofs.Common.{◌≡◌, ◌∙◌, ap, sym, subst, refl, true, ℕ, zero, suc, ◌<◌, List, [], ◌∷◌, ℤ, pos, ◌≤ℤ◌}
 use Rattle.std.proofs.lemmas.Bool.{and_parts}
 use Rattle.std.proofs.lemmas.List.Elements.{All-cons, All-head, All-nil, All-tail}
 use Rattle.rx_poly.specs.declared.body.Body.{Body}
@@ -10,15 +10,16 @@ use Rattle.rx_row.specs.Holds.{AllHold, RowHolds}
 use Rattle.rx_row.specs.Parts.{poly_of}
 use Rattle.rx_row.specs.declared.row.Row.{Row}
 use Rattle.rx_row.specs.declared.row.Row.TheVariants.{Ge, Eq, Ne}
-use Rattle.rx_term.specs.Meaning.{values, ground_at}
+use Rattle.rx_term.specs.Meaning.{values, ground_at, outer_frames, outer_level}
 use Rattle.rx_term.specs.Variables.{polys_use_below, rows_use_below, term_uses_below}
 use Rattle.rx_term.specs.declared.term.Sym.{Sym}
-use Rattle.rx_term.specs.declared.term.Term.{Term}
-use Rattle.rx_term.specs.declared.term.Term.TheVariants.{Frame}
-use Rattle.rx_term.proofs.Equations.{induct, below-Return, below-Call, below-Frame, ground-Return, ground-Fail, ground-Call, ground-Frame}
+use Rattle.rx_term.specs.declared.term.Term.{Term, Term-F}
+use Rattle.rx_term.specs.declared.term.Term.TheVariants.{Frame, outs-Return, outs-Fail, outs-Call}
+use Rattle.rx_term.proofs.Equations.{induct, Form, AReturn, AFail, ACall, AFrame, form, outer-Frame, below-Return, below-Call, below-Frame, ground-Return, ground-Fail, ground-Call, ground-Frame}
 
 module _ (a b : ℕ → ℤ) (n : ℕ) (agree : (v : ℕ) → v < n → a v ≡ b v) where
-  same_values : (ps : List Body) → polys_use_below n ps ≡ true → values a ps ≡ values b ps
+  -- a list of polynomials has the same values
+  pub same_values : (ps : List Body) → polys_use_below n ps ≡ true → values a ps ≡ values b ps
   same_values [] h = refl
   same_values (p ∷ ps) h =
       let both = and_parts (uses_below n p) (polys_use_below n ps) h in
@@ -42,6 +43,21 @@ module _ (a b : ℕ → ℤ) (n : ℕ) (agree : (v : ℕ) → v < n → a v ≡ 
       (λ c h. ground-Fail a c ∙ sym (ground-Fail b c))
       (λ f ps h. ground-Call a f ps ∙ ap (stack.Call f.0) (same_values ps (sym (below-Call n f ps) ∙ h)) ∙ sym (ground-Call b f ps))
       frame_agrees
+
+  outer_of : (k : ℕ) → ((t : Term) → term_uses_below n t ≡ true → outer_frames a k t ≡ outer_frames b k t)
+      → (t : Term) → Form t → term_uses_below n t ≡ true → outer_frames a (suc k) t ≡ outer_frames b (suc k) t
+  outer_of k rest _ (AReturn p) below = ap (λ (x : Term-F Term). outer_level a x (outer_frames a k)) (outs-Return p) ∙ sym (ap (λ (x : Term-F Term). outer_level b x (outer_frames b k)) (outs-Return p))
+  outer_of k rest _ (AFail c) below = ap (λ (x : Term-F Term). outer_level a x (outer_frames a k)) (outs-Fail c) ∙ sym (ap (λ (x : Term-F Term). outer_level b x (outer_frames b k)) (outs-Fail c))
+  outer_of k rest _ (ACall f ps) below = ap (λ (x : Term-F Term). outer_level a x (outer_frames a k)) (outs-Call f ps) ∙ sym (ap (λ (x : Term-F Term). outer_level b x (outer_frames b k)) (outs-Call f ps))
+  outer_of k rest _ (AFrame f ps t) below =
+      let both = and_parts (polys_use_below n ps) (term_uses_below n t) (sym (below-Frame n f ps t) ∙ below) in
+      outer-Frame a k f ps t ∙ (ap (λ vs. record { symbol = f.0; arguments = vs } ∷ outer_frames a k t) (same_values ps both.0)
+      ∙ ap (λ fs. record { symbol = f.0; arguments = values b ps } ∷ fs) (rest t both.1)) ∙ sym (outer-Frame b k f ps t)
+
+  -- so are its outer frames the same
+  pub same_outer : (k : ℕ) (t : Term) → term_uses_below n t ≡ true → outer_frames a k t ≡ outer_frames b k t
+  same_outer zero t below = refl
+  same_outer (suc k) t below = outer_of k (same_outer k) t (form t) below
 
   row_holds_too : (row : Row) → uses_below n (poly_of row) ≡ true → RowHolds a row → RowHolds b row
   row_holds_too (Ge p) h holds = subst (λ z. pos 0 ≤ℤ z) (same_value_below a b n p agree h) holds

@@ -44,7 +44,7 @@ left_arguments _ (OverFail f n c) =
     first ∙ ap (variables_from 0) (sym (ap length first ∙ length-variables_from 0 n))
 
 -- the variables from a number on have the values of the polynomials that are listed for them
-listed_values : (a b : ℕ → ℤ) (k : ℕ) (ps : List Body) → ((v : ℕ) → k ≤ v → b v ≡ worth a (enumerate_from k ps) v) → values b (variables_from k (length ps)) ≡ values a ps
+pub listed_values : (a b : ℕ → ℤ) (k : ℕ) (ps : List Body) → ((v : ℕ) → k ≤ v → b v ≡ worth a (enumerate_from k ps) v) → values b (variables_from k (length ps)) ≡ values a ps
 listed_values a b k [] is = refl
 listed_values a b k (p ∷ ps) is =
     let here : value b (variable k) ≡ value a p =

@@ -142,10 +142,10 @@ module _ (inner whole upper below : Term) (r : Term × Option Term) where
       let level : depth_of below ≡ depth_of t = ap depth_of same in record {
         on = record {
           makes =
-            ap (λ (x : Term). onto x (replace_redex below inner)) first
-            ∙ ap (λ (x : Term). onto (Frame f ps upper) (replace_redex x inner)) same
-            ∙ onto-Frame f ps upper (replace_redex t inner)
-            ∙ ap (onto upper) (sym (replace_redex_further f ps t inner inside)) ∙ s.makes;
+              ap (λ (x : Term). onto x (replace_redex below inner)) first
+              ∙ ap (λ (x : Term). onto (Frame f ps upper) (replace_redex x inner)) same
+              ∙ onto-Frame f ps upper (replace_redex t inner)
+              ∙ ap (onto upper) (sym (replace_redex_further f ps t inner inside)) ∙ s.makes;
           going = ap is_result same ∙ inside;
         };
         less = omega (arith, deeper, level);

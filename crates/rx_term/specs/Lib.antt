@@ -1,4 +1,5 @@
 -- Terms as stacks, what they mean as ground terms, and rule sets.
+pub mod Assigned
 pub mod Covered
 pub mod Fitting
 pub mod MadeTest

@@ -1,13 +1,18 @@
 //! What terms and rules mean as ground terms: laws, each a function with an empty body.
-ghost use Rattle.std.specs.Prelude.{◌≡◌, ℕ, ℤ, true, Some, List, Contains};
+ghost use Rattle.std.specs.Prelude.{◌≡◌, ◌↔◌, ◌<◌, ℕ, ℤ, true, Some, List, Contains, length};
+ghost use Rattle.std.specs.List.{enumerate_from};
 ghost use Rattle.std.specs.Option.{option_map};
 ghost use Rattle.rx_poly.specs.Substitution.{worth};
+ghost use Rattle.rx_poly.specs.Value.{value};
 ghost use Rattle.rx_poly.specs.declared.body.Body.{Body};
+ghost use Rattle.rx_poly_laws.specs.Variables.{uses_below};
 ghost use Rattle.rx_rewriting.specs.Premises.{KeepsInner, Moves, ResultsRest, Stays};
 ghost use Rattle.rx_rewriting.specs.Steps.{IsSingleValued, Step};
 ghost use Rattle.rx_rewriting.specs.Terms.{Fits, Ground, TermSet, under};
 ghost use Rattle.rx_row.specs.Holds.{AllHold};
 ghost use Rattle.rx_row.specs.Substitution.{in_rows};
+ghost use Rattle.rx_row.specs.declared.row.Row.{Row};
+ghost use Rattle.rx_term.specs.Assigned.{assigned};
 ghost use Rattle.rx_term.specs.Covered.{CanStep, Domains, IsCovered, IsCoveredOver, KeepsDomains};
 ghost use Rattle.rx_term.specs.Fitting.{term_fits};
 ghost use Rattle.rx_term.specs.Meaning.{Instance, IsRedex, ground_at, ground_redex, matched, outer_frames, redex_of, signature, values};
@@ -15,8 +20,8 @@ ghost use Rattle.rx_term.specs.Paired.{IsPaired};
 ghost use Rattle.rx_term.specs.Shapes.{shape_of};
 ghost use Rattle.rx_term.specs.Stacks.{behind, replaced};
 ghost use Rattle.rx_term.specs.Substitution.{in_polys, in_term};
-ghost use Rattle.rx_term.specs.Variables.{arguments_of};
-ghost use Rattle.rx_term.specs.WellMade.{IsWellMade};
+ghost use Rattle.rx_term.specs.Variables.{arguments_of, rows_use_below, term_uses_below};
+ghost use Rattle.rx_term.specs.WellMade.{IsWellMade, variables_from};
 ghost use Rattle.rx_term.specs.declared.rule.Rule.{Rule};
 ghost use Rattle.rx_term.specs.declared.rule_set.RuleParts.{RuleParts};
 ghost use Rattle.rx_term.specs.declared.term.Term.{Term};
@@ -146,4 +151,26 @@ pub fn covered_sets_step_inside<I: Inside>()
     ensures { (parts : RuleParts) → IsWellMade parts → IsCoveredOver I.domains parts →
         ((s : Ground) → I.inside s → Fits (signature parts) s) →
         Moves I.inside (Instance parts.rules) }
+{}
+
+/// Two assignments that agree below a number give a term all of whose variables are below it one
+/// ground term, and the same outer frames; rows all of whose variables are below it hold at both or at neither.
+pub fn variables_alone_decide_the_ground_term()
+    ensures term { (a b : ℕ → ℤ) (n : ℕ) → ((v : ℕ) → v < n → a v ≡ b v) → (t : Term) →
+        term_uses_below n t ≡ true → ground_at a t ≡ ground_at b t }
+    ensures frames { (a b : ℕ → ℤ) (n : ℕ) → ((v : ℕ) → v < n → a v ≡ b v) → (k : ℕ) (t : Term) →
+        term_uses_below n t ≡ true → outer_frames a k t ≡ outer_frames b k t }
+    ensures rows { (a b : ℕ → ℤ) (n : ℕ) → ((v : ℕ) → v < n → a v ≡ b v) → (rows : List Row) →
+        rows_use_below n rows ≡ true → AllHold a rows → AllHold b rows }
+{}
+
+/// At the assignment that a list of integers is, the first variables have these integers as their
+/// values. Where arguments replace the first variables, each polynomial and all rows over these have the value,
+/// or hold, as at the list of the arguments' values.
+pub fn arguments_are_assignments()
+    ensures variables { (xs : List ℤ) → values (assigned xs) (variables_from 0 (length xs)) ≡ xs }
+    ensures value { (a : ℕ → ℤ) (ps : List Body) (p : Body) → uses_below (length ps) p ≡ true →
+        value (worth a (enumerate_from 0 ps)) p ≡ value (assigned (values a ps)) p }
+    ensures rows { (a : ℕ → ℤ) (ps : List Body) (rows : List Row) → rows_use_below (length ps) rows ≡ true →
+        AllHold (worth a (enumerate_from 0 ps)) rows ↔ AllHold (assigned (values a ps)) rows }
 {}

@@ -145,8 +145,8 @@ impl Term {
         let mut rest = self;
         let mut upper = Term::Fail(0);
         while !rest.is_redex() {
-            let (further, below) = rest.turn(upper);
-            upper = further;
+            let (over, below) = rest.turn(upper);
+            upper = over;
             match below {
                 Some(below) => rest = below,
                 None => return upper.onto(inner),
