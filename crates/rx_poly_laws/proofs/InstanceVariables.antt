@@ -4,7 +4,7 @@ use Rattle.std.specs.List.{All, flat_map}
 use Rattle.std.proofs.lemmas.List.Elements.{All-head}
 use Rattle.rx_poly.specs.Constants.{number}
 use Rattle.rx_poly.specs.Limits.{of_terms, added, is_within}
-use Rattle.rx_poly.specs.Norm.{Formed}
+use Rattle.rx_plain.specs.Formed.{Formed}
 use Rattle.rx_poly.specs.Products.{multiplied, mul_within}
 use Rattle.rx_poly.specs.Substitution.{in_atom, in_body, in_mono, plus_all, replaced, times_all}
 use Rattle.rx_poly.proofs.Substituting.{in_Var, in_Div, in_Mod, in_mono_is, in_body_is, term_in, well}
@@ -13,10 +13,10 @@ use Rattle.rx_poly.specs.declared.body.Atom.TheVariants.{rolls-Var, rolls-Div, r
 use Rattle.rx_poly.specs.declared.body.Mono.{Mono, Mono-F, out-Mono, roll-Mono, out-roll-Mono, map-Mono}
 use Rattle.rx_poly.specs.declared.body.Body.{Body, Body-F, out-Body, roll-Body, out-roll-Body, map-Body, ind-Body}
 use Rattle.rx_poly_laws.specs.Tests.{passes}
-use Rattle.rx_poly_laws.specs.Variables.{atom_variables, mono_variables, variables}
-use Rattle.rx_poly_laws.proofs.Pieces.{all_parts}
+use Rattle.rx_poly.specs.Variables.{atom_variables, mono_variables, variables}
+use Rattle.rx_poly.proofs.Pieces.{all_parts}
 use Rattle.rx_poly_laws.proofs.TestLaws.{passes-added, passes-multiplied, passes-number, passes-of_terms, passes-quotient_of, passes-remainder_of}
-use Rattle.rx_poly_laws.proofs.VariableLaws.{variables_Var, variables_Div, variables_Mod, mono_variables_is, variables_is}
+use Rattle.rx_poly.proofs.VariableLaws.{variables_Var, variables_Div, variables_Mod, mono_variables_is, variables_is}
 
 module _ (test : ℕ → Bool) (ws : List (ℕ × Body)) where
   abbrev Replacements : List ℕ → Type 0
@@ -50,7 +50,7 @@ module _ (test : ℕ → Bool) (ws : List (ℕ × Body)) where
   abbrev bare_mono : Mono-F PartAtom PartBody PartMono → Mono-F Atom Body Mono
   bare_mono = map-Mono PartAtom PartBody PartMono Atom Body Mono (λ p. p.0) (λ p. p.0) (λ p. p.0)
 
-  abbrev form_passes : Formed → Bool
+  abbrev form_passes : Formed Body → Bool
   form_passes f = passes test f.form
 
   both_pass : (p q : PartBody) → Replacements (variables p.0 ++ variables q.0) → (form_passes (in_body ws p.0) ≡ true) × (form_passes (in_body ws q.0) ≡ true)
@@ -69,7 +69,7 @@ module _ (test : ℕ → Bool) (ws : List (ℕ × Body)) where
   atom_step : (x : Atom-F Atom Body Mono) (y : Atom-F PartAtom PartBody PartMono) → bare_atom y ≡ x → PassAtom (roll-Atom x)
   atom_step x y is = subst (λ z. PassAtom (roll-Atom z)) is (atom_level y)
 
-  times_pass : (ps : List PartAtom) (done : Formed) → Replacements (flat_map atom_variables (map (λ (p : PartAtom). p.0) ps)) → form_passes done ≡ true
+  times_pass : (ps : List PartAtom) (done : Formed Body) → Replacements (flat_map atom_variables (map (λ (p : PartAtom). p.0) ps)) → form_passes done ≡ true
       → form_passes (times_all done (map (in_atom ws) (map (λ (p : PartAtom). p.0) ps))) ≡ true
   times_pass [] done h d = d
   times_pass (p ∷ ps) done h d =
@@ -91,7 +91,7 @@ module _ (test : ℕ → Bool) (ws : List (ℕ × Body)) where
   abbrev of_term : Mono × ℤ → List ℕ
   of_term t = mono_variables t.0
 
-  plus_pass : (ps : List (PartMono × ℤ)) (done : Formed) → Replacements (flat_map of_term (map bare_term ps)) → form_passes done ≡ true
+  plus_pass : (ps : List (PartMono × ℤ)) (done : Formed Body) → Replacements (flat_map of_term (map bare_term ps)) → form_passes done ≡ true
       → form_passes (plus_all done (map (term_in ws) (map bare_term ps))) ≡ true
   plus_pass [] done h d = d
   plus_pass (p ∷ ps) done h d =

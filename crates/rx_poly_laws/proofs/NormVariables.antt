@@ -1,7 +1,9 @@
 -- The variables of a term's normal form are those of the term.
 use Rattle.std.proofs.Common.{◌≡◌, ◌∙◌, ap, subst, ℕ, Bool, true, sym, negsuc}
 use Rattle.std.proofs.lemmas.Bool.{and_parts}
-use Rattle.rx_poly.specs.Norm.{Formed, formed, norm_level, norm_of}
+use Rattle.rx_plain.specs.Formed.{Formed}
+use Rattle.rx_poly.specs.Norm.{formed, norm_level, norm_of}
+use Rattle.rx_poly.specs.declared.body.Body.{Body}
 use Rattle.rx_poly.specs.declared.iterm.ITerm.{ITerm, ITerm-F, roll-ITerm, map-ITerm, fold-roll-ITerm, ind-ITerm}
 use Rattle.rx_poly_laws.specs.Tests.{passes, term_passes, term_passes_level}
 use Rattle.rx_poly_laws.proofs.TestLaws.{passes-added, passes-multiplied, passes-number, passes-quotient_of, passes-remainder_of, passes-scaled_by, passes-variable}
@@ -18,7 +20,7 @@ module _ (test : ℕ → Bool) where
 
   -- by the parts of a term
   level : (y : ITerm-F Such) → term_passes_level test (map-ITerm ITerm Bool (term_passes test) (bare y)) ≡ true
-      → passes test (norm_level (map-ITerm ITerm Formed formed (bare y))).form ≡ true
+      → passes test (norm_level (map-ITerm ITerm (Formed Body) formed (bare y))).form ≡ true
   level (ITerm-F.Var n) h = passes-variable test n h
   level (ITerm-F.Lit k) h = passes-number test k
   level (ITerm-F.Add l r) h =
@@ -37,7 +39,7 @@ module _ (test : ℕ → Bool) where
 
   step : (x : ITerm-F ITerm) (y : ITerm-F Such) → bare y ≡ x → Passes (roll-ITerm x)
   step x y is = subst (λ z. Passes (roll-ITerm z)) is (λ h.
-      ap (λ (f : Formed). passes test f.form) (fold-roll-ITerm Formed norm_level (bare y))
+      ap (λ (f : Formed Body). passes test f.form) (fold-roll-ITerm (Formed Body) norm_level (bare y))
       ∙ level y (sym (fold-roll-ITerm Bool (term_passes_level test) (bare y)) ∙ h))
 
   -- where all variables of a term pass a test, those of its normal form do

@@ -5,16 +5,16 @@ use Rattle.std.proofs.lemmas.List.Elements.{All-head}
 use Rattle.rx_poly.specs.Constants.{number}
 use Rattle.rx_poly.specs.Division.{quotient_of, remainder_of}
 use Rattle.rx_poly.specs.Limits.{of_terms, added, is_within}
-use Rattle.rx_poly.specs.Norm.{Formed}
+use Rattle.rx_plain.specs.Formed.{Formed}
 use Rattle.rx_poly.specs.Substitution.{in_atom, in_body, in_mono, plus_all, replaced, times_all}
 use Rattle.rx_poly.proofs.Substituting.{in_Var, in_Div, in_Mod, in_mono_is, in_body_is, term_in, well}
 use Rattle.rx_poly.specs.declared.body.Atom.{Atom, Atom-F, roll-Atom, map-Atom}
 use Rattle.rx_poly.specs.declared.body.Atom.TheVariants.{rolls-Var, rolls-Div, rolls-Mod}
 use Rattle.rx_poly.specs.declared.body.Mono.{Mono, Mono-F, out-Mono, roll-Mono, out-roll-Mono, map-Mono}
 use Rattle.rx_poly.specs.declared.body.Body.{Body, Body-F, out-Body, roll-Body, out-roll-Body, map-Body, ind-Body}
-use Rattle.rx_poly_laws.specs.Variables.{atom_variables, mono_variables, variables}
-use Rattle.rx_poly_laws.proofs.Pieces.{all_parts}
-use Rattle.rx_poly_laws.proofs.VariableLaws.{variables_Var, variables_Div, variables_Mod, mono_variables_is, variables_is}
+use Rattle.rx_poly.specs.Variables.{atom_variables, mono_variables, variables}
+use Rattle.rx_poly.proofs.Pieces.{all_parts}
+use Rattle.rx_poly.proofs.VariableLaws.{variables_Var, variables_Div, variables_Mod, mono_variables_is, variables_is}
 
 module _ (ws us : List (ℕ × Body)) where
   abbrev Same : ℕ → Type 0
@@ -51,7 +51,7 @@ module _ (ws us : List (ℕ × Body)) where
   both_same : (p q : PartBody) → All Same (variables p.0 ++ variables q.0) → (in_body ws p.0 ≡ in_body us p.0) × (in_body ws q.0 ≡ in_body us q.0)
   both_same p q h = let g = all_parts Same (variables p.0) (variables q.0) h in (p.1 g.0, q.1 g.1)
 
-  abbrev divided : (Body → Body → Body) → Formed → Formed → Formed
+  abbrev divided : (Body → Body → Body) → Formed Body → Formed Body → Formed Body
   divided f p q = record { form = f p.form q.form; within = p.within && (q.within && is_within (f p.form q.form)) }
 
   atom_level : (y : Atom-F PartAtom PartBody PartMono) → SameAtom (roll-Atom (bare_atom y))
@@ -87,13 +87,13 @@ module _ (ws us : List (ℕ × Body)) where
   abbrev of_term : Mono × ℤ → List ℕ
   of_term t = mono_variables t.0
 
-  sums_same : (ps : List (PartMono × ℤ)) (done : Formed) → All Same (flat_map of_term (map bare_term ps))
+  sums_same : (ps : List (PartMono × ℤ)) (done : Formed Body) → All Same (flat_map of_term (map bare_term ps))
       → plus_all done (map (term_in ws) (map bare_term ps)) ≡ plus_all done (map (term_in us) (map bare_term ps))
   sums_same [] done h = refl
   sums_same (p ∷ ps) done h =
       let g = all_parts Same (mono_variables (p.0).0) (flat_map of_term (map bare_term ps)) h in
       let one = (p.0).1 g.0 p.1 in
-      let next : Formed → Formed = λ x. record { form = added done.form x.form; within = done.within && (x.within && is_within (added done.form x.form)) } in
+      let next : Formed Body → Formed Body = λ x. record { form = added done.form x.form; within = done.within && (x.within && is_within (added done.form x.form)) } in
       sums_same ps (next (in_mono ws (p.0).0 p.1)) g.1 ∙ ap (λ x. plus_all (next x) (map (term_in us) (map bare_term ps))) one
 
   body_step : (x : Body-F Atom Body Mono) (y : Body-F PartAtom PartBody PartMono) → bare_body y ≡ x → SameBody (roll-Body x)

@@ -19,9 +19,9 @@ use Rattle.rx_poly.specs.declared.body.Atom.TheVariants.{Var, Div, Mod}
 use Rattle.rx_poly.specs.declared.body.Mono.{Mono, out-Mono}
 use Rattle.rx_poly.specs.declared.body.Body.{Body, out-Body}
 use Rattle.rx_poly_laws.specs.Tests.{passes}
-use Rattle.rx_poly_laws.specs.Variables.{atom_variables, mono_variables, variables}
-use Rattle.rx_poly_laws.proofs.Pieces.{list_all-flat_map}
-use Rattle.rx_poly_laws.proofs.VariableLaws.{variables_Var, variables_Div, variables_Mod, mono_variables_is, variables_is}
+use Rattle.rx_poly.specs.Variables.{atom_variables, mono_variables, variables}
+use Rattle.rx_poly.proofs.Pieces.{list_all-flat_map}
+use Rattle.rx_poly.proofs.VariableLaws.{variables_Var, variables_Div, variables_Mod, mono_variables_is, variables_is}
 
 module _ (test : ℕ → Bool) where
   -- all variables of an atom, and of a monomial, pass the test

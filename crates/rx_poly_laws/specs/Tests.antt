@@ -4,7 +4,7 @@ use Rattle.std.specs.List.{list_all}
 use Rattle.rx_poly.specs.declared.body.Body.{Body}
 use Rattle.rx_poly.specs.declared.iterm.ITerm.{ITerm, ITerm-F, fold-ITerm}
 use Rattle.std.specs.Prelude.{true, ◌&&◌}
-use Rattle.rx_poly_laws.specs.Variables.{variables}
+use Rattle.rx_poly.specs.Variables.{variables}
 
 -- all variables of the polynomial, at every level, pass the test
 abbrev pub passes : (ℕ → Bool) → Body → Bool

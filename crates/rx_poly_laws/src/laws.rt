@@ -14,7 +14,6 @@ ghost use Rattle.rx_poly.specs.declared.body.Mono.{Mono};
 ghost use Rattle.rx_poly.specs.declared.iterm.ITerm.{ITerm};
 ghost use Rattle.rx_poly_laws.specs.Inner.{inner};
 ghost use Rattle.rx_poly.specs.Variables.{uses_below, variables};
-ghost use Rattle.rx_poly_laws.specs.Tests.{passes};
 ghost use Rattle.rx_poly_laws.specs.Tests.{passes, term_passes};
 
 /// A polynomial is determined by its coefficients: two of them in which each monomial has one

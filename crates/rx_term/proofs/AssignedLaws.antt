@@ -1,6 +1,5 @@
 -- Lists of integers as assignments, and arguments as such lists.
-use Rattle.std.proofs.Common.{◌≡◌, ◌∙◌, ap, sym, refl, true, Bool, ℕ, zero, suc, ◌+◌, ◌<◌, ◌≤◌, List, [], ◌∷◌, length, map, ℤ, pos, arith, cond}
-use Rattle.std.specs.Prelude.{unwrap_or, slice_get}
+use Rattle.std.proofs.Common.{◌≡◌, ◌∙◌, ap, refl, Bool, ℕ, zero, suc, ◌+◌, ◌<◌, List, [], ◌∷◌, length, ℤ, arith, cond}
 use Rattle.std.specs.List.{enumerate_from}
 use Rattle.std.proofs.lemmas.Bool.{eq-eqb, ne_eqb}
 use Rattle.rx_poly.specs.Constants.{variable}

@@ -1,6 +1,5 @@
 -- Covered sets: each redex inside has a rule that steps it, so each inside term that is no result has a step.
 use Rattle.std.proofs.Common.{◌≡◌, sym, subst, true, ℕ, List, map, ℤ, pos}
-use Rattle.std.specs.Prelude.{Contains}
 use Rattle.std.proofs.lemmas.List.Elements.{All-contains, filter_passes}
 use Rattle.rx_poly.specs.Constants.{number}
 use Rattle.rx_rewriting.specs.Terms as stack

@@ -1,44 +1,34 @@
 -- Paired sets are single-valued and covered.
-use Rattle.std.proofs.Common.{◌≡◌, ◌∙◌, ap, sym, subst, refl, Bool, true, false, ℕ, zero, suc, ◌+◌, ◌≤◌, ◌<◌, ◌⊎◌, inl, inr, Option, Some, None, List, [], ◌∷◌, length, map, ℤ, pos, arith}
-use Rattle.std.specs.Prelude.{Contains, slice_get, nat_eq, nat_le}
-use Rattle.std.specs.Option.{option_map}
-use Rattle.std.proofs.lemmas.Bool.{and_from, eq-eqb, le-leb}
-use Rattle.std.proofs.lemmas.List.{length-map}
+use Rattle.std.proofs.Common.{◌≡◌, ◌∙◌, ap, sym, subst, ℕ, zero, suc, ◌+◌, ◌≤◌, ◌<◌, ◌⊎◌, inl, inr, List, [], ◌∷◌, ℤ, arith}
+use Rattle.std.specs.Prelude.{Contains}
 use Rattle.std.proofs.Math.Nat.{eq-or-lt_of_le}
-use Rattle.std.proofs.lemmas.List.Elements.{All-cons, All-contains, All-head, All-nil, filter_passes}
-use Rattle.std.proofs.lemmas.Option.{slice_get-map}
-use Rattle.rx_poly.specs.Constants.{number, variable}
+use Rattle.std.proofs.lemmas.List.Elements.{All-cons, All-head, All-nil}
+use Rattle.rx_poly.specs.Constants.{variable}
 use Rattle.rx_poly.specs.Value.{value}
-use Rattle.rx_poly.proofs.Constants.{value-number, value-variable}
+use Rattle.rx_poly.proofs.Constants.{value-variable}
 use Rattle.rx_rewriting.specs.Terms as stack
 use Rattle.rx_rewriting.specs.Terms.{Ground, Symbol, Declares, Fits, IsResult}
-use Rattle.rx_rewriting.specs.Steps.{Step, Here, IsSingleValued}
-use Rattle.rx_rewriting.specs.Premises.{Moves}
-use Rattle.rx_rewriting.proofs.UnderFrames.{Fits-inner, moves_under_frames, single_valued_under_frames}
+use Rattle.rx_rewriting.specs.Steps.{Step, IsSingleValued}
+use Rattle.rx_rewriting.proofs.UnderFrames.{single_valued_under_frames}
 use Rattle.rx_row.specs.Holds.{AllHold, RowHolds}
 use Rattle.rx_row.specs.Negation.{negation}
 use Rattle.rx_row.specs.declared.row.Row.{Row}
 use Rattle.rx_row.proofs.RowLaws.{holds_or_not, holds_not_both}
-use Rattle.rx_row.proofs.SubstitutionLaws.{in_rows-hold}
-use Rattle.rx_poly.specs.Substitution.{worth}
 use Rattle.rx_term.specs.Covered.{IsCovered}
-use Rattle.rx_term.specs.Meaning.{Instance, IsRedex, CallRedex, ReturnRedex, FailRedex, values, ground_at, matched, signature, symbol_of}
+use Rattle.rx_term.specs.Meaning.{Instance, IsRedex, CallRedex, ReturnRedex, FailRedex, values, ground_at}
 use Rattle.rx_term.specs.Paired.{IsPair, One, Two, IsPaired, rules_of_shape}
 use Rattle.rx_term.specs.Shapes.{same_shape, shape_of}
-use Rattle.rx_term.specs.Substitution.{in_term}
 use Rattle.rx_term.specs.WellMade.{IsWellMade, variables_from, width}
 use Rattle.rx_term.specs.declared.rule.Rule.{Rule}
 use Rattle.rx_term.specs.declared.rule_set.RuleParts.{RuleParts}
-use Rattle.rx_term.specs.declared.rule_set.SymInfo.{SymInfo}
-use Rattle.rx_term.specs.declared.term.Sym.{Sym}
 use Rattle.rx_term.specs.declared.term.Term.{Term}
-use Rattle.rx_term.specs.declared.term.Term.TheVariants.{Return, Fail, Call, Frame}
-use Rattle.rx_term.proofs.Equations.{fits-Return, fits-Fail, fits-Call, fits-Frame, ground-Return, ground-Fail, ground-Call, ground-Frame}
-use Rattle.rx_term.proofs.Kept.{first_one, first_or_other, kept, other_one, was_there}
+use Rattle.rx_term.specs.declared.term.Term.TheVariants.{Return, Fail}
+use Rattle.rx_term.proofs.Equations.{ground-Return, ground-Fail, ground-Call, ground-Frame}
+use Rattle.rx_term.proofs.Kept.{first_one, first_or_other, kept, other_one}
 use Rattle.rx_term.proofs.Locality.{hold_too, same_ground_below}
 use Rattle.rx_term.proofs.Matching.{left_arguments}
-use Rattle.rx_term.proofs.RuleLaws.{left_redex, redex_shape, shape_itself, told_shape, rule_made, rule_steps, results_rest}
-use Rattle.rx_term.proofs.ShapeLaws.{declared_so, ground_alike, same_count, same_parts_shape}
+use Rattle.rx_term.proofs.RuleLaws.{left_redex, redex_shape, shape_itself, rule_made, results_rest}
+use Rattle.rx_term.proofs.ShapeLaws.{ground_alike, same_count, same_parts_shape}
 
 -- ---- two rules of one shape
 

@@ -1,5 +1,5 @@
 -- Walks down a stack to its redex.
-use Rattle.std.proofs.Common.{◌≡◌, ◌∙◌, ap, sym, refl, Bool, true, false, ℕ, suc, ◌+◌, ◌<◌, Option, Some, None, List, arith}
+use Rattle.std.proofs.Common.{◌≡◌, ◌∙◌, ap, sym, refl, true, false, ℕ, suc, ◌+◌, ◌<◌, Option, Some, None, List, arith}
 use Rattle.std.specs.Prelude.{option_and_then}
 use Rattle.std.specs.Option.{option_map_or}
 use Rattle.rx_poly.specs.declared.body.Body.{Body}
@@ -7,7 +7,7 @@ use Rattle.rx_term.specs.Meaning.{redex_of}
 use Rattle.rx_term.specs.Stacks.{behind, depth_of, is_redex, is_redex_level, is_result, is_result_level, onto, redex_place, replace_redex, replaced, turned, turned_level}
 use Rattle.rx_term.specs.declared.term.Sym.{Sym}
 use Rattle.rx_term.specs.declared.term.Term.{Term, Term-F}
-use Rattle.rx_term.specs.declared.term.Term.TheVariants.{Return, Fail, Call, Frame, outs-Return, outs-Fail, outs-Call, outs-Frame}
+use Rattle.rx_term.specs.declared.term.Term.TheVariants.{Call, Frame, outs-Return, outs-Fail, outs-Call, outs-Frame}
 use Rattle.rx_term.proofs.Equations.{Form, AReturn, AFail, ACall, AFrame, form, behind-Frame, depth-Frame, onto-Frame, redex-Return, redex-Fail, redex-Call, redex-Frame, replaced-Frame, turned-Frame}
 
 -- a frame is no result

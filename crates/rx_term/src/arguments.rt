@@ -4,8 +4,7 @@ ghost use Rattle.rx_term.specs.Substitution.{in_polys, polys_within};
 ghost use Rattle.rx_term.specs.Variables.{polys_use_below};
 
 use rx_plain::Items;
-use rx_poly::{Poly, PolyEnd};
-use rx_poly::uses_below;
+use rx_poly::{Poly, PolyEnd, uses_below};
 use std::alloc::{AllocError, Global};
 
 /// The same polynomials once more; fails only for want of memory.

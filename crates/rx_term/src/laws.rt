@@ -5,7 +5,7 @@ ghost use Rattle.std.specs.Option.{option_map};
 ghost use Rattle.rx_poly.specs.Substitution.{worth};
 ghost use Rattle.rx_poly.specs.Value.{value};
 ghost use Rattle.rx_poly.specs.declared.body.Body.{Body};
-ghost use Rattle.rx_poly_laws.specs.Variables.{uses_below};
+ghost use Rattle.rx_poly.specs.Variables.{uses_below};
 ghost use Rattle.rx_rewriting.specs.Premises.{KeepsInner, Moves, ResultsRest, Stays};
 ghost use Rattle.rx_rewriting.specs.Steps.{IsSingleValued, Step};
 ghost use Rattle.rx_rewriting.specs.Terms.{Fits, Ground, TermSet, under};

@@ -7,8 +7,7 @@ ghost use Rattle.rx_poly.specs.declared.body.Atom.{out-Atom};
 ghost use Rattle.rx_term.specs.declared.term.Term.{out-Term};
 
 use crate::term::Term;
-use rx_poly::{Atom, Poly};
-use rx_poly::uses_below;
+use rx_poly::{Atom, Poly, uses_below};
 use rx_row::Row;
 
 /// How many variables there are.

@@ -10,8 +10,7 @@ ghost use Rattle.rx_term.specs.Variables.{term_uses_below};
 
 use crate::arguments::{are_below, are_same, copied, substituted};
 use rx_plain::{Boxed, Items};
-use rx_poly::{Poly, PolyEnd};
-use rx_poly::uses_below;
+use rx_poly::{Poly, PolyEnd, uses_below};
 use std::alloc::{AllocError, Global};
 
 /// The number of a symbol.

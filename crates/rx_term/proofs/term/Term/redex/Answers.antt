@@ -1,4 +1,4 @@
-use Rattle.std.proofs.Common.{◌≡◌, ◌∙◌, ap, false}
+use Rattle.std.proofs.Common.{◌≡◌, false}
 use Rattle.rx_term.specs.Stacks.{is_result}
 use Rattle.rx_term.specs.declared.term.Term.TheVariants.{Frame}
 use Rattle.rx_term.proofs.RedexWalks.{found_further}
