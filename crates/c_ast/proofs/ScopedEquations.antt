@@ -13,7 +13,7 @@ use Rattle.c_ast.specs.declared.expr.Expr.TheFolds.{fold_out-Expr}
 use Rattle.c_ast.specs.declared.stmt.Stmt.{Stmt}
 use Rattle.c_ast.specs.declared.stmt.Stmt.TheVariants as Syntax
 use Rattle.c_ast.specs.declared.stmt.Stmt.TheFolds.{fold_out-Stmt}
-use Rattle.c_ast.specs.Scoped.{passes_if_there, takes, SlotStep, slots_in_order, is_fine, only_if, is_scoped_level, is_scoped_expr, slots_level, slots_after}
+use Rattle.c_ast.specs.Scoped.{passes_if_there, takes, SlotStep, slots_in_order, is_fine, is_fine_turn, only_if, is_scoped_level, is_scoped_expr, slots_level, slots_after}
 
 module _ (counts : List ℕ) (n : ℕ) where
   -- a literal is
@@ -72,7 +72,7 @@ module _ (counts : List ℕ) where
 
   -- a `for`, whose first part declares for the others
   pub slots-For : (first : List Stmt) (test : Option Expr) (change : Option Stmt) (inner : Stmt) (n : ℕ) → slots_after counts (Syntax.For first test change inner) n
-      ≡ option_and_then (λ i. only_if (passes_if_there (is_scoped_expr counts i) test && (passes_if_there (λ t. is_fine t i) (option_map (slots_after counts) change) && is_fine (slots_after counts inner) i)) n)
+      ≡ option_and_then (λ i. only_if (is_fine_turn counts test (option_map (slots_after counts) change) (slots_after counts inner) i) n)
       (slots_in_order (map (slots_after counts) first) n)
   slots-For first test None inner =
       from_slots (fold_out-Stmt SlotStep (slots_level counts) (Syntax.For first test None inner) ∙ rw (Syntax.outs-For first test None inner) refl)

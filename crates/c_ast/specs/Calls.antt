@@ -18,7 +18,7 @@ calls_level (Expr-F.Binary op a b) = a ++ b
 calls_level (Expr-F.Choose c a b) = c ++ a ++ b
 calls_level (Expr-F.Apply f arguments) = f ∷ concat arguments
 
--- the functions that an expression calls, from left to right, each as often as a call of it stands there
+-- the functions that an expression calls, from left to right, each as often as it is called there
 abbrev pub calls : Expr → List ℕ
 calls = fold-Expr (List ℕ) calls_level
 
@@ -37,6 +37,6 @@ calls_in_level (Stmt-F.Continue token) = []
 calls_in_level (Stmt-F.Return value) = calls value
 calls_in_level (Stmt-F.Block inner) = concat inner
 
--- the functions that a statement calls, in the order of its parts, whether or not anything leads there
+-- the functions that a statement calls, in the order of its parts, also where nothing leads
 abbrev pub calls_in : Stmt → List ℕ
 calls_in = fold-Stmt (List ℕ) calls_in_level

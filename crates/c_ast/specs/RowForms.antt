@@ -1,4 +1,5 @@
--- Which expressions may be preconditions: a comparison of two straight expressions, or several joined by `&&`.
+-- Which expressions may be preconditions: a comparison of two straight expressions, or several
+-- joined by `&&`.
 use Rattle.std.specs.Prelude.{Bool, true, false, ◌&&◌}
 use Rattle.c_ast.specs.declared.expr.BinOp.{BinOp}
 use Rattle.c_ast.specs.declared.expr.BinOp.TheVariants as binary
@@ -22,7 +23,8 @@ pub record Forms : Type 0 where
   pub straight : Bool
   pub row : Bool
 
--- whether an operator joins two operands to a row form: `&&` two row forms, a comparison two straight expressions
+-- whether an operator joins two operands to a row form: `&&` two row forms, a comparison two
+-- straight expressions
 abbrev pub row_of : BinOp → Forms → Forms → Bool
 row_of binary.AndAlso a b = a.row && b.row
 row_of op a b = is_comparison op && (a.straight && b.straight)
@@ -32,7 +34,10 @@ abbrev pub forms_level : Expr-F Forms → Forms
 forms_level (Expr-F.Lit n) = record { straight = true; row = false }
 forms_level (Expr-F.Var v) = record { straight = true; row = false }
 forms_level (Expr-F.Unary op a) = record { straight = is_sign op && a.straight; row = false }
-forms_level (Expr-F.Binary op a b) = record { straight = is_sum_or_product op && (a.straight && b.straight); row = row_of op a b }
+forms_level (Expr-F.Binary op a b) = record {
+  straight = is_sum_or_product op && (a.straight && b.straight);
+  row = row_of op a b;
+}
 forms_level (Expr-F.Choose c a b) = record { straight = false; row = false }
 forms_level (Expr-F.Apply name arguments) = record { straight = false; row = false }
 

@@ -1,4 +1,6 @@
-//! Trees of the C subset: expressions, statements, functions and programs, with their heights and exact copies, and which functions are straight.
+//! Trees of the C subset: expressions, statements, functions and programs, with their heights and
+//! exact copies, which functions are straight, and when a resolved program's slots and calls are in
+//! order.
 //!
 //! Contracts see each tree as plain data, so that `≡` compares trees. What a `u32` names is the reader's
 //! affair: in a program as it was read it is the number of a token, and in a resolved one a variable is a
@@ -7,11 +9,13 @@
 
 mod expr;
 mod forms;
+pub mod laws;
 mod program;
 mod stmt;
 
 pub use expr::{BinOp, Expr, UnOp, expr_height};
 pub use forms::straight;
+pub use laws::{one_fault_is_out_of_order, scoped_programs_name_what_is_there};
 pub use program::{Function, Program, Prototype, Resolved};
 pub use rx_plain::NoMemory;
 pub use stmt::{Stmt, stmt_height};
