@@ -12,8 +12,6 @@ mod occurrence;
 mod refutation;
 mod rounding;
 mod sums;
-#[cfg(test)]
-mod tests;
 
 pub use cert::{Cert, Parts};
 pub use conditions::{ConditionsAnswer, check_conditions, is_plain};

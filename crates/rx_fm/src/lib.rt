@@ -11,8 +11,6 @@ mod fm_end;
 mod monomials;
 mod numbers;
 mod stage;
-#[cfg(test)]
-mod tests;
 
 pub use elimination::farkas;
 pub use fm_end::FmEnd;

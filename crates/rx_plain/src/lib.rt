@@ -6,8 +6,6 @@ mod boxed;
 mod graded;
 mod items;
 mod no_memory;
-#[cfg(test)]
-mod tests;
 
 pub use boxed::Boxed;
 pub use graded::Graded;

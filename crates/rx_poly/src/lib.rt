@@ -15,8 +15,6 @@ mod reading;
 mod sign;
 mod size;
 mod substitution;
-#[cfg(test)]
-mod tests;
 mod variables;
 
 pub use body::{Atom, Body, Mono};

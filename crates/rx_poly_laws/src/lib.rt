@@ -1,13 +1,10 @@
-//! The variables of a polynomial, and laws of normal forms that the crates above rest on.
+//! Laws of polynomials in normal form, which the crates above rest on.
 //!
-//! What a reader may rely on: `uses_below` asks for the variables at every level, inside quotients and
-//! remainders too. Every other public function has an empty body, and its contract is a law of all
+//! What a reader may rely on: every function has an empty body, and its contract is a law of all
 //! polynomials. The lemmas of `proofs/` are the same laws for the proofs of the crates above.
 #![tactic(auto)]
 
 mod laws;
-#[cfg(test)]
-mod tests;
 
 pub use laws::{
     a_polynomial_minus_itself_is_zero, an_instance_depends_on_what_its_variables_are_replaced_by,

@@ -5,8 +5,6 @@
 mod constraint;
 mod parts;
 mod row;
-#[cfg(test)]
-mod tests;
 
 pub use constraint::{Constraint, subst_rows};
 pub use parts::{combine, combine_rows};

@@ -3,15 +3,11 @@
 #![tactic(auto)]
 
 mod arguments;
-#[cfg(test)]
-mod cases;
 mod laws;
 mod left_side;
 mod rule;
 mod rule_set;
 mod term;
-#[cfg(test)]
-mod tests;
 
 pub use laws::{
     Inside, arguments_are_assignments, covered_sets_step, covered_sets_step_inside,

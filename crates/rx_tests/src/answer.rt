@@ -1,0 +1,88 @@
+//! What a call answers, whatever its type, and whether that is what a line wants.
+use crate::reading::polynomials::{body, poly};
+use crate::reading::rows::{row, rows};
+use crate::reading::terms::term;
+use crate::reading::words::numbers;
+use rx_poly::{Body, Poly, PolyEnd};
+use rx_row::{Constraint, Row};
+use rx_term::Term;
+use std::alloc::Global;
+use std::cmp::Ordering;
+
+/// An answer.
+#[derive(Drop)]
+pub enum Answer {
+    /// One that has a word of its own.
+    Word(&'static str),
+    /// A number.
+    Number(i128),
+    /// Numbers in order.
+    Numbers(Vec<i128>),
+    /// A sum, which need not be a normal form.
+    Body(Body),
+    /// A polynomial.
+    Poly(Poly),
+    /// A row.
+    Row(Row),
+    /// Rows in order.
+    Rows(Constraint),
+    /// A term.
+    Term(Term),
+}
+
+/// Whether the text says this answer.
+pub fn is_meant(alloc: Global, answer: &Answer, text: &str) -> bool {
+    match answer {
+        Answer::Word(word) => *word == text,
+        Answer::Number(number) => text.parse::<i128>().ok() == Some(*number),
+        Answer::Numbers(found) => numbers(alloc, text).is_some_and(|meant| meant == *found),
+        Answer::Body(found) => body(alloc, text).is_some_and(|meant| meant == *found),
+        Answer::Poly(found) => poly(alloc, text).is_some_and(|meant| meant.is_same(found)),
+        Answer::Row(found) => row(alloc, text).is_some_and(|meant| meant.is_same(found)),
+        Answer::Rows(found) => rows(alloc, text).is_some_and(|meant| meant.is_same(found)),
+        Answer::Term(found) => term(alloc, text).is_some_and(|meant| meant.is_same(found)),
+    }
+}
+
+/// Yes or no.
+pub fn told(answer: bool) -> Option<Answer> {
+    Some(Answer::Word(if answer { "yes" } else { "no" }))
+}
+
+/// The order of two values.
+pub fn ordered(order: Ordering) -> Option<Answer> {
+    Some(Answer::Word(match order {
+        Ordering::Less => "less",
+        Ordering::Equal => "equal",
+        Ordering::Greater => "greater",
+    }))
+}
+
+/// That there is no such value.
+pub fn nothing() -> Option<Answer> {
+    Some(Answer::Word("none"))
+}
+
+/// Why there is no answer; out of memory is none that a line could want.
+pub fn ended(end: PolyEnd) -> Option<Answer> {
+    match end {
+        PolyEnd::Large => Some(Answer::Word("large")),
+        PolyEnd::NoMemory => None,
+    }
+}
+
+/// A polynomial, or why there is none.
+pub fn formed(answer: Result<Poly, PolyEnd>) -> Option<Answer> {
+    match answer {
+        Ok(poly) => Some(Answer::Poly(poly)),
+        Err(end) => ended(end),
+    }
+}
+
+/// Yes or no, or why that isn't known.
+pub fn found(answer: Result<bool, PolyEnd>) -> Option<Answer> {
+    match answer {
+        Ok(answer) => told(answer),
+        Err(end) => ended(end),
+    }
+}

@@ -1,0 +1,59 @@
+//! Compares answers of the crates on polynomials, rows, certificates and terms with values from outside.
+//!
+//! Each line of the standard input is a call, what it is given, and what it is to answer, with a semicolon and a
+//! space between them. Polynomials, rows, terms, certificates and lists have the notation of a log; an integer term
+//! is written with each operator before its operands, as `+ v0 * 2 v1`.
+#![tactic(auto)]
+
+mod answer;
+mod cert_calls;
+mod fm_calls;
+mod law_calls;
+mod plain_calls;
+mod poly_calls;
+mod reading;
+mod row_calls;
+mod term_calls;
+
+use answer::{Answer, is_meant};
+use std::alloc::Global;
+use std::io::{self, BufRead, BufReader};
+
+// What the call answers; none where the line can't be read, or there is no memory.
+fn answer_to(alloc: Global, call: &str, given: &str) -> Option<Answer> {
+    let (of, name) = call.split_once('.')?;
+    match of {
+        "items" | "graded" | "boxed" | "memory" => plain_calls::answer_to(alloc, call, given),
+        "poly" => poly_calls::answer_to(alloc, name, given),
+        "laws" => law_calls::answer_to(alloc, name, given),
+        "row" | "rows" => row_calls::answer_to(alloc, call, given),
+        "cert" => cert_calls::answer_to(alloc, name, given),
+        "fm" => fm_calls::answer_to(alloc, name, given),
+        "term" | "rule" => term_calls::answer_to(alloc, call, given),
+        _ => None,
+    }
+}
+
+// Whether the line's call answers what it is to; none where that isn't known.
+fn holds(alloc: Global, line: &str) -> Option<bool> {
+    let (call, rest) = line.split_once("; ")?;
+    let (given, wanted) = rest.rsplit_once("; ")?;
+    let answer = answer_to(alloc, call, given)?;
+    Some(is_meant(alloc, &answer, wanted))
+}
+
+fn main(rt: HostRuntime) -> io::Result<()> {
+    let mut count: u32 = 0;
+    for line in BufReader::new(rt.alloc(), rt.reader())?.lines(rt.alloc()) {
+        let line = line?;
+        if line.is_empty() || line.starts_with('#') {
+            continue;
+        }
+        match holds(rt.alloc(), line.as_str()) {
+            Some(true) => count = count.saturating_add(1),
+            Some(false) => println!(rt; "differs: {line}")?,
+            None => println!(rt; "unread: {line}")?,
+        }
+    }
+    println!(rt; "{count} lines hold")
+}

@@ -1,0 +1,105 @@
+//! Certificates, as `cut 1 0 1 2 sum 1 1 1`. They are read from the end, so that the certificates inside another
+//! are read before it.
+use crate::reading::polynomials::poly;
+use crate::reading::rows::{parts, row};
+use crate::reading::words::{number, small};
+use rx_cert::Cert;
+use rx_plain::Boxed;
+use std::alloc::Global;
+
+fn inside(alloc: Global, made: &mut Vec<Cert>) -> Option<Boxed<Cert>> {
+    Boxed::new(alloc, made.pop()?).ok()
+}
+
+fn cut(alloc: Global, words: &mut Vec<&str>, made: &mut Vec<Cert>) -> Option<Cert> {
+    let parts = parts(alloc, words)?;
+    let div = number(words)?;
+    let rest = inside(alloc, made)?;
+    Some(Cert::Cut { parts, div, rest })
+}
+
+fn split(alloc: Global, words: &mut Vec<&str>, made: &mut Vec<Cert>) -> Option<Cert> {
+    let row = row(alloc, words.pop()?)?;
+    let yes = inside(alloc, made)?;
+    let no = inside(alloc, made)?;
+    Some(Cert::Split { row, yes, no })
+}
+
+fn differ(alloc: Global, words: &mut Vec<&str>, made: &mut Vec<Cert>) -> Option<Cert> {
+    let at = small(words)?;
+    let pos = inside(alloc, made)?;
+    let neg = inside(alloc, made)?;
+    Some(Cert::Differ { at, pos, neg })
+}
+
+fn solve(alloc: Global, words: &mut Vec<&str>, made: &mut Vec<Cert>) -> Option<Cert> {
+    let first = small(words)?;
+    let second = small(words)?;
+    let var = small(words)?;
+    let rest = inside(alloc, made)?;
+    Some(Cert::Solve {
+        first,
+        second,
+        var,
+        rest,
+    })
+}
+
+fn division(alloc: Global, words: &mut Vec<&str>, made: &mut Vec<Cert>) -> Option<Cert> {
+    let num = poly(alloc, words.pop()?)?;
+    let den = number(words)?;
+    let pos = inside(alloc, made)?;
+    let neg = inside(alloc, made)?;
+    Some(Cert::DivFacts { num, den, pos, neg })
+}
+
+fn is_kind(word: &str) -> bool {
+    matches!(word, "sum" | "cut" | "split" | "differ" | "solve" | "div")
+}
+
+fn next(alloc: Global, kind: &str, words: &mut Vec<&str>, made: &mut Vec<Cert>) -> Option<Cert> {
+    match kind {
+        "sum" => Some(Cert::Sum(parts(alloc, words)?)),
+        "cut" => cut(alloc, words, made),
+        "split" => split(alloc, words, made),
+        "differ" => differ(alloc, words, made),
+        "solve" => solve(alloc, words, made),
+        _ => division(alloc, words, made),
+    }
+}
+
+// The certificates of the text, the first one last, and the words before them, the first one last.
+fn read<'a>(alloc: Global, text: &'a str) -> Option<(Vec<Cert>, Vec<&'a str>)> {
+    let mut words = Vec::new(alloc);
+    let mut made = Vec::new(alloc);
+    for word in text.rsplit(' ') {
+        if is_kind(word) {
+            let cert = next(alloc, word, &mut words, &mut made)?;
+            made.push(cert).ok()?;
+        } else {
+            words.push(word).ok()?;
+        }
+    }
+    Some((made, words))
+}
+
+/// One certificate.
+pub fn cert(alloc: Global, text: &str) -> Option<Cert> {
+    let (mut made, words) = read(alloc, text)?;
+    let cert = made.pop()?;
+    if made.is_empty() && words.is_empty() {
+        Some(cert)
+    } else {
+        None
+    }
+}
+
+/// A list of certificates.
+pub fn certs(alloc: Global, text: &str) -> Option<Vec<Cert>> {
+    let (mut made, mut words) = read(alloc, text)?;
+    if small(&mut words)? as usize != made.len() {
+        return None;
+    }
+    made.reverse();
+    Some(made)
+}

@@ -1,0 +1,194 @@
+//! Polynomials and lists of them, as `1*v0*div(1*v1+-1,2)+3,0`. `v0^3` is three factors `v0`.
+use crate::reading::words::{small, words};
+use rx_plain::{Graded, Items};
+use rx_poly::{Atom, Body, Mono, Poly};
+use std::alloc::Global;
+use std::mem;
+
+// Sums that stand between two brackets, as far as they are read.
+#[derive(Drop)]
+struct Open {
+    // Whether the sums are those of a quotient.
+    quotient: bool,
+    // The sums before.
+    bodies: Vec<Body>,
+    // The terms before, of the last sum.
+    terms: Items<(Mono, i128)>,
+    // The coefficient of the last term.
+    coefficient: Option<i128>,
+    // The atoms of the last term.
+    atoms: Graded<Atom>,
+}
+
+// Nothing as yet.
+fn opened(alloc: Global, quotient: bool) -> Open {
+    Open {
+        quotient,
+        bodies: Vec::new(alloc),
+        terms: Items::new(alloc),
+        coefficient: None,
+        atoms: Graded::new(alloc),
+    }
+}
+
+// The number of a variable, and how often it stands there.
+fn power(word: &str) -> Option<(u32, u32)> {
+    let (number, times) = word.split_once('^').unwrap_or((word, "1"));
+    Some((number.parse().ok()?, times.parse().ok()?))
+}
+
+fn add_variables(open: &mut Open, word: &str) -> Option<()> {
+    let (number, times) = power(word)?;
+    for _ in 0..times {
+        open.atoms.push(Atom::Var(number)).ok()?;
+    }
+    Some(())
+}
+
+// A coefficient, or a variable.
+fn add_word(open: &mut Open, word: &str) -> Option<()> {
+    if let Some(variable) = word.strip_prefix('v') {
+        return add_variables(open, variable);
+    }
+    if !word.is_empty() {
+        open.coefficient = Some(word.parse().ok()?);
+    }
+    Some(())
+}
+
+// The last term is whole; 0 adds none.
+fn end_term(alloc: Global, open: &mut Open) -> Option<()> {
+    let coefficient = open.coefficient.take()?;
+    let atoms = mem::replace(&mut open.atoms, Graded::new(alloc));
+    if coefficient == 0 && atoms.is_empty() {
+        return Some(());
+    }
+    open.terms.push((Mono { atoms }, coefficient)).ok()
+}
+
+// The last sum is whole.
+fn end_sum(alloc: Global, open: &mut Open) -> Option<()> {
+    end_term(alloc, open)?;
+    let terms = mem::replace(&mut open.terms, Items::new(alloc));
+    open.bodies.push(Body { terms }).ok()
+}
+
+// The quotient or remainder of the two sums.
+fn division(open: Open) -> Option<Atom> {
+    let Open {
+        quotient,
+        mut bodies,
+        ..
+    } = open;
+    let den = bodies.pop()?;
+    let num = bodies.pop()?;
+    if quotient {
+        return Some(Atom::Div(num, den));
+    }
+    Some(Atom::Mod(num, den))
+}
+
+// What is open once the division is closed.
+fn closed(alloc: Global, open: Open, outer: &mut Vec<Open>) -> Option<Open> {
+    let mut open = open;
+    end_sum(alloc, &mut open)?;
+    let mut next = outer.pop()?;
+    next.atoms.push(division(open)?).ok()?;
+    Some(next)
+}
+
+// What is open after a word and the mark behind it.
+fn with_mark(
+    alloc: Global,
+    open: Open,
+    outer: &mut Vec<Open>,
+    word: &str,
+    mark: char,
+) -> Option<Open> {
+    if mark == '(' {
+        outer.push(open).ok()?;
+        return Some(opened(alloc, word == "div"));
+    }
+    let mut open = open;
+    add_word(&mut open, word)?;
+    match mark {
+        '+' => end_term(alloc, &mut open)?,
+        ',' => end_sum(alloc, &mut open)?,
+        ')' => return closed(alloc, open, outer),
+        _ => {}
+    }
+    Some(open)
+}
+
+/// The sums of the text, which need not be normal forms.
+pub fn bodies(alloc: Global, text: &str) -> Option<Vec<Body>> {
+    let mut outer = Vec::new(alloc);
+    let mut open = opened(alloc, false);
+    for piece in text.split_inclusive(['*', '+', ',', '(', ')']) {
+        let word = piece.trim_end_matches(['*', '+', ',', '(', ')']);
+        let mark = piece.chars().next_back()?;
+        open = with_mark(alloc, open, &mut outer, word, mark)?;
+    }
+    end_sum(alloc, &mut open)?;
+    Some(open.bodies)
+}
+
+/// One sum, which need not be a normal form.
+pub fn body(alloc: Global, text: &str) -> Option<Body> {
+    bodies(alloc, text)?.pop()
+}
+
+/// The monomial of a sum of one.
+pub fn monomial(alloc: Global, text: &str) -> Option<Mono> {
+    let (mono, _) = body(alloc, text)?.terms.pop()?;
+    Some(mono)
+}
+
+/// The atom of a sum of one monomial of one atom.
+pub fn atom(alloc: Global, text: &str) -> Option<Atom> {
+    monomial(alloc, text)?.atoms.pop()
+}
+
+/// One polynomial.
+pub fn poly(alloc: Global, text: &str) -> Option<Poly> {
+    Poly::from_body(body(alloc, text)?)
+}
+
+/// The polynomials between commas.
+pub fn polys(alloc: Global, text: &str) -> Option<Items<Poly>> {
+    let mut made = Items::new(alloc);
+    if text.is_empty() {
+        return Some(made);
+    }
+    for body in bodies(alloc, text)? {
+        made.push(Poly::from_body(body)?).ok()?;
+    }
+    Some(made)
+}
+
+/// A list of polynomials.
+pub fn listed(alloc: Global, text: &str) -> Option<Vec<Poly>> {
+    let mut words = words(alloc, text)?;
+    let mut made = Vec::new(alloc);
+    for _ in 0..small(&mut words)? {
+        made.push(poly(alloc, words.pop()?)?).ok()?;
+    }
+    Some(made)
+}
+
+// A variable's number, and what stands in its place.
+fn replacement(alloc: Global, words: &mut Vec<&str>) -> Option<(u32, Poly)> {
+    let at = small(words)?;
+    let poly = poly(alloc, words.pop()?)?;
+    Some((at, poly))
+}
+
+/// A list of variables, each by its number, with what stands in its place.
+pub fn substitution(alloc: Global, text: &str) -> Option<Vec<(u32, Poly)>> {
+    let mut words = words(alloc, text)?;
+    let mut made = Vec::new(alloc);
+    for _ in 0..small(&mut words)? {
+        made.push(replacement(alloc, &mut words)?).ok()?;
+    }
+    Some(made)
+}

@@ -1,0 +1,43 @@
+//! Rows, as `ge:1*v0+-1`, lists of rows, and parts of sums of rows.
+use crate::reading::polynomials::poly;
+use crate::reading::words::{number, small, words};
+use rx_plain::Items;
+use rx_row::{Constraint, Row};
+use std::alloc::Global;
+
+/// One row.
+pub fn row(alloc: Global, text: &str) -> Option<Row> {
+    let (kind, rest) = text.split_once(':')?;
+    let poly = poly(alloc, rest)?;
+    match kind {
+        "ge" => Some(Row::Ge(poly)),
+        "eq" => Some(Row::Eq(poly)),
+        "ne" => Some(Row::Ne(poly)),
+        _ => None,
+    }
+}
+
+/// A list of rows.
+pub fn rows(alloc: Global, text: &str) -> Option<Constraint> {
+    let mut words = words(alloc, text)?;
+    let mut made = Vec::new(alloc);
+    for _ in 0..small(&mut words)? {
+        made.push(row(alloc, words.pop()?)?).ok()?;
+    }
+    Some(Constraint::from_rows(made))
+}
+
+fn part(words: &mut Vec<&str>) -> Option<(u32, i128)> {
+    let at = small(words)?;
+    let by = number(words)?;
+    Some((at, by))
+}
+
+/// The next words, a list of row numbers, each with its multiplier.
+pub fn parts(alloc: Global, words: &mut Vec<&str>) -> Option<Items<(u32, i128)>> {
+    let mut made = Items::new(alloc);
+    for _ in 0..small(words)? {
+        made.push(part(words)?).ok()?;
+    }
+    Some(made)
+}
