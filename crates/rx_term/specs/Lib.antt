@@ -1,6 +1,7 @@
 -- Terms as stacks, what they mean as ground terms, and rule sets.
 pub mod Assigned
 pub mod Covered
+pub mod Example
 pub mod Fitting
 pub mod MadeTest
 pub mod Meaning

@@ -14,6 +14,7 @@ ghost use Rattle.rx_row.specs.Substitution.{in_rows};
 ghost use Rattle.rx_row.specs.declared.row.Row.{Row};
 ghost use Rattle.rx_term.specs.Assigned.{assigned};
 ghost use Rattle.rx_term.specs.Covered.{CanStep, Domains, IsCovered, IsCoveredOver, KeepsDomains};
+ghost use Rattle.rx_term.specs.Example.{IsInside, counting, example};
 ghost use Rattle.rx_term.specs.Fitting.{term_fits};
 ghost use Rattle.rx_term.specs.Meaning.{Instance, IsRedex, ground_at, ground_redex, matched, outer_frames, redex_of, signature, values};
 ghost use Rattle.rx_term.specs.Paired.{IsPaired};
@@ -173,4 +174,14 @@ pub fn arguments_are_assignments()
         value (worth a (enumerate_from 0 ps)) p ≡ value (assigned (values a ps)) p }
     ensures rows { (a : ℕ → ℤ) (ps : List Body) (rows : List Row) → rows_use_below (length ps) rows ≡ true →
         AllHold (worth a (enumerate_from 0 ps)) rows ↔ AllHold (assigned (values a ps)) rows }
+{}
+
+/// The premises of these laws can be met at once: by a rule set with rows, a frame and a failure, and
+/// inside a set of terms that is smaller than that of the fitting ones.
+pub fn the_premises_can_be_met()
+    ensures made { IsWellMade example }
+    ensures paired { IsPaired example }
+    ensures inner { KeepsInner IsInside }
+    ensures domains { KeepsDomains IsInside counting }
+    ensures fitting { (s : Ground) → IsInside s → Fits (signature example) s }
 {}
