@@ -1,38 +1,25 @@
 -- A plain row holds wherever the given rows do, and so do all rows of a list that is shown.
-use Rattle.std.proofs.Common.{◌≡◌, ◌∙◌, ap, subst, sym, refl, cond, ◌↔◌, ℕ, zero, suc, ◌+◌, ◌<◌, ◌==◌, Bool, true, false, not, ◌||◌, Option, Some, None, Result, Ok, Err, IfOk, List, [], ◌∷◌, length, get_or, Contains, ℤ, pos, negsuc, ◌≤ℤ◌, int_lt, arith}
+use Rattle.std.proofs.Common.{◌≡◌, ◌∙◌, ap, sym, refl, cond, ◌↔◌, ℕ, ◌+◌, ◌==◌, Bool, true, false, not, ◌||◌, Option, Some, None, Result, Ok, Err, IfOk, List, [], ◌∷◌, length, Contains, ℤ, pos, negsuc, ◌≤ℤ◌, int_lt, arith}
 use Rattle.std.proofs.lemmas.Int.{ints}
-use Rattle.std.proofs.lemmas.List.Elements.{All-cons, All-contains, All-nil, Contains-append_right}
+use Rattle.std.proofs.lemmas.List.Elements.{All-cons, All-contains, All-nil}
 use Rattle.rx_poly.proofs.DivisionLaws.{constant_worth}
-use Rattle.rx_poly.proofs.TermLaws.{by_false, zero_is}
+use Rattle.rx_poly.proofs.TermLaws.{zero_is}
 use Rattle.rx_poly.specs.Reading.{constant_of}
 use Rattle.rx_poly.specs.Terms.{is_zero}
 use Rattle.rx_poly.specs.Value.{value}
 use Rattle.rx_poly.specs.declared.poly_end.PolyEnd.{PolyEnd}
 use Rattle.rx_poly.specs.declared.body.Body.{out-Body}
-use Rattle.rx_row.proofs.Same.{row_eq, told_itself_row, told_same_row}
+use Rattle.rx_row.proofs.Membership.{stands-contains, stands_is}
+use Rattle.rx_row.specs.Membership.{stands_among}
 use Rattle.rx_row.specs.Holds.{AllHold, RowHolds}
 use Rattle.rx_row.specs.declared.row.Row.{Row}
 use Rattle.rx_row.specs.declared.row.Row.TheVariants.{Ge, Eq, Ne}
-use Rattle.rx_cert.specs.Conditions.{conditions, in_order, is_evident, is_number_with, is_plain_row, shown_or, stands_among, asked_for}
+use Rattle.rx_cert.specs.Conditions.{conditions, in_order, is_evident, is_number_with, is_plain_row, shown_or, asked_for}
 use Rattle.rx_cert.specs.Examination.{row_finding}
 use Rattle.rx_cert.specs.declared.cert.Cert.{Cert}
 use Rattle.rx_cert.specs.declared.conditions.ConditionsAnswer.{ConditionsAnswer}
 use Rattle.rx_cert.specs.declared.conditions.ConditionsAnswer.TheVariants.{Shown, WrongCount}
 use Rattle.rx_cert.proofs.Law.{shown_holds}
-
--- ---- rows that stand there
-
-behind : (r : Row) (rs : List Row) (row : Row) → Contains rs row → Contains (r ∷ rs) row
-behind r rs row c = Contains-append_right (r ∷ []) rs row c
-
-first_or_behind : (r : Row) (rs : List Row) (row : Row) → (stands_among rs row ≡ true → Contains rs row) → (b : Bool) → row_eq r row ≡ b → (b || stands_among rs row) ≡ true → Contains (r ∷ rs) row
-first_or_behind r rs row further true same h = (0, omega arith, told_same_row r row same)
-first_or_behind r rs row further false same h = behind r rs row (further h)
-
--- the test of the rows tells which stand there
-pub stands-contains : (rows : List Row) (row : Row) → stands_among rows row ≡ true → Contains rows row
-stands-contains [] row e = cc
-stands-contains (r ∷ rs) row e = first_or_behind r rs row (stands-contains rs row) (row_eq r row) refl e
 
 or_right : (b c : Bool) → c ≡ true → (b || c) ≡ true
 or_right true c e = refl
@@ -41,16 +28,6 @@ or_right false c e = e
 or_left : (b c : Bool) → b ≡ true → (b || c) ≡ true
 or_left true c e = refl
 or_left false c e = cc
-
-pub contains-stands : (rows : List Row) (row : Row) (k : ℕ) → k < length rows → get_or rows k row ≡ row → stands_among rows row ≡ true
-contains-stands [] row k h e = absurd (omega arith)
-contains-stands (r ∷ rs) row zero h e = or_left (row_eq r row) (stands_among rs row) (subst (λ x. row_eq r x ≡ true) e (told_itself_row r))
-contains-stands (r ∷ rs) row (suc k) h e = or_right (row_eq r row) (stands_among rs row) (contains-stands rs row k (omega arith) e)
-
--- so a `bool` that tells which rows stand there is the test
-pub stands_is : (b : Bool) (rows : List Row) (row : Row) → ((b ≡ true) ↔ Contains rows row) → b ≡ stands_among rows row
-stands_is true rows row tells = let c = tells.0 refl in sym (contains-stands rows row c.0 c.1 c.2)
-stands_is false rows row tells = sym (by_false (stands_among rows row) (λ e. let no : false ≡ true = tells.1 (stands-contains rows row e) in cc))
 
 -- ---- evident rows
 

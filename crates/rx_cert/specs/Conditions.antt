@@ -1,10 +1,9 @@
 -- Rows that are to follow from others: those that aren't plain take one certificate each, in order.
 use Rattle.std.specs.Prelude.{ℕ, ◌+◌, ◌==◌, Bool, true, false, not, ◌||◌, if◌then◌else◌, Option, Some, None, List, [], ◌∷◌, length, count_by, ℤ, pos, int_lt}
-use Rattle.std.specs.List.{list_any}
 use Rattle.rx_poly.specs.Reading.{constant_of}
 use Rattle.rx_poly.specs.Terms.{is_zero}
 use Rattle.rx_poly.specs.declared.body.Body.{out-Body}
-use Rattle.rx_row.specs.contracts.row.RowPartialEq.TheImpl as row_equal
+use Rattle.rx_row.specs.Membership.{stands_among}
 use Rattle.rx_row.specs.declared.row.Row.{Row}
 use Rattle.rx_row.specs.declared.row.Row.TheVariants.{Ge, Eq, Ne}
 use Rattle.rx_cert.specs.Examination.{row_finding}
@@ -13,10 +12,6 @@ use Rattle.rx_cert.specs.declared.conditions.ConditionsAnswer.{ConditionsAnswer}
 use Rattle.rx_cert.specs.declared.conditions.ConditionsAnswer.TheVariants.{Shown, WrongCount, NotShown}
 
 -- ---- plain rows
-
--- the row is one of the rows
-abbrev pub stands_among : List Row → Row → Bool
-stands_among rows row = list_any (λ other. (row_equal.ghosts).eq other row) rows
 
 -- the polynomial is a number, and that passes the test
 abbrev pub is_number_with : (ℤ → Bool) → Option ℤ → Bool

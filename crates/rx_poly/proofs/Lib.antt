@@ -8,6 +8,7 @@ pub mod Joining
 pub mod Levels
 pub mod Merging
 pub mod NormLaws
+pub mod Numbering
 pub mod OrderLemmas
 pub mod Pieces
 pub mod PolyLaws

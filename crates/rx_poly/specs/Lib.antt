@@ -1,4 +1,5 @@
 -- What the polynomials of this crate are, what they are worth, and what is formed of them.
+pub mod Replacements
 pub mod Substitution
 pub mod Variables
 pub mod Terms

@@ -1,5 +1,5 @@
 -- Polynomials put in place of variables: the result, and whether all that is formed on the way keeps the limits.
-use Rattle.std.specs.Prelude.{ℕ, ◌==◌, if◌then◌else◌, List, [], ◌∷◌, ℤ}
+use Rattle.std.specs.Prelude.{ℕ, ◌+◌, ◌==◌, if◌then◌else◌, List, [], ◌∷◌, ℤ}
 use Rattle.rx_poly.specs.Constants.{number, variable}
 use Rattle.rx_poly.specs.Division.{quotient_of, remainder_of}
 use Rattle.rx_poly.specs.Limits.{of_terms, added, is_within}
@@ -14,6 +14,15 @@ use Rattle.rx_poly.specs.declared.body.Body.{Body, Body-F, fold-Body}
 abbrev pub replaced : List (ℕ × Body) → ℕ → Body
 replaced [] n = variable n
 replaced (w ∷ ws) n = if w.0 == n then w.1 else replaced ws n
+
+-- the polynomials in order, in place of the variables from that number on
+abbrev pub numbered_from : ℕ → List Body → List (ℕ × Body)
+numbered_from n [] = []
+numbered_from n (p ∷ ps) = (n, p) ∷ numbered_from (n + 1) ps
+
+-- the first in place of v0, the second in place of v1, and so on
+abbrev pub numbered : List Body → List (ℕ × Body)
+numbered ps = numbered_from 0 ps
 
 -- what the variables are worth then
 abbrev pub worth : (ℕ → ℤ) → List (ℕ × Body) → ℕ → ℤ

@@ -100,11 +100,11 @@ impl Poly {
     }
 
     /// The polynomial that is one number; fails only where there is no memory.
-    pub fn constant(alloc: Global, k: i128) -> Result<Poly, AllocError>
-        ensures same { IfOk result (λ p. p ≡ number k) }
-        ensures value { IfOk result (λ p. (a : ℕ → ℤ) → value a p ≡ k) }
+    pub fn constant(alloc: Global, integer: i128) -> Result<Poly, AllocError>
+        ensures same { IfOk result (λ p. p ≡ number integer) }
+        ensures value { IfOk result (λ p. (a : ℕ → ℤ) → value a p ≡ integer) }
     {
-        of_number(alloc, &k)
+        of_number(alloc, &integer)
     }
 
     /// The polynomial that is one variable, by its number; fails only where there is no memory.

@@ -1,7 +1,9 @@
 //! Polynomials put in place of variables.
-ghost use Rattle.std.specs.Prelude.{◌≡◌, ◌*ℤ◌, ℕ, ℤ, true, false, IfOk, IfErr, OnOk};
+ghost use Rattle.std.specs.Prelude.{◌≡◌, slice_get, ◌*ℤ◌, ℕ, ℤ, true, false, IfOk, IfErr, OnOk};
+ghost use Rattle.std.specs.Option.{option_copied};
 ghost use Rattle.rx_plain.specs.Formed.{Forms};
-ghost use Rattle.rx_poly.specs.Substitution.{in_atom, in_mono, in_body, replaced, worth};
+ghost use Rattle.rx_poly.specs.Substitution.{in_atom, in_mono, in_body, numbered, replaced, worth};
+ghost use Rattle.rx_poly.specs.Replacements.{replacements};
 ghost use Rattle.rx_poly.specs.Value.{atom_value, mono_value, value};
 
 use crate::body::{Atom, Body, Mono};
@@ -10,8 +12,17 @@ use crate::poly::{Poly, of_number, of_variable, zero};
 use crate::poly_end::PolyEnd;
 use std::alloc::{AllocError, Global};
 
-/// What stands in place of the variable.
-fn in_place_of(alloc: Global, at: u32, with: &[(u32, Poly)]) -> Result<Poly, AllocError>
+/// What variables are replaced by.
+#[derive(Clone, Copy)]
+enum Replacements<'a> {
+    /// Each by the first polynomial that is listed for its number.
+    Listed(&'a [(u32, Poly)]),
+    /// The first variables by these polynomials, in order.
+    InOrder(&'a [Poly]),
+}
+
+/// What is listed for the variable, or the variable itself.
+fn listed_for(alloc: Global, at: u32, with: &[(u32, Poly)]) -> Result<Poly, AllocError>
     ensures { IfOk result (λ p. p ≡ replaced with.now at) }
 {
     for pair in with {
@@ -22,13 +33,40 @@ fn in_place_of(alloc: Global, at: u32, with: &[(u32, Poly)]) -> Result<Poly, All
     of_variable(alloc, at)
 }
 
+/// The argument with that number, if there is one.
+fn argument_at(args: &[Poly], at: u32) -> Option<&Poly>
+    ensures { option_copied result ≡ slice_get args.now at }
+{
+    args.get(at as usize)
+}
+
+/// The argument with the variable's number, or the variable itself.
+fn argument_for(alloc: Global, at: u32, args: &[Poly]) -> Result<Poly, AllocError>
+    ensures { IfOk result (λ p. p ≡ replaced (numbered args.now) at) }
+{
+    match argument_at(args, at) {
+        Some(arg) => arg.try_clone(alloc),
+        None => of_variable(alloc, at),
+    }
+}
+
+/// What is in place of the variable.
+fn in_place_of(alloc: Global, at: u32, with: Replacements) -> Result<Poly, AllocError>
+    ensures { IfOk result (λ p. p ≡ replaced (replacements with.entry) at) }
+{
+    match with {
+        Replacements::Listed(pairs) => listed_for(alloc, at, pairs),
+        Replacements::InOrder(args) => argument_for(alloc, at, args),
+    }
+}
+
 /// The atom with its variables replaced.
 #[cycle(substituted)]
-fn atom_with(alloc: Global, atom: &Atom, with: &[(u32, Poly)]) -> Result<Poly, PolyEnd>
-    ensures normal { IfOk result (λ p. p ≡ (in_atom with.now atom.now).form) }
-    ensures within { OnOk result ((in_atom with.now atom.now).within ≡ true) }
-    ensures large { IfErr result (λ e. e ≡ PolyEnd.Large → (in_atom with.now atom.now).within ≡ false) }
-    ensures forms { Forms PolyEnd.Large result (in_atom with.now atom.now) }
+fn atom_with(alloc: Global, atom: &Atom, with: Replacements) -> Result<Poly, PolyEnd>
+    ensures normal { IfOk result (λ p. p ≡ (in_atom (replacements with.entry) atom.now).form) }
+    ensures within { OnOk result ((in_atom (replacements with.entry) atom.now).within ≡ true) }
+    ensures large { IfErr result (λ e. e ≡ PolyEnd.Large → (in_atom (replacements with.entry) atom.now).within ≡ false) }
+    ensures forms { Forms PolyEnd.Large result (in_atom (replacements with.entry) atom.now) }
 {
     match atom {
         Atom::Var(number) => Ok(in_place_of(alloc, *number, with)?),
@@ -47,11 +85,11 @@ fn atom_with(alloc: Global, atom: &Atom, with: &[(u32, Poly)]) -> Result<Poly, P
 
 /// The number times the monomial with its variables replaced.
 #[cycle(substituted)]
-fn mono_with(alloc: Global, mono: &Mono, by: &i128, with: &[(u32, Poly)]) -> Result<Poly, PolyEnd>
-    ensures normal { IfOk result (λ p. p ≡ (in_mono with.now mono.now by.now).form) }
-    ensures within { OnOk result ((in_mono with.now mono.now by.now).within ≡ true) }
-    ensures large { IfErr result (λ e. e ≡ PolyEnd.Large → (in_mono with.now mono.now by.now).within ≡ false) }
-    ensures forms { Forms PolyEnd.Large result (in_mono with.now mono.now by.now) }
+fn mono_with(alloc: Global, mono: &Mono, by: &i128, with: Replacements) -> Result<Poly, PolyEnd>
+    ensures normal { IfOk result (λ p. p ≡ (in_mono (replacements with.entry) mono.now by.now).form) }
+    ensures within { OnOk result ((in_mono (replacements with.entry) mono.now by.now).within ≡ true) }
+    ensures large { IfErr result (λ e. e ≡ PolyEnd.Large → (in_mono (replacements with.entry) mono.now by.now).within ≡ false) }
+    ensures forms { Forms PolyEnd.Large result (in_mono (replacements with.entry) mono.now by.now) }
 {
     let start = of_number(alloc, by)?;
     let mut product = start;
@@ -64,11 +102,11 @@ fn mono_with(alloc: Global, mono: &Mono, by: &i128, with: &[(u32, Poly)]) -> Res
 
 /// The sum with its variables replaced.
 #[cycle(substituted)]
-fn body_with(alloc: Global, body: &Body, with: &[(u32, Poly)]) -> Result<Poly, PolyEnd>
-    ensures normal { IfOk result (λ p. p ≡ (in_body with.now body.now).form) }
-    ensures within { OnOk result ((in_body with.now body.now).within ≡ true) }
-    ensures large { IfErr result (λ e. e ≡ PolyEnd.Large → (in_body with.now body.now).within ≡ false) }
-    ensures forms { Forms PolyEnd.Large result (in_body with.now body.now) }
+fn body_with(alloc: Global, body: &Body, with: Replacements) -> Result<Poly, PolyEnd>
+    ensures normal { IfOk result (λ p. p ≡ (in_body (replacements with.entry) body.now).form) }
+    ensures within { OnOk result ((in_body (replacements with.entry) body.now).within ≡ true) }
+    ensures large { IfErr result (λ e. e ≡ PolyEnd.Large → (in_body (replacements with.entry) body.now).within ≡ false) }
+    ensures forms { Forms PolyEnd.Large result (in_body (replacements with.entry) body.now) }
 {
     let mut sum = zero(alloc);
     for term in body.terms.as_slice() {
@@ -89,6 +127,15 @@ impl Poly {
         ensures large { IfErr result (λ e. e ≡ PolyEnd.Large → (in_body with.now self.now).within ≡ false) }
         ensures forms { Forms PolyEnd.Large result (in_body with.now self.now) }
     {
-        body_with(alloc, self.body(), with)
+        body_with(alloc, self.body(), Replacements::Listed(with))
+    }
+
+    /// The polynomial with the first of those polynomials in place of v0, the second in place of v1, and so on;
+    /// the other variables stay. Large exactly where `subst` is, for that list.
+    pub fn at_args(&self, alloc: Global, args: &[Poly]) -> Result<Poly, PolyEnd>
+        ensures forms { Forms PolyEnd.Large result (in_body (numbered args.now) self.now) }
+        ensures value { IfOk result (λ p. (a : ℕ → ℤ) → value a p ≡ value (worth a (numbered args.now)) self.now) }
+    {
+        body_with(alloc, self.body(), Replacements::InOrder(args))
     }
 }

@@ -1,4 +1,5 @@
 -- Lemmas on the definitions of specs/.
+pub mod BoundLaws
 pub mod Coefficients
 pub mod InnerLaws
 pub mod Locality

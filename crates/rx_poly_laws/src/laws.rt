@@ -1,5 +1,5 @@
 //! Laws of normal forms.
-ghost use Rattle.std.specs.Prelude.{◌≡◌, ◌<◌, ◌+ℤ◌, ◌-ℤ◌, ◌*ℤ◌, ℕ, ℤ, pos, Bool, true, All, List};
+ghost use Rattle.std.specs.Prelude.{◌≡◌, ◌↔◌, ◌<◌, ◌≤◌, ◌+ℤ◌, ◌-ℤ◌, ◌*ℤ◌, ℕ, ℤ, pos, Bool, true, All, Contains, List};
 ghost use Rattle.rx_poly.specs.Normal.{is_poly};
 ghost use Rattle.rx_poly.specs.Constants.{number, variable};
 ghost use Rattle.rx_poly.specs.Division.{quotient_of, remainder_of};
@@ -13,7 +13,7 @@ ghost use Rattle.rx_poly.specs.declared.body.Body.{Body, out-Body};
 ghost use Rattle.rx_poly.specs.declared.body.Mono.{Mono};
 ghost use Rattle.rx_poly.specs.declared.iterm.ITerm.{ITerm};
 ghost use Rattle.rx_poly_laws.specs.Inner.{inner};
-ghost use Rattle.rx_poly.specs.Variables.{uses_below, variables};
+ghost use Rattle.rx_poly.specs.Variables.{uses, uses_below, variable_bound, variables};
 ghost use Rattle.rx_poly_laws.specs.Tests.{passes, term_passes};
 
 /// A polynomial is determined by its coefficients: two of them in which each monomial has one
@@ -98,4 +98,16 @@ pub fn coefficients_are_combined_one_by_one()
         coefficient m (out-Body p).terms -ℤ coefficient m (out-Body q).terms }
     ensures multiple { (m : Mono) (k : ℤ) (p : Body) → is_poly p ≡ true →
         coefficient m (out-Body (scaled_by k p)).terms ≡ coefficient m (out-Body p).terms *ℤ k }
+{}
+
+/// All variables of a polynomial are below a number exactly where it is at least the least number above them.
+#[tactic(auto, using(crate::proofs::BoundLaws::below_the_bound))]
+pub fn the_variable_bound_is_the_least_above_all()
+    ensures { (n : ℕ) (p : Body) → (uses_below n p ≡ true) ↔ (variable_bound p ≤ n) }
+{}
+
+/// A variable is used exactly where it is one of the variables.
+#[tactic(auto, using(crate::proofs::BoundLaws::used_is_contained))]
+pub fn a_used_variable_is_one_of_them()
+    ensures { (x : ℕ) (p : Body) → (uses x p ≡ true) ↔ Contains (variables p) x }
 {}

@@ -7,10 +7,11 @@
 mod laws;
 
 pub use laws::{
-    a_polynomial_minus_itself_is_zero, an_instance_depends_on_what_its_variables_are_replaced_by,
+    a_polynomial_minus_itself_is_zero, a_used_variable_is_one_of_them,
+    an_instance_depends_on_what_its_variables_are_replaced_by,
     coefficients_are_combined_one_by_one, equal_coefficients_make_one_polynomial,
     inner_polynomials_keep_the_limits, instances_have_the_variables_of_their_replacements,
-    results_have_the_variables_of_their_parts, unchanged_variables_keep_the_polynomial,
-    variables_alone_decide_the_value,
+    results_have_the_variables_of_their_parts, the_variable_bound_is_the_least_above_all,
+    unchanged_variables_keep_the_polynomial, variables_alone_decide_the_value,
 };
 pub use rx_poly::uses_below;

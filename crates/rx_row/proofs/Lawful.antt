@@ -1,8 +1,8 @@
 -- Parts that are tested one by one: the next one decides, or leaves it to the rest.
-use Rattle.std.proofs.Common.{◌≡◌, ◌∙◌, ap, Bool, true, false, ◌&&◌, nat_le, sym, ℕ, suc, ◌+◌, ◌<◌, ◌≤◌, List, ◌∷◌, length, drop, get_or, add-one, Option, Some, None, slice_get, ℤ, pos, arith}
+use Rattle.std.proofs.Common.{◌≡◌, ◌∙◌, ap, Bool, true, false, ◌&&◌, nat_le, sym, ℕ, suc, ◌+◌, ◌<◌, ◌≤◌, List, length, drop, get_or, add-one, Option, slice_get, ℤ, pos, arith}
 use Rattle.std.proofs.Math.Seq.{drop-cons}
-use Rattle.std.proofs.lemmas.Bool.{and_left, and_right, and_from}
-use Rattle.rx_row.specs.Parts.{is_taken, lawful_from, takes}
+use Rattle.std.proofs.lemmas.Bool.{and_left, and_right}
+use Rattle.rx_row.specs.Parts.{is_taken, lawful_from}
 use Rattle.rx_row.specs.declared.row.Row.{Row}
 
 module _ {whole : Bool} (from : ℕ) (rows : List Row) (ps : List (ℕ × ℤ)) (i : ℕ) (h : i < length ps) (s : lawful_from from rows (drop i ps) ≡ whole) (row : Option Row) (is : slice_get rows (get_or ps i (0, pos 0)).0 ≡ row) where

@@ -1,5 +1,6 @@
 -- Lemmas on the definitions of specs/.
 pub mod Lawful
+pub mod Membership
 pub mod PartLaws
 pub mod RowLaws
 pub mod Same

@@ -1,5 +1,5 @@
 -- What holds is decided by the value of a polynomial; so a row holds exactly where its negation doesn't.
-use Rattle.std.proofs.Common.{◌≡◌, ◌∙◌, ap, ◌↔◌, ◌⊎◌, ℕ, ℤ, pos, negsuc, ◌-ℤ◌, ◌*ℤ◌, ◌≤ℤ◌, arith, refl, zero, suc, List, [], ◌∷◌, ◌++◌, Contains}
+use Rattle.std.proofs.Common.{◌≡◌, ◌∙◌, ◌↔◌, ◌⊎◌, ℕ, ℤ, pos, negsuc, ◌-ℤ◌, ◌*ℤ◌, ◌≤ℤ◌, arith, refl, zero, suc, List, [], ◌∷◌, ◌++◌, Contains}
 use Rattle.std.proofs.lemmas.Int.{ints}
 use Rattle.std.proofs.lemmas.List.Elements.{All-contains, All-contains_itself, All-push, All-weaker, Contains-append_left, Contains-push}
 use mathlib.Core.Logic.{inl, inr}
@@ -30,6 +30,10 @@ zero_or_not : (z : ℤ) → (z ≡ pos 0) ⊎ (z ≡ pos 0 → ⊥)
 zero_or_not (pos zero) = inl refl
 zero_or_not (pos (suc n)) = inr (λ e. omega (arith, ints))
 zero_or_not (negsuc n) = inr (λ e. omega (arith, ints))
+
+-- a difference is 0 exactly where both are equal
+pub no_difference : (x y z : ℤ) → x ≡ y -ℤ z → (x ≡ pos 0) ↔ (y ≡ z)
+no_difference x y z is = (λ e. omega (arith, ints), λ e. omega (arith, ints))
 
 -- under an assignment a row or its negation holds
 pub holds_or_not : (a : ℕ → ℤ) (row : Row) → RowHolds a row ⊎ RowHolds a (negation row)

@@ -1,5 +1,5 @@
 -- What `==` tells of two rows, or of two lists of rows, is that they are one.
-use Rattle.std.proofs.Common.{◌≡◌, ◌∙◌, ap, Bool, true, false, ◌&&◌, refl, sym, List, [], ◌∷◌}
+use Rattle.std.proofs.Common.{◌≡◌, ap, Bool, true, refl, List, [], ◌∷◌}
 use Rattle.std.proofs.lemmas.Bool.{and_parts, and_from}
 use Rattle.std.specs.Cmp.Lexicographic.{pointwise}
 use Rattle.rx_poly.proofs.Same.{told_same, told_itself}

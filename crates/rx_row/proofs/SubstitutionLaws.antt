@@ -2,8 +2,7 @@
 use Rattle.std.proofs.Common.{◌≡◌, ◌↔◌, subst, sym, ℕ, ℤ, pos, ◌≤ℤ◌, List, [], ◌∷◌}
 use Rattle.std.proofs.lemmas.List.Elements.{All-cons, All-head, All-nil, All-tail}
 use Rattle.rx_poly.proofs.SubstitutedValue.{value-in_body}
-use Rattle.rx_poly.specs.Substitution.{in_body, worth}
-use Rattle.rx_poly.specs.Value.{value}
+use Rattle.rx_poly.specs.Substitution.{worth}
 use Rattle.rx_poly.specs.declared.body.Body.{Body}
 use Rattle.rx_row.specs.Holds.{AllHold, RowHolds}
 use Rattle.rx_row.specs.Substitution.{in_row, in_rows}

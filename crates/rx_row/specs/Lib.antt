@@ -1,5 +1,8 @@
--- What it means that rows hold, what the negation of one is, and which of their multiples may be summed.
+-- What it means that rows hold, what the negation of one is, which of their multiples may be summed, and what lists of them are.
 pub mod Holds
+pub mod Membership
+pub mod Naming
 pub mod Negation
 pub mod Parts
 pub mod Substitution
+pub mod Variables

@@ -1,5 +1,6 @@
 -- The negation of a row, and what must keep the limits on the way to it.
 use Rattle.std.specs.Prelude.{Bool, true, ◌&&◌, pos, negsuc}
+use Rattle.rx_plain.specs.Formed.{Formed}
 use Rattle.rx_poly.specs.Limits.{is_within, scaled_by, subtracted}
 use Rattle.rx_poly.specs.Constants.{number}
 use Rattle.rx_poly.specs.declared.body.Body.{Body}
@@ -29,3 +30,11 @@ abbrev pub negation_within : Row → Bool
 negation_within (Ge p) = minus_one_more_within p
 negation_within (Eq p) = true
 negation_within (Ne p) = true
+
+-- both at once: of -p - 1
+abbrev pub less_one_more : Body → Formed Body
+less_one_more p = record { form = minus_one_more p; within = minus_one_more_within p }
+
+-- and of the negation
+abbrev pub negated : Row → Formed Row
+negated row = record { form = negation row; within = negation_within row }

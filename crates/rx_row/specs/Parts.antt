@@ -1,5 +1,6 @@
 -- Sums of multiples of rows. A part is the number of a row, counted from 0, with a multiplier.
 use Rattle.std.specs.Prelude.{ℕ, ◌+◌, nat_le, Bool, true, false, not, ◌&&◌, if◌then◌else◌, Option, Some, None, List, [], ◌∷◌, slice_get, ℤ, pos, int_lt}
+use Rattle.rx_plain.specs.Formed.{Formed}
 use Rattle.rx_poly.specs.Limits.{added, is_within, scaled_by}
 use Rattle.rx_poly.specs.Constants.{number}
 use Rattle.rx_poly.specs.Terms.{is_zero}
@@ -60,3 +61,15 @@ sum_of rows ps = if are_lawful rows ps then Some (sum_from (number (pos 0)) rows
 -- parts that are not all lawful are not summed; otherwise all that is formed keeps the limits
 abbrev pub parts_within : List Row → List (ℕ × ℤ) → Bool
 parts_within rows ps = if are_lawful rows ps then sum_within (number (pos 0)) rows ps else true
+
+-- both at once: of one multiple
+abbrev pub multiple_formed : Body → Option Row → ℤ → Formed Body
+multiple_formed sum row by = record { form = with_multiple sum row by; within = multiple_within sum row by }
+
+-- of the sum
+abbrev pub sum_formed : Body → List Row → List (ℕ × ℤ) → Formed Body
+sum_formed sum rows ps = record { form = sum_from sum rows ps; within = sum_within sum rows ps }
+
+-- and of the sum of lawful parts
+abbrev pub parts_formed : List Row → List (ℕ × ℤ) → Formed (Option Body)
+parts_formed rows ps = record { form = sum_of rows ps; within = parts_within rows ps }

@@ -1,6 +1,7 @@
 -- Polynomials put in place of variables in rows: the rows, and whether all that is formed on the way keeps the limits.
-use Rattle.std.specs.Prelude.{ℕ, Bool, List, map}
+use Rattle.std.specs.Prelude.{ℕ, Bool, List, [], ◌∷◌, ◌++◌, map}
 use Rattle.std.specs.List.{list_all}
+use Rattle.rx_plain.specs.Formed.{Formed, ◌<$>◌}
 use Rattle.rx_poly.specs.Substitution.{in_body}
 use Rattle.rx_poly.specs.declared.body.Body.{Body}
 use Rattle.rx_row.specs.Parts.{poly_of}
@@ -22,3 +23,15 @@ in_rows ws rows = map (in_row ws) rows
 
 abbrev pub rows_within : List (ℕ × Body) → List Row → Bool
 rows_within ws rows = list_all (row_within ws) rows
+
+-- both at once: of one row
+abbrev pub row_with : List (ℕ × Body) → Row → Formed Row
+row_with ws row = record { form = in_row ws row; within = row_within ws row }
+
+-- of a row after others that are formed
+abbrev pub pushed_with : List Row → List (ℕ × Body) → Row → Formed (List Row)
+pushed_with done ws row = (λ r. done ++ r ∷ []) <$> row_with ws row
+
+-- of all rows of a list
+abbrev pub rows_with : List (ℕ × Body) → List Row → Formed (List Row)
+rows_with ws rows = record { form = in_rows ws rows; within = rows_within ws rows }

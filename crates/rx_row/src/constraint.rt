@@ -1,8 +1,10 @@
 //! Lists of rows, all of which are to hold.
-ghost use Rattle.std.specs.Prelude.{◌≡◌, ◌↔◌, true, false, IfErr, ℕ, ℤ, [], ◌∷◌, ◌++◌, Contains, IsTrue, IsOk, IfOk, OnOk, OnErr};
+ghost use Rattle.std.specs.Prelude.{◌≡◌, ◌↔◌, true, false, IfErr, ℕ, ℤ, [], ◌∷◌, ◌++◌, take, Contains, IsTrue, IsOk, IfOk, OnOk, OnErr};
+ghost use Rattle.rx_plain.specs.Formed.{Forms, FormsAs};
 ghost use Rattle.rx_row.specs.Holds.{AllHold, RowHolds};
-ghost use Rattle.rx_row.specs.Substitution.{in_row, in_rows, row_within, rows_within};
-ghost use Rattle.rx_poly.specs.Substitution.{worth};
+ghost use Rattle.rx_row.specs.Membership.{pushed};
+ghost use Rattle.rx_row.specs.Substitution.{in_row, in_rows, pushed_with, row_within, rows_with, rows_within};
+ghost use Rattle.rx_poly.specs.Substitution.{numbered, worth};
 
 use crate::row::Row;
 use rx_plain::{Items, NoMemory};
@@ -11,7 +13,7 @@ use std::alloc::{AllocError, Global};
 use std::marker::Model;
 
 /// A list of rows, all of which are to hold.
-#[derive(Debug, Drop, PartialEq, Eq, PartialOrd, Ord)]
+#[derive(Debug, Drop, PartialEq, Eq, PartialOrd, Ord, Hash)]
 pub struct Constraint {
     rows: Items<Row>,
 }
@@ -41,6 +43,7 @@ fn push_substituted(
     ensures ok { OnOk result (rows.new.items ≡ rows.old.items ++ in_row with.now row.now ∷ []) }
     ensures within { OnOk result (row_within with.now row.now ≡ true) }
     ensures large { IfErr result (λ e. e ≡ PolyEnd.Large → row_within with.now row.now ≡ false) }
+    ensures forms { FormsAs (λ _. rows.new.items) PolyEnd.Large result (pushed_with rows.old.items with.now row.now) }
 {
     let changed = row.subst(alloc, with)?;
     rows.push(changed).map_err(AllocError::from)?;
@@ -53,12 +56,35 @@ pub fn subst_rows(alloc: Global, rows: &[Row], with: &[(u32, Poly)]) -> Result<V
     ensures rows { IfOk result (λ v. v.items ≡ in_rows with.now rows.now) }
     ensures within { OnOk result (rows_within with.now rows.now ≡ true) }
     ensures large { IfErr result (λ e. e ≡ PolyEnd.Large → rows_within with.now rows.now ≡ false) }
+    ensures forms { FormsAs (λ v. v.items) PolyEnd.Large result (rows_with with.now rows.now) }
 {
     let mut changed = Vec::new(alloc);
     for row in rows {
         push_substituted(&mut changed, alloc, row, with)?;
     }
     Ok(changed)
+}
+
+/// Puts the row after the others, with those polynomials in place of v0, v1, and so on.
+fn push_at_args(rows: &mut Vec<Row>, alloc: Global, row: &Row, args: &[Poly]) -> Result<(), PolyEnd>
+    ensures ok { OnOk result (rows.new.items ≡ rows.old.items ++ in_row (numbered args.now) row.now ∷ []) }
+    ensures forms { FormsAs (λ _. rows.new.items) PolyEnd.Large result (pushed_with rows.old.items (numbered args.now) row.now) }
+{
+    let instance = row.at_args(alloc, args)?;
+    rows.push(instance).map_err(AllocError::from)?;
+    Ok(())
+}
+
+/// As many rows in the same order, each with the first of those polynomials in place of v0, the second in place
+/// of v1, and so on. Large exactly where `subst_rows` is, for that list.
+pub fn rows_at_args(alloc: Global, rows: &[Row], args: &[Poly]) -> Result<Vec<Row>, PolyEnd>
+    ensures { FormsAs (λ v. v.items) PolyEnd.Large result (rows_with (numbered args.now) rows.now) }
+{
+    let mut instances = Vec::new(alloc);
+    for row in rows {
+        push_at_args(&mut instances, alloc, row, args)?;
+    }
+    Ok(instances)
 }
 
 impl Constraint {
@@ -98,12 +124,37 @@ impl Constraint {
         ensures new { OnOk result (¬ (Contains self.old row) → self.new ≡ self.old ++ row ∷ []) }
         ensures holds { OnOk result ((a : ℕ → ℤ) → AllHold a self.new ↔ (AllHold a self.old × RowHolds a row)) }
         ensures refused { OnErr result (self.new ≡ self.old) }
+        ensures pushed { OnOk result (self.new ≡ pushed self.old row) }
     {
         if self.contains(&row) {
             return Ok(());
         }
         self.rows.push(row)?;
         Ok(())
+    }
+
+    /// Puts the row after the others, also where it is one of them. Where there is no memory the rows stay as they
+    /// were.
+    pub fn append(&mut self, row: Row) -> Result<(), NoMemory>
+        ensures ok { OnOk result (self.new ≡ self.old ++ row ∷ []) }
+        ensures err { OnErr result (self.new ≡ self.old) }
+    {
+        Ok(self.rows.push(row)?)
+    }
+
+    /// Lets go of the rows after the first `count`, where there are more.
+    pub fn truncate(&mut self, count: usize)
+        ensures { self.new ≡ take count self.old }
+    {
+        self.rows.truncate(count)
+    }
+
+    /// The rows in order, moved out. Takes no memory.
+    pub fn into_rows(self) -> Vec<Row>
+        ensures { result.items ≡ self }
+    {
+        let Constraint { rows } = self;
+        rows.into_vec()
     }
 
     /// As many rows in the same order, each with those polynomials in place of their variables. Large exactly
@@ -113,6 +164,7 @@ impl Constraint {
         ensures holds { IfOk result (λ c. (a : ℕ → ℤ) → AllHold a c ↔ AllHold (worth a with.now) self.now) }
         ensures within { OnOk result (rows_within with.now self.now ≡ true) }
         ensures large { IfErr result (λ e. e ≡ PolyEnd.Large → rows_within with.now self.now ≡ false) }
+        ensures forms { Forms PolyEnd.Large result (rows_with with.now self.now) }
     {
         let rows = subst_rows(alloc, self.rows.as_slice(), with)?;
         Ok(Constraint {
@@ -137,6 +189,18 @@ impl Constraint {
         }
         Ok(Constraint {
             rows: Items::from_vec(copies),
+        })
+    }
+
+    /// As many rows in the same order, each with the first of those polynomials in place of v0, the second in
+    /// place of v1, and so on. Large exactly where `subst` is, for that list.
+    pub fn at_args(&self, alloc: Global, args: &[Poly]) -> Result<Constraint, PolyEnd>
+        ensures forms { Forms PolyEnd.Large result (rows_with (numbered args.now) self.now) }
+        ensures holds { IfOk result (λ c. (a : ℕ → ℤ) → AllHold a c ↔ AllHold (worth a (numbered args.now)) self.now) }
+    {
+        let rows = rows_at_args(alloc, self.rows.as_slice(), args)?;
+        Ok(Constraint {
+            rows: Items::from_vec(rows),
         })
     }
 }

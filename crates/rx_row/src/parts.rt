@@ -1,13 +1,14 @@
 //! Sums of multiples of rows.
 ghost use Rattle.std.specs.Prelude.{Some, slice_get, ◌≡◌, ℕ, ℤ, pos, ◌≤ℤ◌, true, false, IfOk, IfErr, IfSome, OnOk};
 ghost use Rattle.std.specs.Option.{option_copied};
+ghost use Rattle.rx_plain.specs.Formed.{Forms};
 ghost use Rattle.rx_poly.specs.Value.{value};
 ghost use Rattle.rx_row.specs.Holds.{AllHold};
 ghost use Rattle.rx_poly.specs.Constants.{number};
-ghost use Rattle.rx_row.specs.Parts.{are_lawful, multiple_within, parts_within, poly_of, sum_from, sum_of, sum_within, takes, with_multiple};
+ghost use Rattle.rx_row.specs.Parts.{are_lawful, multiple_formed, multiple_within, parts_formed, parts_within, poly_of, sum_formed, sum_from, sum_of, sum_within, takes, with_multiple};
 
 use crate::constraint::Constraint;
-use crate::row::{Row, constant};
+use crate::row::Row;
 use rx_poly::{Poly, PolyEnd};
 use std::alloc::Global;
 
@@ -53,6 +54,7 @@ fn plus_multiple(alloc: Global, sum: &Poly, row: &Row, by: &i128) -> Result<Poly
     ensures same { IfOk result (λ p. p ≡ with_multiple sum.now (Some row.now) by.now) }
     ensures within { OnOk result (multiple_within sum.now (Some row.now) by.now ≡ true) }
     ensures large { IfErr result (λ e. e ≡ PolyEnd.Large → multiple_within sum.now (Some row.now) by.now ≡ false) }
+    ensures forms { Forms PolyEnd.Large result (multiple_formed sum.now (Some row.now) by.now) }
 {
     let multiple = row.poly().scale(alloc, *by)?;
     sum.add(alloc, &multiple)
@@ -63,8 +65,9 @@ fn sum_of_multiples(alloc: Global, rows: &[Row], parts: &[(u32, i128)]) -> Resul
     ensures same { IfOk result (λ p. p ≡ sum_from (number (pos 0)) rows.now parts.now) }
     ensures within { OnOk result (sum_within (number (pos 0)) rows.now parts.now ≡ true) }
     ensures large { IfErr result (λ e. e ≡ PolyEnd.Large → sum_within (number (pos 0)) rows.now parts.now ≡ false) }
+    ensures forms { Forms PolyEnd.Large result (sum_formed (number (pos 0)) rows.now parts.now) }
 {
-    let mut sum = constant(alloc, &0)?;
+    let mut sum = Poly::constant(alloc, 0)?;
     for (at, by) in parts {
         if let Some(row) = row_at(rows, *at) {
             sum = plus_multiple(alloc, &sum, row, by)?;
@@ -86,6 +89,7 @@ pub fn combine_rows(
     ensures holds { IfOk result (λ s. IfSome s (λ p. (a : ℕ → ℤ) → AllHold a rows.now → pos 0 ≤ℤ value a p)) }
     ensures within { OnOk result (parts_within rows.now parts.now ≡ true) }
     ensures large { IfErr result (λ e. e ≡ PolyEnd.Large → parts_within rows.now parts.now ≡ false) }
+    ensures forms { Forms PolyEnd.Large result (parts_formed rows.now parts.now) }
 {
     if !are_lawful_parts(rows, parts) {
         return Ok(None);
@@ -103,6 +107,7 @@ pub fn combine(
     ensures holds { IfOk result (λ s. IfSome s (λ p. (a : ℕ → ℤ) → AllHold a rows.now → pos 0 ≤ℤ value a p)) }
     ensures within { OnOk result (parts_within rows.now parts.now ≡ true) }
     ensures large { IfErr result (λ e. e ≡ PolyEnd.Large → parts_within rows.now parts.now ≡ false) }
+    ensures forms { Forms PolyEnd.Large result (parts_formed rows.now parts.now) }
 {
     combine_rows(alloc, rows.rows(), parts)
 }

@@ -1,17 +1,18 @@
 //! Rows: a polynomial with what is said of it.
 ghost use Rattle.std.specs.Prelude.{◌≡◌, ◌↔◌, ℕ, ℤ, true, false, IsTrue, IfOk, IfErr, OnOk};
+ghost use Rattle.rx_plain.specs.Formed.{Forms};
 ghost use Rattle.rx_row.specs.Holds.{RowHolds};
-ghost use Rattle.rx_row.specs.Negation.{minus_one_more, minus_one_more_within, negation, negation_within};
+ghost use Rattle.rx_row.specs.Naming.{named};
+ghost use Rattle.rx_row.specs.Negation.{less_one_more, minus_one_more, minus_one_more_within, negated, negation, negation_within};
 ghost use Rattle.rx_row.specs.Parts.{poly_of};
-ghost use Rattle.rx_row.specs.Substitution.{in_row, row_within};
-ghost use Rattle.rx_poly.specs.Substitution.{worth};
-ghost use Rattle.rx_poly.specs.Constants.{number};
+ghost use Rattle.rx_row.specs.Substitution.{in_row, row_with, row_within};
+ghost use Rattle.rx_poly.specs.Substitution.{numbered, worth};
 
-use rx_poly::{ITerm, Poly, PolyEnd, norm};
+use rx_poly::{Poly, PolyEnd};
 use std::alloc::{AllocError, Global};
 
 /// What is said of one polynomial.
-#[derive(Debug, Drop, PartialEq, Eq, PartialOrd, Ord)]
+#[derive(Debug, Drop, PartialEq, Eq, PartialOrd, Ord, Hash)]
 pub enum Row {
     /// The polynomial is at least 0.
     Ge(Poly),
@@ -21,22 +22,15 @@ pub enum Row {
     Ne(Poly),
 }
 
-/// The polynomial that is one number.
-pub(crate) fn constant(alloc: Global, value: &i128) -> Result<Poly, PolyEnd>
-    ensures same { IfOk result (λ p. p ≡ number value.now) }
-    ensures memory { IfErr result (λ e. e ≡ PolyEnd.NoMemory) }
-{
-    norm(alloc, &ITerm::Lit(*value))
-}
-
 /// `-p - 1`: p scaled by -1, minus 1. Large exactly where one of the two passes the limits.
 fn below_zero(alloc: Global, poly: &Poly) -> Result<Poly, PolyEnd>
     ensures same { IfOk result (λ p. p ≡ minus_one_more poly.now) }
     ensures within { OnOk result (minus_one_more_within poly.now ≡ true) }
     ensures large { IfErr result (λ e. e ≡ PolyEnd.Large → minus_one_more_within poly.now ≡ false) }
+    ensures forms { Forms PolyEnd.Large result (less_one_more poly.now) }
 {
     let opposite = poly.scale(alloc, -1)?;
-    let one = constant(alloc, &1)?;
+    let one = Poly::constant(alloc, 1)?;
     opposite.sub(alloc, &one)
 }
 
@@ -48,12 +42,24 @@ impl Row {
         ensures holds { IfOk result (λ r. (a : ℕ → ℤ) → RowHolds a r ↔ ¬ (RowHolds a self.now)) }
         ensures within { OnOk result (negation_within self.now ≡ true) }
         ensures large { IfErr result (λ e. e ≡ PolyEnd.Large → negation_within self.now ≡ false) }
+        ensures forms { Forms PolyEnd.Large result (negated self.now) }
     {
         match self {
             Row::Ge(poly) => Ok(Row::Ge(below_zero(alloc, poly)?)),
             Row::Eq(poly) => Ok(Row::Ne(poly.try_clone(alloc)?)),
             Row::Ne(poly) => Ok(Row::Eq(poly.try_clone(alloc)?)),
         }
+    }
+
+    /// The row that says that the variable is the number: the variable minus the number is 0. Large exactly where
+    /// that passes the limits, as for the least number of i128.
+    pub fn named(alloc: Global, var: u32, integer: i128) -> Result<Row, PolyEnd>
+        ensures forms { Forms PolyEnd.Large result (named var integer) }
+        ensures holds { IfOk result (λ r. (a : ℕ → ℤ) → RowHolds a r ↔ (a var ≡ integer)) }
+    {
+        let variable = Poly::variable(alloc, var)?;
+        let constant = Poly::constant(alloc, integer)?;
+        Ok(Row::Eq(variable.sub(alloc, &constant)?))
     }
 
     /// The row of its polynomial with those polynomials in place of their variables. Large exactly where a
@@ -63,11 +69,25 @@ impl Row {
         ensures holds { IfOk result (λ r. (a : ℕ → ℤ) → RowHolds a r ↔ RowHolds (worth a with.now) self.now) }
         ensures within { OnOk result (row_within with.now self.now ≡ true) }
         ensures large { IfErr result (λ e. e ≡ PolyEnd.Large → row_within with.now self.now ≡ false) }
+        ensures forms { Forms PolyEnd.Large result (row_with with.now self.now) }
     {
         match self {
             Row::Ge(poly) => Ok(Row::Ge(poly.subst(alloc, with)?)),
             Row::Eq(poly) => Ok(Row::Eq(poly.subst(alloc, with)?)),
             Row::Ne(poly) => Ok(Row::Ne(poly.subst(alloc, with)?)),
+        }
+    }
+
+    /// The row of its polynomial with the first of those polynomials in place of v0, the second in place of v1,
+    /// and so on. Large exactly where `subst` is, for that list.
+    pub fn at_args(&self, alloc: Global, args: &[Poly]) -> Result<Row, PolyEnd>
+        ensures forms { Forms PolyEnd.Large result (row_with (numbered args.now) self.now) }
+        ensures holds { IfOk result (λ r. (a : ℕ → ℤ) → RowHolds a r ↔ RowHolds (worth a (numbered args.now)) self.now) }
+    {
+        match self {
+            Row::Ge(poly) => Ok(Row::Ge(poly.at_args(alloc, args)?)),
+            Row::Eq(poly) => Ok(Row::Eq(poly.at_args(alloc, args)?)),
+            Row::Ne(poly) => Ok(Row::Ne(poly.at_args(alloc, args)?)),
         }
     }
 

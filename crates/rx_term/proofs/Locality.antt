@@ -10,8 +10,9 @@ use Rattle.rx_row.specs.Holds.{AllHold, RowHolds}
 use Rattle.rx_row.specs.Parts.{poly_of}
 use Rattle.rx_row.specs.declared.row.Row.{Row}
 use Rattle.rx_row.specs.declared.row.Row.TheVariants.{Ge, Eq, Ne}
+use Rattle.rx_row.specs.Variables.{rows_use_below}
 use Rattle.rx_term.specs.Meaning.{values, ground_at, outer_frames, outer_level}
-use Rattle.rx_term.specs.Variables.{polys_use_below, rows_use_below, term_uses_below}
+use Rattle.rx_term.specs.Variables.{polys_use_below, term_uses_below}
 use Rattle.rx_term.specs.declared.term.Sym.{Sym}
 use Rattle.rx_term.specs.declared.term.Term.{Term, Term-F}
 use Rattle.rx_term.specs.declared.term.Term.TheVariants.{Frame, outs-Return, outs-Fail, outs-Call}

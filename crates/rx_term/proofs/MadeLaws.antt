@@ -10,7 +10,8 @@ use Rattle.rx_poly.specs.Constants.{variable}
 use Rattle.rx_poly.specs.declared.body.Body.{Body}
 use Rattle.rx_term.specs.Fitting.{term_fits}
 use Rattle.rx_term.specs.MadeTest.{are_variables, is_made, is_made_over, is_variable, is_well_made, left_width, left_width_level, variable_count, width_over}
-use Rattle.rx_term.specs.Variables.{rows_use_below, term_uses_below}
+use Rattle.rx_row.specs.Variables.{rows_use_below}
+use Rattle.rx_term.specs.Variables.{term_uses_below}
 use Rattle.rx_term.specs.WellMade.{IsLeft, OfPoint, OverReturn, OverFail, IsMade, IsWellMade, variables_from, width}
 use Rattle.rx_term.specs.declared.rule.Rule.{Rule}
 use Rattle.rx_term.specs.declared.rule_set.RuleParts.{RuleParts}

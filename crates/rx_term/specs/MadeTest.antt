@@ -8,7 +8,8 @@ use Rattle.rx_poly.specs.declared.body.Atom.{Atom, Atom-F, out-Atom}
 use Rattle.rx_poly.specs.declared.body.Mono.{Mono, out-Mono}
 use Rattle.rx_poly.specs.declared.body.Body.{Body, out-Body}
 use Rattle.rx_term.specs.Fitting.{term_fits}
-use Rattle.rx_term.specs.Variables.{rows_use_below, term_uses_below}
+use Rattle.rx_row.specs.Variables.{rows_use_below}
+use Rattle.rx_term.specs.Variables.{term_uses_below}
 use Rattle.rx_term.specs.declared.rule.Rule.{Rule}
 use Rattle.rx_term.specs.declared.rule_set.RuleParts.{RuleParts}
 use Rattle.rx_term.specs.declared.term.Term.{Term, Term-F, out-Term}

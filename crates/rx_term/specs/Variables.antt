@@ -3,8 +3,6 @@ use Rattle.std.specs.Prelude.{ℕ, Bool, true, ◌&&◌, List, [], ◌∷◌, �
 use Rattle.std.specs.List.{list_all}
 use Rattle.rx_poly.specs.declared.body.Body.{Body}
 use Rattle.rx_poly.specs.Variables.{uses_below}
-use Rattle.rx_row.specs.Parts.{poly_of}
-use Rattle.rx_row.specs.declared.row.Row.{Row}
 use Rattle.rx_term.specs.declared.term.Term.{Term, Term-F, fold-Term}
 
 -- the polynomials of a term: those of outer frames first, from left to right, a result's last
@@ -30,7 +28,3 @@ term_below_level n (Term-F.Frame f ps inner) = polys_use_below n ps && inner
 
 abbrev pub term_uses_below : ℕ → Term → Bool
 term_uses_below n = fold-Term Bool (term_below_level n)
-
--- all variables of the rows are
-abbrev pub rows_use_below : ℕ → List Row → Bool
-rows_use_below n rows = list_all (λ row. uses_below n (poly_of row)) rows

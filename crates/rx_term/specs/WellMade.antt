@@ -3,7 +3,8 @@ use Rattle.std.specs.Prelude.{◌≡◌, ℕ, zero, suc, ◌+◌, ◌^◌, ◌�
 use Rattle.rx_poly.specs.Constants.{variable}
 use Rattle.rx_poly.specs.declared.body.Body.{Body}
 use Rattle.rx_term.specs.Fitting.{term_fits}
-use Rattle.rx_term.specs.Variables.{arguments_of, rows_use_below, term_uses_below}
+use Rattle.rx_row.specs.Variables.{rows_use_below}
+use Rattle.rx_term.specs.Variables.{arguments_of, term_uses_below}
 use Rattle.rx_term.specs.declared.rule.Rule.{Rule}
 use Rattle.rx_term.specs.declared.rule_set.RuleParts.{RuleParts}
 use Rattle.rx_term.specs.declared.term.Sym.{Sym}

@@ -2,13 +2,11 @@
 //! failure code.
 ghost use Rattle.std.specs.Prelude.{◌≡◌};
 ghost use Rattle.rx_term.specs.MadeTest.{is_variable, is_variable_atom, left_width, variable_count, width_over};
-ghost use Rattle.rx_term.specs.Variables.{rows_use_below};
 ghost use Rattle.rx_poly.specs.declared.body.Atom.{out-Atom};
 ghost use Rattle.rx_term.specs.declared.term.Term.{out-Term};
 
 use crate::term::Term;
-use rx_poly::{Atom, Poly, uses_below};
-use rx_row::Row;
+use rx_poly::{Atom, Poly};
 
 /// How many variables there are.
 const VARIABLES: u32 = 1 << 31;
@@ -74,16 +72,4 @@ pub(crate) fn left_width(left: &Term) -> Option<u32>
         },
         _ => None,
     }
-}
-
-/// Whether all variables of the rows are below the number.
-pub(crate) fn rows_use_below(rows: &[Row], bound: u32) -> bool
-    ensures { result ≡ rows_use_below bound rows.now }
-{
-    for row in rows {
-        if !uses_below(row.poly(), bound) {
-            return false;
-        }
-    }
-    true
 }

@@ -4,10 +4,11 @@ ghost use Rattle.rx_term.specs.Fitting.{term_fits, is_declared};
 ghost use Rattle.rx_term.specs.MadeTest.{is_made, is_well_made};
 ghost use Rattle.rx_term.specs.WellMade.{IsWellMade};
 
-use crate::left_side::{left_width, rows_use_below};
+use crate::left_side::left_width;
 use crate::rule::Rule;
 use crate::term::{Sym, Term};
 use rx_plain::Items;
+use rx_row::rows_use_below;
 use std::alloc::{AllocError, Global};
 use std::marker::Model;
 

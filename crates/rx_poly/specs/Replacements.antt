@@ -1,0 +1,11 @@
+-- What variables are replaced by, as a list.
+use Rattle.std.specs.Prelude.{ℕ, List}
+use Rattle.rx_poly.specs.Substitution.{numbered}
+use Rattle.rx_poly.specs.declared.body.Body.{Body}
+use Rattle.rx_poly.specs.declared.substitution.Replacements.{Replacements}
+use Rattle.rx_poly.specs.declared.substitution.Replacements.TheVariants.{Listed, InOrder}
+
+-- what is listed for the variables, or the polynomials in order
+abbrev pub replacements : Replacements → List (ℕ × Body)
+replacements (Listed pairs) = pairs.now
+replacements (InOrder args) = numbered args.now
