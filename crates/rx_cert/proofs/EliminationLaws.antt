@@ -16,6 +16,7 @@ use Rattle.rx_poly.specs.Limits.{added, scaled_by, subtracted}
 use Rattle.rx_poly.specs.Order.{mono_cmp}
 use Rattle.rx_poly.specs.Substitution.{worth}
 use Rattle.rx_poly.specs.Terms.{is_zero}
+use Rattle.rx_poly.specs.Variables.{uses}
 use Rattle.rx_poly.specs.Value.{mono_value, sum_terms, value}
 use Rattle.rx_poly.specs.declared.body.Mono.{Mono}
 use Rattle.rx_poly.specs.declared.body.Body.{Body, out-Body}
@@ -24,7 +25,7 @@ use Rattle.rx_row.specs.Holds.{AllHold}
 use Rattle.rx_row.specs.Substitution.{in_rows, rows_within}
 use Rattle.rx_row.specs.declared.row.Row.{Row}
 use Rattle.rx_row.specs.declared.row.Row.TheVariants.{Ge, Eq, Ne}
-use Rattle.rx_cert.specs.Elimination.{are_opposite, coefficient_of, zero_polynomial, of_opposites, replaced_finding, solution, solution_minus, solution_plus, solution_within, solve_finding, stands_in, zero_of}
+use Rattle.rx_cert.specs.Elimination.{are_opposite, coefficient_of, zero_polynomial, of_opposites, replaced_finding, solution, solution_minus, solution_plus, solution_within, solve_finding, zero_of}
 use Rattle.rx_cert.proofs.DifferenceLaws.{found_holds}
 use Rattle.rx_cert.proofs.FindingLaws.{within_parts}
 
@@ -85,7 +86,7 @@ zero_holds a rows first second z holds e = by (slice_get rows first) refl e
 plus_worth : (a : ℕ → ℤ) (x : ℕ) (p e : Body) → value a p ≡ pos 0 → solution_plus x (subtracted p (variable x)) ≡ Some e → a x ≡ value a e
 plus_worth a x p e zero f =
     let rest = subtracted p (variable x) in
-    let c = cond_none (stands_in x rest) (scaled_by (negsuc 0) rest) e f in
+    let c = cond_none (uses x rest) (scaled_by (negsuc 0) rest) e f in
     let left : value a rest ≡ value a p -ℤ a x = value-subtracted a p (variable x) ∙ (λ i. value a p -ℤ value-variable a x i) in
     let turned : value a (scaled_by (negsuc 0) rest) ≡ negsuc 0 *ℤ value a rest = value-scaled_by a (negsuc 0) rest in
     opposite_of (a x) (value a p) (value a rest) zero left ∙ sym turned ∙ ap (value a) c
@@ -102,7 +103,7 @@ minus_worth : (a : ℕ → ℤ) (x : ℕ) (p e : Body) → value a p ≡ pos 0 �
 minus_worth a x p e zero f =
     let rest = added p (variable x) in
     let left : value a rest ≡ value a p +ℤ a x = value-added a p (variable x) ∙ (λ i. value a p +ℤ value-variable a x i) in
-    rest_of (a x) (value a p) (value a rest) zero left ∙ ap (value a) (cond_none (stands_in x rest) rest e f)
+    rest_of (a x) (value a p) (value a rest) zero left ∙ ap (value a) (cond_none (uses x rest) rest e f)
   where
     cond_none : (b : Bool) (q r : Body) → cond b None (Some q) ≡ Some r → q ≡ r
     cond_none true q r g = cc

@@ -6,8 +6,6 @@ pub mod EliminationLaws
 pub mod Equations
 pub mod FindingLaws
 pub mod Law
-pub mod OccurrenceLaws
-pub mod QuotientLaws
 pub mod Rounded
 pub mod RoundingLaws
 pub mod SumLaws

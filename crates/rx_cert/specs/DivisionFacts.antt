@@ -1,5 +1,6 @@
 -- What is known of a dividend, its quotient q and its remainder r by a number that isn't 0, truncated toward zero; a is the divisor without its sign.
 use Rattle.std.specs.Prelude.{Bool, ◌&&◌, List, [], ◌∷◌, ℤ, pos, ◌-ℤ◌, unsigned_abs}
+use Rattle.rx_plain.specs.Formed.{Formed}
 use Rattle.rx_poly.specs.Constants.{number}
 use Rattle.rx_poly.specs.Division.{quotient_of, remainder_of}
 use Rattle.rx_poly.specs.Limits.{added, fits_i128, is_within, scaled_by, subtracted}
@@ -31,6 +32,13 @@ abbrev pub division_within : Body → ℤ → Bool
 division_within dividend divisor =
     is_within (quotient_by dividend divisor) && (is_within (remainder_by dividend divisor) && (is_within (scaled_by divisor (quotient_by dividend divisor))
     && (is_within (without_quotient dividend divisor) && (is_within (nothing_left dividend divisor) && fits_i128 (pos (unsigned_abs divisor))))))
+
+-- what a division leaves: dividend - divisor*q - r, r and a - 1, and whether all on the way keeps the limits
+abbrev pub division_formed : Body → ℤ → Formed (Body × Body × Body)
+division_formed dividend divisor = record {
+  form = (nothing_left dividend divisor, remainder_by dividend divisor, greatest_remainder divisor);
+  within = division_within dividend divisor;
+}
 
 -- where the dividend is at least 0: dividend >= 0, dividend - divisor*q - r = 0, r >= 0, a - 1 - r >= 0
 abbrev pub rows_at_least_zero : Body → ℤ → List Row

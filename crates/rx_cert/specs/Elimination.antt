@@ -1,16 +1,16 @@
 -- A variable that rows say the value of: p = 0, where it stands in p once, alone, with coefficient 1 or -1. It is replaced in all rows.
 use Rattle.std.specs.Prelude.{ℕ, Bool, true, false, ◌&&◌, ◌||◌, ◌==◌, if◌then◌else◌, Option, Some, None, List, [], ◌∷◌, slice_get, ℤ, pos, negsuc, ◌+ℤ◌}
-use Rattle.std.specs.List.{list_any}
 use Rattle.std.specs.Ordering.{int_eq, is_eq}
+use Rattle.rx_plain.specs.Formed.{Formed}
 use Rattle.rx_poly.specs.Constants.{variable}
 use Rattle.rx_poly.specs.Limits.{added, is_within, of_atoms, scaled_by, subtracted}
 use Rattle.rx_poly.specs.Order.{mono_cmp}
 use Rattle.rx_poly.specs.Reading.{coefficient}
 use Rattle.rx_poly.specs.Terms.{is_zero}
-use Rattle.rx_poly.specs.declared.body.Atom.{Atom, Atom-F, fold-Atom}
+use Rattle.rx_poly.specs.Variables.{uses}
 use Rattle.rx_poly.specs.declared.body.Atom.TheVariants.{Var}
-use Rattle.rx_poly.specs.declared.body.Mono.{Mono, Mono-F, fold-Mono}
-use Rattle.rx_poly.specs.declared.body.Body.{Body, Body-F, fold-Body, out-Body}
+use Rattle.rx_poly.specs.declared.body.Mono.{Mono}
+use Rattle.rx_poly.specs.declared.body.Body.{Body, out-Body}
 use Rattle.rx_row.specs.Substitution.{in_rows, rows_within}
 use Rattle.rx_row.specs.declared.row.Row.{Row}
 use Rattle.rx_row.specs.declared.row.Row.TheVariants.{Ge, Eq, Ne}
@@ -46,32 +46,6 @@ zero_of same (Some (Ne p)) second = None
 abbrev pub zero_polynomial : List Row → ℕ → ℕ → Option Body
 zero_polynomial rows first second = zero_of (first == second) (slice_get rows first) (slice_get rows second)
 
--- ---- where a variable stands, at every level
-
-module _ (x : ℕ) where
-  abbrev pub atom_names : Atom-F Bool Bool Bool → Bool
-  atom_names (Atom-F.Var n) = n == x
-  atom_names (Atom-F.Div p q) = p || q
-  atom_names (Atom-F.Mod p q) = p || q
-
-  abbrev pub body_names : Body-F Bool Bool Bool → Bool
-  body_names b = list_any (λ (t : Bool × ℤ). t.0) b.terms
-
-  abbrev pub mono_names : Mono-F Bool Bool Bool → Bool
-  mono_names m = list_any (λ b. b) m.atoms
-
-  -- the variable is the atom, or stands inside it
-  abbrev pub stands_in_atom : Atom → Bool
-  stands_in_atom = fold-Atom Bool Bool Bool atom_names body_names mono_names
-
-  -- the variable stands in a factor
-  abbrev pub stands_in_mono : Mono → Bool
-  stands_in_mono = fold-Mono Bool Bool Bool atom_names body_names mono_names
-
-  -- the variable stands in a term
-  abbrev pub stands_in : Body → Bool
-  stands_in = fold-Body Bool Bool Bool atom_names body_names mono_names
-
 -- ---- what the variable is
 
 -- the coefficient of the variable alone
@@ -80,14 +54,14 @@ coefficient_of x p = coefficient (of_atoms (Var x ∷ [])) (out-Body p).terms
 
 -- p has the variable with coefficient 1: the rest is p without it, and the variable is -rest, unless it stands there too
 abbrev pub solution_plus : ℕ → Body → Option Body
-solution_plus x rest = if stands_in x rest then None else Some (scaled_by (negsuc 0) rest)
+solution_plus x rest = if uses x rest then None else Some (scaled_by (negsuc 0) rest)
 
 abbrev pub solution_plus_within : ℕ → Body → Bool
-solution_plus_within x rest = is_within rest && (stands_in x rest || is_within (scaled_by (negsuc 0) rest))
+solution_plus_within x rest = is_within rest && (uses x rest || is_within (scaled_by (negsuc 0) rest))
 
 -- p has it with coefficient -1: the variable is the rest
 abbrev pub solution_minus : ℕ → Body → Option Body
-solution_minus x rest = if stands_in x rest then None else Some rest
+solution_minus x rest = if uses x rest then None else Some rest
 
 -- what the variable is where p = 0; none where it doesn't stand in p once, alone, with coefficient 1 or -1
 abbrev pub solution : ℕ → Body → Option Body
@@ -100,6 +74,10 @@ abbrev pub solution_within : ℕ → Body → Bool
 solution_within x p =
     if int_eq (coefficient_of x p) (pos 1) then solution_plus_within x (subtracted p (variable x))
     else (if int_eq (coefficient_of x p) (negsuc 0) then is_within (added p (variable x)) else true)
+
+-- both at once
+abbrev pub solution_formed : ℕ → Body → Formed (Option Body)
+solution_formed x p = record { form = solution x p; within = solution_within x p }
 
 -- ---- the rows behind it
 

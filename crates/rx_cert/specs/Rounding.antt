@@ -1,11 +1,13 @@
 -- A sum of rows that is divided by a number and rounded down, coefficient by coefficient. The number divides all but the constant exactly.
-use Rattle.std.specs.Prelude.{Bool, true, ◌&&◌, ◌||◌, if◌then◌else◌, Option, Some, None, List, [], ◌∷◌, ℤ, pos, int_lt}
+use Rattle.std.specs.Prelude.{ℕ, Bool, true, ◌&&◌, ◌||◌, if◌then◌else◌, Option, Some, None, List, [], ◌∷◌, ℤ, pos, int_lt}
 use Rattle.std.specs.Int.{int_div_euclid, int_rem_euclid}
+use Rattle.rx_plain.specs.Formed.{Formed}
 use Rattle.rx_poly.specs.Limits.{of_terms}
 use Rattle.rx_poly.specs.Normal.{is_empty}
 use Rattle.rx_poly.specs.Terms.{is_zero, put}
 use Rattle.rx_poly.specs.declared.body.Mono.{Mono, out-Mono}
 use Rattle.rx_poly.specs.declared.body.Body.{Body, out-Body}
+use Rattle.rx_row.specs.Parts.{parts_within, sum_of}
 use Rattle.rx_row.specs.declared.row.Row.{Row}
 use Rattle.rx_row.specs.declared.row.Row.TheVariants.{Ge}
 
@@ -39,3 +41,7 @@ can_be_rounded_by d p = int_lt (pos 0) d && divides_terms d (out-Body p).terms
 abbrev pub rounding_row : ℤ → Option Body → Option Row
 rounding_row d None = None
 rounding_row d (Some p) = if can_be_rounded_by d p then Some (Ge (rounded d p)) else None
+
+-- the row of a rounded sum of parts, and whether all on the way to the sum keeps the limits
+abbrev pub rounding_formed : ℤ → List Row → List (ℕ × ℤ) → Formed (Option Row)
+rounding_formed d rows ps = record { form = rounding_row d (sum_of rows ps); within = parts_within rows ps }

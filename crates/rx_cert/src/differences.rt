@@ -1,21 +1,13 @@
 //! The two rows of what is not 0.
 ghost use Rattle.std.specs.Prelude.{◌≡◌, slice_get, true, false, IfOk, IfErr, OnOk};
-ghost use Rattle.rx_cert.specs.Differences.{disequal, one_less};
-ghost use Rattle.rx_poly.specs.Constants.{number};
+ghost use Rattle.rx_plain.specs.Formed.{Forms};
+ghost use Rattle.rx_cert.specs.Differences.{above, below, disequal, one_less};
 ghost use Rattle.rx_poly.specs.Limits.{is_within};
 ghost use Rattle.rx_row.specs.Negation.{negation, negation_within};
 
-use rx_poly::{ITerm, Poly, PolyEnd, norm};
+use rx_poly::{Poly, PolyEnd};
 use rx_row::Row;
 use std::alloc::{AllocError, Global};
-
-/// The polynomial that is one number.
-pub(crate) fn constant(alloc: Global, value: &i128) -> Result<Poly, PolyEnd>
-    ensures same { IfOk result (λ p. p ≡ number value.now) }
-    ensures memory { IfErr result (λ e. e ≡ PolyEnd.NoMemory) }
-{
-    norm(alloc, &ITerm::Lit(*value))
-}
 
 /// The polynomial of the row with that number, where this is a disequality.
 pub(crate) fn disequal_at(alloc: Global, rows: &[Row], at: u32) -> Result<Option<Poly>, AllocError>
@@ -27,21 +19,23 @@ pub(crate) fn disequal_at(alloc: Global, rows: &[Row], at: u32) -> Result<Option
     }
 }
 
-/// `p - 1 >= 0`
-pub(crate) fn row_above(alloc: Global, poly: &Poly) -> Result<Row, PolyEnd>
+/// `p - 1 >= 0`. Large exactly where `p - 1` passes the limits.
+pub fn row_above(alloc: Global, poly: &Poly) -> Result<Row, PolyEnd>
     ensures row { IfOk result (λ r. r ≡ Row.Ge (one_less poly.now)) }
     ensures within { OnOk result (is_within (one_less poly.now) ≡ true) }
     ensures large { IfErr result (λ e. e ≡ PolyEnd.Large → is_within (one_less poly.now) ≡ false) }
+    ensures forms { Forms PolyEnd.Large result (above poly.now) }
 {
-    let one = constant(alloc, &1)?;
+    let one = Poly::constant(alloc, 1)?;
     Ok(Row::Ge(poly.sub(alloc, &one)?))
 }
 
 /// `-p - 1 >= 0`
-pub(crate) fn row_below(alloc: Global, poly: &Poly) -> Result<Row, PolyEnd>
+pub fn row_below(alloc: Global, poly: &Poly) -> Result<Row, PolyEnd>
     ensures row { IfOk result (λ r. r ≡ negation (Row.Ge poly.now)) }
     ensures within { OnOk result (negation_within (Row.Ge poly.now) ≡ true) }
     ensures large { IfErr result (λ e. e ≡ PolyEnd.Large → negation_within (Row.Ge poly.now) ≡ false) }
+    ensures forms { Forms PolyEnd.Large result (below poly.now) }
 {
     Row::Ge(poly.try_clone(alloc)?).negate(alloc)
 }

@@ -2,18 +2,17 @@
 ghost use Rattle.std.specs.Prelude.{◌≡◌, ◌∷◌, ◌==◌, [], slice_get, true, false, ◌&&◌, ◌+ℤ◌, IfOk, IfErr, IfSome, OnOk, OnSome};
 ghost use Rattle.std.specs.Option.{option_copied};
 ghost use Rattle.std.specs.Ordering.{is_eq};
-ghost use Rattle.rx_cert.specs.Elimination.{are_opposite, coefficient_of, zero_polynomial, of_opposites, solution, solution_minus, solution_plus, solution_plus_within, solution_within};
+ghost use Rattle.rx_plain.specs.Formed.{Forms};
+ghost use Rattle.rx_cert.specs.Elimination.{are_opposite, coefficient_of, zero_polynomial, of_opposites, solution, solution_formed, solution_minus, solution_plus, solution_plus_within, solution_within};
 ghost use Rattle.rx_poly.specs.Constants.{variable};
 ghost use Rattle.rx_poly.specs.Limits.{added, is_within, subtracted};
 ghost use Rattle.rx_poly.specs.Order.{mono_cmp};
 ghost use Rattle.rx_poly.specs.Terms.{is_zero};
 ghost use Rattle.rx_poly.specs.declared.body.Body.{out-Body};
 
-use crate::occurrence::names_variable;
-use rx_plain::Graded;
-use rx_poly::{Atom, ITerm, Mono, Poly, PolyEnd, norm};
+use rx_poly::{Mono, Poly, PolyEnd, uses};
 use rx_row::Row;
-use std::alloc::{AllocError, Global};
+use std::alloc::Global;
 
 /// Whether the two terms have one monomial and opposite coefficients.
 fn is_opposite(left: &(Mono, i128), right: &(Mono, i128)) -> bool
@@ -62,7 +61,7 @@ fn opposed<'a>(poly: &'a Poly, other: Option<&Row>) -> Option<&'a Poly>
 
 /// The polynomial that the two rows say to be 0, where they do: an equation, named twice, or `p >= 0` and
 /// `-p >= 0`. Nothing is formed.
-pub(crate) fn polynomial_at_zero(rows: &[Row], first: u32, second: u32) -> Option<&Poly>
+pub fn polynomial_at_zero(rows: &[Row], first: u32, second: u32) -> Option<&Poly>
     ensures { option_copied result ≡ zero_polynomial rows.now first second }
 {
     match rows.get(first as usize) {
@@ -72,15 +71,6 @@ pub(crate) fn polynomial_at_zero(rows: &[Row], first: u32, second: u32) -> Optio
     }
 }
 
-/// The coefficient of the variable alone.
-fn coefficient_at(alloc: Global, poly: &Poly, var: u32) -> Result<i128, AllocError>
-    ensures { IfOk result (λ k. k ≡ coefficient_of var poly.now) }
-{
-    let mut atoms = Graded::new(alloc);
-    atoms.push(Atom::Var(var))?;
-    Ok(poly.coeff(&Mono { atoms }))
-}
-
 /// The opposite of what stands beside the variable, where its coefficient is 1 and it stands nowhere else.
 fn solved_plus(alloc: Global, poly: &Poly, alone: &Poly, var: u32) -> Result<Option<Poly>, PolyEnd>
     ensures value { IfOk result (λ s. s ≡ solution_plus var (subtracted poly.now alone.now)) }
@@ -88,7 +78,7 @@ fn solved_plus(alloc: Global, poly: &Poly, alone: &Poly, var: u32) -> Result<Opt
     ensures large { IfErr result (λ e. e ≡ PolyEnd.Large → solution_plus_within var (subtracted poly.now alone.now) ≡ false) }
 {
     let rest = poly.sub(alloc, alone)?;
-    if names_variable(var, rest.body()) {
+    if uses(&rest, var) {
         return Ok(None);
     }
     Ok(Some(rest.scale(alloc, -1)?))
@@ -101,7 +91,7 @@ fn solved_minus(alloc: Global, poly: &Poly, alone: &Poly, var: u32) -> Result<Op
     ensures large { IfErr result (λ e. e ≡ PolyEnd.Large → is_within (added poly.now alone.now) ≡ false) }
 {
     let rest = poly.add(alloc, alone)?;
-    if names_variable(var, rest.body()) {
+    if uses(&rest, var) {
         return Ok(None);
     }
     Ok(Some(rest))
@@ -109,13 +99,14 @@ fn solved_minus(alloc: Global, poly: &Poly, alone: &Poly, var: u32) -> Result<Op
 
 /// The value of the variable where the polynomial is 0; none where the variable doesn't stand in it once,
 /// alone, with coefficient 1 or -1. Large exactly where a polynomial on the way passes the limits.
-pub(crate) fn solve(alloc: Global, poly: &Poly, var: u32) -> Result<Option<Poly>, PolyEnd>
+pub fn solve(alloc: Global, poly: &Poly, var: u32) -> Result<Option<Poly>, PolyEnd>
     ensures value { IfOk result (λ s. s ≡ solution var poly.now) }
     ensures within { OnOk result (solution_within var poly.now ≡ true) }
     ensures large { IfErr result (λ e. e ≡ PolyEnd.Large → solution_within var poly.now ≡ false) }
+    ensures forms { Forms PolyEnd.Large result (solution_formed var poly.now) }
 {
-    let alone = norm(alloc, &ITerm::Var(var))?;
-    let coefficient = coefficient_at(alloc, poly, var)?;
+    let alone = Poly::variable(alloc, var)?;
+    let coefficient = poly.coeff_of(var);
     if coefficient == 1 {
         return solved_plus(alloc, poly, &alone, var);
     }

@@ -8,13 +8,17 @@ mod differences;
 mod division_facts;
 mod elimination;
 mod examination;
-mod occurrence;
 mod refutation;
 mod rounding;
 mod sums;
 
 pub use cert::{Cert, Parts};
 pub use conditions::{ConditionsAnswer, check_conditions, is_plain};
+pub use differences::{row_above, row_below};
+pub use division_facts::{Division, divide, facts_at_least_zero, facts_below_zero};
+pub use elimination::{polynomial_at_zero, solve};
 pub use refutation::{shows, shows_row};
+pub use rounding::rounded_row;
 pub use rx_plain::NoMemory;
 pub use rx_poly::PolyEnd;
+pub use sums::sum_refutes;

@@ -1,7 +1,8 @@
 //! Sums of rows that are divided and rounded down.
 ghost use Rattle.std.specs.Prelude.{◌≡◌, ◌++◌, [], true, false, ◌&&◌, ◌||◌, pos, ◌<ℤ◌, IfOk, IfErr, OnOk};
 ghost use Rattle.std.specs.Int.{int_div_euclid};
-ghost use Rattle.rx_cert.specs.Rounding.{rounding_row, divides, divides_terms, can_be_rounded_by, is_one, rounded, rounded_terms};
+ghost use Rattle.rx_plain.specs.Formed.{Forms};
+ghost use Rattle.rx_cert.specs.Rounding.{rounding_formed, rounding_row, divides, divides_terms, can_be_rounded_by, is_one, rounded, rounded_terms};
 ghost use Rattle.rx_poly.specs.Terms.{put};
 ghost use Rattle.rx_row.specs.Parts.{parts_within, sum_of};
 
@@ -104,7 +105,7 @@ fn round(alloc: Global, div: &i128, poly: &Poly) -> Result<Poly, AllocError>
 
 /// The row that the rounded sum of the parts is at least 0; none where a part isn't lawful or the divisor
 /// doesn't divide the sum. Large exactly where a polynomial on the way to the sum passes the limits.
-pub(crate) fn rounded_row(
+pub fn rounded_row(
     alloc: Global,
     rows: &[Row],
     parts: &[(u32, i128)],
@@ -113,6 +114,7 @@ pub(crate) fn rounded_row(
     ensures row { IfOk result (λ r. r ≡ rounding_row div.now (sum_of rows.now parts.now)) }
     ensures within { OnOk result (parts_within rows.now parts.now ≡ true) }
     ensures large { IfErr result (λ e. e ≡ PolyEnd.Large → parts_within rows.now parts.now ≡ false) }
+    ensures forms { Forms PolyEnd.Large result (rounding_formed div.now rows.now parts.now) }
 {
     match combine_rows(alloc, rows, parts)? {
         Some(sum) if can_be_rounded(div, &sum) => Ok(Some(Row::Ge(round(alloc, div, &sum)?))),
