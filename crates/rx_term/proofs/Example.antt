@@ -21,7 +21,8 @@ use Rattle.rx_term.specs.Fitting.{code_fits, term_fits}
 use Rattle.rx_term.specs.Meaning.{CallRedex, ReturnRedex, FailRedex, matched, signature, values}
 use Rattle.rx_term.specs.Paired.{PointShape, ReturnShape, FailShape, IsPair, One, Two, IsPaired}
 use Rattle.rx_term.specs.Shapes.{Value, Failure, Called, Framed, same_shape, shape_of}
-use Rattle.rx_term.specs.Variables.{polys_use_below, rows_use_below, term_uses_below}
+use Rattle.rx_row.specs.Variables.{rows_use_below}
+use Rattle.rx_term.specs.Variables.{polys_use_below, term_uses_below}
 use Rattle.rx_term.specs.WellMade.{OfPoint, OverReturn, OverFail, IsMade, IsWellMade, width}
 use Rattle.rx_term.specs.declared.rule.Rule.{Rule}
 use Rattle.rx_term.specs.declared.term.Sym.{Sym}
