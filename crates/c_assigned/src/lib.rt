@@ -12,8 +12,6 @@ mod function;
 mod reads;
 mod sets;
 mod statements;
-#[cfg(test)]
-mod tests;
 
 pub use fault::Fault;
 pub use function::fault_of;

@@ -19,6 +19,3 @@ pub use laws::{one_fault_is_out_of_order, scoped_programs_name_what_is_there};
 pub use program::{Function, Program, Prototype, Resolved};
 pub use rx_plain::NoMemory;
 pub use stmt::{Stmt, stmt_height};
-
-#[cfg(test)]
-mod tests;

@@ -11,8 +11,6 @@ mod lexer;
 mod marks;
 mod piece;
 mod scan;
-#[cfg(test)]
-mod tests;
 mod token;
 
 pub use error::LexEnd;

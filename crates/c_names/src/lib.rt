@@ -8,8 +8,6 @@
 mod names;
 mod slots;
 mod spelling;
-#[cfg(test)]
-mod tests;
 
 pub use names::{name_at, names_of, names_tell_spellings};
 pub use rx_plain::NoMemory;

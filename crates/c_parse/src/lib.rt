@@ -21,6 +21,3 @@ pub use error::ParseEnd;
 pub use precondition::{one_expression, parse_pre};
 pub use program::{one_program, parse};
 pub use rx_plain::NoMemory;
-
-#[cfg(test)]
-mod tests;

@@ -25,6 +25,3 @@ pub use find::find_function;
 pub use preconditions::resolve_pre;
 pub use program::resolve;
 pub use rx_plain::NoMemory;
-
-#[cfg(test)]
-mod tests;

@@ -9,8 +9,6 @@ mod laws;
 mod logs;
 mod reports;
 mod straight;
-#[cfg(test)]
-mod tests;
 mod top;
 mod verdicts;
 mod words;

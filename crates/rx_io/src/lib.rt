@@ -14,6 +14,3 @@ pub use outside::{Failed, Files, Sink};
 pub use putting::{PutEnd, put_all};
 pub use reading::{ReadEnd, read_all};
 pub use rx_plain::NoMemory;
-
-#[cfg(test)]
-mod tests;

@@ -1,0 +1,83 @@
+//! Programs and preconditions as they are read.
+ghost use Rattle.std.specs.Prelude.{◌≤◌, length};
+
+use crate::printing::{put, put_debug, put_expr, put_program};
+use crate::texts::{bytes_of, long_bytes_of, tokens_of};
+use c_lex::Token;
+use c_parse::{ParseEnd, parse, parse_pre};
+use std::alloc::Global;
+
+// Adds the refusal, without the place of a syntax error.
+fn put_end(out: &mut String, end: ParseEnd) {
+    match end {
+        ParseEnd::Syntax { token: _ } => put(out, "syntax"),
+        end => put_debug(out, end),
+    }
+}
+
+// The program of a text, or its refusal.
+fn program(alloc: Global, source: &[u8]) -> Option<String> {
+    let tokens = tokens_of(alloc, source)?;
+    let mut out = String::new(alloc);
+    match parse(alloc, &tokens) {
+        Ok(program) => put_program(&mut out, &program),
+        Err(end) => put_end(&mut out, end),
+    }
+    Some(out)
+}
+
+// Whether a text is a program, or its refusal.
+fn is_program(alloc: Global, source: &[u8]) -> Option<String> {
+    let tokens = tokens_of(alloc, source)?;
+    let mut out = String::new(alloc);
+    match parse(alloc, &tokens) {
+        Ok(_) => put(&mut out, "read"),
+        Err(end) => put_end(&mut out, end),
+    }
+    Some(out)
+}
+
+// The precondition of a text, or its refusal.
+fn precondition(alloc: Global, source: &[u8]) -> Option<String> {
+    let tokens = tokens_of(alloc, source)?;
+    let mut out = String::new(alloc);
+    match parse_pre(alloc, &tokens) {
+        Ok(e) => put_expr(&mut out, &e),
+        Err(end) => put_end(&mut out, end),
+    }
+    Some(out)
+}
+
+// Whether the tokens spell no program.
+fn is_syntax(alloc: Global, tokens: &[Token]) -> bool
+    requires { length tokens.now ≤ 1048576 }
+{
+    matches!(parse(alloc, tokens), Err(ParseEnd::Syntax { token: _ }))
+}
+
+// Of a program cut after each number of tokens, the numbers where no syntax error is found.
+fn cut(alloc: Global, tokens: &[Token]) -> String
+    requires { length tokens.now ≤ 1048576 }
+{
+    let mut out = String::new(alloc);
+    for count in 0..=tokens.len() {
+        if !is_syntax(alloc, &tokens[..count]) {
+            put(&mut out, " ");
+            put_debug(&mut out, count);
+        }
+    }
+    out
+}
+
+/// `parse` and `pre` read a text; `long parse` and `long pre` say of a long text whether it is read; `cut` says after how
+/// many tokens a program may be cut.
+pub fn answer(alloc: Global, call: &str, given: &str) -> Option<String> {
+    match call {
+        "parse" => program(alloc, &bytes_of(alloc, given)?),
+        "pre" => precondition(alloc, &bytes_of(alloc, given)?),
+        "long parse" => is_program(alloc, &long_bytes_of(alloc, given)?),
+        "long pre" => precondition(alloc, &long_bytes_of(alloc, given)?),
+        "cut" => Some(cut(alloc, &tokens_of(alloc, &bytes_of(alloc, given)?)?)),
+        _ => None,
+    }
+}

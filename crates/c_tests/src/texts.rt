@@ -1,0 +1,150 @@
+//! What a case is given: bytes with their escapes, numbers, tokens and programs.
+ghost use Rattle.std.specs.Prelude.{◌≤◌, ◌<◌, ◌^◌, length, IfSome};
+ghost use Rattle.c_names.specs.Spellings.{IsWithin};
+
+use c_ast::{Function, Program};
+use c_lex::{Token, tokens};
+use c_parse::parse;
+use std::alloc::Global;
+
+/// The tokens of a text.
+#[derive(Drop)]
+pub struct Lexed {
+    /// The bytes of the text.
+    pub source: Vec<u8>,
+    /// Its tokens.
+    pub tokens: Vec<Token>,
+    ghost within: { IsWithin source.items tokens.items },
+    ghost few: { length tokens.items ≤ 1048576 },
+}
+
+/// The program of a text.
+#[derive(Drop)]
+pub struct Parsed {
+    /// The text.
+    pub text: Lexed,
+    /// Its program.
+    pub program: Program,
+    ghost few: { length program.functions < 2 ^ 32 },
+}
+
+// Adds a byte and what stands after it.
+fn push_both(bytes: &mut Vec<u8>, byte: u8, rest: &str) -> Option<()> {
+    bytes.push(byte).ok()?;
+    bytes.extend_from_slice(rest.as_bytes()).ok()
+}
+
+// Adds the byte whose code stands first, and what stands after it.
+fn push_code(bytes: &mut Vec<u8>, piece: &str) -> Option<()> {
+    let (digits, rest) = piece.split_at_checked(2)?;
+    let byte = u8::from_str_radix(digits, 16).ok()?;
+    push_both(bytes, byte, rest)
+}
+
+// Adds what an escape stands for, and what stands after it.
+fn push_escaped(bytes: &mut Vec<u8>, piece: &str) -> Option<()> {
+    let (letter, rest) = piece.split_at_checked(1)?;
+    match letter {
+        "n" => push_both(bytes, b'\n', rest),
+        "r" => push_both(bytes, b'\r', rest),
+        "t" => push_both(bytes, b'\t', rest),
+        "x" => push_code(bytes, rest),
+        "e" => bytes.extend_from_slice(rest.as_bytes()).ok(),
+        _ => None,
+    }
+}
+
+/// The bytes that a text stands for.
+pub fn bytes_of(alloc: Global, text: &str) -> Option<Vec<u8>> {
+    let mut pieces = text.split('\\');
+    let first = pieces.next()?;
+    let mut bytes = Vec::new(alloc);
+    bytes.extend_from_slice(first.as_bytes()).ok()?;
+    for piece in pieces {
+        push_escaped(&mut bytes, piece)?;
+    }
+    Some(bytes)
+}
+
+// Adds the bytes of a unit, again and again, so many in all.
+fn push_repeated(bytes: &mut Vec<u8>, unit: &[u8], count: usize) -> Option<()> {
+    for byte in unit.iter().cycle().take(count) {
+        bytes.push(*byte).ok()?;
+    }
+    Some(())
+}
+
+// The bytes of a text, then a unit again and again, so many bytes in all, and the bytes of another text.
+fn repeated(alloc: Global, before: &str, unit: &str, count: &str, after: &str) -> Option<Vec<u8>> {
+    let mut bytes = bytes_of(alloc, before)?;
+    push_repeated(&mut bytes, &bytes_of(alloc, unit)?, count.parse().ok()?)?;
+    bytes.extend_from_slice(&bytes_of(alloc, after)?).ok()?;
+    Some(bytes)
+}
+
+/// The bytes of a long text, written as `BEFORE~UNIT~COUNT~AFTER`: so many bytes of the unit between two texts.
+pub fn long_bytes_of(alloc: Global, text: &str) -> Option<Vec<u8>> {
+    let (before, rest) = text.split_once('~')?;
+    let (unit, rest) = rest.split_once('~')?;
+    let (count, after) = rest.split_once('~')?;
+    repeated(alloc, before, unit, count, after)
+}
+
+/// The numbers of a list.
+pub fn numbers_of(alloc: Global, text: &str) -> Option<Vec<u32>> {
+    let mut numbers = Vec::new(alloc);
+    for word in text.split_whitespace() {
+        numbers.push(word.parse().ok()?).ok()?;
+    }
+    Some(numbers)
+}
+
+/// The tokens of these bytes; none where they are too many, or no list of tokens.
+pub fn tokens_of(alloc: Global, source: &[u8]) -> Option<Vec<Token>>
+    ensures within { IfSome result (λ tokens. IsWithin source.now tokens.items) }
+    ensures few { IfSome result (λ tokens. length tokens.items ≤ 1048576) }
+{
+    if source.len() > 1_048_576 {
+        return None;
+    }
+    match tokens(alloc, source) {
+        Ok(tokens) => Some(tokens),
+        Err(_) => None,
+    }
+}
+
+// The program that tokens spell.
+fn program_of(alloc: Global, tokens: &[Token]) -> Option<Program>
+    requires { length tokens.now ≤ 1048576 }
+    ensures { IfSome result (λ program. length program.functions < 2 ^ 32) }
+{
+    match parse(alloc, tokens) {
+        Ok(program) => Some(program),
+        Err(_) => None,
+    }
+}
+
+/// The tokens of a text.
+pub fn lex_text(alloc: Global, text: &str) -> Option<Lexed> {
+    let source = bytes_of(alloc, text)?;
+    let tokens = tokens_of(alloc, &source)?;
+    Some(Lexed { source, tokens })
+}
+
+/// The program of a text.
+pub fn parse_text(alloc: Global, text: &str) -> Option<Parsed> {
+    let text = lex_text(alloc, text)?;
+    let program = program_of(alloc, &text.tokens)?;
+    Some(Parsed { text, program })
+}
+
+/// The first function of a list, where it has at most 16 parameters.
+pub fn first_of(functions: &[Function]) -> Option<&Function>
+    ensures { IfSome result (λ function. length function.now.params ≤ 16) }
+{
+    let function = functions.first()?;
+    if function.params.len() > 16 {
+        return None;
+    }
+    Some(function)
+}

@@ -1,0 +1,133 @@
+//! Copies, heights and straight functions.
+ghost use Rattle.std.specs.Prelude.{◌≡◌, IfSome};
+ghost use Rattle.c_ast.specs.Height.{expr_height, stmt_height};
+
+use crate::printing::{put, put_debug, put_expr, put_functions, put_number, put_program, put_stmt};
+use crate::texts::{Parsed, first_of, lex_text, parse_text};
+use c_ast::{BinOp, Expr, Function, Stmt, UnOp, expr_height, stmt_height, straight};
+use c_parse::parse_pre;
+use c_scope::resolve;
+use rx_plain::{Boxed, Items};
+use std::alloc::Global;
+
+// The copy of a program, where it equals the program.
+fn copy(alloc: Global, given: &str) -> Option<String> {
+    let read = parse_text(alloc, given)?;
+    let copied = read.program.try_clone(alloc).ok()?;
+    let mut out = String::new(alloc);
+    if copied == read.program {
+        put_program(&mut out, &copied);
+    }
+    Some(out)
+}
+
+// The copy of a precondition, where it equals the precondition.
+fn copy_pre(alloc: Global, given: &str) -> Option<String> {
+    let e = parse_pre(alloc, &lex_text(alloc, given)?.tokens).ok()?;
+    let copied = e.try_clone(alloc).ok()?;
+    let mut out = String::new(alloc);
+    if copied == e {
+        put_expr(&mut out, &copied);
+    }
+    Some(out)
+}
+
+// The copy of a resolved program, where it equals the program.
+fn copy_resolved(alloc: Global, read: &Parsed) -> Option<String> {
+    let text = &read.text;
+    let resolved = resolve(alloc, &text.source, &text.tokens, &read.program).ok()?;
+    let copied = resolved.try_clone(alloc).ok()?;
+    let mut out = String::new(alloc);
+    if copied == resolved {
+        put_functions(&mut out, copied.functions.as_slice());
+    }
+    Some(out)
+}
+
+// The copy of the first statement of the first function, where it equals the statement.
+fn copy_statement(alloc: Global, read: &Parsed) -> Option<String> {
+    let function = read.program.functions.as_slice().first()?;
+    let statement = function.body.as_slice().first()?;
+    let copied = statement.try_clone(alloc).ok()?;
+    let mut out = String::new(alloc);
+    if copied == *statement {
+        put_stmt(&mut out, &copied);
+    }
+    Some(out)
+}
+
+// Whether two programs are the same tree.
+fn same(alloc: Global, given: &str) -> Option<String> {
+    let (left, right) = given.split_once(" | ")?;
+    let left = parse_text(alloc, left)?;
+    let right = parse_text(alloc, right)?;
+    let mut out = String::new(alloc);
+    put_debug(&mut out, left.program == right.program);
+    Some(out)
+}
+
+// What the first function returns, where it is straight.
+fn returned(alloc: Global, functions: &[Function]) -> Option<String> {
+    let function = first_of(functions)?;
+    let mut out = String::new(alloc);
+    match straight(function) {
+        Some(e) => put_expr(&mut out, e),
+        None => put(&mut out, "none"),
+    }
+    Some(out)
+}
+
+// What the first function of a resolved program returns, where it is straight.
+fn returned_by(alloc: Global, read: &Parsed) -> Option<String> {
+    let text = &read.text;
+    let resolved = resolve(alloc, &text.source, &text.tokens, &read.program).ok()?;
+    returned(alloc, resolved.functions.as_slice())
+}
+
+// `-(x + 2)`
+fn negated_sum(alloc: Global) -> Option<Expr>
+    ensures { IfSome result (λ e. expr_height e ≡ 3) }
+{
+    let left = Boxed::new(alloc, Expr::Var(7)).ok()?;
+    let right = Boxed::new(alloc, Expr::Lit(2)).ok()?;
+    let sum = Boxed::new(alloc, Expr::Binary(BinOp::Add, left, right)).ok()?;
+    Some(Expr::Unary(UnOp::Minus, sum))
+}
+
+// `while (f()) return -(x + 2);`
+fn turns(alloc: Global) -> Option<Stmt>
+    ensures { IfSome result (λ s. stmt_height s ≡ 5) }
+{
+    let value = negated_sum(alloc)?;
+    let body = Boxed::new(alloc, Stmt::Return(value)).ok()?;
+    Some(Stmt::While(Expr::Apply(5, Items::new(alloc)), body))
+}
+
+// The heights of `-(x + 2)` and of `while (f()) return -(x + 2);`.
+fn heights(alloc: Global) -> Option<String> {
+    let mut out = String::new(alloc);
+    put_number(&mut out, "", expr_height(&negated_sum(alloc)?));
+    put_number(&mut out, " ", stmt_height(&turns(alloc)?));
+    Some(out)
+}
+
+/// `copy` and its like copy a tree, and `same` compares two programs; `straight` says what the first function returns, of
+/// a resolved program or of one as it was read; `heights` are those of two trees that are built here.
+pub fn answer(alloc: Global, call: &str, given: &str) -> Option<String> {
+    match call {
+        "copy" => copy(alloc, given),
+        "copy pre" => copy_pre(alloc, given),
+        "copy resolved" => copy_resolved(alloc, &parse_text(alloc, given)?),
+        "copy statement" => copy_statement(alloc, &parse_text(alloc, given)?),
+        "same" => same(alloc, given),
+        "straight" => returned_by(alloc, &parse_text(alloc, given)?),
+        "straight unresolved" => {
+            returned(
+                alloc,
+                parse_text(alloc, given)?.program.functions.as_slice(),
+            )
+        }
+        "heights" => heights(alloc),
+        _ => None,
+    }
+}
