@@ -1,6 +1,6 @@
 //! The tokens of texts.
 use crate::printing::{put_debug, put_tokens};
-use crate::texts::{bytes_of, long_bytes_of};
+use crate::texts::source_of;
 use c_lex::tokens;
 use std::alloc::Global;
 
@@ -32,9 +32,10 @@ fn counted(alloc: Global, source: &[u8]) -> Option<String> {
 
 /// `lex` lists the tokens of a text, `long lex` counts those of a long text.
 pub fn answer(alloc: Global, call: &str, given: &str) -> Option<String> {
-    match call {
-        "lex" => listed(alloc, &bytes_of(alloc, given)?),
-        "long lex" => counted(alloc, &long_bytes_of(alloc, given)?),
-        _ => None,
+    let source = source_of(alloc, call, given)?;
+    if call == "lex" {
+        listed(alloc, &source)
+    } else {
+        counted(alloc, &source)
     }
 }

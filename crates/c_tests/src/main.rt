@@ -1,9 +1,11 @@
-//! Calls of the front end and of whole runs, with the answers that are wanted. Each line of the standard input is a case: the
-//! word of a call, what it is given, and the answer, with ` | ` between them. A line that begins with `#` is a heading.
+//! Calls of the front end and of whole runs, with the answers that are wanted. Each line of the
+//! standard input is a case: the word of a call, what it is given, and the answer, with ` | `
+//! between them. A line that begins with `#` is a heading.
 //!
-//! In a text and in an answer `\n`, `\r` and `\t` are a line end, a carriage return and a tab, `\x` with two hexadecimal
-//! digits is any byte, and `\e` is no byte, for a text that is empty. The program prints each line whose answer is another
-//! with the word `differs`, each that it can't read with `unread`, and at the end how many lines hold.
+//! In a text and in an answer `\n`, `\r` and `\t` are a line end, a carriage return and a tab, `\x`
+//! with two hexadecimal digits is any byte, and `\e` is no byte, for a text that is empty. The
+//! program prints each line whose answer is another with the word `differs`, each that it can't
+//! read with `unread`, and at the end how many lines hold.
 #![tactic(auto)]
 
 mod assigning;
@@ -33,7 +35,8 @@ fn answer(alloc: Global, call: &str, given: &str) -> Option<String> {
         | "same"
         | "straight"
         | "straight unresolved"
-        | "heights" => trees::answer(alloc, call, given),
+        | "low"
+        | "high" => trees::answer(alloc, call, given),
         "names" | "name" | "spelling" | "find spelling" | "slot" => {
             naming::answer(alloc, call, given)
         }

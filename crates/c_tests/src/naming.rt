@@ -42,33 +42,51 @@ fn place(alloc: Global, name: &str, numbers: &[u32], text: &Lexed) -> Option<Str
 }
 
 // The slot of a name in a scope.
-fn slot(alloc: Global, name: u32, scope: &[u32]) -> Option<String> {
+fn slot(alloc: Global, given: &str) -> Option<String> {
+    let (name, scope) = given.split_once(" | ")?;
+    let name = name.parse().ok()?;
+    let scope = numbers_of(alloc, scope)?;
     if scope.len() > 100 {
         return None;
     }
     let mut out = String::new(alloc);
-    put_debug(&mut out, slot_of(scope, name));
+    put_debug(&mut out, slot_of(&scope, name));
     Some(out)
 }
 
-// The place of a name among some tokens of a text.
-fn find(alloc: Global, name: &str, given: &str) -> Option<String> {
-    let (numbers, text) = given.split_once(" | ")?;
+// The place of a name among tokens, whose numbers are given, of a text.
+fn place_in(alloc: Global, name: &str, numbers: &str, text: &str) -> Option<String> {
     let text = lex_text(alloc, text)?;
-    place(alloc, name, &numbers_of(alloc, numbers)?, &text)
+    let numbers = numbers_of(alloc, numbers)?;
+    place(alloc, name, &numbers, &text)
 }
 
-/// `names` numbers all tokens of a text; `name`, `spelling` and `find spelling` ask for some of them; `slot` finds a name.
-pub fn answer(alloc: Global, call: &str, given: &str) -> Option<String> {
-    if call == "names" {
-        return names(alloc, &lex_text(alloc, given)?);
+// The place of a name that is given before numbers of tokens and a text.
+fn find(alloc: Global, given: &str) -> Option<String> {
+    let (name, rest) = given.split_once(" | ")?;
+    let (numbers, text) = rest.split_once(" | ")?;
+    place_in(alloc, name, numbers, text)
+}
+
+// The name or the spelling of the token whose number is given before a text.
+fn of_token(alloc: Global, call: &str, given: &str) -> Option<String> {
+    let (number, text) = given.split_once(" | ")?;
+    let number = number.parse().ok()?;
+    let text = lex_text(alloc, text)?;
+    if call == "name" {
+        name(alloc, number, &text)
+    } else {
+        spelling(alloc, number, &text)
     }
-    let (first, rest) = given.split_once(" | ")?;
+}
+
+/// `names` numbers all tokens of a text; `name`, `spelling` and `find spelling` ask for some of
+/// them; `slot` finds a name.
+pub fn answer(alloc: Global, call: &str, given: &str) -> Option<String> {
     match call {
-        "name" => name(alloc, first.parse().ok()?, &lex_text(alloc, rest)?),
-        "spelling" => spelling(alloc, first.parse().ok()?, &lex_text(alloc, rest)?),
-        "find spelling" => find(alloc, first, rest),
-        "slot" => slot(alloc, first.parse().ok()?, &numbers_of(alloc, rest)?),
-        _ => None,
+        "names" => names(alloc, &lex_text(alloc, given)?),
+        "find spelling" => find(alloc, given),
+        "slot" => slot(alloc, given),
+        _ => of_token(alloc, call, given),
     }
 }

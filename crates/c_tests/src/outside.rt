@@ -43,14 +43,25 @@ pub fn one_file(
     Some(MemoryFiles::new(held, piece, fail))
 }
 
+// Adds a file with a text.
+fn hold_text(
+    alloc: Global,
+    held: &mut Vec<(String, Vec<u8>)>,
+    name: &str,
+    text: &str,
+) -> Option<()> {
+    let content = bytes_of(alloc, text)?;
+    hold(alloc, held, name, content)
+}
+
 // Two files, and a third with the name of the first.
 fn three_files(alloc: Global, piece: usize, fail: Vec<u64>) -> Option<MemoryFiles>
     requires { 1 ≤ piece }
 {
     let mut held = Vec::new(alloc);
-    hold(alloc, &mut held, "a.c", bytes_of(alloc, "0123456789")?)?;
-    hold(alloc, &mut held, "b.c", bytes_of(alloc, "x")?)?;
-    hold(alloc, &mut held, "a.c", bytes_of(alloc, "other")?)?;
+    for (name, text) in [("a.c", "0123456789"), ("b.c", "x"), ("a.c", "other")] {
+        hold_text(alloc, &mut held, name, text)?;
+    }
     Some(MemoryFiles::new(held, piece, fail))
 }
 
@@ -159,9 +170,10 @@ fn call_all_sink(alloc: Global, setup: &str, calls: &str) -> Option<String> {
     Some(out)
 }
 
-/// `files` calls three files in memory: the largest piece and the numbers of the calls that fail are given, and the calls,
-/// `all NAME LIMIT`, `open NAME` or `take COUNT`. `sink` calls a sink in memory: the largest piece, the room, the numbers of
-/// the calls that fail and of those that take nothing are given, and the calls, `all TEXT` or `put TEXT`.
+/// `files` calls three files in memory: the largest piece and the numbers of the calls that fail
+/// are given, and the calls, `all NAME LIMIT`, `open NAME` or `take COUNT`. `sink` calls a sink in
+/// memory: the largest piece, the room, the numbers of the calls that fail and of those that take
+/// nothing are given, and the calls, `all TEXT` or `put TEXT`.
 pub fn answer(alloc: Global, call: &str, given: &str) -> Option<String> {
     let (setup, calls) = given.split_once(" | ")?;
     match call {

@@ -2,7 +2,7 @@
 ghost use Rattle.std.specs.Prelude.{◌≤◌, length};
 
 use crate::printing::{put, put_debug, put_expr, put_program};
-use crate::texts::{bytes_of, long_bytes_of, tokens_of};
+use crate::texts::{source_of, tokens_of};
 use c_lex::Token;
 use c_parse::{ParseEnd, parse, parse_pre};
 use std::alloc::Global;
@@ -16,36 +16,39 @@ fn put_end(out: &mut String, end: ParseEnd) {
 }
 
 // The program of a text, or its refusal.
-fn program(alloc: Global, source: &[u8]) -> Option<String> {
-    let tokens = tokens_of(alloc, source)?;
+fn program(alloc: Global, tokens: &[Token]) -> String
+    requires { length tokens.now ≤ 1048576 }
+{
     let mut out = String::new(alloc);
-    match parse(alloc, &tokens) {
+    match parse(alloc, tokens) {
         Ok(program) => put_program(&mut out, &program),
         Err(end) => put_end(&mut out, end),
     }
-    Some(out)
+    out
 }
 
 // Whether a text is a program, or its refusal.
-fn is_program(alloc: Global, source: &[u8]) -> Option<String> {
-    let tokens = tokens_of(alloc, source)?;
+fn is_program(alloc: Global, tokens: &[Token]) -> String
+    requires { length tokens.now ≤ 1048576 }
+{
     let mut out = String::new(alloc);
-    match parse(alloc, &tokens) {
+    match parse(alloc, tokens) {
         Ok(_) => put(&mut out, "read"),
         Err(end) => put_end(&mut out, end),
     }
-    Some(out)
+    out
 }
 
 // The precondition of a text, or its refusal.
-fn precondition(alloc: Global, source: &[u8]) -> Option<String> {
-    let tokens = tokens_of(alloc, source)?;
+fn precondition(alloc: Global, tokens: &[Token]) -> String
+    requires { length tokens.now ≤ 1048576 }
+{
     let mut out = String::new(alloc);
-    match parse_pre(alloc, &tokens) {
+    match parse_pre(alloc, tokens) {
         Ok(e) => put_expr(&mut out, &e),
         Err(end) => put_end(&mut out, end),
     }
-    Some(out)
+    out
 }
 
 // Whether the tokens spell no program.
@@ -69,15 +72,15 @@ fn cut(alloc: Global, tokens: &[Token]) -> String
     out
 }
 
-/// `parse` and `pre` read a text; `long parse` and `long pre` say of a long text whether it is read; `cut` says after how
-/// many tokens a program may be cut.
+/// `parse` and `pre` read a text; `long parse` and `long pre` say of a long text whether it is
+/// read; `cut` says after how many tokens a program may be cut.
 pub fn answer(alloc: Global, call: &str, given: &str) -> Option<String> {
-    match call {
-        "parse" => program(alloc, &bytes_of(alloc, given)?),
-        "pre" => precondition(alloc, &bytes_of(alloc, given)?),
-        "long parse" => is_program(alloc, &long_bytes_of(alloc, given)?),
-        "long pre" => precondition(alloc, &long_bytes_of(alloc, given)?),
-        "cut" => Some(cut(alloc, &tokens_of(alloc, &bytes_of(alloc, given)?)?)),
-        _ => None,
-    }
+    let source = source_of(alloc, call, given)?;
+    let tokens = tokens_of(alloc, &source)?;
+    Some(match call {
+        "parse" => program(alloc, &tokens),
+        "long parse" => is_program(alloc, &tokens),
+        "cut" => cut(alloc, &tokens),
+        _ => precondition(alloc, &tokens),
+    })
 }

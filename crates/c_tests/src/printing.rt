@@ -1,6 +1,8 @@
-//! Trees and tokens as text. What finds no memory is left out, so that the text is another than the one wanted.
+//! Trees and tokens as text. What finds no memory is left out, so that the text is another than the
+//! one wanted.
 use c_ast::{Expr, Function, Program, Prototype, Stmt};
 use c_lex::{Token, TokenKind};
+use rx_plain::Boxed;
 use std::fmt::Debug;
 
 /// Adds a word.
@@ -136,15 +138,21 @@ pub fn put_stmt(out: &mut String, s: &Stmt) {
             put_all(out, first.as_slice());
             put(out, " ");
             put_option(out, test);
-            put(out, " ");
-            match change {
-                None => put(out, "_"),
-                Some(change) => put_stmt(out, change.get()),
-            }
-            put(out, " ");
+            put_step(out, change);
             put_stmt(out, body.get());
         }
     }
+}
+
+// Adds the change after each turn, between spaces, `_` where it is left out.
+#[cycle(statements)]
+fn put_step(out: &mut String, change: &Option<Boxed<Stmt>>) {
+    put(out, " ");
+    match change {
+        None => put(out, "_"),
+        Some(change) => put_stmt(out, change.get()),
+    }
+    put(out, " ");
 }
 
 // Adds the statements in braces.

@@ -1,9 +1,11 @@
 //! Whole runs over memory.
-ghost use Rattle.std.specs.Prelude.{◌≤◌};
+ghost use Rattle.std.specs.Prelude.{◌≡◌, [], IfSome};
+ghost use Rattle.rx_io.specs.MemoryFiles as held;
+ghost use Rattle.rx_io.specs.MemorySink as taken;
 
 use crate::outside::{calls_of, one_file, put_bytes};
 use crate::printing::{put, put_debug};
-use crate::texts::{bytes_of, long_bytes_of};
+use crate::texts::{bytes_of, source_of};
 use rx_cli::{Status, run, run_in_memory};
 use rx_io::{MemoryFiles, MemorySink};
 use std::alloc::Global;
@@ -45,10 +47,28 @@ fn all_lines(alloc: Global, status: Status, text: &[u8]) -> String {
     out
 }
 
+// A file in memory of which no call fails.
+fn plain_file(alloc: Global, source: Vec<u8>) -> Option<MemoryFiles>
+    ensures { IfSome result (λ files. held.fail_in files ≡ []) }
+{
+    one_file(alloc, source, 4096, Vec::new(alloc))
+}
+
+// A sink in memory of which no call fails.
+fn plain_sink(alloc: Global) -> Option<MemorySink>
+    ensures fail { IfSome result (λ sink. taken.fail_in sink ≡ []) }
+    ensures zero { IfSome result (λ sink. taken.zero_in sink ≡ []) }
+{
+    match MemorySink::new(alloc, 4096, 4096, Vec::new(alloc), Vec::new(alloc)) {
+        Ok(sink) => Some(sink),
+        Err(_) => None,
+    }
+}
+
 // A run that compares two functions of a text: its status and the last line of its report.
 fn compared(alloc: Global, words: &[String], source: Vec<u8>) -> Option<String> {
-    let mut files = one_file(alloc, source, 4096, Vec::new(alloc))?;
-    let mut sink = MemorySink::new(alloc, 4096, 4096, Vec::new(alloc), Vec::new(alloc)).ok()?;
+    let mut files = plain_file(alloc, source)?;
+    let mut sink = plain_sink(alloc)?;
     let status = run(alloc, words, &mut files, &mut sink);
     last_line(alloc, status, sink.put_so_far())
 }
@@ -59,29 +79,42 @@ fn asked(alloc: Global, names: &str) -> Option<Vec<String>> {
     words_of(alloc, line.as_str())
 }
 
-// A run over these files and this sink: its status and its whole report.
-fn ran(alloc: Global, words: &[String], files: &mut MemoryFiles, sink: &mut MemorySink) -> String {
-    let status = run(alloc, words, files, sink);
-    all_lines(alloc, status, sink.put_so_far())
+// A run that compares the two functions with these names.
+fn run_names(alloc: Global, names: &str, source: Vec<u8>) -> Option<String> {
+    let words = asked(alloc, names)?;
+    compared(alloc, &words, source)
 }
 
-// Files and the words and the text of a run, in pieces and with failing calls.
-fn whole(alloc: Global, setup: &str, line: &str, source: &str) -> Option<String> {
-    let (reads, puts) = setup.split_once(" / ")?;
-    let mut files = files_with(alloc, reads, bytes_of(alloc, source)?)?;
-    let mut sink = sink_with(alloc, puts)?;
+// A run in memory in which no call fails.
+fn in_memory(alloc: Global, words: &[String], source: Vec<u8>) -> Option<String> {
+    let mut files = plain_file(alloc, source)?;
+    let mut sink = plain_sink(alloc)?;
+    let status = run_in_memory(alloc, words, &mut files, &mut sink);
+    Some(all_lines(alloc, status, sink.put_so_far()))
+}
+
+// A run of a command line in memory, in which no call fails.
+fn run_words(alloc: Global, line: &str, text: &str) -> Option<String> {
+    let source = bytes_of(alloc, text)?;
     let words = words_of(alloc, line)?;
-    Some(ran(alloc, &words, &mut files, &mut sink))
+    in_memory(alloc, &words, source)
 }
 
-// A file in memory whose largest piece and failing calls are given.
-fn files_with(alloc: Global, setup: &str, source: Vec<u8>) -> Option<MemoryFiles> {
-    let (piece, fail) = setup.split_once(';')?;
-    let piece = piece.parse().ok()?;
+// A file in memory, in pieces and with failing calls.
+fn file_in(alloc: Global, text: &str, piece: usize, fail: Vec<u64>) -> Option<MemoryFiles> {
     if piece < 1 {
         return None;
     }
-    one_file(alloc, source, piece, calls_of(alloc, fail)?)
+    let content = bytes_of(alloc, text)?;
+    one_file(alloc, content, piece, fail)
+}
+
+// A file in memory whose largest piece and failing calls are given.
+fn files_with(alloc: Global, setup: &str, text: &str) -> Option<MemoryFiles> {
+    let (piece, fail) = setup.split_once(';')?;
+    let piece = piece.parse().ok()?;
+    let fail = calls_of(alloc, fail)?;
+    file_in(alloc, text, piece, fail)
 }
 
 // A sink in memory whose largest piece and failing calls are given.
@@ -91,30 +124,34 @@ fn sink_with(alloc: Global, setup: &str) -> Option<MemorySink> {
     if piece < 1 {
         return None;
     }
-    MemorySink::new(alloc, piece, 4096, calls_of(alloc, fail)?, Vec::new(alloc)).ok()
+    let fail = calls_of(alloc, fail)?;
+    MemorySink::new(alloc, piece, 4096, fail, Vec::new(alloc)).ok()
 }
 
-// A run in memory in which no call fails.
-fn in_memory(alloc: Global, words: &[String], source: Vec<u8>) -> Option<String> {
-    let mut files = one_file(alloc, source, 4096, Vec::new(alloc))?;
-    let mut sink = MemorySink::new(alloc, 4096, 4096, Vec::new(alloc), Vec::new(alloc)).ok()?;
-    let status = run_in_memory(alloc, words, &mut files, &mut sink);
+// A run in pieces and with failing calls: its status and its whole report.
+fn ran(alloc: Global, setup: &str, words: &[String], text: &str) -> Option<String> {
+    let (reads, puts) = setup.split_once(" / ")?;
+    let mut files = files_with(alloc, reads, text)?;
+    let mut sink = sink_with(alloc, puts)?;
+    let status = run(alloc, words, &mut files, &mut sink);
     Some(all_lines(alloc, status, sink.put_so_far()))
 }
 
-/// `run` compares two functions of a text and shows the last line of the report, `long run` those of a long text; `whole`
-/// shows the whole report to a command line, with pieces and failing calls of the file and of the sink; `memory` is a run
-/// in which no call fails.
+// A run of the command line that is given before a text.
+fn whole(alloc: Global, setup: &str, given: &str) -> Option<String> {
+    let (line, text) = given.split_once(" | ")?;
+    let words = words_of(alloc, line)?;
+    ran(alloc, setup, &words, text)
+}
+
+/// `run` compares two functions of a text and shows the last line of the report, `long run` those
+/// of a long text; `whole` shows the whole report to a command line, with pieces and failing calls
+/// of the file and of the sink; `memory` is a run in which no call fails.
 pub fn answer(alloc: Global, call: &str, given: &str) -> Option<String> {
     let (first, rest) = given.split_once(" | ")?;
     match call {
-        "run" => compared(alloc, &asked(alloc, first)?, bytes_of(alloc, rest)?),
-        "long run" => compared(alloc, &asked(alloc, first)?, long_bytes_of(alloc, rest)?),
-        "memory" => in_memory(alloc, &words_of(alloc, first)?, bytes_of(alloc, rest)?),
-        "whole" => {
-            let (line, source) = rest.split_once(" | ")?;
-            whole(alloc, first, line, source)
-        }
-        _ => None,
+        "whole" => whole(alloc, first, rest),
+        "memory" => run_words(alloc, first, rest),
+        _ => run_names(alloc, first, source_of(alloc, call, rest)?),
     }
 }

@@ -56,7 +56,8 @@ fn find(alloc: Global, given: &str) -> Option<String> {
     Some(out)
 }
 
-/// `resolve` and `resolve pre` resolve the names of a program and of a precondition; `find` finds a function.
+/// `resolve` and `resolve pre` resolve the names of a program and of a precondition; `find` finds a
+/// function.
 pub fn answer(alloc: Global, call: &str, given: &str) -> Option<String> {
     match call {
         "resolve" => Some(resolved(alloc, &parse_text(alloc, given)?)),

@@ -54,19 +54,24 @@ fn push_escaped(bytes: &mut Vec<u8>, piece: &str) -> Option<()> {
     }
 }
 
+// Adds the bytes that a text stands for.
+fn push_text(bytes: &mut Vec<u8>, text: &str) -> Option<()> {
+    let mut pieces = text.split('\\');
+    bytes.extend_from_slice(pieces.next()?.as_bytes()).ok()?;
+    for piece in pieces {
+        push_escaped(bytes, piece)?;
+    }
+    Some(())
+}
+
 /// The bytes that a text stands for.
 pub fn bytes_of(alloc: Global, text: &str) -> Option<Vec<u8>> {
-    let mut pieces = text.split('\\');
-    let first = pieces.next()?;
     let mut bytes = Vec::new(alloc);
-    bytes.extend_from_slice(first.as_bytes()).ok()?;
-    for piece in pieces {
-        push_escaped(&mut bytes, piece)?;
-    }
+    push_text(&mut bytes, text)?;
     Some(bytes)
 }
 
-// Adds the bytes of a unit, again and again, so many in all.
+// Adds these bytes, again and again, so many in all.
 fn push_repeated(bytes: &mut Vec<u8>, unit: &[u8], count: usize) -> Option<()> {
     for byte in unit.iter().cycle().take(count) {
         bytes.push(*byte).ok()?;
@@ -74,20 +79,37 @@ fn push_repeated(bytes: &mut Vec<u8>, unit: &[u8], count: usize) -> Option<()> {
     Some(())
 }
 
-// The bytes of a text, then a unit again and again, so many bytes in all, and the bytes of another text.
-fn repeated(alloc: Global, before: &str, unit: &str, count: &str, after: &str) -> Option<Vec<u8>> {
+// Adds the bytes of a unit, again and again, so many in all.
+fn push_units(alloc: Global, bytes: &mut Vec<u8>, unit: &str, count: usize) -> Option<()> {
+    let unit = bytes_of(alloc, unit)?;
+    push_repeated(bytes, &unit, count)
+}
+
+// The bytes of a text, then a unit again and again, so many bytes in all, and the bytes of another
+// text.
+fn repeated(alloc: Global, before: &str, unit: &str, count: usize, after: &str) -> Option<Vec<u8>> {
     let mut bytes = bytes_of(alloc, before)?;
-    push_repeated(&mut bytes, &bytes_of(alloc, unit)?, count.parse().ok()?)?;
-    bytes.extend_from_slice(&bytes_of(alloc, after)?).ok()?;
+    push_units(alloc, &mut bytes, unit, count)?;
+    push_text(&mut bytes, after)?;
     Some(bytes)
 }
 
-/// The bytes of a long text, written as `BEFORE~UNIT~COUNT~AFTER`: so many bytes of the unit between two texts.
-pub fn long_bytes_of(alloc: Global, text: &str) -> Option<Vec<u8>> {
+// The bytes of a long text, written as `BEFORE~UNIT~COUNT~AFTER`: so many bytes of the unit
+// between two texts.
+fn long_bytes_of(alloc: Global, text: &str) -> Option<Vec<u8>> {
     let (before, rest) = text.split_once('~')?;
     let (unit, rest) = rest.split_once('~')?;
     let (count, after) = rest.split_once('~')?;
-    repeated(alloc, before, unit, count, after)
+    repeated(alloc, before, unit, count.parse().ok()?, after)
+}
+
+/// The bytes of the text that is given to a call, of a long text where the call's name says so.
+pub fn source_of(alloc: Global, call: &str, given: &str) -> Option<Vec<u8>> {
+    if call.starts_with("long ") {
+        long_bytes_of(alloc, given)
+    } else {
+        bytes_of(alloc, given)
+    }
 }
 
 /// The numbers of a list.

@@ -11,8 +11,7 @@ use rx_plain::{Boxed, Items};
 use std::alloc::Global;
 
 // The copy of a program, where it equals the program.
-fn copy(alloc: Global, given: &str) -> Option<String> {
-    let read = parse_text(alloc, given)?;
+fn copy(alloc: Global, read: &Parsed) -> Option<String> {
     let copied = read.program.try_clone(alloc).ok()?;
     let mut out = String::new(alloc);
     if copied == read.program {
@@ -23,7 +22,8 @@ fn copy(alloc: Global, given: &str) -> Option<String> {
 
 // The copy of a precondition, where it equals the precondition.
 fn copy_pre(alloc: Global, given: &str) -> Option<String> {
-    let e = parse_pre(alloc, &lex_text(alloc, given)?.tokens).ok()?;
+    let text = lex_text(alloc, given)?;
+    let e = parse_pre(alloc, &text.tokens).ok()?;
     let copied = e.try_clone(alloc).ok()?;
     let mut out = String::new(alloc);
     if copied == e {
@@ -103,31 +103,45 @@ fn turns(alloc: Global) -> Option<Stmt>
     Some(Stmt::While(Expr::Apply(5, Items::new(alloc)), body))
 }
 
-// The heights of `-(x + 2)` and of `while (f()) return -(x + 2);`.
-fn heights(alloc: Global) -> Option<String> {
+// A number as text.
+fn number(alloc: Global, number: u32) -> String {
     let mut out = String::new(alloc);
-    put_number(&mut out, "", expr_height(&negated_sum(alloc)?));
-    put_number(&mut out, " ", stmt_height(&turns(alloc)?));
-    Some(out)
+    put_number(&mut out, "", number);
+    out
 }
 
-/// `copy` and its like copy a tree, and `same` compares two programs; `straight` says what the first function returns, of
-/// a resolved program or of one as it was read; `heights` are those of two trees that are built here.
+// The height of `-(x + 2)`.
+fn low(alloc: Global) -> Option<String> {
+    let e = negated_sum(alloc)?;
+    Some(number(alloc, expr_height(&e)))
+}
+
+// The height of `while (f()) return -(x + 2);`.
+fn high(alloc: Global) -> Option<String> {
+    let s = turns(alloc)?;
+    Some(number(alloc, stmt_height(&s)))
+}
+
+// What is said of a program as it was read.
+fn of_program(alloc: Global, call: &str, read: &Parsed) -> Option<String> {
+    match call {
+        "copy" => copy(alloc, read),
+        "copy resolved" => copy_resolved(alloc, read),
+        "copy statement" => copy_statement(alloc, read),
+        "straight" => returned_by(alloc, read),
+        _ => returned(alloc, read.program.functions.as_slice()),
+    }
+}
+
+/// `copy` and its like copy a tree, and `same` compares two programs; `straight` says what the
+/// first function returns, of a resolved program or of one as it was read; `low` and `high` are
+/// the heights of two trees that are built here.
 pub fn answer(alloc: Global, call: &str, given: &str) -> Option<String> {
     match call {
-        "copy" => copy(alloc, given),
         "copy pre" => copy_pre(alloc, given),
-        "copy resolved" => copy_resolved(alloc, &parse_text(alloc, given)?),
-        "copy statement" => copy_statement(alloc, &parse_text(alloc, given)?),
         "same" => same(alloc, given),
-        "straight" => returned_by(alloc, &parse_text(alloc, given)?),
-        "straight unresolved" => {
-            returned(
-                alloc,
-                parse_text(alloc, given)?.program.functions.as_slice(),
-            )
-        }
-        "heights" => heights(alloc),
-        _ => None,
+        "low" => low(alloc),
+        "high" => high(alloc),
+        _ => of_program(alloc, call, &parse_text(alloc, given)?),
     }
 }

@@ -94,7 +94,8 @@ fn codes(alloc: Global) -> String {
     out
 }
 
-/// `verdict` reports a verdict: its kind, its word and its number are given. `codes` are the exit statuses.
+/// `verdict` reports a verdict: its kind, its word and its number are given. `codes` are the exit
+/// statuses.
 pub fn answer(alloc: Global, call: &str, given: &str) -> Option<String> {
     if call == "codes" {
         return Some(codes(alloc));
