@@ -3,9 +3,11 @@ use Rattle.std.proofs.Common.{◌≡◌, ◌∙◌, ap, sym, subst, ℕ, ◌<◌
 use Rattle.std.specs.List.{All}
 use Rattle.std.proofs.lemmas.List.Elements.{All-append, All-cons, All-nil}
 use Rattle.c_lex.specs.declared.token.Token.{Token}
-use Rattle.c_ast.specs.RowForms.{Forms, forms_level, forms, is_row_form}
+use Rattle.c_ast.specs.RowForms.{Forms, forms_level, forms, is_row_form, is_straight}
 use Rattle.c_ast.specs.Variables.{variables}
 use Rattle.c_ast.proofs.Equations.{variables-Lit, variables-Var, variables-Unary, variables-Binary, variables-Choose}
+use Rattle.c_ast.proofs.CallEquations.{calls-Lit, calls-Var, calls-Unary, calls-Binary, calls-Choose}
+use Rattle.c_ast.specs.Calls.{calls}
 use Rattle.c_ast.proofs.FormEquations.{forms-Lit, forms-Var, forms-Unary, forms-Binary, forms-Choose}
 use Rattle.c_ast.specs.declared.expr.UnOp.{UnOp}
 use Rattle.c_ast.specs.declared.expr.BinOp.{BinOp}
@@ -83,19 +85,30 @@ module _ (slot : ℕ → Option ℕ) where
   forms_kept = ind-Expr (λ e. HasForms (resolved e) (forms e)) form_step
 
   -- each slot is below a number
-  module _ (n : ℕ) (below : (token s : ℕ) → slot token ≡ Some s → s < n) where
+  module _ (n : ℕ) (within : (token s : ℕ) → slot token ≡ Some s → s < n) where
     abbrev AreBelow : List ℕ → Type 0
     AreBelow = All (λ v. v < n)
 
+    -- an expression that reads such slots alone, and calls nothing
+    record IsPlain (x : Expr) : Type 0 where
+      pub below : AreBelow (variables x)
+      pub silent : calls x ≡ []
+
     abbrev Bounded : Found Expr → Type 0
-    Bounded whole = (x : Expr) → whole ≡ Ok x → AreBelow (variables x)
+    Bounded whole = (x : Expr) → whole ≡ Ok x → IsPlain x
 
     abbrev BoundPart : Type 0
     BoundPart = (e : Expr) × Bounded (resolved e)
 
+    none_below : AreBelow []
+    none_below = All-nil (λ v. v < n)
+
+    both_below : (us vs : List ℕ) → AreBelow us → AreBelow vs → AreBelow (us ++ vs)
+    both_below = All-append (λ v. v < n)
+
     literal_bounded : (k : ℤ) → Bounded (Ok (Lit k))
     literal_bounded k x is =
-        subst (λ z. AreBelow (variables z)) (same_Ok (Lit k) x is) (subst AreBelow (sym (variables-Lit k)) (All-nil (λ v. v < n)))
+        subst IsPlain (same_Ok (Lit k) x is) (record { below = subst AreBelow (sym (variables-Lit k)) none_below; silent = calls-Lit k })
 
     call_bounded : (token : ℕ) → Bounded (Err (UnknownName token))
     call_bounded token x is = no_fault (UnknownName token) x is
@@ -103,31 +116,43 @@ module _ (slot : ℕ → Option ℕ) where
     var_bounded : (token : ℕ) → Bounded (on_found (known token (slot token)) (λ s. Ok (Var s)))
     var_bounded token x is =
         let h = found _ _ x is in
-        let small : h.0 < n = below token h.0 (known_is token h.0 _ h.1) in
-        let alone = All-cons (λ v. v < n) h.0 [] small (All-nil (λ v. v < n)) in
-        subst (λ z. AreBelow (variables z)) (same_Ok (Var h.0) x h.2) (subst AreBelow (sym (variables-Var h.0)) alone)
+        let small : h.0 < n = within token h.0 (known_is token h.0 _ h.1) in
+        let alone = All-cons (λ v. v < n) h.0 [] small none_below in
+        subst IsPlain (same_Ok (Var h.0) x h.2) (record { below = subst AreBelow (sym (variables-Var h.0)) alone; silent = calls-Var h.0 })
 
     unary_bounded : (op : UnOp) (a : Found Expr) → Bounded a → Bounded (on_found a (λ u. Ok (Unary op u)))
     unary_bounded op a bounded x is =
         let h = found _ _ x is in
-        subst (λ z. AreBelow (variables z)) (same_Ok (Unary op h.0) x h.2)
-        (subst AreBelow (sym (variables-Unary op h.0)) (bounded h.0 h.1))
+        let inner = bounded h.0 h.1 in
+        subst IsPlain (same_Ok (Unary op h.0) x h.2)
+        (record { below = subst AreBelow (sym (variables-Unary op h.0)) inner.below; silent = calls-Unary op h.0 ∙ inner.silent })
 
     binary_bounded : (op : BinOp) (a b : Found Expr) → Bounded a → Bounded b → Bounded (on_found a (λ u. on_found b (λ v. Ok (Binary op u v))))
     binary_bounded op a b left right x is =
         let h = found _ _ x is in
         let k = found _ _ x h.2 in
-        let both = All-append (λ v. v < n) (variables h.0) (variables k.0) (left h.0 h.1) (right k.0 k.1) in
-        subst (λ z. AreBelow (variables z)) (same_Ok (Binary op h.0 k.0) x k.2) (subst AreBelow (sym (variables-Binary op h.0 k.0)) both)
+        let first = left h.0 h.1 in
+        let second = right k.0 k.1 in
+        let both = both_below (variables h.0) (variables k.0) first.below second.below in
+        subst IsPlain (same_Ok (Binary op h.0 k.0) x k.2) (record {
+          below = subst AreBelow (sym (variables-Binary op h.0 k.0)) both;
+          silent = calls-Binary op h.0 k.0 ∙ (λ i. first.silent i ++ second.silent i);
+        })
 
     choose_bounded : (c a b : Found Expr) → Bounded c → Bounded a → Bounded b → Bounded (on_found c (λ t. on_found a (λ u. on_found b (λ v. Ok (Choose t u v)))))
     choose_bounded c a b test left right x is =
         let t = found _ _ x is in
         let h = found _ _ x t.2 in
         let k = found _ _ x h.2 in
-        let front = All-append (λ v. v < n) (variables t.0) (variables h.0) (test t.0 t.1) (left h.0 h.1) in
-        let all = All-append (λ v. v < n) (variables t.0 ++ variables h.0) (variables k.0) front (right k.0 k.1) in
-        subst (λ z. AreBelow (variables z)) (same_Ok (Choose t.0 h.0 k.0) x k.2) (subst AreBelow (sym (variables-Choose t.0 h.0 k.0)) all)
+        let tested = test t.0 t.1 in
+        let first = left h.0 h.1 in
+        let second = right k.0 k.1 in
+        let front = both_below (variables t.0) (variables h.0) tested.below first.below in
+        let all = both_below (variables t.0 ++ variables h.0) (variables k.0) front second.below in
+        subst IsPlain (same_Ok (Choose t.0 h.0 k.0) x k.2) (record {
+          below = subst AreBelow (sym (variables-Choose t.0 h.0 k.0)) all;
+          silent = calls-Choose t.0 h.0 k.0 ∙ (λ i. tested.silent i ++ first.silent i ++ second.silent i);
+        })
 
     bound_level : (y : Expr-F BoundPart) → Bounded (pre_level slot (map-Expr Expr (Found Expr) resolved (map-Expr BoundPart Expr (λ p. p.0) y)))
     bound_level (Expr-F.Lit k) = literal_bounded k
@@ -144,16 +169,25 @@ module _ (slot : ℕ → Option ℕ) where
         let M : Found Expr → Type 0 = λ m. Bounded m in
         subst M (sym (fold-roll-Expr (Found Expr) (pre_level slot) x)) opened
 
-    variables_below : (e : Expr) → Bounded (resolved e)
-    variables_below = ind-Expr (λ e. Bounded (resolved e)) bound_step
+    all_bounded : (e : Expr) → Bounded (resolved e)
+    all_bounded = ind-Expr (λ e. Bounded (resolved e)) bound_step
 
 module _ (source : List ℕ) (tokens : List Token) (params pre_source : List ℕ) (pre_tokens : List Token) (pre e : Expr) (is : resolved_pre source tokens params pre_source pre_tokens pre ≡ Ok e) where
   -- a precondition is a row form where it was one
   pub row_form_kept : is_row_form e ≡ is_row_form pre
   row_form_kept = ap (λ (f : Forms). f.row) (forms_kept (param_of source tokens params pre_source pre_tokens) pre e is)
 
-  -- its variables are slots of parameters
+  -- and straight where it was
+  pub straight_kept : is_straight e ≡ is_straight pre
+  straight_kept = ap (λ (f : Forms). f.straight) (forms_kept (param_of source tokens params pre_source pre_tokens) pre e is)
+
+  -- it reads slots of parameters alone, and calls nothing
   pub parameters_alone : All (λ v. v < length params) (variables e)
   parameters_alone =
-      variables_below (param_of source tokens params pre_source pre_tokens) (length params)
-      (λ token s at. parameter_within source tokens params _ s at) pre e is
+      (all_bounded (param_of source tokens params pre_source pre_tokens) (length params)
+      (λ token s at. parameter_within source tokens params _ s at) pre e is).below
+
+  pub no_calls : calls e ≡ []
+  no_calls =
+      (all_bounded (param_of source tokens params pre_source pre_tokens) (length params)
+      (λ token s at. parameter_within source tokens params _ s at) pre e is).silent

@@ -1,9 +1,10 @@
 //! The laws of resolved programs and preconditions, and of the places that names have.
 
-ghost use Rattle.std.specs.Prelude.{◌≡◌, ◌<◌, ℕ, true, List, length, Some, Ok};
+ghost use Rattle.std.specs.Prelude.{◌≡◌, ◌<◌, ℕ, true, List, [], length, Some, Ok};
 ghost use Rattle.std.specs.List.{All};
 ghost use Rattle.c_lex.specs.declared.token.Token.{Token};
-ghost use Rattle.c_ast.specs.RowForms.{is_row_form};
+ghost use Rattle.c_ast.specs.Calls.{calls};
+ghost use Rattle.c_ast.specs.RowForms.{is_row_form, is_straight};
 ghost use Rattle.c_ast.specs.Scoped.{is_scoped, parameter_counts};
 ghost use Rattle.c_ast.specs.Variables.{variables};
 ghost use Rattle.c_ast.specs.declared.expr.Expr.{Expr};
@@ -28,21 +29,29 @@ pub fn resolved_programs_are_scoped()
         parameter_counts r.functions ≡ parameter_counts p.functions }
 {}
 
-/// A precondition whose names are resolved is a row form exactly where it was one before.
+/// A precondition whose names are resolved is a row form exactly where it was one before (`row`),
+/// and a straight expression likewise (`straight`).
 pub fn resolved_preconditions_keep_the_row_form()
-    ensures { (source : List ℕ) (tokens : List Token) (params pre_source : List ℕ)
+    ensures row { (source : List ℕ) (tokens : List Token) (params pre_source : List ℕ)
         (pre_tokens : List Token) (pre e : Expr) →
         resolved_pre source tokens params pre_source pre_tokens pre ≡ Ok e →
         is_row_form e ≡ is_row_form pre }
+    ensures straight { (source : List ℕ) (tokens : List Token) (params pre_source : List ℕ)
+        (pre_tokens : List Token) (pre e : Expr) →
+        resolved_pre source tokens params pre_source pre_tokens pre ≡ Ok e →
+        is_straight e ≡ is_straight pre }
 {}
 
 /// A precondition whose names are resolved has no variables but the function's parameters, which
-/// have the first slots.
+/// have the first slots (`variables`), and calls nothing (`calls`).
 pub fn resolved_preconditions_use_parameters_alone()
-    ensures { (source : List ℕ) (tokens : List Token) (params pre_source : List ℕ)
+    ensures variables { (source : List ℕ) (tokens : List Token) (params pre_source : List ℕ)
         (pre_tokens : List Token) (pre e : Expr) →
         resolved_pre source tokens params pre_source pre_tokens pre ≡ Ok e →
         All (λ v. v < length params) (variables e) }
+    ensures calls { (source : List ℕ) (tokens : List Token) (params pre_source : List ℕ)
+        (pre_tokens : List Token) (pre e : Expr) →
+        resolved_pre source tokens params pre_source pre_tokens pre ≡ Ok e → calls e ≡ [] }
 {}
 
 /// The place that a name of a call has is that of a function in the list (`definitions`), and so is
