@@ -1,5 +1,5 @@
 //! Names, spellings and slots.
-use crate::printing::{put, put_debug, put_number};
+use crate::printing::{put, put_debug, put_number, put_space};
 use crate::texts::{Lexed, lex_text, numbers_of};
 use c_names::{find_spelling, name_at, names_of, slot_of, spelling_at};
 use std::alloc::Global;
@@ -9,7 +9,8 @@ use std::str;
 fn names(alloc: Global, text: &Lexed) -> Option<String> {
     let mut out = String::new(alloc);
     for name in &names_of(alloc, &text.source, &text.tokens).ok()? {
-        put_number(&mut out, " ", *name);
+        put_space(&mut out);
+        put_number(&mut out, "", *name);
     }
     Some(out)
 }

@@ -2,7 +2,7 @@
 ghost use Rattle.std.specs.Prelude.{◌≡◌, ◌≤◌, IfSome};
 ghost use Rattle.rx_io.specs.MemoryFiles.{fail_in};
 
-use crate::printing::{put, put_debug};
+use crate::printing::{put, put_debug, put_space};
 use crate::texts::bytes_of;
 use rx_io::{Files, MemoryFiles, MemorySink, Sink, put_all, read_all};
 use std::alloc::Global;
@@ -119,7 +119,7 @@ fn call_all_files(alloc: Global, setup: &str, calls: &str) -> Option<String> {
     let mut files = three_files(alloc, piece, calls_of(alloc, fail)?)?;
     let mut out = String::new(alloc);
     for call in calls.split(", ") {
-        put(&mut out, " ");
+        put_space(&mut out);
         call_files(alloc, &mut files, call, &mut out)?;
     }
     Some(out)
@@ -164,7 +164,7 @@ fn call_all_sink(alloc: Global, setup: &str, calls: &str) -> Option<String> {
     let mut sink = sink_of(alloc, setup)?;
     let mut out = String::new(alloc);
     for call in calls.split(", ") {
-        put(&mut out, " ");
+        put_space(&mut out);
         call_sink(alloc, &mut sink, call, &mut out)?;
     }
     Some(out)

@@ -1,7 +1,7 @@
 //! Programs and preconditions as they are read.
 ghost use Rattle.std.specs.Prelude.{◌≤◌, length};
 
-use crate::printing::{put, put_debug, put_expr, put_program};
+use crate::printing::{put, put_debug, put_expr, put_program, put_space};
 use crate::texts::{source_of, tokens_of};
 use c_lex::Token;
 use c_parse::{ParseEnd, parse, parse_pre};
@@ -65,7 +65,7 @@ fn cut(alloc: Global, tokens: &[Token]) -> String
     let mut out = String::new(alloc);
     for count in 0..=tokens.len() {
         if !is_syntax(alloc, &tokens[..count]) {
-            put(&mut out, " ");
+            put_space(&mut out);
             put_debug(&mut out, count);
         }
     }

@@ -10,6 +10,13 @@ pub fn put(out: &mut String, word: &str) {
     let _ = out.push_str(word);
 }
 
+/// Adds a space where a text stands already.
+pub fn put_space(out: &mut String) {
+    if !out.is_empty() {
+        put(out, " ");
+    }
+}
+
 /// Adds a number after a word.
 pub fn put_number(out: &mut String, word: &str, number: u32) {
     let _ = write!(out, "{word}{number}");
@@ -216,9 +223,7 @@ fn put_kind(out: &mut String, kind: TokenKind) {
 /// Adds the tokens, each by its kind, offset and length.
 pub fn put_tokens(out: &mut String, tokens: &[Token]) {
     for token in tokens {
-        if !out.is_empty() {
-            put(out, " ");
-        }
+        put_space(out);
         put_kind(out, token.kind);
         put_number(out, "@", token.at);
         put_number(out, "+", token.len);
