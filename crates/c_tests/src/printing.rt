@@ -10,7 +10,7 @@ pub fn put(out: &mut String, word: &str) {
     let _ = out.push_str(word);
 }
 
-/// Adds a space where a text stands already.
+/// Adds a space where there is a text already.
 pub fn put_space(out: &mut String) {
     if !out.is_empty() {
         put(out, " ");
@@ -99,7 +99,7 @@ fn put_change(out: &mut String, name: u32, value: &Expr) {
     put(out, ";");
 }
 
-// Adds a word, an expression, and what stands after it.
+// Adds a word, an expression, and what comes after it.
 fn put_test(out: &mut String, word: &str, test: &Expr, after: &str) {
     put(out, word);
     put_expr(out, test);

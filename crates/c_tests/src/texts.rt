@@ -28,20 +28,20 @@ pub struct Parsed {
     ghost few: { length program.functions < 2 ^ 32 },
 }
 
-// Adds a byte and what stands after it.
+// Adds a byte and what comes after it.
 fn push_both(bytes: &mut Vec<u8>, byte: u8, rest: &str) -> Option<()> {
     bytes.push(byte).ok()?;
     bytes.extend_from_slice(rest.as_bytes()).ok()
 }
 
-// Adds the byte whose code stands first, and what stands after it.
+// Adds the byte whose code comes first, and what comes after it.
 fn push_code(bytes: &mut Vec<u8>, piece: &str) -> Option<()> {
     let (digits, rest) = piece.split_at_checked(2)?;
     let byte = u8::from_str_radix(digits, 16).ok()?;
     push_both(bytes, byte, rest)
 }
 
-// Adds what an escape stands for, and what stands after it.
+// Adds what an escape means, and what comes after it.
 fn push_escaped(bytes: &mut Vec<u8>, piece: &str) -> Option<()> {
     let (letter, rest) = piece.split_at_checked(1)?;
     match letter {
@@ -54,7 +54,7 @@ fn push_escaped(bytes: &mut Vec<u8>, piece: &str) -> Option<()> {
     }
 }
 
-// Adds the bytes that a text stands for.
+// Adds the bytes that a text means.
 fn push_text(bytes: &mut Vec<u8>, text: &str) -> Option<()> {
     let mut pieces = text.split('\\');
     bytes.extend_from_slice(pieces.next()?.as_bytes()).ok()?;
@@ -64,7 +64,7 @@ fn push_text(bytes: &mut Vec<u8>, text: &str) -> Option<()> {
     Some(())
 }
 
-/// The bytes that a text stands for.
+/// The bytes that a text means.
 pub fn bytes_of(alloc: Global, text: &str) -> Option<Vec<u8>> {
     let mut bytes = Vec::new(alloc);
     push_text(&mut bytes, text)?;
