@@ -2,7 +2,7 @@
 use crate::reading::polynomials::{body, poly};
 use crate::reading::rows::{row, rows};
 use crate::reading::terms::term;
-use crate::reading::words::numbers;
+use crate::reading::words::{integer, numbers};
 use rx_poly::{Body, Poly, PolyEnd};
 use rx_row::{Constraint, Row};
 use rx_term::Term;
@@ -34,7 +34,7 @@ pub enum Answer {
 pub fn is_meant(alloc: Global, answer: &Answer, text: &str) -> bool {
     match answer {
         Answer::Word(word) => *word == text,
-        Answer::Number(number) => text.parse::<i128>().ok() == Some(*number),
+        Answer::Number(number) => integer(text) == Some(*number),
         Answer::Numbers(found) => numbers(alloc, text).is_some_and(|meant| meant == *found),
         Answer::Body(found) => body(alloc, text).is_some_and(|meant| meant == *found),
         Answer::Poly(found) => poly(alloc, text).is_some_and(|meant| meant.is_same(found)),

@@ -3,39 +3,31 @@ use crate::answer::{Answer, ended, found, told};
 use crate::reading::certificates::{cert, certs};
 use crate::reading::rows::{row, rows};
 use rx_cert::{ConditionsAnswer, PolyEnd, check_conditions, is_plain, shows, shows_row};
-use rx_row::Constraint;
 use std::alloc::Global;
 
-fn shown(alloc: Global, given: &str) -> Option<Answer> {
-    let (before, by) = given.split_once("; ")?;
-    let rows = rows(alloc, before)?;
+fn shown(alloc: Global, known: &str, by: &str) -> Option<Answer> {
+    let known = rows(alloc, known)?;
     let by = cert(alloc, by)?;
-    found(shows(alloc, &rows, &by))
+    found(shows(alloc, &known, &by))
 }
 
-// Whether a copy shows the same, and equals what it is copied from.
+// Whether a copy of the certificate is the same.
 fn copied(alloc: Global, given: &str) -> Option<Answer> {
     let cert = cert(alloc, given)?;
     told(cert.try_clone(alloc).ok()? == cert)
 }
 
-fn shown_row(alloc: Global, given: &str) -> Option<Answer> {
-    let (before, by) = given.rsplit_once("; ")?;
-    let (before, last) = before.split_once("; ")?;
-    let rows = rows(alloc, before)?;
-    with_row(alloc, &rows, last, by)
-}
-
-fn with_row(alloc: Global, rows: &Constraint, last: &str, by: &str) -> Option<Answer> {
-    let row = row(alloc, last)?;
+fn shown_row(alloc: Global, known: &str, shown: &str, by: &str) -> Option<Answer> {
+    let known = rows(alloc, known)?;
+    let shown = row(alloc, shown)?;
     let by = cert(alloc, by)?;
-    found(shows_row(alloc, rows, &row, &by))
+    found(shows_row(alloc, &known, &shown, &by))
 }
 
-fn plain(alloc: Global, given: &str) -> Option<Answer> {
-    let (before, last) = given.split_once("; ")?;
-    let rows = rows(alloc, before)?;
-    told(is_plain(&rows, &row(alloc, last)?))
+fn plain(alloc: Global, known: &str, shown: &str) -> Option<Answer> {
+    let known = rows(alloc, known)?;
+    let shown = row(alloc, shown)?;
+    told(is_plain(&known, &shown))
 }
 
 // Of a row that isn't shown the answer is its number.
@@ -48,27 +40,27 @@ fn concluded(answer: Result<ConditionsAnswer, PolyEnd>) -> Option<Answer> {
     }
 }
 
-fn conditions(alloc: Global, given: &str) -> Option<Answer> {
-    let (before, by) = given.rsplit_once("; ")?;
-    let (before, asked) = before.split_once("; ")?;
-    let known = rows(alloc, before)?;
-    checked(alloc, &known, asked, by)
-}
-
-fn checked(alloc: Global, known: &Constraint, asked: &str, by: &str) -> Option<Answer> {
-    let asked = rows(alloc, asked)?;
+fn conditions(alloc: Global, known: &str, shown: &str, by: &str) -> Option<Answer> {
+    let known = rows(alloc, known)?;
+    let shown = rows(alloc, shown)?;
     let by = certs(alloc, by)?;
-    concluded(check_conditions(alloc, known, asked.rows(), by.as_slice()))
+    concluded(check_conditions(alloc, &known, shown.rows(), by.as_slice()))
 }
 
 /// What the call answers.
-pub fn answer_to(alloc: Global, name: &str, given: &str) -> Option<Answer> {
+pub fn answer_to(
+    alloc: Global,
+    name: &str,
+    first: &str,
+    second: &str,
+    third: &str,
+) -> Option<Answer> {
     match name {
-        "shows" => shown(alloc, given),
-        "clone" => copied(alloc, given),
-        "shows_row" => shown_row(alloc, given),
-        "is_plain" => plain(alloc, given),
-        "conditions" => conditions(alloc, given),
+        "shows" => shown(alloc, first, second),
+        "clone" => copied(alloc, first),
+        "shows_row" => shown_row(alloc, first, second, third),
+        "is_plain" => plain(alloc, first, second),
+        "conditions" => conditions(alloc, first, second, third),
         _ => None,
     }
 }

@@ -1,8 +1,10 @@
-//! Compares answers of the crates on polynomials, rows, certificates and terms with values from outside.
+//! Compares what the crates on polynomials, rows, certificates and terms answer with values from
+//! outside.
 //!
-//! Each line of the standard input is a call, what it is given, and what it is to answer, with a semicolon and a
-//! space between them. Polynomials, rows, terms, certificates and lists have the notation of a log; an integer term
-//! is written with each operator before its operands, as `+ v0 * 2 v1`.
+//! Each line of the standard input is a call, what it is given, and what it is to answer, with a
+//! semicolon and a space between them. Polynomials, rows, terms, certificates and lists have the
+//! notation of a log; an integer term is written with each operator before its operands, as
+//! `+ v0 * 2 v1`. A line that begins with `#` is a heading.
 #![tactic(auto)]
 
 mod answer;
@@ -20,16 +22,18 @@ use std::alloc::Global;
 use std::io::{self, BufRead, BufReader};
 
 // What the call answers; none where the line can't be read, or there is no memory.
-fn answer_to(alloc: Global, call: &str, given: &str) -> Option<Answer> {
+fn answer_to(alloc: Global, call: &str, first: &str, second: &str, third: &str) -> Option<Answer> {
     let (of, name) = call.split_once('.')?;
     match of {
-        "items" | "graded" | "boxed" | "memory" => plain_calls::answer_to(alloc, call, given),
-        "poly" => poly_calls::answer_to(alloc, name, given),
-        "laws" => law_calls::answer_to(alloc, name, given),
-        "row" | "rows" => row_calls::answer_to(alloc, call, given),
-        "cert" => cert_calls::answer_to(alloc, name, given),
-        "fm" => fm_calls::answer_to(alloc, name, given),
-        "term" | "rule" => term_calls::answer_to(alloc, call, given),
+        "items" | "graded" | "boxed" => plain_calls::answer_to(alloc, call, first, second),
+        "memory" => plain_calls::is_text_of_no_memory(alloc, first),
+        "poly" => poly_calls::answer_to(alloc, name, first, second),
+        "laws" => law_calls::below(alloc, first, second),
+        "row" | "rows" => row_calls::answer_to(alloc, call, first, second),
+        "cert" => cert_calls::answer_to(alloc, name, first, second, third),
+        "fm" => fm_calls::multipliers(alloc, first, second),
+        "term" => term_calls::answer_to(alloc, call, first, second, third),
+        "rule" => term_calls::answer_of_rule(alloc, call, first, second, third),
         _ => None,
     }
 }
@@ -38,7 +42,9 @@ fn answer_to(alloc: Global, call: &str, given: &str) -> Option<Answer> {
 fn holds(alloc: Global, line: &str) -> Option<bool> {
     let (call, rest) = line.split_once("; ")?;
     let (given, wanted) = rest.rsplit_once("; ")?;
-    let answer = answer_to(alloc, call, given)?;
+    let (first, more) = given.split_once("; ").unwrap_or((given, ""));
+    let (second, third) = more.split_once("; ").unwrap_or((more, ""));
+    let answer = answer_to(alloc, call, first, second, third)?;
     Some(is_meant(alloc, &answer, wanted))
 }
 

@@ -1,8 +1,7 @@
 //! Rows, lists of rows and sums of their multiples.
 use crate::answer::{Answer, ended, nothing, ordered, told};
 use crate::reading::polynomials::substitution;
-use crate::reading::rows::{parts, row, rows};
-use crate::reading::words::words;
+use crate::reading::rows::{listed_parts, row, rows};
 use rx_poly::{Poly, PolyEnd};
 use rx_row::{Constraint, Row, combine, combine_rows, subst_rows};
 use std::alloc::Global;
@@ -17,6 +16,13 @@ fn formed(answer: Result<Row, PolyEnd>) -> Option<Answer> {
 fn formed_rows(answer: Result<Constraint, PolyEnd>) -> Option<Answer> {
     match answer {
         Ok(rows) => Some(Answer::Rows(rows)),
+        Err(end) => ended(end),
+    }
+}
+
+fn listed(answer: Result<Vec<Row>, PolyEnd>) -> Option<Answer> {
+    match answer {
+        Ok(rows) => Some(Answer::Rows(Constraint::from_rows(rows))),
         Err(end) => ended(end),
     }
 }
@@ -39,62 +45,54 @@ fn of_row(alloc: Global, call: &str, given: &str) -> Option<Answer> {
     }
 }
 
-fn of_two(alloc: Global, call: &str, given: &str) -> Option<Answer> {
-    let (left, right) = given.split_once("; ")?;
-    let left = row(alloc, left)?;
-    let right = row(alloc, right)?;
+fn of_two(alloc: Global, call: &str, first: &str, second: &str) -> Option<Answer> {
+    let left = row(alloc, first)?;
+    let right = row(alloc, second)?;
     match call {
         "row.compare" => ordered(left.cmp(&right)),
         _ => told(left.is_same(&right)),
     }
 }
 
-fn substituted(alloc: Global, given: &str) -> Option<Answer> {
-    let (of, with) = given.split_once("; ")?;
-    let of = row(alloc, of)?;
+fn substituted(alloc: Global, of: &str, with: &str) -> Option<Answer> {
     let with = substitution(alloc, with)?;
+    let of = row(alloc, of)?;
     formed(of.subst(alloc, with.as_slice()))
 }
 
-fn pushed(alloc: Global, given: &str) -> Option<Answer> {
-    let (before, last) = given.split_once("; ")?;
-    let mut rows = rows(alloc, before)?;
-    rows.push(row(alloc, last)?).ok()?;
+fn with_row(alloc: Global, call: &str, first: &str, second: &str) -> Option<Answer> {
+    let last = row(alloc, second)?;
+    let mut rows = rows(alloc, first)?;
+    if call == "rows.contains" {
+        return told(rows.contains(&last));
+    }
+    rows.push(last).ok()?;
     Some(Answer::Rows(rows))
 }
 
-fn contained(alloc: Global, given: &str) -> Option<Answer> {
-    let (rows_text, last) = given.split_once("; ")?;
-    let rows = rows(alloc, rows_text)?;
-    told(rows.contains(&row(alloc, last)?))
-}
-
 fn copy_of_rows(alloc: Global, given: &str) -> Option<Answer> {
-    let copy = rows(alloc, given)?.try_clone(alloc).ok()?;
-    Some(Answer::Rows(copy))
+    let rows = rows(alloc, given)?;
+    Some(Answer::Rows(rows.try_clone(alloc).ok()?))
 }
 
-fn same_rows(alloc: Global, given: &str) -> Option<Answer> {
-    let (left, right) = given.split_once("; ")?;
-    let left = rows(alloc, left)?;
-    told(left.is_same(&rows(alloc, right)?))
+fn same_rows(alloc: Global, first: &str, second: &str) -> Option<Answer> {
+    let left = rows(alloc, first)?;
+    let right = rows(alloc, second)?;
+    told(left.is_same(&right))
 }
 
-fn substituted_rows(alloc: Global, call: &str, given: &str) -> Option<Answer> {
-    let (of, with) = given.split_once("; ")?;
-    let of = rows(alloc, of)?;
+fn substituted_rows(alloc: Global, call: &str, of: &str, with: &str) -> Option<Answer> {
     let with = substitution(alloc, with)?;
+    let of = rows(alloc, of)?;
     if call == "rows.subst" {
         return formed_rows(of.subst(alloc, with.as_slice()));
     }
-    let changed = subst_rows(alloc, of.rows(), with.as_slice());
-    formed_rows(changed.map(Constraint::from_rows))
+    listed(subst_rows(alloc, of.rows(), with.as_slice()))
 }
 
-fn combined(alloc: Global, call: &str, given: &str) -> Option<Answer> {
-    let (of, by) = given.split_once("; ")?;
+fn combined(alloc: Global, call: &str, of: &str, by: &str) -> Option<Answer> {
+    let by = listed_parts(alloc, by)?;
     let of = rows(alloc, of)?;
-    let by = parts(alloc, &mut words(alloc, by)?)?;
     if call == "rows.combine" {
         return summed(combine(alloc, &of, by.as_slice()));
     }
@@ -102,17 +100,15 @@ fn combined(alloc: Global, call: &str, given: &str) -> Option<Answer> {
 }
 
 /// What the call answers.
-pub fn answer_to(alloc: Global, call: &str, given: &str) -> Option<Answer> {
+pub fn answer_to(alloc: Global, call: &str, first: &str, second: &str) -> Option<Answer> {
     match call {
-        "row.negate" | "row.is_ge" | "row.poly" | "row.clone" => of_row(alloc, call, given),
-        "row.compare" | "row.same" => of_two(alloc, call, given),
-        "row.subst" => substituted(alloc, given),
-        "rows.push" => pushed(alloc, given),
-        "rows.contains" => contained(alloc, given),
-        "rows.clone" => copy_of_rows(alloc, given),
-        "rows.same" => same_rows(alloc, given),
-        "rows.subst" | "rows.subst_borrowed" => substituted_rows(alloc, call, given),
-        "rows.combine" | "rows.combine_borrowed" => combined(alloc, call, given),
-        _ => None,
+        "row.compare" | "row.same" => of_two(alloc, call, first, second),
+        "row.subst" => substituted(alloc, first, second),
+        "rows.push" | "rows.contains" => with_row(alloc, call, first, second),
+        "rows.clone" => copy_of_rows(alloc, first),
+        "rows.same" => same_rows(alloc, first, second),
+        "rows.subst" | "rows.subst_borrowed" => substituted_rows(alloc, call, first, second),
+        "rows.combine" | "rows.combine_borrowed" => combined(alloc, call, first, second),
+        _ => of_row(alloc, call, first),
     }
 }

@@ -1,11 +1,12 @@
-//! Terms, rules and sets of rules. A set's symbols are s0 to s5: points of two, of no and of one argument, which are
-//! s0, s1 and s4, and frames of one, of no and of two, which are s2, s3 and s5. Its greatest failure code is 2.
+//! Terms, rules and sets of rules. A set's symbols are s0 to s5: points of two, of no and of one
+//! argument, which are s0, s1 and s4, and frames of one, of no and of two, which are s2, s3 and s5.
+//! Its greatest failure code is 2.
 use crate::answer::{Answer, ended, nothing, told};
 use crate::reading::polynomials::substitution;
 use crate::reading::rows::rows;
 use crate::reading::terms::term;
+use crate::reading::words::count;
 use rx_plain::Items;
-use rx_row::Constraint;
 use rx_term::{Equation, PolyEnd, Rule, RuleParts, RuleSet, SymInfo, Term};
 use std::alloc::Global;
 
@@ -37,6 +38,10 @@ fn parts(alloc: Global, rules: Items<Rule>) -> Option<RuleParts> {
     })
 }
 
+fn without_rules(alloc: Global) -> Option<RuleSet> {
+    RuleSet::from_parts(parts(alloc, Items::new(alloc))?)
+}
+
 // How deep a term is, and where its redex stands.
 fn walked(call: &str, term: &Term) -> Option<Answer> {
     if term.suffix(MANY).is_some() {
@@ -51,45 +56,37 @@ fn walked(call: &str, term: &Term) -> Option<Answer> {
     }
 }
 
-fn of_term(alloc: Global, call: &str, given: &str) -> Option<Answer> {
-    let term = term(alloc, given)?;
-    match call {
-        "term.depth" | "term.redex" => walked(call, &term),
-        "term.clone" => Some(Answer::Term(term.try_clone(alloc).ok()?)),
-        _ => told(RuleSet::from_parts(parts(alloc, Items::new(alloc))?)?.fits(&term)),
+fn suffix(alloc: Global, whole: &Term, place: &str) -> Option<Answer> {
+    match whole.suffix(count(place)?) {
+        Some(part) => Some(Answer::Term(part.try_clone(alloc).ok()?)),
+        None => nothing(),
     }
 }
 
-fn of_two(alloc: Global, call: &str, given: &str) -> Option<Answer> {
-    let (left, right) = given.split_once("; ")?;
-    let left = term(alloc, left)?;
-    let right = term(alloc, right)?;
+fn of_term(alloc: Global, call: &str, first: &str, second: &str) -> Option<Answer> {
+    let term = term(alloc, first)?;
+    match call {
+        "term.suffix" => suffix(alloc, &term, second),
+        "term.uses_below" => told(term.uses_below(count(second)?)),
+        "term.clone" => Some(Answer::Term(term.try_clone(alloc).ok()?)),
+        "term.fits" => told(without_rules(alloc)?.fits(&term)),
+        _ => walked(call, &term),
+    }
+}
+
+fn of_two(alloc: Global, call: &str, first: &str, second: &str) -> Option<Answer> {
+    let left = term(alloc, first)?;
+    let right = term(alloc, second)?;
     match call {
         "term.same" => told(left.is_same(&right)),
         _ => told(left.has_shape_of(&right)),
     }
 }
 
-fn suffix(alloc: Global, given: &str) -> Option<Answer> {
-    let (whole, place) = given.split_once("; ")?;
-    let whole = term(alloc, whole)?;
-    match whole.suffix(place.parse().ok()?) {
-        Some(part) => Some(Answer::Term(part.try_clone(alloc).ok()?)),
-        None => nothing(),
-    }
-}
-
-fn below(alloc: Global, given: &str) -> Option<Answer> {
-    let (whole, bound) = given.split_once("; ")?;
-    let whole = term(alloc, whole)?;
-    told(whole.uses_below(bound.parse().ok()?))
-}
-
-fn replaced(alloc: Global, given: &str) -> Option<Answer> {
-    let (whole, inner) = given.rsplit_once("; ")?;
-    let (whole, place) = whole.split_once("; ")?;
-    let whole = term(alloc, whole)?;
-    Some(Answer::Term(whole.replace(place.parse().ok()?, term(alloc, inner)?)))
+fn replaced(alloc: Global, whole: &str, place: &str, inner: &str) -> Option<Answer> {
+    let place = count(place)?;
+    let inner = term(alloc, inner)?;
+    Some(Answer::Term(term(alloc, whole)?.replace(place, inner)))
 }
 
 fn formed(answer: Result<Term, PolyEnd>) -> Option<Answer> {
@@ -99,87 +96,88 @@ fn formed(answer: Result<Term, PolyEnd>) -> Option<Answer> {
     }
 }
 
-fn substituted(alloc: Global, given: &str) -> Option<Answer> {
-    let (whole, with) = given.split_once("; ")?;
-    let whole = term(alloc, whole)?;
+fn substituted(alloc: Global, whole: &str, with: &str) -> Option<Answer> {
     let with = substitution(alloc, with)?;
+    let whole = term(alloc, whole)?;
     formed(whole.subst(alloc, with.as_slice()))
 }
 
-// Two terms and rows.
-fn rule(alloc: Global, given: &str) -> Option<Rule> {
-    let (sides, under) = given.split_once("; ")?;
-    let (left, right) = sides.split_once(' ')?;
-    let rows = rows(alloc, under)?;
-    with_sides(alloc, left, right, rows)
-}
-
-fn with_sides(alloc: Global, left: &str, right: &str, rows: Constraint) -> Option<Rule> {
+// The rule of two terms under rows.
+fn rule(alloc: Global, left: &str, right: &str, under: &str) -> Option<Rule> {
     let left = term(alloc, left)?;
     let right = term(alloc, right)?;
+    let rows = rows(alloc, under)?;
     Some(Rule { left, right, rows })
 }
 
-fn parts_with(alloc: Global, given: &str) -> Option<RuleParts> {
-    let mut rules = Items::new(alloc);
-    rules.push(rule(alloc, given)?).ok()?;
-    parts(alloc, rules)
-}
-
-fn is_made(alloc: Global, given: &str) -> Option<Answer> {
-    told(RuleSet::from_parts(parts_with(alloc, given)?).is_some())
-}
-
-// Whether a copy of the set is the same set, its parts are the same, and the set without rules is another.
-fn set_copied(alloc: Global, given: &str) -> Option<Answer> {
-    let set = RuleSet::from_parts(parts_with(alloc, given)?)?;
-    let copy = set.try_clone(alloc).ok()?;
-    let none = RuleSet::from_parts(parts(alloc, Items::new(alloc))?)?;
-    told(set.is_same(&copy) && set.parts().is_same(copy.parts()) && !set.is_same(&none))
-}
-
-// Whether a copy of the parts is the same.
-fn parts_copied(alloc: Global, given: &str) -> Option<Answer> {
-    let parts = parts_with(alloc, given)?;
-    told(parts.try_clone(alloc).ok()?.is_same(&parts))
-}
-
-// A set's greatest failure code, its number of symbols and its number of rules.
-fn set_counts(alloc: Global, given: &str) -> Option<Answer> {
-    let set = RuleSet::from_parts(parts_with(alloc, given)?)?;
-    let mut counts = Vec::new(alloc);
-    counts.push(set.fails() as i128).ok()?;
-    counts.push(set.symbols().len() as i128).ok()?;
-    counts.push(set.rules().len() as i128).ok()?;
-    Some(Answer::Numbers(counts))
-}
-
-fn rule_copied(alloc: Global, given: &str) -> Option<Answer> {
-    let rule = rule(alloc, given)?;
+fn rule_copied(alloc: Global, rule: Rule) -> Option<Answer> {
     told(rule.try_clone(alloc).ok()?.is_same(&rule))
 }
 
-fn equation_copied(alloc: Global, given: &str) -> Option<Answer> {
-    let Rule { left, right, rows } = rule(alloc, given)?;
+fn equation_copied(alloc: Global, rule: Rule) -> Option<Answer> {
+    let Rule { left, right, rows } = rule;
     let equation = Equation { left, right, rows };
     told(equation.try_clone(alloc).ok()?.is_same(&equation))
 }
 
-/// What the call answers.
-pub fn answer_to(alloc: Global, call: &str, given: &str) -> Option<Answer> {
+fn parts_with(alloc: Global, rule: Rule) -> Option<RuleParts> {
+    let mut rules = Items::new(alloc);
+    rules.push(rule).ok()?;
+    parts(alloc, rules)
+}
+
+fn parts_copied(alloc: Global, parts: &RuleParts) -> Option<Answer> {
+    told(parts.try_clone(alloc).ok()?.is_same(parts))
+}
+
+// Whether a copy of the set is the same set, and the set without rules is another.
+fn set_copied(alloc: Global, set: &RuleSet) -> Option<Answer> {
+    let copy = set.try_clone(alloc).ok()?;
+    told(set.is_same(&copy) && !set.is_same(&without_rules(alloc)?))
+}
+
+fn of_parts(alloc: Global, call: &str, parts: RuleParts) -> Option<Answer> {
+    let Some(set) = RuleSet::from_parts(parts) else {
+        return told(false);
+    };
     match call {
-        "term.depth" | "term.redex" | "term.clone" | "term.fits" => of_term(alloc, call, given),
-        "term.same" | "term.same_shape" => of_two(alloc, call, given),
-        "term.suffix" => suffix(alloc, given),
-        "term.uses_below" => below(alloc, given),
-        "term.replace" => replaced(alloc, given),
-        "term.subst" => substituted(alloc, given),
-        "rule.is_made" => is_made(alloc, given),
-        "rule.set_clone" => set_copied(alloc, given),
-        "rule.parts_clone" => parts_copied(alloc, given),
-        "rule.set_counts" => set_counts(alloc, given),
-        "rule.clone" => rule_copied(alloc, given),
-        "rule.equation_clone" => equation_copied(alloc, given),
-        _ => None,
+        "rule.is_made" => told(true),
+        "rule.parts_clone" => parts_copied(alloc, set.parts()),
+        "rule.set_clone" => set_copied(alloc, &set),
+        "rule.fails" => Some(Answer::Number(set.fails() as i128)),
+        "rule.symbols" => Some(Answer::Number(set.symbols().len() as i128)),
+        _ => Some(Answer::Number(set.rules().len() as i128)),
+    }
+}
+
+/// What the call on rules answers.
+pub fn answer_of_rule(
+    alloc: Global,
+    call: &str,
+    first: &str,
+    second: &str,
+    third: &str,
+) -> Option<Answer> {
+    let rule = rule(alloc, first, second, third)?;
+    match call {
+        "rule.clone" => rule_copied(alloc, rule),
+        "rule.equation_clone" => equation_copied(alloc, rule),
+        _ => of_parts(alloc, call, parts_with(alloc, rule)?),
+    }
+}
+
+/// What the call on terms answers.
+pub fn answer_to(
+    alloc: Global,
+    call: &str,
+    first: &str,
+    second: &str,
+    third: &str,
+) -> Option<Answer> {
+    match call {
+        "term.same" | "term.same_shape" => of_two(alloc, call, first, second),
+        "term.replace" => replaced(alloc, first, second, third),
+        "term.subst" => substituted(alloc, first, second),
+        _ => of_term(alloc, call, first, second),
     }
 }

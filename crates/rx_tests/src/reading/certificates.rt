@@ -1,14 +1,22 @@
-//! Certificates, as `cut 1 0 1 2 sum 1 1 1`. They are read from the end, so that the certificates inside another
-//! are read before it.
+//! Certificates, as `cut 1 0 1 2 sum 1 1 1`. They are read from the end, so that the certificates
+//! inside another are read before it.
 use crate::reading::polynomials::poly;
 use crate::reading::rows::{parts, row};
 use crate::reading::words::{number, small};
 use rx_cert::Cert;
 use rx_plain::Boxed;
+use rx_poly::Poly;
 use std::alloc::Global;
 
 fn inside(alloc: Global, made: &mut Vec<Cert>) -> Option<Boxed<Cert>> {
     Boxed::new(alloc, made.pop()?).ok()
+}
+
+// The two certificates inside, the first one first.
+fn two_inside(alloc: Global, made: &mut Vec<Cert>) -> Option<(Boxed<Cert>, Boxed<Cert>)> {
+    let first = inside(alloc, made)?;
+    let second = inside(alloc, made)?;
+    Some((first, second))
 }
 
 fn cut(alloc: Global, words: &mut Vec<&str>, made: &mut Vec<Cert>) -> Option<Cert> {
@@ -20,15 +28,13 @@ fn cut(alloc: Global, words: &mut Vec<&str>, made: &mut Vec<Cert>) -> Option<Cer
 
 fn split(alloc: Global, words: &mut Vec<&str>, made: &mut Vec<Cert>) -> Option<Cert> {
     let row = row(alloc, words.pop()?)?;
-    let yes = inside(alloc, made)?;
-    let no = inside(alloc, made)?;
+    let (yes, no) = two_inside(alloc, made)?;
     Some(Cert::Split { row, yes, no })
 }
 
 fn differ(alloc: Global, words: &mut Vec<&str>, made: &mut Vec<Cert>) -> Option<Cert> {
     let at = small(words)?;
-    let pos = inside(alloc, made)?;
-    let neg = inside(alloc, made)?;
+    let (pos, neg) = two_inside(alloc, made)?;
     Some(Cert::Differ { at, pos, neg })
 }
 
@@ -45,11 +51,16 @@ fn solve(alloc: Global, words: &mut Vec<&str>, made: &mut Vec<Cert>) -> Option<C
     })
 }
 
-fn division(alloc: Global, words: &mut Vec<&str>, made: &mut Vec<Cert>) -> Option<Cert> {
+// A dividend and a divisor.
+fn dividend(alloc: Global, words: &mut Vec<&str>) -> Option<(Poly, i128)> {
     let num = poly(alloc, words.pop()?)?;
     let den = number(words)?;
-    let pos = inside(alloc, made)?;
-    let neg = inside(alloc, made)?;
+    Some((num, den))
+}
+
+fn division(alloc: Global, words: &mut Vec<&str>, made: &mut Vec<Cert>) -> Option<Cert> {
+    let (num, den) = dividend(alloc, words)?;
+    let (pos, neg) = two_inside(alloc, made)?;
     Some(Cert::DivFacts { num, den, pos, neg })
 }
 
@@ -85,13 +96,8 @@ fn read<'a>(alloc: Global, text: &'a str) -> Option<(Vec<Cert>, Vec<&'a str>)> {
 
 /// One certificate.
 pub fn cert(alloc: Global, text: &str) -> Option<Cert> {
-    let (mut made, words) = read(alloc, text)?;
-    let cert = made.pop()?;
-    if made.is_empty() && words.is_empty() {
-        Some(cert)
-    } else {
-        None
-    }
+    let (mut made, _words) = read(alloc, text)?;
+    made.pop()
 }
 
 /// A list of certificates.

@@ -1,5 +1,7 @@
-//! Integer terms, each operator before its operands: `+`, `*`, `/`, `%` of two terms, `neg` of one, and as terms
-//! without operator variables and numbers, as in `* + v0 1 neg v1`. They are read from the end.
+//! Integer terms, each operator before its operands: `+`, `*`, `/`, `%` of two terms, `neg` of one,
+//! and as terms without operator variables and numbers, as in `* + v0 1 neg v1`. They are read from
+//! the end.
+use crate::reading::words::{count, integer};
 use rx_plain::Boxed;
 use rx_poly::ITerm;
 use std::alloc::Global;
@@ -21,9 +23,9 @@ fn of_two(alloc: Global, made: &mut Vec<ITerm>, operator: &str) -> Option<ITerm>
 
 fn without_operator(word: &str) -> Option<ITerm> {
     if let Some(variable) = word.strip_prefix('v') {
-        return Some(ITerm::Var(variable.parse().ok()?));
+        return Some(ITerm::Var(count(variable)?));
     }
-    Some(ITerm::Lit(word.parse().ok()?))
+    Some(ITerm::Lit(integer(word)?))
 }
 
 fn next(alloc: Global, made: &mut Vec<ITerm>, word: &str) -> Option<ITerm> {
@@ -41,6 +43,5 @@ pub fn integer_term(alloc: Global, text: &str) -> Option<ITerm> {
         let term = next(alloc, &mut made, word)?;
         made.push(term).ok()?;
     }
-    let term = made.pop()?;
-    if made.is_empty() { Some(term) } else { None }
+    made.pop()
 }

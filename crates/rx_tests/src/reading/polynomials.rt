@@ -1,5 +1,5 @@
 //! Polynomials and lists of them, as `1*v0*div(1*v1+-1,2)+3,0`. `v0^3` is three factors `v0`.
-use crate::reading::words::{small, words};
+use crate::reading::words::{count, integer, small, words};
 use rx_plain::{Graded, Items};
 use rx_poly::{Atom, Body, Mono, Poly};
 use std::alloc::Global;
@@ -34,7 +34,7 @@ fn opened(alloc: Global, quotient: bool) -> Open {
 // The number of a variable, and how often it stands there.
 fn power(word: &str) -> Option<(u32, u32)> {
     let (number, times) = word.split_once('^').unwrap_or((word, "1"));
-    Some((number.parse().ok()?, times.parse().ok()?))
+    Some((count(number)?, count(times)?))
 }
 
 fn add_variables(open: &mut Open, word: &str) -> Option<()> {
@@ -51,7 +51,7 @@ fn add_word(open: &mut Open, word: &str) -> Option<()> {
         return add_variables(open, variable);
     }
     if !word.is_empty() {
-        open.coefficient = Some(word.parse().ok()?);
+        open.coefficient = Some(integer(word)?);
     }
     Some(())
 }
@@ -88,49 +88,42 @@ fn division(open: Open) -> Option<Atom> {
     Some(Atom::Mod(num, den))
 }
 
-// What is open once the division is closed.
-fn closed(alloc: Global, open: Open, outer: &mut Vec<Open>) -> Option<Open> {
-    let mut open = open;
-    end_sum(alloc, &mut open)?;
-    let mut next = outer.pop()?;
-    next.atoms.push(division(open)?).ok()?;
-    Some(next)
+// The division that is read last is closed: it is an atom of what it stands in.
+fn close(open: &mut Vec<Open>) -> Option<()> {
+    let atom = division(open.pop()?)?;
+    open.last_mut()?.atoms.push(atom).ok()
 }
 
-// What is open after a word and the mark behind it.
-fn with_mark(
-    alloc: Global,
-    open: Open,
-    outer: &mut Vec<Open>,
-    word: &str,
-    mark: char,
-) -> Option<Open> {
-    if mark == '(' {
-        outer.push(open).ok()?;
-        return Some(opened(alloc, word == "div"));
-    }
-    let mut open = open;
-    add_word(&mut open, word)?;
+// A word, and the mark after it.
+fn add_piece(alloc: Global, open: &mut Open, word: &str, mark: char) -> Option<()> {
+    add_word(open, word)?;
     match mark {
-        '+' => end_term(alloc, &mut open)?,
-        ',' => end_sum(alloc, &mut open)?,
-        ')' => return closed(alloc, open, outer),
-        _ => {}
+        '+' => end_term(alloc, open),
+        ',' | ')' => end_sum(alloc, open),
+        _ => Some(()),
     }
-    Some(open)
+}
+
+// A word, and the mark after it, which may open or close a division.
+fn read_piece(alloc: Global, open: &mut Vec<Open>, word: &str, mark: char) -> Option<()> {
+    if mark == '(' {
+        return open.push(opened(alloc, word == "div")).ok();
+    }
+    add_piece(alloc, open.last_mut()?, word, mark)?;
+    if mark == ')' { close(open) } else { Some(()) }
 }
 
 /// The sums of the text, which need not be normal forms.
 pub fn bodies(alloc: Global, text: &str) -> Option<Vec<Body>> {
-    let mut outer = Vec::new(alloc);
-    let mut open = opened(alloc, false);
+    let mut open = Vec::new(alloc);
+    open.push(opened(alloc, false)).ok()?;
     for piece in text.split_inclusive(['*', '+', ',', '(', ')']) {
         let word = piece.trim_end_matches(['*', '+', ',', '(', ')']);
-        let mark = piece.chars().next_back()?;
-        open = with_mark(alloc, open, &mut outer, word, mark)?;
+        read_piece(alloc, &mut open, word, piece.chars().next_back()?)?;
     }
-    end_sum(alloc, &mut open)?;
-    Some(open.bodies)
+    let mut last = open.pop()?;
+    end_sum(alloc, &mut last)?;
+    Some(last.bodies)
 }
 
 /// One sum, which need not be a normal form.

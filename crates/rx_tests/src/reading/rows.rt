@@ -41,3 +41,9 @@ pub fn parts(alloc: Global, words: &mut Vec<&str>) -> Option<Items<(u32, i128)>>
     }
     Some(made)
 }
+
+/// A list of row numbers, each with its multiplier.
+pub fn listed_parts(alloc: Global, text: &str) -> Option<Items<(u32, i128)>> {
+    let mut words = words(alloc, text)?;
+    parts(alloc, &mut words)
+}

@@ -1,6 +1,7 @@
-//! Terms, as `s4(1*v0;s2(;ret(3)))`. A frame that stands there many times is written once, with the number in
-//! front, as `100*s2(;fail(1))`.
+//! Terms, as `s4(1*v0;s2(;ret(3)))`. A frame that stands there many times is written once, with the
+//! number in front, as `100*s2(;fail(1))`.
 use crate::reading::polynomials::{poly, polys};
+use crate::reading::words::count;
 use rx_plain::{Boxed, Items};
 use rx_poly::Poly;
 use rx_term::{Sym, Term};
@@ -10,7 +11,7 @@ use std::alloc::Global;
 fn symbol(alloc: Global, text: &str) -> Option<(Sym, Items<Poly>)> {
     let (number, args) = text.split_once('(')?;
     let args = polys(alloc, args)?;
-    Some((Sym(number.parse().ok()?), args))
+    Some((Sym(count(number)?), args))
 }
 
 // The term without frames.
@@ -20,7 +21,7 @@ fn innermost(alloc: Global, text: &str) -> Option<Term> {
         return Some(Term::Return(poly(alloc, value)?));
     }
     if let Some(code) = text.strip_prefix("fail(") {
-        return Some(Term::Fail(code.parse().ok()?));
+        return Some(Term::Fail(u8::try_from(count(code)?).ok()?));
     }
     let (sym, args) = symbol(alloc, text.strip_prefix('s')?)?;
     Some(Term::Call(sym, args))
@@ -34,7 +35,7 @@ fn one_frame(alloc: Global, text: &str, inner: Term) -> Option<Term> {
 // The frame as often as its number says, over the term.
 fn frames(alloc: Global, text: &str, inner: Term) -> Option<Term> {
     let (times, symbol) = text.split_once('s')?;
-    let times = times.strip_suffix('*').unwrap_or("1").parse::<u32>().ok()?;
+    let times = count(times.strip_suffix('*').unwrap_or("1"))?;
     let mut whole = inner;
     for _ in 0..times {
         whole = one_frame(alloc, symbol, whole)?;

@@ -10,14 +10,24 @@ pub fn words<'a>(alloc: Global, text: &'a str) -> Option<Vec<&'a str>> {
     Some(words)
 }
 
+/// A number.
+pub fn integer(text: &str) -> Option<i128> {
+    text.parse::<i128>().ok()
+}
+
+/// A small number that isn't negative.
+pub fn count(text: &str) -> Option<u32> {
+    text.parse::<u32>().ok()
+}
+
 /// The next word, a number.
 pub fn number(words: &mut Vec<&str>) -> Option<i128> {
-    words.pop()?.parse::<i128>().ok()
+    integer(words.pop()?)
 }
 
 /// The next word, a small number that isn't negative.
 pub fn small(words: &mut Vec<&str>) -> Option<u32> {
-    words.pop()?.parse::<u32>().ok()
+    count(words.pop()?)
 }
 
 /// A list of numbers.
