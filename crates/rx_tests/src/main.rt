@@ -38,12 +38,17 @@ fn answer_to(alloc: Global, call: &str, first: &str, second: &str, third: &str) 
     }
 }
 
+// The text before the first semicolon, and what comes after it.
+fn parted<'a>(text: &'a str) -> (&'a str, &'a str) {
+    text.split_once("; ").unwrap_or((text, ""))
+}
+
 // Whether the line's call answers what it is to; none where that isn't known.
 fn holds(alloc: Global, line: &str) -> Option<bool> {
-    let (call, rest) = line.split_once("; ")?;
+    let (call, rest) = parted(line);
     let (given, wanted) = rest.rsplit_once("; ")?;
-    let (first, more) = given.split_once("; ").unwrap_or((given, ""));
-    let (second, third) = more.split_once("; ").unwrap_or((more, ""));
+    let (first, more) = parted(given);
+    let (second, third) = parted(more);
     let answer = answer_to(alloc, call, first, second, third)?;
     Some(is_meant(alloc, &answer, wanted))
 }

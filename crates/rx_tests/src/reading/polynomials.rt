@@ -159,12 +159,16 @@ pub fn polys(alloc: Global, text: &str) -> Option<Items<Poly>> {
     Some(made)
 }
 
+fn next_poly(alloc: Global, words: &mut Vec<&str>) -> Option<Poly> {
+    poly(alloc, words.pop()?)
+}
+
 /// A list of polynomials.
 pub fn listed(alloc: Global, text: &str) -> Option<Vec<Poly>> {
     let mut words = words(alloc, text)?;
     let mut made = Vec::new(alloc);
     for _ in 0..small(&mut words)? {
-        made.push(poly(alloc, words.pop()?)?).ok()?;
+        made.push(next_poly(alloc, &mut words)?).ok()?;
     }
     Some(made)
 }
@@ -172,8 +176,7 @@ pub fn listed(alloc: Global, text: &str) -> Option<Vec<Poly>> {
 // A variable's number, and what stands in its place.
 fn replacement(alloc: Global, words: &mut Vec<&str>) -> Option<(u32, Poly)> {
     let at = small(words)?;
-    let poly = poly(alloc, words.pop()?)?;
-    Some((at, poly))
+    Some((at, next_poly(alloc, words)?))
 }
 
 /// A list of variables, each by its number, with what stands in its place.

@@ -17,12 +17,16 @@ pub fn row(alloc: Global, text: &str) -> Option<Row> {
     }
 }
 
+fn next_row(alloc: Global, words: &mut Vec<&str>) -> Option<Row> {
+    row(alloc, words.pop()?)
+}
+
 /// A list of rows.
 pub fn rows(alloc: Global, text: &str) -> Option<Constraint> {
     let mut words = words(alloc, text)?;
     let mut made = Vec::new(alloc);
     for _ in 0..small(&mut words)? {
-        made.push(row(alloc, words.pop()?)?).ok()?;
+        made.push(next_row(alloc, &mut words)?).ok()?;
     }
     Some(Constraint::from_rows(made))
 }

@@ -2,43 +2,50 @@
 //! number in front, as `100*s2(;fail(1))`.
 use crate::reading::polynomials::{poly, polys};
 use crate::reading::words::count;
-use rx_plain::{Boxed, Items};
-use rx_poly::Poly;
+use rx_plain::Boxed;
 use rx_term::{Sym, Term};
 use std::alloc::Global;
 
-// A symbol with its arguments.
-fn symbol(alloc: Global, text: &str) -> Option<(Sym, Items<Poly>)> {
-    let (number, args) = text.split_once('(')?;
-    let args = polys(alloc, args)?;
-    Some((Sym(count(number)?), args))
+// A failure code.
+fn code(text: &str) -> Option<u8> {
+    u8::try_from(count(text)?).ok()
+}
+
+fn called(alloc: Global, name: &str, args: &str) -> Option<Term> {
+    let number = count(name.strip_prefix('s')?)?;
+    Some(Term::Call(Sym(number), polys(alloc, args)?))
 }
 
 // The term without frames.
 fn innermost(alloc: Global, text: &str) -> Option<Term> {
-    let text = text.strip_suffix(')')?;
-    if let Some(value) = text.strip_prefix("ret(") {
-        return Some(Term::Return(poly(alloc, value)?));
+    let (name, rest) = text.strip_suffix(')')?.split_once('(')?;
+    match name {
+        "ret" => Some(Term::Return(poly(alloc, rest)?)),
+        "fail" => Some(Term::Fail(code(rest)?)),
+        _ => called(alloc, name, rest),
     }
-    if let Some(code) = text.strip_prefix("fail(") {
-        return Some(Term::Fail(u8::try_from(count(code)?).ok()?));
-    }
-    let (sym, args) = symbol(alloc, text.strip_prefix('s')?)?;
-    Some(Term::Call(sym, args))
 }
 
-fn one_frame(alloc: Global, text: &str, inner: Term) -> Option<Term> {
-    let (sym, args) = symbol(alloc, text)?;
-    Some(Term::Frame(sym, args, Boxed::new(alloc, inner).ok()?))
+// One frame over the term, of a symbol's number and its arguments.
+fn one_frame(alloc: Global, number: u32, args: &str, inner: Term) -> Option<Term> {
+    let inner = Boxed::new(alloc, inner).ok()?;
+    Some(Term::Frame(Sym(number), polys(alloc, args)?, inner))
+}
+
+// How often a frame stands there, and its symbol's number.
+fn head(text: &str) -> Option<(u32, u32)> {
+    let (times, number) = text.split_once('s')?;
+    let times = count(times.strip_suffix('*').unwrap_or("1"))?;
+    Some((times, count(number)?))
 }
 
 // The frame as often as its number says, over the term.
 fn frames(alloc: Global, text: &str, inner: Term) -> Option<Term> {
-    let (times, symbol) = text.split_once('s')?;
-    let times = count(times.strip_suffix('*').unwrap_or("1"))?;
+    let (front, args) = text.split_once('(')?;
+    let (times, number) = head(front)?;
     let mut whole = inner;
     for _ in 0..times {
-        whole = one_frame(alloc, symbol, whole)?;
+        whole = one_frame(alloc, number, args, whole)?;
     }
     Some(whole)
 }
