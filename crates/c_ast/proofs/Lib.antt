@@ -6,3 +6,4 @@ pub mod FormEquations
 pub mod Returned
 pub mod ScopedEquations
 pub mod ScopedLaws
+pub mod StraightForms

@@ -1,10 +1,13 @@
-//! Laws of the trees: when the slots and the calls of a resolved program are in order, and what
-//! that says of it. The functions do nothing; each contract is a law.
+//! Laws of the trees: when the slots and the calls of a resolved program are in order, what that
+//! says of it, and which expressions are straight. The functions do nothing; each contract is a
+//! law.
 
 ghost use Rattle.std.specs.Prelude.{◌≡◌, ◌≤◌, ◌<◌, ◌+◌, ℕ, true, false, Some};
-ghost use Rattle.std.specs.Prelude.{List, length, map, slice_get};
-ghost use Rattle.std.specs.List.{All, concat};
+ghost use Rattle.std.specs.Prelude.{List, length, map, slice_get, nat_lt, ◌&&◌};
+ghost use Rattle.std.specs.List.{All, concat, list_all};
 ghost use Rattle.c_ast.specs.Calls.{calls_in};
+ghost use Rattle.c_ast.specs.Forms as over_parameters;
+ghost use Rattle.c_ast.specs.RowForms.{is_straight};
 ghost use Rattle.c_ast.specs.Scoped.{is_scoped, is_scoped_expr, slots_after};
 ghost use Rattle.c_ast.specs.ScopedPrograms as sample;
 ghost use Rattle.c_ast.specs.Variables.{variables};
@@ -39,4 +42,13 @@ pub fn scoped_programs_name_what_is_there()
     ensures calls { (program : Resolved) (place : ℕ) (function : Function) →
         is_scoped program ≡ true → slice_get program.functions place ≡ Some function →
         All (λ g. g < length program.functions) (concat (map calls_in function.body)) }
+{}
+
+/// The two tests of straight expressions are one notion: what a straight function of so many
+/// parameters may return is an expression that may be an operand in a precondition, and whose
+/// variables are slots of parameters.
+pub fn straight_expressions_are_one_notion()
+    ensures { (count : ℕ) (e : Expr) →
+        over_parameters.is_straight count e
+        ≡ (is_straight e && list_all (λ v. nat_lt v count) (variables e)) }
 {}

@@ -15,7 +15,10 @@ mod stmt;
 
 pub use expr::{BinOp, Expr, UnOp, expr_height};
 pub use forms::straight;
-pub use laws::{one_fault_is_out_of_order, scoped_programs_name_what_is_there};
+pub use laws::{
+    one_fault_is_out_of_order, scoped_programs_name_what_is_there,
+    straight_expressions_are_one_notion,
+};
 pub use program::{Function, Program, Prototype, Resolved};
 pub use rx_plain::NoMemory;
 pub use stmt::{Stmt, stmt_height};
