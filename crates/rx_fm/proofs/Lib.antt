@@ -8,6 +8,7 @@ pub mod Exactness
 pub mod Gcd
 pub mod Joined
 pub mod Lists
+pub mod Measuring
 pub mod Skipping
 pub mod Stages
 pub mod Sums

@@ -6,11 +6,14 @@
 #![tactic(auto)]
 
 mod combination;
+mod contents;
 mod elimination;
 mod fm_end;
 mod monomials;
 mod numbers;
 mod stage;
 
+pub use contents::content;
 pub use elimination::farkas;
 pub use fm_end::FmEnd;
+pub use numbers::{gcd_with, size};

@@ -9,7 +9,7 @@ use rx_plain::Items;
 use std::alloc::{AllocError, Global};
 
 /// The number without its sign; None where this leaves i128.
-pub(crate) fn size(number: &i128) -> Option<i128>
+pub fn size(number: &i128) -> Option<i128>
     ensures { SomeIff result (size_fits number.now ≡ true) (pos (unsigned_abs number.now)) }
 {
     if *number < 0 {
@@ -46,7 +46,7 @@ pub(crate) fn gcd(left: &i128, right: &i128) -> i128
 }
 
 /// The greatest common divisor of the first and the sizes of the others; None where one of these leaves i128.
-pub(crate) fn gcd_with(first: &i128, others: &[i128]) -> Option<i128>
+pub fn gcd_with(first: &i128, others: &[i128]) -> Option<i128>
     requires { pos 0 ≤ℤ first.now }
     ensures { SomeIff result (sizes_fit others.now ≡ true) (pos (gcd_with (unsigned_abs first.now) others.now)) }
 {

@@ -1,6 +1,7 @@
 //! Lists of polynomials: what a call, a frame or a result holds.
 ghost use Rattle.std.specs.Prelude.{◌≡◌, ◌↔◌, true, false, IsTrue, IfOk, IfErr, OnOk};
-ghost use Rattle.rx_term.specs.Substitution.{in_polys, polys_within};
+ghost use Rattle.rx_plain.specs.Formed.{Forms};
+ghost use Rattle.rx_term.specs.Substitution.{in_polys, polys_with, polys_within};
 ghost use Rattle.rx_term.specs.Variables.{polys_use_below};
 
 use rx_plain::Items;
@@ -28,6 +29,7 @@ pub(crate) fn substituted(
     ensures polys { IfOk result (λ made. made ≡ in_polys with.now args.now) }
     ensures within { OnOk result (polys_within with.now args.now ≡ true) }
     ensures large { IfErr result (λ e. e ≡ PolyEnd.Large → polys_within with.now args.now ≡ false) }
+    ensures forms { Forms PolyEnd.Large result (polys_with with.now args.now) }
 {
     let mut made = Items::new(alloc);
     for arg in args {

@@ -5,7 +5,8 @@ ghost use Rattle.rx_poly.specs.Substitution.{worth};
 ghost use Rattle.rx_term.specs.Meaning.{ground_at, redex_of};
 ghost use Rattle.rx_term.specs.Shapes.{shape_of};
 ghost use Rattle.rx_term.specs.Stacks.{behind, depth_of, is_redex, is_result, onto, redex_place, replace_redex, replaced, turned};
-ghost use Rattle.rx_term.specs.Substitution.{in_term, term_within};
+ghost use Rattle.rx_plain.specs.Formed.{Forms};
+ghost use Rattle.rx_term.specs.Substitution.{in_term, term_with, term_within};
 ghost use Rattle.rx_term.specs.Variables.{term_uses_below};
 
 use crate::arguments::{are_below, are_same, copied, substituted};
@@ -302,6 +303,7 @@ impl Term {
         ensures value { IfOk result (λ t. (a : ℕ → ℤ) → ground_at a t ≡ ground_at (worth a with.now) self.now) }
         ensures within { OnOk result (term_within with.now self.now ≡ true) }
         ensures large { IfErr result (λ e. e ≡ PolyEnd.Large → term_within with.now self.now ≡ false) }
+        ensures forms { Forms PolyEnd.Large result (term_with with.now self.now) }
     {
         let mut here = self;
         let mut upper = Term::Fail(0);
