@@ -6,4 +6,5 @@ pub mod FormEquations
 pub mod Returned
 pub mod ScopedEquations
 pub mod ScopedLaws
+pub mod StmtEquations
 pub mod StraightForms

@@ -1,17 +1,3 @@
-pub mod Lookahead
-pub mod Equations
-pub mod Building
-pub mod Chains
-pub mod Choices
-pub mod Operands
-pub mod Passing
-pub mod PartLemmas
-pub mod Declaring
-pub mod HeadLemmas
-pub mod Forms
-pub mod Inners
-pub mod UniqueExprs
-pub mod UniqueStatements
 pub mod Lists
 pub mod Phrases
 pub mod Names

@@ -12,15 +12,18 @@ use Rattle.c_ast.specs.declared.stmt.Stmt.{Stmt}
 use Rattle.c_ast.specs.declared.program.Function.{Function}
 use Rattle.c_ast.specs.declared.program.Prototype.{Prototype}
 use Rattle.c_ast.specs.declared.program.Program.{Program}
-use Rattle.c_parse.specs.declared.read.Span.{Span}
-use Rattle.c_parse.specs.declared.read.External.{External}
-use Rattle.c_parse.specs.declared.read.External.TheVariants.{Defined, Declared}
+use Rattle.c_expr.specs.declared.read.Span.{Span}
+use Rattle.c_stmt.specs.declared.tree.External.{External}
+use Rattle.c_stmt.specs.declared.tree.External.TheVariants.{Defined, Declared}
 use Rattle.c_parse.specs.declared.read.ReadProgram.TheVariants.{Spelled, Stopped}
-use Rattle.c_parse.specs.Grammar.{kind_at}
-use Rattle.c_parse.specs.Statements.{Blocks}
-use Rattle.c_parse.specs.Programs.{list_height, IsHeading, Parameters, names_of, ExternalDeclaration, function, prototype, Externals, finished, followed, functions_of, prototypes_of, program_of, IsLow}
-use Rattle.c_parse.specs.Readers.{IsThat, Gives, Low, LowExternal, added, Collecting, ReadsAll}
-use Rattle.c_parse.proofs.Lookahead.{kind_within}
+use Rattle.c_expr.specs.Grammar.{kind_at}
+use Rattle.c_stmt.specs.Statements.{CompoundStatement}
+use Rattle.c_stmt.specs.Heights.{list_height}
+use Rattle.c_stmt.specs.Programs.{IsHeading, Parameters, names_of, ExternalDeclaration, function, prototype, Externals, finished, followed}
+use Rattle.c_parse.specs.Programs.{functions_of, prototypes_of, program_of, IsLow}
+use Rattle.c_expr.specs.Readers.{IsThat, Gives, Low}
+use Rattle.c_parse.specs.Readers.{LowExternal, added, Collecting, ReadsAll}
+use Rattle.c_expr.proofs.Lookahead.{kind_within}
 
 -- a function of this name, these parameters and this body
 abbrev pub the_function : ℕ → List ℕ → List Stmt → External
@@ -33,7 +36,7 @@ the_prototype name params = Declared (record { name = name; params = params })
 -- what a function or a prototype can be
 pub data Outer (ts : List Token) (i j : ℕ) (x : External) : Type 0 where
   outer_function : (k : ℕ) → (ps : Option (List (Option ℕ))) → (names : List ℕ) → (body : List Stmt)
-      → IsHeading ts i → Parameters ts (i + 3) k ps → names_of ps ≡ Some names → Blocks ts k j body → x ≡ the_function (i + 1) names body → Outer ts i j x
+      → IsHeading ts i → Parameters ts (i + 3) k ps → names_of ps ≡ Some names → CompoundStatement ts k j body → x ≡ the_function (i + 1) names body → Outer ts i j x
   outer_prototype : (k : ℕ) → (ps : Option (List (Option ℕ)))
       → IsHeading ts i → Parameters ts (i + 3) k ps → kind_at ts k ≡ Some (Mark Semicolon) → j ≡ k + 1 → x ≡ the_prototype (i + 1) (option_map (λ (os : List (Option ℕ)). length os) ps) → Outer ts i j x
 
@@ -47,7 +50,7 @@ outer_begins ts i j x (outer_function k ps names body h p n b q) = h.0
 outer_begins ts i j x (outer_prototype k ps h p c a q) = h.0
 
 -- no block begins with a semicolon
-no_block : (ts : List Token) (i j : ℕ) (body : List Stmt) → kind_at ts i ≡ Some (Mark Semicolon) → Blocks ts i j body → ⊥
+no_block : (ts : List Token) (i j : ℕ) (body : List Stmt) → kind_at ts i ≡ Some (Mark Semicolon) → CompoundStatement ts i j body → ⊥
 no_block ts i j body h b = let here = b.0 in cc
 
 module _ (ts : List Token) (at : ℕ) where
@@ -100,25 +103,25 @@ module _ (ts : List Token) (at : ℕ) where
       pub gives_nameless : names_of x.value ≡ None → Gives (LowExternal ts at) at (length ts) None
       gives_nameless none = record { found = tt; only = λ j z low. nameless_only none j z (outer_of ts at j z low.0) }
 
-      bodiless_only : Gives (Low list_height 200 (Blocks ts x.end)) x.end (length ts) None → (j : ℕ) (z : External) → Outer ts at j z → IsLow z → ⊥
+      bodiless_only : Gives (Low list_height 200 (CompoundStatement ts x.end)) x.end (length ts) None → (j : ℕ) (z : External) → Outer ts at j z → IsLow z → ⊥
       bodiless_only b j z (outer_function k ps names body h p n w q) low =
           let is : (x.end ≡ k) × (x.value ≡ ps) = r.only k ps p in
           let body_low : list_height body ≤ 200 = rw q at low in
-          let here : Blocks ts x.end j body = rw is.0 w in
+          let here : CompoundStatement ts x.end j body = rw is.0 w in
           b.only j body (here, body_low)
       bodiless_only b j z (outer_prototype k ps h p c a q) low =
           let is : (x.end ≡ k) × (x.value ≡ ps) = r.only k ps p in continued (rw is.0 c)
 
       -- without a body there is no function
-      pub gives_bodiless : Gives (Low list_height 200 (Blocks ts x.end)) x.end (length ts) None → Gives (LowExternal ts at) at (length ts) None
+      pub gives_bodiless : Gives (Low list_height 200 (CompoundStatement ts x.end)) x.end (length ts) None → Gives (LowExternal ts at) at (length ts) None
       gives_bodiless b = record { found = tt; only = λ j z low. bodiless_only b j z (outer_of ts at j z low.0) low.1 }
 
-      function_only : (names : List ℕ) (y : Span (List Stmt)) (w : Span External) → names_of x.value ≡ Some names → Gives (Low list_height 200 (Blocks ts x.end)) x.end (length ts) (Some y)
+      function_only : (names : List ℕ) (y : Span (List Stmt)) (w : Span External) → names_of x.value ≡ Some names → Gives (Low list_height 200 (CompoundStatement ts x.end)) x.end (length ts) (Some y)
           → w.value ≡ the_function (at + 1) names y.value → w.end ≡ y.end → (j : ℕ) (z : External) → Outer ts at j z → IsLow z → IsThat (Some w) j z
       function_only names y w given b wv we j z (outer_function k ps others body h p n v q) low =
           let is : (x.end ≡ k) × (x.value ≡ ps) = r.only k ps p in
           let body_low : list_height body ≤ 200 = rw q at low in
-          let here : Blocks ts x.end j body = rw is.0 v in
+          let here : CompoundStatement ts x.end j body = rw is.0 v in
           let that : (y.end ≡ j) × (y.value ≡ body) = b.only j body (here, body_low) in
           let lists : Some names ≡ Some others = sym given ∙ (ap names_of is.1 ∙ n) in
           let same : names ≡ others = cc in
@@ -129,7 +132,7 @@ module _ (ts : List Token) (at : ℕ) where
 
       -- a function
       pub gives_function : (names : List ℕ) (y : Span (List Stmt)) (w : Span External) → IsHeading ts at → names_of x.value ≡ Some names
-          → Gives (Low list_height 200 (Blocks ts x.end)) x.end (length ts) (Some y) → w.value ≡ the_function (at + 1) names y.value → w.end ≡ y.end
+          → Gives (Low list_height 200 (CompoundStatement ts x.end)) x.end (length ts) (Some y) → w.value ≡ the_function (at + 1) names y.value → w.end ≡ y.end
           → Gives (LowExternal ts at) at (length ts) (Some w)
       gives_function names y w h given b wv we =
           let first : at + 3 < x.end = r.found.further in

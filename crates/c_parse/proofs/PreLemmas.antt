@@ -1,37 +1,22 @@
 -- The one expression of a list of tokens.
-use Rattle.std.proofs.Common.{◌≡◌, ℕ, suc, ◌≤◌, ◌<◌, Some, None, List, [], ◌∷◌, length, refl, sym, ◌∙◌, ap, arith}
+use Rattle.std.proofs.Common.{◌≡◌, suc, ◌≤◌, ◌<◌, Some, None, List, length, arith}
 use Rattle.c_lex.specs.declared.token.Token.{Token}
 use Rattle.c_ast.specs.declared.expr.Expr.{Expr}
 use Rattle.c_ast.specs.Height.{expr_height}
-use Rattle.c_parse.specs.declared.read.Read.{Read}
-use Rattle.c_parse.specs.Grammar.{kind_at, infixed, binary_of, levels, Whole}
+use Rattle.c_expr.specs.declared.read.Read.{Read}
+use Rattle.c_expr.specs.Grammar.{levels, Expression}
 use Rattle.c_parse.specs.Preconditions.{IsExpression, OneExpression}
-use Rattle.c_parse.specs.Readers.{Stops, Reads}
-use Rattle.c_parse.proofs.Choices.{chosen_of}
-use Rattle.c_parse.proofs.UniqueExprs.{whole_unique}
-
--- behind the end of the list no token stands
-nothing_over : (ts : List Token) → kind_at ts (length ts) ≡ None
-unfolding kind_at
-nothing_over [] = refl
-nothing_over (t ∷ ts) = nothing_over ts
-
--- the end of the list stops every level
-pub over_stops : (ts : List Token) (n : ℕ) → Stops ts n (length ts)
-over_stops ts n =
-    let over : kind_at ts (length ts) ≡ None = nothing_over ts in
-    record {
-      operator = λ m op h. let contradiction : None ≡ Some (infixed m op) = ap binary_of (sym over) ∙ h in absurd cc;
-      choice = λ h. absurd cc;
-      call = λ h. cc;
-    }
+use Rattle.c_expr.specs.Readers.{Reads}
+use Rattle.c_expr.proofs.Lookahead.{over_stops}
+use Rattle.c_expr.proofs.Choices.{chosen_of}
+use Rattle.c_expr.proofs.UniqueExprs.{whole_unique}
 
 module _ (ts : List Token) where
   -- nothing low enough was read
-  pub no_expression : Reads (Whole ts) ts (suc levels) 0 200 None → (e : Expr) → IsExpression ts e → ⊥
+  pub no_expression : Reads (Expression ts) ts (suc levels) 0 200 None → (e : Expr) → IsExpression ts e → ⊥
   no_expression r e is = r.only (length ts) e is.0 (over_stops ts (suc levels)) is.1
 
-  module _ (x : Read) (r : Reads (Whole ts) ts (suc levels) 0 200 (Some x)) where
+  module _ (x : Read) (r : Reads (Expression ts) ts (suc levels) 0 200 (Some x)) where
     -- what was read ends before the list does
     pub no_whole : x.end < length ts → (e : Expr) → IsExpression ts e → ⊥
     no_whole before e is =
@@ -43,7 +28,7 @@ module _ (ts : List Token) where
     the_expression past =
         let within : x.end ≤ length ts = r.found.within in
         let same : x.end ≡ length ts = omega arith in
-        let spelled : Whole ts 0 (length ts) x.tree = rw same at r.found.spelled in
+        let spelled : Expression ts 0 (length ts) x.tree = rw same at r.found.spelled in
         let high : x.height ≡ expr_height x.tree = r.found.high in
         let fits : x.height ≤ 200 = r.found.fits in
         (spelled, omega arith)

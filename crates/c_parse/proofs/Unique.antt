@@ -5,15 +5,16 @@ use Rattle.c_lex.specs.declared.token.Token.{Token}
 use Rattle.c_lex.specs.declared.token.TokenKind.TheVariants.{Word, Mark}
 use Rattle.c_lex.specs.declared.token.Keyword.TheVariants.{Int}
 use Rattle.c_lex.specs.declared.token.Mark.TheVariants.{Semicolon}
-use Rattle.c_parse.specs.declared.read.External.{External}
-use Rattle.c_parse.specs.Grammar.{kind_at}
-use Rattle.c_parse.specs.Statements.{Blocks}
-use Rattle.c_parse.specs.Programs.{Parameters, names_of, Externals, finished, followed, program_of, OneProgram}
-use Rattle.c_parse.proofs.Lookahead.{kind_within}
+use Rattle.c_stmt.specs.declared.tree.External.{External}
+use Rattle.c_expr.specs.Grammar.{kind_at}
+use Rattle.c_stmt.specs.Statements.{CompoundStatement}
+use Rattle.c_stmt.specs.Programs.{Parameters, names_of, Externals, finished, followed}
+use Rattle.c_parse.specs.Programs.{program_of, OneProgram}
+use Rattle.c_expr.proofs.Lookahead.{kind_within}
 use Rattle.c_parse.proofs.Lists.{parts_of, parts_unique}
 use Rattle.c_parse.proofs.Phrases.{the_function, the_prototype, Outer, outer_function, outer_prototype, outer_of, outer_begins, Fellows, fellow_none, fellow_more, fellows_of}
-use Rattle.c_parse.proofs.UniqueExprs.{Same}
-use Rattle.c_parse.proofs.UniqueStatements.{blocks_unique}
+use Rattle.c_expr.proofs.UniqueExprs.{Same}
+use Rattle.c_stmt.proofs.UniqueStatements.{blocks_unique}
 
 -- what stands in the parentheses of a heading is determined by where it begins
 parameters_unique : (ts : List Token) (i j k : ℕ) (ps qs : Option (List (Option ℕ))) → Parameters ts i j ps → Parameters ts i k qs → Same j k ps qs
@@ -25,7 +26,7 @@ outer_unique ts i j k x y (outer_function m ps names body h p n b a) (outer_func
     let first : Same m l ps qs = parameters_unique ts (i + 3) m l ps qs p q in
     let lists : Some names ≡ Some others = sym n ∙ (ap names_of first.1 ∙ o) in
     let same : names ≡ others = cc in
-    let there : Blocks ts m k inner = rw first.0 c in
+    let there : CompoundStatement ts m k inner = rw first.0 c in
     let second : Same j k body inner = blocks_unique ts m j k body inner b there in
     let tree : the_function (i + 1) names body ≡ the_function (i + 1) others inner = rw (same, second.1) refl in
     (second.0, a ∙ (tree ∙ sym d))

@@ -1,6 +1,4 @@
--- What the parser answers: the grammar as relations between spans of tokens and trees, and the three refusals.
-pub mod Grammar
-pub mod Statements
+-- What the parser answers: the program or the precondition that is spelled, or the first refusal that has its cause.
 pub mod Programs
 pub mod Names
 pub mod Answers

@@ -1,15 +1,10 @@
 -- What stands in a tree as a name is the number of a name's token.
-use Rattle.std.specs.Prelude.{◌≡◌, ℕ, Some, List}
+use Rattle.std.specs.Prelude.{List}
 use Rattle.std.specs.List.{All}
 use Rattle.c_lex.specs.declared.token.Token.{Token}
-use Rattle.c_lex.specs.declared.token.TokenKind.TheVariants.{Name}
 use Rattle.c_ast.specs.declared.program.Function.{Function}
 use Rattle.c_ast.specs.Variables.{stmt_variables}
-use Rattle.c_parse.specs.Grammar.{kind_at}
-
--- a name stands at a place of the list
-abbrev pub IsName : List Token → ℕ → Type 0
-IsName ts k = kind_at ts k ≡ Some Name
+use Rattle.c_expr.specs.Names.{IsName}
 
 -- names stand where the function's name, its parameters and the variables of its body say
 pub record IsNamed (ts : List Token) (f : Function) : Type 0 where

@@ -6,12 +6,12 @@ use Rattle.c_ast.specs.Height.{expr_height}
 use Rattle.c_ast.specs.RowForms.{is_row_form}
 use Rattle.c_parse.specs.declared.error.ParseEnd.{ParseEnd}
 use Rattle.c_parse.specs.declared.error.ParseEnd.TheVariants.{Syntax, TooDeep, TooManyParams, NoMemory, NotARowForm}
-use Rattle.c_parse.specs.Grammar.{Whole}
-use Rattle.c_parse.specs.Answers.{too_deep}
+use Rattle.c_expr.specs.Grammar.{Expression}
+use Rattle.c_expr.specs.Depth.{too_deep}
 
 -- the whole list of tokens spells the expression, no higher than 200
 abbrev pub IsExpression : List Token → Expr → Type 0
-IsExpression ts e = Whole ts 0 (length ts) e × (expr_height e ≤ 200)
+IsExpression ts e = Expression ts 0 (length ts) e × (expr_height e ≤ 200)
 
 -- the answer for a list of tokens: the cases exclude each other; want of memory is free, and the place of a syntax error up to the number of tokens
 abbrev pub PreAnswers : List Token → Result Expr ParseEnd → Type 0
@@ -24,4 +24,4 @@ PreAnswers ts (Err (TooManyParams token)) = ⊥
 
 -- a list of tokens spells at most one expression
 abbrev pub OneExpression : Type 0
-OneExpression = (ts : List Token) → (e f : Expr) → Whole ts 0 (length ts) e → Whole ts 0 (length ts) f → e ≡ f
+OneExpression = (ts : List Token) → (e f : Expr) → Expression ts 0 (length ts) e → Expression ts 0 (length ts) f → e ≡ f

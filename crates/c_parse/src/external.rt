@@ -2,16 +2,17 @@
 ghost use Rattle.std.specs.Prelude.{◌≡◌, ◌+◌, ◌≤◌, ◌<◌, ◌^◌, Some, length, IfOk, MatchBool};
 ghost use Rattle.std.specs.Option.{option_map};
 ghost use Rattle.c_ast.specs.Height.{of_option};
-ghost use Rattle.c_parse.specs.Grammar.{kind_at};
-ghost use Rattle.c_parse.specs.Statements.{Blocks};
-ghost use Rattle.c_parse.specs.Programs.{Parameter, Listed, Parameters, IsHeading, IsVoid, all_names, list_height, names_of};
-ghost use Rattle.c_parse.specs.Readers.{Gives, Low, LowExternal};
+ghost use Rattle.c_expr.specs.Grammar.{kind_at};
+ghost use Rattle.c_stmt.specs.Statements.{CompoundStatement};
+ghost use Rattle.c_stmt.specs.Programs.{Parameter, Listed, Parameters, IsHeading, IsVoid, all_names, names_of};
+ghost use Rattle.c_stmt.specs.Heights.{list_height};
+ghost use Rattle.c_expr.specs.Readers.{Gives, Low};
+ghost use Rattle.c_parse.specs.Readers.{LowExternal};
 
-use crate::read::{External, Span};
-use crate::statement::inner;
-use crate::token::{names, says, stands};
 use c_ast::{Function, Prototype, Stmt};
+use c_expr::{Span, names, says, stands};
 use c_lex::{Keyword, Mark, Token, TokenKind};
+use c_stmt::{External, inner};
 use rx_plain::{Items, NoMemory};
 use std::alloc::Global;
 
@@ -229,7 +230,7 @@ fn parameter(tokens: &[Token], at: usize) -> Option<Span<Option<u32>>>
 fn block(alloc: Global, tokens: &[Token], at: usize) -> Result<Option<Span<Items<Stmt>>>, NoMemory>
     requires few { length tokens.now < 2 ^ 32 }
     requires inside { at ≤ length tokens.now }
-    ensures { IfOk result (Gives (Low list_height 200 (Blocks tokens.now at)) at (length tokens.now)) }
+    ensures { IfOk result (Gives (Low list_height 200 (CompoundStatement tokens.now at)) at (length tokens.now)) }
 {
     if !stands(tokens, at, Mark::LeftBrace) {
         return Ok(None);

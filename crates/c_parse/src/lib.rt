@@ -4,18 +4,11 @@
 //! exactly where it has its cause. `parse_pre` does the same for a precondition.
 #![tactic(auto)]
 
-mod declare;
-mod depth;
 mod error;
-mod expr;
 mod external;
-mod head;
-mod parts;
 mod precondition;
 mod program;
 mod read;
-mod statement;
-mod token;
 
 pub use error::ParseEnd;
 pub use precondition::{one_expression, parse_pre};

@@ -4,17 +4,15 @@ ghost use Rattle.std.specs.List.{All};
 ghost use Rattle.c_ast.specs.Forms.{is_sign, is_sum_or_product};
 ghost use Rattle.c_ast.specs.RowForms.{is_comparison, is_row_form, is_straight};
 ghost use Rattle.c_ast.specs.Variables.{variables};
-ghost use Rattle.c_parse.specs.Answers.{too_deep};
-ghost use Rattle.c_parse.specs.Grammar.{Whole, levels};
-ghost use Rattle.c_parse.specs.Names.{IsName};
+ghost use Rattle.c_expr.specs.Depth.{too_deep};
+ghost use Rattle.c_expr.specs.Grammar.{Expression, levels};
+ghost use Rattle.c_expr.specs.Names.{IsName};
 ghost use Rattle.c_parse.specs.Preconditions.{OneExpression, PreAnswers};
-ghost use Rattle.c_parse.specs.Readers.{Reads};
+ghost use Rattle.c_expr.specs.Readers.{Reads};
 
-use crate::depth::too_deep;
 use crate::error::ParseEnd;
-use crate::expr::whole;
-use crate::read::Read;
 use c_ast::{BinOp, Expr, UnOp};
+use c_expr::{Read, too_deep, whole};
 use c_lex::Token;
 use std::alloc::Global;
 
@@ -45,7 +43,7 @@ pub fn parse_pre(alloc: Global, tokens: &[Token]) -> Result<Expr, ParseEnd>
 fn judged(tokens: &[Token], read: Read) -> Result<Expr, ParseEnd>
     requires few { length tokens.now < 2 ^ 32 }
     requires shallow { too_deep 0 0 tokens.now ≡ None }
-    requires read { Reads (Whole tokens.now) tokens.now (suc levels) 0 200 (Some read) }
+    requires read { Reads (Expression tokens.now) tokens.now (suc levels) 0 200 (Some read) }
     ensures answer { PreAnswers tokens.now result }
     ensures named { IfOk result (λ e. All (IsName tokens.now) (variables e)) }
 {

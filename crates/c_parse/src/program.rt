@@ -6,12 +6,13 @@ ghost use Rattle.c_parse.specs.Names.{IsNamed};
 ghost use Rattle.c_parse.specs.Programs.{OneProgram};
 ghost use Rattle.c_parse.specs.Readers.{ReadsAll, added};
 
-use crate::depth::too_deep;
 use crate::error::ParseEnd;
 use crate::external::external;
-use crate::read::{External, ReadProgram};
+use crate::read::ReadProgram;
 use c_ast::{Function, Program, Prototype};
+use c_expr::too_deep;
 use c_lex::Token;
+use c_stmt::External;
 use rx_plain::{Items, NoMemory};
 use std::alloc::Global;
 
@@ -25,6 +26,10 @@ const MAX_PARAMETERS: usize = 16;
 /// at most 200 high; `TooManyParams` at the name of the
 /// first function or prototype with more than 16 parameters. The grammar is
 /// a part of that of ISO/IEC 9899:1999, 6.5, 6.8 and 6.9.1.
+///
+/// The clause `named` speaks of each function's own name, its parameters and the variables of its body. It leaves
+/// out the names of the functions that are called, and those of prototypes; the grammar alone says that these are
+/// names.
 pub fn parse(alloc: Global, tokens: &[Token]) -> Result<Program, ParseEnd>
     requires { length tokens.now < 2 ^ 32 }
     ensures answer { Answers tokens.now result }

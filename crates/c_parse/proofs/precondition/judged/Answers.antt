@@ -1,5 +1,5 @@
 use Rattle.std.proofs.Common.{arith}
-use Rattle.c_parse.proofs.Names.{whole_named}
+use Rattle.c_expr.proofs.NamedVariables.{whole_named}
 use Rattle.c_parse.proofs.PreLemmas.{no_whole}
 use Rattle.c_parse.proofs.precondition.judged.Goals as goal
 

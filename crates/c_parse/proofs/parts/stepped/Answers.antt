@@ -1,7 +1,0 @@
-use Rattle.std.proofs.Common.{refl, arith}
-use Rattle.c_parse.proofs.PartLemmas.{step_reads}
-use Rattle.c_parse.proofs.parts.stepped.Goals as goal
-
-pub returns : goal.returns
-returns c =
-    step_reads c.args.mark c.args.tokens.now c.args.name c.args.at c.args.room c.args.op _ c.if-not-stands.ensures (omega arith) c.in_ok-updating.ensures refl

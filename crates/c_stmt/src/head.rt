@@ -1,0 +1,131 @@
+//! The head of a `for`.
+ghost use Rattle.std.specs.Prelude.{◌≤◌, ◌<◌, ◌^◌, length, IfOk};
+ghost use Rattle.c_ast.specs.Height.{expr_height, stmt_height, of_option};
+ghost use Rattle.c_stmt.specs.Statements.{ForInit, ForTest, ForStep, ForHead};
+ghost use Rattle.c_stmt.specs.Heights.{list_height, head_height};
+ghost use Rattle.c_expr.specs.Readers.{Gives, Low};
+
+use crate::changes::change;
+use crate::declare::declaration;
+use crate::tree::Head;
+use c_ast::{Expr, Stmt};
+use c_expr::{Span, says, stands, up_to};
+use c_lex::{Keyword, Mark, Token};
+use rx_plain::{Boxed, Items, NoMemory};
+use std::alloc::Global;
+
+// What stands before the test, with the semicolon.
+fn start(
+    alloc: Global,
+    tokens: &[Token],
+    at: usize,
+    room: u32,
+) -> Result<Option<Span<Items<Stmt>>>, NoMemory>
+    requires few { length tokens.now < 2 ^ 32 }
+    requires inside { at ≤ length tokens.now }
+    ensures { IfOk result (Gives (Low list_height room (ForInit tokens.now at)) at (length tokens.now)) }
+{
+    if stands(tokens, at, Mark::Semicolon) {
+        return Ok(Some(Span {
+            value: Items::new(alloc),
+            end: at + 1,
+        }));
+    }
+    if says(tokens, at, Keyword::Int) {
+        return declaration(alloc, tokens, at, room);
+    }
+    let Some(read) = change(alloc, tokens, at, room, Mark::Semicolon)? else {
+        return Ok(None);
+    };
+    let mut one = Items::new(alloc);
+    one.push(read.value)?;
+    Ok(Some(Span {
+        value: one,
+        end: read.end,
+    }))
+}
+
+// The test, with the semicolon.
+fn continuing(
+    alloc: Global,
+    tokens: &[Token],
+    at: usize,
+    room: u32,
+) -> Result<Option<Span<Option<Expr>>>, NoMemory>
+    requires few { length tokens.now < 2 ^ 32 }
+    requires inside { at ≤ length tokens.now }
+    ensures { IfOk result (Gives (Low (of_option expr_height) room (ForTest tokens.now at)) at (length tokens.now)) }
+{
+    if stands(tokens, at, Mark::Semicolon) {
+        return Ok(Some(Span {
+            value: None,
+            end: at + 1,
+        }));
+    }
+    let Some(read) = up_to(alloc, tokens, at, room, Mark::Semicolon)? else {
+        return Ok(None);
+    };
+    Ok(Some(Span {
+        value: Some(read.value),
+        end: read.end,
+    }))
+}
+
+// The change behind the test, with the closing parenthesis.
+fn advance(
+    alloc: Global,
+    tokens: &[Token],
+    at: usize,
+    room: u32,
+) -> Result<Option<Span<Option<Boxed<Stmt>>>>, NoMemory>
+    requires few { length tokens.now < 2 ^ 32 }
+    requires inside { at ≤ length tokens.now }
+    ensures { IfOk result (Gives (Low (of_option stmt_height) room (ForStep tokens.now at)) at (length tokens.now)) }
+{
+    if stands(tokens, at, Mark::RightParen) {
+        return Ok(Some(Span {
+            value: None,
+            end: at + 1,
+        }));
+    }
+    let Some(read) = change(alloc, tokens, at, room, Mark::RightParen)? else {
+        return Ok(None);
+    };
+    Ok(Some(Span {
+        value: Some(Boxed::new(alloc, read.value)?),
+        end: read.end,
+    }))
+}
+
+// The head at `at`, no part of it higher than `room`.
+pub fn head(
+    alloc: Global,
+    tokens: &[Token],
+    at: usize,
+    room: u32,
+) -> Result<Option<Span<Head>>, NoMemory>
+    requires few { length tokens.now < 2 ^ 32 }
+    requires inside { at ≤ length tokens.now }
+    ensures { IfOk result (Gives (Low head_height room (ForHead tokens.now at)) at (length tokens.now)) }
+{
+    if !stands(tokens, at, Mark::LeftParen) {
+        return Ok(None);
+    }
+    let Some(first) = start(alloc, tokens, at + 1, room)? else {
+        return Ok(None);
+    };
+    let Some(test) = continuing(alloc, tokens, first.end, room)? else {
+        return Ok(None);
+    };
+    let Some(change) = advance(alloc, tokens, test.end, room)? else {
+        return Ok(None);
+    };
+    Ok(Some(Span {
+        value: Head {
+            first: first.value,
+            test: test.value,
+            change: change.value,
+        },
+        end: change.end,
+    }))
+}
