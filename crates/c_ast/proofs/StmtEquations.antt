@@ -1,4 +1,5 @@
--- The height and the variables of each form of statement, one equation for each, and the heights of lists.
+-- The height and the variables of each form of statement, one equation for each, and the heights of
+-- lists.
 use Rattle.std.proofs.Common.{◌≡◌, ℕ, ◌+◌, ◌≤◌, max, Option, Some, None, List, [], ◌∷◌, ◌++◌, map, refl, ◌∙◌, arith}
 use Rattle.std.specs.List.{concat}
 use Rattle.c_ast.specs.Height.{greatest, of_option, expr_height, stmt_height, stmt_height_level}

@@ -37,7 +37,7 @@ renamed P Q at here bound (Some x) before to from g =
       only = λ j v q. g.only j v (from j v q);
     }
 
--- the same of an answer that may be want of memory
+-- the same of an answer that may be out of memory
 pub renamed_ok : {A E : Type 0} (P Q : ℕ → A → Type 0) (at here bound : ℕ) (r : Result (Option (Span A)) E) → at ≤ here → ((j : ℕ) → (v : A) → P j v → Q j v) → ((j : ℕ) → (v : A) → Q j v → P j v)
     → IfOk r (Gives P here bound) → IfOk r (Gives Q at bound)
 renamed_ok P Q at here bound (Ok r) before to from g = renamed P Q at here bound r before to from g

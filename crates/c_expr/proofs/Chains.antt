@@ -18,7 +18,7 @@ data Turned (ts : List Token) (n i k : ℕ) (e : Expr) : Type 0 where
 turned_of : (ts : List Token) (n i k : ℕ) (e : Expr) → BinaryAt ts (suc n) i k e → Turned ts n i k e
 turned_of ts n i k e (chain _ _ _ j _ a _ l r) = turned j a l r
 
--- how a chain goes on behind an operand
+-- how a chain goes on after an operand
 pub data Going (ts : List Token) (n : ℕ) (a : Expr) (i k : ℕ) (e : Expr) : Type 0 where
   stopped : i ≡ k → a ≡ e → Going ts n a i k e
   went : (j : ℕ) → (op : BinOp) → (b : Expr) → binary_of (kind_at ts i) ≡ Some (infixed n op) → BinaryAt ts n (i + 1) j b
@@ -28,7 +28,7 @@ pub going_of : (ts : List Token) (n : ℕ) (a : Expr) (i k : ℕ) (e : Expr) →
 going_of ts n a i k e (done _ _ _ _) = stopped refl refl
 going_of ts n a i k e (more _ _ _ _ j _ op b _ h l r) = went j op b h l r
 
--- where an operator of the level stands, the level doesn't stop
+-- where an operator of the level is, the level doesn't stop
 pub not_stopped : (ts : List Token) (n i j : ℕ) (op : BinOp) → binary_of (kind_at ts i) ≡ Some (infixed n op) → i ≡ j → Stops ts (suc n) j → ⊥
 not_stopped ts n i j op h same s =
     let here : binary_of (kind_at ts j) ≡ Some (infixed n op) = rw (← same) h in
@@ -43,7 +43,7 @@ operand_lower ts n op a b j k e r =
     (omega arith, omega arith)
 
 module _ (ts : List Token) (n at room : ℕ) where
-  -- behind its first operand a chain can be whatever it can be as a whole
+  -- after its first operand a chain can be whatever it can be as a whole
   begun_only : (x : Read) → Reads (BinaryAt ts n) ts n at room (Some x) → (j : ℕ) (e : Expr) → Turned ts n at j e → Stops ts (suc n) j
       → expr_height e ≤ room → Operands ts n x.tree x.end j e
   begun_only x h j e (turned k a l r) s fits =
@@ -112,7 +112,7 @@ module _ (ts : List Token) (n at room : ℕ) where
       let lower : (1 + expr_height x.tree ≤ expr_height e) × (1 + expr_height b ≤ expr_height e) = operand_lower ts n other x.tree b k j e r in
       h.only k b l (rest_stops ts n (Binary other x.tree b) k j e r s) (omega arith)
 
-  -- where an operator follows and no operand behind it, nothing low enough is spelled
+  -- where an operator follows and no operand after it, nothing low enough is spelled
   pub turning_breaks : (x : Read) (op : BinOp) → Turning ts n at room x → binary_of (kind_at ts x.end) ≡ Some (infixed n op)
       → Reads (BinaryAt ts n) ts n (x.end + 1) (room - 1) None → Reads (BinaryAt ts (suc n)) ts (suc n) at room None
   turning_breaks x op t o h = record {

@@ -30,7 +30,7 @@ module _ (m : TheMark) (ts : List Token) (at room : ℕ) (no_operator : binary_o
         r.only p.middle e p.reads (token_stops ts (suc levels) p.middle (Mark m) p.marked no_operator (λ q. no_choice cc) (λ q. no_call cc)) fits in
         (p.behind ∙ ap (λ k. k + 1) (sym is.0), (is.1, rw is.0 p.marked))
 
-    -- the mark stands behind the expression
+    -- the mark is after the expression
     pub up_to_ends : (y : Span Expr) → kind_at ts x.end ≡ Some (Mark m) → y.value ≡ x.tree → y.end ≡ x.end + 1 → Gives (Low expr_height room (UpTo m ts at)) at (length ts) (Some y)
     up_to_ends y h yv ye =
         let within : x.end < length ts = kind_within ts x.end (Mark m) h in
@@ -42,6 +42,6 @@ module _ (m : TheMark) (ts : List Token) (at room : ℕ) (no_operator : binary_o
           only = λ j e low. let is = up_to_is j e (ended_of m ts at j e low.0) low.1 in (ye ∙ sym is.0, yv ∙ is.1.0);
         }
 
-    -- another token stands there
+    -- another token is there
     pub up_to_misses : (kind_at ts x.end ≡ Some (Mark m) → ⊥) → Gives (Low expr_height room (UpTo m ts at)) at (length ts) None
     up_to_misses h = record { found = tt; only = λ j e low. let is = up_to_is j e (ended_of m ts at j e low.0) low.1 in h is.1.1 }

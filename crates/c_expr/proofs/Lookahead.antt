@@ -13,7 +13,7 @@ use Rattle.c_ast.proofs.Equations.{height-Binary}
 use Rattle.c_expr.specs.Grammar.{kind_at, Operator, infixed, binary_of, unary_of, levels, Operands, done, more}
 use Rattle.c_expr.specs.Readers.{Stops}
 
--- where a token stands, the list goes on
+-- where a token is, the list goes on
 pub kind_within : (ts : List Token) (i : ℕ) (k : TokenKind) → kind_at ts i ≡ Some k → i < length ts
 unfolding kind_at
 kind_within [] i k h = cc
@@ -24,7 +24,7 @@ kind_within (t ∷ ts) (suc i) k h = let below : i < length ts = kind_within ts 
 pub same_level : (n m : ℕ) (op other : BinOp) → Some (infixed n op) ≡ Some (infixed m other) → n ≡ m
 same_level n m op other h = cc
 
--- no operator stands where a token of another kind does
+-- no operator is where a token of another kind is
 not_infixed : (ts : List Token) (i n : ℕ) (op : BinOp) (k : TokenKind) → binary_of (Some k) ≡ None → kind_at ts i ≡ Some k → binary_of (kind_at ts i) ≡ Some (infixed n op) → ⊥
 not_infixed ts i n op k no_operator h g = let contradiction : None ≡ Some (infixed n op) = sym no_operator ∙ (ap binary_of (sym h) ∙ g) in cc
 
@@ -89,29 +89,29 @@ rest_higher ts n a i k e (more _ _ _ _ j _ op b _ h l r) =
     let here : expr_height (Binary op a b) ≡ 1 + max (expr_height a) (expr_height b) = height-Binary op a b in
     omega arith
 
--- where an operator stands, a token stands
+-- where an operator is, a token is
 operator_is_token : (k : Option TokenKind) (o : Operator) → binary_of k ≡ Some o → (t : TokenKind) × (k ≡ Some t)
 operator_is_token None o h = cc
 operator_is_token (Some t) o h = (t, refl)
 
--- where an operator stands, the list goes on
+-- where an operator is, the list goes on
 pub operator_within : (ts : List Token) (i n : ℕ) (op : BinOp) → binary_of (kind_at ts i) ≡ Some (infixed n op) → i < length ts
 operator_within ts i n op h =
     let stands : (t : TokenKind) × (kind_at ts i ≡ Some t) = operator_is_token (kind_at ts i) (infixed n op) h in
     kind_within ts i stands.0 stands.1
 
--- where an operator before an operand stands, a token stands
+-- where an operator before an operand is, a token is
 sign_is_token : (k : Option TokenKind) (op : UnOp) → unary_of k ≡ Some op → (t : TokenKind) × (k ≡ Some t)
 sign_is_token None op h = cc
 sign_is_token (Some t) op h = (t, refl)
 
--- where an operator before an operand stands, the list goes on
+-- where an operator before an operand is, the list goes on
 pub sign_within : (ts : List Token) (i : ℕ) (op : UnOp) → unary_of (kind_at ts i) ≡ Some op → i < length ts
 sign_within ts i op h =
     let stands : (t : TokenKind) × (kind_at ts i ≡ Some t) = sign_is_token (kind_at ts i) op h in
     kind_within ts i stands.0 stands.1
 
--- behind the end of the list no token stands
+-- after the end of the list there is no token
 nothing_over : (ts : List Token) → kind_at ts (length ts) ≡ None
 unfolding kind_at
 nothing_over [] = refl

@@ -12,7 +12,7 @@ use Rattle.c_expr.specs.Grammar.{levels, Expression, plain, choice, BinaryAt, si
 use Rattle.c_expr.specs.Names.{IsName}
 use Rattle.c_expr.proofs.Lookahead.{kind_within}
 
--- what holds of the first and of each behind it
+-- what holds of the first and of each after it
 pub all_cons : {A : Type 0} (P : A → Type 0) (x : A) (xs : List A) → P x → All P xs → All P (x ∷ xs)
 all_cons P x xs h t = All-append P (x ∷ []) xs (All-push P [] x (λ k d h. absurd (omega arith)) h) t
 
@@ -57,6 +57,6 @@ mutual
   following_named ts i j es (next_argument _ _ k _ e rest h w f) =
       All-append (IsName ts) (variables e) (concat (map variables rest)) (whole_named ts (i + 1) k e w) (following_named ts k j rest f)
 
--- a name that stands in a tree is the number of one of the tokens
+-- a name in a tree is the number of one of the tokens
 pub named_below : (ts : List Token) (k : ℕ) → IsName ts k → k < length ts
 named_below ts k h = kind_within ts k Name h

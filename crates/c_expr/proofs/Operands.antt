@@ -1,4 +1,5 @@
--- Operands: a literal, a name, a call, or an expression in parentheses, with the operators before it.
+-- Operands: a literal, a name, a call, or an expression in parentheses, with the operators before
+-- it.
 use Rattle.std.proofs.Common.{◌≡◌, ℕ, ℤ, zero, suc, ◌+◌, ◌-◌, ◌≤◌, ◌<◌, Option, Some, None, Result, Ok, Err, IfOk, List, length, map, refl, sym, ◌∙◌, ap, arith}
 use Rattle.c_lex.specs.declared.token.Token.{Token}
 use Rattle.c_lex.specs.declared.token.TokenKind.TheVariants.{Name, Number, Mark}
@@ -63,7 +64,7 @@ module _ (ts : List Token) (at room : ℕ) where
   unsigned_only r h p j e (prefix_none q) s fits = p.only j e q s fits
   unsigned_only r h p j e (prefix_some op a g q same) s fits = let contradiction : None ≡ Some op = sym h ∙ g in absurd cc
 
-  -- where no operator stands before it, an operand is what it is alone
+  -- where no operator is before it, an operand is what it is alone
   pub reads_unsigned : (r : Option Read) → unary_of (kind_at ts at) ≡ None → Reads (PrimaryExpression ts) ts zero at room r → Reads (BinaryAt ts zero) ts zero at room r
   reads_unsigned r h p = record {
     found = unsigned_found r p.found;
@@ -268,7 +269,7 @@ module _ (ts : List Token) (at room : ℕ) where
       → Reads (PrimaryExpression ts) ts zero at room None
   reads_open x h r unclosed = record { found = tt; only = λ j e p s fits. open_only x h r unclosed j e (leaf_of ts at j e p) fits }
 
--- the same of a reader's answer, in which want of memory is free
+-- the same of a reader's answer, in which out of memory is free
 pub answers_unsigned : {E : Type 0} (ts : List Token) (at room : ℕ) (r : Result (Option Read) E) → unary_of (kind_at ts at) ≡ None
     → IfOk r (Reads (PrimaryExpression ts) ts zero at room) → IfOk r (Reads (BinaryAt ts zero) ts zero at room)
 answers_unsigned ts at room (Ok x) h p = reads_unsigned ts at room x h p

@@ -1,5 +1,6 @@
 -- The arguments of a call, while they are read.
 use Rattle.std.proofs.Common.{◌≡◌, ℕ, suc, ◌+◌, ◌≤◌, ◌<◌, max, Some, None, List, [], ◌∷◌, ◌++◌, length, map, append_assoc, refl, sym, ◌∙◌, ap, arith}
+use Rattle.std.proofs.lemmas.List.{append-nil}
 use Rattle.c_lex.specs.declared.token.Token.{Token}
 use Rattle.c_lex.specs.declared.token.TokenKind.TheVariants.{Mark}
 use Rattle.c_lex.specs.declared.token.Mark.{Mark as TheMark}
@@ -12,11 +13,6 @@ use Rattle.c_expr.specs.declared.read.ReadArguments.{ReadArguments}
 use Rattle.c_expr.specs.Grammar.{kind_at, unary_of, levels, Expression, plain, choice, BinaryAt, signed, chain, UnaryExpression, unsigned, prefixed, PrimaryExpression, number, name, call, parens, Arguments, no_arguments, arguments, Following, last_argument, next_argument}
 use Rattle.c_expr.specs.Readers.{Stops, Reads, IsReadList, ReadsList, Passing}
 use Rattle.c_expr.proofs.Lookahead.{kind_within, paren_stops, comma_stops}
-
--- a list with nothing behind it
-append_nothing : {A : Type 0} (xs : List A) → xs ++ [] ≡ xs
-append_nothing [] = refl
-append_nothing (x ∷ xs) = ap (λ ys. x ∷ ys) (append_nothing xs)
 
 -- the greatest height of two lists in a row
 greatest_append : (xs ys : List Expr) → greatest (map expr_height (xs ++ ys)) ≡ max (greatest (map expr_height xs)) (greatest (map expr_height ys))
@@ -58,7 +54,7 @@ pub given_of : (ts : List Token) (i j : ℕ) (es : List Expr) → Arguments ts i
 given_of ts i j es (no_arguments _ _ h) = given_none h refl refl
 given_of ts i j es (arguments _ _ k _ e rest w f) = given_some k e rest w f refl
 
--- what the arguments behind the first can be
+-- what the arguments after the first can be
 pub data Gone (ts : List Token) (i j : ℕ) (es : List Expr) : Type 0 where
   gone_last : kind_at ts i ≡ Some (Mark RightParen) → j ≡ i + 1 → es ≡ [] → Gone ts i j es
   gone_next : (k : ℕ) → (e : Expr) → (rest : List Expr) → kind_at ts i ≡ Some (Mark Comma) → Expression ts (i + 1) k e → Following ts k j rest → es ≡ e ∷ rest → Gone ts i j es
@@ -75,13 +71,13 @@ following_stops ts n i j es (gone_next k e rest h w f q) = comma_stops ts n i h
 pub argument_stops : (ts : List Token) (n i j : ℕ) (es : List Expr) → Following ts i j es → Stops ts n i
 argument_stops ts n i j es f = following_stops ts n i j es (gone_of ts i j es f)
 
--- the first argument and those behind it are no higher than all
+-- the first argument and those after it are no higher than all
 first_fits : (e : Expr) (rest all : List Expr) (room : ℕ) → all ≡ e ∷ rest → greatest (map expr_height all) ≤ room → (expr_height e ≤ room) × (greatest (map expr_height rest) ≤ room)
 first_fits e rest all room same fits =
     let parts : greatest (map expr_height all) ≡ max (expr_height e) (greatest (map expr_height rest)) = ap (λ xs. greatest (map expr_height xs)) same in
     (omega arith, omega arith)
 
--- those behind the ones that were found are no higher than all
+-- those after the ones that were found are no higher than all
 rest_fits : (found rest all : List Expr) (room : ℕ) → all ≡ found ++ rest → greatest (map expr_height all) ≤ room → greatest (map expr_height rest) ≤ room
 rest_fits found rest all room same fits =
     let parts : greatest (map expr_height all) ≡ greatest (map expr_height (found ++ rest)) = ap (λ xs. greatest (map expr_height xs)) same in
@@ -186,7 +182,7 @@ module _ (ts : List Token) (at room : ℕ) where
   broken_only end h r j es fits (gone_last g p q) = cc
   broken_only end h r j es fits (gone_next k e rest g w f q) = r.only k e w (argument_stops ts (suc levels) k j rest f) (first_fits e rest es room q fits).0
 
-  -- a comma without an argument behind it
+  -- a comma without an argument after it
   pub passing_breaks : (found : List Expr) (end height : ℕ) → Passing ts at room found end height → kind_at ts end ≡ Some (Mark Comma)
       → Reads (Expression ts) ts (suc levels) (end + 1) room None → ReadsList ts at room None
   passing_breaks found end height l h r = record {
@@ -198,7 +194,7 @@ module _ (ts : List Token) (at room : ℕ) where
 
   closed_only : (found : List Expr) (end : ℕ) (x : ReadArguments) → kind_at ts end ≡ Some (Mark RightParen) → x.arguments ≡ found → x.end ≡ end + 1
       → (j : ℕ) (all es : List Expr) → all ≡ found ++ es → Gone ts end j es → IsReadList (Some x) j all
-  closed_only found end x h xa xe j all es same (gone_last g p q) = (xe ∙ sym p, xa ∙ sym (same ∙ (ap (λ xs. found ++ xs) q ∙ append_nothing found)))
+  closed_only found end x h xa xe j all es same (gone_last g p q) = (xe ∙ sym p, xa ∙ sym (same ∙ (ap (λ xs. found ++ xs) q ∙ append-nil found)))
   closed_only found end x h xa xe j all es same (gone_next k e rest g w f q) = cc
 
   -- the closing parenthesis
@@ -213,7 +209,7 @@ module _ (ts : List Token) (at room : ℕ) where
       let spelled : Arguments ts at (end + 1) (found ++ []) = l.forward (end + 1) [] (last_argument ts end h) in
       record {
         found = record {
-          spelled = rw (xe, xa) (rw append_nothing at spelled);
+          spelled = rw (xe, xa) (rw append-nil at spelled);
           high = omega arith;
           fits = omega arith;
           further = omega arith;

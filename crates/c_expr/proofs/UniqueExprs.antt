@@ -28,7 +28,7 @@ record Halves (ts : List Token) (n i k : ℕ) (e : Expr) : Type 0 where
 halves_of : (ts : List Token) (n i k : ℕ) (e : Expr) → BinaryAt ts (suc n) i k e → Halves ts n i k e
 halves_of ts n i k e (chain _ _ _ j _ a _ l r) = record { middle = j; first = a; left = l; right = r }
 
--- where no operator goes on, a question mark doesn't stand
+-- where no operator goes on, there is no question mark
 unasked : (ts : List Token) (i j : ℕ) → i ≡ j → kind_at ts i ≡ Some (Mark Question) → Stops ts (suc levels) j → ⊥
 unasked ts i j same h s =
     let there : kind_at ts j ≡ Some (Mark Question) = rw same at h in
@@ -39,7 +39,7 @@ unsignable : (ts : List Token) (i j : ℕ) (op : UnOp) (e : Expr) → unary_of (
 unsignable ts i j op e h l = let contradiction : None ≡ Some op = sym (no_sign ts i j e l) ∙ h in cc
 
 mutual
-  -- an expression and its end are determined by where it begins, if nothing goes on behind it
+  -- an expression and its end are determined by where it begins, if nothing goes on after it
   pub whole_unique : (ts : List Token) (i j k : ℕ) (e f : Expr) → Expression ts i j e → Chosen ts i k f → Stops ts (suc levels) j → Stops ts (suc levels) k → Same j k e f
   whole_unique ts i j k e f (plain _ _ _ _ l) (chosen_plain m) s t = level_unique ts levels i j k e f l m (fewer_stop ts levels j s) (fewer_stop ts levels k t)
   whole_unique ts i j k e f (plain _ _ _ _ l) (chosen_choice g h c a b m q w p u same) s t =

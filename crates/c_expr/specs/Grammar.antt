@@ -7,7 +7,8 @@
 --     unary   = ("+"|"-"|"!") unary | primary
 --     primary = NUMBER | NAME | NAME "(" [ expr { "," expr } ] ")" | "(" expr ")"
 --
--- A repeated operator associates to the left, parentheses leave no trace, and a name is the number of its token.
+-- A repeated operator associates to the left, parentheses leave no trace, and a name is the number
+-- of its token.
 use Rattle.std.specs.Prelude.{◌≡◌, ℕ, zero, suc, ◌+◌, ℤ, Option, Some, None, List, [], ◌∷◌}
 use Rattle.std.specs.List.{slice_get}
 use Rattle.std.specs.Option.{option_map}
@@ -23,7 +24,7 @@ use Rattle.c_ast.specs.declared.expr.BinOp.TheVariants as binary
 use Rattle.c_ast.specs.declared.expr.Expr.{Expr}
 use Rattle.c_ast.specs.declared.expr.Expr.TheVariants.{Lit, Var, Unary, Binary, Choose, Apply}
 
--- what stands at a place of the list, if there is a token
+-- the kind of the token at a place of the list, if there is one
 unfoldable pub kind_at : List Token → ℕ → Option TokenKind
 kind_at ts i = option_map (λ (t : Token). t.kind) (slice_get ts i)
 
@@ -72,7 +73,7 @@ mutual
     signed : (ts : List Token) → (i j : ℕ) → (e : Expr) → UnaryExpression ts i j e → BinaryAt ts zero i j e
     chain : (ts : List Token) → (n i j k : ℕ) → (a e : Expr) → BinaryAt ts n i j a → Operands ts n a j k e → BinaryAt ts (suc n) i k e
 
-  -- the operators of one level and their right operands, behind an operand that has been spelled
+  -- the operators of one level and their right operands, after an operand that has been spelled
   pub data Operands : List Token → ℕ → Expr → ℕ → ℕ → Expr → Type 0 where
     done : (ts : List Token) → (n : ℕ) → (a : Expr) → (i : ℕ) → Operands ts n a i i a
     more : (ts : List Token) → (n : ℕ) → (a : Expr) → (i j k : ℕ) → (op : BinOp) → (b e : Expr)
@@ -92,18 +93,18 @@ mutual
     parens : (ts : List Token) → (i j : ℕ) → (e : Expr)
         → kind_at ts i ≡ Some (Mark mark.LeftParen) → Expression ts (i + 1) j e → kind_at ts j ≡ Some (Mark mark.RightParen) → PrimaryExpression ts i (j + 1) e
 
-  -- the arguments of a call, from behind its opening parenthesis up to and with the closing one
+  -- the arguments of a call, from after its opening parenthesis up to and with the closing one
   pub data Arguments : List Token → ℕ → ℕ → List Expr → Type 0 where
     no_arguments : (ts : List Token) → (i : ℕ) → kind_at ts i ≡ Some (Mark mark.RightParen) → Arguments ts i (i + 1) []
     arguments : (ts : List Token) → (i j k : ℕ) → (e : Expr) → (es : List Expr) → Expression ts i j e → Following ts j k es → Arguments ts i k (e ∷ es)
 
-  -- the arguments behind the first, up to and with the closing parenthesis
+  -- the arguments after the first, up to and with the closing parenthesis
   pub data Following : List Token → ℕ → ℕ → List Expr → Type 0 where
     last_argument : (ts : List Token) → (i : ℕ) → kind_at ts i ≡ Some (Mark mark.RightParen) → Following ts i (i + 1) []
     next_argument : (ts : List Token) → (i j k : ℕ) → (e : Expr) → (es : List Expr)
         → kind_at ts i ≡ Some (Mark mark.Comma) → Expression ts (i + 1) j e → Following ts j k es → Following ts i k (e ∷ es)
 
--- an expression, up to and with the mark behind it
+-- an expression, up to and with the mark after it
 pub data UpTo : TheMark → List Token → ℕ → ℕ → Expr → Type 0 where
   ended : (m : TheMark) → (ts : List Token) → (i j : ℕ) → (e : Expr) → Expression ts i j e → kind_at ts j ≡ Some (Mark m) → UpTo m ts i (j + 1) e
 

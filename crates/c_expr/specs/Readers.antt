@@ -1,5 +1,5 @@
--- What a reader of one phrase promises: what it found is spelled from its place on, and whatever else is spelled there, ends where no
--- operator goes on and is low enough, is what it found.
+-- What a reader of one phrase promises: what it found is spelled from its place on, and whatever
+-- else is spelled there, ends where no operator goes on and is low enough, is what it found.
 use Rattle.std.specs.Prelude.{◌≡◌, ℕ, suc, ◌≤◌, ◌<◌, Option, Some, None, List, ◌++◌, length, map}
 use Rattle.c_lex.specs.declared.token.Token.{Token}
 use Rattle.c_lex.specs.declared.token.TokenKind.TheVariants.{Mark}
@@ -12,7 +12,8 @@ use Rattle.c_expr.specs.declared.read.Span.{Span}
 use Rattle.c_expr.specs.declared.read.ReadArguments.{ReadArguments}
 use Rattle.c_expr.specs.Grammar.{kind_at, infixed, binary_of, levels, BinaryAt, Operands, Arguments, Following}
 
--- the token at a place goes on with no expression of the lowest n levels; beyond all levels of operators comes `?`
+-- the token at a place goes on with no expression of the lowest n levels; beyond all levels of
+-- operators comes `?`
 pub record Stops (ts : List Token) (n i : ℕ) : Type 0 where
   pub operator : (m : ℕ) → (op : BinOp) → binary_of (kind_at ts i) ≡ Some (infixed m op) → n ≤ m
   pub choice : kind_at ts i ≡ Some (Mark Question) → n ≤ levels
@@ -36,12 +37,14 @@ abbrev pub IsRead : Option Read → ℕ → Expr → Type 0
 IsRead None j e = ⊥
 IsRead (Some x) j e = (x.end ≡ j) × (x.tree ≡ e)
 
--- a reader's answer: `found` and `only`, for trees no higher than `room` and places at which the lowest n levels stop
+-- a reader's answer: `found` and `only`, for trees no higher than `room` and places at which the
+-- lowest n levels stop
 pub record Reads (Spells : ℕ → ℕ → Expr → Type 0) (ts : List Token) (n at room : ℕ) (r : Option Read) : Type 0 where
   pub found : Found Spells ts at room r
   pub only : (j : ℕ) → (e : Expr) → Spells at j e → Stops ts n j → expr_height e ≤ room → IsRead r j e
 
--- a chain of operators of level n while it is read: the tree up to `end` goes on to whatever the whole can be
+-- a chain of operators of level n while it is read: the tree up to `end` goes on to whatever the
+-- whole can be
 pub record Turning (ts : List Token) (n at room : ℕ) (x : Read) : Type 0 where
   pub forward : (j : ℕ) → (e : Expr) → Operands ts n x.tree x.end j e → BinaryAt ts (suc n) at j e
   pub only : (j : ℕ) → (e : Expr) → BinaryAt ts (suc n) at j e → Stops ts (suc n) j → expr_height e ≤ room → Operands ts n x.tree x.end j e
@@ -50,7 +53,8 @@ pub record Turning (ts : List Token) (n at room : ℕ) (x : Read) : Type 0 where
   pub further : at < x.end
   pub within : x.end ≤ length ts
 
--- arguments that were read are spelled, the highest of them is as high as was counted, and they take at least one token
+-- arguments that were read are spelled, the highest of them is as high as was counted, and they
+-- take at least one token
 pub record IsFoundList (ts : List Token) (at room : ℕ) (x : ReadArguments) : Type 0 where
   pub spelled : Arguments ts at x.end x.arguments
   pub high : x.height ≡ greatest (map expr_height x.arguments)
@@ -73,7 +77,7 @@ pub record ReadsList (ts : List Token) (at room : ℕ) (r : Option ReadArguments
   pub found : FoundList ts at room r
   pub only : (j : ℕ) → (es : List Expr) → Arguments ts at j es → greatest (map expr_height es) ≤ room → IsReadList r j es
 
--- arguments while they are read, behind the first: those found go on to whatever the whole can be
+-- arguments while they are read, after the first: those found go on to whatever the whole can be
 pub record Passing (ts : List Token) (at room : ℕ) (found : List Expr) (end height : ℕ) : Type 0 where
   pub forward : (j : ℕ) → (es : List Expr) → Following ts end j es → Arguments ts at j (found ++ es)
   pub only : (j : ℕ) → (all : List Expr) → Arguments ts at j all → greatest (map expr_height all) ≤ room

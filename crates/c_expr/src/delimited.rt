@@ -12,7 +12,7 @@ use c_lex::{Mark, Token, TokenKind};
 use rx_plain::NoMemory;
 use std::alloc::Global;
 
-// The expression at `at` that is no higher than `room`, up to and with the mark behind it.
+// The expression at `at` that is no higher than `room`, up to and with the mark after it.
 pub fn up_to(
     alloc: Global,
     tokens: &[Token],

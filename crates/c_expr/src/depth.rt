@@ -22,7 +22,7 @@ pub fn too_deep(tokens: &[Token]) -> Option<u32>
     None
 }
 
-// How many brackets are open behind a token, of those that are open before it.
+// How many brackets are open after a token, of those that are open before it.
 fn open_behind(count: u32, kind: TokenKind) -> u32
     requires { count ≤ 200 }
     ensures { result ≡ open_behind count kind }

@@ -1,7 +1,8 @@
 //! Expressions, by one reader for each line of their grammar.
 //!
-//! A reader answers nothing where no tree that is low enough is spelled. The readers call each other with less room
-//! or behind a bracket, so that no text makes them nest deeper than those limits allow.
+//! A reader answers nothing where no tree that is low enough is spelled. The readers call each
+//! other with less room or after a bracket, so that no text makes them nest deeper than those
+//! limits allow.
 ghost use Rattle.std.specs.Prelude.{◌≡◌, ◌+◌, ◌-◌, ◌≤◌, ◌<◌, ◌^◌, suc, length, max, IfOk};
 ghost use Rattle.c_ast.specs.declared.expr.Expr.TheVariants.{Unary, Binary, Choose};
 ghost use Rattle.c_expr.specs.Grammar.{Expression, BinaryAt, PrimaryExpression, levels};
@@ -227,7 +228,8 @@ fn primary(alloc: Global, tokens: &[Token], at: usize, room: u32) -> Result<Opti
     }
 }
 
-// The arguments behind the opening parenthesis, none higher than `room`, up to and with the closing one.
+// The arguments after the opening parenthesis, none higher than `room`, up to and with the closing
+// one.
 #[cycle(expr)]
 fn arguments(
     alloc: Global,

@@ -1,7 +1,7 @@
 //! Reading expressions: the tokens at a place, and the tree of the expression that begins there.
 //!
-//! Each reader answers the one phrase that the tokens spell from its place on within its room, or nothing.
-//! It stops where no operator goes on, so that what it read is all that can be read there.
+//! Each reader answers the one phrase that the tokens spell from its place on within its room, or
+//! nothing. It stops where no operator goes on, so that what it read is all that can be read there.
 #![tactic(auto)]
 
 mod delimited;

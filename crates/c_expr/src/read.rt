@@ -1,4 +1,4 @@
-//! What a reader found, and the place behind it.
+//! What a reader found, and the place after it.
 use c_ast::Expr;
 use rx_plain::Items;
 

@@ -1,4 +1,4 @@
-//! What stands at a place of the list of tokens. There is nothing behind its end.
+//! What is at a place of the list of tokens. After its end there is nothing.
 ghost use Rattle.std.specs.Prelude.{◌≡◌, Some, None, MatchBool, MatchOption};
 ghost use Rattle.c_ast.specs.declared.expr.BinOp.{BinOp};
 ghost use Rattle.c_expr.specs.Grammar.{kind_at, infixed, binary_of, unary_of};
@@ -17,7 +17,7 @@ pub fn kind_at(tokens: &[Token], at: usize) -> Option<TokenKind>
     }
 }
 
-// Whether the mark stands at `at`.
+// Whether the mark is at `at`.
 pub fn stands(tokens: &[Token], at: usize, mark: Mark) -> bool
     ensures { MatchBool result (kind_at tokens.now at ≡ Some (TokenKind.Mark mark)) (kind_at tokens.now at ≡ Some (TokenKind.Mark mark) → ⊥) }
 {
@@ -27,7 +27,7 @@ pub fn stands(tokens: &[Token], at: usize, mark: Mark) -> bool
     }
 }
 
-// Whether the keyword stands at `at`.
+// Whether the keyword is at `at`.
 pub fn says(tokens: &[Token], at: usize, word: Keyword) -> bool
     ensures { MatchBool result (kind_at tokens.now at ≡ Some (TokenKind.Word word)) (kind_at tokens.now at ≡ Some (TokenKind.Word word) → ⊥) }
 {
@@ -37,7 +37,7 @@ pub fn says(tokens: &[Token], at: usize, word: Keyword) -> bool
     }
 }
 
-// Whether a name stands at `at`.
+// Whether a name is at `at`.
 pub fn names(tokens: &[Token], at: usize) -> bool
     ensures { MatchBool result (kind_at tokens.now at ≡ Some TokenKind.Name) (kind_at tokens.now at ≡ Some TokenKind.Name → ⊥) }
 {
@@ -47,7 +47,7 @@ pub fn names(tokens: &[Token], at: usize) -> bool
     }
 }
 
-// The operator of that level at `at`, if one stands there.
+// The operator of that level at `at`, if one is there.
 pub fn operator_at(tokens: &[Token], at: usize, level: u32) -> Option<BinOp>
     ensures { MatchOption result
         ((op : BinOp) → binary_of (kind_at tokens.now at) ≡ Some (infixed level op) → ⊥)
@@ -83,7 +83,7 @@ fn operator_of(mark: Mark, level: u32) -> Option<BinOp>
     }
 }
 
-// The operator before an operand at `at`, if one stands there.
+// The operator before an operand at `at`, if one is there.
 pub fn sign_at(tokens: &[Token], at: usize) -> Option<UnOp>
     ensures { result ≡ unary_of (kind_at tokens.now at) }
 {

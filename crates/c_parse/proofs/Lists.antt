@@ -170,7 +170,7 @@ module _ (ts : List Token) (at : ℕ) (found : List (Option ℕ)) (end : ℕ) (l
     pub listing_breaks : (kind_at ts x.end ≡ Some (Mark RightParen) → ⊥) → (kind_at ts x.end ≡ Some (Mark Comma) → ⊥) → Gives (Listed ts at) at (length ts) None
     listing_breaks a b = record { found = tt; only = λ k all p. let go = l.only k all p in broken_only a b k go.0 (enlisted_of ts end k go.0 go.1.1) }
 
--- what can stand in the parentheses
+-- what the parentheses of a heading can hold
 pub data Parts (ts : List Token) (i j : ℕ) (ps : Option (List (Option ℕ))) : Type 0 where
   part_unsaid : kind_at ts i ≡ Some (Mark RightParen) → j ≡ i + 1 → ps ≡ None → Parts ts i j ps
   part_void : IsVoid ts i → j ≡ i + 2 → ps ≡ Some [] → Parts ts i j ps
@@ -187,7 +187,7 @@ parameters_short ts i j ps (unsaid _ _ h) = omega arith
 parameters_short ts i j ps (void _ _ h) = omega arith
 parameters_short ts i j ps (listed _ _ k os r) = let short : i + length os ≤ k = listed_short ts i k os r in omega arith
 
--- what stands in the parentheses is determined by where it begins
+-- what is in the parentheses is determined by where it begins
 pub parts_unique : (ts : List Token) (i j k : ℕ) (ps qs : Option (List (Option ℕ))) → Parts ts i j ps → Parts ts i k qs → Same j k ps qs
 parts_unique ts i j k ps qs (part_unsaid h p q) (part_unsaid g a b) = (p ∙ sym a, q ∙ sym b)
 parts_unique ts i j k ps qs (part_unsaid h p q) (part_void g a b) = let there = g.0 in absurd cc

@@ -1,7 +1,7 @@
 -- Functions and prototypes, and the program that they are, while they are read.
 use Rattle.std.proofs.Common.{◌≡◌, ℕ, ◌+◌, ◌≤◌, ◌<◌, Option, Some, None, List, [], ◌∷◌, ◌++◌, length, append_assoc, refl, sym, ◌∙◌, ap, arith}
 use Rattle.std.specs.List.{All}
-use Rattle.std.proofs.lemmas.List.{length-append}
+use Rattle.std.proofs.lemmas.List.{append-nil, length-append}
 use Rattle.std.specs.Option.{option_map}
 use Rattle.std.proofs.lemmas.List.Elements.{All-head, All-tail, All-push}
 use Rattle.c_lex.specs.declared.token.Token.{Token}
@@ -156,11 +156,6 @@ pub fellows_of : (ts : List Token) (i j : ℕ) (xs : List External) → External
 fellows_of ts i j xs (finished _ _) = fellow_none refl refl
 fellows_of ts i j xs (followed _ _ k _ x rest d r) = fellow_more k x rest d r refl
 
--- a list with nothing behind it
-append_nothing : {A : Type 0} (xs : List A) → xs ++ [] ≡ xs
-append_nothing [] = refl
-append_nothing (x ∷ xs) = ap (λ ys. x ∷ ys) (append_nothing xs)
-
 -- the functions of a list with one more
 functions_push : (xs : List External) (f : Function) → functions_of (xs ++ Defined f ∷ []) ≡ functions_of xs ++ f ∷ []
 functions_push [] f = refl
@@ -230,7 +225,7 @@ module _ (ts : List Token) where
       let both : All IsLow (y ∷ rest) = rw q at low in
       g.only k y (d, All-head IsLow y rest both)
 
-  -- a place at which neither stands
+  -- a place at which neither is
   pub collecting_stops : (p : Program) (at : ℕ) → Collecting ts p at → at < length ts → Gives (LowExternal ts at) at (length ts) None → ReadsAll ts (Stopped at)
   collecting_stops p at c within g =
       (λ q s. let go = c.only s.externals s.spelled s.low in unread at within g go.0 go.1.1.1 (fellows_of ts at (length ts) go.0 go.1.1.0), omega arith)
@@ -243,4 +238,4 @@ module _ (ts : List Token) where
       let nothing : Externals ts at (length ts) [] = rw same (finished ts (length ts)) in
       let spelled : Externals ts 0 (length ts) (c.found ++ []) = c.forward [] nothing in
       let before : length p.functions ≤ at = c.few in
-      (record { externals = c.found; spelled = rw append_nothing at spelled; low = c.low; is = c.is }, omega arith)
+      (record { externals = c.found; spelled = rw append-nil at spelled; low = c.low; is = c.is }, omega arith)

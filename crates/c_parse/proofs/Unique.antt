@@ -16,7 +16,7 @@ use Rattle.c_parse.proofs.Phrases.{the_function, the_prototype, Outer, outer_fun
 use Rattle.c_expr.proofs.UniqueExprs.{Same}
 use Rattle.c_stmt.proofs.UniqueStatements.{blocks_unique}
 
--- what stands in the parentheses of a heading is determined by where it begins
+-- what is in the parentheses of a heading is determined by where it begins
 parameters_unique : (ts : List Token) (i j k : ℕ) (ps qs : Option (List (Option ℕ))) → Parameters ts i j ps → Parameters ts i k qs → Same j k ps qs
 parameters_unique ts i j k ps qs p q = parts_unique ts i j k ps qs (parts_of ts i j ps p) (parts_of ts i k qs q)
 

@@ -1,4 +1,5 @@
--- What `parse` answers: the program that is spelled, or the first of the refusals that has its cause.
+-- What `parse` answers: the program that is spelled, or the first of the refusals that has its
+-- cause.
 use Rattle.std.specs.Prelude.{◌≡◌, Bool, false, min, ℕ, ◌≤◌, Option, Some, None, List, [], ◌∷◌, length, nat_lt, if◌then◌else◌, Result, Ok, Err}
 use Rattle.c_lex.specs.declared.token.Token.{Token}
 use Rattle.c_ast.specs.declared.program.Function.{Function}
@@ -24,17 +25,19 @@ abbrev pub long_prototype : List Prototype → Option ℕ
 long_prototype [] = None
 long_prototype (p ∷ ps) = if is_long p.params then Some p.name else long_prototype ps
 
--- the one of two tokens that stands first in the text
+-- the one of two tokens that comes first in the text
 abbrev pub earlier : Option ℕ → Option ℕ → Option ℕ
 earlier None y = y
 earlier (Some x) None = Some x
 earlier (Some x) (Some y) = Some (min x y)
 
--- the name of the first function or prototype in the text with more than 16 parameters, if there is one
+-- the name of the first function or prototype in the text with more than 16 parameters, if there is
+-- one
 abbrev pub too_many : Program → Option ℕ
 too_many p = earlier (long_function p.functions) (long_prototype p.prototypes)
 
--- the answer for a list of tokens: the cases exclude each other; want of memory is free, and the place of a syntax error up to the number of tokens
+-- the answer for a list of tokens: the cases exclude each other; out of memory is free, and the
+-- place of a syntax error up to the number of tokens
 abbrev pub Answers : List Token → Result Program ParseEnd → Type 0
 Answers ts (Ok p) = (too_deep 0 0 ts ≡ None) × Spells ts p × (too_many p ≡ None)
 Answers ts (Err (TooDeep token)) = too_deep 0 0 ts ≡ Some token

@@ -1,4 +1,5 @@
--- What the parser answers: the program or the precondition that is spelled, or the first refusal that has its cause.
+-- What the parser answers: the program or the precondition that is spelled, or the first refusal
+-- that has its cause.
 pub mod Programs
 pub mod Names
 pub mod Answers

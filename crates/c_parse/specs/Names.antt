@@ -1,4 +1,4 @@
--- What stands in a tree as a name is the number of a name's token.
+-- The names in a tree are the numbers of tokens that are names.
 use Rattle.std.specs.Prelude.{List}
 use Rattle.std.specs.List.{All}
 use Rattle.c_lex.specs.declared.token.Token.{Token}
@@ -6,7 +6,7 @@ use Rattle.c_ast.specs.declared.program.Function.{Function}
 use Rattle.c_ast.specs.Variables.{stmt_variables}
 use Rattle.c_expr.specs.Names.{IsName}
 
--- names stand where the function's name, its parameters and the variables of its body say
+-- the name of the function, its parameters and the variables of its body are places of names
 pub record IsNamed (ts : List Token) (f : Function) : Type 0 where
   pub name : IsName ts f.name
   pub params : All (IsName ts) f.params

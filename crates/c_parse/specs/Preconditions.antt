@@ -13,7 +13,8 @@ use Rattle.c_expr.specs.Depth.{too_deep}
 abbrev pub IsExpression : List Token → Expr → Type 0
 IsExpression ts e = Expression ts 0 (length ts) e × (expr_height e ≤ 200)
 
--- the answer for a list of tokens: the cases exclude each other; want of memory is free, and the place of a syntax error up to the number of tokens
+-- the answer for a list of tokens: the cases exclude each other; out of memory is free, and the
+-- place of a syntax error up to the number of tokens
 abbrev pub PreAnswers : List Token → Result Expr ParseEnd → Type 0
 PreAnswers ts (Ok e) = (too_deep 0 0 ts ≡ None) × (IsExpression ts e × (is_row_form e ≡ true))
 PreAnswers ts (Err (TooDeep token)) = too_deep 0 0 ts ≡ Some token

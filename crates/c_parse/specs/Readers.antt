@@ -37,7 +37,8 @@ pub record Collecting (ts : List Token) (p : Program) (at : ℕ) : Type 0 where
   pub within : at ≤ length ts
   pub few : length p.functions ≤ at
 
--- the whole program is read exactly where the list spells one, which has no more functions than tokens
+-- the whole program is read exactly where the list spells one, which has no more functions than
+-- tokens
 abbrev pub ReadsAll : List Token → ReadProgram → Type 0
 ReadsAll ts (Spelled p) = Spells ts p × (length p.functions ≤ length ts)
 ReadsAll ts (Stopped place) = ((p : Program) → Spells ts p → ⊥) × (place ≤ length ts)

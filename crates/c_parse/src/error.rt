@@ -2,8 +2,8 @@
 use rx_plain::NoMemory;
 use thiserror::Error;
 
-/// Why there is no tree. Where several causes stand, the answer is the first of them in the order `TooDeep`, `Syntax`,
-/// `TooManyParams`, `NotARowForm`; want of memory may come at any time.
+/// Why there is no tree. Where there are several causes, the answer is the first of them in the
+/// order `TooDeep`, `Syntax`, `TooManyParams`, `NotARowForm`; out of memory may come at any time.
 #[derive(Clone, Copy, Debug, PartialEq, Eq, Error)]
 pub enum ParseEnd {
     /// The tokens spell nothing that is wanted whose statements are at most 200 high.
@@ -27,7 +27,8 @@ pub enum ParseEnd {
     /// There was no memory for the tree.
     #[error("out of memory")]
     NoMemory,
-    /// A precondition is an expression, and of another form than a conjunction of comparisons. Never an answer of `parse`.
+    /// A precondition is an expression, and of another form than a conjunction of comparisons.
+    /// Never an answer of `parse`.
     #[error("not a row form")]
     NotARowForm,
 }

@@ -19,7 +19,8 @@ use std::alloc::Global;
 // How high a statement may be.
 const MAX_HEIGHT: u32 = 200;
 
-// The parameters of a heading, each by its name if it has one; none where the parentheses are empty.
+// The parameters of a heading, each by its name if it has one; none where the parentheses are
+// empty.
 type ParameterList = Option<Items<Option<u32>>>;
 
 // The function or prototype at `at`.
@@ -44,7 +45,7 @@ pub fn external(
     function(alloc, tokens, at, &params)
 }
 
-// The prototype whose heading stands at `at`.
+// The prototype whose heading is at `at`.
 fn prototype(tokens: &[Token], at: usize, params: &Span<ParameterList>) -> Span<External>
     requires few { length tokens.now < 2 ^ 32 }
     requires heading { IsHeading tokens.now at }
@@ -72,7 +73,7 @@ fn count_of(params: &ParameterList) -> Option<u32>
     }
 }
 
-// The function whose heading stands at `at`.
+// The function whose heading is at `at`.
 fn function(
     alloc: Global,
     tokens: &[Token],
@@ -125,7 +126,7 @@ fn all_names(alloc: Global, listed: &[Option<u32>]) -> Result<Option<Items<u32>>
     Ok(Some(names))
 }
 
-// Whether `int`, a name and an opening parenthesis stand at `at`.
+// Whether `int`, a name and an opening parenthesis are at `at`.
 fn is_heading(tokens: &[Token], at: usize) -> bool
     requires few { length tokens.now < 2 ^ 32 }
     requires inside { at ≤ length tokens.now }
@@ -136,7 +137,7 @@ fn is_heading(tokens: &[Token], at: usize) -> bool
         && stands(tokens, at + 2, Mark::LeftParen)
 }
 
-// Whether `void` and a closing parenthesis stand at `at`.
+// Whether `void` and a closing parenthesis are at `at`.
 fn is_void(tokens: &[Token], at: usize) -> bool
     requires { at < 2 ^ 33 }
     ensures { MatchBool result (IsVoid tokens.now at) (IsVoid tokens.now at → ⊥) }
@@ -144,7 +145,7 @@ fn is_void(tokens: &[Token], at: usize) -> bool
     says(tokens, at, Keyword::Void) && stands(tokens, at + 1, Mark::RightParen)
 }
 
-// The parameters behind the opening parenthesis, up to and with the closing one.
+// The parameters after the opening parenthesis, up to and with the closing one.
 fn parameters(
     alloc: Global,
     tokens: &[Token],

@@ -1,7 +1,7 @@
 //! From tokens to trees: the parser of the C subset.
 //!
-//! `parse` answers a program exactly where the tokens spell that program within the limits, and each refusal
-//! exactly where it has its cause. `parse_pre` does the same for a precondition.
+//! `parse` answers a program exactly where the tokens spell that program within the limits, and
+//! each refusal exactly where it has its cause. `parse_pre` does the same for a precondition.
 #![tactic(auto)]
 
 mod error;

@@ -19,11 +19,13 @@ use std::alloc::Global;
 // How high an expression may be.
 const MAX_HEIGHT: u32 = 200;
 
-/// The expression that the tokens spell, where it is a comparison of two straight expressions or several joined by
-/// `&&`. A straight expression is one of literals, names, unary `+` and `-`, and `+`, `-` and `*`.
+/// The expression that the tokens spell, where it is a comparison of two straight expressions or
+/// several joined by `&&`. A straight expression is one of literals, names, unary `+` and `-`, and
+/// `+`, `-` and `*`.
 ///
-/// Refused, in this order: `TooDeep` at the first `(` or `{` that stands where 200 brackets are open already;
-/// `Syntax` where the tokens spell no expression at most 200 high; `NotARowForm` where they spell another one.
+/// Refused, in this order: `TooDeep` at the first `(` or `{` where 200 brackets are open already;
+/// `Syntax` where the tokens spell no expression at most 200 high; `NotARowForm` where they spell
+/// another one.
 pub fn parse_pre(alloc: Global, tokens: &[Token]) -> Result<Expr, ParseEnd>
     requires { length tokens.now < 2 ^ 32 }
     ensures answer { PreAnswers tokens.now result }

@@ -21,15 +21,15 @@ const MAX_PARAMETERS: usize = 16;
 
 /// The program that the tokens spell, each name by the number of its token.
 ///
-/// Refused, in this order: `TooDeep` at the first `(` or `{` that stands where 200 brackets are open already (a
-/// closing one lowers the count if it is above 0); `Syntax` where the tokens spell no program whose statements are
-/// at most 200 high; `TooManyParams` at the name of the
-/// first function or prototype with more than 16 parameters. The grammar is
-/// a part of that of ISO/IEC 9899:1999, 6.5, 6.8 and 6.9.1.
+/// Refused, in this order: `TooDeep` at the first `(` or `{` where 200 brackets are open already (a
+/// closing one lowers the count if it is above 0); `Syntax` where the tokens spell no program whose
+/// statements are at most 200 high; `TooManyParams` at the name of the first function or prototype
+/// with more than 16 parameters. The grammar is a part of that of ISO/IEC 9899:1999, 6.5, 6.8 and
+/// 6.9.1.
 ///
-/// The clause `named` speaks of each function's own name, its parameters and the variables of its body. It leaves
-/// out the names of the functions that are called, and those of prototypes; the grammar alone says that these are
-/// names.
+/// The clause `named` speaks of each function's own name, its parameters and the variables of its
+/// body. It leaves out the names of the functions that are called, and those of prototypes; the
+/// grammar alone says that these are names.
 pub fn parse(alloc: Global, tokens: &[Token]) -> Result<Program, ParseEnd>
     requires { length tokens.now < 2 ^ 32 }
     ensures answer { Answers tokens.now result }
@@ -93,7 +93,7 @@ fn is_long(params: Option<u32>) -> bool
     }
 }
 
-// The one of two tokens that stands first.
+// The one of two tokens that comes first.
 fn earlier(first: Option<u32>, second: Option<u32>) -> Option<u32>
     ensures { result ≡ earlier first second }
 {
@@ -124,7 +124,7 @@ fn program(alloc: Global, tokens: &[Token]) -> Result<ReadProgram, NoMemory>
     Ok(ReadProgram::Spelled(program))
 }
 
-// Adds the function or prototype behind those before it.
+// Adds the function or prototype after those that are there.
 fn add(program: &mut Program, external: External) -> Result<(), NoMemory>
     ensures { OnOk result (program.new ≡ added program.old external) }
 {
@@ -135,7 +135,8 @@ fn add(program: &mut Program, external: External) -> Result<(), NoMemory>
     Ok(())
 }
 
-/// A list of tokens spells at most one program: what `parse` answers is the only one. A law; it does nothing.
+/// A list of tokens spells at most one program: what `parse` answers is the only one. A law; it
+/// does nothing.
 pub fn one_program()
     ensures { OneProgram }
 {}

@@ -35,7 +35,7 @@ changed_of m ts i j s (by_update _ _ _ _ op e h a u) = changed_update op e h a u
 changed_of m ts i j s (by_step_behind _ _ _ op h a c) = changed_behind op h a c refl refl
 changed_of m ts i j s (by_step_before _ _ _ op a h c) = changed_before op a h c refl refl
 
--- no mark of a change stands where another kind of token does
+-- no mark of a change is where another kind of token is
 pub unchanging : (ts : List Token) (i : ℕ) (k : TokenKind) (c : Changing) → kind_at ts i ≡ Some k → changing_of (Some k) ≡ None → changing_of (kind_at ts i) ≡ Some c → ⊥
 unchanging ts i k c h none some = let contradiction : None ≡ Some c = sym none ∙ (ap changing_of (sym h) ∙ some) in cc
 
@@ -48,7 +48,7 @@ height-updated name op e =
     let some : 1 ≤ expr_height e = height-positive e in
     omega arith
 
--- where such a mark stands, the list goes on
+-- where such a mark is, the list goes on
 changing_is_token : (k : Option TokenKind) (c : Changing) → changing_of k ≡ Some c → (t : TokenKind) × (k ≡ Some t)
 changing_is_token None c h = cc
 changing_is_token (Some t) c h = (t, refl)
@@ -128,7 +128,7 @@ builds_update m ts i room op named o = record {
       (is.0, ((is.1.0, omega arith), is.1.1));
 }
 
--- what `=` and `op=` don't follow is no change, where no step stands
+-- what `=` and `op=` don't follow is no change, where no step is
 pub unchanged : (m : TheMark) (ts : List Token) (i room : ℕ) → kind_at ts i ≡ Some Name → ((op : BinOp) → changing_of (kind_at ts (i + 1)) ≡ Some (step op) → ⊥)
     → (kind_at ts (i + 1) ≡ Some (Mark AssignMark) → ⊥) → ((op : BinOp) → changing_of (kind_at ts (i + 1)) ≡ Some (update op) → ⊥)
     → (j : ℕ) (s : Stmt) → Changed m ts i j s → ⊥
@@ -150,7 +150,7 @@ step_reads m ts name at room op y h some yv ye =
       only = λ j s p. (ye ∙ sym p.0.behind, yv ∙ sym p.0.is);
     }
 
--- two places further
+-- two places on
 behind_two : (i : ℕ) → i + 2 + 1 ≡ i + 3
 behind_two i = omega arith
 
@@ -163,7 +163,7 @@ steps_before m ts i room op r o named = renamed_ok (Low stmt_height room (IsStep
     let is = change_before m ts i op o j s (changed_of m ts i j s q.0) in
     (record { marked = is.1.0; behind = is.1.1.0 ∙ sym (behind_two i); is = is.1.1.1 }, q.1))
 
--- a step behind its name
+-- a step after its name
 pub steps_behind : (m : TheMark) (ts : List Token) (i room : ℕ) (op : BinOp) (r : Result (Option (Span Stmt)) NoMemory) → kind_at ts i ≡ Some Name → changing_of (kind_at ts (i + 1)) ≡ Some (step op)
     → IfOk r (Gives (Low stmt_height room (IsStep m ts i op (i + 2))) (i + 2) (length ts)) → IfOk r (Gives (Low stmt_height room (Change m ts i)) i (length ts))
 steps_behind m ts i room op r named o = renamed_ok (Low stmt_height room (IsStep m ts i op (i + 2))) (Low stmt_height room (Change m ts i)) i (i + 2) (length ts) r (omega arith)

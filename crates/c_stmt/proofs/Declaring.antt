@@ -41,7 +41,7 @@ pub declared_of : (ts : List Token) (i j : ℕ) (s : Stmt) → InitDeclarator ts
 declared_of ts i j s (bare _ _ h p) = declared_bare h p refl refl
 declared_of ts i j s (valued _ _ _ e h a w p) = declared_valued e h a w p refl
 
--- what stands behind it
+-- what is after it
 parted_behind : (ts : List Token) (i j : ℕ) (s : Stmt) → Declared ts i j s → IsParted ts j
 parted_behind ts i j s (declared_bare h p q is) = rw q p
 parted_behind ts i j s (declared_valued e h a w p is) = p
@@ -86,7 +86,7 @@ module _ (ts : List Token) (at room : ℕ) where
           only = λ j s low. let is = valued_is j s (declared_of ts at j s low.0) low.1 in (ye ∙ is.0, yv ∙ sym is.1.0);
         }
 
-    -- neither a comma nor a semicolon behind the value
+    -- neither a comma nor a semicolon after the value
     pub valued_misses : (IsParted ts x.end → ⊥) → Gives (Low stmt_height room (InitDeclarator ts at)) at (length ts) None
     valued_misses unparted = record { found = tt; only = λ j s low. let is = valued_is j s (declared_of ts at j s low.0) low.1 in unparted is.1.1 }
 
@@ -99,7 +99,7 @@ pub named_of : (ts : List Token) (i k : ℕ) (ss : List Stmt) → InitDeclarator
 named_of ts i k ss (last_name _ _ j s d h) = named_last j s d h refl refl
 named_of ts i k ss (next_name _ _ j _ s rest d h r) = named_next j s rest d h r refl
 
--- what stands behind those found fits where all do
+-- what is after those found fits where all do
 pub later_fits : (all found ss : List Stmt) (room : ℕ) → all ≡ found ++ ss → list_height all ≤ room → list_height ss ≤ room
 later_fits all found ss room same fits =
     let both : list_height (found ++ ss) ≡ max (list_height found) (list_height ss) = height-append found ss in
@@ -108,11 +108,6 @@ later_fits all found ss room same fits =
 -- so does the first of them
 pub first_fits : (s : Stmt) (rest ss : List Stmt) (room : ℕ) → ss ≡ s ∷ rest → list_height ss ≤ room → stmt_height s ≤ room
 first_fits s rest ss room same fits = let high : list_height ss ≡ list_height (s ∷ rest) = ap list_height same in omega arith
-
--- a list with nothing behind it
-append_nothing : {A : Type 0} (xs : List A) → xs ++ [] ≡ xs
-append_nothing [] = refl
-append_nothing (x ∷ xs) = ap (λ ys. x ∷ ys) (append_nothing xs)
 
 module _ (ts : List Token) (at room : ℕ) (found : List Stmt) (end : ℕ) (c : Collected room (InitDeclarators ts at) (InitDeclarators ts) (length ts) at found end) where
   none_only : Gives (Low stmt_height room (InitDeclarator ts end)) end (length ts) None → (k : ℕ) (ss : List Stmt) → Named ts end k ss → list_height ss ≤ room → ⊥

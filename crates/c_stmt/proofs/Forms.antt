@@ -23,13 +23,13 @@ use Rattle.c_expr.proofs.Lookahead.{kind_within}
 use Rattle.c_expr.proofs.Building.{Built, renamed, renamed_ok}
 use Rattle.c_stmt.proofs.ChangeLemmas.{unchanging, Changed, changed_value, changed_update, changed_behind, changed_before, changed_of}
 
--- a block, by what stands in it
+-- a block, by its items
 pub record Filled (ts : List Token) (i j : ℕ) (s : Stmt) : Type 0 where
   pub inside : List Stmt
   pub inner : BlockItems ts (i + 1) j inside
   pub is : s ≡ Block inside
 
--- how an `if` ends behind its first statement
+-- how an `if` ends after its first statement
 pub data Way (ts : List Token) (i j : ℕ) (e : Expr) (t s : Stmt) : Type 0 where
   way_alone : (kind_at ts i ≡ Some (Word word.Else) → ⊥) → i ≡ j → s ≡ If e t None → Way ts i j e t s
   way_else : (o : Stmt) → kind_at ts i ≡ Some (Word word.Else) → Statement ts (i + 1) j o → s ≡ If e t (Some o) → Way ts i j e t s
@@ -217,7 +217,7 @@ module _ (ts : List Token) (at room : ℕ) (some : 0 < room) where
   reads_change r simple a b c d = renamed_ok (Low stmt_height room (Change mark.Semicolon ts at)) (Low stmt_height room (Statement ts at)) at at (length ts) r (omega arith)
       (λ j s p. (changes ts at j s p.0, p.1)) (λ j s q. (change_of ts at j s simple a b c d q.0, q.1))
 
-  -- a block, built of what stands in it
+  -- a block, built of what is in it
   pub builds_block : kind_at ts at ≡ Some (Mark mark.LeftBrace) → Built Block (Low list_height (room - 1) (BlockItems ts (at + 1))) (Low stmt_height room (Statement ts at))
   builds_block h = record {
     make = λ j ss p.
@@ -246,7 +246,7 @@ module _ (ts : List Token) (at room : ℕ) (some : 0 < room) where
     pub while_testless : Gives (Low expr_height (room - 1) (Test ts (at + 1))) (at + 1) (length ts) None → Gives (Low stmt_height room (Statement ts at)) at (length ts) None
     while_testless r = record { found = tt; only = λ j s p. let f = looping j s p.0 in let fit = loop_fits j s f p.1 in r.only f.middle f.test (f.tests, fit.0) }
 
-    -- a loop behind its test, built of its body
+    -- a loop after its test, built of its body
     pub builds_while : (x : Span Expr) → Gives (Low expr_height (room - 1) (Test ts (at + 1))) (at + 1) (length ts) (Some x)
         → Built (While x.value) (Low stmt_height (room - 1) (Statement ts x.end)) (Low stmt_height room (Statement ts at))
     builds_while x r = record {
@@ -280,7 +280,7 @@ module _ (ts : List Token) (at room : ℕ) (some : 0 < room) where
     pub for_headless : Gives (Low head_height (room - 1) (ForHead ts (at + 1))) (at + 1) (length ts) None → Gives (Low stmt_height room (Statement ts at)) at (length ts) None
     for_headless r = record { found = tt; only = λ j s p. let f = counting j s p.0 in let fit = count_fits j s f p.1 in r.only f.middle f.head (f.heads, fit.0) }
 
-    -- a loop behind its head, built of its body
+    -- a loop after its head, built of its body
     pub builds_for : (x : Span Head) → Gives (Low head_height (room - 1) (ForHead ts (at + 1))) (at + 1) (length ts) (Some x)
         → Built (For x.value.first x.value.test x.value.change) (Low stmt_height (room - 1) (Statement ts x.end)) (Low stmt_height room (Statement ts at))
     builds_for x r = record {
@@ -317,11 +317,11 @@ module _ (ts : List Token) (at room : ℕ) (some : 0 < room) where
       body_is : (j : ℕ) (s : Stmt) (f : Doing ts at j s) → stmt_height s ≤ room → (x.end ≡ f.middle) × (x.value ≡ f.body)
       body_is j s f fits = let fit = do_fits j s f fits in r.only f.middle f.body (f.runs, fit.0)
 
-      -- no `while` behind the body
+      -- no `while` after the body
       pub do_whileless : (kind_at ts x.end ≡ Some (Word word.While) → ⊥) → Gives (Low stmt_height room (Statement ts at)) at (length ts) None
       do_whileless no_while = record { found = tt; only = λ j s p. let f = doing j s p.0 in let is = body_is j s f p.1 in no_while (rw is.0 f.again) }
 
-      -- no test behind it
+      -- no test after it
       pub do_testless : Gives (Low expr_height (room - 1) (Test ts (x.end + 1))) (x.end + 1) (length ts) None → Gives (Low stmt_height room (Statement ts at)) at (length ts) None
       do_testless t = record {
         found = tt;
@@ -341,7 +341,7 @@ module _ (ts : List Token) (at room : ℕ) (some : 0 < room) where
             let there : Test ts (x.end + 1) f.last f.test = rw is.0 f.tests in
             t.only f.last f.test (there, fit.1)
 
-        -- no semicolon behind the test
+        -- no semicolon after the test
         pub do_endless : (kind_at ts y.end ≡ Some (Mark mark.Semicolon) → ⊥) → Gives (Low stmt_height room (Statement ts at)) at (length ts) None
         do_endless no_semicolon = record { found = tt; only = λ j s p. let f = doing j s p.0 in let is = test_is j s f p.1 in no_semicolon (rw is.0 f.marked) }
 
@@ -445,7 +445,7 @@ module _ (ts : List Token) (at room : ℕ) (some : 0 < room) where
             let same : stmt_height s ≡ stmt_height (If x.value y.value (Some u)) = ap stmt_height q in
             (u, ((v, omega arith), q))
 
-        -- an `if` behind its `else`, built of the other statement
+        -- an `if` after its `else`, built of the other statement
         pub builds_else : kind_at ts y.end ≡ Some (Word word.Else)
             → Built (λ (u : Stmt). If x.value y.value (Some u)) (Low stmt_height (room - 1) (Statement ts (y.end + 1))) (Low stmt_height room (Statement ts at))
         builds_else o = record {

@@ -35,7 +35,7 @@ change_no_int m ts i j s g (changed_update op e h a u q) = cc
 change_no_int m ts i j s g (changed_behind op h a c p q) = cc
 change_no_int m ts i j s g (changed_before op a h c p q) = unchanging ts i (Word Int) (step op) g refl a
 
--- what stands before the test
+-- the part before the test
 pub data Started (ts : List Token) (i j : ℕ) (ss : List Stmt) : Type 0 where
   started_none : kind_at ts i ≡ Some (Mark Semicolon) → j ≡ i + 1 → ss ≡ [] → Started ts i j ss
   started_change : (s : Stmt) → Change Semicolon ts i j s → ss ≡ s ∷ [] → Started ts i j ss
@@ -55,7 +55,7 @@ pub continued_of : (ts : List Token) (i j : ℕ) (o : Option Expr) → ForTest t
 continued_of ts i j o (no_test _ _ h) = continued_none h refl refl
 continued_of ts i j o (a_test _ _ _ e u) = continued_some e u refl
 
--- the change behind it
+-- the change after it
 pub data Advanced (ts : List Token) (i j : ℕ) (o : Option Stmt) : Type 0 where
   advanced_none : kind_at ts i ≡ Some (Mark RightParen) → j ≡ i + 1 → o ≡ None → Advanced ts i j o
   advanced_some : (s : Stmt) → Change RightParen ts i j s → o ≡ Some s → Advanced ts i j o
@@ -136,7 +136,7 @@ module _ (ts : List Token) (at room : ℕ) where
   bare_advance y h yv ye j o (advanced_none g p q) = (ye ∙ sym p, yv ∙ sym q)
   bare_advance y h yv ye j o (advanced_some s c q) = absurd (change_opens RightParen RightParen ts at j s h refl (changed_of RightParen ts at j s c))
 
-  -- no change behind the test
+  -- no change after the test
   pub advance_none : (y : Span (Option Stmt)) → kind_at ts at ≡ Some (Mark RightParen) → y.value ≡ None → y.end ≡ at + 1
       → Gives (Low (of_option stmt_height) room (ForStep ts at)) at (length ts) (Some y)
   advance_none y h yv ye =
@@ -151,7 +151,7 @@ module _ (ts : List Token) (at room : ℕ) where
   advance_from a j o (advanced_none g p q) fits = absurd (a g)
   advance_from a j o (advanced_some s c q) fits = let high : of_option stmt_height o ≡ stmt_height s = ap (of_option stmt_height) q in (s, ((c, omega arith), q))
 
-  -- a change behind the test
+  -- a change after the test
   pub advance_builds : (kind_at ts at ≡ Some (Mark RightParen) → ⊥) → Built (λ (s : Stmt). Some s) (Low stmt_height room (Change RightParen ts at)) (Low (of_option stmt_height) room (ForStep ts at))
   advance_builds a = record {
     make = λ j s p. (a_change ts at j s p.0, p.1);
@@ -163,7 +163,7 @@ module _ (ts : List Token) (at room : ℕ) where
   parts_fit h fits =
       let here : max (max (list_height h.first) (of_option expr_height h.test)) (of_option stmt_height h.change) ≤ room = fits in (omega arith, (omega arith, omega arith))
 
-  -- no head without what stands before the test
+  -- no head without the part before the test
   pub head_startless : Gives (Low list_height room (ForInit ts (at + 1))) (at + 1) (length ts) None → Gives (Low head_height room (ForHead ts at)) at (length ts) None
   head_startless r = record { found = tt; only = λ j h p. let fit = parts_fit h p.1 in r.only p.0.middle h.first (p.0.starts, fit.0) }
 
@@ -190,7 +190,7 @@ module _ (ts : List Token) (at room : ℕ) where
           let there : ForTest ts x.end p.last h.test = rw is.0 p.continues in
           t.only p.last h.test (there, fit.1.0)
 
-      -- no head without what stands behind the test
+      -- no head without what is after the test
       pub head_changeless : Gives (Low (of_option stmt_height) room (ForStep ts y.end)) y.end (length ts) None → Gives (Low head_height room (ForHead ts at)) at (length ts) None
       head_changeless a = record {
         found = tt;

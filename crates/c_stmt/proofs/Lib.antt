@@ -2,6 +2,6 @@ pub mod ChangeLemmas
 pub mod Declaring
 pub mod HeadLemmas
 pub mod Forms
-pub mod Inners
+pub mod Blocks
 pub mod UniqueStatements
 pub mod NamedVariables

@@ -1,4 +1,4 @@
--- A statement and its end are determined by where it begins, and so is what stands in a block.
+-- A statement and its end are determined by where it begins, and so is what is in a block.
 use Rattle.std.proofs.Common.{◌≡◌, ◌≢◌, ℕ, suc, ◌+◌, Option, Some, None, List, [], ◌∷◌, ◌++◌, refl, sym, ◌∙◌, ap}
 use Rattle.c_lex.specs.declared.token.Token.{Token}
 use Rattle.c_lex.specs.declared.token.TokenKind.TheVariants.{Word, Mark}
@@ -19,7 +19,7 @@ use Rattle.c_stmt.proofs.ChangeLemmas.{Changed, changed_value, changed_update, c
 use Rattle.c_stmt.proofs.Declaring.{parted_stops, unassigned, Declared, declared_bare, declared_valued, declared_of, Named, named_last, named_next, named_of}
 use Rattle.c_stmt.proofs.HeadLemmas.{change_opens, change_no_int, Started, started_none, started_change, started_names, started_of, Continued, continued_none, continued_some, continued_of, Advanced, advanced_none, advanced_some, advanced_of}
 use Rattle.c_stmt.proofs.Forms.{Filled, Way, way_alone, way_else, Branching, Looping, Doing, Counting, Jumping, Returning, changed_start, form_of}
-use Rattle.c_stmt.proofs.Inners.{Itemed, itemed_statement, itemed_names, itemed_of, statement_no_int, item_no_end, Inside, inside_closed, inside_item, inside_of}
+use Rattle.c_stmt.proofs.Blocks.{Itemed, itemed_statement, itemed_names, itemed_of, statement_no_int, item_no_end, Inside, inside_closed, inside_item, inside_of}
 use Rattle.c_expr.proofs.UniqueExprs.{Same, whole_unique}
 
 module _ (m : TheMark) (no_operator : binary_of (Some (Mark m)) ≡ None) (no_choice : m ≢ mark.Question) (no_call : m ≢ mark.LeftParen) where
@@ -84,7 +84,7 @@ names_unique ts i j k ss us (next_name _ _ l _ s more d h r) (named_next m t res
 declares_unique : (ts : List Token) (i j k : ℕ) (ss us : List Stmt) → Declaration ts i j ss → Declaration ts i k us → Same j k ss us
 declares_unique ts i j k ss us p q = names_unique ts (i + 1) j k ss us p.1 (named_of ts (i + 1) k us q.1)
 
--- what stands in the head of a `for` before its test
+-- what is in the head of a `for` before its test
 started_unique : (ts : List Token) (i j k : ℕ) (ss us : List Stmt) → Started ts i j ss → Started ts i k us → Same j k ss us
 started_unique ts i j k ss us (started_none h p q) (started_none g r o) = (p ∙ sym r, q ∙ sym o)
 started_unique ts i j k ss us (started_none h p q) (started_change t c o) = absurd (change_opens mark.Semicolon mark.Semicolon ts i k t h refl (changed_of mark.Semicolon ts i k t c))
@@ -109,7 +109,7 @@ continued_unique ts i j k o r (continued_some e u q) (continued_some f v b) =
     let same : Same j k e f = up_to_unique mark.Semicolon refl (λ z. cc) (λ z. cc) ts i j k e f u v in
     (same.0, q ∙ (ap (λ z. Some z) same.1 ∙ sym b))
 
--- the change behind it
+-- the change after it
 advanced_unique : (ts : List Token) (i j k : ℕ) (o r : Option Stmt) → Advanced ts i j o → Advanced ts i k r → Same j k o r
 advanced_unique ts i j k o r (advanced_none h p q) (advanced_none g a b) = (p ∙ sym a, q ∙ sym b)
 advanced_unique ts i j k o r (advanced_none h p q) (advanced_some t c b) = absurd (change_opens mark.RightParen mark.RightParen ts i k t h refl (changed_of mark.RightParen ts i k t c))

@@ -15,11 +15,11 @@ use Rattle.c_stmt.specs.declared.tree.External.TheVariants.{Defined, Declared}
 use Rattle.c_expr.specs.Grammar.{kind_at}
 use Rattle.c_stmt.specs.Statements.{CompoundStatement}
 
--- `void` and a closing parenthesis stand at a place
+-- `void` and a closing parenthesis are at a place
 abbrev pub IsVoid : List Token → ℕ → Type 0
 IsVoid ts i = (kind_at ts i ≡ Some (Word Void)) × (kind_at ts (i + 1) ≡ Some (Mark RightParen))
 
--- `int`, a name and an opening parenthesis stand at a place
+-- `int`, a name and an opening parenthesis are at a place
 abbrev pub IsHeading : List Token → ℕ → Type 0
 IsHeading ts i = (kind_at ts i ≡ Some (Word Int)) × ((kind_at ts (i + 1) ≡ Some Name) × (kind_at ts (i + 2) ≡ Some (Mark LeftParen)))
 
@@ -34,7 +34,8 @@ pub data Listed : List Token → ℕ → ℕ → List (Option ℕ) → Type 0 wh
   next_parameter : (ts : List Token) → (i j k : ℕ) → (o : Option ℕ) → (os : List (Option ℕ))
       → Parameter ts i j o → kind_at ts j ≡ Some (Mark Comma) → Listed ts (j + 1) k os → Listed ts i k (o ∷ os)
 
--- what stands in the parentheses of a heading, from behind the opening one up to and with the closing one; none where they are empty
+-- what the parentheses of a heading hold, from after the opening one up to and with the closing
+-- one; none where they are empty
 pub data Parameters : List Token → ℕ → ℕ → Option (List (Option ℕ)) → Type 0 where
   unsaid : (ts : List Token) → (i : ℕ) → kind_at ts i ≡ Some (Mark RightParen) → Parameters ts i (i + 1) None
   void : (ts : List Token) → (i : ℕ) → IsVoid ts i → Parameters ts i (i + 2) (Some [])
@@ -51,7 +52,8 @@ abbrev pub names_of : Option (List (Option ℕ)) → Option (List ℕ)
 names_of None = Some []
 names_of (Some os) = all_names os
 
--- a function or a prototype; the name and the parameters of a function are the numbers of their tokens
+-- a function or a prototype; the name and the parameters of a function are the numbers of their
+-- tokens
 pub data ExternalDeclaration : List Token → ℕ → ℕ → External → Type 0 where
   function : (ts : List Token) → (i j k : ℕ) → (ps : Option (List (Option ℕ))) → (names : List ℕ) → (body : List Stmt)
       → IsHeading ts i → Parameters ts (i + 3) j ps → names_of ps ≡ Some names → CompoundStatement ts j k body
@@ -60,7 +62,7 @@ pub data ExternalDeclaration : List Token → ℕ → ℕ → External → Type 
       → IsHeading ts i → Parameters ts (i + 3) j ps → kind_at ts j ≡ Some (Mark Semicolon)
       → ExternalDeclaration ts i (j + 1) (Declared (record { name = i + 1; params = option_map length ps }))
 
--- functions and prototypes one behind the other
+-- functions and prototypes one after the other
 pub data Externals : List Token → ℕ → ℕ → List External → Type 0 where
   finished : (ts : List Token) → (i : ℕ) → Externals ts i i []
   followed : (ts : List Token) → (i j k : ℕ) → (x : External) → (xs : List External)

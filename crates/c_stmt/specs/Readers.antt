@@ -12,7 +12,8 @@ use Rattle.c_expr.specs.Grammar.{kind_at}
 use Rattle.c_stmt.specs.Statements.{updated, unit}
 use Rattle.c_stmt.specs.Heights.{list_height}
 
--- a list of statements while it is read, each no higher than `room`: those found go on to whatever the whole can be
+-- a list of statements while it is read, each no higher than `room`: those found go on to whatever
+-- the whole can be
 pub record Collected (room : ℕ) (Phrase : ℕ → List Stmt → Type 0) (Remaining : ℕ → ℕ → List Stmt → Type 0) (bound at : ℕ) (found : List Stmt) (end : ℕ) : Type 0 where
   pub forward : (j : ℕ) → (ss : List Stmt) → Remaining end j ss → Phrase j (found ++ ss)
   pub only : (j : ℕ) → (all : List Stmt) → Phrase j all → list_height all ≤ room → (ss : List Stmt) × ((all ≡ found ++ ss) × Remaining end j ss)
@@ -28,12 +29,12 @@ pub record IsSimple (ts : List Token) (at : ℕ) : Type 0 where
   pub no_do : kind_at ts at ≡ Some (Word word.Do) → ⊥
   pub no_for : kind_at ts at ≡ Some (Word word.For) → ⊥
 
--- the statement of one keyword at a place is read where a semicolon stands behind it
+-- the statement of one keyword at a place is read where a semicolon is after it
 abbrev pub Jumps : List Token → ℕ → Stmt → Option (Span Stmt) → Type 0
 Jumps ts at value None = kind_at ts (at + 1) ≡ Some (Mark Semicolon) → ⊥
 Jumps ts at value (Some x) = (kind_at ts (at + 1) ≡ Some (Mark Semicolon)) × ((x.value ≡ value) × (x.end ≡ at + 2))
 
--- a step of a name by an operator, where the mark stands at a place
+-- a step of a name by an operator, where the mark is at a place
 pub record IsStep (m : TheMark) (ts : List Token) (name : ℕ) (op : BinOp) (at j : ℕ) (s : Stmt) : Type 0 where
   pub marked : kind_at ts at ≡ Some (Mark m)
   pub behind : j ≡ at + 1

@@ -12,8 +12,8 @@
 --     change    = NAME ( "=" | "+=" | "-=" | "*=" | "/=" | "%=" ) expr
 --               | NAME "++" | NAME "--" | "++" NAME | "--" NAME
 --
--- An `else` belongs to the nearest `if`. `x op= e` is `x = x op (e)`, and `x++` and `++x` are `x = x + 1`. A declaration of several names is
--- several declarations in order.
+-- An `else` belongs to the nearest `if`. `x op= e` is `x = x op (e)`, and `x++` and `++x` are
+-- `x = x + 1`. A declaration of several names is several declarations in order.
 use Rattle.std.specs.Prelude.{◌≡◌, ◌⊎◌, ℕ, ◌+◌, ℤ, pos, Option, Some, None, List, [], ◌∷◌, ◌++◌}
 use Rattle.c_lex.specs.declared.token.Token.{Token}
 use Rattle.c_lex.specs.declared.token.TokenKind.{TokenKind}
@@ -54,7 +54,7 @@ unit = let one : ℤ = pos 1 in Lit one
 abbrev pub updated : ℕ → BinOp → Expr → Stmt
 updated name op value = Assign name (Binary op (Var name) value)
 
--- a change, up to and with the mark behind it
+-- a change, up to and with the mark after it
 pub data Change : TheMark → List Token → ℕ → ℕ → Stmt → Type 0 where
   by_value : (m : TheMark) → (ts : List Token) → (i j : ℕ) → (e : Expr)
       → kind_at ts i ≡ Some Name → kind_at ts (i + 1) ≡ Some (Mark mark.Assign) → UpTo m ts (i + 2) j e → Change m ts i j (Assign i e)
@@ -65,7 +65,7 @@ pub data Change : TheMark → List Token → ℕ → ℕ → Stmt → Type 0 whe
   by_step_before : (m : TheMark) → (ts : List Token) → (i : ℕ) → (op : BinOp)
       → changing_of (kind_at ts i) ≡ Some (step op) → kind_at ts (i + 1) ≡ Some Name → kind_at ts (i + 2) ≡ Some (Mark m) → Change m ts i (i + 3) (updated (i + 1) op unit)
 
--- a comma or a semicolon stands at a place
+-- a comma or a semicolon is at a place
 abbrev pub IsParted : List Token → ℕ → Type 0
 IsParted ts i = (kind_at ts i ≡ Some (Mark mark.Comma)) ⊎ (kind_at ts i ≡ Some (Mark mark.Semicolon))
 
@@ -85,7 +85,7 @@ pub data InitDeclarators : List Token → ℕ → ℕ → List Stmt → Type 0 w
 abbrev pub Declaration : List Token → ℕ → ℕ → List Stmt → Type 0
 Declaration ts i j ss = (kind_at ts i ≡ Some (Word word.Int)) × InitDeclarators ts (i + 1) j ss
 
--- what stands in a `for` before its test, with the semicolon
+-- the part of a `for` before its test, with the semicolon
 pub data ForInit : List Token → ℕ → ℕ → List Stmt → Type 0 where
   no_start : (ts : List Token) → (i : ℕ) → kind_at ts i ≡ Some (Mark mark.Semicolon) → ForInit ts i (i + 1) []
   start_change : (ts : List Token) → (i j : ℕ) → (s : Stmt) → Change mark.Semicolon ts i j s → ForInit ts i j (s ∷ [])
@@ -96,7 +96,7 @@ pub data ForTest : List Token → ℕ → ℕ → Option Expr → Type 0 where
   no_test : (ts : List Token) → (i : ℕ) → kind_at ts i ≡ Some (Mark mark.Semicolon) → ForTest ts i (i + 1) None
   a_test : (ts : List Token) → (i j : ℕ) → (e : Expr) → UpTo mark.Semicolon ts i j e → ForTest ts i j (Some e)
 
--- the change behind the test of a `for`, with the closing parenthesis
+-- the change after the test of a `for`, with the closing parenthesis
 pub data ForStep : List Token → ℕ → ℕ → Option Stmt → Type 0 where
   no_change : (ts : List Token) → (i : ℕ) → kind_at ts i ≡ Some (Mark mark.RightParen) → ForStep ts i (i + 1) None
   a_change : (ts : List Token) → (i j : ℕ) → (s : Stmt) → Change mark.RightParen ts i j s → ForStep ts i j (Some s)
@@ -138,11 +138,11 @@ mutual
     statement : (ts : List Token) → (i j : ℕ) → (s : Stmt) → Statement ts i j s → BlockItem ts i j (s ∷ [])
     declaration : (ts : List Token) → (i j : ℕ) → (ss : List Stmt) → Declaration ts i j ss → BlockItem ts i j ss
 
-  -- what stands in a block, from behind its opening brace up to and with the closing one
+  -- the items of a block, from after its opening brace up to and with the closing one
   pub data BlockItems : List Token → ℕ → ℕ → List Stmt → Type 0 where
     closed : (ts : List Token) → (i : ℕ) → kind_at ts i ≡ Some (Mark mark.RightBrace) → BlockItems ts i (i + 1) []
     item : (ts : List Token) → (i j k : ℕ) → (xs ss : List Stmt) → BlockItem ts i j xs → BlockItems ts j k ss → BlockItems ts i k (xs ++ ss)
 
--- a block, by what stands in it
+-- a block, by its items
 abbrev pub CompoundStatement : List Token → ℕ → ℕ → List Stmt → Type 0
 CompoundStatement ts i j ss = (kind_at ts i ≡ Some (Mark mark.LeftBrace)) × BlockItems ts (i + 1) j ss

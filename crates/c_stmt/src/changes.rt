@@ -26,7 +26,7 @@ fn updating(alloc: Global, name: u32, op: BinOp, value: Expr) -> Result<Stmt, No
     Ok(Stmt::Assign(name, Expr::Binary(op, first, second)))
 }
 
-// The step of the name by the operator, where the mark stands at `at`.
+// The step of the name by the operator, where the mark is at `at`.
 fn stepped(
     alloc: Global,
     tokens: &[Token],
@@ -51,7 +51,7 @@ fn stepped(
     }))
 }
 
-// The change of the name at `at` by an expression behind a mark, up to and with the mark behind it.
+// The change of the name at `at` by an expression after a mark, up to and with the mark after it.
 fn assigned(
     alloc: Global,
     tokens: &[Token],
@@ -88,7 +88,7 @@ fn assigned(
     }))
 }
 
-// The change at `at` that is no higher than `room`, up to and with the mark behind it.
+// The change at `at` that is no higher than `room`, up to and with the mark after it.
 pub fn change(
     alloc: Global,
     tokens: &[Token],

@@ -12,7 +12,7 @@ use c_lex::{Keyword, Mark, Token, TokenKind};
 use rx_plain::{Items, NoMemory};
 use std::alloc::Global;
 
-// Whether a comma or a semicolon stands at `at`.
+// Whether a comma or a semicolon is at `at`.
 fn is_parted(tokens: &[Token], at: usize) -> bool
     ensures { MatchBool result (IsParted tokens.now at) (IsParted tokens.now at → ⊥) }
 {
@@ -48,7 +48,7 @@ fn declarator(
     valued(alloc, tokens, at, room)
 }
 
-// The declaration of the name at `at` with the value behind it.
+// The declaration of the name at `at` with the value after it.
 fn valued(
     alloc: Global,
     tokens: &[Token],
@@ -75,7 +75,7 @@ fn valued(
     }))
 }
 
-// The declarations behind `int`, none higher than `room`, up to and with the semicolon.
+// The declarations after `int`, none higher than `room`, up to and with the semicolon.
 fn declarators(
     alloc: Global,
     tokens: &[Token],

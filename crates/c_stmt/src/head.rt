@@ -14,7 +14,7 @@ use c_lex::{Keyword, Mark, Token};
 use rx_plain::{Boxed, Items, NoMemory};
 use std::alloc::Global;
 
-// What stands before the test, with the semicolon.
+// The part before the test, with the semicolon.
 fn start(
     alloc: Global,
     tokens: &[Token],
@@ -71,7 +71,7 @@ fn continuing(
     }))
 }
 
-// The change behind the test, with the closing parenthesis.
+// The change after the test, with the closing parenthesis.
 fn advance(
     alloc: Global,
     tokens: &[Token],

@@ -1,7 +1,7 @@
 //! Statements and blocks, by one reader for each form.
 //!
-//! The readers call each other with less room or behind a bracket, as those of expressions do. What is read of a
-//! statement's parts is put into a box at once.
+//! The readers call each other with less room or after a bracket, as those of expressions do. What
+//! is read of a statement's parts is put into a box at once.
 ghost use Rattle.std.specs.Prelude.{◌≡◌, ◌≤◌, ◌<◌, ◌^◌, Some, length, IfOk};
 ghost use Rattle.c_ast.specs.Height.{stmt_height};
 ghost use Rattle.c_expr.specs.Grammar.{kind_at};
@@ -215,7 +215,8 @@ fn for_loop(
     }))
 }
 
-// What stands in a block, none higher than `room`, from behind its opening brace up to and with the closing one.
+// The items of a block, none higher than `room`, from after its opening brace up to and with the
+// closing one.
 #[cycle(statements)]
 pub fn inner(
     alloc: Global,
@@ -268,7 +269,7 @@ pub fn item(
     }))
 }
 
-// The statement that is the keyword at `at` and the semicolon behind it.
+// The statement that is the keyword at `at` and the semicolon after it.
 fn jump(tokens: &[Token], at: usize, value: Stmt) -> Option<Span<Stmt>>
     requires { at < 2 ^ 32 }
     ensures { Jumps tokens.now at value result }

@@ -8,7 +8,7 @@ use c_ast::BinOp;
 use c_expr::kind_at;
 use c_lex::{Mark, Token, TokenKind};
 
-// The operator of `op=` at `at`, if one stands there.
+// The operator of `op=` at `at`, if one is there.
 pub fn update_at(tokens: &[Token], at: usize) -> Option<BinOp>
     ensures { MatchOption result
         ((op : BinOp) → changing_of (kind_at tokens.now at) ≡ Some (update op) → ⊥)
@@ -36,7 +36,7 @@ fn update_of(mark: Mark) -> Option<BinOp>
     }
 }
 
-// The operator of `++` or `--` at `at`, if one stands there.
+// The operator of `++` or `--` at `at`, if one is there.
 pub fn step_at(tokens: &[Token], at: usize) -> Option<BinOp>
     ensures { MatchOption result
         ((op : BinOp) → changing_of (kind_at tokens.now at) ≡ Some (step op) → ⊥)

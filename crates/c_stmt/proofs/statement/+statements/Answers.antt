@@ -12,7 +12,7 @@ use Rattle.c_expr.specs.Readers.{Gives, Low}
 use Rattle.c_expr.proofs.Lookahead.{kind_within}
 use Rattle.c_expr.proofs.Building.{built_none, built_some}
 use Rattle.c_stmt.proofs.Forms.{builds_block, while_testless, builds_while, for_headless, builds_for, do_bodiless, do_whileless, do_testless, do_endless, reads_do, if_testless, if_thenless, reads_alone, builds_else}
-use Rattle.c_stmt.proofs.Inners.{item_names, item_builds, inner_stops, inner_goes, inner_ends}
+use Rattle.c_stmt.proofs.Blocks.{item_names, item_builds, inner_stops, inner_goes, inner_ends}
 use Rattle.c_stmt.proofs.statement.+statements.Goals as goal
 
 pub block-overflow_add-at : goal.block-overflow_add-at

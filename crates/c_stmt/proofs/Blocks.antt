@@ -1,5 +1,6 @@
--- What stands in a block, while it is read.
+-- The items of a block, while they are read.
 use Rattle.std.proofs.Common.{◌≡◌, ℕ, ◌+◌, ◌≤◌, ◌<◌, max, Option, Some, None, Result, IfOk, List, [], ◌∷◌, ◌++◌, length, append_assoc, refl, sym, ◌∙◌, ap, arith}
+use Rattle.std.proofs.lemmas.List.{append-nil}
 use Rattle.c_lex.specs.declared.token.Token.{Token}
 use Rattle.c_lex.specs.declared.token.TokenKind.TheVariants.{Word, Mark}
 use Rattle.c_lex.specs.declared.token.Keyword.TheVariants.{Int}
@@ -64,7 +65,7 @@ module _ (ts : List Token) (at room : ℕ) where
     part = λ j ss q. statement_from a j ss (itemed_of ts at j ss q.0) q.1;
   }
 
--- what can stand in a block
+-- what the items of a block can be
 pub data Inside (ts : List Token) (i k : ℕ) (ss : List Stmt) : Type 0 where
   inside_closed : kind_at ts i ≡ Some (Mark RightBrace) → k ≡ i + 1 → ss ≡ [] → Inside ts i k ss
   inside_item : (j : ℕ) → (xs rest : List Stmt) → BlockItem ts i j xs → BlockItems ts j k rest → ss ≡ xs ++ rest → Inside ts i k ss
@@ -72,11 +73,6 @@ pub data Inside (ts : List Token) (i k : ℕ) (ss : List Stmt) : Type 0 where
 pub inside_of : (ts : List Token) (i k : ℕ) (ss : List Stmt) → BlockItems ts i k ss → Inside ts i k ss
 inside_of ts i k ss (closed _ _ h) = inside_closed h refl refl
 inside_of ts i k ss (item _ _ j _ xs rest w r) = inside_item j xs rest w r refl
-
--- a list with nothing behind it
-append_nothing : {A : Type 0} (xs : List A) → xs ++ [] ≡ xs
-append_nothing [] = refl
-append_nothing (x ∷ xs) = ap (λ ys. x ∷ ys) (append_nothing xs)
 
 -- an item fits where it and what follows do
 item_fits : (ss xs rest : List Stmt) (room : ℕ) → ss ≡ xs ++ rest → list_height ss ≤ room → list_height xs ≤ room
@@ -111,14 +107,14 @@ module _ (ts : List Token) (at room : ℕ) (found : List Stmt) (end : ℕ) (c : 
 
   closed_only : (y : Span (List Stmt)) → kind_at ts end ≡ Some (Mark RightBrace) → y.value ≡ found → y.end ≡ end + 1 → (k : ℕ) (all ss : List Stmt) → all ≡ found ++ ss
       → Inside ts end k ss → IsThat (Some y) k all
-  closed_only y o yv ye k all ss same (inside_closed h p q) = (ye ∙ sym p, yv ∙ sym (same ∙ (ap (λ zs. found ++ zs) q ∙ append_nothing found)))
+  closed_only y o yv ye k all ss same (inside_closed h p q) = (ye ∙ sym p, yv ∙ sym (same ∙ (ap (λ zs. found ++ zs) q ∙ append-nil found)))
   closed_only y o yv ye k all ss same (inside_item j xs rest w r q) = absurd (item_no_end ts end j xs o (itemed_of ts end j xs w))
 
   -- the closing brace
   pub inner_ends : (y : Span (List Stmt)) → kind_at ts end ≡ Some (Mark RightBrace) → y.value ≡ found → y.end ≡ end + 1 → Gives (Low list_height room (BlockItems ts at)) at (length ts) (Some y)
   inner_ends y o yv ye =
       let spelled : BlockItems ts at (end + 1) (found ++ []) = c.forward (end + 1) [] (closed ts end o) in
-      let whole : BlockItems ts at (end + 1) found = rw append_nothing at spelled in
+      let whole : BlockItems ts at (end + 1) found = rw append-nil at spelled in
       let low : list_height found ≤ room = c.low in
       let begun : at ≤ end = c.begun in
       let within : end < length ts = kind_within ts end (Mark RightBrace) o in
