@@ -21,9 +21,6 @@ pub(crate) fn disequal_at(alloc: Global, rows: &[Row], at: u32) -> Result<Option
 
 /// `p - 1 >= 0`. Large exactly where `p - 1` passes the limits.
 pub fn row_above(alloc: Global, poly: &Poly) -> Result<Row, PolyEnd>
-    ensures row { IfOk result (λ r. r ≡ Row.Ge (one_less poly.now)) }
-    ensures within { OnOk result (is_within (one_less poly.now) ≡ true) }
-    ensures large { IfErr result (λ e. e ≡ PolyEnd.Large → is_within (one_less poly.now) ≡ false) }
     ensures forms { Forms PolyEnd.Large result (above poly.now) }
 {
     let one = Poly::constant(alloc, 1)?;
@@ -32,9 +29,6 @@ pub fn row_above(alloc: Global, poly: &Poly) -> Result<Row, PolyEnd>
 
 /// `-p - 1 >= 0`
 pub fn row_below(alloc: Global, poly: &Poly) -> Result<Row, PolyEnd>
-    ensures row { IfOk result (λ r. r ≡ negation (Row.Ge poly.now)) }
-    ensures within { OnOk result (negation_within (Row.Ge poly.now) ≡ true) }
-    ensures large { IfErr result (λ e. e ≡ PolyEnd.Large → negation_within (Row.Ge poly.now) ≡ false) }
     ensures forms { Forms PolyEnd.Large result (below poly.now) }
 {
     Row::Ge(poly.try_clone(alloc)?).negate(alloc)

@@ -54,12 +54,10 @@ pub struct Division {
 /// the way passes the limits.
 pub fn divide(alloc: Global, num: &Poly, den: &i128) -> Result<Division, PolyEnd>
     requires { is_zero den.now ≡ false }
+    ensures forms { FormsAs (λ d. (d.equation, d.rest, d.bound)) PolyEnd.Large result (division_formed num.now den.now) }
     ensures equation { IfOk result (λ d. d.equation ≡ nothing_left num.now den.now) }
     ensures rest { IfOk result (λ d. d.rest ≡ remainder_by num.now den.now) }
     ensures bound { IfOk result (λ d. d.bound ≡ greatest_remainder den.now) }
-    ensures within { OnOk result (division_within num.now den.now ≡ true) }
-    ensures large { IfErr result (λ e. e ≡ PolyEnd.Large → division_within num.now den.now ≡ false) }
-    ensures forms { FormsAs (λ d. (d.equation, d.rest, d.bound)) PolyEnd.Large result (division_formed num.now den.now) }
 {
     let quotient = quotient(alloc, num, den)?;
     let rest = remainder(alloc, num, den)?;

@@ -100,9 +100,6 @@ fn solved_minus(alloc: Global, poly: &Poly, alone: &Poly, var: u32) -> Result<Op
 /// The value of the variable where the polynomial is 0; none where the variable doesn't stand in it once,
 /// alone, with coefficient 1 or -1. Large exactly where a polynomial on the way passes the limits.
 pub fn solve(alloc: Global, poly: &Poly, var: u32) -> Result<Option<Poly>, PolyEnd>
-    ensures value { IfOk result (λ s. s ≡ solution var poly.now) }
-    ensures within { OnOk result (solution_within var poly.now ≡ true) }
-    ensures large { IfErr result (λ e. e ≡ PolyEnd.Large → solution_within var poly.now ≡ false) }
     ensures forms { Forms PolyEnd.Large result (solution_formed var poly.now) }
 {
     let alone = Poly::variable(alloc, var)?;

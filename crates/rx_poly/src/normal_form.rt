@@ -13,11 +13,8 @@ use std::alloc::Global;
 /// The normal form of `term`: of its left part, of its right part, and of the two joined. Large exactly
 /// where one of the polynomials on the way passes the limits.
 pub fn norm(alloc: Global, term: &ITerm) -> Result<Poly, PolyEnd>
-    ensures normal { IfOk result (λ p. p ≡ norm_of term.now) }
-    ensures value { IfOk result (λ p. (a : ℕ → ℤ) → value a p ≡ term_value a term.now) }
-    ensures within { OnOk result (norm_within term.now ≡ true) }
-    ensures large { IfErr result (λ e. e ≡ PolyEnd.Large → norm_within term.now ≡ false) }
     ensures forms { Forms PolyEnd.Large result (formed term.now) }
+    ensures value { IfOk result (λ p. (a : ℕ → ℤ) → value a p ≡ term_value a term.now) }
 {
     match term {
         ITerm::Var(number) => Ok(of_variable(alloc, *number)?),

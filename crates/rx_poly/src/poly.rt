@@ -56,9 +56,6 @@ impl Model for Poly {
 /// The polynomial of a normal form; Large where its size or depth passes the limits.
 pub(crate) fn within_limits(body: Body) -> Result<Poly, PolyEnd>
     requires { is_normal body ≡ true }
-    ensures same { IfOk result (λ p. p ≡ body) }
-    ensures within { OnOk result (is_small body ≡ true) }
-    ensures large { IfErr result (λ e. is_small body ≡ false) }
     ensures forms { Forms PolyEnd.Large result (kept is_small body) }
 {
     if is_within_limits(&body) {
@@ -163,11 +160,8 @@ impl Poly {
 
     /// The sum of the two; Large exactly where the sum passes the limits.
     pub fn add(&self, alloc: Global, other: &Poly) -> Result<Poly, PolyEnd>
-        ensures normal { IfOk result (λ p. p ≡ added self.now other.now) }
-        ensures value { IfOk result (λ p. (a : ℕ → ℤ) → value a p ≡ value a self.now +ℤ value a other.now) }
-        ensures within { OnOk result (is_within (added self.now other.now) ≡ true) }
-        ensures large { IfErr result (λ e. e ≡ PolyEnd.Large → is_within (added self.now other.now) ≡ false) }
         ensures forms { Forms PolyEnd.Large result (kept is_within (added self.now other.now)) }
+        ensures value { IfOk result (λ p. (a : ℕ → ℤ) → value a p ≡ value a self.now +ℤ value a other.now) }
     {
         combine(alloc, self, other, Sign::Plus)
     }
@@ -175,22 +169,16 @@ impl Poly {
     /// This polynomial minus the other, coefficient by coefficient; Large exactly where the difference
     /// passes the limits. A polynomial minus itself is always 0.
     pub fn sub(&self, alloc: Global, other: &Poly) -> Result<Poly, PolyEnd>
-        ensures normal { IfOk result (λ p. p ≡ subtracted self.now other.now) }
-        ensures value { IfOk result (λ p. (a : ℕ → ℤ) → value a p ≡ value a self.now -ℤ value a other.now) }
-        ensures within { OnOk result (is_within (subtracted self.now other.now) ≡ true) }
-        ensures large { IfErr result (λ e. e ≡ PolyEnd.Large → is_within (subtracted self.now other.now) ≡ false) }
         ensures forms { Forms PolyEnd.Large result (kept is_within (subtracted self.now other.now)) }
+        ensures value { IfOk result (λ p. (a : ℕ → ℤ) → value a p ≡ value a self.now -ℤ value a other.now) }
     {
         combine(alloc, self, other, Sign::Minus)
     }
 
     /// The polynomial times a number; Large exactly where that passes the limits.
     pub fn scale(&self, alloc: Global, by: i128) -> Result<Poly, PolyEnd>
-        ensures normal { IfOk result (λ p. p ≡ scaled_by by self.now) }
-        ensures value { IfOk result (λ p. (a : ℕ → ℤ) → value a p ≡ by *ℤ value a self.now) }
-        ensures within { OnOk result (is_within (scaled_by by self.now) ≡ true) }
-        ensures large { IfErr result (λ e. e ≡ PolyEnd.Large → is_within (scaled_by by self.now) ≡ false) }
         ensures forms { Forms PolyEnd.Large result (kept is_within (scaled_by by self.now)) }
+        ensures value { IfOk result (λ p. (a : ℕ → ℤ) → value a p ≡ by *ℤ value a self.now) }
     {
         times_number(alloc, self, &by)
     }
@@ -198,11 +186,8 @@ impl Poly {
     /// The product of the two. Large exactly where the product of one term of this polynomial with the
     /// whole other one passes the limits, or the sum of the first such products does.
     pub fn mul(&self, alloc: Global, other: &Poly) -> Result<Poly, PolyEnd>
-        ensures normal { IfOk result (λ p. p ≡ multiplied self.now other.now) }
-        ensures value { IfOk result (λ p. (a : ℕ → ℤ) → value a p ≡ value a self.now *ℤ value a other.now) }
-        ensures within { OnOk result (mul_within self.now other.now ≡ true) }
-        ensures large { IfErr result (λ e. e ≡ PolyEnd.Large → mul_within self.now other.now ≡ false) }
         ensures forms { Forms PolyEnd.Large result (product_formed self.now other.now) }
+        ensures value { IfOk result (λ p. (a : ℕ → ℤ) → value a p ≡ value a self.now *ℤ value a other.now) }
     {
         let mut sum = zero(alloc);
         for term in self.body.terms.as_slice() {
@@ -246,9 +231,6 @@ pub(crate) fn zero(alloc: Global) -> Poly
 fn times_term(alloc: Global, term: &(Mono, i128), factor: &Poly) -> Result<Poly, PolyEnd>
     requires normal { is_normal_mono term.now.0 ≡ true }
     requires nonzero { is_zero term.now.1 ≡ false }
-    ensures same { IfOk result (λ p. p ≡ of_terms (scaled term.now (out-Body factor.now).terms)) }
-    ensures within { OnOk result (is_within (of_terms (scaled term.now (out-Body factor.now).terms)) ≡ true) }
-    ensures large { IfErr result (λ e. e ≡ PolyEnd.Large → is_within (of_terms (scaled term.now (out-Body factor.now).terms)) ≡ false) }
     ensures forms { Forms PolyEnd.Large result (kept is_within (of_terms (scaled term.now (out-Body factor.now).terms))) }
 {
     let terms = scale(alloc, term, factor.body.terms.as_slice())?;
@@ -287,9 +269,6 @@ pub(crate) fn of_number(alloc: Global, by: &i128) -> Result<Poly, AllocError>
 
 /// The first polynomial plus or minus the second; Large exactly where that passes the limits.
 fn combine(alloc: Global, left: &Poly, right: &Poly, sign: Sign) -> Result<Poly, PolyEnd>
-    ensures same { IfOk result (λ p. p ≡ combined sign left.now right.now) }
-    ensures within { OnOk result (is_within (combined sign left.now right.now) ≡ true) }
-    ensures large { IfErr result (λ e. e ≡ PolyEnd.Large → is_within (combined sign left.now right.now) ≡ false) }
     ensures forms { Forms PolyEnd.Large result (kept is_within (combined sign left.now right.now)) }
 {
     let terms = merge(
@@ -303,9 +282,6 @@ fn combine(alloc: Global, left: &Poly, right: &Poly, sign: Sign) -> Result<Poly,
 
 /// The polynomial times a number; Large exactly where that passes the limits.
 fn times_number(alloc: Global, poly: &Poly, by: &i128) -> Result<Poly, PolyEnd>
-    ensures same { IfOk result (λ p. p ≡ scaled_by by.now poly.now) }
-    ensures within { OnOk result (is_within (scaled_by by.now poly.now) ≡ true) }
-    ensures large { IfErr result (λ e. e ≡ PolyEnd.Large → is_within (scaled_by by.now poly.now) ≡ false) }
     ensures forms { Forms PolyEnd.Large result (kept is_within (scaled_by by.now poly.now)) }
 {
     let terms = multiple(alloc, poly.body.terms.as_slice(), by)?;
@@ -315,9 +291,6 @@ fn times_number(alloc: Global, poly: &Poly, by: &i128) -> Result<Poly, PolyEnd>
 /// The polynomial that is one atom; Large where that passes the limits.
 pub(crate) fn of_atom(alloc: Global, atom: Atom) -> Result<Poly, PolyEnd>
     requires { is_normal_atom atom ≡ true }
-    ensures same { IfOk result (λ p. p ≡ atom_alone atom) }
-    ensures within { OnOk result (is_within (atom_alone atom) ≡ true) }
-    ensures large { IfErr result (λ e. e ≡ PolyEnd.Large → is_within (atom_alone atom) ≡ false) }
     ensures forms { Forms PolyEnd.Large result (kept is_within (atom_alone atom)) }
 {
     let mut atoms = Graded::new(alloc);

@@ -63,9 +63,6 @@ fn in_place_of(alloc: Global, at: u32, with: Replacements) -> Result<Poly, Alloc
 /// The atom with its variables replaced.
 #[cycle(substituted)]
 fn atom_with(alloc: Global, atom: &Atom, with: Replacements) -> Result<Poly, PolyEnd>
-    ensures normal { IfOk result (λ p. p ≡ (in_atom (replacements with.entry) atom.now).form) }
-    ensures within { OnOk result ((in_atom (replacements with.entry) atom.now).within ≡ true) }
-    ensures large { IfErr result (λ e. e ≡ PolyEnd.Large → (in_atom (replacements with.entry) atom.now).within ≡ false) }
     ensures forms { Forms PolyEnd.Large result (in_atom (replacements with.entry) atom.now) }
 {
     match atom {
@@ -86,9 +83,6 @@ fn atom_with(alloc: Global, atom: &Atom, with: Replacements) -> Result<Poly, Pol
 /// The number times the monomial with its variables replaced.
 #[cycle(substituted)]
 fn mono_with(alloc: Global, mono: &Mono, by: &i128, with: Replacements) -> Result<Poly, PolyEnd>
-    ensures normal { IfOk result (λ p. p ≡ (in_mono (replacements with.entry) mono.now by.now).form) }
-    ensures within { OnOk result ((in_mono (replacements with.entry) mono.now by.now).within ≡ true) }
-    ensures large { IfErr result (λ e. e ≡ PolyEnd.Large → (in_mono (replacements with.entry) mono.now by.now).within ≡ false) }
     ensures forms { Forms PolyEnd.Large result (in_mono (replacements with.entry) mono.now by.now) }
 {
     let start = of_number(alloc, by)?;
@@ -103,9 +97,6 @@ fn mono_with(alloc: Global, mono: &Mono, by: &i128, with: Replacements) -> Resul
 /// The sum with its variables replaced.
 #[cycle(substituted)]
 fn body_with(alloc: Global, body: &Body, with: Replacements) -> Result<Poly, PolyEnd>
-    ensures normal { IfOk result (λ p. p ≡ (in_body (replacements with.entry) body.now).form) }
-    ensures within { OnOk result ((in_body (replacements with.entry) body.now).within ≡ true) }
-    ensures large { IfErr result (λ e. e ≡ PolyEnd.Large → (in_body (replacements with.entry) body.now).within ≡ false) }
     ensures forms { Forms PolyEnd.Large result (in_body (replacements with.entry) body.now) }
 {
     let mut sum = zero(alloc);
@@ -121,11 +112,8 @@ impl Poly {
     /// where a polynomial on the way passes the limits: the monomials are taken in order, in each the
     /// coefficient is multiplied with the replaced atoms from left to right, and the results are summed.
     pub fn subst(&self, alloc: Global, with: &[(u32, Poly)]) -> Result<Poly, PolyEnd>
-        ensures normal { IfOk result (λ p. p ≡ (in_body with.now self.now).form) }
-        ensures value { IfOk result (λ p. (a : ℕ → ℤ) → value a p ≡ value (worth a with.now) self.now) }
-        ensures within { OnOk result ((in_body with.now self.now).within ≡ true) }
-        ensures large { IfErr result (λ e. e ≡ PolyEnd.Large → (in_body with.now self.now).within ≡ false) }
         ensures forms { Forms PolyEnd.Large result (in_body with.now self.now) }
+        ensures value { IfOk result (λ p. (a : ℕ → ℤ) → value a p ≡ value (worth a with.now) self.now) }
     {
         body_with(alloc, self.body(), Replacements::Listed(with))
     }

@@ -40,9 +40,6 @@ fn push_substituted(
     row: &Row,
     with: &[(u32, Poly)],
 ) -> Result<(), PolyEnd>
-    ensures ok { OnOk result (rows.new.items ≡ rows.old.items ++ in_row with.now row.now ∷ []) }
-    ensures within { OnOk result (row_within with.now row.now ≡ true) }
-    ensures large { IfErr result (λ e. e ≡ PolyEnd.Large → row_within with.now row.now ≡ false) }
     ensures forms { FormsAs (λ _. rows.new.items) PolyEnd.Large result (pushed_with rows.old.items with.now row.now) }
 {
     let changed = row.subst(alloc, with)?;
@@ -53,9 +50,6 @@ fn push_substituted(
 /// As many rows in the same order, each with those polynomials in place of their variables. Large exactly
 /// where a polynomial on the way to one of them passes the limits.
 pub fn subst_rows(alloc: Global, rows: &[Row], with: &[(u32, Poly)]) -> Result<Vec<Row>, PolyEnd>
-    ensures rows { IfOk result (λ v. v.items ≡ in_rows with.now rows.now) }
-    ensures within { OnOk result (rows_within with.now rows.now ≡ true) }
-    ensures large { IfErr result (λ e. e ≡ PolyEnd.Large → rows_within with.now rows.now ≡ false) }
     ensures forms { FormsAs (λ v. v.items) PolyEnd.Large result (rows_with with.now rows.now) }
 {
     let mut changed = Vec::new(alloc);
@@ -67,7 +61,6 @@ pub fn subst_rows(alloc: Global, rows: &[Row], with: &[(u32, Poly)]) -> Result<V
 
 /// Puts the row after the others, with those polynomials in place of v0, v1, and so on.
 fn push_at_args(rows: &mut Vec<Row>, alloc: Global, row: &Row, args: &[Poly]) -> Result<(), PolyEnd>
-    ensures ok { OnOk result (rows.new.items ≡ rows.old.items ++ in_row (numbered args.now) row.now ∷ []) }
     ensures forms { FormsAs (λ _. rows.new.items) PolyEnd.Large result (pushed_with rows.old.items (numbered args.now) row.now) }
 {
     let instance = row.at_args(alloc, args)?;
@@ -160,11 +153,8 @@ impl Constraint {
     /// As many rows in the same order, each with those polynomials in place of their variables. Large exactly
     /// where a polynomial on the way to one of them passes the limits.
     pub fn subst(&self, alloc: Global, with: &[(u32, Poly)]) -> Result<Constraint, PolyEnd>
-        ensures rows { IfOk result (λ c. c ≡ in_rows with.now self.now) }
-        ensures holds { IfOk result (λ c. (a : ℕ → ℤ) → AllHold a c ↔ AllHold (worth a with.now) self.now) }
-        ensures within { OnOk result (rows_within with.now self.now ≡ true) }
-        ensures large { IfErr result (λ e. e ≡ PolyEnd.Large → rows_within with.now self.now ≡ false) }
         ensures forms { Forms PolyEnd.Large result (rows_with with.now self.now) }
+        ensures holds { IfOk result (λ c. (a : ℕ → ℤ) → AllHold a c ↔ AllHold (worth a with.now) self.now) }
     {
         let rows = subst_rows(alloc, self.rows.as_slice(), with)?;
         Ok(Constraint {

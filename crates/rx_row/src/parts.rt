@@ -51,9 +51,6 @@ fn are_lawful_parts(rows: &[Row], parts: &[(u32, i128)]) -> bool
 /// The sum with the row's polynomial times the number. Large exactly where the multiple passes the limits,
 /// or the sum with it does.
 fn plus_multiple(alloc: Global, sum: &Poly, row: &Row, by: &i128) -> Result<Poly, PolyEnd>
-    ensures same { IfOk result (λ p. p ≡ with_multiple sum.now (Some row.now) by.now) }
-    ensures within { OnOk result (multiple_within sum.now (Some row.now) by.now ≡ true) }
-    ensures large { IfErr result (λ e. e ≡ PolyEnd.Large → multiple_within sum.now (Some row.now) by.now ≡ false) }
     ensures forms { Forms PolyEnd.Large result (multiple_formed sum.now (Some row.now) by.now) }
 {
     let multiple = row.poly().scale(alloc, *by)?;
@@ -62,9 +59,6 @@ fn plus_multiple(alloc: Global, sum: &Poly, row: &Row, by: &i128) -> Result<Poly
 
 /// The sum of the parts' multiples, in order.
 fn sum_of_multiples(alloc: Global, rows: &[Row], parts: &[(u32, i128)]) -> Result<Poly, PolyEnd>
-    ensures same { IfOk result (λ p. p ≡ sum_from (number (pos 0)) rows.now parts.now) }
-    ensures within { OnOk result (sum_within (number (pos 0)) rows.now parts.now ≡ true) }
-    ensures large { IfErr result (λ e. e ≡ PolyEnd.Large → sum_within (number (pos 0)) rows.now parts.now ≡ false) }
     ensures forms { Forms PolyEnd.Large result (sum_formed (number (pos 0)) rows.now parts.now) }
 {
     let mut sum = Poly::constant(alloc, 0)?;
@@ -85,11 +79,8 @@ pub fn combine_rows(
     rows: &[Row],
     parts: &[(u32, i128)],
 ) -> Result<Option<Poly>, PolyEnd>
-    ensures sum { IfOk result (λ s. s ≡ sum_of rows.now parts.now) }
-    ensures holds { IfOk result (λ s. IfSome s (λ p. (a : ℕ → ℤ) → AllHold a rows.now → pos 0 ≤ℤ value a p)) }
-    ensures within { OnOk result (parts_within rows.now parts.now ≡ true) }
-    ensures large { IfErr result (λ e. e ≡ PolyEnd.Large → parts_within rows.now parts.now ≡ false) }
     ensures forms { Forms PolyEnd.Large result (parts_formed rows.now parts.now) }
+    ensures holds { IfOk result (λ s. IfSome s (λ p. (a : ℕ → ℤ) → AllHold a rows.now → pos 0 ≤ℤ value a p)) }
 {
     if !are_lawful_parts(rows, parts) {
         return Ok(None);
@@ -103,11 +94,8 @@ pub fn combine(
     rows: &Constraint,
     parts: &[(u32, i128)],
 ) -> Result<Option<Poly>, PolyEnd>
-    ensures sum { IfOk result (λ s. s ≡ sum_of rows.now parts.now) }
-    ensures holds { IfOk result (λ s. IfSome s (λ p. (a : ℕ → ℤ) → AllHold a rows.now → pos 0 ≤ℤ value a p)) }
-    ensures within { OnOk result (parts_within rows.now parts.now ≡ true) }
-    ensures large { IfErr result (λ e. e ≡ PolyEnd.Large → parts_within rows.now parts.now ≡ false) }
     ensures forms { Forms PolyEnd.Large result (parts_formed rows.now parts.now) }
+    ensures holds { IfOk result (λ s. IfSome s (λ p. (a : ℕ → ℤ) → AllHold a rows.now → pos 0 ≤ℤ value a p)) }
 {
     combine_rows(alloc, rows.rows(), parts)
 }

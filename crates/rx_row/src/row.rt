@@ -24,9 +24,6 @@ pub enum Row {
 
 /// `-p - 1`: p scaled by -1, minus 1. Large exactly where one of the two passes the limits.
 fn below_zero(alloc: Global, poly: &Poly) -> Result<Poly, PolyEnd>
-    ensures same { IfOk result (λ p. p ≡ minus_one_more poly.now) }
-    ensures within { OnOk result (minus_one_more_within poly.now ≡ true) }
-    ensures large { IfErr result (λ e. e ≡ PolyEnd.Large → minus_one_more_within poly.now ≡ false) }
     ensures forms { Forms PolyEnd.Large result (less_one_more poly.now) }
 {
     let opposite = poly.scale(alloc, -1)?;
@@ -38,11 +35,8 @@ impl Row {
     /// The row that holds exactly where this one doesn't: `-p - 1 >= 0` for `p >= 0`, and for an equation
     /// the disequality, and the other way round. Large exactly where `-p` or `-p - 1` passes the limits.
     pub fn negate(&self, alloc: Global) -> Result<Row, PolyEnd>
-        ensures negation { IfOk result (λ r. r ≡ negation self.now) }
-        ensures holds { IfOk result (λ r. (a : ℕ → ℤ) → RowHolds a r ↔ ¬ (RowHolds a self.now)) }
-        ensures within { OnOk result (negation_within self.now ≡ true) }
-        ensures large { IfErr result (λ e. e ≡ PolyEnd.Large → negation_within self.now ≡ false) }
         ensures forms { Forms PolyEnd.Large result (negated self.now) }
+        ensures holds { IfOk result (λ r. (a : ℕ → ℤ) → RowHolds a r ↔ ¬ (RowHolds a self.now)) }
     {
         match self {
             Row::Ge(poly) => Ok(Row::Ge(below_zero(alloc, poly)?)),
@@ -65,11 +59,8 @@ impl Row {
     /// The row of its polynomial with those polynomials in place of their variables. Large exactly where a
     /// polynomial on the way to that passes the limits.
     pub fn subst(&self, alloc: Global, with: &[(u32, Poly)]) -> Result<Row, PolyEnd>
-        ensures row { IfOk result (λ r. r ≡ in_row with.now self.now) }
-        ensures holds { IfOk result (λ r. (a : ℕ → ℤ) → RowHolds a r ↔ RowHolds (worth a with.now) self.now) }
-        ensures within { OnOk result (row_within with.now self.now ≡ true) }
-        ensures large { IfErr result (λ e. e ≡ PolyEnd.Large → row_within with.now self.now ≡ false) }
         ensures forms { Forms PolyEnd.Large result (row_with with.now self.now) }
+        ensures holds { IfOk result (λ r. (a : ℕ → ℤ) → RowHolds a r ↔ RowHolds (worth a with.now) self.now) }
     {
         match self {
             Row::Ge(poly) => Ok(Row::Ge(poly.subst(alloc, with)?)),

@@ -26,9 +26,6 @@ pub(crate) fn substituted(
     args: &[Poly],
     with: &[(u32, Poly)],
 ) -> Result<Items<Poly>, PolyEnd>
-    ensures polys { IfOk result (λ made. made ≡ in_polys with.now args.now) }
-    ensures within { OnOk result (polys_within with.now args.now ≡ true) }
-    ensures large { IfErr result (λ e. e ≡ PolyEnd.Large → polys_within with.now args.now ≡ false) }
     ensures forms { Forms PolyEnd.Large result (polys_with with.now args.now) }
 {
     let mut made = Items::new(alloc);

@@ -299,11 +299,8 @@ impl Term {
     /// The same stack, each of its polynomials with those polynomials in place of their variables. Large
     /// exactly where a polynomial on the way to them passes the limits.
     pub fn subst(&self, alloc: Global, with: &[(u32, Poly)]) -> Result<Term, PolyEnd>
-        ensures term { IfOk result (λ t. t ≡ in_term with.now self.now) }
-        ensures value { IfOk result (λ t. (a : ℕ → ℤ) → ground_at a t ≡ ground_at (worth a with.now) self.now) }
-        ensures within { OnOk result (term_within with.now self.now ≡ true) }
-        ensures large { IfErr result (λ e. e ≡ PolyEnd.Large → term_within with.now self.now ≡ false) }
         ensures forms { Forms PolyEnd.Large result (term_with with.now self.now) }
+        ensures value { IfOk result (λ t. (a : ℕ → ℤ) → ground_at a t ≡ ground_at (worth a with.now) self.now) }
     {
         let mut here = self;
         let mut upper = Term::Fail(0);

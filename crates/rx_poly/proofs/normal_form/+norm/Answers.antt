@@ -1,9 +1,12 @@
 -- What is worth the sum or product of both parts is worth the term.
 use Rattle.std.proofs.lemmas.Result.{IfOk-weaker}
 use Rattle.rx_poly.proofs.NormLaws.{sum_value, product_value, turned_value, quotient_value, remainder_value}
-use Rattle.std.proofs.Common.{ap, ◌∙◌}
 use Rattle.rx_poly.proofs.DivisionLaws.{value-quotient_of, value-remainder_of}
-use Rattle.rx_poly.specs.Value.{value}
+use Rattle.rx_plain.proofs.Forming.{value_formed}
+use Rattle.rx_plain.specs.Formed.{kept}
+use Rattle.rx_poly.specs.Division.{quotient_of, remainder_of}
+use Rattle.rx_poly.specs.Limits.{is_within}
+use Rattle.rx_poly.specs.declared.poly_end.PolyEnd.TheVariants.{Large}
 use Rattle.rx_poly.proofs.normal_form.+norm.Goals as goal
 
 pub returns-in_ok-right-in-Add-clause-value : goal.returns-in_ok-right-in-Add-clause-value
@@ -20,10 +23,12 @@ returns-in_ok-norm-in-Neg-clause-value t c =
 
 pub returns-in_ok-right-in-Div-clause-value : goal.returns-in_ok-right-in-Div-clause-value
 returns-in_ok-right-in-Div-clause-value t c =
-    IfOk-weaker c.divide.result _ _ (λ b e. quotient_value c.args.term.now c.in_ok-left-in-Div.left c.in_ok-right-in-Div.right c.get-in-Div.ensures c.get-in-Div-2.ensures c.in_ok-left-in-Div.ensures.value c.in_ok-right-in-Div.ensures.value c.in-Div.is b
-    (λ a. ap (value a) e ∙ value-quotient_of a c.in_ok-left-in-Div.left c.in_ok-right-in-Div.right)) c.divide.ensures.same
+    value_formed Large (kept is_within (quotient_of c.in_ok-left-in-Div.left c.in_ok-right-in-Div.right)) c.divide.result _
+    (quotient_value c.args.term.now c.in_ok-left-in-Div.left c.in_ok-right-in-Div.right c.get-in-Div.ensures c.get-in-Div-2.ensures c.in_ok-left-in-Div.ensures.value c.in_ok-right-in-Div.ensures.value c.in-Div.is _
+    (λ a. value-quotient_of a c.in_ok-left-in-Div.left c.in_ok-right-in-Div.right)) c.divide.ensures.forms
 
 pub returns-in_ok-right-in-Mod-clause-value : goal.returns-in_ok-right-in-Mod-clause-value
 returns-in_ok-right-in-Mod-clause-value t c =
-    IfOk-weaker c.remainder.result _ _ (λ b e. remainder_value c.args.term.now c.in_ok-left-in-Mod.left c.in_ok-right-in-Mod.right c.get-in-Mod.ensures c.get-in-Mod-2.ensures c.in_ok-left-in-Mod.ensures.value c.in_ok-right-in-Mod.ensures.value c.in-Mod.is b
-    (λ a. ap (value a) e ∙ value-remainder_of a c.in_ok-left-in-Mod.left c.in_ok-right-in-Mod.right)) c.remainder.ensures.same
+    value_formed Large (kept is_within (remainder_of c.in_ok-left-in-Mod.left c.in_ok-right-in-Mod.right)) c.remainder.result _
+    (remainder_value c.args.term.now c.in_ok-left-in-Mod.left c.in_ok-right-in-Mod.right c.get-in-Mod.ensures c.get-in-Mod-2.ensures c.in_ok-left-in-Mod.ensures.value c.in_ok-right-in-Mod.ensures.value c.in-Mod.is _
+    (λ a. value-remainder_of a c.in_ok-left-in-Mod.left c.in_ok-right-in-Mod.right)) c.remainder.ensures.forms

@@ -8,7 +8,7 @@ use Rattle.rx_term.proofs.term.Term.subst.Goals as goal
 
 pub returns-in-Return-clause-value : goal.returns-in-Return-clause-value
 returns-in-Return-clause-value c = finished c.loop-here.invariant
-    (ap (in_term c.args.with.now) c.in-Return.is ∙ in_term-Return c.args.with.now c.in-Return.value ∙ ap Return (sym c.in_ok-subst-in-Return.ensures.normal))
+    (ap (in_term c.args.with.now) c.in-Return.is ∙ in_term-Return c.args.with.now c.in-Return.value ∙ ap Return (sym c.in_ok-subst-in-Return.ensures.forms.0))
     c.onto.ensures
 
 pub returns-in-Fail-clause-value : goal.returns-in-Fail-clause-value
@@ -19,5 +19,5 @@ returns-in-Fail-clause-value c = finished c.loop-here.invariant
 pub returns-in-Call-clause-value : goal.returns-in-Call-clause-value
 returns-in-Call-clause-value c = finished c.loop-here.invariant
     (ap (in_term c.args.with.now) c.in-Call.is ∙ in_term-Call c.args.with.now c.in-Call.sym c.in-Call.args
-    ∙ ap (Call c.in-Call.sym) (ap (in_polys c.args.with.now) (sym c.as_slice.ensures) ∙ sym c.in_ok-args-in-Call.ensures.polys))
+    ∙ ap (Call c.in-Call.sym) (ap (in_polys c.args.with.now) (sym c.as_slice.ensures) ∙ sym c.in_ok-args-in-Call.ensures.forms.0))
     c.onto-in-Call.ensures
