@@ -1,5 +1,6 @@
 -- Lemmas on the definitions of specs/.
 pub mod AssignedLaws
+pub mod BoundLaws
 pub mod Changing
 pub mod CoveredLaws
 pub mod Equations

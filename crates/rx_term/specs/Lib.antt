@@ -1,5 +1,6 @@
 -- Terms as stacks, what they mean as ground terms, and rule sets.
 pub mod Assigned
+pub mod Bounds
 pub mod Covered
 pub mod Example
 pub mod Fitting

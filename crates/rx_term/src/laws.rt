@@ -1,5 +1,5 @@
 //! What terms and rules mean as ground terms: laws, each a function with an empty body.
-ghost use Rattle.std.specs.Prelude.{◌≡◌, ◌↔◌, ◌<◌, ℕ, ℤ, true, Some, List, Contains, length};
+ghost use Rattle.std.specs.Prelude.{◌≡◌, ◌↔◌, ◌<◌, ◌≤◌, ℕ, ℤ, true, Some, List, Contains, length};
 ghost use Rattle.std.specs.List.{enumerate_from};
 ghost use Rattle.std.specs.Option.{option_map};
 ghost use Rattle.rx_poly.specs.Substitution.{worth};
@@ -11,9 +11,10 @@ ghost use Rattle.rx_rewriting.specs.Steps.{IsSingleValued, Step};
 ghost use Rattle.rx_rewriting.specs.Terms.{Fits, Ground, TermSet, under};
 ghost use Rattle.rx_row.specs.Holds.{AllHold};
 ghost use Rattle.rx_row.specs.Substitution.{in_rows};
-ghost use Rattle.rx_row.specs.Variables.{rows_use_below};
+ghost use Rattle.rx_row.specs.Variables.{rows_bound, rows_use_below};
 ghost use Rattle.rx_row.specs.declared.row.Row.{Row};
 ghost use Rattle.rx_term.specs.Assigned.{assigned};
+ghost use Rattle.rx_term.specs.Bounds.{term_bound};
 ghost use Rattle.rx_term.specs.Covered.{CanStep, Domains, IsCovered, IsCoveredOver, KeepsDomains};
 ghost use Rattle.rx_term.specs.Example.{IsInside, counting, example};
 ghost use Rattle.rx_term.specs.Fitting.{term_fits};
@@ -185,4 +186,11 @@ pub fn the_premises_can_be_met()
     ensures inner { KeepsInner IsInside }
     ensures domains { KeepsDomains IsInside counting }
     ensures fitting { (s : Ground) → IsInside s → Fits (signature example) s }
+{}
+
+/// All variables of a term, or of rows, are below a number exactly where it is at least the least number
+/// above them.
+pub fn bounds_are_the_least_above_all()
+    ensures term { (n : ℕ) (t : Term) → (term_uses_below n t ≡ true) ↔ (term_bound t ≤ n) }
+    ensures rows { (n : ℕ) (rows : List Row) → (rows_use_below n rows ≡ true) ↔ (rows_bound rows ≤ n) }
 {}
