@@ -7,3 +7,4 @@ pub mod Same
 pub mod Substituting
 pub mod SubstitutionLaws
 pub mod Summing
+pub mod TurnedTerms

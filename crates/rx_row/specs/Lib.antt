@@ -2,6 +2,7 @@
 pub mod Holds
 pub mod Membership
 pub mod Naming
+pub mod Opposites
 pub mod Negation
 pub mod Parts
 pub mod Substitution

@@ -4,6 +4,7 @@
 
 mod constraint;
 mod laws;
+mod opposites;
 mod parts;
 mod row;
 mod variables;
