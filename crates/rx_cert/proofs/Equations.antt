@@ -31,6 +31,9 @@ finding_division rows num d above below = finding_is rows (DivFacts num d above 
 depth_is : (cert : Cert) → cert_depth cert ≡ depth_level (map-Cert Cert ℕ cert_depth (out-Cert cert))
 depth_is cert = fold_out-Cert ℕ depth_level cert
 
+pub depth_sum : (ps : List (ℕ × ℤ)) → cert_depth (Sum ps) ≡ 1
+depth_sum ps = depth_is (Sum ps) ∙ rw (outs-Sum ps) refl
+
 pub depth_cut : (ps : List (ℕ × ℤ)) (d : ℤ) (rest : Cert) → cert_depth (Cut ps d rest) ≡ 1 + cert_depth rest
 depth_cut ps d rest = depth_is (Cut ps d rest) ∙ rw (outs-Cut ps d rest) refl
 

@@ -56,3 +56,17 @@ rows_below_zero dividend divisor =
 abbrev pub below_zero_within : Body → ℤ → Bool
 below_zero_within dividend divisor =
     negation_within (Ge dividend) && (division_within dividend divisor && (is_within (opposite (remainder_by dividend divisor)) && is_within (added (greatest_remainder divisor) (remainder_by dividend divisor))))
+
+-- the same rows of a division whose parts are formed, and whether what is formed of them keeps the limits: where the dividend is at least 0
+abbrev pub facts_at_least_zero : Body → Body → Body → Body → Formed (List Row)
+facts_at_least_zero dividend equation rest bound = record {
+  form = Ge dividend ∷ Eq equation ∷ Ge rest ∷ Ge (subtracted bound rest) ∷ [];
+  within = is_within (subtracted bound rest);
+}
+
+-- where it is below
+abbrev pub facts_below_zero : Body → Body → Body → Body → Formed (List Row)
+facts_below_zero dividend equation rest bound = record {
+  form = negation (Ge dividend) ∷ Eq equation ∷ Ge (opposite rest) ∷ Ge (added bound rest) ∷ [];
+  within = negation_within (Ge dividend) && (is_within (opposite rest) && is_within (added bound rest));
+}

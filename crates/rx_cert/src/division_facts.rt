@@ -1,7 +1,7 @@
 //! What is known of a dividend, its quotient and its remainder by a number.
 ghost use Rattle.std.specs.Prelude.{◌≡◌, ◌&&◌, ◌∷◌, [], pos, true, false, unsigned_abs, IfOk, IfErr, OnOk};
 ghost use Rattle.rx_plain.specs.Formed.{Forms, FormsAs, kept};
-ghost use Rattle.rx_cert.specs.DivisionFacts.{at_least_zero_within, below_zero_within, division_formed, division_within, greatest_remainder, nothing_left, quotient_by, remainder_by, rows_at_least_zero, rows_below_zero};
+ghost use Rattle.rx_cert.specs.DivisionFacts.{at_least_zero_within, below_zero_within, division_formed, division_within, facts_at_least_zero, facts_below_zero, greatest_remainder, nothing_left, quotient_by, remainder_by, rows_at_least_zero, rows_below_zero};
 ghost use Rattle.rx_poly.specs.Limits.{added, fits_i128, is_within, subtracted};
 ghost use Rattle.rx_row.specs.Negation.{negation, negation_within, opposite};
 ghost use Rattle.rx_poly.specs.Terms.{is_zero};
@@ -92,9 +92,7 @@ pub fn facts_at_least_zero(
     num: &Poly,
     division: &Division,
 ) -> Result<Vec<Row>, PolyEnd>
-    ensures rows { IfOk result (λ v. v.items ≡ Row.Ge num.now ∷ Row.Eq division.now.equation ∷ Row.Ge division.now.rest ∷ Row.Ge (subtracted division.now.bound division.now.rest) ∷ []) }
-    ensures within { OnOk result (is_within (subtracted division.now.bound division.now.rest) ≡ true) }
-    ensures large { IfErr result (λ e. e ≡ PolyEnd.Large → is_within (subtracted division.now.bound division.now.rest) ≡ false) }
+    ensures forms { FormsAs (λ v. v.items) PolyEnd.Large result (facts_at_least_zero num.now division.now.equation division.now.rest division.now.bound) }
 {
     let room = division.bound.sub(alloc, &division.rest)?;
     let num = num.try_clone(alloc)?;
@@ -111,9 +109,7 @@ pub fn facts_at_least_zero(
 
 /// The facts of a dividend below 0. Large exactly where a polynomial on the way passes the limits.
 pub fn facts_below_zero(alloc: Global, num: &Poly, division: &Division) -> Result<Vec<Row>, PolyEnd>
-    ensures rows { IfOk result (λ v. v.items ≡ negation (Row.Ge num.now) ∷ Row.Eq division.now.equation ∷ Row.Ge (opposite division.now.rest) ∷ Row.Ge (added division.now.bound division.now.rest) ∷ []) }
-    ensures within { OnOk result ((negation_within (Row.Ge num.now) && (is_within (opposite division.now.rest) && is_within (added division.now.bound division.now.rest))) ≡ true) }
-    ensures large { IfErr result (λ e. e ≡ PolyEnd.Large → (negation_within (Row.Ge num.now) && (is_within (opposite division.now.rest) && is_within (added division.now.bound division.now.rest))) ≡ false) }
+    ensures forms { FormsAs (λ v. v.items) PolyEnd.Large result (facts_below_zero num.now division.now.equation division.now.rest division.now.bound) }
 {
     let below = row_below(alloc, num)?;
     let turned = division.rest.scale(alloc, -1)?;
