@@ -1,9 +1,7 @@
 //! The two rows of what is not 0.
-ghost use Rattle.std.specs.Prelude.{◌≡◌, slice_get, true, false, IfOk, IfErr, OnOk};
+ghost use Rattle.std.specs.Prelude.{◌≡◌, slice_get, IfOk};
 ghost use Rattle.rx_plain.specs.Formed.{Forms};
-ghost use Rattle.rx_cert.specs.Differences.{above, below, disequal, one_less};
-ghost use Rattle.rx_poly.specs.Limits.{is_within};
-ghost use Rattle.rx_row.specs.Negation.{negation, negation_within};
+ghost use Rattle.rx_cert.specs.Differences.{above, below, disequal};
 
 use rx_poly::{Poly, PolyEnd};
 use rx_row::Row;

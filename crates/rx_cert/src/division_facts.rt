@@ -1,9 +1,8 @@
 //! What is known of a dividend, its quotient and its remainder by a number.
 ghost use Rattle.std.specs.Prelude.{◌≡◌, ◌&&◌, ◌∷◌, [], pos, true, false, unsigned_abs, IfOk, IfErr, OnOk};
 ghost use Rattle.rx_plain.specs.Formed.{Forms, FormsAs, kept};
-ghost use Rattle.rx_cert.specs.DivisionFacts.{at_least_zero_within, below_zero_within, division_formed, division_within, facts_at_least_zero, facts_below_zero, greatest_remainder, nothing_left, quotient_by, remainder_by, rows_at_least_zero, rows_below_zero};
-ghost use Rattle.rx_poly.specs.Limits.{added, fits_i128, is_within, subtracted};
-ghost use Rattle.rx_row.specs.Negation.{negation, negation_within, opposite};
+ghost use Rattle.rx_cert.specs.DivisionFacts.{division_formed, facts_at_least_zero, facts_below_zero, greatest_remainder, nothing_left, quotient_by, remainder_by};
+ghost use Rattle.rx_poly.specs.Limits.{fits_i128, is_within};
 ghost use Rattle.rx_poly.specs.Terms.{is_zero};
 
 use crate::differences::row_below;
@@ -50,8 +49,8 @@ pub struct Division {
     pub bound: Poly,
 }
 
-/// What the division of the polynomial by a number that isn't 0 leaves. Large exactly where a polynomial on
-/// the way passes the limits.
+/// What the division of the polynomial by a number that isn't 0 leaves. Large exactly where a
+/// polynomial on the way passes the limits.
 pub fn divide(alloc: Global, num: &Poly, den: &i128) -> Result<Division, PolyEnd>
     requires { is_zero den.now ≡ false }
     ensures forms { FormsAs (λ d. (d.equation, d.rest, d.bound)) PolyEnd.Large result (division_formed num.now den.now) }
@@ -86,7 +85,8 @@ fn four(
     Ok(rows)
 }
 
-/// The facts of a dividend of at least 0. Large exactly where a polynomial on the way passes the limits.
+/// The facts of a dividend of at least 0. Large exactly where a polynomial on the way passes the
+/// limits.
 pub fn facts_at_least_zero(
     alloc: Global,
     num: &Poly,

@@ -1,14 +1,13 @@
 //! Variables that rows say the value of.
-ghost use Rattle.std.specs.Prelude.{◌≡◌, ◌∷◌, ◌==◌, [], slice_get, true, false, ◌&&◌, ◌+ℤ◌, IfOk, IfErr, IfSome, OnOk, OnSome};
+ghost use Rattle.std.specs.Prelude.{◌≡◌, ◌∷◌, ◌==◌, [], true, false, ◌&&◌, ◌+ℤ◌, IfOk, IfErr, OnOk};
 ghost use Rattle.std.specs.Option.{option_copied};
 ghost use Rattle.std.specs.Ordering.{is_eq};
 ghost use Rattle.rx_plain.specs.Formed.{Forms};
-ghost use Rattle.rx_cert.specs.Elimination.{are_opposite, coefficient_of, zero_polynomial, of_opposites, solution, solution_formed, solution_minus, solution_plus, solution_plus_within, solution_within};
+ghost use Rattle.rx_cert.specs.Elimination.{are_opposite, zero_polynomial, of_opposites, solution_formed, solution_minus, solution_plus, solution_plus_within};
 ghost use Rattle.rx_poly.specs.Constants.{variable};
 ghost use Rattle.rx_poly.specs.Limits.{added, is_within, subtracted};
 ghost use Rattle.rx_poly.specs.Order.{mono_cmp};
 ghost use Rattle.rx_poly.specs.Terms.{is_zero};
-ghost use Rattle.rx_poly.specs.declared.body.Body.{out-Body};
 
 use rx_poly::{Mono, Poly, PolyEnd, uses};
 use rx_row::Row;
@@ -59,8 +58,8 @@ fn opposed<'a>(poly: &'a Poly, other: Option<&Row>) -> Option<&'a Poly>
     }
 }
 
-/// The polynomial that the two rows say to be 0, where they do: an equation, named twice, or `p >= 0` and
-/// `-p >= 0`. Nothing is formed.
+/// The polynomial that the two rows say to be 0, where they do: an equation, named twice, or `p >=
+/// 0` and `-p >= 0`. Nothing is formed.
 pub fn polynomial_at_zero(rows: &[Row], first: u32, second: u32) -> Option<&Poly>
     ensures { option_copied result ≡ zero_polynomial rows.now first second }
 {
@@ -71,7 +70,8 @@ pub fn polynomial_at_zero(rows: &[Row], first: u32, second: u32) -> Option<&Poly
     }
 }
 
-/// The opposite of what stands beside the variable, where its coefficient is 1 and it stands nowhere else.
+/// The opposite of what stands beside the variable, where its coefficient is 1 and it stands
+/// nowhere else.
 fn solved_plus(alloc: Global, poly: &Poly, alone: &Poly, var: u32) -> Result<Option<Poly>, PolyEnd>
     ensures value { IfOk result (λ s. s ≡ solution_plus var (subtracted poly.now alone.now)) }
     ensures within { OnOk result (solution_plus_within var (subtracted poly.now alone.now) ≡ true) }
@@ -97,8 +97,9 @@ fn solved_minus(alloc: Global, poly: &Poly, alone: &Poly, var: u32) -> Result<Op
     Ok(Some(rest))
 }
 
-/// The value of the variable where the polynomial is 0; none where the variable doesn't stand in it once,
-/// alone, with coefficient 1 or -1. Large exactly where a polynomial on the way passes the limits.
+/// The value of the variable where the polynomial is 0; none where the variable doesn't stand in it
+/// once, alone, with coefficient 1 or -1. Large exactly where a polynomial on the way passes the
+/// limits.
 pub fn solve(alloc: Global, poly: &Poly, var: u32) -> Result<Option<Poly>, PolyEnd>
     ensures forms { Forms PolyEnd.Large result (solution_formed var poly.now) }
 {

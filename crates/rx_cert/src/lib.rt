@@ -1,5 +1,5 @@
-//! Certificates: proofs by linear arithmetic, case splits, elimination and division facts that no integers
-//! meet a list of rows. Anybody can check one, whoever wrote it.
+//! Certificates: proofs by linear arithmetic, case splits, elimination and division facts that no
+//! integers meet a list of rows. Anybody can check one, whoever wrote it.
 #![tactic(auto)]
 
 mod cert;

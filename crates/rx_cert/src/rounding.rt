@@ -1,10 +1,9 @@
 //! Sums of rows that are divided and rounded down.
-ghost use Rattle.std.specs.Prelude.{◌≡◌, ◌++◌, [], true, false, ◌&&◌, ◌||◌, pos, ◌<ℤ◌, IfOk, IfErr, OnOk};
+ghost use Rattle.std.specs.Prelude.{◌≡◌, ◌++◌, [], true, false, ◌&&◌, ◌||◌, pos, ◌<ℤ◌, IfOk, OnOk};
 ghost use Rattle.std.specs.Int.{int_div_euclid};
 ghost use Rattle.rx_plain.specs.Formed.{Forms};
-ghost use Rattle.rx_cert.specs.Rounding.{rounding_formed, rounding_row, divides, divides_terms, can_be_rounded_by, is_one, rounded, rounded_terms};
+ghost use Rattle.rx_cert.specs.Rounding.{rounding_formed, divides, divides_terms, can_be_rounded_by, is_one, rounded, rounded_terms};
 ghost use Rattle.rx_poly.specs.Terms.{put};
-ghost use Rattle.rx_row.specs.Parts.{parts_within, sum_of};
 
 use rx_plain::Items;
 use rx_poly::{Body, Mono, Poly, PolyEnd};
@@ -27,7 +26,8 @@ fn rounded_down(div: &i128, number: &i128) -> i128
     number.div_euclid(*div)
 }
 
-/// Whether the term's coefficient is a multiple of the divisor, or the term is the last one and the constant.
+/// Whether the term's coefficient is a multiple of the divisor, or the term is the last one and the
+/// constant.
 fn may_be_rounded(div: &i128, term: &(Mono, i128), is_last: bool) -> bool
     requires { pos 0 <ℤ div.now }
     ensures { result ≡ ((is_last && is_one term.now.0) || divides div.now term.now.1) }
@@ -103,8 +103,9 @@ fn round(alloc: Global, div: &i128, poly: &Poly) -> Result<Poly, AllocError>
     }
 }
 
-/// The row that the rounded sum of the parts is at least 0; none where a part isn't lawful or the divisor
-/// doesn't divide the sum. Large exactly where a polynomial on the way to the sum passes the limits.
+/// The row that the rounded sum of the parts is at least 0; none where a part isn't lawful or the
+/// divisor doesn't divide the sum. Large exactly where a polynomial on the way to the sum passes
+/// the limits.
 pub fn rounded_row(
     alloc: Global,
     rows: &[Row],

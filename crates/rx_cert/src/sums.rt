@@ -18,8 +18,8 @@ fn is_negative_number(poly: &Poly) -> bool
     }
 }
 
-/// Whether the parts are lawful and their sum is a negative number. Large exactly where a polynomial on the
-/// way to the sum passes the limits.
+/// Whether the parts are lawful and their sum is a negative number. Large exactly where a
+/// polynomial on the way to the sum passes the limits.
 pub fn sum_refutes(alloc: Global, rows: &[Row], parts: &[(u32, i128)]) -> Result<bool, PolyEnd>
     ensures finding { IfOk result (λ b. sum_finding rows.now parts.now ≡ Some b) }
     ensures large { IfErr result (λ e. e ≡ PolyEnd.Large → sum_finding rows.now parts.now ≡ None) }

@@ -1,8 +1,8 @@
 //! Elimination of monomials (Fourier and Motzkin) from polynomials that are each to be at least 0.
 //!
-//! What a reader may rely on: the answer is exactly that of the elimination as `specs/` defines it, over
-//! exact integers; multipliers that are answered show a contradiction, and where the answer is None there
-//! are no such multipliers. Monomials are unknowns here, whatever stands in them.
+//! What a reader may rely on: the answer is exactly that of the elimination as `specs/` defines it,
+//! over exact integers; multipliers that are answered show a contradiction, and where the answer is
+//! None there are no such multipliers. Monomials are unknowns here, whatever stands in them.
 #![tactic(auto)]
 
 mod combination;

@@ -1,5 +1,5 @@
 //! Greatest common divisors, and lists of numbers that are combined and divided.
-ghost use Rattle.std.specs.Prelude.{◌≡◌, ◌≤ℤ◌, ◌<ℤ◌, ◌%◌, ◌+ℤ◌, ◌*ℤ◌, pos, true, false, ◌++◌, [], ◌∷◌, ℤ, map, unsigned_abs, IfOk, IfErr, OnOk, SomeIff};
+ghost use Rattle.std.specs.Prelude.{◌≡◌, ◌≤ℤ◌, ◌<ℤ◌, ◌%◌, ◌+ℤ◌, ◌*ℤ◌, pos, true, false, ◌++◌, [], ◌∷◌, ℤ, unsigned_abs, IfOk, IfErr, OnOk, SomeIff};
 ghost use Rattle.rx_poly.specs.Value.{quotient};
 ghost use Rattle.rx_poly.specs.Limits.{fits_i128};
 ghost use Rattle.rx_fm.specs.Numbers.{combined, combined_within, gcd, gcd_with, quotients, size_fits, sizes_fit, sum_within};
@@ -45,7 +45,8 @@ pub(crate) fn gcd(left: &i128, right: &i128) -> i128
     x
 }
 
-/// The greatest common divisor of the first and the sizes of the others; None where one of these leaves i128.
+/// The greatest common divisor of the first and the sizes of the others; None where one of these
+/// leaves i128.
 pub fn gcd_with(first: &i128, others: &[i128]) -> Option<i128>
     requires { pos 0 ≤ℤ first.now }
     ensures { SomeIff result (sizes_fit others.now ≡ true) (pos (gcd_with (unsigned_abs first.now) others.now)) }
@@ -104,8 +105,8 @@ fn sum_of_products(k: &i128, x: &i128, l: &i128, y: &i128) -> Option<i128>
     sum(&first, &second)
 }
 
-/// The numbers of the one list times one factor plus those of the other times another. Large exactly where
-/// one of the products or sums leaves i128.
+/// The numbers of the one list times one factor plus those of the other times another. Large
+/// exactly where one of the products or sums leaves i128.
 pub(crate) fn combined(
     alloc: Global,
     left: &[i128],

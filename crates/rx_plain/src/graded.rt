@@ -44,8 +44,8 @@ impl<T> Graded<T> {
         Ok(Graded { items })
     }
 
-    /// Makes room for `more` more elements, so that adding them takes no memory; the elements stay as they
-    /// were, also where there is no memory.
+    /// Makes room for `more` more elements, so that adding them takes no memory; the elements stay
+    /// as they were, also where there is no memory.
     pub fn reserve(&mut self, more: usize) -> Result<(), AllocError>
         ensures { self.new ≡ self.old }
     {
@@ -97,7 +97,8 @@ impl<T> Graded<T> {
 }
 
 impl<T: Drop> Graded<T> {
-    /// Adds `item` behind the last element; where there is no memory the list stays as it was and `item` is let go.
+    /// Adds `item` behind the last element; where there is no memory the list stays as it was and
+    /// `item` is let go.
     pub fn push(&mut self, item: T) -> Result<(), AllocError>
         ensures ok { OnOk result (self.new ≡ self.old ++ item ∷ []) }
         ensures err { OnErr result (self.new ≡ self.old) }
@@ -106,7 +107,8 @@ impl<T: Drop> Graded<T> {
         Ok(())
     }
 
-    /// Puts `item` before the element at `at`; where there is no memory the list stays as it was and `item` is let go.
+    /// Puts `item` before the element at `at`; where there is no memory the list stays as it was
+    /// and `item` is let go.
     pub fn insert(&mut self, at: usize, item: T) -> Result<(), AllocError>
         requires { at ≤ length self.old }
         ensures ok { OnOk result (self.new ≡ insert self.old at item) }

@@ -1,5 +1,5 @@
 //! A growing list that contracts see as the list of its elements.
-ghost use Rattle.std.specs.Prelude.{◌≡◌, [], ◌∷◌, ◌++◌, ◌<◌, length, slice_get, take, ◌↔◌, IsTrue, IfOk, MatchOption, OnOk, OnErr};
+ghost use Rattle.std.specs.Prelude.{◌≡◌, [], ◌∷◌, ◌++◌, ◌<◌, length, take, ◌↔◌, IsTrue, IfOk, MatchOption, OnOk, OnErr};
 ghost use Rattle.std.specs.Cmp.Lexicographic.{pointwise, slice_cmp, slice_partial_cmp, lists_per, lists_equiv, lists_po, lists_total, lists_agrees, lists_ties};
 
 use std::alloc::{AllocError, Global};
@@ -43,8 +43,8 @@ impl<T> Items<T> {
         Ok(Items { items })
     }
 
-    /// Makes room for `more` more elements, so that adding them takes no memory; the elements stay as they
-    /// were, also where there is no memory.
+    /// Makes room for `more` more elements, so that adding them takes no memory; the elements stay
+    /// as they were, also where there is no memory.
     pub fn reserve(&mut self, more: usize) -> Result<(), AllocError>
         ensures { self.new ≡ self.old }
     {
@@ -94,8 +94,8 @@ impl<T> Items<T> {
         self.items.pop()
     }
 
-    /// Moves the elements of `more` after the last; where there is no memory the list stays as it was and `more`
-    /// is let go.
+    /// Moves the elements of `more` after the last; where there is no memory the list stays as it
+    /// was and `more` is let go.
     pub fn append(&mut self, more: Items<T>) -> Result<(), AllocError>
     where
         T: Drop,
@@ -127,7 +127,8 @@ impl<T: Copy> Items<T> {
 }
 
 impl<T: Drop> Items<T> {
-    /// Adds `item` behind the last element; where there is no memory the list stays as it was and `item` is let go.
+    /// Adds `item` behind the last element; where there is no memory the list stays as it was and
+    /// `item` is let go.
     pub fn push(&mut self, item: T) -> Result<(), AllocError>
         ensures ok { OnOk result (self.new ≡ self.old ++ item ∷ []) }
         ensures err { OnErr result (self.new ≡ self.old) }

@@ -12,7 +12,8 @@ use std::alloc::{AllocError, Global};
 pub enum Atom {
     /// A variable, by its number.
     Var(u32),
-    /// The quotient of the first by the second, truncated toward zero (ISO C99 6.5.5); 0 at divisor 0.
+    /// The quotient of the first by the second, truncated toward zero (ISO C99 6.5.5); 0 at divisor
+    /// 0.
     Div(Body, Body),
     /// The remainder that belongs to that quotient; 0 at divisor 0.
     Mod(Body, Body),

@@ -1,5 +1,5 @@
 //! Quotients and remainders of polynomials.
-ghost use Rattle.std.specs.Prelude.{◌≡◌, true, false, int_div, int_rem, SomeIff, IfOk, IfErr, OnOk};
+ghost use Rattle.std.specs.Prelude.{◌≡◌, true, false, int_div, int_rem, SomeIff};
 ghost use Rattle.rx_plain.specs.Formed.{Forms, kept};
 ghost use Rattle.rx_poly.specs.Division.{parts, quotient_of, remainder_of};
 ghost use Rattle.rx_poly.specs.Limits.{fits_i128, is_within};
@@ -43,7 +43,8 @@ fn number_quotient(num: &i128, den: &i128) -> Option<i128>
     num.checked_div(*den)
 }
 
-/// The remainder of two numbers, with the sign of the first. No quotient is formed, so it always fits.
+/// The remainder of two numbers, with the sign of the first. No quotient is formed, so it always
+/// fits.
 fn number_remainder(num: &i128, den: &i128) -> i128
     requires { is_zero den.now ≡ false }
     ensures { result ≡ int_rem num.now den.now }

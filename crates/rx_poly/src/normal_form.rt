@@ -1,7 +1,7 @@
 //! From an integer term to its normal form.
-ghost use Rattle.std.specs.Prelude.{◌≡◌, ◌∷◌, [], ℕ, ℤ, true, false, IfOk, IfErr, OnOk};
+ghost use Rattle.std.specs.Prelude.{◌≡◌, ◌∷◌, [], ℕ, ℤ, IfOk};
 ghost use Rattle.rx_plain.specs.Formed.{Forms};
-ghost use Rattle.rx_poly.specs.Norm.{formed, norm_of, norm_within, term_value};
+ghost use Rattle.rx_poly.specs.Norm.{formed, term_value};
 ghost use Rattle.rx_poly.specs.Value.{value};
 
 use crate::division::{divide, remainder};
@@ -10,8 +10,8 @@ use crate::poly::{Poly, of_number, of_variable};
 use crate::poly_end::PolyEnd;
 use std::alloc::Global;
 
-/// The normal form of `term`: of its left part, of its right part, and of the two joined. Large exactly
-/// where one of the polynomials on the way passes the limits.
+/// The normal form of `term`: of its left part, of its right part, and of the two joined. Large
+/// exactly where one of the polynomials on the way passes the limits.
 pub fn norm(alloc: Global, term: &ITerm) -> Result<Poly, PolyEnd>
     ensures forms { Forms PolyEnd.Large result (formed term.now) }
     ensures value { IfOk result (λ p. (a : ℕ → ℤ) → value a p ≡ term_value a term.now) }

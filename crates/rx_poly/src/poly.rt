@@ -1,12 +1,12 @@
 //! A polynomial that is in normal form and within the limits.
-ghost use Rattle.std.specs.Prelude.{◌≡◌, ◌↔◌, ◌+ℤ◌, ◌-ℤ◌, ◌*ℤ◌, ℕ, ℤ, true, false, IsTrue, IfOk, IfSome, IsSome, IfErr, OnOk};
+ghost use Rattle.std.specs.Prelude.{◌≡◌, ◌↔◌, ◌+ℤ◌, ◌-ℤ◌, ◌*ℤ◌, ℕ, ℤ, true, false, IsTrue, IfOk, IfSome, IsSome};
 ghost use Rattle.std.specs.Prelude.{[]};
 ghost use Rattle.rx_plain.specs.Formed.{Forms, kept};
 ghost use Rattle.rx_poly.specs.Limits.{added, of_terms, is_small, is_within, scaled_by, subtracted};
 ghost use Rattle.rx_poly.specs.Normal.{is_normal, is_normal_atom, is_normal_mono, is_poly};
 ghost use Rattle.rx_poly.specs.Constants.{number, variable};
 ghost use Rattle.rx_poly.specs.Division.{atom_alone, quotient_of, remainder_of};
-ghost use Rattle.rx_poly.specs.Products.{scaled, multiplied, mul_within, product_formed};
+ghost use Rattle.rx_poly.specs.Products.{scaled, product_formed};
 ghost use Rattle.rx_poly.specs.Reading.{coefficient, constant_of};
 ghost use Rattle.rx_poly.specs.Signs.{combined};
 ghost use Rattle.rx_poly.specs.Terms.{is_zero};
@@ -27,8 +27,8 @@ use std::alloc::{AllocError, Global};
 use std::cmp::Ordering;
 use std::marker::Model;
 
-/// One polynomial: at every level in normal form, with coefficients in i128, a size of at most 4,096,
-/// and quotients and remainders nested at most 64 deep.
+/// One polynomial: at every level in normal form, with coefficients in i128, a size of at most
+/// 4,096, and quotients and remainders nested at most 64 deep.
 #[derive(Debug, Drop, PartialEq, Eq, PartialOrd, Ord, Hash)]
 pub struct Poly {
     body: Body,
@@ -74,8 +74,8 @@ impl Poly {
         &self.body
     }
 
-    /// The polynomial with that body; None exactly where the body is, at some level, no normal form, or
-    /// passes the limits. Takes no memory.
+    /// The polynomial with that body; None exactly where the body is, at some level, no normal
+    /// form, or passes the limits. Takes no memory.
     pub fn from_body(body: Body) -> Option<Poly>
         ensures same { IfSome result (λ p. p ≡ body) }
         ensures exact { IsSome result ↔ (is_poly body ≡ true) }
@@ -166,8 +166,8 @@ impl Poly {
         combine(alloc, self, other, Sign::Plus)
     }
 
-    /// This polynomial minus the other, coefficient by coefficient; Large exactly where the difference
-    /// passes the limits. A polynomial minus itself is always 0.
+    /// This polynomial minus the other, coefficient by coefficient; Large exactly where the
+    /// difference passes the limits. A polynomial minus itself is always 0.
     pub fn sub(&self, alloc: Global, other: &Poly) -> Result<Poly, PolyEnd>
         ensures forms { Forms PolyEnd.Large result (kept is_within (subtracted self.now other.now)) }
         ensures value { IfOk result (λ p. (a : ℕ → ℤ) → value a p ≡ value a self.now -ℤ value a other.now) }
@@ -183,8 +183,8 @@ impl Poly {
         times_number(alloc, self, &by)
     }
 
-    /// The product of the two. Large exactly where the product of one term of this polynomial with the
-    /// whole other one passes the limits, or the sum of the first such products does.
+    /// The product of the two. Large exactly where the product of one term of this polynomial with
+    /// the whole other one passes the limits, or the sum of the first such products does.
     pub fn mul(&self, alloc: Global, other: &Poly) -> Result<Poly, PolyEnd>
         ensures forms { Forms PolyEnd.Large result (product_formed self.now other.now) }
         ensures value { IfOk result (λ p. (a : ℕ → ℤ) → value a p ≡ value a self.now *ℤ value a other.now) }
@@ -197,8 +197,9 @@ impl Poly {
         Ok(sum)
     }
 
-    /// The quotient of this polynomial by the other, truncated toward zero, and 0 where the other is 0. Of two
-    /// numbers it is a number, else it is one atom. Large exactly where that passes the limits.
+    /// The quotient of this polynomial by the other, truncated toward zero, and 0 where the other
+    /// is 0. Of two numbers it is a number, else it is one atom. Large exactly where that passes
+    /// the limits.
     pub fn quotient(&self, alloc: Global, by: &Poly) -> Result<Poly, PolyEnd>
         ensures forms { Forms PolyEnd.Large result (kept is_within (quotient_of self.now by.now)) }
         ensures value { IfOk result (λ p. (a : ℕ → ℤ) → value a p ≡ quotient (value a self.now) (value a by.now)) }
@@ -206,8 +207,8 @@ impl Poly {
         divide(alloc, self, by)
     }
 
-    /// The remainder that belongs to that quotient, with the sign of this polynomial's value. Large exactly where
-    /// it passes the limits.
+    /// The remainder that belongs to that quotient, with the sign of this polynomial's value. Large
+    /// exactly where it passes the limits.
     pub fn remainder(&self, alloc: Global, by: &Poly) -> Result<Poly, PolyEnd>
         ensures forms { Forms PolyEnd.Large result (kept is_within (remainder_of self.now by.now)) }
         ensures value { IfOk result (λ p. (a : ℕ → ℤ) → value a p ≡ remainder (value a self.now) (value a by.now)) }

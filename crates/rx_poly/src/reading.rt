@@ -60,7 +60,8 @@ impl Poly {
         variable_in(self.body())
     }
 
-    /// The coefficient of the variable alone, not in a product; 0 where it has none. Takes no memory.
+    /// The coefficient of the variable alone, not in a product; 0 where it has none. Takes no
+    /// memory.
     pub fn coeff_of(&self, var: u32) -> i128
         ensures { result ≡ coefficient (of_atoms (Atom.Var var ∷ [])) (out-Body self.now).terms }
     {

@@ -1,10 +1,10 @@
 //! Polynomials put in place of variables.
-ghost use Rattle.std.specs.Prelude.{◌≡◌, slice_get, ◌*ℤ◌, ℕ, ℤ, true, false, IfOk, IfErr, OnOk};
+ghost use Rattle.std.specs.Prelude.{◌≡◌, slice_get, ◌*ℤ◌, ℕ, ℤ, IfOk};
 ghost use Rattle.std.specs.Option.{option_copied};
 ghost use Rattle.rx_plain.specs.Formed.{Forms};
 ghost use Rattle.rx_poly.specs.Substitution.{in_atom, in_mono, in_body, numbered, replaced, worth};
 ghost use Rattle.rx_poly.specs.Replacements.{replacements};
-ghost use Rattle.rx_poly.specs.Value.{atom_value, mono_value, value};
+ghost use Rattle.rx_poly.specs.Value.{value};
 
 use crate::body::{Atom, Body, Mono};
 use crate::division::{divide, remainder};
@@ -108,9 +108,10 @@ fn body_with(alloc: Global, body: &Body, with: Replacements) -> Result<Poly, Pol
 }
 
 impl Poly {
-    /// The polynomial with those polynomials in place of their variables; the others stay. Large exactly
-    /// where a polynomial on the way passes the limits: the monomials are taken in order, in each the
-    /// coefficient is multiplied with the replaced atoms from left to right, and the results are summed.
+    /// The polynomial with those polynomials in place of their variables; the others stay. Large
+    /// exactly where a polynomial on the way passes the limits: the monomials are taken in order,
+    /// in each the coefficient is multiplied with the replaced atoms from left to right, and the
+    /// results are summed.
     pub fn subst(&self, alloc: Global, with: &[(u32, Poly)]) -> Result<Poly, PolyEnd>
         ensures forms { Forms PolyEnd.Large result (in_body with.now self.now) }
         ensures value { IfOk result (λ p. (a : ℕ → ℤ) → value a p ≡ value (worth a with.now) self.now) }
@@ -118,8 +119,8 @@ impl Poly {
         body_with(alloc, self.body(), Replacements::Listed(with))
     }
 
-    /// The polynomial with the first of those polynomials in place of v0, the second in place of v1, and so on;
-    /// the other variables stay. Large exactly where `subst` is, for that list.
+    /// The polynomial with the first of those polynomials in place of v0, the second in place of
+    /// v1, and so on; the other variables stay. Large exactly where `subst` is, for that list.
     pub fn at_args(&self, alloc: Global, args: &[Poly]) -> Result<Poly, PolyEnd>
         ensures forms { Forms PolyEnd.Large result (in_body (numbered args.now) self.now) }
         ensures value { IfOk result (λ p. (a : ℕ → ℤ) → value a p ≡ value (worth a (numbered args.now)) self.now) }

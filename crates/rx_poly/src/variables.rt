@@ -98,7 +98,8 @@ fn body_uses(body: &Body, var: u32) -> bool
     false
 }
 
-/// The least number above all variables of the polynomial, at every level; 0 where it has none. Takes no memory.
+/// The least number above all variables of the polynomial, at every level; 0 where it has none.
+/// Takes no memory.
 pub fn variable_bound(poly: &Poly) -> u64
     ensures { result ≡ variable_bound poly.now }
 {
@@ -142,8 +143,8 @@ fn body_bound(body: &Body) -> u64
     bound
 }
 
-/// The variables of the polynomial in order, at every level, each as often as it occurs; fails only where there
-/// is no memory.
+/// The variables of the polynomial in order, at every level, each as often as it occurs; fails only
+/// where there is no memory.
 pub fn variables_of(alloc: Global, poly: &Poly) -> Result<Vec<u32>, AllocError>
     ensures { IfOk result (λ v. v.items ≡ variables poly.now) }
 {

@@ -31,14 +31,15 @@ pub fn variables_alone_decide_the_value()
     ensures below { (a b : ℕ → ℤ) (n : ℕ) (p : Body) → ((v : ℕ) → v < n → a v ≡ b v) → uses_below n p ≡ true → value a p ≡ value b p }
 {}
 
-/// The dividends and divisors in a polynomial are polynomials themselves: normal forms within the limits.
+/// The dividends and divisors in a polynomial are polynomials themselves: normal forms within the
+/// limits.
 #[tactic(auto, using(crate::proofs::InnerLaws::inner_polys))]
 pub fn inner_polynomials_keep_the_limits()
     ensures { (p : Body) → is_poly p ≡ true → All (λ q. is_poly q ≡ true) (inner p) }
 {}
 
-/// A polynomial whose variables all stay what they are is unchanged by a substitution, and nothing that
-/// is formed on the way passes the limits.
+/// A polynomial whose variables all stay what they are is unchanged by a substitution, and nothing
+/// that is formed on the way passes the limits.
 #[tactic(auto, using(crate::proofs::Unchanged::same_form, crate::proofs::Unchanged::all_within))]
 pub fn unchanged_variables_keep_the_polynomial()
     ensures same { (ws : List (ℕ × Body)) (p : Body) → is_poly p ≡ true →

@@ -1,9 +1,9 @@
 //! Lists of rows, all of which are to hold.
-ghost use Rattle.std.specs.Prelude.{◌≡◌, ◌↔◌, true, false, IfErr, ℕ, ℤ, [], ◌∷◌, ◌++◌, take, Contains, IsTrue, IsOk, IfOk, OnOk, OnErr};
+ghost use Rattle.std.specs.Prelude.{◌≡◌, ◌↔◌, true, false, ℕ, ℤ, [], ◌∷◌, ◌++◌, take, Contains, IsTrue, IsOk, IfOk, OnOk, OnErr};
 ghost use Rattle.rx_plain.specs.Formed.{Forms, FormsAs};
 ghost use Rattle.rx_row.specs.Holds.{AllHold, RowHolds};
 ghost use Rattle.rx_row.specs.Membership.{pushed};
-ghost use Rattle.rx_row.specs.Substitution.{in_row, in_rows, pushed_with, row_within, rows_with, rows_within};
+ghost use Rattle.rx_row.specs.Substitution.{pushed_with, rows_with};
 ghost use Rattle.rx_poly.specs.Substitution.{numbered, worth};
 
 use crate::row::Row;
@@ -47,8 +47,8 @@ fn push_substituted(
     Ok(())
 }
 
-/// As many rows in the same order, each with those polynomials in place of their variables. Large exactly
-/// where a polynomial on the way to one of them passes the limits.
+/// As many rows in the same order, each with those polynomials in place of their variables. Large
+/// exactly where a polynomial on the way to one of them passes the limits.
 pub fn subst_rows(alloc: Global, rows: &[Row], with: &[(u32, Poly)]) -> Result<Vec<Row>, PolyEnd>
     ensures forms { FormsAs (λ v. v.items) PolyEnd.Large result (rows_with with.now rows.now) }
 {
@@ -68,8 +68,8 @@ fn push_at_args(rows: &mut Vec<Row>, alloc: Global, row: &Row, args: &[Poly]) ->
     Ok(())
 }
 
-/// As many rows in the same order, each with the first of those polynomials in place of v0, the second in place
-/// of v1, and so on. Large exactly where `subst_rows` is, for that list.
+/// As many rows in the same order, each with the first of those polynomials in place of v0, the
+/// second in place of v1, and so on. Large exactly where `subst_rows` is, for that list.
 pub fn rows_at_args(alloc: Global, rows: &[Row], args: &[Poly]) -> Result<Vec<Row>, PolyEnd>
     ensures { FormsAs (λ v. v.items) PolyEnd.Large result (rows_with (numbered args.now) rows.now) }
 {
@@ -109,8 +109,8 @@ impl Constraint {
         false
     }
 
-    /// Puts the row behind the others, unless it stands there; such a row changes nothing. Where there is no
-    /// memory the rows stay as they were.
+    /// Puts the row behind the others, unless it stands there; such a row changes nothing. Where
+    /// there is no memory the rows stay as they were.
     pub fn push(&mut self, row: Row) -> Result<(), NoMemory>
         ensures known { Contains self.old row → self.new ≡ self.old }
         ensures ready { Contains self.old row → IsOk result }
@@ -126,8 +126,8 @@ impl Constraint {
         Ok(())
     }
 
-    /// Puts the row after the others, also where it is one of them. Where there is no memory the rows stay as they
-    /// were.
+    /// Puts the row after the others, also where it is one of them. Where there is no memory the
+    /// rows stay as they were.
     pub fn append(&mut self, row: Row) -> Result<(), NoMemory>
         ensures ok { OnOk result (self.new ≡ self.old ++ row ∷ []) }
         ensures err { OnErr result (self.new ≡ self.old) }
@@ -150,8 +150,8 @@ impl Constraint {
         rows.into_vec()
     }
 
-    /// As many rows in the same order, each with those polynomials in place of their variables. Large exactly
-    /// where a polynomial on the way to one of them passes the limits.
+    /// As many rows in the same order, each with those polynomials in place of their variables.
+    /// Large exactly where a polynomial on the way to one of them passes the limits.
     pub fn subst(&self, alloc: Global, with: &[(u32, Poly)]) -> Result<Constraint, PolyEnd>
         ensures forms { Forms PolyEnd.Large result (rows_with with.now self.now) }
         ensures holds { IfOk result (λ c. (a : ℕ → ℤ) → AllHold a c ↔ AllHold (worth a with.now) self.now) }
@@ -182,8 +182,8 @@ impl Constraint {
         })
     }
 
-    /// As many rows in the same order, each with the first of those polynomials in place of v0, the second in
-    /// place of v1, and so on. Large exactly where `subst` is, for that list.
+    /// As many rows in the same order, each with the first of those polynomials in place of v0, the
+    /// second in place of v1, and so on. Large exactly where `subst` is, for that list.
     pub fn at_args(&self, alloc: Global, args: &[Poly]) -> Result<Constraint, PolyEnd>
         ensures forms { Forms PolyEnd.Large result (rows_with (numbered args.now) self.now) }
         ensures holds { IfOk result (λ c. (a : ℕ → ℤ) → AllHold a c ↔ AllHold (worth a (numbered args.now)) self.now) }

@@ -1,5 +1,5 @@
-//! Rows over polynomials, `p >= 0`, `p = 0` and `p != 0`, lists of rows that are all to hold, and the
-//! sums of their multiples.
+//! Rows over polynomials, `p >= 0`, `p = 0` and `p != 0`, lists of rows that are all to hold, and
+//! the sums of their multiples.
 #![tactic(auto)]
 
 mod constraint;

@@ -64,8 +64,8 @@ fn is_one_less_turned(left: &Poly, right: &Poly) -> bool
 }
 
 impl Row {
-    /// Whether this row is the negation of the other, as `negate` forms it. Nothing is formed, and no limit looked
-    /// at. Takes no memory.
+    /// Whether this row is the negation of the other, as `negate` forms it. Nothing is formed, and
+    /// no limit looked at. Takes no memory.
     pub fn is_negation_of(&self, other: &Row) -> bool
         ensures { IsTrue result ↔ (self.now ≡ negation other.now) }
     {

@@ -1,11 +1,11 @@
 //! Sums of multiples of rows.
-ghost use Rattle.std.specs.Prelude.{Some, slice_get, ◌≡◌, ℕ, ℤ, pos, ◌≤ℤ◌, true, false, IfOk, IfErr, IfSome, OnOk};
+ghost use Rattle.std.specs.Prelude.{Some, slice_get, ◌≡◌, ℕ, ℤ, pos, ◌≤ℤ◌, true, false, IfOk, IfSome};
 ghost use Rattle.std.specs.Option.{option_copied};
 ghost use Rattle.rx_plain.specs.Formed.{Forms};
 ghost use Rattle.rx_poly.specs.Value.{value};
 ghost use Rattle.rx_row.specs.Holds.{AllHold};
 ghost use Rattle.rx_poly.specs.Constants.{number};
-ghost use Rattle.rx_row.specs.Parts.{are_lawful, multiple_formed, multiple_within, parts_formed, parts_within, poly_of, sum_formed, sum_from, sum_of, sum_within, takes, with_multiple};
+ghost use Rattle.rx_row.specs.Parts.{are_lawful, multiple_formed, parts_formed, sum_formed, takes};
 
 use crate::constraint::Constraint;
 use crate::row::Row;
@@ -48,8 +48,8 @@ fn are_lawful_parts(rows: &[Row], parts: &[(u32, i128)]) -> bool
     true
 }
 
-/// The sum with the row's polynomial times the number. Large exactly where the multiple passes the limits,
-/// or the sum with it does.
+/// The sum with the row's polynomial times the number. Large exactly where the multiple passes the
+/// limits, or the sum with it does.
 fn plus_multiple(alloc: Global, sum: &Poly, row: &Row, by: &i128) -> Result<Poly, PolyEnd>
     ensures forms { Forms PolyEnd.Large result (multiple_formed sum.now (Some row.now) by.now) }
 {
@@ -70,10 +70,11 @@ fn sum_of_multiples(alloc: Global, rows: &[Row], parts: &[(u32, i128)]) -> Resul
     Ok(sum)
 }
 
-/// The sum of the parts: of each row's polynomial times its multiplier, in order. None exactly where a part
-/// is not lawful: where its row is missing or its number is not above that of the part before, where an
-/// inequality has no positive multiplier or an equation the multiplier 0, and on any disequality. That is
-/// seen before anything is multiplied. Large exactly where a multiple, or the sum up to it, passes the limits.
+/// The sum of the parts: of each row's polynomial times its multiplier, in order. None exactly
+/// where a part is not lawful: where its row is missing or its number is not above that of the part
+/// before, where an inequality has no positive multiplier or an equation the multiplier 0, and on
+/// any disequality. That is seen before anything is multiplied. Large exactly where a multiple, or
+/// the sum up to it, passes the limits.
 pub fn combine_rows(
     alloc: Global,
     rows: &[Row],

@@ -1,11 +1,11 @@
 //! Rows: a polynomial with what is said of it.
-ghost use Rattle.std.specs.Prelude.{◌≡◌, ◌↔◌, ℕ, ℤ, true, false, IsTrue, IfOk, IfErr, OnOk};
+ghost use Rattle.std.specs.Prelude.{◌≡◌, ◌↔◌, ℕ, ℤ, false, IsTrue, IfOk};
 ghost use Rattle.rx_plain.specs.Formed.{Forms};
 ghost use Rattle.rx_row.specs.Holds.{RowHolds};
 ghost use Rattle.rx_row.specs.Naming.{named};
-ghost use Rattle.rx_row.specs.Negation.{less_one_more, minus_one_more, minus_one_more_within, negated, negation, negation_within};
+ghost use Rattle.rx_row.specs.Negation.{less_one_more, negated};
 ghost use Rattle.rx_row.specs.Parts.{poly_of};
-ghost use Rattle.rx_row.specs.Substitution.{in_row, row_with, row_within};
+ghost use Rattle.rx_row.specs.Substitution.{row_with};
 ghost use Rattle.rx_poly.specs.Substitution.{numbered, worth};
 
 use rx_poly::{Poly, PolyEnd};
@@ -32,8 +32,9 @@ fn below_zero(alloc: Global, poly: &Poly) -> Result<Poly, PolyEnd>
 }
 
 impl Row {
-    /// The row that holds exactly where this one doesn't: `-p - 1 >= 0` for `p >= 0`, and for an equation
-    /// the disequality, and the other way round. Large exactly where `-p` or `-p - 1` passes the limits.
+    /// The row that holds exactly where this one doesn't: `-p - 1 >= 0` for `p >= 0`, and for an
+    /// equation the disequality, and the other way round. Large exactly where `-p` or `-p - 1`
+    /// passes the limits.
     pub fn negate(&self, alloc: Global) -> Result<Row, PolyEnd>
         ensures forms { Forms PolyEnd.Large result (negated self.now) }
         ensures holds { IfOk result (λ r. (a : ℕ → ℤ) → RowHolds a r ↔ ¬ (RowHolds a self.now)) }
@@ -45,8 +46,8 @@ impl Row {
         }
     }
 
-    /// The row that says that the variable is the number: the variable minus the number is 0. Large exactly where
-    /// that passes the limits, as for the least number of i128.
+    /// The row that says that the variable is the number: the variable minus the number is 0. Large
+    /// exactly where that passes the limits, as for the least number of i128.
     pub fn named(alloc: Global, var: u32, integer: i128) -> Result<Row, PolyEnd>
         ensures forms { Forms PolyEnd.Large result (named var integer) }
         ensures holds { IfOk result (λ r. (a : ℕ → ℤ) → RowHolds a r ↔ (a var ≡ integer)) }
@@ -56,8 +57,8 @@ impl Row {
         Ok(Row::Eq(variable.sub(alloc, &constant)?))
     }
 
-    /// The row of its polynomial with those polynomials in place of their variables. Large exactly where a
-    /// polynomial on the way to that passes the limits.
+    /// The row of its polynomial with those polynomials in place of their variables. Large exactly
+    /// where a polynomial on the way to that passes the limits.
     pub fn subst(&self, alloc: Global, with: &[(u32, Poly)]) -> Result<Row, PolyEnd>
         ensures forms { Forms PolyEnd.Large result (row_with with.now self.now) }
         ensures holds { IfOk result (λ r. (a : ℕ → ℤ) → RowHolds a r ↔ RowHolds (worth a with.now) self.now) }
@@ -69,8 +70,8 @@ impl Row {
         }
     }
 
-    /// The row of its polynomial with the first of those polynomials in place of v0, the second in place of v1,
-    /// and so on. Large exactly where `subst` is, for that list.
+    /// The row of its polynomial with the first of those polynomials in place of v0, the second in
+    /// place of v1, and so on. Large exactly where `subst` is, for that list.
     pub fn at_args(&self, alloc: Global, args: &[Poly]) -> Result<Row, PolyEnd>
         ensures forms { Forms PolyEnd.Large result (row_with (numbered args.now) self.now) }
         ensures holds { IfOk result (λ r. (a : ℕ → ℤ) → RowHolds a r ↔ RowHolds (worth a (numbered args.now)) self.now) }

@@ -14,7 +14,8 @@ impl Row {
         uses_below(self.poly(), bound)
     }
 
-    /// The least number above all variables of the row, at every level; 0 where it has none. Takes no memory.
+    /// The least number above all variables of the row, at every level; 0 where it has none. Takes
+    /// no memory.
     pub fn variable_bound(&self) -> u64
         ensures { result ≡ row_bound self.now }
     {

@@ -1,7 +1,7 @@
 //! Lists of polynomials: what a call, a frame or a result holds.
-ghost use Rattle.std.specs.Prelude.{◌≡◌, ◌↔◌, true, false, IsTrue, IfOk, IfErr, OnOk};
+ghost use Rattle.std.specs.Prelude.{◌≡◌, ◌↔◌, true, false, IsTrue, IfOk};
 ghost use Rattle.rx_plain.specs.Formed.{Forms};
-ghost use Rattle.rx_term.specs.Substitution.{in_polys, polys_with, polys_within};
+ghost use Rattle.rx_term.specs.Substitution.{polys_with};
 ghost use Rattle.rx_term.specs.Variables.{polys_use_below};
 
 use rx_plain::Items;
@@ -19,8 +19,8 @@ pub(crate) fn copied(alloc: Global, args: &[Poly]) -> Result<Items<Poly>, AllocE
     Ok(made)
 }
 
-/// Each polynomial with those polynomials in place of its variables; Large exactly where one on the way to
-/// them passes the limits.
+/// Each polynomial with those polynomials in place of its variables; Large exactly where one on the
+/// way to them passes the limits.
 pub(crate) fn substituted(
     alloc: Global,
     args: &[Poly],

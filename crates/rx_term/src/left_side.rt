@@ -1,5 +1,5 @@
-//! Left sides of rules: a point over the first variables, or a frame over these and over the next variable or a
-//! failure code.
+//! Left sides of rules: a point over the first variables, or a frame over these and over the next
+//! variable or a failure code.
 ghost use Rattle.std.specs.Prelude.{◌≡◌};
 ghost use Rattle.rx_term.specs.MadeTest.{is_variable, is_variable_atom, left_width, variable_count, width_over};
 ghost use Rattle.rx_poly.specs.declared.body.Atom.{out-Atom};

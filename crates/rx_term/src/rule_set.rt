@@ -49,7 +49,8 @@ pub struct RuleParts {
 }
 
 impl RuleParts {
-    /// Whether the symbol is declared as a frame, or as a point, with so many arguments. Takes no memory.
+    /// Whether the symbol is declared as a frame, or as a point, with so many arguments. Takes no
+    /// memory.
     fn declares(&self, sym: Sym, frame: bool, count: usize) -> bool
         ensures { result ≡ is_declared self.now.symbols sym frame count }
     {
@@ -59,8 +60,8 @@ impl RuleParts {
         }
     }
 
-    /// Whether the term's symbols, their numbers of arguments, its frames and its failure code are those
-    /// declared here. Takes no memory.
+    /// Whether the term's symbols, their numbers of arguments, its frames and its failure code are
+    /// those declared here. Takes no memory.
     pub fn fits(&self, term: &Term) -> bool
         ensures { result ≡ term_fits self.now term.now }
     {
@@ -179,9 +180,9 @@ fn copied_rules(alloc: Global, rules: &[Rule]) -> Result<Items<Rule>, AllocError
     Ok(made)
 }
 
-/// A set of rules that is well made: each left side is a point over v0, v1, .. or a frame over these and over the
-/// next variable or a failure code, all terms fit the symbols, and right sides and rows use only variables of
-/// their left side.
+/// A set of rules that is well made: each left side is a point over v0, v1, .. or a frame over
+/// these and over the next variable or a failure code, all terms fit the symbols, and right sides
+/// and rows use only variables of their left side.
 #[derive(Drop)]
 pub struct RuleSet {
     parts: RuleParts,
@@ -249,8 +250,8 @@ impl RuleSet {
         self.parts.fails
     }
 
-    /// Whether the term's symbols, their numbers of arguments, its frames and its failure code are those of
-    /// this set. Takes no memory.
+    /// Whether the term's symbols, their numbers of arguments, its frames and its failure code are
+    /// those of this set. Takes no memory.
     pub fn fits(&self, term: &Term) -> bool
         ensures { result ≡ term_fits self.now term.now }
     {

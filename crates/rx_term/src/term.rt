@@ -1,12 +1,12 @@
 //! Terms as stacks: frames outside, then a call or a result.
-ghost use Rattle.std.specs.Prelude.{◌≡◌, ◌↔◌, ◌<◌, ◌^◌, ℕ, ℤ, true, false, IsNone, IsTrue, IfOk, IfErr, OnOk};
+ghost use Rattle.std.specs.Prelude.{◌≡◌, ◌↔◌, ◌<◌, ◌^◌, ℕ, ℤ, true, false, IsNone, IsTrue, IfOk};
 ghost use Rattle.std.specs.Option.{option_copied};
 ghost use Rattle.rx_poly.specs.Substitution.{worth};
 ghost use Rattle.rx_term.specs.Meaning.{ground_at, redex_of};
 ghost use Rattle.rx_term.specs.Shapes.{shape_of};
 ghost use Rattle.rx_term.specs.Stacks.{behind, depth_of, is_redex, is_result, onto, redex_place, replace_redex, replaced, turned};
 ghost use Rattle.rx_plain.specs.Formed.{Forms};
-ghost use Rattle.rx_term.specs.Substitution.{in_term, term_with, term_within};
+ghost use Rattle.rx_term.specs.Substitution.{term_with};
 ghost use Rattle.rx_term.specs.Variables.{term_uses_below};
 
 use crate::arguments::{are_below, are_same, copied, substituted};
@@ -76,8 +76,8 @@ impl Term {
         Some(here)
     }
 
-    /// How many frames stand over the redex: the innermost call, or the innermost frame where that stands
-    /// over a result. None exactly where the term is a result. Takes no memory.
+    /// How many frames stand over the redex: the innermost call, or the innermost frame where that
+    /// stands over a result. None exactly where the term is a result. Takes no memory.
     pub fn redex_place(&self) -> Option<u32>
         requires { depth_of self.now < 2 ^ 32 }
         ensures { result ≡ redex_place self.now }
@@ -171,7 +171,8 @@ impl Term {
         }
     }
 
-    /// The outermost frame over `upper`, and what that frame was over. Without a frame, `upper` alone.
+    /// The outermost frame over `upper`, and what that frame was over. Without a frame, `upper`
+    /// alone.
     fn turn(self, upper: Term) -> (Term, Option<Term>)
         ensures { result ≡ turned self upper }
     {
@@ -227,7 +228,8 @@ impl Term {
         }
     }
 
-    /// Whether all variables of the term, at every level of its polynomials, are below the number. Takes no memory.
+    /// Whether all variables of the term, at every level of its polynomials, are below the number.
+    /// Takes no memory.
     pub fn uses_below(&self, bound: u32) -> bool
         ensures { result ≡ term_uses_below bound self.now }
     {
@@ -247,8 +249,8 @@ impl Term {
         }
     }
 
-    /// Whether the two have one shape: the same frames, call and failure code, whatever their polynomials. Takes
-    /// no memory.
+    /// Whether the two have one shape: the same frames, call and failure code, whatever their
+    /// polynomials. Takes no memory.
     pub fn has_shape_of(&self, other: &Term) -> bool
         ensures { IsTrue result ↔ (shape_of self.now ≡ shape_of other.now) }
     {
@@ -296,8 +298,8 @@ impl Term {
         }
     }
 
-    /// The same stack, each of its polynomials with those polynomials in place of their variables. Large
-    /// exactly where a polynomial on the way to them passes the limits.
+    /// The same stack, each of its polynomials with those polynomials in place of their variables.
+    /// Large exactly where a polynomial on the way to them passes the limits.
     pub fn subst(&self, alloc: Global, with: &[(u32, Poly)]) -> Result<Term, PolyEnd>
         ensures forms { Forms PolyEnd.Large result (term_with with.now self.now) }
         ensures value { IfOk result (λ t. (a : ℕ → ℤ) → ground_at a t ≡ ground_at (worth a with.now) self.now) }
