@@ -1,12 +1,8 @@
 pub mod AnswerLemmas
-pub mod FewParams
-pub mod FrontEndLaws
 pub mod LogLemmas
 pub mod MemoryLemmas
 pub mod OneOutcome
-pub mod OneRefusal
 pub mod OneReport
-pub mod Options
 pub mod RunLemmas
 pub mod StraightLaws
 pub mod TermLaws

@@ -6,10 +6,10 @@ use Rattle.rx_cli.specs.declared.answers.Answer.{Answer}
 use Rattle.rx_cli.specs.declared.answers.Answer.TheVariants.{Line, Proof}
 use Rattle.rx_cli.specs.declared.ends.Status.{Status}
 use Rattle.rx_cli.specs.declared.ends.Status.TheVariants as Ends
-use Rattle.rx_cli.specs.declared.front_end.Refusal.{Refusal}
-use Rattle.rx_cli.specs.declared.front_end.Refusal.TheVariants as Why
+use Rattle.c_front.specs.declared.refusals.Refusal.{Refusal}
+use Rattle.c_front.specs.declared.refusals.Refusal.TheVariants as Why
 use Rattle.rx_cli.specs.Ends.{status_of}
-use Rattle.rx_cli.specs.FrontEnd.{verdict_of}
+use Rattle.rx_cli.specs.Verdicts.{verdict_of}
 use Rattle.rx_cli.specs.declared.straight.Outcome.{Outcome}
 use Rattle.rx_cli.specs.declared.straight.Outcome.TheVariants as Found
 use Rattle.rx_cli.specs.declared.verdicts.Verdict.TheVariants as Said

@@ -6,20 +6,21 @@ use Rattle.c_ast.specs.Forms.{straight_of}
 use Rattle.rx_poly.specs.declared.iterm.ITerm.{ITerm}
 use Rattle.rx_poly.specs.Norm.{norm_of}
 use Rattle.rx_cli.specs.declared.ends.Status.TheVariants as Ends
-use Rattle.rx_cli.specs.declared.front_end.TwoFunctions.{TwoFunctions}
-use Rattle.rx_cli.specs.declared.front_end.Refusal.{Refusal}
-use Rattle.rx_cli.specs.declared.front_end.Refusal.TheVariants as Why
+use Rattle.c_front.specs.declared.pairs.TwoFunctions.{TwoFunctions}
+use Rattle.c_front.specs.declared.refusals.Refusal.{Refusal}
+use Rattle.c_front.specs.declared.refusals.Refusal.TheVariants as Why
 use Rattle.rx_cli.specs.declared.straight.Outcome.{Outcome}
 use Rattle.rx_cli.specs.declared.straight.Outcome.TheVariants.{Refused, NotStraight, Large, Differ, Equal}
 use Rattle.rx_cli.specs.declared.straight.TwoTerms.{TwoTerms}
 use Rattle.rx_cli.specs.Answers.{SameReport, answer_of, status_in, text_in}
 use Rattle.rx_cli.specs.Ends.{status_of}
-use Rattle.rx_cli.specs.FrontEnd.{AreSyntax, IsRefused, verdict_of}
+use Rattle.c_front.specs.FrontEnd.{AreSyntax, IsRefused, IsSameRefusal}
+use Rattle.rx_cli.specs.Verdicts.{verdict_of}
 use Rattle.rx_cli.specs.Straight.{AreNotStraight, HaveTerms, IsOutcome, IsSameOutcome, IsWithinLimits, PassesLimits, order_of}
 use Rattle.rx_cli.specs.Texts.{text_of}
 use Rattle.rx_cli.specs.Terms.{function_term}
-use Rattle.rx_cli.proofs.OneRefusal.{IsSameRefusal, comparable_unrefused, one_pair, one_refusal}
-use Rattle.rx_cli.proofs.Options.{none_some, same_some}
+use Rattle.c_front.proofs.OneRefusal.{comparable_unrefused, one_pair, one_refusal}
+use Rattle.c_front.proofs.Options.{none_some, same_some}
 
 -- each refusal has the status of refusals
 status_refused : (refusal : Refusal) → status_of (verdict_of refusal) ≡ Ends.Refused

@@ -18,12 +18,12 @@ use Rattle.rx_poly.specs.declared.body.Body.{Body}
 use Rattle.rx_poly.specs.declared.iterm.ITerm.{ITerm}
 use Rattle.rx_poly.specs.Norm.{norm_of, norm_within, term_value}
 use Rattle.rx_poly.specs.Value.{value}
-use Rattle.rx_cli.specs.declared.front_end.TwoFunctions.{TwoFunctions}
+use Rattle.c_front.specs.declared.pairs.TwoFunctions.{TwoFunctions}
 use Rattle.rx_cli.specs.declared.straight.TwoTerms.{TwoTerms}
 use Rattle.rx_cli.specs.declared.straight.Outcome.{Outcome}
 use Rattle.rx_cli.specs.declared.straight.Outcome.TheVariants as Says
 use Rattle.rx_cli.specs.Agreement.{Agrees}
-use Rattle.rx_cli.specs.FrontEnd.{AreComparable}
+use Rattle.c_front.specs.FrontEnd.{AreComparable}
 use Rattle.rx_cli.specs.Steps.{Compares, IsSaid, joined, term_at, terms_of}
 use Rattle.rx_cli.specs.Straight.{AreNotStraight, HaveTerms, IsEqual, IsOutcome, order_of}
 use Rattle.rx_cli.specs.Terms.{function_term, term_of}

@@ -3,8 +3,8 @@ use Rattle.std.specs.Prelude.{◌≡◌, ℕ, ℤ, List, length}
 use Rattle.c_ast.specs.declared.program.Function.{Function}
 use Rattle.c_meaning.specs.Outcomes.{Value}
 use Rattle.c_meaning.specs.Programs.{Returns}
-use Rattle.rx_cli.specs.declared.front_end.TwoFunctions.{TwoFunctions}
-use Rattle.rx_cli.specs.FrontEnd.{AreComparable}
+use Rattle.c_front.specs.declared.pairs.TwoFunctions.{TwoFunctions}
+use Rattle.c_front.specs.FrontEnd.{AreComparable}
 
 -- the two functions return the same integer for each list of so many integers
 abbrev pub ReturnSame : TwoFunctions → ℕ → Type 0

@@ -9,7 +9,7 @@ use Rattle.rx_cli.specs.declared.straight.Outcome.{Outcome}
 use Rattle.rx_cli.specs.declared.straight.Outcome.TheVariants as Found
 use Rattle.rx_cli.specs.declared.verdicts.Verdict.TheVariants as Said
 use Rattle.rx_cli.specs.Ends.{status_of}
-use Rattle.rx_cli.specs.FrontEnd.{verdict_of}
+use Rattle.rx_cli.specs.Verdicts.{verdict_of}
 use Rattle.rx_cli.specs.ProofText.{proof_text_of}
 use Rattle.rx_cli.specs.Agreement.{Agrees}
 use Rattle.rx_cli.specs.Straight.{IsOutcome}

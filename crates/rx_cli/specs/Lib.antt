@@ -1,7 +1,6 @@
 pub mod Agreement
 pub mod Answers
 pub mod Ends
-pub mod FrontEnd
 pub mod InMemory
 pub mod ProofText
 pub mod Run
@@ -9,4 +8,5 @@ pub mod Steps
 pub mod Straight
 pub mod Terms
 pub mod Texts
+pub mod Verdicts
 pub mod Words

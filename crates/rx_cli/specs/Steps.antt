@@ -1,20 +1,16 @@
 -- The steps from a text to an outcome, as the functions inside promise them to one another. Nothing that a caller of the run reads stands on these.
-use Rattle.std.specs.Prelude.{◌≡◌, ◌≢◌, ◌<◌, ◌^◌, ℕ, ℤ, All, List, Option, Some, None, length, slice_get}
+use Rattle.std.specs.Prelude.{◌≡◌, ◌≢◌, ℕ, ℤ, List, Option, Some, None, slice_get}
 use Rattle.std.specs.Option.{option_and_then}
 use Rattle.c_ast.specs.declared.program.Function.{Function}
 use Rattle.rx_poly.specs.declared.iterm.ITerm.{ITerm}
 use Rattle.rx_poly.specs.Norm.{norm_of, term_value}
-use Rattle.rx_cli.specs.declared.front_end.TwoFunctions.{TwoFunctions}
+use Rattle.c_front.specs.declared.pairs.TwoFunctions.{TwoFunctions}
 use Rattle.rx_cli.specs.declared.straight.Order.{Order}
 use Rattle.rx_cli.specs.declared.straight.Outcome.{Outcome}
 use Rattle.rx_cli.specs.declared.straight.Outcome.TheVariants as Says
 use Rattle.rx_cli.specs.declared.straight.TwoTerms.{TwoTerms}
 use Rattle.rx_cli.specs.Straight.{IsWithinLimits, PassesLimits, order_of}
 use Rattle.rx_cli.specs.Terms.{function_term}
-
--- each function has so few parameters that they can be counted
-abbrev pub HaveFewParams : List Function → Type 0
-HaveFewParams functions = All (λ (f : Function). length f.params < 2 ^ 32) functions
 
 -- the term that the function at a place returns, where one stands there and is straight
 abbrev pub term_at : List Function → ℕ → Option ITerm

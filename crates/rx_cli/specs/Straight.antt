@@ -3,13 +3,13 @@ use Rattle.std.specs.Prelude.{◌≡◌, ◌≢◌, ◌⊎◌, true, false, ℕ,
 use Rattle.c_ast.specs.declared.program.Function.{Function}
 use Rattle.c_ast.specs.Forms.{straight_of}
 use Rattle.rx_poly.specs.Norm.{norm_of, norm_within}
-use Rattle.rx_cli.specs.declared.front_end.TwoFunctions.{TwoFunctions}
+use Rattle.c_front.specs.declared.pairs.TwoFunctions.{TwoFunctions}
 use Rattle.rx_cli.specs.declared.straight.Order.{Order}
 use Rattle.rx_cli.specs.declared.straight.Order.TheVariants.{Same, FirstBefore, SecondBefore}
 use Rattle.rx_cli.specs.declared.straight.Outcome.{Outcome}
 use Rattle.rx_cli.specs.declared.straight.Outcome.TheVariants as Says
 use Rattle.rx_cli.specs.declared.straight.TwoTerms.{TwoTerms}
-use Rattle.rx_cli.specs.FrontEnd.{AreComparable, AreSyntax, IsRefused, IsSayable}
+use Rattle.c_front.specs.FrontEnd.{AreComparable, IsRefused, IsSameRefusal, IsSayable}
 use Rattle.rx_cli.specs.Terms.{function_term}
 
 -- how two places stand to one another
@@ -53,7 +53,7 @@ IsOutcome source first second (Says.Equal order) =
 
 -- one outcome, but for the place of a syntax error
 abbrev pub IsSameOutcome : Outcome → Outcome → Type 0
-IsSameOutcome (Says.Refused r) (Says.Refused s) = (r ≡ s) ⊎ AreSyntax r s
+IsSameOutcome (Says.Refused r) (Says.Refused s) = IsSameRefusal r s
 IsSameOutcome x y = x ≡ y
 
 -- the two are said to be equal

@@ -6,6 +6,8 @@ use Rattle.c_parse.specs.declared.error.ParseEnd.{ParseEnd}
 use Rattle.c_parse.specs.declared.error.ParseEnd.TheVariants as Flaw
 use Rattle.c_scope.specs.declared.error.ScopeEnd.{ScopeEnd}
 use Rattle.c_scope.specs.declared.error.ScopeEnd.TheVariants as Wrong
+use Rattle.c_front.specs.declared.refusals.Refusal.TheVariants as Why
+use Rattle.c_front.specs.FrontEnd.{IsSayable}
 use Rattle.rx_cli.specs.declared.verdicts.Verdict.{Verdict}
 use Rattle.rx_cli.specs.declared.verdicts.Verdict.TheVariants as Said
 
@@ -68,10 +70,9 @@ text_of Said.Usage = codes "usage: ctrl MODE FILE [F] [G] [LOG] [--pre E] [--dep
 text_of Said.ReadFault = codes "READ FAULT\n"
 text_of Said.LargeTranslate = codes "LARGE translate\n"
 
--- it has a line: no end inside is want of memory, or one of preconditions alone
+-- it has a line: no end inside is out of memory, or one of preconditions alone
 abbrev pub HasLine : Verdict → Type 0
-HasLine (Said.Lex Fault.NoMemory) = ⊥
-HasLine (Said.Parse Flaw.NoMemory) = ⊥
-HasLine (Said.Parse Flaw.NotARowForm) = ⊥
-HasLine (Said.Scope Wrong.NoMemory) = ⊥
+HasLine (Said.Lex fault) = IsSayable (Why.Lex fault)
+HasLine (Said.Parse end) = IsSayable (Why.Parse end)
+HasLine (Said.Scope end) = IsSayable (Why.Scope end)
 HasLine verdict = ⊤

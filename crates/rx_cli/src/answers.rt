@@ -2,10 +2,8 @@
 ghost use Rattle.std.specs.Prelude.{◌≡◌, map, string_bytes, IfOk};
 ghost use Rattle.rx_io.specs.Outside.{Rose};
 ghost use Rattle.rx_cli.specs.Answers.{IsAnswered, IsProved, IsReportable, answer_of, status_in, text_in};
-ghost use Rattle.rx_cli.specs.FrontEnd.{verdict_of};
 ghost use Rattle.rx_cli.specs.Words.{asked_of};
 
-use crate::front_end::Refusal;
 use crate::logs::proof_text;
 use crate::straight::{Order, Outcome, compare};
 use crate::words::asked_of;
@@ -45,25 +43,12 @@ impl Answer {
     }
 }
 
-// What a refusal of the front end is as a verdict.
-fn verdict_of(refusal: Refusal) -> Verdict
-    ensures { result ≡ verdict_of refusal }
-{
-    match refusal {
-        Refusal::Lex(fault) => Verdict::Lex(fault),
-        Refusal::Parse(end) => Verdict::Parse(end),
-        Refusal::Scope(end) => Verdict::Scope(end),
-        Refusal::NoFunction(name) => Verdict::NoFunction(name),
-        Refusal::Arity(first, second) => Verdict::Arity(first, second),
-    }
-}
-
 // The answer to a comparison.
 fn answer_of(outcome: Outcome) -> Answer
     ensures { result ≡ answer_of outcome }
 {
     match outcome {
-        Outcome::Refused(refusal) => Answer::Line(verdict_of(refusal)),
+        Outcome::Refused(refusal) => Answer::Line(Verdict::from(refusal)),
         Outcome::NotStraight => Answer::Line(Verdict::NotStraight),
         Outcome::Large => Answer::Line(Verdict::LargeTranslate),
         Outcome::Differ => Answer::Line(Verdict::Depth(5)),

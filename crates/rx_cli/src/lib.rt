@@ -3,7 +3,6 @@
 
 mod answers;
 mod ends;
-mod front_end;
 mod in_memory;
 mod laws;
 mod logs;

@@ -9,9 +9,9 @@ ghost use Rattle.rx_cli.specs.Straight.{IsEqual, IsOutcome, IsSayableOutcome};
 
 mod terms;
 
-use crate::front_end::{Reading, Refusal, TwoFunctions, named_functions};
 use crate::straight::terms::function_term;
 use c_ast::Function;
+use c_front::{Next, Refusal, TwoFunctions, named_functions};
 use rx_plain::NoMemory;
 use rx_poly::{ITerm, PolyEnd, norm};
 use std::alloc::Global;
@@ -138,7 +138,7 @@ pub fn compare(alloc: Global, source: &[u8], first: &str, second: &str) -> Resul
     ensures sayable { IfOk result IsSayableOutcome }
 {
     match named_functions(alloc, source, first, second)? {
-        Reading::Refused(refusal) => Ok(Outcome::Refused(refusal)),
-        Reading::Accepted(two) => compare_two(alloc, &two),
+        Next::Ends(refusal) => Ok(Outcome::Refused(refusal)),
+        Next::Goes(two) => compare_two(alloc, &two),
     }
 }

@@ -2,6 +2,7 @@
 ghost use Rattle.std.specs.Prelude.{◌≡◌};
 
 use crate::Status;
+use c_front::Refusal;
 use c_lex::LexEnd;
 use c_parse::ParseEnd;
 use c_scope::ScopeEnd;
@@ -55,6 +56,23 @@ impl Verdict {
             Verdict::Usage => Status::Usage,
             Verdict::ReadFault => Status::ReadFault,
             Verdict::LargeTranslate => Status::Large,
+        }
+    }
+}
+
+impl From<Refusal> for Verdict {
+    ghost use Rattle.std.specs.Prelude.{◌≡◌};
+    ghost use Rattle.rx_cli.specs.Verdicts.{verdict_of};
+
+    ghost from_gives = { λ refusal verdict. verdict ≡ verdict_of refusal };
+
+    fn from(refusal: Refusal) -> Verdict {
+        match refusal {
+            Refusal::Lex(fault) => Verdict::Lex(fault),
+            Refusal::Parse(end) => Verdict::Parse(end),
+            Refusal::Scope(end) => Verdict::Scope(end),
+            Refusal::NoFunction(name) => Verdict::NoFunction(name),
+            Refusal::Arity(first, second) => Verdict::Arity(first, second),
         }
     }
 }

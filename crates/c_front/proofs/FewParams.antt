@@ -6,7 +6,7 @@ use Rattle.std.proofs.lemmas.List.Elements.{All-cons}
 use Rattle.c_ast.specs.declared.program.Function.{Function}
 use Rattle.c_ast.specs.declared.program.Program.{Program}
 use Rattle.c_parse.specs.Answers.{long_function, long_prototype, earlier, too_many}
-use Rattle.rx_cli.specs.Steps.{HaveFewParams}
+use Rattle.c_front.specs.Steps.{HaveFewParams}
 use Rattle.std.proofs.lemmas.Option.{none-some}
 
 -- where no function has more than 16 parameters, they can be counted

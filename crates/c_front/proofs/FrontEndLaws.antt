@@ -8,10 +8,10 @@ use Rattle.c_ast.specs.declared.program.Program.{Program}
 use Rattle.c_ast.specs.declared.program.Resolved.{Resolved}
 use Rattle.c_names.specs.Spellings.{spellings, spelling_at}
 use Rattle.c_scope.specs.Expressions.{count_at}
-use Rattle.rx_cli.specs.declared.front_end.Reading.TheVariants as Says
-use Rattle.rx_cli.specs.declared.front_end.TwoFunctions.{TwoFunctions}
-use Rattle.rx_cli.specs.declared.front_end.Refusal.TheVariants.{NoFunction, Arity}
-use Rattle.rx_cli.specs.FrontEnd.{AreNamed, IsReading, IsWellFormed, missing, place_in}
+use Rattle.c_front.specs.declared.pairs.TwoFunctions.{TwoFunctions}
+use Rattle.c_front.specs.declared.refusals.Refusal.TheVariants.{NoFunction, Arity}
+use Rattle.c_front.specs.declared.stages.Next.TheVariants.{Ends, Goes}
+use Rattle.c_front.specs.FrontEnd.{AreNamed, IsReading, IsWellFormed, missing, place_in}
 use Rattle.std.proofs.lemmas.Option.{none-some}
 use Rattle.c_scope.proofs.ResolvedPrograms.{counted, counts_kept}
 
@@ -55,7 +55,7 @@ module _ (source : List ℕ) (tokens : List Token) (program : Program) (resolved
   module _ (first second : List ℕ) where
     -- one of the names has no function
     pub lacks : (name : ℕ) → missing (place_in source tokens program first) (place_in source tokens program second) ≡ Some name
-        → IsReading source first second (Says.Refused (NoFunction name))
+        → IsReading source first second (Ends (NoFunction name))
     lacks name is = (tokens, program, resolved, well, is)
 
     module _ (i j : ℕ) (first_is : place_in source tokens program first ≡ Some i) (second_is : place_in source tokens program second ≡ Some j) where
@@ -75,7 +75,7 @@ module _ (source : List ℕ) (tokens : List Token) (program : Program) (resolved
 
       -- both have functions, with other numbers of parameters
       pub other_counts : (m n : ℕ) → m ≡ count_at (slice_get program.functions i) → n ≡ count_at (slice_get program.functions j) → m ≢ n
-          → IsReading source first second (Says.Refused (Arity m n))
+          → IsReading source first second (Ends (Arity m n))
       other_counts m n is_m is_n differ =
           let left = stands first i first_is in
           let right = stands second j second_is in
@@ -83,7 +83,7 @@ module _ (source : List ℕ) (tokens : List Token) (program : Program) (resolved
 
       -- both have functions, of equally many parameters
       pub comparable : (m n : ℕ) → m ≡ count_at (slice_get program.functions i) → n ≡ count_at (slice_get program.functions j) → m ≡ n
-          → IsReading source first second (Says.Accepted named)
+          → IsReading source first second (Goes named)
       comparable m n is_m is_n same =
           let left = stands first i first_is in
           let right = stands second j second_is in

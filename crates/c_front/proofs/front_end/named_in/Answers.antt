@@ -1,9 +1,9 @@
 -- The answer by the places of both names.
 use Rattle.std.proofs.Common.{◌≡◌, sym, ap, ◌∙◌, slice_get}
 use Rattle.c_scope.specs.Expressions.{count_at}
-use Rattle.rx_cli.specs.Steps.{HaveFewParams}
-use Rattle.rx_cli.proofs.FrontEndLaws.{comparable, other_counts}
-use Rattle.rx_cli.proofs.front_end.named_in.Goals as goal
+use Rattle.c_front.specs.Steps.{HaveFewParams}
+use Rattle.c_front.proofs.FrontEndLaws.{comparable, other_counts}
+use Rattle.c_front.proofs.front_end.named_in.Goals as goal
 
 pub param_count-left-requires : goal.param_count-left-requires
 param_count-left-requires c = let few : HaveFewParams c.args.program.now.functions = c.requires.few_params in rw c.as_slice-functions.ensures few

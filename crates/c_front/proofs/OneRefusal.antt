@@ -1,5 +1,5 @@
 -- A text has one list of tokens, one program, one resolution and one pair of functions for two names, so it is refused for one cause.
-use Rattle.std.proofs.Common.{◌≡◌, ◌≢◌, ◌⊎◌, ℕ, List, length, Some, Result, Ok, Err, inl, inr, slice_get, refl, sym, ap, subst, ◌∙◌}
+use Rattle.std.proofs.Common.{◌≡◌, ◌≢◌, ℕ, List, length, Some, Result, Ok, Err, inl, inr, slice_get, refl, sym, ap, subst, ◌∙◌}
 use Rattle.c_lex.specs.declared.token.Token.{Token}
 use Rattle.c_ast.specs.declared.program.Function.{Function}
 use Rattle.c_ast.specs.declared.program.Program.{Program}
@@ -10,11 +10,13 @@ use Rattle.c_parse.specs.declared.error.ParseEnd.{ParseEnd}
 use Rattle.c_parse.specs.declared.error.ParseEnd.TheVariants.{Syntax, TooDeep, TooManyParams, NoMemory, NotARowForm}
 use Rattle.c_scope.specs.declared.error.ScopeEnd.{ScopeEnd}
 use Rattle.c_scope.specs.Programs.{scope_of}
-use Rattle.rx_cli.specs.declared.front_end.TwoFunctions.{TwoFunctions}
-use Rattle.rx_cli.specs.declared.front_end.Refusal.{Refusal}
-use Rattle.rx_cli.specs.declared.front_end.Refusal.TheVariants.{Lex, Parse, Scope, NoFunction, Arity}
-use Rattle.rx_cli.proofs.Options.{none_some, same_some}
-use Rattle.rx_cli.specs.FrontEnd.{AreComparable, AreNamed, AreSyntax, IsIllFormed, IsProgram, IsRefused, IsUnparsed, IsWellFormed, LacksFunction, missing, place_in}
+use Rattle.c_front.specs.declared.pairs.TwoFunctions.{TwoFunctions}
+use Rattle.c_front.specs.declared.refusals.Refusal.{Refusal}
+use Rattle.c_front.specs.declared.refusals.Refusal.TheVariants.{Lex, Parse, Scope, NoFunction, Arity}
+use Rattle.c_front.specs.declared.stages.Next.{Next}
+use Rattle.c_front.specs.declared.stages.Next.TheVariants.{Ends, Goes}
+use Rattle.c_front.proofs.Options.{none_some, same_some}
+use Rattle.c_front.specs.FrontEnd.{AreComparable, AreNamed, IsIllFormed, IsProgram, IsReading, IsRefused, IsSameReading, IsSameRefusal, IsUnparsed, IsWellFormed, LacksFunction, missing, place_in}
 
 -- what is both an answer and a fault
 clash : {A E : Type 0} {r : Result A E} {x : A} {e : E} → r ≡ Ok x → r ≡ Err e → ⊥
@@ -34,10 +36,6 @@ spelled_unrefused ts p (TooManyParams token) a b other =
     let same : p ≡ b.1.0 = program_unique ts p b.1.0 a.1 b.1.1.0 in none_some (sym (ap too_many same) ∙ a.2) b.1.1.1
 spelled_unrefused ts p NoMemory a b other = other refl
 spelled_unrefused ts p NotARowForm a b other = b
-
--- one refusal, but for the place of a syntax error
-abbrev pub IsSameRefusal : Refusal → Refusal → Type 0
-IsSameRefusal r s = (r ≡ s) ⊎ AreSyntax r s
 
 -- a list of tokens is refused for one cause
 one_end : (ts : List Token) (d e : ParseEnd) → Answers ts (Err d) → Answers ts (Err e) → d ≢ NoMemory → e ≢ NoMemory → IsSameRefusal (Parse d) (Parse e)
@@ -151,3 +149,10 @@ module _ (source : List ℕ) where
         let ms : m ≡ k = sym left ∙ (ap (λ (x : Function). length x.params) same.1 ∙ left_too) in
         let ns : n ≡ l = sym right ∙ (ap (λ (x : Function). length x.params) same.2 ∙ right_too) in
         inl (ap (λ z. Arity z n) ms ∙ ap (Arity k) ns)
+
+-- a text and two names have one answer
+pub one_reading : (source first second : List ℕ) (x y : Next Refusal TwoFunctions) → IsReading source first second x → IsReading source first second y → IsSameReading x y
+one_reading source first second (Ends r) (Ends s) a b = one_refusal source first second r s a b
+one_reading source first second (Ends r) (Goes two) a (f, g, are) = absurd (comparable_unrefused source first second r two f g a are)
+one_reading source first second (Goes two) (Ends s) (f, g, are) b = absurd (comparable_unrefused source first second s two f g b are)
+one_reading source first second (Goes one) (Goes two) (f, g, are) (h, k, are_too) = ap Goes (one_pair source first second one two f g h k are.are_named are_too.are_named).0

@@ -1,5 +1,6 @@
 -- What the front end says of a text and two names: its program with all names resolved and the two functions, of equally many parameters, or the first cause of a refusal.
-use Rattle.std.specs.Prelude.{◌≡◌, ◌≢◌, ℕ, ⊤, List, Option, Some, None, Ok, Err, length, slice_get}
+use Rattle.std.specs.Prelude.{◌≡◌, ◌≢◌, ◌⊎◌, ℕ, ⊤, List, Option, Some, None, Ok, Err, length, slice_get}
+use Rattle.c_lex.specs.declared.error.LexEnd.TheVariants as Fault
 use Rattle.c_lex.specs.declared.token.Token.{Token}
 use Rattle.c_lex.specs.Tokens.{tokens_of}
 use Rattle.c_ast.specs.declared.program.Function.{Function}
@@ -9,16 +10,14 @@ use Rattle.c_parse.specs.declared.error.ParseEnd.{ParseEnd}
 use Rattle.c_parse.specs.declared.error.ParseEnd.TheVariants as Flaw
 use Rattle.c_parse.specs.Answers.{Answers}
 use Rattle.c_scope.specs.declared.error.ScopeEnd.{ScopeEnd}
+use Rattle.c_scope.specs.declared.error.ScopeEnd.TheVariants as Wrong
 use Rattle.c_scope.specs.Functions.{place_of_function}
 use Rattle.c_scope.specs.Programs.{scope_of}
-use Rattle.rx_cli.specs.declared.front_end.Reading.{Reading}
-use Rattle.rx_cli.specs.declared.front_end.Reading.TheVariants as Says
-use Rattle.rx_cli.specs.declared.front_end.TwoFunctions.{TwoFunctions}
-use Rattle.rx_cli.specs.declared.front_end.Refusal.{Refusal}
-use Rattle.rx_cli.specs.declared.front_end.Refusal.TheVariants.{Lex, Parse, Scope, NoFunction, Arity}
-use Rattle.rx_cli.specs.declared.verdicts.Verdict.{Verdict}
-use Rattle.rx_cli.specs.declared.verdicts.Verdict.TheVariants as Said
-use Rattle.rx_cli.specs.Texts.{HasLine}
+use Rattle.c_front.specs.declared.pairs.TwoFunctions.{TwoFunctions}
+use Rattle.c_front.specs.declared.refusals.Refusal.{Refusal}
+use Rattle.c_front.specs.declared.refusals.Refusal.TheVariants.{Lex, Parse, Scope, NoFunction, Arity}
+use Rattle.c_front.specs.declared.stages.Next.{Next}
+use Rattle.c_front.specs.declared.stages.Next.TheVariants.{Ends, Goes}
 
 -- the tokens of the text spell this program, within the parser's limits
 pub record IsProgram (source : List ℕ) (tokens : List Token) (program : Program) : Type 0 where
@@ -90,22 +89,27 @@ pub record AreComparable (source first second : List ℕ) (two : TwoFunctions) (
   pub counts : length left.params ≡ length right.params
 
 -- what the front end says
-abbrev pub IsReading : List ℕ → List ℕ → List ℕ → Reading → Type 0
-IsReading source first second (Says.Refused refusal) = IsRefused source first second refusal
-IsReading source first second (Says.Accepted two) = (left : Function) × (right : Function) × AreComparable source first second two left right
+abbrev pub IsReading : List ℕ → List ℕ → List ℕ → Next Refusal TwoFunctions → Type 0
+IsReading source first second (Ends refusal) = IsRefused source first second refusal
+IsReading source first second (Goes two) = (left : Function) × (right : Function) × AreComparable source first second two left right
 
--- what a refusal is as a verdict
-abbrev pub verdict_of : Refusal → Verdict
-verdict_of (Lex fault) = Said.Lex fault
-verdict_of (Parse end) = Said.Parse end
-verdict_of (Scope end) = Said.Scope end
-verdict_of (NoFunction name) = Said.NoFunction name
-verdict_of (Arity m n) = Said.Arity m n
+-- one refusal, but for the place of a syntax error
+abbrev pub IsSameRefusal : Refusal → Refusal → Type 0
+IsSameRefusal r s = (r ≡ s) ⊎ AreSyntax r s
 
--- it has a line
+-- one answer, but for the place of a syntax error
+abbrev pub IsSameReading : Next Refusal TwoFunctions → Next Refusal TwoFunctions → Type 0
+IsSameReading (Ends r) (Ends s) = IsSameRefusal r s
+IsSameReading x y = x ≡ y
+
+-- it can be said in a line: it is neither out of memory, nor an end of preconditions alone
 abbrev pub IsSayable : Refusal → Type 0
-IsSayable refusal = HasLine (verdict_of refusal)
+IsSayable (Lex Fault.NoMemory) = ⊥
+IsSayable (Parse Flaw.NoMemory) = ⊥
+IsSayable (Parse Flaw.NotARowForm) = ⊥
+IsSayable (Scope Wrong.NoMemory) = ⊥
+IsSayable refusal = ⊤
 
-abbrev pub IsSayableReading : Reading → Type 0
-IsSayableReading (Says.Refused refusal) = IsSayable refusal
-IsSayableReading (Says.Accepted two) = ⊤
+abbrev pub IsSayableReading : Next Refusal TwoFunctions → Type 0
+IsSayableReading (Ends refusal) = IsSayable refusal
+IsSayableReading (Goes two) = ⊤

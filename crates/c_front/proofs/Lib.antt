@@ -1,0 +1,4 @@
+pub mod FewParams
+pub mod FrontEndLaws
+pub mod OneRefusal
+pub mod Options
