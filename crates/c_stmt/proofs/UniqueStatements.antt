@@ -157,6 +157,10 @@ way_with : (ts : List Token) (i j : ℕ) (e : Expr) (t s : Stmt) → kind_at ts 
 way_with ts i j e t s h (way_alone o p q) = absurd (o h)
 way_with ts i j e t s h (way_else u o v q) = (u, (v, q))
 
+-- two statements after the same `else`
+with_else : (e : Expr) (u v w t : Stmt) → v ≡ w → t ≡ If e u (Some w) → If e u (Some v) ≡ t
+with_else e u v w t same is = ap (λ z. If e u (Some z)) same ∙ sym is
+
 mutual
   pub statement_unique : (ts : List Token) (i j k : ℕ) (s t : Stmt) → Statement ts i j s → Statement ts i k t → Same j k s t
   statement_unique ts i j k s t (nothing _ _ h) d =
@@ -184,7 +188,7 @@ mutual
       let way : Way ts l k e u t = rw (two.0, one.1, two.1) f.way in
       let is = way_with ts l k e u t o way in
       let three : Same n k v is.0 = statement_unique ts (l + 1) n k v is.0 w is.1.0 in
-      (three.0, ap (λ z. If e u (Some z)) three.1 ∙ sym is.1.1)
+      (three.0, with_else e u v is.0 t three.1 is.1.1)
   statement_unique ts i j k s t (while_loop _ _ m l e u h c r) d =
       let f : Looping ts i k t = form_of ts i k t (Word word.While) h refl (λ z. cc) d in
       let one : Same m f.middle e f.test = test_unique ts (i + 1) m f.middle e f.test c f.tests in
