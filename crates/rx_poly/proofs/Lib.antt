@@ -7,6 +7,7 @@ pub mod DivisionLaws
 pub mod Joining
 pub mod Levels
 pub mod Merging
+pub mod Moving
 pub mod NormLaws
 pub mod Numbering
 pub mod OrderLemmas

@@ -130,6 +130,12 @@ merged_normal s p q {ls} {rs} {ts} left_is right_is made h g f =
     ap (λ xs. is_normal (of_terms xs)) made
     ∙ normal_of_terms _ (combined_terms s ls rs (subst NormalTerms (sym left_is) (poly_terms p h)) (subst NormalTerms (sym right_is) (poly_terms q g)) f)
 
+-- the same where nothing has a sign
+pub added_normal : (p q : Body) {ls rs ts : List (Mono × ℤ)} → ls ≡ (out-Body p).terms → rs ≡ (out-Body q).terms → ts ≡ add_terms mono_cmp ls rs → is_poly p ≡ true → is_poly q ≡ true → all_fit (add_terms mono_cmp ls rs) ≡ true → is_normal (of_terms ts) ≡ true
+added_normal p q {ls} {rs} {ts} left_is right_is made h g f =
+    let same : add_terms mono_cmp ls (with_sign Plus rs) ≡ add_terms mono_cmp ls rs = ap (add_terms mono_cmp ls) (with_plus rs) in
+    merged_normal Plus p q left_is right_is (made ∙ sym same) h g (ap all_fit same ∙ f)
+
 -- ---- one times a number
 
 pub keys-times_number : (test : Mono → Bool) (k : ℤ) (ts : List (Mono × ℤ)) → all_keys test ts ≡ true → all_keys test (times_number k ts) ≡ true

@@ -1,5 +1,5 @@
 -- Sums as lists of terms. A term is a key with its coefficient; in a sum that is listed, keys rise and no coefficient is 0.
-use Rattle.std.specs.Prelude.{Bool, true, not, ◌&&◌, if◌then◌else◌, List, [], ◌∷◌, map, ℤ, pos, ◌+ℤ◌, ◌*ℤ◌, neg_ℤ}
+use Rattle.std.specs.Prelude.{Bool, true, not, ◌&&◌, if◌then◌else◌, Option, Some, None, List, [], ◌∷◌, map, ℤ, pos, ◌+ℤ◌, ◌*ℤ◌, neg_ℤ}
 use Rattle.std.specs.List.{list_all}
 use Rattle.std.specs.Ordering.{int_eq, is_lt}
 use Rattle.std.specs.declared.cmp.Ordering.{Ordering}
@@ -8,6 +8,11 @@ use Rattle.std.specs.declared.cmp.Ordering.TheVariants.{Less, Equal, Greater}
 -- whether the number is 0
 abbrev pub is_zero : ℤ → Bool
 is_zero c = int_eq c (pos 0)
+
+-- an element and those after it; where there is none, none comes after it
+abbrev pub first_and_rest : {A : Type 0} → Option A → List A → List A
+first_and_rest None xs = []
+first_and_rest (Some x) xs = x ∷ xs
 
 module _ {K : Type 0} where
   -- the term in front of others, or these alone where its coefficient is 0

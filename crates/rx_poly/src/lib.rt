@@ -5,6 +5,7 @@ mod body;
 mod division;
 mod iterm;
 mod merge;
+mod moved;
 mod multiple;
 mod normal_form;
 mod normal_test;

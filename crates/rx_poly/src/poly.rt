@@ -16,6 +16,7 @@ ghost use Rattle.rx_poly.specs.Value.{quotient, remainder, value};
 use crate::body::{Atom, Body, Mono};
 use crate::division::{divide, remainder};
 use crate::merge::merge;
+use crate::moved::moved_sum;
 use crate::multiple::multiple;
 use crate::normal_test::body_is_normal;
 use crate::poly_end::PolyEnd;
@@ -192,7 +193,7 @@ impl Poly {
         let mut sum = zero(alloc);
         for term in self.body.terms.as_slice() {
             let product = times_term(alloc, term, other)?;
-            sum = sum.add(alloc, &product)?;
+            sum = plus(alloc, sum, product)?;
         }
         Ok(sum)
     }
@@ -226,6 +227,16 @@ pub(crate) fn zero(alloc: Global) -> Poly
             terms: Items::new(alloc),
         },
     }
+}
+
+/// The sum of the two, of their own terms; Large exactly where the sum passes the limits.
+pub(crate) fn plus(alloc: Global, left: Poly, right: Poly) -> Result<Poly, PolyEnd>
+    ensures forms { Forms PolyEnd.Large result (kept is_within (added left right)) }
+{
+    let Body { terms: left } = left.into_body();
+    let Body { terms: right } = right.into_body();
+    let terms = moved_sum(alloc, left, right)?;
+    within_limits(Body { terms })
 }
 
 /// One term times a polynomial; Large exactly where that product passes the limits.
