@@ -1,5 +1,5 @@
 -- What the front end says of two names in a well-formed program.
-use Rattle.std.proofs.Common.{◌≡◌, ◌≢◌, ℕ, zero, suc, ◌+◌, ◌<◌, Bool, true, false, cond, List, [], ◌∷◌, length, map, Option, Some, None, slice_get, refl, sym, ap, ◌∙◌, arith}
+use Rattle.std.proofs.Common.{◌≡◌, ◌≢◌, ℕ, zero, suc, ◌+◌, ◌<◌, Bool, true, false, cond, List, [], ◌∷◌, length, map, Option, Some, None, Ok, slice_get, refl, sym, ap, ◌∙◌, arith}
 use Rattle.std.specs.List.{position_from}
 use Rattle.std.proofs.lemmas.List.{length-map}
 use Rattle.c_lex.specs.declared.token.Token.{Token}
@@ -8,6 +8,7 @@ use Rattle.c_ast.specs.declared.program.Program.{Program}
 use Rattle.c_ast.specs.declared.program.Resolved.{Resolved}
 use Rattle.c_names.specs.Spellings.{spellings, spelling_at}
 use Rattle.c_scope.specs.Expressions.{count_at}
+use Rattle.c_scope.specs.Programs.{scope_of}
 use Rattle.c_front.specs.declared.pairs.TwoFunctions.{TwoFunctions}
 use Rattle.c_front.specs.declared.refusals.Refusal.TheVariants.{NoFunction, Arity}
 use Rattle.c_front.specs.declared.stages.Next.TheVariants.{Ends, Goes}
@@ -28,6 +29,17 @@ element_within : {A : Type 0} (xs : List A) (i : ℕ) → i < length xs → (x :
 element_within [] i h = absurd (omega (arith, h))
 element_within (x ∷ xs) zero h = (x, refl)
 element_within (x ∷ xs) (suc i) h = element_within xs i (omega (arith, h))
+
+-- a resolved program has as many parameters at each place
+pub counts_at : (source : List ℕ) (tokens : List Token) (program : Program) (resolved : Resolved) → scope_of source tokens program ≡ Ok resolved
+    → (i : ℕ) → count_at (slice_get resolved.functions i) ≡ count_at (slice_get program.functions i)
+counts_at source tokens program resolved scoped i = by_counted (slice_get resolved.functions i) (slice_get program.functions i) (counts_kept source tokens program resolved scoped i)
+  where
+    by_counted : (o p : Option Function) → counted o ≡ counted p → count_at o ≡ count_at p
+    by_counted None None e = refl
+    by_counted None (Some g) e = absurd (none-some _ e)
+    by_counted (Some f) None e = absurd (none-some _ (sym e))
+    by_counted (Some f) (Some g) e = let same : length f.params ≡ length g.params = cc in same
 
 module _ (source : List ℕ) (tokens : List Token) (program : Program) (resolved : Resolved) (well : IsWellFormed source tokens program resolved) where
   -- a name's place is that of a function of the program

@@ -1,4 +1,9 @@
+pub mod Composed
 pub mod FewParams
 pub mod FrontEndLaws
-pub mod OneRefusal
+pub mod OneEnd
+pub mod OneFront
+pub mod OnePair
 pub mod Options
+pub mod Readings
+pub mod StageLaws

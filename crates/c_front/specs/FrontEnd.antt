@@ -97,11 +97,6 @@ IsReading source first second (Goes two) = (left : Function) × (right : Functio
 abbrev pub IsSameRefusal : Refusal → Refusal → Type 0
 IsSameRefusal r s = (r ≡ s) ⊎ AreSyntax r s
 
--- one answer, but for the place of a syntax error
-abbrev pub IsSameReading : Next Refusal TwoFunctions → Next Refusal TwoFunctions → Type 0
-IsSameReading (Ends r) (Ends s) = IsSameRefusal r s
-IsSameReading x y = x ≡ y
-
 -- it can be said in a line: it is neither out of memory, nor an end of preconditions alone
 abbrev pub IsSayable : Refusal → Type 0
 IsSayable (Lex Fault.NoMemory) = ⊥
@@ -110,6 +105,8 @@ IsSayable (Parse Flaw.NotARowForm) = ⊥
 IsSayable (Scope Wrong.NoMemory) = ⊥
 IsSayable refusal = ⊤
 
-abbrev pub IsSayableReading : Next Refusal TwoFunctions → Type 0
-IsSayableReading (Ends refusal) = IsSayable refusal
-IsSayableReading (Goes two) = ⊤
+-- so can the end, where the run ends
+module _ {B : Type 0} where
+  abbrev pub IsSayableNext : Next Refusal B → Type 0
+  IsSayableNext (Ends refusal) = IsSayable refusal
+  IsSayableNext (Goes b) = ⊤

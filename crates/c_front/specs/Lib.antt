@@ -1,2 +1,4 @@
+pub mod Front
 pub mod FrontEnd
+pub mod Stages
 pub mod Steps

@@ -1,25 +1,120 @@
-//! The front end: a text with all its names resolved, and two functions of it by name, or the first cause of a refusal.
+//! The front end: a text with all its names resolved, and two functions of it by name, or the first
+//! cause of a refusal.
 //!
-//! What a reader may rely on: each answer comes exactly where `specs/FrontEnd` says, out of memory apart. The order is
-//! that of the passes: tokens, grammar, scope, the two names, their numbers of parameters.
+//! What a reader may rely on: each stage answers what its relation in `specs/Front` says, out of
+//! memory apart, and the front end what their composition says. The order is that of the passes:
+//! tokens, grammar, scope, the two names, their numbers of parameters.
 ghost use Rattle.std.specs.Prelude.{◌≡◌, ◌<◌, ◌≤◌, ◌^◌, Ok, length, slice_get, IfOk};
-ghost use Rattle.c_lex.specs.Tokens.{tokens_of};
 ghost use Rattle.c_names.specs.Spellings.{IsWithin};
 ghost use Rattle.c_scope.specs.Expressions.{count_at};
-ghost use Rattle.c_front.specs.FrontEnd.{IsProgram, IsReading, IsSayableReading, IsWellFormed};
-ghost use Rattle.c_front.specs.Steps.{HaveFewParams};
+ghost use Rattle.c_scope.specs.Programs.{scope_of};
+ghost use Rattle.c_front.specs.Front as spec;
+ghost use Rattle.c_front.specs.Front.{front};
+ghost use Rattle.c_front.specs.FrontEnd.{IsSayableNext};
+ghost use Rattle.c_front.specs.Stages.{IfGoes};
+ghost use Rattle.c_front.specs.Steps.{CanBeCounted, HaveFewParams};
 
-use crate::{Next, Refusal, TwoFunctions};
-use c_ast::{Function, Program, Resolved};
+use crate::{Next, ProgramText, Refusal, ResolvedText, TwoFunctions};
+use c_ast::Function;
 use c_lex::{LexEnd, Token, tokens};
 use c_parse::{ParseEnd, parse};
 use c_scope::{ScopeEnd, find_function, resolve};
-use rx_plain::NoMemory;
+use rx_plain::{Items, NoMemory};
 use std::alloc::Global;
+
+// The tokens of a text.
+fn lex_stage(alloc: Global, source: &[u8]) -> Result<Next<Refusal, Items<Token>>, NoMemory>
+    requires { length source.now ≤ 1048576 }
+    ensures stage { IfOk result (spec.lex_stage source.now) }
+    ensures sayable { IfOk result IsSayableNext }
+    ensures within { IfOk result (λ next. IfGoes next (IsWithin source.now)) }
+    ensures few { IfOk result (λ next. IfGoes next (λ tokens. length tokens < 2 ^ 32)) }
+{
+    match tokens(alloc, source) {
+        Ok(tokens) => Ok(Next::Goes(Items::from_vec(tokens))),
+        Err(end) => match end {
+            LexEnd::NoMemory => Err(NoMemory),
+            fault => Ok(Next::Ends(Refusal::Lex(fault))),
+        },
+    }
+}
+
+// The program that the tokens spell.
+fn parse_stage(alloc: Global, tokens: Items<Token>) -> Result<Next<Refusal, ProgramText>, NoMemory>
+    requires few { length tokens < 2 ^ 32 }
+    ensures stage { IfOk result (spec.parse_stage tokens) }
+    ensures sayable { IfOk result IsSayableNext }
+    ensures few_functions { IfOk result (λ next.
+        IfGoes next (λ text. length text.program.functions < 2 ^ 32)) }
+    ensures few_params { IfOk result (λ next.
+        IfGoes next (λ text. HaveFewParams text.program.functions)) }
+{
+    match parse(alloc, tokens.as_slice()) {
+        Ok(program) => Ok(Next::Goes(ProgramText { tokens, program })),
+        Err(end) => match end {
+            ParseEnd::NoMemory => Err(NoMemory),
+            refusal => Ok(Next::Ends(Refusal::Parse(refusal))),
+        },
+    }
+}
+
+// The program with its names resolved.
+fn scope_stage(
+    alloc: Global,
+    source: &[u8],
+    text: ProgramText,
+) -> Result<Next<Refusal, ResolvedText>, NoMemory>
+    requires within { IsWithin source.now text.tokens }
+    requires few_tokens { length text.tokens < 2 ^ 32 }
+    requires few_functions { length text.program.functions < 2 ^ 32 }
+    ensures stage { IfOk result (spec.scope_stage source.now text) }
+    ensures sayable { IfOk result IsSayableNext }
+    ensures kept { IfOk result (λ next. IfGoes next (λ known. known.text ≡ text)) }
+    ensures resolved { IfOk result (λ next. IfGoes next (λ known.
+        scope_of source.now text.tokens text.program ≡ Ok known.resolved)) }
+{
+    match resolve(alloc, source, text.tokens.as_slice(), &text.program) {
+        Ok(resolved) => Ok(Next::Goes(ResolvedText { text, resolved })),
+        Err(end) => match end {
+            ScopeEnd::NoMemory => Err(NoMemory),
+            fault => Ok(Next::Ends(Refusal::Scope(fault))),
+        },
+    }
+}
+
+// The two functions with these names.
+fn name_stage(
+    source: &[u8],
+    known: ResolvedText,
+    first: &str,
+    second: &str,
+) -> Next<Refusal, TwoFunctions>
+    requires within { IsWithin source.now known.text.tokens }
+    requires few { length known.text.program.functions < 2 ^ 32 }
+    requires few_params { HaveFewParams known.text.program.functions }
+    requires names { scope_of source.now known.text.tokens known.text.program ≡ Ok known.resolved }
+    ensures stage { spec.name_stage source.now first.now second.now known result }
+    ensures sayable { IsSayableNext result }
+    ensures counted { IfGoes result CanBeCounted }
+{
+    let text = known.text;
+    let tokens = text.tokens.as_slice();
+    let Some(first) = find_function(source, tokens, &text.program, first) else {
+        return Next::Ends(Refusal::NoFunction(1));
+    };
+    let Some(second) = find_function(source, tokens, &text.program, second) else {
+        return Next::Ends(Refusal::NoFunction(2));
+    };
+    Next::Goes(TwoFunctions {
+        program: known.resolved,
+        first,
+        second,
+    })
+}
 
 // How many parameters the function at this place has, 0 where there is none.
 fn param_count(functions: &[Function], place: u32) -> u32
-    requires { HaveFewParams functions.now }
+    requires { count_at (slice_get functions.now place) < 2 ^ 32 }
     ensures { result ≡ count_at (slice_get functions.now place) }
 {
     match functions.get(place as usize) {
@@ -28,88 +123,19 @@ fn param_count(functions: &[Function], place: u32) -> u32
     }
 }
 
-// The two functions with these names in a well-formed program.
-fn named_in(
-    source: &[u8],
-    tokens: &[Token],
-    program: &Program,
-    resolved: Resolved,
-    first: &str,
-    second: &str,
-) -> Next<Refusal, TwoFunctions>
-    requires within { IsWithin source.now tokens.now }
-    requires few { length program.now.functions < 2 ^ 32 }
-    requires few_params { HaveFewParams program.now.functions }
-    requires well_formed { IsWellFormed source.now tokens.now program.now resolved }
-    ensures front { IsReading source.now first.now second.now result }
-    ensures sayable { IsSayableReading result }
+// Two functions of equally many parameters.
+fn count_stage(two: TwoFunctions) -> Next<Refusal, TwoFunctions>
+    requires { CanBeCounted two }
+    ensures stage { spec.count_stage two result }
+    ensures sayable { IsSayableNext result }
 {
-    let Some(first) = find_function(source, tokens, program, first) else {
-        return Next::Ends(Refusal::NoFunction(1));
-    };
-    let Some(second) = find_function(source, tokens, program, second) else {
-        return Next::Ends(Refusal::NoFunction(2));
-    };
-    let functions = program.functions.as_slice();
-    let left = param_count(functions, first);
-    let right = param_count(functions, second);
+    let functions = two.program.functions.as_slice();
+    let left = param_count(functions, two.first);
+    let right = param_count(functions, two.second);
     if left == right {
-        Next::Goes(TwoFunctions {
-            program: resolved,
-            first,
-            second,
-        })
+        Next::Goes(two)
     } else {
         Next::Ends(Refusal::Arity(left, right))
-    }
-}
-
-// What is said of a program that the tokens spell.
-fn in_program(
-    alloc: Global,
-    source: &[u8],
-    tokens: &[Token],
-    program: &Program,
-    first: &str,
-    second: &str,
-) -> Result<Next<Refusal, TwoFunctions>, NoMemory>
-    requires within { IsWithin source.now tokens.now }
-    requires few_tokens { length tokens.now < 2 ^ 32 }
-    requires few_functions { length program.now.functions < 2 ^ 32 }
-    requires few_params { HaveFewParams program.now.functions }
-    requires is { IsProgram source.now tokens.now program.now }
-    ensures front { IfOk result (IsReading source.now first.now second.now) }
-    ensures sayable { IfOk result IsSayableReading }
-{
-    match resolve(alloc, source, tokens, program) {
-        Ok(resolved) => Ok(named_in(source, tokens, program, resolved, first, second)),
-        Err(end) => match end {
-            ScopeEnd::NoMemory => Err(NoMemory),
-            fault => Ok(Next::Ends(Refusal::Scope(fault))),
-        },
-    }
-}
-
-// What is said of a list of tokens.
-fn in_tokens(
-    alloc: Global,
-    source: &[u8],
-    tokens: &[Token],
-    first: &str,
-    second: &str,
-) -> Result<Next<Refusal, TwoFunctions>, NoMemory>
-    requires within { IsWithin source.now tokens.now }
-    requires few { length tokens.now < 2 ^ 32 }
-    requires lexed { tokens_of source.now ≡ Ok tokens.now }
-    ensures front { IfOk result (IsReading source.now first.now second.now) }
-    ensures sayable { IfOk result IsSayableReading }
-{
-    match parse(alloc, tokens) {
-        Ok(program) => in_program(alloc, source, tokens, &program, first, second),
-        Err(end) => match end {
-            ParseEnd::NoMemory => Err(NoMemory),
-            refusal => Ok(Next::Ends(Refusal::Parse(refusal))),
-        },
     }
 }
 
@@ -121,14 +147,23 @@ pub fn named_functions(
     second: &str,
 ) -> Result<Next<Refusal, TwoFunctions>, NoMemory>
     requires { length source.now ≤ 1048576 }
-    ensures front { IfOk result (IsReading source.now first.now second.now) }
-    ensures sayable { IfOk result IsSayableReading }
+    ensures front { IfOk result (front source.now first.now second.now) }
+    ensures sayable { IfOk result IsSayableNext }
 {
-    match tokens(alloc, source) {
-        Ok(tokens) => in_tokens(alloc, source, &tokens, first, second),
-        Err(end) => match end {
-            LexEnd::NoMemory => Err(NoMemory),
-            fault => Ok(Next::Ends(Refusal::Lex(fault))),
-        },
+    let tokens = match lex_stage(alloc, source)? {
+        Next::Goes(tokens) => tokens,
+        Next::Ends(refusal) => return Ok(Next::Ends(refusal)),
+    };
+    let text = match parse_stage(alloc, tokens)? {
+        Next::Goes(text) => text,
+        Next::Ends(refusal) => return Ok(Next::Ends(refusal)),
+    };
+    let known = match scope_stage(alloc, source, text)? {
+        Next::Goes(known) => known,
+        Next::Ends(refusal) => return Ok(Next::Ends(refusal)),
+    };
+    match name_stage(source, known, first, second) {
+        Next::Goes(two) => Ok(count_stage(two)),
+        Next::Ends(refusal) => Ok(Next::Ends(refusal)),
     }
 }

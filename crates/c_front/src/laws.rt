@@ -1,13 +1,18 @@
 //! Laws of what the front end says.
-ghost use Rattle.std.specs.Prelude.{ℕ, List};
-ghost use Rattle.c_front.specs.FrontEnd.{IsReading, IsSameReading};
+ghost use Rattle.std.specs.Prelude.{◌↔◌, ℕ, List};
+ghost use Rattle.c_front.specs.Front.{front};
+ghost use Rattle.c_front.specs.FrontEnd.{IsReading, IsSameRefusal};
+ghost use Rattle.c_front.specs.Stages.{Alike};
 ghost use Rattle.c_front.specs.declared.pairs.TwoFunctions.{TwoFunctions};
 ghost use Rattle.c_front.specs.declared.refusals.Refusal.{Refusal};
 ghost use Rattle.c_front.specs.declared.stages.Next.{Next};
 
-/// A text and two names have at most one answer of the front end, but for the place of a syntax error. So each answer
-/// comes exactly where its cause holds. A law; it does nothing.
-pub fn a_text_has_one_reading()
-    ensures { (source first second : List ℕ) (x y : Next Refusal TwoFunctions) →
-        IsReading source first second x → IsReading source first second y → IsSameReading x y }
+/// A text and two names have at most one answer of the front end, but for the place of a syntax
+/// error (`one`). Each answer comes exactly where its cause holds, as a fact of the text
+/// (`causes`). A law; it does nothing.
+pub fn a_text_has_one_answer()
+    ensures one { (source first second : List ℕ) (x y : Next Refusal TwoFunctions) →
+        front source first second x → front source first second y → Alike IsSameRefusal x y }
+    ensures causes { (source first second : List ℕ) (x : Next Refusal TwoFunctions) →
+        front source first second x ↔ IsReading source first second x }
 {}

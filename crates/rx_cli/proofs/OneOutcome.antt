@@ -14,12 +14,15 @@ use Rattle.rx_cli.specs.declared.straight.Outcome.TheVariants.{Refused, NotStrai
 use Rattle.rx_cli.specs.declared.straight.TwoTerms.{TwoTerms}
 use Rattle.rx_cli.specs.Answers.{SameReport, answer_of, status_in, text_in}
 use Rattle.rx_cli.specs.Ends.{status_of}
-use Rattle.c_front.specs.FrontEnd.{AreSyntax, IsRefused, IsSameRefusal}
+use Rattle.c_front.specs.declared.stages.Next.TheVariants.{Ends}
+use Rattle.c_front.specs.Front.{front}
+use Rattle.c_front.specs.FrontEnd.{AreSyntax, IsSameRefusal}
 use Rattle.rx_cli.specs.Verdicts.{verdict_of}
 use Rattle.rx_cli.specs.Straight.{AreNotStraight, HaveTerms, IsOutcome, IsSameOutcome, IsWithinLimits, PassesLimits, order_of}
 use Rattle.rx_cli.specs.Texts.{text_of}
 use Rattle.rx_cli.specs.Terms.{function_term}
-use Rattle.c_front.proofs.OneRefusal.{comparable_unrefused, one_pair, one_refusal}
+use Rattle.c_front.proofs.OneFront.{one_front}
+use Rattle.c_front.proofs.OnePair.{comparable_unrefused, one_pair}
 use Rattle.c_front.proofs.Options.{none_some, same_some}
 
 -- each refusal has the status of refusals
@@ -41,25 +44,25 @@ kept terms within (inr right) = let no : true ≡ false = sym within.1 ∙ right
 
 module _ (source first second : List ℕ) where
   -- a refused text has no comparable functions
-  refused_terms : (refusal : Refusal) (terms : TwoTerms) → IsRefused source first second refusal → HaveTerms source first second terms → ⊥
+  refused_terms : (refusal : Refusal) (terms : TwoTerms) → front source first second (Ends refusal) → HaveTerms source first second terms → ⊥
   refused_terms refusal terms refused have = comparable_unrefused source first second refusal have.two have.left have.right refused have.are_comparable
 
-  refused_straight : (refusal : Refusal) → IsRefused source first second refusal → AreNotStraight source first second → ⊥
+  refused_straight : (refusal : Refusal) → front source first second (Ends refusal) → AreNotStraight source first second → ⊥
   refused_straight refusal refused (two, f, g, are, none) = comparable_unrefused source first second refusal two f g refused are
 
   -- straight functions aren't otherwise
   straight_otherwise : (terms : TwoTerms) → HaveTerms source first second terms → AreNotStraight source first second → ⊥
   straight_otherwise terms have (two, f, g, are, inl none) =
-      let same = one_pair source first second have.two two have.left have.right f g have.are_comparable.are_named are.are_named in
+      let same = one_pair source first second have.two two have.left have.right f g have.are_comparable are in
       no_term f terms.left none (sym (ap function_term same.1) ∙ have.left_term)
   straight_otherwise terms have (two, f, g, are, inr none) =
-      let same = one_pair source first second have.two two have.left have.right f g have.are_comparable.are_named are.are_named in
+      let same = one_pair source first second have.two two have.left have.right f g have.are_comparable are in
       no_term g terms.right none (sym (ap function_term same.2) ∙ have.right_term)
 
   -- two names have one pair of terms, in one order
   terms_once : (p q : TwoTerms) → HaveTerms source first second p → HaveTerms source first second q → p ≡ q
   terms_once p q a b =
-      let same = one_pair source first second a.two b.two a.left a.right b.left b.right a.are_comparable.are_named b.are_comparable.are_named in
+      let same = one_pair source first second a.two b.two a.left a.right b.left b.right a.are_comparable b.are_comparable in
       let lefts : p.left ≡ q.left = same_some (sym (ap function_term same.1) ∙ a.left_term) b.left_term in
       let rights : p.right ≡ q.right = same_some (sym (ap function_term same.2) ∙ a.right_term) b.right_term in
       let orders : p.order ≡ q.order = a.order ∙ (ap (λ (n : TwoFunctions). order_of n.first n.second) same.0 ∙ sym b.order) in
@@ -74,7 +77,7 @@ module _ (source first second : List ℕ) where
 
   -- a text and two names have one outcome
   pub one_outcome : (x y : Outcome) → IsOutcome source first second x → IsOutcome source first second y → IsSameOutcome x y
-  one_outcome (Refused r) (Refused s) a b = one_refusal source first second r s a b
+  one_outcome (Refused r) (Refused s) a b = one_front source first second (Ends r) (Ends s) a b
   one_outcome (Refused r) NotStraight a b = absurd (refused_straight r a b)
   one_outcome (Refused r) Large a b = absurd (refused_terms r b.0 a b.1)
   one_outcome (Refused r) Differ a b = absurd (refused_terms r b.0 a b.1)

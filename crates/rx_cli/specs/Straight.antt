@@ -9,7 +9,9 @@ use Rattle.rx_cli.specs.declared.straight.Order.TheVariants.{Same, FirstBefore, 
 use Rattle.rx_cli.specs.declared.straight.Outcome.{Outcome}
 use Rattle.rx_cli.specs.declared.straight.Outcome.TheVariants as Says
 use Rattle.rx_cli.specs.declared.straight.TwoTerms.{TwoTerms}
-use Rattle.c_front.specs.FrontEnd.{AreComparable, IsRefused, IsSameRefusal, IsSayable}
+use Rattle.c_front.specs.declared.stages.Next.TheVariants.{Ends}
+use Rattle.c_front.specs.Front.{front}
+use Rattle.c_front.specs.FrontEnd.{AreComparable, IsSameRefusal, IsSayable}
 use Rattle.rx_cli.specs.Terms.{function_term}
 
 -- how two places stand to one another
@@ -42,7 +44,7 @@ PassesLimits terms = (norm_within terms.left ≡ false) ⊎ (norm_within terms.r
 
 -- what is said, and when. The cases exclude each other, but for the place of a syntax error
 abbrev pub IsOutcome : List ℕ → List ℕ → List ℕ → Outcome → Type 0
-IsOutcome source first second (Says.Refused refusal) = IsRefused source first second refusal
+IsOutcome source first second (Says.Refused refusal) = front source first second (Ends refusal)
 IsOutcome source first second Says.NotStraight = AreNotStraight source first second
 IsOutcome source first second Says.Large =
     (terms : TwoTerms) × HaveTerms source first second terms × PassesLimits terms

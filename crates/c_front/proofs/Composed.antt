@@ -1,0 +1,19 @@
+-- What the last two stages say is what the front end says.
+use Rattle.std.proofs.Common.{ℕ, List, inl, inr}
+use Rattle.c_lex.specs.declared.token.Token.{Token}
+use Rattle.c_front.specs.declared.pairs.TwoFunctions.{TwoFunctions}
+use Rattle.c_front.specs.declared.refusals.Refusal.{Refusal}
+use Rattle.c_front.specs.declared.stages.Next.{Next}
+use Rattle.c_front.specs.declared.stages.Next.TheVariants.{Ends, Goes}
+use Rattle.c_front.specs.declared.texts.ProgramText.{ProgramText}
+use Rattle.c_front.specs.declared.texts.ResolvedText.{ResolvedText}
+use Rattle.c_front.specs.Front.{count_stage, front, lex_stage, name_stage, parse_stage, scope_stage}
+
+module _ (source first second : List ℕ) (tokens : List Token) (text : ProgramText) (known : ResolvedText)
+    (lexed : lex_stage source (Goes tokens)) (parsed : parse_stage tokens (Goes text)) (scoped : scope_stage source text (Goes known)) where
+  pub names_decide : (refusal : Refusal) → name_stage source first second known (Ends refusal) → front source first second (Ends refusal)
+  names_decide refusal named = inr (tokens, lexed, inr (text, parsed, inr (known, scoped, inl named)))
+
+  pub counts_decide : (two : TwoFunctions) → name_stage source first second known (Goes two) → (x : Next Refusal TwoFunctions) → count_stage two x → front source first second x
+  counts_decide two named (Ends refusal) counted = inr (tokens, lexed, inr (text, parsed, inr (known, scoped, inr (two, named, counted))))
+  counts_decide two named (Goes t) counted = (tokens, lexed, (text, parsed, (known, scoped, (two, named, counted))))
