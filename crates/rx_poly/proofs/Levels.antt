@@ -1,9 +1,10 @@
 -- Value, size, depth and normal form of a monomial or a sum, by those of its parts.
-use Rattle.std.proofs.Common.{◌≡◌, ◌∙◌, ap, ℕ, ◌+◌, max, ℤ, ◌+ℤ◌, ◌*ℤ◌, Bool, true, ◌&&◌, refl, sym, List, [], ◌∷◌, map, sum_by}
+use Rattle.std.proofs.Common.{◌≡◌, ◌∙◌, ap, ℕ, ◌+◌, ◌≤◌, max, nat_le, ℤ, ◌+ℤ◌, ◌*ℤ◌, Bool, true, ◌&&◌, refl, sym, List, [], ◌∷◌, map, sum_by}
+use Rattle.std.proofs.lemmas.Bool.{and_parts, leb-true}
 use Rattle.std.proofs.lemmas.List.Sums.{sum_by-cons, sum-map}
 use Rattle.std.specs.List.{list_all}
 use denote.Hole.Carrier
-use Rattle.rx_poly.specs.Limits.{of_terms, of_atoms, atom_size, mono_size, body_size, atom_size_level, mono_size_level, body_size_level, greatest, atom_depth, mono_depth, body_depth, atom_depth_level, mono_depth_level, body_depth_level, fits_i128}
+use Rattle.rx_poly.specs.Limits.{of_terms, of_atoms, atom_size, mono_size, body_size, atom_size_level, mono_size_level, body_size_level, greatest, atom_depth, mono_depth, body_depth, atom_depth_level, mono_depth_level, body_depth_level, fits_i128, is_small}
 use Rattle.rx_poly.specs.Normal.{is_sorted, is_open, is_normal_atom, is_normal_mono, is_normal, atom_normal_level, mono_normal_level, body_normal_level}
 use Rattle.rx_poly.specs.Order.{atom_cmp, mono_cmp}
 use Rattle.rx_poly.specs.Terms.{is_listed}
@@ -134,3 +135,23 @@ div_is_normal p q = is_normal_atom_is (Div p q) ∙ ap normal_first (outs-Div p 
 
 pub mod_is_normal : (p q : Body) → is_normal_atom (Mod p q) ≡ ((is_normal p && is_normal q) && is_open p q)
 mod_is_normal p q = is_normal_atom_is (Mod p q) ∙ ap normal_first (outs-Mod p q)
+
+-- ---- a quotient or remainder, and what is small
+
+pub size_Div : (p q : Body) → atom_size (Div p q) ≡ 1 + (body_size p + body_size q)
+size_Div p q = fold_out-Atom ℕ ℕ ℕ atom_size_level body_size_level mono_size_level (Div p q) ∙ rw (outs-Div p q) refl
+
+pub size_Mod : (p q : Body) → atom_size (Mod p q) ≡ 1 + (body_size p + body_size q)
+size_Mod p q = fold_out-Atom ℕ ℕ ℕ atom_size_level body_size_level mono_size_level (Mod p q) ∙ rw (outs-Mod p q) refl
+
+pub depth_Div : (p q : Body) → atom_depth (Div p q) ≡ 1 + max (body_depth p) (body_depth q)
+depth_Div p q = fold_out-Atom ℕ ℕ ℕ atom_depth_level body_depth_level mono_depth_level (Div p q) ∙ rw (outs-Div p q) refl
+
+pub depth_Mod : (p q : Body) → atom_depth (Mod p q) ≡ 1 + max (body_depth p) (body_depth q)
+depth_Mod p q = fold_out-Atom ℕ ℕ ℕ atom_depth_level body_depth_level mono_depth_level (Mod p q) ∙ rw (outs-Mod p q) refl
+
+-- what is small keeps the limits of size and of depth
+pub small_parts : (p : Body) → is_small p ≡ true → (body_size p ≤ 4096) × (body_depth p ≤ 64)
+small_parts p h =
+    let g = and_parts (nat_le (body_size p) 4096) (nat_le (body_depth p) 64) h in
+    (leb-true (body_size p) 4096 g.0, leb-true (body_depth p) 64 g.1)

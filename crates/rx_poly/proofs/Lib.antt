@@ -13,6 +13,7 @@ pub mod Numbering
 pub mod OrderLemmas
 pub mod Pieces
 pub mod PolyLaws
+pub mod Prefixes
 pub mod ProductLaws
 pub mod ReadingLaws
 pub mod Pushing
@@ -20,8 +21,10 @@ pub mod Running
 pub mod Same
 pub mod Scaling
 pub mod SortedLaws
+pub mod Staying
 pub mod Substituting
 pub mod SubstitutedValue
 pub mod TermLaws
+pub mod Unchanged
 pub mod VariableLaws
 pub mod Walks

@@ -1,5 +1,5 @@
 -- Two sums whose terms are being moved into their sum: what stands already, and what both still add to it.
-use Rattle.std.proofs.Common.{◌≡◌, ◌∙◌, ap, subst, true, false, refl, sym, Option, Some, None, List, [], ◌∷◌, ◌++◌, ℤ, ◌+ℤ◌}
+use Rattle.std.proofs.Common.{◌≡◌, ◌∙◌, subst, true, false, refl, sym, Option, Some, None, List, [], ◌∷◌, ◌++◌, ℤ, ◌+ℤ◌}
 use Rattle.std.proofs.lemmas.Bool.{and_parts}
 use Rattle.std.specs.Vec.Iter.{into_iter_items, into_iter_steps}
 use Rattle.std.specs.declared.vec.IntoIter.{IntoIter}

@@ -1,6 +1,7 @@
 -- What is in place of a variable where polynomials are listed in order.
-use Rattle.std.proofs.Common.{◌≡◌, ◌∙◌, ap, subst, ℕ, zero, suc, ◌+◌, ◌==◌, true, false, if◌then◌else◌, refl, sym, Option, Some, None, List, [], ◌∷◌, slice_get, arith}
+use Rattle.std.proofs.Common.{◌≡◌, ◌∙◌, ap, subst, ℕ, zero, suc, ◌+◌, ◌==◌, true, false, if◌then◌else◌, refl, sym, Option, Some, None, MatchOption, List, [], ◌∷◌, slice_get, Bor, arith}
 use Rattle.std.proofs.lemmas.Bool.Decides.{nat_tests}
+use Rattle.std.specs.Option.{option_copied}
 use Rattle.rx_poly.specs.Constants.{variable}
 use Rattle.rx_poly.specs.Substitution.{numbered, numbered_from, replaced}
 use Rattle.rx_poly.specs.declared.body.Body.{Body}
@@ -33,3 +34,8 @@ argument_is ps n p e = sym (in_order ps n ∙ ap (or_variable n) e)
 -- there is none
 pub no_argument : (ps : List Body) (n : ℕ) → slice_get ps n ≡ None → variable n ≡ replaced (numbered ps) n
 no_argument ps n e = sym (in_order ps n ∙ ap (or_variable n) e)
+
+-- what is borrowed is that argument, and without one the variable stays
+pub borrowed : (ps : List Body) (n : ℕ) (r : Option (Bor Body)) → option_copied r ≡ slice_get ps n → MatchOption r (replaced (numbered ps) n ≡ variable n) (λ p. p.now ≡ replaced (numbered ps) n)
+borrowed ps n None e = sym (no_argument ps n (sym e))
+borrowed ps n (Some p) e = argument_is ps n p.now (sym e)

@@ -1,14 +1,17 @@
 //! Polynomials put in place of variables.
-ghost use Rattle.std.specs.Prelude.{◌≡◌, slice_get, ◌*ℤ◌, ℕ, ℤ, IfOk};
+ghost use Rattle.std.specs.Prelude.{◌≡◌, slice_get, ◌*ℤ◌, ℕ, ℤ, IfOk, MatchOption};
+ghost use Rattle.std.specs.Bool.{OnTrue};
 ghost use Rattle.std.specs.Option.{option_copied};
 ghost use Rattle.rx_plain.specs.Formed.{Forms};
 ghost use Rattle.rx_poly.specs.Substitution.{in_atom, in_mono, in_body, numbered, replaced, worth};
-ghost use Rattle.rx_poly.specs.Replacements.{replacements};
+ghost use Rattle.rx_poly.specs.Constants.{variable};
+ghost use Rattle.rx_poly.specs.Replacements.{replacements, stay};
+ghost use Rattle.rx_poly.specs.Variables.{atom_variables, mono_variables, variables};
 ghost use Rattle.rx_poly.specs.Value.{value};
 
 use crate::body::{Atom, Body, Mono};
 use crate::division::{divide, remainder};
-use crate::poly::{Poly, of_number, of_variable, zero};
+use crate::poly::{Poly, of_number, of_variable, plus, zero};
 use crate::poly_end::PolyEnd;
 use std::alloc::{AllocError, Global};
 
@@ -21,16 +24,16 @@ enum Replacements<'a> {
     InOrder(&'a [Poly]),
 }
 
-/// What is listed for the variable, or the variable itself.
-fn listed_for(alloc: Global, at: u32, with: &[(u32, Poly)]) -> Result<Poly, AllocError>
-    ensures { IfOk result (λ p. p ≡ replaced with.now at) }
+/// What is listed for the variable, borrowed; None where the variable stays.
+fn listed_for(at: u32, with: &[(u32, Poly)]) -> Option<&Poly>
+    ensures { MatchOption result (replaced with.now at ≡ variable at) (λ p. p.now ≡ replaced with.now at) }
 {
     for pair in with {
         if pair.0 == at {
-            return pair.1.try_clone(alloc);
+            return Some(&pair.1);
         }
     }
-    of_variable(alloc, at)
+    None
 }
 
 /// The argument with that number, if there is one.
@@ -40,13 +43,20 @@ fn argument_at(args: &[Poly], at: u32) -> Option<&Poly>
     args.get(at as usize)
 }
 
-/// The argument with the variable's number, or the variable itself.
-fn argument_for(alloc: Global, at: u32, args: &[Poly]) -> Result<Poly, AllocError>
-    ensures { IfOk result (λ p. p ≡ replaced (numbered args.now) at) }
+/// The argument with the variable's number, borrowed; None where the variable stays.
+fn argument_for(at: u32, args: &[Poly]) -> Option<&Poly>
+    ensures { MatchOption result (replaced (numbered args.now) at ≡ variable at) (λ p. p.now ≡ replaced (numbered args.now) at) }
 {
-    match argument_at(args, at) {
-        Some(arg) => arg.try_clone(alloc),
-        None => of_variable(alloc, at),
+    argument_at(args, at)
+}
+
+/// What is in place of the variable, borrowed; None where it stays.
+fn replacement<'a>(at: u32, with: Replacements<'a>) -> Option<&'a Poly>
+    ensures { MatchOption result (replaced (replacements with.entry) at ≡ variable at) (λ p. p.now ≡ replaced (replacements with.entry) at) }
+{
+    match with {
+        Replacements::Listed(pairs) => listed_for(at, pairs),
+        Replacements::InOrder(args) => argument_for(at, args),
     }
 }
 
@@ -54,10 +64,48 @@ fn argument_for(alloc: Global, at: u32, args: &[Poly]) -> Result<Poly, AllocErro
 fn in_place_of(alloc: Global, at: u32, with: Replacements) -> Result<Poly, AllocError>
     ensures { IfOk result (λ p. p ≡ replaced (replacements with.entry) at) }
 {
-    match with {
-        Replacements::Listed(pairs) => listed_for(alloc, at, pairs),
-        Replacements::InOrder(args) => argument_for(alloc, at, args),
+    match replacement(at, with) {
+        Some(poly) => poly.try_clone(alloc),
+        None => of_variable(alloc, at),
     }
+}
+
+/// Whether the atom's variables stay.
+#[cycle(stays)]
+fn atom_stays(atom: &Atom, with: Replacements) -> bool
+    ensures { OnTrue result (stay (replacements with.entry) (atom_variables atom.now)) }
+{
+    match atom {
+        Atom::Var(number) => replacement(*number, with).is_none(),
+        Atom::Div(num, den) => body_stays(num, with) && body_stays(den, with),
+        Atom::Mod(num, den) => body_stays(num, with) && body_stays(den, with),
+    }
+}
+
+/// Whether the monomial's variables stay.
+#[cycle(stays)]
+fn mono_stays(mono: &Mono, with: Replacements) -> bool
+    ensures { OnTrue result (stay (replacements with.entry) (mono_variables mono.now)) }
+{
+    for atom in mono.atoms.as_slice() {
+        if !atom_stays(atom, with) {
+            return false;
+        }
+    }
+    true
+}
+
+/// Whether the sum's variables stay.
+#[cycle(stays)]
+fn body_stays(body: &Body, with: Replacements) -> bool
+    ensures { OnTrue result (stay (replacements with.entry) (variables body.now)) }
+{
+    for term in body.terms.as_slice() {
+        if !mono_stays(&term.0, with) {
+            return false;
+        }
+    }
+    true
 }
 
 /// The atom with its variables replaced.
@@ -102,9 +150,19 @@ fn body_with(alloc: Global, body: &Body, with: Replacements) -> Result<Poly, Pol
     let mut sum = zero(alloc);
     for term in body.terms.as_slice() {
         let product = mono_with(alloc, &term.0, &term.1, with)?;
-        sum = sum.add(alloc, &product)?;
+        sum = plus(alloc, sum, product)?;
     }
     Ok(sum)
+}
+
+/// The polynomial with its variables replaced, a copy where all of them stay.
+fn poly_with(alloc: Global, poly: &Poly, with: Replacements) -> Result<Poly, PolyEnd>
+    ensures forms { Forms PolyEnd.Large result (in_body (replacements with.entry) poly.now) }
+{
+    if body_stays(poly.body(), with) {
+        return Ok(poly.try_clone(alloc)?);
+    }
+    body_with(alloc, poly.body(), with)
 }
 
 impl Poly {
@@ -116,7 +174,7 @@ impl Poly {
         ensures forms { Forms PolyEnd.Large result (in_body with.now self.now) }
         ensures value { IfOk result (λ p. (a : ℕ → ℤ) → value a p ≡ value (worth a with.now) self.now) }
     {
-        body_with(alloc, self.body(), Replacements::Listed(with))
+        poly_with(alloc, self, Replacements::Listed(with))
     }
 
     /// The polynomial with the first of those polynomials in place of v0, the second in place of
@@ -125,6 +183,6 @@ impl Poly {
         ensures forms { Forms PolyEnd.Large result (in_body (numbered args.now) self.now) }
         ensures value { IfOk result (λ p. (a : ℕ → ℤ) → value a p ≡ value (worth a (numbered args.now)) self.now) }
     {
-        body_with(alloc, self.body(), Replacements::InOrder(args))
+        poly_with(alloc, self, Replacements::InOrder(args))
     }
 }

@@ -1,42 +1,25 @@
 -- What stands inside a polynomial is normal, and as small as the whole or smaller.
-use Rattle.std.proofs.Common.{◌≡◌, ◌∙◌, ap, subst, ℕ, ◌+◌, ◌≤◌, max, true, ◌&&◌, refl, sym, List, [], ◌∷◌, ℤ, arith}
+use Rattle.std.proofs.Common.{◌≡◌, ◌∙◌, ap, subst, ◌+◌, ◌≤◌, max, true, ◌&&◌, sym, List, [], ◌∷◌, ℤ, arith}
 use Rattle.std.specs.Prelude.{nat_le, sum_by}
 use Rattle.std.specs.List.{All, flat_map, list_all}
-use Rattle.std.proofs.lemmas.Bool.{and_parts, and_from, leb-true, le-leb}
+use Rattle.std.proofs.lemmas.Bool.{and_parts, and_from, le-leb}
 use Rattle.std.proofs.lemmas.List.Elements.{All-nil, All-cons, All-append}
 use Rattle.std.proofs.lemmas.List.Sums.{sum_by-cons}
-use Rattle.rx_poly.specs.Limits.{atom_size, mono_size, body_size, atom_size_level, mono_size_level, body_size_level, greatest, atom_depth, mono_depth, body_depth, atom_depth_level, mono_depth_level, body_depth_level, is_small}
+use Rattle.rx_poly.specs.Limits.{atom_size, mono_size, body_size, greatest, atom_depth, mono_depth, body_depth, is_small}
 use Rattle.rx_poly.specs.Normal.{is_normal, is_normal_atom, is_normal_mono, is_open, is_poly, is_sorted}
 use Rattle.rx_poly.specs.Order.{atom_cmp}
 use Rattle.rx_poly.specs.Terms.{all_keys}
-use Rattle.rx_poly.proofs.Levels.{body_size_is, mono_size_is, body_depth_is, mono_depth_is, is_normal_mono_is, div_is_normal, mod_is_normal}
+use Rattle.rx_poly.proofs.Levels.{body_size_is, mono_size_is, body_depth_is, mono_depth_is, is_normal_mono_is, div_is_normal, mod_is_normal, size_Div, size_Mod, depth_Div, depth_Mod, small_parts}
 use Rattle.rx_poly.proofs.PolyLaws.{poly_terms}
-use Rattle.rx_poly.specs.declared.body.Atom.{Atom, Atom-F, out-Atom, roll-Atom, roll-out-Atom, fold_out-Atom}
-use Rattle.rx_poly.specs.declared.body.Atom.TheVariants.{Div, Mod, outs-Div, outs-Mod, rolls-Div, rolls-Mod}
+use Rattle.rx_poly.specs.declared.body.Atom.{Atom, Atom-F, out-Atom, roll-Atom, roll-out-Atom}
+use Rattle.rx_poly.specs.declared.body.Atom.TheVariants.{rolls-Div, rolls-Mod}
 use Rattle.rx_poly.specs.declared.body.Mono.{Mono, out-Mono}
 use Rattle.rx_poly.specs.declared.body.Body.{Body, out-Body}
 use Rattle.rx_poly_laws.specs.Inner.{parts_of, inner_of_mono, inner}
 
-pub size_Div : (p q : Body) → atom_size (Div p q) ≡ 1 + (body_size p + body_size q)
-size_Div p q = fold_out-Atom ℕ ℕ ℕ atom_size_level body_size_level mono_size_level (Div p q) ∙ rw (outs-Div p q) refl
-
-pub size_Mod : (p q : Body) → atom_size (Mod p q) ≡ 1 + (body_size p + body_size q)
-size_Mod p q = fold_out-Atom ℕ ℕ ℕ atom_size_level body_size_level mono_size_level (Mod p q) ∙ rw (outs-Mod p q) refl
-
-pub depth_Div : (p q : Body) → atom_depth (Div p q) ≡ 1 + max (body_depth p) (body_depth q)
-depth_Div p q = fold_out-Atom ℕ ℕ ℕ atom_depth_level body_depth_level mono_depth_level (Div p q) ∙ rw (outs-Div p q) refl
-
-pub depth_Mod : (p q : Body) → atom_depth (Mod p q) ≡ 1 + max (body_depth p) (body_depth q)
-depth_Mod p q = fold_out-Atom ℕ ℕ ℕ atom_depth_level body_depth_level mono_depth_level (Mod p q) ∙ rw (outs-Mod p q) refl
-
 -- size and depth keep the limits
 pub small_from : (p : Body) → body_size p ≤ 4096 → body_depth p ≤ 64 → is_small p ≡ true
 small_from p s d = and_from (nat_le (body_size p) 4096) (nat_le (body_depth p) 64) (le-leb (body_size p) 4096 s) (le-leb (body_depth p) 64 d)
-
-pub small_parts : (p : Body) → is_small p ≡ true → (body_size p ≤ 4096) × (body_depth p ≤ 64)
-small_parts p h =
-    let g = and_parts (nat_le (body_size p) 4096) (nat_le (body_depth p) 64) h in
-    (leb-true (body_size p) 4096 g.0, leb-true (body_depth p) 64 g.1)
 
 abbrev IsPoly : Body → Type 0
 IsPoly q = is_poly q ≡ true

@@ -3,8 +3,6 @@ pub mod BoundLaws
 pub mod Coefficients
 pub mod InnerLaws
 pub mod Locality
-pub mod Prefixes
-pub mod Unchanged
 pub mod TestLaws
 pub mod InstanceVariables
 pub mod NormVariables

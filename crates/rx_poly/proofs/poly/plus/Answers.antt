@@ -1,5 +1,5 @@
 -- The terms of polynomials can be summed, and what they make is normal.
-use Rattle.std.proofs.Common.{◌≡◌, ◌∙◌, ap, refl}
+use Rattle.std.proofs.Common.{◌∙◌, ap, refl}
 use Rattle.rx_poly.specs.Normal.{is_poly}
 use Rattle.rx_poly.proofs.PolyLaws.{poly_sum, added_normal}
 use Rattle.rx_poly.proofs.poly.plus.Goals as goal

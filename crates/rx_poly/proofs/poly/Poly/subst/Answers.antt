@@ -1,13 +1,10 @@
 -- What is formed is worth the polynomial where its variables are worth their replacements.
-use Rattle.std.proofs.Common.{ap, ◌∙◌}
 use Rattle.rx_plain.proofs.Forming.{value_formed}
-use Rattle.rx_poly.specs.Substitution.{in_body, worth}
-use Rattle.rx_poly.specs.Value.{value}
+use Rattle.rx_poly.specs.Substitution.{in_body}
 use Rattle.rx_poly.specs.declared.poly_end.PolyEnd.TheVariants.{Large}
 use Rattle.rx_poly.proofs.SubstitutedValue.{value-in_body}
 use Rattle.rx_poly.proofs.poly.Poly.subst.Goals as goal
 
 pub returns-clause-value : goal.returns-clause-value
 returns-clause-value c =
-    value_formed Large (in_body c.args.with.now c.body.result.now) c.body_with.result _
-    (λ a. value-in_body a c.args.with.now c.body.result.now ∙ ap (value (worth a c.args.with.now)) c.body.ensures.body) c.body_with.ensures.forms
+    value_formed Large (in_body c.args.with.now c.args.self.now) c.poly_with.result _ (λ a. value-in_body a c.args.with.now c.args.self.now) c.poly_with.ensures.forms

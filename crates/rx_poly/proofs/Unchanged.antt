@@ -19,7 +19,7 @@ use Rattle.rx_poly.specs.Reading.{constant_of}
 use Rattle.rx_poly.specs.Substitution.{replaced, times_all, plus_all, in_atom, in_mono, in_body}
 use Rattle.rx_poly.specs.Terms.{add_terms, all_keys, is_listed, is_zero}
 use Rattle.rx_poly.proofs.Constants.{number-nonzero}
-use Rattle.rx_poly.proofs.Levels.{terms-of_terms, atoms-of_atoms, mono_size_is, mono_depth_is, body_size_is, body_depth_is, is_normal_mono_is, div_is_normal, mod_is_normal}
+use Rattle.rx_poly.proofs.Levels.{terms-of_terms, atoms-of_atoms, mono_size_is, mono_depth_is, body_size_is, body_depth_is, is_normal_mono_is, div_is_normal, mod_is_normal, size_Div, size_Mod, depth_Div, depth_Mod, small_parts}
 use Rattle.rx_poly.proofs.OrderLemmas.{mono_total}
 use Rattle.rx_poly.proofs.PolyLaws.{normal_terms}
 use Rattle.rx_poly.proofs.Same.{same_mono}
@@ -30,9 +30,8 @@ use Rattle.rx_poly.specs.declared.body.Atom.TheVariants.{Div, Mod, rolls-Var, ro
 use Rattle.rx_poly.specs.declared.body.Mono.{Mono, Mono-F, out-Mono, roll-Mono, roll-out-Mono, out-roll-Mono, map-Mono}
 use Rattle.rx_poly.specs.declared.body.Body.{Body, Body-F, out-Body, roll-Body, roll-out-Body, out-roll-Body, map-Body, ind-Body}
 use Rattle.rx_poly.specs.Variables.{atom_variables, mono_variables, variables}
-use Rattle.rx_poly_laws.proofs.InnerLaws.{size_Div, size_Mod, depth_Div, depth_Mod, small_parts}
 use Rattle.rx_poly.proofs.Pieces.{all_parts}
-use Rattle.rx_poly_laws.proofs.Prefixes.{SmallAtoms, SmallTerms, atoms-prefix, terms-prefix, join-last, add-last, term_within, terms_within, greatest-last}
+use Rattle.rx_poly.proofs.Prefixes.{SmallAtoms, SmallTerms, atoms-prefix, terms-prefix, join-last, add-last, term_within, terms_within, greatest-last}
 use Rattle.rx_poly.proofs.VariableLaws.{variables_Var, variables_Div, variables_Mod, mono_variables_is, variables_is}
 
 -- ---- a division that no rule computes stays an atom
