@@ -1,11 +1,11 @@
 -- The example meets all premises, and what the laws then say of it.
 use Rattle.std.proofs.Common.{◌≡◌, ℕ, zero, suc, Bool, true, false, true≢false, inl, inr, List, [], ◌∷◌, ℤ, pos, negsuc, ◌+ℤ◌, Option, Some, None, refl, ap, sym, subst, arith}
-use Rattle.std.proofs.lemmas.List.Elements.{All-cons, All-nil}
+use Rattle.std.proofs.lemmas.List.Elements.{All-cons, All-head, All-nil}
 use Rattle.rx_rewriting.specs.Terms.{Ground, Ret, Fail, Call, Frame, IsResult, Symbol, Fits}
 use Rattle.rx_rewriting.specs.Steps.{Step, Here, Under, Reaches, Stop, Go, Joins, Either}
 use Rattle.rx_rewriting.specs.Ranks.{Rank, RankLess, Smaller, weight_of}
 use Rattle.rx_rewriting.specs.Premises.{KeepsInner, ResultsRest, LowersHere, IsReplaceableHere}
-use Rattle.rx_rewriting.specs.Example.{symbols, down, copy, one_more, Rules, DownEnds, DownTurns, CopyEnds, CopyTurns, Adds, Passes, Hypothesis, CopyIsDown, above, rank, AtLeastZero, CallsCount, IsInside, PremisesHold}
+use Rattle.rx_rewriting.specs.Example.{symbols, down, copy, one_more, Rules, DownEnds, DownTurns, CopyEnds, CopyTurns, Adds, Passes, Hypothesis, CopyIsDown, above, rank, AtLeastZero, CallsCount, IsInside, PremisesHold, negative_call}
 use Rattle.rx_rewriting.proofs.UnderFrames.{replaceable_under_frames, single_valued_under_frames, results_rest_under_frames, stays_under_frames, moves_under_frames}
 use Rattle.rx_rewriting.proofs.Chains.{Step-by_rule, Reaches-step, Joins-before_left}
 use Rattle.rx_rewriting.proofs.SmallerWeights.{lowers_under_frames}
@@ -215,3 +215,7 @@ copy_is_down x =
     left.is_result right.is_result ends.convertible in
     let P : Ground → Type 0 = λ k. Reaches Rules (down (pos x)) k in
     (left.end, left.reached, subst P (sym same) right.reached, left.is_result)
+
+-- a call at a negative integer fits and is not inside
+pub negative_outside : Fits symbols negative_call × (IsInside negative_call → ⊥)
+negative_outside = (refl, λ in_s. All-head AtLeastZero (negsuc 0) [] in_s.1)

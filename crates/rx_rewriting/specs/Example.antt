@@ -78,6 +78,10 @@ CallsCount (Frame f xs s) = CallsCount s
 abbrev pub IsInside : TermSet
 IsInside s = Fits symbols s × CallsCount s
 
+-- a fitting term that is not inside
+abbrev pub negative_call : Ground
+negative_call = down (negsuc 0)
+
 -- all premises of the laws
 pub record PremisesHold (weight : Ground → Weight) (inside : TermSet) (R H : Relation) : Type 0 where
   pub inner : KeepsInner inside

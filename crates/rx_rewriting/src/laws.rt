@@ -2,8 +2,8 @@
 //! the rules, and results are unique.
 
 ghost use Rattle.std.specs.Prelude.{◌≡◌, ℕ, pos, ◌-◌, ◌≤◌};
-ghost use Rattle.rx_rewriting.specs.Example.{Hypothesis, IsInside, PremisesHold, Rules, copy, down, rank};
-ghost use Rattle.rx_rewriting.specs.Terms.{Ground, Relation, TermSet, IsResult};
+ghost use Rattle.rx_rewriting.specs.Example.{Hypothesis, IsInside, PremisesHold, Rules, copy, down, negative_call, rank, symbols};
+ghost use Rattle.rx_rewriting.specs.Terms.{Fits, Ground, Relation, TermSet, IsResult};
 ghost use Rattle.rx_rewriting.specs.Steps.{Reaches, ReachesIn, Convertible, Joins, Either};
 ghost use Rattle.rx_rewriting.specs.Steps.{IsSingleValued};
 ghost use Rattle.rx_rewriting.specs.Ranks.{Weight, weight_of};
@@ -82,9 +82,10 @@ pub fn unions_keep_what_both_have<S: System>()
 {}
 
 /// All these premises can be met at once: by the rules and the hypothesis of the example, inside a
-/// set of terms that is smaller than that of the fitting ones. There the laws say what no rule says.
+/// set of fitting terms that leaves some out (`outside`). There the laws say what no rule says.
 pub fn the_premises_can_be_met()
     ensures premises { PremisesHold (weight_of rank) IsInside Rules Hypothesis }
+    ensures outside { Fits symbols negative_call × (IsInside negative_call → ⊥) }
     ensures results { (x : ℕ) → (k : Ground) × Reaches Rules (copy (pos x)) k ×
         Reaches Rules (down (pos x)) k × IsResult k }
 {}

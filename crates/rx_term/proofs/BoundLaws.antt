@@ -1,5 +1,5 @@
 -- The least number above all variables of terms and equations.
-use Rattle.std.proofs.Common.{◌≡◌, ◌∙◌, ◌↔◌, sym, subst, refl, true, ℕ, ◌≤◌, max, List, [], ◌∷◌, arith}
+use Rattle.std.proofs.Common.{◌&&◌, ◌≡◌, ◌∙◌, ◌↔◌, sym, subst, refl, true, ℕ, ◌≤◌, max, List, [], ◌∷◌, arith}
 use Rattle.std.proofs.lemmas.Bool.{and_parts, and_from}
 use Rattle.std.proofs.Math.Nat.{le-max_left, le-max_right, max-le}
 use Rattle.rx_poly.specs.Variables.{uses_below, variable_bound}
@@ -8,8 +8,9 @@ use Rattle.rx_poly_laws.proofs.BoundLaws.{below_the_bound}
 use Rattle.rx_row.specs.Parts.{poly_of}
 use Rattle.rx_row.specs.Variables.{row_bound, rows_bound, rows_use_below}
 use Rattle.rx_row.specs.declared.row.Row.{Row}
-use Rattle.rx_term.specs.Bounds.{polys_bound, term_bound, term_bound_level}
+use Rattle.rx_term.specs.Bounds.{equation_bound, polys_bound, term_bound, term_bound_level}
 use Rattle.rx_term.specs.Variables.{polys_use_below, term_uses_below}
+use Rattle.rx_term.specs.declared.rule.Equation.{Equation}
 use Rattle.rx_term.specs.declared.term.Sym.{Sym}
 use Rattle.rx_term.specs.declared.term.Term.{Term}
 use Rattle.rx_term.specs.declared.term.Term.TheFolds.{fold_out-Term}
@@ -88,3 +89,20 @@ module _ (n : ℕ) where
   -- all variables of a term are below a number exactly where it is at least the term's bound
   pub term_below : (t : Term) → (term_uses_below n t ≡ true) ↔ (term_bound t ≤ n)
   term_below = induct Bounded in_return in_fail in_call in_frame
+
+-- so of an equation, by its sides and its rows
+pub equation_below : (n : ℕ) (e : Equation) → (((term_uses_below n e.left && term_uses_below n e.right) && rows_use_below n e.rows) ≡ true) ↔ (equation_bound e ≤ n)
+equation_below n e =
+    let left = term_below n e.left in
+    let right = term_below n e.right in
+    let rows = rows_below n e.rows in
+    let sides = term_uses_below n e.left && term_uses_below n e.right in (
+      λ h.
+          let both = and_parts sides (rows_use_below n e.rows) h in
+          let two = and_parts (term_uses_below n e.left) (term_uses_below n e.right) both.0 in
+          max-le (max-le (left.0 two.0) (right.0 two.1)) (rows.0 both.1),
+      λ h.
+          let both = both_most (max (term_bound e.left) (term_bound e.right)) (rows_bound e.rows) n h in
+          let two = both_most (term_bound e.left) (term_bound e.right) n both.0 in
+          and_from sides (rows_use_below n e.rows) (and_from (term_uses_below n e.left) (term_uses_below n e.right) (left.1 two.0) (right.1 two.1)) (rows.1 both.1),
+    )

@@ -1,5 +1,5 @@
 -- The example is well made and paired, so it is covered, and inside its smaller set of terms too.
-use Rattle.std.proofs.Common.{◌≡◌, ◌∙◌, ap, sym, subst, refl, Bool, true, false, true≢false, cond, Option, Some, None, ℕ, zero, suc, List, [], ◌∷◌, length, ℤ, pos, arith}
+use Rattle.std.proofs.Common.{◌≡◌, ◌∙◌, ap, sym, subst, refl, Bool, true, false, true≢false, cond, Option, Some, None, ℕ, zero, suc, List, [], ◌∷◌, length, ℤ, pos, negsuc, arith}
 use Rattle.std.specs.Prelude.{◌&&◌, nat_eq, nat_le, nat_lt, slice_get}
 use Rattle.std.specs.List.{enumerate_from}
 use Rattle.std.proofs.lemmas.Bool.{and_from, and_parts, eq-eqb, leb-true}
@@ -13,12 +13,12 @@ use Rattle.rx_poly.specs.declared.body.Body.{Body}
 use Rattle.rx_poly_laws.proofs.TestLaws.{passes-added, passes-number, passes-variable}
 use Rattle.rx_rewriting.specs.Terms as stack
 use Rattle.rx_rewriting.specs.Terms.{Ground, Declares, Fits, Symbol}
-use Rattle.rx_rewriting.specs.Premises.{KeepsInner}
+use Rattle.rx_rewriting.specs.Premises.{KeepsInner, Moves}
 use Rattle.rx_row.specs.declared.row.Row.TheVariants.{Eq}
-use Rattle.rx_term.specs.Covered.{KeepsDomains}
-use Rattle.rx_term.specs.Example.{f, g, ends, goes_on, adds, fails, example, AtLeastZero, IsInside, counting}
+use Rattle.rx_term.specs.Covered.{IsCoveredOver, KeepsDomains}
+use Rattle.rx_term.specs.Example.{f, g, ends, goes_on, adds, fails, example, AtLeastZero, IsInside, counting, negative_call}
 use Rattle.rx_term.specs.Fitting.{code_fits, term_fits}
-use Rattle.rx_term.specs.Meaning.{CallRedex, ReturnRedex, FailRedex, matched, signature, values}
+use Rattle.rx_term.specs.Meaning.{Instance, CallRedex, ReturnRedex, FailRedex, matched, signature, values}
 use Rattle.rx_term.specs.Paired.{PointShape, ReturnShape, FailShape, IsPair, One, Two, IsPaired}
 use Rattle.rx_term.specs.Shapes.{Value, Failure, Called, Framed, same_shape, shape_of}
 use Rattle.rx_row.specs.Variables.{rows_use_below}
@@ -28,6 +28,8 @@ use Rattle.rx_term.specs.declared.rule.Rule.{Rule}
 use Rattle.rx_term.specs.declared.term.Sym.{Sym}
 use Rattle.rx_term.specs.declared.term.Term.TheVariants.{Return, Fail, Call, Frame}
 use Rattle.rx_term.proofs.Equations.{arguments-Return, arguments-Fail, arguments-Call, arguments-Frame, below-Return, below-Fail, below-Call, below-Frame, fits-Return, fits-Fail, fits-Call, fits-Frame, ground-Call, shape-Return, shape-Fail, shape-Call, shape-Frame}
+use Rattle.rx_term.proofs.CoveredLaws.{covered_moves}
+use Rattle.rx_term.proofs.PairedLaws.{paired_covers}
 use Rattle.rx_term.proofs.ShapeLaws.{declared_so}
 
 abbrev x0 : List Body
@@ -209,3 +211,14 @@ inside_domains _ (CallRedex s ps) a in_s =
     (subst (λ qs. AtLeastZero (worth a (enumerate_from 0 qs) 0)) (sym (arguments-Call s ps)) (call_counts a s ps (subst IsInside (ground-Call a s ps) in_s)))
 inside_domains _ (ReturnRedex s ps p) a in_s = subst (λ z. counting z (worth a (matched (Frame s ps (Return p))))) (sym (shape-Frame s ps (Return p))) tt
 inside_domains _ (FailRedex s ps c) a in_s = subst (λ z. counting z (worth a (matched (Frame s ps (Fail c))))) (sym (shape-Frame s ps (Fail c))) tt
+
+-- ---- what the laws then say
+
+pub example_covered : IsCoveredOver counting example
+example_covered shape is a domain = paired_covers example example_paired shape is a tt
+
+pub negative_outside : Fits (signature example) negative_call × (IsInside negative_call → ⊥)
+negative_outside = (refl, λ in_s. All-head AtLeastZero (negsuc 0) [] in_s.1)
+
+pub inside_moves : Moves IsInside (Instance example.rules)
+inside_moves = covered_moves example counting example_covered example_made IsInside inside_fits inside_domains inside_inner

@@ -69,6 +69,10 @@ CallsCount (stack.Frame s xs t) = CallsCount t
 abbrev pub IsInside : TermSet
 IsInside s = Fits (signature example) s × CallsCount s
 
+-- a fitting term that is not inside
+abbrev pub negative_call : Ground
+negative_call = stack.Call 0 (negsuc 0 ∷ [])
+
 -- the arguments that redexes have there
 abbrev pub counting : Domains
 counting Value a = Unit {0}

@@ -1,5 +1,5 @@
 //! What terms and rules mean as ground terms: laws, each a function with an empty body.
-ghost use Rattle.std.specs.Prelude.{◌≡◌, ◌↔◌, ◌<◌, ◌≤◌, ℕ, ℤ, true, Some, List, Contains, length};
+ghost use Rattle.std.specs.Prelude.{◌&&◌, ◌≡◌, ◌↔◌, ◌<◌, ◌≤◌, ℕ, ℤ, true, Some, List, Contains, length};
 ghost use Rattle.std.specs.List.{enumerate_from};
 ghost use Rattle.std.specs.Option.{option_map};
 ghost use Rattle.rx_poly.specs.Substitution.{worth};
@@ -14,9 +14,9 @@ ghost use Rattle.rx_row.specs.Substitution.{in_rows};
 ghost use Rattle.rx_row.specs.Variables.{rows_bound, rows_use_below};
 ghost use Rattle.rx_row.specs.declared.row.Row.{Row};
 ghost use Rattle.rx_term.specs.Assigned.{assigned};
-ghost use Rattle.rx_term.specs.Bounds.{term_bound};
+ghost use Rattle.rx_term.specs.Bounds.{equation_bound, term_bound};
 ghost use Rattle.rx_term.specs.Covered.{CanStep, Domains, IsCovered, IsCoveredOver, KeepsDomains};
-ghost use Rattle.rx_term.specs.Example.{IsInside, counting, example};
+ghost use Rattle.rx_term.specs.Example.{IsInside, counting, example, negative_call};
 ghost use Rattle.rx_term.specs.Fitting.{term_fits};
 ghost use Rattle.rx_term.specs.Meaning.{Instance, IsRedex, ground_at, ground_redex, matched, outer_frames, redex_of, signature, values};
 ghost use Rattle.rx_term.specs.Paired.{IsPaired};
@@ -25,6 +25,7 @@ ghost use Rattle.rx_term.specs.Stacks.{behind, replaced};
 ghost use Rattle.rx_term.specs.Substitution.{in_polys, in_term};
 ghost use Rattle.rx_term.specs.Variables.{arguments_of, term_uses_below};
 ghost use Rattle.rx_term.specs.WellMade.{IsWellMade, variables_from};
+ghost use Rattle.rx_term.specs.declared.rule.Equation.{Equation};
 ghost use Rattle.rx_term.specs.declared.rule.Rule.{Rule};
 ghost use Rattle.rx_term.specs.declared.rule_set.RuleParts.{RuleParts};
 ghost use Rattle.rx_term.specs.declared.term.Term.{Term};
@@ -130,8 +131,8 @@ pub fn paired_sets_step_once()
         Moves (Fits (signature parts)) (Instance parts.rules) }
 {}
 
-/// In a covered set each fitting redex has, at all values of its arguments, a rule that steps it, and
-/// each fitting term that is no result has a step.
+/// In a covered set each fitting redex has, at all values of its arguments, a rule of its shape whose
+/// rows hold there. So in one that is well made each fitting term that is no result has a step.
 pub fn covered_sets_step()
     ensures rule { (parts : RuleParts) → IsCovered parts → (t : Term) (a : ℕ → ℤ) →
         IsRedex t → term_fits parts t ≡ true → CanStep parts.rules t a }
@@ -179,18 +180,25 @@ pub fn arguments_are_assignments()
 {}
 
 /// The premises of these laws can be met at once: by a rule set with rows, a frame and a failure, and
-/// inside a set of terms that is smaller than that of the fitting ones.
+/// inside a set of fitting terms that leaves some out (`outside`). There each term that is no result
+/// has a step (`moves`).
 pub fn the_premises_can_be_met()
     ensures made { IsWellMade example }
     ensures paired { IsPaired example }
+    ensures covered { IsCoveredOver counting example }
     ensures inner { KeepsInner IsInside }
     ensures domains { KeepsDomains IsInside counting }
     ensures fitting { (s : Ground) → IsInside s → Fits (signature example) s }
+    ensures outside { Fits (signature example) negative_call × (IsInside negative_call → ⊥) }
+    ensures moves { Moves IsInside (Instance example.rules) }
 {}
 
-/// All variables of a term, or of rows, are below a number exactly where it is at least the least number
-/// above them.
+/// All variables of a term, of rows, or of both sides and the rows of an equation are below a number
+/// exactly where it is at least the least number above them.
 pub fn bounds_are_the_least_above_all()
     ensures term { (n : ℕ) (t : Term) → (term_uses_below n t ≡ true) ↔ (term_bound t ≤ n) }
     ensures rows { (n : ℕ) (rows : List Row) → (rows_use_below n rows ≡ true) ↔ (rows_bound rows ≤ n) }
+    ensures equation { (n : ℕ) (e : Equation) →
+        (((term_uses_below n e.left && term_uses_below n e.right) && rows_use_below n e.rows) ≡ true)
+        ↔ (equation_bound e ≤ n) }
 {}
