@@ -1,12 +1,21 @@
-//! The elimination of monomials.
+//! The elimination of monomials, and contents.
 use crate::answer::{Answer, nothing};
-use crate::reading::polynomials::listed;
+use crate::reading::polynomials::{listed, poly};
 use crate::reading::words::count;
-use rx_fm::{FmEnd, farkas};
+use rx_fm::{FmEnd, content, farkas};
 use std::alloc::Global;
 
-/// The multipliers that the elimination finds within a limit.
-pub fn multipliers(alloc: Global, limit: &str, polys: &str) -> Option<Answer> {
+// The content of a polynomial.
+fn content_of(alloc: Global, given: &str) -> Option<Answer> {
+    let poly = poly(alloc, given)?;
+    match content(&poly) {
+        Some(number) => Some(Answer::Number(number)),
+        None => nothing(),
+    }
+}
+
+// The multipliers that the elimination finds within a limit.
+fn multipliers(alloc: Global, limit: &str, polys: &str) -> Option<Answer> {
     let limit = count(limit)?;
     let polys = listed(alloc, polys)?;
     match farkas(alloc, polys.as_slice(), limit) {
@@ -14,5 +23,13 @@ pub fn multipliers(alloc: Global, limit: &str, polys: &str) -> Option<Answer> {
         Ok(None) => nothing(),
         Err(FmEnd::Large) => Some(Answer::Word("large")),
         Err(FmEnd::NoMemory) => None,
+    }
+}
+
+/// What the call answers.
+pub fn answer_to(alloc: Global, name: &str, first: &str, second: &str) -> Option<Answer> {
+    match name {
+        "content" => content_of(alloc, first),
+        _ => multipliers(alloc, first, second),
     }
 }

@@ -31,7 +31,7 @@ fn answer_to(alloc: Global, call: &str, first: &str, second: &str, third: &str) 
         "laws" => law_calls::below(alloc, first, second),
         "row" | "rows" => row_calls::answer_to(alloc, call, first, second),
         "cert" => cert_calls::answer_to(alloc, name, first, second, third),
-        "fm" => fm_calls::multipliers(alloc, first, second),
+        "fm" => fm_calls::answer_to(alloc, name, first, second),
         "term" => term_calls::answer_to(alloc, call, first, second, third),
         "rule" => term_calls::answer_of_rule(alloc, call, first, second, third),
         _ => None,

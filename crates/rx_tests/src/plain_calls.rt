@@ -22,6 +22,19 @@ fn of_items(alloc: Global, name: &str, first: Items<i128>, second: Items<i128>) 
     Some(Answer::Numbers(items.into_vec()))
 }
 
+// The items of the second list, put after the others where there is room for them: after the first
+// list's, or alone.
+fn with_room(alloc: Global, name: &str, first: Items<i128>, more: Items<i128>) -> Option<Answer> {
+    let mut items = first;
+    if name == "with_capacity" {
+        items = Items::with_capacity(alloc, more.len()).ok()?;
+    } else {
+        items.reserve(more.len()).ok()?;
+    }
+    items.append(more).ok()?;
+    Some(Answer::Numbers(items.into_vec()))
+}
+
 // What two graded lists answer.
 fn of_graded(name: &str, first: Graded<i128>, second: Graded<i128>) -> Option<Answer> {
     let mut graded = first;
@@ -61,6 +74,9 @@ pub fn answer_to(alloc: Global, call: &str, first: &str, second: &str) -> Option
     let mut one = numbers(alloc, first)?;
     let mut other = numbers(alloc, second)?;
     match call.split_once('.')? {
+        ("items", name @ ("with_capacity" | "reserve")) => {
+            with_room(alloc, name, Items::from_vec(one), Items::from_vec(other))
+        }
         ("items", name) => of_items(alloc, name, Items::from_vec(one), Items::from_vec(other)),
         ("graded", name) => of_graded(name, Graded::from_vec(one), Graded::from_vec(other)),
         (_, name) => of_box(alloc, name, one.pop()?, other.pop()?),

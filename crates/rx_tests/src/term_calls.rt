@@ -63,6 +63,18 @@ fn suffix(alloc: Global, whole: &Term, place: &str) -> Option<Answer> {
     }
 }
 
+// The redex, or the least number above all variables.
+fn read(alloc: Global, call: &str, given: &str) -> Option<Answer> {
+    let term = term(alloc, given)?;
+    if call == "term.bound" {
+        return Some(Answer::Number(term.variable_bound() as i128));
+    }
+    match term.redex() {
+        Some(part) => Some(Answer::Term(part.try_clone(alloc).ok()?)),
+        None => nothing(),
+    }
+}
+
 fn of_term(alloc: Global, call: &str, first: &str, second: &str) -> Option<Answer> {
     let term = term(alloc, first)?;
     match call {
@@ -78,6 +90,7 @@ fn of_two(alloc: Global, call: &str, first: &str, second: &str) -> Option<Answer
     let left = term(alloc, first)?;
     let right = term(alloc, second)?;
     match call {
+        "term.replace_redex" => Some(Answer::Term(left.replace_redex(right))),
         "term.same" => told(left.is_same(&right)),
         _ => told(left.has_shape_of(&right)),
     }
@@ -175,7 +188,10 @@ pub fn answer_to(
     third: &str,
 ) -> Option<Answer> {
     match call {
-        "term.same" | "term.same_shape" => of_two(alloc, call, first, second),
+        "term.same" | "term.same_shape" | "term.replace_redex" => {
+            of_two(alloc, call, first, second)
+        }
+        "term.redex_itself" | "term.bound" => read(alloc, call, first),
         "term.replace" => replaced(alloc, first, second, third),
         "term.subst" => substituted(alloc, first, second),
         _ => of_term(alloc, call, first, second),
