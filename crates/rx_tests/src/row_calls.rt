@@ -81,10 +81,14 @@ fn with_row(alloc: Global, call: &str, first: &str, second: &str) -> Option<Answ
     if call == "rows.contains" {
         return told(rows.contains(&last));
     }
-    if call == "rows.append" {
-        rows.append(last).ok()?;
-    } else {
+    if call == "rows.push" {
         rows.push(last).ok()?;
+        return Some(Answer::Rows(rows));
+    }
+    let before = rows.rows().len();
+    rows.append(last).ok()?;
+    if call == "rows.append_and_undo" {
+        rows.truncate(before);
     }
     Some(Answer::Rows(rows))
 }
@@ -144,7 +148,9 @@ pub fn answer_to(alloc: Global, call: &str, first: &str, second: &str) -> Option
         "row.named" => named(alloc, first, second),
         "row.at_args" => at_args(alloc, first, second),
         "row.subst" => substituted(alloc, first, second),
-        "rows.push" | "rows.append" | "rows.contains" => with_row(alloc, call, first, second),
+        "rows.push" | "rows.append" | "rows.append_and_undo" | "rows.contains" => {
+            with_row(alloc, call, first, second)
+        }
         "rows.clone" => copy_of_rows(alloc, first),
         "rows.same" => same_rows(alloc, first, second),
         "rows.subst" | "rows.subst_borrowed" => substituted_rows(alloc, call, first, second),
