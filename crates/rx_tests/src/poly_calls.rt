@@ -89,6 +89,16 @@ fn substituted(alloc: Global, of: &str, with: &str) -> Option<Answer> {
     formed(of.subst(alloc, with.as_slice()))
 }
 
+// The same answer after a hundred more calls, for measuring.
+fn substituted_often(alloc: Global, of: &str, with: &str) -> Option<Answer> {
+    let with = substitution(alloc, with)?;
+    let of = poly(alloc, of)?;
+    for _ in 0..100 {
+        of.subst(alloc, with.as_slice()).ok()?;
+    }
+    formed(of.subst(alloc, with.as_slice()))
+}
+
 fn at_args(alloc: Global, of: &str, args: &str) -> Option<Answer> {
     let args = listed(alloc, args)?;
     let of = poly(alloc, of)?;
@@ -144,6 +154,7 @@ pub fn answer_to(alloc: Global, name: &str, first: &str, second: &str) -> Option
         "constant" | "variable" => simple(alloc, name, first),
         "scale" => multiple(alloc, first, second),
         "subst" => substituted(alloc, first, second),
+        "subst_101" => substituted_often(alloc, first, second),
         "at_args" => at_args(alloc, first, second),
         "coeff" => coefficient(alloc, first, second),
         "clone_body" => body_copy(alloc, first),
