@@ -1,0 +1,3 @@
+int student(int x, int y) {
+    return x * x - y * y;
+}

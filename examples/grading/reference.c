@@ -1,0 +1,3 @@
+int reference(int a, int b) {
+    return (a + b) * (a - b);
+}
