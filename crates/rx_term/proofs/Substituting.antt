@@ -1,16 +1,13 @@
 -- A stack that is being rewritten frame by frame: what stands, turned over, and what the part that is left still decides.
-use Rattle.std.proofs.Common.{◌≡◌, ◌∙◌, ap, sym, true, false, ◌&&◌, ℕ, ℤ, List}
+use Rattle.std.proofs.Common.{◌≡◌, ◌∙◌, ap, sym, true, false, ◌&&◌, ℕ, List}
 use Rattle.std.proofs.lemmas.Bool.{and_left}
-use Rattle.rx_poly.specs.Substitution.{worth}
 use Rattle.rx_poly.specs.declared.body.Body.{Body}
 use Rattle.rx_term.specs.declared.term.Sym.{Sym}
 use Rattle.rx_term.specs.declared.term.Term.{Term}
 use Rattle.rx_term.specs.declared.term.Term.TheVariants.{Frame}
-use Rattle.rx_term.specs.Meaning.{ground_at}
 use Rattle.rx_term.specs.Stacks.{onto}
 use Rattle.rx_term.specs.Substitution.{in_polys, polys_within, in_term, term_within}
 use Rattle.rx_term.proofs.Equations.{onto-Frame, in_term-Frame, within-Frame}
-use Rattle.rx_term.proofs.MeaningLaws.{ground_in_term}
 
 pub record Substituting (ws : List (ℕ × Body)) (upper here whole : Term) : Type 0 where
   pub made : onto upper (in_term ws here) ≡ in_term ws whole
@@ -27,7 +24,3 @@ module _ {ws : List (ℕ × Body)} {upper whole : Term} (f : Sym) (ps : List Bod
     made = onto-Frame f (in_polys ws ps) upper (in_term ws inner) ∙ ap (onto upper) (sym (in_term-Frame ws f ps inner)) ∙ s.made;
     limits = ap (λ b. b && term_within ws inner) (sym e) ∙ sym (within-Frame ws f ps inner) ∙ s.limits;
   }
-
--- what stands over the rest, changed, means what the whole does at what the polynomials are worth
-pub finished : {ws : List (ℕ × Body)} {upper here whole rest made : Term} → Substituting ws upper here whole → in_term ws here ≡ rest → made ≡ onto upper rest → (a : ℕ → ℤ) → ground_at a made ≡ ground_at (worth a ws) whole
-finished {ws} {upper} {here} {whole} s e is a = ap (ground_at a) (is ∙ ap (onto upper) (sym e) ∙ s.made) ∙ ground_in_term a ws whole

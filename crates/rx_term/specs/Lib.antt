@@ -7,6 +7,7 @@ pub mod Fitting
 pub mod MadeTest
 pub mod Meaning
 pub mod Paired
+pub mod Replacements
 pub mod Shapes
 pub mod Stacks
 pub mod Substitution

@@ -1,6 +1,8 @@
 //! Lists of polynomials: what a call, a frame or a result holds.
 ghost use Rattle.std.specs.Prelude.{◌≡◌, ◌↔◌, true, false, IsTrue, IfOk};
 ghost use Rattle.rx_plain.specs.Formed.{Forms};
+ghost use Rattle.rx_poly.specs.Substitution.{in_body};
+ghost use Rattle.rx_term.specs.Replacements.{replacements};
 ghost use Rattle.rx_term.specs.Substitution.{polys_with};
 ghost use Rattle.rx_term.specs.Variables.{polys_use_below};
 
@@ -19,18 +21,38 @@ pub(crate) fn copied(alloc: Global, args: &[Poly]) -> Result<Items<Poly>, AllocE
     Ok(made)
 }
 
-/// Each polynomial with those polynomials in place of its variables; Large exactly where one on the
-/// way to them passes the limits.
+/// What variables are replaced by.
+#[derive(Clone, Copy)]
+pub(crate) enum Replacements<'a> {
+    /// Each by the first polynomial that is listed for its number.
+    Listed(&'a [(u32, Poly)]),
+    /// The first variables by these polynomials, in order.
+    InOrder(&'a [Poly]),
+}
+
+/// The polynomial with its variables replaced; Large exactly where one on the way to it passes the
+/// limits.
+pub(crate) fn instance(alloc: Global, poly: &Poly, with: Replacements) -> Result<Poly, PolyEnd>
+    ensures forms { Forms PolyEnd.Large result (in_body (replacements with.entry) poly.now) }
+{
+    match with {
+        Replacements::Listed(pairs) => poly.subst(alloc, pairs),
+        Replacements::InOrder(args) => poly.at_args(alloc, args),
+    }
+}
+
+/// Each polynomial with its variables replaced; Large exactly where one on the way to them passes
+/// the limits.
 pub(crate) fn substituted(
     alloc: Global,
-    args: &[Poly],
-    with: &[(u32, Poly)],
+    polys: &[Poly],
+    with: Replacements,
 ) -> Result<Items<Poly>, PolyEnd>
-    ensures forms { Forms PolyEnd.Large result (polys_with with.now args.now) }
+    ensures forms { Forms PolyEnd.Large result (polys_with (replacements with.entry) polys.now) }
 {
     let mut made = Items::new(alloc);
-    for arg in args {
-        let changed = arg.subst(alloc, with)?;
+    for poly in polys {
+        let changed = instance(alloc, poly, with)?;
         made.push(changed)?;
     }
     Ok(made)

@@ -1,15 +1,16 @@
 //! Terms as stacks: frames outside, then a call or a result.
 ghost use Rattle.std.specs.Prelude.{◌≡◌, ◌↔◌, ◌<◌, ◌^◌, ℕ, ℤ, true, false, IsNone, IsTrue, IfOk};
 ghost use Rattle.std.specs.Option.{option_copied};
-ghost use Rattle.rx_poly.specs.Substitution.{worth};
+ghost use Rattle.rx_poly.specs.Substitution.{numbered, worth};
 ghost use Rattle.rx_term.specs.Meaning.{ground_at, redex_of};
+ghost use Rattle.rx_term.specs.Replacements.{replacements};
 ghost use Rattle.rx_term.specs.Shapes.{shape_of};
 ghost use Rattle.rx_term.specs.Stacks.{behind, depth_of, is_redex, is_result, onto, redex_place, replace_redex, replaced, turned};
 ghost use Rattle.rx_plain.specs.Formed.{Forms};
 ghost use Rattle.rx_term.specs.Substitution.{term_with};
 ghost use Rattle.rx_term.specs.Variables.{term_uses_below};
 
-use crate::arguments::{are_below, are_same, copied, substituted};
+use crate::arguments::{Replacements, are_below, are_same, copied, instance, substituted};
 use rx_plain::{Boxed, Items};
 use rx_poly::{Poly, PolyEnd, uses_below};
 use std::alloc::{AllocError, Global};
@@ -298,18 +299,17 @@ impl Term {
         }
     }
 
-    /// The same stack, each of its polynomials with those polynomials in place of their variables.
-    /// Large exactly where a polynomial on the way to them passes the limits.
-    pub fn subst(&self, alloc: Global, with: &[(u32, Poly)]) -> Result<Term, PolyEnd>
-        ensures forms { Forms PolyEnd.Large result (term_with with.now self.now) }
-        ensures value { IfOk result (λ t. (a : ℕ → ℤ) → ground_at a t ≡ ground_at (worth a with.now) self.now) }
+    /// The same stack, each of its polynomials with its variables replaced. Large exactly where a
+    /// polynomial on the way to them passes the limits.
+    fn instance(&self, alloc: Global, with: Replacements) -> Result<Term, PolyEnd>
+        ensures forms { Forms PolyEnd.Large result (term_with (replacements with.entry) self.now) }
     {
         let mut here = self;
         let mut upper = Term::Fail(0);
         loop {
             match here {
                 Term::Return(value) => {
-                    return Ok(upper.onto(Term::Return(value.subst(alloc, with)?)));
+                    return Ok(upper.onto(Term::Return(instance(alloc, value, with)?)));
                 }
                 Term::Fail(code) => return Ok(upper.onto(Term::Fail(*code))),
                 Term::Call(sym, args) => {
@@ -323,5 +323,23 @@ impl Term {
                 }
             }
         }
+    }
+
+    /// The same stack, each of its polynomials with those polynomials in place of their variables.
+    /// Large exactly where a polynomial on the way to them passes the limits.
+    pub fn subst(&self, alloc: Global, with: &[(u32, Poly)]) -> Result<Term, PolyEnd>
+        ensures forms { Forms PolyEnd.Large result (term_with with.now self.now) }
+        ensures value { IfOk result (λ t. (a : ℕ → ℤ) → ground_at a t ≡ ground_at (worth a with.now) self.now) }
+    {
+        self.instance(alloc, Replacements::Listed(with))
+    }
+
+    /// The same stack, with the first of those polynomials in place of v0, the second in place of
+    /// v1, and so on; the other variables stay. Large exactly where `subst` is, for that list.
+    pub fn at_args(&self, alloc: Global, args: &[Poly]) -> Result<Term, PolyEnd>
+        ensures forms { Forms PolyEnd.Large result (term_with (numbered args.now) self.now) }
+        ensures value { IfOk result (λ t. (a : ℕ → ℤ) → ground_at a t ≡ ground_at (worth a (numbered args.now)) self.now) }
+    {
+        self.instance(alloc, Replacements::InOrder(args))
     }
 }

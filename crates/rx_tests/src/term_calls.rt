@@ -2,7 +2,7 @@
 //! argument, which are s0, s1 and s4, and frames of one, of no and of two, which are s2, s3 and s5.
 //! Its greatest failure code is 2.
 use crate::answer::{Answer, ended, nothing, told};
-use crate::reading::polynomials::substitution;
+use crate::reading::polynomials::{listed, substitution};
 use crate::reading::rows::rows;
 use crate::reading::terms::term;
 use crate::reading::words::count;
@@ -109,6 +109,12 @@ fn formed(answer: Result<Term, PolyEnd>) -> Option<Answer> {
     }
 }
 
+fn at_args(alloc: Global, whole: &str, args: &str) -> Option<Answer> {
+    let args = listed(alloc, args)?;
+    let whole = term(alloc, whole)?;
+    formed(whole.at_args(alloc, args.as_slice()))
+}
+
 fn substituted(alloc: Global, whole: &str, with: &str) -> Option<Answer> {
     let with = substitution(alloc, with)?;
     let whole = term(alloc, whole)?;
@@ -194,6 +200,7 @@ pub fn answer_to(
         "term.redex_itself" | "term.bound" => read(alloc, call, first),
         "term.replace" => replaced(alloc, first, second, third),
         "term.subst" => substituted(alloc, first, second),
+        "term.at_args" => at_args(alloc, first, second),
         _ => of_term(alloc, call, first, second),
     }
 }
