@@ -16,6 +16,7 @@ use Rattle.rx_row.specs.declared.row.Row.{Row}
 use Rattle.rx_row.specs.declared.row.Row.TheVariants.{Ge, Eq, Ne}
 use Rattle.rx_cert.specs.Conditions.{conditions, in_order, is_evident, is_number_with, is_plain_row, shown_or, asked_for}
 use Rattle.rx_cert.specs.Examination.{row_finding}
+use Rattle.rx_cert.specs.Findings.{Said, Yes, No, Beyond}
 use Rattle.rx_cert.specs.declared.cert.Cert.{Cert}
 use Rattle.rx_cert.specs.declared.conditions.ConditionsAnswer.{ConditionsAnswer}
 use Rattle.rx_cert.specs.declared.conditions.ConditionsAnswer.TheVariants.{Shown, WrongCount}
@@ -70,10 +71,10 @@ module _ (a : ℕ → ℤ) (given : List Row) (holds : AllHold a given) where
   plain_or_shown row rows further other f g true plain e = All-cons (RowHolds a) row rows (plain_holds a given row plain holds) (f e)
   plain_or_shown row rows further other f g false plain e = let both = g e in All-cons (RowHolds a) row rows both.0 both.1
 
-  shown_parts : (found : Option Bool) (i : ℕ) (later : Option ConditionsAnswer) → shown_or found i later ≡ Some Shown → (found ≡ Some true) × (later ≡ Some Shown)
-  shown_parts None i later e = cc
-  shown_parts (Some true) i later e = (refl, e)
-  shown_parts (Some false) i later e = cc
+  shown_parts : (found : Said) (i : ℕ) (later : Option ConditionsAnswer) → shown_or found i later ≡ Some Shown → (found ≡ Yes) × (later ≡ Some Shown)
+  shown_parts Beyond i later e = cc
+  shown_parts Yes i later e = (refl, e)
+  shown_parts No i later e = cc
 
   shown_row : (row : Row) (rows : List Row) (cert : Cert) (i : ℕ) (later : Option ConditionsAnswer) → (later ≡ Some Shown → AllHold a rows) → shown_or (row_finding given row cert) i later ≡ Some Shown → RowHolds a row × AllHold a rows
   shown_row row rows cert i later f e =

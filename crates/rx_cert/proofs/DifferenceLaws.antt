@@ -1,5 +1,5 @@
 -- Under an assignment at which p is not 0, p - 1 is at least 0 or -p - 1 is.
-use Rattle.std.proofs.Common.{◌≡◌, ◌∙◌, ap, subst, refl, ◌⊎◌, ℕ, zero, suc, Bool, true, Option, Some, None, List, [], ◌∷◌, ◌++◌, slice_get, ℤ, pos, negsuc, ◌-ℤ◌, ◌≤ℤ◌, arith}
+use Rattle.std.proofs.Common.{◌≡◌, ◌∙◌, ap, subst, refl, ◌⊎◌, ℕ, zero, suc, Option, Some, None, List, [], ◌∷◌, ◌++◌, slice_get, ℤ, pos, negsuc, ◌-ℤ◌, ◌≤ℤ◌, arith}
 use mathlib.Core.Logic.{inl, inr}
 use Rattle.std.proofs.lemmas.Int.{ints}
 use Rattle.std.proofs.lemmas.Option.{get_or_from_slice_get, slice_get_within}
@@ -15,7 +15,7 @@ use Rattle.rx_row.specs.Negation.{negation, negation_within}
 use Rattle.rx_row.specs.declared.row.Row.{Row}
 use Rattle.rx_row.specs.declared.row.Row.TheVariants.{Ge, Eq, Ne}
 use Rattle.rx_cert.specs.Differences.{differ_finding, disequal, one_less}
-use Rattle.rx_cert.specs.Findings.{within}
+use Rattle.rx_cert.specs.Findings.{Said, Yes, within}
 use Rattle.rx_cert.proofs.FindingLaws.{both_parts, within_parts}
 
 -- a row that is found among rows that hold holds
@@ -43,9 +43,9 @@ disequal_is (Some (Eq q)) p e = cc
 disequal_is (Some (Ne q)) p e = let same : q ≡ p = cc in ap (λ x. Some (Ne x)) same
 
 -- so where both cases are refuted, so are the rows
-pub differ_refutes : (a : ℕ → ℤ) (rows : List Row) (at : ℕ) (above below : List Row → Option Bool) →
-    ((rs : List Row) → above rs ≡ Some true → AllHold a rs → ⊥) → ((rs : List Row) → below rs ≡ Some true → AllHold a rs → ⊥) →
-    (o : Option Body) → disequal (slice_get rows at) ≡ o → differ_finding o rows above below ≡ Some true → AllHold a rows → ⊥
+pub differ_refutes : (a : ℕ → ℤ) (rows : List Row) (at : ℕ) (above below : List Row → Said) →
+    ((rs : List Row) → above rs ≡ Yes → AllHold a rs → ⊥) → ((rs : List Row) → below rs ≡ Yes → AllHold a rs → ⊥) →
+    (o : Option Body) → disequal (slice_get rows at) ≡ o → differ_finding o rows above below ≡ Yes → AllHold a rows → ⊥
 differ_refutes a rows at above below f g None is e holds = cc
 differ_refutes a rows at above below f g (Some p) is e holds =
     let parts = both_parts (within (is_within (one_less p)) (above (rows ++ Ge (one_less p) ∷ []))) (within (negation_within (Ge p)) (below (rows ++ negation (Ge p) ∷ []))) e in

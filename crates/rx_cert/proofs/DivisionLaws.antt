@@ -1,5 +1,5 @@
 -- What the division facts say holds of every dividend: of one that is at least 0, or of one below.
-use Rattle.std.proofs.Common.{◌≡◌, ◌∙◌, ap, subst, sym, cond, ℕ, zero, suc, ◌<◌, Bool, true, false, Option, Some, List, [], ◌∷◌, ◌++◌, ℤ, pos, negsuc, ◌+ℤ◌, ◌-ℤ◌, ◌*ℤ◌, ◌≤ℤ◌, int_div, int_rem, unsigned_abs, arith}
+use Rattle.std.proofs.Common.{◌≡◌, ◌∙◌, ap, subst, sym, cond, ℕ, zero, suc, ◌<◌, Bool, true, false, List, [], ◌∷◌, ◌++◌, ℤ, pos, negsuc, ◌+ℤ◌, ◌-ℤ◌, ◌*ℤ◌, ◌≤ℤ◌, int_div, int_rem, unsigned_abs, arith}
 use mathlib.Core.Logic.{inl, inr}
 use Rattle.std.proofs.lemmas.Int.{ints, quot-rem, rem_below}
 use Rattle.std.proofs.lemmas.List.Elements.{All-append, All-cons, All-nil}
@@ -18,7 +18,7 @@ use Rattle.rx_row.specs.Negation.{minus_one_more, negation, opposite}
 use Rattle.rx_row.specs.declared.row.Row.{Row}
 use Rattle.rx_row.specs.declared.row.Row.TheVariants.{Ge, Eq}
 use Rattle.rx_cert.specs.DivisionFacts.{at_least_zero_within, below_zero_within, greatest_remainder, nothing_left, quotient_by, remainder_by, rows_at_least_zero, rows_below_zero, without_quotient}
-use Rattle.rx_cert.specs.Findings.{both, within}
+use Rattle.rx_cert.specs.Findings.{Said, Yes, No, both, within}
 use Rattle.rx_cert.proofs.FindingLaws.{both_parts, within_parts}
 
 -- ---- numbers
@@ -105,10 +105,10 @@ module _ (a : ℕ → ℤ) (num : Body) (d : ℤ) (nonzero : is_zero d ≡ false
       (fits_below (value a r) (value a (greatest_remainder d)) (value a (added (greatest_remainder d) r)) (unsigned_abs d) remainder_small value-greatest_remainder (value-added a (greatest_remainder d) r))
 
 -- so where both cases are refuted, so are the rows
-pub division_refutes : (a : ℕ → ℤ) (rows : List Row) (num : Body) (d : ℤ) (above below : List Row → Option Bool) →
-    ((rs : List Row) → above rs ≡ Some true → AllHold a rs → ⊥) → ((rs : List Row) → below rs ≡ Some true → AllHold a rs → ⊥) →
+pub division_refutes : (a : ℕ → ℤ) (rows : List Row) (num : Body) (d : ℤ) (above below : List Row → Said) →
+    ((rs : List Row) → above rs ≡ Yes → AllHold a rs → ⊥) → ((rs : List Row) → below rs ≡ Yes → AllHold a rs → ⊥) →
     (b : Bool) → is_zero d ≡ b →
-    cond b (Some false) (both (within (at_least_zero_within num d) (above (rows ++ rows_at_least_zero num d))) (within (below_zero_within num d) (below (rows ++ rows_below_zero num d)))) ≡ Some true →
+    cond b No (both (within (at_least_zero_within num d) (above (rows ++ rows_at_least_zero num d))) (within (below_zero_within num d) (below (rows ++ rows_below_zero num d)))) ≡ Yes →
     AllHold a rows → ⊥
 division_refutes a rows num d above below f g true is e holds = cc
 division_refutes a rows num d above below f g false is e holds =

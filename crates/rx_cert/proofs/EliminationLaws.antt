@@ -27,6 +27,7 @@ use Rattle.rx_row.specs.declared.row.Row.{Row}
 use Rattle.rx_row.specs.declared.row.Row.TheVariants.{Ge, Eq, Ne}
 use Rattle.rx_cert.specs.Elimination.{are_opposite, coefficient_of, zero_polynomial, of_opposites, replaced_finding, solution, solution_minus, solution_plus, solution_within, solve_finding, zero_of}
 use Rattle.rx_cert.proofs.DifferenceLaws.{found_holds}
+use Rattle.rx_cert.specs.Findings.{Said, Yes}
 use Rattle.rx_cert.proofs.FindingLaws.{within_parts}
 
 -- ---- the polynomial is 0
@@ -133,13 +134,13 @@ replaced_hold a x e rows is holds =
     (in_rows-hold a ((x, e) ∷ []) rows).1 (subst (λ (b : ℕ → ℤ). AllHold b rows) (λ i n. sym (worth_same a x e is n) i) holds)
 
 -- so where the rows with the value are refuted, so are the rows
-pub solve_refutes : (a : ℕ → ℤ) (rows : List Row) (first second x : ℕ) (rest : List Row → Option Bool) → ((rs : List Row) → rest rs ≡ Some true → AllHold a rs → ⊥) →
-    (o : Option Body) → zero_polynomial rows first second ≡ o → solve_finding x o rows rest ≡ Some true → AllHold a rows → ⊥
+pub solve_refutes : (a : ℕ → ℤ) (rows : List Row) (first second x : ℕ) (rest : List Row → Said) → ((rs : List Row) → rest rs ≡ Yes → AllHold a rs → ⊥) →
+    (o : Option Body) → zero_polynomial rows first second ≡ o → solve_finding x o rows rest ≡ Yes → AllHold a rows → ⊥
 solve_refutes a rows first second x rest f None is e holds = cc
 solve_refutes a rows first second x rest f (Some p) is e holds =
     by (solution x p) refl (within_parts (solution_within x p) (replaced_finding x (solution x p) rows rest) e).1
   where
-    by : (o : Option Body) → solution x p ≡ o → replaced_finding x o rows rest ≡ Some true → ⊥
+    by : (o : Option Body) → solution x p ≡ o → replaced_finding x o rows rest ≡ Yes → ⊥
     by None s g = cc
     by (Some v) s g =
         f (in_rows ((x, v) ∷ []) rows) (within_parts (rows_within ((x, v) ∷ []) rows) (rest (in_rows ((x, v) ∷ []) rows)) g).1

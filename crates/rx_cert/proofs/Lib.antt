@@ -8,4 +8,5 @@ pub mod FindingLaws
 pub mod Law
 pub mod Rounded
 pub mod RoundingLaws
+pub mod ShowingLaws
 pub mod SumLaws

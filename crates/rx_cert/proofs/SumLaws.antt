@@ -11,8 +11,9 @@ use Rattle.rx_row.specs.Holds.{AllHold}
 use Rattle.rx_row.specs.Parts.{are_lawful, parts_within, sum_from, sum_of}
 use Rattle.rx_row.specs.declared.row.Row.{Row}
 use Rattle.rx_row.proofs.PartLaws.{lawful_sum}
+use Rattle.rx_cert.specs.Findings.{Yes, said}
 use Rattle.rx_cert.specs.Sums.{is_below_zero, is_negative, sum_finding}
-use Rattle.rx_cert.proofs.FindingLaws.{some_true, within_parts}
+use Rattle.rx_cert.proofs.FindingLaws.{said_yes, within_parts}
 
 -- a sum of parts of rows that hold is worth at least 0
 pub sum_holds : (a : ℕ → ℤ) (rows : List Row) (ps : List (ℕ × ℤ)) (p : Body) → AllHold a rows → sum_of rows ps ≡ Some p → pos 0 ≤ℤ value a p
@@ -42,7 +43,7 @@ negative_contradicts a (Some p) holds h =
     below_contradicts (constant_of (out-Body p).terms) (value a p) (λ k e. constant_worth a p k e) h (holds p refl)
 
 -- rows with a negative sum are met by no assignment
-pub sum_refutes : (a : ℕ → ℤ) (rows : List Row) (ps : List (ℕ × ℤ)) → sum_finding rows ps ≡ Some true → AllHold a rows → ⊥
+pub sum_refutes : (a : ℕ → ℤ) (rows : List Row) (ps : List (ℕ × ℤ)) → sum_finding rows ps ≡ Yes → AllHold a rows → ⊥
 sum_refutes a rows ps e holds =
-    let found = within_parts (parts_within rows ps) (Some (is_negative (sum_of rows ps))) e in
-    negative_contradicts a (sum_of rows ps) (λ p s. sum_holds a rows ps p holds s) (some_true (is_negative (sum_of rows ps)) found.1)
+    let found = within_parts (parts_within rows ps) (said (is_negative (sum_of rows ps))) e in
+    negative_contradicts a (sum_of rows ps) (λ p s. sum_holds a rows ps p holds s) (said_yes (is_negative (sum_of rows ps)) found.1)

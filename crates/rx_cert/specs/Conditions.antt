@@ -1,5 +1,5 @@
 -- Rows that are to follow from others: those that aren't plain take one certificate each, in order.
-use Rattle.std.specs.Prelude.{ℕ, ◌+◌, ◌==◌, Bool, true, false, not, ◌||◌, if◌then◌else◌, Option, Some, None, List, [], ◌∷◌, length, count_by, ℤ, pos, int_lt}
+use Rattle.std.specs.Prelude.{ℕ, ◌+◌, ◌==◌, Bool, false, not, ◌||◌, if◌then◌else◌, Option, Some, None, List, [], ◌∷◌, length, count_by, ℤ, pos, int_lt}
 use Rattle.rx_poly.specs.Reading.{constant_of}
 use Rattle.rx_poly.specs.Terms.{is_zero}
 use Rattle.rx_poly.specs.declared.body.Body.{out-Body}
@@ -7,6 +7,7 @@ use Rattle.rx_row.specs.Membership.{stands_among}
 use Rattle.rx_row.specs.declared.row.Row.{Row}
 use Rattle.rx_row.specs.declared.row.Row.TheVariants.{Ge, Eq, Ne}
 use Rattle.rx_cert.specs.Examination.{row_finding}
+use Rattle.rx_cert.specs.Findings.{Said, Yes, No, Beyond}
 use Rattle.rx_cert.specs.declared.cert.Cert.{Cert}
 use Rattle.rx_cert.specs.declared.conditions.ConditionsAnswer.{ConditionsAnswer}
 use Rattle.rx_cert.specs.declared.conditions.ConditionsAnswer.TheVariants.{Shown, WrongCount, NotShown}
@@ -35,10 +36,10 @@ abbrev pub asked_for : List Row → List Row → ℕ
 asked_for given rows = count_by (λ row. not (is_plain_row given row)) rows
 
 -- a row that isn't shown ends the list, and is named by its place
-abbrev pub shown_or : Option Bool → ℕ → Option ConditionsAnswer → Option ConditionsAnswer
-shown_or None i later = None
-shown_or (Some true) i later = later
-shown_or (Some false) i later = Some (NotShown i)
+abbrev pub shown_or : Said → ℕ → Option ConditionsAnswer → Option ConditionsAnswer
+shown_or Beyond i later = None
+shown_or Yes i later = later
+shown_or No i later = Some (NotShown i)
 
 -- the rows in order, the first being number i, with the certificates that are left; as many are given as are asked for
 abbrev pub in_order : ℕ → List Row → List Row → List Cert → Option ConditionsAnswer
@@ -57,3 +58,10 @@ counted given rows certs = if length certs == asked_for given rows then in_order
 abbrev pub conditions : List Row → Option (List Row) → List Cert → Option ConditionsAnswer
 conditions given None certs = None
 conditions given (Some rows) certs = counted given rows certs
+
+-- the list is shown, it isn't, or a polynomial passes the limits before either is seen
+abbrev pub is_shown : Option ConditionsAnswer → Said
+is_shown None = Beyond
+is_shown (Some Shown) = Yes
+is_shown (Some WrongCount) = No
+is_shown (Some (NotShown i)) = No

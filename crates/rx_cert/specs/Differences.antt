@@ -1,5 +1,5 @@
 -- What is not 0 is at least 1 or at most -1.
-use Rattle.std.specs.Prelude.{Bool, false, Option, Some, None, List, [], ◌∷◌, ◌++◌, pos}
+use Rattle.std.specs.Prelude.{Option, Some, None, List, [], ◌∷◌, ◌++◌, pos}
 use Rattle.rx_plain.specs.Formed.{Formed, kept, ◌<$>◌}
 use Rattle.rx_poly.specs.Constants.{number}
 use Rattle.rx_poly.specs.Limits.{is_within, subtracted}
@@ -7,7 +7,7 @@ use Rattle.rx_poly.specs.declared.body.Body.{Body}
 use Rattle.rx_row.specs.Negation.{negated, negation, negation_within}
 use Rattle.rx_row.specs.declared.row.Row.{Row}
 use Rattle.rx_row.specs.declared.row.Row.TheVariants.{Ge, Eq, Ne}
-use Rattle.rx_cert.specs.Findings.{both, within}
+use Rattle.rx_cert.specs.Findings.{Said, No, both, within}
 
 -- the polynomial of a row p != 0
 abbrev pub disequal : Option Row → Option Body
@@ -28,9 +28,9 @@ above p = Ge <$> kept is_within (one_less p)
 abbrev pub below : Body → Formed Row
 below p = negated (Ge p)
 
--- with p - 1 >= 0 behind the others, and with -p - 1 >= 0, the negation of p >= 0
-abbrev pub differ_finding : Option Body → List Row → (List Row → Option Bool) → (List Row → Option Bool) → Option Bool
-differ_finding None rows above below = Some false
+-- with p - 1 >= 0 after the others, and with -p - 1 >= 0, the negation of p >= 0
+abbrev pub differ_finding : Option Body → List Row → (List Row → Said) → (List Row → Said) → Said
+differ_finding None rows above below = No
 differ_finding (Some p) rows above below = both
     (within (is_within (one_less p)) (above (rows ++ Ge (one_less p) ∷ [])))
     (within (negation_within (Ge p)) (below (rows ++ negation (Ge p) ∷ [])))

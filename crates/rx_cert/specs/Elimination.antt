@@ -14,7 +14,7 @@ use Rattle.rx_poly.specs.declared.body.Body.{Body, out-Body}
 use Rattle.rx_row.specs.Substitution.{in_rows, rows_within}
 use Rattle.rx_row.specs.declared.row.Row.{Row}
 use Rattle.rx_row.specs.declared.row.Row.TheVariants.{Ge, Eq, Ne}
-use Rattle.rx_cert.specs.Findings.{within}
+use Rattle.rx_cert.specs.Findings.{Said, No, within}
 
 -- ---- which polynomial is 0
 
@@ -79,14 +79,14 @@ solution_within x p =
 abbrev pub solution_formed : ℕ → Body → Formed (Option Body)
 solution_formed x p = record { form = solution x p; within = solution_within x p }
 
--- ---- the rows behind it
+-- ---- the rows after it
 
 -- what is found of the rows with the value in place of the variable
-abbrev pub replaced_finding : ℕ → Option Body → List Row → (List Row → Option Bool) → Option Bool
-replaced_finding x None rows rest = Some false
+abbrev pub replaced_finding : ℕ → Option Body → List Row → (List Row → Said) → Said
+replaced_finding x None rows rest = No
 replaced_finding x (Some e) rows rest = within (rows_within ((x, e) ∷ []) rows) (rest (in_rows ((x, e) ∷ []) rows))
 
 -- what is found, by the polynomial that the rows say to be 0, where they do
-abbrev pub solve_finding : ℕ → Option Body → List Row → (List Row → Option Bool) → Option Bool
-solve_finding x None rows rest = Some false
+abbrev pub solve_finding : ℕ → Option Body → List Row → (List Row → Said) → Said
+solve_finding x None rows rest = No
 solve_finding x (Some p) rows rest = within (solution_within x p) (replaced_finding x (solution x p) rows rest)

@@ -1,19 +1,30 @@
--- What the examination of a certificate finds: `Some true` where it refutes the rows, `Some false` where it doesn't, and `None` where a polynomial passes the limits before either is seen.
+-- What is found of rows. An examination goes from left to right and ends at the first thing that decides.
 use Rattle.std.specs.Prelude.{Bool, true, false, Option, Some, None, List, [], ◌∷◌, ◌++◌}
 use Rattle.rx_row.specs.declared.row.Row.{Row}
 
--- what is formed first keeps the limits, or nothing behind it is seen
-abbrev pub within : Bool → Option Bool → Option Bool
+-- the rows are refuted, they aren't, or a polynomial passes the limits before either is seen
+pub data Said : Type 0 where
+  Yes : Said
+  No : Said
+  Beyond : Said
+
+-- what a test says
+abbrev pub said : Bool → Said
+said true = Yes
+said false = No
+
+-- what is formed first keeps the limits, or nothing after it is seen
+abbrev pub within : Bool → Said → Said
 within true later = later
-within false later = None
+within false later = Beyond
 
 -- two parts, from left to right: the first that fails or passes the limits ends the examination
-abbrev pub both : Option Bool → Option Bool → Option Bool
-both None later = None
-both (Some true) later = later
-both (Some false) later = Some false
+abbrev pub both : Said → Said → Said
+both Yes later = later
+both No later = No
+both Beyond later = Beyond
 
--- what is found with one more row behind the others; without that row the part fails
-abbrev pub with_row : List Row → Option Row → (List Row → Option Bool) → Option Bool
-with_row rows None rest = Some false
+-- what is found with one more row after the others; without that row the part fails
+abbrev pub with_row : List Row → Option Row → (List Row → Said) → Said
+with_row rows None rest = No
 with_row rows (Some row) rest = rest (rows ++ row ∷ [])

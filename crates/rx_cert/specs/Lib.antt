@@ -7,4 +7,6 @@ pub mod Elimination
 pub mod Examination
 pub mod Findings
 pub mod Rounding
+pub mod Showing
 pub mod Sums
+pub mod Variables

@@ -10,7 +10,7 @@ use std::alloc::{AllocError, Global};
 /// Which rows are summed: their numbers, counted from 0, each with its multiplier.
 pub type Parts = Items<(u32, i128)>;
 
-/// Why no integers meet a list of rows. All kinds but the first go on with further rows behind those, or with
+/// Why no integers meet a list of rows. All kinds but the first go on with more rows after those, or with
 /// others in their place.
 #[derive(Debug, Drop, PartialEq, Eq)]
 pub enum Cert {
@@ -68,7 +68,7 @@ pub enum Cert {
     },
 }
 
-/// The certificate in the box once more, in a box.
+/// A copy of the certificate in the box, in a box.
 #[cycle(clones)]
 fn copy(alloc: Global, cert: &Boxed<Cert>) -> Result<Boxed<Cert>, AllocError>
     ensures { IfOk result (λ c. c ≡ cert.now) }
@@ -77,7 +77,7 @@ fn copy(alloc: Global, cert: &Boxed<Cert>) -> Result<Boxed<Cert>, AllocError>
     Boxed::new(alloc, copy)
 }
 
-/// The parts once more.
+/// A copy of the parts.
 fn copy_parts(alloc: Global, parts: &Parts) -> Result<Parts, AllocError>
     ensures { IfOk result (λ ps. ps ≡ parts.now) }
 {
@@ -100,7 +100,7 @@ impl Cert {
         }
     }
 
-    /// The same certificate once more; fails only for want of memory.
+    /// A copy of the certificate; fails only where memory runs out.
     #[cycle(clones)]
     pub fn try_clone(&self, alloc: Global) -> Result<Cert, AllocError>
         ensures { IfOk result (λ c. c ≡ self.now) }

@@ -54,9 +54,6 @@ pub struct Division {
 pub fn divide(alloc: Global, num: &Poly, den: &i128) -> Result<Division, PolyEnd>
     requires { is_zero den.now ≡ false }
     ensures forms { FormsAs (λ d. (d.equation, d.rest, d.bound)) PolyEnd.Large result (division_formed num.now den.now) }
-    ensures equation { IfOk result (λ d. d.equation ≡ nothing_left num.now den.now) }
-    ensures rest { IfOk result (λ d. d.rest ≡ remainder_by num.now den.now) }
-    ensures bound { IfOk result (λ d. d.bound ≡ greatest_remainder den.now) }
 {
     let quotient = quotient(alloc, num, den)?;
     let rest = remainder(alloc, num, den)?;
@@ -112,14 +109,14 @@ pub fn facts_below_zero(alloc: Global, num: &Poly, division: &Division) -> Resul
     ensures forms { FormsAs (λ v. v.items) PolyEnd.Large result (facts_below_zero num.now division.now.equation division.now.rest division.now.bound) }
 {
     let below = row_below(alloc, num)?;
-    let turned = division.rest.scale(alloc, -1)?;
+    let negated = division.rest.scale(alloc, -1)?;
     let room = division.bound.add(alloc, &division.rest)?;
     let equation = division.equation.try_clone(alloc)?;
     Ok(four(
         alloc,
         below,
         Row::Eq(equation),
-        Row::Ge(turned),
+        Row::Ge(negated),
         Row::Ge(room),
     )?)
 }

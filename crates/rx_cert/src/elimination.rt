@@ -31,7 +31,7 @@ fn are_opposite_numbers(left: &i128, right: &i128) -> bool
 }
 
 /// Whether the two sums have the same monomials with opposite coefficients.
-fn are_opposites(left: &[(Mono, i128)], right: &[(Mono, i128)]) -> bool
+pub fn are_opposites(left: &[(Mono, i128)], right: &[(Mono, i128)]) -> bool
     ensures { result ≡ are_opposite left.now right.now }
 {
     let mut others = right;

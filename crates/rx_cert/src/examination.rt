@@ -1,7 +1,8 @@
-//! The examination of a certificate. The rows are lent: what a branch puts behind them it takes off again, and
-//! only the elimination of a variable makes a new list.
-ghost use Rattle.std.specs.Prelude.{◌≡◌, ◌∷◌, ◌++◌, [], Some, None, IfOk, IfErr, OnOk};
+//! The examination of a certificate. The rows are borrowed: what a branch puts after them it takes off again,
+//! and only the elimination of a variable makes a new list.
+ghost use Rattle.std.specs.Prelude.{◌≡◌, ◌∷◌, ◌++◌, [], IfOk, IfErr, OnOk};
 ghost use Rattle.rx_cert.specs.Examination.{examined, finding, level};
+ghost use Rattle.rx_cert.specs.Findings.{Beyond, said};
 ghost use Rattle.rx_cert.specs.declared.cert.Cert.TheOpen.{Cert-F};
 ghost use Rattle.rx_poly.specs.Terms.{is_zero};
 
@@ -16,7 +17,7 @@ use rx_poly::{Poly, PolyEnd};
 use rx_row::{Row, subst_rows};
 use std::alloc::{AllocError, Global};
 
-/// Whether the certificate refutes the rows with one more behind them.
+/// Whether the certificate refutes the rows with one more after them.
 #[cycle(examination)]
 fn examine_with(
     alloc: Global,
@@ -24,8 +25,8 @@ fn examine_with(
     row: Row,
     cert: &Boxed<Cert>,
 ) -> Result<bool, PolyEnd>
-    ensures answer { IfOk result (λ b. finding (rows.old.items ++ row ∷ []) cert.now ≡ Some b) }
-    ensures large { IfErr result (λ e. e ≡ PolyEnd.Large → finding (rows.old.items ++ row ∷ []) cert.now ≡ None) }
+    ensures answer { IfOk result (λ b. finding (rows.old.items ++ row ∷ []) cert.now ≡ said b) }
+    ensures large { IfErr result (λ e. e ≡ PolyEnd.Large → finding (rows.old.items ++ row ∷ []) cert.now ≡ Beyond) }
     ensures kept { OnOk result (rows.new.items ≡ rows.old.items) }
 {
     let count = rows.len();
@@ -35,7 +36,7 @@ fn examine_with(
     Ok(found)
 }
 
-/// Whether the certificate refutes the rows with more of them behind.
+/// Whether the certificate refutes the rows with more of them after.
 #[cycle(examination)]
 fn examine_with_all(
     alloc: Global,
@@ -43,8 +44,8 @@ fn examine_with_all(
     mut more: Vec<Row>,
     cert: &Boxed<Cert>,
 ) -> Result<bool, PolyEnd>
-    ensures answer { IfOk result (λ b. finding (rows.old.items ++ more.items) cert.now ≡ Some b) }
-    ensures large { IfErr result (λ e. e ≡ PolyEnd.Large → finding (rows.old.items ++ more.items) cert.now ≡ None) }
+    ensures answer { IfOk result (λ b. finding (rows.old.items ++ more.items) cert.now ≡ said b) }
+    ensures large { IfErr result (λ e. e ≡ PolyEnd.Large → finding (rows.old.items ++ more.items) cert.now ≡ Beyond) }
     ensures kept { OnOk result (rows.new.items ≡ rows.old.items) }
 {
     let count = rows.len();
@@ -54,7 +55,7 @@ fn examine_with_all(
     Ok(found)
 }
 
-/// A rounded sum is a further row.
+/// A rounded sum is one more row.
 #[cycle(examination)]
 fn examine_cut(
     alloc: Global,
@@ -63,8 +64,8 @@ fn examine_cut(
     div: &i128,
     rest: &Boxed<Cert>,
 ) -> Result<bool, PolyEnd>
-    ensures answer { IfOk result (λ b. level (Cert-F.Cut parts.now div.now (examined rest.now)) rows.old.items ≡ Some b) }
-    ensures large { IfErr result (λ e. e ≡ PolyEnd.Large → level (Cert-F.Cut parts.now div.now (examined rest.now)) rows.old.items ≡ None) }
+    ensures answer { IfOk result (λ b. level (Cert-F.Cut parts.now div.now (examined rest.now)) rows.old.items ≡ said b) }
+    ensures large { IfErr result (λ e. e ≡ PolyEnd.Large → level (Cert-F.Cut parts.now div.now (examined rest.now)) rows.old.items ≡ Beyond) }
     ensures kept { OnOk result (rows.new.items ≡ rows.old.items) }
 {
     match rounded_row(alloc, rows.as_slice(), parts, div)? {
@@ -82,8 +83,8 @@ fn examine_split(
     yes: &Boxed<Cert>,
     no: &Boxed<Cert>,
 ) -> Result<bool, PolyEnd>
-    ensures answer { IfOk result (λ b. level (Cert-F.Split row.now (examined yes.now) (examined no.now)) rows.old.items ≡ Some b) }
-    ensures large { IfErr result (λ e. e ≡ PolyEnd.Large → level (Cert-F.Split row.now (examined yes.now) (examined no.now)) rows.old.items ≡ None) }
+    ensures answer { IfOk result (λ b. level (Cert-F.Split row.now (examined yes.now) (examined no.now)) rows.old.items ≡ said b) }
+    ensures large { IfErr result (λ e. e ≡ PolyEnd.Large → level (Cert-F.Split row.now (examined yes.now) (examined no.now)) rows.old.items ≡ Beyond) }
     ensures kept { OnOk result (rows.new.items ≡ rows.old.items) }
 {
     let same = row.try_clone(alloc)?;
@@ -103,8 +104,8 @@ fn examine_differ(
     pos: &Boxed<Cert>,
     neg: &Boxed<Cert>,
 ) -> Result<bool, PolyEnd>
-    ensures answer { IfOk result (λ b. level (Cert-F.Differ at (examined pos.now) (examined neg.now)) rows.old.items ≡ Some b) }
-    ensures large { IfErr result (λ e. e ≡ PolyEnd.Large → level (Cert-F.Differ at (examined pos.now) (examined neg.now)) rows.old.items ≡ None) }
+    ensures answer { IfOk result (λ b. level (Cert-F.Differ at (examined pos.now) (examined neg.now)) rows.old.items ≡ said b) }
+    ensures large { IfErr result (λ e. e ≡ PolyEnd.Large → level (Cert-F.Differ at (examined pos.now) (examined neg.now)) rows.old.items ≡ Beyond) }
     ensures kept { OnOk result (rows.new.items ≡ rows.old.items) }
 {
     let Some(poly) = disequal_at(alloc, rows.as_slice(), at)? else {
@@ -128,8 +129,8 @@ fn examine_solve(
     var: u32,
     rest: &Boxed<Cert>,
 ) -> Result<bool, PolyEnd>
-    ensures answer { IfOk result (λ b. level (Cert-F.Solve first second var (examined rest.now)) rows.now ≡ Some b) }
-    ensures large { IfErr result (λ e. e ≡ PolyEnd.Large → level (Cert-F.Solve first second var (examined rest.now)) rows.now ≡ None) }
+    ensures answer { IfOk result (λ b. level (Cert-F.Solve first second var (examined rest.now)) rows.now ≡ said b) }
+    ensures large { IfErr result (λ e. e ≡ PolyEnd.Large → level (Cert-F.Solve first second var (examined rest.now)) rows.now ≡ Beyond) }
 {
     let Some(poly) = polynomial_at_zero(rows, first, second) else {
         return Ok(false);
@@ -152,8 +153,8 @@ fn examine_division(
     pos: &Boxed<Cert>,
     neg: &Boxed<Cert>,
 ) -> Result<bool, PolyEnd>
-    ensures answer { IfOk result (λ b. level (Cert-F.DivFacts num.now den.now (examined pos.now) (examined neg.now)) rows.old.items ≡ Some b) }
-    ensures large { IfErr result (λ e. e ≡ PolyEnd.Large → level (Cert-F.DivFacts num.now den.now (examined pos.now) (examined neg.now)) rows.old.items ≡ None) }
+    ensures answer { IfOk result (λ b. level (Cert-F.DivFacts num.now den.now (examined pos.now) (examined neg.now)) rows.old.items ≡ said b) }
+    ensures large { IfErr result (λ e. e ≡ PolyEnd.Large → level (Cert-F.DivFacts num.now den.now (examined pos.now) (examined neg.now)) rows.old.items ≡ Beyond) }
     ensures kept { OnOk result (rows.new.items ≡ rows.old.items) }
 {
     if *den == 0 {
@@ -168,13 +169,13 @@ fn examine_division(
     examine_with_all(alloc, rows, below, neg)
 }
 
-/// Whether the certificate refutes the rows, which are the same again behind it. Large exactly where a
+/// Whether the certificate refutes the rows, which are the same again after it. Large exactly where a
 /// polynomial passes the limits before that is seen.
 #[cycle(examination)]
 #[tactic(auto, using(crate::proofs::Equations::finding_sum, crate::proofs::Equations::finding_cut, crate::proofs::Equations::finding_split, crate::proofs::Equations::finding_differ, crate::proofs::Equations::finding_solve, crate::proofs::Equations::finding_division, crate::proofs::Equations::depth_cut, crate::proofs::Equations::depth_split, crate::proofs::Equations::depth_differ, crate::proofs::Equations::depth_solve, crate::proofs::Equations::depth_division))]
 pub(crate) fn examine(alloc: Global, rows: &mut Vec<Row>, cert: &Cert) -> Result<bool, PolyEnd>
-    ensures answer { IfOk result (λ b. finding rows.old.items cert.now ≡ Some b) }
-    ensures large { IfErr result (λ e. e ≡ PolyEnd.Large → finding rows.old.items cert.now ≡ None) }
+    ensures answer { IfOk result (λ b. finding rows.old.items cert.now ≡ said b) }
+    ensures large { IfErr result (λ e. e ≡ PolyEnd.Large → finding rows.old.items cert.now ≡ Beyond) }
     ensures kept { OnOk result (rows.new.items ≡ rows.old.items) }
 {
     match cert {

@@ -1,5 +1,6 @@
 //! Sums of rows that are negative numbers.
-ghost use Rattle.std.specs.Prelude.{◌≡◌, Some, None, IfOk, IfErr};
+ghost use Rattle.std.specs.Prelude.{◌≡◌, IfOk, IfErr};
+ghost use Rattle.rx_cert.specs.Findings.{Beyond, said};
 ghost use Rattle.rx_cert.specs.Sums.{is_below_zero, sum_finding};
 ghost use Rattle.rx_poly.specs.Reading.{constant_of};
 ghost use Rattle.rx_poly.specs.declared.body.Body.{out-Body};
@@ -21,8 +22,8 @@ fn is_negative_number(poly: &Poly) -> bool
 /// Whether the parts are lawful and their sum is a negative number. Large exactly where a
 /// polynomial on the way to the sum passes the limits.
 pub fn sum_refutes(alloc: Global, rows: &[Row], parts: &[(u32, i128)]) -> Result<bool, PolyEnd>
-    ensures finding { IfOk result (λ b. sum_finding rows.now parts.now ≡ Some b) }
-    ensures large { IfErr result (λ e. e ≡ PolyEnd.Large → sum_finding rows.now parts.now ≡ None) }
+    ensures finding { IfOk result (λ b. sum_finding rows.now parts.now ≡ said b) }
+    ensures large { IfErr result (λ e. e ≡ PolyEnd.Large → sum_finding rows.now parts.now ≡ Beyond) }
 {
     match combine_rows(alloc, rows, parts)? {
         Some(sum) => Ok(is_negative_number(&sum)),
