@@ -3,6 +3,7 @@ pub mod AssignedLaws
 pub mod BoundLaws
 pub mod Changing
 pub mod CoveredLaws
+pub mod Differing
 pub mod Equations
 pub mod Example
 pub mod FittingLaws
@@ -13,11 +14,13 @@ pub mod MadeLaws
 pub mod Matching
 pub mod MeaningLaws
 pub mod PairedLaws
+pub mod Places
 pub mod RedexLaws
 pub mod RedexWalks
 pub mod RuleLaws
 pub mod ShapeLaws
 pub mod Substituting
+pub mod TogetherLaws
 pub mod VariableTests
 pub mod Walks
 pub mod Written

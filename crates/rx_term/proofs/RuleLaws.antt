@@ -126,7 +126,7 @@ module _ (parts : RuleParts) (made : IsWellMade parts) where
       let step = Step-under (outer_frames a n t) (Here (rule_steps a rule part among fits shape holds)) in
       rw (ground_behind a n t part stands, ground_replaced a n t (in_term (matched part) rule.right)) step
 
-  instance_fits : (s t : Ground) → Fits (signature parts) s → Instance parts.rules s t → Fits (signature parts) t
+  pub instance_fits : (s t : Ground) → Fits (signature parts) s → Instance parts.rules s t → Fits (signature parts) t
   instance_fits s t fits one = subst (Fits (signature parts)) (sym one.right) (ground_fits parts one.at one.rule.right (rule_made one.rule one.among).right_fits)
 
   -- steps lead from fitting terms to fitting terms

@@ -2,6 +2,7 @@
 pub mod Assigned
 pub mod Bounds
 pub mod Covered
+pub mod Differences
 pub mod Example
 pub mod Fitting
 pub mod MadeTest

@@ -1,6 +1,7 @@
 -- Terms as stacks: their frames, the part behind some of them, and what stands in place of that part.
 use Rattle.std.specs.Prelude.{ℕ, zero, suc, ◌+◌, Bool, true, false, Option, Some, None}
 use Rattle.std.specs.Option.{option_map_or}
+use Rattle.rx_term.specs.declared.term.Sym.{Sym}
 use Rattle.rx_term.specs.declared.term.Term.{Term, Term-F, fold-Term, out-Term}
 use Rattle.rx_term.specs.declared.term.Term.TheVariants.{Frame}
 
@@ -43,6 +44,26 @@ is_redex_level (Term-F.Frame f ps inner) = is_result inner
 
 abbrev pub is_redex : Term → Bool
 is_redex t = is_redex_level (out-Term t)
+
+-- the outermost symbol; a result has none
+abbrev pub root_level : Term-F Term → Option Sym
+root_level (Term-F.Return p) = None
+root_level (Term-F.Fail c) = None
+root_level (Term-F.Call f ps) = Some f
+root_level (Term-F.Frame f ps inner) = Some f
+
+abbrev pub root_of : Term → Option Sym
+root_of t = root_level (out-Term t)
+
+-- whether the frames stand over a call, and not over a result
+abbrev pub ends_in_call_level : Term-F Bool → Bool
+ends_in_call_level (Term-F.Return p) = false
+ends_in_call_level (Term-F.Fail c) = false
+ends_in_call_level (Term-F.Call f ps) = true
+ends_in_call_level (Term-F.Frame f ps inner) = inner
+
+abbrev pub ends_in_call : Term → Bool
+ends_in_call = fold-Term Bool ends_in_call_level
 
 -- what is found under the outermost frame, if there is one
 abbrev pub under_frame : Term-F Term → (Term → Option Term) → Option Term

@@ -2,6 +2,7 @@
 ghost use Rattle.std.specs.Prelude.{◌≡◌, ◌↔◌, true, false, IsTrue, IfOk};
 ghost use Rattle.rx_plain.specs.Formed.{Forms};
 ghost use Rattle.rx_poly.specs.Substitution.{in_body};
+ghost use Rattle.rx_term.specs.Differences.{differences};
 ghost use Rattle.rx_term.specs.Replacements.{replacements};
 ghost use Rattle.rx_term.specs.Substitution.{polys_with};
 ghost use Rattle.rx_term.specs.Variables.{polys_use_below};
@@ -87,4 +88,22 @@ pub(crate) fn are_below(args: &[Poly], bound: u32) -> bool
         }
     }
     true
+}
+
+/// The polynomials of the first list minus those of the second, one by one, as far as both go. Large
+/// exactly where one of these differences passes the limits.
+pub fn differences(alloc: Global, left: &[Poly], right: &[Poly]) -> Result<Items<Poly>, PolyEnd>
+    ensures forms { Forms PolyEnd.Large result (differences left.now right.now) }
+{
+    let mut made = Items::new(alloc);
+    let mut others = right;
+    for one in left {
+        let Some((other, more)) = others.split_first() else {
+            return Ok(made);
+        };
+        let difference = one.sub(alloc, other)?;
+        made.push(difference)?;
+        others = more;
+    }
+    Ok(made)
 }

@@ -1,13 +1,13 @@
 //! What terms and rules mean as ground terms: laws, each a function with an empty body.
-ghost use Rattle.std.specs.Prelude.{◌&&◌, ◌≡◌, ◌↔◌, ◌<◌, ◌≤◌, ℕ, ℤ, true, Some, List, Contains, length};
+ghost use Rattle.std.specs.Prelude.{◌&&◌, ◌≡◌, ◌↔◌, ◌<◌, ◌≤◌, ◌⊎◌, ◌++◌, ℕ, ℤ, true, Some, List, All, Contains, length};
 ghost use Rattle.std.specs.List.{enumerate_from};
 ghost use Rattle.std.specs.Option.{option_map};
-ghost use Rattle.rx_poly.specs.Substitution.{worth};
+ghost use Rattle.rx_poly.specs.Substitution.{numbered, worth};
 ghost use Rattle.rx_poly.specs.Value.{value};
 ghost use Rattle.rx_poly.specs.declared.body.Body.{Body};
 ghost use Rattle.rx_poly.specs.Variables.{uses_below};
 ghost use Rattle.rx_rewriting.specs.Premises.{KeepsInner, Moves, ResultsRest, Stays};
-ghost use Rattle.rx_rewriting.specs.Steps.{IsSingleValued, Step};
+ghost use Rattle.rx_rewriting.specs.Steps.{Either, IsSingleValued, Step};
 ghost use Rattle.rx_rewriting.specs.Terms.{Fits, Ground, TermSet, under};
 ghost use Rattle.rx_row.specs.Holds.{AllHold};
 ghost use Rattle.rx_row.specs.Substitution.{in_rows};
@@ -201,4 +201,28 @@ pub fn bounds_are_the_least_above_all()
     ensures equation { (n : ℕ) (e : Equation) →
         (((term_uses_below n e.left && term_uses_below n e.right) && rows_use_below n e.rows) ≡ true)
         ↔ (equation_bound e ≤ n) }
+{}
+
+/// Polynomials in place of the first variables, as `at_args` puts them, are the polynomials by number:
+/// with the polynomials of a term these make the left side of a rule of its shape into the term.
+#[tactic(auto, using(crate::proofs::TogetherLaws::numbered_in_order))]
+pub fn arguments_are_numbered_in_order()
+    ensures { (ps : List Body) → numbered ps ≡ enumerate_from 0 ps }
+{}
+
+/// What two lists of rules together step without frames over it, one of the two steps so.
+pub fn two_lists_step_as_one_does()
+    ensures { (rules others : List Rule) (s t : Ground) →
+        Instance (rules ++ others) s t ↔ (Instance rules s t ⊎ Instance others s t) }
+{}
+
+/// Rules whose right sides fit, as hypotheses, step fitting terms to fitting terms; so they do
+/// together with the rules of a well made set.
+pub fn fitting_right_sides_keep_fitting()
+    ensures alone { (parts : RuleParts) (rules : List Rule) →
+        All (λ rule. term_fits parts rule.right ≡ true) rules →
+        Stays (Fits (signature parts)) (Instance rules) }
+    ensures together { (parts : RuleParts) (rules : List Rule) →
+        All (λ rule. term_fits parts rule.right ≡ true) rules → IsWellMade parts →
+        Stays (Fits (signature parts)) (Either (Instance parts.rules) (Instance rules)) }
 {}

@@ -5,10 +5,10 @@ ghost use Rattle.rx_poly.specs.Substitution.{numbered, worth};
 ghost use Rattle.rx_term.specs.Meaning.{ground_at, redex_of};
 ghost use Rattle.rx_term.specs.Replacements.{replacements};
 ghost use Rattle.rx_term.specs.Shapes.{shape_of};
-ghost use Rattle.rx_term.specs.Stacks.{behind, depth_of, is_redex, is_result, onto, redex_place, replace_redex, replaced, turned};
+ghost use Rattle.rx_term.specs.Stacks.{behind, depth_of, ends_in_call, is_redex, is_result, onto, redex_place, replace_redex, replaced, root_of, turned};
 ghost use Rattle.rx_plain.specs.Formed.{Forms};
 ghost use Rattle.rx_term.specs.Substitution.{term_with};
-ghost use Rattle.rx_term.specs.Variables.{term_uses_below};
+ghost use Rattle.rx_term.specs.Variables.{arguments_of, term_uses_below};
 
 use crate::arguments::{Replacements, are_below, are_same, copied, instance, substituted};
 use rx_plain::{Boxed, Items};
@@ -118,6 +118,29 @@ impl Term {
             Term::Call(_, _) => true,
             Term::Frame(_, _, inner) => inner.get().is_result(),
         }
+    }
+
+    /// The symbol of the outermost frame, or of the call where there is no frame; a result has none.
+    pub fn root(&self) -> Option<Sym>
+        ensures { result ≡ root_of self.now }
+    {
+        match self {
+            Term::Return(_) => None,
+            Term::Fail(_) => None,
+            Term::Call(sym, _) => Some(*sym),
+            Term::Frame(sym, _, _) => Some(*sym),
+        }
+    }
+
+    /// Whether its frames are over a call, and not over a result. Takes no memory.
+    pub fn ends_in_call(&self) -> bool
+        ensures { result ≡ ends_in_call self.now }
+    {
+        let mut here = self;
+        while let Term::Frame(_, _, inner) = here {
+            here = inner.get();
+        }
+        !here.is_result()
     }
 
     /// The redex, borrowed: the innermost call, or the innermost frame where that is over a result. None
@@ -270,6 +293,32 @@ impl Term {
                     there = further.get();
                 }
                 _ => return false,
+            }
+        }
+    }
+
+    /// Its polynomials, copied: those of outer frames first, from left to right, a result's last. Fails only
+    /// where there is no memory.
+    pub fn arguments(&self, alloc: Global) -> Result<Items<Poly>, AllocError>
+        ensures { IfOk result (λ ps. ps ≡ arguments_of self.now) }
+    {
+        let mut here = self;
+        let mut made = Items::new(alloc);
+        loop {
+            match here {
+                Term::Return(value) => {
+                    made.push(value.try_clone(alloc)?)?;
+                    return Ok(made);
+                }
+                Term::Fail(_) => return Ok(made),
+                Term::Call(_, args) => {
+                    made.append(copied(alloc, args.as_slice())?)?;
+                    return Ok(made);
+                }
+                Term::Frame(_, args, inner) => {
+                    made.append(copied(alloc, args.as_slice())?)?;
+                    here = inner.get();
+                }
             }
         }
     }
