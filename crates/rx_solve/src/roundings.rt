@@ -1,0 +1,141 @@
+//! Rows that are divided by their content and rounded down.
+ghost use Rattle.std.specs.Prelude.{◌≡◌, ◌∷◌, ◌++◌, ◌+◌, [], length, take, IfOk, OnOk};
+ghost use Rattle.rx_plain.specs.Formed.{FormsAs};
+ghost use Rattle.rx_cert.specs.declared.cert.Cert.TheVariants.{Cut};
+ghost use Rattle.rx_solve.specs.Answers.{AnswersFor};
+ghost use Rattle.rx_solve.specs.Bounds.{most_roundings};
+ghost use Rattle.rx_solve.specs.Refuter.{rounding, rounding_by};
+ghost use Rattle.rx_solve.specs.Roundings.{roundings_after, roundings_formed, roundings_with};
+
+use crate::sums::refute_by_sum;
+use rx_cert::{Cert, rounded_row};
+use rx_fm::{FmEnd, content};
+use rx_plain::{Boxed, Items};
+use rx_row::Row;
+use std::alloc::{AllocError, Global};
+
+/// The most roundings that are made.
+const MOST_ROUNDINGS: usize = 64;
+
+/// A row that is to be rounded.
+#[derive(Clone, Copy, Debug)]
+pub struct Rounding {
+    /// The row's number.
+    pub at: u32,
+    /// Its multiplier, 1 or -1.
+    pub by: i128,
+    /// The number that it is divided by.
+    pub divisor: i128,
+}
+
+/// Puts the roundings of the row by the divisor after the others: one of an inequality, two of an
+/// equation.
+fn push_with(found: &mut Vec<Rounding>, at: u32, row: &Row, divisor: i128) -> Result<(), AllocError>
+    ensures { OnOk result (found.new.items ≡ found.old.items ++ roundings_with divisor at row.now) }
+{
+    if let Row::Ne(_) = row {
+        return Ok(());
+    }
+    let by = 1;
+    found.push(Rounding { at, by, divisor })?;
+    if let Row::Eq(_) = row {
+        let by = -1;
+        found.push(Rounding { at, by, divisor })?;
+    }
+    Ok(())
+}
+
+/// Puts the roundings of the row after the others. Large exactly where a coefficient's size leaves
+/// i128.
+fn push_roundings(found: &mut Vec<Rounding>, at: usize, row: &Row) -> Result<(), FmEnd>
+    ensures { FormsAs (λ _. found.new.items) FmEnd.Large result (roundings_after found.old.items at row.now) }
+{
+    if let Row::Ne(_) = row {
+        return Ok(());
+    }
+    let Some(divisor) = content(row.poly()) else {
+        return Err(FmEnd::Large);
+    };
+    if divisor <= 1 {
+        return Ok(());
+    }
+    let Ok(at) = u32::try_from(at) else {
+        return Err(FmEnd::NoMemory);
+    };
+    push_with(found, at, row, divisor)?;
+    Ok(())
+}
+
+/// The roundings of the rows, up to the row that makes 64 of them.
+fn enough_roundings(alloc: Global, rows: &[Row]) -> Result<Vec<Rounding>, FmEnd>
+    ensures { FormsAs (λ v. take most_roundings v.items) FmEnd.Large result (roundings_formed rows.now) }
+{
+    let mut found = Vec::new(alloc);
+    for (at, row) in rows.iter().enumerate() {
+        if found.len() >= MOST_ROUNDINGS {
+            return Ok(found);
+        }
+        push_roundings(&mut found, at, row)?;
+    }
+    Ok(found)
+}
+
+/// The first 64 roundings of the rows. Large exactly where a coefficient's size leaves i128, of a
+/// row that is looked at.
+fn roundings(alloc: Global, rows: &[Row]) -> Result<Vec<Rounding>, FmEnd>
+    ensures { FormsAs (λ v. v.items) FmEnd.Large result (roundings_formed rows.now) }
+{
+    let mut found = enough_roundings(alloc, rows)?;
+    found.truncate(MOST_ROUNDINGS);
+    Ok(found)
+}
+
+/// The certificate that a row is rounded, and then what refutes the rows with the rounded one.
+fn cut(alloc: Global, rounding: &Rounding, rest: Cert) -> Result<Cert, AllocError>
+    ensures { IfOk result (λ c. c ≡ Cut ((rounding.now.at, rounding.now.by) ∷ []) rounding.now.divisor rest) }
+{
+    let mut parts = Items::new(alloc);
+    parts.push((rounding.at, rounding.by))?;
+    let rest = Boxed::new(alloc, rest)?;
+    Ok(Cert::Cut {
+        parts,
+        div: rounding.divisor,
+        rest,
+    })
+}
+
+/// What a sum finds of the rows, once they are rounded one after the other. The rows are the same
+/// again after it.
+fn round_in_order(
+    alloc: Global,
+    rows: &mut Vec<Row>,
+    roundings: &[Rounding],
+) -> Result<Option<Cert>, FmEnd>
+    ensures answer { AnswersFor (rounding_by roundings.now) (length roundings.now + 1) rows.old.items result }
+    ensures kept { OnOk result (rows.new.items ≡ rows.old.items) }
+{
+    let Some((rounding, rest)) = roundings.split_first() else {
+        return refute_by_sum(alloc, rows.as_slice());
+    };
+    let part = [(rounding.at, rounding.by)];
+    let Some(row) = rounded_row(alloc, rows.as_slice(), part.as_slice(), &rounding.divisor)? else {
+        return Ok(None);
+    };
+    let count = rows.len();
+    rows.push(row).map_err(AllocError::from)?;
+    let found = round_in_order(alloc, rows, rest)?;
+    rows.truncate(count);
+    match found {
+        Some(cert) => Ok(Some(cut(alloc, rounding, cert)?)),
+        None => Ok(None),
+    }
+}
+
+/// What is found of the rows by their roundings and a sum. The rows are the same again after it.
+pub(crate) fn refute_by_rounding(alloc: Global, rows: &mut Vec<Row>) -> Result<Option<Cert>, FmEnd>
+    ensures answer { AnswersFor rounding 65 rows.old.items result }
+    ensures kept { OnOk result (rows.new.items ≡ rows.old.items) }
+{
+    let roundings = roundings(alloc, rows.as_slice())?;
+    round_in_order(alloc, rows, roundings.as_slice())
+}

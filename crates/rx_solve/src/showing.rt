@@ -1,0 +1,72 @@
+//! Rows that are shown, one after the other, by a solver.
+ghost use Rattle.std.specs.Prelude.{◌≡◌, IfOk, OnOk};
+ghost use Rattle.rx_solve.specs.Answers.{IsSolver};
+ghost use Rattle.rx_solve.specs.Shown.{IsAllShown, NegationAnswers};
+
+use crate::asking::ask;
+use rx_cert::{Cert, is_plain};
+use rx_fm::FmEnd;
+use rx_plain::{Items, NoMemory};
+use rx_row::{Constraint, Row};
+use std::alloc::Global;
+
+/// What is found of a list of rows that are to follow from others.
+#[derive(Debug, Drop)]
+pub enum AllShown {
+    /// Each is plain or shown: the certificates of those that aren't plain, in order.
+    Shown(Items<Cert>),
+    /// The first that isn't shown is one whose negation isn't refuted.
+    NotShown,
+    /// The first that isn't shown is one at which something passes the limits.
+    TooLarge,
+}
+
+/// What the solver says of the rows with the negation of one more after them, also where that is
+/// there already. The rows are the same again after it.
+fn ask_negation<S: FnMut(&Constraint) -> Result<Option<Cert>, FmEnd>>(
+    alloc: Global,
+    rows: &mut Constraint,
+    row: &Row,
+    solve: &mut S,
+) -> Result<Option<Cert>, FmEnd>
+    requires solver { IsSolver S.FnMut solve.old }
+    ensures solver { IsSolver S.FnMut solve.new }
+    ensures answer { NegationAnswers rows.old row.now result }
+    ensures kept { OnOk result (rows.new ≡ rows.old) }
+{
+    let count = rows.rows().len();
+    let negation = row.negate(alloc)?;
+    rows.append(negation).map_err(|_| FmEnd::NoMemory)?;
+    let found = ask(rows, solve);
+    rows.truncate(count);
+    found
+}
+
+/// The rows in order, up to the first that isn't shown: one is shown where it is plain, or where
+/// the solver refutes the given rows with its negation after them. Too large where the negation, or
+/// what is asked, passes the limits.
+pub fn show_all<S: FnMut(&Constraint) -> Result<Option<Cert>, FmEnd>>(
+    alloc: Global,
+    given: &Constraint,
+    rows: &[Row],
+    solve: &mut S,
+) -> Result<AllShown, NoMemory>
+    requires solver { IsSolver S.FnMut solve.old }
+    ensures solver { IsSolver S.FnMut solve.new }
+    ensures answer { IfOk result (λ a. IsAllShown given.now rows.now a) }
+{
+    let mut asked = given.try_clone(alloc)?;
+    let mut certs = Items::new(alloc);
+    for row in rows {
+        if is_plain(given, row) {
+            continue;
+        }
+        match ask_negation(alloc, &mut asked, row, solve) {
+            Ok(Some(cert)) => certs.push(cert)?,
+            Ok(None) => return Ok(AllShown::NotShown),
+            Err(FmEnd::Large) => return Ok(AllShown::TooLarge),
+            Err(FmEnd::NoMemory) => return Err(NoMemory),
+        }
+    }
+    Ok(AllShown::Shown(certs))
+}
