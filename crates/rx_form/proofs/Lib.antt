@@ -1,0 +1,5 @@
+-- Lemmas on the definitions of specs/.
+pub mod Filtering
+pub mod FormingLaws
+pub mod JudgingLaws
+pub mod PieceLaws

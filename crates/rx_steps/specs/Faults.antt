@@ -1,0 +1,63 @@
+-- The ends of calls as faults of steps.
+use Rattle.std.specs.Prelude.{◌≡◌, ◌≢◌, Bool, true, false, Result, Ok, Err, List, [], ◌∷◌}
+use Rattle.rx_poly.specs.declared.poly_end.PolyEnd.{PolyEnd}
+use Rattle.rx_poly.specs.declared.poly_end.PolyEnd.TheVariants as poly_end
+use Rattle.rx_form.specs.Judging.{Judgement, Shown, Fault, StepFault}
+use Rattle.rx_form.specs.Judging as judging
+use Rattle.rx_form.specs.States.{State}
+use Rattle.rx_form.specs.declared.form_end.FormEnd.{FormEnd}
+use Rattle.rx_form.specs.declared.form_end.FormEnd.TheVariants as form_end
+use Rattle.rx_form.specs.declared.formed_step.Asked.{Asked}
+use Rattle.rx_form.specs.declared.formed_step.Asked.TheVariants.{Refuted, Rows}
+use Rattle.rx_form.specs.declared.formed_step.Group.{Group}
+use Rattle.rx_form.specs.declared.formed_step.Under.{Under}
+use Rattle.rx_form.specs.declared.formed_step.Under.TheVariants.{Goal, New}
+use Rattle.rx_steps.specs.declared.step_end.StepEnd.{StepEnd}
+use Rattle.rx_steps.specs.declared.step_end.StepEnd.TheVariants.{NoGoal, WrongShape, NoSuchRule, NotShown, Large, NoMemory}
+
+abbrev pub of_poly_end : PolyEnd → StepEnd
+of_poly_end poly_end.Large = Large
+of_poly_end poly_end.NoMemory = NoMemory
+
+abbrev pub of_form_end : FormEnd → StepEnd
+of_form_end form_end.NoGoal = NoGoal
+of_form_end form_end.WrongShape = WrongShape
+of_form_end form_end.NoSuchRule = NoSuchRule
+of_form_end form_end.Large = Large
+of_form_end form_end.NoMemory = NoMemory
+
+-- the fault that an end is; that memory runs out is none, and no clause speaks of it
+abbrev pub fault : StepEnd → StepFault
+fault NoGoal = judging.NoGoal
+fault WrongShape = judging.WrongShape
+fault NoSuchRule = judging.NoSuchRule
+fault (NotShown i) = judging.NotShown i
+fault Large = judging.Large
+fault NoMemory = judging.Large
+
+-- a call judges exactly so, apart from memory
+abbrev pub Judges : Result (Unit {0}) StepEnd → Judgement → Type 0
+Judges (Ok u) j = j ≡ Shown
+Judges (Err e) j = e ≢ NoMemory → j ≡ Fault (fault e)
+
+-- a step is applied exactly so, apart from memory
+abbrev pub Applies : Result (Unit {0}) StepEnd → State → Result State StepFault → Type 0
+Applies (Ok u) new answer = answer ≡ Ok new
+Applies (Err e) new answer = e ≢ NoMemory → answer ≡ Err (fault e)
+
+-- ---- what is asked today
+
+-- a group under the rows of the goal
+abbrev pub is_under_goal : Under → Bool
+is_under_goal Goal = true
+is_under_goal New = false
+
+-- one group at most, under the rows of the goal
+abbrev pub is_one_group : List Group → Bool
+is_one_group [] = true
+is_one_group (g ∷ []) = is_under_goal g.under
+is_one_group (g ∷ h ∷ gs) = false
+
+abbrev pub asks_goal_alone : Asked → Bool
+asks_goal_alone Refuted = true
+asks_goal_alone (Rows groups) = is_one_group groups

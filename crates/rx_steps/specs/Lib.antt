@@ -1,0 +1,3 @@
+-- The ends of steps on a state.
+pub mod Faults
+pub mod Shown

@@ -1,0 +1,13 @@
+//! Proof states, and the steps on them.
+#![tactic(auto)]
+
+mod applying;
+mod judging;
+mod state;
+mod step_end;
+
+pub use applying::apply;
+pub use rx_form::{Delete, FormedStep, Side, Step};
+pub use rx_plain::NoMemory;
+pub use state::State;
+pub use step_end::StepEnd;

@@ -1,0 +1,125 @@
+//! The goals that are to be shown, and the hypotheses that may be used for them.
+ghost use Rattle.std.specs.Prelude.{◌≡◌, ◌+◌, ◌≤◌, ◌^◌, nat_lt, ◌∷◌, [], ◌++◌, length, reverse, slice_get, vec_capacity, vec_len, IfOk, OnOk, OnErr};
+ghost use Rattle.std.specs.Option.{option_copied};
+ghost use Rattle.rx_form.specs.States.{taken};
+
+use rx_form::FormedStep;
+use rx_plain::NoMemory;
+use rx_term::{Equation, Rule};
+use std::alloc::Global;
+use std::marker::Model;
+
+/// A proof state: goals in order, and hypotheses in order.
+#[derive(Drop)]
+pub struct State {
+    // The first goal is the last here, so that a step moves no others.
+    goals: Vec<Equation>,
+    hypotheses: Vec<Rule>,
+}
+
+impl Model for State {
+    ghost use Rattle.std.specs.Prelude.{◌<◌, ◌^◌, length, reverse};
+    ghost use Rattle.std.specs.Coded.{codes, coded_list};
+    ghost use Rattle.rx_term.specs.contracts.rule.Equation as equation_row;
+    ghost use Rattle.rx_term.specs.contracts.rule.Rule as rule_row;
+    ghost use Rattle.rx_form.specs.States as states;
+
+    ghost Value = { states.State };
+
+    ghost coded = { Prim.hlevel (codes, coded_list equation_row.the_row.coded, coded_list rule_row.the_row.coded) };
+
+    ghost view = { λ s. record { goals = reverse s.goals.items; hypotheses = s.hypotheses.items } };
+
+    ghost invariant = { λ s. (length s.goals.items < 2 ^ 32) × (length s.hypotheses.items < 2 ^ 32) };
+}
+
+/// There are fewer goals than this, and fewer hypotheses.
+const LIMIT: usize = 1 << 32;
+
+/// Whether with so many more there are still fewer than the limit.
+fn is_room(count: usize, more: usize) -> bool
+    ensures { result ≡ nat_lt (count + more) (2 ^ 32) }
+{
+    count < LIMIT && more < LIMIT - count
+}
+
+/// Puts the goals before those that are there, for which there is room.
+fn put_first(onto: &mut Vec<Equation>, goals: Vec<Equation>)
+    requires { vec_len onto.old + vec_len goals ≤ vec_capacity onto.old }
+    ensures { reverse onto.new.items ≡ goals.items ++ reverse onto.old.items }
+{
+    let mut goals = goals;
+    while let Some(goal) = goals.pop() {
+        onto.push_reserved(goal);
+    }
+}
+
+/// Puts the rules after those that are there, for which there is room.
+fn put_last(onto: &mut Vec<Rule>, rules: Vec<Rule>)
+    requires { vec_len onto.old + vec_len rules ≤ vec_capacity onto.old }
+    ensures { onto.new.items ≡ onto.old.items ++ rules.items }
+{
+    let mut rules = rules;
+    match onto.append(&mut rules) {
+        Ok(()) => {}
+        Err(_) => unreachable!(),
+    }
+}
+
+impl State {
+    /// The state with that goal alone, and no hypotheses.
+    pub fn start(alloc: Global, goal: Equation) -> Result<State, NoMemory>
+        ensures { IfOk result (λ s. s ≡ record { goals = goal ∷ []; hypotheses = [] }) }
+    {
+        let mut goals = Vec::new(alloc);
+        goals.push(goal)?;
+        Ok(State {
+            goals,
+            hypotheses: Vec::new(alloc),
+        })
+    }
+
+    /// The first goal, borrowed, if there is one.
+    #[tactic(auto, using(crate::proofs::Reversed::last_is_first))]
+    pub fn first(&self) -> Option<&Equation>
+        ensures { option_copied result ≡ slice_get self.now.goals 0 }
+    {
+        self.goals.last()
+    }
+
+    /// The hypotheses in order, borrowed.
+    pub fn hypotheses(&self) -> &[Rule]
+        ensures { result.now ≡ self.now.hypotheses }
+    {
+        self.hypotheses.as_slice()
+    }
+
+    /// How many goals there are; always fewer than 2^32, as of hypotheses.
+    pub fn goals(&self) -> u32
+        ensures { result ≡ length self.now.goals }
+    {
+        self.goals.len() as u32
+    }
+
+    /// Puts what a formed step makes in place of the first goal, and its hypothesis after the others;
+    /// whether it is shown isn't looked at. Where there is no memory, or there would be too many of either, the
+    /// state stays as it was.
+    #[tactic(auto, using(crate::proofs::Reversed::popped))]
+    pub fn take(&mut self, formed: FormedStep) -> Result<(), NoMemory>
+        ensures ok { OnOk result (self.new ≡ taken self.old formed) }
+        ensures err { OnErr result (self.new ≡ self.old) }
+    {
+        let FormedStep { goals, kept, .. } = formed;
+        let goals = goals.into_vec();
+        let kept = kept.into_vec();
+        if !is_room(self.goals.len(), goals.len()) || !is_room(self.hypotheses.len(), kept.len()) {
+            return Err(NoMemory);
+        }
+        self.goals.reserve(goals.len())?;
+        self.hypotheses.reserve(kept.len())?;
+        self.goals.pop();
+        put_first(&mut self.goals, goals);
+        put_last(&mut self.hypotheses, kept);
+        Ok(())
+    }
+}
