@@ -1,0 +1,5 @@
+-- The pairs of rules, the ranks of symbols, and when a pair is lower by a column of its table.
+pub mod Columns
+pub mod Lowering
+pub mod Pairs
+pub mod Ranks
