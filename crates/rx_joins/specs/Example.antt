@@ -1,0 +1,60 @@
+-- A proof that keeps a hypothesis and uses it: two points that both fail.
+--
+--   0  s0() -> fail(1)
+--   1  s1() -> fail(1)
+use Rattle.std.specs.Prelude.{true, false, [], ◌∷◌, pos}
+use Rattle.rx_poly.specs.Constants.{number}
+use Rattle.rx_term.specs.declared.rule.Equation.{Equation}
+use Rattle.rx_term.specs.declared.rule.Rule.{Rule}
+use Rattle.rx_term.specs.declared.rule_set.RuleParts.{RuleParts}
+use Rattle.rx_term.specs.declared.rule_set.SymInfo.{SymInfo}
+use Rattle.rx_term.specs.declared.term.Sym.{Sym}
+use Rattle.rx_term.specs.declared.term.Term.{Term}
+use Rattle.rx_term.specs.declared.term.Term.TheVariants.{Call, Fail}
+use Rattle.rx_form.specs.States.{State}
+use Rattle.rx_form.specs.declared.step.Side.TheVariants.{Left}
+use Rattle.rx_form.specs.declared.step.Step.{Step}
+use Rattle.rx_form.specs.declared.step.Step.TheVariants.{Hyp}
+use Rattle.rx_pairs.specs.declared.table.RankTable.{RankTable}
+
+-- the two points
+abbrev pub f : Sym
+f = record { 0 = 0 }
+
+abbrev pub g : Sym
+g = record { 0 = 1 }
+
+-- a point without arguments
+abbrev pub point : SymInfo
+point = record { arity = 0; frame = false; entry = true; head = false }
+
+-- it fails
+abbrev pub fails : Sym → Rule
+fails s = record { left = Call s []; right = Fail 1; rows = [] }
+
+abbrev pub example : RuleParts
+example = record { symbols = point ∷ point ∷ []; rules = fails f ∷ fails g ∷ []; fails = 1 }
+
+-- two terms are equal everywhere
+abbrev pub equal : Term → Term → Equation
+equal s t = record { left = s; right = t; rows = [] }
+
+-- both points are
+abbrev pub alike : Equation
+alike = equal (Call f []) (Call g [])
+
+-- the hypothesis that is kept, from left to right
+abbrev pub hypothesis : Rule
+hypothesis = record { left = Call f []; right = Call g []; rows = [] }
+
+-- it is used on the left side
+abbrev pub by_hypothesis : Step
+by_hypothesis = Hyp Left 0 0 [] []
+
+-- a goal, where the hypothesis is known
+abbrev pub knowing : Equation → State
+knowing goal = record { goals = goal ∷ []; hypotheses = hypothesis ∷ [] }
+
+-- one column: 1 for the first point, 0 for the second
+abbrev pub table : RankTable
+table = record { columns = 1; ranks = (number (pos 1) ∷ []) ∷ (number (pos 0) ∷ []) ∷ [] }

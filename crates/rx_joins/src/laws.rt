@@ -1,0 +1,80 @@
+//! What a finished run of proof steps means: laws, each a function with an empty body.
+ghost use Rattle.std.specs.Prelude.{◌≡◌, ◌∷◌, [], ℕ, ℤ, All, Contains, List, Ok};
+ghost use Rattle.rx_form.specs.States.{State, applied};
+ghost use Rattle.rx_joins.specs.Example.{alike, by_hypothesis, equal, example, g, hypothesis};
+ghost use Rattle.rx_joins.specs.Example.{knowing, table};
+ghost use Rattle.rx_joins.specs.Goals.{Inside, IsBacked, IsFitting, IsGood};
+ghost use Rattle.rx_joins.specs.Runs.{Accepted, IsProof, Run, finished, start};
+ghost use Rattle.rx_pairs.specs.Pairs.{SidesFit};
+ghost use Rattle.rx_pairs.specs.Ranks.{rank_of};
+ghost use Rattle.rx_pairs.specs.declared.table.RankTable.{RankTable};
+ghost use Rattle.rx_rewriting.specs.Premises.{EndAlike};
+ghost use Rattle.rx_rewriting.specs.Ranks.{Weight, weight_of};
+ghost use Rattle.rx_rewriting.specs.Terms.{Ground};
+ghost use Rattle.rx_row.specs.Holds.{AllHold};
+ghost use Rattle.rx_term.specs.Meaning.{Instance, ground_at};
+ghost use Rattle.rx_term.specs.WellMade.{IsWellMade};
+ghost use Rattle.rx_term.specs.declared.rule.Equation.{Equation};
+ghost use Rattle.rx_term.specs.declared.rule.Rule.{Rule};
+ghost use Rattle.rx_term.specs.declared.rule_set.RuleParts.{RuleParts};
+ghost use Rattle.rx_term.specs.declared.term.Term.TheVariants.{Call};
+
+/// From a goal whose sides fit the symbols of a well made set, runs come to goals whose sides fit,
+/// and keep hypotheses whose sides do.
+pub fn runs_keep_fitting()
+    ensures goals { (parts : RuleParts) (goal : Equation) (end : State) → IsWellMade parts →
+        IsFitting parts goal → Run parts end (start goal) → All (IsFitting parts) end.goals }
+    ensures hypotheses { (parts : RuleParts) (goal : Equation) (end : State) → IsWellMade parts →
+        IsFitting parts goal → Run parts end (start goal) →
+        All (SidesFit parts) end.hypotheses }
+{}
+
+/// In an accepted run both sides of the first goal join by rules and hypotheses together, at each
+/// assignment that meets its rows; so do those of every goal that is made on the way (`made`). From
+/// the left side of each hypothesis that was kept a rule steps to a term that joins with its right
+/// side so.
+pub fn accepted_runs_join()
+    ensures goal { (parts : RuleParts) (goal : Equation) (hypotheses : List Rule)
+        (weight : Ground → Weight) →
+        Accepted parts goal hypotheses weight → IsGood parts hypotheses goal }
+    ensures made { (parts : RuleParts) (goal : Equation) (hypotheses : List Rule)
+        (weight : Ground → Weight) →
+        Accepted parts goal hypotheses weight → (state : State) → Run parts state (start goal) →
+        Run parts (finished hypotheses) state → All (IsGood parts hypotheses) state.goals }
+    ensures backed { (parts : RuleParts) (goal : Equation) (hypotheses : List Rule)
+        (weight : Ground → Weight) →
+        Accepted parts goal hypotheses weight → (h : Rule) → Contains hypotheses h →
+        IsBacked parts hypotheses h }
+{}
+
+/// At each assignment that meets the rows of the first goal of an accepted run, both its sides
+/// reach results, and these are convertible by the rules alone.
+pub fn accepted_runs_end_alike()
+    ensures { (parts : RuleParts) (goal : Equation) (hypotheses : List Rule)
+        (weight : Ground → Weight) →
+        Accepted parts goal hypotheses weight → (a : ℕ → ℤ) → AllHold a goal.rows →
+        EndAlike (Inside parts) (Instance parts.rules)
+        (ground_at a goal.left) (ground_at a goal.right) }
+{}
+
+/// What trees, a run and a rank table show is accepted, by the weights of that table. So both sides
+/// of the goal reach results that are convertible by the rules alone.
+pub fn proofs_are_accepted()
+    ensures accepted { (parts : RuleParts) (goal : Equation) (hypotheses : List Rule)
+        (table : RankTable) →
+        IsProof parts goal hypotheses table →
+        Accepted parts goal hypotheses (weight_of (rank_of table)) }
+    ensures alike { (parts : RuleParts) (goal : Equation) (hypotheses : List Rule)
+        (table : RankTable) →
+        IsProof parts goal hypotheses table → (a : ℕ → ℤ) → AllHold a goal.rows →
+        EndAlike (Inside parts) (Instance parts.rules)
+        (ground_at a goal.left) (ground_at a goal.right) }
+{}
+
+/// The premises can be met, by a proof that keeps a hypothesis (`proof`); a step that uses it applies
+/// to a state where it is known (`used`).
+pub fn the_premises_can_be_met()
+    ensures proof { IsProof example alike (hypothesis ∷ []) table }
+    ensures used { applied example (knowing alike) by_hypothesis ≡
+        Ok (knowing (equal (Call g []) (Call g []))) }
+{}
