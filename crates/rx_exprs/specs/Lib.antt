@@ -1,0 +1,2 @@
+-- What it means that a call compiles an expression as the table says.
+pub mod Compiles

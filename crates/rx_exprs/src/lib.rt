@@ -1,0 +1,8 @@
+//! The code of expressions: what the table of rx_code says, written down.
+#![tactic(auto)]
+
+mod exprs;
+mod operators;
+
+pub use exprs::{condition, set_value, value};
+pub use operators::{arithmetic, comparison};

@@ -1,0 +1,40 @@
+//! The code of functions, as the table of rx_code says.
+ghost use Rattle.std.specs.Prelude.{◌≡◌, length};
+ghost use Rattle.rx_code.specs.Programs.{function_code};
+ghost use Rattle.rx_exprs.specs.Compiles.{CompilesCode};
+ghost use Rattle.rx_translate.specs.Statements.{CompilesPoint};
+
+use crate::places::Places;
+use crate::stmts::{MOST_VARIABLES, list};
+use c_ast::Function;
+use rx_code::{Action, Code, Point};
+use rx_poly::{Poly, PolyEnd};
+use std::alloc::Global;
+
+/// Opens the entry of a function, over so many parameters. Large exactly where there is no room.
+fn open_entry(code: &mut Code, parameters: usize) -> Result<Point, PolyEnd>
+    ensures point { CompilesPoint code.old code.new result parameters }
+{
+    if parameters > MOST_VARIABLES as usize {
+        return Err(PolyEnd::Large);
+    }
+    code.open(parameters as u32, false)
+}
+
+/// The function at a place in the program: its entry, its end, and its body from the one to the
+/// other. A `break` or `continue` outside loops, which no well-formed function has, leads to the end.
+pub fn function(alloc: Global, code: &mut Code, place: u32, f: &Function) -> Result<(), PolyEnd>
+    ensures code { CompilesCode code.old code.new result (function_code place f.now (length code.old.opened)) }
+{
+    let entry = open_entry(code, f.params.len())?;
+    let end = code.open(0, false)?;
+    code.mark_entry(place, entry.symbol)?;
+    code.act(end, Action::Return(Poly::constant(alloc, 0)?))?;
+    let body = Places {
+        at: entry,
+        to: end,
+        break_to: end,
+        continue_to: end,
+    };
+    list(alloc, code, f.body.as_slice(), body)
+}
