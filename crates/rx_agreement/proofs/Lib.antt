@@ -1,0 +1,13 @@
+-- Runs of rules, where code leads, and the agreement of code and translations with the meaning.
+pub mod Agreement
+pub mod Comparisons
+pub mod Example
+pub mod Leads
+pub mod LoopCounts
+pub mod Loops
+pub mod Preconditions
+pub mod Programs
+pub mod Runs
+pub mod Statements
+pub mod Translated
+pub mod Values

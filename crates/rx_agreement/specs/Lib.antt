@@ -1,0 +1,3 @@
+-- What it means that rules and the meaning of C agree, and an example.
+pub mod Agreement
+pub mod Example

@@ -1,0 +1,18 @@
+-- Laws of the rules of code, of trees in order, and of the table of compiled forms.
+pub mod Counting
+pub mod Deeds
+pub mod Elements
+pub mod ExprCodes
+pub mod Fitting
+pub mod Lists
+pub mod Made
+pub mod Paired
+pub mod ProgramCode
+pub mod Scoped
+pub mod Standing
+pub mod StmtCodes
+pub mod StmtCounting
+pub mod StmtFitting
+pub mod Translations
+pub mod Trees
+pub mod Whole

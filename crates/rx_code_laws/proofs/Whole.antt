@@ -1,0 +1,62 @@
+-- Whole code: each symbol has one deed, which fits the symbols and keeps the limits.
+use Rattle.std.proofs.Common.{◌≡◌, Bool, true, false, ℕ, suc, ◌<◌, ◌≤◌, ◌⊎◌, Some, [], ◌∷◌, length}
+use Rattle.std.specs.Prelude.{◌==◌, Contains, filter, slice_get}
+use Rattle.rx_poly.specs.Variables.{uses_below}
+use Rattle.rx_row.specs.Variables.{rows_use_below}
+use Rattle.rx_term.specs.Variables.{polys_use_below}
+use Rattle.rx_code.specs.Programs.{entry_of}
+use Rattle.rx_code.specs.Rules.{deed_within}
+use Rattle.rx_code.specs.declared.action.Action.{Action}
+use Rattle.rx_code.specs.declared.action.Action.TheVariants.{Go, Set, Test, Divide, Call, Resume, Return}
+use Rattle.rx_code.specs.declared.action.Deed.{Deed}
+use Rattle.rx_code.specs.declared.code.Code.{Code}
+use Rattle.rx_code.specs.declared.point.Point.{Point}
+
+-- whether an action is that of a frame
+abbrev pub is_resume : Action → Bool
+is_resume (Go z) = false
+is_resume (Set k p z) = false
+is_resume (Test row y w) = false
+is_resume (Divide d p q z) = false
+is_resume (Call f ps r) = false
+is_resume (Resume z) = true
+is_resume (Return p) = false
+
+-- the deeds at the symbol of that number
+abbrev pub is_at : ℕ → Deed → Bool
+is_at k d = d.at.symbol == k
+
+module _ (c : Code) where
+  -- the symbol is opened as a point or a frame with so many variables
+  abbrev pub IsOpened : ℕ → ℕ → Bool → Type 0
+  IsOpened symbol width frame = slice_get c.opened symbol ≡ Some (record { width = width; frame = frame })
+
+  -- the point is opened, and so many integers are enough for its variables
+  pub record IsTarget (count : ℕ) (z : Point) : Type 0 where
+    pub opened : IsOpened z.symbol z.width false
+    pub enough : z.width ≤ count
+
+  -- the action's points, frames and polynomials are in order at a point with n variables
+  abbrev pub Suits : ℕ → Action → Type 0
+  Suits n (Go z) = IsTarget n z
+  Suits n (Set k p z) = (k ≤ n) × (((z.width ≤ n) ⊎ (k ≡ n)) × (IsTarget (suc n) z × (uses_below n p ≡ true)))
+  Suits n (Test row y w) = IsTarget n y × (IsTarget n w × (rows_use_below n (row ∷ []) ≡ true))
+  Suits n (Divide d p q z) = IsTarget (suc n) z × ((uses_below n p ≡ true) × (uses_below n q ≡ true))
+  Suits n (Call f ps r) = IsOpened r.symbol r.width true × ((r.width ≤ n) × (IsOpened (entry_of c.entries f) (length ps) false × (polys_use_below n ps ≡ true)))
+  Suits n (Resume z) = IsTarget (suc n) z
+  Suits n (Return p) = uses_below n p ≡ true
+
+  pub record FitsCode (d : Deed) : Type 0 where
+    pub opened : IsOpened d.at.symbol d.at.width (is_resume d.action)
+    pub narrow : d.at.width ≤ 128
+    pub suits : Suits d.at.width d.action
+    pub within : deed_within d ≡ true
+
+  -- the one deed at a symbol
+  pub record OneDeed (k : ℕ) : Type 0 where
+    pub deed : Deed
+    pub alone : filter (is_at k) c.deeds ≡ deed ∷ []
+
+  pub record IsWhole : Type 0 where
+    pub one : (k : ℕ) → k < length c.opened → OneDeed k
+    pub fits : (d : Deed) → Contains c.deeds d → FitsCode d

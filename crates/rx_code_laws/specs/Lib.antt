@@ -1,0 +1,3 @@
+-- What rules do at points, and code that carries a program.
+pub mod Carried
+pub mod Doing
