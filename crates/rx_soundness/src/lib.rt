@@ -1,0 +1,6 @@
+//! Proofs by steps show that two C functions compute the same. Nothing here runs.
+#![tactic(auto)]
+
+mod laws;
+
+pub use laws::{proofs_show_equal_functions, the_premises_can_be_met};
