@@ -1,11 +1,13 @@
 //! What a call answers, whatever its type, and whether that is what a line wants.
 use crate::reading::polynomials::{body, poly};
-use crate::reading::rows::{row, rows};
+use crate::reading::rows::{next_rows, row, rows};
+use crate::reading::rules::next_rules;
 use crate::reading::terms::term;
-use crate::reading::words::{integer, numbers};
+use crate::reading::words::{integer, numbers, words};
+use rx_plain::Items;
 use rx_poly::{Body, Poly, PolyEnd};
 use rx_row::{Constraint, Row};
-use rx_term::Term;
+use rx_term::{Rule, Term};
 use std::alloc::Global;
 use std::cmp::Ordering;
 
@@ -28,6 +30,25 @@ pub enum Answer {
     Rows(Constraint),
     /// A term.
     Term(Term),
+    /// Rows that a step asks, and its goals and hypotheses in order.
+    Formed(Constraint, Items<Rule>),
+}
+
+// Whether the lists have the same rules.
+fn are_same(found: &[Rule], meant: &[Rule]) -> bool {
+    found.len() == meant.len()
+        && found
+            .iter()
+            .zip(meant)
+            .all(|(one, other)| one.is_same(other))
+}
+
+// Whether the text has these rows, and then these rules.
+fn is_formed(alloc: Global, rows: &Constraint, made: &Items<Rule>, text: &str) -> Option<bool> {
+    let mut words = words(alloc, text)?;
+    let asked = next_rows(alloc, &mut words)?;
+    let meant = next_rules(alloc, &mut words)?;
+    Some(asked.is_same(rows) && are_same(made.as_slice(), meant.as_slice()))
 }
 
 /// Whether the text says this answer.
@@ -40,6 +61,7 @@ pub fn is_meant(alloc: Global, answer: &Answer, text: &str) -> bool {
         Answer::Poly(found) => poly(alloc, text).is_some_and(|meant| meant.is_same(found)),
         Answer::Row(found) => row(alloc, text).is_some_and(|meant| meant.is_same(found)),
         Answer::Rows(found) => rows(alloc, text).is_some_and(|meant| meant.is_same(found)),
+        Answer::Formed(rows, made) => is_formed(alloc, rows, made, text) == Some(true),
         Answer::Term(found) => term(alloc, text).is_some_and(|meant| meant.is_same(found)),
     }
 }

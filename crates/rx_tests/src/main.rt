@@ -10,6 +10,7 @@
 mod answer;
 mod cert_calls;
 mod fm_calls;
+mod form_calls;
 mod law_calls;
 mod plain_calls;
 mod poly_calls;
@@ -31,6 +32,7 @@ fn answer_to(alloc: Global, call: &str, first: &str, second: &str, third: &str) 
         "laws" => law_calls::below(alloc, first, second),
         "row" | "rows" => row_calls::answer_to(alloc, call, first, second),
         "cert" => cert_calls::answer_to(alloc, name, first, second, third),
+        "form" => form_calls::answer_to(alloc, first, second, third),
         "fm" => fm_calls::answer_to(alloc, name, first, second),
         "term" => term_calls::answer_to(alloc, call, first, second, third),
         "rule" => term_calls::answer_of_rule(alloc, call, first, second, third),

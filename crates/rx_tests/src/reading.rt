@@ -4,5 +4,7 @@ pub mod certificates;
 pub mod integer_terms;
 pub mod polynomials;
 pub mod rows;
+pub mod rules;
+pub mod steps;
 pub mod terms;
 pub mod words;

@@ -7,7 +7,9 @@ use crate::reading::rows::rows;
 use crate::reading::terms::term;
 use crate::reading::words::count;
 use rx_plain::Items;
-use rx_term::{Equation, PolyEnd, Rule, RuleParts, RuleSet, SymInfo, Term};
+use rx_poly::Poly;
+use rx_row::{Constraint, Row};
+use rx_term::{Equation, PolyEnd, Rule, RuleParts, RuleSet, SymInfo, Term, differences};
 use std::alloc::Global;
 
 /// More frames than a term of a line has.
@@ -22,7 +24,8 @@ const fn symbol(arity: u32, frame: bool) -> SymInfo {
     }
 }
 
-fn parts(alloc: Global, rules: Items<Rule>) -> Option<RuleParts> {
+/// The parts of a set with these rules.
+pub fn parts(alloc: Global, rules: Items<Rule>) -> Option<RuleParts> {
     let symbols = [
         symbol(2, false),
         symbol(0, false),
@@ -38,7 +41,8 @@ fn parts(alloc: Global, rules: Items<Rule>) -> Option<RuleParts> {
     })
 }
 
-fn without_rules(alloc: Global) -> Option<RuleSet> {
+/// The set without rules.
+pub fn without_rules(alloc: Global) -> Option<RuleSet> {
     RuleSet::from_parts(parts(alloc, Items::new(alloc))?)
 }
 
@@ -63,6 +67,33 @@ fn suffix(alloc: Global, whole: &Term, place: &str) -> Option<Answer> {
     }
 }
 
+// The rows that say that the polynomials are 0.
+fn zero(alloc: Global, polys: Items<Poly>) -> Option<Answer> {
+    let mut rows = Vec::new(alloc);
+    for poly in polys.into_vec() {
+        rows.push(Row::Eq(poly)).ok()?;
+    }
+    Some(Answer::Rows(Constraint::from_rows(rows)))
+}
+
+// That the polynomials of the two terms are equal, one by one.
+fn compared(alloc: Global, first: &str, second: &str) -> Option<Answer> {
+    let left = term(alloc, first)?.arguments(alloc).ok()?;
+    let right = term(alloc, second)?.arguments(alloc).ok()?;
+    match differences(alloc, left.as_slice(), right.as_slice()) {
+        Ok(polys) => zero(alloc, polys),
+        Err(end) => ended(end),
+    }
+}
+
+// The number of its outermost symbol.
+fn root(term: &Term) -> Option<Answer> {
+    match term.root() {
+        Some(sym) => Some(Answer::Number(sym.0 as i128)),
+        None => nothing(),
+    }
+}
+
 // The redex, or the least number above all variables.
 fn read(alloc: Global, call: &str, given: &str) -> Option<Answer> {
     let term = term(alloc, given)?;
@@ -82,6 +113,8 @@ fn of_term(alloc: Global, call: &str, first: &str, second: &str) -> Option<Answe
         "term.uses_below" => told(term.uses_below(count(second)?)),
         "term.clone" => Some(Answer::Term(term.try_clone(alloc).ok()?)),
         "term.fits" => told(without_rules(alloc)?.fits(&term)),
+        "term.root" => root(&term),
+        "term.ends_in_call" => told(term.ends_in_call()),
         _ => walked(call, &term),
     }
 }
@@ -201,6 +234,7 @@ pub fn answer_to(
         "term.replace" => replaced(alloc, first, second, third),
         "term.subst" => substituted(alloc, first, second),
         "term.at_args" => at_args(alloc, first, second),
+        "term.differences" => compared(alloc, first, second),
         _ => of_term(alloc, call, first, second),
     }
 }

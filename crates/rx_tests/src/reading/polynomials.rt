@@ -179,12 +179,17 @@ fn replacement(alloc: Global, words: &mut Vec<&str>) -> Option<(u32, Poly)> {
     Some((at, next_poly(alloc, words)?))
 }
 
+/// The next words, a list of variables, each by its number, with what stands in its place.
+pub fn next_substitution(alloc: Global, words: &mut Vec<&str>) -> Option<Items<(u32, Poly)>> {
+    let mut made = Items::new(alloc);
+    for _ in 0..small(words)? {
+        made.push(replacement(alloc, words)?).ok()?;
+    }
+    Some(made)
+}
+
 /// A list of variables, each by its number, with what stands in its place.
 pub fn substitution(alloc: Global, text: &str) -> Option<Vec<(u32, Poly)>> {
     let mut words = words(alloc, text)?;
-    let mut made = Vec::new(alloc);
-    for _ in 0..small(&mut words)? {
-        made.push(replacement(alloc, &mut words)?).ok()?;
-    }
-    Some(made)
+    Some(next_substitution(alloc, &mut words)?.into_vec())
 }

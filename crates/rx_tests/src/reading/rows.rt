@@ -21,14 +21,19 @@ fn next_row(alloc: Global, words: &mut Vec<&str>) -> Option<Row> {
     row(alloc, words.pop()?)
 }
 
+/// The next words, a list of rows.
+pub fn next_rows(alloc: Global, words: &mut Vec<&str>) -> Option<Constraint> {
+    let mut made = Vec::new(alloc);
+    for _ in 0..small(words)? {
+        made.push(next_row(alloc, words)?).ok()?;
+    }
+    Some(Constraint::from_rows(made))
+}
+
 /// A list of rows.
 pub fn rows(alloc: Global, text: &str) -> Option<Constraint> {
     let mut words = words(alloc, text)?;
-    let mut made = Vec::new(alloc);
-    for _ in 0..small(&mut words)? {
-        made.push(next_row(alloc, &mut words)?).ok()?;
-    }
-    Some(Constraint::from_rows(made))
+    next_rows(alloc, &mut words)
 }
 
 fn part(words: &mut Vec<&str>) -> Option<(u32, i128)> {
