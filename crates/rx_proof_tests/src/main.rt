@@ -1,17 +1,20 @@
-//! One happy path, and a refusal or two, of the calls that compile trees and check covers and ranks,
-//! with ample memory. It prints each case that differs, and how many hold.
+//! One happy path, and a refusal or two, of the calls that compile trees, refute rows, apply steps, and
+//! check covers and ranks, with ample memory. It prints each case that differs, and how many hold.
 #![tactic(auto)]
 
 mod code_cases;
 mod cover_cases;
 mod example;
+mod function_cases;
 mod pair_cases;
+mod solve_cases;
+mod state_cases;
 
 use std::alloc::Global;
 use std::io;
 
 /// The cases by name, the crate's word before the dot.
-const CASES: [&str; 16] = [
+const CASES: [&str; 24] = [
     "cover.all",
     "cover.without_the_last",
     "cover.one_more",
@@ -28,6 +31,14 @@ const CASES: [&str; 16] = [
     "code.marked",
     "code.value",
     "code.condition",
+    "function.opened",
+    "function.ruled",
+    "function.stated",
+    "solve.contradictory",
+    "solve.possible",
+    "solve.shown",
+    "state.finished",
+    "state.refused",
 ];
 
 // Whether the case is as it is to be; none where there is no memory.
@@ -37,6 +48,9 @@ fn holds(alloc: Global, case: &str) -> Option<bool> {
         "cover" => cover_cases::holds(alloc, name),
         "pair" => pair_cases::holds(alloc, name),
         "code" => code_cases::holds(alloc, name),
+        "function" => function_cases::holds(alloc, name),
+        "solve" => solve_cases::holds(alloc, name),
+        "state" => state_cases::holds(alloc, name),
         _ => None,
     }
 }

@@ -1,0 +1,59 @@
+//! The code of a function of one parameter that returns it, and its rules.
+use crate::example::nothing_known;
+use c_ast::{Expr, Function, Stmt};
+use rx_code::Code;
+use rx_plain::Items;
+use rx_term::Sym;
+use rx_translate::{entry_of, function, goal_of, push_rules_at};
+use std::alloc::Global;
+
+fn identity(alloc: Global) -> Option<Function> {
+    let mut params = Items::new(alloc);
+    params.push(0).ok()?;
+    let mut body = Items::new(alloc);
+    body.push(Stmt::Return(Expr::Var(0))).ok()?;
+    Some(Function {
+        name: 0,
+        params,
+        body,
+    })
+}
+
+fn compiled(alloc: Global) -> Option<Code> {
+    let mut code = Code::new(alloc);
+    function(alloc, &mut code, 0, &identity(alloc)?).ok()?;
+    Some(code)
+}
+
+// The entry and the end, with one action each; the entry is the first symbol.
+fn opened(alloc: Global) -> Option<bool> {
+    let code = compiled(alloc)?;
+    Some(
+        code.opened.len() == 2
+            && code.deeds.len() == 2
+            && entry_of(code.entries.as_slice(), 0) == 0,
+    )
+}
+
+// The one rule of the entry.
+fn ruled(alloc: Global) -> Option<bool> {
+    let mut rules = Items::new(alloc);
+    push_rules_at(alloc, &mut rules, &compiled(alloc)?, 0).ok()?;
+    Some(rules.len() == 1)
+}
+
+// The entry against itself, on one variable.
+fn stated(alloc: Global) -> Option<bool> {
+    let goal = goal_of(alloc, Sym(0), Sym(0), 1, nothing_known(alloc)).ok()?;
+    Some(goal.left.is_same(&goal.right))
+}
+
+/// Whether the case is as it is to be.
+pub fn holds(alloc: Global, name: &str) -> Option<bool> {
+    match name {
+        "opened" => opened(alloc),
+        "ruled" => ruled(alloc),
+        "stated" => stated(alloc),
+        _ => None,
+    }
+}
