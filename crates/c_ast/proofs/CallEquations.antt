@@ -1,6 +1,6 @@
 -- The calls of each form of tree, one equation for each.
-use Rattle.std.proofs.Common.{◌≡◌, ◌∙◌, refl, ℕ, ℤ, Option, Some, None, List, [], ◌∷◌, ◌++◌, map}
-use Rattle.std.specs.List.{concat}
+use Rattle.std.proofs.Common.{◌≡◌, ◌∙◌, ap, refl, ℕ, ℤ, Option, Some, None, List, [], ◌∷◌, ◌++◌, map}
+use Rattle.std.specs.List.{concat, flat_map}
 use Rattle.c_ast.specs.Calls.{calls, calls_level, calls_in, calls_in_level}
 use Rattle.c_ast.specs.Variables.{list_of_option}
 use Rattle.c_ast.specs.declared.expr.UnOp.{UnOp}
@@ -73,3 +73,8 @@ calls_in-Return value = fold_out-Stmt (List ℕ) calls_in_level (Syntax.Return v
 
 pub calls_in-Block : (inner : List Stmt) → calls_in (Syntax.Block inner) ≡ concat (map calls_in inner)
 calls_in-Block inner = fold_out-Stmt (List ℕ) calls_in_level (Syntax.Block inner) ∙ rw (Syntax.outs-Block inner) refl
+
+-- what statements call, joined in order
+pub calls_of_list : (statements : List Stmt) → concat (map calls_in statements) ≡ flat_map calls_in statements
+calls_of_list [] = refl
+calls_of_list (s ∷ ss) = ap (λ fs. calls_in s ++ fs) (calls_of_list ss)

@@ -1,5 +1,6 @@
-//! Expressions (ISO/IEC 9899:1999, 6.5), their height and their exact copy.
-ghost use Rattle.std.specs.Prelude.{◌≡◌, ◌<◌, ◌^◌, IfOk};
+//! Expressions (ISO/IEC 9899:1999, 6.5), their height, their calls and their exact copy.
+ghost use Rattle.std.specs.Prelude.{◌≡◌, ◌<◌, ◌^◌, ◌++◌, IfOk, OnOk};
+ghost use Rattle.c_ast.specs.Calls.{calls};
 ghost use Rattle.c_ast.specs.Height.{expr_height};
 
 use rx_plain::{Boxed, Items, NoMemory};
@@ -91,6 +92,34 @@ pub fn expr_height(e: &Expr) -> u32
 }
 
 impl Expr {
+    /// Adds the functions that the expression calls to the end of `called`, from left to right, each as often as it
+    /// is called there; fails only for want of memory.
+    pub fn push_calls(&self, called: &mut Items<u32>) -> Result<(), NoMemory>
+        ensures { OnOk result (called.new ≡ called.old ++ calls self.now) }
+    {
+        match self {
+            Expr::Lit(_) => Ok(()),
+            Expr::Var(_) => Ok(()),
+            Expr::Unary(_, a) => a.get().push_calls(called),
+            Expr::Binary(_, a, b) => {
+                a.get().push_calls(called)?;
+                b.get().push_calls(called)
+            }
+            Expr::Choose(c, a, b) => {
+                c.get().push_calls(called)?;
+                a.get().push_calls(called)?;
+                b.get().push_calls(called)
+            }
+            Expr::Apply(place, arguments) => {
+                called.push(*place)?;
+                for argument in arguments.as_slice() {
+                    argument.push_calls(called)?;
+                }
+                Ok(())
+            }
+        }
+    }
+
     /// A copy that equals `self`; fails only for want of memory.
     #[cycle(clones)]
     pub fn try_clone(&self, alloc: Global) -> Result<Expr, NoMemory>

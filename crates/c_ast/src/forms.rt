@@ -1,7 +1,9 @@
 //! Straight functions: the body is one `return` of an expression made of literals, parameters, signs, `+`, `-` and `*`.
+//! Preconditions: comparisons of two such expressions over any names, joined by `&&`.
 ghost use Rattle.std.specs.Prelude.{◌≡◌, option_copied};
 ghost use Rattle.c_ast.specs.Forms as spec;
 ghost use Rattle.c_ast.specs.Forms.{straight_of};
+ghost use Rattle.c_ast.specs.RowForms as rows;
 
 use crate::expr::{BinOp, Expr, UnOp};
 use crate::program::Function;
@@ -51,5 +53,42 @@ pub fn straight(function: &Function) -> Option<&Expr>
                 None
             }
         }
+    }
+}
+
+// Whether an expression is made of literals, names, signs, `+`, `-` and `*`.
+fn is_straight_operand(e: &Expr) -> bool
+    ensures { result ≡ rows.is_straight e.now }
+{
+    match e {
+        Expr::Lit(_) | Expr::Var(_) => true,
+        Expr::Unary(op, a) => {
+            matches!(*op, UnOp::Plus | UnOp::Minus) && is_straight_operand(a.get())
+        }
+        Expr::Binary(op, a, b) => {
+            matches!(*op, BinOp::Add | BinOp::Sub | BinOp::Mul)
+                && is_straight_operand(a.get())
+                && is_straight_operand(b.get())
+        }
+        Expr::Choose(_, _, _) | Expr::Apply(_, _) => false,
+    }
+}
+
+/// Whether an expression may be a precondition: a comparison by `<`, `<=`, `>`, `>=`, `==` or `!=` of two expressions
+/// made of literals, names, the signs `+` and `-`, and `+`, `-` and `*` between operands, or several such comparisons
+/// joined by `&&`. Takes no memory.
+pub fn is_row_form(e: &Expr) -> bool
+    ensures { result ≡ rows.is_row_form e.now }
+{
+    match e {
+        Expr::Binary(BinOp::AndAlso, a, b) => is_row_form(a.get()) && is_row_form(b.get()),
+        Expr::Binary(op, a, b) => {
+            matches!(
+                *op,
+                BinOp::Lt | BinOp::Le | BinOp::Gt | BinOp::Ge | BinOp::Eq | BinOp::Ne
+            ) && is_straight_operand(a.get())
+                && is_straight_operand(b.get())
+        }
+        _ => false,
     }
 }

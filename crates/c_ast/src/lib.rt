@@ -1,5 +1,6 @@
 //! Trees of the C subset: expressions, statements, functions and programs, with their heights and
-//! exact copies, which functions are straight, and when a resolved program's slots and calls are in
+//! exact copies, the functions that they call, which functions are straight, which expressions may be
+//! preconditions, and when a resolved program's slots and calls are in
 //! order.
 //!
 //! Contracts see each tree as plain data, so that `≡` compares trees. What a `u32` names is the reader's
@@ -14,7 +15,7 @@ mod program;
 mod stmt;
 
 pub use expr::{BinOp, Expr, UnOp, expr_height};
-pub use forms::straight;
+pub use forms::{is_row_form, straight};
 pub use laws::{
     one_fault_is_out_of_order, scoped_programs_name_what_is_there,
     straight_expressions_are_one_notion,

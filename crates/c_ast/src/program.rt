@@ -1,7 +1,9 @@
 //! Functions and programs (ISO/IEC 9899:1999, 6.9.1 and 6.7.5.3), and their exact copies.
-ghost use Rattle.std.specs.Prelude.{◌≡◌, IfOk};
+ghost use Rattle.std.specs.Prelude.{◌≡◌, ◌++◌, IfOk, OnOk};
+ghost use Rattle.std.specs.List.{flat_map};
+ghost use Rattle.c_ast.specs.Calls.{calls_in};
 
-use crate::stmt::{Stmt, copy_all};
+use crate::stmt::{Stmt, copy_all, push_calls_of_all};
 use rx_plain::{Items, NoMemory};
 use std::alloc::Global;
 
@@ -42,6 +44,15 @@ pub struct Resolved {
 }
 
 impl Function {
+    /// Adds the functions that the body calls to the end of `called`, in the order of its statements, each as often
+    /// as it is called there, also where nothing leads; fails only for want of memory.
+    #[tactic(auto, using(crate::proofs::CallEquations::calls_of_list))]
+    pub fn push_calls(&self, called: &mut Items<u32>) -> Result<(), NoMemory>
+        ensures { OnOk result (called.new ≡ called.old ++ flat_map calls_in self.now.body) }
+    {
+        push_calls_of_all(self.body.as_slice(), called)
+    }
+
     /// A copy that equals `self`; fails only for want of memory.
     pub fn try_clone(&self, alloc: Global) -> Result<Function, NoMemory>
         ensures { IfOk result (λ f. f ≡ self.now) }

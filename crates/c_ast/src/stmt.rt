@@ -1,5 +1,8 @@
-//! Statements (ISO/IEC 9899:1999, 6.8), their height and their exact copy.
-ghost use Rattle.std.specs.Prelude.{◌≡◌, ◌<◌, ◌^◌, IfOk, map};
+//! Statements (ISO/IEC 9899:1999, 6.8), their height, their calls and their exact copy.
+ghost use Rattle.std.specs.Prelude.{◌≡◌, ◌<◌, ◌^◌, ◌++◌, IfOk, OnOk, map};
+ghost use Rattle.std.specs.List.{concat};
+ghost use Rattle.c_ast.specs.Calls.{calls, calls_in};
+ghost use Rattle.c_ast.specs.Variables.{list_of_option};
 ghost use Rattle.c_ast.specs.Height.{stmt_height, expr_height, of_option, greatest};
 
 use crate::expr::{Expr, expr_height};
@@ -90,6 +93,76 @@ fn option_height(e: &Option<Expr>) -> u32
     match e {
         None => 0,
         Some(e) => expr_height(e),
+    }
+}
+
+impl Stmt {
+    /// Adds the functions that the statement calls to the end of `called`, in the order of its parts, each as often
+    /// as it is called there, also where nothing leads; fails only for want of memory.
+    #[cycle(stmt_calls)]
+    pub fn push_calls(&self, called: &mut Items<u32>) -> Result<(), NoMemory>
+        ensures { OnOk result (called.new ≡ called.old ++ calls_in self.now) }
+    {
+        match self {
+            Stmt::Empty => Ok(()),
+            Stmt::Declare(_, value) => push_calls_of_option(value, called),
+            Stmt::Assign(_, value) => value.push_calls(called),
+            Stmt::If(test, then, other) => {
+                test.push_calls(called)?;
+                then.get().push_calls(called)?;
+                push_calls_of_other(other, called)
+            }
+            Stmt::While(test, body) => {
+                test.push_calls(called)?;
+                body.get().push_calls(called)
+            }
+            Stmt::DoWhile(body, test) => {
+                body.get().push_calls(called)?;
+                test.push_calls(called)
+            }
+            Stmt::For(first, test, change, body) => {
+                push_calls_of_all(first.as_slice(), called)?;
+                push_calls_of_option(test, called)?;
+                push_calls_of_other(change, called)?;
+                body.get().push_calls(called)
+            }
+            Stmt::Break(_) => Ok(()),
+            Stmt::Continue(_) => Ok(()),
+            Stmt::Return(value) => value.push_calls(called),
+            Stmt::Block(inner) => push_calls_of_all(inner.as_slice(), called),
+        }
+    }
+}
+
+// Adds the calls of the statement, where there is one.
+#[cycle(stmt_calls)]
+fn push_calls_of_other(s: &Option<Boxed<Stmt>>, called: &mut Items<u32>) -> Result<(), NoMemory>
+    ensures { OnOk result (called.new ≡ called.old ++ list_of_option calls_in s.now) }
+{
+    match s {
+        None => Ok(()),
+        Some(s) => s.get().push_calls(called),
+    }
+}
+
+// Adds the calls of each statement, in order.
+#[cycle(stmt_calls)]
+pub fn push_calls_of_all(statements: &[Stmt], called: &mut Items<u32>) -> Result<(), NoMemory>
+    ensures { OnOk result (called.new ≡ called.old ++ concat (map calls_in statements.now)) }
+{
+    for statement in statements {
+        statement.push_calls(called)?;
+    }
+    Ok(())
+}
+
+// Adds the calls of the expression, where there is one.
+fn push_calls_of_option(e: &Option<Expr>, called: &mut Items<u32>) -> Result<(), NoMemory>
+    ensures { OnOk result (called.new ≡ called.old ++ list_of_option calls e.now) }
+{
+    match e {
+        None => Ok(()),
+        Some(e) => e.push_calls(called),
     }
 }
 
