@@ -1,0 +1,4 @@
+-- Lemmas on digits, on what `clap` found, and on the command line as `clap` takes it.
+pub mod Digits
+pub mod Rows
+pub mod Taken

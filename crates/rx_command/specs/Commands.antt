@@ -1,0 +1,118 @@
+-- What the words of a command line ask for.
+use Rattle.std.specs.Prelude.{ℕ, Bool, true, if◌then◌else◌, nat_le, Option, Some, None, List, [], ◌∷◌, length, codes, option_map}
+use Rattle.std.specs.Borrow.{Bor}
+use Rattle.std.specs.Str.{bytes_eq}
+use Rattle.clap.specs.Kinds.{Kinds}
+use Rattle.clap.specs.Words.{Row, fault_of, first_of, matches_of}
+use Rattle.rx_command.specs.App.{command_app}
+use Rattle.rx_command.specs.Numbers.{number_of}
+use Rattle.rx_command.specs.declared.command.Command as code
+use Rattle.rx_command.specs.declared.command.Command.TheVariants as variant
+use Rattle.rx_command.specs.declared.command.Effort.{Effort}
+use Rattle.rx_command.specs.declared.command.Functions as code_functions
+
+-- two functions of a file, and a precondition on their arguments
+pub record Functions : Type 0 where
+  pub file : List ℕ
+  pub first : List ℕ
+  pub second : List ℕ
+  pub precondition : Option (List ℕ)
+
+-- to search for a proof that both compute the same, or to replay the proof in a log
+pub data Command : Type 0 where
+  Prove : Functions → Effort → Command
+  Check : Functions → List ℕ → Command
+
+-- ---- what the words give
+
+-- the most bytes of a precondition
+abbrev pub longest_precondition : ℕ
+longest_precondition = 1048576
+
+abbrev pub is_short : Option (List ℕ) → Bool
+is_short None = true
+is_short (Some text) = nat_le (length text) longest_precondition
+
+-- two functions of a file, where all three words are there and the precondition isn't too long
+abbrev pub named : Option (List ℕ) → Option (List ℕ) → Option (List ℕ) → Option (List ℕ) → Option Functions
+named None first second pre = None
+named (Some file) None second pre = None
+named (Some file) (Some first) None pre = None
+named (Some file) (Some first) (Some second) pre =
+    if is_short pre then Some (record { file = file; first = first; second = second; precondition = pre }) else None
+
+abbrev pub functions_of : List Row → Option Functions
+functions_of rows =
+    named (first_of (codes "file") rows) (first_of (codes "first") rows) (first_of (codes "second") rows)
+    (first_of (codes "pre") rows)
+
+-- a number between two, or the usual one where nothing is given
+abbrev pub number_or : ℕ → ℕ → ℕ → Option (List ℕ) → Option ℕ
+number_or least most usual None = Some usual
+number_or least most usual (Some text) = number_of least most text
+
+abbrev pub both_numbers : Option ℕ → Option ℕ → Option Effort
+both_numbers None budget = None
+both_numbers (Some depth) None = None
+both_numbers (Some depth) (Some budget) = Some (record { depth = depth; budget = budget })
+
+-- the depth is 0 to 12 and usually 5, the budget 1 to 1,000,000 and usually 100,000
+abbrev pub effort_of : List Row → Option Effort
+effort_of rows =
+    both_numbers (number_or 0 12 5 (first_of (codes "depth") rows))
+    (number_or 1 1000000 100000 (first_of (codes "budget") rows))
+
+-- ---- modes
+
+-- `prove` takes no log
+abbrev pub prove_of : Option Functions → Option Effort → Option (List ℕ) → Option Command
+prove_of None effort log = None
+prove_of (Some functions) None log = None
+prove_of (Some functions) (Some effort) None = Some (Prove functions effort)
+prove_of (Some functions) (Some effort) (Some log) = None
+
+-- `check` takes a log, and neither depth nor budget
+abbrev pub check_of : Option Functions → Option (List ℕ) → Option (List ℕ) → Option (List ℕ) → Option Command
+check_of None log depth budget = None
+check_of (Some functions) None depth budget = None
+check_of (Some functions) (Some log) (Some depth) budget = None
+check_of (Some functions) (Some log) None (Some budget) = None
+check_of (Some functions) (Some log) None None = Some (Check functions log)
+
+abbrev pub in_mode : Option (List ℕ) → List Row → Option Command
+in_mode None rows = None
+in_mode (Some mode) rows =
+    if bytes_eq mode (codes "prove") then prove_of (functions_of rows) (effort_of rows) (first_of (codes "log") rows)
+    else (if bytes_eq mode (codes "check")
+    then check_of (functions_of rows) (first_of (codes "log") rows) (first_of (codes "depth") rows) (first_of (codes "budget") rows)
+    else None)
+
+abbrev pub command_in : List Row → Option Command
+command_in rows = in_mode (first_of (codes "mode") rows) rows
+
+-- what is asked for where `clap` finds no fault
+abbrev pub if_taken : Kinds → List Row → Option Command
+if_taken [] rows = command_in rows
+if_taken (kind ∷ kinds) rows = None
+
+-- what the words ask for, the program's name first; none where `clap` doesn't take them or one is missing, too many or
+-- out of range
+abbrev pub command_of : List (List ℕ) → Option Command
+command_of words = if_taken (fault_of command_app words) (matches_of command_app words)
+
+-- ---- the values of the code, by their bytes
+
+abbrev pub bytes_of : Option (Bor (List ℕ)) → Option (List ℕ)
+bytes_of = option_map (λ text. text.now)
+
+abbrev pub functions_view : code_functions.Functions → Functions
+functions_view f = record {
+  file = f.file.now;
+  first = f.first.now;
+  second = f.second.now;
+  precondition = bytes_of f.precondition;
+}
+
+abbrev pub command_view : code.Command → Command
+command_view (variant.Prove functions effort) = Prove (functions_view functions) effort
+command_view (variant.Check functions log) = Check (functions_view functions) log.now

@@ -1,0 +1,58 @@
+//! What `clap` is told of the command line.
+ghost use Rattle.std.specs.Prelude.{◌≡◌, IfOk};
+ghost use Rattle.clap.specs.Words.{app_of, new_rule, with_rule};
+ghost use Rattle.rx_command.specs.App as spec;
+
+use clap::{Arg, Command};
+use std::alloc::{AllocError, Global};
+
+/// The command with a word more.
+fn with_word<'a>(
+    alloc: Global,
+    command: Command<'a>,
+    id: &'a str,
+) -> Result<Command<'a>, AllocError>
+    ensures { IfOk result (λ c. app_of c ≡ with_rule (app_of command.entry) (new_rule id.entry.now)) }
+{
+    command.arg(Arg::new(alloc, id))
+}
+
+/// The command with an option more.
+fn with_option<'a>(
+    alloc: Global,
+    command: Command<'a>,
+    id: &'a str,
+) -> Result<Command<'a>, AllocError>
+    ensures { IfOk result (λ c. app_of c ≡ with_rule (app_of command.entry) (spec.option_rule id.entry.now)) }
+{
+    command.arg(Arg::new(alloc, id).long(id))
+}
+
+/// The command with its words in order.
+fn with_words<'a>(alloc: Global, command: Command<'a>) -> Result<Command<'a>, AllocError>
+    ensures { IfOk result (λ c. app_of c ≡ spec.with_words (app_of command.entry)) }
+{
+    let command = with_word(alloc, command, "mode")?;
+    let command = with_word(alloc, command, "file")?;
+    let command = with_word(alloc, command, "first")?;
+    let command = with_word(alloc, command, "second")?;
+    with_word(alloc, command, "log")
+}
+
+/// The command with its options.
+fn with_options<'a>(alloc: Global, command: Command<'a>) -> Result<Command<'a>, AllocError>
+    ensures { IfOk result (λ c. app_of c ≡ spec.with_options (app_of command.entry)) }
+{
+    let command = with_option(alloc, command, "pre")?;
+    let command = with_option(alloc, command, "depth")?;
+    with_option(alloc, command, "budget")
+}
+
+/// The command line of the program, as `clap` takes it: five words and three options, and no flag
+/// for help.
+pub fn command_app<'a>(alloc: Global) -> Result<Command<'a>, AllocError>
+    ensures { IfOk result (λ c. app_of c ≡ spec.command_app) }
+{
+    let command = Command::new(alloc, "ctrl").disable_help_flag(true);
+    with_options(alloc, with_words(alloc, command)?)
+}

@@ -1,0 +1,187 @@
+//! What the words of a command line ask for.
+ghost use Rattle.std.specs.Prelude.{◌≡◌, codes, map, option_map, string_bytes, IfOk};
+ghost use Rattle.clap.specs.Words.{first_of, found_of, rows_of};
+ghost use Rattle.rx_command.specs.Commands as spec;
+ghost use Rattle.rx_command.specs.Commands.{bytes_of, command_view, functions_view};
+
+use crate::app::command_app;
+use crate::numbers::number_of;
+use clap::ArgMatches;
+use clap::error::ErrorKind;
+use rx_plain::NoMemory;
+use std::alloc::Global;
+
+/// Two functions of a file, and a precondition on their arguments.
+#[derive(Clone, Copy)]
+pub struct Functions<'a> {
+    /// The file's name.
+    pub file: &'a str,
+    /// The name of the first function.
+    pub first: &'a str,
+    /// The name of the second.
+    pub second: &'a str,
+    /// The text of the precondition, at most 1,048,576 bytes.
+    pub precondition: Option<&'a str>,
+}
+
+/// How far a search goes.
+#[derive(Clone, Copy)]
+pub struct Effort {
+    /// How many choices a plan may have, 0 to 12.
+    pub depth: u32,
+    /// How many visits are made, 1 to 1,000,000.
+    pub budget: u32,
+}
+
+/// What a command line asks for.
+#[derive(Clone, Copy)]
+pub enum Command<'a> {
+    /// To search for a proof that both functions compute the same.
+    Prove(Functions<'a>, Effort),
+    /// To replay the proof in the log with this name.
+    Check(Functions<'a>, &'a str),
+}
+
+/// The value of a word or an option.
+#[tactic(auto, using(crate::proofs::Rows::first_value_is))]
+fn given<'a>(matches: &ArgMatches<'a>, id: &str) -> Option<&'a str>
+    ensures { bytes_of result ≡ first_of id.now (rows_of (found_of matches.now)) }
+{
+    matches.get_str(id)
+}
+
+/// The longest precondition, in bytes.
+const LONGEST_PRECONDITION: usize = 1_048_576;
+
+/// Two functions of a file, where all is given.
+fn named<'a>(
+    file: Option<&'a str>,
+    first: Option<&'a str>,
+    second: Option<&'a str>,
+    precondition: Option<&'a str>,
+) -> Option<Functions<'a>>
+    ensures { option_map functions_view result ≡
+        spec.named (bytes_of file.entry) (bytes_of first.entry) (bytes_of second.entry)
+        (bytes_of precondition.entry) }
+{
+    let file = file?;
+    let first = first?;
+    let second = second?;
+    if let Some(text) = precondition {
+        if text.len() > LONGEST_PRECONDITION {
+            return None;
+        }
+    }
+    Some(Functions {
+        file,
+        first,
+        second,
+        precondition,
+    })
+}
+
+/// The functions that are compared.
+fn functions_of<'a>(matches: &ArgMatches<'a>) -> Option<Functions<'a>>
+    ensures { option_map functions_view result ≡ spec.functions_of (rows_of (found_of matches.now)) }
+{
+    let file = given(matches, "file");
+    let first = given(matches, "first");
+    let second = given(matches, "second");
+    named(file, first, second, given(matches, "pre"))
+}
+
+/// A number between two, or the usual one where nothing is given.
+fn number_or(least: u32, most: u32, usual: u32, text: Option<&str>) -> Option<u32>
+    ensures { result ≡ spec.number_or least most usual (bytes_of text.entry) }
+{
+    match text {
+        None => Some(usual),
+        Some(text) => number_of(least, most, text),
+    }
+}
+
+/// How far the search is to go.
+fn effort_of(matches: &ArgMatches<'_>) -> Option<Effort>
+    ensures { result ≡ spec.effort_of (rows_of (found_of matches.now)) }
+{
+    let depth = number_or(0, 12, 5, given(matches, "depth"))?;
+    let budget = number_or(1, 1_000_000, 100_000, given(matches, "budget"))?;
+    Some(Effort { depth, budget })
+}
+
+/// A proof is searched for, where no log is given.
+fn prove_of<'a>(
+    functions: Option<Functions<'a>>,
+    effort: Option<Effort>,
+    log: Option<&'a str>,
+) -> Option<Command<'a>>
+    ensures { option_map command_view result ≡
+        spec.prove_of (option_map functions_view functions.entry) effort (bytes_of log.entry) }
+{
+    let functions = functions?;
+    let effort = effort?;
+    match log {
+        Some(_) => None,
+        None => Some(Command::Prove(functions, effort)),
+    }
+}
+
+/// A log is replayed, where it is given, and neither depth nor budget.
+fn check_of<'a>(
+    functions: Option<Functions<'a>>,
+    log: Option<&'a str>,
+    depth: Option<&'a str>,
+    budget: Option<&'a str>,
+) -> Option<Command<'a>>
+    ensures { option_map command_view result ≡
+        spec.check_of (option_map functions_view functions.entry) (bytes_of log.entry)
+        (bytes_of depth.entry) (bytes_of budget.entry) }
+{
+    let functions = functions?;
+    let log = log?;
+    match (depth, budget) {
+        (None, None) => Some(Command::Check(functions, log)),
+        _ => None,
+    }
+}
+
+/// What is asked for in a mode.
+fn in_mode<'a>(mode: &str, matches: &ArgMatches<'a>) -> Option<Command<'a>>
+    ensures { option_map command_view result ≡ spec.in_mode (Some mode.now) (rows_of (found_of matches.now)) }
+{
+    if mode == "prove" {
+        let log = given(matches, "log");
+        prove_of(functions_of(matches), effort_of(matches), log)
+    } else if mode == "check" {
+        let depth = given(matches, "depth");
+        let budget = given(matches, "budget");
+        check_of(functions_of(matches), given(matches, "log"), depth, budget)
+    } else {
+        None
+    }
+}
+
+/// What the matches ask for.
+fn command_in<'a>(matches: &ArgMatches<'a>) -> Option<Command<'a>>
+    ensures { option_map command_view result ≡ spec.command_in (rows_of (found_of matches.now)) }
+{
+    match given(matches, "mode") {
+        None => None,
+        Some(mode) => in_mode(mode, matches),
+    }
+}
+
+/// What the words of a command line ask for, the program's name first; nothing where `clap` doesn't
+/// take the words, or one is missing, too many or out of range. It fails only where memory runs out.
+pub fn command_of<'a>(alloc: Global, words: &'a [String]) -> Result<Option<Command<'a>>, NoMemory>
+    ensures command { IfOk result (λ c. option_map command_view c ≡ spec.command_of (map string_bytes words.now)) }
+{
+    let app = command_app(alloc)?;
+    match app.try_get_matches_from(words) {
+        Ok(matches) => Ok(command_in(&matches)),
+        Err(error) => match error.kind() {
+            ErrorKind::OutOfMemory => Err(NoMemory),
+            _ => Ok(None),
+        },
+    }
+}

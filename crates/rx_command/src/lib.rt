@@ -1,0 +1,12 @@
+//! The command line: what the words ask for.
+#![tactic(auto)]
+
+mod app;
+mod command;
+mod laws;
+mod numbers;
+
+pub use app::command_app;
+pub use command::{Command, Effort, Functions, command_of};
+pub use laws::command_lines_ask;
+pub use rx_plain::NoMemory;
