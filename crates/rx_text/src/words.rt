@@ -1,0 +1,36 @@
+//! Fixed words in a text.
+ghost use Rattle.std.specs.Prelude.{◌≡◌, ◌++◌, ◌<◌, ◌≤◌, ℕ, drop, length, OnOk};
+ghost use Rattle.rx_text.specs.Formats.{Skips};
+
+use rx_plain::NoMemory;
+
+/// The bytes from the place on.
+pub(crate) fn rest_from(bytes: &[u8], at: usize) -> &[u8]
+    requires { at ≤ length bytes.now }
+    ensures { result.now ≡ drop at bytes.now }
+{
+    &bytes[at..]
+}
+
+/// The place after the word, where the word stands at that place; None where it doesn't.
+pub fn skip_word(bytes: &[u8], at: usize, word: &[u8]) -> Option<usize>
+    requires { 0 < length word.now }
+    ensures { Skips word.now bytes.now at result }
+{
+    if at > bytes.len() {
+        return None;
+    }
+    if rest_from(bytes, at).starts_with(word) {
+        Some(at + word.len())
+    } else {
+        None
+    }
+}
+
+/// Adds the word after the bytes; fails only where there is no memory.
+pub fn push_word(out: &mut Vec<u8>, word: &[u8]) -> Result<(), NoMemory>
+    ensures { OnOk result (out.new.items ≡ out.old.items ++ word.now) }
+{
+    out.extend_from_slice(word)?;
+    Ok(())
+}
