@@ -1,0 +1,5 @@
+use Rattle.rx_words.proofs.Once.{numbers_once}
+use Rattle.rx_words.proofs.pairs.Tuple2U32VariableText.read.Goals as goal
+
+pub read_pair-requires : goal.read_pair-requires
+read_pair-requires c = record { once = numbers_once }
