@@ -1,6 +1,13 @@
 -- Lemmas on the definitions of specs/.
 pub mod Asking
 pub mod ColumnLaws
+pub mod CommonLaws
+pub mod Deciding
+pub mod DescendingLaws
 pub mod Descent
+pub mod GraphLaws
 pub mod Lowered
+pub mod Marking
+pub mod PairsLaws
+pub mod PartsLaws
 pub mod RankLaws

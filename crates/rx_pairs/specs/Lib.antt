@@ -1,5 +1,10 @@
 -- The pairs of rules, the ranks of symbols, and when a pair is lower by a column of its table.
 pub mod Columns
+pub mod Common
+pub mod Descents
+pub mod Graph
+pub mod Lent
 pub mod Lowering
+pub mod Marks
 pub mod Pairs
 pub mod Ranks

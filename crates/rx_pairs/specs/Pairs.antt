@@ -1,9 +1,9 @@
 -- The pairs of a rule or a hypothesis (Arts and Giesl 2000, for stacks): the root of its left side against each frame
 -- and the call of its right side, from outer to inner, down to the first part that is also a proper part of the left side.
-use Rattle.std.specs.Prelude.{◌≡◌, true, ℕ, suc, Some, List, [], ◌∷◌, ◌++◌, map}
+use Rattle.std.specs.Prelude.{◌≡◌, true, false, ℕ, suc, Some, List, [], ◌∷◌, ◌++◌, map}
 use Rattle.rx_poly.specs.declared.body.Body.{Body}
 use Rattle.rx_term.specs.Fitting.{term_fits}
-use Rattle.rx_term.specs.Stacks.{behind}
+use Rattle.rx_term.specs.Stacks.{behind, is_result}
 use Rattle.rx_term.specs.declared.rule.Rule.{Rule}
 use Rattle.rx_term.specs.declared.rule_set.RuleParts.{RuleParts}
 use Rattle.rx_term.specs.declared.term.Sym.{Sym}
@@ -56,6 +56,10 @@ pub data AreAllPairs : List Rule → List Pair → Type 0 where
   NoRules : AreAllPairs [] []
   OneMore : (rule : Rule) (rules : List Rule) (pairs others : List Pair) → ArePairs rule pairs → AreAllPairs rules others
       → AreAllPairs (rule ∷ rules) (pairs ++ others)
+
+-- the left side of a rule is no bare result
+abbrev pub HasRoot : Rule → Type 0
+HasRoot rule = is_result rule.left ≡ false
 
 -- both sides of a rule fit the symbols
 abbrev pub SidesFit : RuleParts → Rule → Type 0

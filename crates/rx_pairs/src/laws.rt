@@ -1,7 +1,8 @@
 //! What lower pairs mean: laws, each a function with an empty body.
-ghost use Rattle.std.specs.Prelude.{◌≡◌, ◌++◌, ℕ, ℤ, None, true, All, List};
+ghost use Rattle.std.specs.Prelude.{◌≡◌, ◌↔◌, ◌++◌, ℕ, ℤ, None, true, All, List};
+ghost use Rattle.rx_pairs.specs.Graph.{IsOver, Path, below, reaches};
 ghost use Rattle.rx_pairs.specs.Lowering.{Descends, descent_from};
-ghost use Rattle.rx_pairs.specs.Pairs.{AreAllPairs, SidesFit};
+ghost use Rattle.rx_pairs.specs.Pairs.{AreAllPairs, ArePairs, HasRoot, SidesFit};
 ghost use Rattle.rx_pairs.specs.Ranks.{bad_rank, rank_of};
 ghost use Rattle.rx_pairs.specs.declared.pair.Pair.{Pair};
 ghost use Rattle.rx_pairs.specs.declared.pair_cert.PairCert.{PairCert};
@@ -15,6 +16,29 @@ ghost use Rattle.rx_term.specs.Meaning.{Instance, signature};
 ghost use Rattle.rx_term.specs.WellMade.{IsWellMade};
 ghost use Rattle.rx_term.specs.declared.rule.Rule.{Rule};
 ghost use Rattle.rx_term.specs.declared.rule_set.RuleParts.{RuleParts};
+
+/// A rule whose left side is no bare result has pairs, and no others; so has a list of such rules.
+pub fn rules_have_one_list_of_pairs()
+    ensures some { (rule : Rule) → HasRoot rule → (pairs : List Pair) × ArePairs rule pairs }
+    ensures one { (rule : Rule) (pairs others : List Pair) →
+        ArePairs rule pairs → ArePairs rule others → pairs ≡ others }
+    ensures all_have { (rules : List Rule) → All HasRoot rules →
+        (pairs : List Pair) × AreAllPairs rules pairs }
+    ensures all_one { (rules : List Rule) (pairs others : List Pair) →
+        AreAllPairs rules pairs → AreAllPairs rules others → pairs ≡ others }
+{}
+
+/// The left sides of rules that are well made are no bare results.
+pub fn well_made_rules_have_roots()
+    ensures { (parts : RuleParts) → IsWellMade parts → All HasRoot parts.rules }
+{}
+
+/// Over all numbers below a bound, the recursion over the vertices that a path may go through finds
+/// exactly the paths.
+pub fn reaching_is_having_a_path()
+    ensures { (n : ℕ) (edges : List (ℕ × ℕ)) → IsOver n edges → (a b : ℕ) →
+        (reaches edges (below n) a b ≡ true) ↔ Path edges a b }
+{}
 
 /// Where the table is lawful for the symbols, and all pairs of rules that fit are lower, each
 /// instance of a rule has a smaller weight on its right than on its left. So for a well made set and

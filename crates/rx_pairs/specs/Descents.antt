@@ -1,0 +1,32 @@
+-- What the answers to calls tell of the descent.
+use Rattle.std.specs.Prelude.{◌≡◌, ℕ, drop, List, Result, Ok, Err}
+use Rattle.rx_pairs.specs.Lowering.{Descends, Descent, NotLower, PassesLimits, descent_from}
+use Rattle.rx_pairs.specs.declared.descending.Witness.{Witness}
+use Rattle.rx_pairs.specs.declared.pair.Pair.{Pair}
+use Rattle.rx_pairs.specs.declared.pair_cert.PairCert.{PairCert}
+use Rattle.rx_pairs.specs.declared.pair_end.PairEnd.{PairEnd}
+use Rattle.rx_pairs.specs.declared.pair_end.PairEnd.TheVariants as ends
+use Rattle.rx_pairs.specs.declared.table.RankTable.{RankTable}
+
+-- each refusal names what is so; out of memory says nothing
+abbrev pub Refuses : Descent → PairEnd → Type 0
+Refuses d (ends.NotLower i) = d ≡ NotLower i
+Refuses d (ends.Large i) = d ≡ PassesLimits i
+Refuses d ends.NoMemory = Unit {0}
+
+-- all pairs are lower, or a refusal
+abbrev pub Tells : Descent → Result (Unit {0}) PairEnd → Type 0
+Tells d (Ok _) = d ≡ Descends
+Tells d (Err e) = Refuses d e
+
+-- the first pairs are lower, so that the others decide, or a refusal
+abbrev pub Leaves : {A : Type 0} → (A → Descent) → Descent → Result A PairEnd → Type 0
+Leaves rest d (Ok n) = d ≡ rest n
+Leaves rest d (Err e) = Refuses d e
+
+-- the descent from so many pairs on
+abbrev pub from_pair : RankTable → List PairCert → List Pair → ℕ → Descent
+from_pair table certs pairs n = descent_from table n pairs (drop n certs)
+
+abbrev pub lent_from : Witness → List Pair → ℕ → Descent
+lent_from w = from_pair w.table.now w.certs.now

@@ -1,0 +1,30 @@
+//! Why pairs are not all lower.
+use rx_plain::NoMemory;
+use thiserror::Error;
+
+/// Why pairs are not all lower, or why that isn't known. Pairs count from 0 over the rules, and
+/// then over the hypotheses.
+#[derive(Clone, Copy, Debug, PartialEq, Eq, Error)]
+pub enum PairEnd {
+    /// The pair with this number isn't lower by its certificate, or has none; at the number of
+    /// pairs: there are more certificates.
+    #[error("pair {0} is not lower")]
+    NotLower(usize),
+    /// A polynomial passes the limits at the pair with this number, before anything fails there.
+    #[error("a polynomial is too large at pair {0}")]
+    Large(usize),
+    /// There was no memory.
+    #[error("out of memory")]
+    NoMemory,
+}
+
+impl From<NoMemory> for PairEnd {
+    ghost use Rattle.std.specs.Prelude.{◌≡◌};
+    ghost use Rattle.rx_pairs.specs.declared.pair_end.PairEnd.TheVariants as end;
+
+    ghost from_gives = { λ _ e. e ≡ end.NoMemory };
+
+    fn from(_end: NoMemory) -> PairEnd {
+        PairEnd::NoMemory
+    }
+}

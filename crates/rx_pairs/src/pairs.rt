@@ -1,0 +1,116 @@
+//! The pairs of rules.
+ghost use Rattle.std.specs.Prelude.{◌≡◌, ◌↔◌, ◌++◌, All, List, map, IfOk, IsTrue, OnOk};
+ghost use Rattle.rx_pairs.specs.Lent.{all_lent, lent};
+ghost use Rattle.rx_term.specs.declared.rule.Rule.{Rule};
+ghost use Rattle.rx_pairs.specs.Pairs.{AreAllPairs, ArePairs, HasRoot, pair_of};
+
+use crate::pair::Pair;
+use crate::parts::{Application, parts_of, root_part};
+use rx_plain::{Items, NoMemory};
+use rx_poly::Poly;
+use rx_term::Rule;
+use std::alloc::Global;
+
+/// The same polynomials once more; fails only for want of memory.
+fn copied(alloc: Global, arguments: &[Poly]) -> Result<Items<Poly>, NoMemory>
+    ensures { IfOk result (λ made. made ≡ arguments.now) }
+{
+    let mut made = Items::new(alloc);
+    for argument in arguments {
+        made.push(argument.try_clone(alloc)?)?;
+    }
+    Ok(made)
+}
+
+/// The pair of the two under the rule's rows.
+pub(crate) fn pair(
+    alloc: Global,
+    rule: &Rule,
+    root: Application,
+    part: Application,
+) -> Result<Pair, NoMemory>
+    ensures { IfOk result (λ made. made ≡ pair_of rule.now (lent root.entry) (lent part.entry)) }
+{
+    Ok(Pair {
+        phi: rule.rows.try_clone(alloc)?,
+        left: root.symbol,
+        left_args: copied(alloc, root.arguments)?,
+        right: part.symbol,
+        right_args: copied(alloc, part.arguments)?,
+    })
+}
+
+/// The pairs of the root and the parts, under the rule's rows.
+fn pairs_with(
+    alloc: Global,
+    rule: &Rule,
+    root: Application,
+    parts: &[Application],
+) -> Result<Vec<Pair>, NoMemory>
+    ensures { IfOk result (λ pairs.
+        pairs.items ≡ map (pair_of rule.now (lent root.entry)) (all_lent parts.now)) }
+{
+    let mut pairs = Vec::new(alloc);
+    for part in parts {
+        pairs.push(pair(alloc, rule, root, *part)?)?;
+    }
+    Ok(pairs)
+}
+
+/// The pairs of a rule or a hypothesis: the root of its left side against each frame and the call
+/// of its right side, from outer to inner. What the right side has in common with a proper part
+/// of the left side, at their inner ends, makes none. Fails only where there is no memory.
+///
+/// The left side must not be a bare result.
+pub fn pairs_of(alloc: Global, rule: &Rule) -> Result<Vec<Pair>, NoMemory>
+    requires { HasRoot rule.now }
+    ensures { IfOk result (λ pairs. ArePairs rule.now pairs.items) }
+{
+    let Some(root) = root_part(&rule.left) else {
+        return Ok(Vec::new(alloc));
+    };
+    let parts = parts_of(alloc, &rule.left, &rule.right)?;
+    pairs_with(alloc, rule, root, parts.as_slice())
+}
+
+/// Whether no left side is a bare result, as is asked of rules whose pairs are made. Takes no
+/// memory.
+pub fn have_roots(rules: &[Rule]) -> bool
+    ensures { IsTrue result ↔ All HasRoot rules.now }
+{
+    for rule in rules {
+        if rule.left.is_result() {
+            return false;
+        }
+    }
+    true
+}
+
+/// Puts the pairs of the rules behind the others.
+fn push_pairs(pairs: &mut Vec<Pair>, alloc: Global, rules: &[Rule]) -> Result<(), NoMemory>
+    requires { All HasRoot rules.now }
+    ensures { OnOk result ((before : List Rule) →
+        AreAllPairs before pairs.old.items →
+        AreAllPairs (before ++ rules.now) pairs.new.items) }
+{
+    for rule in rules {
+        let mut more = pairs_of(alloc, rule)?;
+        pairs.append(&mut more)?;
+    }
+    Ok(())
+}
+
+/// The pairs of the rules, and then those of the hypotheses, in order. Fails only where there is no
+/// memory.
+///
+/// No left side may be a bare result.
+pub fn all_pairs(alloc: Global, rules: &[Rule], hypotheses: &[Rule]) -> Result<Vec<Pair>, NoMemory>
+    requires rules { All HasRoot rules.now }
+    requires hypotheses { All HasRoot hypotheses.now }
+    ensures { IfOk result (λ pairs. AreAllPairs (rules.now ++ hypotheses.now) pairs.items) }
+{
+    let mut pairs = Vec::new(alloc);
+    push_pairs(&mut pairs, alloc, rules)?;
+    push_pairs(&mut pairs, alloc, hypotheses)?;
+    Ok(pairs)
+}
