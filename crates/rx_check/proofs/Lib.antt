@@ -1,0 +1,7 @@
+-- The checks of a log in turn, and what an accepted log is.
+pub mod Kept
+pub mod Proofs
+pub mod Logs
+pub mod Turns
+pub mod Pairs
+pub mod Sound

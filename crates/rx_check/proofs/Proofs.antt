@@ -1,0 +1,114 @@
+-- An accepted log is a proof: what its checks show, one by one.
+use Rattle.std.proofs.Common.{◌≡◌, ℕ, Option, Some, None, Ok, Err, List, [], ◌∷◌, ◌++◌, refl, subst, ℤ, All}
+use Rattle.std.proofs.lemmas.List.Elements.{All-nil}
+use Rattle.rx_row.specs.Holds.{AllHold}
+use Rattle.rx_rewriting.specs.Premises.{EndAlike}
+use Rattle.rx_term.specs.Meaning.{Instance, ground_at}
+use Rattle.rx_term.specs.WellMade.{IsWellMade}
+use Rattle.rx_term.specs.declared.rule.Equation.{Equation}
+use Rattle.rx_term.specs.declared.rule.Rule.{Rule}
+use Rattle.rx_term.specs.declared.rule_set.RuleParts.{RuleParts}
+use Rattle.rx_cover.specs.Covering.{Covering, Covers, Fails, PassesLimits, covering}
+use Rattle.rx_pairs.specs.Lowering.{Descends, Descent, NotLower, descent_from}
+use Rattle.rx_pairs.specs.Lowering as lowering
+use Rattle.rx_pairs.specs.Pairs.{HasRoot}
+use Rattle.rx_pairs.specs.Ranks.{bad_rank}
+use Rattle.rx_joins.specs.Goals.{Inside, IsFitting}
+use Rattle.rx_joins.specs.Runs.{IsProof, Run, finished, start}
+use Rattle.rx_joins.proofs.Runs.{proof_ends_alike}
+use Rattle.rx_log.specs.Acceptance.{Accepted, Checked, IsAccepted, LogFault, OnPairs, ◌>>=◌, after_steps, kept, kept_by, of_descent, once_covered, once_finished, once_ranked}
+use Rattle.rx_log.specs.Acceptance as acceptance
+use Rattle.rx_log.specs.declared.log.Log.{Log}
+use Rattle.rx_check.proofs.Kept.{run_rooted, steps_run}
+
+-- ---- back from the checks
+
+covered_back : {A : Type 0} (found : Covering) (next : Checked A) (x : A) → once_covered found next ≡ Ok x
+    → (found ≡ Covers) × (next ≡ Ok x)
+covered_back Covers next x e = (refl, e)
+covered_back (Fails f) next x e = absurd cc
+covered_back (PassesLimits f) next x e = absurd cc
+
+finished_back : {A : Type 0} (goals : List Equation) (next : Checked A) (x : A) → once_finished goals next ≡ Ok x
+    → (goals ≡ []) × (next ≡ Ok x)
+finished_back [] next x e = (refl, e)
+finished_back (goal ∷ goals) next x e = absurd cc
+
+ranked_back : {A : Type 0} (bad : Option ℕ) (next : Checked A) (x : A) → once_ranked bad next ≡ Ok x
+    → (bad ≡ None) × (next ≡ Ok x)
+ranked_back None next x e = (refl, e)
+ranked_back (Some f) next x e = absurd cc
+
+first_back : {A B : Type 0} (check : Checked A) (next : A → Checked B) (y : B) → (check >>= next) ≡ Ok y
+    → (x : A) × (check ≡ Ok x) × (next x ≡ Ok y)
+first_back (Ok x) next y e = (x, refl, e)
+first_back (Err fault) next y e = absurd cc
+
+-- what the checks before that of the pairs show
+pub record Checks (parts : RuleParts) (goal : Equation) (log : Log) (hypotheses : List Rule) : Type 0 where
+  pub covers : covering parts log.covers ≡ Covers
+  pub run : Run parts (finished hypotheses) (start goal)
+  pub lawful : bad_rank parts log.table ≡ None
+
+pub kept_checks : (parts : RuleParts) (goal : Equation) (log : Log) (hypotheses : List Rule)
+    → kept parts goal log ≡ Ok hypotheses → Checks parts goal log hypotheses
+kept_checks parts goal log hypotheses e =
+    let one = covered_back (covering parts log.covers) _ hypotheses e in
+    let (end, steps, ends) = first_back (after_steps parts 0 (start goal) log.steps) _ hypotheses one.1 in
+    let two = finished_back end.goals _ hypotheses ends in
+    let three = ranked_back (bad_rank parts log.table) _ hypotheses two.1 in
+    let same : end.hypotheses ≡ hypotheses = cc in
+    let is : end ≡ finished hypotheses = (λ i. record { goals = two.0 i; hypotheses = same i }) in
+    record {
+      covers = one.0;
+      run = subst (λ final. Run parts final (start goal)) is (steps_run parts end 0 (start goal) log.steps steps);
+      lawful = three.0;
+    }
+
+-- the hypotheses that are kept have roots
+pub kept_have_roots : (parts : RuleParts) (goal : Equation) (log : Log) (hypotheses : List Rule)
+    → kept parts goal log ≡ Ok hypotheses → All HasRoot hypotheses
+kept_have_roots parts goal log hypotheses e =
+    run_rooted parts (finished hypotheses) (start goal) (kept_checks parts goal log hypotheses e).run (All-nil HasRoot)
+
+-- ---- accepted logs
+
+descends_back : (found : Descent) → of_descent found ≡ Accepted → found ≡ Descends
+descends_back Descends e = refl
+descends_back (NotLower i) e = absurd cc
+descends_back (lowering.PassesLimits i) e = absurd cc
+
+module _ (parts : RuleParts) (goal : Equation) (log : Log) (made : IsWellMade parts) (fits : IsFitting parts goal) where
+  -- the proof, with what the checks came to
+  proof_of : (hypotheses : List Rule) → kept parts goal log ≡ Ok hypotheses
+      → OnPairs (parts.rules ++ hypotheses) log.table log.pairs Accepted → IsProof parts goal hypotheses log.table
+  proof_of hypotheses e verdict =
+      let checks = kept_checks parts goal log hypotheses e in
+      record {
+        made = made;
+        fits = fits;
+        trees = log.covers;
+        covers = checks.covers;
+        run = checks.run;
+        lawful = checks.lawful;
+        pairs = verdict.pairs;
+        all_pairs = verdict.all_pairs;
+        certs = log.pairs;
+        descends = descends_back (descent_from log.table 0 verdict.pairs log.pairs) verdict.is;
+      }
+
+  by_kept : (check : Checked (List Rule)) → kept parts goal log ≡ check
+      → acceptance.Concludes parts log check Accepted
+      → (hypotheses : List Rule) × (kept parts goal log ≡ Ok hypotheses) × IsProof parts goal hypotheses log.table
+  by_kept (Ok hypotheses) e verdict = (hypotheses, e, proof_of hypotheses e verdict)
+  by_kept (Err fault) e verdict = absurd cc
+
+  pub accepted_proof : IsAccepted parts goal log
+      → (hypotheses : List Rule) × (kept parts goal log ≡ Ok hypotheses) × IsProof parts goal hypotheses log.table
+  accepted_proof accepted = by_kept (kept parts goal log) refl accepted
+
+  pub accepted_ends_alike : IsAccepted parts goal log → (a : ℕ → ℤ) → AllHold a goal.rows
+      → EndAlike (Inside parts) (Instance parts.rules) (ground_at a goal.left) (ground_at a goal.right)
+  accepted_ends_alike accepted a holds =
+      let (hypotheses, _, proof) = accepted_proof accepted in
+      proof_ends_alike parts goal hypotheses log.table proof a holds

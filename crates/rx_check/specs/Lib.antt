@@ -1,0 +1,2 @@
+-- What the ends of a replay tell.
+pub mod Answers

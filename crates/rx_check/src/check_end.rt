@@ -1,0 +1,113 @@
+//! Why a log isn't accepted.
+
+use rx_cover::CoverEnd;
+use rx_pairs::PairEnd;
+use rx_plain::NoMemory;
+use rx_steps::StepEnd;
+use thiserror::Error;
+
+/// A place of a log at which a polynomial passes the limits.
+#[derive(Clone, Copy, Debug, PartialEq, Eq)]
+pub enum Place {
+    /// The trees of the symbol with this number.
+    Cover(usize),
+    /// The step with this number, counted from 0.
+    Step(usize),
+    /// The pair with this number, counted from 0 over the pairs of the rules and then of the
+    /// hypotheses.
+    Pair(usize),
+}
+
+/// Why a log isn't accepted, or why that isn't known.
+#[derive(Clone, Copy, Debug, PartialEq, Eq, Error)]
+pub enum CheckEnd {
+    /// A step doesn't apply.
+    #[error("step {step}: {end}")]
+    Step {
+        /// Its number, counted from 0.
+        step: usize,
+        /// Why not.
+        end: StepEnd,
+    },
+    /// Goals are left behind the last step.
+    #[error("{goals} goals are left")]
+    Unfinished {
+        /// How many.
+        goals: u32,
+    },
+    /// The trees of a symbol fail or are missing; at the number of symbols: there are more lists of
+    /// trees.
+    #[error("symbol {sym} is not covered")]
+    NotCovered {
+        /// The symbol's number.
+        sym: usize,
+    },
+    /// A symbol has no rank of the table's width over its own arguments; at the number of symbols:
+    /// there are more ranks.
+    #[error("the rank of symbol {sym} is not lawful")]
+    BadRanks {
+        /// The symbol's number.
+        sym: usize,
+    },
+    /// A pair isn't shown to be lower; at the number of pairs: there are more certificates.
+    #[error("pair {pair} is not lower")]
+    NotLower {
+        /// The pair's number, counted from 0 over the pairs of the rules and then of the
+        /// hypotheses.
+        pair: usize,
+    },
+    /// A polynomial passes the limits at a place, before anything fails there.
+    #[error("a polynomial is too large")]
+    Large {
+        /// The place.
+        place: Place,
+    },
+    /// There was no memory.
+    #[error("out of memory")]
+    NoMemory,
+}
+
+impl From<NoMemory> for CheckEnd {
+    ghost use Rattle.std.specs.Prelude.{◌≡◌};
+    ghost use Rattle.rx_check.specs.declared.check_end.CheckEnd.TheVariants as end;
+
+    ghost from_gives = { λ _ e. e ≡ end.NoMemory };
+
+    fn from(_e: NoMemory) -> CheckEnd {
+        CheckEnd::NoMemory
+    }
+}
+
+impl From<CoverEnd> for CheckEnd {
+    ghost use Rattle.std.specs.Prelude.{◌≡◌};
+    ghost use Rattle.rx_check.specs.Answers.{of_cover_end};
+
+    ghost from_gives = { λ c e. e ≡ of_cover_end c };
+
+    fn from(e: CoverEnd) -> CheckEnd {
+        match e {
+            CoverEnd::NotCovered(sym) => CheckEnd::NotCovered { sym },
+            CoverEnd::Large(sym) => CheckEnd::Large {
+                place: Place::Cover(sym),
+            },
+            CoverEnd::NoMemory => CheckEnd::NoMemory,
+        }
+    }
+}
+
+impl From<PairEnd> for CheckEnd {
+    ghost use Rattle.std.specs.Prelude.{◌≡◌};
+    ghost use Rattle.rx_check.specs.Answers.{of_pair_end};
+
+    ghost from_gives = { λ p e. e ≡ of_pair_end p };
+
+    fn from(e: PairEnd) -> CheckEnd {
+        match e {
+            PairEnd::NotLower(pair) => CheckEnd::NotLower { pair },
+            PairEnd::Large(pair) => CheckEnd::Large {
+                place: Place::Pair(pair),
+            },
+            PairEnd::NoMemory => CheckEnd::NoMemory,
+        }
+    }
+}

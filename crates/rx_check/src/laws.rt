@@ -1,0 +1,58 @@
+//! What accepted logs are: laws, each a function with an empty body.
+ghost use Rattle.std.specs.Prelude.{◌≡◌, ◌∷◌, [], ℕ, ℤ, All, List, Ok};
+ghost use Rattle.rx_joins.specs.Example.{alike, example, hypothesis};
+ghost use Rattle.rx_joins.specs.Goals.{Inside, IsFitting};
+ghost use Rattle.rx_joins.specs.Runs.{IsProof};
+ghost use Rattle.rx_log.specs.Acceptance.{HasVerdict, IsAccepted, Verdict, kept};
+ghost use Rattle.rx_log.specs.declared.log.Log.{Log};
+ghost use Rattle.rx_pairs.specs.Pairs.{HasRoot};
+ghost use Rattle.rx_pairs.specs.declared.table.RankTable.{RankTable};
+ghost use Rattle.rx_rewriting.specs.Premises.{EndAlike};
+ghost use Rattle.rx_row.specs.Holds.{AllHold};
+ghost use Rattle.rx_term.specs.Meaning.{Instance, ground_at};
+ghost use Rattle.rx_term.specs.WellMade.{IsWellMade};
+ghost use Rattle.rx_term.specs.declared.rule.Equation.{Equation};
+ghost use Rattle.rx_term.specs.declared.rule.Rule.{Rule};
+ghost use Rattle.rx_term.specs.declared.rule_set.RuleParts.{RuleParts};
+
+/// Over a well made rule set each log has a verdict, and no other.
+pub fn each_log_has_one_verdict()
+    ensures { (parts : RuleParts) (goal : Equation) (log : Log) → IsWellMade parts →
+        (verdict : Verdict) × HasVerdict parts goal log verdict
+        × ((other : Verdict) → HasVerdict parts goal log other → other ≡ verdict) }
+{}
+
+/// For a well made rule set and a goal whose sides fit it, an accepted log is a proof, with the
+/// hypotheses that its steps keep (`proof`). So at each assignment that meets the goal's rows both
+/// sides reach results, and these are convertible by the rules alone (`alike`).
+pub fn accepted_logs_are_proofs()
+    ensures proof { (parts : RuleParts) (goal : Equation) (log : Log) → IsWellMade parts →
+        IsFitting parts goal → IsAccepted parts goal log →
+        (hypotheses : List Rule) × (kept parts goal log ≡ Ok hypotheses)
+        × IsProof parts goal hypotheses log.table }
+    ensures alike { (parts : RuleParts) (goal : Equation) (log : Log) → IsWellMade parts →
+        IsFitting parts goal → IsAccepted parts goal log → (a : ℕ → ℤ) → AllHold a goal.rows →
+        EndAlike (Inside parts) (Instance parts.rules)
+        (ground_at a goal.left) (ground_at a goal.right) }
+{}
+
+/// Each proof is that of an accepted log, with its table, whose steps keep its hypotheses.
+pub fn proofs_have_logs()
+    ensures { (parts : RuleParts) (goal : Equation) (hypotheses : List Rule) (table : RankTable) →
+        IsProof parts goal hypotheses table →
+        (log : Log) × (kept parts goal log ≡ Ok hypotheses) × (log.table ≡ table)
+        × IsAccepted parts goal log }
+{}
+
+/// No hypothesis that the steps of a log keep has a result as its left side: what is kept has a
+/// redex.
+pub fn kept_hypotheses_have_roots()
+    ensures { (parts : RuleParts) (goal : Equation) (log : Log) (hypotheses : List Rule) →
+        kept parts goal log ≡ Ok hypotheses → All HasRoot hypotheses }
+{}
+
+/// There is an accepted log: its steps keep a hypothesis and use it.
+pub fn the_premises_can_be_met()
+    ensures { (log : Log) × (kept example alike log ≡ Ok (hypothesis ∷ []))
+        × IsAccepted example alike log }
+{}

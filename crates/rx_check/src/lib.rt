@@ -1,0 +1,16 @@
+//! The replay of a log: whether it is accepted for rules and a goal, and if not, its first fault.
+#![tactic(auto)]
+
+mod check_end;
+mod laws;
+mod replaying;
+mod running;
+
+pub use check_end::{CheckEnd, Place};
+pub use laws::{
+    accepted_logs_are_proofs, each_log_has_one_verdict, kept_hypotheses_have_roots,
+    proofs_have_logs, the_premises_can_be_met,
+};
+pub use replaying::replay;
+pub use rx_log::Log;
+pub use rx_plain::NoMemory;

@@ -1,0 +1,134 @@
+-- Whether a log is accepted for rules and a goal. Covers, steps, goals left, ranks and pairs are
+-- checked in this order, and the first fault decides.
+use Rattle.std.specs.Prelude.{◌≡◌, ◌+◌, ◌++◌, [], ◌∷◌, ℕ, List, length, Option, Some, None, Result, Ok, Err}
+use Rattle.rx_term.specs.declared.rule.Equation.{Equation}
+use Rattle.rx_term.specs.declared.rule.Rule.{Rule}
+use Rattle.rx_term.specs.declared.rule_set.RuleParts.{RuleParts}
+use Rattle.rx_form.specs.Judging.{StepFault, NoGoal, WrongShape, NoSuchRule, NotShown, Large}
+use Rattle.rx_form.specs.States.{State, applied}
+use Rattle.rx_form.specs.declared.step.Step.{Step}
+use Rattle.rx_cover.specs.Covering.{Covering, Covers, covering}
+use Rattle.rx_cover.specs.Covering as cover
+use Rattle.rx_pairs.specs.Lowering.{Descent, Descends, descent_from}
+use Rattle.rx_pairs.specs.Lowering as lowering
+use Rattle.rx_pairs.specs.Pairs.{AreAllPairs}
+use Rattle.rx_pairs.specs.Ranks.{bad_rank}
+use Rattle.rx_pairs.specs.declared.pair.Pair.{Pair}
+use Rattle.rx_pairs.specs.declared.pair_cert.PairCert.{PairCert}
+use Rattle.rx_pairs.specs.declared.table.RankTable.{RankTable}
+use Rattle.rx_log.specs.declared.log.Log.{Log}
+
+-- ---- faults
+
+-- a place at which the limits can be passed, by its number: the trees of a symbol, a step, a pair
+pub data Place : Type 0 where
+  AtCover : ℕ → Place
+  AtStep : ℕ → Place
+  AtPair : ℕ → Place
+
+-- the first thing that is wrong: a symbol that isn't covered, a step and why it doesn't apply, how
+-- many goals are left, a symbol without a lawful rank, a pair that isn't lower, or a place that passes
+-- the limits
+pub data LogFault : Type 0 where
+  NotCovered : ℕ → LogFault
+  Refused : ℕ → StepFault → LogFault
+  Unfinished : ℕ → LogFault
+  BadRanks : ℕ → LogFault
+  NotLower : ℕ → LogFault
+  PassesLimits : Place → LogFault
+
+-- what a check comes to, or the fault
+abbrev pub Checked : Type 0 → Type 0
+Checked A = Result A LogFault
+
+-- goes on where there is no fault
+infixl 10 ◌>>=◌
+abbrev pub ◌>>=◌ : {A B : Type 0} → Checked A → (A → Checked B) → Checked B
+Ok x >>= next = next x
+Err fault >>= next = Err fault
+
+-- ---- all checks but that of pairs
+
+-- what follows once the rule set is covered
+abbrev pub once_covered : {A : Type 0} → Covering → Checked A → Checked A
+once_covered Covers next = next
+once_covered (cover.Fails f) next = Err (NotCovered f)
+once_covered (cover.PassesLimits f) next = Err (PassesLimits (AtCover f))
+
+-- the fault of a log whose step with that number doesn't apply
+abbrev pub step_fault : ℕ → StepFault → LogFault
+step_fault k NoGoal = Refused k NoGoal
+step_fault k WrongShape = Refused k WrongShape
+step_fault k NoSuchRule = Refused k NoSuchRule
+step_fault k (NotShown i) = Refused k (NotShown i)
+step_fault k Large = PassesLimits (AtStep k)
+
+-- the state after a step
+abbrev pub after_step : ℕ → Result State StepFault → Checked State
+after_step k (Ok next) = Ok next
+after_step k (Err fault) = Err (step_fault k fault)
+
+-- the state after steps one after the other, the first having that number
+abbrev pub after_steps : RuleParts → ℕ → State → List Step → Checked State
+after_steps parts k state [] = Ok state
+after_steps parts k state (step ∷ steps) = do
+  next ← after_step k (applied parts state step)
+  after_steps parts (k + 1) next steps
+
+-- what follows once no goal is left
+abbrev pub once_finished : {A : Type 0} → List Equation → Checked A → Checked A
+once_finished [] next = next
+once_finished (goal ∷ goals) next = Err (Unfinished (length (goal ∷ goals)))
+
+-- what follows once no symbol has a bad rank
+abbrev pub once_ranked : {A : Type 0} → Option ℕ → Checked A → Checked A
+once_ranked None next = next
+once_ranked (Some f) next = Err (BadRanks f)
+
+-- the goal alone, and no hypotheses
+abbrev pub start : Equation → State
+start goal = record { goals = goal ∷ []; hypotheses = [] }
+
+-- the hypotheses of a state in which nothing is left to show, where the ranks are lawful
+abbrev pub kept_by : RuleParts → RankTable → State → Checked (List Rule)
+kept_by parts table end =
+    once_finished end.goals (once_ranked (bad_rank parts table) (Ok end.hypotheses))
+
+-- the hypotheses that the steps keep, where all checks before that of pairs find no fault
+abbrev pub kept : RuleParts → Equation → Log → Checked (List Rule)
+kept parts goal log = once_covered (covering parts log.covers) do
+  end ← after_steps parts 0 (start goal) log.steps
+  kept_by parts log.table end
+
+-- ---- the verdict
+
+-- the log is accepted, or not by this fault
+pub data Verdict : Type 0 where
+  Accepted : Verdict
+  Fails : LogFault → Verdict
+
+abbrev pub of_descent : Descent → Verdict
+of_descent Descends = Accepted
+of_descent (lowering.NotLower i) = Fails (NotLower i)
+of_descent (lowering.PassesLimits i) = Fails (PassesLimits (AtPair i))
+
+-- the verdict on the pairs of rules
+pub record OnPairs (rules : List Rule) (table : RankTable) (certs : List PairCert) (verdict : Verdict)
+    : Type 0 where
+  pub pairs : List Pair
+  pub all_pairs : AreAllPairs rules pairs
+  pub is : of_descent (descent_from table 0 pairs certs) ≡ verdict
+
+-- the verdict by what the checks before came to: the pairs are those of the rules, and then of the
+-- hypotheses
+abbrev pub Concludes : RuleParts → Log → Checked (List Rule) → Verdict → Type 0
+Concludes parts log (Err fault) verdict = verdict ≡ Fails fault
+Concludes parts log (Ok hypotheses) verdict =
+    OnPairs (parts.rules ++ hypotheses) log.table log.pairs verdict
+
+-- the verdict on a log, for rules and a goal
+abbrev pub HasVerdict : RuleParts → Equation → Log → Verdict → Type 0
+HasVerdict parts goal log verdict = Concludes parts log (kept parts goal log) verdict
+
+abbrev pub IsAccepted : RuleParts → Equation → Log → Type 0
+IsAccepted parts goal log = HasVerdict parts goal log Accepted

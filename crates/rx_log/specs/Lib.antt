@@ -1,0 +1,2 @@
+-- When a log is accepted, and otherwise its first fault.
+pub mod Acceptance
