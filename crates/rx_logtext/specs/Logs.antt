@@ -1,0 +1,110 @@
+-- A log as text, and the first line of a text with which no log begins.
+use Rattle.std.specs.Prelude.{◌≡◌, ℕ, suc, ◌+◌, ◌==◌, Bool, true, ◌&&◌, Option, Some, None, Result, Ok, Err, List, [], ◌∷◌, ◌++◌, length, map, flat_map}
+use Rattle.std.specs.List.{list_all}
+use Rattle.rx_poly.specs.declared.body.Body.{Body}
+use Rattle.rx_log.specs.declared.log.Log.{Log}
+use Rattle.rx_logtext.specs.Lines.{lines}
+use Rattle.rx_logtext.specs.declared.line.Line.{Line}
+use Rattle.rx_logtext.specs.declared.line.Line.TheVariants as line
+use Rattle.rx_logtext.specs.declared.log_end.LogEnd.{LogEnd}
+use Rattle.rx_logtext.specs.declared.log_end.LogEnd.TheVariants as end
+
+-- ---- logs as text
+
+-- lines with the numbers of their symbols, from this one on
+abbrev pub by_symbol : {A : Type 0} → (A → Line) → ℕ → List A → List (Line × ℕ)
+by_symbol make symbol [] = []
+by_symbol make symbol (x ∷ xs) = (make x, symbol) ∷ by_symbol make (symbol + 1) xs
+
+-- lines without a symbol
+abbrev pub plain : {A : Type 0} → (A → Line) → List A → List (Line × ℕ)
+plain make xs = map (λ x. (make x, 0)) xs
+
+-- the first line, the covers and the steps
+abbrev pub before_ranks : Log → List (Line × ℕ)
+before_ranks log =
+    (line.Header, 0) ∷ (by_symbol line.Cover 0 log.covers ++ plain line.Step log.steps)
+
+-- these, the ranks and the pairs
+abbrev pub before_end : Log → List (Line × ℕ)
+before_end log =
+    before_ranks log
+    ++ (line.Ranks log.table.columns, 0)
+    ∷ (by_symbol line.Rank 0 log.table.ranks ++ plain line.Pair log.pairs)
+
+-- the lines of a log, in order
+abbrev pub log_lines : Log → List (Line × ℕ)
+log_lines log = before_end log ++ (line.End, 0) ∷ []
+
+-- each line, ended by a line feed
+abbrev pub ended : List (List ℕ) → List ℕ
+ended texts = flat_map (λ text. text ++ 10 ∷ []) texts
+
+-- the text of each of the lines
+abbrev pub line_texts : List (Line × ℕ) → List (List ℕ)
+line_texts its = map lines.text its
+
+-- the text of a log
+abbrev pub log_text : Log → List ℕ
+log_text log = ended (line_texts (log_lines log))
+
+-- each rank has as many columns as the table
+abbrev pub has_widths : Log → Bool
+has_widths log = list_all (λ (rank : List Body). length rank == log.table.columns) log.table.ranks
+
+-- all in it has a text
+abbrev pub has_ranges : Log → Bool
+has_ranges log = list_all lines.in_range (log_lines log) && has_widths log
+
+-- the bytes are the text of the log
+pub record IsLog (text : List ℕ) (log : Log) : Type 0 where
+  pub in_range : has_ranges log ≡ true
+  pub is : text ≡ log_text log
+
+-- ---- bad lines
+
+-- a log has just these lines
+pub record HasLines (log : Log) (texts : List (List ℕ)) : Type 0 where
+  pub in_range : has_ranges log ≡ true
+  pub are : line_texts (log_lines log) ≡ texts
+
+-- some log begins with these lines
+pub record Begins (texts : List (List ℕ)) : Type 0 where
+  pub log : Log
+  pub in_range : has_ranges log ≡ true
+  pub more : List (List ℕ)
+  pub are : line_texts (log_lines log) ≡ texts ++ more
+
+-- no line feed is among the bytes
+abbrev pub is_one_line : List ℕ → Bool
+is_one_line bytes = list_all lines.goes_on bytes
+
+-- The line with this number, counted from 1, is the first with which no log begins. The text begins
+-- with the lines before it, and so does some log. The next line of the text is one with which none
+-- begins; or the text ends there, and no log has just those lines; or a line feed is missing at its end.
+pub record IsFirstBad (text : List ℕ) (number : ℕ) : Type 0 where
+  pub before : List (List ℕ)
+  pub left : List ℕ
+  pub joined : text ≡ ended before ++ left
+  pub one_by_one : list_all is_one_line before ≡ true
+  pub counted : number ≡ suc (length before)
+  pub good_before : Begins before
+  pub bad :
+      (next rest : List ℕ) → left ≡ next ++ 10 ∷ rest → is_one_line next ≡ true
+      → ¬ (Begins (before ++ next ∷ []))
+  pub missing : left ≡ [] → (log : Log) → ¬ (HasLines log before)
+
+-- what a reader of logs answers: the log whose text this is, or the first line with which no log begins
+abbrev pub ReadsLog : List ℕ → Result Log LogEnd → Type 0
+ReadsLog text (Ok log) = IsLog text log
+ReadsLog text (Err (end.BadLine number)) = IsFirstBad text number
+ReadsLog text (Err end.TooDeep) = ⊥
+ReadsLog text (Err end.NoMemory) = Unit {0}
+
+-- ---- cutting a text into lines
+
+-- the first line of a text without its line feed, and what stands behind that; None exactly where there
+-- is no line feed
+abbrev pub SplitsLine : List ℕ → Option (List ℕ × List ℕ) → Type 0
+SplitsLine text (Some cut) = (text ≡ cut.0 ++ 10 ∷ cut.1) × (is_one_line cut.0 ≡ true)
+SplitsLine text None = is_one_line text ≡ true

@@ -1,0 +1,176 @@
+//! Lines of steps, read from bytes.
+ghost use Rattle.std.specs.Prelude.{◌≡◌, ◌++◌, codes, IfOk, drop};
+ghost use Rattle.rx_logtext.specs.Lines.{ReadsAll};
+ghost use Rattle.rx_logtext.specs.Steps.{steps};
+
+use crate::part::{is_word, read_rest};
+use rx_cert::Cert;
+use rx_form::{Delete, Side, Step};
+use rx_plain::{Items, NoMemory};
+use rx_poly::Poly;
+use rx_row::Row;
+use rx_term::Equation;
+use rx_text::skip_word;
+use std::alloc::Global;
+
+/// A line that begins with `simplify `.
+fn read_simplify(alloc: Global, line: &[u8], at: usize) -> Result<Option<Step>, NoMemory>
+    requires { line.now ≡ codes "simplify " ++ drop at line.now }
+    ensures { IfOk result (ReadsAll steps line.now) }
+{
+    match read_rest::<(Side, (u32, Items<Cert>))>(alloc, line, at)? {
+        Some((side, (rule, certs))) => Ok(Some(Step::Simplify { side, rule, certs })),
+        None => Ok(None),
+    }
+}
+
+/// A line that begins with `hyp `.
+fn read_hyp(alloc: Global, line: &[u8], at: usize) -> Result<Option<Step>, NoMemory>
+    requires { line.now ≡ codes "hyp " ++ drop at line.now }
+    ensures { IfOk result (ReadsAll steps line.now) }
+{
+    match read_rest::<(Side, (u32, (u32, (Items<(u32, Poly)>, Items<Cert>))))>(alloc, line, at)? {
+        Some((side, (place, (hyp, (subst, certs))))) => Ok(Some(Step::Hyp {
+            side,
+            place,
+            hyp,
+            subst,
+            certs,
+        })),
+        None => Ok(None),
+    }
+}
+
+/// A line that begins with `expand `.
+fn read_expand(alloc: Global, line: &[u8], at: usize) -> Result<Option<Step>, NoMemory>
+    requires { line.now ≡ codes "expand " ++ drop at line.now }
+    ensures { IfOk result (ReadsAll steps line.now) }
+{
+    match read_rest::<(Side, bool)>(alloc, line, at)? {
+        Some((side, keep)) => Ok(Some(Step::Expand { side, keep })),
+        None => Ok(None),
+    }
+}
+
+/// A line that begins with `absurd `.
+fn read_absurd(alloc: Global, line: &[u8], at: usize) -> Result<Option<Step>, NoMemory>
+    requires { line.now ≡ codes "absurd " ++ drop at line.now }
+    ensures { IfOk result (ReadsAll steps line.now) }
+{
+    match read_rest::<Cert>(alloc, line, at)? {
+        Some(cert) => Ok(Some(Step::Delete(Delete::Absurd(cert)))),
+        None => Ok(None),
+    }
+}
+
+/// A line that begins with `equal `.
+fn read_equal(alloc: Global, line: &[u8], at: usize) -> Result<Option<Step>, NoMemory>
+    requires { line.now ≡ codes "equal " ++ drop at line.now }
+    ensures { IfOk result (ReadsAll steps line.now) }
+{
+    match read_rest::<Items<Cert>>(alloc, line, at)? {
+        Some(certs) => Ok(Some(Step::Delete(Delete::Equal(certs)))),
+        None => Ok(None),
+    }
+}
+
+/// A line that begins with `generalise `.
+fn read_generalise(alloc: Global, line: &[u8], at: usize) -> Result<Option<Step>, NoMemory>
+    requires { line.now ≡ codes "generalise " ++ drop at line.now }
+    ensures { IfOk result (ReadsAll steps line.now) }
+{
+    match read_rest::<(Equation, (Items<(u32, Poly)>, Items<Cert>))>(alloc, line, at)? {
+        Some((Equation { left, right, rows }, (subst, certs))) => Ok(Some(Step::Generalise {
+            left,
+            right,
+            rows,
+            subst,
+            certs,
+        })),
+        None => Ok(None),
+    }
+}
+
+/// A line that begins with `postulate `.
+fn read_postulate(alloc: Global, line: &[u8], at: usize) -> Result<Option<Step>, NoMemory>
+    requires { line.now ≡ codes "postulate " ++ drop at line.now }
+    ensures { IfOk result (ReadsAll steps line.now) }
+{
+    match read_rest::<Equation>(alloc, line, at)? {
+        Some(Equation { left, right, rows }) => Ok(Some(Step::Postulate { left, right, rows })),
+        None => Ok(None),
+    }
+}
+
+/// A line that begins with `split `.
+fn read_split(alloc: Global, line: &[u8], at: usize) -> Result<Option<Step>, NoMemory>
+    requires { line.now ≡ codes "split " ++ drop at line.now }
+    ensures { IfOk result (ReadsAll steps line.now) }
+{
+    match read_rest::<Row>(alloc, line, at)? {
+        Some(row) => Ok(Some(Step::Split { row })),
+        None => Ok(None),
+    }
+}
+
+/// A line that begins with `decompose `.
+fn read_decompose(alloc: Global, line: &[u8], at: usize) -> Result<Option<Step>, NoMemory>
+    requires { line.now ≡ codes "decompose " ++ drop at line.now }
+    ensures { IfOk result (ReadsAll steps line.now) }
+{
+    match read_rest::<Items<Cert>>(alloc, line, at)? {
+        Some(certs) => Ok(Some(Step::Decompose { certs })),
+        None => Ok(None),
+    }
+}
+
+/// A line that begins with `results `.
+fn read_results(alloc: Global, line: &[u8], at: usize) -> Result<Option<Step>, NoMemory>
+    requires { line.now ≡ codes "results " ++ drop at line.now }
+    ensures { IfOk result (ReadsAll steps line.now) }
+{
+    match read_rest::<(u32, (u32, Items<Cert>))>(alloc, line, at)? {
+        Some((left, (right, certs))) => Ok(Some(Step::Results { left, right, certs })),
+        None => Ok(None),
+    }
+}
+
+/// The step whose line this is; None exactly where it is that of none in range.
+pub(crate) fn read_step(alloc: Global, line: &[u8]) -> Result<Option<Step>, NoMemory>
+    ensures { IfOk result (ReadsAll steps line.now) }
+{
+    if let Some(at) = skip_word(line, 0, b"simplify ") {
+        return read_simplify(alloc, line, at);
+    }
+    if let Some(at) = skip_word(line, 0, b"hyp ") {
+        return read_hyp(alloc, line, at);
+    }
+    if let Some(at) = skip_word(line, 0, b"expand ") {
+        return read_expand(alloc, line, at);
+    }
+    if let Some(at) = skip_word(line, 0, b"absurd ") {
+        return read_absurd(alloc, line, at);
+    }
+    if let Some(at) = skip_word(line, 0, b"equal ") {
+        return read_equal(alloc, line, at);
+    }
+    if let Some(at) = skip_word(line, 0, b"generalise ") {
+        return read_generalise(alloc, line, at);
+    }
+    if let Some(at) = skip_word(line, 0, b"postulate ") {
+        return read_postulate(alloc, line, at);
+    }
+    if let Some(at) = skip_word(line, 0, b"split ") {
+        return read_split(alloc, line, at);
+    }
+    if let Some(at) = skip_word(line, 0, b"decompose ") {
+        return read_decompose(alloc, line, at);
+    }
+    if let Some(at) = skip_word(line, 0, b"results ") {
+        return read_results(alloc, line, at);
+    }
+    if is_word(line, b"eqdelete") {
+        return Ok(Some(Step::EqDelete));
+    }
+    Ok(None)
+}
