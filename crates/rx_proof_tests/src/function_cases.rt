@@ -4,7 +4,7 @@ use c_ast::{Expr, Function, Stmt};
 use rx_code::Code;
 use rx_plain::Items;
 use rx_term::Sym;
-use rx_translate::{entry_of, function, goal_of, push_rules_at};
+use rx_translate::{entry_of, function, goal_of, parts_of};
 use std::alloc::Global;
 
 fn identity(alloc: Global) -> Option<Function> {
@@ -35,11 +35,10 @@ fn opened(alloc: Global) -> Option<bool> {
     )
 }
 
-// The one rule of the entry.
+// One rule of the entry, and one of the end.
 fn ruled(alloc: Global) -> Option<bool> {
-    let mut rules = Items::new(alloc);
-    push_rules_at(alloc, &mut rules, &compiled(alloc)?, 0).ok()?;
-    Some(rules.len() == 1)
+    let parts = parts_of(alloc, &compiled(alloc)?).ok()?;
+    Some(parts.symbols.len() == 2 && parts.rules.len() == 2)
 }
 
 // The entry against itself, on one variable.

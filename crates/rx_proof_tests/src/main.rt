@@ -7,14 +7,16 @@ mod cover_cases;
 mod example;
 mod function_cases;
 mod pair_cases;
+mod programs;
 mod solve_cases;
 mod state_cases;
+mod translation_cases;
 
 use std::alloc::Global;
 use std::io;
 
 /// The cases by name, the crate's word before the dot.
-const CASES: [&str; 24] = [
+const CASES: [&str; 30] = [
     "cover.all",
     "cover.without_the_last",
     "cover.one_more",
@@ -24,6 +26,10 @@ const CASES: [&str; 24] = [
     "pair.rank_missing",
     "pair.lower",
     "pair.certificate_missing",
+    "pair.made",
+    "pair.all_made",
+    "pair.descends",
+    "pair.stays",
     "pair.column_zero",
     "code.opened",
     "code.wider",
@@ -39,6 +45,8 @@ const CASES: [&str; 24] = [
     "solve.shown",
     "state.finished",
     "state.refused",
+    "translation.two",
+    "translation.alone",
 ];
 
 // Whether the case is as it is to be; none where there is no memory.
@@ -51,6 +59,7 @@ fn holds(alloc: Global, case: &str) -> Option<bool> {
         "function" => function_cases::holds(alloc, name),
         "solve" => solve_cases::holds(alloc, name),
         "state" => state_cases::holds(alloc, name),
+        "translation" => translation_cases::holds(alloc, name),
         _ => None,
     }
 }

@@ -1,6 +1,5 @@
 -- What is formed for the rules of a deed.
-use Rattle.std.specs.Prelude.{ℕ, ◌==◌, List, ◌++◌, filter}
-use Rattle.std.specs.List.{flat_map, list_all}
+use Rattle.std.specs.Prelude.{ℕ, List, ◌++◌}
 use Rattle.rx_plain.specs.Formed.{Formed, kept}
 use Rattle.rx_poly.specs.Limits.{is_within}
 use Rattle.rx_poly.specs.declared.body.Body.{Body}
@@ -10,7 +9,6 @@ use Rattle.rx_code.specs.Rules.{action_within, deed_within, divided, rules_of_ac
 use Rattle.rx_code.specs.declared.action.Action.{Action}
 use Rattle.rx_code.specs.declared.action.Deed.{Deed}
 use Rattle.rx_code.specs.declared.action.Division.{Division}
-use Rattle.rx_code.specs.declared.code.Code.{Code}
 use Rattle.rx_code.specs.declared.point.Point.{Point}
 
 -- the result of a division
@@ -24,15 +22,3 @@ rules_after entries rules d = record { form = rules ++ rules_of_deed (entry_of e
 -- the rules of an action after others
 abbrev pub action_after : List Rule → (ℕ → ℕ) → Point → Action → Formed (List Rule)
 action_after rules entry a action = record { form = rules ++ rules_of_action entry a action; within = action_within action }
-
--- what is done at the symbol of that number
-abbrev pub deeds_at : ℕ → List Deed → List Deed
-deeds_at symbol ds = filter (λ (d : Deed). d.at.symbol == symbol) ds
-
--- the rules of these deeds after others
-abbrev pub rules_of_deeds : List (ℕ × ℕ) → List Rule → List Deed → Formed (List Rule)
-rules_of_deeds entries rules ds = record { form = rules ++ flat_map (rules_of_deed (entry_of entries)) ds; within = list_all deed_within ds }
-
--- the rules at a symbol after others
-abbrev pub rules_at_after : Code → ℕ → List Rule → Formed (List Rule)
-rules_at_after c symbol rules = rules_of_deeds c.entries rules (deeds_at symbol c.deeds)

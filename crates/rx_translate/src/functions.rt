@@ -1,6 +1,7 @@
 //! The code of functions, as the table of rx_code says.
-ghost use Rattle.std.specs.Prelude.{◌≡◌, length};
-ghost use Rattle.rx_code.specs.Programs.{function_code};
+ghost use Rattle.std.specs.Prelude.{◌≡◌, length, slice_get};
+ghost use Rattle.rx_plain.specs.Formed.{Forms};
+ghost use Rattle.rx_code.specs.Programs.{function_code, place_code, places_code};
 ghost use Rattle.rx_exprs.specs.Compiles.{CompilesCode};
 ghost use Rattle.rx_translate.specs.Statements.{CompilesPoint};
 
@@ -22,7 +23,8 @@ fn open_entry(code: &mut Code, parameters: usize) -> Result<Point, PolyEnd>
 }
 
 /// The function at a place in the program: its entry, its end, and its body from the one to the
-/// other. A `break` or `continue` outside loops, which no well-formed function has, leads to the end.
+/// other. A `break` or `continue` outside loops, which no well-formed function has, leads to the
+/// end.
 pub fn function(alloc: Global, code: &mut Code, place: u32, f: &Function) -> Result<(), PolyEnd>
     ensures code { CompilesCode code.old code.new result (function_code place f.now (length code.old.opened)) }
 {
@@ -37,4 +39,32 @@ pub fn function(alloc: Global, code: &mut Code, place: u32, f: &Function) -> Res
         continue_to: end,
     };
     list(alloc, code, f.body.as_slice(), body)
+}
+
+/// The function at a place; nothing where there is none.
+fn function_at(
+    alloc: Global,
+    code: &mut Code,
+    functions: &[Function],
+    place: u32,
+) -> Result<(), PolyEnd>
+    ensures code { CompilesCode code.old code.new result
+        (place_code place (slice_get functions.now place) (length code.old.opened)) }
+{
+    match functions.get(place as usize) {
+        Some(f) => function(alloc, code, place, f),
+        None => Ok(()),
+    }
+}
+
+/// The code of the functions at these places, in order. Large exactly where something that is
+/// formed or opened for them passes the limits.
+pub fn code_of(alloc: Global, functions: &[Function], places: &[u32]) -> Result<Code, PolyEnd>
+    ensures forms { Forms PolyEnd.Large result (places_code functions.now places.now 0) }
+{
+    let mut code = Code::new(alloc);
+    for place in places {
+        function_at(alloc, &mut code, functions, *place)?;
+    }
+    Ok(code)
 }

@@ -4,10 +4,10 @@ ghost use Rattle.rx_plain.specs.Formed.{FormsAs, Forms};
 ghost use Rattle.rx_code.specs.Points.{with_element};
 ghost use Rattle.rx_code.specs.Programs as table;
 ghost use Rattle.rx_code.specs.Rules as spec;
-ghost use Rattle.rx_translate.specs.Rules.{action_after, divided_formed, rules_after, rules_at_after};
+ghost use Rattle.rx_translate.specs.Rules.{action_after, divided_formed, rules_after};
 
 use crate::goal::first_variables;
-use rx_code::{Action, Code, Deed, Division, Point};
+use rx_code::{Action, Deed, Division, Point};
 use rx_plain::{Boxed, Items};
 use rx_poly::{Poly, PolyEnd};
 use rx_row::{Constraint, Row};
@@ -206,24 +206,6 @@ pub fn push_rules(
         Action::Return(value) => {
             let left = call_of(alloc, a)?;
             rules.push(always(alloc, left, Term::Return(value.try_clone(alloc)?)))?;
-        }
-    }
-    Ok(())
-}
-
-/// Puts the rules of what is done at the symbol of that number after others. Large exactly where
-/// `push_rules` is for something that is done there.
-pub fn push_rules_at(
-    alloc: Global,
-    rules: &mut Items<Rule>,
-    code: &Code,
-    symbol: u32,
-) -> Result<(), PolyEnd>
-    ensures forms { FormsAs (λ _. rules.new) PolyEnd.Large result (rules_at_after code.now symbol rules.old) }
-{
-    for d in code.deeds.as_slice() {
-        if d.at.symbol == symbol {
-            push_rules(alloc, rules, code.entries.as_slice(), d)?;
         }
     }
     Ok(())

@@ -1,0 +1,2 @@
+-- What is known of the small program.
+pub mod Samples
