@@ -1,4 +1,4 @@
--- What the last two stages say is what the front end says.
+-- What the last stages say is what the front end says, of two names and of a precondition.
 use Rattle.std.proofs.Common.{ℕ, List, inl, inr}
 use Rattle.c_lex.specs.declared.token.Token.{Token}
 use Rattle.c_front.specs.declared.pairs.TwoFunctions.{TwoFunctions}
@@ -7,6 +7,9 @@ use Rattle.c_front.specs.declared.stages.Next.{Next}
 use Rattle.c_front.specs.declared.stages.Next.TheVariants.{Ends, Goes}
 use Rattle.c_front.specs.declared.texts.ProgramText.{ProgramText}
 use Rattle.c_front.specs.declared.texts.ResolvedText.{ResolvedText}
+use Rattle.c_ast.specs.declared.expr.Expr.{Expr}
+use Rattle.c_front.specs.declared.texts.PreText.{PreText}
+use Rattle.c_front.specs.Conditions.{pre_lex_stage, pre_name_stage, pre_parse_stage, read_pre}
 use Rattle.c_front.specs.Front.{count_stage, front, lex_stage, name_stage, parse_stage, scope_stage}
 
 module _ (source first second : List ℕ) (tokens : List Token) (text : ProgramText) (known : ResolvedText)
@@ -17,3 +20,10 @@ module _ (source first second : List ℕ) (tokens : List Token) (text : ProgramT
   pub counts_decide : (two : TwoFunctions) → name_stage source first second known (Goes two) → (x : Next Refusal TwoFunctions) → count_stage two x → front source first second x
   counts_decide two named (Ends refusal) counted = inr (tokens, lexed, inr (text, parsed, inr (known, scoped, inr (two, named, counted))))
   counts_decide two named (Goes t) counted = (tokens, lexed, (text, parsed, (known, scoped, (two, named, counted))))
+
+-- what is said of the names of a precondition is said of it
+pub pre_names_decide : (source : List ℕ) (text : ProgramText) (first : ℕ) (bytes : List ℕ) (tokens : List Token) (read : PreText)
+    → pre_lex_stage bytes (Goes tokens) → pre_parse_stage tokens (Goes read)
+    → (x : Next Refusal Expr) → pre_name_stage source text first bytes read x → read_pre source text first bytes x
+pre_names_decide source text first bytes tokens read lexed parsed (Ends refusal) named = inr (tokens, lexed, inr (read, parsed, named))
+pre_names_decide source text first bytes tokens read lexed parsed (Goes pre) named = (tokens, lexed, (read, parsed, named))

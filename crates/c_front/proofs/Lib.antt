@@ -1,6 +1,7 @@
 pub mod Composed
 pub mod FewParams
 pub mod FrontEndLaws
+pub mod OneCondition
 pub mod OneEnd
 pub mod OneFront
 pub mod OnePair

@@ -15,7 +15,7 @@ use Rattle.c_front.proofs.OneEnd.{one_end, spelled_unrefused}
 use Rattle.c_front.proofs.StageLaws.{one_before, one_by}
 use Rattle.std.proofs.Common.{subst}
 
-same_itself : (r : Refusal) → IsSameRefusal r r
+pub same_itself : (r : Refusal) → IsSameRefusal r r
 same_itself r = inl refl
 
 -- a list of tokens is parsed in one way

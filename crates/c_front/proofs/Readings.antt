@@ -12,7 +12,7 @@ use Rattle.c_scope.specs.Expressions.{count_at}
 use Rattle.c_scope.specs.Programs.{scope_of}
 use Rattle.c_front.specs.declared.pairs.TwoFunctions.{TwoFunctions}
 use Rattle.c_front.specs.declared.refusals.Refusal.{Refusal}
-use Rattle.c_front.specs.declared.refusals.Refusal.TheVariants.{Lex, Parse, Scope, NoFunction, Arity}
+use Rattle.c_front.specs.declared.refusals.Refusal.TheVariants.{Lex, Parse, Scope, NoFunction, Arity, PreLex, PreParse, PreName}
 use Rattle.c_front.specs.declared.stages.Next.{Next}
 use Rattle.c_front.specs.declared.stages.Next.TheVariants.{Ends, Goes}
 use Rattle.c_front.specs.declared.texts.ProgramText.{ProgramText}
@@ -171,6 +171,9 @@ module _ (source first second : List ℕ) where
       let p : count_in two.program two.first ≡ m = ap count_at are.is_left ∙ is_m in
       let q : count_in two.program two.second ≡ n = ap count_at are.is_right ∙ is_n in
       named_so two left right are (Ends (Arity m n)) (Arity m n, (λ i. with_counts two (p i) (q i)) ∙ err_counts two m n differ, refl)
+  front_of (Ends (PreLex fault)) is = absurd is
+  front_of (Ends (PreParse end)) is = absurd is
+  front_of (Ends (PreName token)) is = absurd is
   front_of (Goes two) (left, right, are) =
       let p : count_in two.program two.first ≡ length left.params = ap count_at are.are_named.is_left in
       let q : count_in two.program two.second ≡ length right.params = ap count_at are.are_named.is_right in

@@ -15,7 +15,7 @@ use Rattle.c_scope.specs.Functions.{place_of_function}
 use Rattle.c_scope.specs.Programs.{scope_of}
 use Rattle.c_front.specs.declared.pairs.TwoFunctions.{TwoFunctions}
 use Rattle.c_front.specs.declared.refusals.Refusal.{Refusal}
-use Rattle.c_front.specs.declared.refusals.Refusal.TheVariants.{Lex, Parse, Scope, NoFunction, Arity}
+use Rattle.c_front.specs.declared.refusals.Refusal.TheVariants.{Lex, Parse, Scope, NoFunction, Arity, PreLex, PreParse, PreName}
 use Rattle.c_front.specs.declared.stages.Next.{Next}
 use Rattle.c_front.specs.declared.stages.Next.TheVariants.{Ends, Goes}
 
@@ -69,7 +69,7 @@ HaveDifferentArities source first second m n =
     (two : TwoFunctions) × (left : Function) × (right : Function) × AreNamed source first second two left right
     × (length left.params ≡ m) × (length right.params ≡ n) × (m ≢ n)
 
--- why a text is refused for two names. The causes exclude each other: a text has at most one list of tokens, the list spells at most one program, and the program has at most one resolution. Only the place of a syntax error is
+-- why a text is refused for two names, whatever the precondition is. The causes exclude each other: a text has at most one list of tokens, the list spells at most one program, and the program has at most one resolution. Only the place of a syntax error is
 -- free, up to the number of tokens
 abbrev pub IsRefused : List ℕ → List ℕ → List ℕ → Refusal → Type 0
 IsRefused source first second (Lex fault) = tokens_of source ≡ Err fault
@@ -77,10 +77,14 @@ IsRefused source first second (Parse end) = IsUnparsed source end
 IsRefused source first second (Scope end) = IsIllFormed source end
 IsRefused source first second (NoFunction name) = LacksFunction source first second name
 IsRefused source first second (Arity m n) = HaveDifferentArities source first second m n
+IsRefused source first second (PreLex fault) = ⊥
+IsRefused source first second (PreParse end) = ⊥
+IsRefused source first second (PreName token) = ⊥
 
 -- two refusals for a syntax error, whose place is free
 abbrev pub AreSyntax : Refusal → Refusal → Type 0
 AreSyntax (Parse (Flaw.Syntax t)) (Parse (Flaw.Syntax u)) = ⊤
+AreSyntax (PreParse (Flaw.Syntax t)) (PreParse (Flaw.Syntax u)) = ⊤
 AreSyntax r s = ⊥
 
 -- the two names are those of two functions of the well-formed program that the text spells, and these have equally many parameters
@@ -97,12 +101,15 @@ IsReading source first second (Goes two) = (left : Function) × (right : Functio
 abbrev pub IsSameRefusal : Refusal → Refusal → Type 0
 IsSameRefusal r s = (r ≡ s) ⊎ AreSyntax r s
 
--- it can be said in a line: it is neither out of memory, nor an end of preconditions alone
+-- it can be said in a line: it is neither out of memory, nor an end of programs alone or of preconditions alone that stands for the other
 abbrev pub IsSayable : Refusal → Type 0
 IsSayable (Lex Fault.NoMemory) = ⊥
 IsSayable (Parse Flaw.NoMemory) = ⊥
 IsSayable (Parse Flaw.NotARowForm) = ⊥
 IsSayable (Scope Wrong.NoMemory) = ⊥
+IsSayable (PreLex Fault.NoMemory) = ⊥
+IsSayable (PreParse Flaw.NoMemory) = ⊥
+IsSayable (PreParse (Flaw.TooManyParams token)) = ⊥
 IsSayable refusal = ⊤
 
 -- so can the end, where the run ends

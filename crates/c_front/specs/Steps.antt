@@ -1,5 +1,10 @@
 -- What the functions inside promise to one another. Nothing that a caller reads stands on this.
-use Rattle.std.specs.Prelude.{◌<◌, ◌^◌, All, List, length}
+use Rattle.std.specs.Prelude.{◌<◌, ◌^◌, ℕ, All, List, length, Option, option_map}
+use Rattle.std.specs.Borrow.{Bor}
+use Rattle.c_front.specs.declared.refusals.Refusal.{Refusal}
+use Rattle.c_front.specs.declared.stages.Next.{Next}
+use Rattle.c_front.specs.declared.stages.Next.TheVariants.{Ends, Goes}
+use Rattle.c_front.specs.declared.texts.NamedText.{NamedText}
 use Rattle.c_ast.specs.declared.program.Function.{Function}
 use Rattle.c_front.specs.declared.pairs.TwoFunctions.{TwoFunctions}
 use Rattle.c_front.specs.Front.{count_in}
@@ -11,3 +16,12 @@ HaveFewParams functions = All (λ (f : Function). length f.params < 2 ^ 32) func
 -- so have the two
 abbrev pub CanBeCounted : TwoFunctions → Type 0
 CanBeCounted two = (count_in two.program two.first < 2 ^ 32) × (count_in two.program two.second < 2 ^ 32)
+
+-- the two functions alone
+abbrev pub two_of : Next Refusal NamedText → Next Refusal TwoFunctions
+two_of (Ends refusal) = Ends refusal
+two_of (Goes named) = Goes named.two
+
+-- the bytes of a precondition that is lent
+abbrev pub bytes_of : Option (Bor (List ℕ)) → Option (List ℕ)
+bytes_of = option_map (λ bytes. bytes.now)

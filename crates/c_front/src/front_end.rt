@@ -4,17 +4,19 @@
 //! What a reader may rely on: each stage answers what its relation in `specs/Front` says, out of
 //! memory apart, and the front end what their composition says. The order is that of the passes:
 //! tokens, grammar, scope, the two names, their numbers of parameters.
-ghost use Rattle.std.specs.Prelude.{◌≡◌, ◌<◌, ◌≤◌, ◌^◌, Ok, length, slice_get, IfOk};
+ghost use Rattle.std.specs.Prelude.{◌≡◌, ◌<◌, ◌≤◌, ◌^◌, ⊤, Ok, length, slice_get, IfOk, MatchOption};
 ghost use Rattle.c_names.specs.Spellings.{IsWithin};
 ghost use Rattle.c_scope.specs.Expressions.{count_at};
 ghost use Rattle.c_scope.specs.Programs.{scope_of};
 ghost use Rattle.c_front.specs.Front as spec;
 ghost use Rattle.c_front.specs.Front.{front};
-ghost use Rattle.c_front.specs.FrontEnd.{IsSayableNext};
+ghost use Rattle.c_front.specs.Conditions.{whole_front};
+ghost use Rattle.c_front.specs.FrontEnd.{IsProgram, IsSayableNext};
 ghost use Rattle.c_front.specs.Stages.{IfGoes};
-ghost use Rattle.c_front.specs.Steps.{CanBeCounted, HaveFewParams};
+ghost use Rattle.c_front.specs.Steps.{CanBeCounted, HaveFewParams, bytes_of, two_of};
 
-use crate::{Next, ProgramText, Refusal, ResolvedText, TwoFunctions};
+use crate::conditions::condition;
+use crate::{Compared, NamedText, Next, ProgramText, Refusal, ResolvedText, TwoFunctions};
 use c_ast::Function;
 use c_lex::{LexEnd, Token, tokens};
 use c_parse::{ParseEnd, parse};
@@ -88,14 +90,15 @@ fn name_stage(
     known: ResolvedText,
     first: &str,
     second: &str,
-) -> Next<Refusal, TwoFunctions>
+) -> Next<Refusal, NamedText>
     requires within { IsWithin source.now known.text.tokens }
     requires few { length known.text.program.functions < 2 ^ 32 }
     requires few_params { HaveFewParams known.text.program.functions }
     requires names { scope_of source.now known.text.tokens known.text.program ≡ Ok known.resolved }
-    ensures stage { spec.name_stage source.now first.now second.now known result }
+    ensures stage { spec.name_stage source.now first.now second.now known (two_of result) }
     ensures sayable { IsSayableNext result }
-    ensures counted { IfGoes result CanBeCounted }
+    ensures kept { IfGoes result (λ named. named.text ≡ known.text) }
+    ensures counted { IfGoes result (λ named. CanBeCounted named.two) }
 {
     let text = known.text;
     let tokens = text.tokens.as_slice();
@@ -105,11 +108,12 @@ fn name_stage(
     let Some(second) = find_function(source, tokens, &text.program, second) else {
         return Next::Ends(Refusal::NoFunction(2));
     };
-    Next::Goes(TwoFunctions {
+    let two = TwoFunctions {
         program: known.resolved,
         first,
         second,
-    })
+    };
+    Next::Goes(NamedText { text, two })
 }
 
 // How many parameters the function at this place has, 0 where there is none.
@@ -124,31 +128,38 @@ fn param_count(functions: &[Function], place: u32) -> u32
 }
 
 // Two functions of equally many parameters.
-fn count_stage(two: TwoFunctions) -> Next<Refusal, TwoFunctions>
-    requires { CanBeCounted two }
-    ensures stage { spec.count_stage two result }
+fn count_stage(named: NamedText) -> Next<Refusal, NamedText>
+    requires { CanBeCounted named.two }
+    ensures stage { spec.count_stage named.two (two_of result) }
     ensures sayable { IsSayableNext result }
+    ensures kept { IfGoes result (λ counted. counted.text ≡ named.text) }
 {
-    let functions = two.program.functions.as_slice();
-    let left = param_count(functions, two.first);
-    let right = param_count(functions, two.second);
+    let functions = named.two.program.functions.as_slice();
+    let left = param_count(functions, named.two.first);
+    let right = param_count(functions, named.two.second);
     if left == right {
-        Next::Goes(two)
+        Next::Goes(named)
     } else {
         Next::Ends(Refusal::Arity(left, right))
     }
 }
 
-/// What the front end says of a text and two names; fails only if out of memory.
-pub fn named_functions(
+// What the front end says of a text and two names, with what the program was read from.
+pub(crate) fn named_text(
     alloc: Global,
     source: &[u8],
     first: &str,
     second: &str,
-) -> Result<Next<Refusal, TwoFunctions>, NoMemory>
+) -> Result<Next<Refusal, NamedText>, NoMemory>
     requires { length source.now ≤ 1048576 }
-    ensures front { IfOk result (front source.now first.now second.now) }
+    ensures front { IfOk result (λ next. front source.now first.now second.now (two_of next)) }
     ensures sayable { IfOk result IsSayableNext }
+    ensures text { IfOk result (λ next.
+        IfGoes next (λ named. IsProgram source.now named.text.tokens named.text.program)) }
+    ensures within { IfOk result (λ next.
+        IfGoes next (λ named. IsWithin source.now named.text.tokens)) }
+    ensures few_params { IfOk result (λ next.
+        IfGoes next (λ named. HaveFewParams named.text.program.functions)) }
 {
     let tokens = match lex_stage(alloc, source)? {
         Next::Goes(tokens) => tokens,
@@ -163,7 +174,27 @@ pub fn named_functions(
         Next::Ends(refusal) => return Ok(Next::Ends(refusal)),
     };
     match name_stage(source, known, first, second) {
-        Next::Goes(two) => Ok(count_stage(two)),
+        Next::Goes(named) => Ok(count_stage(named)),
+        Next::Ends(refusal) => Ok(Next::Ends(refusal)),
+    }
+}
+
+/// What the front end says of a text, two names and a precondition, if there is one; fails only if
+/// out of memory.
+pub fn compared_functions(
+    alloc: Global,
+    source: &[u8],
+    first: &str,
+    second: &str,
+    precondition: Option<&[u8]>,
+) -> Result<Next<Refusal, Compared>, NoMemory>
+    requires source { length source.now ≤ 1048576 }
+    requires precondition { MatchOption precondition ⊤ (λ bytes. length bytes.now ≤ 1048576) }
+    ensures front { IfOk result (whole_front source.now first.now second.now (bytes_of precondition.entry)) }
+    ensures sayable { IfOk result IsSayableNext }
+{
+    match named_text(alloc, source, first, second)? {
+        Next::Goes(named) => condition(alloc, source, named, precondition),
         Next::Ends(refusal) => Ok(Next::Ends(refusal)),
     }
 }

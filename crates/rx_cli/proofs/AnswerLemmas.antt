@@ -1,50 +1,146 @@
--- Each end of reading gives an answer.
-use Rattle.std.proofs.Common.{◌≡◌, ◌≤◌, ◌⊎◌, ℕ, List, Option, None, Some, inl, inr, refl, sym, subst, length}
+-- Each way through the reading has its answer.
+use Rattle.std.proofs.Common.{◌≡◌, ◌<◌, ◌≤◌, ◌∙◌, ℕ, List, [], Option, None, Some, inl, inr, refl, sym, ap, subst, length, arith, le_trans}
 use Rattle.std.proofs.lemmas.Bool.{lt-ltb, le-ltb}
-use Rattle.rx_io.specs.Outside.{Names, HoldsBytes, HoldsMore, IsMissing}
+use Rattle.std.specs.Prelude.{◌+◌, ◌-◌, ◌^◌, IfOk, Result, Ok, Err}
+use Rattle.std.proofs.Math.Nat.{le-min, min-le_left, min-le_right}
+use Rattle.c_front.specs.declared.stages.Next.TheVariants.{Ends, Goes}
+use Rattle.rx_cli.specs.declared.questions.Question.{Question}
+use Rattle.rx_cli.specs.Checks.{OnRead, OnText, longest_log}
+use Rattle.rx_cli.specs.Questions.{asked}
+use Rattle.rx_command.specs.Commands.{Check, Command, Functions, Prove}
+use Rattle.rx_command.specs.declared.command.Effort.{Effort}
+use Rattle.rx_io.specs.Outside.{Names, HoldsBytes, IsMissing, Rose}
 use Rattle.rx_cli.specs.declared.answers.Answer.{Answer}
 use Rattle.rx_cli.specs.declared.answers.Answer.TheVariants.{Line}
-use Rattle.rx_cli.specs.declared.straight.Outcome.{Outcome}
+use Rattle.rx_cli.specs.declared.ends.Status.TheVariants as Ends
+use Rattle.rx_cli.specs.declared.verdicts.Verdict.{Verdict}
 use Rattle.rx_cli.specs.declared.verdicts.Verdict.TheVariants as Said
-use Rattle.rx_cli.specs.Answers.{IsAnswered, IsComparison, IsHeld, IsProved, answer_of, longest_source}
 use Rattle.rx_cli.specs.Agreement.{Agrees}
-use Rattle.rx_cli.specs.Straight.{IsOutcome}
-use Rattle.rx_cli.specs.Words.{Question, asked_of}
+use Rattle.rx_cli.specs.Answers.{IsAnswered, IsHeld, IsLogHeld, OnSource, functions_in, longest_source}
+use Rattle.rx_cli.specs.Ends.{status_of}
+use Rattle.rx_cli.specs.Straight.{IsProved}
+use Rattle.rx_cli.specs.Steps.{ChecksNamed, IfProof, Reads}
+use Rattle.rx_cli.proofs.Checked.{checked_agrees}
+use Rattle.rx_cli.proofs.StraightLaws.{proved_agrees}
 
 -- bytes that stand under a name were given under it
-given_under : (held : Option Names) (name bytes : List ℕ) → HoldsBytes held name bytes → IsHeld held name (Some bytes)
+pub given_under : (held : Option Names) (name bytes : List ℕ) → HoldsBytes held name bytes → IsHeld held name (Some bytes)
 given_under None name bytes holds = (bytes, refl)
 given_under (Some names) name bytes holds = sym holds
 
--- a fault of the files, or a name that isn't held, is a read fault
-pub answers_fault : (held : Option Names) (fault : Type 0) (asked : Option Question) (question : Question) → Some question ≡ asked → fault ⊎ IsMissing held question.file → IsAnswered held fault asked (Line Said.ReadFault)
-answers_fault held fault asked question is cause = subst (λ a. IsAnswered held fault a (Line Said.ReadFault)) is (go held cause)
-  where
-    go : (held : Option Names) → fault ⊎ IsMissing held question.file → IsAnswered held fault (Some question) (Line Said.ReadFault)
-    go held (inl f) = inr (refl, f, refl)
-    go None (inr missing) = absurd missing
-    go (Some names) (inr missing) = inl (record { source = None }, sym missing, refl)
+-- something was given under each name
+pub given_any : (held : Option Names) (name : List ℕ) → (given : Option (List ℕ)) × IsHeld held name given
+given_any None name = (Some [], ([], refl))
+given_any (Some names) name = (names name, refl)
 
--- a longer text is a long source
-pub answers_long : (held : Option Names) (fault : Type 0) (asked : Option Question) (question : Question) → Some question ≡ asked → HoldsMore held question.file longest_source
-    → IsAnswered held fault asked (Line Said.LongSource)
-answers_long held fault asked question is (bytes, holds, more) =
-    let said : IsComparison question bytes (Line Said.LongSource) = rw (lt-ltb longest_source (length bytes) more) refl in
-    subst (λ a. IsAnswered held fault a (Line Said.LongSource)) is (inl (record { source = Some bytes }, given_under held question.file bytes holds, said))
+log_any : (held : Option Names) (command : Command) → (given : Option (List ℕ)) × IsLogHeld held command given
+log_any held (Prove f effort) = (None, tt)
+log_any held (Check f log) = given_any held log
 
--- any other text is compared
-pub answers_outcome : (held : Option Names) (fault : Type 0) (asked : Option Question) (question : Question) (bytes lent : List ℕ) (outcome : Outcome) (answer : Answer) → Some question ≡ asked
-    → HoldsBytes held question.file bytes → length bytes ≤ longest_source → lent ≡ bytes → IsOutcome lent question.first question.second outcome → answer ≡ answer_of outcome → IsAnswered held fault asked answer
-answers_outcome held fault asked question bytes lent outcome answer is holds fits same found answers =
-    let found_here : IsOutcome bytes question.first question.second outcome = subst (λ l. IsOutcome l question.first question.second outcome) same found in
-    let said : IsComparison question bytes answer = rw (le-ltb longest_source (length bytes) fits) (outcome, found_here, answers) in
-    subst (λ a. IsAnswered held fault a answer) is (inl (record { source = Some bytes }, given_under held question.file bytes holds, said))
+-- ---- a log
+
+module _ (held : Option Names) (fault : Type 0) (f : Functions) (source name : List ℕ) (verdict : Verdict) where
+  -- a text that is no question
+  pub checks_asked : asked f source (Ends verdict) → ChecksNamed held fault f source name verdict
+  checks_asked ended = let any = given_any held name in inl (any.0, any.1, inl ended)
+
+  module _ (question : Question) (found : asked f source (Goes question)) where
+    unheld : (h : Option Names) → held ≡ h → IsMissing h name → verdict ≡ Said.ReadFault → ChecksNamed held fault f source name verdict
+    unheld None told missing is = absurd missing
+    unheld (Some names) told missing is = inl (None, subst (λ h. IsHeld h name None) (sym told) (sym missing), inr (question, found, is))
+
+    -- a log that can't be had
+    pub checks_unread : Reads held fault name longest_log Said.LongLog (Ends verdict) → ChecksNamed held fault f source name verdict
+    checks_unread (inl ((bytes, holds, more), is)) =
+        let on : OnRead question (Some bytes) verdict = rw (lt-ltb longest_log (length bytes) more) is in
+        inl (Some bytes, given_under held name bytes holds, inr (question, found, on))
+    checks_unread (inr (inl failed, is)) = inr (failed, is)
+    checks_unread (inr (inr missing, is)) = unheld held refl missing is
+
+    -- a log that was read
+    pub checks_text : (bytes lent : List ℕ) → HoldsBytes held name bytes → length bytes ≤ longest_log → lent ≡ bytes → OnText question lent verdict → ChecksNamed held fault f source name verdict
+    checks_text bytes lent holds fits same on =
+        let read : OnRead question (Some bytes) verdict = rw (le-ltb longest_log (length bytes) fits) (subst (λ b. OnText question b verdict) same on) in
+        inl (Some bytes, given_under held name bytes holds, inr (question, found, read))
+
+-- a fault that rose later has risen
+pub rose_later : (a b c : ℕ) → a ≤ b → Rose b c → Rose a c
+rose_later a b c below rose =
+    le_trans (le-min (le_trans (min-le_left (a + 1) (2 ^ 64 - 1)) (omega (arith, below))) (min-le_right (a + 1) (2 ^ 64 - 1))) rose
+
+pub checks_later : (held told : Option Names) (a b c : ℕ) (f : Functions) (source name : List ℕ) (verdict : Verdict) → told ≡ held → a ≤ b → ChecksNamed told (Rose b c) f source name verdict
+    → ChecksNamed held (Rose a c) f source name verdict
+checks_later held told a b c f source name verdict same below (inl (given, is_held, checked)) = inl (given, subst (λ h. IsHeld h name given) same is_held, checked)
+checks_later held told a b c f source name verdict same below (inr (rose, is)) = inr (rose_later a b c below rose, is)
+
+-- what holds of a value if two things do
+pub both_hold : {A E : Type 0} (P Q R : A → Type 0) (r : Result A E) → ((x : A) → P x → Q x → R x) → IfOk r P → IfOk r Q → IfOk r R
+both_hold P Q R (Ok x) join p q = join x p q
+both_hold P Q R (Err e) join p q = tt
 
 -- words that ask for nothing are told the usage
-pub answers_usage : (held : Option Names) (fault : Type 0) (asked : Option Question) → None ≡ asked → IsAnswered held fault asked (Line Said.Usage)
-answers_usage held fault asked is = subst (λ a. IsAnswered held fault a (Line Said.Usage)) is (inl (record { source = None }, tt, refl))
+pub answers_usage : (held : Option Names) (fault : Type 0) (asked_for : Option Command) → None ≡ asked_for → IsAnswered held fault asked_for (Line Said.Usage)
+answers_usage held fault asked_for is =
+    subst (λ o. IsAnswered held fault o (Line Said.Usage)) is (inl (record {
+      given = record { source = None; log = None };
+      is_given = tt;
+      is = refl;
+      right = λ says. let no : ⊥ = cc in absurd no;
+    }))
 
--- equal functions of the text that was read are proved
-pub proves : (held : Option Names) (words : List (List ℕ)) (question : Question) (bytes : List ℕ) → Some question ≡ asked_of words → HoldsBytes held question.file bytes
-    → Agrees bytes question.first question.second → IsProved held words
-proves held words question bytes is holds agrees = (question, sym is, (bytes, given_under held question.file bytes holds, agrees))
+-- ---- a source
+
+-- a source that can't be had
+module _ (held : Option Names) (fault : Type 0) (command : Command) (verdict : Verdict) where
+  long_answer : (bytes : List ℕ) → HoldsBytes held (functions_in command).file bytes → longest_source < length bytes → verdict ≡ Said.LongSource → IsAnswered held fault (Some command) (Line verdict)
+  long_answer bytes holds more is =
+      let log = log_any held command in
+      let said : OnSource command (Some bytes) log.0 (Line verdict) = rw (lt-ltb longest_source (length bytes) more) (ap Line is) in
+      inl (record {
+        given = record { source = Some bytes; log = log.0 };
+        is_given = (given_under held (functions_in command).file bytes holds, log.1);
+        is = said;
+        right = λ says. let no : Ends.Refused ≡ Ends.Equivalent = sym (ap status_of is) ∙ says in absurd (let none : ⊥ = cc in none);
+      })
+
+  missing_answer : (names : Names) → held ≡ Some names → names (functions_in command).file ≡ None → verdict ≡ Said.ReadFault → IsAnswered held fault (Some command) (Line verdict)
+  missing_answer names told missing is =
+      let log = log_any held command in
+      inl (record {
+        given = record { source = None; log = log.0 };
+        is_given = (subst (λ h. IsHeld h (functions_in command).file None) (sym told) (sym missing), log.1);
+        is = ap Line is;
+        right = λ says. let no : Ends.ReadFault ≡ Ends.Equivalent = sym (ap status_of is) ∙ says in absurd (let none : ⊥ = cc in none);
+      })
+
+  by_held : (h : Option Names) → held ≡ h → IsMissing h (functions_in command).file → verdict ≡ Said.ReadFault → IsAnswered held fault (Some command) (Line verdict)
+  by_held None told missing is = absurd missing
+  by_held (Some names) told missing is = missing_answer names told missing is
+
+  pub answers_unread : Reads held fault (functions_in command).file longest_source Said.LongSource (Ends verdict) → IsAnswered held fault (Some command) (Line verdict)
+  answers_unread (inl ((bytes, holds, more), is)) = long_answer bytes holds more is
+  answers_unread (inr (inl failed, is)) = inr (refl, failed, ap Line is)
+  answers_unread (inr (inr missing, is)) = by_held held refl missing is
+
+-- a source that was read
+module _ (held : Option Names) (fault : Type 0) (f : Functions) (source lent : List ℕ) (holds : HoldsBytes held f.file source) (fits : length source ≤ longest_source) (same : lent ≡ source) where
+  pub answers_checked : (name : List ℕ) (verdict : Verdict) → ChecksNamed held fault f lent name verdict → IsAnswered held fault (Some (Check f name)) (Line verdict)
+  answers_checked name verdict (inl (given, is_held, checked)) =
+      let said : OnSource (Check f name) (Some source) given (Line verdict) = rw (le-ltb longest_source (length source) fits) (verdict, rw (← same) checked, refl) in
+      inl (record {
+        given = record { source = Some source; log = given };
+        is_given = (given_under held f.file source holds, is_held);
+        is = said;
+        right = λ says. (source, refl, subst (λ text. Agrees text f) same (checked_agrees verdict says f lent given checked));
+      })
+  answers_checked name verdict (inr (failed, is)) = inr (refl, failed, ap Line is)
+
+  pub answers_proved : (effort : Effort) (answer : Answer) → IsProved f effort lent answer → IfProof (Agrees lent f) answer → IsAnswered held fault (Some (Prove f effort)) answer
+  answers_proved effort answer proved right =
+      let said : OnSource (Prove f effort) (Some source) None answer = rw (le-ltb longest_source (length source) fits) (subst (λ text. IsProved f effort text answer) same proved) in
+      inl (record {
+        given = record { source = Some source; log = None };
+        is_given = (given_under held f.file source holds, tt);
+        is = said;
+        right = λ says. (source, refl, subst (λ text. Agrees text f) same (proved_agrees f effort lent answer proved right says));
+      })

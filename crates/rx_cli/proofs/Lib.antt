@@ -1,8 +1,14 @@
 pub mod AnswerLemmas
+pub mod Checked
+pub mod Equals
+pub mod LogFaults
 pub mod LogLemmas
 pub mod MemoryLemmas
-pub mod OneOutcome
 pub mod OneReport
+pub mod Plain
+pub mod Ready
 pub mod RunLemmas
+pub mod Short
+pub mod Sound
 pub mod StraightLaws
 pub mod TermLaws

@@ -1,78 +1,86 @@
 -- What a fault of a run says where no call is made to fail.
-use Rattle.std.proofs.Common.{◌≡◌, ◌<◌, ◌∙◌, List, ℕ, Option, None, Some, Bool, true, false, inl, inr, refl, sym, ap, length, nat_lt}
+use Rattle.std.proofs.Common.{◌≡◌, ◌<◌, ◌⊎◌, ◌∙◌, List, ℕ, Option, None, Some, Bool, true, false, inl, inr, refl, sym, ap, subst, length, nat_lt}
 use Rattle.std.specs.Prelude.{MatchBool}
+use Rattle.rx_check.specs.declared.check_end.CheckEnd.{CheckEnd}
+use Rattle.rx_check.specs.declared.check_end.CheckEnd.TheVariants as End
+use Rattle.rx_command.specs.Commands.{Check, Command, Prove, command_of}
 use Rattle.rx_io.specs.Outside.{Names, AppendsPrefix}
 use Rattle.rx_cli.specs.declared.answers.Answer.{Answer}
 use Rattle.rx_cli.specs.declared.answers.Answer.TheVariants.{Line, Proof}
 use Rattle.rx_cli.specs.declared.ends.Status.{Status}
 use Rattle.rx_cli.specs.declared.ends.Status.TheVariants as Ends
-use Rattle.c_front.specs.declared.refusals.Refusal.{Refusal}
-use Rattle.c_front.specs.declared.refusals.Refusal.TheVariants as Why
-use Rattle.rx_cli.specs.Ends.{status_of}
-use Rattle.rx_cli.specs.Verdicts.{verdict_of}
-use Rattle.rx_cli.specs.declared.straight.Outcome.{Outcome}
-use Rattle.rx_cli.specs.declared.straight.Outcome.TheVariants as Found
+use Rattle.rx_cli.specs.declared.verdicts.Verdict.{Verdict}
 use Rattle.rx_cli.specs.declared.verdicts.Verdict.TheVariants as Said
-use Rattle.rx_cli.specs.Answers.{Given, IsAnswer, IsAnswerTo, IsComparison, IsGiven, IsHeld, answer_of, longest_source, status_in}
-use Rattle.rx_cli.specs.InMemory.{IsAbsent, IsTooLong}
+use Rattle.rx_cli.specs.Answers.{IsAnswerTo, IsDone, IsHeld, IsLogHeld, OnSource, functions_in, longest_source, status_in}
+use Rattle.rx_cli.specs.Ends.{check_status, status_of}
+use Rattle.rx_cli.specs.InMemory.{IsAbsent, IsLogAbsent, IsTooLong}
 use Rattle.rx_cli.specs.Run.{Reports, RunEnds}
-use Rattle.rx_cli.specs.Straight.{IsOutcome}
-use Rattle.rx_cli.specs.Words.{Question, asked_of}
+use Rattle.rx_cli.proofs.Plain.{IsPlain, plain_checked, plain_proved}
 
--- no report has the status of a write fault
+-- no end of a replay has the status of a write fault
+never_cut_check : (end : CheckEnd) → check_status end ≡ Ends.WriteFault → ⊥
+never_cut_check (End.Step step end) e = cc
+never_cut_check (End.Unfinished goals) e = cc
+never_cut_check (End.NotCovered symbol) e = cc
+never_cut_check (End.BadRanks symbol) e = cc
+never_cut_check (End.NotLower pair) e = cc
+never_cut_check (End.Large place) e = cc
+never_cut_check End.NoMemory e = cc
+
+-- no report has it
+never_cut_line : (verdict : Verdict) → status_of verdict ≡ Ends.WriteFault → ⊥
+never_cut_line Said.Equivalent e = cc
+never_cut_line (Said.Depth depth) e = cc
+never_cut_line Said.LongSource e = cc
+never_cut_line Said.LongLog e = cc
+never_cut_line (Said.Lex fault) e = cc
+never_cut_line (Said.Parse end) e = cc
+never_cut_line (Said.Scope end) e = cc
+never_cut_line (Said.NoFunction name) e = cc
+never_cut_line (Said.Arity first second) e = cc
+never_cut_line (Said.PreLex fault) e = cc
+never_cut_line (Said.PreParse end) e = cc
+never_cut_line (Said.PreName token) e = cc
+never_cut_line Said.NotStraight e = cc
+never_cut_line (Said.Line number) e = cc
+never_cut_line (Said.Check end) e = never_cut_check end e
+never_cut_line Said.Usage e = cc
+never_cut_line Said.ReadFault e = cc
+never_cut_line Said.LargeTranslate e = cc
+never_cut_line Said.LargePre e = cc
+
 never_cut : (answer : Answer) → status_in answer ≡ Ends.WriteFault → ⊥
-never_cut (Line Said.Equivalent) e = cc
-never_cut (Line (Said.Depth depth)) e = cc
-never_cut (Line Said.LongSource) e = cc
-never_cut (Line (Said.Lex fault)) e = cc
-never_cut (Line (Said.Parse end)) e = cc
-never_cut (Line (Said.Scope end)) e = cc
-never_cut (Line (Said.NoFunction name)) e = cc
-never_cut (Line (Said.Arity first second)) e = cc
-never_cut (Line Said.NotStraight) e = cc
-never_cut (Line Said.Usage) e = cc
-never_cut (Line Said.ReadFault) e = cc
-never_cut (Line Said.LargeTranslate) e = cc
+never_cut (Line verdict) e = never_cut_line verdict e
 never_cut (Proof order) e = cc
 
--- no refusal of the front end has the status of a read fault
-never_unread_refusal : (refusal : Refusal) → status_of (verdict_of refusal) ≡ Ends.ReadFault → ⊥
-never_unread_refusal (Why.Lex fault) e = cc
-never_unread_refusal (Why.Parse end) e = cc
-never_unread_refusal (Why.Scope end) e = cc
-never_unread_refusal (Why.NoFunction name) e = cc
-never_unread_refusal (Why.Arity first second) e = cc
+-- a read fault of a source that was read says that the log isn't held
+module _ (names : Names) (answer : Answer) (e : status_in answer ≡ Ends.ReadFault) where
+  abbrev IsMissed : Command → Type 0
+  IsMissed command = (names (functions_in command).file ≡ None) ⊎ IsLogAbsent names command
 
--- no comparison has the status of a read fault
-never_unread : (outcome : Outcome) → status_in (answer_of outcome) ≡ Ends.ReadFault → ⊥
-never_unread (Found.Refused refusal) e = never_unread_refusal refusal e
-never_unread Found.NotStraight e = cc
-never_unread Found.Large e = cc
-never_unread Found.Differ e = cc
-never_unread (Found.Equal order) e = cc
+  by_log : (command : Command) (source : List ℕ) (log : Option (List ℕ)) → IsLogHeld (Some names) command log → IsDone command source log answer → IsMissed command
+  by_log (Prove f effort) source log held done = absurd (subst IsPlain e (plain_proved f effort source answer done))
+  by_log (Check f name) source None held done = inr (sym held)
+  by_log (Check f name) source (Some bytes) held (verdict, checked, is) =
+      absurd (subst IsPlain (sym (ap status_in is) ∙ e) (plain_checked verdict f source bytes checked))
 
--- a text that was read is no read fault
-read_is_read : (question : Question) (source : List ℕ) (answer : Answer) → IsComparison question source answer → status_in answer ≡ Ends.ReadFault → ⊥
-read_is_read question source answer said e = go (nat_lt longest_source (length source)) said
-  where
-    go : (long : Bool) → MatchBool long (answer ≡ Line Said.LongSource) ((outcome : Outcome) × IsOutcome source question.first question.second outcome × (answer ≡ answer_of outcome)) → ⊥
-    go true is = let long : Ends.Refused ≡ Ends.ReadFault = sym (ap status_in is) ∙ e in cc
-    go false (outcome, found, is) = never_unread outcome (sym (ap status_in is) ∙ e)
+  by_length : (command : Command) (source : List ℕ) (log : Option (List ℕ)) (long : Bool) → IsLogHeld (Some names) command log
+      → MatchBool long (answer ≡ Line Said.LongSource) (IsDone command source log answer) → IsMissed command
+  by_length command source log true held is = let no : Ends.Refused ≡ Ends.ReadFault = sym (ap status_in is) ∙ e in absurd (let none : ⊥ = cc in none)
+  by_length command source log false held done = by_log command source log held done
 
--- a read fault of what is held says that the file isn't
-absent_from : (names : Names) (asked : Option Question) (answer : Answer) → ((given : Given) × IsGiven (Some names) asked given × IsAnswer asked given answer) → status_in answer ≡ Ends.ReadFault
-    → (question : Question) × (asked ≡ Some question) × (names question.file ≡ None)
-absent_from names None answer (given, any, is) e = let usage : Ends.Usage ≡ Ends.ReadFault = sym (ap status_in is) ∙ e in absurd (let no : ⊥ = cc in no)
-absent_from names (Some question) answer (given, held, is) e = go given.source held is
-  where
-    go : (source : Option (List ℕ)) → IsHeld (Some names) question.file source → IsAnswerTo (Some question) source answer → (q : Question) × (Some question ≡ Some q) × (names q.file ≡ None)
-    go None held is = (question, refl, sym held)
-    go (Some source) held is = absurd (read_is_read question source answer is e)
+  by_source : (command : Command) (source log : Option (List ℕ)) → IsHeld (Some names) (functions_in command).file source → IsLogHeld (Some names) command log → OnSource command source log answer → IsMissed command
+  by_source command None log there held is = inl (sym there)
+  by_source command (Some source) log there held is = by_length command source log (nat_lt longest_source (length source)) held is
 
--- where no call on the files finds a fault, a read fault says that the file isn't held
+  absent_from : (asked : Option Command) → IsAnswerTo (Some names) asked answer → (command : Command) × (asked ≡ Some command) × IsMissed command
+  absent_from None to = let usage : Ends.Usage ≡ Ends.ReadFault = sym (ap status_in to.is) ∙ e in absurd (let none : ⊥ = cc in none)
+  absent_from (Some command) to = (command, refl, by_source command to.given.source to.given.log to.is_given.0 to.is_given.1 to.is)
+
+-- where no call on the files finds a fault, a read fault says that a file isn't held
 pub read_fault_absent : (names : Names) (read_fault write_fault : Type 0) (words : List (List ℕ)) (old new : Option (List ℕ)) (status : Status) → RunEnds (Some names) read_fault write_fault words old new status
     → (read_fault → ⊥) → status ≡ Ends.ReadFault → IsAbsent names words
-read_fault_absent names read_fault write_fault words old new status (inl (text, (answer, inl answered, (is, said)), put)) works e = absent_from names (asked_of words) answer answered (sym is ∙ e)
+read_fault_absent names read_fault write_fault words old new status (inl (text, (answer, inl answered, (is, said)), put)) works e = absent_from names answer (sym is ∙ e) (command_of words) answered
 read_fault_absent names read_fault write_fault words old new status (inl (text, (answer, inr (some, fault, line), (is, said)), put)) works e = absurd (works fault)
 read_fault_absent names read_fault write_fault words old new status (inr (inl (is, kept))) works e = let no : ⊥ = cc in absurd no
 read_fault_absent names read_fault write_fault words old new status (inr (inr (is, fault, cut))) works e = let no : ⊥ = cc in absurd no

@@ -1,54 +1,214 @@
 -- Words have one report over files whose contents are told and that find no fault.
-use Rattle.std.proofs.Common.{◌≡◌, ℕ, Bool, true, false, List, length, nat_lt, Option, Some, None, inl, inr, sym, ap, subst, ◌∙◌}
+use Rattle.std.proofs.Common.{◌≡◌, ◌∙◌, ℕ, Bool, true, false, List, length, nat_lt, Option, Some, None, inl, inr, refl, sym, ap, subst}
 use Rattle.std.specs.Prelude.{MatchBool}
+use Rattle.c_ast.specs.declared.expr.Expr.{Expr}
+use Rattle.c_front.specs.declared.pairs.Compared.{Compared}
+use Rattle.c_front.specs.declared.refusals.Refusal.{Refusal}
+use Rattle.c_front.specs.declared.refusals.Refusal.TheVariants as Why
+use Rattle.c_front.specs.declared.stages.Next.TheVariants.{Ends, Goes}
+use Rattle.c_front.specs.FrontEnd.{AreSyntax, IsSameRefusal}
+use Rattle.c_front.specs.Stages.{IsOne}
+use Rattle.c_front.proofs.OneCondition.{one_whole}
+use Rattle.c_front.proofs.StageLaws.{one_before}
+use Rattle.c_front.specs.Front.{count_in}
+use Rattle.c_parse.specs.declared.error.ParseEnd.TheVariants as Flaw
+use Rattle.rx_check.proofs.Pairs.{one_verdict}
+use Rattle.rx_code.specs.Translation.{goal_at}
+use Rattle.rx_code_laws.proofs.Translations.{not_beyond, one_translation, translation_made}
+use Rattle.rx_command.specs.Commands.{Check, Command, Functions, Prove, command_of}
+use Rattle.rx_command.specs.declared.command.Effort.{Effort}
 use Rattle.rx_io.specs.Outside.{Names}
+use Rattle.rx_log.specs.declared.log.Log.{Log}
+use Rattle.rx_logtext.proofs.OneReading.{never_both, one_bad_line, one_log}
+use Rattle.rx_term.specs.WellMade.{IsWellMade}
 use Rattle.rx_cli.specs.declared.answers.Answer.{Answer}
-use Rattle.rx_cli.specs.declared.answers.Answer.TheVariants.{Line}
+use Rattle.rx_cli.specs.declared.answers.Answer.TheVariants.{Line, Proof}
 use Rattle.rx_cli.specs.declared.ends.Status.{Status}
-use Rattle.rx_cli.specs.declared.straight.Outcome.{Outcome}
+use Rattle.rx_cli.specs.declared.questions.Question.{Question}
+use Rattle.rx_cli.specs.declared.straight.TwoTerms.{TwoTerms}
+use Rattle.rx_cli.specs.declared.verdicts.Verdict.{Verdict}
 use Rattle.rx_cli.specs.declared.verdicts.Verdict.TheVariants as Said
-use Rattle.rx_cli.specs.Answers.{Given, IsAnswer, IsAnswerTo, IsComparison, IsGiven, answer_of, longest_source, status_in, text_in}
+use Rattle.rx_cli.specs.Answers.{IsAnswerTo, IsDone, OnSource, longest_source, status_in, text_in}
+use Rattle.rx_cli.specs.Checks.{IsChecked, OnLog, OnRead, OnText, longest_log}
+use Rattle.rx_cli.specs.Ends.{status_of}
+use Rattle.rx_cli.specs.Questions.{asked, front_stage, question_stage, rows_of}
 use Rattle.rx_cli.specs.Run.{Reports}
-use Rattle.rx_cli.specs.Straight.{IsOutcome}
-use Rattle.rx_cli.specs.Words.{Question, asked_of}
-use Rattle.rx_cli.proofs.OneOutcome.{one_report}
+use Rattle.rx_cli.specs.Straight.{IsProved, OnForms, OnTerms, terms_of, terms_within}
+use Rattle.rx_cli.specs.Texts.{text_of}
+use Rattle.rx_cli.specs.Verdicts.{of_log_verdict, verdict_of}
+use Rattle.rx_cli.proofs.Checked.{status_refused}
+use Rattle.rx_cli.proofs.Ready.{ready}
 
--- two answers are reported alike
+-- two verdicts, and two answers, are reported alike
+abbrev pub SameLine : Verdict → Verdict → Type 0
+SameLine v w = (status_of v ≡ status_of w) × (text_of v ≡ text_of w)
+
 abbrev pub AreAlike : Answer → Answer → Type 0
 AreAlike a b = (status_in a ≡ status_in b) × (text_in a ≡ text_in b)
+
+same_line : (v w : Verdict) → v ≡ w → SameLine v w
+same_line v w is = (ap status_of is, ap text_of is)
+
+-- so are those that they are equal to
+line_of : (v w x y : Verdict) → v ≡ x → w ≡ y → SameLine x y → SameLine v w
+line_of v w x y v_is w_is same = (ap status_of v_is ∙ (same.0 ∙ sym (ap status_of w_is)), ap text_of v_is ∙ (same.1 ∙ sym (ap text_of w_is)))
+
+equal_lines : (v w x : Verdict) → v ≡ x → w ≡ x → SameLine v w
+equal_lines v w x v_is w_is = same_line v w (v_is ∙ sym w_is)
 
 alike : (a b : Answer) → a ≡ b → AreAlike a b
 alike a b same = (ap status_in same, ap text_in same)
 
--- a text that was read has one answer
-by_length : (asked : Question) (source : List ℕ) (a b : Answer) (long : Bool)
-    → MatchBool long (a ≡ Line Said.LongSource) ((outcome : Outcome) × IsOutcome source asked.first asked.second outcome × (a ≡ answer_of outcome))
-    → MatchBool long (b ≡ Line Said.LongSource) ((outcome : Outcome) × IsOutcome source asked.first asked.second outcome × (b ≡ answer_of outcome)) → AreAlike a b
-by_length asked source a b true p q = alike a b (p ∙ sym q)
-by_length asked source a b false (x, is_x, a_is) (y, is_y, b_is) =
-    let report = one_report source asked.first asked.second x y is_x is_y in
-    (ap status_in a_is ∙ (report.0 ∙ sym (ap status_in b_is)), ap text_in a_is ∙ (report.1 ∙ sym (ap text_in b_is)))
+equal_answers : (a b c : Answer) → a ≡ c → b ≡ c → AreAlike a b
+equal_answers a b c a_is b_is = alike a b (a_is ∙ sym b_is)
 
-compared : (asked : Question) (source : List ℕ) (a b : Answer) → IsComparison asked source a → IsComparison asked source b → AreAlike a b
-compared asked source a b p q = by_length asked source a b (nat_lt longest_source (length source)) p q
+alike_lines : (a b : Answer) (v w : Verdict) → a ≡ Line v → b ≡ Line w → SameLine v w → AreAlike a b
+alike_lines a b v w a_is b_is same = (ap status_in a_is ∙ (same.0 ∙ sym (ap status_in b_is)), ap text_in a_is ∙ (same.1 ∙ sym (ap text_in b_is)))
 
--- so has what was read, whether a text or nothing
-answered_to : (asked : Question) (source : Option (List ℕ)) (a b : Answer) → IsAnswerTo (Some asked) source a → IsAnswerTo (Some asked) source b → AreAlike a b
-answered_to asked None a b p q = alike a b (p ∙ sym q)
-answered_to asked (Some source) a b p q = compared asked source a b p q
+-- ---- stages
 
--- so have the words
-answered : (names : Names) (asked : Option Question) (a b : Answer) → ((given : Given) × IsGiven (Some names) asked given × IsAnswer asked given a)
-    → ((given : Given) × IsGiven (Some names) asked given × IsAnswer asked given b) → AreAlike a b
-answered names None a b (g, any_g, p) (h, any_h, q) = alike a b (p ∙ sym q)
-answered names (Some asked) a b (g, held_g, p) (h, held_h, q) =
-    let same : g.source ≡ h.source = held_g ∙ sym held_h in
-    answered_to asked h.source a b (subst (λ source. IsAnswerTo (Some asked) source a) same p) q
+-- syntax errors have one line
+syntax_line : (r s : Refusal) → AreSyntax r s → text_of (verdict_of r) ≡ text_of (verdict_of s)
+syntax_line (Why.Parse (Flaw.Syntax t)) (Why.Parse (Flaw.Syntax u)) are = refl
+syntax_line (Why.PreParse (Flaw.Syntax t)) (Why.PreParse (Flaw.Syntax u)) are = refl
+syntax_line _ _ are = absurd are
+
+refusal_line : (r s : Refusal) → IsSameRefusal r s → SameLine (verdict_of r) (verdict_of s)
+refusal_line r s (inl same) = same_line (verdict_of r) (verdict_of s) (ap verdict_of same)
+refusal_line r s (inr are) = (status_refused r ∙ sym (status_refused s), syntax_line r s are)
+
+one_front_stage : (f : Functions) → IsOne SameLine (front_stage f)
+one_front_stage f source (Ends v) (Ends w) (r, p, v_is) (s, q, w_is) =
+    line_of v w (verdict_of r) (verdict_of s) v_is w_is (refusal_line r s (one_whole source f.first f.second f.precondition (Ends r) (Ends s) p q))
+one_front_stage f source (Ends v) (Goes c) (r, p, v_is) q = one_whole source f.first f.second f.precondition (Ends r) (Goes c) p q
+one_front_stage f source (Goes c) (Ends w) p (s, q, w_is) = one_whole source f.first f.second f.precondition (Goes c) (Ends s) p q
+one_front_stage f source (Goes c) (Goes d) p q = one_whole source f.first f.second f.precondition (Goes c) (Goes d) p q
+
+no_both : (b : Bool) → b ≡ true → b ≡ false → ⊥
+no_both b holds fails = let e : true ≡ false = sym holds ∙ fails in cc
+
+one_question : IsOne SameLine question_stage
+one_question c (Ends v) (Ends w) (inl (beyond, v_is)) (inl (again, w_is)) = equal_lines v w Said.LargeTranslate v_is w_is
+one_question c (Ends v) (Ends w) (inl (beyond, v_is)) (inr (t, within, w_is)) = absurd (not_beyond c.two.program c.two.first c.two.second t.rules t.first t.second t.is beyond)
+one_question c (Ends v) (Ends w) (inr (t, within, v_is)) (inl (beyond, w_is)) = absurd (not_beyond c.two.program c.two.first c.two.second t.rules t.first t.second t.is beyond)
+one_question c (Ends v) (Ends w) (inr (t, within, v_is)) (inr (u, again, w_is)) = equal_lines v w Said.LargePre v_is w_is
+one_question c (Ends v) (Goes q) (inl (beyond, v_is)) is = not_beyond c.two.program c.two.first c.two.second q.rules is.first is.second is.translated beyond
+one_question c (Ends v) (Goes q) (inr (t, beyond, v_is)) is = no_both (rows_of c.precondition).within is.within beyond
+one_question c (Goes q) (Ends w) is (inl (beyond, w_is)) = not_beyond c.two.program c.two.first c.two.second q.rules is.first is.second is.translated beyond
+one_question c (Goes q) (Ends w) is (inr (t, beyond, w_is)) = no_both (rows_of c.precondition).within is.within beyond
+one_question c (Goes q) (Goes r) is too =
+    let same = one_translation c.two.program c.two.first c.two.second q.rules r.rules is.first is.second too.first too.second is.translated too.translated in
+    let goals : q.goal ≡ r.goal = is.goal
+    ∙ ((λ i. goal_at (same.first_same i) (same.second_same i) (count_in c.two.program c.two.first) (rows_of c.precondition).form) ∙ sym too.goal) in
+    λ i. record { rules = same.parts_same i; goal = goals i }
+
+one_asked : (f : Functions) → IsOne SameLine (asked f)
+one_asked f = one_before SameLine (front_stage f) question_stage (one_front_stage f) one_question
+
+-- ---- logs
+
+-- the rules of a question are well made
+question_made : (f : Functions) (source : List ℕ) (question : Question) → asked f source (Goes question) → IsWellMade question.rules
+question_made f source question (c, front, is) =
+    translation_made c.two.program (ready source f.first f.second f.precondition c front).scoped c.two.first c.two.second question.rules is.first is.second is.translated
+
+module _ (question : Question) (made : IsWellMade question.rules) (v w : Verdict) where
+  one_on_log : (log : Log) → OnLog question log v → OnLog question log w → SameLine v w
+  one_on_log log (said, has, v_is) (other, too, w_is) =
+      let (verdict, is, only) = one_verdict question.rules question.goal log made in
+      let same : said ≡ other = only said has ∙ sym (only other too) in
+      same_line v w (v_is ∙ (ap of_log_verdict same ∙ sym w_is))
+
+  one_on_text : (bytes : List ℕ) → OnText question bytes v → OnText question bytes w → SameLine v w
+  one_on_text bytes (inl (m, bad, v_is)) (inl (n, too, w_is)) = same_line v w (v_is ∙ (ap Said.Line (one_bad_line bytes m n bad too) ∙ sym w_is))
+  one_on_text bytes (inl (m, bad, v_is)) (inr (log, read, on)) = absurd (never_both bytes log m read bad)
+  one_on_text bytes (inr (log, read, on)) (inl (n, bad, w_is)) = absurd (never_both bytes log n read bad)
+  one_on_text bytes (inr (log, read, on)) (inr (other, again, too)) = one_on_log other (subst (λ l. OnLog question l v) (one_log bytes log other read again) on) too
+
+  one_by_length : (bytes : List ℕ) (long : Bool) → MatchBool long (v ≡ Said.LongLog) (OnText question bytes v) → MatchBool long (w ≡ Said.LongLog) (OnText question bytes w) → SameLine v w
+  one_by_length bytes true v_is w_is = equal_lines v w Said.LongLog v_is w_is
+  one_by_length bytes false on too = one_on_text bytes on too
+
+  one_on_read : (log : Option (List ℕ)) → OnRead question log v → OnRead question log w → SameLine v w
+  one_on_read None v_is w_is = equal_lines v w Said.ReadFault v_is w_is
+  one_on_read (Some bytes) on too = one_by_length bytes (nat_lt longest_log (length bytes)) on too
+
+one_checked : (f : Functions) (source : List ℕ) (log : Option (List ℕ)) (v w : Verdict) → IsChecked f source log v → IsChecked f source log w → SameLine v w
+one_checked f source log v w (inl p) (inl q) = one_asked f source (Ends v) (Ends w) p q
+one_checked f source log v w (inl p) (inr (r, q, on)) = absurd (one_asked f source (Ends v) (Goes r) p q)
+one_checked f source log v w (inr (r, q, on)) (inl p) = absurd (one_asked f source (Goes r) (Ends w) q p)
+one_checked f source log v w (inr (q, p, on)) (inr (r, too, other)) =
+    let same : q ≡ r = one_asked f source (Goes q) (Goes r) p too in
+    one_on_read r (question_made f source r too) v w log (subst (λ (z : Question). OnRead z log v) same on) other
+
+-- ---- straight functions
+
+module _ (depth : ℕ) (terms : TwoTerms) (a b : Answer) where
+  one_forms : OnForms depth terms a → OnForms depth terms b → AreAlike a b
+  one_forms (inl (same, a_is)) (inl (again, b_is)) = equal_answers a b (Proof terms.order) a_is b_is
+  one_forms (inl (same, a_is)) (inr (differ, b_is)) = absurd (differ same)
+  one_forms (inr (differ, a_is)) (inl (same, b_is)) = absurd (differ same)
+  one_forms (inr (differ, a_is)) (inr (again, b_is)) = equal_answers a b (Line (Said.Depth depth)) a_is b_is
+
+  one_rows : (rows : Bool) → MatchBool rows (OnForms depth terms a) (a ≡ Line Said.LargePre) → MatchBool rows (OnForms depth terms b) (b ≡ Line Said.LargePre) → AreAlike a b
+  one_rows true p q = one_forms p q
+  one_rows false a_is b_is = equal_answers a b (Line Said.LargePre) a_is b_is
+
+  one_term : (within rows : Bool) → MatchBool within (MatchBool rows (OnForms depth terms a) (a ≡ Line Said.LargePre)) (a ≡ Line Said.LargeTranslate)
+      → MatchBool within (MatchBool rows (OnForms depth terms b) (b ≡ Line Said.LargePre)) (b ≡ Line Said.LargeTranslate) → AreAlike a b
+  one_term true rows p q = one_rows rows p q
+  one_term false rows a_is b_is = equal_answers a b (Line Said.LargeTranslate) a_is b_is
+
+one_terms : (pre : Option Expr) (depth : ℕ) (o : Option TwoTerms) (a b : Answer) → OnTerms pre depth o a → OnTerms pre depth o b → AreAlike a b
+one_terms pre depth None a b a_is b_is = equal_answers a b (Line Said.NotStraight) a_is b_is
+one_terms pre depth (Some terms) a b p q = one_term depth terms a b (terms_within terms) (rows_of pre).within p q
+
+one_proved : (f : Functions) (effort : Effort) (source : List ℕ) (a b : Answer) → IsProved f effort source a → IsProved f effort source b → AreAlike a b
+one_proved f effort source a b (inl (v, p, a_is)) (inl (w, q, b_is)) = alike_lines a b v w a_is b_is (one_front_stage f source (Ends v) (Ends w) p q)
+one_proved f effort source a b (inl (v, p, a_is)) (inr (c, q, on)) = absurd (one_front_stage f source (Ends v) (Goes c) p q)
+one_proved f effort source a b (inr (c, q, on)) (inl (w, p, b_is)) = absurd (one_front_stage f source (Goes c) (Ends w) q p)
+one_proved f effort source a b (inr (c, p, on)) (inr (d, q, too)) =
+    let same : c ≡ d = one_front_stage f source (Goes c) (Goes d) p q in
+    one_terms d.precondition effort.depth (terms_of d.two) a b (subst (λ (z : Compared). OnTerms z.precondition effort.depth (terms_of z.two) a) same on) too
+
+-- ---- answers
+
+module _ (a b : Answer) where
+  one_done : (command : Command) (source : List ℕ) (log : Option (List ℕ)) → IsDone command source log a → IsDone command source log b → AreAlike a b
+  one_done (Prove f effort) source log p q = one_proved f effort source a b p q
+  one_done (Check f name) source log (v, p, a_is) (w, q, b_is) = alike_lines a b v w a_is b_is (one_checked f source log v w p q)
+
+  one_by_size : (command : Command) (source : List ℕ) (log : Option (List ℕ)) (long : Bool) → MatchBool long (a ≡ Line Said.LongSource) (IsDone command source log a)
+      → MatchBool long (b ≡ Line Said.LongSource) (IsDone command source log b) → AreAlike a b
+  one_by_size command source log true a_is b_is = equal_answers a b (Line Said.LongSource) a_is b_is
+  one_by_size command source log false p q = one_done command source log p q
+
+  one_on_source : (command : Command) (source log : Option (List ℕ)) → OnSource command source log a → OnSource command source log b → AreAlike a b
+  one_on_source command None log a_is b_is = equal_answers a b (Line Said.ReadFault) a_is b_is
+  one_on_source command (Some source) log p q = one_by_size command source log (nat_lt longest_source (length source)) p q
+
+  -- what is read for a command is what the names hold
+  one_answer : (names : Names) (o : Option Command) → IsAnswerTo (Some names) o a → IsAnswerTo (Some names) o b → AreAlike a b
+  one_answer names None p q = equal_answers a b (Line Said.Usage) p.is q.is
+  one_answer names (Some (Prove f effort)) p q =
+      let sources : p.given.source ≡ q.given.source = p.is_given.0 ∙ sym q.is_given.0 in
+      one_on_source (Prove f effort) q.given.source q.given.log (by_prove f effort p.given.source q.given.source p.given.log q.given.log sources p.is) q.is
+    where
+      by_prove : (f : Functions) (effort : Effort) (s t l m : Option (List ℕ)) → s ≡ t → OnSource (Prove f effort) s l a → OnSource (Prove f effort) t m a
+      by_prove f effort None None l m same is = is
+      by_prove f effort None (Some t) l m same is = let no : ⊥ = cc in absurd no
+      by_prove f effort (Some s) None l m same is = let no : ⊥ = cc in absurd no
+      by_prove f effort (Some s) (Some t) l m same is = subst (λ (z : Option (List ℕ)). OnSource (Prove f effort) z m a) same is
+  one_answer names (Some (Check f name)) p q =
+      let sources : p.given.source ≡ q.given.source = p.is_given.0 ∙ sym q.is_given.0 in
+      let logs : p.given.log ≡ q.given.log = p.is_given.1 ∙ sym q.is_given.1 in
+      one_on_source (Check f name) q.given.source q.given.log
+      (subst (λ l. OnSource (Check f name) q.given.source l a) logs (subst (λ s. OnSource (Check f name) s p.given.log a) sources p.is)) q.is
 
 -- two reports of the words are one
 pub one_for_words : (names : Names) (words : List (List ℕ)) (s u : Status) (t v : List ℕ) → Reports (Some names) ⊥ words s t → Reports (Some names) ⊥ words u v → (s ≡ u) × (t ≡ v)
 one_for_words names words s u t v (a, inl p, (is_s, is_t)) (b, inl q, (is_u, is_v)) =
-    let both = answered names (asked_of words) a b p q in
+    let both = one_answer a b names (command_of words) p q in
     (is_s ∙ (both.0 ∙ sym is_u), is_t ∙ (both.1 ∙ sym is_v))
 one_for_words names words s u t v (a, inl p, (is_s, is_t)) (b, inr (some, fault, line), (is_u, is_v)) = absurd fault
 one_for_words names words s u t v (a, inr (some, fault, line), (is_s, is_t)) (b, q, (is_u, is_v)) = absurd fault

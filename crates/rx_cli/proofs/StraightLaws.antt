@@ -1,10 +1,11 @@
--- Straight functions: they have terms and return their terms' values, and with one normal form they agree.
-use Rattle.std.proofs.Common.{◌≡◌, ℕ, ℤ, pos, true, false, List, [], ◌∷◌, length, get_or, Option, Some, None, inl, inr, slice_get, refl, sym, ap, subst, ◌∙◌, arith}
+-- Straight functions: they return the values of their terms, and with one normal form they return alike.
+use Rattle.std.proofs.Common.{◌≡◌, ℕ, ℤ, pos, Bool, true, false, List, [], ◌∷◌, length, get_or, Option, Some, None, inl, inr, slice_get, refl, sym, ap, subst, ◌∙◌, arith}
+use Rattle.std.specs.Prelude.{MatchBool}
 use Rattle.std.specs.Bool.{if◌then◌else◌}
 use Rattle.std.specs.Option.{option_and_then}
-use Rattle.std.proofs.lemmas.Option.{slice_get-get_or}
-use Rattle.c_ast.specs.Forms.{is_straight, only_straight, returned, returned_by, straight_of}
+use Rattle.std.proofs.lemmas.Option.{none-some, slice_get-get_or}
 use Rattle.c_ast.specs.declared.expr.Expr.{Expr}
+use Rattle.c_ast.specs.Forms.{is_straight, only_straight, returned, returned_by, straight_of}
 use Rattle.c_ast.specs.declared.stmt.Stmt.{Stmt}
 use Rattle.c_ast.specs.declared.stmt.Stmt.TheOpen.{Stmt-F}
 use Rattle.c_ast.specs.declared.stmt.Stmt.TheVariants as Syntax
@@ -14,20 +15,32 @@ use Rattle.c_ast.specs.declared.program.Resolved.{Resolved}
 use Rattle.c_meaning.proofs.StraightValues.{body_straight}
 use Rattle.c_meaning.specs.Outcomes.{Value}
 use Rattle.c_meaning.specs.Programs.{Returns}
-use Rattle.rx_poly.specs.declared.body.Body.{Body}
+use Rattle.c_scope.specs.Expressions.{count_at}
 use Rattle.rx_poly.specs.declared.iterm.ITerm.{ITerm}
-use Rattle.rx_poly.specs.Norm.{norm_of, norm_within, term_value}
-use Rattle.rx_poly.specs.Value.{value}
+use Rattle.rx_poly.specs.Norm.{term_value}
+use Rattle.c_front.specs.declared.pairs.Compared.{Compared}
 use Rattle.c_front.specs.declared.pairs.TwoFunctions.{TwoFunctions}
-use Rattle.rx_cli.specs.declared.straight.TwoTerms.{TwoTerms}
-use Rattle.rx_cli.specs.declared.straight.Outcome.{Outcome}
-use Rattle.rx_cli.specs.declared.straight.Outcome.TheVariants as Says
-use Rattle.rx_cli.specs.Agreement.{Agrees}
+use Rattle.c_front.specs.declared.stages.Next.TheVariants.{Goes}
+use Rattle.c_front.specs.Conditions.{condition_stage, whole_front}
+use Rattle.c_front.specs.Front.{front}
 use Rattle.c_front.specs.FrontEnd.{AreComparable}
-use Rattle.rx_cli.specs.Steps.{Compares, IsSaid, joined, term_at, terms_of}
-use Rattle.rx_cli.specs.Straight.{AreNotStraight, HaveTerms, IsEqual, IsOutcome, order_of}
+use Rattle.c_front.proofs.Readings.{reading_of}
+use Rattle.rx_command.specs.Commands.{Functions}
+use Rattle.rx_command.specs.declared.command.Effort.{Effort}
+use Rattle.rx_cli.specs.declared.answers.Answer.{Answer}
+use Rattle.rx_cli.specs.declared.answers.Answer.TheVariants.{Line, Proof}
+use Rattle.rx_cli.specs.declared.ends.Status.TheVariants as Ends
+use Rattle.rx_cli.specs.declared.straight.TwoTerms.{TwoTerms}
+use Rattle.rx_cli.specs.declared.verdicts.Verdict.{Verdict}
+use Rattle.rx_cli.specs.declared.verdicts.Verdict.TheVariants as Said
+use Rattle.rx_cli.specs.Agreement.{Agrees, AreAlike}
+use Rattle.rx_cli.specs.Answers.{status_in}
+use Rattle.rx_cli.specs.Ends.{status_of}
+use Rattle.rx_cli.specs.Questions.{rows_of}
+use Rattle.rx_cli.specs.Steps.{HaveOneValue, IfProof}
+use Rattle.rx_cli.specs.Straight.{IsProved, OnCompared, OnForms, OnTerms, joined, order_of, term_at, terms_of, terms_within}
 use Rattle.rx_cli.specs.Terms.{function_term, term_of}
-use Rattle.std.proofs.lemmas.Option.{none-some}
+use Rattle.rx_cli.proofs.Checked.{status_refused}
 use Rattle.rx_cli.proofs.TermLaws.{term_of_straight}
 
 -- a statement that returns an expression is that return
@@ -55,63 +68,6 @@ pub straight_body : (f : Function) (e : Expr) → straight_of f ≡ Some e → (
 straight_body f e is =
     let kept = kept_is (length f.params) e (returned f.body) is in (is_body f.body e kept.0, kept.1)
 
--- a straight function has a term
-has_term : (f : Function) (o : Option Expr) → straight_of f ≡ o → option_and_then term_of o ≡ None → o ≡ None
-has_term f None is none = refl
-has_term f (Some e) is none =
-    let body = straight_body f e is in
-    let whole = term_of_straight (length f.params) (λ _. Some (pos 0)) (λ _. pos 0) (λ slot h. refl) e body.1 in
-    absurd (none-some _ (sym none ∙ whole.1))
-
-pub termless : (f : Function) → function_term f ≡ None → straight_of f ≡ None
-termless f none = has_term f (straight_of f) refl none
-
-module _ (source first second : List ℕ) (two : TwoFunctions) where
-  -- the two functions are comparable
-  abbrev pub AreBoth : Type 0
-  AreBoth = (left : Function) × (right : Function) × AreComparable source first second two left right
-
-  module _ (left right : Function) (are : AreComparable source first second two left right) where
-    -- the terms of the two functions are those at their places
-    terms_joined : joined (order_of two.first two.second) (function_term left) (function_term right) ≡ terms_of two
-    terms_joined = sym (ap (λ o. joined (order_of two.first two.second) (option_and_then function_term o) (term_at two.program.functions two.second)) are.are_named.is_left
-        ∙ ap (λ o. joined (order_of two.first two.second) (function_term left) (option_and_then function_term o)) are.are_named.is_right)
-
-    -- what is said of them, by their terms
-    abbrev Said : Option TwoTerms → Type 0
-    Said None = AreNotStraight source first second
-    Said (Some terms) = HaveTerms source first second terms
-
-    by_terms : (s t : Option ITerm) → function_term left ≡ s → function_term right ≡ t → Said (joined (order_of two.first two.second) s t)
-    by_terms None t is_s is_t = (two, left, right, are, inl (termless left is_s))
-    by_terms (Some s) None is_s is_t = (two, left, right, are, inr (termless right is_t))
-    by_terms (Some s) (Some t) is_s is_t = record {
-      two = two;
-      left = left;
-      right = right;
-      are_comparable = are;
-      left_term = is_s;
-      right_term = is_t;
-      order = refl;
-    }
-
-    said : Said (terms_of two)
-    said = subst Said terms_joined (by_terms (function_term left) (function_term right) refl refl)
-
-  -- comparable functions have terms where both are straight
-  have_terms : (terms : TwoTerms) → AreBoth → Some terms ≡ terms_of two → HaveTerms source first second terms
-  have_terms terms (left, right, are) is = subst (Said left right are) (sym is) (said left right are)
-
-  -- else one of them isn't
-  not_straight : AreBoth → None ≡ terms_of two → AreNotStraight source first second
-  not_straight (left, right, are) is = subst (Said left right are) (sym is) (said left right are)
-
--- two terms with one normal form have one value
-pub equal : (terms : TwoTerms) (p q : Body) → p ≡ norm_of terms.left → q ≡ norm_of terms.right → norm_within terms.left ≡ true → norm_within terms.right ≡ true
-    → ((a : ℕ → ℤ) → value a p ≡ term_value a terms.left) → ((a : ℕ → ℤ) → value a q ≡ term_value a terms.right) → p ≡ q → Compares terms (Says.Equal terms.order)
-equal terms p q left right within_left within_right value_left value_right same =
-    ((within_left, within_right), sym left ∙ (same ∙ right), (λ a. sym (value_left a) ∙ (ap (value a) same ∙ value_right a)), refl)
-
 -- a straight function returns the value of its term at its arguments
 returns_term : (program : Resolved) (place : ℕ) (f : Function) (t : ITerm) → slice_get program.functions place ≡ Some f → function_term f ≡ Some t
     → (arguments : List ℤ) → length arguments ≡ length f.params
@@ -134,51 +90,84 @@ returns_term program place f t there is arguments count = go (straight_of f) ref
           is_answer = tt;
         }
 
--- two straight functions whose terms have one value agree
-agrees : (source first second : List ℕ) (terms : TwoTerms) → HaveTerms source first second terms → ((a : ℕ → ℤ) → term_value a terms.left ≡ term_value a terms.right) → Agrees source first second
-agrees source first second terms have values = let are = have.are_comparable in record {
-  two = have.two;
-  left = have.left;
-  right = have.right;
-  are_comparable = are;
-  same = (λ arguments count.
+-- two joined terms are the terms that were joined
+parts : (two : TwoFunctions) (s t : Option ITerm) (terms : TwoTerms) → joined (order_of two.first two.second) s t ≡ Some terms → (s ≡ Some terms.left) × (t ≡ Some terms.right)
+parts two None t terms is = absurd (none-some _ is)
+parts two (Some s) None terms is = absurd (none-some _ is)
+parts two (Some s) (Some t) terms is =
+    let same : record { order = order_of two.first two.second; left = s; right = t } ≡ terms = cc in
+    (ap (λ (z : TwoTerms). Some z.left) same, ap (λ (z : TwoTerms). Some z.right) same)
+
+module _ (source first second : List ℕ) (two : TwoFunctions) (left right : Function) (are : AreComparable source first second two left right) (terms : TwoTerms) (have : terms_of two ≡ Some terms)
+    (values : (a : ℕ → ℤ) → term_value a terms.left ≡ term_value a terms.right) where
+  terms_joined : joined (order_of two.first two.second) (function_term left) (function_term right) ≡ terms_of two
+  terms_joined = sym (ap (λ o. joined (order_of two.first two.second) (option_and_then function_term o) (term_at two.program.functions two.second)) are.are_named.is_left
+      ∙ ap (λ o. joined (order_of two.first two.second) (function_term left) (option_and_then function_term o)) are.are_named.is_right)
+
+  both : (function_term left ≡ Some terms.left) × (function_term right ≡ Some terms.right)
+  both = parts two (function_term left) (function_term right) terms (terms_joined ∙ have)
+
+  -- straight functions whose terms have one value return alike, whatever the precondition is
+  alike : (compared : Compared) → compared.two ≡ two → AreAlike compared
+  alike compared is = subst (λ (t : TwoFunctions). AreAlike (record { two = t; precondition = compared.precondition })) (sym is) (λ arguments long met.
       let a : ℕ → ℤ = (λ k. get_or arguments k (pos 0)) in
-      let r = returns_term have.two.program have.two.second have.right terms.right are.are_named.is_right have.right_term arguments (count ∙ are.counts) in (
-        term_value a terms.left,
-        returns_term have.two.program have.two.first have.left terms.left are.are_named.is_left have.left_term arguments count,
-        subst (λ k. Returns have.two.program have.two.second arguments (Value k)) (sym (values a)) r,
-      ));
-}
+      let count : length arguments ≡ length left.params = long ∙ ap count_at are.are_named.is_left in
+      let r = returns_term two.program two.second right terms.right are.are_named.is_right both.1 arguments (count ∙ are.counts) in
+      record {
+        outcome = Value (term_value a terms.left);
+        first = returns_term two.program two.first left terms.left are.are_named.is_left both.0 arguments count;
+        second = subst (λ k. Returns two.program two.second arguments (Value k)) (sym (values a)) r;
+      })
 
-module _ (source first second : List ℕ) (terms : TwoTerms) (have : HaveTerms source first second terms) where
-  -- the outcome by what is said of both terms
-  outcome_by_terms : (outcome : Outcome) → Compares terms outcome → IsOutcome source first second outcome
-  outcome_by_terms Says.Large compared = (terms, have, compared)
-  outcome_by_terms Says.Differ compared = (terms, have, compared.0, compared.1)
-  outcome_by_terms (Says.Equal order) compared = (terms, have, compared.0, compared.1, compared.3)
-  outcome_by_terms (Says.Refused refusal) compared = absurd compared
-  outcome_by_terms Says.NotStraight compared = absurd compared
+-- the functions that a condition is on
+same_two : (source : List ℕ) (pre : Option (List ℕ)) (two : TwoFunctions) (compared : Compared) → condition_stage source pre two (Goes compared) → compared.two ≡ two
+same_two source None two compared is = ap (λ (c : Compared). c.two) is
+same_two source (Some bytes) two compared (text, program, pre, read, is) = ap (λ (c : Compared). c.two) is
 
-  sound_by_terms : (outcome : Outcome) → Compares terms outcome → IsEqual outcome → Agrees source first second
-  sound_by_terms (Says.Equal order) compared equal = agrees source first second terms have compared.2
-  sound_by_terms Says.Large compared equal = absurd equal
-  sound_by_terms Says.Differ compared equal = absurd equal
-  sound_by_terms (Says.Refused refusal) compared equal = absurd equal
-  sound_by_terms Says.NotStraight compared equal = absurd equal
+module _ (f : Functions) (source : List ℕ) (compared : Compared) (whole : whole_front source f.first f.second f.precondition (Goes compared)) where
+  by_front : (terms : TwoTerms) → terms_of compared.two ≡ Some terms → ((a : ℕ → ℤ) → term_value a terms.left ≡ term_value a terms.right) → AreAlike compared
+  by_front terms have values = let (two, named, condition) = whole in
+      let (left, right, are) = reading_of source f.first f.second (Goes two) named in
+      let is = same_two source f.precondition two compared condition in
+      alike source f.first f.second two left right are terms (ap terms_of (sym is) ∙ have) values compared is
 
-module _ (source first second : List ℕ) (two : TwoFunctions) (both : AreBoth source first second two) (outcome : Outcome) where
-  outcome_by : (o : Option TwoTerms) → o ≡ terms_of two → IsSaid o outcome → IsOutcome source first second outcome
-  outcome_by None is said = subst (IsOutcome source first second) (sym said) (not_straight source first second two both is)
-  outcome_by (Some terms) is said = outcome_by_terms source first second terms (have_terms source first second two terms both is) outcome said
+  by_answer : (depth : ℕ) (o : Option TwoTerms) → terms_of compared.two ≡ o → (answer : Answer) → OnTerms compared.precondition depth o answer → HaveOneValue o answer → IfProof (Agrees source f) answer
+  by_answer depth o is (Line verdict) on one = tt
+  by_answer depth None is (Proof order) on one = absurd (let none : ⊥ = cc in none)
+  by_answer depth (Some terms) is (Proof order) on one = record { compared = compared; front = whole; alike = by_front terms is one }
 
-  sound_by : (o : Option TwoTerms) → o ≡ terms_of two → IsSaid o outcome → IsEqual outcome → Agrees source first second
-  sound_by None is said equal = absurd (subst IsEqual said equal)
-  sound_by (Some terms) is said equal = sound_by_terms source first second terms (have_terms source first second two terms both is) outcome said equal
+  -- where a proof is answered, both functions agree
+  pub proof_agrees : (depth : ℕ) (answer : Answer) → OnCompared depth compared answer → HaveOneValue (terms_of compared.two) answer → IfProof (Agrees source f) answer
+  proof_agrees depth answer on one = by_answer depth (terms_of compared.two) refl answer on one
 
-  -- what is said of two comparable functions is the outcome
-  pub outcome_said : IsSaid (terms_of two) outcome → IsOutcome source first second outcome
-  outcome_said said = outcome_by (terms_of two) refl said
+-- no line says that both are equal
+module _ (verdict : Verdict) (says : status_of verdict ≡ Ends.Equivalent) where
+  line_is : (other : Verdict) → Line verdict ≡ Line other → status_of other ≡ Ends.Equivalent
+  line_is other is = sym (ap status_in is) ∙ says
 
-  -- where they are said to be equal, they agree
-  pub sound_said : IsSaid (terms_of two) outcome → IsEqual outcome → Agrees source first second
-  sound_said said equal = sound_by (terms_of two) refl said equal
+  no_form : (depth : ℕ) (terms : TwoTerms) → OnForms depth terms (Line verdict) → ⊥
+  no_form depth terms (inl (same, is)) = cc
+  no_form depth terms (inr (differ, is)) = let no : Ends.Unknown ≡ Ends.Equivalent = line_is (Said.Depth depth) is in cc
+
+  no_row : (within : Bool) (depth : ℕ) (terms : TwoTerms) → MatchBool within (OnForms depth terms (Line verdict)) (Line verdict ≡ Line Said.LargePre) → ⊥
+  no_row true depth terms on = no_form depth terms on
+  no_row false depth terms is = let no : Ends.Large ≡ Ends.Equivalent = line_is Said.LargePre is in cc
+
+  no_term : (within rows : Bool) (depth : ℕ) (terms : TwoTerms)
+      → MatchBool within (MatchBool rows (OnForms depth terms (Line verdict)) (Line verdict ≡ Line Said.LargePre)) (Line verdict ≡ Line Said.LargeTranslate) → ⊥
+  no_term true rows depth terms on = no_row rows depth terms on
+  no_term false rows depth terms is = let no : Ends.Large ≡ Ends.Equivalent = line_is Said.LargeTranslate is in cc
+
+  no_terms : (pre : Option Expr) (depth : ℕ) (o : Option TwoTerms) → OnTerms pre depth o (Line verdict) → ⊥
+  no_terms pre depth None is = let no : Ends.Refused ≡ Ends.Equivalent = line_is Said.NotStraight is in cc
+  no_terms pre depth (Some terms) on = no_term (terms_within terms) (rows_of pre).within depth terms on
+
+  no_line : (f : Functions) (effort : Effort) (source : List ℕ) → IsProved f effort source (Line verdict) → ⊥
+  no_line f effort source (inl (other, (refusal, refused, is_other), is)) =
+      let no : Ends.Refused ≡ Ends.Equivalent = sym (status_refused refusal) ∙ (sym (ap status_of is_other) ∙ line_is other is) in cc
+  no_line f effort source (inr (compared, front, on)) = no_terms compared.precondition effort.depth (terms_of compared.two) on
+
+-- where the status says that both functions are equal, they agree
+pub proved_agrees : (f : Functions) (effort : Effort) (source : List ℕ) (answer : Answer) → IsProved f effort source answer → IfProof (Agrees source f) answer → status_in answer ≡ Ends.Equivalent → Agrees source f
+proved_agrees f effort source (Proof order) proved right says = right
+proved_agrees f effort source (Line verdict) proved right says = absurd (no_line verdict says f effort source proved)

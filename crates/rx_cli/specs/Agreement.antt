@@ -1,20 +1,37 @@
--- What it means that two functions of a text agree: for all integers as their arguments they return the same integer, by the meaning of C over the mathematical integers, where nothing overflows.
-use Rattle.std.specs.Prelude.{◌≡◌, ℕ, ℤ, List, length}
-use Rattle.c_ast.specs.declared.program.Function.{Function}
+-- What it means that two functions of a text agree: on all integers that meet the precondition they
+-- return alike, the same integer or both the division error, by the meaning of C over the mathematical
+-- integers, where nothing overflows.
+use Rattle.std.specs.Prelude.{◌≡◌, ◌≢◌, ⊤, ℕ, ℤ, pos, List, Option, Some, None, length}
+use Rattle.c_ast.specs.declared.expr.Expr.{Expr}
+use Rattle.c_ast.specs.declared.program.Resolved.{Resolved}
 use Rattle.c_meaning.specs.Outcomes.{Value}
-use Rattle.c_meaning.specs.Programs.{Returns}
-use Rattle.c_front.specs.declared.pairs.TwoFunctions.{TwoFunctions}
-use Rattle.c_front.specs.FrontEnd.{AreComparable}
+use Rattle.c_meaning.specs.Programs.{expr_outcome}
+use Rattle.c_front.specs.declared.pairs.Compared.{Compared}
+use Rattle.c_front.specs.declared.stages.Next.TheVariants.{Goes}
+use Rattle.c_front.specs.Conditions.{whole_front}
+use Rattle.c_front.specs.Front.{count_in}
+use Rattle.rx_agreement.specs.Agreement.{ReturnAlike}
+use Rattle.rx_command.specs.Commands.{Functions}
 
--- the two functions return the same integer for each list of so many integers
-abbrev pub ReturnSame : TwoFunctions → ℕ → Type 0
-ReturnSame two count = (arguments : List ℤ) → length arguments ≡ count
-    → (value : ℤ) × Returns two.program two.first arguments (Value value) × Returns two.program two.second arguments (Value value)
+-- the arguments meet the precondition, if there is one: it has a value at them, which isn't 0
+abbrev pub Meets : Resolved → Option Expr → List ℤ → Type 0
+Meets program None arguments = ⊤
+Meets program (Some pre) arguments =
+    (value : ℤ) × ((rounds : ℕ) → expr_outcome program rounds pre arguments ≡ Value value)
+    × (value ≢ pos 0)
 
--- the text spells a well-formed program, whose functions with these names have equally many parameters and return the same integer for all integers
-pub record Agrees (source first second : List ℕ) : Type 0 where
-  pub two : TwoFunctions
-  pub left : Function
-  pub right : Function
-  pub are_comparable : AreComparable source first second two left right
-  pub same : ReturnSame two (length left.params)
+-- both functions return alike on all integers, as many as they have parameters, that meet the
+-- precondition
+abbrev pub AreAlike : Compared → Type 0
+AreAlike compared =
+    (arguments : List ℤ)
+    → length arguments ≡ count_in compared.two.program compared.two.first
+    → Meets compared.two.program compared.precondition arguments
+    → ReturnAlike compared.two.program compared.two.first compared.two.second arguments
+
+-- the text spells a well-formed program, the names are those of two of its functions, of equally many
+-- parameters, the precondition is one on these, and both functions return alike where it is met
+pub record Agrees (source : List ℕ) (f : Functions) : Type 0 where
+  pub compared : Compared
+  pub front : whole_front source f.first f.second f.precondition (Goes compared)
+  pub alike : AreAlike compared

@@ -1,5 +1,7 @@
 -- Exit statuses, and the status of each verdict.
 use Rattle.std.specs.Prelude.{ℕ}
+use Rattle.rx_check.specs.declared.check_end.CheckEnd.{CheckEnd}
+use Rattle.rx_check.specs.declared.check_end.CheckEnd.TheVariants as End
 use Rattle.rx_cli.specs.declared.ends.Status.{Status}
 use Rattle.rx_cli.specs.declared.ends.Status.TheVariants as Ends
 use Rattle.rx_cli.specs.declared.verdicts.Verdict.{Verdict}
@@ -16,17 +18,29 @@ code_of Ends.WriteFault = 5
 code_of Ends.NoMemory = 6
 code_of Ends.Large = 7
 
+-- how a run ends whose log has this fault
+abbrev pub check_status : CheckEnd → Status
+check_status (End.Large place) = Ends.Large
+check_status end = Ends.Refused
+
 -- how a run ends that reports this
 abbrev pub status_of : Verdict → Status
 status_of Said.Equivalent = Ends.Equivalent
 status_of (Said.Depth depth) = Ends.Unknown
 status_of Said.LongSource = Ends.Refused
+status_of Said.LongLog = Ends.Refused
 status_of (Said.Lex fault) = Ends.Refused
 status_of (Said.Parse end) = Ends.Refused
 status_of (Said.Scope end) = Ends.Refused
 status_of (Said.NoFunction name) = Ends.Refused
 status_of (Said.Arity first second) = Ends.Refused
+status_of (Said.PreLex fault) = Ends.Refused
+status_of (Said.PreParse end) = Ends.Refused
+status_of (Said.PreName token) = Ends.Refused
 status_of Said.NotStraight = Ends.Refused
+status_of (Said.Line number) = Ends.Refused
+status_of (Said.Check end) = check_status end
 status_of Said.Usage = Ends.Usage
 status_of Said.ReadFault = Ends.ReadFault
 status_of Said.LargeTranslate = Ends.Large
+status_of Said.LargePre = Ends.Large

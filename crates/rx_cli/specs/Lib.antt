@@ -1,12 +1,13 @@
 pub mod Agreement
 pub mod Answers
+pub mod Checks
 pub mod Ends
 pub mod InMemory
 pub mod ProofText
+pub mod Questions
 pub mod Run
 pub mod Steps
 pub mod Straight
 pub mod Terms
 pub mod Texts
 pub mod Verdicts
-pub mod Words

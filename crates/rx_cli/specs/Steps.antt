@@ -1,40 +1,107 @@
--- The steps from a text to an outcome, as the functions inside promise them to one another. Nothing that a caller of the run reads stands on these.
-use Rattle.std.specs.Prelude.{◌≡◌, ◌≢◌, ℕ, ℤ, List, Option, Some, None, slice_get}
-use Rattle.std.specs.Option.{option_and_then}
-use Rattle.c_ast.specs.declared.program.Function.{Function}
-use Rattle.rx_poly.specs.declared.iterm.ITerm.{ITerm}
+-- What the functions inside promise to one another. Nothing that a caller of the run reads stands on
+-- these.
+use Rattle.std.specs.Prelude.{◌≡◌, ◌<◌, ◌≤◌, ◌^◌, ◌⊎◌, length, true, false, ⊤, ℕ, ℤ, List, Option, Some, None, Vec, slice_get}
+use Rattle.c_ast.specs.declared.expr.Expr.{Expr}
+use Rattle.c_ast.specs.RowForms.{is_row_form}
+use Rattle.c_ast.specs.Scoped.{is_scoped, parameter_counts}
+use Rattle.c_front.specs.declared.pairs.Compared.{Compared}
+use Rattle.c_front.specs.declared.stages.Next.{Next}
+use Rattle.c_front.specs.declared.stages.Next.TheVariants.{Ends, Goes}
+use Rattle.c_front.specs.Front.{count_in}
+use Rattle.rx_code.specs.Translation.{IsBeyond, IsTranslation}
+use Rattle.rx_io.specs.Outside.{HoldsBytes, HoldsMore, IsMissing, Names}
+use Rattle.rx_command.specs.Commands.{Functions}
+use Rattle.rx_translate.specs.declared.translation.Translation.{Translation}
+use Rattle.rx_plain.specs.Formed.{Formed}
 use Rattle.rx_poly.specs.Norm.{norm_of, term_value}
-use Rattle.c_front.specs.declared.pairs.TwoFunctions.{TwoFunctions}
-use Rattle.rx_cli.specs.declared.straight.Order.{Order}
-use Rattle.rx_cli.specs.declared.straight.Outcome.{Outcome}
-use Rattle.rx_cli.specs.declared.straight.Outcome.TheVariants as Says
+use Rattle.rx_poly.specs.Value.{value}
+use Rattle.std.specs.declared.alloc.Global.{Global}
+use Rattle.rx_cli.specs.declared.answers.Answer.{Answer}
+use Rattle.rx_cli.specs.declared.answers.Answer.TheVariants.{Line, Proof}
+use Rattle.rx_cli.specs.declared.straight.TwoForms.{TwoForms}
 use Rattle.rx_cli.specs.declared.straight.TwoTerms.{TwoTerms}
-use Rattle.rx_cli.specs.Straight.{IsWithinLimits, PassesLimits, order_of}
-use Rattle.rx_cli.specs.Terms.{function_term}
+use Rattle.rx_cli.specs.declared.verdicts.Verdict.{Verdict}
+use Rattle.rx_cli.specs.declared.verdicts.Verdict.TheVariants as Said
+use Rattle.rx_cli.specs.Answers.{IsHeld}
+use Rattle.rx_cli.specs.Checks.{IsChecked}
+use Rattle.rx_cli.specs.Straight.{terms_within}
+use Rattle.rx_cli.specs.Texts.{HasLine}
 
--- the term that the function at a place returns, where one stands there and is straight
-abbrev pub term_at : List Function → ℕ → Option ITerm
-term_at functions place = option_and_then function_term (slice_get functions place)
+-- a precondition, where there is one, is a row form
+abbrev pub HasRowForm : Option Expr → Type 0
+HasRowForm None = ⊤
+HasRowForm (Some pre) = is_row_form pre ≡ true
 
--- two terms with an order, where both are there
-abbrev pub joined : Order → Option ITerm → Option ITerm → Option TwoTerms
-joined order None right = None
-joined order (Some left) None = None
-joined order (Some left) (Some right) = Some (record { order = order; left = left; right = right })
+-- what the translation asks of two functions and a precondition
+pub record IsReady (compared : Compared) : Type 0 where
+  pub scoped : is_scoped compared.two.program ≡ true
+  pub first_counts :
+      slice_get (parameter_counts compared.two.program.functions) compared.two.first
+      ≡ Some (count_in compared.two.program compared.two.first)
+  pub second_counts :
+      slice_get (parameter_counts compared.two.program.functions) compared.two.second
+      ≡ Some (count_in compared.two.program compared.two.first)
+  pub few : count_in compared.two.program compared.two.first < 2 ^ 32
+  pub row_form : HasRowForm compared.precondition
 
--- the terms of two functions, where both are straight
-abbrev pub terms_of : TwoFunctions → Option TwoTerms
-terms_of two = joined (order_of two.first two.second) (term_at two.program.functions two.first) (term_at two.program.functions two.second)
+-- a verdict that ends the run has a line
+abbrev pub HasLineNext : {B : Type 0} → Next Verdict B → Type 0
+HasLineNext (Ends verdict) = HasLine verdict
+HasLineNext (Goes b) = ⊤
 
--- what is said of two terms by their normal forms; where these are the same, the terms have one value for all integers
-abbrev pub Compares : TwoTerms → Outcome → Type 0
-Compares terms Says.Large = PassesLimits terms
-Compares terms Says.Differ = IsWithinLimits terms × (norm_of terms.left ≢ norm_of terms.right)
-Compares terms (Says.Equal order) =
-    IsWithinLimits terms × (norm_of terms.left ≡ norm_of terms.right) × ((a : ℕ → ℤ) → term_value a terms.left ≡ term_value a terms.right) × (order ≡ terms.order)
-Compares terms outcome = ⊥
+-- what is formed, where it keeps the limits; none exactly where it doesn't
+abbrev pub FormsSome : {A : Type 0} → Option A → Formed A → Type 0
+FormsSome (Some x) f = (x ≡ f.form) × (f.within ≡ true)
+FormsSome None f = f.within ≡ false
 
--- what is said of two functions by their terms; where these aren't there, that one isn't straight
-abbrev pub IsSaid : Option TwoTerms → Outcome → Type 0
-IsSaid None outcome = outcome ≡ Says.NotStraight
-IsSaid (Some terms) outcome = Compares terms outcome
+-- the translation of two functions; none exactly where it passes the limits
+abbrev pub Translates : Compared → Option Translation → Type 0
+Translates compared (Some t) =
+    IsTranslation compared.two.program compared.two.first compared.two.second t.rules t.first t.second
+Translates compared None =
+    IsBeyond compared.two.program compared.two.first compared.two.second
+
+-- ---- straight functions
+
+-- the normal forms of two terms
+pub record AreForms (terms : TwoTerms) (forms : TwoForms) : Type 0 where
+  pub left : forms.left ≡ norm_of terms.left
+  pub right : forms.right ≡ norm_of terms.right
+  pub left_value : (a : ℕ → ℤ) → value a forms.left ≡ term_value a terms.left
+  pub right_value : (a : ℕ → ℤ) → value a forms.right ≡ term_value a terms.right
+
+-- they are formed, where they keep the limits; none exactly where they don't
+abbrev pub FormsTwo : TwoTerms → Option TwoForms → Type 0
+FormsTwo terms (Some forms) = AreForms terms forms × (terms_within terms ≡ true)
+FormsTwo terms None = terms_within terms ≡ false
+
+-- where a proof is answered, both terms have one value
+abbrev pub HaveOneValue : Option TwoTerms → Answer → Type 0
+HaveOneValue (Some terms) (Proof order) =
+    (a : ℕ → ℤ) → term_value a terms.left ≡ term_value a terms.right
+HaveOneValue terms answer = ⊤
+
+-- where a proof is answered, this holds
+abbrev pub IfProof : Type 0 → Answer → Type 0
+IfProof Right (Proof order) = Right
+IfProof Right (Line verdict) = ⊤
+
+-- ---- reading
+
+-- the bytes that a stage hands on
+abbrev pub bytes_in : Next Verdict (Vec ℕ Global) → Next Verdict (List ℕ)
+bytes_in (Ends verdict) = Ends verdict
+bytes_in (Goes bytes) = Goes bytes.items
+
+-- what is known of a file that was read: its bytes, or that it has too many, or that reading failed
+abbrev pub Reads : Option Names → Type 0 → List ℕ → ℕ → Verdict → Next Verdict (List ℕ) → Type 0
+Reads held fault name limit long (Goes bytes) = HoldsBytes held name bytes × (length bytes ≤ limit)
+Reads held fault name limit long (Ends verdict) =
+    (HoldsMore held name limit × (verdict ≡ long))
+    ⊎ ((fault ⊎ IsMissing held name) × (verdict ≡ Said.ReadFault))
+
+-- what is said of a text and a log that is read under a name, or that a call on the files found a fault
+abbrev pub ChecksNamed : Option Names → Type 0 → Functions → List ℕ → List ℕ → Verdict → Type 0
+ChecksNamed held fault f source name verdict =
+    ((given : Option (List ℕ)) × IsHeld held name given × IsChecked f source given verdict)
+    ⊎ (fault × (verdict ≡ Said.ReadFault))

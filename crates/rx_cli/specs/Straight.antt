@@ -1,69 +1,73 @@
--- What the comparison of straight functions says of a text and two names.
-use Rattle.std.specs.Prelude.{◌≡◌, ◌≢◌, ◌⊎◌, true, false, ℕ, ⊤, List, None, Some, nat_eq, nat_lt, if◌then◌else◌}
+-- The comparison of straight functions by the normal forms of what they return.
+use Rattle.std.specs.Prelude.{◌≡◌, ◌≢◌, ◌⊎◌, ◌&&◌, Bool, ℕ, List, Option, Some, None, slice_get, nat_eq, nat_lt, if◌then◌else◌, MatchBool}
+use Rattle.std.specs.Option.{option_and_then}
+use Rattle.c_ast.specs.declared.expr.Expr.{Expr}
 use Rattle.c_ast.specs.declared.program.Function.{Function}
-use Rattle.c_ast.specs.Forms.{straight_of}
+use Rattle.rx_poly.specs.declared.iterm.ITerm.{ITerm}
 use Rattle.rx_poly.specs.Norm.{norm_of, norm_within}
+use Rattle.c_front.specs.declared.pairs.Compared.{Compared}
 use Rattle.c_front.specs.declared.pairs.TwoFunctions.{TwoFunctions}
+use Rattle.c_front.specs.declared.stages.Next.TheVariants.{Ends, Goes}
+use Rattle.rx_command.specs.Commands.{Functions}
+use Rattle.rx_command.specs.declared.command.Effort.{Effort}
+use Rattle.rx_cli.specs.declared.answers.Answer.{Answer}
+use Rattle.rx_cli.specs.declared.answers.Answer.TheVariants.{Line, Proof}
 use Rattle.rx_cli.specs.declared.straight.Order.{Order}
 use Rattle.rx_cli.specs.declared.straight.Order.TheVariants.{Same, FirstBefore, SecondBefore}
-use Rattle.rx_cli.specs.declared.straight.Outcome.{Outcome}
-use Rattle.rx_cli.specs.declared.straight.Outcome.TheVariants as Says
 use Rattle.rx_cli.specs.declared.straight.TwoTerms.{TwoTerms}
-use Rattle.c_front.specs.declared.stages.Next.TheVariants.{Ends}
-use Rattle.c_front.specs.Front.{front}
-use Rattle.c_front.specs.FrontEnd.{AreComparable, IsSameRefusal, IsSayable}
+use Rattle.rx_cli.specs.declared.verdicts.Verdict.{Verdict}
+use Rattle.rx_cli.specs.declared.verdicts.Verdict.TheVariants as Said
+use Rattle.rx_cli.specs.Questions.{front_stage, rows_of}
 use Rattle.rx_cli.specs.Terms.{function_term}
 
 -- how two places stand to one another
 abbrev pub order_of : ℕ → ℕ → Order
 order_of i j = if nat_eq i j then Same else (if nat_lt i j then FirstBefore else SecondBefore)
 
--- the two names have functions of equally many parameters in the text, of which one or both aren't straight
-abbrev pub AreNotStraight : List ℕ → List ℕ → List ℕ → Type 0
-AreNotStraight source first second =
-    (two : TwoFunctions) × (left : Function) × (right : Function) × AreComparable source first second two left right
-    × ((straight_of left ≡ None) ⊎ (straight_of right ≡ None))
+-- the term that the function at a place returns, where one stands there and is straight
+abbrev pub term_at : List Function → ℕ → Option ITerm
+term_at functions place = option_and_then function_term (slice_get functions place)
 
--- the two names have straight functions of equally many parameters in the text, which return these terms and stand in this order
-pub record HaveTerms (source first second : List ℕ) (terms : TwoTerms) : Type 0 where
-  pub two : TwoFunctions
-  pub left : Function
-  pub right : Function
-  pub are_comparable : AreComparable source first second two left right
-  pub left_term : function_term left ≡ Some terms.left
-  pub right_term : function_term right ≡ Some terms.right
-  pub order : terms.order ≡ order_of two.first two.second
+-- two terms with an order, where both are there
+abbrev pub joined : Order → Option ITerm → Option ITerm → Option TwoTerms
+joined order None right = None
+joined order (Some left) None = None
+joined order (Some left) (Some right) =
+    Some (record { order = order; left = left; right = right })
 
--- both normal forms, and all that leads to them, keep the limits
-abbrev pub IsWithinLimits : TwoTerms → Type 0
-IsWithinLimits terms = (norm_within terms.left ≡ true) × (norm_within terms.right ≡ true)
+-- the terms of two functions, where both are straight
+abbrev pub terms_of : TwoFunctions → Option TwoTerms
+terms_of two =
+    joined (order_of two.first two.second) (term_at two.program.functions two.first)
+    (term_at two.program.functions two.second)
 
--- one of the two, or something that leads to it, doesn't
-abbrev pub PassesLimits : TwoTerms → Type 0
-PassesLimits terms = (norm_within terms.left ≡ false) ⊎ (norm_within terms.right ≡ false)
+-- whether both normal forms, and all that leads to them, keep the limits
+abbrev pub terms_within : TwoTerms → Bool
+terms_within terms = norm_within terms.left && norm_within terms.right
 
--- what is said, and when. The cases exclude each other, but for the place of a syntax error
-abbrev pub IsOutcome : List ℕ → List ℕ → List ℕ → Outcome → Type 0
-IsOutcome source first second (Says.Refused refusal) = front source first second (Ends refusal)
-IsOutcome source first second Says.NotStraight = AreNotStraight source first second
-IsOutcome source first second Says.Large =
-    (terms : TwoTerms) × HaveTerms source first second terms × PassesLimits terms
-IsOutcome source first second Says.Differ =
-    (terms : TwoTerms) × HaveTerms source first second terms × IsWithinLimits terms × (norm_of terms.left ≢ norm_of terms.right)
-IsOutcome source first second (Says.Equal order) =
-    (terms : TwoTerms) × HaveTerms source first second terms × IsWithinLimits terms × (norm_of terms.left ≡ norm_of terms.right) × (order ≡ terms.order)
+-- two terms with one normal form have a proof; of others nothing is known
+abbrev pub OnForms : ℕ → TwoTerms → Answer → Type 0
+OnForms depth terms answer =
+    ((norm_of terms.left ≡ norm_of terms.right) × (answer ≡ Proof terms.order))
+    ⊎ ((norm_of terms.left ≢ norm_of terms.right) × (answer ≡ Line (Said.Depth depth)))
 
--- one outcome, but for the place of a syntax error
-abbrev pub IsSameOutcome : Outcome → Outcome → Type 0
-IsSameOutcome (Says.Refused r) (Says.Refused s) = IsSameRefusal r s
-IsSameOutcome x y = x ≡ y
+-- the terms keep the limits, or not; then the rows of the precondition; then both are compared, whatever
+-- the precondition is
+abbrev pub OnTerms : Option Expr → ℕ → Option TwoTerms → Answer → Type 0
+OnTerms pre depth None answer = answer ≡ Line Said.NotStraight
+OnTerms pre depth (Some terms) answer =
+    MatchBool (terms_within terms)
+    (MatchBool (rows_of pre).within (OnForms depth terms answer) (answer ≡ Line Said.LargePre))
+    (answer ≡ Line Said.LargeTranslate)
 
--- the two are said to be equal
-abbrev pub IsEqual : Outcome → Type 0
-IsEqual (Says.Equal order) = ⊤
-IsEqual outcome = ⊥
+-- what is said of two functions under a precondition
+abbrev pub OnCompared : ℕ → Compared → Answer → Type 0
+OnCompared depth compared answer =
+    OnTerms compared.precondition depth (terms_of compared.two) answer
 
--- it can be said in a line or a log
-abbrev pub IsSayableOutcome : Outcome → Type 0
-IsSayableOutcome (Says.Refused refusal) = IsSayable refusal
-IsSayableOutcome outcome = ⊤
+-- what is said of a text and two functions of it where a proof is asked for
+abbrev pub IsProved : Functions → Effort → List ℕ → Answer → Type 0
+IsProved f effort source answer =
+    ((verdict : Verdict) × front_stage f source (Ends verdict) × (answer ≡ Line verdict))
+    ⊎ ((compared : Compared) × front_stage f source (Goes compared)
+    × OnCompared effort.depth compared answer)

@@ -8,71 +8,151 @@ use Rattle.c_scope.specs.declared.error.ScopeEnd.{ScopeEnd}
 use Rattle.c_scope.specs.declared.error.ScopeEnd.TheVariants as Wrong
 use Rattle.c_front.specs.declared.refusals.Refusal.TheVariants as Why
 use Rattle.c_front.specs.FrontEnd.{IsSayable}
+use Rattle.rx_check.specs.declared.check_end.CheckEnd.{CheckEnd}
+use Rattle.rx_check.specs.declared.check_end.CheckEnd.TheVariants as End
+use Rattle.rx_check.specs.declared.check_end.Place.{Place}
+use Rattle.rx_check.specs.declared.check_end.Place.TheVariants as At
+use Rattle.rx_steps.specs.declared.step_end.StepEnd.{StepEnd}
+use Rattle.rx_steps.specs.declared.step_end.StepEnd.TheVariants as Unmet
 use Rattle.rx_cli.specs.declared.verdicts.Verdict.{Verdict}
 use Rattle.rx_cli.specs.declared.verdicts.Verdict.TheVariants as Said
 
--- a fault of the tokens, by its word and its place
-abbrev pub fault_line : List ℕ → ℕ → List ℕ
-fault_line word at = codes "REFUSED lex " ++ (word ++ (codes " at " ++ (decimal at ++ codes "\n")))
+-- a line that ends in a number
+abbrev pub numbered_line : List ℕ → ℕ → List ℕ
+numbered_line words number = words ++ (decimal number ++ codes "\n")
 
--- the line of a text that is no list of tokens; want of memory has none
+-- ---- the front end
+
+-- a refusal by its words and its place
+abbrev pub place_line : List ℕ → ℕ → List ℕ
+place_line words at = codes "REFUSED " ++ (words ++ (codes " at " ++ (decimal at ++ codes "\n")))
+
+-- the line of a source that is no list of tokens; want of memory has none
 abbrev pub lex_line : LexEnd → List ℕ
-lex_line (Fault.BadByte at) = fault_line (codes "bad-byte") at
-lex_line (Fault.OpenComment at) = fault_line (codes "open-comment") at
-lex_line (Fault.LiteralTooLarge at) = fault_line (codes "literal-too-large") at
-lex_line (Fault.LeadingZero at) = fault_line (codes "leading-zero") at
-lex_line (Fault.Directive at) = fault_line (codes "directive") at
+lex_line (Fault.BadByte at) = place_line (codes "lex bad-byte") at
+lex_line (Fault.OpenComment at) = place_line (codes "lex open-comment") at
+lex_line (Fault.LiteralTooLarge at) = place_line (codes "lex literal-too-large") at
+lex_line (Fault.LeadingZero at) = place_line (codes "lex leading-zero") at
+lex_line (Fault.Directive at) = place_line (codes "lex directive") at
 lex_line Fault.NoMemory = []
 
--- a refusal by its word and its token
-abbrev pub token_line : List ℕ → ℕ → List ℕ
-token_line word token = codes "REFUSED " ++ (word ++ (codes " at " ++ (decimal token ++ codes "\n")))
-
--- the line of a text that spells no program within the limits; want of memory has none, and what is said of preconditions alone has none
+-- the line of a source that spells no program within the limits; want of memory has none, and what is
+-- said of preconditions alone has none
 abbrev pub parse_line : ParseEnd → List ℕ
 parse_line (Flaw.Syntax token) = codes "REFUSED syntax\n"
-parse_line (Flaw.TooDeep token) = token_line (codes "deep") token
-parse_line (Flaw.TooManyParams token) = token_line (codes "params") token
+parse_line (Flaw.TooDeep token) = place_line (codes "deep") token
+parse_line (Flaw.TooManyParams token) = place_line (codes "params") token
 parse_line Flaw.NoMemory = []
 parse_line Flaw.NotARowForm = []
 
 -- the line of a program that isn't well formed; want of memory has none
 abbrev pub scope_line : ScopeEnd → List ℕ
-scope_line (Wrong.UnknownName token) = token_line (codes "scope unknown-name") token
-scope_line (Wrong.TwiceDeclared token) = token_line (codes "scope twice-declared") token
-scope_line (Wrong.WrongCount token) = token_line (codes "scope wrong-count") token
-scope_line (Wrong.MayBeUnset token) = token_line (codes "scope may-be-unset") token
-scope_line (Wrong.MayNotReturn token) = token_line (codes "scope may-not-return") token
-scope_line (Wrong.StrayBreak token) = token_line (codes "scope stray-break") token
-scope_line (Wrong.TooManySlots token) = token_line (codes "scope too-many-slots") token
+scope_line (Wrong.UnknownName token) = place_line (codes "scope unknown-name") token
+scope_line (Wrong.TwiceDeclared token) = place_line (codes "scope twice-declared") token
+scope_line (Wrong.WrongCount token) = place_line (codes "scope wrong-count") token
+scope_line (Wrong.MayBeUnset token) = place_line (codes "scope may-be-unset") token
+scope_line (Wrong.MayNotReturn token) = place_line (codes "scope may-not-return") token
+scope_line (Wrong.StrayBreak token) = place_line (codes "scope stray-break") token
+scope_line (Wrong.TooManySlots token) = place_line (codes "scope too-many-slots") token
 scope_line Wrong.NoMemory = []
-
--- the line of a name that no function has, the first or the second
-abbrev pub no_function_line : ℕ → List ℕ
-no_function_line name = codes "REFUSED no-function " ++ (decimal name ++ codes "\n")
 
 -- the line of two functions with different numbers of parameters
 abbrev pub arity_line : ℕ → ℕ → List ℕ
-arity_line first second = codes "REFUSED arity " ++ (decimal first ++ (codes " " ++ (decimal second ++ codes "\n")))
+arity_line first second =
+    codes "REFUSED arity " ++ (decimal first ++ (codes " " ++ (decimal second ++ codes "\n")))
+
+-- the line of a precondition that is no list of tokens; want of memory has none
+abbrev pub pre_lex_line : LexEnd → List ℕ
+pre_lex_line (Fault.BadByte at) = place_line (codes "pre bad-byte") at
+pre_lex_line (Fault.OpenComment at) = place_line (codes "pre open-comment") at
+pre_lex_line (Fault.LiteralTooLarge at) = place_line (codes "pre literal-too-large") at
+pre_lex_line (Fault.LeadingZero at) = place_line (codes "pre leading-zero") at
+pre_lex_line (Fault.Directive at) = place_line (codes "pre directive") at
+pre_lex_line Fault.NoMemory = []
+
+-- the line of a precondition that spells no row form within the limits; want of memory has none, and
+-- what is said of programs alone has none
+abbrev pub pre_parse_line : ParseEnd → List ℕ
+pre_parse_line (Flaw.Syntax token) = codes "REFUSED pre syntax\n"
+pre_parse_line (Flaw.TooDeep token) = place_line (codes "pre deep") token
+pre_parse_line Flaw.NotARowForm = codes "REFUSED pre not-row-form\n"
+pre_parse_line (Flaw.TooManyParams token) = []
+pre_parse_line Flaw.NoMemory = []
+
+-- ---- logs
+
+-- the line of a step, by its number and by words
+abbrev pub step_line : ℕ → List ℕ → List ℕ
+step_line step words =
+    codes "REFUSED step " ++ (decimal step ++ (codes " " ++ (words ++ codes "\n")))
+
+-- the line of a step that doesn't apply; want of memory has none, and what passes the limits has its own
+abbrev pub unmet_line : ℕ → StepEnd → List ℕ
+unmet_line step Unmet.NoGoal = step_line step (codes "no-goal")
+unmet_line step Unmet.WrongShape = step_line step (codes "wrong-shape")
+unmet_line step Unmet.NoSuchRule = step_line step (codes "no-such-rule")
+unmet_line step (Unmet.NotShown condition) = step_line step (codes "not-shown " ++ decimal condition)
+unmet_line step Unmet.Large = []
+unmet_line step Unmet.NoMemory = []
+
+-- the line of a place that passes the limits
+abbrev pub large_line : Place → List ℕ
+large_line (At.Cover symbol) = numbered_line (codes "LARGE cover s") symbol
+large_line (At.Step step) = numbered_line (codes "LARGE step ") step
+large_line (At.Pair pair) = numbered_line (codes "LARGE pair ") pair
+
+-- the line of a log that isn't accepted; want of memory has none
+abbrev pub check_line : CheckEnd → List ℕ
+check_line (End.Step step end) = unmet_line step end
+check_line (End.Unfinished goals) = numbered_line (codes "REFUSED unfinished ") goals
+check_line (End.NotCovered symbol) = numbered_line (codes "REFUSED cover s") symbol
+check_line (End.BadRanks symbol) = numbered_line (codes "REFUSED ranks s") symbol
+check_line (End.NotLower pair) = numbered_line (codes "REFUSED pair ") pair
+check_line (End.Large place) = large_line place
+check_line End.NoMemory = []
+
+-- ---- all
+
+-- the line of words that ask for nothing
+abbrev pub usage_line : List ℕ
+usage_line = codes "usage: ctrl MODE FILE [F] [G] [LOG] [--pre E] [--depth N] [--budget N]\n"
 
 -- the line of a verdict
 abbrev pub text_of : Verdict → List ℕ
 text_of Said.Equivalent = codes "EQUIVALENT\n"
-text_of (Said.Depth depth) = codes "UNKNOWN depth " ++ decimal depth ++ codes "\n"
+text_of (Said.Depth depth) = numbered_line (codes "UNKNOWN depth ") depth
 text_of Said.LongSource = codes "REFUSED long source\n"
+text_of Said.LongLog = codes "REFUSED long log\n"
 text_of (Said.Lex fault) = lex_line fault
 text_of (Said.Parse end) = parse_line end
 text_of (Said.Scope end) = scope_line end
-text_of (Said.NoFunction name) = no_function_line name
+text_of (Said.NoFunction name) = numbered_line (codes "REFUSED no-function ") name
 text_of (Said.Arity first second) = arity_line first second
+text_of (Said.PreLex fault) = pre_lex_line fault
+text_of (Said.PreParse end) = pre_parse_line end
+text_of (Said.PreName token) = place_line (codes "pre unknown-name") token
 text_of Said.NotStraight = codes "REFUSED not-straight\n"
-text_of Said.Usage = codes "usage: ctrl MODE FILE [F] [G] [LOG] [--pre E] [--depth N] [--budget N]\n"
+text_of (Said.Line number) = numbered_line (codes "REFUSED line ") number
+text_of (Said.Check end) = check_line end
+text_of Said.Usage = usage_line
 text_of Said.ReadFault = codes "READ FAULT\n"
 text_of Said.LargeTranslate = codes "LARGE translate\n"
+text_of Said.LargePre = codes "LARGE pre\n"
 
--- it has a line: no end inside is out of memory, or one of preconditions alone
+-- an end of a replay that has a line: it isn't out of memory, and a step that passes the limits isn't a
+-- step that doesn't apply
+abbrev pub IsSayableEnd : CheckEnd → Type 0
+IsSayableEnd (End.Step step Unmet.Large) = ⊥
+IsSayableEnd (End.Step step Unmet.NoMemory) = ⊥
+IsSayableEnd End.NoMemory = ⊥
+IsSayableEnd end = ⊤
+
+-- a verdict that has a line: no end inside is out of memory, or one that has its line elsewhere
 abbrev pub HasLine : Verdict → Type 0
 HasLine (Said.Lex fault) = IsSayable (Why.Lex fault)
 HasLine (Said.Parse end) = IsSayable (Why.Parse end)
 HasLine (Said.Scope end) = IsSayable (Why.Scope end)
+HasLine (Said.PreLex fault) = IsSayable (Why.PreLex fault)
+HasLine (Said.PreParse end) = IsSayable (Why.PreParse end)
+HasLine (Said.Check end) = IsSayableEnd end
 HasLine verdict = ⊤

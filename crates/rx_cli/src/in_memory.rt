@@ -3,7 +3,7 @@ ghost use Rattle.std.specs.Prelude.{◌≡◌, [], map, string_bytes, Some};
 ghost use Rattle.rx_io.specs.MemoryFiles as kept;
 ghost use Rattle.rx_io.specs.MemorySink as sink;
 ghost use Rattle.rx_io.specs.Outside.{Rose};
-ghost use Rattle.rx_cli.specs.Answers.{IsProved};
+ghost use Rattle.rx_cli.specs.Answers.{AreEqual};
 ghost use Rattle.rx_cli.specs.InMemory.{IsAbsent, IsTooLong};
 ghost use Rattle.rx_cli.specs.Run.{RunEnds};
 
@@ -11,7 +11,7 @@ use crate::{Status, run};
 use rx_io::{MemoryFiles, MemorySink};
 use std::alloc::Global;
 
-/// Runs the program over memory in which no call is made to fail: then a read fault says that the file isn't held, and a
+/// Runs the program over memory in which no call is made to fail: then a read fault says that a file isn't held, and a
 /// write fault that the report is longer than the room left.
 pub fn run_in_memory(
     alloc: Global,
@@ -23,7 +23,7 @@ pub fn run_in_memory(
     requires out_works { (sink.fail_in out.old ≡ []) × (sink.zero_in out.old ≡ []) }
     ensures ends { RunEnds (Some (kept.names_in files.old)) (Rose (kept.faults_in files.old) (kept.faults_in files.new)) (Rose (sink.faults_in out.old) (sink.faults_in out.new))
         (map string_bytes words.now) (Some (sink.put_in out.old)) (Some (sink.put_in out.new)) result }
-    ensures sound { result ≡ Status.Equivalent → IsProved (Some (kept.names_in files.old)) (map string_bytes words.now) }
+    ensures sound { result ≡ Status.Equivalent → AreEqual (Some (kept.names_in files.old)) (map string_bytes words.now) }
     ensures read { result ≡ Status.ReadFault → IsAbsent (kept.names_in files.old) (map string_bytes words.now) }
     ensures write { result ≡ Status.WriteFault → IsTooLong (kept.names_in files.old) (map string_bytes words.now) (sink.room_left out.old) }
 {

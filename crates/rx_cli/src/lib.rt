@@ -2,19 +2,20 @@
 #![tactic(auto)]
 
 mod answers;
+mod check;
 mod ends;
 mod in_memory;
 mod laws;
 mod logs;
+mod questions;
 mod reports;
 mod straight;
 mod top;
 mod verdicts;
-mod words;
 
 pub use ends::Status;
 pub use in_memory::run_in_memory;
-pub use laws::{a_text_has_one_outcome, words_have_one_report};
+pub use laws::words_have_one_report;
 pub use reports::report;
 pub use rx_plain::NoMemory;
 pub use top::run;

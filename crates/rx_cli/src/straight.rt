@@ -1,19 +1,24 @@
-//! Straight functions, compared by the normal forms of what they return. This module stands in for the translation to
-//! rewrite rules and for the search, until these come.
-ghost use Rattle.std.specs.Prelude.{◌≡◌, ◌≤◌, length, IfOk};
+//! Straight functions, compared by the normal forms of what they return. This module stands in for the
+//! search of a proof, until it comes.
+ghost use Rattle.std.specs.Prelude.{◌≡◌, ◌≤◌, true, length, IfOk, Some};
+ghost use Rattle.rx_command.specs.Commands.{functions_view, is_short};
 ghost use Rattle.rx_cli.specs.Agreement.{Agrees};
-ghost use Rattle.rx_cli.specs.Steps as steps;
-ghost use Rattle.rx_cli.specs.Steps.{Compares, IsSaid};
+ghost use Rattle.rx_cli.specs.Answers.{IsReportable};
+ghost use Rattle.rx_cli.specs.Steps.{AreForms, FormsTwo, HasRowForm, HaveOneValue, IfProof, IsReady};
 ghost use Rattle.rx_cli.specs.Straight as spec;
-ghost use Rattle.rx_cli.specs.Straight.{IsEqual, IsOutcome, IsSayableOutcome};
+ghost use Rattle.rx_cli.specs.Straight.{IsProved, OnCompared, OnForms, OnTerms};
 
 mod terms;
 
+use crate::answers::Answer;
+use crate::questions::{front_stage, rows};
 use crate::straight::terms::function_term;
-use c_ast::Function;
-use c_front::{Next, Refusal, TwoFunctions, named_functions};
+use crate::verdicts::Verdict;
+use c_ast::{Expr, Function};
+use c_front::{Compared, Next, TwoFunctions};
+use rx_command::{Effort, Functions};
 use rx_plain::NoMemory;
-use rx_poly::{ITerm, PolyEnd, norm};
+use rx_poly::{ITerm, Poly, PolyEnd, norm};
 use std::alloc::Global;
 
 /// How the functions that two words name stand in the text.
@@ -38,22 +43,16 @@ pub struct TwoTerms {
     pub right: ITerm,
 }
 
-/// What the comparison says of a text and two names.
-#[derive(Clone, Copy, Debug, PartialEq, Eq)]
-pub enum Outcome {
-    /// The front end refuses the text.
-    Refused(Refusal),
-    /// One of the two functions, or both, aren't straight.
-    NotStraight,
-    /// A polynomial that is formed on the way to a normal form passes the limits.
-    Large,
-    /// The normal forms differ.
-    Differ,
-    /// The normal forms are the same, so the functions are equal.
-    Equal(Order),
+/// The normal forms of both terms.
+#[derive(Drop)]
+pub struct TwoForms {
+    /// That of the first.
+    pub left: Poly,
+    /// That of the second.
+    pub right: Poly,
 }
 
-// How two places stand to one another.
+/// How two places stand to one another.
 fn order_of(first: u32, second: u32) -> Order
     ensures { result ≡ spec.order_of first second }
 {
@@ -66,9 +65,9 @@ fn order_of(first: u32, second: u32) -> Order
     }
 }
 
-// The term that the function at a place returns, where it is straight.
+/// The term that the function at a place returns, where it is straight.
 fn term_at(alloc: Global, functions: &[Function], place: u32) -> Result<Option<ITerm>, NoMemory>
-    ensures { IfOk result (λ t. t ≡ steps.term_at functions.now place) }
+    ensures { IfOk result (λ t. t ≡ spec.term_at functions.now place) }
 {
     match functions.get(place as usize) {
         Some(function) => function_term(alloc, function),
@@ -76,9 +75,9 @@ fn term_at(alloc: Global, functions: &[Function], place: u32) -> Result<Option<I
     }
 }
 
-// Two terms with an order, where both are there.
+/// Two terms with an order, where both are there.
 fn joined(order: Order, left: Option<ITerm>, right: Option<ITerm>) -> Option<TwoTerms>
-    ensures { result ≡ steps.joined order left right }
+    ensures { result ≡ spec.joined order left right }
 {
     match left {
         None => None,
@@ -89,9 +88,9 @@ fn joined(order: Order, left: Option<ITerm>, right: Option<ITerm>) -> Option<Two
     }
 }
 
-// The terms of two functions, where both are straight.
+/// The terms of two functions, where both are straight.
 fn terms_of(alloc: Global, two: &TwoFunctions) -> Result<Option<TwoTerms>, NoMemory>
-    ensures { IfOk result (λ t. t ≡ steps.terms_of two.now) }
+    ensures { IfOk result (λ t. t ≡ spec.terms_of two.now) }
 {
     let functions = two.program.functions.as_slice();
     let left = term_at(alloc, functions, two.first)?;
@@ -99,46 +98,87 @@ fn terms_of(alloc: Global, two: &TwoFunctions) -> Result<Option<TwoTerms>, NoMem
     Ok(joined(order_of(two.first, two.second), left, right))
 }
 
-// What is said of two terms by their normal forms.
-fn compare_terms(alloc: Global, terms: &TwoTerms) -> Result<Outcome, NoMemory>
-    ensures { IfOk result (Compares terms.now) }
+/// The normal forms of two terms; None exactly where one passes the limits.
+fn forms_of(alloc: Global, terms: &TwoTerms) -> Result<Option<TwoForms>, NoMemory>
+    ensures { IfOk result (FormsTwo terms.now) }
 {
     let left = match norm(alloc, &terms.left) {
         Ok(left) => left,
-        Err(PolyEnd::Large) => return Ok(Outcome::Large),
+        Err(PolyEnd::Large) => return Ok(None),
         Err(PolyEnd::NoMemory) => return Err(NoMemory),
     };
     let right = match norm(alloc, &terms.right) {
         Ok(right) => right,
-        Err(PolyEnd::Large) => return Ok(Outcome::Large),
+        Err(PolyEnd::Large) => return Ok(None),
         Err(PolyEnd::NoMemory) => return Err(NoMemory),
     };
-    if left.is_same(&right) {
-        Ok(Outcome::Equal(terms.order))
+    Ok(Some(TwoForms { left, right }))
+}
+
+/// What is said of two terms by their normal forms.
+fn on_forms(terms: &TwoTerms, forms: &TwoForms, depth: u32) -> Answer
+    requires { AreForms terms.now forms.now }
+    ensures answer { OnForms depth terms.now result }
+    ensures value { HaveOneValue (Some terms.now) result }
+    ensures reportable { IsReportable result }
+{
+    if forms.left.is_same(&forms.right) {
+        Answer::Proof(terms.order)
     } else {
-        Ok(Outcome::Differ)
+        Answer::Line(Verdict::Depth(depth))
     }
 }
 
-// What is said of two functions by their terms.
-fn compare_two(alloc: Global, two: &TwoFunctions) -> Result<Outcome, NoMemory>
-    ensures { IfOk result (IsSaid (steps.terms_of two.now)) }
+/// What is said of two terms under a precondition.
+fn on_terms(
+    alloc: Global,
+    pre: &Option<Expr>,
+    depth: u32,
+    terms: &TwoTerms,
+) -> Result<Answer, NoMemory>
+    requires { HasRowForm pre.now }
+    ensures answer { IfOk result (OnTerms pre.now depth (Some terms.now)) }
+    ensures value { IfOk result (HaveOneValue (Some terms.now)) }
+    ensures reportable { IfOk result IsReportable }
 {
-    match terms_of(alloc, two)? {
-        None => Ok(Outcome::NotStraight),
-        Some(terms) => compare_terms(alloc, &terms),
+    let Some(forms) = forms_of(alloc, terms)? else {
+        return Ok(Answer::Line(Verdict::LargeTranslate));
+    };
+    match rows(alloc, pre)? {
+        Some(_) => Ok(on_forms(terms, &forms, depth)),
+        None => Ok(Answer::Line(Verdict::LargePre)),
     }
 }
 
-/// Compares the two named functions of a text by the normal forms of what they return.
-pub fn compare(alloc: Global, source: &[u8], first: &str, second: &str) -> Result<Outcome, NoMemory>
-    requires { length source.now ≤ 1048576 }
-    ensures outcome { IfOk result (λ outcome. IsOutcome source.now first.now second.now outcome) }
-    ensures sound { IfOk result (λ outcome. IsEqual outcome → Agrees source.now first.now second.now) }
-    ensures sayable { IfOk result IsSayableOutcome }
+/// What is said of two functions under a precondition.
+fn on_compared(alloc: Global, compared: &Compared, depth: u32) -> Result<Answer, NoMemory>
+    requires { IsReady compared.now }
+    ensures answer { IfOk result (OnCompared depth compared.now) }
+    ensures value { IfOk result (HaveOneValue (spec.terms_of compared.now.two)) }
+    ensures reportable { IfOk result IsReportable }
 {
-    match named_functions(alloc, source, first, second)? {
-        Next::Ends(refusal) => Ok(Outcome::Refused(refusal)),
-        Next::Goes(two) => compare_two(alloc, &two),
+    match terms_of(alloc, &compared.two)? {
+        None => Ok(Answer::Line(Verdict::NotStraight)),
+        Some(terms) => on_terms(alloc, &compared.precondition, depth, &terms),
+    }
+}
+
+/// Compares the two named functions of a text by the normal forms of what they return, whatever the
+/// precondition is.
+pub fn prove(
+    alloc: Global,
+    source: &[u8],
+    functions: &Functions<'_>,
+    effort: Effort,
+) -> Result<Answer, NoMemory>
+    requires source { length source.now ≤ 1048576 }
+    requires pre { is_short (functions_view functions.now).precondition ≡ true }
+    ensures answer { IfOk result (IsProved (functions_view functions.now) effort source.now) }
+    ensures sound { IfOk result (IfProof (Agrees source.now (functions_view functions.now))) }
+    ensures reportable { IfOk result IsReportable }
+{
+    match front_stage(alloc, source, functions)? {
+        Next::Ends(verdict) => Ok(Answer::Line(verdict)),
+        Next::Goes(compared) => on_compared(alloc, &compared, effort.depth),
     }
 }

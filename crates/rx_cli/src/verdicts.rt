@@ -1,11 +1,13 @@
 //! What a report of one line says.
 ghost use Rattle.std.specs.Prelude.{◌≡◌};
+ghost use Rattle.rx_cli.specs.Ends as ends;
 
 use crate::Status;
 use c_front::Refusal;
 use c_lex::LexEnd;
 use c_parse::ParseEnd;
 use c_scope::ScopeEnd;
+use rx_check::CheckEnd;
 
 /// What a report of one line says.
 #[derive(Clone, Copy, Debug, PartialEq, Eq)]
@@ -16,6 +18,8 @@ pub enum Verdict {
     Depth(u32),
     /// The source has more than 1,048,576 bytes.
     LongSource,
+    /// The log has more than 67,108,864 bytes.
+    LongLog,
     /// The source is no list of tokens.
     Lex(LexEnd),
     /// The source spells no program within the parser's limits.
@@ -26,14 +30,37 @@ pub enum Verdict {
     NoFunction(u8),
     /// The two functions have different numbers of parameters, which these are.
     Arity(u32, u32),
+    /// The precondition is no list of tokens.
+    PreLex(LexEnd),
+    /// The precondition spells no row form within the parser's limits.
+    PreParse(ParseEnd),
+    /// The token of the precondition with this number, counted from 0, is a name that no parameter of
+    /// the first function has.
+    PreName(u32),
     /// One of the two functions, or both, aren't straight.
     NotStraight,
+    /// The line of the log with this number, counted from 1, is the first with which no log begins.
+    Line(usize),
+    /// The log isn't accepted.
+    Check(CheckEnd),
     /// The words ask for nothing that the program does.
     Usage,
     /// A file could not be read.
     ReadFault,
-    /// A polynomial that is formed on the way to one of the two normal forms passes the limits.
+    /// What is formed for the two functions passes the limits.
     LargeTranslate,
+    /// What is formed for the precondition passes the limits.
+    LargePre,
+}
+
+/// How a run ends whose log isn't accepted for this.
+fn check_status(end: &CheckEnd) -> Status
+    ensures { result ≡ ends.check_status end.now }
+{
+    match end {
+        CheckEnd::Large { place: _ } => Status::Large,
+        _ => Status::Refused,
+    }
 }
 
 impl Verdict {
@@ -47,15 +74,21 @@ impl Verdict {
             Verdict::Equivalent => Status::Equivalent,
             Verdict::Depth(_) => Status::Unknown,
             Verdict::LongSource
+            | Verdict::LongLog
             | Verdict::Lex(_)
             | Verdict::Parse(_)
             | Verdict::Scope(_)
             | Verdict::NoFunction(_)
             | Verdict::Arity(_, _)
-            | Verdict::NotStraight => Status::Refused,
+            | Verdict::PreLex(_)
+            | Verdict::PreParse(_)
+            | Verdict::PreName(_)
+            | Verdict::NotStraight
+            | Verdict::Line(_) => Status::Refused,
+            Verdict::Check(end) => check_status(end),
             Verdict::Usage => Status::Usage,
             Verdict::ReadFault => Status::ReadFault,
-            Verdict::LargeTranslate => Status::Large,
+            Verdict::LargeTranslate | Verdict::LargePre => Status::Large,
         }
     }
 }
@@ -73,6 +106,9 @@ impl From<Refusal> for Verdict {
             Refusal::Scope(end) => Verdict::Scope(end),
             Refusal::NoFunction(name) => Verdict::NoFunction(name),
             Refusal::Arity(first, second) => Verdict::Arity(first, second),
+            Refusal::PreLex(fault) => Verdict::PreLex(fault),
+            Refusal::PreParse(end) => Verdict::PreParse(end),
+            Refusal::PreName(token) => Verdict::PreName(token),
         }
     }
 }

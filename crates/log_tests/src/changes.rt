@@ -1,0 +1,68 @@
+//! A change of one line of a log.
+
+use std::alloc::Global;
+
+/// What stands in place of a line.
+#[derive(Drop)]
+pub struct Change {
+    /// The number of the line, counted from 1.
+    pub line: usize,
+    /// The new text without its line end; none where the line is left out.
+    pub text: Option<String>,
+}
+
+/// The change that puts a text in place of a line: the number comes first.
+pub fn instead(alloc: Global, given: &str) -> Option<Change> {
+    let (number, text) = given.split_once(' ').unwrap_or((given, ""));
+    let line = number.parse().ok()?;
+    let text = String::from_str(alloc, text).ok()?;
+    Some(Change {
+        line,
+        text: Some(text),
+    })
+}
+
+/// The change that leaves a line out.
+pub fn without(given: &str) -> Option<Change> {
+    let line = given.parse().ok()?;
+    Some(Change { line, text: None })
+}
+
+// Adds a line and its end.
+fn push_line(bytes: &mut Vec<u8>, line: &str) -> Option<()> {
+    bytes.extend_from_slice(line.as_bytes()).ok()?;
+    bytes.push(b'\n').ok()
+}
+
+// Adds a line, or what stands in its place.
+fn push_changed(bytes: &mut Vec<u8>, line: &str, change: &Change) -> Option<()> {
+    match &change.text {
+        Some(text) => push_line(bytes, text.as_str()),
+        None => {
+            let _left_out = line;
+            Some(())
+        }
+    }
+}
+
+// Adds a line, or what stands in its place where the change is of this one.
+fn push_with(
+    bytes: &mut Vec<u8>,
+    number: usize,
+    line: &str,
+    change: &Option<Change>,
+) -> Option<()> {
+    match change {
+        Some(change) if change.line == number => push_changed(bytes, line, change),
+        _ => push_line(bytes, line),
+    }
+}
+
+/// The lines as a file, one of them changed.
+pub fn joined(alloc: Global, lines: &[String], change: &Option<Change>) -> Option<Vec<u8>> {
+    let mut bytes = Vec::new(alloc);
+    for (at, line) in lines.iter().enumerate() {
+        push_with(&mut bytes, at.saturating_add(1), line.as_str(), change)?;
+    }
+    Some(bytes)
+}

@@ -1,0 +1,70 @@
+-- The front end and the translation as stages: from a text to the question whether the entries of two
+-- functions are equal by rules.
+use Rattle.std.specs.Prelude.{◌≡◌, ◌⊎◌, true, false, ℕ, List, [], Option, Some, None}
+use Rattle.c_ast.specs.declared.expr.Expr.{Expr}
+use Rattle.c_front.specs.declared.pairs.Compared.{Compared}
+use Rattle.c_front.specs.declared.refusals.Refusal.{Refusal}
+use Rattle.c_front.specs.declared.stages.Next.{Next}
+use Rattle.c_front.specs.declared.stages.Next.TheVariants.{Ends, Goes}
+use Rattle.c_front.specs.Conditions.{whole_front}
+use Rattle.c_front.specs.Front.{count_in}
+use Rattle.c_front.specs.Stages.{before}
+use Rattle.rx_command.specs.Commands.{Functions}
+use Rattle.rx_plain.specs.Formed.{Formed, pure}
+use Rattle.rx_row.specs.declared.row.Row.{Row}
+use Rattle.rx_term.specs.declared.rule_set.RuleParts.{RuleParts}
+use Rattle.rx_term.specs.declared.term.Sym.{Sym}
+use Rattle.rx_code.specs.Preconditions.{pre_rows}
+use Rattle.rx_code.specs.Translation.{IsBeyond, IsTranslation, goal_at}
+use Rattle.rx_cli.specs.declared.questions.Question.{Question}
+use Rattle.rx_cli.specs.declared.verdicts.Verdict.{Verdict}
+use Rattle.rx_cli.specs.declared.verdicts.Verdict.TheVariants as Said
+use Rattle.rx_cli.specs.Verdicts.{verdict_of}
+
+-- the front end, whose refusals are verdicts
+abbrev pub front_stage : Functions → List ℕ → Next Verdict Compared → Type 0
+front_stage f source (Ends verdict) =
+    (refusal : Refusal) × whole_front source f.first f.second f.precondition (Ends refusal)
+    × (verdict ≡ verdict_of refusal)
+front_stage f source (Goes compared) =
+    whole_front source f.first f.second f.precondition (Goes compared)
+
+-- the rows of a precondition, none where there is none, and whether all that is formed for them keeps the
+-- limits
+abbrev pub rows_of : Option Expr → Formed (List Row)
+rows_of None = pure []
+rows_of (Some pre) = pre_rows pre
+
+-- the two functions have a translation
+pub record IsTranslated (compared : Compared) : Type 0 where
+  pub rules : RuleParts
+  pub first : Sym
+  pub second : Sym
+  pub is : IsTranslation compared.two.program compared.two.first compared.two.second rules first second
+
+-- the rules are the translation of both functions, and the goal says that their entries are equal on as
+-- many variables as they have parameters, under the rows of the precondition
+pub record IsQuestion (compared : Compared) (question : Question) : Type 0 where
+  pub first : Sym
+  pub second : Sym
+  pub translated :
+      IsTranslation compared.two.program compared.two.first compared.two.second question.rules
+      first second
+  pub within : (rows_of compared.precondition).within ≡ true
+  pub goal :
+      question.goal
+      ≡ goal_at first second (count_in compared.two.program compared.two.first)
+      (rows_of compared.precondition).form
+
+-- the translation passes the limits; or else the rows of the precondition do; or else that is the question
+abbrev pub question_stage : Compared → Next Verdict Question → Type 0
+question_stage compared (Ends verdict) =
+    (IsBeyond compared.two.program compared.two.first compared.two.second
+    × (verdict ≡ Said.LargeTranslate))
+    ⊎ (IsTranslated compared × ((rows_of compared.precondition).within ≡ false)
+    × (verdict ≡ Said.LargePre))
+question_stage compared (Goes question) = IsQuestion compared question
+
+-- the question that two functions of a text are, or why there is none
+abbrev pub asked : Functions → List ℕ → Next Verdict Question → Type 0
+asked f = before (front_stage f) question_stage
