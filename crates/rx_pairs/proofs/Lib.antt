@@ -5,9 +5,10 @@ pub mod CommonLaws
 pub mod Deciding
 pub mod DescendingLaws
 pub mod Descent
-pub mod GraphLaws
+pub mod EdgeLaws
+pub mod ListedLaws
+pub mod LoopLaws
 pub mod Lowered
-pub mod Marking
 pub mod PairsLaws
 pub mod PartsLaws
 pub mod RankLaws

@@ -1,5 +1,5 @@
 -- A rule whose left side is no bare result has exactly one list of pairs.
-use Rattle.std.proofs.Common.{◌≡◌, ◌∙◌, ap, sym, subst, refl, ℕ, zero, suc, true, false, inl, inr, Option, Some, None, List, [], ◌∷◌, ◌++◌, map, append_assoc}
+use Rattle.std.proofs.Common.{◌≡◌, ◌∙◌, ap, sym, subst, refl, ℕ, zero, suc, true, false, inl, inr, Some, None, List, [], ◌∷◌, ◌++◌, map, append_assoc}
 use Rattle.std.proofs.lemmas.Bool.{false≢true}
 use Rattle.std.proofs.lemmas.List.Elements.{All-head, All-tail, All-weaker}
 use Rattle.std.proofs.lemmas.Option.{none-some, same_Some}
@@ -15,6 +15,7 @@ use Rattle.rx_term.specs.declared.term.Term.{Term, Term-F, out-Term}
 use Rattle.rx_term.specs.declared.term.Term.TheVariants.{Return, Fail, Call, Frame, outs-Return, outs-Fail, outs-Call, outs-Frame}
 use Rattle.rx_term.proofs.Equations.{Form, AReturn, AFail, ACall, AFrame, form, induct, behind-Frame}
 use Rattle.rx_pairs.specs.Common.{IsPart}
+use Rattle.rx_pairs.specs.Listed.{root_part_level, root_part_of}
 use Rattle.rx_pairs.specs.Pairs.{AreAllPairs, AreParts, ArePairs, AtCall, AtFail, AtFrame, AtReturn, Common, HasRoot, IsRoot, IsUnder, NoRules, OfCall, OfFrame, OneMore, PairsOf, Part, pair_of, part}
 use Rattle.rx_pairs.specs.declared.pair.Pair.{Pair}
 use Rattle.rx_pairs.proofs.CommonLaws.{frame_arguments, frame_inner, frame_symbol}
@@ -23,15 +24,9 @@ use Rattle.rx_pairs.proofs.PartsLaws.{inner_under, under_inner}
 
 -- ---- one root
 
-abbrev root_level : Term-F Term → Option Part
-root_level (Term-F.Return p) = None
-root_level (Term-F.Fail c) = None
-root_level (Term-F.Call f ps) = Some (part f ps)
-root_level (Term-F.Frame f ps t) = Some (part f ps)
-
-root_found : (t : Term) (root : Part) → IsRoot t root → root_level (out-Term t) ≡ Some root
-root_found _ _ (OfCall f ps) = ap root_level (outs-Call f ps)
-root_found _ _ (OfFrame f ps t) = ap root_level (outs-Frame f ps t)
+pub root_found : (t : Term) (root : Part) → IsRoot t root → root_part_of t ≡ Some root
+root_found _ _ (OfCall f ps) = ap root_part_level (outs-Call f ps)
+root_found _ _ (OfFrame f ps t) = ap root_part_level (outs-Frame f ps t)
 
 pub one_root : (t : Term) (p q : Part) → IsRoot t p → IsRoot t q → p ≡ q
 one_root t p q is also = same_Some p q (sym (root_found t p is) ∙ root_found t q also)
@@ -39,10 +34,10 @@ one_root t p q is also = same_Some p q (sym (root_found t p is) ∙ root_found t
 -- ---- one list of parts
 
 -- the four forms are apart
-result_call : (f : Sym) (ps : List Body) → is_result (Call f ps) ≡ false
+pub result_call : (f : Sym) (ps : List Body) → is_result (Call f ps) ≡ false
 result_call f ps = ap is_result_level (outs-Call f ps)
 
-result_frame : (f : Sym) (ps : List Body) (t : Term) → is_result (Frame f ps t) ≡ false
+pub result_frame : (f : Sym) (ps : List Body) (t : Term) → is_result (Frame f ps t) ≡ false
 result_frame f ps t = ap is_result_level (outs-Frame f ps t)
 
 result_return : (p : Body) → is_result (Return p) ≡ true
@@ -179,7 +174,7 @@ decide_under _ (AFrame f ps v) t = elim (decide_part v t) [
 
 -- ---- pairs
 
-any_root : (t : Term) → Form t → is_result t ≡ false → (root : Part) × IsRoot t root
+pub any_root : (t : Term) → Form t → is_result t ≡ false → (root : Part) × IsRoot t root
 any_root _ (AReturn p) isnt = absurd (false≢true (sym isnt ∙ result_return p))
 any_root _ (AFail c) isnt = absurd (false≢true (sym isnt ∙ result_fail c))
 any_root _ (ACall f ps) isnt = (part f ps, OfCall f ps)

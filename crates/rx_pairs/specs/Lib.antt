@@ -4,7 +4,8 @@ pub mod Common
 pub mod Descents
 pub mod Graph
 pub mod Lent
+pub mod Listed
+pub mod Loops
 pub mod Lowering
-pub mod Marks
 pub mod Pairs
 pub mod Ranks

@@ -19,15 +19,15 @@ fn is_below_zero(poly: &Poly) -> bool
     }
 }
 
-/// The column's instance at the arguments on the left.
-fn on_left(alloc: Global, pair: &Pair, column: &Poly) -> Result<Poly, PolyEnd>
+/// The column's instance at the pair's arguments on the left. Large exactly where it passes the limits.
+pub fn on_left(alloc: Global, pair: &Pair, column: &Poly) -> Result<Poly, PolyEnd>
     ensures { Forms PolyEnd.Large result (at_left pair.now column.now) }
 {
     column.at_args(alloc, pair.left_args.as_slice())
 }
 
-/// The column's instance at the arguments on the right.
-fn on_right(alloc: Global, pair: &Pair, column: &Poly) -> Result<Poly, PolyEnd>
+/// The column's instance at the pair's arguments on the right. Large exactly where it passes the limits.
+pub fn on_right(alloc: Global, pair: &Pair, column: &Poly) -> Result<Poly, PolyEnd>
     ensures { Forms PolyEnd.Large result (at_right pair.now column.now) }
 {
     column.at_args(alloc, pair.right_args.as_slice())
@@ -43,8 +43,8 @@ fn difference_row(alloc: Global, pair: &Pair, column: &Poly, other: &Poly) -> Re
 }
 
 /// The row that says that the column's value doesn't rise at the pair; none where its instance on the
-/// right, which is formed first, is a number below 0.
-pub(crate) fn hold_row(
+/// right, which is formed first, is a number below 0. Large exactly where what is formed passes the limits.
+pub fn hold_row(
     alloc: Global,
     pair: &Pair,
     left: &Poly,
@@ -60,8 +60,8 @@ pub(crate) fn hold_row(
     Ok(Some(row))
 }
 
-/// The first less the second, less 1.
-fn one_less(alloc: Global, left: &Poly, right: &Poly) -> Result<Poly, PolyEnd>
+/// The first less the second, less 1. Large exactly where a difference passes the limits.
+pub fn one_less(alloc: Global, left: &Poly, right: &Poly) -> Result<Poly, PolyEnd>
     ensures { Forms PolyEnd.Large result (one_less left.now right.now) }
 {
     let one = Poly::constant(alloc, 1)?;

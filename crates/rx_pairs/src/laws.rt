@@ -1,6 +1,9 @@
 //! What lower pairs mean: laws, each a function with an empty body.
-ghost use Rattle.std.specs.Prelude.{◌≡◌, ◌↔◌, ◌++◌, ℕ, ℤ, None, true, All, List};
-ghost use Rattle.rx_pairs.specs.Graph.{IsOver, Path, below, reaches};
+ghost use Rattle.std.specs.Prelude.{◌≡◌, ◌↔◌, ◌++◌, ℕ, ℤ, None, true, All, List, length};
+ghost use Rattle.rx_graph.specs.Graph.{IsOver};
+ghost use Rattle.rx_pairs.specs.Graph.{IsLoopPoint};
+ghost use Rattle.rx_pairs.specs.Listed.{pairs_by, pairs_by_all};
+ghost use Rattle.rx_pairs.specs.Loops.{is_loop_point, rule_edges};
 ghost use Rattle.rx_pairs.specs.Lowering.{Descends, descent_from};
 ghost use Rattle.rx_pairs.specs.Pairs.{AreAllPairs, ArePairs, HasRoot, SidesFit};
 ghost use Rattle.rx_pairs.specs.Ranks.{bad_rank, rank_of};
@@ -33,11 +36,22 @@ pub fn well_made_rules_have_roots()
     ensures { (parts : RuleParts) → IsWellMade parts → All HasRoot parts.rules }
 {}
 
-/// Over all numbers below a bound, the recursion over the vertices that a path may go through finds
-/// exactly the paths.
-pub fn reaching_is_having_a_path()
-    ensures { (n : ℕ) (edges : List (ℕ × ℕ)) → IsOver n edges → (a b : ℕ) →
-        (reaches edges (below n) a b ≡ true) ↔ Path edges a b }
+/// The pairs of a rule and of a list of rules are the ones that are computed, and no others.
+pub fn pairs_are_listed()
+    ensures rule { (rule : Rule) → HasRoot rule → ArePairs rule (pairs_by rule) }
+    ensures rules { (rules : List Rule) → All HasRoot rules → AreAllPairs rules (pairs_by_all rules) }
+    ensures only { (rule : Rule) (pairs : List Pair) → ArePairs rule pairs → pairs ≡ pairs_by rule }
+    ensures all_only { (rules : List Rule) (pairs : List Pair) →
+        AreAllPairs rules pairs → pairs ≡ pairs_by_all rules }
+{}
+
+/// The pairs of a well made set are of its symbols. So the points at which unfolding may go on for
+/// ever are exactly the entries and heads from which a path of pairs leads to themselves.
+pub fn loop_points_reach_themselves()
+    ensures over { (parts : RuleParts) → IsWellMade parts →
+        IsOver (length parts.symbols) (rule_edges parts) }
+    ensures points { (parts : RuleParts) → IsWellMade parts → (f : ℕ) →
+        (is_loop_point parts f ≡ true) ↔ IsLoopPoint parts.symbols (rule_edges parts) f }
 {}
 
 /// Where the table is lawful for the symbols, and all pairs of rules that fit are lower, each

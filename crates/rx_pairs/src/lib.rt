@@ -7,6 +7,7 @@ mod common;
 mod descending;
 mod graph;
 mod laws;
+mod loops;
 mod lower;
 mod pair;
 mod pair_cert;
@@ -15,12 +16,14 @@ mod pairs;
 mod parts;
 mod table;
 
+pub use columns::{hold_row, on_left, on_right, one_less};
 pub use descending::decreases;
-pub use graph::{Graph, graph_of};
+pub use graph::{graph_of, is_loop_point};
 pub use laws::{
-    lower_pairs_lower_weights, reaching_is_having_a_path, rules_have_one_list_of_pairs,
-    well_made_rules_have_roots,
+    loop_points_reach_themselves, lower_pairs_lower_weights, pairs_are_listed,
+    rules_have_one_list_of_pairs, well_made_rules_have_roots,
 };
+pub use loops::{Loops, loops_of};
 pub use lower::is_lower;
 pub use pair::Pair;
 pub use pair_cert::PairCert;

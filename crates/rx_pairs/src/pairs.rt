@@ -1,6 +1,7 @@
 //! The pairs of rules.
 ghost use Rattle.std.specs.Prelude.{◌≡◌, ◌↔◌, ◌++◌, All, List, map, IfOk, IsTrue, OnOk};
 ghost use Rattle.rx_pairs.specs.Lent.{all_lent, lent};
+ghost use Rattle.rx_pairs.specs.Listed.{pairs_by_all};
 ghost use Rattle.rx_term.specs.declared.rule.Rule.{Rule};
 ghost use Rattle.rx_pairs.specs.Pairs.{AreAllPairs, ArePairs, HasRoot, pair_of};
 
@@ -98,6 +99,18 @@ fn push_pairs(pairs: &mut Vec<Pair>, alloc: Global, rules: &[Rule]) -> Result<()
         pairs.append(&mut more)?;
     }
     Ok(())
+}
+
+/// The pairs of the rules, in order. Fails only where there is no memory.
+///
+/// No left side may be a bare result.
+pub(crate) fn rule_pairs(alloc: Global, rules: &[Rule]) -> Result<Vec<Pair>, NoMemory>
+    requires { All HasRoot rules.now }
+    ensures { IfOk result (λ pairs. pairs.items ≡ pairs_by_all rules.now) }
+{
+    let mut pairs = Vec::new(alloc);
+    push_pairs(&mut pairs, alloc, rules)?;
+    Ok(pairs)
 }
 
 /// The pairs of the rules, and then those of the hypotheses, in order. Fails only where there is no

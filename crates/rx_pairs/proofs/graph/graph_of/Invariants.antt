@@ -1,7 +1,8 @@
 -- The graph so far is that of the first pairs.
 use Rattle.std.proofs.Common.{take}
-use Rattle.rx_pairs.specs.Graph.{IsGraphOf, edges_of, rows_of}
+use Rattle.rx_graph.specs.Graph.{IsGraphOf, rows_of}
+use Rattle.rx_pairs.specs.Graph.{edges_of}
 use Rattle.rx_pairs.proofs.graph.graph_of.Given as goal
 
 abbrev pub invariant-loop-pair : goal.invariant-loop-pair
-invariant-loop-pair l = IsGraphOf l.symbols (edges_of (take l.pair-index l.pairs)) (rows_of l.rows.items)
+invariant-loop-pair l = IsGraphOf l.symbols (edges_of (take l.pair-index l.pairs)) (rows_of l.graph.rows.items)

@@ -1,7 +1,0 @@
--- The first targets are marked.
-use Rattle.std.proofs.Common.{take}
-use Rattle.rx_pairs.specs.Marks.{Marked}
-use Rattle.rx_pairs.proofs.graph.mark.Given as goal
-
-abbrev pub invariant-loop-target : goal.invariant-loop-target
-invariant-loop-target l = Marked l.initial.marks.items l.initial.reached.items (take l.target-index l.targets) l.marks.items l.reached.items

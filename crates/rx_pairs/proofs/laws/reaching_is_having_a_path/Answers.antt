@@ -1,5 +1,0 @@
-use Rattle.rx_pairs.proofs.GraphLaws.{reaches_all}
-use Rattle.rx_pairs.proofs.laws.reaching_is_having_a_path.Goals as goal
-
-pub returns : goal.returns
-returns c = reaches_all
