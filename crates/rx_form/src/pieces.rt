@@ -23,7 +23,7 @@ pub(crate) const VARIABLE_LIMIT: u64 = 1 << 31;
 
 /// Rows that are asked, and what replaces the redex or the part.
 #[derive(Drop)]
-pub(crate) struct RuleInstance {
+pub struct RuleInstance {
     /// The rows: a rule's, or those that a hypothesis asks for.
     pub rows: Items<Row>,
     /// The right side of the rule or the hypothesis.
@@ -38,7 +38,7 @@ pub(crate) fn have_one_shape(left: &Term, right: &Term) -> bool
 }
 
 /// That side of the goal, borrowed.
-pub(crate) fn side_of(goal: &Equation, side: Side) -> &Term
+pub fn side_of(goal: &Equation, side: Side) -> &Term
     ensures { result.now ≡ side_of side goal.now }
 {
     match side {
@@ -233,8 +233,9 @@ fn are_replacements(with: &[(u32, Poly)]) -> bool
     true
 }
 
-/// Whether the list says what variables are replaced by, by their numbers.
-pub(crate) fn is_substitution(with: &[(u32, Poly)]) -> bool
+/// Whether the list says what variables are replaced by: their numbers rise, and these and all
+/// variables of the polynomials are below 2^31. Takes no memory.
+pub fn is_substitution(with: &[(u32, Poly)]) -> bool
     ensures { result ≡ is_substitution with.now }
 {
     are_rising(with) && are_replacements(with)

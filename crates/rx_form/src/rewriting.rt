@@ -72,8 +72,11 @@ pub(crate) fn simplify(
     limited(simplify_by(alloc, goal, side, redex, rule))
 }
 
-/// The rows that a hypothesis asks for in place of the part, and its right side.
-fn hypothesis_at(
+/// The rows that a hypothesis asks for in place of the part, with those polynomials in place of its
+/// variables, and its right side: first that the polynomials of the part equal those of its left side,
+/// one by one, and then its own rows. Large exactly where a polynomial of these, or on the way to them,
+/// passes the limits.
+pub fn hypothesis_at(
     alloc: Global,
     part: &Term,
     hypothesis: &Rule,

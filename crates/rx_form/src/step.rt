@@ -1,10 +1,14 @@
 //! The ten kinds of steps.
+ghost use Rattle.std.specs.Prelude.{◌≡◌, IfOk};
+ghost use Rattle.rx_form.specs.Judging.{certificates};
+ghost use Rattle.rx_form.specs.declared.step.Step.TheVariants as steps;
 
 use rx_cert::Cert;
-use rx_plain::Items;
+use rx_plain::{Items, NoMemory};
 use rx_poly::Poly;
 use rx_row::{Constraint, Row};
 use rx_term::Term;
+use std::alloc::Global;
 
 /// A side of the first goal.
 #[derive(Clone, Copy, Debug, PartialEq, Eq)]
@@ -102,4 +106,150 @@ pub enum Step {
         /// For the equal polynomials of the two parts.
         certs: Items<Cert>,
     },
+}
+
+/// The same certificates once more.
+fn copied_certs(alloc: Global, certs: &[Cert]) -> Result<Items<Cert>, NoMemory>
+    ensures { IfOk result (λ made. made ≡ certs.now) }
+{
+    let mut made = Items::new(alloc);
+    for cert in certs {
+        made.push(cert.try_clone(alloc)?)?;
+    }
+    Ok(made)
+}
+
+/// The same substitution once more.
+fn copied_subst(alloc: Global, subst: &[(u32, Poly)]) -> Result<Items<(u32, Poly)>, NoMemory>
+    ensures { IfOk result (λ made. made ≡ subst.now) }
+{
+    let mut made = Items::new(alloc);
+    for (var, poly) in subst {
+        made.push((*var, poly.try_clone(alloc)?))?;
+    }
+    Ok(made)
+}
+
+/// The same postulate once more.
+fn copied_postulate(
+    alloc: Global,
+    left: &Term,
+    right: &Term,
+    rows: &Constraint,
+) -> Result<Step, NoMemory>
+    ensures { IfOk result (λ step. step ≡ steps.Postulate left.now right.now rows.now) }
+{
+    Ok(Step::Postulate {
+        left: left.try_clone(alloc)?,
+        right: right.try_clone(alloc)?,
+        rows: rows.try_clone(alloc)?,
+    })
+}
+
+/// The same generalisation once more.
+fn copied_generalisation(
+    alloc: Global,
+    left: &Term,
+    right: &Term,
+    rows: &Constraint,
+    subst: &[(u32, Poly)],
+    certs: &[Cert],
+) -> Result<Step, NoMemory>
+    ensures { IfOk result (λ step.
+        step ≡ steps.Generalise left.now right.now rows.now subst.now certs.now) }
+{
+    Ok(Step::Generalise {
+        left: left.try_clone(alloc)?,
+        right: right.try_clone(alloc)?,
+        rows: rows.try_clone(alloc)?,
+        subst: copied_subst(alloc, subst)?,
+        certs: copied_certs(alloc, certs)?,
+    })
+}
+
+impl Delete {
+    /// The same once more; fails only for want of memory.
+    pub fn try_clone(&self, alloc: Global) -> Result<Delete, NoMemory>
+        ensures { IfOk result (λ by. by ≡ self.now) }
+    {
+        match self {
+            Delete::Absurd(cert) => Ok(Delete::Absurd(cert.try_clone(alloc)?)),
+            Delete::Equal(certs) => Ok(Delete::Equal(copied_certs(alloc, certs.as_slice())?)),
+        }
+    }
+}
+
+impl Step {
+    /// Its certificates, in order. Takes no memory.
+    pub fn certificates(&self) -> &[Cert]
+        ensures { result.now ≡ certificates self.now }
+    {
+        match self {
+            Step::Simplify { certs, .. } => certs.as_slice(),
+            Step::Hyp { certs, .. } => certs.as_slice(),
+            Step::Delete(Delete::Absurd(cert)) => std::slice::from_ref(cert),
+            Step::Delete(Delete::Equal(certs)) => certs.as_slice(),
+            Step::Generalise { certs, .. } => certs.as_slice(),
+            Step::Decompose { certs } => certs.as_slice(),
+            Step::Results { certs, .. } => certs.as_slice(),
+            _ => &[],
+        }
+    }
+    /// The same step once more; fails only for want of memory.
+    pub fn try_clone(&self, alloc: Global) -> Result<Step, NoMemory>
+        ensures { IfOk result (λ step. step ≡ self.now) }
+    {
+        match self {
+            Step::Simplify { side, rule, certs } => Ok(Step::Simplify {
+                side: *side,
+                rule: *rule,
+                certs: copied_certs(alloc, certs.as_slice())?,
+            }),
+            Step::Hyp {
+                side,
+                place,
+                hyp,
+                subst,
+                certs,
+            } => Ok(Step::Hyp {
+                side: *side,
+                place: *place,
+                hyp: *hyp,
+                subst: copied_subst(alloc, subst.as_slice())?,
+                certs: copied_certs(alloc, certs.as_slice())?,
+            }),
+            Step::Expand { side, keep } => Ok(Step::Expand {
+                side: *side,
+                keep: *keep,
+            }),
+            Step::Delete(by) => Ok(Step::Delete(by.try_clone(alloc)?)),
+            Step::EqDelete => Ok(Step::EqDelete),
+            Step::Generalise {
+                left,
+                right,
+                rows,
+                subst,
+                certs,
+            } => copied_generalisation(
+                alloc,
+                left,
+                right,
+                rows,
+                subst.as_slice(),
+                certs.as_slice(),
+            ),
+            Step::Postulate { left, right, rows } => copied_postulate(alloc, left, right, rows),
+            Step::Split { row } => Ok(Step::Split {
+                row: row.try_clone(alloc)?,
+            }),
+            Step::Decompose { certs } => Ok(Step::Decompose {
+                certs: copied_certs(alloc, certs.as_slice())?,
+            }),
+            Step::Results { left, right, certs } => Ok(Step::Results {
+                left: *left,
+                right: *right,
+                certs: copied_certs(alloc, certs.as_slice())?,
+            }),
+        }
+    }
 }

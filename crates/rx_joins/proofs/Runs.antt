@@ -1,17 +1,19 @@
 -- Back over the steps of a run, and what an accepted run means.
-use Rattle.std.proofs.Common.{◌≡◌, ℕ, ◌⊎◌, inl, inr, Bool, true, false, List, [], ◌∷◌, sym, ap, subst, ◌∙◌, ℤ, arith, All, Contains}
+use Rattle.std.proofs.Common.{◌≡◌, ℕ, ◌⊎◌, inl, inr, Bool, true, false, None, List, [], ◌∷◌, ◌++◌, sym, ap, subst, ◌∙◌, ℤ, arith, All, Contains}
+use Rattle.std.proofs.lemmas.List.{append-nil}
 use Rattle.std.proofs.lemmas.List.Elements.{All-cons, All-head, All-tail, All-nil, All-contains, All-append, Contains-append_left, Contains-append_cases, All-weaker}
 use Rattle.rx_row.specs.Holds.{AllHold}
 use Rattle.rx_row.specs.Negation.{negation}
 use Rattle.rx_rewriting.specs.Terms.{Ground}
 use Rattle.rx_rewriting.specs.Steps.{Step, Joins}
 use Rattle.rx_rewriting.specs.Ranks.{Weight, weight_of}
-use Rattle.rx_rewriting.specs.Premises.{EndAlike, IsReplaceable, IsReplaceableHere, Stays}
+use Rattle.rx_rewriting.specs.Premises.{EndAlike, EndsInside, IsReplaceable, IsReplaceableHere, Lowers, Stays}
 use Rattle.rx_rewriting.proofs.Chains.{Step-by_rule}
 use Rattle.rx_rewriting.proofs.Conversion.{joined_end_alike}
 use Rattle.rx_rewriting.proofs.Induction.{ends_inside}
 use Rattle.rx_rewriting.proofs.UnderFrames.{replaceable_under_frames, Fits-inner}
 use Rattle.rx_term.specs.Bounds.{equation_bound}
+use Rattle.rx_term.specs.Covered.{IsCovered}
 use Rattle.rx_term.specs.Differences.{term_differences}
 use Rattle.rx_term.specs.Fitting.{term_fits}
 use Rattle.rx_term.specs.Meaning.{Instance, ground_at, signature}
@@ -30,9 +32,14 @@ use Rattle.rx_form.specs.Making.{differing, expanded_by, from_side, kept_if, res
 use Rattle.rx_form.specs.Pieces.{with_rows}
 use Rattle.rx_form.specs.States.{State}
 use Rattle.rx_form.specs.declared.step.Side.{Side}
+use Rattle.rx_cover.specs.Covering.{Covers, covering}
+use Rattle.rx_cover.specs.declared.cover_tree.CoverTree.{CoverTree}
 use Rattle.rx_cover.proofs.CoveringLaws.{covers_all}
-use Rattle.rx_pairs.specs.Pairs.{SidesFit}
-use Rattle.rx_pairs.specs.Ranks.{rank_of}
+use Rattle.rx_pairs.specs.Lowering.{Descends, descent_from}
+use Rattle.rx_pairs.specs.Pairs.{AreAllPairs, SidesFit}
+use Rattle.rx_pairs.specs.Ranks.{bad_rank, rank_of}
+use Rattle.rx_pairs.specs.declared.pair.Pair.{Pair}
+use Rattle.rx_pairs.specs.declared.pair_cert.PairCert.{PairCert}
 use Rattle.rx_pairs.specs.declared.table.RankTable.{RankTable}
 use Rattle.rx_pairs.proofs.Lowered.{steps_descend}
 use Rattle.rx_joins.specs.Goals.{Inside, Both, IsGood, IsBacked, IsFitting}
@@ -148,13 +155,30 @@ goals_left_fit parts goal end well fits run = (run_fits parts well end (start go
 pub kept_hypotheses_fit : (parts : RuleParts) (goal : Equation) (end : State) → IsWellMade parts → IsFitting parts goal → Run parts end (start goal) → All (SidesFit parts) end.hypotheses
 kept_hypotheses_fit parts goal end well fits run = (run_fits parts well end (start goal) run (start_fits parts well goal fits)).hypotheses
 
+-- where the set is covered and its steps make a weight smaller, each fitting term reaches a result
+pub fitting_ends : (parts : RuleParts) (weight : Ground → Weight) → IsWellMade parts → IsCovered parts → Lowers weight (Inside parts) (Instance parts.rules)
+    → (s : Ground) → Inside parts s → EndsInside (Inside parts) (Instance parts.rules) s
+fitting_ends parts weight made covered lowers =
+    ends_inside weight (Inside parts) (Instance parts.rules) lowers (steps_fit parts made) (covered_moves_everywhere parts made covered)
+
+-- so it is where trees and a rank table show it
+pub shown_ends : (parts : RuleParts) (trees : List (List CoverTree)) (table : RankTable) (pairs : List Pair) (certs : List PairCert)
+    → IsWellMade parts → covering parts trees ≡ Covers → bad_rank parts table ≡ None
+    → AreAllPairs parts.rules pairs → descent_from table 0 pairs certs ≡ Descends
+    → (s : Ground) → Inside parts s → EndsInside (Inside parts) (Instance parts.rules) s
+shown_ends parts trees table pairs certs made covers lawful all descends =
+    let whole = subst (λ rules. AreAllPairs rules pairs) (sym (append-nil parts.rules)) all in
+    let both = steps_descend parts [] table pairs certs made (All-nil (SidesFit parts)) lawful whole descends in
+    fitting_ends parts (weight_of (rank_of table)) made (covers_all parts trees covers)
+    (λ s t in_s step. both s t in_s (Step-by_rule (Instance parts.rules) (Instance []) step))
+
 -- by the rules alone each inside term reaches a result
 setting_of : (parts : RuleParts) (goal : Equation) (hypotheses : List Rule) (weight : Ground → Weight) → Accepted parts goal hypotheses weight → Setting parts
 setting_of parts goal hypotheses weight proof = record {
   made = proof.made;
   covered = proof.covered;
-  ends = ends_inside weight (Inside parts) (Instance parts.rules) (λ s t in_s step. proof.lowers s t in_s (Step-by_rule (Instance parts.rules) (Instance hypotheses) step))
-      (steps_fit parts proof.made) (covered_moves_everywhere parts proof.made proof.covered);
+  ends = fitting_ends parts weight proof.made proof.covered
+      (λ s t in_s step. proof.lowers s t in_s (Step-by_rule (Instance parts.rules) (Instance hypotheses) step));
 }
 
 module _ (parts : RuleParts) (goal : Equation) (hypotheses : List Rule) (weight : Ground → Weight) (proof : Accepted parts goal hypotheses weight) where

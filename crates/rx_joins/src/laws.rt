@@ -1,23 +1,45 @@
 //! What a finished run of proof steps means: laws, each a function with an empty body.
-ghost use Rattle.std.specs.Prelude.{◌≡◌, ◌∷◌, [], ℕ, ℤ, All, Contains, List, Ok};
+ghost use Rattle.std.specs.Prelude.{◌≡◌, ◌∷◌, [], ℕ, ℤ, All, Contains, List, None, Ok};
+ghost use Rattle.rx_cover.specs.Covering.{Covers, covering};
+ghost use Rattle.rx_cover.specs.declared.cover_tree.CoverTree.{CoverTree};
 ghost use Rattle.rx_form.specs.States.{State, applied};
 ghost use Rattle.rx_joins.specs.Example.{alike, by_hypothesis, equal, example, g, hypothesis};
 ghost use Rattle.rx_joins.specs.Example.{knowing, table};
 ghost use Rattle.rx_joins.specs.Goals.{Inside, IsBacked, IsFitting, IsGood};
 ghost use Rattle.rx_joins.specs.Runs.{Accepted, IsProof, Run, finished, start};
-ghost use Rattle.rx_pairs.specs.Pairs.{SidesFit};
-ghost use Rattle.rx_pairs.specs.Ranks.{rank_of};
+ghost use Rattle.rx_pairs.specs.Lowering.{Descends, descent_from};
+ghost use Rattle.rx_pairs.specs.Pairs.{AreAllPairs, SidesFit};
+ghost use Rattle.rx_pairs.specs.Ranks.{bad_rank, rank_of};
+ghost use Rattle.rx_pairs.specs.declared.pair.Pair.{Pair};
+ghost use Rattle.rx_pairs.specs.declared.pair_cert.PairCert.{PairCert};
 ghost use Rattle.rx_pairs.specs.declared.table.RankTable.{RankTable};
-ghost use Rattle.rx_rewriting.specs.Premises.{EndAlike};
+ghost use Rattle.rx_rewriting.specs.Premises.{EndAlike, EndsInside, Lowers};
 ghost use Rattle.rx_rewriting.specs.Ranks.{Weight, weight_of};
 ghost use Rattle.rx_rewriting.specs.Terms.{Ground};
 ghost use Rattle.rx_row.specs.Holds.{AllHold};
+ghost use Rattle.rx_term.specs.Covered.{IsCovered};
 ghost use Rattle.rx_term.specs.Meaning.{Instance, ground_at};
 ghost use Rattle.rx_term.specs.WellMade.{IsWellMade};
 ghost use Rattle.rx_term.specs.declared.rule.Equation.{Equation};
 ghost use Rattle.rx_term.specs.declared.rule.Rule.{Rule};
 ghost use Rattle.rx_term.specs.declared.rule_set.RuleParts.{RuleParts};
 ghost use Rattle.rx_term.specs.declared.term.Term.TheVariants.{Call};
+
+/// Over a well made set that is covered, and whose steps make a weight smaller, every term that fits
+/// reaches a result by its rules (`reach`). So it is where cover trees show that the set is covered,
+/// and all pairs of its rules are lower by a lawful rank table (`shown`).
+pub fn fitting_terms_reach_results()
+    ensures reach { (parts : RuleParts) (weight : Ground → Weight) →
+        IsWellMade parts → IsCovered parts →
+        Lowers weight (Inside parts) (Instance parts.rules) → (s : Ground) → Inside parts s →
+        EndsInside (Inside parts) (Instance parts.rules) s }
+    ensures shown { (parts : RuleParts) (trees : List (List CoverTree)) (table : RankTable)
+        (pairs : List Pair) (certs : List PairCert) →
+        IsWellMade parts → covering parts trees ≡ Covers → bad_rank parts table ≡ None →
+        AreAllPairs parts.rules pairs → descent_from table 0 pairs certs ≡ Descends →
+        (s : Ground) → Inside parts s →
+        EndsInside (Inside parts) (Instance parts.rules) s }
+{}
 
 /// From a goal whose sides fit the symbols of a well made set, runs come to goals whose sides fit,
 /// and keep hypotheses whose sides do.

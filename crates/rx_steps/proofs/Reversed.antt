@@ -1,7 +1,8 @@
 -- Goals that are kept with the first at the end.
-use Rattle.std.proofs.Common.{◌≡◌, ◌∙◌, ap, sym, refl, ◌+◌, ◌-◌, Option, Some, None, List, [], ◌∷◌, ◌++◌, length, drop, reverse, arith}
+use Rattle.std.proofs.Common.{◌≡◌, ◌≤◌, ◌<◌, ◌∙◌, ap, sym, refl, ℕ, ◌-◌, Option, Some, None, List, [], ◌∷◌, ◌++◌, length, drop, reverse, arith}
 use Rattle.std.specs.Prelude.{MatchOption, slice_get}
-use Rattle.std.proofs.lemmas.List.{length-reverse, reverse-append, reverse-reverse}
+use Rattle.std.proofs.lemmas.List.{get_or-reverse, length-reverse, reverse-append, reverse-reverse}
+use Rattle.std.proofs.lemmas.Option.{slice_get-get_or, slice_get_past}
 
 -- without the last, the rest of what is read from the end
 pub popped : {A : Type 0} (r : Option A) (old new : List A) → MatchOption r ((old ≡ []) × (new ≡ [])) (λ last. old ≡ new ++ last ∷ []) → reverse new ≡ drop 1 (reverse old)
@@ -23,3 +24,18 @@ first_at_end (y ∷ ys) =
 -- the last is the first of what is read from the end
 pub last_is_first : {A : Type 0} (xs : List A) → slice_get xs (length xs - 1) ≡ slice_get (reverse xs) 0
 last_is_first xs = sym (ap (λ zs. slice_get zs (length zs - 1)) (reverse-reverse xs)) ∙ first_at_end (reverse xs)
+
+-- an element from the end is one of what is read from the end
+pub from_the_end : {A : Type 0} (xs : List A) (k : ℕ) → k < length xs → slice_get xs (length xs - 1 - k) ≡ slice_get (reverse xs) k
+from_the_end [] k h = cc
+from_the_end (x ∷ xs) k h =
+    let count = length-reverse (x ∷ xs) in
+    let there : length (x ∷ xs) - 1 - k < length (x ∷ xs) = omega arith in
+    let here : k < length (reverse (x ∷ xs)) = omega arith in
+    slice_get-get_or (x ∷ xs) (length (x ∷ xs) - 1 - k) x there
+    ∙ ap Some (sym (get_or-reverse (x ∷ xs) k x h))
+    ∙ sym (slice_get-get_or (reverse (x ∷ xs)) k x here)
+
+-- and there are no more
+pub past_the_end : {A : Type 0} (xs : List A) (k : ℕ) → length xs ≤ k → slice_get (reverse xs) k ≡ None
+past_the_end xs k h = let count = length-reverse xs in slice_get_past (reverse xs) k (omega arith)

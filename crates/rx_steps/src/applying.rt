@@ -4,7 +4,7 @@ ghost use Rattle.rx_form.specs.States.{applied};
 ghost use Rattle.rx_steps.specs.Faults.{Applies};
 ghost use Rattle.rx_steps.specs.Shown.{Shows};
 
-use crate::judging::{certificates, judge};
+use crate::judging::judge;
 use crate::state::State;
 use crate::step_end::StepEnd;
 use rx_form::{FormedStep, Step, form};
@@ -19,7 +19,7 @@ fn shown(alloc: Global, state: &State, rules: &RuleSet, step: &Step) -> Result<F
     let formed = form(alloc, rules, state.first(), state.hypotheses(), step)?;
     match state.first() {
         Some(goal) => {
-            judge(alloc, &goal.rows, &formed.asked, certificates(step))?;
+            judge(alloc, &goal.rows, &formed.asked, step.certificates())?;
             Ok(formed)
         }
         None => Err(StepEnd::NoGoal),

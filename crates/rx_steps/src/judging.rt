@@ -1,14 +1,14 @@
 //! Whether the certificates of a step show what it asks.
 ghost use Rattle.std.specs.Prelude.{◌≡◌, [], ◌∷◌, true, List, Some};
 ghost use Rattle.rx_cert.specs.Conditions.{conditions};
-ghost use Rattle.rx_form.specs.Judging.{certificates, judged, of_conditions, refutation};
+ghost use Rattle.rx_form.specs.Judging.{judged, of_conditions, refutation};
 ghost use Rattle.rx_form.specs.declared.formed_step.Asked.TheVariants.{Rows};
 ghost use Rattle.rx_row.specs.declared.row.Row.{Row};
 ghost use Rattle.rx_steps.specs.Faults.{Judges, asks_goal_alone, is_one_group};
 
 use crate::step_end::StepEnd;
 use rx_cert::{Cert, ConditionsAnswer, check_conditions, shows};
-use rx_form::{Asked, Delete, Group, Step};
+use rx_form::{Asked, Group};
 use rx_row::{Constraint, Row};
 use std::alloc::Global;
 
@@ -64,22 +64,6 @@ fn refute_rows(alloc: Global, given: &Constraint, certs: &[Cert]) -> Result<(), 
     match certs.split_first() {
         Some((cert, more)) if more.is_empty() => refute(alloc, given, cert),
         _ => Err(StepEnd::WrongShape),
-    }
-}
-
-/// The certificates of a step, in order.
-pub(crate) fn certificates(step: &Step) -> &[Cert]
-    ensures { result.now ≡ certificates step.now }
-{
-    match step {
-        Step::Simplify { certs, .. } => certs.as_slice(),
-        Step::Hyp { certs, .. } => certs.as_slice(),
-        Step::Delete(Delete::Absurd(cert)) => std::slice::from_ref(cert),
-        Step::Delete(Delete::Equal(certs)) => certs.as_slice(),
-        Step::Generalise { certs, .. } => certs.as_slice(),
-        Step::Decompose { certs } => certs.as_slice(),
-        Step::Results { certs, .. } => certs.as_slice(),
-        _ => &[],
     }
 }
 

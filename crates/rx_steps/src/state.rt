@@ -1,5 +1,5 @@
 //! The goals that are to be shown, and the hypotheses that may be used for them.
-ghost use Rattle.std.specs.Prelude.{◌≡◌, ◌+◌, ◌≤◌, ◌^◌, nat_lt, ◌∷◌, [], ◌++◌, length, reverse, slice_get, vec_capacity, vec_len, IfOk, OnOk, OnErr};
+ghost use Rattle.std.specs.Prelude.{◌≡◌, ◌+◌, ◌≤◌, ◌<◌, ◌^◌, nat_lt, ◌∷◌, [], ◌++◌, length, reverse, slice_get, vec_capacity, vec_len, IfOk, OnOk, OnErr};
 ghost use Rattle.std.specs.Option.{option_copied};
 ghost use Rattle.rx_form.specs.States.{taken};
 
@@ -66,6 +66,28 @@ fn put_last(onto: &mut Vec<Rule>, rules: Vec<Rule>)
     }
 }
 
+/// The same goals once more.
+fn copied_goals(alloc: Global, goals: &[Equation]) -> Result<Vec<Equation>, NoMemory>
+    ensures { IfOk result (λ made. made.items ≡ goals.now) }
+{
+    let mut made = Vec::new(alloc);
+    for goal in goals {
+        made.push(goal.try_clone(alloc)?)?;
+    }
+    Ok(made)
+}
+
+/// The same rules once more.
+fn copied_rules(alloc: Global, rules: &[Rule]) -> Result<Vec<Rule>, NoMemory>
+    ensures { IfOk result (λ made. made.items ≡ rules.now) }
+{
+    let mut made = Vec::new(alloc);
+    for rule in rules {
+        made.push(rule.try_clone(alloc)?)?;
+    }
+    Ok(made)
+}
+
 impl State {
     /// The state with that goal alone, and no hypotheses.
     pub fn start(alloc: Global, goal: Equation) -> Result<State, NoMemory>
@@ -79,12 +101,50 @@ impl State {
         })
     }
 
+    /// The state with just these goals and hypotheses, in order. Takes no memory.
+    ///
+    /// There must be fewer than 2^32 of either.
+    pub fn from_parts(goals: Vec<Equation>, hypotheses: Vec<Rule>) -> State
+        requires goals { vec_len goals < 2 ^ 32 }
+        requires hypotheses { vec_len hypotheses < 2 ^ 32 }
+        ensures { result ≡ record { goals = goals.items; hypotheses = hypotheses.items } }
+    {
+        let mut goals = goals;
+        goals.reverse();
+        State { goals, hypotheses }
+    }
+
+    /// The same state once more; fails only for want of memory.
+    pub fn try_clone(&self, alloc: Global) -> Result<State, NoMemory>
+        ensures { IfOk result (λ s. s ≡ self.now) }
+    {
+        Ok(State {
+            goals: copied_goals(alloc, self.goals.as_slice())?,
+            hypotheses: copied_rules(alloc, self.hypotheses.as_slice())?,
+        })
+    }
+
     /// The first goal, borrowed, if there is one.
     #[tactic(auto, using(crate::proofs::Reversed::last_is_first))]
     pub fn first(&self) -> Option<&Equation>
         ensures { option_copied result ≡ slice_get self.now.goals 0 }
     {
         self.goals.last()
+    }
+
+    /// The goal with that number, counted from 0, borrowed; None exactly where there are no more
+    /// goals than that.
+    #[tactic(auto, using(crate::proofs::Reversed::from_the_end, crate::proofs::Reversed::past_the_end))]
+    pub fn goal(&self, at: u32) -> Option<&Equation>
+        ensures { option_copied result ≡ slice_get self.now.goals at }
+    {
+        let count = self.goals.len();
+        let at = at as usize;
+        if at < count {
+            self.goals.get(count - 1 - at)
+        } else {
+            None
+        }
     }
 
     /// The hypotheses in order, borrowed.
