@@ -3,6 +3,7 @@
 use crate::changes::{Change, instead, joined, without};
 use rx_cli::{Status, run};
 use rx_io::{MemoryFiles, MemorySink};
+use rx_logtext::{read_log, write_log};
 use std::alloc::Global;
 use std::str;
 
@@ -62,6 +63,17 @@ fn run_on(alloc: Global, words: &[String], mut files: MemoryFiles) -> Option<Str
     report(alloc, status, sink.put_so_far())
 }
 
+// Whether a text that is a log is written again as it was read.
+fn is_written_again(alloc: Global, text: &[u8]) -> bool {
+    match read_log(alloc, text) {
+        Ok(log) => match write_log(alloc, &log) {
+            Ok(written) => written.as_slice() == text,
+            Err(_) => false,
+        },
+        Err(_) => true,
+    }
+}
+
 impl Case {
     /// A case of which nothing is given.
     pub fn new(alloc: Global) -> Case {
@@ -83,11 +95,14 @@ impl Case {
         Some(())
     }
 
-    // What a run reports; the change is done with.
+    // What a run reports, where the log is written as it was read; the change is done with.
     fn found(&mut self, alloc: Global) -> Option<String> {
         let source = joined(alloc, &self.source, &None)?;
         let log = joined(alloc, &self.log, &self.change)?;
         self.change = None;
+        if !is_written_again(alloc, &log) {
+            return String::from_str(alloc, "the log is written otherwise").ok();
+        }
         run_on(alloc, &self.words, files_of(alloc, source, log)?)
     }
 

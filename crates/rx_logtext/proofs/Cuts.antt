@@ -1,9 +1,8 @@
 -- A text is cut at its first line feed in one way.
-use Rattle.std.proofs.Common.{◌≡◌, ◌∙◌, sym, refl, ap, subst, ℕ, ◌+◌, ◌<◌, ◌≤◌, suc, add-one, eqb, ltb, Bool, true, false, Option, Some, None, List, [], ◌∷◌, ◌++◌, length, take, drop, cond, not, ◌&&◌, arith}
+use Rattle.std.proofs.Common.{◌≡◌, ◌∙◌, sym, refl, ap, subst, ℕ, ◌+◌, ◌<◌, ◌≤◌, suc, eqb, ltb, Bool, true, false, Some, None, List, [], ◌∷◌, ◌++◌, length, take, drop, cond, not, ◌&&◌, arith}
 use Rattle.std.proofs.lemmas.Bool.{eqb-true, eq-eqb}
 use borrow.Author.Tests.{ltb-true, ltb-false}
-use Rattle.std.specs.List.{list_all, position, position_or_len}
-use Rattle.rx_logtext.specs.Lines.{lines}
+use Rattle.std.specs.List.{position, position_or_len}
 use Rattle.rx_logtext.specs.Logs.{is_one_line}
 
 abbrev pub is_feed : ℕ → Bool

@@ -14,3 +14,4 @@ pub mod StepKinds
 pub mod Taking
 pub mod Texts
 pub mod Unique
+pub mod Written

@@ -1,16 +1,15 @@
 -- Each kind of line by what it begins with.
-use Rattle.std.proofs.Common.{◌≡◌, ◌∙◌, refl, sym, ap, ℕ, Bool, true, false, ◌&&◌, Option, Some, None, List, [], ◌∷◌, ◌++◌, codes, drop, length}
-use Rattle.std.specs.List.{list_all}
+use Rattle.std.proofs.Common.{◌≡◌, ◌∙◌, refl, sym, ap, ℕ, Bool, true, false, ◌&&◌, Some, None, List, ◌++◌, codes, drop, length}
 use Rattle.rx_poly.specs.declared.body.Body.{Body}
 use Rattle.rx_cert.specs.declared.cert.Cert.{Cert}
 use Rattle.rx_cover.specs.declared.cover_tree.CoverTree.{CoverTree}
-use Rattle.rx_text.specs.Formats.{BeginsWith, Format, IsUnambiguous, Reads, StandsAt}
+use Rattle.rx_text.specs.Formats.{IsUnambiguous, Reads, StandsAt}
 use Rattle.rx_text.specs.Numbers.{natural_text}
 use Rattle.rx_text.specs.Polynomials.{polynomials}
 use Rattle.rx_words.specs.Trees.{trees}
 use Rattle.rx_words.specs.Words.{each_spaced, numbers, words}
 use Rattle.rx_words.proofs.Once.{numbers_once}
-use Rattle.rx_logtext.specs.Lines.{IsText, ReadsAll, ReadsEach, is_readable_line, is_width, line_text, lines, pair_parts}
+use Rattle.rx_logtext.specs.Lines.{ReadsAll, ReadsEach, is_readable_line, is_width, line_text, lines, pair_parts}
 use Rattle.rx_logtext.specs.declared.line.Line.{Line}
 use Rattle.rx_logtext.specs.declared.line.Line.TheVariants as line
 use Rattle.rx_logtext.proofs.Each.{each_once, over_end}

@@ -1,5 +1,5 @@
 -- What a line does to a log that was read up to a place.
-use Rattle.std.proofs.Common.{◌≡◌, ◌∙◌, sym, refl, ap, subst, ℕ, ◌+◌, eqb, Bool, true, false, Option, Some, None, List, [], ◌∷◌, ◌++◌, if◌then◌else◌, ◌&&◌, length, map, append_assoc, length-append, arith, add-zero}
+use Rattle.std.proofs.Common.{◌≡◌, ◌∙◌, sym, refl, ap, subst, ℕ, ◌+◌, eqb, Bool, true, false, Some, None, List, [], ◌∷◌, ◌++◌, if◌then◌else◌, ◌&&◌, length, append_assoc, length-append, arith}
 use Rattle.std.proofs.lemmas.List.{append-nil}
 use Rattle.std.proofs.lemmas.Grind.{common_steps}
 use Rattle.std.proofs.lemmas.Bool.{eq-eqb, eqb-true}
@@ -10,10 +10,10 @@ use Rattle.rx_form.specs.declared.step.Step.{Step}
 use Rattle.rx_pairs.specs.declared.pair_cert.PairCert.{PairCert}
 use Rattle.rx_pairs.specs.declared.table.RankTable.{RankTable}
 use Rattle.rx_log.specs.declared.log.Log.{Log}
-use Rattle.rx_logtext.specs.Lines.{IsText, is_readable_line, lines}
-use Rattle.rx_logtext.specs.Logs.{before_end, before_ranks, by_symbol, has_widths, line_texts, log_lines, plain}
+use Rattle.rx_logtext.specs.Lines.{is_readable_line}
+use Rattle.rx_logtext.specs.Logs.{before_end, before_ranks, by_symbol, has_widths, plain}
 use Rattle.rx_logtext.specs.Places.{after}
-use Rattle.rx_logtext.specs.Reading.{HasTaken, IsAt, IsBeforeRanks, lines_to, no_ranks, pushed}
+use Rattle.rx_logtext.specs.Reading.{IsAt, IsBeforeRanks, lines_to, pushed}
 use Rattle.rx_logtext.specs.declared.line.Line.{Line}
 use Rattle.rx_logtext.specs.declared.line.Line.TheVariants as line
 use Rattle.rx_logtext.specs.declared.place.Place.{Place}

@@ -1,16 +1,14 @@
 -- The answers of a reader that is fed line by line.
-use Rattle.std.proofs.Common.{◌≡◌, ◌∙◌, sym, refl, ap, subst, ℕ, ◌+◌, suc, add-one, Option, Some, None, Result, Ok, Err, List, [], ◌∷◌, ◌++◌, length, arith, length-append}
+use Rattle.std.proofs.Common.{◌≡◌, refl, ℕ, Some, None, List, [], ◌∷◌, ◌++◌}
 use Rattle.rx_log.specs.declared.log.Log.{Log}
 use Rattle.rx_logtext.specs.Lines.{IsText, lines}
 use Rattle.rx_logtext.specs.Logs.{Begins, HasLines}
-use Rattle.rx_logtext.specs.Readers.{Finishes, StandsBehind, Takes}
-use Rattle.rx_logtext.specs.Reading.{HasTaken, MayCome, ReadsNext, blank, pushed}
+use Rattle.rx_logtext.specs.Reading.{HasTaken, ReadsNext, blank, pushed}
 use Rattle.rx_logtext.specs.declared.line.Line.{Line}
 use Rattle.rx_logtext.specs.declared.place.Place.{Place}
-use Rattle.rx_logtext.specs.declared.place.Place.TheVariants.{AtHeader, InCovers, InSteps, InRanks, InPairs, Finished}
-use Rattle.rx_logtext.specs.declared.reader.LogReader.{LogReader}
+use Rattle.rx_logtext.specs.declared.place.Place.TheVariants.{AtHeader, Finished}
 use Rattle.rx_logtext.specs.Places.{after}
-use Rattle.rx_logtext.proofs.Taking.{may_come, not_whole, only_it, taken_whole, takes}
+use Rattle.rx_logtext.proofs.Taking.{may_come, not_whole, only_it, takes}
 use Rattle.rx_logtext.proofs.Unique.{lines_one}
 
 pub none_taken : HasTaken AtHeader blank []

@@ -1,6 +1,6 @@
 -- Lines that a reader takes one after the other: with which lines a log begins, and with which none does.
-use Rattle.std.proofs.Common.{◌≡◌, ◌∙◌, sym, refl, ap, subst, ℕ, ◌+◌, eqb, Bool, true, false, Option, Some, None, List, [], ◌∷◌, ◌++◌, ◌&&◌, if◌then◌else◌, length, map, append_assoc, arith}
-use Rattle.std.proofs.lemmas.Bool.{eq-eqb, eqb-true}
+use Rattle.std.proofs.Common.{◌≡◌, ◌∙◌, sym, refl, ap, ℕ, ◌+◌, eqb, Bool, true, false, Option, Some, None, List, [], ◌∷◌, ◌++◌, ◌&&◌, if◌then◌else◌, length, append_assoc, arith}
+use Rattle.std.proofs.lemmas.Bool.{eq-eqb}
 use Rattle.std.proofs.lemmas.List.{append-nil, map-append}
 use Rattle.std.proofs.lemmas.List.Folds.{list_all-append}
 use Rattle.std.specs.List.{list_all}
@@ -10,15 +10,15 @@ use Rattle.rx_form.specs.declared.step.Step.{Step}
 use Rattle.rx_pairs.specs.declared.pair_cert.PairCert.{PairCert}
 use Rattle.rx_pairs.specs.declared.table.RankTable.{RankTable}
 use Rattle.rx_log.specs.declared.log.Log.{Log}
-use Rattle.rx_logtext.specs.Lines.{IsText, ReadsAll, is_readable_line, lines}
-use Rattle.rx_logtext.specs.Logs.{Begins, HasLines, before_end, before_ranks, by_symbol, has_ranges, has_widths, line_texts, log_lines, plain}
+use Rattle.rx_logtext.specs.Lines.{IsText, lines}
+use Rattle.rx_logtext.specs.Logs.{Begins, HasLines, before_ranks, by_symbol, has_ranges, has_widths, line_texts, log_lines, plain}
 use Rattle.rx_logtext.specs.Places.{after, after_all}
-use Rattle.rx_logtext.specs.Reading.{HasTaken, IsAt, IsBeforeRanks, MayCome, blank, lines_to, no_ranks, pushed}
+use Rattle.rx_logtext.specs.Reading.{HasTaken, IsAt, IsBeforeRanks, MayCome, lines_to, pushed}
 use Rattle.rx_logtext.specs.declared.line.Line.{Line}
 use Rattle.rx_logtext.specs.declared.line.Line.TheVariants as line
 use Rattle.rx_logtext.specs.declared.place.Place.{Place}
 use Rattle.rx_logtext.specs.declared.place.Place.TheVariants.{AtHeader, InCovers, InSteps, InRanks, InPairs, Finished}
-use Rattle.rx_logtext.proofs.Places.{Moves, list_all-push, moves}
+use Rattle.rx_logtext.proofs.Places.{list_all-push, moves}
 
 -- ---- tests of two facts
 

@@ -1,12 +1,11 @@
 -- A text read line by line: what was read, and what its first bad line is.
-use Rattle.std.proofs.Common.{◌≡◌, ◌∙◌, sym, refl, ap, subst, ℕ, ◌+◌, ◌<◌, ◌≤◌, ◌-◌, suc, add-one, Bool, true, false, ◌&&◌, Option, Some, None, Result, Ok, Err, List, [], ◌∷◌, ◌++◌, length, append_assoc, length-append, arith}
+use Rattle.std.proofs.Common.{◌≡◌, ◌∙◌, sym, refl, ap, subst, ℕ, ◌+◌, ◌≤◌, suc, Bool, true, false, ◌&&◌, Result, Ok, Err, List, [], ◌∷◌, ◌++◌, length, append_assoc, length-append, arith}
 use Rattle.std.proofs.lemmas.List.{append-nil}
-use Rattle.std.proofs.lemmas.Grind.{flat_map-append}
 use Rattle.std.proofs.lemmas.List.Folds.{list_all-append}
 use Rattle.std.specs.List.{list_all}
 use Rattle.rx_log.specs.declared.log.Log.{Log}
 use Rattle.rx_logtext.specs.Lines.{lines}
-use Rattle.rx_logtext.specs.Logs.{Begins, HasLines, IsFirstBad, IsLog, ReadsLog, ended, is_one_line, line_texts, log_lines, log_text}
+use Rattle.rx_logtext.specs.Logs.{Begins, HasLines, IsFirstBad, IsLog, ReadsLog, ended, is_one_line}
 use Rattle.rx_logtext.specs.Readers.{Finishes, StandsBehind, Takes}
 use Rattle.rx_logtext.specs.declared.log_end.LogEnd.{LogEnd}
 use Rattle.rx_logtext.specs.declared.log_end.LogEnd.TheVariants as end

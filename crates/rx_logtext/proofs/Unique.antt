@@ -1,26 +1,21 @@
 -- A line is given by its text.
-use Rattle.std.proofs.Common.{◌≡◌, ◌∙◌, refl, sym, ap, subst, ℕ, eqb, Bool, true, false, ◌&&◌, ◌||◌, Option, Some, None, List, [], ◌∷◌, ◌++◌, codes, drop, length, leb, ◌≤◌, ◌-◌, ◌^◌, arith}
+use Rattle.std.proofs.Common.{◌≡◌, ◌∙◌, refl, sym, ap, subst, ℕ, eqb, Bool, true, false, ◌&&◌, ◌||◌, List, [], ◌∷◌, ◌++◌, codes, drop, leb, ◌≤◌, ◌-◌, ◌^◌, arith}
 use Rattle.std.proofs.lemmas.Bool.{eqb-true, leb-true, le-leb}
 use Rattle.std.proofs.lemmas.List.{append-nil}
 use Rattle.std.specs.List.{list_all}
-use Rattle.rx_poly.specs.declared.body.Body.{Body}
-use Rattle.rx_cert.specs.declared.cert.Cert.{Cert}
-use Rattle.rx_cover.specs.declared.cover_tree.CoverTree.{CoverTree}
-use Rattle.rx_pairs.specs.declared.pair_cert.PairCert.{PairCert}
 use Rattle.rx_form.specs.declared.step.Delete.TheVariants.{Absurd, Equal}
 use Rattle.rx_form.specs.declared.step.Step.{Step}
 use Rattle.rx_form.specs.declared.step.Step.TheVariants as step
-use Rattle.rx_text.specs.Formats.{BeginsWith, Format, IsUnambiguous}
+use Rattle.rx_text.specs.Formats.{IsUnambiguous}
 use Rattle.rx_text.specs.Numbers.{natural_text}
 use Rattle.rx_text.specs.Polynomials.{polynomials}
-use Rattle.rx_text.specs.Rows.{row_format}
-use Rattle.rx_words.specs.Certificates.{certificate_lists, certificates}
+use Rattle.rx_words.specs.Certificates.{certificate_lists}
 use Rattle.rx_words.specs.Equations.{equations, substitutions}
 use Rattle.rx_words.specs.Trees.{trees}
-use Rattle.rx_words.specs.Words.{each_spaced, numbers, pairs, word, words}
+use Rattle.rx_words.specs.Words.{each_spaced, numbers, pairs, words}
 use Rattle.rx_words.proofs.Joined.{pairs_once}
 use Rattle.rx_words.proofs.Once.{numbers_once, polynomials_once, rows_once, substitutions_once}
-use Rattle.rx_logtext.specs.Lines.{IsText, is_readable_line, is_width, line_text, lines, pair_parts}
+use Rattle.rx_logtext.specs.Lines.{IsText, is_width, line_text, lines, pair_parts}
 use Rattle.rx_logtext.specs.Steps.{expand_parts, generalise_parts, hyp_parts, keeps, results_parts, sides, simplify_parts, step_text, steps}
 use Rattle.rx_logtext.specs.declared.line.Line.{Line}
 use Rattle.rx_logtext.specs.declared.line.Line.TheVariants as line

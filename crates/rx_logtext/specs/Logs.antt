@@ -25,12 +25,15 @@ abbrev pub before_ranks : Log → List (Line × ℕ)
 before_ranks log =
     (line.Header, 0) ∷ (by_symbol line.Cover 0 log.covers ++ plain line.Step log.steps)
 
--- these, the ranks and the pairs
-abbrev pub before_end : Log → List (Line × ℕ)
-before_end log =
-    before_ranks log
-    ++ (line.Ranks log.table.columns, 0)
+-- the ranks and the pairs
+abbrev pub behind_steps : Log → List (Line × ℕ)
+behind_steps log =
+    (line.Ranks log.table.columns, 0)
     ∷ (by_symbol line.Rank 0 log.table.ranks ++ plain line.Pair log.pairs)
+
+-- all of these
+abbrev pub before_end : Log → List (Line × ℕ)
+before_end log = before_ranks log ++ behind_steps log
 
 -- the lines of a log, in order
 abbrev pub log_lines : Log → List (Line × ℕ)

@@ -1,10 +1,9 @@
 -- That a side, and whether a goal is kept, are given by their words.
-use Rattle.std.specs.Prelude.{◌≡◌, ℕ, ◌==◌, Bool, true, false, List, [], ◌∷◌, ◌++◌}
+use Rattle.std.specs.Prelude.{ℕ, ◌==◌, Bool, true, false, List, [], ◌∷◌}
 use Rattle.std.proofs.Common.{◌∙◌, ap, refl, sym}
 use Rattle.std.proofs.lemmas.Bool.{false≢true}
-use Rattle.rx_form.specs.declared.step.Side.{Side}
 use Rattle.rx_form.specs.declared.step.Side.TheVariants.{Left, Right}
-use Rattle.rx_text.specs.Formats.{BeginsWith, IsUnambiguous}
+use Rattle.rx_text.specs.Formats.{IsUnambiguous}
 use Rattle.rx_logtext.specs.Steps.{keeps, sides}
 
 -- the bytes behind the first

@@ -12,7 +12,7 @@ use Rattle.rx_text.specs.Formats.{Format}
 use Rattle.rx_text.specs.Rows.{row_format}
 use Rattle.rx_words.specs.Certificates.{certificate_lists, certificates}
 use Rattle.rx_words.specs.Equations.{equations, substitutions}
-use Rattle.rx_words.specs.Words.{numbers, pairs, spaced, word, words}
+use Rattle.rx_words.specs.Words.{numbers, pairs, spaced, words}
 
 -- ---- parts
 

@@ -1,6 +1,7 @@
 //! Logs as text: the one text of each log, written and read, and the first line that no log has.
 #![tactic(auto)]
 
+mod depth;
 mod laws;
 mod line;
 mod lines;
@@ -9,7 +10,9 @@ mod part;
 mod place;
 mod read;
 mod reader;
+mod step_writing;
 mod steps;
+mod writing;
 
 pub use laws::{a_text_has_one_reading, no_two_logs_have_the_same_lines};
 pub use line::Line;
@@ -18,3 +21,4 @@ pub use log_end::LogEnd;
 pub use place::Place;
 pub use read::read_log;
 pub use reader::LogReader;
+pub use writing::write_log;

@@ -10,6 +10,7 @@ pub mod LayerLaws
 pub mod Once
 pub mod Spaced
 pub mod TermLaws
+pub mod TermWritten
 pub mod TreeWords
 pub mod TreeWritten
 pub mod Written

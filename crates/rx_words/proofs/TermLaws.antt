@@ -29,7 +29,7 @@ applied_is : (f : Sym) (ps : List Body) (rest : List ℕ) → applied_text f ps 
 applied_is f ps rest =
     ap (λ b. 115 ∷ b) (append_assoc (natural_text f.0) (40 ∷ polys_text ps) rest ∙ sym (append_assoc (natural_text f.0) (40 ∷ []) (polys_text ps ++ rest)))
 
-frame_text : (f : Sym) (ps : List Body) (t : Term) → term_text (made.Frame f ps t) ≡ applied_text f ps ++ (59 ∷ (term_text t ++ 41 ∷ []))
+pub frame_text : (f : Sym) (ps : List Body) (t : Term) → term_text (made.Frame f ps t) ≡ applied_text f ps ++ (59 ∷ (term_text t ++ 41 ∷ []))
 frame_text f ps t = fold_out-Term (List ℕ) term_text_level (made.Frame f ps t) ∙ rw (made.outs-Frame f ps t) refl
 
 frame_readable : (f : Sym) (ps : List Body) (t : Term) → is_readable_term (made.Frame f ps t) ≡ (is_readable_call f ps && is_readable_term t)

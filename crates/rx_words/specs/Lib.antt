@@ -8,3 +8,4 @@ pub mod Lists
 pub mod Terms
 pub mod Trees
 pub mod Words
+pub mod Written

@@ -1,5 +1,5 @@
-//! Certificates, parts of sums, substitutions, rows and cover trees as words of a line: written,
-//! and read back from bytes at a place.
+//! Certificates, parts of sums, terms, equations, substitutions, rows and cover trees as words of a
+//! line: written, and read back from bytes at a place.
 #![tactic(auto)]
 
 mod arguments;
@@ -15,6 +15,7 @@ mod pairs;
 mod parts;
 mod places;
 mod substitutions;
+mod term_writing;
 mod terms;
 mod text;
 mod tree_writing;
@@ -28,10 +29,12 @@ pub use laws::{
     numbers_have_one_reading, parts_have_one_reading, row_lists_have_one_reading,
     substitutions_have_one_reading, terms_have_one_reading, trees_have_one_reading,
 };
+pub use lists::push_count;
 pub use numbers::read_number;
 pub use parts::{push_parts, read_parts};
 pub use rx_plain::NoMemory;
 pub use substitutions::{push_rows, push_subst, read_rows, read_subst};
+pub use term_writing::{push_equation, push_term};
 pub use terms::read_term;
 pub use tree_writing::push_tree;
 pub use trees::read_tree;

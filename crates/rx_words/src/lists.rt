@@ -65,8 +65,9 @@ pub(crate) fn read_list<T: Text>(
     }
 }
 
-/// Puts the number behind what was written before.
-fn push_count(out: &mut Vec<u8>, count: usize) -> Result<(), NoMemory>
+/// Puts the number behind what was written before. Fails only for want of memory, and then some of
+/// its text may stand there.
+pub fn push_count(out: &mut Vec<u8>, count: usize) -> Result<(), NoMemory>
     ensures { OnOk result (out.new.items ≡ out.old.items ++ natural_text count) }
 {
     let mut buffer = Buffer::new();

@@ -1,4 +1,4 @@
-use Rattle.std.proofs.Common.{refl, None}
+use Rattle.std.proofs.Common.{refl}
 use Rattle.rx_logtext.proofs.lines.read_line.Goals as goal
 
 pub returns-in-None : goal.returns-in-None

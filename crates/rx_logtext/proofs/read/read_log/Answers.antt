@@ -1,11 +1,10 @@
-use Rattle.std.proofs.Common.{rules, ◌≡◌, ◌∙◌, refl, sym, subst, ap, ℕ, ◌+◌, ◌<◌, ◌≤◌, suc, add-one, eqb, Option, Some, None, Result, Ok, Err, List, [], ◌∷◌, ◌++◌, length, true, false, arith}
-use Rattle.std.proofs.lemmas.Bool.{eqb-true, eq-eqb}
+use Rattle.std.proofs.Common.{◌≡◌, refl, sym, subst, ap, ℕ, suc, eqb, Result, Ok, Err, List, [], ◌∷◌, length, true, false, arith}
+use Rattle.std.proofs.lemmas.Bool.{eqb-true}
 use Rattle.std.specs.Result.{IsErrAnd}
 use Rattle.rx_log.specs.declared.log.Log.{Log}
 use Rattle.rx_logtext.specs.declared.log_end.LogEnd.{LogEnd}
-use Rattle.rx_logtext.specs.Logs.{ReadsLog, SplitsLine}
-use Rattle.rx_logtext.specs.Readers.{Finishes, StandsBehind, Takes}
-use Rattle.rx_logtext.proofs.Texts.{ReadSoFar, finished, line_read, refused, unended_bad}
+use Rattle.rx_logtext.specs.Logs.{ReadsLog}
+use Rattle.rx_logtext.proofs.Texts.{finished, line_read, refused, unended_bad}
 use Rattle.rx_logtext.proofs.read.read_log.Goals as goal
 
 same_end : (result : Result Log LogEnd) (end : LogEnd) → IsErrAnd result (λ e. e ≡ end) → Err end ≡ result

@@ -1,4 +1,4 @@
-use Rattle.std.proofs.Common.{◌≡◌, sym, subst, ℕ, Option, Some, None}
+use Rattle.std.proofs.Common.{sym, subst, ℕ, Option}
 use Rattle.rx_logtext.specs.Lines.{ReadsAll, lines}
 use Rattle.rx_logtext.specs.declared.line.Line.{Line}
 use Rattle.rx_logtext.proofs.Readers.{never_comes}

@@ -1,5 +1,4 @@
-use Rattle.std.proofs.Common.{rules, ◌≡◌, sym, ◌∙◌, ap, subst, ℕ, suc, ◌+◌, List, length, arith, add-one}
-use Rattle.rx_logtext.specs.Readers.{Finishes, StandsBehind, Takes}
+use Rattle.std.proofs.Common.{◌≡◌, suc, length, arith}
 use Rattle.rx_logtext.proofs.Readers.{far_from_end}
 use Rattle.rx_logtext.proofs.reader.LogReader.finish.Goals as goal
 

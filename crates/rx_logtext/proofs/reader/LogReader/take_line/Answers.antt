@@ -1,7 +1,6 @@
-use Rattle.std.proofs.Common.{◌≡◌, sym, subst, ℕ, suc, ◌+◌, Option, Some, None, List, [], ◌∷◌, ◌++◌, length, arith, length-append}
+use Rattle.std.proofs.Common.{◌≡◌, sym, subst, suc, Option, Some, None, [], ◌∷◌, ◌++◌, length, arith, length-append}
 use Rattle.rx_log.specs.declared.log.Log.{Log}
-use Rattle.rx_logtext.specs.Reading.{HasTaken, ReadsNext, pushed}
-use Rattle.rx_logtext.specs.Readers.{StandsBehind}
+use Rattle.rx_logtext.specs.Reading.{HasTaken, ReadsNext}
 use Rattle.rx_logtext.specs.declared.line.Line.{Line}
 use Rattle.rx_logtext.specs.declared.place.Place.{Place}
 use Rattle.rx_logtext.proofs.Readers.{none_begins, one_taken}

@@ -1,0 +1,82 @@
+//! Whether certificates and trees are at most 200 deep. Nothing deeper is walked.
+ghost use Rattle.std.specs.Prelude.{◌≡◌, nat_le};
+ghost use Rattle.rx_cert.specs.Depth.{cert_depth};
+ghost use Rattle.rx_cover.specs.Depth.{tree_depth};
+ghost use Rattle.rx_logtext.specs.Depth.{are_shallow, has_shallow_certs, is_shallow, is_shallow_tree};
+ghost use Rattle.std.specs.List.{list_all};
+
+use rx_cert::Cert;
+use rx_cover::CoverTree;
+
+/// How deep a certificate or a tree is at most.
+const DEEPEST: u32 = 200;
+
+/// Whether the certificate is at most so deep.
+fn is_within(cert: &Cert, most: u32) -> bool
+    ensures { result ≡ nat_le (cert_depth cert.now) most }
+{
+    if most == 0 {
+        return false;
+    }
+    let left = most - 1;
+    match cert {
+        Cert::Sum(_) => true,
+        Cert::Cut { rest, .. } => is_within(rest.get(), left),
+        Cert::Split { yes, no, .. } => is_within(yes.get(), left) && is_within(no.get(), left),
+        Cert::Differ { pos, neg, .. } => is_within(pos.get(), left) && is_within(neg.get(), left),
+        Cert::Solve { rest, .. } => is_within(rest.get(), left),
+        Cert::DivFacts { pos, neg, .. } => is_within(pos.get(), left) && is_within(neg.get(), left),
+    }
+}
+
+/// Whether all certificates are at most 200 deep.
+pub(crate) fn are_shallow(certs: &[Cert]) -> bool
+    ensures { result ≡ are_shallow certs.now }
+{
+    for cert in certs {
+        if !is_within(cert, DEEPEST) {
+            return false;
+        }
+    }
+    true
+}
+
+/// Whether the tree is at most so deep.
+fn is_tree_within(tree: &CoverTree, most: u32) -> bool
+    ensures { result ≡ nat_le (tree_depth tree.now) most }
+{
+    if most == 0 {
+        return false;
+    }
+    match tree {
+        CoverTree::Split { yes, no, .. } => {
+            is_tree_within(yes.get(), most - 1) && is_tree_within(no.get(), most - 1)
+        }
+        _ => true,
+    }
+}
+
+/// Whether all certificates in the tree are at most 200 deep. The tree is walked whole.
+fn has_shallow_certs(tree: &CoverTree) -> bool
+    ensures { result ≡ has_shallow_certs tree.now }
+{
+    match tree {
+        CoverTree::Use { certs, .. } => are_shallow(certs.as_slice()),
+        CoverTree::Split { yes, no, .. } => {
+            has_shallow_certs(yes.get()) && has_shallow_certs(no.get())
+        }
+        CoverTree::Absurd(cert) => is_within(cert, DEEPEST),
+    }
+}
+
+/// Whether all trees, and all certificates in them, are at most 200 deep.
+pub(crate) fn are_shallow_trees(trees: &[CoverTree]) -> bool
+    ensures { result ≡ list_all is_shallow_tree trees.now }
+{
+    for tree in trees {
+        if !is_tree_within(tree, DEEPEST) || !has_shallow_certs(tree) {
+            return false;
+        }
+    }
+    true
+}

@@ -1,0 +1,219 @@
+//! Steps are written, each as a line without what ends it.
+ghost use Rattle.std.specs.Prelude.{◌≡◌, ◌++◌, ◌∷◌, [], OnOk};
+ghost use Rattle.rx_form.specs.declared.step.Step.TheVariants as step;
+ghost use Rattle.rx_logtext.specs.Steps.{keep_text, side_text, step_text};
+ghost use Rattle.rx_text.specs.Numbers.{natural_text};
+ghost use Rattle.rx_words.specs.Certificates.{certificate_lists};
+ghost use Rattle.rx_words.specs.Equations.{substitutions};
+ghost use Rattle.rx_words.specs.Words.{spaced};
+
+use rx_cert::Cert;
+use rx_form::{Delete, Side, Step};
+use rx_plain::{Items, NoMemory};
+use rx_poly::Poly;
+use rx_row::{Constraint, Row};
+use rx_term::Term;
+use rx_text::{push_natural, push_row, push_word};
+use rx_words::{push_cert, push_certs, push_equation, push_subst};
+
+/// A side.
+fn push_side(side: Side, out: &mut Vec<u8>) -> Result<(), NoMemory>
+    ensures { OnOk result (out.new.items ≡ out.old.items ++ side_text side) }
+{
+    match side {
+        Side::Left => push_word(out, b"l"),
+        Side::Right => push_word(out, b"r"),
+    }
+}
+
+/// Whether the goal is kept.
+fn push_keep(keep: bool, out: &mut Vec<u8>) -> Result<(), NoMemory>
+    ensures { OnOk result (out.new.items ≡ out.old.items ++ keep_text keep) }
+{
+    if keep {
+        push_word(out, b"keep")
+    } else {
+        push_word(out, b"drop")
+    }
+}
+
+/// A rule is applied.
+fn push_simplify(
+    side: Side,
+    rule: u32,
+    certs: &Items<Cert>,
+    out: &mut Vec<u8>,
+) -> Result<(), NoMemory>
+    ensures { OnOk result (out.new.items ≡ out.old.items ++ step_text (step.Simplify side rule certs.now)) }
+{
+    push_word(out, b"simplify ")?;
+    push_side(side, out)?;
+    push_word(out, b" ")?;
+    push_natural(out, rule)?;
+    push_word(out, b" ")?;
+    push_certs(certs, out)
+}
+
+/// Two numbers.
+fn push_numbers(first: u32, second: u32, out: &mut Vec<u8>) -> Result<(), NoMemory>
+    ensures { OnOk result (out.new.items ≡ out.old.items
+        ++ spaced (natural_text first ∷ natural_text second ∷ [])) }
+{
+    push_natural(out, first)?;
+    push_word(out, b" ")?;
+    push_natural(out, second)
+}
+
+/// A substitution and certificates.
+fn push_instance(
+    subst: &Items<(u32, Poly)>,
+    certs: &Items<Cert>,
+    out: &mut Vec<u8>,
+) -> Result<(), NoMemory>
+    ensures { OnOk result (out.new.items ≡ out.old.items
+        ++ spaced (substitutions.text subst.now ∷ certificate_lists.text certs.now ∷ [])) }
+{
+    push_subst(subst.as_slice(), out)?;
+    push_word(out, b" ")?;
+    push_certs(certs, out)
+}
+
+/// A hypothesis is used.
+fn push_hyp(
+    side: Side,
+    place: u32,
+    hyp: u32,
+    subst: &Items<(u32, Poly)>,
+    certs: &Items<Cert>,
+    out: &mut Vec<u8>,
+) -> Result<(), NoMemory>
+    ensures { OnOk result (out.new.items ≡ out.old.items
+        ++ step_text (step.Hyp side place hyp subst.now certs.now)) }
+{
+    push_word(out, b"hyp ")?;
+    push_side(side, out)?;
+    push_word(out, b" ")?;
+    push_numbers(place, hyp, out)?;
+    push_word(out, b" ")?;
+    push_instance(subst, certs, out)
+}
+
+/// A goal is expanded.
+fn push_expand(side: Side, keep: bool, out: &mut Vec<u8>) -> Result<(), NoMemory>
+    ensures { OnOk result (out.new.items ≡ out.old.items ++ step_text (step.Expand side keep)) }
+{
+    push_word(out, b"expand ")?;
+    push_side(side, out)?;
+    push_word(out, b" ")?;
+    push_keep(keep, out)
+}
+
+/// A goal is deleted.
+fn push_delete(by: &Delete, out: &mut Vec<u8>) -> Result<(), NoMemory>
+    ensures { OnOk result (out.new.items ≡ out.old.items ++ step_text (step.Delete by.now)) }
+{
+    match by {
+        Delete::Absurd(cert) => {
+            push_word(out, b"absurd ")?;
+            push_cert(cert, out)
+        }
+        Delete::Equal(certs) => {
+            push_word(out, b"equal ")?;
+            push_certs(certs, out)
+        }
+    }
+}
+
+/// A goal is an instance of another.
+fn push_generalise(
+    left: &Term,
+    right: &Term,
+    rows: &Constraint,
+    subst: &Items<(u32, Poly)>,
+    certs: &Items<Cert>,
+    out: &mut Vec<u8>,
+) -> Result<(), NoMemory>
+    ensures { OnOk result (out.new.items ≡ out.old.items
+        ++ step_text (step.Generalise left.now right.now rows.now subst.now certs.now)) }
+{
+    push_word(out, b"generalise ")?;
+    push_equation(left, right, rows.rows(), out)?;
+    push_word(out, b" ")?;
+    push_instance(subst, certs, out)
+}
+
+/// Another goal is added.
+fn push_postulate(
+    left: &Term,
+    right: &Term,
+    rows: &Constraint,
+    out: &mut Vec<u8>,
+) -> Result<(), NoMemory>
+    ensures { OnOk result (out.new.items ≡ out.old.items
+        ++ step_text (step.Postulate left.now right.now rows.now)) }
+{
+    push_word(out, b"postulate ")?;
+    push_equation(left, right, rows.rows(), out)
+}
+
+/// A goal is split by a row.
+fn push_split(row: &Row, out: &mut Vec<u8>) -> Result<(), NoMemory>
+    ensures { OnOk result (out.new.items ≡ out.old.items ++ step_text (step.Split row.now)) }
+{
+    push_word(out, b"split ")?;
+    push_row(out, row)
+}
+
+/// Equal frames are taken off.
+fn push_decompose(certs: &Items<Cert>, out: &mut Vec<u8>) -> Result<(), NoMemory>
+    ensures { OnOk result (out.new.items ≡ out.old.items ++ step_text (step.Decompose certs.now)) }
+{
+    push_word(out, b"decompose ")?;
+    push_certs(certs, out)
+}
+
+/// Equal calls are replaced by what they may come to.
+fn push_results(
+    left: u32,
+    right: u32,
+    certs: &Items<Cert>,
+    out: &mut Vec<u8>,
+) -> Result<(), NoMemory>
+    ensures { OnOk result (out.new.items ≡ out.old.items
+        ++ step_text (step.Results left right certs.now)) }
+{
+    push_word(out, b"results ")?;
+    push_numbers(left, right, out)?;
+    push_word(out, b" ")?;
+    push_certs(certs, out)
+}
+
+/// Puts the text of the step behind what was written before.
+pub(crate) fn push_step(step: &Step, out: &mut Vec<u8>) -> Result<(), NoMemory>
+    ensures { OnOk result (out.new.items ≡ out.old.items ++ step_text step.now) }
+{
+    match step {
+        Step::Simplify { side, rule, certs } => push_simplify(*side, *rule, certs, out),
+        Step::Hyp {
+            side,
+            place,
+            hyp,
+            subst,
+            certs,
+        } => push_hyp(*side, *place, *hyp, subst, certs, out),
+        Step::Expand { side, keep } => push_expand(*side, *keep, out),
+        Step::Delete(by) => push_delete(by, out),
+        Step::EqDelete => push_word(out, b"eqdelete"),
+        Step::Generalise {
+            left,
+            right,
+            rows,
+            subst,
+            certs,
+        } => push_generalise(left, right, rows, subst, certs, out),
+        Step::Postulate { left, right, rows } => push_postulate(left, right, rows, out),
+        Step::Split { row } => push_split(row, out),
+        Step::Decompose { certs } => push_decompose(certs, out),
+        Step::Results { left, right, certs } => push_results(*left, *right, certs, out),
+    }
+}
