@@ -1,0 +1,5 @@
+-- Visits of a tree of nodes, and what the first of them come to.
+pub mod Outcomes
+pub mod Tallies
+pub mod Views
+pub mod Visits

@@ -1,0 +1,108 @@
+//! How far visits have come.
+ghost use Rattle.std.specs.Prelude.{◌≡◌, ◌↔◌, ◌<◌, ◌-◌, IsTrue};
+ghost use Rattle.std.specs.Option.{option_map};
+ghost use Rattle.rx_visits.specs.Tallies.{begin, outcome_by, over, visited};
+ghost use Rattle.rx_visits.specs.declared.tally.Ended.TheVariants.{Going};
+
+use crate::outcome::{Note, Outcome};
+use rx_plain::Items;
+
+/// Whether the visits go on.
+#[derive(Debug, Drop)]
+pub(crate) enum Ended<N> {
+    /// They do.
+    Going,
+    /// A closed node was visited.
+    Found(N),
+    /// There are more visits than the budget.
+    Over,
+}
+
+/// The visits so far.
+#[derive(Debug, Drop)]
+pub(crate) struct Tally<N, R> {
+    /// How many more the budget has.
+    pub left: u32,
+    /// The first note.
+    pub note: Option<Note<R>>,
+    /// Whether they go on.
+    pub ended: Ended<N>,
+}
+
+/// Whether the visits go on.
+pub(crate) fn is_going<N>(ended: &Ended<N>) -> bool
+    ensures { IsTrue result ↔ (ended.now ≡ Going) }
+{
+    match ended {
+        Ended::Going => true,
+        Ended::Found(_) => false,
+        Ended::Over => false,
+    }
+}
+
+/// No visit is made yet.
+pub(crate) fn begin<N, R>(budget: u32) -> Tally<N, R>
+    ensures { result ≡ begin budget }
+{
+    Tally {
+        left: budget,
+        note: None,
+        ended: Ended::Going,
+    }
+}
+
+/// There are more visits than the budget.
+pub(crate) fn over<N: Drop, R: Drop>(tally: Tally<N, R>) -> Tally<N, R>
+    ensures { result ≡ over tally }
+{
+    Tally {
+        left: 0,
+        note: tally.note,
+        ended: Ended::Over,
+    }
+}
+
+/// What was noted, with the path to where.
+fn with_path<R>(path: Items<u8>, note: Option<R>) -> Option<Note<R>>
+    ensures { result ≡ option_map (λ r. record { path = path; noted = r }) note }
+{
+    match note {
+        Some(noted) => Some(Note { path, noted }),
+        None => None,
+    }
+}
+
+/// One more visit, within the budget.
+pub(crate) fn count<N: Drop, R: Drop>(
+    tally: Tally<N, R>,
+    path: Items<u8>,
+    node: N,
+    closed: bool,
+    note: Option<R>,
+) -> Tally<N, R>
+    requires { 0 < tally.left }
+    ensures { result ≡ visited (tally.left - 1) tally (record { path = path; node = node; closed = closed; note = note }) }
+{
+    let ended = if closed {
+        Ended::Found(node)
+    } else {
+        Ended::Going
+    };
+    Tally {
+        left: tally.left - 1,
+        note: tally.note.or(with_path(path, note)),
+        ended,
+    }
+}
+
+/// What the visits come to.
+pub(crate) fn outcome_of<N: Drop, R: Drop>(tally: Tally<N, R>) -> Outcome<N, R>
+    ensures { result ≡ outcome_by tally.ended tally.note }
+{
+    match (tally.ended, tally.note) {
+        (Ended::Found(node), _) => Outcome::Closed(node),
+        (_, Some(note)) => Outcome::Noted(note),
+        (Ended::Going, None) => Outcome::Through,
+        (Ended::Over, None) => Outcome::Spent,
+    }
+}
