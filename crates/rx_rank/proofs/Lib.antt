@@ -1,0 +1,10 @@
+-- Lemmas on the definitions of specs/.
+pub mod Certified
+pub mod Choosing
+pub mod ComponentLaws
+pub mod Gathering
+pub mod OwnCandidates
+pub mod OwnValues
+pub mod PairLaws
+pub mod TryLaws
+pub mod Walks

@@ -1,0 +1,76 @@
+-- The polynomials that an anchor of a component may get: entries, heads and left roots of hypotheses are anchors.
+use Rattle.std.specs.Prelude.{ℕ, ◌==◌, Bool, false, ◌||◌, if◌then◌else◌, List, [], ◌∷◌, ◌++◌, map, slice_get}
+use Rattle.std.specs.List.{flat_map, filter, fold, list_any}
+use Rattle.std.specs.Option.{option_map_or}
+use Rattle.rx_plain.specs.Formed.{kept}
+use Rattle.rx_poly.specs.Limits.{is_within}
+use Rattle.rx_poly.specs.Variables.{uses_below}
+use Rattle.rx_poly.specs.declared.body.Body.{Body}
+use Rattle.rx_poly.specs.contracts.body.BodyPartialEq.TheImpl as body_equal
+use Rattle.rx_row.specs.Negation.{opposite}
+use Rattle.rx_row.specs.Parts.{poly_of}
+use Rattle.rx_row.specs.declared.row.Row.{Row}
+use Rattle.rx_row.specs.declared.row.Row.TheVariants.{Ge, Eq, Ne}
+use Rattle.rx_solve.specs.Attempts.{Tried, applies, applying, is_noted}
+use Rattle.rx_term.specs.Stacks.{root_of}
+use Rattle.rx_term.specs.declared.rule.Rule.{Rule}
+use Rattle.rx_term.specs.declared.rule_set.RuleParts.{RuleParts}
+use Rattle.rx_term.specs.declared.rule_set.SymInfo.{SymInfo}
+use Rattle.rx_term.specs.declared.term.Sym.{Sym}
+use Rattle.rx_rank.specs.Components.{is_rule_of}
+use Rattle.rx_rank.specs.Tries.{formed_tried}
+
+-- ---- anchors
+
+-- how many arguments the symbol has
+abbrev pub arity_of : List SymInfo → ℕ → ℕ
+arity_of infos f = option_map_or (λ (info : SymInfo). info.arity) (slice_get infos f) 0
+
+-- the symbol is the root of the rule's left side
+abbrev pub is_left_root : ℕ → Rule → Bool
+is_left_root f rule = option_map_or (λ (g : Sym). g.0 == f) (root_of rule.left) false
+
+-- the symbol is an entry or a head
+abbrev pub is_start : List SymInfo → ℕ → Bool
+is_start infos f = option_map_or (λ (info : SymInfo). info.entry || info.head) (slice_get infos f) false
+
+-- the symbol is an entry, a head or the left root of a hypothesis
+abbrev pub is_anchor : List SymInfo → List Rule → ℕ → Bool
+is_anchor infos hypotheses f = is_start infos f || list_any (is_left_root f) hypotheses
+
+-- ---- candidates
+
+-- -p, where it keeps the limits
+abbrev pub opposite_tried : Body → Tried Body
+opposite_tried p = formed_tried (kept is_within (opposite p))
+
+-- those of a row's polynomial, where it is over so many arguments: an inequality p >= 0 gives p, any other row p and -p
+abbrev pub candidates_by : Row → List (Tried Body)
+candidates_by (Ge p) = applies p ∷ []
+candidates_by (Eq p) = applies p ∷ opposite_tried p ∷ []
+candidates_by (Ne p) = applies p ∷ opposite_tried p ∷ []
+
+abbrev pub row_candidates : ℕ → Row → List (Tried Body)
+row_candidates arity row = if uses_below arity (poly_of row) then candidates_by row else []
+
+-- those of the rows of the rules whose left root is in the component
+abbrev pub rule_candidates : List ℕ → ℕ → ℕ → Rule → List (Tried Body)
+rule_candidates names c arity rule = if is_rule_of names c rule then flat_map (row_candidates arity) rule.rows else []
+
+abbrev pub all_candidates : List ℕ → ℕ → List Rule → ℕ → List (Tried Body)
+all_candidates names c rules arity = flat_map (rule_candidates names c arity) rules
+
+-- one more, unless it is one of them
+abbrev pub with_candidate : List Body → Body → List Body
+with_candidate ps p = if list_any (λ q. (body_equal.ghosts).eq q p) ps then ps else ps ++ p ∷ []
+
+-- each once, in order
+abbrev pub candidates : List ℕ → ℕ → List Rule → ℕ → List Body
+candidates names c rules arity = fold with_candidate [] (applying (all_candidates names c rules arity))
+
+-- for each anchor, by the numbers of arguments; and whether one of them passes the limits
+abbrev pub candidate_lists : List ℕ → ℕ → List Rule → List ℕ → List (List Body)
+candidate_lists names c rules arities = map (candidates names c rules) arities
+
+abbrev pub are_noted : List ℕ → ℕ → List Rule → List ℕ → Bool
+are_noted names c rules arities = list_any (λ arity. is_noted (all_candidates names c rules arity)) arities

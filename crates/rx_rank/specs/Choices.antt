@@ -1,0 +1,149 @@
+-- What comes of a choice of candidates for the anchors of a component: the other symbols get their polynomials from
+-- those that their pairs lead to. The choice is fit where all pairs hold and one falls; those that don't fall stay open.
+use Rattle.std.specs.Prelude.{ℕ, zero, suc, ◌==◌, Bool, true, false, not, if◌then◌else◌, Option, Some, None, List, [], ◌∷◌, length, map, slice_get, slice_set, option_and_then}
+use Rattle.std.specs.List.{filter, find, flat_map, list_all, list_any}
+use Rattle.std.specs.Option.{option_map}
+use Rattle.rx_poly.specs.Variables.{uses_below}
+use Rattle.rx_poly.specs.declared.body.Body.{Body}
+use Rattle.rx_cert.specs.Findings.{Said, Yes, No, Beyond, both}
+use Rattle.rx_solve.specs.Attempts.{Tried, applies, fails, first_applying, where_shown}
+use Rattle.rx_term.specs.declared.rule_set.SymInfo.{SymInfo}
+use Rattle.rx_pairs.specs.Columns.{at_right}
+use Rattle.rx_pairs.specs.declared.pair.Pair.{Pair}
+use Rattle.rx_rank.specs.Candidates.{arity_of}
+use Rattle.rx_rank.specs.PairTests.{falls, holds}
+use Rattle.rx_rank.specs.Tries.{and_then, formed_tried, if_shown}
+
+-- ---- polynomials by symbol
+
+-- that of the symbol, if it has one
+abbrev pub polynomial_of : List (Option Body) → ℕ → Option Body
+polynomial_of values f = option_and_then (λ value. value) (slice_get values f)
+
+-- those with one more
+abbrev pub with_polynomial : List (Option Body) → ℕ → Body → List (Option Body)
+with_polynomial values f p = slice_set values f (Some p)
+
+-- those with one for each of the symbols
+abbrev pub with_choice : List (Option Body) → List ℕ → List Body → List (Option Body)
+with_choice values [] ps = values
+with_choice values (f ∷ fs) [] = values
+with_choice values (f ∷ fs) (p ∷ ps) = with_choice (with_polynomial values f p) fs ps
+
+-- none
+abbrev pub without_polynomials : ℕ → List (Option Body)
+without_polynomials zero = []
+without_polynomials (suc n) = None ∷ without_polynomials n
+
+-- a test of a pair by the polynomials of its symbols; it fails where one has none
+abbrev pub tested : (Body → Body → Said) → Option Body → Option Body → Said
+tested test None right = No
+tested test (Some p) None = No
+tested test (Some p) (Some q) = test p q
+
+-- a column of these holds at the pair, or falls there
+abbrev pub holds_by : List (Option Body) → Pair → Said
+holds_by values pair = tested (holds pair) (polynomial_of values pair.left.0) (polynomial_of values pair.right.0)
+
+abbrev pub falls_by : List (Option Body) → Pair → Said
+falls_by values pair = tested (falls pair) (polynomial_of values pair.left.0) (polynomial_of values pair.right.0)
+
+-- ---- the order of the symbols that are no anchors
+
+-- the pairs of a symbol
+abbrev pub pairs_from : ℕ → List Pair → List Pair
+pairs_from f pairs = filter (λ pair. pair.left.0 == f) pairs
+
+-- none of its pairs leads to one of those
+abbrev pub is_ready : List Pair → List ℕ → ℕ → Bool
+is_ready pairs waiting f = list_all (λ pair. not (list_any (λ g. g == pair.right.0) waiting)) (pairs_from f pairs)
+
+-- the others
+abbrev pub without : ℕ → List ℕ → List ℕ
+without f fs = filter (λ g. not (g == f)) fs
+
+-- each symbol after those that its pairs lead to, otherwise by number; there is no such order where one reaches itself
+abbrev pub next_first : Option ℕ → (ℕ → Option (List ℕ)) → Option (List ℕ)
+next_first None rest = None
+next_first (Some f) rest = option_map (λ fs. f ∷ fs) (rest f)
+
+abbrev pub order_by : ℕ → List Pair → List ℕ → Option (List ℕ)
+order_by zero pairs waiting = Some []
+order_by (suc n) pairs waiting = next_first (find (is_ready pairs waiting) waiting) (λ f. order_by n pairs (without f waiting))
+
+abbrev pub order_of : List Pair → List ℕ → Option (List ℕ)
+order_of pairs others = order_by (length others) pairs others
+
+-- ---- their polynomials
+
+-- a column holds at these pairs of one symbol with p for it
+abbrev pub hold_with : List (Option Body) → Body → List Pair → Said
+hold_with values p [] = Yes
+hold_with values p (pair ∷ pairs) = both (tested (holds pair) (Some p) (polynomial_of values pair.right.0)) (hold_with values p pairs)
+
+-- p serves where it is over so many arguments and all of them hold with it
+abbrev pub serving : ℕ → List (Option Body) → List Pair → Body → Tried Body
+serving arity values mine p = if uses_below arity p then where_shown (hold_with values p mine) p else fails
+
+-- the instance of the polynomial that a pair leads to
+abbrev pub instance_on : Pair → Option Body → Tried Body
+instance_on pair None = fails
+instance_on pair (Some q) = formed_tried (at_right pair q)
+
+abbrev pub from_target : ℕ → List (Option Body) → List Pair → Pair → Tried Body
+from_target arity values mine pair =
+    and_then (instance_on pair (polynomial_of values pair.right.0)) (serving arity values mine)
+
+-- the first that serves, in the order of the symbol's pairs
+abbrev pub first_serving : ℕ → List (Option Body) → List Pair → Tried Body
+first_serving arity values mine = first_applying (map (from_target arity values mine) mine)
+
+-- the polynomials with those of the symbols in order
+abbrev pub filled : List SymInfo → List Pair → List (Option Body) → List ℕ → Tried (List (Option Body))
+filled infos pairs values [] = applies values
+filled infos pairs values (f ∷ fs) =
+    and_then (first_serving (arity_of infos f) values (pairs_from f pairs)) (λ p. filled infos pairs (with_polynomial values f p) fs)
+
+-- ---- a choice
+
+-- all pairs hold
+abbrev pub all_hold : List (Option Body) → List Pair → Said
+all_hold values [] = Yes
+all_hold values (pair ∷ pairs) = both (holds_by values pair) (all_hold values pairs)
+
+-- what is said is yes, or beyond the limits
+abbrev pub is_yes : Said → Bool
+is_yes Yes = true
+is_yes No = false
+is_yes Beyond = false
+
+abbrev pub is_beyond : Said → Bool
+is_beyond Yes = false
+is_beyond No = false
+is_beyond Beyond = true
+
+-- the pairs that stay open, where one falls; all are tried
+abbrev pub not_falling : List (Option Body) → List Pair → List Pair
+not_falling values pairs = filter (λ pair. not (is_yes (falls_by values pair))) pairs
+
+abbrev pub falling : List (Option Body) → List Pair → Tried (List Pair)
+falling values pairs = record {
+  made = if list_any (λ pair. is_yes (falls_by values pair)) pairs then Some (not_falling values pairs) else None;
+  noted = list_any (λ pair. is_beyond (falls_by values pair)) pairs;
+}
+
+-- what comes of polynomials for all symbols
+abbrev pub fitting : List Pair → List (Option Body) → Tried (List Pair)
+fitting pairs values = if_shown (all_hold values pairs) (falling values pairs)
+
+-- what comes of a choice
+abbrev pub choosing : List SymInfo → List Pair → List ℕ → List ℕ → List Body → Tried (List Pair)
+choosing infos pairs anchors order choice =
+    and_then (filled infos pairs (with_choice (without_polynomials (length infos)) anchors choice) order) (fitting pairs)
+
+-- ---- all choices
+
+-- all lists with one of each, in lexicographic order
+abbrev pub products : {A : Type 0} → List (List A) → List (List A)
+products [] = [] ∷ []
+products (xs ∷ lists) = flat_map (λ x. map (λ ys. x ∷ ys) (products lists)) xs

@@ -1,0 +1,55 @@
+//! One component of the graph of open pairs.
+ghost use Rattle.std.specs.Prelude.{◌≡◌, IfOk, IfSome};
+ghost use Rattle.rx_rank.specs.Answers.{IsComponentFit, pairs_at, still_open, tried_as};
+ghost use Rattle.rx_rank.specs.Ranking.{component};
+ghost use Rattle.rx_solve.specs.Answers.{IsSolver};
+
+use crate::attempt::{Attempt, noted_before};
+use crate::candidates::all_lists;
+use crate::choice::first_fit;
+use crate::fitting::Fit;
+use crate::members::{arities_of, members_of};
+use crate::order::order_of;
+use rx_cert::Cert;
+use rx_fm::FmEnd;
+use rx_pairs::Pair;
+use rx_plain::NoMemory;
+use rx_row::Constraint;
+use rx_term::{Rule, RuleParts};
+use std::alloc::Global;
+
+/// The first fit choice of the component with that name, whose pairs these are: the polynomials of
+/// its symbols, with the certificates by which all pairs hold and some fall. All candidates are made
+/// first.
+pub(crate) fn fit_component<S: FnMut(&Constraint) -> Result<Option<Cert>, FmEnd>>(
+    alloc: Global,
+    parts: &RuleParts,
+    hypotheses: &[Rule],
+    names: &[u32],
+    name: u32,
+    pairs: &[&Pair],
+    solve: &mut S,
+) -> Result<Attempt<Fit>, NoMemory>
+    requires solver { IsSolver S.FnMut solve.old }
+    ensures solver { IsSolver S.FnMut solve.new }
+    ensures tried { IfOk result (λ t. tried_as (λ fit. still_open (pairs_at pairs.now) fit.falls.items) t ≡ component parts.now hypotheses.now names.now name (pairs_at pairs.now)) }
+    ensures fit { IfOk result (λ t. IfSome t.made (IsComponentFit parts.now hypotheses.now names.now name (pairs_at pairs.now))) }
+{
+    let infos = parts.symbols.as_slice();
+    let rules = parts.rules.as_slice();
+    let members = members_of(alloc, infos, hypotheses, names, name)?;
+    let anchors = members.anchors.as_slice();
+    let arities = arities_of(alloc, infos, anchors)?;
+    let all = all_lists(alloc, names, name, rules, hypotheses, arities.as_slice())?;
+    match order_of(alloc, pairs, members.others.as_slice())? {
+        None => Ok(Attempt {
+            made: None,
+            noted: all.noted,
+        }),
+        Some(order) => {
+            let lists = all.lists.as_slice();
+            let fit = first_fit(alloc, infos, pairs, anchors, lists, order.as_slice(), solve)?;
+            Ok(noted_before(all.noted, fit))
+        }
+    }
+}

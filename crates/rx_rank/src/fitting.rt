@@ -1,0 +1,254 @@
+//! Whether a choice is fit: all pairs of the component hold, and one falls.
+ghost use Rattle.std.specs.Prelude.{◌≡◌, IfOk, IfSome, is_some};
+ghost use Rattle.std.specs.List.{AllZip, list_any};
+ghost use Rattle.rx_rank.specs.Answers.{IsDecided, IsFit, IsHeld, TellsFalls, TellsHolds, only_shown, pairs_at, still_open, tried_as, tried_only};
+ghost use Rattle.rx_rank.specs.Choices.{all_hold, falling, falls_by, fitting, holds_by, is_beyond};
+ghost use Rattle.rx_solve.specs.Answers.{IsSolver};
+
+use crate::attempt::Attempt;
+use crate::pair_tests::{falls, holds};
+use crate::values::polynomial_of;
+use rx_cert::Cert;
+use rx_fm::FmEnd;
+use rx_pairs::Pair;
+use rx_plain::{Items, NoMemory};
+use rx_poly::Poly;
+use rx_row::Constraint;
+use rx_solve::AllShown;
+use std::alloc::Global;
+
+/// The polynomials of a fit choice, and why it is fit.
+#[derive(Debug, Drop)]
+pub(crate) struct Fit {
+    /// The polynomials by symbol.
+    pub(crate) values: Vec<Option<Poly>>,
+    /// For each pair the certificates by which the column holds.
+    pub(crate) holds: Vec<Items<Cert>>,
+    /// For each pair at which the column falls, the certificates of that.
+    pub(crate) falls: Vec<Option<Items<Cert>>>,
+}
+
+/// Whether a column of these polynomials holds at the pair.
+fn holds_by<S: FnMut(&Constraint) -> Result<Option<Cert>, FmEnd>>(
+    alloc: Global,
+    values: &[Option<Poly>],
+    pair: &Pair,
+    solve: &mut S,
+) -> Result<AllShown, NoMemory>
+    requires solver { IsSolver S.FnMut solve.old }
+    ensures solver { IsSolver S.FnMut solve.new }
+    ensures answer { IfOk result (TellsHolds values.now pair.now) }
+{
+    let Some(left) = polynomial_of(values, pair.left.0) else {
+        return Ok(AllShown::NotShown);
+    };
+    let Some(right) = polynomial_of(values, pair.right.0) else {
+        return Ok(AllShown::NotShown);
+    };
+    holds(alloc, pair, left, right, solve)
+}
+
+/// Whether it falls there.
+fn falls_by<S: FnMut(&Constraint) -> Result<Option<Cert>, FmEnd>>(
+    alloc: Global,
+    values: &[Option<Poly>],
+    pair: &Pair,
+    solve: &mut S,
+) -> Result<AllShown, NoMemory>
+    requires solver { IsSolver S.FnMut solve.old }
+    ensures solver { IsSolver S.FnMut solve.new }
+    ensures answer { IfOk result (TellsFalls values.now pair.now) }
+{
+    let Some(left) = polynomial_of(values, pair.left.0) else {
+        return Ok(AllShown::NotShown);
+    };
+    let Some(right) = polynomial_of(values, pair.right.0) else {
+        return Ok(AllShown::NotShown);
+    };
+    falls(alloc, pair, left, right, solve)
+}
+
+/// The certificates by which the pair holds.
+fn held<S: FnMut(&Constraint) -> Result<Option<Cert>, FmEnd>>(
+    alloc: Global,
+    values: &[Option<Poly>],
+    pair: &Pair,
+    solve: &mut S,
+) -> Result<Attempt<Items<Cert>>, NoMemory>
+    requires solver { IsSolver S.FnMut solve.old }
+    ensures solver { IsSolver S.FnMut solve.new }
+    ensures tried { IfOk result (λ t. tried_only t ≡ only_shown (holds_by values.now pair.now)) }
+    ensures held { IfOk result (λ t. IfSome t.made (IsHeld values.now pair.now)) }
+{
+    match holds_by(alloc, values, pair, solve)? {
+        AllShown::Shown(certs) => Ok(Attempt {
+            made: Some(certs),
+            noted: false,
+        }),
+        AllShown::NotShown => Ok(Attempt {
+            made: None,
+            noted: false,
+        }),
+        AllShown::TooLarge => Ok(Attempt {
+            made: None,
+            noted: true,
+        }),
+    }
+}
+
+/// The certificates by which all pairs hold, up to the first that doesn't.
+fn all_held<S: FnMut(&Constraint) -> Result<Option<Cert>, FmEnd>>(
+    alloc: Global,
+    values: &[Option<Poly>],
+    pairs: &[&Pair],
+    solve: &mut S,
+) -> Result<Attempt<Vec<Items<Cert>>>, NoMemory>
+    requires solver { IsSolver S.FnMut solve.old }
+    ensures solver { IsSolver S.FnMut solve.new }
+    ensures tried { IfOk result (λ t. tried_only t ≡ only_shown (all_hold values.now (pairs_at pairs.now))) }
+    ensures held { IfOk result (λ t. IfSome t.made (λ v. AllZip (IsHeld values.now) (pairs_at pairs.now) v.items)) }
+{
+    let mut all = Vec::new(alloc);
+    for pair in pairs {
+        let attempt = held(alloc, values, *pair, solve)?;
+        let noted = attempt.noted;
+        match attempt.made {
+            Some(certs) => all.push(certs)?,
+            None => return Ok(Attempt { made: None, noted }),
+        }
+    }
+    Ok(Attempt {
+        made: Some(all),
+        noted: false,
+    })
+}
+
+/// Whether a pair falls.
+#[derive(Debug, Drop)]
+struct Decision {
+    /// The certificates, where it falls.
+    certs: Option<Items<Cert>>,
+    /// Whether something passed the limits.
+    noted: bool,
+}
+
+/// Whether the pair falls.
+fn decide<S: FnMut(&Constraint) -> Result<Option<Cert>, FmEnd>>(
+    alloc: Global,
+    values: &[Option<Poly>],
+    pair: &Pair,
+    solve: &mut S,
+) -> Result<Decision, NoMemory>
+    requires solver { IsSolver S.FnMut solve.old }
+    ensures solver { IsSolver S.FnMut solve.new }
+    ensures certs { IfOk result (λ d. IsDecided values.now pair.now d.certs) }
+    ensures noted { IfOk result (λ d. d.noted ≡ is_beyond (falls_by values.now pair.now)) }
+{
+    match falls_by(alloc, values, pair, solve)? {
+        AllShown::Shown(certs) => Ok(Decision {
+            certs: Some(certs),
+            noted: false,
+        }),
+        AllShown::NotShown => Ok(Decision {
+            certs: None,
+            noted: false,
+        }),
+        AllShown::TooLarge => Ok(Decision {
+            certs: None,
+            noted: true,
+        }),
+    }
+}
+
+/// Which pairs fall.
+#[derive(Debug, Drop)]
+struct Falls {
+    /// For each pair that falls, the certificates.
+    certs: Vec<Option<Items<Cert>>>,
+    /// Whether something passed the limits.
+    noted: bool,
+}
+
+/// Which pairs fall; all are tried.
+fn falling<S: FnMut(&Constraint) -> Result<Option<Cert>, FmEnd>>(
+    alloc: Global,
+    values: &[Option<Poly>],
+    pairs: &[&Pair],
+    solve: &mut S,
+) -> Result<Falls, NoMemory>
+    requires solver { IsSolver S.FnMut solve.old }
+    ensures solver { IsSolver S.FnMut solve.new }
+    ensures certs { IfOk result (λ f. AllZip (IsDecided values.now) (pairs_at pairs.now) f.certs.items) }
+    ensures noted { IfOk result (λ f. f.noted ≡ list_any (λ pair. is_beyond (falls_by values.now pair)) (pairs_at pairs.now)) }
+{
+    let mut certs = Vec::new(alloc);
+    let mut noted = false;
+    for pair in pairs {
+        let decision = decide(alloc, values, *pair, solve)?;
+        noted = noted || decision.noted;
+        certs.push(decision.certs)?;
+    }
+    Ok(Falls { certs, noted })
+}
+
+/// Whether there are certificates of one pair.
+fn some_falls(certs: &[Option<Items<Cert>>]) -> bool
+    ensures { result ≡ list_any is_some certs.now }
+{
+    for one in certs {
+        if one.is_some() {
+            return true;
+        }
+    }
+    false
+}
+
+/// The fit of the polynomials with these certificates, where a pair falls.
+fn fit_falling<S: FnMut(&Constraint) -> Result<Option<Cert>, FmEnd>>(
+    alloc: Global,
+    values: Vec<Option<Poly>>,
+    held: Vec<Items<Cert>>,
+    pairs: &[&Pair],
+    solve: &mut S,
+) -> Result<Attempt<Fit>, NoMemory>
+    requires solver { IsSolver S.FnMut solve.old }
+    requires held { AllZip (IsHeld values.items) (pairs_at pairs.now) held.items }
+    ensures solver { IsSolver S.FnMut solve.new }
+    ensures tried { IfOk result (λ t. tried_as (λ fit. still_open (pairs_at pairs.now) fit.falls.items) t ≡ falling values.items (pairs_at pairs.now)) }
+    ensures fit { IfOk result (λ t. IfSome t.made (IsFit values.items (pairs_at pairs.now))) }
+{
+    let falls = falling(alloc, values.as_slice(), pairs, solve)?;
+    let noted = falls.noted;
+    if !some_falls(falls.certs.as_slice()) {
+        return Ok(Attempt { made: None, noted });
+    }
+    let fit = Fit {
+        values,
+        holds: held,
+        falls: falls.certs,
+    };
+    Ok(Attempt {
+        made: Some(fit),
+        noted,
+    })
+}
+
+/// The fit of the polynomials, where all pairs hold and one falls.
+pub(crate) fn fitting<S: FnMut(&Constraint) -> Result<Option<Cert>, FmEnd>>(
+    alloc: Global,
+    values: Vec<Option<Poly>>,
+    pairs: &[&Pair],
+    solve: &mut S,
+) -> Result<Attempt<Fit>, NoMemory>
+    requires solver { IsSolver S.FnMut solve.old }
+    ensures solver { IsSolver S.FnMut solve.new }
+    ensures tried { IfOk result (λ t. tried_as (λ fit. still_open (pairs_at pairs.now) fit.falls.items) t ≡ fitting (pairs_at pairs.now) values.items) }
+    ensures fit { IfOk result (λ t. IfSome t.made (IsFit values.items (pairs_at pairs.now))) }
+{
+    let attempt = all_held(alloc, values.as_slice(), pairs, solve)?;
+    let noted = attempt.noted;
+    let Some(held) = attempt.made else {
+        return Ok(Attempt { made: None, noted });
+    };
+    fit_falling(alloc, values, held, pairs, solve)
+}
