@@ -1,0 +1,2 @@
+-- The lemmas that a search tries at a goal.
+pub mod Lemmas

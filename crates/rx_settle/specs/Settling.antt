@@ -1,0 +1,163 @@
+-- Settling: on the first goal again and again the first move that applies, of those listed here in order. It ends where
+-- no goal is left or none applies, and after 200 moves.
+use Rattle.std.specs.Prelude.{ℕ, zero, suc, ◌+◌, ◌-◌, ◌==◌, ◌&&◌, nat_lt, Bool, true, false, not, if◌then◌else◌, Option, Some, None, List, [], ◌∷◌, map, option_and_then}
+use Rattle.std.specs.List.{range_with_len}
+use Rattle.std.specs.Option.{option_map_or, option_or}
+use Rattle.rx_row.specs.declared.row.Row.{Row}
+use Rattle.rx_solve.specs.Attempts.{Tried, fails, first_applying}
+use Rattle.rx_term.specs.Bounds.{equation_bound}
+use Rattle.rx_term.specs.Meaning.{redex_of}
+use Rattle.rx_term.specs.Stacks.{depth_of, root_of}
+use Rattle.rx_term.specs.declared.rule.Equation.{Equation}
+use Rattle.rx_term.specs.declared.rule.Rule.{Rule}
+use Rattle.rx_term.specs.declared.rule_set.RuleParts.{RuleParts}
+use Rattle.rx_term.specs.declared.term.Sym.{Sym}
+use Rattle.rx_pairs.specs.Loops.{in_one_component, is_loop_point}
+use Rattle.rx_form.specs.Pieces.{side_of}
+use Rattle.rx_form.specs.States.{State}
+use Rattle.rx_form.specs.declared.step.Side.{Side}
+use Rattle.rx_form.specs.declared.step.Side.TheVariants.{Left, Right}
+use Rattle.rx_lemma.specs.Lemmas.{Generalisation, naming}
+use Rattle.rx_match.specs.Matching.{use_of}
+use Rattle.rx_settle.specs.Moves.{Move, Simplify, Hyp, Expand, Absurd, Equal, Generalise, Results}
+use Rattle.rx_settle.specs.Suffixes.{common_suffix}
+use Rattle.rx_settle.specs.declared.suffix.Common.{Common}
+use Rattle.rx_settle.specs.Trying.{Next, attempt, noting, then_try}
+
+-- ---- redexes
+
+-- the symbol of the redex of a side, if that has one
+abbrev pub redex_symbol : Side → Equation → Option Sym
+redex_symbol side goal = option_and_then root_of (redex_of (side_of side goal))
+
+-- it is a loop point's
+abbrev pub is_at_loop_point : RuleParts → Option Sym → Bool
+is_at_loop_point parts redex = option_map_or (λ (f : Sym). is_loop_point parts f.0) redex false
+
+-- the right side of the rule doesn't begin in the component of the symbol; a result begins in none
+abbrev pub leaves : RuleParts → Sym → Rule → Bool
+leaves parts f rule = option_map_or (λ (g : Sym). not (in_one_component parts f.0 g.0)) (root_of rule.right) true
+
+-- the rules that are tried: all, or those that leave the component of a symbol
+abbrev pub is_tried : RuleParts → Option Sym → Rule → Bool
+is_tried parts None rule = true
+is_tried parts (Some f) rule = leaves parts f rule
+
+-- ---- moves
+
+-- a step doesn't apply for which a variable of this number or above would be needed
+abbrev pub variables_end : ℕ
+variables_end = 1000000
+
+module _ (parts : RuleParts) (state : State) where
+  -- Simplify by each of the rules that are tried, the first having that number; a rule of another shape than the redex's
+  -- doesn't apply
+  abbrev pub by_rules : Side → Option Sym → ℕ → List Rule → List (Tried Next)
+  by_rules side from n [] = []
+  by_rules side from n (rule ∷ rules) =
+      if is_tried parts from rule then attempt parts state (Simplify side n) ∷ by_rules side from (n + 1) rules
+      else by_rules side from (n + 1) rules
+
+  abbrev pub simplifying : Side → Option Sym → Tried Next
+  simplifying side from = first_applying (by_rules side from 0 parts.rules)
+
+  -- at a redex that is at no loop point: Simplify by the rules in order, and then Expand without keeping
+  abbrev pub unfolding_at : Side → Option Sym → Tried Next
+  unfolding_at side redex =
+      if is_at_loop_point parts redex then fails
+      else first_applying (simplifying side None ∷ attempt parts state (Expand side false) ∷ [])
+
+  -- at a loop point: Simplify by the rules in order that leave its component
+  abbrev pub leaving_at : Side → Option Sym → Tried Next
+  leaving_at side redex = if is_at_loop_point parts redex then simplifying side redex else fails
+
+  -- constants of calls become variables
+  abbrev pub named : Equation → Tried Next
+  named goal = then_try (naming parts goal) (λ (lemma : Generalisation). attempt parts state (Generalise lemma.goal lemma.subst))
+
+  -- the hypothesis with that number, at a place of a side
+  abbrev pub using_at : Equation → ℕ → Rule → Side → ℕ → Tried Next
+  using_at goal number hypothesis side place =
+      then_try (use_of goal hypothesis side place) (λ subst. attempt parts state (Hyp side place number subst))
+
+  -- at the places of a side, from outside in
+  abbrev pub using_on : Equation → ℕ → Rule → Side → Tried Next
+  using_on goal number hypothesis side =
+      first_applying (map (using_at goal number hypothesis side) (range_with_len 0 (1 + depth_of (side_of side goal))))
+
+  -- the hypotheses in order, the first having that number, each on the left side and then on the right one
+  abbrev pub using_each : Equation → ℕ → List Rule → List (Tried Next)
+  using_each goal n [] = []
+  using_each goal n (hypothesis ∷ hypotheses) =
+      using_on goal n hypothesis Left ∷ using_on goal n hypothesis Right ∷ using_each goal (n + 1) hypotheses
+
+  -- Results at two places, unless both sides are taken whole
+  abbrev pub resulting_at : ℕ → ℕ → Tried Next
+  resulting_at left right = if left == 0 && right == 0 then fails else attempt parts state (Results left right)
+
+  -- at the longest common suffix, if there is one, with what was noted as it was found
+  abbrev pub resulting : Equation → Common → Tried Next
+  resulting goal suffix =
+      noting suffix.noted
+      (if suffix.parts == 0 then fails
+      else resulting_at (1 + depth_of goal.left - suffix.parts) (1 + depth_of goal.right - suffix.parts))
+
+  -- the variable that stands for a result is to be below the end
+  abbrev pub by_results : Equation → Tried Next
+  by_results goal =
+      if nat_lt (equation_bound goal) variables_end
+      then resulting goal (common_suffix goal.rows goal.left goal.right)
+      else fails
+
+  -- all that is tried at a goal, in order
+  abbrev pub settling : Equation → List (Tried Next)
+  settling goal =
+      first_applying (attempt parts state Absurd ∷ attempt parts state Equal ∷ [])
+      ∷ first_applying (unfolding_at Left (redex_symbol Left goal) ∷ unfolding_at Right (redex_symbol Right goal) ∷ [])
+      ∷ first_applying (leaving_at Left (redex_symbol Left goal) ∷ leaving_at Right (redex_symbol Right goal) ∷ [])
+      ∷ named goal
+      ∷ first_applying (using_each goal 0 state.hypotheses)
+      ∷ by_results goal
+      ∷ []
+
+-- on the first goal; where none is left nothing is tried
+abbrev pub settling_first : RuleParts → State → List Equation → Tried Next
+settling_first parts state [] = fails
+settling_first parts state (goal ∷ goals) = first_applying (settling parts state goal)
+
+abbrev pub settling_move : RuleParts → State → Tried Next
+settling_move parts state = settling_first parts state state.goals
+
+-- ---- settling
+
+-- the moves, the state after them, how many more moves might be made, and the rows of the first goal at which something
+-- was noted
+pub record Settled : Type 0 where
+  pub moves : List Move
+  pub state : State
+  pub left : ℕ
+  pub note : Option (List Row)
+
+-- the rows of the first goal, where something was noted
+abbrev pub rows_if : Bool → List Equation → Option (List Row)
+rows_if false goals = None
+rows_if true [] = None
+rows_if true (goal ∷ goals) = Some goal.rows
+
+-- a first move and what follows it, or no move
+abbrev pub moved : State → ℕ → Option (List Row) → Option Next → (State → Settled) → Settled
+moved state left note None later = record { moves = []; state = state; left = 1 + left; note = note }
+moved state left note (Some next) later =
+    let settled = later next.state in
+    record { moves = next.move ∷ settled.moves; state = settled.state; left = settled.left; note = option_or note settled.note }
+
+-- settled by so many moves at most
+unfoldable pub settle : RuleParts → ℕ → State → Settled
+settle parts zero state = record { moves = []; state = state; left = 0; note = None }
+settle parts (suc left) state =
+    let tried = settling_move parts state in
+    moved state left (rows_if tried.noted state.goals) tried.made (settle parts left)
+
+-- how many moves settle a state at most
+abbrev pub most_moves : ℕ
+most_moves = 200

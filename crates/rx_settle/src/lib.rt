@@ -1,0 +1,20 @@
+//! Settling: the steps that a search takes without a choice. A step is tried by what it asks alone; a
+//! solver shows that, and the step that is taken has its certificates.
+#![tactic(auto)]
+
+mod formation;
+mod loop_points;
+mod number;
+mod rules;
+mod settled;
+mod showing;
+mod suffix;
+mod trial;
+mod trying;
+
+pub use loop_points::LoopPoints;
+pub use rx_plain::NoMemory;
+pub use settled::Settled;
+pub use suffix::Common;
+pub use trial::Trial;
+pub use trying::try_step;

@@ -1,0 +1,163 @@
+//! Trying a step: it is formed, a solver shows what it asks, and it is taken.
+ghost use Rattle.std.specs.Prelude.{◌≡◌, true, false, Some, IfOk, OnOk, OnErr};
+ghost use Rattle.rx_form.specs.States.{taken};
+ghost use Rattle.rx_settle.specs.Answers.{IsTrial};
+ghost use Rattle.rx_settle.specs.Outcomes.{Follows, IsOutcome};
+ghost use Rattle.rx_settle.specs.Certified.{asks_rows, certified};
+ghost use Rattle.rx_settle.specs.Moves.{move_of};
+ghost use Rattle.rx_settle.specs.Trying.{attempt};
+ghost use Rattle.rx_solve.specs.Answers.{IsSolver};
+ghost use Rattle.rx_steps.specs.Faults.{asks_goal_alone};
+
+use crate::formation::{Formation, form_step};
+use crate::showing::show;
+use crate::trial::Trial;
+use rx_cert::Cert;
+use rx_fm::FmEnd;
+use rx_form::{Delete, FormedStep, Step};
+use rx_plain::{Items, NoMemory};
+use rx_row::Constraint;
+use rx_solve::AllShown;
+use rx_steps::State;
+use rx_term::RuleSet;
+use std::alloc::Global;
+
+/// The step with those certificates for the rows that it asks.
+fn with_certificates(step: Step, certs: Items<Cert>) -> Step
+    ensures { result ≡ certified step certs }
+{
+    match step {
+        Step::Simplify { side, rule, .. } => Step::Simplify { side, rule, certs },
+        Step::Hyp {
+            side,
+            place,
+            hyp,
+            subst,
+            ..
+        } => Step::Hyp {
+            side,
+            place,
+            hyp,
+            subst,
+            certs,
+        },
+        Step::Delete(Delete::Equal(_)) => Step::Delete(Delete::Equal(certs)),
+        Step::Generalise {
+            left,
+            right,
+            rows,
+            subst,
+            ..
+        } => Step::Generalise {
+            left,
+            right,
+            rows,
+            subst,
+            certs,
+        },
+        Step::Decompose { .. } => Step::Decompose { certs },
+        Step::Results { left, right, .. } => Step::Results { left, right, certs },
+        other => other,
+    }
+}
+
+/// What comes of a step before it is taken.
+#[derive(Drop)]
+pub(crate) enum Outcome {
+    /// It is formed so, and what it asks is shown with those certificates.
+    Shown {
+        /// What it makes.
+        made: FormedStep,
+        /// The certificates.
+        certs: Items<Cert>,
+    },
+    /// It isn't formed, or what it asks isn't shown.
+    Fails,
+    /// Something passes the limits.
+    TooLarge,
+}
+
+/// What comes of a step that is formed so.
+fn show_formed<S: FnMut(&Constraint) -> Result<Option<Cert>, FmEnd>>(
+    alloc: Global,
+    state: &State,
+    made: FormedStep,
+    solve: &mut S,
+) -> Result<Outcome, NoMemory>
+    requires alone { asks_goal_alone made.asked ≡ true }
+    requires solver { IsSolver S.FnMut solve.old }
+    ensures solver { IsSolver S.FnMut solve.new }
+    ensures outcome { IfOk result (Follows state.now made) }
+{
+    let Some(goal) = state.first() else {
+        return Ok(Outcome::Fails);
+    };
+    match show(alloc, &goal.rows, &made.asked, solve)? {
+        AllShown::Shown(certs) => Ok(Outcome::Shown { made, certs }),
+        AllShown::NotShown => Ok(Outcome::Fails),
+        AllShown::TooLarge => Ok(Outcome::TooLarge),
+    }
+}
+
+/// What comes of a step before it is taken.
+fn show_step<S: FnMut(&Constraint) -> Result<Option<Cert>, FmEnd>>(
+    alloc: Global,
+    rules: &RuleSet,
+    state: &State,
+    step: &Step,
+    solve: &mut S,
+) -> Result<Outcome, NoMemory>
+    requires solver { IsSolver S.FnMut solve.old }
+    ensures solver { IsSolver S.FnMut solve.new }
+    ensures outcome { IfOk result (IsOutcome rules.now state.now step.now) }
+{
+    match form_step(alloc, rules, state, step)? {
+        Formation::Formed(made) => show_formed(alloc, state, made, solve),
+        Formation::Refused => Ok(Outcome::Fails),
+        Formation::TooLarge => Ok(Outcome::TooLarge),
+    }
+}
+
+/// Takes a step, which is formed so, and which has the certificates of what it asks.
+fn take_shown(state: &mut State, made: FormedStep, step: Step) -> Result<Trial, NoMemory>
+    ensures ok { OnOk result (state.new ≡ taken state.old made) }
+    ensures trial { IfOk result (λ t. t ≡ record { taken = Some step; noted = false }) }
+    ensures err { OnErr result (state.new ≡ state.old) }
+{
+    state.take(made)?;
+    Ok(Trial::of(step))
+}
+
+/// Lets go of the step.
+fn dropped<T>(step: Step, answer: T) -> T
+    ensures { result ≡ answer }
+{
+    drop(step);
+    answer
+}
+
+/// Tries a step on the first goal, which asks rows and not that rows are refuted: it is taken where
+/// it is formed and the solver shows what it asks. Its certificates aren't looked at; the step that
+/// is taken has those that were found. Otherwise the state stays as it was.
+pub fn try_step<S: FnMut(&Constraint) -> Result<Option<Cert>, FmEnd>>(
+    alloc: Global,
+    rules: &RuleSet,
+    state: &mut State,
+    step: Step,
+    solve: &mut S,
+) -> Result<Trial, NoMemory>
+    requires rows { asks_rows step ≡ true }
+    requires solver { IsSolver S.FnMut solve.old }
+    ensures solver { IsSolver S.FnMut solve.new }
+    ensures trial { IfOk result (IsTrial rules.now state.old state.new (attempt rules.now state.old (move_of step))) }
+    ensures kept { OnErr result (state.new ≡ state.old) }
+{
+    match show_step(alloc, rules, state, &step, solve) {
+        Ok(Outcome::Shown { made, certs }) => {
+            take_shown(state, made, with_certificates(step, certs))
+        }
+        Ok(Outcome::Fails) => Ok(dropped(step, Trial::failed())),
+        Ok(Outcome::TooLarge) => Ok(dropped(step, Trial::too_large())),
+        Err(NoMemory) => Err(dropped(step, NoMemory)),
+    }
+}
