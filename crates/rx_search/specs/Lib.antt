@@ -1,0 +1,4 @@
+-- What a search for a proof comes to.
+pub mod Ends
+pub mod Menu
+pub mod Search

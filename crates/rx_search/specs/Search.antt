@@ -1,0 +1,93 @@
+-- What a search comes to: ranks of the rules alone first, then the visits within the budget, each node settled and its
+-- choices tried.
+use Rattle.std.specs.Prelude.{ℕ, zero, Bool, true, false, ◌==◌, if◌then◌else◌, Option, Some, None, List, [], ◌∷◌, ◌++◌}
+use Rattle.std.specs.List.{filter_map}
+use Rattle.std.specs.Option.{option_map}
+use Rattle.rx_row.specs.declared.row.Row.{Row}
+use Rattle.rx_cert.specs.Findings.{Said, Yes, No, Beyond}
+use Rattle.rx_term.specs.declared.rule.Equation.{Equation}
+use Rattle.rx_term.specs.declared.rule_set.RuleParts.{RuleParts}
+use Rattle.rx_form.specs.States.{State}
+use Rattle.rx_rank.specs.Ranking.{ranked}
+use Rattle.rx_settle.specs.Moves.{Move}
+use Rattle.rx_settle.specs.Settling.{most_moves, rows_if, settle}
+use Rattle.rx_settle.specs.Settling as settling
+use Rattle.rx_settle.specs.Trying.{Next}
+use Rattle.rx_search.specs.Menu.{Chosen, chosen, is_any_noted}
+use Rattle.rx_visits.specs.Outcomes.{outcome}
+use Rattle.rx_visits.specs.Visits.{all_visits}
+use Rattle.rx_visits.specs.declared.outcome.Outcome.{Outcome}
+use Rattle.rx_visits.specs.declared.outcome.Outcome.TheVariants as outcomes
+use Rattle.rx_visits.specs.declared.tree.Choice.{Choice}
+use Rattle.rx_visits.specs.declared.tree.Menu.{Menu}
+use Rattle.rx_visits.specs.declared.tree.Settled.{Settled}
+
+-- ---- nodes
+
+-- a node: the moves from the start, the state after them, and how many more moves its settling might have made
+pub record Node : Type 0 where
+  pub moves : List Move
+  pub state : State
+  pub left : ℕ
+
+-- no goal is left
+abbrev pub is_closed : List Equation → Bool
+is_closed [] = true
+is_closed (goal ∷ goals) = false
+
+-- the node after its settling
+abbrev pub node_after : Node → settling.Settled → Node
+node_after node s = record { moves = node.moves ++ s.moves; state = s.state; left = s.left }
+
+abbrev pub settled_after : Node → settling.Settled → Settled Node (List Row)
+settled_after node s = record { node = node_after node s; closed = is_closed s.state.goals; note = s.note }
+
+-- one more move, after which nothing is settled yet
+abbrev pub node_with : Node → Next → Node
+node_with node next = record { moves = node.moves ++ next.move ∷ []; state = next.state; left = most_moves }
+
+-- a choice that applies
+abbrev pub child : Node → Chosen → Option (Choice Node)
+child node c = option_map (λ next. record { number = c.number; node = node_with node next }) c.tried.made
+
+abbrev pub menu_of : Node → List Chosen → Menu Node (List Row)
+menu_of node cs = record { choices = filter_map (child node) cs; note = rows_if (is_any_noted cs) node.state.goals }
+
+module _ (parts : RuleParts) where
+  -- the node is settled by 200 moves at most
+  abbrev pub settled : Node → Settled Node (List Row)
+  settled node = settled_after node (settle parts most_moves node.state)
+
+  -- its choices; none where settling took all moves
+  abbrev pub menu : Node → Menu Node (List Row)
+  menu node = if node.left == 0 then record { choices = []; note = None } else menu_of node (chosen parts node.state)
+
+-- ---- the search
+
+-- what a search comes to: no ranks of the rules; the moves of a proof; the rows of the goal at which the limits were
+-- passed first, and the choices on the path to it; more visits than the budget; no plan of the depth
+pub data Searched : Type 0 where
+  NoRanks : Searched
+  Closed : List Move → Searched
+  Large : List ℕ → List Row → Searched
+  Spent : Searched
+  NoPlan : Searched
+
+abbrev pub of_outcome : Outcome Node (List Row) → Searched
+of_outcome (outcomes.Closed node) = Closed node.moves
+of_outcome (outcomes.Noted note) = Large note.path note.noted
+of_outcome outcomes.Spent = Spent
+of_outcome outcomes.Through = NoPlan
+
+-- the goal alone, with no moves made
+abbrev pub start : Equation → Node
+start goal = record { moves = []; state = record { goals = goal ∷ []; hypotheses = [] }; left = most_moves }
+
+-- where the rules have ranks, the visits decide; the ranks' own note comes before theirs
+abbrev pub searched_with : Said → RuleParts → Equation → ℕ → ℕ → Searched
+searched_with Yes parts goal depth budget = of_outcome (outcome budget (all_visits (settled parts) (menu parts) depth (start goal)))
+searched_with No parts goal depth budget = NoRanks
+searched_with Beyond parts goal depth budget = Large [] goal.rows
+
+abbrev pub searched : RuleParts → Equation → ℕ → ℕ → Searched
+searched parts goal depth budget = searched_with (ranked parts []) parts goal depth budget

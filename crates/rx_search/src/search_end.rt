@@ -1,0 +1,60 @@
+//! How a search ends without a log.
+ghost use Rattle.std.specs.Prelude.{◌≡◌};
+
+use rx_plain::{Items, NoMemory};
+use rx_row::Row;
+use std::alloc::{AllocError, AllocFailed};
+use thiserror::Error;
+
+/// Why a search made no log, or why that isn't known.
+#[derive(Debug, Drop, Error)]
+pub enum SearchEnd {
+    /// The rules have no ranks, so that no log over them is accepted.
+    #[error("the rules have no ranks")]
+    NoRanks,
+    /// No proof with at most that many choices is found.
+    #[error("no proof with at most {depth} choices")]
+    NoPlan {
+        /// How many choices.
+        depth: u32,
+    },
+    /// No proof is found in so many visits of nodes, and there are more.
+    #[error("no proof in {visits} visits")]
+    Spent {
+        /// How many visits.
+        visits: u32,
+    },
+    /// No proof is found, and a polynomial passes the limits.
+    #[error("a polynomial is too large")]
+    Large {
+        /// The numbers of the choices on the path to the node where it does so first.
+        path: Items<u8>,
+        /// The rows of the first goal there.
+        rows: Items<Row>,
+    },
+    /// There was no memory.
+    #[error("out of memory")]
+    NoMemory,
+}
+
+impl From<NoMemory> for SearchEnd {
+    ghost use Rattle.std.specs.Prelude.{◌≡◌};
+    ghost use Rattle.rx_search.specs.declared.search_end.SearchEnd.TheVariants.{NoMemory};
+
+    ghost from_gives = { λ _ e. e ≡ NoMemory };
+
+    fn from(_e: NoMemory) -> SearchEnd {
+        SearchEnd::NoMemory
+    }
+}
+
+impl From<AllocError> for SearchEnd {
+    ghost use Rattle.std.specs.Prelude.{◌≡◌};
+    ghost use Rattle.rx_search.specs.declared.search_end.SearchEnd.TheVariants.{NoMemory};
+
+    ghost from_gives = { λ _ e. e ≡ NoMemory };
+
+    fn from(_e: AllocError) -> SearchEnd {
+        SearchEnd::NoMemory
+    }
+}
