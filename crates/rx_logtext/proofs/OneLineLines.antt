@@ -8,7 +8,8 @@ use Rattle.rx_form.specs.declared.step.Step.TheVariants as step
 use Rattle.rx_text.specs.Numbers.{natural_text}
 use Rattle.rx_text.specs.Polynomials.{poly_text}
 use Rattle.rx_words.specs.Certificates.{certificate_lists}
-use Rattle.rx_words.specs.Equations.{equations, substitutions}
+use Rattle.rx_term_words.specs.Equations.{equations}
+use Rattle.rx_words.specs.Substitutions.{substitutions}
 use Rattle.rx_words.specs.Trees.{tree_text}
 use Rattle.rx_words.specs.Words.{each_spaced, numbers, pairs}
 use Rattle.rx_logtext.specs.Lines.{lines}

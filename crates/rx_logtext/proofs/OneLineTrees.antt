@@ -12,8 +12,9 @@ use Rattle.rx_text.specs.Numbers.{integer_text, integers, natural_text}
 use Rattle.rx_text.specs.Polynomials.{poly_text, polynomials}
 use Rattle.rx_text.specs.Rows.{row_format, row_text}
 use Rattle.rx_words.specs.Certificates.{cert_text, cert_text_level, certificate_lists, certificates, part_lists}
-use Rattle.rx_words.specs.Equations.{equations, row_lists, substitutions}
-use Rattle.rx_words.specs.Terms.{applied_text, polys_text, term_text, term_text_level}
+use Rattle.rx_term_words.specs.Equations.{equations}
+use Rattle.rx_words.specs.Substitutions.{row_lists, substitutions}
+use Rattle.rx_term_words.specs.Terms.{applied_text, polys_text, term_text, term_text_level}
 use Rattle.rx_words.specs.Trees.{tree_text, tree_text_level}
 use Rattle.rx_words.specs.Words.{numbers, pairs, variables, word}
 use Rattle.rx_logtext.specs.Logs.{is_one_line}

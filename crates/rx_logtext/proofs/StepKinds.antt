@@ -12,7 +12,7 @@ use Rattle.rx_form.specs.declared.step.Step.TheVariants as step
 use Rattle.rx_text.specs.Formats.{Format}
 use Rattle.rx_text.specs.Rows.{row_format}
 use Rattle.rx_words.specs.Certificates.{certificate_lists, certificates}
-use Rattle.rx_words.specs.Equations.{equations}
+use Rattle.rx_term_words.specs.Equations.{equations}
 use Rattle.rx_words.specs.Words.{word}
 use Rattle.rx_logtext.specs.Lines.{ReadsAll}
 use Rattle.rx_logtext.specs.Steps.{expand_parts, generalise_parts, hyp_parts, is_readable_step, results_parts, simplify_parts, step_text, steps}

@@ -10,7 +10,8 @@ use Rattle.rx_text.specs.Formats.{IsUnambiguous}
 use Rattle.rx_text.specs.Numbers.{natural_text}
 use Rattle.rx_text.specs.Polynomials.{polynomials}
 use Rattle.rx_words.specs.Certificates.{certificate_lists}
-use Rattle.rx_words.specs.Equations.{equations, substitutions}
+use Rattle.rx_term_words.specs.Equations.{equations}
+use Rattle.rx_words.specs.Substitutions.{substitutions}
 use Rattle.rx_words.specs.Trees.{trees}
 use Rattle.rx_words.specs.Words.{each_spaced, numbers, pairs, words}
 use Rattle.rx_words.proofs.Joined.{pairs_once}
@@ -22,7 +23,7 @@ use Rattle.rx_logtext.specs.declared.line.Line.TheVariants as line
 use Rattle.rx_logtext.proofs.Each.{each_once, over_end}
 use Rattle.rx_logtext.specs.Once.{keeps_once, sides_once}
 use Rattle.rx_words.proofs.CertLaws.{certificate_lists_once, certificates_once}
-use Rattle.rx_words.proofs.EquationLaws.{equations_once}
+use Rattle.rx_term_words.proofs.EquationLaws.{equations_once}
 use Rattle.rx_words.proofs.TreeWords.{trees_once}
 use Rattle.rx_logtext.proofs.StepKinds.{IsKind, absurd_kind, decompose_kind, equal_kind, expand_kind, generalise_kind, hyp_kind, postulate_kind, results_kind, simplify_kind, split_kind, starts}
 use Rattle.rx_logtext.proofs.Taking.{IsOne}

@@ -1,5 +1,4 @@
 -- The lines of a log, a log as text, and the first line of a text with which no log begins.
-pub mod Depth
 pub mod Lines
 pub mod Logs
 pub mod Once

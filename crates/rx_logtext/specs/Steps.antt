@@ -11,7 +11,8 @@ use Rattle.rx_form.specs.declared.step.Step.TheVariants as step
 use Rattle.rx_text.specs.Formats.{Format}
 use Rattle.rx_text.specs.Rows.{row_format}
 use Rattle.rx_words.specs.Certificates.{certificate_lists, certificates}
-use Rattle.rx_words.specs.Equations.{equations, substitutions}
+use Rattle.rx_term_words.specs.Equations.{equations}
+use Rattle.rx_words.specs.Substitutions.{substitutions}
 use Rattle.rx_words.specs.Words.{numbers, pairs, spaced, words}
 
 -- ---- parts

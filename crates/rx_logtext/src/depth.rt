@@ -2,7 +2,7 @@
 ghost use Rattle.std.specs.Prelude.{◌≡◌, nat_le};
 ghost use Rattle.rx_cert.specs.Depth.{cert_depth};
 ghost use Rattle.rx_cover.specs.Depth.{tree_depth};
-ghost use Rattle.rx_logtext.specs.Depth.{are_shallow, has_shallow_certs, is_shallow, is_shallow_tree};
+ghost use Rattle.rx_log.specs.Depth.{are_shallow, has_shallow_certs, is_shallow, is_shallow_tree};
 ghost use Rattle.std.specs.List.{list_all};
 
 use rx_cert::Cert;

@@ -12,8 +12,9 @@ use rx_plain::{Items, NoMemory};
 use rx_poly::Poly;
 use rx_row::Row;
 use rx_term::Equation;
+use rx_term_words::read_equation;
 use rx_text::{read_poly, read_row, skip_word};
-use rx_words::{read_cert, read_certs, read_equation, read_number, read_subst, read_tree};
+use rx_words::{read_cert, read_certs, read_number, read_subst, read_tree};
 use std::alloc::Global;
 
 /// What stands in words of a line.
@@ -241,7 +242,7 @@ impl Part for Items<Cert> {
 }
 
 impl Part for Items<(u32, Poly)> {
-    ghost use Rattle.rx_words.specs.Equations as spec;
+    ghost use Rattle.rx_words.specs.Substitutions as spec;
     ghost use Rattle.rx_words.proofs.Once.{substitutions_once};
 
     ghost text = { spec.substitutions.text };
@@ -260,8 +261,8 @@ impl Part for Items<(u32, Poly)> {
 }
 
 impl Part for Equation {
-    ghost use Rattle.rx_words.specs.Equations as spec;
-    ghost use Rattle.rx_words.proofs.EquationLaws.{equations_once};
+    ghost use Rattle.rx_term_words.specs.Equations as spec;
+    ghost use Rattle.rx_term_words.proofs.EquationLaws.{equations_once};
 
     ghost text = { spec.equations.text };
 

@@ -4,7 +4,7 @@ ghost use Rattle.rx_form.specs.declared.step.Step.TheVariants as step;
 ghost use Rattle.rx_logtext.specs.Steps.{keep_text, side_text, step_text};
 ghost use Rattle.rx_text.specs.Numbers.{natural_text};
 ghost use Rattle.rx_words.specs.Certificates.{certificate_lists};
-ghost use Rattle.rx_words.specs.Equations.{substitutions};
+ghost use Rattle.rx_words.specs.Substitutions.{substitutions};
 ghost use Rattle.rx_words.specs.Words.{spaced};
 
 use rx_cert::Cert;
@@ -13,8 +13,9 @@ use rx_plain::{Items, NoMemory};
 use rx_poly::Poly;
 use rx_row::{Constraint, Row};
 use rx_term::Term;
+use rx_term_words::push_equation;
 use rx_text::{push_natural, push_row, push_word};
-use rx_words::{push_cert, push_certs, push_equation, push_subst};
+use rx_words::{push_cert, push_certs, push_subst};
 
 /// A side.
 fn push_side(side: Side, out: &mut Vec<u8>) -> Result<(), NoMemory>

@@ -2,7 +2,7 @@
 ghost use Rattle.std.specs.Prelude.{◌≡◌, ◌≢◌, ◌+◌, ◌++◌, ◌∷◌, [], ℕ, true, false, codes, IfErr, IfOk, OnOk};
 ghost use Rattle.std.specs.List.{list_all};
 ghost use Rattle.rx_form.specs.Judging.{certificates};
-ghost use Rattle.rx_logtext.specs.Depth.{are_shallow, is_shallow_log, is_shallow_tree};
+ghost use Rattle.rx_log.specs.Depth.{are_shallow, is_shallow_log, is_shallow_tree};
 ghost use Rattle.rx_logtext.specs.Lines.{lines, line_text, symbol_text};
 ghost use Rattle.rx_logtext.specs.Logs.{IsLog, before_ranks, behind_steps, by_symbol, ended, has_ranges, line_texts, log_text, plain};
 ghost use Rattle.rx_logtext.specs.declared.line.Line.TheVariants as line;

@@ -11,7 +11,7 @@ use Rattle.rx_words.specs.Certificates.{part_lists}
 use Rattle.rx_text.proofs.RowTexts.{rows_unambiguous}
 use Rattle.rx_text.proofs.Readable.{polynomials_unambiguous}
 use Rattle.rx_text.proofs.Integers.{integers_unambiguous}
-use Rattle.rx_words.specs.Equations.{row_lists, substitutions}
+use Rattle.rx_words.specs.Substitutions.{row_lists, substitutions}
 use Rattle.rx_words.specs.Lists.{ending_word}
 use Rattle.rx_words.specs.Words.{numbers, pairs, variables, word}
 use Rattle.rx_words.proofs.Joined.{counted_once, pairs_once, word_once, word_reads}

@@ -1,8 +1,7 @@
 //! Each text has one reading: bytes begin with at most one thing, and it ends at one place.
 ghost use Rattle.rx_text.specs.Formats.{IsUnambiguous};
 ghost use Rattle.rx_words.specs.Certificates.{certificate_lists, certificates, part_lists};
-ghost use Rattle.rx_words.specs.Equations.{equations, row_lists, substitutions};
-ghost use Rattle.rx_words.specs.Terms.{terms};
+ghost use Rattle.rx_words.specs.Substitutions.{row_lists, substitutions};
 ghost use Rattle.rx_words.specs.Trees.{trees};
 ghost use Rattle.rx_words.specs.Words.{numbers};
 
@@ -24,16 +23,6 @@ pub fn certificates_have_one_reading()
 /// This is so of lists of certificates.
 pub fn certificate_lists_have_one_reading()
     ensures { IsUnambiguous certificate_lists }
-{}
-
-/// This is so of terms.
-pub fn terms_have_one_reading()
-    ensures { IsUnambiguous terms }
-{}
-
-/// This is so of equations.
-pub fn equations_have_one_reading()
-    ensures { IsUnambiguous equations }
 {}
 
 /// This is so of lists of rows.

@@ -1,7 +1,7 @@
 //! Substitutions and lists of rows as words.
 ghost use Rattle.std.specs.Prelude.{◌≡◌, ◌++◌, IfOk, OnOk};
 ghost use Rattle.rx_text.specs.Formats.{Reads};
-ghost use Rattle.rx_words.specs.Equations.{row_lists, substitutions};
+ghost use Rattle.rx_words.specs.Substitutions.{row_lists, substitutions};
 
 use crate::lists::{push_list, read_list};
 use crate::numbers::Variable;

@@ -1,0 +1,8 @@
+-- Lemmas on the definitions of specs/.
+pub mod ArgumentLaws
+pub mod Bracketed
+pub mod EquationLaws
+pub mod FrameLaws
+pub mod LayerLaws
+pub mod TermLaws
+pub mod TermWritten

@@ -1,0 +1,5 @@
+-- The texts of terms and equations.
+pub mod Equations
+pub mod Layers
+pub mod Terms
+pub mod Written
