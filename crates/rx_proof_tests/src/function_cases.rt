@@ -3,8 +3,9 @@ use crate::example::nothing_known;
 use c_ast::{Expr, Function, Stmt};
 use rx_code::Code;
 use rx_plain::Items;
+use rx_stmts::function;
 use rx_term::Sym;
-use rx_translate::{entry_of, function, goal_of, parts_of};
+use rx_translate::{entry_of, goal_of, parts_of};
 use std::alloc::Global;
 
 fn identity(alloc: Global) -> Option<Function> {

@@ -6,4 +6,3 @@ pub mod Marks
 pub mod Parts
 pub mod Rows
 pub mod Rules
-pub mod Statements

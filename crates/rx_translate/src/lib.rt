@@ -1,27 +1,20 @@
-//! The code of statements and functions, the rules of a deed, the rule set of two functions of a
-//! program, the rows of a precondition, and the goal of two symbols: what the table of rx_code
-//! says, written down.
+//! The rules of a deed, the rule set of two functions of a program, the rows of a precondition, and
+//! the goal of two symbols: what the table of rx_code says, written down.
 #![tactic(auto)]
 
-mod functions;
 mod goal;
 mod marks;
 mod parts;
-mod places;
 mod preconditions;
 mod reached;
 mod rules;
-mod stmts;
 mod translate_end;
 mod translation;
 
-pub use functions::{code_of, function};
 pub use goal::goal_of;
 pub use parts::parts_of;
-pub use places::Places;
 pub use preconditions::rows_of_pre;
 pub use reached::reached_functions;
 pub use rules::{entry_of, push_rules};
-pub use stmts::{list, statement};
 pub use translate_end::TranslateEnd;
 pub use translation::{Translation, rules_of};

@@ -5,12 +5,12 @@ ghost use Rattle.rx_term.specs.Paired.{IsPaired};
 ghost use Rattle.rx_code.specs.Translation.{IsBeyond, IsTranslation};
 ghost use Rattle.rx_translate.specs.Arity.{AritiesDiffer};
 
-use crate::functions::code_of;
 use crate::parts::parts_of;
 use crate::reached::reached_functions;
 use crate::rules::entry_of;
 use crate::translate_end::TranslateEnd;
 use c_ast::Resolved;
+use rx_stmts::code_of;
 use rx_term::{RuleSet, Sym};
 use std::alloc::Global;
 

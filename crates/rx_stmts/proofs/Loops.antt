@@ -19,8 +19,8 @@ use Rattle.rx_code.proofs.StmtEquations.{code-For, code-If}
 use Rattle.rx_exprs.specs.Compiles.{CompilesCode, condition_at}
 use Rattle.rx_exprs.proofs.Choices.{IsOpened}
 use Rattle.rx_exprs.proofs.Operands.{append_code_assoc, both_true, opened-append, second_false}
-use Rattle.rx_translate.specs.Statements.{CompilesHead, CompilesTurn, Headed, as_places, head_at, head_code, stmt_at}
-use Rattle.rx_translate.specs.declared.places.Places.{Places}
+use Rattle.rx_stmts.specs.Statements.{CompilesHead, CompilesTurn, Headed, as_places, head_at, head_code, stmt_at}
+use Rattle.rx_stmts.specs.declared.places.Places.{Places}
 
 -- one piece after another
 abbrev pub followed : Formed Code → Formed Code → Formed Code

@@ -1,5 +1,5 @@
-use Rattle.rx_translate.proofs.Slots.{no_room}
-use Rattle.rx_translate.proofs.stmts.open_after_list.Goals as goal
+use Rattle.rx_stmts.proofs.Slots.{no_room}
+use Rattle.rx_stmts.proofs.stmts.open_after_list.Goals as goal
 use Rattle.std.proofs.Common.{length}
 
 -- src/stmts.rt:120:21

@@ -12,8 +12,8 @@ use Rattle.rx_code.specs.declared.code.Code.{Code}
 use Rattle.rx_code.specs.declared.point.Point.{Point}
 use Rattle.rx_exprs.specs.Compiles.{CompilesCode}
 use Rattle.rx_exprs.proofs.Operands.{append_code_assoc, opened-append}
-use Rattle.rx_translate.specs.Statements.{CompilesPoint, as_places, list_at, slots_after, stmt_at}
-use Rattle.rx_translate.specs.declared.places.Places.{Places}
+use Rattle.rx_stmts.specs.Statements.{CompilesPoint, as_places, list_at, slots_after, stmt_at}
+use Rattle.rx_stmts.specs.declared.places.Places.{Places}
 
 -- the places with another beginning, and with another end
 abbrev pub from : Point → Places → Places

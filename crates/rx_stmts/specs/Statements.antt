@@ -9,7 +9,7 @@ use Rattle.rx_code.specs.Statements as table
 use Rattle.rx_code.specs.Statements.{list_code, stmt_code}
 use Rattle.rx_code.specs.declared.code.Code.{Code}
 use Rattle.rx_code.specs.declared.point.Point.{Point}
-use Rattle.rx_translate.specs.declared.places.Places.{Places}
+use Rattle.rx_stmts.specs.declared.places.Places.{Places}
 
 -- the places as the table has them
 abbrev pub as_places : Places → table.Places

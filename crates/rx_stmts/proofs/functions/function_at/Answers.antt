@@ -6,8 +6,8 @@ use Rattle.c_ast.specs.declared.program.Function.{Function}
 use Rattle.rx_code.specs.Pieces.{append_code}
 use Rattle.rx_code.specs.Programs.{place_code}
 use Rattle.rx_code.specs.declared.code.Code.{Code}
-use Rattle.rx_translate.proofs.FunctionList.{no_code_right}
-use Rattle.rx_translate.proofs.functions.function_at.Goals as goal
+use Rattle.rx_stmts.proofs.FunctionList.{no_code_right}
+use Rattle.rx_stmts.proofs.functions.function_at.Goals as goal
 
 pub returns-in-None : goal.returns-in-None
 returns-in-None c =

@@ -4,11 +4,11 @@ use Rattle.c_ast.specs.declared.stmt.Stmt.{Stmt}
 use Rattle.rx_code.specs.Codes.{test_or_one}
 use Rattle.rx_code.specs.Pieces.{is_room}
 use Rattle.rx_exprs.specs.Compiles.{CompilesCode, condition_at}
-use Rattle.rx_translate.specs.Statements.{list_at, slots_after, stmt_at}
-use Rattle.rx_translate.specs.declared.places.Places.{Places}
-use Rattle.rx_translate.proofs.Loops.{Fails, body_fails, fails_code, for_compiled, if_else_compiled, same_for, same_if, test_fails, turned}
-use Rattle.rx_translate.proofs.StatementList.{between, next, no_point, no_statement}
-use Rattle.rx_translate.proofs.stmts.+stmts.Goals as goal
+use Rattle.rx_stmts.specs.Statements.{list_at, slots_after, stmt_at}
+use Rattle.rx_stmts.specs.declared.places.Places.{Places}
+use Rattle.rx_stmts.proofs.Loops.{Fails, body_fails, fails_code, for_compiled, if_else_compiled, same_for, same_if, test_fails, turned}
+use Rattle.rx_stmts.proofs.StatementList.{between, next, no_point, no_statement}
+use Rattle.rx_stmts.proofs.stmts.+stmts.Goals as goal
 
 -- src/stmts.rt:271:20
 pub list-returns-in_err-next : goal.list-returns-in_err-next

@@ -9,7 +9,7 @@ use Rattle.c_ast.specs.declared.stmt.Stmt.TheViews.{out-Stmt}
 use Rattle.c_ast.specs.declared.stmt.Stmt.TheFolds.{fold_out-Stmt, map-Stmt}
 use Rattle.rx_code.specs.Pieces.{is_room, most_symbols, most_variables}
 use Rattle.rx_code.specs.Statements.{Compiled, stmt_code, stmt_level}
-use Rattle.rx_translate.specs.Statements.{slots_after, slots_after_list}
+use Rattle.rx_stmts.specs.Statements.{slots_after, slots_after_list}
 
 -- a form of statement doesn't take slots away
 form_grows : (x : Stmt-F Stmt) (n : ℕ) → n ≤ (stmt_level (map-Stmt Stmt Compiled stmt_code x)).slots_after n

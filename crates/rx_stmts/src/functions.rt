@@ -3,7 +3,7 @@ ghost use Rattle.std.specs.Prelude.{◌≡◌, length, slice_get};
 ghost use Rattle.rx_plain.specs.Formed.{Forms};
 ghost use Rattle.rx_code.specs.Programs.{function_code, place_code, places_code};
 ghost use Rattle.rx_exprs.specs.Compiles.{CompilesCode};
-ghost use Rattle.rx_translate.specs.Statements.{CompilesPoint};
+ghost use Rattle.rx_stmts.specs.Statements.{CompilesPoint};
 
 use crate::places::Places;
 use crate::stmts::{MOST_VARIABLES, list};

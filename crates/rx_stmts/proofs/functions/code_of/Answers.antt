@@ -2,8 +2,8 @@ use Rattle.std.proofs.Common.{◌≡◌, false, get_or, length, rules}
 use Rattle.std.specs.Prelude.{IsErrAnd, slice_get}
 use Rattle.rx_poly.specs.declared.poly_end.PolyEnd.TheVariants.{Large}
 use Rattle.rx_code.specs.Programs.{place_code, places_code}
-use Rattle.rx_translate.proofs.FunctionList.{fails_forms, none_read}
-use Rattle.rx_translate.proofs.functions.code_of.Goals as goal
+use Rattle.rx_stmts.proofs.FunctionList.{fails_forms, none_read}
+use Rattle.rx_stmts.proofs.functions.code_of.Goals as goal
 
 pub returns-in_err-function_at : goal.returns-in_err-function_at
 returns-in_err-function_at c =

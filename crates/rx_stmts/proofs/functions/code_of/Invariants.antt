@@ -1,6 +1,6 @@
 use Rattle.std.proofs.Common.{drop}
-use Rattle.rx_translate.proofs.FunctionList.{Placing}
-use Rattle.rx_translate.proofs.functions.code_of.Given as goal
+use Rattle.rx_stmts.proofs.FunctionList.{Placing}
+use Rattle.rx_stmts.proofs.functions.code_of.Given as goal
 
 abbrev pub invariant-loop-place : goal.invariant-loop-place
 invariant-loop-place l = Placing l.functions l.code (drop l.place-index l.places) l.places

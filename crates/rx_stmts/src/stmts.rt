@@ -6,7 +6,7 @@ ghost use Rattle.rx_code.specs.Expressions.{expr_code};
 ghost use Rattle.rx_code.specs.Pieces.{does, most_variables};
 ghost use Rattle.rx_code.specs.Statements.{do_code, if_code, stmt_code, turn_code, value_or_zero, while_code, with_value};
 ghost use Rattle.rx_exprs.specs.Compiles.{CompilesCode, condition_at};
-ghost use Rattle.rx_translate.specs.Statements.{CompilesHead, CompilesPoint, CompilesTurn, as_places, head_at, list_at, slots_after, slots_after_list, stmt_at};
+ghost use Rattle.rx_stmts.specs.Statements.{CompilesHead, CompilesPoint, CompilesTurn, as_places, head_at, list_at, slots_after, slots_after_list, stmt_at};
 
 use crate::places::Places;
 use c_ast::{Expr, Stmt};
