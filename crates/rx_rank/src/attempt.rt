@@ -3,15 +3,15 @@ ghost use Rattle.std.specs.Prelude.{◌≡◌, ◌||◌};
 
 /// What was made, if anything, and whether something on the way to it passed the limits.
 #[derive(Debug, Drop)]
-pub(crate) struct Attempt<T> {
+pub struct Attempt<T> {
     /// What was made.
-    pub(crate) made: Option<T>,
+    pub made: Option<T>,
     /// Whether something passed the limits.
-    pub(crate) noted: bool,
+    pub noted: bool,
 }
 
 /// The same, with what was noted before.
-pub(crate) fn noted_before<T: Drop>(noted: bool, later: Attempt<T>) -> Attempt<T>
+pub fn noted_before<T: Drop>(noted: bool, later: Attempt<T>) -> Attempt<T>
     ensures made { result.made ≡ later.made }
     ensures noted { result.noted ≡ (noted || later.noted) }
 {

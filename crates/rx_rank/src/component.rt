@@ -21,7 +21,7 @@ use std::alloc::Global;
 /// The first fit choice of the component with that name, whose pairs these are: the polynomials of
 /// its symbols, with the certificates by which all pairs hold and some fall. All candidates are made
 /// first.
-pub(crate) fn fit_component<S: FnMut(&Constraint) -> Result<Option<Cert>, FmEnd>>(
+pub fn fit_component<S: FnMut(&Constraint) -> Result<Option<Cert>, FmEnd>>(
     alloc: Global,
     parts: &RuleParts,
     hypotheses: &[Rule],

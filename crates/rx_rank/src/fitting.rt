@@ -19,13 +19,13 @@ use std::alloc::Global;
 
 /// The polynomials of a fit choice, and why it is fit.
 #[derive(Debug, Drop)]
-pub(crate) struct Fit {
+pub struct Fit {
     /// The polynomials by symbol.
-    pub(crate) values: Vec<Option<Poly>>,
+    pub values: Vec<Option<Poly>>,
     /// For each pair the certificates by which the column holds.
-    pub(crate) holds: Vec<Items<Cert>>,
+    pub holds: Vec<Items<Cert>>,
     /// For each pair at which the column falls, the certificates of that.
-    pub(crate) falls: Vec<Option<Items<Cert>>>,
+    pub falls: Vec<Option<Items<Cert>>>,
 }
 
 /// Whether a column of these polynomials holds at the pair.

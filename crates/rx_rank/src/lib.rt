@@ -1,4 +1,4 @@
-//! Finding rank tables: for each component of the graph of pairs the first fit choice of polynomials.
+//! The first fit choice of polynomials for a component of the graph of pairs, as a solver shows it.
 #![tactic(auto)]
 
 mod attempt;
@@ -13,5 +13,10 @@ mod order;
 mod pair_tests;
 mod values;
 
+pub use attempt::{Attempt, noted_before};
+pub use component::fit_component;
+pub use fitting::Fit;
+pub use members::is_member;
 pub use rx_fm::FmEnd;
 pub use rx_plain::NoMemory;
+pub use values::{polynomial_of, put_polynomial, without_polynomials};

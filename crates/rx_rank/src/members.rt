@@ -9,7 +9,7 @@ use rx_term::{Rule, SymInfo};
 use std::alloc::Global;
 
 /// Whether the symbol is of the component with that name.
-pub(crate) fn is_member(names: &[u32], name: u32, symbol: u32) -> bool
+pub fn is_member(names: &[u32], name: u32, symbol: u32) -> bool
     ensures { result ≡ is_member names.now name symbol }
 {
     match names.get(symbol as usize) {

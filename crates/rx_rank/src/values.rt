@@ -9,10 +9,7 @@ use rx_poly::Poly;
 use std::alloc::Global;
 
 /// No polynomial for any of that many symbols.
-pub(crate) fn without_polynomials(
-    alloc: Global,
-    symbols: usize,
-) -> Result<Vec<Option<Poly>>, NoMemory>
+pub fn without_polynomials(alloc: Global, symbols: usize) -> Result<Vec<Option<Poly>>, NoMemory>
     ensures { IfOk result (λ values. values.items ≡ without_polynomials symbols) }
 {
     let mut values = Vec::new(alloc);
@@ -23,7 +20,7 @@ pub(crate) fn without_polynomials(
 }
 
 /// The symbol's polynomial, if it has one.
-pub(crate) fn polynomial_of(values: &[Option<Poly>], symbol: u32) -> Option<&Poly>
+pub fn polynomial_of(values: &[Option<Poly>], symbol: u32) -> Option<&Poly>
     ensures { option_copied result ≡ polynomial_of values.now symbol }
 {
     match values.get(symbol as usize) {
@@ -33,7 +30,7 @@ pub(crate) fn polynomial_of(values: &[Option<Poly>], symbol: u32) -> Option<&Pol
 }
 
 /// Gives the symbol that polynomial, where there is such a symbol.
-pub(crate) fn put_polynomial(values: &mut Vec<Option<Poly>>, symbol: u32, poly: Poly)
+pub fn put_polynomial(values: &mut Vec<Option<Poly>>, symbol: u32, poly: Poly)
     ensures { values.new.items ≡ with_polynomial values.old.items symbol poly }
 {
     let at = symbol as usize;

@@ -1,0 +1,40 @@
+-- The graph of open pairs, and the names of its components.
+use Rattle.std.proofs.Common.{◌≡◌, ◌∙◌, ap, sym, subst, ℕ, ◌<◌, Vec, List, get_or, length}
+use Rattle.std.proofs.lemmas.List.{get_or-map, length-map}
+use Rattle.std.specs.declared.alloc.Global.{Global}
+use Rattle.rx_graph.proofs.GraphLaws.{lead_below}
+use Rattle.rx_graph.proofs.LabelLaws.{labels_computed}
+use Rattle.rx_graph.specs.Components.{AreComponents}
+use Rattle.rx_graph.specs.Graph.{IsGraphOf, IsOver, rows_of}
+use Rattle.rx_pairs.specs.Graph.{edges_of}
+use Rattle.rx_pairs.specs.declared.pair.Pair.{Pair}
+use Rattle.rx_rank.specs.Components.{names_of}
+use Rattle.rx_ranking.specs.Tables.{pairs_open}
+use Rattle.rx_ranking.specs.declared.open_pair.OpenPair.{OpenPair}
+
+abbrev pub pair_in : OpenPair → Pair
+pair_in o = o.pair
+
+-- the pair of an entry
+pub entry_pair : (entries : List OpenPair) (i : ℕ) (entry : OpenPair) → i < length entries → entry ≡ get_or entries i entry
+    → entry.pair ≡ get_or (pairs_open entries) i entry.pair
+entry_pair entries i entry there is = sym (get_or-map pair_in entries i entry (pair_in entry) there ∙ ap pair_in (sym is))
+
+pub open_count : (entries : List OpenPair) → length (pairs_open entries) ≡ length entries
+open_count entries = length-map entries pair_in
+
+module _ (symbols : ℕ) (entries : List OpenPair) (rows : List (Vec ℕ Global)) (graph : IsGraphOf symbols (edges_of (pairs_open entries)) (rows_of rows)) where
+  pub rows_count : length rows ≡ symbols
+  rows_count = sym (length-map rows (λ (r : Vec ℕ Global). r.items)) ∙ graph.count
+
+  pub graph_here : IsGraphOf (length rows) (edges_of (pairs_open entries)) (rows_of rows)
+  graph_here = subst (λ n. IsGraphOf n (edges_of (pairs_open entries)) (rows_of rows)) (sym rows_count) graph
+
+  -- the labels of its components are the names
+  pub names_found : IsOver symbols (edges_of (pairs_open entries)) → (labels : List ℕ) → length labels ≡ length rows
+      → ((edges : List (ℕ × ℕ)) → IsGraphOf (length rows) edges (rows_of rows) → AreComponents (length rows) edges labels)
+      → labels ≡ names_of symbols (pairs_open entries)
+  names_found over labels count least =
+      let edges = edges_of (pairs_open entries) in
+      labels_computed symbols edges (lead_below symbols edges over) labels (count ∙ rows_count)
+      (subst (λ n. AreComponents n edges labels) rows_count (least edges graph_here))

@@ -1,0 +1,72 @@
+//! Closing pairs: a pair that falls by a column is closed by the certificates of the columns before
+//! and those of its fall.
+ghost use Rattle.std.specs.Prelude.{◌≡◌, IfOk, OnOk, Some, slice_set};
+ghost use Rattle.rx_ranking.specs.Closing.{close_all, closing, fallen, fitted, left_open, with_certs};
+
+use crate::open_pair::OpenPair;
+use rx_cert::Cert;
+use rx_pairs::PairCert;
+use rx_plain::{Items, NoMemory};
+use std::alloc::Global;
+
+/// Sets the certificate of the pair with that number, where there is one.
+fn close(closed: &mut Vec<Option<PairCert>>, number: usize, cert: PairCert)
+    ensures { closed.new.items ≡ slice_set closed.old.items number (Some cert) }
+{
+    if number < closed.len() {
+        closed[number] = Some(cert);
+    }
+}
+
+/// Closes the pair by its certificates: it falls by the column with that number.
+pub(crate) fn close_entry(closed: &mut Vec<Option<PairCert>>, column: u32, entry: OpenPair)
+    ensures { closed.new.items ≡ slice_set closed.old.items entry.number (Some (closing column entry)) }
+{
+    let cert = PairCert {
+        column,
+        certs: entry.certs,
+    };
+    close(closed, entry.number, cert);
+}
+
+/// The open pair with more certificates.
+fn with_certs(entry: OpenPair, more: Items<Cert>) -> Result<OpenPair, NoMemory>
+    ensures { IfOk result (λ after. after ≡ with_certs entry more) }
+{
+    let OpenPair {
+        number,
+        pair,
+        certs,
+    } = entry;
+    let mut certs = certs;
+    certs.append(more)?;
+    Ok(OpenPair {
+        number,
+        pair,
+        certs,
+    })
+}
+
+/// The pairs that stay open after a column of polynomials with that number, at which it doesn't
+/// fall; the others are closed by it. For each pair there are the certificates by which the column
+/// holds, and where it falls those of that.
+pub(crate) fn close_fallen(
+    alloc: Global,
+    column: u32,
+    entries: Vec<OpenPair>,
+    holds: Vec<Items<Cert>>,
+    falls: Vec<Option<Items<Cert>>>,
+    closed: &mut Vec<Option<PairCert>>,
+) -> Result<Vec<OpenPair>, NoMemory>
+    ensures staying { IfOk result (λ left. left.items ≡ left_open (fitted entries.items holds.items falls.items)) }
+    ensures leaving { OnOk result (closed.new.items ≡ close_all column closed.old.items (fallen (fitted entries.items holds.items falls.items))) }
+{
+    let mut left = Vec::new(alloc);
+    for ((entry, held), fall) in entries.into_iter().zip(holds).zip(falls) {
+        match fall {
+            None => left.push(with_certs(entry, held)?)?,
+            Some(more) => close_entry(closed, column, with_certs(entry, more)?),
+        }
+    }
+    Ok(left)
+}

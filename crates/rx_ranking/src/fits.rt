@@ -1,0 +1,85 @@
+//! The first fit choices of all components with an open pair.
+ghost use Rattle.std.specs.Prelude.{◌≡◌, ◌≤◌, ◌^◌, IfOk, IfSome, length};
+ghost use Rattle.rx_graph.specs.Graph.{IsOver};
+ghost use Rattle.rx_pairs.specs.Graph.{edges_of};
+ghost use Rattle.rx_rank.specs.Answers.{still_open, tried_as};
+ghost use Rattle.rx_rank.specs.Ranking.{polynomials};
+ghost use Rattle.rx_ranking.specs.Fits.{AreFits};
+ghost use Rattle.rx_ranking.specs.Tables.{pairs_open};
+ghost use Rattle.rx_solve.specs.Answers.{IsSolver};
+
+use crate::components::fit_groups;
+use crate::groups::{all_entries, group_entries};
+use crate::names::find_names;
+use crate::open_pair::OpenPair;
+use rx_cert::Cert;
+use rx_fm::FmEnd;
+use rx_plain::{Items, NoMemory};
+use rx_poly::Poly;
+use rx_rank::{Attempt, Fit};
+use rx_row::Constraint;
+use rx_term::{Rule, RuleParts};
+use std::alloc::Global;
+
+/// The polynomials that components take, and what they say of the open pairs.
+#[derive(Debug, Drop)]
+pub(crate) struct Fits {
+    /// The column: polynomials by symbol.
+    pub(crate) column: Vec<Option<Poly>>,
+    /// The open pairs, those of one component after those of another.
+    pub(crate) entries: Vec<OpenPair>,
+    /// For each of them the certificates by which the column holds.
+    pub(crate) holds: Vec<Items<Cert>>,
+    /// For each at which the column falls the certificates of that.
+    pub(crate) falls: Vec<Option<Items<Cert>>>,
+}
+
+/// The first fit choices of the components with an open pair, in order, up to the first component
+/// that has none.
+pub(crate) fn fit_all<S: FnMut(&Constraint) -> Result<Option<Cert>, FmEnd>>(
+    alloc: Global,
+    parts: &RuleParts,
+    hypotheses: &[Rule],
+    entries: Vec<OpenPair>,
+    solve: &mut S,
+) -> Result<Attempt<Fits>, NoMemory>
+    requires solver { IsSolver S.FnMut solve.old }
+    requires over { IsOver (length parts.now.symbols) (edges_of (pairs_open entries.items)) }
+    requires few { length parts.now.symbols ≤ 2 ^ 32 }
+    ensures solver { IsSolver S.FnMut solve.new }
+    ensures tried { IfOk result (λ t. tried_as (λ fits. still_open (pairs_open fits.entries.items) fits.falls.items) t ≡ polynomials parts.now hypotheses.now (pairs_open entries.items)) }
+    ensures fits { IfOk result (λ t. IfSome t.made (AreFits parts.now.symbols entries.items)) }
+{
+    let names = find_names(alloc, parts.symbols.len(), entries.as_slice())?;
+    let groups = group_entries(alloc, names.as_slice(), entries)?;
+    let tried = fit_groups(
+        alloc,
+        parts,
+        hypotheses,
+        names.as_slice(),
+        groups.as_slice(),
+        solve,
+    )?;
+    let noted = tried.noted;
+    match tried.made {
+        Some(fit) => {
+            let Fit {
+                values,
+                holds,
+                falls,
+            } = fit;
+            let entries = all_entries(alloc, groups)?;
+            let fits = Fits {
+                column: values,
+                entries,
+                holds,
+                falls,
+            };
+            Ok(Attempt {
+                made: Some(fits),
+                noted,
+            })
+        }
+        None => Ok(Attempt { made: None, noted }),
+    }
+}

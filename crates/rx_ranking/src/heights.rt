@@ -1,0 +1,57 @@
+//! Columns of heights: the pairs between components fall, and the others hold.
+ghost use Rattle.std.specs.Prelude.{◌≡◌, IfOk, OnOk};
+ghost use Rattle.std.specs.List.{filter};
+ghost use Rattle.rx_ranking.specs.Closing.{close_all, is_leaving, is_staying};
+ghost use Rattle.rx_rank.specs.Components.{is_inside};
+ghost use Rattle.rx_ranking.specs.Tables.{height_column};
+
+use crate::closing::close_entry;
+use crate::open_pair::OpenPair;
+use rx_pairs::{Pair, PairCert};
+use rx_plain::NoMemory;
+use rx_poly::Poly;
+use rx_rank::is_member;
+use std::alloc::Global;
+
+/// The column of the heights of the symbols.
+pub(crate) fn column_of(alloc: Global, heights: &[u32]) -> Result<Vec<Option<Poly>>, NoMemory>
+    ensures { IfOk result (λ column. column.items ≡ height_column heights.now) }
+{
+    let mut column = Vec::new(alloc);
+    for height in heights {
+        column.push(Some(Poly::constant(alloc, i128::from(*height))?))?;
+    }
+    Ok(column)
+}
+
+/// Whether both symbols of the pair are of one component.
+fn is_inside(names: &[u32], pair: &Pair) -> bool
+    ensures { result ≡ is_inside names.now pair.now }
+{
+    match names.get(pair.left.0 as usize) {
+        Some(name) => is_member(names, *name, pair.right.0),
+        None => false,
+    }
+}
+
+/// The pairs that stay open after a column of heights with that number; the others are closed by it.
+pub(crate) fn close_between(
+    alloc: Global,
+    names: &[u32],
+    column: u32,
+    entries: Vec<OpenPair>,
+    closed: &mut Vec<Option<PairCert>>,
+) -> Result<Vec<OpenPair>, NoMemory>
+    ensures staying { IfOk result (λ left. left.items ≡ filter (is_staying names.now) entries.items) }
+    ensures leaving { OnOk result (closed.new.items ≡ close_all column closed.old.items (filter (is_leaving names.now) entries.items)) }
+{
+    let mut left = Vec::new(alloc);
+    for entry in entries {
+        if is_inside(names, &entry.pair) {
+            left.push(entry)?;
+        } else {
+            close_entry(closed, column, entry);
+        }
+    }
+    Ok(left)
+}

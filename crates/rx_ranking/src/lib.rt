@@ -1,0 +1,20 @@
+//! Finding rank tables: in rounds, pairs are closed that fall by a column of heights, and then those
+//! that fall by a column of polynomials.
+#![tactic(auto)]
+
+mod closing;
+mod components;
+mod fits;
+mod groups;
+mod heights;
+mod names;
+mod open_pair;
+mod polynomials;
+mod progress;
+mod ranking;
+mod rounds;
+mod table;
+
+pub use ranking::{Ranking, find_ranks};
+pub use rx_fm::FmEnd;
+pub use rx_plain::NoMemory;

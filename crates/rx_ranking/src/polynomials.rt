@@ -1,0 +1,69 @@
+//! Columns of polynomials: the pairs that fall by the first fit choices are closed.
+ghost use Rattle.std.specs.Prelude.{◌≡◌, ◌≤◌, ◌^◌, IfOk, IfSome, length};
+ghost use Rattle.rx_graph.specs.Graph.{IsOver};
+ghost use Rattle.rx_pairs.specs.Graph.{edges_of};
+ghost use Rattle.rx_rank.specs.Answers.{tried_as};
+ghost use Rattle.rx_rank.specs.Ranking.{polynomials};
+ghost use Rattle.rx_ranking.specs.Rounds.{IsGrown};
+ghost use Rattle.rx_ranking.specs.Tables.{pairs_open};
+ghost use Rattle.rx_solve.specs.Answers.{IsSolver};
+
+use crate::closing::close_fallen;
+use crate::fits::{Fits, fit_all};
+use crate::progress::Progress;
+use rx_cert::Cert;
+use rx_fm::FmEnd;
+use rx_plain::NoMemory;
+use rx_rank::Attempt;
+use rx_row::Constraint;
+use rx_term::{Rule, RuleParts};
+use std::alloc::Global;
+
+/// One column more, of polynomials: each component with an open pair takes its first fit choice, and
+/// the pairs that fall are closed.
+pub(crate) fn add_polynomials<S: FnMut(&Constraint) -> Result<Option<Cert>, FmEnd>>(
+    alloc: Global,
+    parts: &RuleParts,
+    hypotheses: &[Rule],
+    progress: Progress,
+    solve: &mut S,
+) -> Result<Attempt<Progress>, NoMemory>
+    requires solver { IsSolver S.FnMut solve.old }
+    requires over { IsOver (length parts.now.symbols) (edges_of (pairs_open progress.entries.items)) }
+    requires few { length parts.now.symbols ≤ 2 ^ 32 }
+    requires width { length progress.columns.items ≤ 14 }
+    ensures solver { IsSolver S.FnMut solve.new }
+    ensures tried { IfOk result (λ t. tried_as (λ after. pairs_open after.entries.items) t ≡ polynomials parts.now hypotheses.now (pairs_open progress.entries.items)) }
+    ensures grown { IfOk result (λ t. IfSome t.made (IsGrown parts.now.symbols progress)) }
+{
+    let Progress {
+        columns,
+        entries,
+        closed,
+    } = progress;
+    let mut columns = columns;
+    let mut closed = closed;
+    let tried = fit_all(alloc, parts, hypotheses, entries, solve)?;
+    let noted = tried.noted;
+    let Some(fits) = tried.made else {
+        return Ok(Attempt { made: None, noted });
+    };
+    let Fits {
+        column,
+        entries,
+        holds,
+        falls,
+    } = fits;
+    columns.push(column)?;
+    let number = columns.len() as u32;
+    let left = close_fallen(alloc, number, entries, holds, falls, &mut closed)?;
+    let after = Progress {
+        columns,
+        entries: left,
+        closed,
+    };
+    Ok(Attempt {
+        made: Some(after),
+        noted,
+    })
+}
