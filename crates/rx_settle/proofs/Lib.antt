@@ -1,6 +1,14 @@
+pub mod CandidateLaws
 pub mod CertifiedLaws
+pub mod DeletingLaws
+pub mod FirstLaws
+pub mod ItemLaws
+pub mod KeepingLaws
+pub mod MoveLaws
 pub mod PointLaws
 pub mod RuleWalk
 pub mod ShowingLaws
+pub mod SuffixLaws
 pub mod TrialLaws
 pub mod TryingLaws
+pub mod UseWalk

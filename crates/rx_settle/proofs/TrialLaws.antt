@@ -1,7 +1,7 @@
 -- Trials one after the other: the first that takes a step decides, with what was noted before.
 use Rattle.std.specs.Prelude.{IfOk, Result, Ok, Err, is_some}
-use Rattle.std.proofs.Common.{◌≡◌, ◌∙◌, ap, subst, sym, refl, cond, ℕ, suc, ◌+◌, Bool, true, false, ◌||◌, Option, Some, None, List, [], ◌∷◌}
-use Rattle.rx_solve.specs.Attempts.{Tried, fails, first_applying, made_or}
+use Rattle.std.proofs.Common.{◌≡◌, ◌∙◌, ap, subst, sym, refl, Bool, true, false, ◌||◌, Option, Some, None, [], ◌∷◌}
+use Rattle.rx_solve.specs.Attempts.{Tried, beyond, fails, first_applying, made_or}
 use Rattle.rx_term.specs.declared.rule_set.RuleParts.{RuleParts}
 use Rattle.rx_form.specs.States.{State}
 use Rattle.rx_form.specs.declared.step.Step.{Step}
@@ -134,6 +134,12 @@ trial_of parts old new tried other t e is = subst (λ x. IsTrial parts old new x
 -- nothing applies
 pub failed_trial : (parts : RuleParts) (old : State) (tried : Tried Next) (t : Trial) → tried ≡ fails → t ≡ record { taken = None; noted = false } → IsTrial parts old old tried t
 failed_trial parts old tried t e is =
+    subst (λ u. IsTrial parts old old tried u) (sym is)
+    (record { noted = sym (ap (λ (x : Tried Next). x.noted) e); taken = (ap (λ (x : Tried Next). x.made) e, refl) })
+
+-- something passes the limits
+pub beyond_trial : (parts : RuleParts) (old : State) (tried : Tried Next) (t : Trial) → tried ≡ beyond → t ≡ record { taken = None; noted = true } → IsTrial parts old old tried t
+beyond_trial parts old tried t e is =
     subst (λ u. IsTrial parts old old tried u) (sym is)
     (record { noted = sym (ap (λ (x : Tried Next). x.noted) e); taken = (ap (λ (x : Tried Next). x.made) e, refl) })
 

@@ -2,19 +2,26 @@
 //! solver shows that, and the step that is taken has its certificates.
 #![tactic(auto)]
 
+mod deleting;
 mod formation;
+mod items;
 mod loop_points;
 mod number;
+mod results;
 mod rules;
 mod settled;
+mod settling;
 mod showing;
+mod sides;
 mod suffix;
 mod trial;
 mod trying;
+mod uses;
 
 pub use loop_points::LoopPoints;
 pub use rx_plain::NoMemory;
 pub use settled::Settled;
+pub use settling::settle;
 pub use suffix::Common;
 pub use trial::Trial;
 pub use trying::try_step;

@@ -119,7 +119,7 @@ fn show_step<S: FnMut(&Constraint) -> Result<Option<Cert>, FmEnd>>(
 }
 
 /// Takes a step, which is formed so, and which has the certificates of what it asks.
-fn take_shown(state: &mut State, made: FormedStep, step: Step) -> Result<Trial, NoMemory>
+pub(crate) fn take_shown(state: &mut State, made: FormedStep, step: Step) -> Result<Trial, NoMemory>
     ensures ok { OnOk result (state.new ≡ taken state.old made) }
     ensures trial { IfOk result (λ t. t ≡ record { taken = Some step; noted = false }) }
     ensures err { OnErr result (state.new ≡ state.old) }

@@ -1,0 +1,103 @@
+-- The items of settling in order, and what each leaves of a state.
+use Rattle.std.proofs.Common.{◌≡◌, ◌∙◌, ap, sym, refl, arith, ℕ, Bool, false, ◌||◌, Option, Some, None, Ok, Err, List, [], ◌∷◌, length}
+use Rattle.std.specs.Prelude.{IfOk, Result, slice_get}
+use Rattle.rx_solve.specs.Attempts.{Tried, fails, first_applying, made_or}
+use Rattle.rx_term.specs.declared.rule.Equation.{Equation}
+use Rattle.rx_term.specs.declared.rule_set.RuleParts.{RuleParts}
+use Rattle.rx_form.specs.States.{State}
+use Rattle.rx_form.specs.declared.step.Step.{Step}
+use Rattle.rx_settle.specs.Answers.{IsTrial, Takes}
+use Rattle.rx_settle.specs.AtFirst.{at_first, from_leaving, from_naming, from_unfolding, leaving_sides, unfolding_sides, using_all}
+use Rattle.rx_settle.specs.Moves.{Absurd, Equal, move_of, step_of}
+use Rattle.rx_settle.specs.Settling.{by_results, settling_first, settling_move}
+use Rattle.rx_settle.specs.Trying.{Next, attempt, next_if_formed}
+use Rattle.rx_settle.specs.Untaken.{IsUntaken}
+use Rattle.rx_settle.specs.declared.trial.Trial.{Trial}
+use Rattle.rx_form.specs.Kinds.{formed}
+use Rattle.rx_settle.proofs.FirstLaws.{at_goal, first_of_both, no_goal, second_of_both}
+use Rattle.rx_settle.proofs.KeepingLaws.{move_keeps}
+use Rattle.rx_settle.proofs.TrialLaws.{nothing_noted, one_tried, taken_first, trial_of, untaken_second}
+
+-- ---- results
+
+no_goals : (goals : List Equation) → length goals ≡ 0 → slice_get goals 0 ≡ None
+no_goals [] e = refl
+no_goals (goal ∷ goals) e = absurd (omega arith)
+
+a_goal : (goals : List Equation) → (length goals ≡ 0 → ⊥) → (goal : Equation) × (Some goal ≡ slice_get goals 0)
+a_goal [] some = absurd (some refl)
+a_goal (goal ∷ goals) some = (goal, refl)
+
+module _ (parts : RuleParts) (old : State) where
+  pub results_nowhere : (n : ℕ) (t : Trial) → n ≡ length old.goals → n ≡ 0 → t ≡ record { taken = None; noted = false } → IsTrial parts old old (at_first (by_results parts old) old.goals) t
+  results_nowhere n t count none is = no_goal (by_results parts old) parts old t (no_goals old.goals (sym count ∙ none)) is
+
+  pub results_answer : {E : Type 0} (n : ℕ) (new : State) (r : Result Trial E) → n ≡ length old.goals → (n ≡ 0 → ⊥)
+      → IfOk r (λ t. (goal : Equation) → Some goal ≡ slice_get old.goals 0 → IsTrial parts old new (by_results parts old goal) t)
+      → IfOk r (IsTrial parts old new (at_first (by_results parts old) old.goals))
+  results_answer n new (Ok t) count some of =
+      let goal = a_goal old.goals (λ e. some (count ∙ e)) in
+      trial_of parts old new (by_results parts old goal.0) _ t (sym (at_goal (by_results parts old) old.goals goal.0 goal.1)) (of goal.0 goal.1)
+  results_answer n new (Err e) count some of = tt
+
+  -- ---- naming fails
+
+  naming_fails : (goals : List Equation) → at_first (λ goal. first_applying (using_all parts old goal ∷ by_results parts old goal ∷ [])) goals ≡ at_first (from_naming parts old) goals
+  naming_fails [] = refl
+  naming_fails (goal ∷ goals) = sym (nothing_noted (first_applying (using_all parts old goal ∷ by_results parts old goal ∷ [])))
+
+  module _ (mid : State) (t : Trial) (is : IsTrial parts old mid (at_first (using_all parts old) old.goals) t) where
+    pub use_first : (same : Trial) → IsUntaken t (Err same) → IsTrial parts old mid (at_first (from_naming parts old) old.goals) same
+    use_first same e =
+        trial_of parts old mid _ _ same (naming_fails old.goals) (first_of_both parts old mid (using_all parts old) (λ s. by_results parts s) t is same e)
+
+    pub results_second : (u v : Trial) (new : State) (noted : Bool) → IsUntaken t (Ok noted) → IsTrial parts mid new (at_first (by_results parts mid) mid.goals) u
+        → v ≡ record { taken = u.taken; noted = noted || u.noted } → IsTrial parts old new (at_first (from_naming parts old) old.goals) v
+    results_second u v new noted e more same =
+        trial_of parts old new _ _ v (naming_fails old.goals) (second_of_both parts old mid (using_all parts old) (λ s. by_results parts s) t is u v new noted e more same)
+
+  -- ---- all items
+
+  abbrev deleting : Tried Next
+  deleting = first_applying (attempt parts old Absurd ∷ attempt parts old Equal ∷ [])
+
+  nothing_to_delete : (goals : List Equation) → old.goals ≡ goals → goals ≡ [] → deleting ≡ fails
+  unfolding attempt
+  nothing_to_delete goals same none =
+      ap
+      (λ gs. first_applying (
+      next_if_formed old Absurd (formed parts (slice_get gs 0) old.hypotheses (step_of Absurd))
+      ∷ next_if_formed old Equal (formed parts (slice_get gs 0) old.hypotheses (step_of Equal)) ∷ []))
+      (same ∙ none)
+
+  all_items : (goals : List Equation) → old.goals ≡ goals → first_applying (deleting ∷ at_first (from_unfolding parts old) goals ∷ []) ≡ settling_first parts old goals
+  all_items [] same = ap (λ (t : Tried Next). first_applying (t ∷ fails ∷ [])) (nothing_to_delete [] same refl)
+  all_items (goal ∷ goals) same =
+      let unfolds = unfolding_sides parts old goal in
+      let leaves = leaving_sides parts old goal in
+      let leaving : from_leaving parts old goal ≡ made_or leaves.made leaves.noted (from_naming parts old goal) =
+      ap (made_or leaves.made leaves.noted) (one_tried (from_naming parts old goal)) in
+      let unfolding_it : from_unfolding parts old goal ≡ made_or unfolds.made unfolds.noted (made_or leaves.made leaves.noted (from_naming parts old goal)) =
+      ap (made_or unfolds.made unfolds.noted) (one_tried (from_leaving parts old goal) ∙ leaving) in
+      ap (made_or deleting.made deleting.noted) (one_tried (from_unfolding parts old goal) ∙ unfolding_it)
+
+  module _ (mid : State) (t : Trial) (is : IsTrial parts old mid deleting t) where
+    pub delete_first : (same : Trial) → IsUntaken t (Err same) → IsTrial parts old mid (settling_move parts old) same
+    delete_first same e =
+        trial_of parts old mid _ _ same (all_items old.goals refl) (taken_first parts old mid deleting t is (at_first (from_unfolding parts old) old.goals) same e)
+
+    pub items_second : (u v : Trial) (new : State) (noted : Bool) → IsUntaken t (Ok noted) → IsTrial parts mid new (at_first (from_unfolding parts mid) mid.goals) u
+        → v ≡ record { taken = u.taken; noted = noted || u.noted } → IsTrial parts old new (settling_move parts old) v
+    items_second u v new noted e more same =
+        trial_of parts old new _ _ v (all_items old.goals refl)
+        (untaken_second parts old mid deleting t is (λ s. at_first (from_unfolding parts s) s.goals) u v new noted e more same)
+
+  -- ---- hypotheses
+
+  -- a trial of settling leaves them
+  pub trial_keeps : (new : State) (t : Trial) → IsTrial parts old new (settling_move parts old) t → new.hypotheses ≡ old.hypotheses
+  trial_keeps new t is = by t.taken is.taken
+    where
+      by : (o : Option Step) → Takes parts old new (settling_move parts old).made o → new.hypotheses ≡ old.hypotheses
+      by None same = ap (λ (s : State). s.hypotheses) same.1
+      by (Some step) made = move_keeps old parts (record { move = move_of step; state = new }) made.0

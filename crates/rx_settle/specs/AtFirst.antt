@@ -1,0 +1,65 @@
+-- What is tried at the first goal, by each item of settling.
+use Rattle.std.specs.Prelude.{ℕ, List, [], ◌∷◌, slice_get}
+use Rattle.std.specs.Option.{option_map_or}
+use Rattle.rx_solve.specs.Attempts.{Tried, fails, first_applying}
+use Rattle.rx_term.specs.declared.rule.Equation.{Equation}
+use Rattle.rx_term.specs.declared.rule.Rule.{Rule}
+use Rattle.rx_term.specs.declared.rule_set.RuleParts.{RuleParts}
+use Rattle.rx_form.specs.States.{State}
+use Rattle.rx_form.specs.declared.step.Side.{Side}
+use Rattle.rx_form.specs.declared.step.Side.TheVariants.{Left, Right}
+use Rattle.rx_settle.specs.Settling.{by_results, leaving_at, named, redex_symbol, unfolding_at, using_each, using_on}
+use Rattle.rx_settle.specs.Trying.{Next}
+
+-- at the first goal; where none is left nothing is tried
+abbrev pub at_first : (Equation → Tried Next) → List Equation → Tried Next
+at_first tried [] = fails
+at_first tried (goal ∷ goals) = tried goal
+
+module _ (parts : RuleParts) (state : State) where
+  -- ---- the sides
+
+  -- a side, where its redex is at no loop point
+  abbrev pub unfolding_side : Side → Equation → Tried Next
+  unfolding_side side goal = unfolding_at parts state side (redex_symbol side goal)
+
+  -- both sides in turn
+  abbrev pub unfolding_sides : Equation → Tried Next
+  unfolding_sides goal = first_applying (unfolding_side Left goal ∷ unfolding_side Right goal ∷ [])
+
+  -- a side, where its redex is at a loop point
+  abbrev pub leaving_side : Side → Equation → Tried Next
+  leaving_side side goal = leaving_at parts state side (redex_symbol side goal)
+
+  -- both sides in turn
+  abbrev pub leaving_sides : Equation → Tried Next
+  leaving_sides goal = first_applying (leaving_side Left goal ∷ leaving_side Right goal ∷ [])
+
+  -- ---- hypotheses
+
+  -- a hypothesis, if there is one of that number, on a side
+  abbrev pub using_number : ℕ → Side → Equation → Tried Next
+  using_number number side goal =
+      option_map_or (λ (hypothesis : Rule). using_on parts state goal number hypothesis side) (slice_get state.hypotheses number) fails
+
+  -- on the left side, and then on the right one
+  abbrev pub using_sides : ℕ → Equation → Tried Next
+  using_sides number goal = first_applying (using_number number Left goal ∷ using_number number Right goal ∷ [])
+
+  -- all hypotheses
+  abbrev pub using_all : Equation → Tried Next
+  using_all goal = first_applying (using_each parts state goal 0 state.hypotheses)
+
+  -- ---- the items from one on
+
+  -- naming, hypotheses and results
+  abbrev pub from_naming : Equation → Tried Next
+  from_naming goal = first_applying (named parts state goal ∷ using_all goal ∷ by_results parts state goal ∷ [])
+
+  -- loop points, and what comes after them
+  abbrev pub from_leaving : Equation → Tried Next
+  from_leaving goal = first_applying (leaving_sides goal ∷ from_naming goal ∷ [])
+
+  -- other redexes, and what comes after them
+  abbrev pub from_unfolding : Equation → Tried Next
+  from_unfolding goal = first_applying (unfolding_sides goal ∷ from_leaving goal ∷ [])
