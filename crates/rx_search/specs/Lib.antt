@@ -1,4 +1,5 @@
 -- What a search for a proof comes to.
 pub mod Ends
 pub mod Menu
+pub mod Nodes
 pub mod Search

@@ -1,8 +1,6 @@
 -- The choices at a settled goal: the four expansions, Decompose, and lemmas. Each that applies leads to a further node.
-use Rattle.std.specs.Prelude.{ℕ, Bool, true, false, Option, Some, None, List, [], ◌∷◌, ◌++◌, map}
-use Rattle.std.specs.List.{filter_map, list_any}
-use Rattle.std.specs.Option.{option_map}
-use Rattle.rx_row.specs.declared.row.Row.{Row}
+use Rattle.std.specs.Prelude.{ℕ, Bool, true, false, Option, Some, None, List, [], ◌∷◌, map}
+use Rattle.std.specs.List.{list_any}
 use Rattle.rx_solve.specs.Attempts.{Tried, beyond, where_shown}
 use Rattle.rx_term.specs.declared.rule.Equation.{Equation}
 use Rattle.rx_term.specs.declared.rule_set.RuleParts.{RuleParts}

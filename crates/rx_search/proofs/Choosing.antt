@@ -1,0 +1,83 @@
+-- The choices so far, with one more.
+use Rattle.std.proofs.Common.{◌≡◌, ℕ, Bool, false, ◌||◌, Option, Some, None, Result, Ok, Err, List, [], ◌∷◌, ◌++◌, map, refl, sym, subst, ◌∙◌, All}
+use Rattle.std.specs.Prelude.{IfSome, OnOk}
+use Rattle.std.specs.List.{filter_map}
+use Rattle.std.specs.Option.{option_map}
+use Rattle.std.proofs.lemmas.List.{map-append}
+use Rattle.std.proofs.lemmas.List.Elements.{All-append, All-cons, All-nil, filter_map-append}
+use Rattle.std.proofs.lemmas.List.Folds.{list_any-append}
+use Rattle.rx_solve.specs.Attempts.{Tried}
+use Rattle.rx_settle.specs.Trying.{Next}
+use Rattle.rx_search.specs.Menu.{Chosen, choice}
+use Rattle.rx_search.specs.Nodes.{AreChoices, IsTried, choice_of, node_of, with_choice}
+use Rattle.rx_search.specs.Search as search
+use Rattle.rx_search.specs.Search.{child, node_with}
+use Rattle.rx_search.specs.declared.choices.Choices.{Choices}
+use Rattle.rx_search.specs.declared.choices.Trial.{Trial}
+use Rattle.rx_search.specs.declared.node.Node.{Node}
+use Rattle.rx_search.proofs.Trying.{or_false}
+use Rattle.rx_visits.specs.Views.{seen_choice}
+use Rattle.rx_visits.specs.declared.tree.Choice.{Choice}
+
+module _ (from : Node) where
+  abbrev applying : List Chosen → List (Choice search.Node)
+  applying cs = filter_map (child (node_of from)) cs
+
+  abbrev seen : List (Choice Node) → List (Choice search.Node)
+  seen choices = map (seen_choice node_of) choices
+
+  one_choice : (number : ℕ) (node : Option Node) (noted : Bool) (made : Option Next)
+      → option_map node_of node ≡ option_map (node_with (node_of from)) made
+      → seen (choice_of number node) ≡ applying (choice number (record { made = made; noted = noted }) ∷ [])
+  one_choice number None noted None same = refl
+  one_choice number None noted (Some next) same = absurd cc
+  one_choice number (Some node) noted None same = absurd cc
+  one_choice number (Some node) noted (Some next) same =
+      let one : node_of node ≡ node_with (node_of from) next = cc in
+      λ i. record { number = number; node = one i } ∷ []
+
+  pub no_choices : (found : Choices) → found ≡ record { choices = []; noted = false } → AreChoices from [] found
+  no_choices found same = subst (AreChoices from []) (sym same) (record { choices = refl; noted = refl })
+
+  pub choices_grow : (cs : List Chosen) (found : Choices) (number : ℕ) (tried : Tried Next) (trial : Trial) → AreChoices from cs found
+      → IsTried from tried trial → AreChoices from (cs ++ choice number tried ∷ []) (with_choice found number trial)
+  choices_grow cs found number tried trial are is = record {
+    choices =
+        map-append (seen_choice node_of) found.choices (choice_of number trial.node)
+        ∙ (λ i. are.choices i ++ one_choice number trial.node tried.noted tried.made is.node i)
+        ∙ sym (filter_map-append (child (node_of from)) cs (choice number tried ∷ []));
+    noted =
+        (λ i. are.noted i || (is.noted ∙ sym (or_false tried.noted)) i)
+        ∙ sym (list_any-append (λ (c : Chosen). c.tried.noted) cs (choice number tried ∷ []));
+  }
+
+  -- of a call
+  pub choices_grow_call : {A E : Type 0} (cs : List Chosen) (found new : Choices) (number : ℕ) (tried : Tried Next) (trial : Trial)
+      → IsTried from tried trial → (result : Result A E) → OnOk result (new ≡ with_choice found number trial) → AreChoices from cs found
+      → OnOk result (AreChoices from (cs ++ choice number tried ∷ []) new)
+  choices_grow_call cs found new number tried trial is (Ok x) same are =
+      subst (AreChoices from (cs ++ choice number tried ∷ [])) (sym same) (choices_grow cs found number tried trial are is)
+  choices_grow_call cs found new number tried trial is (Err e) same are = tt
+
+module _ (P : Node → Type 0) where
+  abbrev AtChoice : Choice Node → Type 0
+  AtChoice c = P c.node
+
+  one_node : (number : ℕ) (node : Option Node) → IfSome node P → All AtChoice (choice_of number node)
+  one_node number None is = All-nil AtChoice
+  one_node number (Some node) is = All-cons AtChoice (record { number = number; node = node }) [] is (All-nil AtChoice)
+
+  pub no_nodes : (found : Choices) → found ≡ record { choices = []; noted = false } → All AtChoice found.choices
+  no_nodes found same = subst (λ (f : Choices). All AtChoice f.choices) (sym same) (All-nil AtChoice)
+
+  -- what holds of the nodes so far, and of the new one
+  pub nodes_grow : (found : Choices) (number : ℕ) (trial : Trial) → All AtChoice found.choices → IfSome trial.node P
+      → All AtChoice (with_choice found number trial).choices
+  nodes_grow found number trial all is = All-append AtChoice found.choices (choice_of number trial.node) all (one_node number trial.node is)
+
+  -- of a call
+  pub nodes_grow_call : {A E : Type 0} (found new : Choices) (number : ℕ) (trial : Trial) → IfSome trial.node P → (result : Result A E)
+      → OnOk result (new ≡ with_choice found number trial) → All AtChoice found.choices → OnOk result (All AtChoice new.choices)
+  nodes_grow_call found new number trial is (Ok x) same all =
+      subst (λ (f : Choices). All AtChoice f.choices) (sym same) (nodes_grow found number trial all is)
+  nodes_grow_call found new number trial is (Err e) same all = tt

@@ -1,0 +1,64 @@
+//! The menu at a settled node.
+ghost use Rattle.std.specs.Prelude.{◌≡◌, All, IfOk};
+ghost use Rattle.rx_search.specs.Nodes.{IsNode, IsReached, is_spent, node_of};
+ghost use Rattle.rx_search.specs.Search.{menu};
+ghost use Rattle.rx_settle.specs.Settling.{rows_if};
+ghost use Rattle.rx_solve.specs.Answers.{IsSolver};
+ghost use Rattle.rx_term.specs.declared.rule.Equation.{Equation};
+ghost use Rattle.rx_visits.specs.Views.{seen_menu};
+
+use crate::choices::find_choices;
+use crate::node::{Node, copied_rows, is_closed};
+use rx_cert::Cert;
+use rx_fm::FmEnd;
+use rx_plain::{Items, NoMemory};
+use rx_row::{Constraint, Row};
+use rx_steps::State;
+use rx_term::RuleSet;
+use rx_visits::Menu;
+use std::alloc::Global;
+
+/// The rows of the first goal, where something was noted.
+fn noted_rows(alloc: Global, noted: bool, state: &State) -> Result<Option<Items<Row>>, NoMemory>
+    ensures { IfOk result (λ note. note ≡ rows_if noted state.now.goals) }
+{
+    match state.first() {
+        Some(goal) if noted => Ok(Some(copied_rows(alloc, goal.rows.rows())?)),
+        _ => Ok(None),
+    }
+}
+
+/// Whether there are no choices at the node: settling took all steps, or no goal is left.
+fn is_spent(node: &Node) -> bool
+    ensures { result ≡ is_spent node.now }
+{
+    let closed = is_closed(&node.state);
+    node.left == 0 || closed
+}
+
+/// The choices at a settled node; there are none where settling took all steps, or no goal is left.
+pub(crate) fn find_menu<S: FnMut(&Constraint) -> Result<Option<Cert>, FmEnd>>(
+    alloc: Global,
+    rules: &RuleSet,
+    node: &Node,
+    solve: &mut S,
+) -> Result<Menu<Node, Items<Row>>, NoMemory>
+    requires reached { (goal : Equation) × IsReached rules.now goal node.now }
+    requires solver { IsSolver S.FnMut solve.old }
+    ensures solver { IsSolver S.FnMut solve.new }
+    ensures menu { IfOk result (λ m. seen_menu node_of m ≡ menu rules.now (node_of node.now)) }
+    ensures nodes { (goal : Equation) → IsNode rules.now goal node.now → IfOk result (λ m. All (λ c. IsNode rules.now goal c.node) m.choices) }
+{
+    if is_spent(node) {
+        return Ok(Menu {
+            choices: Items::new(alloc),
+            note: None,
+        });
+    }
+    let found = find_choices(alloc, rules, node, solve)?;
+    let note = noted_rows(alloc, found.noted, &node.state)?;
+    Ok(Menu {
+        choices: found.choices,
+        note,
+    })
+}

@@ -1,0 +1,101 @@
+//! The tree of plans: its nodes are where steps lead from the goal, and its choices are steps.
+ghost use Rattle.std.specs.Prelude.{◌≡◌, IfOk};
+ghost use Rattle.rx_search.specs.Nodes.{IsNode, node_of};
+ghost use Rattle.rx_search.specs.Search.{settled};
+ghost use Rattle.rx_settle.specs.LoopPoints.{AreLoopPoints};
+ghost use Rattle.rx_solve.specs.Answers.{IsSolver};
+ghost use Rattle.rx_term.specs.declared.rule.Equation.{Equation};
+ghost use Rattle.rx_visits.specs.Views.{seen_settled};
+
+use crate::menu::find_menu;
+use crate::node::{Node, copied_steps, is_closed};
+use rx_cert::Cert;
+use rx_fm::FmEnd;
+use rx_plain::{Items, NoMemory};
+use rx_row::{Constraint, Row};
+use rx_settle::{LoopPoints, settle};
+use rx_term::{Equation, RuleSet};
+use rx_visits::{Menu, Settled, Tree};
+use std::alloc::Global;
+
+/// The node once it is settled.
+fn settle_node<S: FnMut(&Constraint) -> Result<Option<Cert>, FmEnd>>(
+    alloc: Global,
+    rules: &RuleSet,
+    points: &LoopPoints,
+    node: &Node,
+    solve: &mut S,
+) -> Result<Settled<Node, Items<Row>>, NoMemory>
+    requires points { AreLoopPoints rules.now points.now }
+    requires solver { IsSolver S.FnMut solve.old }
+    ensures solver { IsSolver S.FnMut solve.new }
+    ensures settled { IfOk result (λ s. seen_settled node_of s ≡ settled rules.now (node_of node.now)) }
+    ensures node { (goal : Equation) → IsNode rules.now goal node.now → IfOk result (λ s. IsNode rules.now goal s.node) }
+{
+    let mut steps = copied_steps(alloc, node.steps.as_slice())?;
+    let mut state = node.state.try_clone(alloc)?;
+    let found = settle(alloc, rules, points, &mut state, solve)?;
+    steps.append(found.steps)?;
+    let closed = is_closed(&state);
+    Ok(Settled {
+        node: Node {
+            steps,
+            state,
+            left: found.left,
+        },
+        closed,
+        note: found.note,
+    })
+}
+
+/// The plans for a goal over rules.
+#[derive(Drop)]
+pub(crate) struct Plans<'a, S> {
+    /// The allocator.
+    pub(crate) alloc: Global,
+    /// The rules.
+    pub(crate) rules: &'a RuleSet,
+    /// The goal.
+    pub(crate) goal: &'a Equation,
+    /// The loop points of the rules.
+    pub(crate) points: &'a LoopPoints,
+    /// What refutes rows.
+    pub(crate) solve: &'a mut S,
+}
+
+impl<'a, S: FnMut(&Constraint) -> Result<Option<Cert>, FmEnd>> Tree for Plans<'a, S> {
+    ghost use Rattle.std.specs.Prelude.{List};
+    ghost use Rattle.rx_row.specs.declared.row.Row.{Row};
+    ghost use Rattle.rx_search.specs.Nodes.{IsNode, Problem, node_of};
+    ghost use Rattle.rx_search.specs.Search as search;
+    ghost use Rattle.rx_settle.specs.LoopPoints.{AreLoopPoints};
+    ghost use Rattle.rx_solve.specs.Answers.{IsSolver};
+
+    type Node = Node;
+
+    type Note = Items<Row>;
+
+    ghost World = { Problem };
+
+    ghost world = { λ p. record { parts = p.rules.now; goal = p.goal.now; solver = p.solve.ghost_name } };
+
+    ghost ready = { λ p. IsSolver S.FnMut p.solve.now × AreLoopPoints p.rules.now p.points.now };
+
+    ghost View = { search.Node };
+
+    ghost view = { node_of };
+
+    ghost valid = { λ w n. IsNode w.parts w.goal n };
+
+    ghost settled = { λ w v. search.settled w.parts v };
+
+    ghost menu = { λ w v. search.menu w.parts v };
+
+    fn settle(&mut self, node: &Node) -> Result<Settled<Node, Items<Row>>, NoMemory> {
+        settle_node(self.alloc, self.rules, self.points, node, self.solve)
+    }
+
+    fn choices(&mut self, node: &Node) -> Result<Menu<Node, Items<Row>>, NoMemory> {
+        find_menu(self.alloc, self.rules, node, self.solve)
+    }
+}

@@ -1,0 +1,228 @@
+//! The search.
+ghost use Rattle.std.specs.Prelude.{◌≡◌, ◌≤◌, [], All, IfErr, IfOk, map, true};
+ghost use Rattle.rx_cert.specs.Findings.{Yes};
+ghost use Rattle.rx_coverable.specs.Answers.{AreSmall};
+ghost use Rattle.rx_coverable.specs.Coverable.{is_coverable};
+ghost use Rattle.rx_joins.specs.Goals.{IsFitting};
+ghost use Rattle.rx_log.specs.Acceptance.{IsAccepted};
+ghost use Rattle.rx_log.specs.Depth.{is_shallow_log};
+ghost use Rattle.rx_cover.specs.Covering.{Covers, covering};
+ghost use Rattle.rx_pairs.specs.Pairs.{HasRoot, SidesFit};
+ghost use Rattle.rx_ranking.specs.Found.{LowersAll};
+ghost use Rattle.rx_rank.specs.Ranking.{ranked};
+ghost use Rattle.rx_term.specs.declared.rule.Equation.{Equation};
+ghost use Rattle.rx_search.specs.Ends.{IsEnd};
+ghost use Rattle.rx_search.specs.Nodes.{IsNode, node_of, started};
+ghost use Rattle.rx_search.specs.Search.{Closed, of_outcome, searched, settled, menu, start};
+ghost use Rattle.rx_settle.specs.Moves.{move_of};
+ghost use Rattle.rx_solve.specs.Answers.{IsSolver};
+ghost use Rattle.rx_visits.specs.Outcomes.{outcome};
+ghost use Rattle.rx_visits.specs.Views.{IfClosed, seen_outcome};
+ghost use Rattle.rx_visits.specs.Visits.{all_visits};
+
+use crate::node::{MOST_STEPS, Node, copied_rows};
+use crate::plans::Plans;
+use crate::search_end::SearchEnd;
+use rx_cert::Cert;
+use rx_cover::CoverTree;
+use rx_coverable::find_cover;
+use rx_fm::FmEnd;
+use rx_log::Log;
+use rx_plain::{Items, NoMemory};
+use rx_ranking::{Ranking, find_ranks};
+use rx_row::{Constraint, Row};
+use rx_settle::LoopPoints;
+use rx_steps::State;
+use rx_term::{Equation, Rule, RuleSet};
+use rx_visits::{Note, Outcome};
+use std::alloc::Global;
+
+/// The node with no steps.
+fn start_node(alloc: Global, goal: &Equation) -> Result<Node, NoMemory>
+    ensures start { IfOk result (λ n. node_of n ≡ start goal.now) }
+    ensures node { IfOk result (λ n. n ≡ started goal.now) }
+{
+    Ok(Node {
+        steps: Items::new(alloc),
+        state: State::start(alloc, goal.try_clone(alloc)?)?,
+        left: MOST_STEPS,
+    })
+}
+
+/// What the visits of the plans for the goal come to.
+fn visit_plans<S: FnMut(&Constraint) -> Result<Option<Cert>, FmEnd>>(
+    alloc: Global,
+    rules: &RuleSet,
+    goal: &Equation,
+    depth: u32,
+    budget: u32,
+    solve: &mut S,
+) -> Result<Outcome<Node, Items<Row>>, NoMemory>
+    requires fits { IsFitting rules.now goal.now }
+    requires ranked { ranked rules.now [] ≡ Yes }
+    requires solver { IsSolver S.FnMut solve.old }
+    ensures solver { IsSolver S.FnMut solve.new }
+    ensures outcome { IfOk result (λ o. seen_outcome node_of o ≡ outcome budget (all_visits (settled rules.now) (menu rules.now) depth (start goal.now))) }
+    ensures node { IfOk result (λ o. IfClosed (IsNode rules.now goal.now) o) }
+{
+    let _made = rules.parts();
+    let points = LoopPoints::new(alloc, rules)?;
+    let start = start_node(alloc, goal)?;
+    let mut plans = Plans {
+        alloc,
+        rules,
+        goal,
+        points: &points,
+        solve,
+    };
+    rx_visits::search(alloc, &mut plans, &start, depth, budget)
+}
+
+/// Trees that cover the rules; as the rules are coverable, only want of memory stands against it.
+fn cover_of<S: FnMut(&Constraint) -> Result<Option<Cert>, FmEnd>>(
+    alloc: Global,
+    rules: &RuleSet,
+    solve: &mut S,
+) -> Result<Items<Items<CoverTree>>, NoMemory>
+    requires coverable { is_coverable rules.now ≡ true }
+    requires solver { IsSolver S.FnMut solve.old }
+    ensures solver { IsSolver S.FnMut solve.new }
+    ensures covers { IfOk result (λ lists. covering rules.now lists ≡ Covers) }
+    ensures small { IfOk result (λ lists. All (AreSmall rules.now) lists) }
+{
+    match find_cover(alloc, rules, solve) {
+        Ok(Some(lists)) => Ok(lists),
+        _ => Err(NoMemory),
+    }
+}
+
+/// Ranks by which all pairs are lower; as there are some, only want of memory stands against it.
+fn ranks_of<S: FnMut(&Constraint) -> Result<Option<Cert>, FmEnd>>(
+    alloc: Global,
+    rules: &RuleSet,
+    hypotheses: &[Rule],
+    solve: &mut S,
+) -> Result<Ranking, NoMemory>
+    requires ranked { ranked rules.now hypotheses.now ≡ Yes }
+    requires roots { All HasRoot hypotheses.now }
+    requires fits { All (SidesFit rules.now) hypotheses.now }
+    requires solver { IsSolver S.FnMut solve.old }
+    ensures solver { IsSolver S.FnMut solve.new }
+    ensures lowers { IfOk result (LowersAll rules.now hypotheses.now) }
+{
+    match find_ranks(alloc, rules, hypotheses, solve) {
+        Ok(Some(ranking)) => Ok(ranking),
+        _ => Err(NoMemory),
+    }
+}
+
+/// The log of a node at which no goal is left.
+fn log_of<S: FnMut(&Constraint) -> Result<Option<Cert>, FmEnd>>(
+    alloc: Global,
+    rules: &RuleSet,
+    node: Node,
+    solve: &mut S,
+) -> Result<Log, NoMemory>
+    requires coverable { is_coverable rules.now ≡ true }
+    requires node { (goal : Equation) × IsNode rules.now goal node }
+    requires closed { node.state.goals ≡ [] }
+    requires solver { IsSolver S.FnMut solve.old }
+    ensures solver { IsSolver S.FnMut solve.new }
+    ensures steps { IfOk result (λ log. log.steps ≡ node.steps) }
+    ensures accepted { (goal : Equation) → IsNode rules.now goal node → IfOk result (IsAccepted rules.now goal) }
+    ensures shallow { IfOk result (λ log. is_shallow_log log ≡ true) }
+{
+    let covers = cover_of(alloc, rules, solve)?;
+    let ranking = ranks_of(alloc, rules, node.state.hypotheses(), solve)?;
+    Ok(Log {
+        covers,
+        steps: node.steps,
+        table: ranking.table,
+        pairs: ranking.certs,
+    })
+}
+
+/// A search for proofs, by what refutes rows.
+#[derive(Drop)]
+pub struct Search<S> {
+    solve: S,
+}
+
+impl<S: FnMut(&Constraint) -> Result<Option<Cert>, FmEnd>> Search<S> {
+    /// A search that asks this closure. Takes no memory.
+    pub fn new(solve: S) -> Search<S>
+        requires { IsSolver S.FnMut solve }
+        ensures { IsSolver S.FnMut result.solve }
+    {
+        Search { solve }
+    }
+
+    /// What the visits of the plans come to, as a log or as an end.
+    fn visit(
+        &mut self,
+        alloc: Global,
+        rules: &RuleSet,
+        goal: &Equation,
+        depth: u32,
+        budget: u32,
+    ) -> Result<Log, SearchEnd>
+        requires solver { IsSolver S.FnMut self.old.solve }
+        requires coverable { is_coverable rules.now ≡ true }
+        requires fits { IsFitting rules.now goal.now }
+        requires ranked { ranked rules.now [] ≡ Yes }
+        ensures solver { IsSolver S.FnMut self.new.solve }
+        ensures steps { IfOk result (λ log. of_outcome (outcome budget (all_visits (settled rules.now) (menu rules.now) depth (start goal.now))) ≡ Closed (map move_of log.steps)) }
+        ensures accepted { IfOk result (λ log. IsAccepted rules.now goal.now log) }
+        ensures shallow { IfOk result (λ log. is_shallow_log log ≡ true) }
+        ensures ends { IfErr result (λ e. IsEnd depth budget (of_outcome (outcome budget (all_visits (settled rules.now) (menu rules.now) depth (start goal.now)))) e) }
+    {
+        let outcome = visit_plans(alloc, rules, goal, depth, budget, &mut self.solve)?;
+        match outcome {
+            Outcome::Closed(node) => {
+                let log = log_of(alloc, rules, node, &mut self.solve)?;
+                Ok(log)
+            }
+            Outcome::Noted(Note { path, noted }) => Err(SearchEnd::Large { path, rows: noted }),
+            Outcome::Spent => Err(SearchEnd::Spent { visits: budget }),
+            Outcome::Through => Err(SearchEnd::NoPlan { depth }),
+        }
+    }
+
+    /// Searches for a proof that both sides of the goal come to the same: nodes are visited by lists,
+    /// the first with no choices on a path, the last with at most `depth` of them, and at most
+    /// `budget` nodes are visited. The depth is at most 12.
+    ///
+    /// The answer is a log that is accepted for the rules and the goal; no certificate and no tree in it
+    /// is deeper than 200. `NoRanks` where the rules alone
+    /// have no ranks; `NoPlan` where all lists are visited and no node is closed; `Spent` where there
+    /// are more nodes than the budget; `Large`, before these two, where a polynomial passed the limits
+    /// at a node that was visited. Each of these says exactly that; `NoMemory` says nothing else.
+    pub fn search(
+        &mut self,
+        alloc: Global,
+        rules: &RuleSet,
+        goal: &Equation,
+        depth: u32,
+        budget: u32,
+    ) -> Result<Log, SearchEnd>
+        requires solver { IsSolver S.FnMut self.old.solve }
+        requires coverable { is_coverable rules.now ≡ true }
+        requires fits { IsFitting rules.now goal.now }
+        requires depth { depth ≤ 12 }
+        ensures solver { IsSolver S.FnMut self.new.solve }
+        ensures steps { IfOk result (λ log. searched rules.now goal.now depth budget ≡ Closed (map move_of log.steps)) }
+        ensures accepted { IfOk result (λ log. IsAccepted rules.now goal.now log) }
+        ensures shallow { IfOk result (λ log. is_shallow_log log ≡ true) }
+        ensures ends { IfErr result (λ e. IsEnd depth budget (searched rules.now goal.now depth budget) e) }
+    {
+        match find_ranks(alloc, rules, &[], &mut self.solve) {
+            Ok(Some(_)) => self.visit(alloc, rules, goal, depth, budget),
+            Ok(None) => Err(SearchEnd::NoRanks),
+            Err(FmEnd::Large) => Err(SearchEnd::Large {
+                path: Items::new(alloc),
+                rows: copied_rows(alloc, goal.rows.rows())?,
+            }),
+            Err(FmEnd::NoMemory) => Err(SearchEnd::NoMemory),
+        }
+    }
+}
