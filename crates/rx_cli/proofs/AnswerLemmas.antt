@@ -1,7 +1,7 @@
 -- Each way through the reading has its answer.
 use Rattle.std.proofs.Common.{◌≡◌, ◌<◌, ◌≤◌, ◌∙◌, ℕ, List, [], Option, None, Some, inl, inr, refl, sym, ap, subst, length, arith, le_trans}
 use Rattle.std.proofs.lemmas.Bool.{lt-ltb, le-ltb}
-use Rattle.std.specs.Prelude.{◌+◌, ◌-◌, ◌^◌, IfOk, Result, Ok, Err}
+use Rattle.std.specs.Prelude.{◌+◌, ◌-◌, ◌^◌}
 use Rattle.std.proofs.Math.Nat.{le-min, min-le_left, min-le_right}
 use Rattle.c_front.specs.declared.stages.Next.TheVariants.{Ends, Goes}
 use Rattle.rx_cli.specs.declared.questions.Question.{Question}
@@ -18,10 +18,10 @@ use Rattle.rx_cli.specs.declared.verdicts.Verdict.TheVariants as Said
 use Rattle.rx_cli.specs.Agreement.{Agrees}
 use Rattle.rx_cli.specs.Answers.{IsAnswered, IsHeld, IsLogHeld, OnSource, functions_in, longest_source}
 use Rattle.rx_cli.specs.Ends.{status_of}
-use Rattle.rx_cli.specs.Straight.{IsProved}
-use Rattle.rx_cli.specs.Steps.{ChecksNamed, IfProof, Reads}
+use Rattle.rx_cli.specs.Proofs.{IsProved}
+use Rattle.rx_cli.specs.Steps.{ChecksNamed, Reads}
 use Rattle.rx_cli.proofs.Checked.{checked_agrees}
-use Rattle.rx_cli.proofs.StraightLaws.{proved_agrees}
+use Rattle.rx_cli.proofs.Proved.{proved_agrees}
 
 -- bytes that stand under a name were given under it
 pub given_under : (held : Option Names) (name bytes : List ℕ) → HoldsBytes held name bytes → IsHeld held name (Some bytes)
@@ -72,11 +72,6 @@ pub checks_later : (held told : Option Names) (a b c : ℕ) (f : Functions) (sou
     → ChecksNamed held (Rose a c) f source name verdict
 checks_later held told a b c f source name verdict same below (inl (given, is_held, checked)) = inl (given, subst (λ h. IsHeld h name given) same is_held, checked)
 checks_later held told a b c f source name verdict same below (inr (rose, is)) = inr (rose_later a b c below rose, is)
-
--- what holds of a value if two things do
-pub both_hold : {A E : Type 0} (P Q R : A → Type 0) (r : Result A E) → ((x : A) → P x → Q x → R x) → IfOk r P → IfOk r Q → IfOk r R
-both_hold P Q R (Ok x) join p q = join x p q
-both_hold P Q R (Err e) join p q = tt
 
 -- words that ask for nothing are told the usage
 pub answers_usage : (held : Option Names) (fault : Type 0) (asked_for : Option Command) → None ≡ asked_for → IsAnswered held fault asked_for (Line Said.Usage)
@@ -135,12 +130,12 @@ module _ (held : Option Names) (fault : Type 0) (f : Functions) (source lent : L
       })
   answers_checked name verdict (inr (failed, is)) = inr (refl, failed, ap Line is)
 
-  pub answers_proved : (effort : Effort) (answer : Answer) → IsProved f effort lent answer → IfProof (Agrees lent f) answer → IsAnswered held fault (Some (Prove f effort)) answer
-  answers_proved effort answer proved right =
+  pub answers_proved : (effort : Effort) (answer : Answer) → IsProved f effort lent answer → IsAnswered held fault (Some (Prove f effort)) answer
+  answers_proved effort answer proved =
       let said : OnSource (Prove f effort) (Some source) None answer = rw (le-ltb longest_source (length source) fits) (subst (λ text. IsProved f effort text answer) same proved) in
       inl (record {
         given = record { source = Some source; log = None };
         is_given = (given_under held f.file source holds, tt);
         is = said;
-        right = λ says. (source, refl, subst (λ text. Agrees text f) same (proved_agrees f effort lent answer proved right says));
+        right = λ says. (source, refl, subst (λ text. Agrees text f) same (proved_agrees f lent answer says effort proved));
       })

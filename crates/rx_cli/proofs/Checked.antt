@@ -65,7 +65,7 @@ module _ (verdict : Verdict) (says : status_of verdict ≡ Ends.Equivalent) wher
   read_accepted question (Some bytes) on = by_length question bytes (nat_lt longest_log (length bytes)) on
 
   -- no text alone is a says
-  never_asked : (f : Functions) (source : List ℕ) → asked f source (Ends verdict) → ⊥
+  pub never_asked : (f : Functions) (source : List ℕ) → asked f source (Ends verdict) → ⊥
   never_asked f source (inl (refusal, refused, is)) =
       let no : Ends.Refused ≡ Ends.Equivalent = sym (status_refused refusal) ∙ status_is (verdict_of refusal) is in cc
   never_asked f source (inr (compared, front, inl (beyond, is))) = let no : Ends.Large ≡ Ends.Equivalent = status_is Said.LargeTranslate is in cc

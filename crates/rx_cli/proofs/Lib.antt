@@ -1,14 +1,13 @@
 pub mod AnswerLemmas
+pub mod Asked
 pub mod Checked
 pub mod Equals
 pub mod LogFaults
-pub mod LogLemmas
 pub mod MemoryLemmas
 pub mod OneReport
 pub mod Plain
+pub mod Proved
 pub mod Ready
 pub mod RunLemmas
-pub mod Short
 pub mod Sound
-pub mod StraightLaws
-pub mod TermLaws
+pub mod Written

@@ -30,7 +30,9 @@ never_cut_check End.NoMemory e = cc
 -- no report has it
 never_cut_line : (verdict : Verdict) → status_of verdict ≡ Ends.WriteFault → ⊥
 never_cut_line Said.Equivalent e = cc
+never_cut_line Said.NoRanks e = cc
 never_cut_line (Said.Depth depth) e = cc
+never_cut_line (Said.Visits visits) e = cc
 never_cut_line Said.LongSource e = cc
 never_cut_line Said.LongLog e = cc
 never_cut_line (Said.Lex fault) e = cc
@@ -41,17 +43,17 @@ never_cut_line (Said.Arity first second) e = cc
 never_cut_line (Said.PreLex fault) e = cc
 never_cut_line (Said.PreParse end) e = cc
 never_cut_line (Said.PreName token) e = cc
-never_cut_line Said.NotStraight e = cc
 never_cut_line (Said.Line number) e = cc
 never_cut_line (Said.Check end) e = never_cut_check end e
 never_cut_line Said.Usage e = cc
 never_cut_line Said.ReadFault e = cc
 never_cut_line Said.LargeTranslate e = cc
 never_cut_line Said.LargePre e = cc
+never_cut_line Said.LargeSearch e = cc
 
 never_cut : (answer : Answer) → status_in answer ≡ Ends.WriteFault → ⊥
 never_cut (Line verdict) e = never_cut_line verdict e
-never_cut (Proof order) e = cc
+never_cut (Proof text) e = cc
 
 -- a read fault of a source that was read says that the log isn't held
 module _ (names : Names) (answer : Answer) (e : status_in answer ≡ Ends.ReadFault) where

@@ -1,8 +1,6 @@
--- Words have one report over files whose contents are told and that find no fault.
-use Rattle.std.proofs.Common.{◌≡◌, ◌∙◌, ℕ, Bool, true, false, List, length, nat_lt, Option, Some, None, inl, inr, refl, sym, ap, subst}
+-- Words have one report, but for what shows the steps of a proof, over files whose contents are told and that find no fault.
+use Rattle.std.proofs.Common.{◌≡◌, ◌∙◌, ◌⊎◌, ℕ, Bool, true, false, List, length, nat_lt, Option, Some, None, inl, inr, refl, sym, ap, subst}
 use Rattle.std.specs.Prelude.{MatchBool}
-use Rattle.c_ast.specs.declared.expr.Expr.{Expr}
-use Rattle.c_front.specs.declared.pairs.Compared.{Compared}
 use Rattle.c_front.specs.declared.refusals.Refusal.{Refusal}
 use Rattle.c_front.specs.declared.refusals.Refusal.TheVariants as Why
 use Rattle.c_front.specs.declared.stages.Next.TheVariants.{Ends, Goes}
@@ -20,31 +18,30 @@ use Rattle.rx_command.specs.declared.command.Effort.{Effort}
 use Rattle.rx_io.specs.Outside.{Names}
 use Rattle.rx_log.specs.declared.log.Log.{Log}
 use Rattle.rx_logtext.proofs.OneReading.{never_both, one_bad_line, one_log}
+use Rattle.rx_search.specs.Search.{Searched, NoRanks, Closed, Large, Spent, NoPlan, searched}
+use Rattle.rx_settle.specs.Moves.{Move}
 use Rattle.rx_term.specs.WellMade.{IsWellMade}
 use Rattle.rx_cli.specs.declared.answers.Answer.{Answer}
-use Rattle.rx_cli.specs.declared.answers.Answer.TheVariants.{Line, Proof}
+use Rattle.rx_cli.specs.declared.answers.Answer.TheVariants.{Line}
 use Rattle.rx_cli.specs.declared.ends.Status.{Status}
+use Rattle.rx_cli.specs.declared.ends.Status.TheVariants as Ends
 use Rattle.rx_cli.specs.declared.questions.Question.{Question}
-use Rattle.rx_cli.specs.declared.straight.TwoTerms.{TwoTerms}
 use Rattle.rx_cli.specs.declared.verdicts.Verdict.{Verdict}
 use Rattle.rx_cli.specs.declared.verdicts.Verdict.TheVariants as Said
-use Rattle.rx_cli.specs.Answers.{IsAnswerTo, IsDone, OnSource, longest_source, status_in, text_in}
+use Rattle.rx_cli.specs.Answers.{IsAnswerTo, IsDone, OnSource, functions_in, longest_source, status_in, text_in}
 use Rattle.rx_cli.specs.Checks.{IsChecked, OnLog, OnRead, OnText, longest_log}
 use Rattle.rx_cli.specs.Ends.{status_of}
 use Rattle.rx_cli.specs.Questions.{asked, front_stage, question_stage, rows_of}
 use Rattle.rx_cli.specs.Run.{Reports}
-use Rattle.rx_cli.specs.Straight.{IsProved, OnForms, OnTerms, terms_of, terms_within}
+use Rattle.rx_cli.specs.Proofs.{AreOne, AreProofs, IsProofText, IsProved, OnQuestion, OnSearched}
 use Rattle.rx_cli.specs.Texts.{text_of}
 use Rattle.rx_cli.specs.Verdicts.{of_log_verdict, verdict_of}
 use Rattle.rx_cli.proofs.Checked.{status_refused}
 use Rattle.rx_cli.proofs.Ready.{ready}
 
--- two verdicts, and two answers, are reported alike
+-- two verdicts are reported alike
 abbrev pub SameLine : Verdict → Verdict → Type 0
 SameLine v w = (status_of v ≡ status_of w) × (text_of v ≡ text_of w)
-
-abbrev pub AreAlike : Answer → Answer → Type 0
-AreAlike a b = (status_in a ≡ status_in b) × (text_in a ≡ text_in b)
 
 same_line : (v w : Verdict) → v ≡ w → SameLine v w
 same_line v w is = (ap status_of is, ap text_of is)
@@ -56,14 +53,20 @@ line_of v w x y v_is w_is same = (ap status_of v_is ∙ (same.0 ∙ sym (ap stat
 equal_lines : (v w x : Verdict) → v ≡ x → w ≡ x → SameLine v w
 equal_lines v w x v_is w_is = same_line v w (v_is ∙ sym w_is)
 
-alike : (a b : Answer) → a ≡ b → AreAlike a b
-alike a b same = (ap status_in same, ap text_in same)
+-- two answers have one status, and one text but for proofs of which this holds
+abbrev AreAlike : Type 0 → Answer → Answer → Type 0
+AreAlike Twice a b = (status_in a ≡ status_in b) × ((text_in a ≡ text_in b) ⊎ ((status_in a ≡ Ends.Equivalent) × Twice))
 
-equal_answers : (a b c : Answer) → a ≡ c → b ≡ c → AreAlike a b
-equal_answers a b c a_is b_is = alike a b (a_is ∙ sym b_is)
+alike_if : (P Q : Type 0) (a b : Answer) → (P → Q) → AreAlike P a b → AreAlike Q a b
+alike_if P Q a b then_so (same, inl is) = (same, inl is)
+alike_if P Q a b then_so (same, inr (equivalent, p)) = (same, inr (equivalent, then_so p))
 
-alike_lines : (a b : Answer) (v w : Verdict) → a ≡ Line v → b ≡ Line w → SameLine v w → AreAlike a b
-alike_lines a b v w a_is b_is same = (ap status_in a_is ∙ (same.0 ∙ sym (ap status_in b_is)), ap text_in a_is ∙ (same.1 ∙ sym (ap text_in b_is)))
+equal_answers : (P : Type 0) (a b c : Answer) → a ≡ c → b ≡ c → AreAlike P a b
+equal_answers P a b c a_is b_is = (ap status_in a_is ∙ sym (ap status_in b_is), inl (ap text_in a_is ∙ sym (ap text_in b_is)))
+
+alike_lines : (P : Type 0) (a b : Answer) (v w : Verdict) → a ≡ Line v → b ≡ Line w → SameLine v w → AreAlike P a b
+alike_lines P a b v w a_is b_is same =
+    (ap status_in a_is ∙ (same.0 ∙ sym (ap status_in b_is)), inl (ap text_in a_is ∙ (same.1 ∙ sym (ap text_in b_is))))
 
 -- ---- stages
 
@@ -141,74 +144,140 @@ one_checked f source log v w (inr (q, p, on)) (inr (r, too, other)) =
     let same : q ≡ r = one_asked f source (Goes q) (Goes r) p too in
     one_on_read r (question_made f source r too) v w log (subst (λ (z : Question). OnRead z log v) same on) other
 
--- ---- straight functions
+-- ---- proofs
 
-module _ (depth : ℕ) (terms : TwoTerms) (a b : Answer) where
-  one_forms : OnForms depth terms a → OnForms depth terms b → AreAlike a b
-  one_forms (inl (same, a_is)) (inl (again, b_is)) = equal_answers a b (Proof terms.order) a_is b_is
-  one_forms (inl (same, a_is)) (inr (differ, b_is)) = absurd (differ same)
-  one_forms (inr (differ, a_is)) (inl (same, b_is)) = absurd (differ same)
-  one_forms (inr (differ, a_is)) (inr (again, b_is)) = equal_answers a b (Line (Said.Depth depth)) a_is b_is
+-- both texts are those of logs with the same moves, accepted for the question that two functions of a text are
+record AreFound (f : Functions) (effort : Effort) (source t v : List ℕ) : Type 0 where
+  pub question : Question
+  pub moves : List Move
+  pub is_asked : asked f source (Goes question)
+  pub is_closed : searched question.rules question.goal effort.depth effort.budget ≡ Closed moves
+  pub first : IsProofText question moves t
+  pub second : IsProofText question moves v
 
-  one_rows : (rows : Bool) → MatchBool rows (OnForms depth terms a) (a ≡ Line Said.LargePre) → MatchBool rows (OnForms depth terms b) (b ≡ Line Said.LargePre) → AreAlike a b
-  one_rows true p q = one_forms p q
-  one_rows false a_is b_is = equal_answers a b (Line Said.LargePre) a_is b_is
+module _ (f : Functions) (effort : Effort) (source : List ℕ) (a b : Answer) where
+  abbrev Found : Type 0
+  Found = AreFound f effort source (text_in a) (text_in b)
 
-  one_term : (within rows : Bool) → MatchBool within (MatchBool rows (OnForms depth terms a) (a ≡ Line Said.LargePre)) (a ≡ Line Said.LargeTranslate)
-      → MatchBool within (MatchBool rows (OnForms depth terms b) (b ≡ Line Said.LargePre)) (b ≡ Line Said.LargeTranslate) → AreAlike a b
-  one_term true rows p q = one_rows rows p q
-  one_term false rows a_is b_is = equal_answers a b (Line Said.LargeTranslate) a_is b_is
+  module _ (question : Question) (found : asked f source (Goes question)) where
+    one_searched : (s : Searched) → searched question.rules question.goal effort.depth effort.budget ≡ s → OnSearched question effort s a → OnSearched question effort s b → AreAlike Found a b
+    one_searched NoRanks comes a_is b_is = equal_answers Found a b (Line Said.NoRanks) a_is b_is
+    one_searched (Closed moves) comes (t, p, a_is) (v, q, b_is) = (
+      ap status_in a_is ∙ sym (ap status_in b_is),
+      inr (
+        ap status_in a_is,
+        record {
+          question = question;
+          moves = moves;
+          is_asked = found;
+          is_closed = comes;
+          first = subst (IsProofText question moves) (sym (ap text_in a_is)) p;
+          second = subst (IsProofText question moves) (sym (ap text_in b_is)) q;
+        },
+      ),
+    )
+    one_searched (Large path rows) comes a_is b_is = equal_answers Found a b (Line Said.LargeSearch) a_is b_is
+    one_searched Spent comes a_is b_is = equal_answers Found a b (Line (Said.Visits effort.budget)) a_is b_is
+    one_searched NoPlan comes a_is b_is = equal_answers Found a b (Line (Said.Depth effort.depth)) a_is b_is
 
-one_terms : (pre : Option Expr) (depth : ℕ) (o : Option TwoTerms) (a b : Answer) → OnTerms pre depth o a → OnTerms pre depth o b → AreAlike a b
-one_terms pre depth None a b a_is b_is = equal_answers a b (Line Said.NotStraight) a_is b_is
-one_terms pre depth (Some terms) a b p q = one_term depth terms a b (terms_within terms) (rows_of pre).within p q
-
-one_proved : (f : Functions) (effort : Effort) (source : List ℕ) (a b : Answer) → IsProved f effort source a → IsProved f effort source b → AreAlike a b
-one_proved f effort source a b (inl (v, p, a_is)) (inl (w, q, b_is)) = alike_lines a b v w a_is b_is (one_front_stage f source (Ends v) (Ends w) p q)
-one_proved f effort source a b (inl (v, p, a_is)) (inr (c, q, on)) = absurd (one_front_stage f source (Ends v) (Goes c) p q)
-one_proved f effort source a b (inr (c, q, on)) (inl (w, p, b_is)) = absurd (one_front_stage f source (Goes c) (Ends w) q p)
-one_proved f effort source a b (inr (c, p, on)) (inr (d, q, too)) =
-    let same : c ≡ d = one_front_stage f source (Goes c) (Goes d) p q in
-    one_terms d.precondition effort.depth (terms_of d.two) a b (subst (λ (z : Compared). OnTerms z.precondition effort.depth (terms_of z.two) a) same on) too
+  one_proved : IsProved f effort source a → IsProved f effort source b → AreAlike Found a b
+  one_proved (inl (v, p, a_is)) (inl (w, q, b_is)) = alike_lines Found a b v w a_is b_is (one_asked f source (Ends v) (Ends w) p q)
+  one_proved (inl (v, p, a_is)) (inr (r, q, on)) = absurd (one_asked f source (Ends v) (Goes r) p q)
+  one_proved (inr (r, q, on)) (inl (w, p, b_is)) = absurd (one_asked f source (Goes r) (Ends w) q p)
+  one_proved (inr (q, p, on)) (inr (r, too, other)) =
+      let same : q ≡ r = one_asked f source (Goes q) (Goes r) p too in
+      one_searched r too (searched r.rules r.goal effort.depth effort.budget) refl (subst (λ (z : Question). OnQuestion z effort a) same on) other
 
 -- ---- answers
 
+-- two texts are those of proofs that a command is answered by
+abbrev AreProofsOf : Command → List ℕ → List ℕ → List ℕ → Type 0
+AreProofsOf (Prove f effort) source t v = AreFound f effort source t v
+AreProofsOf (Check f name) source t v = ⊥
+
+-- the same of what was read in the place of the source
+abbrev AreProofsOn : Command → Option (List ℕ) → List ℕ → List ℕ → Type 0
+AreProofsOn command given t v = (source : List ℕ) × (given ≡ Some source) × AreProofsOf command source t v
+
+-- the same of what is held
+abbrev AreProofsIn : Names → Option Command → List ℕ → List ℕ → Type 0
+AreProofsIn names o t v = (command : Command) × (o ≡ Some command) × AreProofsOn command (names (functions_in command).file) t v
+
 module _ (a b : Answer) where
-  one_done : (command : Command) (source : List ℕ) (log : Option (List ℕ)) → IsDone command source log a → IsDone command source log b → AreAlike a b
+  one_done : (command : Command) (source : List ℕ) (log : Option (List ℕ)) → IsDone command source log a → IsDone command source log b → AreAlike (AreProofsOf command source (text_in a) (text_in b)) a b
   one_done (Prove f effort) source log p q = one_proved f effort source a b p q
-  one_done (Check f name) source log (v, p, a_is) (w, q, b_is) = alike_lines a b v w a_is b_is (one_checked f source log v w p q)
+  one_done (Check f name) source log (v, p, a_is) (w, q, b_is) = alike_lines ⊥ a b v w a_is b_is (one_checked f source log v w p q)
 
   one_by_size : (command : Command) (source : List ℕ) (log : Option (List ℕ)) (long : Bool) → MatchBool long (a ≡ Line Said.LongSource) (IsDone command source log a)
-      → MatchBool long (b ≡ Line Said.LongSource) (IsDone command source log b) → AreAlike a b
-  one_by_size command source log true a_is b_is = equal_answers a b (Line Said.LongSource) a_is b_is
-  one_by_size command source log false p q = one_done command source log p q
+      → MatchBool long (b ≡ Line Said.LongSource) (IsDone command source log b) → AreAlike (AreProofsOn command (Some source) (text_in a) (text_in b)) a b
+  one_by_size command source log true a_is b_is = equal_answers (AreProofsOn command (Some source) (text_in a) (text_in b)) a b (Line Said.LongSource) a_is b_is
+  one_by_size command source log false p q =
+      alike_if (AreProofsOf command source (text_in a) (text_in b)) (AreProofsOn command (Some source) (text_in a) (text_in b)) a b (λ proofs. (source, refl, proofs)) (one_done command source log p q)
 
-  one_on_source : (command : Command) (source log : Option (List ℕ)) → OnSource command source log a → OnSource command source log b → AreAlike a b
-  one_on_source command None log a_is b_is = equal_answers a b (Line Said.ReadFault) a_is b_is
+  one_on_source : (command : Command) (source log : Option (List ℕ)) → OnSource command source log a → OnSource command source log b → AreAlike (AreProofsOn command source (text_in a) (text_in b)) a b
+  one_on_source command None log a_is b_is = equal_answers (AreProofsOn command None (text_in a) (text_in b)) a b (Line Said.ReadFault) a_is b_is
   one_on_source command (Some source) log p q = one_by_size command source log (nat_lt longest_source (length source)) p q
 
   -- what is read for a command is what the names hold
-  one_answer : (names : Names) (o : Option Command) → IsAnswerTo (Some names) o a → IsAnswerTo (Some names) o b → AreAlike a b
-  one_answer names None p q = equal_answers a b (Line Said.Usage) p.is q.is
-  one_answer names (Some (Prove f effort)) p q =
-      let sources : p.given.source ≡ q.given.source = p.is_given.0 ∙ sym q.is_given.0 in
-      one_on_source (Prove f effort) q.given.source q.given.log (by_prove f effort p.given.source q.given.source p.given.log q.given.log sources p.is) q.is
-    where
-      by_prove : (f : Functions) (effort : Effort) (s t l m : Option (List ℕ)) → s ≡ t → OnSource (Prove f effort) s l a → OnSource (Prove f effort) t m a
-      by_prove f effort None None l m same is = is
-      by_prove f effort None (Some t) l m same is = let no : ⊥ = cc in absurd no
-      by_prove f effort (Some s) None l m same is = let no : ⊥ = cc in absurd no
-      by_prove f effort (Some s) (Some t) l m same is = subst (λ (z : Option (List ℕ)). OnSource (Prove f effort) z m a) same is
-  one_answer names (Some (Check f name)) p q =
-      let sources : p.given.source ≡ q.given.source = p.is_given.0 ∙ sym q.is_given.0 in
-      let logs : p.given.log ≡ q.given.log = p.is_given.1 ∙ sym q.is_given.1 in
-      one_on_source (Check f name) q.given.source q.given.log
-      (subst (λ l. OnSource (Check f name) q.given.source l a) logs (subst (λ s. OnSource (Check f name) s p.given.log a) sources p.is)) q.is
+  module _ (names : Names) where
+    one_held : (command : Command) (source log : Option (List ℕ)) → source ≡ names (functions_in command).file → OnSource command source log a → OnSource command source log b
+        → AreAlike (AreProofsIn names (Some command) (text_in a) (text_in b)) a b
+    one_held command source log held p q =
+        alike_if (AreProofsOn command source (text_in a) (text_in b)) (AreProofsIn names (Some command) (text_in a) (text_in b)) a b
+        (λ proofs. (command, refl, subst (λ s. AreProofsOn command s (text_in a) (text_in b)) held proofs)) (one_on_source command source log p q)
 
--- two reports of the words are one
-pub one_for_words : (names : Names) (words : List (List ℕ)) (s u : Status) (t v : List ℕ) → Reports (Some names) ⊥ words s t → Reports (Some names) ⊥ words u v → (s ≡ u) × (t ≡ v)
-one_for_words names words s u t v (a, inl p, (is_s, is_t)) (b, inl q, (is_u, is_v)) =
-    let both = one_answer a b names (command_of words) p q in
-    (is_s ∙ (both.0 ∙ sym is_u), is_t ∙ (both.1 ∙ sym is_v))
-one_for_words names words s u t v (a, inl p, (is_s, is_t)) (b, inr (some, fault, line), (is_u, is_v)) = absurd fault
-one_for_words names words s u t v (a, inr (some, fault, line), (is_s, is_t)) (b, q, (is_u, is_v)) = absurd fault
+    one_answer : (o : Option Command) → IsAnswerTo (Some names) o a → IsAnswerTo (Some names) o b → AreAlike (AreProofsIn names o (text_in a) (text_in b)) a b
+    one_answer None p q = equal_answers (AreProofsIn names None (text_in a) (text_in b)) a b (Line Said.Usage) p.is q.is
+    one_answer (Some (Prove f effort)) p q =
+        let sources : p.given.source ≡ q.given.source = p.is_given.0 ∙ sym q.is_given.0 in
+        one_held (Prove f effort) q.given.source q.given.log q.is_given.0 (by_prove f effort p.given.source q.given.source p.given.log q.given.log sources p.is) q.is
+      where
+        by_prove : (f : Functions) (effort : Effort) (s t l m : Option (List ℕ)) → s ≡ t → OnSource (Prove f effort) s l a → OnSource (Prove f effort) t m a
+        by_prove f effort None None l m same is = is
+        by_prove f effort None (Some t) l m same is = let no : ⊥ = cc in absurd no
+        by_prove f effort (Some s) None l m same is = let no : ⊥ = cc in absurd no
+        by_prove f effort (Some s) (Some t) l m same is = subst (λ (z : Option (List ℕ)). OnSource (Prove f effort) z m a) same is
+    one_answer (Some (Check f name)) p q =
+        let sources : p.given.source ≡ q.given.source = p.is_given.0 ∙ sym q.is_given.0 in
+        let logs : p.given.log ≡ q.given.log = p.is_given.1 ∙ sym q.is_given.1 in
+        one_held (Check f name) q.given.source q.given.log q.is_given.0
+        (subst (λ l. OnSource (Check f name) q.given.source l a) logs (subst (λ s. OnSource (Check f name) s p.given.log a) sources p.is)) q.is
+
+-- ---- reports
+
+-- so the words ask for a proof
+asks_proof : (names : Names) (words : List (List ℕ)) (t v : List ℕ) → AreProofsIn names (command_of words) t v → AreProofs names words t v
+asks_proof names words t v (Prove f effort, asks, (source, held, found)) = record {
+  functions = f;
+  effort = effort;
+  source = source;
+  question = found.question;
+  moves = found.moves;
+  asks = asks;
+  held = held;
+  is_asked = found.is_asked;
+  is_closed = found.is_closed;
+  first = found.first;
+  second = found.second;
+}
+asks_proof names words t v (Check f name, asks, (source, held, never)) = absurd never
+
+module _ (names : Names) (words : List (List ℕ)) (s u : Status) (t v : List ℕ) where
+  one_text : (a b : Answer) → s ≡ status_in a → t ≡ text_in a → v ≡ text_in b → AreAlike (AreProofsIn names (command_of words) (text_in a) (text_in b)) a b → AreOne names words s t v
+  one_text a b is_s is_t is_v (same, inl is) = inl (is_t ∙ (is ∙ sym is_v))
+  one_text a b is_s is_t is_v (same, inr (equivalent, proofs)) =
+      inr (is_s ∙ equivalent, asks_proof names words t v (subst (λ z. AreProofsIn names (command_of words) t z) (sym is_v) (subst (λ z. AreProofsIn names (command_of words) z (text_in b)) (sym is_t) proofs)))
+
+  one_report : Reports (Some names) ⊥ words s t → Reports (Some names) ⊥ words u v → (s ≡ u) × AreOne names words s t v
+  one_report (a, inl p, (is_s, is_t)) (b, inl q, (is_u, is_v)) =
+      let both = one_answer a b names (command_of words) p q in
+      (is_s ∙ (both.0 ∙ sym is_u), one_text a b is_s is_t is_v both)
+  one_report (a, inl p, (is_s, is_t)) (b, inr (some, fault, line), (is_u, is_v)) = absurd fault
+  one_report (a, inr (some, fault, line), (is_s, is_t)) (b, q, (is_u, is_v)) = absurd fault
+
+-- two reports of the words have one status, and one text but for proofs
+pub one_status : (names : Names) (words : List (List ℕ)) (s u : Status) (t v : List ℕ) → Reports (Some names) ⊥ words s t → Reports (Some names) ⊥ words u v → s ≡ u
+one_status names words s u t v p q = (one_report names words s u t v p q).0
+
+pub one_for_words : (names : Names) (words : List (List ℕ)) (s u : Status) (t v : List ℕ) → Reports (Some names) ⊥ words s t → Reports (Some names) ⊥ words u v → AreOne names words s t v
+one_for_words names words s u t v p q = (one_report names words s u t v p q).1

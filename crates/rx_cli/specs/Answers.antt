@@ -11,8 +11,7 @@ use Rattle.rx_cli.specs.declared.verdicts.Verdict.TheVariants as Said
 use Rattle.rx_cli.specs.Agreement.{Agrees}
 use Rattle.rx_cli.specs.Checks.{IsChecked}
 use Rattle.rx_cli.specs.Ends.{status_of}
-use Rattle.rx_cli.specs.ProofText.{proof_text_of}
-use Rattle.rx_cli.specs.Straight.{IsProved}
+use Rattle.rx_cli.specs.Proofs.{IsProved}
 use Rattle.rx_cli.specs.Texts.{HasLine, text_of}
 
 -- the most bytes of a source
@@ -24,21 +23,20 @@ longest_source = 1048576
 -- the status and the text of an answer
 abbrev pub status_in : Answer → Status
 status_in (Line verdict) = status_of verdict
-status_in (Proof order) = Ends.Equivalent
+status_in (Proof text) = Ends.Equivalent
 
 abbrev pub text_in : Answer → List ℕ
 text_in (Line verdict) = text_of verdict
-text_in (Proof order) = proof_text_of order
+text_in (Proof text) = text
 
--- how an answer is reported: a relation, since the logs of later proofs hold certificates that nothing
--- fixes
+-- how an answer is reported
 abbrev pub IsReport : Answer → Status → List ℕ → Type 0
 IsReport answer status text = (status ≡ status_in answer) × (text ≡ text_in answer)
 
 -- it has a text
 abbrev pub IsReportable : Answer → Type 0
 IsReportable (Line verdict) = HasLine verdict
-IsReportable (Proof order) = ⊤
+IsReportable (Proof text) = ⊤
 
 -- ---- what was read
 

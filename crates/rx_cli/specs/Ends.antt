@@ -26,7 +26,9 @@ check_status end = Ends.Refused
 -- how a run ends that reports this
 abbrev pub status_of : Verdict → Status
 status_of Said.Equivalent = Ends.Equivalent
+status_of Said.NoRanks = Ends.Unknown
 status_of (Said.Depth depth) = Ends.Unknown
+status_of (Said.Visits visits) = Ends.Unknown
 status_of Said.LongSource = Ends.Refused
 status_of Said.LongLog = Ends.Refused
 status_of (Said.Lex fault) = Ends.Refused
@@ -37,10 +39,10 @@ status_of (Said.Arity first second) = Ends.Refused
 status_of (Said.PreLex fault) = Ends.Refused
 status_of (Said.PreParse end) = Ends.Refused
 status_of (Said.PreName token) = Ends.Refused
-status_of Said.NotStraight = Ends.Refused
 status_of (Said.Line number) = Ends.Refused
 status_of (Said.Check end) = check_status end
 status_of Said.Usage = Ends.Usage
 status_of Said.ReadFault = Ends.ReadFault
 status_of Said.LargeTranslate = Ends.Large
 status_of Said.LargePre = Ends.Large
+status_of Said.LargeSearch = Ends.Large

@@ -3,11 +3,9 @@ pub mod Answers
 pub mod Checks
 pub mod Ends
 pub mod InMemory
-pub mod ProofText
+pub mod Proofs
 pub mod Questions
 pub mod Run
 pub mod Steps
-pub mod Straight
-pub mod Terms
 pub mod Texts
 pub mod Verdicts

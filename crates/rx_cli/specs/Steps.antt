@@ -1,6 +1,6 @@
 -- What the functions inside promise to one another. Nothing that a caller of the run reads stands on
 -- these.
-use Rattle.std.specs.Prelude.{◌≡◌, ◌<◌, ◌≤◌, ◌^◌, ◌⊎◌, length, true, false, ⊤, ℕ, ℤ, List, Option, Some, None, Vec, slice_get}
+use Rattle.std.specs.Prelude.{◌≡◌, ◌<◌, ◌≤◌, ◌^◌, ◌⊎◌, length, true, false, ⊤, ℕ, List, Option, Some, None, Vec, slice_get}
 use Rattle.c_ast.specs.declared.expr.Expr.{Expr}
 use Rattle.c_ast.specs.RowForms.{is_row_form}
 use Rattle.c_ast.specs.Scoped.{is_scoped, parameter_counts}
@@ -10,21 +10,16 @@ use Rattle.c_front.specs.declared.stages.Next.TheVariants.{Ends, Goes}
 use Rattle.c_front.specs.Front.{count_in}
 use Rattle.rx_code.specs.Translation.{IsBeyond, IsTranslation}
 use Rattle.rx_io.specs.Outside.{HoldsBytes, HoldsMore, IsMissing, Names}
-use Rattle.rx_command.specs.Commands.{Functions}
+use Rattle.rx_command.specs.Commands.{Check, Command, Functions, Prove}
 use Rattle.rx_translate.specs.declared.translation.Translation.{Translation}
 use Rattle.rx_plain.specs.Formed.{Formed}
-use Rattle.rx_poly.specs.Norm.{norm_of, term_value}
-use Rattle.rx_poly.specs.Value.{value}
+use Rattle.rx_search.specs.declared.search_end.SearchEnd.{SearchEnd}
+use Rattle.rx_search.specs.declared.search_end.SearchEnd.TheVariants as search_end
 use Rattle.std.specs.declared.alloc.Global.{Global}
-use Rattle.rx_cli.specs.declared.answers.Answer.{Answer}
-use Rattle.rx_cli.specs.declared.answers.Answer.TheVariants.{Line, Proof}
-use Rattle.rx_cli.specs.declared.straight.TwoForms.{TwoForms}
-use Rattle.rx_cli.specs.declared.straight.TwoTerms.{TwoTerms}
 use Rattle.rx_cli.specs.declared.verdicts.Verdict.{Verdict}
 use Rattle.rx_cli.specs.declared.verdicts.Verdict.TheVariants as Said
 use Rattle.rx_cli.specs.Answers.{IsHeld}
 use Rattle.rx_cli.specs.Checks.{IsChecked}
-use Rattle.rx_cli.specs.Straight.{terms_within}
 use Rattle.rx_cli.specs.Texts.{HasLine}
 
 -- a precondition, where there is one, is a row form
@@ -61,30 +56,20 @@ Translates compared (Some t) =
 Translates compared None =
     IsBeyond compared.two.program compared.two.first compared.two.second
 
--- ---- straight functions
+-- ---- the search
 
--- the normal forms of two terms
-pub record AreForms (terms : TwoTerms) (forms : TwoForms) : Type 0 where
-  pub left : forms.left ≡ norm_of terms.left
-  pub right : forms.right ≡ norm_of terms.right
-  pub left_value : (a : ℕ → ℤ) → value a forms.left ≡ term_value a terms.left
-  pub right_value : (a : ℕ → ℤ) → value a forms.right ≡ term_value a terms.right
+-- a search that is asked for has at most 12 choices on a path
+abbrev pub IsNotDeep : Command → Type 0
+IsNotDeep (Prove f effort) = effort.depth ≤ 12
+IsNotDeep (Check f log) = ⊤
 
--- they are formed, where they keep the limits; none exactly where they don't
-abbrev pub FormsTwo : TwoTerms → Option TwoForms → Type 0
-FormsTwo terms (Some forms) = AreForms terms forms × (terms_within terms ≡ true)
-FormsTwo terms None = terms_within terms ≡ false
-
--- where a proof is answered, both terms have one value
-abbrev pub HaveOneValue : Option TwoTerms → Answer → Type 0
-HaveOneValue (Some terms) (Proof order) =
-    (a : ℕ → ℤ) → term_value a terms.left ≡ term_value a terms.right
-HaveOneValue terms answer = ⊤
-
--- where a proof is answered, this holds
-abbrev pub IfProof : Type 0 → Answer → Type 0
-IfProof Right (Proof order) = Right
-IfProof Right (Line verdict) = ⊤
+-- the verdict that names how a search ended without a log; out of memory has none
+abbrev pub SaysEnd : SearchEnd → Verdict → Type 0
+SaysEnd search_end.NoRanks verdict = verdict ≡ Said.NoRanks
+SaysEnd (search_end.NoPlan depth) verdict = verdict ≡ Said.Depth depth
+SaysEnd (search_end.Spent visits) verdict = verdict ≡ Said.Visits visits
+SaysEnd (search_end.Large path rows) verdict = verdict ≡ Said.LargeSearch
+SaysEnd search_end.NoMemory verdict = ⊥
 
 -- ---- reading
 

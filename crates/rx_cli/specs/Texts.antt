@@ -120,7 +120,9 @@ usage_line = codes "usage: ctrl MODE FILE [F] [G] [LOG] [--pre E] [--depth N] [-
 -- the line of a verdict
 abbrev pub text_of : Verdict → List ℕ
 text_of Said.Equivalent = codes "EQUIVALENT\n"
+text_of Said.NoRanks = codes "UNKNOWN ranks\n"
 text_of (Said.Depth depth) = numbered_line (codes "UNKNOWN depth ") depth
+text_of (Said.Visits visits) = numbered_line (codes "UNKNOWN visits ") visits
 text_of Said.LongSource = codes "REFUSED long source\n"
 text_of Said.LongLog = codes "REFUSED long log\n"
 text_of (Said.Lex fault) = lex_line fault
@@ -131,13 +133,13 @@ text_of (Said.Arity first second) = arity_line first second
 text_of (Said.PreLex fault) = pre_lex_line fault
 text_of (Said.PreParse end) = pre_parse_line end
 text_of (Said.PreName token) = place_line (codes "pre unknown-name") token
-text_of Said.NotStraight = codes "REFUSED not-straight\n"
 text_of (Said.Line number) = numbered_line (codes "REFUSED line ") number
 text_of (Said.Check end) = check_line end
 text_of Said.Usage = usage_line
 text_of Said.ReadFault = codes "READ FAULT\n"
 text_of Said.LargeTranslate = codes "LARGE translate\n"
 text_of Said.LargePre = codes "LARGE pre\n"
+text_of Said.LargeSearch = codes "LARGE search\n"
 
 -- an end of a replay that has a line: it isn't out of memory, and a step that passes the limits isn't a
 -- step that doesn't apply

@@ -4,26 +4,26 @@ ghost use Rattle.rx_command.specs.Commands as words_say;
 ghost use Rattle.rx_command.specs.Commands.{Check, Command, Prove, command_view, functions_view, is_short};
 ghost use Rattle.rx_io.specs.Outside.{Rose};
 ghost use Rattle.rx_cli.specs.Answers.{AreEqual, IsAnswered, IsReportable, functions_in, status_in, text_in};
-ghost use Rattle.rx_cli.specs.Steps.{ChecksNamed, HasLineNext, Reads, bytes_in};
+ghost use Rattle.rx_cli.specs.Steps.{ChecksNamed, HasLineNext, IsNotDeep, Reads, bytes_in};
 ghost use Rattle.rx_cli.specs.Texts.{HasLine};
 
 use crate::check::on_text;
-use crate::logs::proof_text;
+use crate::proving::prove;
 use crate::questions::ask;
-use crate::straight::{Order, prove};
 use crate::{NoMemory, Status, Verdict, report};
 use c_front::Next;
 use rx_command::{Command, Effort, Functions, command_of};
 use rx_io::{Files, ReadEnd, read_all};
+use rx_plain::Items;
 use std::alloc::Global;
 
 /// What a run answers.
-#[derive(Clone, Copy, Debug, PartialEq, Eq)]
+#[derive(Debug, Drop)]
 pub enum Answer {
     /// One line.
     Line(Verdict),
-    /// The log of a proof.
-    Proof(Order),
+    /// The text of the log of a proof.
+    Proof(Items<u8>),
 }
 
 impl Answer {
@@ -38,13 +38,13 @@ impl Answer {
     }
 
     /// The bytes that report it.
-    pub fn text(&self, alloc: Global) -> Result<Vec<u8>, NoMemory>
-        requires { IsReportable self.now }
-        ensures text { IfOk result (λ text. text.items ≡ text_in self.now) }
+    pub fn into_text(self, alloc: Global) -> Result<Vec<u8>, NoMemory>
+        requires { IsReportable self }
+        ensures text { IfOk result (λ text. text.items ≡ text_in self) }
     {
         match self {
-            Answer::Line(verdict) => report(alloc, verdict),
-            Answer::Proof(order) => proof_text(alloc, *order),
+            Answer::Line(verdict) => report(alloc, &verdict),
+            Answer::Proof(text) => Ok(text.into_vec()),
         }
     }
 }
@@ -143,7 +143,8 @@ fn judge_prove<F: Files>(
     effort: Effort,
     files: &mut F,
 ) -> Result<Answer, NoMemory>
-    requires { is_short (functions_view functions.now).precondition ≡ true }
+    requires pre { is_short (functions_view functions.now).precondition ≡ true }
+    requires depth { effort.depth ≤ 12 }
     ensures reach { F.reaches files.old files.new }
     ensures answer { IfOk result (IsAnswered (F.held files.old)
         (Rose (F.faults files.old) (F.faults files.new))
@@ -168,7 +169,8 @@ fn judge_command<F: Files>(
     command: &Command<'_>,
     files: &mut F,
 ) -> Result<Answer, NoMemory>
-    requires { is_short (functions_in (command_view command.now)).precondition ≡ true }
+    requires pre { is_short (functions_in (command_view command.now)).precondition ≡ true }
+    requires depth { IsNotDeep (command_view command.now) }
     ensures reach { F.reaches files.old files.new }
     ensures answer { IfOk result (IsAnswered (F.held files.old)
         (Rose (F.faults files.old) (F.faults files.new)) (Some (command_view command.now))) }

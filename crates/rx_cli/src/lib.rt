@@ -6,16 +6,15 @@ mod check;
 mod ends;
 mod in_memory;
 mod laws;
-mod logs;
+mod proving;
 mod questions;
 mod reports;
-mod straight;
 mod top;
 mod verdicts;
 
 pub use ends::Status;
 pub use in_memory::run_in_memory;
-pub use laws::words_have_one_report;
+pub use laws::{words_have_one_report, written_logs_are_accepted};
 pub use reports::report;
 pub use rx_plain::NoMemory;
 pub use top::run;

@@ -1,10 +1,12 @@
 //! From a text to the question whether the entries of two functions are equal by rules.
-ghost use Rattle.std.specs.Prelude.{◌≡◌, ◌<◌, ◌≤◌, ◌^◌, true, length, IfOk};
+ghost use Rattle.std.specs.Prelude.{◌≡◌, ◌<◌, ◌≤◌, ◌^◌, true, length, IfOk, IfSome};
 ghost use Rattle.c_front.specs.Front.{count_in};
 ghost use Rattle.c_front.specs.Stages.{IfGoes};
 ghost use Rattle.rx_command.specs.Commands as words;
 ghost use Rattle.rx_command.specs.Commands.{functions_view, is_short};
+ghost use Rattle.rx_coverable.specs.Coverable.{is_coverable};
 ghost use Rattle.rx_joins.specs.Goals.{IsFitting};
+ghost use Rattle.rx_term.specs.Paired.{IsPaired};
 ghost use Rattle.rx_cli.specs.Questions as spec;
 ghost use Rattle.rx_cli.specs.Questions.{asked, rows_of};
 ghost use Rattle.rx_cli.specs.Steps.{FormsSome, HasLineNext, HasRowForm, IsReady, Translates};
@@ -40,7 +42,7 @@ fn bytes_of(text: Option<&str>) -> Option<&[u8]>
 }
 
 /// The front end.
-pub fn front_stage(
+fn front_stage(
     alloc: Global,
     source: &[u8],
     functions: &Functions<'_>,
@@ -59,7 +61,7 @@ pub fn front_stage(
 }
 
 /// The rows of a precondition; None exactly where one passes the limits.
-pub fn rows(alloc: Global, pre: &Option<Expr>) -> Result<Option<Constraint>, NoMemory>
+fn rows(alloc: Global, pre: &Option<Expr>) -> Result<Option<Constraint>, NoMemory>
     requires { HasRowForm pre.now }
     ensures { IfOk result (λ rows. FormsSome rows (rows_of pre.now)) }
 {
@@ -76,7 +78,8 @@ pub fn rows(alloc: Global, pre: &Option<Expr>) -> Result<Option<Constraint>, NoM
 /// The rules of both functions; None exactly where they pass the limits.
 fn translation(alloc: Global, compared: &Compared) -> Result<Option<Translation>, NoMemory>
     requires { IsReady compared.now }
-    ensures { IfOk result (Translates compared.now) }
+    ensures translates { IfOk result (Translates compared.now) }
+    ensures paired { IfOk result (λ o. IfSome o (λ t. IsPaired t.rules)) }
 {
     let two = &compared.two;
     match rules_of(alloc, &two.program, two.first, two.second) {
@@ -104,13 +107,11 @@ fn parameter_count(two: &TwoFunctions) -> u32
 }
 
 /// The rules and the goal of two functions and a precondition.
-pub fn question_stage(
-    alloc: Global,
-    compared: Compared,
-) -> Result<Next<Verdict, Question>, NoMemory>
+fn question_stage(alloc: Global, compared: Compared) -> Result<Next<Verdict, Question>, NoMemory>
     requires { IsReady compared }
     ensures stage { IfOk result (spec.question_stage compared) }
     ensures fits { IfOk result (λ next. IfGoes next (λ q. IsFitting q.rules q.goal)) }
+    ensures coverable { IfOk result (λ next. IfGoes next (λ q. is_coverable q.rules ≡ true)) }
     ensures line { IfOk result HasLineNext }
 {
     let Some(translation) = translation(alloc, &compared)? else {
@@ -138,6 +139,7 @@ pub fn ask(
     requires pre { is_short (functions_view functions.now).precondition ≡ true }
     ensures stage { IfOk result (asked (functions_view functions.now) source.now) }
     ensures fits { IfOk result (λ next. IfGoes next (λ q. IsFitting q.rules q.goal)) }
+    ensures coverable { IfOk result (λ next. IfGoes next (λ q. is_coverable q.rules ≡ true)) }
     ensures line { IfOk result HasLineNext }
 {
     match front_stage(alloc, source, functions)? {

@@ -27,7 +27,9 @@ fn line(alloc: Global, verdict: &Verdict) -> Result<String, AllocError>
 {
     match verdict {
         Verdict::Equivalent => String::from_str(alloc, "EQUIVALENT\n"),
+        Verdict::NoRanks => String::from_str(alloc, "UNKNOWN ranks\n"),
         Verdict::Depth(depth) => numbered_line(alloc, "UNKNOWN depth ", *depth as usize),
+        Verdict::Visits(visits) => numbered_line(alloc, "UNKNOWN visits ", *visits as usize),
         Verdict::LongSource => String::from_str(alloc, "REFUSED long source\n"),
         Verdict::LongLog => String::from_str(alloc, "REFUSED long log\n"),
         Verdict::Lex(fault) => lex_line(alloc, *fault),
@@ -38,13 +40,13 @@ fn line(alloc: Global, verdict: &Verdict) -> Result<String, AllocError>
         Verdict::PreLex(fault) => pre_lex_line(alloc, *fault),
         Verdict::PreParse(end) => pre_parse_line(alloc, *end),
         Verdict::PreName(token) => place_line(alloc, "pre unknown-name", *token),
-        Verdict::NotStraight => String::from_str(alloc, "REFUSED not-straight\n"),
         Verdict::Line(number) => numbered_line(alloc, "REFUSED line ", *number),
         Verdict::Check(end) => check_line(alloc, *end),
         Verdict::Usage => String::from_str(alloc, USAGE),
         Verdict::ReadFault => String::from_str(alloc, "READ FAULT\n"),
         Verdict::LargeTranslate => String::from_str(alloc, "LARGE translate\n"),
         Verdict::LargePre => String::from_str(alloc, "LARGE pre\n"),
+        Verdict::LargeSearch => String::from_str(alloc, "LARGE search\n"),
     }
 }
 

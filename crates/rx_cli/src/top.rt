@@ -24,11 +24,12 @@ pub fn run<F: Files, O: Sink>(alloc: Global, words: &[String], files: &mut F, ou
     let Ok(answer) = judge(alloc, words, files) else {
         return Status::NoMemory;
     };
-    let Ok(text) = answer.text(alloc) else {
+    let status = answer.status();
+    let Ok(text) = answer.into_text(alloc) else {
         return Status::NoMemory;
     };
     match put_all(out, &text) {
-        Ok(()) => answer.status(),
+        Ok(()) => status,
         Err(_) => Status::WriteFault,
     }
 }

@@ -14,8 +14,12 @@ use rx_check::CheckEnd;
 pub enum Verdict {
     /// A log was accepted.
     Equivalent,
-    /// No proof was found within this depth.
+    /// No ranks are found for the rules of both functions.
+    NoRanks,
+    /// No proof with at most this many choices is found.
     Depth(u32),
+    /// No proof is found in this many visits, and there are more.
+    Visits(u32),
     /// The source has more than 1,048,576 bytes.
     LongSource,
     /// The log has more than 67,108,864 bytes.
@@ -37,8 +41,6 @@ pub enum Verdict {
     /// The token of the precondition with this number, counted from 0, is a name that no parameter of
     /// the first function has.
     PreName(u32),
-    /// One of the two functions, or both, aren't straight.
-    NotStraight,
     /// The line of the log with this number, counted from 1, is the first with which no log begins.
     Line(usize),
     /// The log isn't accepted.
@@ -51,6 +53,8 @@ pub enum Verdict {
     LargeTranslate,
     /// What is formed for the precondition passes the limits.
     LargePre,
+    /// No proof is found, and what is formed in the search passes the limits.
+    LargeSearch,
 }
 
 /// How a run ends whose log isn't accepted for this.
@@ -72,7 +76,7 @@ impl Verdict {
     {
         match self {
             Verdict::Equivalent => Status::Equivalent,
-            Verdict::Depth(_) => Status::Unknown,
+            Verdict::NoRanks | Verdict::Depth(_) | Verdict::Visits(_) => Status::Unknown,
             Verdict::LongSource
             | Verdict::LongLog
             | Verdict::Lex(_)
@@ -83,12 +87,11 @@ impl Verdict {
             | Verdict::PreLex(_)
             | Verdict::PreParse(_)
             | Verdict::PreName(_)
-            | Verdict::NotStraight
             | Verdict::Line(_) => Status::Refused,
             Verdict::Check(end) => check_status(end),
             Verdict::Usage => Status::Usage,
             Verdict::ReadFault => Status::ReadFault,
-            Verdict::LargeTranslate | Verdict::LargePre => Status::Large,
+            Verdict::LargeTranslate | Verdict::LargePre | Verdict::LargeSearch => Status::Large,
         }
     }
 }

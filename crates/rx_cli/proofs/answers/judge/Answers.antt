@@ -6,13 +6,18 @@ use Rattle.rx_io.specs.Outside.{Rose}
 use Rattle.rx_cli.specs.Answers.{IsAnswered}
 use Rattle.rx_cli.proofs.AnswerLemmas.{answers_usage}
 use Rattle.rx_cli.proofs.Equals.{answered_equal}
-use Rattle.rx_cli.proofs.Short.{command_short}
+use Rattle.rx_cli.proofs.Asked.{command_allowed}
 use Rattle.rx_cli.proofs.answers.judge.Goals as goal
 
-pub judge_command-requires : goal.judge_command-requires
-judge_command-requires g c =
+pub judge_command-requires-clause-pre : goal.judge_command-requires-clause-pre
+judge_command-requires-clause-pre g c =
     let said : Some (command_view c.in-Some.command) ≡ command_of (map string_bytes c.args.words.now) = rw c.in-Some.is at c.in_ok-command_of.ensures.command in
-    command_short (map string_bytes c.args.words.now) (command_view c.in-Some.command) said
+    (command_allowed (map string_bytes c.args.words.now) (command_view c.in-Some.command) said).short
+
+pub judge_command-requires-clause-depth : goal.judge_command-requires-clause-depth
+judge_command-requires-clause-depth g c =
+    let said : Some (command_view c.in-Some.command) ≡ command_of (map string_bytes c.args.words.now) = rw c.in-Some.is at c.in_ok-command_of.ensures.command in
+    (command_allowed (map string_bytes c.args.words.now) (command_view c.in-Some.command) said).depth
 
 pub returns-in-None-clause-answer : goal.returns-in-None-clause-answer
 returns-in-None-clause-answer g c =

@@ -1,10 +1,11 @@
 use Rattle.rx_command.specs.Commands.{Prove, functions_view}
 use Rattle.rx_io.specs.Outside.{Rose}
+use Rattle.std.proofs.lemmas.Result.{IfOk-weaker}
 use Rattle.c_front.specs.declared.stages.Next.TheVariants.{Ends, Goes}
 use Rattle.rx_cli.specs.declared.verdicts.Verdict.TheVariants as Said
 use Rattle.rx_cli.specs.Answers.{longest_source}
 use Rattle.rx_cli.specs.Steps.{Reads}
-use Rattle.rx_cli.proofs.AnswerLemmas.{answers_proved, answers_unread, both_hold}
+use Rattle.rx_cli.proofs.AnswerLemmas.{answers_proved, answers_unread}
 use Rattle.rx_cli.proofs.answers.judge_prove.Goals as goal
 
 pub returns-in-Ends-clause-answer : goal.returns-in-Ends-clause-answer
@@ -18,7 +19,7 @@ pub returns-in-Goes-clause-answer : goal.returns-in-Goes-clause-answer
 returns-in-Goes-clause-answer g c =
     let reads : Reads (g.F.Files.held c.args.files.now) (Rose (g.F.Files.faults c.args.files.now) (g.F.Files.faults c.read_within.new.files)) c.args.functions.now.file.now longest_source Said.LongSource (Goes c.in-Goes.source.items) =
     rw c.in-Goes.is at c.in_ok-verdict.ensures.read in
-    both_hold _ _ _ c.prove.result
-    (λ answer proved right. answers_proved (g.F.Files.held c.args.files.now) (Rose (g.F.Files.faults c.args.files.now) (g.F.Files.faults c.read_within.new.files)) (functions_view c.args.functions.now) c.in-Goes.source.items
-    c.deref.result.now reads.0 reads.1 c.deref.ensures.value c.args.effort answer proved right)
-    c.prove.ensures.answer c.prove.ensures.sound
+    IfOk-weaker c.prove.result _ _
+    (λ answer proved. answers_proved (g.F.Files.held c.args.files.now) (Rose (g.F.Files.faults c.args.files.now) (g.F.Files.faults c.read_within.new.files)) (functions_view c.args.functions.now) c.in-Goes.source.items
+    c.deref.result.now reads.0 reads.1 c.deref.ensures.value c.args.effort answer proved)
+    c.prove.ensures.answer

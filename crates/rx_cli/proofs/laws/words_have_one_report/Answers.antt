@@ -1,5 +1,8 @@
-use Rattle.rx_cli.proofs.OneReport.{one_for_words}
+use Rattle.rx_cli.proofs.OneReport.{one_for_words, one_status}
 use Rattle.rx_cli.proofs.laws.words_have_one_report.Goals as goal
 
-pub returns : goal.returns
-returns c = one_for_words
+pub returns-clause-status : goal.returns-clause-status
+returns-clause-status c = one_status
+
+pub returns-clause-text : goal.returns-clause-text
+returns-clause-text c = one_for_words

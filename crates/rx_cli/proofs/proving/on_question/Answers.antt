@@ -1,0 +1,7 @@
+-- What the refuter answers is right.
+use Rattle.std.proofs.Common.{rules}
+use Rattle.rx_solve.proofs.Calls.{solver_by}
+use Rattle.rx_cli.proofs.proving.on_question.Goals as goal
+
+pub new-search-requires : goal.new-search-requires
+new-search-requires c = solver_by _ (λ f a. search rules) (λ f a r f' k. search rules) _

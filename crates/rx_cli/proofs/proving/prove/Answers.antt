@@ -1,0 +1,16 @@
+use Rattle.std.proofs.Common.{inl, inr, refl}
+use Rattle.std.proofs.lemmas.Result.{IfOk-weaker}
+use Rattle.c_front.specs.declared.stages.Next.TheVariants.{Ends, Goes}
+use Rattle.rx_command.specs.Commands.{functions_view}
+use Rattle.rx_cli.specs.Questions.{asked}
+use Rattle.rx_cli.proofs.proving.prove.Goals as goal
+
+pub returns-in-Ends-clause-answer : goal.returns-in-Ends-clause-answer
+returns-in-Ends-clause-answer c =
+    let ended : asked (functions_view c.args.functions.now) c.args.source.now (Ends c.in-Ends.verdict) = rw c.in-Ends.is at c.in_ok-verdict.ensures.stage in
+    inl (c.in-Ends.verdict, ended, refl)
+
+pub returns-in-Goes-clause-answer : goal.returns-in-Goes-clause-answer
+returns-in-Goes-clause-answer c =
+    let found : asked (functions_view c.args.functions.now) c.args.source.now (Goes c.in-Goes.question) = rw c.in-Goes.is at c.in_ok-verdict.ensures.stage in
+    IfOk-weaker c.on_question.result _ _ (λ answer on. inr (c.in-Goes.question, found, on)) c.on_question.ensures.answer
