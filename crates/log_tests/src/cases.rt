@@ -112,6 +112,28 @@ impl Case {
         Some(found.as_str() == wanted)
     }
 
+    // Whether a run, over the source alone, writes the log that is given.
+    fn writes(&self, alloc: Global) -> Option<bool> {
+        let source = joined(alloc, &self.source, &None)?;
+        let wanted = joined(alloc, &self.log, &None)?;
+        let mut files = files_of(alloc, source, Vec::new(alloc))?;
+        let mut sink = MemorySink::new(
+            alloc,
+            65_536,
+            65_536,
+            Vec::new(alloc),
+            Vec::new(alloc),
+        ).ok()?;
+        let status = run(alloc, &self.words, &mut files, &mut sink);
+        Some(status.code() == 0 && sink.put_so_far() == wanted.as_slice())
+    }
+
+    // Goes on with another command line over the same files.
+    fn then(&mut self, alloc: Global, line: &str) -> Option<()> {
+        self.words = words_of(alloc, line)?;
+        Some(())
+    }
+
     // Takes a change of the log.
     fn changed(&mut self, change: Option<Change>) -> Option<()> {
         self.change = Some(change?);
@@ -123,6 +145,7 @@ impl Case {
         match word {
             "#" => Some(()),
             "words" => self.begin(alloc, rest),
+            "then" => self.then(alloc, rest),
             "source" => push(alloc, &mut self.source, rest),
             "log" => push(alloc, &mut self.log, rest),
             "instead" => self.changed(instead(alloc, rest)),
@@ -135,11 +158,13 @@ impl Case {
     /// can't be read.
     pub fn take(&mut self, alloc: Global, line: &str) -> Option<Option<bool>> {
         let (word, rest) = line.split_once(' ').unwrap_or((line, ""));
-        if word == "gives" {
-            let holds = self.gives(alloc, rest)?;
-            return Some(Some(holds));
+        match word {
+            "gives" => Some(Some(self.gives(alloc, rest)?)),
+            "writes" => Some(Some(self.writes(alloc)?)),
+            _ => {
+                self.given(alloc, word, rest)?;
+                Some(None)
+            }
         }
-        self.given(alloc, word, rest)?;
-        Some(None)
     }
 }

@@ -4,9 +4,10 @@
 //! `source` has a line of the file `a.c`, `log` one of the file `a.log`. Then `gives` has the status
 //! and the line of the report that are wanted. `instead N` before it puts the rest of that line in place
 //! of line N of the log, counted from 1, and `without N` leaves line N out, each for the next `gives`
-//! alone. A line that begins with `#` is a heading. The program prints each `gives` whose report is
-//! another with the word `differs`, each line that it can't read with `unread`, and at the end how
-//! many hold.
+//! alone. `writes` wants that the run, over the source alone, ends with status 0 and writes the log.
+//! `then` goes on with another command line over the same files. A line that begins with `#` is a
+//! heading. The program prints each `gives` and each `writes` that doesn't hold with the word `differs`,
+//! each line that it can't read with `unread`, and at the end how many hold.
 #![tactic(auto)]
 
 mod cases;
