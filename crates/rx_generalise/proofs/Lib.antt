@@ -1,0 +1,3 @@
+-- Lemmas on naming and generalisations.
+pub mod NamingLaws
+pub mod ValueLaws

@@ -1,0 +1,35 @@
+-- What the answers say of generalisations that are found.
+use Rattle.std.specs.Prelude.{◌≡◌, Option, Some, None, Result, Ok, Err, List, map}
+use Rattle.rx_fm.specs.declared.fm_end.FmEnd.{FmEnd}
+use Rattle.rx_fm.specs.declared.fm_end.FmEnd.TheVariants.{Large as TooLarge}
+use Rattle.rx_poly.specs.declared.poly_end.PolyEnd.{PolyEnd}
+use Rattle.rx_poly.specs.declared.poly_end.PolyEnd.TheVariants.{Large}
+use Rattle.rx_solve.specs.Attempts.{Tried, applies, beyond, fails}
+use Rattle.rx_generalise.specs.declared.generalised.Generalised.{Generalised}
+use Rattle.rx_lemma.specs.Lemmas.{Generalisation}
+
+-- what is found as plain data
+abbrev pub found_as : Generalised → Generalisation
+found_as found = record { kind = found.kind; goal = found.goal; subst = found.subst }
+
+-- an answer that says what comes of trying to find one; that memory runs out is free
+abbrev pub Finds : Tried Generalisation → Result (Option Generalised) PolyEnd → Type 0
+Finds tried (Ok None) = tried ≡ fails
+Finds tried (Ok (Some found)) = tried ≡ applies (found_as found)
+Finds tried (Err e) = e ≡ Large → tried ≡ beyond
+
+-- an answer that has that generalisation, or says that something passes the limits
+abbrev pub MakesOne : Option Generalisation → Result Generalised FmEnd → Type 0
+MakesOne made (Ok found) = made ≡ Some (found_as found)
+MakesOne made (Err e) = e ≡ TooLarge → made ≡ None
+
+-- that has it, if there is one
+abbrev pub FindsAny : Option (Option Generalisation) → Result (Option Generalised) FmEnd → Type 0
+FindsAny made (Ok None) = made ≡ Some None
+FindsAny made (Ok (Some found)) = made ≡ Some (Some (found_as found))
+FindsAny made (Err e) = e ≡ TooLarge → made ≡ None
+
+-- that has all of them
+abbrev pub FindsAll : Option (List Generalisation) → Result (List Generalised) FmEnd → Type 0
+FindsAll made (Ok found) = made ≡ Some (map found_as found)
+FindsAll made (Err e) = e ≡ TooLarge → made ≡ None

@@ -1,0 +1,110 @@
+//! The call that a term ends in, and what is at its places.
+ghost use Rattle.std.specs.Prelude.{◌≡◌, slice_set, IfOk};
+ghost use Rattle.rx_generalise.specs.Calls.{IsCall, call_of, constant, constant_at, lone_variable, variable_at, with_variable};
+ghost use Rattle.rx_poly.specs.Constants.{variable};
+
+use rx_plain::Items;
+use rx_poly::Poly;
+use rx_term::{Sym, Term};
+use std::alloc::{AllocError, Global};
+
+/// A call, borrowed.
+#[derive(Clone, Copy)]
+pub(crate) struct Call<'a> {
+    /// Its symbol.
+    pub(crate) symbol: Sym,
+    /// Its polynomials.
+    pub(crate) arguments: &'a [Poly],
+}
+
+/// The call under all frames of the term; None where it ends in a result. Takes no memory.
+pub(crate) fn call_of(term: &Term) -> Option<Call<'_>>
+    ensures { IsCall (call_of term.now) result }
+{
+    let mut here = term;
+    loop {
+        match here {
+            Term::Return(_) => return None,
+            Term::Fail(_) => return None,
+            Term::Call(sym, args) => {
+                let arguments = args.as_slice();
+                return Some(Call {
+                    symbol: *sym,
+                    arguments,
+                });
+            }
+            Term::Frame(_, _, inner) => here = inner.get(),
+        }
+    }
+}
+
+/// The number at the place of the term's call, if there is one.
+#[tactic(auto, unfolding(crate::specs::Calls::constant_at))]
+pub(crate) fn constant_at(term: &Term, place: usize) -> Option<i128>
+    ensures { result ≡ constant_at place term.now }
+{
+    match call_of(term) {
+        Some(call) => call.arguments.get(place)?.is_constant(),
+        None => None,
+    }
+}
+
+/// The variable that is alone at the place of the other term's call, where that is of the symbol of
+/// the term's call.
+#[tactic(auto, unfolding(crate::specs::Calls::variable_at))]
+pub(crate) fn variable_at(term: &Term, other: &Term, place: usize) -> Option<u32>
+    ensures { result ≡ variable_at place term.now other.now }
+{
+    let call = call_of(term)?;
+    let other = call_of(other)?;
+    if other.symbol.0 != call.symbol.0 {
+        return None;
+    }
+    other.arguments.get(place)?.as_variable()
+}
+
+/// Copies of the polynomials.
+fn copied(alloc: Global, polys: &[Poly]) -> Result<Vec<Poly>, AllocError>
+    ensures { IfOk result (λ made. made.items ≡ polys.now) }
+{
+    let mut made = Vec::new(alloc);
+    for poly in polys {
+        made.push(poly.try_clone(alloc)?)?;
+    }
+    Ok(made)
+}
+
+/// Copies of the polynomials, with the variable at the place, if there is such a place.
+fn with_variable_among(
+    alloc: Global,
+    polys: &[Poly],
+    place: usize,
+    number: u32,
+) -> Result<Items<Poly>, AllocError>
+    ensures { IfOk result (λ made. made ≡ slice_set polys.now place (variable number)) }
+{
+    let mut made = copied(alloc, polys)?;
+    let replacement = Poly::variable(alloc, number)?;
+    if place < made.len() {
+        made[place] = replacement;
+    }
+    Ok(Items::from_vec(made))
+}
+
+/// The term with the variable at the place of its call.
+#[tactic(auto, unfolding(crate::specs::Calls::with_variable))]
+pub(crate) fn with_variable(
+    alloc: Global,
+    term: Term,
+    place: usize,
+    variable: u32,
+) -> Result<Term, AllocError>
+    ensures { IfOk result (λ t. t ≡ with_variable place variable term) }
+{
+    let Some(call) = call_of(&term) else {
+        return Ok(term);
+    };
+    let symbol = call.symbol;
+    let arguments = with_variable_among(alloc, call.arguments, place, variable)?;
+    Ok(term.replace_redex(Term::Call(symbol, arguments)))
+}
