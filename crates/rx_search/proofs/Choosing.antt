@@ -1,14 +1,16 @@
 -- The choices so far, with one more.
-use Rattle.std.proofs.Common.{◌≡◌, ℕ, Bool, false, ◌||◌, Option, Some, None, Result, Ok, Err, List, [], ◌∷◌, ◌++◌, map, refl, sym, subst, ◌∙◌, All}
+use Rattle.std.proofs.Common.{◌≡◌, ℕ, Bool, false, true, ◌||◌, Option, Some, None, Result, Ok, Err, List, [], ◌∷◌, ◌++◌, map, refl, sym, ap, subst, ◌∙◌, All}
 use Rattle.std.specs.Prelude.{IfSome, OnOk}
 use Rattle.std.specs.List.{filter_map}
 use Rattle.std.specs.Option.{option_map}
-use Rattle.std.proofs.lemmas.List.{map-append}
+use Rattle.std.proofs.lemmas.List.{append_assoc, map-append}
 use Rattle.std.proofs.lemmas.List.Elements.{All-append, All-cons, All-nil, filter_map-append}
 use Rattle.std.proofs.lemmas.List.Folds.{list_any-append}
-use Rattle.rx_solve.specs.Attempts.{Tried}
+use Rattle.rx_solve.specs.Attempts.{Tried, beyond}
+use Rattle.rx_term.specs.declared.rule_set.RuleParts.{RuleParts}
+use Rattle.rx_lemma.specs.Lemmas.{Generalisation}
 use Rattle.rx_settle.specs.Trying.{Next}
-use Rattle.rx_search.specs.Menu.{Chosen, choice}
+use Rattle.rx_search.specs.Menu.{Chosen, by_lemmas, choice}
 use Rattle.rx_search.specs.Nodes.{AreChoices, IsTried, choice_of, node_of, with_choice}
 use Rattle.rx_search.specs.Search as search
 use Rattle.rx_search.specs.Search.{child, node_with}
@@ -58,6 +60,21 @@ module _ (from : Node) where
   choices_grow_call cs found new number tried trial is (Ok x) same are =
       subst (AreChoices from (cs ++ choice number tried ∷ [])) (sym same) (choices_grow cs found number tried trial are is)
   choices_grow_call cs found new number tried trial is (Err e) same are = tt
+
+  -- lemmas that pass the limits, of a call
+  pub beyond_lemmas : {A E : Type 0} (parts : RuleParts) (cs : List Chosen) (found new : Choices) (made : Option (List Generalisation))
+      → made ≡ None → (result : Result A E) → OnOk result (new ≡ with_choice found 6 (record { node = None; noted = true }))
+      → AreChoices from cs found → OnOk result (AreChoices from (cs ++ by_lemmas parts from.state made) new)
+  beyond_lemmas parts cs found new made none result same are =
+      subst (λ made. OnOk result (AreChoices from (cs ++ by_lemmas parts from.state made) new)) (sym none)
+      (choices_grow_call cs found new 6 beyond (record { node = None; noted = true }) (record { node = refl; noted = refl }) result same are)
+
+-- one more lemma
+pub mapped_more : {A B C : Type 0} (f : B → C) (g : A → B) (cs : List C) (ys : List A) (y : A)
+    → (cs ++ map f (map g ys)) ++ f (g y) ∷ [] ≡ cs ++ map f (map g (ys ++ y ∷ []))
+mapped_more f g cs ys y =
+    append_assoc cs (map f (map g ys)) (f (g y) ∷ [])
+    ∙ ap (λ xs. cs ++ xs) (sym (ap (map f) (map-append g ys (y ∷ [])) ∙ map-append f (map g ys) (g y ∷ [])))
 
 module _ (P : Node → Type 0) where
   abbrev AtChoice : Choice Node → Type 0

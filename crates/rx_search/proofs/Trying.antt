@@ -1,5 +1,5 @@
 -- What comes of a step, or of an expansion that keeps the goal, at a node.
-use Rattle.std.proofs.Common.{◌≡◌, Bool, true, false, ◌||◌, if◌then◌else◌, Option, Some, None, Result, Ok, Err, List, [], ◌∷◌, ◌++◌, refl, sym, ap, subst, ◌∙◌}
+use Rattle.std.proofs.Common.{◌≡◌, Bool, true, false, ◌||◌, ◌&&◌, if◌then◌else◌, Option, Some, None, Result, Ok, Err, List, [], ◌∷◌, ◌++◌, refl, sym, ap, subst, ◌∙◌}
 use Rattle.std.specs.Prelude.{IfOk, IfSome, nat_eq, slice_get}
 use Rattle.std.specs.Option.{option_map}
 use Rattle.std.proofs.lemmas.List.{append-nil, map-append}
@@ -15,8 +15,8 @@ use Rattle.rx_term.specs.declared.term.Term.{Term}
 use Rattle.rx_form.specs.Forming.{Forming, found_or, limited, provided, ◌>>=◌}
 use Rattle.rx_form.specs.Judging.{first_rows}
 use Rattle.rx_form.specs.Kinds.{formed, formed_on}
-use Rattle.rx_form.specs.Making.{decomposed_by, expanded_by_all}
-use Rattle.rx_form.specs.Pieces.{TopFrame, side_of, top_frame}
+use Rattle.rx_form.specs.Making.{decomposed_by, expanded_by_all, generalised_by}
+use Rattle.rx_form.specs.Pieces.{TopFrame, have_one_shape, is_equation, is_substitution, side_of, top_frame}
 use Rattle.rx_form.specs.States.{State, taken}
 use Rattle.rx_form.specs.declared.form_end.FormEnd.TheVariants.{Large, NoGoal, NoSuchRule, WrongShape}
 use Rattle.rx_form.specs.declared.form_end.FormEnd.TheVariants as form_end
@@ -205,7 +205,10 @@ module _ (parts : RuleParts) (hypotheses : List Rule) where
   formed_keeps goal Absurd f keeps e = absurd keeps
   formed_keeps goal Equal f keeps e = absurd keeps
   formed_keeps goal EqDelete f keeps e = absurd keeps
-  formed_keeps goal (Generalise next subst) f keeps e = absurd keeps
+  formed_keeps goal (Generalise next ws) f keeps e =
+      keeps_provided
+      (is_equation parts next && (is_substitution ws && (have_one_shape next.left goal.left && have_one_shape next.right goal.right)))
+      (generalised_by goal next ws) f refl e
   formed_keeps goal (Postulate next) f keeps e = absurd keeps
   formed_keeps goal (Split row) f keeps e = absurd keeps
   formed_keeps goal (Results left right) f keeps e = absurd keeps

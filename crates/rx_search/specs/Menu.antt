@@ -7,7 +7,8 @@ use Rattle.rx_term.specs.declared.rule_set.RuleParts.{RuleParts}
 use Rattle.rx_form.specs.States.{State}
 use Rattle.rx_form.specs.declared.step.Side.{Side}
 use Rattle.rx_form.specs.declared.step.Side.TheVariants.{Left, Right}
-use Rattle.rx_lemma.specs.Lemmas.{Generalisation, lemmas_of}
+use Rattle.rx_generalise.specs.Generalising.{generalisations}
+use Rattle.rx_lemma.specs.Lemmas.{Generalisation}
 use Rattle.rx_lemma.specs.declared.lemma.LemmaKind.{LemmaKind}
 use Rattle.rx_lemma.specs.declared.lemma.LemmaKind.TheVariants.{NameConstants, DropValues, ReplaceRepeated}
 use Rattle.rx_rank.specs.Ranking.{ranked}
@@ -51,7 +52,7 @@ module _ (parts : RuleParts) (state : State) where
       ∷ choice 3 (attempt parts state (Expand Left false))
       ∷ choice 4 (attempt parts state (Expand Right false))
       ∷ choice 5 (attempt parts state Decompose)
-      ∷ by_lemmas (lemmas_of parts goal)
+      ∷ by_lemmas (generalisations parts goal)
 
   -- where no goal is left there are none
   abbrev pub chosen_first : List Equation → List Chosen

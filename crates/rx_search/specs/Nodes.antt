@@ -1,5 +1,5 @@
 -- Nodes as calls have them, whose steps have certificates: what is seen of them, and which of them a search comes to.
-use Rattle.std.specs.Prelude.{◌≡◌, ◌==◌, ◌||◌, ℕ, Bool, true, false, Option, Some, None, Ok, List, [], ◌∷◌, ◌++◌, map}
+use Rattle.std.specs.Prelude.{◌≡◌, ◌==◌, ◌||◌, if◌then◌else◌, ℕ, Bool, true, false, Option, Some, None, Ok, List, [], ◌∷◌, ◌++◌, map, slice_get}
 use Rattle.std.specs.List.{filter_map}
 use Rattle.std.specs.Option.{option_map}
 use Rattle.std.specs.Borrow.{GName}
@@ -14,12 +14,12 @@ use Rattle.rx_joins.specs.Goals.{IsFitting}
 use Rattle.rx_joins.specs.Runs as runs
 use Rattle.rx_rank.specs.Ranking.{ranked}
 use Rattle.rx_settle.specs.Answers.{AreDeep, after_all}
-use Rattle.rx_settle.specs.Moves.{Decompose, Expand, Move, move_of}
+use Rattle.rx_settle.specs.Moves.{Decompose, Expand, Generalise, Move, move_of}
 use Rattle.rx_settle.specs.Settling.{most_moves}
 use Rattle.rx_settle.specs.Trying.{Next}
 use Rattle.rx_search.specs.Menu.{Chosen, is_any_noted}
 use Rattle.rx_search.specs.Search as search
-use Rattle.rx_search.specs.Search.{child, is_closed, node_with}
+use Rattle.rx_search.specs.Search.{child, node_with}
 use Rattle.rx_search.specs.declared.node.Node.{Node}
 use Rattle.rx_search.specs.declared.choices.Trial.{Trial}
 use Rattle.rx_search.specs.declared.choices.Choices.{Choices}
@@ -69,10 +69,11 @@ abbrev pub led : Node → Option Step → Bool → State → Trial
 led from None noted state = record { node = None; noted = noted }
 led from (Some step) noted state = record { node = Some (with_step from step state); noted = noted }
 
--- an expansion that doesn't keep the goal, or Decompose
+-- an expansion that doesn't keep the goal, Decompose, or Generalise
 abbrev pub KeepsNone : Move → Type 0
 KeepsNone (Expand side keep) = keep ≡ false
 KeepsNone Decompose = Unit {0}
+KeepsNone (Generalise next subst) = Unit {0}
 KeepsNone _ = ⊥
 
 -- what comes of a choice that leads to the node, by what is found of its hypotheses
@@ -92,9 +93,9 @@ with_choice found number trial = record {
   noted = found.noted || trial.noted;
 }
 
--- there are no choices: settling took all moves, or no goal is left
-abbrev pub is_spent : Node → Bool
-is_spent node = node.left == 0 || is_closed node.state.goals
+-- the goal at which there are choices: the first, unless settling took all moves
+abbrev pub open_goal : Node → Option Equation
+open_goal node = if node.left == 0 then None else slice_get node.state.goals 0
 
 -- ---- what is searched
 

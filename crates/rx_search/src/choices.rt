@@ -1,8 +1,11 @@
 //! The choices at a settled goal: each is tried on a copy of the node's state.
-ghost use Rattle.std.specs.Prelude.{◌≡◌, ◌∷◌, ◌++◌, [], All, IfOk, IfSome, OnOk, false, true, List};
+ghost use Rattle.std.specs.Prelude.{◌≡◌, ◌∷◌, ◌++◌, [], All, IfOk, IfSome, OnOk, false, map, true, List};
+ghost use Rattle.rx_generalise.specs.Answers.{found_as};
+ghost use Rattle.rx_generalise.specs.Generalising.{generalisations};
 ghost use Rattle.rx_pairs.specs.Pairs.{HasRoot, SidesFit};
 ghost use Rattle.rx_rank.specs.Ranking.{ranked};
-ghost use Rattle.rx_search.specs.Menu.{Chosen, choice, chosen_at, keeping};
+ghost use Rattle.rx_search.specs.Menu.{Chosen, by_lemma, by_lemmas, choice, chosen_at, keeping};
+ghost use Rattle.rx_search.specs.Menu as menu;
 ghost use Rattle.rx_search.specs.Nodes.{AreChoices, IsNode, IsReached, IsTried, KeepsNone, if_ranked, led, with_choice};
 ghost use Rattle.rx_settle.specs.Certified.{asks_rows};
 ghost use Rattle.rx_settle.specs.Moves.{move_of};
@@ -14,12 +17,14 @@ use crate::node::Node;
 use rx_cert::Cert;
 use rx_fm::FmEnd;
 use rx_form::{Side, Step};
+use rx_generalise::{Generalised, lemmas};
+use rx_lemma::LemmaKind;
 use rx_plain::{Items, NoMemory};
 use rx_ranking::find_ranks;
 use rx_row::Constraint;
 use rx_settle::try_step;
 use rx_steps::State;
-use rx_term::RuleSet;
+use rx_term::{Equation, RuleSet};
 use rx_visits::Choice;
 use std::alloc::Global;
 
@@ -195,18 +200,103 @@ fn add_step<S: FnMut(&Constraint) -> Result<Option<Cert>, FmEnd>>(
     found.add(number, trial)
 }
 
-/// The choices at the node by their numbers: Expand of each side that keeps the goal, and then that
-/// doesn't; and Decompose. There are no lemmas to try.
+/// The number of a lemma among the choices. What names constants is never a choice.
+fn number_of(kind: LemmaKind) -> u8
+    ensures { result ≡ menu.number_of kind }
+{
+    match kind {
+        LemmaKind::NameConstants => 0,
+        LemmaKind::DropValues => 6,
+        LemmaKind::ReplaceRepeated => 7,
+    }
+}
+
+/// Tries a lemma.
+fn add_lemma<S: FnMut(&Constraint) -> Result<Option<Cert>, FmEnd>>(
+    alloc: Global,
+    rules: &RuleSet,
+    node: &Node,
+    lemma: Generalised,
+    found: &mut Choices,
+    solve: &mut S,
+) -> Result<(), NoMemory>
+    requires solver { IsSolver S.FnMut solve.old }
+    ensures solver { IsSolver S.FnMut solve.new }
+    ensures grows { (cs : List Chosen) → AreChoices node.now cs found.old → OnOk result (AreChoices node.now (cs ++ by_lemma rules.now node.now.state (found_as lemma) ∷ []) found.new) }
+    ensures nodes { (goal : Equation) → IsNode rules.now goal node.now → All (λ c. IsNode rules.now goal c.node) found.old.choices → OnOk result (All (λ c. IsNode rules.now goal c.node) found.new.choices) }
+{
+    let Generalised { kind, goal, subst } = lemma;
+    let Equation { left, right, rows } = goal;
+    let step = Step::Generalise {
+        left,
+        right,
+        rows,
+        subst,
+        certs: Items::new(alloc),
+    };
+    add_step(alloc, rules, node, number_of(kind), step, found, solve)
+}
+
+/// Tries each lemma in order.
+fn add_each<S: FnMut(&Constraint) -> Result<Option<Cert>, FmEnd>>(
+    alloc: Global,
+    rules: &RuleSet,
+    node: &Node,
+    all: Items<Generalised>,
+    found: &mut Choices,
+    solve: &mut S,
+) -> Result<(), NoMemory>
+    requires solver { IsSolver S.FnMut solve.old }
+    ensures solver { IsSolver S.FnMut solve.new }
+    ensures grows { (cs : List Chosen) → AreChoices node.now cs found.old → OnOk result (AreChoices node.now (cs ++ map (by_lemma rules.now node.now.state) (map found_as all)) found.new) }
+    ensures nodes { (goal : Equation) → IsNode rules.now goal node.now → All (λ c. IsNode rules.now goal c.node) found.old.choices → OnOk result (All (λ c. IsNode rules.now goal c.node) found.new.choices) }
+{
+    for lemma in all.into_vec() {
+        add_lemma(alloc, rules, node, lemma, found, solve)?;
+    }
+    Ok(())
+}
+
+/// Tries the lemmas of the goal; where they pass the limits none applies, and that is noted.
+fn add_lemmas<S: FnMut(&Constraint) -> Result<Option<Cert>, FmEnd>>(
+    alloc: Global,
+    rules: &RuleSet,
+    node: &Node,
+    first: &Equation,
+    found: &mut Choices,
+    solve: &mut S,
+) -> Result<(), NoMemory>
+    requires solver { IsSolver S.FnMut solve.old }
+    ensures solver { IsSolver S.FnMut solve.new }
+    ensures grows { (cs : List Chosen) → AreChoices node.now cs found.old → OnOk result (AreChoices node.now (cs ++ by_lemmas rules.now node.now.state (generalisations rules.now first.now)) found.new) }
+    ensures nodes { (goal : Equation) → IsNode rules.now goal node.now → All (λ c. IsNode rules.now goal c.node) found.old.choices → OnOk result (All (λ c. IsNode rules.now goal c.node) found.new.choices) }
+{
+    match lemmas(alloc, first, rules, solve) {
+        Ok(all) => add_each(alloc, rules, node, all, found, solve),
+        Err(FmEnd::Large) => found.add(
+            6,
+            Trial {
+                node: None,
+                noted: true,
+            },
+        ),
+        Err(FmEnd::NoMemory) => Err(NoMemory),
+    }
+}
+
+/// The choices at the node, whose first goal is this, by their numbers: Expand of each side that
+/// keeps the goal, and then that doesn't; Decompose; and the lemmas of the goal.
 pub(crate) fn find_choices<S: FnMut(&Constraint) -> Result<Option<Cert>, FmEnd>>(
     alloc: Global,
     rules: &RuleSet,
     node: &Node,
+    first: &Equation,
     solve: &mut S,
 ) -> Result<Choices, NoMemory>
     requires reached { (goal : Equation) × IsReached rules.now goal node.now }
     requires solver { IsSolver S.FnMut solve.old }
     ensures solver { IsSolver S.FnMut solve.new }
-    ensures choices { (goal : Equation) → IfOk result (AreChoices node.now (chosen_at rules.now node.now.state goal)) }
+    ensures choices { IfOk result (AreChoices node.now (chosen_at rules.now node.now.state first.now)) }
     ensures nodes { (goal : Equation) → IsNode rules.now goal node.now → IfOk result (λ f. All (λ c. IsNode rules.now goal c.node) f.choices) }
 {
     let mut found = Choices::new(alloc);
@@ -226,5 +316,6 @@ pub(crate) fn find_choices<S: FnMut(&Constraint) -> Result<Option<Cert>, FmEnd>>
         certs: Items::new(alloc),
     };
     add_step(alloc, rules, node, 5, decompose, &mut found, solve)?;
+    add_lemmas(alloc, rules, node, first, &mut found, solve)?;
     Ok(found)
 }

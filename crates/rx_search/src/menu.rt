@@ -1,6 +1,6 @@
 //! The menu at a settled node.
-ghost use Rattle.std.specs.Prelude.{◌≡◌, All, IfOk};
-ghost use Rattle.rx_search.specs.Nodes.{IsNode, IsReached, is_spent, node_of};
+ghost use Rattle.std.specs.Prelude.{◌≡◌, All, IfOk, option_copied};
+ghost use Rattle.rx_search.specs.Nodes.{IsNode, IsReached, node_of, open_goal};
 ghost use Rattle.rx_search.specs.Search.{menu};
 ghost use Rattle.rx_settle.specs.Settling.{rows_if};
 ghost use Rattle.rx_solve.specs.Answers.{IsSolver};
@@ -8,13 +8,13 @@ ghost use Rattle.rx_term.specs.declared.rule.Equation.{Equation};
 ghost use Rattle.rx_visits.specs.Views.{seen_menu};
 
 use crate::choices::find_choices;
-use crate::node::{Node, copied_rows, is_closed};
+use crate::node::{Node, copied_rows};
 use rx_cert::Cert;
 use rx_fm::FmEnd;
 use rx_plain::{Items, NoMemory};
 use rx_row::{Constraint, Row};
 use rx_steps::State;
-use rx_term::RuleSet;
+use rx_term::{Equation, RuleSet};
 use rx_visits::Menu;
 use std::alloc::Global;
 
@@ -28,12 +28,15 @@ fn noted_rows(alloc: Global, noted: bool, state: &State) -> Result<Option<Items<
     }
 }
 
-/// Whether there are no choices at the node: settling took all steps, or no goal is left.
-fn is_spent(node: &Node) -> bool
-    ensures { result ≡ is_spent node.now }
+/// The goal at which there are choices: the first, unless settling took all steps.
+fn open_goal(node: &Node) -> Option<&Equation>
+    ensures { option_copied result ≡ open_goal node.now }
 {
-    let closed = is_closed(&node.state);
-    node.left == 0 || closed
+    if node.left == 0 {
+        None
+    } else {
+        node.state.first()
+    }
 }
 
 /// The choices at a settled node; there are none where settling took all steps, or no goal is left.
@@ -49,13 +52,13 @@ pub(crate) fn find_menu<S: FnMut(&Constraint) -> Result<Option<Cert>, FmEnd>>(
     ensures menu { IfOk result (λ m. seen_menu node_of m ≡ menu rules.now (node_of node.now)) }
     ensures nodes { (goal : Equation) → IsNode rules.now goal node.now → IfOk result (λ m. All (λ c. IsNode rules.now goal c.node) m.choices) }
 {
-    if is_spent(node) {
+    let Some(first) = open_goal(node) else {
         return Ok(Menu {
             choices: Items::new(alloc),
             note: None,
         });
-    }
-    let found = find_choices(alloc, rules, node, solve)?;
+    };
+    let found = find_choices(alloc, rules, node, first, solve)?;
     let note = noted_rows(alloc, found.noted, &node.state)?;
     Ok(Menu {
         choices: found.choices,

@@ -7,16 +7,16 @@ use Rattle.rx_term.specs.declared.rule_set.RuleParts.{RuleParts}
 use Rattle.rx_form.specs.States.{State}
 use Rattle.rx_form.specs.declared.step.Step.{Step}
 use Rattle.rx_settle.specs.Answers.{IsTrial, Takes}
-use Rattle.rx_settle.specs.AtFirst.{at_first, from_leaving, from_naming, from_unfolding, leaving_sides, unfolding_sides, using_all}
+use Rattle.rx_settle.specs.AtFirst.{at_first, from_leaving, from_naming, from_unfolding, from_uses, leaving_sides, unfolding_sides}
 use Rattle.rx_settle.specs.Moves.{Absurd, Equal, move_of, step_of}
-use Rattle.rx_settle.specs.Settling.{by_results, settling_first, settling_move}
+use Rattle.rx_settle.specs.Settling.{by_results, named, settling_first, settling_move}
 use Rattle.rx_settle.specs.Trying.{Next, attempt, next_if_formed}
 use Rattle.rx_settle.specs.Untaken.{IsUntaken}
 use Rattle.rx_settle.specs.declared.trial.Trial.{Trial}
 use Rattle.rx_form.specs.Kinds.{formed}
 use Rattle.rx_settle.proofs.FirstLaws.{at_goal, first_of_both, no_goal, second_of_both}
 use Rattle.rx_settle.proofs.KeepingLaws.{move_keeps}
-use Rattle.rx_settle.proofs.TrialLaws.{nothing_noted, one_tried, taken_first, trial_of, untaken_second}
+use Rattle.rx_settle.proofs.TrialLaws.{one_tried, taken_first, trial_of, untaken_second}
 
 -- ---- results
 
@@ -40,21 +40,23 @@ module _ (parts : RuleParts) (old : State) where
       trial_of parts old new (by_results parts old goal.0) _ t (sym (at_goal (by_results parts old) old.goals goal.0 goal.1)) (of goal.0 goal.1)
   results_answer n new (Err e) count some of = tt
 
-  -- ---- naming fails
+  -- ---- naming, and what comes after it
 
-  naming_fails : (goals : List Equation) → at_first (λ goal. first_applying (using_all parts old goal ∷ by_results parts old goal ∷ [])) goals ≡ at_first (from_naming parts old) goals
-  naming_fails [] = refl
-  naming_fails (goal ∷ goals) = sym (nothing_noted (first_applying (using_all parts old goal ∷ by_results parts old goal ∷ [])))
+  after_naming : (goals : List Equation) → at_first (λ goal. first_applying (named parts old goal ∷ from_uses parts old goal ∷ [])) goals ≡ at_first (from_naming parts old) goals
+  after_naming [] = refl
+  after_naming (goal ∷ goals) =
+      let names = named parts old goal in
+      ap (made_or names.made names.noted) (one_tried (from_uses parts old goal))
 
-  module _ (mid : State) (t : Trial) (is : IsTrial parts old mid (at_first (using_all parts old) old.goals) t) where
-    pub use_first : (same : Trial) → IsUntaken t (Err same) → IsTrial parts old mid (at_first (from_naming parts old) old.goals) same
-    use_first same e =
-        trial_of parts old mid _ _ same (naming_fails old.goals) (first_of_both parts old mid (using_all parts old) (λ s. by_results parts s) t is same e)
+  module _ (mid : State) (t : Trial) (is : IsTrial parts old mid (at_first (named parts old) old.goals) t) where
+    pub name_first : (same : Trial) → IsUntaken t (Err same) → IsTrial parts old mid (at_first (from_naming parts old) old.goals) same
+    name_first same e =
+        trial_of parts old mid _ _ same (after_naming old.goals) (first_of_both parts old mid (named parts old) (λ s. from_uses parts s) t is same e)
 
-    pub results_second : (u v : Trial) (new : State) (noted : Bool) → IsUntaken t (Ok noted) → IsTrial parts mid new (at_first (by_results parts mid) mid.goals) u
+    pub uses_second : (u v : Trial) (new : State) (noted : Bool) → IsUntaken t (Ok noted) → IsTrial parts mid new (at_first (from_uses parts mid) mid.goals) u
         → v ≡ record { taken = u.taken; noted = noted || u.noted } → IsTrial parts old new (at_first (from_naming parts old) old.goals) v
-    results_second u v new noted e more same =
-        trial_of parts old new _ _ v (naming_fails old.goals) (second_of_both parts old mid (using_all parts old) (λ s. by_results parts s) t is u v new noted e more same)
+    uses_second u v new noted e more same =
+        trial_of parts old new _ _ v (after_naming old.goals) (second_of_both parts old mid (named parts old) (λ s. from_uses parts s) t is u v new noted e more same)
 
   -- ---- all items
 

@@ -24,8 +24,10 @@ use Rattle.rx_form.specs.declared.form_end.FormEnd.TheVariants as form_end
 use Rattle.rx_form.specs.declared.formed_step.FormedStep.{FormedStep}
 use Rattle.rx_form.specs.declared.step.Side.{Side}
 use Rattle.rx_form.specs.declared.step.Side.TheVariants.{Left, Right}
+use Rattle.rx_generalise.specs.Naming.{naming_of}
+use Rattle.rx_lemma.specs.Lemmas.{Generalisation}
 use Rattle.rx_match.specs.Matching.{use_of}
-use Rattle.rx_settle.specs.Moves.{Absurd, Equal, Expand, Hyp, Move, Results, Simplify, step_of}
+use Rattle.rx_settle.specs.Moves.{Absurd, Equal, Expand, Generalise, Hyp, Move, Results, Simplify, step_of}
 use Rattle.rx_settle.specs.Settling.{by_results, by_rules, is_at_loop_point, is_tried, leaving_at, named, redex_symbol, resulting, resulting_at, settling, settling_first, settling_move, simplifying, unfolding_at, using_at, using_each, variables_end}
 use Rattle.rx_settle.specs.Suffixes.{common_suffix}
 use Rattle.rx_settle.specs.Trying.{Next, asked_shown, attempt, next_if_formed, then_by}
@@ -81,6 +83,10 @@ module _ (parts : RuleParts) (hypotheses : List Rule) where
   equal_keeps : (goal : Option Equation) → KeepsNothing (formed parts goal hypotheses (step_of Equal))
   equal_keeps None = refused form_end.NoGoal
   equal_keeps (Some goal) = tested _ _ (within _ refl)
+
+  generalise_keeps : (goal : Option Equation) (new : Equation) (ws : List (ℕ × Body)) → KeepsNothing (formed parts goal hypotheses (step_of (Generalise new ws)))
+  generalise_keeps None new ws = refused form_end.NoGoal
+  generalise_keeps (Some goal) new ws = tested _ _ (within _ refl)
 
   results_keep : (goal : Option Equation) (left right : ℕ) → KeepsNothing (formed parts goal hypotheses (step_of (Results left right)))
   results_keep None left right = refused form_end.NoGoal
@@ -154,9 +160,18 @@ module _ (state : State) where
     leaving_keeps : (side : Side) (redex : Option Sym) → Keeps (leaving_at parts state side redex)
     leaving_keeps side redex = either_keeps (is_at_loop_point parts redex) _ _ (rules_keep side redex 0 parts.rules) (none_keeps false)
 
-    -- ---- hypotheses
-
     module _ (goal : Equation) where
+      -- ---- naming
+
+      named_keeps : Keeps (named parts state goal)
+      named_keeps = by (naming_of parts goal).made
+        where
+          by : (o : Option Generalisation) → Keeps (then_by o (naming_of parts goal).noted (λ (lemma : Generalisation). attempt parts state (Generalise lemma.goal lemma.subst)))
+          by None = none_keeps (naming_of parts goal).noted
+          by (Some lemma) = attempt_keeps (Generalise lemma.goal lemma.subst) (generalise_keeps parts state.hypotheses (slice_get state.goals 0) lemma.goal lemma.subst)
+
+      -- ---- hypotheses
+
       place_keeps : (number : ℕ) (hypothesis : Rule) (side : Side) (place : ℕ) → Keeps (using_at parts state goal number hypothesis side place)
       place_keeps number hypothesis side place = by (use_of goal hypothesis side place).made
         where
@@ -215,7 +230,7 @@ module _ (state : State) where
 
       from_naming : later_keep (named parts state goal ∷ uses ∷ by_results parts state goal ∷ [])
       from_naming =
-          item_keeps (named parts state goal) (uses ∷ by_results parts state goal ∷ []) (none_keeps false)
+          item_keeps (named parts state goal) (uses ∷ by_results parts state goal ∷ []) named_keeps
           (item_keeps uses (by_results parts state goal ∷ []) (uses_keep 0 state.hypotheses)
           (item_keeps (by_results parts state goal) [] by_results_keeps (none_keeps false)))
 

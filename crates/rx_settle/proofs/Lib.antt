@@ -5,6 +5,7 @@ pub mod FirstLaws
 pub mod ItemLaws
 pub mod KeepingLaws
 pub mod MoveLaws
+pub mod NamingLaws
 pub mod PointLaws
 pub mod RuleWalk
 pub mod ShowingLaws

@@ -52,6 +52,10 @@ module _ (parts : RuleParts) (state : State) where
 
   -- ---- the items from one on
 
+  -- hypotheses and results
+  abbrev pub from_uses : Equation → Tried Next
+  from_uses goal = first_applying (using_all goal ∷ by_results parts state goal ∷ [])
+
   -- naming, hypotheses and results
   abbrev pub from_naming : Equation → Tried Next
   from_naming goal = first_applying (named parts state goal ∷ using_all goal ∷ by_results parts state goal ∷ [])

@@ -17,7 +17,8 @@ use Rattle.rx_form.specs.Pieces.{side_of}
 use Rattle.rx_form.specs.States.{State}
 use Rattle.rx_form.specs.declared.step.Side.{Side}
 use Rattle.rx_form.specs.declared.step.Side.TheVariants.{Left, Right}
-use Rattle.rx_lemma.specs.Lemmas.{Generalisation, naming}
+use Rattle.rx_generalise.specs.Naming.{naming_of}
+use Rattle.rx_lemma.specs.Lemmas.{Generalisation}
 use Rattle.rx_match.specs.Matching.{use_of}
 use Rattle.rx_settle.specs.Moves.{Move, Simplify, Hyp, Expand, Absurd, Equal, Generalise, Results}
 use Rattle.rx_settle.specs.Suffixes.{common_suffix}
@@ -73,7 +74,7 @@ module _ (parts : RuleParts) (state : State) where
 
   -- constants of calls become variables
   abbrev pub named : Equation → Tried Next
-  named goal = then_try (naming parts goal) (λ (lemma : Generalisation). attempt parts state (Generalise lemma.goal lemma.subst))
+  named goal = then_try (naming_of parts goal) (λ (lemma : Generalisation). attempt parts state (Generalise lemma.goal lemma.subst))
 
   -- the hypothesis with that number, at a place of a side
   abbrev pub using_at : Equation → ℕ → Rule → Side → ℕ → Tried Next

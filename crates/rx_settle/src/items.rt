@@ -1,13 +1,14 @@
 //! The items of settling in order, at the first goal of a state.
 ghost use Rattle.std.specs.Prelude.{◌≡◌, IfOk, OnErr};
 ghost use Rattle.rx_settle.specs.Answers.{IsTrial};
-ghost use Rattle.rx_settle.specs.AtFirst.{at_first, from_leaving, from_naming, from_unfolding};
+ghost use Rattle.rx_settle.specs.AtFirst.{at_first, from_leaving, from_naming, from_unfolding, from_uses};
 ghost use Rattle.rx_settle.specs.LoopPoints.{AreLoopPoints};
 ghost use Rattle.rx_settle.specs.Settling.{by_results, settling_move};
 ghost use Rattle.rx_solve.specs.Answers.{IsSolver};
 
 use crate::deleting::try_deleting;
 use crate::loop_points::LoopPoints;
+use crate::naming::try_naming;
 use crate::results::try_results;
 use crate::sides::{try_leaving_sides, try_unfolding_sides};
 use crate::trial::Trial;
@@ -39,8 +40,8 @@ fn try_results_at_first<S: FnMut(&Constraint) -> Result<Option<Cert>, FmEnd>>(
     try_results(alloc, rules, state, solve)
 }
 
-/// Hypotheses, and then results. Constants aren't named as yet.
-fn try_from_naming<S: FnMut(&Constraint) -> Result<Option<Cert>, FmEnd>>(
+/// Hypotheses, and then results.
+fn try_from_uses<S: FnMut(&Constraint) -> Result<Option<Cert>, FmEnd>>(
     alloc: Global,
     rules: &RuleSet,
     state: &mut State,
@@ -49,7 +50,7 @@ fn try_from_naming<S: FnMut(&Constraint) -> Result<Option<Cert>, FmEnd>>(
     requires solver { IsSolver S.FnMut solve.old }
     ensures solver { IsSolver S.FnMut solve.new }
     ensures trial { IfOk result (IsTrial rules.now state.old state.new
-        (at_first (from_naming rules.now state.old) state.old.goals)) }
+        (at_first (from_uses rules.now state.old) state.old.goals)) }
     ensures kept { OnErr result (state.new ≡ state.old) }
 {
     let noted = match try_uses(alloc, rules, state, solve)?.untaken() {
@@ -58,6 +59,29 @@ fn try_from_naming<S: FnMut(&Constraint) -> Result<Option<Cert>, FmEnd>>(
     };
     let results = try_results_at_first(alloc, rules, state, solve)?;
     Ok(results.after(noted))
+}
+
+/// Constants are named, and what comes after that.
+fn try_from_naming<S: FnMut(&Constraint) -> Result<Option<Cert>, FmEnd>>(
+    alloc: Global,
+    rules: &RuleSet,
+    points: &LoopPoints,
+    state: &mut State,
+    solve: &mut S,
+) -> Result<Trial, NoMemory>
+    requires points { AreLoopPoints rules.now points.now }
+    requires solver { IsSolver S.FnMut solve.old }
+    ensures solver { IsSolver S.FnMut solve.new }
+    ensures trial { IfOk result (IsTrial rules.now state.old state.new
+        (at_first (from_naming rules.now state.old) state.old.goals)) }
+    ensures kept { OnErr result (state.new ≡ state.old) }
+{
+    let noted = match try_naming(alloc, rules, points, state, solve)?.untaken() {
+        Ok(noted) => noted,
+        Err(taken) => return Ok(taken),
+    };
+    let later = try_from_uses(alloc, rules, state, solve)?;
+    Ok(later.after(noted))
 }
 
 /// Rules that leave the components of loop points, and what comes after them.
@@ -79,7 +103,7 @@ fn try_from_leaving<S: FnMut(&Constraint) -> Result<Option<Cert>, FmEnd>>(
         Ok(noted) => noted,
         Err(taken) => return Ok(taken),
     };
-    let later = try_from_naming(alloc, rules, state, solve)?;
+    let later = try_from_naming(alloc, rules, points, state, solve)?;
     Ok(later.after(noted))
 }
 

@@ -6,6 +6,7 @@ mod deleting;
 mod formation;
 mod items;
 mod loop_points;
+mod naming;
 mod number;
 mod results;
 mod rules;

@@ -34,6 +34,13 @@ impl LoopPoints {
         })
     }
 
+    /// The loop points and components.
+    pub(crate) fn loops(&self) -> &Loops
+        ensures { result.now ≡ self.now.loops }
+    {
+        &self.loops
+    }
+
     /// Whether the right side of the rule doesn't begin in the component of the symbol.
     fn leaves(&self, from: Sym, rule: &Rule) -> bool
         ensures { (parts : RuleParts) → AreLoopPoints parts self.now → result ≡ leaves parts from rule.now }
