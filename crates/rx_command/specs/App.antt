@@ -24,14 +24,19 @@ with_words app =
     (new_rule (codes "second")))
     (new_rule (codes "log"))
 
--- its options: a precondition, how deep the search goes, how many visits it makes
+-- its options: a precondition, how deep the search goes, how many visits it makes, how large the arguments are, how
+-- many rounds a run may take
 abbrev pub with_options : App → App
 with_options app =
     with_rule
     (with_rule
+    (with_rule
+    (with_rule
     (with_rule app (option_rule (codes "pre")))
     (option_rule (codes "depth")))
-    (option_rule (codes "budget"))
+    (option_rule (codes "budget")))
+    (option_rule (codes "box")))
+    (option_rule (codes "rounds"))
 
 abbrev pub command_app : App
 command_app = with_options (with_words bare_app)

@@ -1,5 +1,5 @@
 -- What the words of a command line ask for.
-use Rattle.std.specs.Prelude.{ℕ, Bool, true, if◌then◌else◌, nat_le, Option, Some, None, List, [], ◌∷◌, length, codes, option_map}
+use Rattle.std.specs.Prelude.{ℕ, Bool, true, ◌&&◌, if◌then◌else◌, nat_le, Option, Some, None, is_none, List, [], ◌∷◌, length, codes, option_map}
 use Rattle.std.specs.Borrow.{Bor}
 use Rattle.std.specs.Str.{bytes_eq}
 use Rattle.clap.specs.Kinds.{Kinds}
@@ -7,8 +7,11 @@ use Rattle.clap.specs.Words.{Row, fault_of, first_of, matches_of}
 use Rattle.rx_command.specs.App.{command_app}
 use Rattle.rx_command.specs.Numbers.{number_of}
 use Rattle.rx_command.specs.declared.command.Command as code
+use Rattle.rx_command.specs.declared.command.Comparison as code_comparison
+use Rattle.rx_command.specs.declared.command.Comparison.TheVariants as case
 use Rattle.rx_command.specs.declared.command.Command.TheVariants as variant
 use Rattle.rx_command.specs.declared.command.Effort.{Effort}
+use Rattle.rx_command.specs.declared.command.Extent.{Extent}
 use Rattle.rx_command.specs.declared.command.Functions as code_functions
 
 -- two functions of a file, and a precondition on their arguments
@@ -18,10 +21,16 @@ pub record Functions : Type 0 where
   pub second : List ℕ
   pub precondition : Option (List ℕ)
 
--- to search for a proof that both compute the same, or to replay the proof in a log
+-- to search for a proof that both compute the same, to replay the proof in a log, or to run both on all small arguments
+pub data Comparison : Type 0 where
+  Prove : Functions → Effort → Comparison
+  Check : Functions → List ℕ → Comparison
+  Refute : Functions → Extent → Comparison
+
+-- to compare two functions, or to search for proofs of so many examples
 pub data Command : Type 0 where
-  Prove : Functions → Effort → Command
-  Check : Functions → List ℕ → Command
+  Compare : Comparison → Command
+  Demo : ℕ → Command
 
 -- ---- what the words give
 
@@ -62,13 +71,24 @@ effort_of rows =
     both_numbers (number_or 0 12 5 (first_of (codes "depth") rows))
     (number_or 1 1000000 100000 (first_of (codes "budget") rows))
 
+abbrev pub both_parts : Option ℕ → Option ℕ → Option Extent
+both_parts None rounds = None
+both_parts (Some side) None = None
+both_parts (Some side) (Some rounds) = Some (record { side = side; rounds = rounds })
+
+-- the side of the box is 0 to 1,000 and usually 10, the rounds are 1 to 100,000 and usually 10,000
+abbrev pub extent_of : List Row → Option Extent
+extent_of rows =
+    both_parts (number_or 0 1000 10 (first_of (codes "box") rows))
+    (number_or 1 100000 10000 (first_of (codes "rounds") rows))
+
 -- ---- modes
 
 -- `prove` takes no log
 abbrev pub prove_of : Option Functions → Option Effort → Option (List ℕ) → Option Command
 prove_of None effort log = None
 prove_of (Some functions) None log = None
-prove_of (Some functions) (Some effort) None = Some (Prove functions effort)
+prove_of (Some functions) (Some effort) None = Some (Compare (Prove functions effort))
 prove_of (Some functions) (Some effort) (Some log) = None
 
 -- `check` takes a log, and neither depth nor budget
@@ -77,15 +97,53 @@ check_of None log depth budget = None
 check_of (Some functions) None depth budget = None
 check_of (Some functions) (Some log) (Some depth) budget = None
 check_of (Some functions) (Some log) None (Some budget) = None
-check_of (Some functions) (Some log) None None = Some (Check functions log)
+check_of (Some functions) (Some log) None None = Some (Compare (Check functions log))
 
+-- `refute` takes no log
+abbrev pub refute_of : Option Functions → Option Extent → Option (List ℕ) → Option Command
+refute_of None extent log = None
+refute_of (Some functions) None log = None
+refute_of (Some functions) (Some extent) None = Some (Compare (Refute functions extent))
+refute_of (Some functions) (Some extent) (Some log) = None
+
+-- `demo` takes the number of examples in the place of the file, 1 to 100
+abbrev pub demo_of : Option (List ℕ) → Option Command
+demo_of None = None
+demo_of (Some text) = option_map Demo (number_of 1 100 text)
+
+-- nothing is given under this
+abbrev pub is_absent : List ℕ → List Row → Bool
+is_absent id rows = is_none (first_of id rows)
+
+-- no word is after the number of examples
+abbrev pub has_no_more_words : List Row → Bool
+has_no_more_words rows =
+    is_absent (codes "first") rows && (is_absent (codes "second") rows && is_absent (codes "log") rows)
+
+-- neither a depth nor a budget
+abbrev pub has_no_effort : List Row → Bool
+has_no_effort rows = is_absent (codes "depth") rows && is_absent (codes "budget") rows
+
+-- neither a box nor rounds
+abbrev pub has_no_extent : List Row → Bool
+has_no_extent rows = is_absent (codes "box") rows && is_absent (codes "rounds") rows
+
+abbrev pub has_no_options : List Row → Bool
+has_no_options rows = is_absent (codes "pre") rows && (has_no_effort rows && has_no_extent rows)
+
+-- a depth and a budget are of `prove` alone, a box and rounds of `refute` alone
 abbrev pub in_mode : Option (List ℕ) → List Row → Option Command
 in_mode None rows = None
 in_mode (Some mode) rows =
-    if bytes_eq mode (codes "prove") then prove_of (functions_of rows) (effort_of rows) (first_of (codes "log") rows)
-    else (if bytes_eq mode (codes "check")
+    if bytes_eq mode (codes "prove") && has_no_extent rows
+    then prove_of (functions_of rows) (effort_of rows) (first_of (codes "log") rows)
+    else (if bytes_eq mode (codes "check") && has_no_extent rows
     then check_of (functions_of rows) (first_of (codes "log") rows) (first_of (codes "depth") rows) (first_of (codes "budget") rows)
-    else None)
+    else (if bytes_eq mode (codes "refute") && has_no_effort rows
+    then refute_of (functions_of rows) (extent_of rows) (first_of (codes "log") rows)
+    else (if bytes_eq mode (codes "demo") && (has_no_more_words rows && has_no_options rows)
+    then demo_of (first_of (codes "file") rows)
+    else None)))
 
 abbrev pub command_in : List Row → Option Command
 command_in rows = in_mode (first_of (codes "mode") rows) rows
@@ -113,6 +171,11 @@ functions_view f = record {
   precondition = bytes_of f.precondition;
 }
 
+abbrev pub comparison_view : code_comparison.Comparison → Comparison
+comparison_view (case.Prove functions effort) = Prove (functions_view functions) effort
+comparison_view (case.Check functions log) = Check (functions_view functions) log.now
+comparison_view (case.Refute functions extent) = Refute (functions_view functions) extent
+
 abbrev pub command_view : code.Command → Command
-command_view (variant.Prove functions effort) = Prove (functions_view functions) effort
-command_view (variant.Check functions log) = Check (functions_view functions) log.now
+command_view (variant.Compare comparison) = Compare (comparison_view comparison)
+command_view (variant.Demo count) = Demo count

@@ -1,6 +1,6 @@
 -- Some command lines, and what they ask for.
 use Rattle.std.specs.Prelude.{ℕ, Some, None, List, [], ◌∷◌, ◌++◌, codes}
-use Rattle.rx_command.specs.Commands.{Command, Functions, Prove, Check}
+use Rattle.rx_command.specs.Commands.{Command, Functions, Compare, Prove, Check, Refute}
 
 abbrev pub no_words : List (List ℕ)
 no_words = []
@@ -13,21 +13,22 @@ abbrev pub up_and_rec : Functions
 up_and_rec = record { file = codes "f.c"; first = codes "up"; second = codes "rec"; precondition = None }
 
 abbrev pub prove_usual : Command
-prove_usual = Prove up_and_rec (record { depth = 5; budget = 100000 })
+prove_usual = Compare (Prove up_and_rec (record { depth = 5; budget = 100000 }))
 
 -- ctrl prove f.c up rec --depth 12 --pre n>=0 --budget=7
 abbrev pub given_words : List (List ℕ)
 given_words = prove_words ++ codes "--depth" ∷ codes "12" ∷ codes "--pre" ∷ codes "n>=0" ∷ codes "--budget=7" ∷ []
 
 abbrev pub prove_given : Command
-prove_given = Prove (record up_and_rec { precondition = Some (codes "n>=0") }) (record { depth = 12; budget = 7 })
+prove_given =
+    Compare (Prove (record up_and_rec { precondition = Some (codes "n>=0") }) (record { depth = 12; budget = 7 }))
 
 -- ctrl check f.c up rec f.log
 abbrev pub check_words : List (List ℕ)
 check_words = codes "ctrl" ∷ codes "check" ∷ codes "f.c" ∷ codes "up" ∷ codes "rec" ∷ codes "f.log" ∷ []
 
 abbrev pub check_log : Command
-check_log = Check up_and_rec (codes "f.log")
+check_log = Compare (Check up_and_rec (codes "f.log"))
 
 -- ctrl check f.c up rec
 abbrev pub no_log_words : List (List ℕ)
@@ -44,3 +45,50 @@ zero_words = prove_words ++ codes "--depth" ∷ codes "05" ∷ []
 -- ctrl check f.c up rec f.log --depth 5
 abbrev pub beside_words : List (List ℕ)
 beside_words = check_words ++ codes "--depth" ∷ codes "5" ∷ []
+
+-- ctrl refute f.c up rec
+abbrev pub refute_words : List (List ℕ)
+refute_words = codes "ctrl" ∷ codes "refute" ∷ codes "f.c" ∷ codes "up" ∷ codes "rec" ∷ []
+
+abbrev pub refute_usual : Command
+refute_usual = Compare (Refute up_and_rec (record { side = 10; rounds = 10000 }))
+
+-- ctrl refute f.c up rec --rounds 7 --pre n>=0 --box=0
+abbrev pub boxed_words : List (List ℕ)
+boxed_words = refute_words ++ codes "--rounds" ∷ codes "7" ∷ codes "--pre" ∷ codes "n>=0" ∷ codes "--box=0" ∷ []
+
+abbrev pub refute_boxed : Command
+refute_boxed =
+    Compare (Refute (record up_and_rec { precondition = Some (codes "n>=0") }) (record { side = 0; rounds = 7 }))
+
+-- ctrl refute f.c up rec --depth 5
+abbrev pub deep_refute_words : List (List ℕ)
+deep_refute_words = refute_words ++ codes "--depth" ∷ codes "5" ∷ []
+
+-- ctrl check f.c up rec f.log --box 5
+abbrev pub boxed_check_words : List (List ℕ)
+boxed_check_words = check_words ++ codes "--box" ∷ codes "5" ∷ []
+
+-- ctrl refute f.c up rec --box 1001
+abbrev pub large_box_words : List (List ℕ)
+large_box_words = refute_words ++ codes "--box" ∷ codes "1001" ∷ []
+
+-- ctrl refute f.c up rec --rounds 0
+abbrev pub no_rounds_words : List (List ℕ)
+no_rounds_words = refute_words ++ codes "--rounds" ∷ codes "0" ∷ []
+
+-- ctrl demo 100
+abbrev pub demo_words : List (List ℕ)
+demo_words = codes "ctrl" ∷ codes "demo" ∷ codes "100" ∷ []
+
+-- ctrl demo 0
+abbrev pub empty_demo_words : List (List ℕ)
+empty_demo_words = codes "ctrl" ∷ codes "demo" ∷ codes "0" ∷ []
+
+-- ctrl demo 101
+abbrev pub long_demo_words : List (List ℕ)
+long_demo_words = codes "ctrl" ∷ codes "demo" ∷ codes "101" ∷ []
+
+-- ctrl demo 7 --depth 4
+abbrev pub deep_demo_words : List (List ℕ)
+deep_demo_words = codes "ctrl" ∷ codes "demo" ∷ codes "7" ∷ codes "--depth" ∷ codes "4" ∷ []

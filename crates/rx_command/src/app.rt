@@ -45,10 +45,12 @@ fn with_options<'a>(alloc: Global, command: Command<'a>) -> Result<Command<'a>, 
 {
     let command = with_option(alloc, command, "pre")?;
     let command = with_option(alloc, command, "depth")?;
-    with_option(alloc, command, "budget")
+    let command = with_option(alloc, command, "budget")?;
+    let command = with_option(alloc, command, "box")?;
+    with_option(alloc, command, "rounds")
 }
 
-/// The command line of the program, as `clap` takes it: five words and three options, and no flag
+/// The command line of the program, as `clap` takes it: five words and five options, and no flag
 /// for help.
 pub fn command_app<'a>(alloc: Global) -> Result<Command<'a>, AllocError>
     ensures { IfOk result (λ c. app_of c ≡ spec.command_app) }

@@ -33,13 +33,33 @@ pub struct Effort {
     pub budget: u32,
 }
 
+/// On which arguments two functions are run, and how long.
+#[derive(Clone, Copy)]
+pub struct Extent {
+    /// The greatest size of an argument, 0 to 1,000.
+    pub side: u32,
+    /// How many rounds a run may take, 1 to 100,000.
+    pub rounds: u32,
+}
+
+/// How two functions are compared.
+#[derive(Clone, Copy)]
+pub enum Comparison<'a> {
+    /// By a search for a proof that both compute the same.
+    Prove(Functions<'a>, Effort),
+    /// By a replay of the proof in the log with this name.
+    Check(Functions<'a>, &'a str),
+    /// By runs on all small arguments.
+    Refute(Functions<'a>, Extent),
+}
+
 /// What a command line asks for.
 #[derive(Clone, Copy)]
 pub enum Command<'a> {
-    /// To search for a proof that both functions compute the same.
-    Prove(Functions<'a>, Effort),
-    /// To replay the proof in the log with this name.
-    Check(Functions<'a>, &'a str),
+    /// To compare two functions.
+    Compare(Comparison<'a>),
+    /// To search for proofs of this many examples, 1 to 100.
+    Demo(u32),
 }
 
 /// The value of a word or an option.
@@ -109,6 +129,15 @@ fn effort_of(matches: &ArgMatches<'_>) -> Option<Effort>
     Some(Effort { depth, budget })
 }
 
+/// On which arguments the functions are to be run, and how long.
+fn extent_of(matches: &ArgMatches<'_>) -> Option<Extent>
+    ensures { result ≡ spec.extent_of (rows_of (found_of matches.now)) }
+{
+    let side = number_or(0, 1_000, 10, given(matches, "box"))?;
+    let rounds = number_or(1, 100_000, 10_000, given(matches, "rounds"))?;
+    Some(Extent { side, rounds })
+}
+
 /// A proof is searched for, where no log is given.
 fn prove_of<'a>(
     functions: Option<Functions<'a>>,
@@ -122,7 +151,7 @@ fn prove_of<'a>(
     let effort = effort?;
     match log {
         Some(_) => None,
-        None => Some(Command::Prove(functions, effort)),
+        None => Some(Command::Compare(Comparison::Prove(functions, effort))),
     }
 }
 
@@ -140,22 +169,86 @@ fn check_of<'a>(
     let functions = functions?;
     let log = log?;
     match (depth, budget) {
-        (None, None) => Some(Command::Check(functions, log)),
+        (None, None) => Some(Command::Compare(Comparison::Check(functions, log))),
         _ => None,
     }
+}
+
+/// Both functions are run, where no log is given.
+fn refute_of<'a>(
+    functions: Option<Functions<'a>>,
+    extent: Option<Extent>,
+    log: Option<&'a str>,
+) -> Option<Command<'a>>
+    ensures { option_map command_view result ≡
+        spec.refute_of (option_map functions_view functions.entry) extent (bytes_of log.entry) }
+{
+    let functions = functions?;
+    let extent = extent?;
+    match log {
+        Some(_) => None,
+        None => Some(Command::Compare(Comparison::Refute(functions, extent))),
+    }
+}
+
+/// Whether nothing is given under this.
+fn is_absent(matches: &ArgMatches<'_>, id: &str) -> bool
+    ensures { result ≡ spec.is_absent id.now (rows_of (found_of matches.now)) }
+{
+    given(matches, id).is_none()
+}
+
+/// Whether no word is after the number of examples.
+fn has_no_more_words(matches: &ArgMatches<'_>) -> bool
+    ensures { result ≡ spec.has_no_more_words (rows_of (found_of matches.now)) }
+{
+    is_absent(matches, "first") && is_absent(matches, "second") && is_absent(matches, "log")
+}
+
+/// Whether neither a depth nor a budget is given.
+fn has_no_effort(matches: &ArgMatches<'_>) -> bool
+    ensures { result ≡ spec.has_no_effort (rows_of (found_of matches.now)) }
+{
+    is_absent(matches, "depth") && is_absent(matches, "budget")
+}
+
+/// Whether neither a box nor rounds are given.
+fn has_no_extent(matches: &ArgMatches<'_>) -> bool
+    ensures { result ≡ spec.has_no_extent (rows_of (found_of matches.now)) }
+{
+    is_absent(matches, "box") && is_absent(matches, "rounds")
+}
+
+/// Whether no option is given.
+fn has_no_options(matches: &ArgMatches<'_>) -> bool
+    ensures { result ≡ spec.has_no_options (rows_of (found_of matches.now)) }
+{
+    is_absent(matches, "pre") && has_no_effort(matches) && has_no_extent(matches)
+}
+
+/// Examples are shown, where their number is given.
+fn demo_of<'a>(count: Option<&str>) -> Option<Command<'a>>
+    ensures { option_map command_view result ≡ spec.demo_of (bytes_of count.entry) }
+{
+    Some(Command::Demo(number_of(1, 100, count?)?))
 }
 
 /// What is asked for in a mode.
 fn in_mode<'a>(mode: &str, matches: &ArgMatches<'a>) -> Option<Command<'a>>
     ensures { option_map command_view result ≡ spec.in_mode (Some mode.now) (rows_of (found_of matches.now)) }
 {
-    if mode == "prove" {
+    if mode == "prove" && has_no_extent(matches) {
         let log = given(matches, "log");
         prove_of(functions_of(matches), effort_of(matches), log)
-    } else if mode == "check" {
+    } else if mode == "check" && has_no_extent(matches) {
         let depth = given(matches, "depth");
         let budget = given(matches, "budget");
         check_of(functions_of(matches), given(matches, "log"), depth, budget)
+    } else if mode == "refute" && has_no_effort(matches) {
+        let log = given(matches, "log");
+        refute_of(functions_of(matches), extent_of(matches), log)
+    } else if mode == "demo" && has_no_more_words(matches) && has_no_options(matches) {
+        demo_of(given(matches, "file"))
     } else {
         None
     }

@@ -1,12 +1,16 @@
 //! What some command lines ask for: a law, a function with an empty body.
 ghost use Rattle.std.specs.Prelude.{◌≡◌, None, Some};
-ghost use Rattle.rx_command.specs.Commands.{command_of};
+ghost use Rattle.rx_command.specs.Commands.{Demo, command_of};
 ghost use Rattle.rx_command.specs.Examples as example;
 
 /// A proof is searched for with the usual depth and budget (`usual`) or with those that are given
-/// (`given`), also under a precondition; a log is replayed (`log`). Nothing is asked for by words that
-/// name no log (`no_log`), by a depth of 13 (`too_deep`), by a number with a 0 in front (`zero`), by a
-/// depth beside a log (`beside`), or by no words at all (`nothing`).
+/// (`given`), also under a precondition; a log is replayed (`log`); both functions are run, with the
+/// usual box and rounds (`refute`) or with those that are given (`boxed`); examples are shown (`demo`).
+/// Nothing is asked for by words that name no log (`no_log`), by a depth of 13 (`too_deep`), by a number
+/// with a 0 in front (`zero`), by a depth beside a log (`beside`) or beside runs (`deep_runs`), by a box
+/// beside a log (`boxed_check`), by a box of 1,001 (`too_large`), by no rounds (`no_rounds`), by no
+/// examples (`no_examples`) or by 101 (`too_many`), by a depth beside them (`deep_demo`), or by no words
+/// at all (`nothing`).
 pub fn command_lines_ask()
     ensures usual { command_of example.prove_words ≡ Some example.prove_usual }
     ensures given { command_of example.given_words ≡ Some example.prove_given }
@@ -15,5 +19,15 @@ pub fn command_lines_ask()
     ensures too_deep { command_of example.deep_words ≡ None }
     ensures zero { command_of example.zero_words ≡ None }
     ensures beside { command_of example.beside_words ≡ None }
+    ensures refute { command_of example.refute_words ≡ Some example.refute_usual }
+    ensures boxed { command_of example.boxed_words ≡ Some example.refute_boxed }
+    ensures deep_runs { command_of example.deep_refute_words ≡ None }
+    ensures boxed_check { command_of example.boxed_check_words ≡ None }
+    ensures too_large { command_of example.large_box_words ≡ None }
+    ensures no_rounds { command_of example.no_rounds_words ≡ None }
+    ensures demo { command_of example.demo_words ≡ Some (Demo 100) }
+    ensures no_examples { command_of example.empty_demo_words ≡ None }
+    ensures too_many { command_of example.long_demo_words ≡ None }
+    ensures deep_demo { command_of example.deep_demo_words ≡ None }
     ensures nothing { command_of example.no_words ≡ None }
 {}

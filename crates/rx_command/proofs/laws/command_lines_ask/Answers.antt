@@ -33,3 +33,43 @@ returns-clause-beside c = refl
 pub returns-clause-nothing : goal.returns-clause-nothing
 unfolding clap_on_literals
 returns-clause-nothing c = refl
+
+pub returns-clause-demo : goal.returns-clause-demo
+unfolding clap_on_literals
+returns-clause-demo c = refl
+
+pub returns-clause-no_examples : goal.returns-clause-no_examples
+unfolding clap_on_literals
+returns-clause-no_examples c = refl
+
+pub returns-clause-too_many : goal.returns-clause-too_many
+unfolding clap_on_literals
+returns-clause-too_many c = refl
+
+pub returns-clause-deep_demo : goal.returns-clause-deep_demo
+unfolding clap_on_literals
+returns-clause-deep_demo c = refl
+
+pub returns-clause-refute : goal.returns-clause-refute
+unfolding clap_on_literals
+returns-clause-refute c = refl
+
+pub returns-clause-boxed : goal.returns-clause-boxed
+unfolding clap_on_literals
+returns-clause-boxed c = refl
+
+pub returns-clause-deep_runs : goal.returns-clause-deep_runs
+unfolding clap_on_literals
+returns-clause-deep_runs c = refl
+
+pub returns-clause-boxed_check : goal.returns-clause-boxed_check
+unfolding clap_on_literals
+returns-clause-boxed_check c = refl
+
+pub returns-clause-too_large : goal.returns-clause-too_large
+unfolding clap_on_literals
+returns-clause-too_large c = refl
+
+pub returns-clause-no_rounds : goal.returns-clause-no_rounds
+unfolding clap_on_literals
+returns-clause-no_rounds c = refl
