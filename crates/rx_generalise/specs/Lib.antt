@@ -6,4 +6,5 @@ pub mod Naming
 pub mod Parts
 pub mod Repeated
 pub mod RuleRows
+pub mod Shapes
 pub mod Values

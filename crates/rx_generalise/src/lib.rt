@@ -5,6 +5,7 @@ mod calls;
 mod constants;
 mod generalised;
 mod generalising;
+mod laws;
 mod naming;
 mod repeated;
 mod replaced;
@@ -13,5 +14,6 @@ mod values;
 
 pub use generalised::Generalised;
 pub use generalising::lemmas;
+pub use laws::{naming_keeps_shapes, naming_substitutes};
 pub use naming::named;
 pub use rx_plain::NoMemory;

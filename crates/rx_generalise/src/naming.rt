@@ -21,7 +21,8 @@ use std::alloc::Global;
 
 /// Whether the symbol is the head of a loop.
 fn is_head(rules: &RuleSet, symbol: Sym) -> bool
-    ensures { result ≡ option_map_or (λ (info : SymInfo). info.head) (slice_get rules.now.symbols symbol.0) false }
+    ensures { result ≡
+        option_map_or (λ (info : SymInfo). info.head) (slice_get rules.now.symbols symbol.0) false }
 {
     match rules.symbols().get(symbol.0 as usize) {
         Some(info) => info.head,
@@ -63,7 +64,8 @@ fn count_named(rules: &RuleSet, loops: &Loops, term: &Term) -> usize
 /// Whether the term's call is one of a loop head and has a constant.
 fn has_constant(rules: &RuleSet, loops: &Loops, term: &Term) -> bool
     requires { AreLoopsOf rules.now loops.now }
-    ensures { result ≡ list_any (λ p. is_some (calls.constant p)) (spec.head_arguments rules.now (calls.call_of term.now)) }
+    ensures { result ≡ list_any (λ p. is_some (calls.constant p))
+        (spec.head_arguments rules.now (calls.call_of term.now)) }
 {
     match call_of(term) {
         Some(call) if is_loop_head(rules, loops, call.symbol) => any_constant(call.arguments),
@@ -94,14 +96,14 @@ fn name_both(
     }
 }
 
-/// The goal with the constants in its calls of loop heads named: each becomes a variable, which a row
-/// gives that value. The left side's are taken first, each side's by their places. It is the variable
-/// that is alone at the same place of the other side's call, as that is by then, where that call is
-/// of the same symbol and one of the rows says that the variable has the value; else it is a new one,
-/// above all variables of the goal so far, and that row is added, unless the goal has it.
+/// The goal with the constants in its calls of loop heads named: each becomes a variable, which a
+/// row gives that value. The left side's are taken first, each side's by their places. It is the
+/// variable that is alone at the same place of the other side's call, as that is by then, where that
+/// call is of the same symbol and one of the rows says that the variable has the value; else it is a
+/// new one, above all variables of the goal so far, and that row is added, unless the goal has it.
 ///
-/// None where there is no such constant, and where a new variable would have a number of 1,000,000 or
-/// above. Large exactly where a row that says that a variable is a constant passes the limits.
+/// None where there is no such constant, and where a new variable would have a number of 1,000,000
+/// or above. Large exactly where a row that says that a variable is a constant passes the limits.
 #[tactic(auto, unfolding(crate::specs::Naming::naming_of))]
 pub fn named(
     alloc: Global,

@@ -26,7 +26,8 @@ fn push_places(
     symbol: u32,
     polys: &[Poly],
 ) -> Result<(), AllocError>
-    ensures { OnOk result (occurrences.new.items ≡ occurrences.old.items ++ spec.occurrences_from symbol 0 polys.now) }
+    ensures { OnOk result (occurrences.new.items ≡
+        occurrences.old.items ++ spec.occurrences_from symbol 0 polys.now) }
 {
     for (place, poly) in polys.iter().enumerate() {
         let poly = poly.try_clone(alloc)?;
@@ -45,7 +46,8 @@ fn push_occurrences(
     alloc: Global,
     term: &Term,
 ) -> Result<(), AllocError>
-    ensures { OnOk result (occurrences.new.items ≡ occurrences.old.items ++ spec.occurrences_in term.now) }
+    ensures { OnOk result (occurrences.new.items ≡
+        occurrences.old.items ++ spec.occurrences_in term.now) }
 {
     let mut here = term;
     loop {

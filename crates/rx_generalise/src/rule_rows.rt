@@ -40,7 +40,8 @@ fn rows_of(
     symbol: Sym,
     arguments: &[Poly],
 ) -> Result<Items<Row>, PolyEnd>
-    ensures forms { Forms PolyEnd.Large result (spec.rows_by arguments.now (rules_of_shape (Called symbol) rules.now)) }
+    ensures forms { Forms PolyEnd.Large result
+        (spec.rows_by arguments.now (rules_of_shape (Called symbol) rules.now)) }
 {
     let mut made = Items::new(alloc);
     for rule in rules {
