@@ -2,7 +2,8 @@
 ghost use Rattle.std.specs.Prelude.{◌≡◌, ◌≤◌, ◌^◌, ℕ, IfOk, IfSome, List, [], length};
 ghost use Rattle.rx_rank.specs.Answers.{still_open, tried_as};
 ghost use Rattle.rx_rank.specs.Tries.{all_made};
-ghost use Rattle.rx_ranking.specs.Groups.{AreJoined, IsFitBelow, IsOneMore, groups_in, laid_at, overlaid, tries_from, ungrouped};
+ghost use Rattle.rx_ranking.specs.Groups.{AreJoined, IsFitBelow, IsOneMore, groups_in};
+ghost use Rattle.rx_ranking.specs.Groups.{laid_at, overlaid, tries_from, ungrouped};
 ghost use Rattle.rx_ranking.specs.Tables.{pairs_open};
 ghost use Rattle.rx_solve.specs.Answers.{IsSolver};
 
@@ -87,7 +88,8 @@ fn fit_one_more<S: FnMut(&Constraint) -> Result<Option<Cert>, FmEnd>>(
 ) -> Result<Attempt<Fit>, NoMemory>
     requires solver { IsSolver S.FnMut solve.old }
     ensures solver { IsSolver S.FnMut solve.new }
-    ensures more { IfOk result (IsOneMore parts.now hypotheses.now names.now name (pairs_open entries.now) before) }
+    ensures more { IfOk result (IsOneMore parts.now hypotheses.now names.now name
+        (pairs_open entries.now) before) }
 {
     if entries.len() == 0 {
         return Ok(Attempt {
@@ -128,9 +130,11 @@ pub(crate) fn fit_groups<S: FnMut(&Constraint) -> Result<Option<Cert>, FmEnd>>(
     requires solver { IsSolver S.FnMut solve.old }
     requires few { length groups.now ≤ 2 ^ 32 }
     ensures solver { IsSolver S.FnMut solve.new }
-    ensures tried { IfOk result (λ t. tried_as (λ fit. still_open (pairs_open (ungrouped (groups_in groups.now))) fit.falls.items) t ≡
+    ensures tried { IfOk result (λ t. tried_as
+        (λ fit. still_open (pairs_open (ungrouped (groups_in groups.now))) fit.falls.items) t ≡
         all_made (tries_from parts.now hypotheses.now names.now 0 (groups_in groups.now))) }
-    ensures fit { IfOk result (λ t. IfSome t.made (IsFitBelow parts.now.symbols names.now (length groups.now) (pairs_open (ungrouped (groups_in groups.now))))) }
+    ensures fit { IfOk result (λ t. IfSome t.made (IsFitBelow parts.now.symbols names.now
+        (length groups.now) (pairs_open (ungrouped (groups_in groups.now))))) }
 {
     let mut fit = no_fit(alloc, parts)?;
     let mut noted = false;

@@ -47,19 +47,15 @@ pub(crate) fn fit_all<S: FnMut(&Constraint) -> Result<Option<Cert>, FmEnd>>(
     requires over { IsOver (length parts.now.symbols) (edges_of (pairs_open entries.items)) }
     requires few { length parts.now.symbols ≤ 2 ^ 32 }
     ensures solver { IsSolver S.FnMut solve.new }
-    ensures tried { IfOk result (λ t. tried_as (λ fits. still_open (pairs_open fits.entries.items) fits.falls.items) t ≡ polynomials parts.now hypotheses.now (pairs_open entries.items)) }
+    ensures tried { IfOk result (λ t. tried_as
+        (λ fits. still_open (pairs_open fits.entries.items) fits.falls.items) t ≡
+        polynomials parts.now hypotheses.now (pairs_open entries.items)) }
     ensures fits { IfOk result (λ t. IfSome t.made (AreFits parts.now.symbols entries.items)) }
 {
-    let names = find_names(alloc, parts.symbols.len(), entries.as_slice())?;
-    let groups = group_entries(alloc, names.as_slice(), entries)?;
-    let tried = fit_groups(
-        alloc,
-        parts,
-        hypotheses,
-        names.as_slice(),
-        groups.as_slice(),
-        solve,
-    )?;
+    let components = find_names(alloc, parts.symbols.len(), entries.as_slice())?;
+    let names = components.as_slice();
+    let groups = group_entries(alloc, names, entries)?;
+    let tried = fit_groups(alloc, parts, hypotheses, names, groups.as_slice(), solve)?;
     let noted = tried.noted;
     match tried.made {
         Some(fit) => {

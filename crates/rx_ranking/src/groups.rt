@@ -1,5 +1,6 @@
 //! The open pairs by component: for each symbol the entries of the component that it names.
-ghost use Rattle.std.specs.Prelude.{◌≡◌, ◌++◌, ◌∷◌, [], IfOk, List, OnOk, slice_get, slice_index_or, slice_set};
+ghost use Rattle.std.specs.Prelude.{◌≡◌, ◌++◌, ◌∷◌, [], IfOk, List, OnOk};
+ghost use Rattle.std.specs.Prelude.{slice_get, slice_index_or, slice_set};
 ghost use Rattle.rx_rank.specs.Answers.{pairs_at};
 ghost use Rattle.rx_ranking.specs.Groups.{by_component, groups_in, ungrouped};
 ghost use Rattle.rx_ranking.specs.Tables.{pairs_open};
@@ -64,7 +65,8 @@ pub(crate) fn group_entries(
     names: &[u32],
     entries: Vec<OpenPair>,
 ) -> Result<Vec<Vec<OpenPair>>, NoMemory>
-    ensures { IfOk result (λ groups. groups_in groups.items ≡ by_component names.now entries.items) }
+    ensures { IfOk result (λ groups.
+        groups_in groups.items ≡ by_component names.now entries.items) }
 {
     let mut groups = empty_groups(alloc, names)?;
     for entry in entries {
