@@ -4,6 +4,4 @@ pub mod HeadLaws
 pub mod Joined
 pub mod Once
 pub mod Spaced
-pub mod TreeWords
-pub mod TreeWritten
 pub mod Written

@@ -1,8 +1,6 @@
--- The texts of certificates, substitutions, rows and cover trees.
-pub mod Branches
+-- The texts of certificates, substitutions and rows.
 pub mod Certificates
 pub mod Heads
 pub mod Lists
 pub mod Substitutions
-pub mod Trees
 pub mod Words

@@ -2,7 +2,6 @@
 ghost use Rattle.rx_text.specs.Formats.{IsUnambiguous};
 ghost use Rattle.rx_words.specs.Certificates.{certificate_lists, certificates, part_lists};
 ghost use Rattle.rx_words.specs.Substitutions.{row_lists, substitutions};
-ghost use Rattle.rx_words.specs.Trees.{trees};
 ghost use Rattle.rx_words.specs.Words.{numbers};
 
 /// This is so of numbers of u32.
@@ -33,9 +32,4 @@ pub fn row_lists_have_one_reading()
 /// This is so of substitutions.
 pub fn substitutions_have_one_reading()
     ensures { IsUnambiguous substitutions }
-{}
-
-/// This is so of cover trees.
-pub fn trees_have_one_reading()
-    ensures { IsUnambiguous trees }
 {}

@@ -1,25 +1,26 @@
 //! Cover trees are written: the word of their kind, and all that stands behind it.
 ghost use Rattle.std.specs.Prelude.{◌≡◌, ◌++◌, ◌∷◌, OnOk};
 ghost use Rattle.rx_text.specs.Rows.{row_text};
-ghost use Rattle.rx_words.specs.Branches.{tree_word, uses};
+ghost use Rattle.rx_tree_words.specs.Branches.{tree_word, uses};
 ghost use Rattle.rx_words.specs.Certificates.{cert_text};
-ghost use Rattle.rx_words.specs.Trees.{tree_text};
-ghost use Rattle.rx_words.specs.declared.trees.TreeKind.{TreeKind};
+ghost use Rattle.rx_tree_words.specs.Trees.{tree_text};
+ghost use Rattle.rx_tree_words.specs.declared.trees.TreeKind.{TreeKind};
 
-use crate::pairs::push_pair;
-use crate::writing::push_cert;
 use rx_cert::Cert;
 use rx_cover::CoverTree;
 use rx_plain::{Boxed, Items, NoMemory};
 use rx_row::Row;
-use rx_text::{push_row, push_word};
+use rx_text::{push_natural, push_row, push_word};
+use rx_words::{push_cert, push_certs};
 
 /// A rule that applies, with its certificates.
 fn push_use(rule: u32, certs: &Items<Cert>, out: &mut Vec<u8>) -> Result<(), NoMemory>
     ensures { OnOk result (out.new.items ≡ out.old.items ++ (tree_word TreeKind.Use ++ uses.text (rule, certs.now))) }
 {
     push_word(out, b"use ")?;
-    push_pair(&rule, certs, out)
+    push_natural(out, rule)?;
+    push_word(out, b" ")?;
+    push_certs(certs, out)
 }
 
 /// The first words of a row or its negation.

@@ -1,7 +1,8 @@
 //! Cover trees are read as words.
 ghost use Rattle.std.specs.Prelude.{◌≡◌, IfOk};
 ghost use Rattle.rx_text.specs.Formats.{Reads};
-ghost use Rattle.rx_words.specs.Branches.{
+ghost use Rattle.rx_text.specs.Rows.{row_format};
+ghost use Rattle.rx_tree_words.specs.Branches.{
   ReadsTreeKind,
   as_absurd,
   as_split,
@@ -10,16 +11,15 @@ ghost use Rattle.rx_words.specs.Branches.{
   splits_within,
   uses,
 };
-ghost use Rattle.rx_words.specs.Trees.{trees, trees_within};
+ghost use Rattle.rx_tree_words.specs.Trees.{trees, trees_within};
+ghost use Rattle.rx_words.specs.Words.{word};
 
-use crate::certificates::{push_certs, read_cert, read_certs};
-use crate::pairs::read_pair;
-use crate::text::Text;
 use rx_cert::Cert;
 use rx_cover::CoverTree;
 use rx_plain::{Boxed, Items, NoMemory};
 use rx_row::Row;
-use rx_text::skip_word;
+use rx_text::{read_row, skip_word};
+use rx_words::{ending_word, read_cert, read_certs, read_number};
 use std::alloc::Global;
 
 /// How deep a tree may be that has a text.
@@ -50,26 +50,6 @@ fn read_tree_kind(bytes: &[u8], at: usize) -> Option<(TreeKind, usize)>
         return Some((TreeKind::Absurd, next));
     }
     None
-}
-
-impl Text for Items<Cert> {
-    ghost use Rattle.rx_words.specs.Certificates as spec;
-
-    ghost text = { spec.certificate_lists.text };
-
-    ghost in_range = { spec.certificate_lists.in_range };
-
-    fn read(
-        alloc: Global,
-        bytes: &[u8],
-        at: usize,
-    ) -> Result<Option<(Items<Cert>, usize)>, NoMemory> {
-        read_certs(alloc, bytes, at)
-    }
-
-    fn push_text(&self, out: &mut Vec<u8>) -> Result<(), NoMemory> {
-        push_certs(self, out)
-    }
 }
 
 /// The number of a rule and its certificates, as a tree.
@@ -112,7 +92,23 @@ fn read_use(
 ) -> Result<Option<((u32, Items<Cert>), usize)>, NoMemory>
     ensures { IfOk result (λ found. Reads uses bytes.now at found) }
 {
-    read_pair(alloc, bytes, at)
+    let Some((rule, middle)) = read_number(bytes, at) else {
+        return Ok(None);
+    };
+    let Some(next) = skip_word(bytes, middle, b" ") else {
+        return Ok(None);
+    };
+    let Some((certs, end)) = read_certs(alloc, bytes, next)? else {
+        return Ok(None);
+    };
+    Ok(Some(((rule, certs), end)))
+}
+
+/// The row whose text stands at the place, up to the end of a word.
+fn read_row_word(alloc: Global, bytes: &[u8], at: usize) -> Result<Option<(Row, usize)>, NoMemory>
+    ensures { IfOk result (λ found. Reads (word row_format) bytes.now at found) }
+{
+    Ok(ending_word(bytes, read_row(alloc, bytes, at)?))
 }
 
 /// The two trees at most so deep that stand at the place, with a space between them.
@@ -149,7 +145,7 @@ fn read_split(
 ) -> Result<Option<((Row, (Boxed<CoverTree>, Boxed<CoverTree>)), usize)>, NoMemory>
     ensures { IfOk result (λ found. Reads (splits_within most) bytes.now at found) }
 {
-    let Some((row, middle)) = Row::read(alloc, bytes, at)? else {
+    let Some((row, middle)) = read_row_word(alloc, bytes, at)? else {
         return Ok(None);
     };
     let Some(next) = skip_word(bytes, middle, b" ") else {

@@ -1,0 +1,3 @@
+-- Lemmas on the definitions of specs/.
+pub mod TreeWords
+pub mod TreeWritten

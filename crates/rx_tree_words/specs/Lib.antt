@@ -1,0 +1,3 @@
+-- The texts of cover trees.
+pub mod Branches
+pub mod Trees
