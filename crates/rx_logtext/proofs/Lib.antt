@@ -9,6 +9,7 @@ pub mod OneLinePolys
 pub mod OneLineTrees
 pub mod OneReading
 pub mod Places
+pub mod RangeLaws
 pub mod Readers
 pub mod StepKinds
 pub mod Taking

@@ -112,6 +112,7 @@ whole_text {text} {left} {reader} log h empty w = record {
 pub refused : {text left : List ℕ} {reader : LogReader} (next rest : List ℕ) (after : LogReader) (end : LogEnd) (h : ReadSoFar text left reader) → left ≡ next ++ 10 ∷ rest → is_one_line next ≡ true → Takes h.texts next after (Err end) → ReadsLog text (Err end)
 refused next rest after (end.BadLine number) h e one t = line_bad next rest number h e one t.0 t.1
 refused next rest after end.TooDeep h e one t = t
+refused next rest after end.OutOfRange h e one t = t
 refused next rest after end.NoMemory h e one t = tt
 
 -- and where the text ends in a line feed
@@ -119,4 +120,5 @@ pub finished : {text left : List ℕ} {reader : LogReader} (result : Result Log 
 finished (Ok log) h empty f = whole_text log h empty f
 finished (Err (end.BadLine number)) h empty f = missing_bad number h empty f.0 f.1
 finished (Err end.TooDeep) h empty f = f
+finished (Err end.OutOfRange) h empty f = f
 finished (Err end.NoMemory) h empty f = tt

@@ -3,6 +3,7 @@ pub mod Lines
 pub mod Logs
 pub mod Once
 pub mod Places
+pub mod Ranges
 pub mod Readers
 pub mod Reading
 pub mod Steps

@@ -6,7 +6,7 @@ use Rattle.rx_text.specs.Formats.{Format, is_over}
 use Rattle.rx_text.specs.Numbers.{natural_text}
 use Rattle.rx_text.specs.Polynomials.{polynomials}
 use Rattle.rx_words.specs.Certificates.{certificate_lists}
-use Rattle.rx_words.specs.Trees.{trees}
+use Rattle.rx_tree_words.specs.Trees.{trees}
 use Rattle.rx_words.specs.Words.{each_spaced, in_word, numbers, pairs, spaced}
 use Rattle.rx_logtext.specs.Steps.{is_readable_step, step_text}
 use Rattle.rx_logtext.specs.declared.line.Line.{Line}
@@ -97,4 +97,5 @@ abbrev pub ReadsLine : List ℕ → Result Line LogEnd → Type 0
 ReadsLine bytes (Ok line) = IsLine bytes line
 ReadsLine bytes (Err (end.BadLine number)) = (number ≡ 1) × ((line : Line) → ¬ (IsLine bytes line))
 ReadsLine bytes (Err end.TooDeep) = ⊥
+ReadsLine bytes (Err end.OutOfRange) = ⊥
 ReadsLine bytes (Err end.NoMemory) = Unit {0}

@@ -102,6 +102,7 @@ abbrev pub ReadsLog : List ℕ → Result Log LogEnd → Type 0
 ReadsLog text (Ok log) = IsLog text log
 ReadsLog text (Err (end.BadLine number)) = IsFirstBad text number
 ReadsLog text (Err end.TooDeep) = ⊥
+ReadsLog text (Err end.OutOfRange) = ⊥
 ReadsLog text (Err end.NoMemory) = Unit {0}
 
 -- ---- cutting a text into lines

@@ -18,6 +18,7 @@ Takes texts next reader (Ok done) = StandsBehind reader (texts ++ next ∷ [])
 Takes texts next reader (Err (end.BadLine number)) =
     (number ≡ suc (length texts)) × ¬ (Begins (texts ++ next ∷ []))
 Takes texts next reader (Err end.TooDeep) = ⊥
+Takes texts next reader (Err end.OutOfRange) = ⊥
 Takes texts next reader (Err end.NoMemory) = Unit {0}
 
 -- behind these lines, the end: they are those of the log, or no log has just them
@@ -26,4 +27,5 @@ Finishes texts (Ok log) = HasLines log texts
 Finishes texts (Err (end.BadLine number)) =
     (number ≡ suc (length texts)) × ((log : Log) → ¬ (HasLines log texts))
 Finishes texts (Err end.TooDeep) = ⊥
+Finishes texts (Err end.OutOfRange) = ⊥
 Finishes texts (Err end.NoMemory) = ⊥

@@ -1,33 +1,14 @@
 //! Whether certificates and trees are at most 200 deep. Nothing deeper is walked.
-ghost use Rattle.std.specs.Prelude.{◌≡◌, nat_le};
-ghost use Rattle.rx_cert.specs.Depth.{cert_depth};
-ghost use Rattle.rx_cover.specs.Depth.{tree_depth};
+ghost use Rattle.std.specs.Prelude.{◌≡◌};
 ghost use Rattle.rx_log.specs.Depth.{are_shallow, has_shallow_certs, is_shallow, is_shallow_tree};
 ghost use Rattle.std.specs.List.{list_all};
 
 use rx_cert::Cert;
 use rx_cover::CoverTree;
+use rx_ranges::{is_tree_within, is_within};
 
 /// How deep a certificate or a tree is at most.
 const DEEPEST: u32 = 200;
-
-/// Whether the certificate is at most so deep.
-fn is_within(cert: &Cert, most: u32) -> bool
-    ensures { result ≡ nat_le (cert_depth cert.now) most }
-{
-    if most == 0 {
-        return false;
-    }
-    let left = most - 1;
-    match cert {
-        Cert::Sum(_) => true,
-        Cert::Cut { rest, .. } => is_within(rest.get(), left),
-        Cert::Split { yes, no, .. } => is_within(yes.get(), left) && is_within(no.get(), left),
-        Cert::Differ { pos, neg, .. } => is_within(pos.get(), left) && is_within(neg.get(), left),
-        Cert::Solve { rest, .. } => is_within(rest.get(), left),
-        Cert::DivFacts { pos, neg, .. } => is_within(pos.get(), left) && is_within(neg.get(), left),
-    }
-}
 
 /// Whether all certificates are at most 200 deep.
 pub(crate) fn are_shallow(certs: &[Cert]) -> bool
@@ -39,21 +20,6 @@ pub(crate) fn are_shallow(certs: &[Cert]) -> bool
         }
     }
     true
-}
-
-/// Whether the tree is at most so deep.
-fn is_tree_within(tree: &CoverTree, most: u32) -> bool
-    ensures { result ≡ nat_le (tree_depth tree.now) most }
-{
-    if most == 0 {
-        return false;
-    }
-    match tree {
-        CoverTree::Split { yes, no, .. } => {
-            is_tree_within(yes.get(), most - 1) && is_tree_within(no.get(), most - 1)
-        }
-        _ => true,
-    }
 }
 
 /// Whether all certificates in the tree are at most 200 deep. The tree is walked whole.

@@ -8,6 +8,7 @@ mod lines;
 mod log_end;
 mod part;
 mod place;
+mod ranges;
 mod read;
 mod reader;
 mod step_writing;

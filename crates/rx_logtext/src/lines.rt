@@ -60,7 +60,7 @@ fn read_cover(alloc: Global, line: &[u8], at: usize) -> Result<Option<(Line, u32
 }
 
 /// Whether a rank may have so many columns.
-fn is_width(columns: usize) -> bool
+pub(crate) fn is_width(columns: usize) -> bool
     ensures { result ≡ spec.is_width columns }
 {
     1 <= columns && columns <= 15

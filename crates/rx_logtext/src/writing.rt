@@ -9,11 +9,12 @@ ghost use Rattle.rx_logtext.specs.declared.line.Line.TheVariants as line;
 ghost use Rattle.rx_logtext.specs.declared.log_end.LogEnd.TheVariants as end;
 ghost use Rattle.rx_poly.specs.declared.body.Body.{Body};
 ghost use Rattle.rx_text.specs.Polynomials.{poly_text};
-ghost use Rattle.rx_words.specs.Trees.{tree_text};
+ghost use Rattle.rx_tree_words.specs.Trees.{tree_text};
 ghost use Rattle.rx_words.specs.Words.{each_spaced};
 
 use crate::depth::{are_shallow, are_shallow_trees};
 use crate::log_end::LogEnd;
+use crate::ranges::is_in_range;
 use crate::step_writing::push_step;
 use rx_cover::CoverTree;
 use rx_form::Step;
@@ -22,7 +23,8 @@ use rx_pairs::{PairCert, RankTable};
 use rx_plain::{Items, NoMemory};
 use rx_poly::Poly;
 use rx_text::{push_natural, push_poly, push_word};
-use rx_words::{push_certs, push_count, push_tree};
+use rx_tree_words::push_tree;
+use rx_words::{push_certs, push_count};
 use std::alloc::Global;
 
 // ---- lines
@@ -221,19 +223,25 @@ fn push_log(log: &Log, out: &mut Vec<u8>) -> Result<(), NoMemory>
     push_word(out, b"EQUIVALENT\n")
 }
 
-/// The text of the log. Where all that stands in the log is in the ranges of the format, it is the
-/// text that is read again as this log, and no other. TooDeep exactly where a certificate or a tree
-/// is deeper than 200, so that no text is that of the log. Nothing deeper is walked, and terms may
-/// have as many frames as memory holds.
+/// The text of the log: the one that is read again as this log, and no other. TooDeep exactly where
+/// a certificate or a tree is deeper than 200; nothing deeper is walked. OutOfRange exactly where else
+/// something in the log has no text: a list of more than 4,294,967,295 things, a variable of
+/// 1,000,000 or greater, no columns or more than 15, or a rank with more or fewer polynomials than
+/// that. Terms may have as many frames as memory holds.
 pub fn write_log(alloc: Global, log: &Log) -> Result<Vec<u8>, LogEnd>
     ensures text { IfOk result (λ text. text.items ≡ log_text log.now) }
-    ensures is_log { has_ranges log.now ≡ true → IfOk result (λ text. IsLog text.items log.now) }
+    ensures is_log { IfOk result (λ text. IsLog text.items log.now) }
     ensures shallow { IfOk result (λ text. is_shallow_log log.now ≡ true) }
     ensures deep { IfErr result (λ e. e ≡ end.TooDeep → is_shallow_log log.now ≡ false) }
+    ensures order { IfErr result (λ e. e ≡ end.OutOfRange → is_shallow_log log.now ≡ true) }
+    ensures range { IfErr result (λ e. e ≡ end.OutOfRange → has_ranges log.now ≡ false) }
     ensures no_bad_line { IfErr result (λ e. (number : ℕ) → e ≢ end.BadLine number) }
 {
     if !is_shallow(log) {
         return Err(LogEnd::TooDeep);
+    }
+    if !is_in_range(log) {
+        return Err(LogEnd::OutOfRange);
     }
     let mut text = Vec::new(alloc);
     push_log(log, &mut text)?;
