@@ -1,0 +1,4 @@
+-- What a cache of answers holds, and what becomes of it; polynomials with numbers.
+pub mod Cache
+pub mod CachedSolver
+pub mod Numbers
