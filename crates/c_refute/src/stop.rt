@@ -1,0 +1,44 @@
+//! What ends a run before it has a value.
+
+use rx_plain::NoMemory;
+use std::alloc::AllocFailed;
+use thiserror::Error;
+
+/// Why a run ended without a value.
+#[derive(Clone, Copy, Debug, PartialEq, Eq, Error)]
+pub(crate) enum Stop {
+    /// A division by 0.
+    #[error("a division by 0")]
+    DivisionError,
+    /// More rounds are needed.
+    #[error("more rounds are needed")]
+    More,
+    /// A value is no number of `i128`.
+    #[error("a value is too large")]
+    Over,
+    /// There was no memory.
+    #[error("out of memory")]
+    NoMemory,
+}
+
+impl From<NoMemory> for Stop {
+    ghost use Rattle.std.specs.Prelude.{◌≡◌};
+    ghost use Rattle.c_refute.specs.declared.stop.Stop.TheVariants as stop;
+
+    ghost from_gives = { λ _ e. e ≡ stop.NoMemory };
+
+    fn from(_e: NoMemory) -> Stop {
+        Stop::NoMemory
+    }
+}
+
+impl<T: Drop> From<AllocFailed<T>> for Stop {
+    ghost use Rattle.std.specs.Prelude.{◌≡◌};
+    ghost use Rattle.c_refute.specs.declared.stop.Stop.TheVariants as stop;
+
+    ghost from_gives = { λ _ e. e ≡ stop.NoMemory };
+
+    fn from(_e: AllocFailed<T>) -> Stop {
+        Stop::NoMemory
+    }
+}
