@@ -7,7 +7,7 @@ use Rattle.c_front.specs.declared.stages.Next.TheVariants.{Ends, Goes}
 use Rattle.rx_cli.specs.declared.questions.Question.{Question}
 use Rattle.rx_cli.specs.Checks.{OnRead, OnText, longest_log}
 use Rattle.rx_cli.specs.Questions.{asked}
-use Rattle.rx_command.specs.Commands.{Check, Command, Functions, Prove}
+use Rattle.rx_command.specs.Commands.{Check, Command, Compare, Comparison, Demo, Functions, Prove, Refute}
 use Rattle.rx_command.specs.declared.command.Effort.{Effort}
 use Rattle.rx_io.specs.Outside.{Names, HoldsBytes, IsMissing, Rose}
 use Rattle.rx_cli.specs.declared.answers.Answer.{Answer}
@@ -16,11 +16,16 @@ use Rattle.rx_cli.specs.declared.ends.Status.TheVariants as Ends
 use Rattle.rx_cli.specs.declared.verdicts.Verdict.{Verdict}
 use Rattle.rx_cli.specs.declared.verdicts.Verdict.TheVariants as Said
 use Rattle.rx_cli.specs.Agreement.{Agrees}
-use Rattle.rx_cli.specs.Answers.{IsAnswered, IsHeld, IsLogHeld, OnSource, functions_in, longest_source}
+use Rattle.rx_cli.specs.Answers.{IsAnswerTo, IsAnswered, IsHeld, IsLogHeld, OnSource, functions_in, longest_source}
 use Rattle.rx_cli.specs.Ends.{status_of}
 use Rattle.rx_cli.specs.Proofs.{IsProved}
 use Rattle.rx_cli.specs.Steps.{ChecksNamed, Reads}
+use Rattle.rx_cli.specs.Examples.{IsShown}
+use Rattle.rx_cli.specs.Refutations.{IsRefuted}
+use Rattle.rx_command.specs.declared.command.Extent.{Extent}
 use Rattle.rx_cli.proofs.Checked.{checked_agrees}
+use Rattle.rx_cli.proofs.Comparisons.{never_equivalent}
+use Rattle.rx_cli.proofs.ExampleLaws.{shown_agree}
 use Rattle.rx_cli.proofs.Proved.{proved_agrees}
 
 -- bytes that stand under a name were given under it
@@ -33,9 +38,10 @@ pub given_any : (held : Option Names) (name : List ℕ) → (given : Option (Lis
 given_any None name = (Some [], ([], refl))
 given_any (Some names) name = (names name, refl)
 
-log_any : (held : Option Names) (command : Command) → (given : Option (List ℕ)) × IsLogHeld held command given
+log_any : (held : Option Names) (command : Comparison) → (given : Option (List ℕ)) × IsLogHeld held command given
 log_any held (Prove f effort) = (None, tt)
 log_any held (Check f log) = given_any held log
+log_any held (Refute f extent) = (None, tt)
 
 -- ---- a log
 
@@ -86,8 +92,8 @@ answers_usage held fault asked_for is =
 -- ---- a source
 
 -- a source that can't be had
-module _ (held : Option Names) (fault : Type 0) (command : Command) (verdict : Verdict) where
-  long_answer : (bytes : List ℕ) → HoldsBytes held (functions_in command).file bytes → longest_source < length bytes → verdict ≡ Said.LongSource → IsAnswered held fault (Some command) (Line verdict)
+module _ (held : Option Names) (fault : Type 0) (command : Comparison) (verdict : Verdict) where
+  long_answer : (bytes : List ℕ) → HoldsBytes held (functions_in command).file bytes → longest_source < length bytes → verdict ≡ Said.LongSource → IsAnswered held fault (Some (Compare command)) (Line verdict)
   long_answer bytes holds more is =
       let log = log_any held command in
       let said : OnSource command (Some bytes) log.0 (Line verdict) = rw (lt-ltb longest_source (length bytes) more) (ap Line is) in
@@ -98,7 +104,7 @@ module _ (held : Option Names) (fault : Type 0) (command : Command) (verdict : V
         right = λ says. let no : Ends.Refused ≡ Ends.Equivalent = sym (ap status_of is) ∙ says in absurd (let none : ⊥ = cc in none);
       })
 
-  missing_answer : (names : Names) → held ≡ Some names → names (functions_in command).file ≡ None → verdict ≡ Said.ReadFault → IsAnswered held fault (Some command) (Line verdict)
+  missing_answer : (names : Names) → held ≡ Some names → names (functions_in command).file ≡ None → verdict ≡ Said.ReadFault → IsAnswered held fault (Some (Compare command)) (Line verdict)
   missing_answer names told missing is =
       let log = log_any held command in
       inl (record {
@@ -108,18 +114,18 @@ module _ (held : Option Names) (fault : Type 0) (command : Command) (verdict : V
         right = λ says. let no : Ends.ReadFault ≡ Ends.Equivalent = sym (ap status_of is) ∙ says in absurd (let none : ⊥ = cc in none);
       })
 
-  by_held : (h : Option Names) → held ≡ h → IsMissing h (functions_in command).file → verdict ≡ Said.ReadFault → IsAnswered held fault (Some command) (Line verdict)
+  by_held : (h : Option Names) → held ≡ h → IsMissing h (functions_in command).file → verdict ≡ Said.ReadFault → IsAnswered held fault (Some (Compare command)) (Line verdict)
   by_held None told missing is = absurd missing
   by_held (Some names) told missing is = missing_answer names told missing is
 
-  pub answers_unread : Reads held fault (functions_in command).file longest_source Said.LongSource (Ends verdict) → IsAnswered held fault (Some command) (Line verdict)
+  pub answers_unread : Reads held fault (functions_in command).file longest_source Said.LongSource (Ends verdict) → IsAnswered held fault (Some (Compare command)) (Line verdict)
   answers_unread (inl ((bytes, holds, more), is)) = long_answer bytes holds more is
   answers_unread (inr (inl failed, is)) = inr (refl, failed, ap Line is)
   answers_unread (inr (inr missing, is)) = by_held held refl missing is
 
 -- a source that was read
 module _ (held : Option Names) (fault : Type 0) (f : Functions) (source lent : List ℕ) (holds : HoldsBytes held f.file source) (fits : length source ≤ longest_source) (same : lent ≡ source) where
-  pub answers_checked : (name : List ℕ) (verdict : Verdict) → ChecksNamed held fault f lent name verdict → IsAnswered held fault (Some (Check f name)) (Line verdict)
+  pub answers_checked : (name : List ℕ) (verdict : Verdict) → ChecksNamed held fault f lent name verdict → IsAnswered held fault (Some (Compare (Check f name))) (Line verdict)
   answers_checked name verdict (inl (given, is_held, checked)) =
       let said : OnSource (Check f name) (Some source) given (Line verdict) = rw (le-ltb longest_source (length source) fits) (verdict, rw (← same) checked, refl) in
       inl (record {
@@ -130,7 +136,7 @@ module _ (held : Option Names) (fault : Type 0) (f : Functions) (source lent : L
       })
   answers_checked name verdict (inr (failed, is)) = inr (refl, failed, ap Line is)
 
-  pub answers_proved : (effort : Effort) (answer : Answer) → IsProved f effort lent answer → IsAnswered held fault (Some (Prove f effort)) answer
+  pub answers_proved : (effort : Effort) (answer : Answer) → IsProved f effort lent answer → IsAnswered held fault (Some (Compare (Prove f effort))) answer
   answers_proved effort answer proved =
       let said : OnSource (Prove f effort) (Some source) None answer = rw (le-ltb longest_source (length source) fits) (subst (λ text. IsProved f effort text answer) same proved) in
       inl (record {
@@ -139,3 +145,22 @@ module _ (held : Option Names) (fault : Type 0) (f : Functions) (source lent : L
         is = said;
         right = λ says. (source, refl, subst (λ text. Agrees text f) same (proved_agrees f lent answer says effort proved));
       })
+
+  pub answers_refuted : (extent : Extent) (answer : Answer) → IsRefuted f extent lent answer → IsAnswered held fault (Some (Compare (Refute f extent))) answer
+  answers_refuted extent answer refuted =
+      let said : OnSource (Refute f extent) (Some source) None answer = rw (le-ltb longest_source (length source) fits) (subst (λ text. IsRefuted f extent text answer) same refuted) in
+      inl (record {
+        given = record { source = Some source; log = None };
+        is_given = (given_under held f.file source holds, tt);
+        is = said;
+        right = λ says. absurd (never_equivalent f extent lent answer refuted says);
+      })
+
+-- examples that were shown
+pub answers_shown : (held : Option Names) (pairs : ℕ) (verdict : Verdict) → IsShown pairs verdict → IsAnswerTo held (Some (Demo pairs)) (Line verdict)
+answers_shown held pairs verdict shown = record {
+  given = record { source = None; log = None };
+  is_given = tt;
+  is = (verdict, shown, refl);
+  right = λ says. shown_agree pairs verdict shown says;
+}

@@ -1,5 +1,5 @@
 -- The precondition of a command isn't too long, and its search isn't too deep.
-use Rattle.std.proofs.Common.{◌≡◌, ◌≤◌, ◌∙◌, ℕ, Bool, true, false, List, [], ◌∷◌, Option, None, Some, refl, sym, ap, subst, arith}
+use Rattle.std.proofs.Common.{◌≡◌, ◌≤◌, ◌∙◌, ℕ, Bool, true, false, List, [], ◌∷◌, Option, None, Some, option_map, refl, sym, ap, subst, arith}
 use Rattle.std.specs.Prelude.{◌&&◌, codes, if◌then◌else◌, nat_le}
 use Rattle.std.specs.Str.{bytes_eq}
 use Rattle.std.specs.Str.Parse.{digits_value}
@@ -10,7 +10,8 @@ use Rattle.clap.specs.Kinds.{Kinds}
 use Rattle.clap.specs.Words.{Row, fault_of, first_of, matches_of}
 use Rattle.rx_command.specs.App.{command_app}
 use Rattle.rx_command.specs.declared.command.Effort.{Effort}
-use Rattle.rx_command.specs.Commands.{Check, Command, Functions, Prove, both_numbers, check_of, command_of, effort_of, functions_of, if_taken, in_mode, is_short, named, number_or, prove_of}
+use Rattle.rx_command.specs.declared.command.Extent.{Extent}
+use Rattle.rx_command.specs.Commands.{Check, Command, Compare, Comparison, Demo, Functions, Prove, Refute, both_numbers, check_of, command_of, effort_of, functions_of, if_taken, demo_of, extent_of, has_no_effort, has_no_extent, has_no_more_words, has_no_options, in_mode, is_short, named, number_or, prove_of, refute_of}
 use Rattle.rx_command.specs.Numbers.{is_decimal, number_of}
 use Rattle.rx_cli.specs.Answers.{functions_in}
 use Rattle.rx_cli.specs.Steps.{IsNotDeep}
@@ -61,10 +62,15 @@ effort_deep rows =
     both_deep (number_or 0 12 5 (first_of (codes "depth") rows)) (number_or 1 1000000 100000 (first_of (codes "budget") rows))
     (number_below 0 12 5 (omega arith) (first_of (codes "depth") rows))
 
--- a command with a short precondition whose search isn't deep
-pub record IsAllowed (command : Command) : Type 0 where
-  pub short : is_short (functions_in command).precondition ≡ true
-  pub depth : IsNotDeep command
+-- a comparison with a short precondition whose search isn't deep
+pub record IsAllowedComparison (comparison : Comparison) : Type 0 where
+  pub short : is_short (functions_in comparison).precondition ≡ true
+  pub depth : IsNotDeep comparison
+
+-- such a comparison, or at most 100 examples
+abbrev pub IsAllowed : Command → Type 0
+IsAllowed (Compare comparison) = IsAllowedComparison comparison
+IsAllowed (Demo pairs) = pairs ≤ 100
 
 abbrev AllowsOnly : Option Command → Type 0
 AllowsOnly o = (command : Command) → o ≡ Some command → IsAllowed command
@@ -77,7 +83,7 @@ prove_allowed None e log short deep command is = none_allowed command is
 prove_allowed (Some f) None log short deep command is = none_allowed command is
 prove_allowed (Some f) (Some effort) (Some log) short deep command is = none_allowed command is
 prove_allowed (Some f) (Some effort) None short deep command is =
-    let same : Prove f effort ≡ command = same_some refl is in subst IsAllowed same (record { short = short f refl; depth = deep effort refl })
+    let same : Compare (Prove f effort) ≡ command = same_some refl is in subst IsAllowed same (record { short = short f refl; depth = deep effort refl })
 
 check_allowed : (o : Option Functions) (log depth budget : Option (List ℕ)) → AreShort o → AllowsOnly (check_of o log depth budget)
 check_allowed None log depth budget short command is = none_allowed command is
@@ -85,7 +91,22 @@ check_allowed (Some f) None depth budget short command is = none_allowed command
 check_allowed (Some f) (Some log) (Some depth) budget short command is = none_allowed command is
 check_allowed (Some f) (Some log) None (Some budget) short command is = none_allowed command is
 check_allowed (Some f) (Some log) None None short command is =
-    let same : Check f log ≡ command = same_some refl is in subst IsAllowed same (record { short = short f refl; depth = tt })
+    let same : Compare (Check f log) ≡ command = same_some refl is in subst IsAllowed same (record { short = short f refl; depth = tt })
+
+refute_allowed : (o : Option Functions) (e : Option Extent) (log : Option (List ℕ)) → AreShort o → AllowsOnly (refute_of o e log)
+refute_allowed None e log short command is = none_allowed command is
+refute_allowed (Some f) None log short command is = none_allowed command is
+refute_allowed (Some f) (Some extent) (Some log) short command is = none_allowed command is
+refute_allowed (Some f) (Some extent) None short command is =
+    let same : Compare (Refute f extent) ≡ command = same_some refl is in subst IsAllowed same (record { short = short f refl; depth = tt })
+
+demo_allowed : (o : Option (List ℕ)) → AllowsOnly (demo_of o)
+demo_allowed None command is = none_allowed command is
+demo_allowed (Some text) command is = go (number_of 1 100 text) refl is
+  where
+    go : (o : Option ℕ) → number_of 1 100 text ≡ o → option_map Demo o ≡ Some command → IsAllowed command
+    go None read is = absurd (none-some _ is)
+    go (Some pairs) read is = subst IsAllowed (same_some refl is) (read_below 1 100 text pairs read)
 
 if_allowed : (b : Bool) (x y : Option Command) → AllowsOnly x → AllowsOnly y → AllowsOnly (if b then x else y)
 if_allowed true x y p q = p
@@ -94,14 +115,44 @@ if_allowed false x y p q = q
 functions_short : (rows : List Row) → AreShort (functions_of rows)
 functions_short rows = named_short (first_of (codes "file") rows) (first_of (codes "first") rows) (first_of (codes "second") rows) (first_of (codes "pre") rows)
 
+-- what each mode asks for
+abbrev in_demo : List ℕ → List Row → Option Command
+in_demo mode rows = if bytes_eq mode (codes "demo") && (has_no_more_words rows && has_no_options rows) then demo_of (first_of (codes "file") rows) else None
+
+abbrev in_refute : List Row → Option Command
+in_refute rows = refute_of (functions_of rows) (extent_of rows) (first_of (codes "log") rows)
+
+abbrev after_check : List ℕ → List Row → Option Command
+after_check mode rows = if bytes_eq mode (codes "refute") && has_no_effort rows then in_refute rows else in_demo mode rows
+
+abbrev in_check : List Row → Option Command
+in_check rows = check_of (functions_of rows) (first_of (codes "log") rows) (first_of (codes "depth") rows) (first_of (codes "budget") rows)
+
+abbrev after_prove : List ℕ → List Row → Option Command
+after_prove mode rows = if bytes_eq mode (codes "check") && has_no_extent rows then in_check rows else after_check mode rows
+
+demo_mode_allowed : (mode : List ℕ) (rows : List Row) → AllowsOnly (in_demo mode rows)
+demo_mode_allowed mode rows =
+    if_allowed (bytes_eq mode (codes "demo") && (has_no_more_words rows && has_no_options rows)) (demo_of (first_of (codes "file") rows)) None (demo_allowed (first_of (codes "file") rows)) none_allowed
+
+after_check_allowed : (mode : List ℕ) (rows : List Row) → AllowsOnly (after_check mode rows)
+after_check_allowed mode rows =
+    if_allowed (bytes_eq mode (codes "refute") && has_no_effort rows) (in_refute rows) (in_demo mode rows)
+    (refute_allowed (functions_of rows) (extent_of rows) (first_of (codes "log") rows) (functions_short rows)) (demo_mode_allowed mode rows)
+
+after_prove_allowed : (mode : List ℕ) (rows : List Row) → AllowsOnly (after_prove mode rows)
+after_prove_allowed mode rows =
+    if_allowed (bytes_eq mode (codes "check") && has_no_extent rows) (in_check rows) (after_check mode rows)
+    (check_allowed (functions_of rows) (first_of (codes "log") rows) (first_of (codes "depth") rows) (first_of (codes "budget") rows) (functions_short rows))
+    (after_check_allowed mode rows)
+
 mode_allowed : (mode : Option (List ℕ)) (rows : List Row) → AllowsOnly (in_mode mode rows)
 mode_allowed None rows = none_allowed
 mode_allowed (Some mode) rows =
-    if_allowed (bytes_eq mode (codes "prove")) (prove_of (functions_of rows) (effort_of rows) (first_of (codes "log") rows))
-    (if bytes_eq mode (codes "check") then check_of (functions_of rows) (first_of (codes "log") rows) (first_of (codes "depth") rows) (first_of (codes "budget") rows) else None)
+    if_allowed (bytes_eq mode (codes "prove") && has_no_extent rows) (prove_of (functions_of rows) (effort_of rows) (first_of (codes "log") rows))
+    (after_prove mode rows)
     (prove_allowed (functions_of rows) (effort_of rows) (first_of (codes "log") rows) (functions_short rows) (effort_deep rows))
-    (if_allowed (bytes_eq mode (codes "check")) (check_of (functions_of rows) (first_of (codes "log") rows) (first_of (codes "depth") rows) (first_of (codes "budget") rows)) None
-    (check_allowed (functions_of rows) (first_of (codes "log") rows) (first_of (codes "depth") rows) (first_of (codes "budget") rows) (functions_short rows)) none_allowed)
+    (after_prove_allowed mode rows)
 
 taken_allowed : (kinds : Kinds) (rows : List Row) → AllowsOnly (if_taken kinds rows)
 taken_allowed [] rows = mode_allowed (first_of (codes "mode") rows) rows

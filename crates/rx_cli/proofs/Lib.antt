@@ -1,13 +1,15 @@
 pub mod AnswerLemmas
 pub mod Asked
 pub mod Checked
+pub mod Comparisons
 pub mod Equals
+pub mod ExampleLaws
 pub mod LogFaults
 pub mod MemoryLemmas
 pub mod OneReport
-pub mod Plain
 pub mod Proved
 pub mod Ready
+pub mod Refuted
 pub mod RunLemmas
 pub mod Sound
 pub mod Written

@@ -1,5 +1,5 @@
 -- Words have one report, but for what shows the steps of a proof, over files whose contents are told and that find no fault.
-use Rattle.std.proofs.Common.{◌≡◌, ◌∙◌, ◌⊎◌, ℕ, Bool, true, false, List, length, nat_lt, Option, Some, None, inl, inr, refl, sym, ap, subst}
+use Rattle.std.proofs.Common.{◌≡◌, ◌∙◌, ◌⊎◌, ℕ, zero, suc, Bool, true, false, List, length, nat_lt, Option, Some, None, inl, inr, refl, sym, ap, subst}
 use Rattle.std.specs.Prelude.{MatchBool}
 use Rattle.c_front.specs.declared.refusals.Refusal.{Refusal}
 use Rattle.c_front.specs.declared.refusals.Refusal.TheVariants as Why
@@ -13,7 +13,7 @@ use Rattle.c_parse.specs.declared.error.ParseEnd.TheVariants as Flaw
 use Rattle.rx_check.proofs.Pairs.{one_verdict}
 use Rattle.rx_code.specs.Translation.{goal_at}
 use Rattle.rx_code_laws.proofs.Translations.{not_beyond, one_translation, translation_made}
-use Rattle.rx_command.specs.Commands.{Check, Command, Functions, Prove, command_of}
+use Rattle.rx_command.specs.Commands.{Check, Command, Compare, Comparison, Demo, Functions, Prove, Refute, command_of}
 use Rattle.rx_command.specs.declared.command.Effort.{Effort}
 use Rattle.rx_io.specs.Outside.{Names}
 use Rattle.rx_log.specs.declared.log.Log.{Log}
@@ -22,15 +22,22 @@ use Rattle.rx_search.specs.Search.{Searched, NoRanks, Closed, Large, Spent, NoPl
 use Rattle.rx_settle.specs.Moves.{Move}
 use Rattle.rx_term.specs.WellMade.{IsWellMade}
 use Rattle.rx_cli.specs.declared.answers.Answer.{Answer}
-use Rattle.rx_cli.specs.declared.answers.Answer.TheVariants.{Line}
+use Rattle.rx_cli.specs.declared.answers.Answer.TheVariants.{Line, Found}
 use Rattle.rx_cli.specs.declared.ends.Status.{Status}
 use Rattle.rx_cli.specs.declared.ends.Status.TheVariants as Ends
 use Rattle.rx_cli.specs.declared.questions.Question.{Question}
 use Rattle.rx_cli.specs.declared.verdicts.Verdict.{Verdict}
 use Rattle.rx_cli.specs.declared.verdicts.Verdict.TheVariants as Said
-use Rattle.rx_cli.specs.Answers.{IsAnswerTo, IsDone, OnSource, functions_in, longest_source, status_in, text_in}
+use Rattle.rx_cli.specs.Answers.{IsAnswerTo, IsDone, OnSource, functions_in, longest_source, text_in}
 use Rattle.rx_cli.specs.Checks.{IsChecked, OnLog, OnRead, OnText, longest_log}
-use Rattle.rx_cli.specs.Ends.{status_of}
+use Rattle.rx_cli.specs.Ends.{status_in, status_of}
+use Rattle.c_front.specs.declared.pairs.Compared.{Compared}
+use Rattle.c_refute.proofs.OneComparison.{one_comparison}
+use Rattle.c_refute.specs.Points.{finding_at}
+use Rattle.rx_command.specs.declared.command.Extent.{Extent}
+use Rattle.rx_cli.specs.Refutations.{IsFound, IsRefuted, OnPoints, arity_in, most_points, points_in}
+use Rattle.rx_cli.specs.Examples.{IsShown, IsStatus, IsTally, example_effort, example_functions, example_source, verdict_on, with_status}
+use Rattle.rx_cli.specs.declared.examples.Tally.{Tally}
 use Rattle.rx_cli.specs.Questions.{asked, front_stage, question_stage, rows_of}
 use Rattle.rx_cli.specs.Run.{Reports}
 use Rattle.rx_cli.specs.Proofs.{AreOne, AreProofs, IsProofText, IsProved, OnQuestion, OnSearched}
@@ -156,12 +163,12 @@ record AreFound (f : Functions) (effort : Effort) (source t v : List ℕ) : Type
   pub second : IsProofText question moves v
 
 module _ (f : Functions) (effort : Effort) (source : List ℕ) (a b : Answer) where
-  abbrev Found : Type 0
-  Found = AreFound f effort source (text_in a) (text_in b)
+  abbrev Proofs : Type 0
+  Proofs = AreFound f effort source (text_in a) (text_in b)
 
   module _ (question : Question) (found : asked f source (Goes question)) where
-    one_searched : (s : Searched) → searched question.rules question.goal effort.depth effort.budget ≡ s → OnSearched question effort s a → OnSearched question effort s b → AreAlike Found a b
-    one_searched NoRanks comes a_is b_is = equal_answers Found a b (Line Said.NoRanks) a_is b_is
+    one_searched : (s : Searched) → searched question.rules question.goal effort.depth effort.budget ≡ s → OnSearched question effort s a → OnSearched question effort s b → AreAlike Proofs a b
+    one_searched NoRanks comes a_is b_is = equal_answers Proofs a b (Line Said.NoRanks) a_is b_is
     one_searched (Closed moves) comes (t, p, a_is) (v, q, b_is) = (
       ap status_in a_is ∙ sym (ap status_in b_is),
       inr (
@@ -176,12 +183,12 @@ module _ (f : Functions) (effort : Effort) (source : List ℕ) (a b : Answer) wh
         },
       ),
     )
-    one_searched (Large path rows) comes a_is b_is = equal_answers Found a b (Line Said.LargeSearch) a_is b_is
-    one_searched Spent comes a_is b_is = equal_answers Found a b (Line (Said.Visits effort.budget)) a_is b_is
-    one_searched NoPlan comes a_is b_is = equal_answers Found a b (Line (Said.Depth effort.depth)) a_is b_is
+    one_searched (Large path rows) comes a_is b_is = equal_answers Proofs a b (Line Said.LargeSearch) a_is b_is
+    one_searched Spent comes a_is b_is = equal_answers Proofs a b (Line (Said.Visits effort.budget)) a_is b_is
+    one_searched NoPlan comes a_is b_is = equal_answers Proofs a b (Line (Said.Depth effort.depth)) a_is b_is
 
-  one_proved : IsProved f effort source a → IsProved f effort source b → AreAlike Found a b
-  one_proved (inl (v, p, a_is)) (inl (w, q, b_is)) = alike_lines Found a b v w a_is b_is (one_asked f source (Ends v) (Ends w) p q)
+  one_proved : IsProved f effort source a → IsProved f effort source b → AreAlike Proofs a b
+  one_proved (inl (v, p, a_is)) (inl (w, q, b_is)) = alike_lines Proofs a b v w a_is b_is (one_asked f source (Ends v) (Ends w) p q)
   one_proved (inl (v, p, a_is)) (inr (r, q, on)) = absurd (one_asked f source (Ends v) (Goes r) p q)
   one_proved (inr (r, q, on)) (inl (w, p, b_is)) = absurd (one_asked f source (Goes r) (Ends w) q p)
   one_proved (inr (q, p, on)) (inr (r, too, other)) =
@@ -190,45 +197,83 @@ module _ (f : Functions) (effort : Effort) (source : List ℕ) (a b : Answer) wh
 
 -- ---- answers
 
+-- ---- comparisons over points
+
+module _ (f : Functions) (extent : Extent) (source : List ℕ) (a b : Answer) where
+  one_by_count : {P : Type 0} (compared : Compared) (many : Bool) → MatchBool many (a ≡ Line (Said.Box (arity_in compared))) (IsFound compared extent a)
+      → MatchBool many (b ≡ Line (Said.Box (arity_in compared))) (IsFound compared extent b) → AreAlike P a b
+  one_by_count {P} compared true a_is b_is = equal_answers P a b (Line (Said.Box (arity_in compared))) a_is b_is
+  one_by_count {P} compared false (c, p, a_is) (d, q, b_is) =
+      let same : c ≡ d = one_comparison (finding_at compared.two.program compared.two.first compared.two.second compared.precondition extent.rounds) (points_in compared extent.side) c d p q in
+      equal_answers P a b (Found d) (a_is ∙ ap Found same) b_is
+
+  one_refuted : {P : Type 0} → IsRefuted f extent source a → IsRefuted f extent source b → AreAlike P a b
+  one_refuted {P} (inl (v, p, a_is)) (inl (w, q, b_is)) = alike_lines P a b v w a_is b_is (one_front_stage f source (Ends v) (Ends w) p q)
+  one_refuted (inl (v, p, a_is)) (inr (d, q, on)) = absurd (one_front_stage f source (Ends v) (Goes d) p q)
+  one_refuted (inr (c, p, on)) (inl (w, q, b_is)) = absurd (one_front_stage f source (Goes c) (Ends w) p q)
+  one_refuted (inr (c, p, on)) (inr (d, q, too)) =
+      let same : c ≡ d = one_front_stage f source (Goes c) (Goes d) p q in
+      one_by_count d (nat_lt most_points (length (points_in d extent.side))) (subst (λ (z : Compared). OnPoints z extent a) same on) too
+
+-- ---- examples
+
+one_status_of : (k : ℕ) (s u : Status) → IsStatus k s → IsStatus k u → s ≡ u
+one_status_of k s u (a, p, s_is) (b, q, u_is) =
+    s_is ∙ ((one_proved example_functions example_effort (example_source k) a b p q).0 ∙ sym u_is)
+
+one_tally : (k : ℕ) (t u : Tally) → IsTally k t → IsTally k u → t ≡ u
+one_tally zero t u t_is u_is = t_is ∙ sym u_is
+one_tally (suc k) t u (before, p, (s, s_is, t_is)) (again, q, (r, r_is, u_is)) =
+    t_is ∙ (ap (λ b. with_status b s) (one_tally k before again p q) ∙ (ap (with_status again) (one_status_of k s r s_is r_is) ∙ sym u_is))
+
+one_verdict_shown : (pairs : ℕ) (v w : Verdict) → IsShown pairs v → IsShown pairs w → v ≡ w
+one_verdict_shown pairs v w (t, t_is, v_is) (u, u_is, w_is) = v_is ∙ (ap (verdict_on pairs) (one_tally pairs t u t_is u_is) ∙ sym w_is)
+
 -- two texts are those of proofs that a command is answered by
-abbrev AreProofsOf : Command → List ℕ → List ℕ → List ℕ → Type 0
+abbrev AreProofsOf : Comparison → List ℕ → List ℕ → List ℕ → Type 0
 AreProofsOf (Prove f effort) source t v = AreFound f effort source t v
 AreProofsOf (Check f name) source t v = ⊥
+AreProofsOf (Refute f extent) source t v = ⊥
 
 -- the same of what was read in the place of the source
-abbrev AreProofsOn : Command → Option (List ℕ) → List ℕ → List ℕ → Type 0
+abbrev AreProofsOn : Comparison → Option (List ℕ) → List ℕ → List ℕ → Type 0
 AreProofsOn command given t v = (source : List ℕ) × (given ≡ Some source) × AreProofsOf command source t v
 
 -- the same of what is held
 abbrev AreProofsIn : Names → Option Command → List ℕ → List ℕ → Type 0
-AreProofsIn names o t v = (command : Command) × (o ≡ Some command) × AreProofsOn command (names (functions_in command).file) t v
+AreProofsIn names o t v = (command : Comparison) × (o ≡ Some (Compare command)) × AreProofsOn command (names (functions_in command).file) t v
 
 module _ (a b : Answer) where
-  one_done : (command : Command) (source : List ℕ) (log : Option (List ℕ)) → IsDone command source log a → IsDone command source log b → AreAlike (AreProofsOf command source (text_in a) (text_in b)) a b
+  one_done : (command : Comparison) (source : List ℕ) (log : Option (List ℕ)) → IsDone command source log a → IsDone command source log b → AreAlike (AreProofsOf command source (text_in a) (text_in b)) a b
   one_done (Prove f effort) source log p q = one_proved f effort source a b p q
+  one_done (Refute f extent) source log p q = one_refuted f extent source a b p q
   one_done (Check f name) source log (v, p, a_is) (w, q, b_is) = alike_lines ⊥ a b v w a_is b_is (one_checked f source log v w p q)
 
-  one_by_size : (command : Command) (source : List ℕ) (log : Option (List ℕ)) (long : Bool) → MatchBool long (a ≡ Line Said.LongSource) (IsDone command source log a)
+  one_by_size : (command : Comparison) (source : List ℕ) (log : Option (List ℕ)) (long : Bool) → MatchBool long (a ≡ Line Said.LongSource) (IsDone command source log a)
       → MatchBool long (b ≡ Line Said.LongSource) (IsDone command source log b) → AreAlike (AreProofsOn command (Some source) (text_in a) (text_in b)) a b
   one_by_size command source log true a_is b_is = equal_answers (AreProofsOn command (Some source) (text_in a) (text_in b)) a b (Line Said.LongSource) a_is b_is
   one_by_size command source log false p q =
       alike_if (AreProofsOf command source (text_in a) (text_in b)) (AreProofsOn command (Some source) (text_in a) (text_in b)) a b (λ proofs. (source, refl, proofs)) (one_done command source log p q)
 
-  one_on_source : (command : Command) (source log : Option (List ℕ)) → OnSource command source log a → OnSource command source log b → AreAlike (AreProofsOn command source (text_in a) (text_in b)) a b
+  one_on_source : (command : Comparison) (source log : Option (List ℕ)) → OnSource command source log a → OnSource command source log b → AreAlike (AreProofsOn command source (text_in a) (text_in b)) a b
   one_on_source command None log a_is b_is = equal_answers (AreProofsOn command None (text_in a) (text_in b)) a b (Line Said.ReadFault) a_is b_is
   one_on_source command (Some source) log p q = one_by_size command source log (nat_lt longest_source (length source)) p q
 
+  one_shown : {P : Type 0} (pairs : ℕ) → (v : Verdict) × IsShown pairs v × (a ≡ Line v) → (w : Verdict) × IsShown pairs w × (b ≡ Line w) → AreAlike P a b
+  one_shown {P} pairs (v, p, a_is) (w, q, b_is) = alike_lines P a b v w a_is b_is (same_line v w (one_verdict_shown pairs v w p q))
+
   -- what is read for a command is what the names hold
   module _ (names : Names) where
-    one_held : (command : Command) (source log : Option (List ℕ)) → source ≡ names (functions_in command).file → OnSource command source log a → OnSource command source log b
-        → AreAlike (AreProofsIn names (Some command) (text_in a) (text_in b)) a b
+    one_held : (command : Comparison) (source log : Option (List ℕ)) → source ≡ names (functions_in command).file → OnSource command source log a → OnSource command source log b
+        → AreAlike (AreProofsIn names (Some (Compare command)) (text_in a) (text_in b)) a b
     one_held command source log held p q =
-        alike_if (AreProofsOn command source (text_in a) (text_in b)) (AreProofsIn names (Some command) (text_in a) (text_in b)) a b
+        alike_if (AreProofsOn command source (text_in a) (text_in b)) (AreProofsIn names (Some (Compare command)) (text_in a) (text_in b)) a b
         (λ proofs. (command, refl, subst (λ s. AreProofsOn command s (text_in a) (text_in b)) held proofs)) (one_on_source command source log p q)
 
     one_answer : (o : Option Command) → IsAnswerTo (Some names) o a → IsAnswerTo (Some names) o b → AreAlike (AreProofsIn names o (text_in a) (text_in b)) a b
     one_answer None p q = equal_answers (AreProofsIn names None (text_in a) (text_in b)) a b (Line Said.Usage) p.is q.is
-    one_answer (Some (Prove f effort)) p q =
+    one_answer (Some (Demo pairs)) p q = one_shown pairs p.is q.is
+    one_answer (Some (Compare (Prove f effort))) p q =
         let sources : p.given.source ≡ q.given.source = p.is_given.0 ∙ sym q.is_given.0 in
         one_held (Prove f effort) q.given.source q.given.log q.is_given.0 (by_prove f effort p.given.source q.given.source p.given.log q.given.log sources p.is) q.is
       where
@@ -237,7 +282,16 @@ module _ (a b : Answer) where
         by_prove f effort None (Some t) l m same is = let no : ⊥ = cc in absurd no
         by_prove f effort (Some s) None l m same is = let no : ⊥ = cc in absurd no
         by_prove f effort (Some s) (Some t) l m same is = subst (λ (z : Option (List ℕ)). OnSource (Prove f effort) z m a) same is
-    one_answer (Some (Check f name)) p q =
+    one_answer (Some (Compare (Refute f extent))) p q =
+        let sources : p.given.source ≡ q.given.source = p.is_given.0 ∙ sym q.is_given.0 in
+        one_held (Refute f extent) q.given.source q.given.log q.is_given.0 (by_refute f extent p.given.source q.given.source p.given.log q.given.log sources p.is) q.is
+      where
+        by_refute : (f : Functions) (extent : Extent) (s t l m : Option (List ℕ)) → s ≡ t → OnSource (Refute f extent) s l a → OnSource (Refute f extent) t m a
+        by_refute f extent None None l m same is = is
+        by_refute f extent None (Some t) l m same is = let no : ⊥ = cc in absurd no
+        by_refute f extent (Some s) None l m same is = let no : ⊥ = cc in absurd no
+        by_refute f extent (Some s) (Some t) l m same is = subst (λ (z : Option (List ℕ)). OnSource (Refute f extent) z m a) same is
+    one_answer (Some (Compare (Check f name))) p q =
         let sources : p.given.source ≡ q.given.source = p.is_given.0 ∙ sym q.is_given.0 in
         let logs : p.given.log ≡ q.given.log = p.is_given.1 ∙ sym q.is_given.1 in
         one_held (Check f name) q.given.source q.given.log q.is_given.0
@@ -261,6 +315,7 @@ asks_proof names words t v (Prove f effort, asks, (source, held, found)) = recor
   second = found.second;
 }
 asks_proof names words t v (Check f name, asks, (source, held, never)) = absurd never
+asks_proof names words t v (Refute f extent, asks, (source, held, never)) = absurd never
 
 module _ (names : Names) (words : List (List ℕ)) (s u : Status) (t v : List ℕ) where
   one_text : (a b : Answer) → s ≡ status_in a → t ≡ text_in a → v ≡ text_in b → AreAlike (AreProofsIn names (command_of words) (text_in a) (text_in b)) a b → AreOne names words s t v

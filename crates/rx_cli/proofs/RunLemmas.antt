@@ -3,7 +3,8 @@ use Rattle.std.proofs.Common.{◌≡◌, ◌∙◌, List, ℕ, Option, inr, refl
 use Rattle.rx_io.specs.Outside.{Names, AppendsPrefix}
 use Rattle.rx_cli.specs.declared.answers.Answer.{Answer}
 use Rattle.rx_cli.specs.declared.ends.Status.TheVariants as Ends
-use Rattle.rx_cli.specs.Answers.{IsAnswered, status_in, text_in}
+use Rattle.rx_cli.specs.Answers.{IsAnswered, text_in}
+use Rattle.rx_cli.specs.Ends.{status_in}
 use Rattle.rx_cli.specs.Run.{RunEnds}
 use Rattle.rx_command.specs.Commands.{command_of}
 

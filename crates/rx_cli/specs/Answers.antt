@@ -1,18 +1,21 @@
 -- What a run answers to its words and to what it read.
-use Rattle.std.specs.Prelude.{◌≡◌, ◌⊎◌, ℕ, List, Option, Some, None, ⊤, length, nat_lt, IsSome, MatchBool}
+use Rattle.std.specs.Prelude.{◌≡◌, ◌⊎◌, ℕ, ◌<◌, List, Option, Some, None, ⊤, length, nat_lt, IsSome, MatchBool}
 use Rattle.rx_io.specs.Outside.{Names}
-use Rattle.rx_command.specs.Commands.{Command, Functions, Prove, Check, command_of}
+use Rattle.rx_command.specs.Commands.{Command, Compare, Demo, Comparison, Functions, Prove, Check, Refute, command_of}
+use Rattle.rx_command.specs.declared.command.Extent.{Extent}
 use Rattle.rx_cli.specs.declared.answers.Answer.{Answer}
-use Rattle.rx_cli.specs.declared.answers.Answer.TheVariants.{Line, Proof}
+use Rattle.rx_cli.specs.declared.answers.Answer.TheVariants.{Line, Proof, Found}
 use Rattle.rx_cli.specs.declared.ends.Status.{Status}
 use Rattle.rx_cli.specs.declared.ends.Status.TheVariants as Ends
 use Rattle.rx_cli.specs.declared.verdicts.Verdict.{Verdict}
 use Rattle.rx_cli.specs.declared.verdicts.Verdict.TheVariants as Said
 use Rattle.rx_cli.specs.Agreement.{Agrees}
 use Rattle.rx_cli.specs.Checks.{IsChecked}
-use Rattle.rx_cli.specs.Ends.{status_of}
+use Rattle.rx_cli.specs.Ends.{status_in}
+use Rattle.rx_cli.specs.Examples.{IsShown, example_functions, example_source}
 use Rattle.rx_cli.specs.Proofs.{IsProved}
-use Rattle.rx_cli.specs.Texts.{HasLine, text_of}
+use Rattle.rx_cli.specs.Refutations.{IsRefuted, Refutes}
+use Rattle.rx_cli.specs.Texts.{HasLine, found_text, text_of}
 
 -- the most bytes of a source
 abbrev pub longest_source : ℕ
@@ -20,14 +23,11 @@ longest_source = 1048576
 
 -- ---- reports
 
--- the status and the text of an answer
-abbrev pub status_in : Answer → Status
-status_in (Line verdict) = status_of verdict
-status_in (Proof text) = Ends.Equivalent
-
+-- the text of an answer
 abbrev pub text_in : Answer → List ℕ
 text_in (Line verdict) = text_of verdict
 text_in (Proof text) = text
+text_in (Found found) = found_text found
 
 -- how an answer is reported
 abbrev pub IsReport : Answer → Status → List ℕ → Type 0
@@ -37,6 +37,7 @@ IsReport answer status text = (status ≡ status_in answer) × (text ≡ text_in
 abbrev pub IsReportable : Answer → Type 0
 IsReportable (Line verdict) = HasLine verdict
 IsReportable (Proof text) = ⊤
+IsReportable (Found found) = ⊤
 
 -- ---- what was read
 
@@ -50,47 +51,59 @@ abbrev pub IsHeld : Option Names → List ℕ → Option (List ℕ) → Type 0
 IsHeld None name given = (bytes : List ℕ) × (given ≡ Some bytes)
 IsHeld (Some names) name given = given ≡ names name
 
--- the functions that a command names
-abbrev pub functions_in : Command → Functions
+-- the functions that are compared
+abbrev pub functions_in : Comparison → Functions
 functions_in (Prove f effort) = f
 functions_in (Check f log) = f
+functions_in (Refute f extent) = f
 
 -- the log that is read, where one is
-abbrev pub IsLogHeld : Option Names → Command → Option (List ℕ) → Type 0
+abbrev pub IsLogHeld : Option Names → Comparison → Option (List ℕ) → Type 0
 IsLogHeld held (Prove f effort) given = ⊤
 IsLogHeld held (Check f log) given = IsHeld held log given
+IsLogHeld held (Refute f extent) given = ⊤
 
 -- what was read for a command
 abbrev pub IsGiven : Option Names → Option Command → Given → Type 0
 IsGiven held None given = ⊤
-IsGiven held (Some command) given =
-    IsHeld held (functions_in command).file given.source × IsLogHeld held command given.log
+IsGiven held (Some (Demo pairs)) given = ⊤
+IsGiven held (Some (Compare comparison)) given =
+    IsHeld held (functions_in comparison).file given.source × IsLogHeld held comparison given.log
 
 -- ---- answers
 
--- the answer to a command on a text
-abbrev pub IsDone : Command → List ℕ → Option (List ℕ) → Answer → Type 0
+-- the answer to a comparison in a text
+abbrev pub IsDone : Comparison → List ℕ → Option (List ℕ) → Answer → Type 0
 IsDone (Prove f effort) source log answer = IsProved f effort source answer
+IsDone (Refute f extent) source log answer = IsRefuted f extent source answer
 IsDone (Check f name) source log answer =
     (verdict : Verdict) × IsChecked f source log verdict × (answer ≡ Line verdict)
 
 -- the answer to what was read in the place of the source: nothing, too much, or another text
-abbrev pub OnSource : Command → Option (List ℕ) → Option (List ℕ) → Answer → Type 0
-OnSource command None log answer = answer ≡ Line Said.ReadFault
-OnSource command (Some source) log answer =
+abbrev pub OnSource : Comparison → Option (List ℕ) → Option (List ℕ) → Answer → Type 0
+OnSource comparison None log answer = answer ≡ Line Said.ReadFault
+OnSource comparison (Some source) log answer =
     MatchBool (nat_lt longest_source (length source)) (answer ≡ Line Said.LongSource)
-    (IsDone command source log answer)
+    (IsDone comparison source log answer)
 
 -- the answer to a command and to what was read for it
 abbrev pub IsAnswer : Option Command → Given → Answer → Type 0
 IsAnswer None given answer = answer ≡ Line Said.Usage
-IsAnswer (Some command) given answer = OnSource command given.source given.log answer
+IsAnswer (Some (Demo pairs)) given answer =
+    (verdict : Verdict) × IsShown pairs verdict × (answer ≡ Line verdict)
+IsAnswer (Some (Compare comparison)) given answer =
+    OnSource comparison given.source given.log answer
 
--- both functions agree in the text that was read
+-- the functions of the first examples agree
+abbrev pub ExamplesAgree : ℕ → Type 0
+ExamplesAgree pairs = (k : ℕ) → k < pairs → Agrees (example_source k) example_functions
+
+-- both functions agree in the text that was read, or in each example
 abbrev pub Means : Option Command → Given → Type 0
 Means None given = ⊥
-Means (Some command) given =
-    (source : List ℕ) × (given.source ≡ Some source) × Agrees source (functions_in command)
+Means (Some (Demo pairs)) given = ExamplesAgree pairs
+Means (Some (Compare comparison)) given =
+    (source : List ℕ) × (given.source ≡ Some source) × Agrees source (functions_in comparison)
 
 -- the answer to what was read, which is right where it says that the functions are equal
 pub record IsAnswerTo (held : Option Names) (command : Option Command) (answer : Answer) : Type 0 where
@@ -106,9 +119,20 @@ IsAnswered held read_fault command answer =
     ⊎ (IsSome command × read_fault × (answer ≡ Line Said.ReadFault))
 
 -- in a text that stands under the name, where that is told, both functions agree; where it isn't told,
--- in some text
+-- in some text; or those of each example do
+abbrev pub Holds : Option Names → Command → Type 0
+Holds held (Demo pairs) = ExamplesAgree pairs
+Holds held (Compare comparison) =
+    (source : List ℕ) × IsHeld held (functions_in comparison).file (Some source)
+    × Agrees source (functions_in comparison)
+
+-- what the words ask about holds
 abbrev pub AreEqual : Option Names → List (List ℕ) → Type 0
-AreEqual held words =
-    (command : Command) × (command_of words ≡ Some command)
-    × ((source : List ℕ) × IsHeld held (functions_in command).file (Some source)
-    × Agrees source (functions_in command))
+AreEqual held words = (command : Command) × (command_of words ≡ Some command) × Holds held command
+
+-- where the words ask for a counterexample, a text that stands under the name, where that is told, has
+-- one; where it isn't told, some text
+abbrev pub IsRefutedBy : Option Names → List (List ℕ) → Type 0
+IsRefutedBy held words =
+    (f : Functions) (extent : Extent) → command_of words ≡ Some (Compare (Refute f extent))
+    → (source : List ℕ) × IsHeld held f.file (Some source) × Refutes source f

@@ -1,21 +1,14 @@
 -- Why a run over memory whose lists are empty ends with a fault.
-use Rattle.std.specs.Prelude.{◌≡◌, ◌<◌, ◌⊎◌, ℕ, List, Some, None, length}
+use Rattle.std.specs.Prelude.{◌<◌, ℕ, Some, List, length}
 use Rattle.rx_io.specs.Outside.{Names}
-use Rattle.rx_command.specs.Commands.{Command, Prove, Check, command_of}
 use Rattle.rx_cli.specs.declared.ends.Status.{Status}
-use Rattle.rx_cli.specs.Answers.{functions_in}
+use Rattle.rx_cli.specs.declared.ends.Status.TheVariants as Ends
 use Rattle.rx_cli.specs.Run.{Reports}
 
--- a command's log isn't held
-abbrev pub IsLogAbsent : Names → Command → Type 0
-IsLogAbsent names (Prove f effort) = ⊥
-IsLogAbsent names (Check f log) = names log ≡ None
-
--- the words ask for a file that isn't held
+-- what is held is answered by a read fault: the file that the words name isn't held, or the log that a
+-- check of it comes to isn't
 abbrev pub IsAbsent : Names → List (List ℕ) → Type 0
-IsAbsent names words =
-    (command : Command) × (command_of words ≡ Some command)
-    × ((names (functions_in command).file ≡ None) ⊎ IsLogAbsent names command)
+IsAbsent names words = (text : List ℕ) × Reports (Some names) ⊥ words Ends.ReadFault text
 
 -- the report of what is held is longer than the room
 abbrev pub IsTooLong : Names → List (List ℕ) → ℕ → Type 0

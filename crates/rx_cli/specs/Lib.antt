@@ -2,9 +2,11 @@ pub mod Agreement
 pub mod Answers
 pub mod Checks
 pub mod Ends
+pub mod Examples
 pub mod InMemory
 pub mod Proofs
 pub mod Questions
+pub mod Refutations
 pub mod Run
 pub mod Steps
 pub mod Texts

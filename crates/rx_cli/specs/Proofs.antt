@@ -1,12 +1,12 @@
 -- What is said of a text where a proof is searched for.
 use Rattle.std.specs.Prelude.{◌≡◌, ◌⊎◌, ℕ, List, map, Some}
 use Rattle.c_front.specs.declared.stages.Next.TheVariants.{Ends, Goes}
-use Rattle.rx_command.specs.Commands.{Functions, Prove, command_of}
+use Rattle.rx_command.specs.Commands.{Compare, Functions, Prove, command_of}
 use Rattle.rx_command.specs.declared.command.Effort.{Effort}
 use Rattle.rx_io.specs.Outside.{Names}
 use Rattle.rx_log.specs.Acceptance.{IsAccepted}
 use Rattle.rx_log.specs.declared.log.Log.{Log}
-use Rattle.rx_logtext.specs.Logs.{log_text}
+use Rattle.rx_logtext.specs.Logs.{IsLog}
 use Rattle.rx_search.specs.Search.{Searched, NoRanks, Closed, Large, Spent, NoPlan, searched}
 use Rattle.rx_settle.specs.Moves.{Move, move_of}
 use Rattle.rx_cli.specs.declared.answers.Answer.{Answer}
@@ -23,7 +23,7 @@ pub record IsProofText (question : Question) (moves : List Move) (text : List �
   pub log : Log
   pub accepted : IsAccepted question.rules question.goal log
   pub steps : map move_of log.steps ≡ moves
-  pub is : text ≡ log_text log
+  pub is : IsLog text log
 
 -- the answer where the search comes to this; what shows the moves of a proof is free
 abbrev pub OnSearched : Question → Effort → Searched → Answer → Type 0
@@ -54,7 +54,7 @@ pub record AreProofs (names : Names) (words : List (List ℕ)) (t v : List ℕ) 
   pub source : List ℕ
   pub question : Question
   pub moves : List Move
-  pub asks : command_of words ≡ Some (Prove functions effort)
+  pub asks : command_of words ≡ Some (Compare (Prove functions effort))
   pub held : names functions.file ≡ Some source
   pub is_asked : asked functions source (Goes question)
   pub is_closed : searched question.rules question.goal effort.depth effort.budget ≡ Closed moves

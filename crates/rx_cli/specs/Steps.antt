@@ -10,7 +10,7 @@ use Rattle.c_front.specs.declared.stages.Next.TheVariants.{Ends, Goes}
 use Rattle.c_front.specs.Front.{count_in}
 use Rattle.rx_code.specs.Translation.{IsBeyond, IsTranslation}
 use Rattle.rx_io.specs.Outside.{HoldsBytes, HoldsMore, IsMissing, Names}
-use Rattle.rx_command.specs.Commands.{Check, Command, Functions, Prove}
+use Rattle.rx_command.specs.Commands.{Check, Comparison, Functions, Prove, Refute}
 use Rattle.rx_translate.specs.declared.translation.Translation.{Translation}
 use Rattle.rx_plain.specs.Formed.{Formed}
 use Rattle.rx_search.specs.declared.search_end.SearchEnd.{SearchEnd}
@@ -59,9 +59,10 @@ Translates compared None =
 -- ---- the search
 
 -- a search that is asked for has at most 12 choices on a path
-abbrev pub IsNotDeep : Command → Type 0
+abbrev pub IsNotDeep : Comparison → Type 0
 IsNotDeep (Prove f effort) = effort.depth ≤ 12
 IsNotDeep (Check f log) = ⊤
+IsNotDeep (Refute f extent) = ⊤
 
 -- the verdict that names how a search ended without a log; out of memory has none
 abbrev pub SaysEnd : SearchEnd → Verdict → Type 0

@@ -1,5 +1,5 @@
 -- The line of each verdict.
-use Rattle.std.specs.Prelude.{ℕ, List, [], ◌++◌, ⊤, codes, decimal}
+use Rattle.std.specs.Prelude.{ℕ, ◌-◌, ℤ, List, [], ◌∷◌, ◌++◌, ⊤, codes, decimal}
 use Rattle.c_lex.specs.declared.error.LexEnd.{LexEnd}
 use Rattle.c_lex.specs.declared.error.LexEnd.TheVariants as Fault
 use Rattle.c_parse.specs.declared.error.ParseEnd.{ParseEnd}
@@ -12,8 +12,13 @@ use Rattle.rx_check.specs.declared.check_end.CheckEnd.{CheckEnd}
 use Rattle.rx_check.specs.declared.check_end.CheckEnd.TheVariants as End
 use Rattle.rx_check.specs.declared.check_end.Place.{Place}
 use Rattle.rx_check.specs.declared.check_end.Place.TheVariants as At
+use Rattle.c_refute.specs.declared.findings.Compared.{Compared}
+use Rattle.c_refute.specs.declared.findings.Compared.TheVariants as found
+use Rattle.c_refute.specs.declared.outcomes.Outcome.{Outcome}
+use Rattle.c_refute.specs.declared.outcomes.Outcome.TheVariants as outcome
 use Rattle.rx_steps.specs.declared.step_end.StepEnd.{StepEnd}
 use Rattle.rx_steps.specs.declared.step_end.StepEnd.TheVariants as Unmet
+use Rattle.rx_text.specs.Numbers.{integer_text, natural_text}
 use Rattle.rx_cli.specs.declared.verdicts.Verdict.{Verdict}
 use Rattle.rx_cli.specs.declared.verdicts.Verdict.TheVariants as Said
 
@@ -111,11 +116,59 @@ check_line (End.NotLower pair) = numbered_line (codes "REFUSED pair ") pair
 check_line (End.Large place) = large_line place
 check_line End.NoMemory = []
 
+-- ---- comparisons over points
+
+-- the integer, or `div0`; an outcome that more rounds might change has no text
+abbrev pub outcome_text : Outcome → List ℕ
+outcome_text (outcome.Value x) = integer_text x
+outcome_text outcome.DivError = codes "div0"
+outcome_text outcome.More = []
+outcome_text outcome.Over = []
+
+-- the last thing of a line, after a word
+abbrev pub last_text : List ℕ → List ℕ → List ℕ
+last_text word thing = word ++ (thing ++ codes "\n")
+
+-- arguments, each after a space
+abbrev pub arguments_text : List ℤ → List ℕ
+arguments_text [] = []
+arguments_text (x ∷ xs) = codes " " ++ (integer_text x ++ arguments_text xs)
+
+-- both outcomes, and the line's end
+abbrev pub outcomes_text : Outcome → Outcome → List ℕ
+outcomes_text first second =
+    codes " : " ++ (outcome_text first ++ last_text (codes " ") (outcome_text second))
+
+-- the line of two different outcomes at these arguments
+abbrev pub different_line : List ℤ → Outcome → Outcome → List ℕ
+different_line arguments first second =
+    codes "DIFFERENT" ++ (arguments_text arguments ++ outcomes_text first second)
+
+-- the line of so many points found alike and so many undecided
+abbrev pub alike_line : ℕ → ℕ → List ℕ
+alike_line points undecided =
+    codes "ALIKE points " ++ (natural_text points
+    ++ last_text (codes " undecided ") (natural_text undecided))
+
+-- the line on how two functions compare
+abbrev pub found_text : Compared → List ℕ
+found_text (found.Different arguments first second) = different_line arguments first second
+found_text (found.Alike points undecided) = alike_line points undecided
+
 -- ---- all
 
 -- the line of words that ask for nothing
 abbrev pub usage_line : List ℕ
-usage_line = codes "usage: ctrl MODE FILE [F] [G] [LOG] [--pre E] [--depth N] [--budget N]\n"
+usage_line = codes "usage: ctrl MODE FILE [F] [G] [LOG] [--pre E] [--depth N] [--budget N] [--box N] [--rounds N]\n"
+
+-- the line of so many examples, of which so many are proved and so many aren't
+abbrev pub counts_line : ℕ → ℕ → ℕ → List ℕ
+counts_line pairs equivalent unknown =
+    codes "demo " ++ (decimal pairs ++ (codes " equivalent " ++ (decimal equivalent
+    ++ (codes " unknown " ++ (decimal unknown ++ codes "\n")))))
+
+abbrev pub demo_line : ℕ → ℕ → List ℕ
+demo_line pairs equivalent = counts_line pairs equivalent (pairs - equivalent)
 
 -- the line of a verdict
 abbrev pub text_of : Verdict → List ℕ
@@ -123,6 +176,7 @@ text_of Said.Equivalent = codes "EQUIVALENT\n"
 text_of Said.NoRanks = codes "UNKNOWN ranks\n"
 text_of (Said.Depth depth) = numbered_line (codes "UNKNOWN depth ") depth
 text_of (Said.Visits visits) = numbered_line (codes "UNKNOWN visits ") visits
+text_of (Said.Demo pairs equivalent) = demo_line pairs equivalent
 text_of Said.LongSource = codes "REFUSED long source\n"
 text_of Said.LongLog = codes "REFUSED long log\n"
 text_of (Said.Lex fault) = lex_line fault
@@ -133,6 +187,7 @@ text_of (Said.Arity first second) = arity_line first second
 text_of (Said.PreLex fault) = pre_lex_line fault
 text_of (Said.PreParse end) = pre_parse_line end
 text_of (Said.PreName token) = place_line (codes "pre unknown-name") token
+text_of (Said.Box count) = numbered_line (codes "REFUSED box ") count
 text_of (Said.Line number) = numbered_line (codes "REFUSED line ") number
 text_of (Said.Check end) = check_line end
 text_of Said.Usage = usage_line

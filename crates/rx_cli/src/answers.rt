@@ -1,18 +1,24 @@
 //! What a run answers, before it is reported.
-ghost use Rattle.std.specs.Prelude.{◌≡◌, ◌≤◌, true, length, map, string_bytes, IfOk, Some};
+ghost use Rattle.std.specs.Prelude.{◌≡◌, ◌≤◌, true, length, map, string_bytes, IfOk, Option, Some};
 ghost use Rattle.rx_command.specs.Commands as words_say;
-ghost use Rattle.rx_command.specs.Commands.{Check, Command, Prove, command_view, functions_view, is_short};
-ghost use Rattle.rx_io.specs.Outside.{Rose};
-ghost use Rattle.rx_cli.specs.Answers.{AreEqual, IsAnswered, IsReportable, functions_in, status_in, text_in};
+ghost use Rattle.rx_command.specs.Commands.{Check, Compare, Demo, Prove, Refute, comparison_view, functions_view, is_short};
+ghost use Rattle.rx_io.specs.Outside.{Names, Rose};
+ghost use Rattle.rx_cli.specs.Answers.{AreEqual, IsAnswerTo, IsRefutedBy, IsAnswered, IsReportable, functions_in, text_in};
+ghost use Rattle.rx_cli.specs.Ends as ends;
+ghost use Rattle.rx_cli.specs.Ends.{status_in};
 ghost use Rattle.rx_cli.specs.Steps.{ChecksNamed, HasLineNext, IsNotDeep, Reads, bytes_in};
 ghost use Rattle.rx_cli.specs.Texts.{HasLine};
 
 use crate::check::on_text;
+use crate::examples::show_examples;
 use crate::proving::prove;
 use crate::questions::ask;
+use crate::refuting::refute;
+use crate::reports::found_line;
 use crate::{NoMemory, Status, Verdict, report};
 use c_front::Next;
-use rx_command::{Command, Effort, Functions, command_of};
+use c_refute::Compared;
+use rx_command::{Command, Comparison, Effort, Extent, Functions, command_of};
 use rx_io::{Files, ReadEnd, read_all};
 use rx_plain::Items;
 use std::alloc::Global;
@@ -24,6 +30,18 @@ pub enum Answer {
     Line(Verdict),
     /// The text of the log of a proof.
     Proof(Items<u8>),
+    /// How two functions compare over points.
+    Found(Compared),
+}
+
+/// How a run ends that has compared two functions over points.
+fn found_status(found: &Compared) -> Status
+    ensures { result ≡ ends.found_status found.now }
+{
+    match found {
+        Compared::Different { .. } => Status::Different,
+        Compared::Alike { .. } => Status::Unknown,
+    }
 }
 
 impl Answer {
@@ -34,6 +52,7 @@ impl Answer {
         match self {
             Answer::Line(verdict) => verdict.status(),
             Answer::Proof(_) => Status::Equivalent,
+            Answer::Found(found) => found_status(found),
         }
     }
 
@@ -45,6 +64,7 @@ impl Answer {
         match self {
             Answer::Line(verdict) => report(alloc, &verdict),
             Answer::Proof(text) => Ok(text.into_vec()),
+            Answer::Found(found) => found_line(alloc, &found),
         }
     }
 }
@@ -119,7 +139,7 @@ fn judge_check<F: Files>(
     ensures reach { F.reaches files.old files.new }
     ensures answer { IfOk result (IsAnswered (F.held files.old)
         (Rose (F.faults files.old) (F.faults files.new))
-        (Some (Check (functions_view functions.now) log.now))) }
+        (Some (Compare (Check (functions_view functions.now) log.now)))) }
     ensures reportable { IfOk result IsReportable }
 {
     match read_within(
@@ -148,7 +168,7 @@ fn judge_prove<F: Files>(
     ensures reach { F.reaches files.old files.new }
     ensures answer { IfOk result (IsAnswered (F.held files.old)
         (Rose (F.faults files.old) (F.faults files.new))
-        (Some (Prove (functions_view functions.now) effort))) }
+        (Some (Compare (Prove (functions_view functions.now) effort)))) }
     ensures reportable { IfOk result IsReportable }
 {
     match read_within(
@@ -163,23 +183,61 @@ fn judge_prove<F: Files>(
     }
 }
 
-/// The answer to a command, for which it reads the files that the command names.
-fn judge_command<F: Files>(
+/// The answer where a counterexample is to be looked for.
+fn judge_refute<F: Files>(
     alloc: Global,
-    command: &Command<'_>,
+    functions: &Functions<'_>,
+    extent: Extent,
     files: &mut F,
 ) -> Result<Answer, NoMemory>
-    requires pre { is_short (functions_in (command_view command.now)).precondition ≡ true }
-    requires depth { IsNotDeep (command_view command.now) }
+    requires pre { is_short (functions_view functions.now).precondition ≡ true }
     ensures reach { F.reaches files.old files.new }
     ensures answer { IfOk result (IsAnswered (F.held files.old)
-        (Rose (F.faults files.old) (F.faults files.new)) (Some (command_view command.now))) }
+        (Rose (F.faults files.old) (F.faults files.new))
+        (Some (Compare (Refute (functions_view functions.now) extent)))) }
     ensures reportable { IfOk result IsReportable }
 {
-    match command {
-        Command::Prove(functions, effort) => judge_prove(alloc, functions, *effort, files),
-        Command::Check(functions, log) => judge_check(alloc, functions, log, files),
+    match read_within(
+        alloc,
+        files,
+        functions.file,
+        LONGEST_SOURCE,
+        Verdict::LongSource,
+    )? {
+        Next::Ends(verdict) => Ok(Answer::Line(verdict)),
+        Next::Goes(source) => refute(alloc, &source, functions, extent),
     }
+}
+
+/// The answer to a comparison, for which it reads the files that it names.
+fn judge_comparison<F: Files>(
+    alloc: Global,
+    comparison: &Comparison<'_>,
+    files: &mut F,
+) -> Result<Answer, NoMemory>
+    requires pre { is_short (functions_in (comparison_view comparison.now)).precondition ≡ true }
+    requires depth { IsNotDeep (comparison_view comparison.now) }
+    ensures reach { F.reaches files.old files.new }
+    ensures answer { IfOk result (IsAnswered (F.held files.old)
+        (Rose (F.faults files.old) (F.faults files.new))
+        (Some (Compare (comparison_view comparison.now)))) }
+    ensures reportable { IfOk result IsReportable }
+{
+    match comparison {
+        Comparison::Prove(functions, effort) => judge_prove(alloc, functions, *effort, files),
+        Comparison::Check(functions, log) => judge_check(alloc, functions, log, files),
+        Comparison::Refute(functions, extent) => judge_refute(alloc, functions, *extent, files),
+    }
+}
+
+/// The answer where examples are to be shown.
+fn judge_demo(alloc: Global, pairs: u32) -> Result<Answer, NoMemory>
+    requires { pairs ≤ 100 }
+    ensures answer { (held : Option Names) →
+        IfOk result (IsAnswerTo held (Some (Demo pairs))) }
+    ensures reportable { IfOk result IsReportable }
+{
+    Ok(Answer::Line(show_examples(alloc, pairs)?))
 }
 
 /// The answer to the words, for which it reads the files that they name.
@@ -190,10 +248,13 @@ pub fn judge<F: Files>(alloc: Global, words: &[String], files: &mut F) -> Result
         (words_say.command_of (map string_bytes words.now))) }
     ensures sound { IfOk result (λ answer. status_in answer ≡ Status.Equivalent →
         AreEqual (F.held files.old) (map string_bytes words.now)) }
+    ensures different { IfOk result (λ answer. status_in answer ≡ Status.Different →
+        IsRefutedBy (F.held files.old) (map string_bytes words.now)) }
     ensures reportable { IfOk result IsReportable }
 {
     match command_of(alloc, words)? {
         None => Ok(Answer::Line(Verdict::Usage)),
-        Some(command) => judge_command(alloc, &command, files),
+        Some(Command::Demo(pairs)) => judge_demo(alloc, pairs),
+        Some(Command::Compare(comparison)) => judge_comparison(alloc, &comparison, files),
     }
 }

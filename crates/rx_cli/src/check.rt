@@ -53,6 +53,6 @@ pub fn on_text(alloc: Global, question: Question, bytes: &[u8]) -> Result<Verdic
     match read_log(alloc, bytes) {
         Ok(log) => on_log(alloc, question, &log),
         Err(LogEnd::BadLine { line }) => Ok(Verdict::Line(line)),
-        Err(LogEnd::TooDeep | LogEnd::NoMemory) => Err(NoMemory),
+        Err(LogEnd::TooDeep | LogEnd::OutOfRange | LogEnd::NoMemory) => Err(NoMemory),
     }
 }

@@ -20,12 +20,14 @@ pub enum Status {
     NoMemory,
     /// A number or a term passed the limits.
     Large,
+    /// The two functions differ at some integers.
+    Different,
 }
 
 impl Status {
     ghost use Rattle.rx_cli.specs.Ends.{code_of};
 
-    /// The exit status: 0 to 7, in the order of the variants.
+    /// The exit status: 0 to 8, in the order of the variants.
     pub fn code(&self) -> u8
         ensures { result ≡ code_of self.now }
     {

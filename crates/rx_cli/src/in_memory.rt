@@ -3,7 +3,7 @@ ghost use Rattle.std.specs.Prelude.{◌≡◌, [], map, string_bytes, Some};
 ghost use Rattle.rx_io.specs.MemoryFiles as kept;
 ghost use Rattle.rx_io.specs.MemorySink as sink;
 ghost use Rattle.rx_io.specs.Outside.{Rose};
-ghost use Rattle.rx_cli.specs.Answers.{AreEqual};
+ghost use Rattle.rx_cli.specs.Answers.{AreEqual, IsRefutedBy};
 ghost use Rattle.rx_cli.specs.InMemory.{IsAbsent, IsTooLong};
 ghost use Rattle.rx_cli.specs.Run.{RunEnds};
 
@@ -24,6 +24,7 @@ pub fn run_in_memory(
     ensures ends { RunEnds (Some (kept.names_in files.old)) (Rose (kept.faults_in files.old) (kept.faults_in files.new)) (Rose (sink.faults_in out.old) (sink.faults_in out.new))
         (map string_bytes words.now) (Some (sink.put_in out.old)) (Some (sink.put_in out.new)) result }
     ensures sound { result ≡ Status.Equivalent → AreEqual (Some (kept.names_in files.old)) (map string_bytes words.now) }
+    ensures different { result ≡ Status.Different → IsRefutedBy (Some (kept.names_in files.old)) (map string_bytes words.now) }
     ensures read { result ≡ Status.ReadFault → IsAbsent (kept.names_in files.old) (map string_bytes words.now) }
     ensures write { result ≡ Status.WriteFault → IsTooLong (kept.names_in files.old) (map string_bytes words.now) (sink.room_left out.old) }
 {

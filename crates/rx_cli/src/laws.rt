@@ -1,18 +1,17 @@
 //! Laws of what is reported.
 ghost use Rattle.std.specs.Prelude.{◌≡◌, ◌≤◌, ℕ, List, Some, length};
-ghost use Rattle.c_front.specs.declared.stages.Next.TheVariants.{Goes};
-ghost use Rattle.rx_command.specs.Commands.{Functions};
+ghost use Rattle.rx_command.specs.Commands.{Check, Compare, Functions, Prove, command_of};
+ghost use Rattle.rx_command.specs.declared.command.Effort.{Effort};
 ghost use Rattle.rx_io.specs.Outside.{Names};
-ghost use Rattle.rx_log.specs.Acceptance.{IsAccepted};
-ghost use Rattle.rx_log.specs.declared.log.Log.{Log};
-ghost use Rattle.rx_logtext.specs.Logs.{IsLog};
 ghost use Rattle.rx_cli.specs.declared.ends.Status.{Status};
-ghost use Rattle.rx_cli.specs.declared.questions.Question.{Question};
+ghost use Rattle.rx_cli.specs.declared.ends.Status.TheVariants as ends;
 ghost use Rattle.rx_cli.specs.declared.verdicts.Verdict.TheVariants as said;
-ghost use Rattle.rx_cli.specs.Checks.{IsChecked, longest_log};
+ghost use Rattle.rx_cli.specs.Agreement.{Agrees};
+ghost use Rattle.rx_cli.specs.Checks.{longest_log};
 ghost use Rattle.rx_cli.specs.Proofs.{AreOne};
-ghost use Rattle.rx_cli.specs.Questions.{asked};
+ghost use Rattle.rx_cli.specs.Refutations.{Refutes};
 ghost use Rattle.rx_cli.specs.Run.{Reports};
+ghost use Rattle.rx_cli.specs.Texts.{text_of};
 
 /// Over files whose contents are told, and of which no call finds a fault, words have one status
 /// (`status`), and one text to be put, but for proofs: what shows the steps of a proof is free, so two of
@@ -27,11 +26,23 @@ pub fn words_have_one_report()
         AreOne names words s t v }
 {}
 
-/// A log that is accepted for the question that two functions of a text are, and whose text is at most
-/// 67,108,864 bytes long, is accepted by a check that reads this text. A law; it does nothing.
+/// What a search proves, a check accepts. Words that ask for a proof are reported with EQUIVALENT and
+/// a text of at most 67,108,864 bytes. Then words that ask for a check of the same functions are
+/// reported with EQUIVALENT, where the same source is held and, under the name of the log, this text.
+/// A law; it does nothing.
 pub fn written_logs_are_accepted()
-    ensures { (f : Functions) (source : List ℕ) (question : Question) (log : Log) (text : List ℕ) →
-        asked f source (Goes question) → IsAccepted question.rules question.goal log →
-        IsLog text log → length text ≤ longest_log →
-        IsChecked f source (Some text) said.Equivalent }
+    ensures { (before after : Names) (f : Functions) (effort : Effort) (name text : List ℕ)
+        (searching checking : List (List ℕ)) →
+        command_of searching ≡ Some (Compare (Prove f effort)) →
+        command_of checking ≡ Some (Compare (Check f name)) →
+        Reports (Some before) ⊥ searching ends.Equivalent text →
+        after f.file ≡ before f.file → after name ≡ Some text → length text ≤ longest_log →
+        Reports (Some after) ⊥ checking ends.Equivalent (text_of said.Equivalent) }
+{}
+
+/// Two functions of a text that agree have no counterexample: where both return alike on all
+/// integers that meet the precondition, there are none of these on which they return other
+/// outcomes. A law; it does nothing.
+pub fn counterexamples_exclude_proofs()
+    ensures { (f : Functions) (source : List ℕ) → Agrees source f → Refutes source f → ⊥ }
 {}

@@ -1,10 +1,12 @@
 //! The search for a proof.
 ghost use Rattle.std.specs.Prelude.{◌≡◌, ◌≤◌, true, length, IfOk};
 ghost use Rattle.rx_command.specs.Commands.{functions_view, is_short};
+ghost use Rattle.rx_bank.specs.CachedSolver.{IsCachedSolver};
 ghost use Rattle.rx_coverable.specs.Coverable.{is_coverable};
 ghost use Rattle.rx_joins.specs.Goals.{IsFitting};
 ghost use Rattle.rx_log.specs.Depth.{is_shallow_log};
-ghost use Rattle.rx_logtext.specs.Logs.{log_text};
+ghost use Rattle.rx_logtext.specs.Logs.{IsLog};
+ghost use Rattle.rx_solve.specs.Answers.{Answers};
 ghost use Rattle.rx_cli.specs.Answers.{IsReportable};
 ghost use Rattle.rx_cli.specs.Proofs.{IsProved, OnQuestion};
 ghost use Rattle.rx_cli.specs.Steps.{SaysEnd};
@@ -14,7 +16,10 @@ use crate::answers::Answer;
 use crate::questions::{Question, ask};
 use crate::verdicts::Verdict;
 use c_front::Next;
+use rx_bank::CachedSolver;
+use rx_cert::Cert;
 use rx_command::{Effort, Functions};
+use rx_fm::FmEnd;
 use rx_log::Log;
 use rx_logtext::{LogEnd, write_log};
 use rx_plain::{Items, NoMemory};
@@ -23,14 +28,16 @@ use rx_search::{Search, SearchEnd};
 use rx_solve::refutes;
 use std::alloc::Global;
 
-/// The text of a log in which nothing is too deep for one.
+/// The text of a log in which nothing is too deep for one. Where the log has no text for another
+/// reason, as for a list of more than 4,294,967,295 things or a variable of 1,000,000 or greater, it
+/// is taken for what memory doesn't hold.
 fn proof_text(alloc: Global, log: &Log) -> Result<Items<u8>, NoMemory>
     requires { is_shallow_log log.now ≡ true }
-    ensures text { IfOk result (λ text. text ≡ log_text log.now) }
+    ensures { IfOk result (λ text. IsLog text log.now) }
 {
     match write_log(alloc, log) {
         Ok(text) => Ok(Items::from_vec(text)),
-        Err(LogEnd::NoMemory) => Err(NoMemory),
+        Err(LogEnd::OutOfRange | LogEnd::NoMemory) => Err(NoMemory),
         Err(LogEnd::TooDeep) => unreachable!(),
         Err(LogEnd::BadLine { line: _ }) => unreachable!(),
     }
@@ -50,6 +57,40 @@ fn verdict_on(end: &SearchEnd) -> Result<Verdict, NoMemory>
     }
 }
 
+/// Searches for a proof that answers a question, with the answers of a cached solver.
+fn search_with<S: FnMut(&Constraint) -> Result<Option<Cert>, FmEnd>>(
+    alloc: Global,
+    question: &Question,
+    effort: Effort,
+    cached: CachedSolver<S>,
+) -> Result<Answer, NoMemory>
+where
+    S: Drop,
+    requires known { IsCachedSolver S.FnMut cached }
+    requires fits { IsFitting question.now.rules question.now.goal }
+    requires coverable { is_coverable question.now.rules ≡ true }
+    requires depth { effort.depth ≤ 12 }
+    ensures answer { IfOk result (OnQuestion question.now effort) }
+    ensures reportable { IfOk result IsReportable }
+{
+    let Question { rules, goal } = question;
+    let mut cached = cached;
+    let mut search = Search::new(
+        move |rows: &Constraint| -> Result<Option<Cert>, FmEnd>
+            requires { IsCachedSolver S.FnMut cached }
+            ensures known { IsCachedSolver S.FnMut cached.exit }
+            ensures answer { Answers rows.now result }
+        { cached.refutes(rows) },
+    );
+    match search.search(alloc, rules, goal, effort.depth, effort.budget) {
+        Ok(log) => Ok(Answer::Proof(proof_text(alloc, &log)?)),
+        Err(end) => Ok(Answer::Line(verdict_on(&end)?)),
+    }
+}
+
+/// How many answers of the refuter are kept.
+const CACHED_ANSWERS: u32 = 4096;
+
 /// Searches for a proof that answers a question.
 fn on_question(alloc: Global, question: &Question, effort: Effort) -> Result<Answer, NoMemory>
     requires fits { IsFitting question.now.rules question.now.goal }
@@ -58,12 +99,9 @@ fn on_question(alloc: Global, question: &Question, effort: Effort) -> Result<Ans
     ensures answer { IfOk result (OnQuestion question.now effort) }
     ensures reportable { IfOk result IsReportable }
 {
-    let Question { rules, goal } = question;
-    let mut search = Search::new(|rows: &Constraint| refutes(alloc, rows));
-    match search.search(alloc, rules, goal, effort.depth, effort.budget) {
-        Ok(log) => Ok(Answer::Proof(proof_text(alloc, &log)?)),
-        Err(end) => Ok(Answer::Line(verdict_on(&end)?)),
-    }
+    let solve = |rows: &Constraint| refutes(alloc, rows);
+    let cached = CachedSolver::new(alloc, solve, CACHED_ANSWERS)?;
+    search_with(alloc, question, effort, cached)
 }
 
 /// Searches for a proof that the two named functions of a text return the same, as far as the effort

@@ -42,7 +42,7 @@ fn bytes_of(text: Option<&str>) -> Option<&[u8]>
 }
 
 /// The front end.
-fn front_stage(
+pub fn front_stage(
     alloc: Global,
     source: &[u8],
     functions: &Functions<'_>,

@@ -4,22 +4,45 @@ ghost use Rattle.rx_cli.specs.Texts as spec;
 ghost use Rattle.rx_cli.specs.Texts.{HasLine, text_of};
 
 mod checks;
+mod found;
 mod fronts;
 
 use crate::reports::checks::check_line;
+pub use crate::reports::found::found_line;
 use crate::reports::fronts::{
     arity_line, lex_line, parse_line, place_line, pre_lex_line, pre_parse_line, scope_line,
 };
 use crate::{NoMemory, Verdict};
 use std::alloc::{AllocError, Global};
 
-const USAGE: &str = "usage: ctrl MODE FILE [F] [G] [LOG] [--pre E] [--depth N] [--budget N]\n";
+const USAGE: &str =
+    "usage: ctrl MODE FILE [F] [G] [LOG] [--pre E] [--depth N] [--budget N] [--box N] [--rounds N]\n";
 
 /// A line that ends in a number.
 fn numbered_line(alloc: Global, words: &str, number: usize) -> Result<String, AllocError>
     ensures { IfOk result (λ line. string_bytes line ≡ spec.numbered_line words.now number) }
 {
     format!(in alloc; "{words}{number}\n")
+}
+
+/// The line on examples: how many there are, how many of them are proved, and how many aren't.
+fn counts_line(
+    alloc: Global,
+    pairs: u32,
+    equivalent: u32,
+    unknown: u32,
+) -> Result<String, AllocError>
+    ensures { IfOk result (λ line.
+        string_bytes line ≡ spec.counts_line pairs equivalent unknown) }
+{
+    format!(in alloc; "demo {pairs} equivalent {equivalent} unknown {unknown}\n")
+}
+
+/// The line on examples: how many there are, and how many of them are proved.
+fn demo_line(alloc: Global, pairs: u32, equivalent: u32) -> Result<String, AllocError>
+    ensures { IfOk result (λ line. string_bytes line ≡ spec.demo_line pairs equivalent) }
+{
+    counts_line(alloc, pairs, equivalent, pairs.saturating_sub(equivalent))
 }
 
 fn line(alloc: Global, verdict: &Verdict) -> Result<String, AllocError>
@@ -30,6 +53,7 @@ fn line(alloc: Global, verdict: &Verdict) -> Result<String, AllocError>
         Verdict::NoRanks => String::from_str(alloc, "UNKNOWN ranks\n"),
         Verdict::Depth(depth) => numbered_line(alloc, "UNKNOWN depth ", *depth as usize),
         Verdict::Visits(visits) => numbered_line(alloc, "UNKNOWN visits ", *visits as usize),
+        Verdict::Demo(pairs, equivalent) => demo_line(alloc, *pairs, *equivalent),
         Verdict::LongSource => String::from_str(alloc, "REFUSED long source\n"),
         Verdict::LongLog => String::from_str(alloc, "REFUSED long log\n"),
         Verdict::Lex(fault) => lex_line(alloc, *fault),
@@ -40,6 +64,7 @@ fn line(alloc: Global, verdict: &Verdict) -> Result<String, AllocError>
         Verdict::PreLex(fault) => pre_lex_line(alloc, *fault),
         Verdict::PreParse(end) => pre_parse_line(alloc, *end),
         Verdict::PreName(token) => place_line(alloc, "pre unknown-name", *token),
+        Verdict::Box(count) => numbered_line(alloc, "REFUSED box ", *count),
         Verdict::Line(number) => numbered_line(alloc, "REFUSED line ", *number),
         Verdict::Check(end) => check_line(alloc, *end),
         Verdict::Usage => String::from_str(alloc, USAGE),

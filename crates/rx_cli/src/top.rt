@@ -1,7 +1,7 @@
 //! The run of the program, from the words to the bytes put.
 ghost use Rattle.std.specs.Prelude.{◌≡◌, map, string_bytes};
 ghost use Rattle.rx_io.specs.Outside.{Rose};
-ghost use Rattle.rx_cli.specs.Answers.{AreEqual};
+ghost use Rattle.rx_cli.specs.Answers.{AreEqual, IsRefutedBy};
 ghost use Rattle.rx_cli.specs.Run.{RunEnds};
 
 use crate::Status;
@@ -17,6 +17,7 @@ pub fn run<F: Files, O: Sink>(alloc: Global, words: &[String], files: &mut F, ou
     ensures ends { RunEnds (F.held files.old) (Rose (F.faults files.old) (F.faults files.new)) (Rose (O.faults out.old) (O.faults out.new))
         (map string_bytes words.now) (O.contents out.old) (O.contents out.new) result }
     ensures sound { result ≡ Status.Equivalent → AreEqual (F.held files.old) (map string_bytes words.now) }
+    ensures different { result ≡ Status.Different → IsRefutedBy (F.held files.old) (map string_bytes words.now) }
     ensures kept { result ≡ Status.NoMemory → out.new ≡ out.old }
     ensures reach_files { F.reaches files.old files.new }
     ensures reach_out { O.reaches out.old out.new }

@@ -20,6 +20,8 @@ pub enum Verdict {
     Depth(u32),
     /// No proof is found in this many visits, and there are more.
     Visits(u32),
+    /// Of this many examples, this many are proved.
+    Demo(u32, u32),
     /// The source has more than 1,048,576 bytes.
     LongSource,
     /// The log has more than 67,108,864 bytes.
@@ -41,6 +43,8 @@ pub enum Verdict {
     /// The token of the precondition with this number, counted from 0, is a name that no parameter of
     /// the first function has.
     PreName(u32),
+    /// There are more than 1,000,000 points of this many arguments.
+    Box(usize),
     /// The line of the log with this number, counted from 1, is the first with which no log begins.
     Line(usize),
     /// The log isn't accepted.
@@ -67,6 +71,17 @@ fn check_status(end: &CheckEnd) -> Status
     }
 }
 
+/// How a run ends that has shown examples.
+fn demo_status(pairs: u32, equivalent: u32) -> Status
+    ensures { result ≡ ends.demo_status pairs equivalent }
+{
+    if pairs == equivalent {
+        Status::Equivalent
+    } else {
+        Status::Unknown
+    }
+}
+
 impl Verdict {
     ghost use Rattle.rx_cli.specs.Ends.{status_of};
 
@@ -77,6 +92,7 @@ impl Verdict {
         match self {
             Verdict::Equivalent => Status::Equivalent,
             Verdict::NoRanks | Verdict::Depth(_) | Verdict::Visits(_) => Status::Unknown,
+            Verdict::Demo(pairs, equivalent) => demo_status(*pairs, *equivalent),
             Verdict::LongSource
             | Verdict::LongLog
             | Verdict::Lex(_)
@@ -87,6 +103,7 @@ impl Verdict {
             | Verdict::PreLex(_)
             | Verdict::PreParse(_)
             | Verdict::PreName(_)
+            | Verdict::Box(_)
             | Verdict::Line(_) => Status::Refused,
             Verdict::Check(end) => check_status(end),
             Verdict::Usage => Status::Usage,

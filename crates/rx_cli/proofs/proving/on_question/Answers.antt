@@ -3,5 +3,5 @@ use Rattle.std.proofs.Common.{rules}
 use Rattle.rx_solve.proofs.Calls.{solver_by}
 use Rattle.rx_cli.proofs.proving.on_question.Goals as goal
 
-pub new-search-requires : goal.new-search-requires
-new-search-requires c = solver_by _ (λ f a. search rules) (λ f a r f' k. search rules) _
+pub new-requires-clause-solver : goal.new-requires-clause-solver
+new-requires-clause-solver c = solver_by _ (λ f a. search rules) (λ f a r f' k. search rules) _

@@ -1,0 +1,64 @@
+-- Examples: pairs of a loop and a recursion that add up the multiples of a number, and what comes of searches for
+-- proofs that both return the same.
+use Rattle.std.specs.Prelude.{◌≡◌, ℕ, zero, suc, ◌+◌, Bool, true, false, if◌then◌else◌, None, List, [], ◌∷◌, ◌++◌, codes, ◌%◌}
+use Rattle.rx_command.specs.Commands.{Functions}
+use Rattle.rx_command.specs.declared.command.Effort.{Effort}
+use Rattle.rx_cli.specs.declared.answers.Answer.{Answer}
+use Rattle.rx_cli.specs.declared.examples.Tally.{Tally}
+use Rattle.rx_cli.specs.declared.ends.Status.{Status}
+use Rattle.rx_cli.specs.declared.ends.Status.TheVariants as Ends
+use Rattle.rx_cli.specs.declared.verdicts.Verdict.{Verdict}
+use Rattle.rx_cli.specs.declared.verdicts.Verdict.TheVariants as Said
+use Rattle.rx_cli.specs.Proofs.{IsProved}
+use Rattle.rx_cli.specs.Ends.{status_in}
+
+-- the number whose multiples the example adds up, as a digit: 1 to 7 in turn
+abbrev pub digit : ℕ → ℕ
+digit k = 49 + k % 7
+
+-- the text of the example with this number, counted from 0
+abbrev pub example_source : ℕ → List ℕ
+example_source k =
+    codes "int u(int n) { int s = 0; for (int i = 1; i <= n; i++) s += " ++ (digit k
+    ∷ (codes " * i; return s; } int r(int n) { if (n <= 0) return 0; return " ++ (digit k
+    ∷ codes " * n + r(n - 1); }")))
+
+-- its two functions
+abbrev pub example_functions : Functions
+example_functions = record { file = []; first = codes "u"; second = codes "r"; precondition = None }
+
+-- how far its search goes
+abbrev pub example_effort : Effort
+example_effort = record { depth = 4; budget = 100000 }
+
+-- what a search answers to the example with this number
+abbrev pub IsExample : ℕ → Answer → Type 0
+IsExample k answer = IsProved example_functions example_effort (example_source k) answer
+
+abbrev pub none_yet : Tally
+none_yet = record { equivalent = 0; is_large = false }
+
+-- the tally with an answer more, which has this status
+abbrev pub with_status : Tally → Status → Tally
+with_status tally Ends.Equivalent = record tally { equivalent = tally.equivalent + 1 }
+with_status tally Ends.Large = record tally { is_large = true }
+with_status tally status = tally
+
+-- how the search for a proof of the example with this number ends
+abbrev pub IsStatus : ℕ → Status → Type 0
+IsStatus k status = (answer : Answer) × IsExample k answer × (status ≡ status_in answer)
+
+-- the tally of the first examples
+abbrev pub IsTally : ℕ → Tally → Type 0
+IsTally zero tally = tally ≡ none_yet
+IsTally (suc k) tally =
+    (before : Tally) × IsTally k before
+    × ((status : Status) × IsStatus k status × (tally ≡ with_status before status))
+
+-- what is said of a tally of so many examples
+abbrev pub verdict_on : ℕ → Tally → Verdict
+verdict_on pairs tally = if tally.is_large then Said.LargeSearch else Said.Demo pairs tally.equivalent
+
+-- what is said of the first examples
+abbrev pub IsShown : ℕ → Verdict → Type 0
+IsShown pairs verdict = (tally : Tally) × IsTally pairs tally × (verdict ≡ verdict_on pairs tally)

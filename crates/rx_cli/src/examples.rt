@@ -1,0 +1,108 @@
+//! Examples: pairs of a loop and a recursion, each of which is searched for a proof that both return the
+//! same.
+ghost use Rattle.std.specs.Prelude.{◌≡◌, ◌≤◌, IfOk};
+ghost use Rattle.rx_cli.specs.Ends.{status_in};
+ghost use Rattle.rx_cli.specs.Examples as spec;
+ghost use Rattle.rx_cli.specs.Examples.{IsShown, IsStatus, IsTally, with_status};
+ghost use Rattle.rx_cli.specs.Texts.{HasLine};
+
+use crate::proving::prove;
+use crate::{NoMemory, Status, Verdict};
+use rx_command::{Effort, Functions};
+use std::alloc::Global;
+
+/// How many examples are proved, and whether something passed the limits in one.
+#[derive(Clone, Copy)]
+pub struct Tally {
+    /// Both functions of this many return the same.
+    pub equivalent: u32,
+    /// What is formed for one passes the limits.
+    pub is_large: bool,
+}
+
+/// The number whose multiples the example adds up, as a digit: 1 to 7 in turn.
+fn digit(number: u32) -> u8
+    ensures { result ≡ spec.digit number }
+{
+    b'1' + (number % 7) as u8
+}
+
+/// The text of the example with this number, counted from 0.
+fn example_source(alloc: Global, number: u32) -> Result<Vec<u8>, NoMemory>
+    ensures { IfOk result (λ source. source.items ≡ spec.example_source number) }
+{
+    let mut source = Vec::new(alloc);
+    source.extend_from_slice(b"int u(int n) { int s = 0; for (int i = 1; i <= n; i++) s += ")?;
+    source.push(digit(number))?;
+    source.extend_from_slice(b" * i; return s; } int r(int n) { if (n <= 0) return 0; return ")?;
+    source.push(digit(number))?;
+    source.extend_from_slice(b" * n + r(n - 1); }")?;
+    Ok(source)
+}
+
+/// How the search for a proof of the example with this number ends.
+fn status_of_example(alloc: Global, number: u32) -> Result<Status, NoMemory>
+    ensures { IfOk result (IsStatus number) }
+{
+    let source = example_source(alloc, number)?;
+    let functions = Functions {
+        file: "",
+        first: "u",
+        second: "r",
+        precondition: None,
+    };
+    let effort = Effort {
+        depth: 4,
+        budget: 100_000,
+    };
+    Ok(prove(alloc, &source, &functions, effort)?.status())
+}
+
+impl Tally {
+    /// The tally with an example more, whose search ended so.
+    fn with_status(self, status: Status) -> Tally
+        requires { self.equivalent ≤ 100 }
+        ensures { result ≡ with_status self status }
+    {
+        match status {
+            Status::Equivalent => Tally {
+                equivalent: self.equivalent + 1,
+                is_large: self.is_large,
+            },
+            Status::Large => Tally {
+                equivalent: self.equivalent,
+                is_large: true,
+            },
+            _ => self,
+        }
+    }
+}
+
+/// The tally of the first examples.
+fn count_proved(alloc: Global, pairs: u32) -> Result<Tally, NoMemory>
+    requires { pairs ≤ 100 }
+    ensures { IfOk result (IsTally pairs) }
+{
+    let mut tally = Tally {
+        equivalent: 0,
+        is_large: false,
+    };
+    for number in 0..pairs {
+        tally = tally.with_status(status_of_example(alloc, number)?);
+    }
+    Ok(tally)
+}
+
+/// What is said of the first examples.
+pub fn show_examples(alloc: Global, pairs: u32) -> Result<Verdict, NoMemory>
+    requires { pairs ≤ 100 }
+    ensures shown { IfOk result (IsShown pairs) }
+    ensures line { IfOk result HasLine }
+{
+    let tally = count_proved(alloc, pairs)?;
+    if tally.is_large {
+        Ok(Verdict::LargeSearch)
+    } else {
+        Ok(Verdict::Demo(pairs, tally.equivalent))
+    }
+}
