@@ -1,33 +1,38 @@
-//! One happy path of the calls on proof states that a search stands on, with ample memory. It prints
-//! each case that differs, and how many hold.
+//! Compares what the search for a proof and the translation of two functions answer with values of
+//! another program.
+//!
+//! Each line of the standard input is a call, what it is given, and what it is to answer, with
+//! ` | ` between them. Equations, rows, polynomials and cover trees have the notation of a log. A
+//! line `rules` makes the rule set of two functions, which the lines after it speak of. A line that
+//! begins with `#` is a heading. The program prints each line whose answer is another with the word
+//! `differs`, each that it can't read with `unread`, and at the end how many lines hold.
 #![tactic(auto)]
 
+mod answer;
+mod lines;
 mod parts;
+mod printing;
+mod reading;
+mod search_calls;
+mod set_calls;
 mod state_cases;
 
-use std::alloc::Global;
-use std::io;
-
-/// The cases by name, the topic before the dot.
-const CASES: [&str; 2] = ["state.made_of_parts", "state.copied"];
-
-// Whether the case is as it is to be; none where there is no memory.
-fn holds(alloc: Global, case: &str) -> Option<bool> {
-    let (of, name) = case.split_once('.')?;
-    match of {
-        "state" => state_cases::holds(alloc, name),
-        _ => None,
-    }
-}
+use crate::lines::Lines;
+use std::io::{self, BufRead, BufReader};
 
 fn main(rt: HostRuntime) -> io::Result<()> {
+    let mut lines = Lines::new();
     let mut count: u32 = 0;
-    for case in CASES {
-        match holds(rt.alloc(), case) {
+    for line in BufReader::new(rt.alloc(), rt.reader())?.lines(rt.alloc()) {
+        let line = line?;
+        if line.is_empty() || line.starts_with('#') {
+            continue;
+        }
+        match lines.take(rt.alloc(), line.as_str()) {
             Some(true) => count = count.saturating_add(1),
-            Some(false) => println!(rt; "differs: {case}")?,
-            None => println!(rt; "unread: {case}")?,
+            Some(false) => println!(rt; "differs: {line}")?,
+            None => println!(rt; "unread: {line}")?,
         }
     }
-    println!(rt; "{count} cases hold")
+    println!(rt; "{count} lines hold")
 }

@@ -1,0 +1,117 @@
+//! The calls of a search on a rule set: covers, ranks, uses of hypotheses and lemmas.
+ghost use Rattle.std.specs.Prelude.{◌↔◌};
+ghost use Rattle.std.specs.Bool.{IsTrue};
+ghost use Rattle.std.specs.List.{All};
+ghost use Rattle.rx_pairs.specs.Pairs.{SidesFit};
+
+use crate::answer::{Answer, ended, written};
+use crate::printing::{cover_text, lemma_text, lemmas_text, substitution_text, table_text};
+use crate::reading::{equation, place, rule, rules};
+use rx_coverable::find_cover;
+use rx_fm::FmEnd;
+use rx_generalise::{lemmas, named};
+use rx_match::find_use;
+use rx_pairs::{have_roots, loops_of};
+use rx_ranking::find_ranks;
+use rx_row::Constraint;
+use rx_solve::refutes;
+use rx_term::{Rule, RuleSet};
+use std::alloc::Global;
+
+/// There are no more symbols than this.
+const MOST_SYMBOLS: usize = 1 << 32;
+
+// What is found of covers.
+fn cover(alloc: Global, set: &RuleSet) -> Option<Answer> {
+    let mut solve = |rows: &Constraint| refutes(alloc, rows);
+    match find_cover(alloc, set, &mut solve) {
+        Ok(Some(cover)) => written(cover_text(alloc, cover.as_slice())),
+        Ok(None) => Some(Answer::Nothing),
+        Err(end) => ended(end),
+    }
+}
+
+/// Whether both sides of the rule fit the set.
+fn has_fitting_sides(set: &RuleSet, rule: &Rule) -> bool
+    ensures { IsTrue result ↔ SidesFit set.now rule.now }
+{
+    set.fits(&rule.left) && set.fits(&rule.right)
+}
+
+/// Whether both sides of each rule fit the set.
+fn have_fitting_sides(set: &RuleSet, rules: &[Rule]) -> bool
+    ensures { IsTrue result ↔ All (SidesFit set.now) rules.now }
+{
+    for rule in rules {
+        if !has_fitting_sides(set, rule) {
+            return false;
+        }
+    }
+    true
+}
+
+// What is found of ranks under these hypotheses.
+fn ranks(alloc: Global, set: &RuleSet, hypotheses: &str) -> Option<Answer> {
+    let hypotheses = rules(alloc, hypotheses)?;
+    if !have_roots(hypotheses.as_slice()) || !have_fitting_sides(set, hypotheses.as_slice()) {
+        return None;
+    }
+    let mut solve = |rows: &Constraint| refutes(alloc, rows);
+    match find_ranks(alloc, set, hypotheses.as_slice(), &mut solve) {
+        Ok(Some(found)) => written(table_text(alloc, &found.table)),
+        Ok(None) => Some(Answer::Nothing),
+        Err(end) => ended(end),
+    }
+}
+
+// What is found of uses of a hypothesis at a place of a goal.
+fn use_of(alloc: Global, given: &str) -> Option<Answer> {
+    let (goal, rest) = given.split_once(" | ")?;
+    let (hypothesis, at) = rest.split_once(" | ")?;
+    let goal = equation(alloc, goal)?;
+    let hypothesis = rule(alloc, hypothesis)?;
+    let (side, place) = place(at)?;
+    let mut solve = |rows: &Constraint| refutes(alloc, rows);
+    match find_use(alloc, &goal, &hypothesis, side, place, &mut solve) {
+        Ok(Some(found)) => written(substitution_text(alloc, found.subst.as_slice())),
+        Ok(None) => Some(Answer::Nothing),
+        Err(end) => ended(end),
+    }
+}
+
+// The goal with its constants named.
+fn naming(alloc: Global, set: &RuleSet, goal: &str) -> Option<Answer> {
+    let goal = equation(alloc, goal)?;
+    let parts = set.parts();
+    if parts.symbols.len() > MOST_SYMBOLS {
+        return None;
+    }
+    let loops = loops_of(alloc, parts).ok()?;
+    match named(alloc, &goal, set, &loops) {
+        Ok(Some(found)) => written(lemma_text(alloc, &found)),
+        Ok(None) => Some(Answer::Nothing),
+        Err(end) => ended(FmEnd::from(end)),
+    }
+}
+
+// The lemmas of a goal.
+fn lemmas_of(alloc: Global, set: &RuleSet, goal: &str) -> Option<Answer> {
+    let goal = equation(alloc, goal)?;
+    let mut solve = |rows: &Constraint| refutes(alloc, rows);
+    match lemmas(alloc, &goal, set, &mut solve) {
+        Ok(found) => written(lemmas_text(alloc, found.as_slice())),
+        Err(end) => ended(end),
+    }
+}
+
+/// What the call on the rule set answers; none where the line can't be read, or there is no memory.
+pub fn answer_to(alloc: Global, set: &RuleSet, call: &str, given: &str) -> Option<Answer> {
+    match call {
+        "cover" => cover(alloc, set),
+        "ranks" => ranks(alloc, set, given),
+        "use" => use_of(alloc, given),
+        "named" => naming(alloc, set, given),
+        "lemmas" => lemmas_of(alloc, set, given),
+        _ => None,
+    }
+}
