@@ -1,0 +1,26 @@
+//! The lines of a log.
+
+use rx_cover::CoverTree;
+use rx_form::Step;
+use rx_pairs::PairCert;
+use rx_plain::Items;
+use rx_poly::Poly;
+
+/// A line of a log, without the symbols whose numbers stand in it.
+#[derive(Drop)]
+pub enum Line {
+    /// The first line, which names the format.
+    Header,
+    /// The trees that are to cover a symbol.
+    Cover(Items<CoverTree>),
+    /// A step.
+    Step(Step),
+    /// How many columns the ranks have, 1 to 15.
+    Ranks(u32),
+    /// The rank of a symbol: a polynomial for each column.
+    Rank(Items<Poly>),
+    /// Why a pair is lower.
+    Pair(PairCert),
+    /// The last line, which says what was shown.
+    End,
+}

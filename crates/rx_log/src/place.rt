@@ -1,0 +1,120 @@
+//! Places in the order of the lines of a log.
+ghost use Rattle.std.specs.Prelude.{◌≡◌};
+ghost use Rattle.rx_log.specs.Places as spec;
+
+use crate::line::Line;
+
+/// Where a reader of a log stands: which lines may come next.
+#[derive(Clone, Copy, Debug, PartialEq, Eq)]
+pub enum Place {
+    /// Before the first line.
+    AtHeader,
+    /// Among the covers; that of the symbol with this number is next, if any.
+    InCovers(u64),
+    /// Behind a step.
+    InSteps,
+    /// Among the ranks.
+    InRanks {
+        /// How many polynomials each has.
+        columns: u32,
+        /// The symbol whose rank is next, if any.
+        next: u64,
+    },
+    /// Behind the certificates of a pair.
+    InPairs,
+    /// Behind the last line.
+    Finished,
+}
+
+/// The place behind a line that comes first.
+fn after_header(line: &Line) -> Option<Place>
+    ensures { result ≡ spec.after_header line.now }
+{
+    match line {
+        Line::Header => Some(Place::InCovers(0)),
+        _ => None,
+    }
+}
+
+/// The place behind a line that comes where the cover of the symbol with the number `next` may come.
+fn after_covers(next: u64, line: &Line, symbol: u32) -> Option<Place>
+    ensures { result ≡ spec.after_covers next line.now symbol }
+{
+    match line {
+        Line::Cover(_) => {
+            if symbol as u64 == next {
+                Some(Place::InCovers(symbol as u64 + 1))
+            } else {
+                None
+            }
+        }
+        Line::Step(_) => Some(Place::InSteps),
+        Line::Ranks(columns) => Some(Place::InRanks {
+            columns: *columns,
+            next: 0,
+        }),
+        _ => None,
+    }
+}
+
+/// The place behind a line that comes behind a step.
+fn after_steps(line: &Line) -> Option<Place>
+    ensures { result ≡ spec.after_steps line.now }
+{
+    match line {
+        Line::Step(_) => Some(Place::InSteps),
+        Line::Ranks(columns) => Some(Place::InRanks {
+            columns: *columns,
+            next: 0,
+        }),
+        _ => None,
+    }
+}
+
+/// The place behind a line that comes behind the certificates of a pair.
+fn after_pairs(line: &Line) -> Option<Place>
+    ensures { result ≡ spec.after_pairs line.now }
+{
+    match line {
+        Line::Pair(_) => Some(Place::InPairs),
+        Line::End => Some(Place::Finished),
+        _ => None,
+    }
+}
+
+/// The place behind a line that comes where the rank of the symbol with the number `next` may come, in
+/// so many columns.
+fn after_ranks(columns: u32, next: u64, line: &Line, symbol: u32) -> Option<Place>
+    ensures { result ≡ spec.after_ranks columns next line.now symbol }
+{
+    match line {
+        Line::Rank(rank) => {
+            if symbol as u64 == next && rank.len() == columns as usize {
+                Some(Place::InRanks {
+                    columns,
+                    next: symbol as u64 + 1,
+                })
+            } else {
+                None
+            }
+        }
+        _ => after_pairs(line),
+    }
+}
+
+impl Place {
+    /// The place behind a line that comes here, with the number of the symbol in it; None where no such
+    /// line may come.
+    pub fn after(self, line: &Line, symbol: u32) -> Option<Place>
+        ensures { result ≡ spec.after self (line.now, symbol) }
+    {
+        match self {
+            Place::AtHeader => after_header(line),
+            Place::InCovers(next) => after_covers(next, line, symbol),
+            Place::InSteps => after_steps(line),
+            Place::InRanks { columns, next } => after_ranks(columns, next, line, symbol),
+            Place::InPairs => after_pairs(line),
+            Place::Finished => None,
+        }
+    }
+}
