@@ -6,10 +6,11 @@ use Rattle.rx_cover.specs.declared.cover_tree.CoverTree.{CoverTree}
 use Rattle.rx_form.specs.declared.step.Step.{Step}
 use Rattle.rx_pairs.specs.declared.pair_cert.PairCert.{PairCert}
 use Rattle.rx_log.specs.declared.log.Log.{Log}
-use Rattle.rx_logtext.specs.Logs.{HasLines, before_end, before_ranks, by_symbol, log_lines, plain}
-use Rattle.rx_logtext.specs.Reading.{blank, pushed}
-use Rattle.rx_logtext.specs.declared.line.Line.{Line}
-use Rattle.rx_logtext.specs.declared.line.Line.TheVariants as line
+use Rattle.rx_log.specs.Lines.{before_end, before_ranks, by_symbol, log_lines, plain}
+use Rattle.rx_logtext.specs.Logs.{HasLines}
+use Rattle.rx_log.specs.Reading.{blank, pushed}
+use Rattle.rx_log.specs.declared.line.Line.{Line}
+use Rattle.rx_log.specs.declared.line.Line.TheVariants as line
 use Rattle.rx_logtext.proofs.Taking.{of_ranges, same_lines}
 use Rattle.rx_logtext.proofs.Unique.{lines_one}
 

@@ -9,10 +9,8 @@ pub mod OneLinePolys
 pub mod OneLineTrees
 pub mod OneReading
 pub mod Places
-pub mod RangeLaws
 pub mod Readers
 pub mod StepKinds
 pub mod Taking
 pub mod Texts
 pub mod Unique
-pub mod Written

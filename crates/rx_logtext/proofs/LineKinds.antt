@@ -10,8 +10,8 @@ use Rattle.rx_tree_words.specs.Trees.{trees}
 use Rattle.rx_words.specs.Words.{each_spaced, numbers, words}
 use Rattle.rx_words.proofs.Once.{numbers_once}
 use Rattle.rx_logtext.specs.Lines.{ReadsAll, ReadsEach, is_readable_line, is_width, line_text, lines, pair_parts}
-use Rattle.rx_logtext.specs.declared.line.Line.{Line}
-use Rattle.rx_logtext.specs.declared.line.Line.TheVariants as line
+use Rattle.rx_log.specs.declared.line.Line.{Line}
+use Rattle.rx_log.specs.declared.line.Line.TheVariants as line
 use Rattle.rx_logtext.proofs.Each.{each_once, over_end}
 use Rattle.rx_logtext.proofs.StepKinds.{starts}
 use Rattle.rx_logtext.proofs.Unique.{begins_frame, no_frame, whole_once, width_fits}

@@ -15,8 +15,8 @@ use Rattle.rx_words.specs.Words.{each_spaced, numbers, pairs}
 use Rattle.rx_logtext.specs.Lines.{lines}
 use Rattle.rx_logtext.specs.Logs.{is_one_line, line_texts}
 use Rattle.rx_logtext.specs.Steps.{expand_parts, generalise_parts, hyp_parts, keep_text, keeps, results_parts, side_text, sides, simplify_parts, step_text}
-use Rattle.rx_logtext.specs.declared.line.Line.{Line}
-use Rattle.rx_logtext.specs.declared.line.Line.TheVariants as line
+use Rattle.rx_log.specs.declared.line.Line.{Line}
+use Rattle.rx_log.specs.declared.line.Line.TheVariants as line
 use Rattle.rx_logtext.proofs.OneLine.{AreOneLine, each_one_line, joined, natural_one_line, pair_one_line}
 use Rattle.rx_logtext.proofs.OneLinePolys.{poly_one_line, row_one_line}
 use Rattle.rx_logtext.proofs.OneLineTrees.{cert_list_one_line, cert_one_line, equation_one_line, substitution_one_line, tree_one_line}

@@ -4,7 +4,8 @@ use Rattle.std.proofs.lemmas.Bool.{and_parts}
 use Rattle.std.proofs.lemmas.List.{append-nil}
 use Rattle.std.specs.List.{list_all}
 use Rattle.rx_log.specs.declared.log.Log.{Log}
-use Rattle.rx_logtext.specs.Logs.{Begins, IsFirstBad, IsLog, ended, is_one_line, line_texts, log_lines}
+use Rattle.rx_log.specs.Lines.{log_lines}
+use Rattle.rx_logtext.specs.Logs.{Begins, IsFirstBad, IsLog, ended, is_one_line, line_texts}
 use Rattle.rx_logtext.proofs.Cuts.{cut_once}
 use Rattle.rx_logtext.proofs.Gathered.{given_by_lines}
 use Rattle.rx_logtext.proofs.OneLineLines.{each_is_one_line}

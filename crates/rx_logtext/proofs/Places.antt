@@ -11,13 +11,13 @@ use Rattle.rx_pairs.specs.declared.pair_cert.PairCert.{PairCert}
 use Rattle.rx_pairs.specs.declared.table.RankTable.{RankTable}
 use Rattle.rx_log.specs.declared.log.Log.{Log}
 use Rattle.rx_logtext.specs.Lines.{is_readable_line}
-use Rattle.rx_logtext.specs.Logs.{before_end, before_ranks, by_symbol, has_widths, plain}
-use Rattle.rx_logtext.specs.Places.{after}
-use Rattle.rx_logtext.specs.Reading.{IsAt, IsBeforeRanks, lines_to, pushed}
-use Rattle.rx_logtext.specs.declared.line.Line.{Line}
-use Rattle.rx_logtext.specs.declared.line.Line.TheVariants as line
-use Rattle.rx_logtext.specs.declared.place.Place.{Place}
-use Rattle.rx_logtext.specs.declared.place.Place.TheVariants.{AtHeader, InCovers, InSteps, InRanks, InPairs, Finished}
+use Rattle.rx_log.specs.Lines.{before_end, before_ranks, by_symbol, has_widths, plain}
+use Rattle.rx_log.specs.Places.{after}
+use Rattle.rx_log.specs.Reading.{IsAt, IsBeforeRanks, lines_to, pushed}
+use Rattle.rx_log.specs.declared.line.Line.{Line}
+use Rattle.rx_log.specs.declared.line.Line.TheVariants as line
+use Rattle.rx_log.specs.declared.place.Place.{Place}
+use Rattle.rx_log.specs.declared.place.Place.TheVariants.{AtHeader, InCovers, InSteps, InRanks, InPairs, Finished}
 
 -- one thing more is one line more, with the next number
 pub by_symbol-push : {A : Type 0} (make : A → Line) (k : ℕ) (xs : List A) (x : A) (n : ℕ) → n ≡ k + length xs → by_symbol make k (xs ++ x ∷ []) ≡ by_symbol make k xs ++ (make x, n) ∷ []

@@ -3,11 +3,12 @@ use Rattle.std.proofs.Common.{◌≡◌, refl, ℕ, Some, None, List, [], ◌∷
 use Rattle.rx_log.specs.declared.log.Log.{Log}
 use Rattle.rx_logtext.specs.Lines.{IsText, lines}
 use Rattle.rx_logtext.specs.Logs.{Begins, HasLines}
-use Rattle.rx_logtext.specs.Reading.{HasTaken, ReadsNext, blank, pushed}
-use Rattle.rx_logtext.specs.declared.line.Line.{Line}
-use Rattle.rx_logtext.specs.declared.place.Place.{Place}
-use Rattle.rx_logtext.specs.declared.place.Place.TheVariants.{AtHeader, Finished}
-use Rattle.rx_logtext.specs.Places.{after}
+use Rattle.rx_log.specs.Reading.{blank, pushed}
+use Rattle.rx_logtext.specs.Reading.{HasTaken, ReadsNext}
+use Rattle.rx_log.specs.declared.line.Line.{Line}
+use Rattle.rx_log.specs.declared.place.Place.{Place}
+use Rattle.rx_log.specs.declared.place.Place.TheVariants.{AtHeader, Finished}
+use Rattle.rx_log.specs.Places.{after}
 use Rattle.rx_logtext.proofs.Taking.{may_come, not_whole, only_it, takes}
 use Rattle.rx_logtext.proofs.Unique.{lines_one}
 

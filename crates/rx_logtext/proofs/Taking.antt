@@ -11,13 +11,15 @@ use Rattle.rx_pairs.specs.declared.pair_cert.PairCert.{PairCert}
 use Rattle.rx_pairs.specs.declared.table.RankTable.{RankTable}
 use Rattle.rx_log.specs.declared.log.Log.{Log}
 use Rattle.rx_logtext.specs.Lines.{IsText, lines}
-use Rattle.rx_logtext.specs.Logs.{Begins, HasLines, before_ranks, by_symbol, has_ranges, has_widths, line_texts, log_lines, plain}
-use Rattle.rx_logtext.specs.Places.{after, after_all}
-use Rattle.rx_logtext.specs.Reading.{HasTaken, IsAt, IsBeforeRanks, MayCome, lines_to, pushed}
-use Rattle.rx_logtext.specs.declared.line.Line.{Line}
-use Rattle.rx_logtext.specs.declared.line.Line.TheVariants as line
-use Rattle.rx_logtext.specs.declared.place.Place.{Place}
-use Rattle.rx_logtext.specs.declared.place.Place.TheVariants.{AtHeader, InCovers, InSteps, InRanks, InPairs, Finished}
+use Rattle.rx_log.specs.Lines.{before_ranks, by_symbol, has_widths, log_lines, plain}
+use Rattle.rx_logtext.specs.Logs.{Begins, HasLines, has_ranges, line_texts}
+use Rattle.rx_log.specs.Places.{after, after_all}
+use Rattle.rx_log.specs.Reading.{IsAt, IsBeforeRanks, lines_to, pushed}
+use Rattle.rx_logtext.specs.Reading.{HasTaken, MayCome}
+use Rattle.rx_log.specs.declared.line.Line.{Line}
+use Rattle.rx_log.specs.declared.line.Line.TheVariants as line
+use Rattle.rx_log.specs.declared.place.Place.{Place}
+use Rattle.rx_log.specs.declared.place.Place.TheVariants.{AtHeader, InCovers, InSteps, InRanks, InPairs, Finished}
 use Rattle.rx_logtext.proofs.Places.{list_all-push, moves}
 
 -- ---- tests of two facts

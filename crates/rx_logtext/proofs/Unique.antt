@@ -18,8 +18,8 @@ use Rattle.rx_words.proofs.Joined.{pairs_once}
 use Rattle.rx_words.proofs.Once.{numbers_once, polynomials_once, rows_once, substitutions_once}
 use Rattle.rx_logtext.specs.Lines.{IsText, is_width, line_text, lines, pair_parts}
 use Rattle.rx_logtext.specs.Steps.{expand_parts, generalise_parts, hyp_parts, keeps, results_parts, sides, simplify_parts, step_text, steps}
-use Rattle.rx_logtext.specs.declared.line.Line.{Line}
-use Rattle.rx_logtext.specs.declared.line.Line.TheVariants as line
+use Rattle.rx_log.specs.declared.line.Line.{Line}
+use Rattle.rx_log.specs.declared.line.Line.TheVariants as line
 use Rattle.rx_logtext.proofs.Each.{each_once, over_end}
 use Rattle.rx_logtext.specs.Once.{keeps_once, sides_once}
 use Rattle.rx_words.proofs.CertLaws.{certificate_lists_once, certificates_once}

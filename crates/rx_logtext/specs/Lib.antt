@@ -2,8 +2,6 @@
 pub mod Lines
 pub mod Logs
 pub mod Once
-pub mod Places
-pub mod Ranges
 pub mod Readers
 pub mod Reading
 pub mod Steps

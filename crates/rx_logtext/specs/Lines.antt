@@ -9,8 +9,8 @@ use Rattle.rx_words.specs.Certificates.{certificate_lists}
 use Rattle.rx_tree_words.specs.Trees.{trees}
 use Rattle.rx_words.specs.Words.{each_spaced, in_word, numbers, pairs, spaced}
 use Rattle.rx_logtext.specs.Steps.{is_readable_step, step_text}
-use Rattle.rx_logtext.specs.declared.line.Line.{Line}
-use Rattle.rx_logtext.specs.declared.line.Line.TheVariants as line
+use Rattle.rx_log.specs.declared.line.Line.{Line}
+use Rattle.rx_log.specs.declared.line.Line.TheVariants as line
 use Rattle.rx_logtext.specs.declared.log_end.LogEnd.{LogEnd}
 use Rattle.rx_logtext.specs.declared.log_end.LogEnd.TheVariants as end
 

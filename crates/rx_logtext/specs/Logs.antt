@@ -1,43 +1,14 @@
 -- A log as text, and the first line of a text with which no log begins.
-use Rattle.std.specs.Prelude.{◌≡◌, ℕ, suc, ◌+◌, ◌==◌, Bool, true, ◌&&◌, Option, Some, None, Result, Ok, Err, List, [], ◌∷◌, ◌++◌, length, map, flat_map}
+use Rattle.std.specs.Prelude.{◌≡◌, ℕ, suc, ◌==◌, Bool, true, ◌&&◌, Option, Some, None, Result, Ok, Err, List, [], ◌∷◌, ◌++◌, length, map, flat_map, if◌then◌else◌}
 use Rattle.std.specs.List.{list_all}
-use Rattle.rx_poly.specs.declared.body.Body.{Body}
 use Rattle.rx_log.specs.declared.log.Log.{Log}
+use Rattle.rx_log.specs.Lines.{has_widths, log_lines}
 use Rattle.rx_logtext.specs.Lines.{lines}
-use Rattle.rx_logtext.specs.declared.line.Line.{Line}
-use Rattle.rx_logtext.specs.declared.line.Line.TheVariants as line
+use Rattle.rx_log.specs.declared.line.Line.{Line}
 use Rattle.rx_logtext.specs.declared.log_end.LogEnd.{LogEnd}
 use Rattle.rx_logtext.specs.declared.log_end.LogEnd.TheVariants as end
 
 -- ---- logs as text
-
--- lines with the numbers of their symbols, from this one on
-abbrev pub by_symbol : {A : Type 0} → (A → Line) → ℕ → List A → List (Line × ℕ)
-by_symbol make symbol [] = []
-by_symbol make symbol (x ∷ xs) = (make x, symbol) ∷ by_symbol make (symbol + 1) xs
-
--- lines without a symbol
-abbrev pub plain : {A : Type 0} → (A → Line) → List A → List (Line × ℕ)
-plain make xs = map (λ x. (make x, 0)) xs
-
--- the first line, the covers and the steps
-abbrev pub before_ranks : Log → List (Line × ℕ)
-before_ranks log =
-    (line.Header, 0) ∷ (by_symbol line.Cover 0 log.covers ++ plain line.Step log.steps)
-
--- the ranks and the pairs
-abbrev pub behind_steps : Log → List (Line × ℕ)
-behind_steps log =
-    (line.Ranks log.table.columns, 0)
-    ∷ (by_symbol line.Rank 0 log.table.ranks ++ plain line.Pair log.pairs)
-
--- all of these
-abbrev pub before_end : Log → List (Line × ℕ)
-before_end log = before_ranks log ++ behind_steps log
-
--- the lines of a log, in order
-abbrev pub log_lines : Log → List (Line × ℕ)
-log_lines log = before_end log ++ (line.End, 0) ∷ []
 
 -- each line, ended by a line feed
 abbrev pub ended : List (List ℕ) → List ℕ
@@ -50,10 +21,6 @@ line_texts its = map lines.text its
 -- the text of a log
 abbrev pub log_text : Log → List ℕ
 log_text log = ended (line_texts (log_lines log))
-
--- each rank has as many columns as the table
-abbrev pub has_widths : Log → Bool
-has_widths log = list_all (λ (rank : List Body). length rank == log.table.columns) log.table.ranks
 
 -- all in it has a text
 abbrev pub has_ranges : Log → Bool
@@ -112,3 +79,8 @@ ReadsLog text (Err end.NoMemory) = Unit {0}
 abbrev pub SplitsLine : List ℕ → Option (List ℕ × List ℕ) → Type 0
 SplitsLine text (Some cut) = (text ≡ cut.0 ++ 10 ∷ cut.1) × (is_one_line cut.0 ≡ true)
 SplitsLine text None = is_one_line text ≡ true
+
+-- the bytes up to and with the first line feed, or all of them where there is none
+abbrev pub up_to_feed : List ℕ → List ℕ
+up_to_feed [] = []
+up_to_feed (byte ∷ bytes) = if byte == 10 then byte ∷ [] else byte ∷ up_to_feed bytes

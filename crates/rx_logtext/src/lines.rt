@@ -6,12 +6,12 @@ ghost use Rattle.rx_logtext.specs.Lines.{ReadsAll, ReadsEach, ReadsLine, lines};
 ghost use Rattle.rx_logtext.specs.Lines as spec;
 ghost use Rattle.rx_logtext.specs.Steps.{steps};
 
-use crate::line::Line;
 use crate::log_end::LogEnd;
 use crate::part::{Part, is_word, read_rest};
 use crate::steps::read_step;
 use rx_cert::Cert;
 use rx_cover::CoverTree;
+use rx_log::Line;
 use rx_pairs::PairCert;
 use rx_plain::{Items, NoMemory};
 use rx_poly::Poly;
@@ -59,8 +59,8 @@ fn read_cover(alloc: Global, line: &[u8], at: usize) -> Result<Option<(Line, u32
     }
 }
 
-/// Whether a rank may have so many columns.
-pub(crate) fn is_width(columns: usize) -> bool
+/// Whether a rank may have so many columns: 1 to 15.
+pub fn is_width(columns: usize) -> bool
     ensures { result ≡ spec.is_width columns }
 {
     1 <= columns && columns <= 15

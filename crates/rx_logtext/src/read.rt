@@ -1,30 +1,55 @@
 //! Logs, read from their texts.
-ghost use Rattle.std.specs.Prelude.{◌≡◌, ◌==◌, ◌<◌, length, IfSome};
-ghost use Rattle.std.specs.List.{position};
-ghost use Rattle.std.specs.Option.{option_map};
-ghost use Rattle.rx_logtext.specs.Logs.{ReadsLog, SplitsLine};
+ghost use Rattle.std.specs.Prelude.{◌≡◌, OnOk};
+ghost use Rattle.rx_log.specs.Reading.{blank, pushed};
+ghost use Rattle.rx_logtext.specs.Logs.{ReadsLog};
+ghost use Rattle.rx_logtext.specs.Readers.{pushed_if};
 
+use crate::cutting::text_behind;
 use crate::log_end::LogEnd;
 use crate::reader::LogReader;
-use rx_log::Log;
+use rx_log::{Line, Log};
+use rx_pairs::RankTable;
+use rx_plain::{Items, NoMemory};
 use std::alloc::Global;
 
-/// Where the first line feed of the text stands, if there is one.
-fn feed_at(text: &[u8]) -> Option<usize>
-    ensures within { IfSome result (λ at. at < length text.now) }
-    ensures first { result ≡ position (λ byte. byte == 10) text.now }
+/// A log without anything in it, whose ranks would have one column.
+fn blank_log(alloc: Global) -> Log
+    ensures { result ≡ blank }
 {
-    text.iter().position(|byte| *byte == b'\n')
+    Log {
+        covers: Items::new(alloc),
+        steps: Items::new(alloc),
+        table: RankTable {
+            columns: 1,
+            ranks: Items::new(alloc),
+        },
+        pairs: Items::new(alloc),
+    }
 }
 
-/// The first line of the text without its line feed, and the text behind that; None exactly where there
-/// is no line feed.
-fn split_line(text: &[u8]) -> Option<(&[u8], &[u8])>
-    ensures { SplitsLine text.now (option_map (λ cut. (cut.0.now, cut.1.now)) result) }
+/// Adds what the line says to the log.
+fn push_into(log: &mut Log, line: Line) -> Result<(), NoMemory>
+    ensures { OnOk result (log.new ≡ pushed line log.old) }
 {
-    match feed_at(text) {
-        Some(feed) => Some((&text[..feed], &text[feed + 1..])),
-        None => None,
+    match line {
+        Line::Header => {}
+        Line::Cover(trees) => log.covers.push(trees)?,
+        Line::Step(step) => log.steps.push(step)?,
+        Line::Ranks(columns) => log.table.columns = columns,
+        Line::Rank(rank) => log.table.ranks.push(rank)?,
+        Line::Pair(pair) => log.pairs.push(pair)?,
+        Line::End => {}
+    }
+    Ok(())
+}
+
+/// Adds what a line says to the log, if there is one.
+fn push_taken(log: &mut Log, line: Option<Line>) -> Result<(), NoMemory>
+    ensures { OnOk result (log.new ≡ pushed_if line log.old) }
+{
+    match line {
+        Some(line) => push_into(log, line),
+        None => Ok(()),
     }
 }
 
@@ -35,16 +60,13 @@ pub fn read_log(alloc: Global, text: &[u8]) -> Result<Log, LogEnd>
     ensures { ReadsLog text.now result }
 {
     let mut reader = LogReader::new(alloc);
+    let mut log = blank_log(alloc);
     let mut left = text;
-    while let Some((line, behind)) = split_line(left) {
-        reader.take_line(alloc, line)?;
-        left = behind;
+    while !left.is_empty() {
+        let (count, line) = reader.take(alloc, left)?;
+        push_taken(&mut log, line)?;
+        left = text_behind(left, count);
     }
-    if left.is_empty() {
-        reader.finish()
-    } else {
-        Err(LogEnd::BadLine {
-            line: reader.next_number(),
-        })
-    }
+    reader.finish()?;
+    Ok(log)
 }

@@ -1,47 +1,17 @@
-//! Logs, read line by line.
-ghost use Rattle.std.specs.Prelude.{◌≡◌, ◌+◌, ◌<◌, ◌^◌, [], ℕ, List, IfOk, OnOk};
-ghost use Rattle.rx_logtext.specs.Reading.{ReadsNext, blank, pushed};
-ghost use Rattle.rx_logtext.specs.Readers.{Finishes, StandsBehind, Takes};
+//! Logs, read line by line from pieces of their texts.
+ghost use Rattle.std.specs.Prelude.{◌≡◌, ◌+◌, ◌++◌, ◌<◌, ◌≤◌, ◌^◌, [], ℕ, List, length, IfOk, IsErrOf, OnOk, OnErr};
+ghost use Rattle.rx_log.specs.declared.log.Log.{Log};
+ghost use Rattle.rx_log.specs.Reading.{blank};
+ghost use Rattle.rx_logtext.specs.Logs.{up_to_feed};
+ghost use Rattle.rx_logtext.specs.Reading.{ReadsNext};
+ghost use Rattle.rx_logtext.specs.Readers.{EndsLine, Finishes, IsNext, IsWhole, StandsFor, Takes, count_of, lines_in, place_of};
 
-use crate::line::Line;
+use crate::cutting::split_line;
 use crate::lines::read_numbered;
 use crate::log_end::LogEnd;
-use crate::place::Place;
-use rx_log::Log;
-use rx_pairs::RankTable;
+use rx_log::{Line, Place};
 use rx_plain::{Items, NoMemory};
 use std::alloc::Global;
-
-/// A log without anything in it, whose ranks would have one column.
-fn blank_log(alloc: Global) -> Log
-    ensures { result ≡ blank }
-{
-    Log {
-        covers: Items::new(alloc),
-        steps: Items::new(alloc),
-        table: RankTable {
-            columns: 1,
-            ranks: Items::new(alloc),
-        },
-        pairs: Items::new(alloc),
-    }
-}
-
-/// Adds what the line says to the log.
-fn push_into(log: &mut Log, line: Line) -> Result<(), NoMemory>
-    ensures { OnOk result (log.new ≡ pushed line log.old) }
-{
-    match line {
-        Line::Header => {}
-        Line::Cover(trees) => log.covers.push(trees)?,
-        Line::Step(step) => log.steps.push(step)?,
-        Line::Ranks(columns) => log.table.columns = columns,
-        Line::Rank(rank) => log.table.ranks.push(rank)?,
-        Line::Pair(pair) => log.pairs.push(pair)?,
-        Line::End => {}
-    }
-    Ok(())
-}
 
 /// The line that the bytes are, where it may come at the place, with the place behind it; None exactly
 /// where the bytes are no line that may.
@@ -57,64 +27,146 @@ fn read_next(alloc: Global, place: Place, bytes: &[u8]) -> Result<Option<(Line, 
     }
 }
 
-/// A log that is read line by line. After an `Err` it is of no more use.
+/// Adds bytes to a line; where there is no memory it stays as it was.
+fn extend(line: &mut Items<u8>, alloc: Global, bytes: &[u8]) -> Result<(), NoMemory>
+    ensures ok { OnOk result (line.new ≡ line.old ++ bytes.now) }
+    ensures err { OnErr result (line.new ≡ line.old) }
+{
+    let more = Items::from_slice(alloc, bytes)?;
+    line.append(more)?;
+    Ok(())
+}
+
+/// The line that begins with the bytes so far and ends with the others, as `read_next` has it. The bytes
+/// so far stay as they were.
+fn read_joined(
+    alloc: Global,
+    place: Place,
+    so_far: &mut Items<u8>,
+    bytes: &[u8],
+) -> Result<Option<(Line, Place)>, NoMemory>
+    ensures read { IfOk result (ReadsNext place (so_far.old ++ bytes.now)) }
+    ensures kept { so_far.new ≡ so_far.old }
+{
+    let length = so_far.len();
+    extend(so_far, alloc, bytes)?;
+    let read = read_next(alloc, place, so_far.as_slice());
+    so_far.truncate(length);
+    read
+}
+
+/// A log that is read from pieces of its text, wherever that is cut. It keeps the next line as far as it
+/// has come, and nothing else of the text or of the log.
 #[derive(Drop)]
 pub struct LogReader {
     // Which lines may come next.
     place: Place,
-    // The log so far.
-    log: Log,
     // How many lines were taken.
     taken: usize,
+    // The next line so far.
+    line: Items<u8>,
+    // Whether the next line has come and no log begins with it.
+    is_bad: bool,
 }
 
 impl LogReader {
-    /// A reader that has taken no lines. Takes no memory.
+    /// A reader that has taken nothing. Takes no memory.
     pub fn new(alloc: Global) -> LogReader
-        ensures { StandsBehind result [] }
+        ensures { StandsFor result blank [] }
     {
         LogReader {
             place: Place::AtHeader,
-            log: blank_log(alloc),
             taken: 0,
+            line: Items::new(alloc),
+            is_bad: false,
         }
     }
 
     /// The number of the next line, counted from 1.
-    pub(crate) fn next_number(&self) -> usize
+    fn next_number(&self) -> usize
         requires { self.now.taken + 1 < 2 ^ 64 }
         ensures { result ≡ self.now.taken + 1 }
     {
         self.taken + 1
     }
 
-    /// Takes the next line, given without its line feed; BadLine with its number exactly where no log
-    /// begins with the lines taken before and this one. Fails else only for want of memory.
-    pub fn take_line(&mut self, alloc: Global, bytes: &[u8]) -> Result<(), LogEnd>
-        requires { self.old.taken + 1 < 2 ^ 64 }
-        ensures { (texts : List (List ℕ)) → StandsBehind self.old texts → Takes texts bytes.now self.new result }
+    /// The next line, which ends with these bytes, as `read_next` has it. It is copied only where a
+    /// part of it came before.
+    fn read_whole(&mut self, alloc: Global, bytes: &[u8]) -> Result<Option<(Line, Place)>, NoMemory>
+        ensures read { IfOk result (ReadsNext self.old.place (self.old.line ++ bytes.now)) }
+        ensures kept { self.new ≡ self.old }
     {
-        let number = self.next_number();
-        let Some((line, place)) = read_next(alloc, self.place, bytes)? else {
-            return Err(LogEnd::BadLine { line: number });
-        };
-        push_into(&mut self.log, line)?;
-        self.place = place;
-        self.taken = number;
-        Ok(())
+        if self.line.is_empty() {
+            read_next(alloc, self.place, bytes)
+        } else {
+            read_joined(alloc, self.place, &mut self.line, bytes)
+        }
     }
 
-    /// The log, where its last line was taken; else BadLine with the number of the line that is missing.
-    /// Takes no memory.
-    pub fn finish(self) -> Result<Log, LogEnd>
-        requires { self.taken + 1 < 2 ^ 64 }
-        ensures { (texts : List (List ℕ)) → StandsBehind self texts → Finishes texts result }
+    /// Takes the piece up to and with its first line feed, or all of it, and answers how many bytes that
+    /// were, and the line that the line feed ends.
+    ///
+    /// BadLine with the number of the line, counted from 1, exactly where no log begins with it, which
+    /// is judged at its line feed: it has then been taken, and from then on each call takes nothing and
+    /// answers the same. Fails else only for want of memory, and then the reader stays as it was. The
+    /// number of the line must be below 2^64.
+    pub fn take(&mut self, alloc: Global, piece: &[u8]) -> Result<(usize, Option<Line>), LogEnd>
+        requires { lines_in self.old + 1 < 2 ^ 64 }
+        ensures count { IfOk result (λ taken. taken.0 ≡ length (up_to_feed piece.now)) }
+        ensures within { IfOk result (λ taken. taken.0 ≤ length piece.now) }
+        ensures line { IfOk result (λ taken. EndsLine piece.now taken.1) }
+        ensures next { IfOk result (λ taken. IsNext (place_of self.old) taken.1 (place_of self.new)) }
+        ensures number { IfOk result (λ taken. lines_in self.new ≡ lines_in self.old + count_of taken.1) }
+        ensures stays { OnErr result ((place_of self.new ≡ place_of self.old) × (lines_in self.new ≡ lines_in self.old)) }
+        ensures takes { (log : Log) (bytes : List ℕ) → StandsFor self.old log bytes →
+            Takes self.old log bytes piece.now self.new result }
+        ensures kept { IsErrOf result LogEnd.NoMemory → self.new ≡ self.old }
     {
-        let number = self.next_number();
-        let LogReader { place, log, .. } = self;
-        match place {
-            Place::Finished => Ok(log),
-            _ => Err(LogEnd::BadLine { line: number }),
+        if self.is_bad {
+            return Err(LogEnd::BadLine {
+                line: self.next_number(),
+            });
+        }
+        let Some((bytes, _)) = split_line(piece) else {
+            extend(&mut self.line, alloc, piece)?;
+            return Ok((piece.len(), None));
+        };
+        let Some((line, place)) = self.read_whole(alloc, bytes)? else {
+            self.is_bad = true;
+            return Err(LogEnd::BadLine {
+                line: self.next_number(),
+            });
+        };
+        self.place = place;
+        self.taken = self.next_number();
+        self.line.truncate(0);
+        Ok((bytes.len() + 1, Some(line)))
+    }
+
+    /// Whether the lines taken are those of a log, and nothing has come behind them.
+    fn is_whole(&self) -> bool
+        ensures { IsWhole self.now result }
+    {
+        match self.place {
+            Place::Finished => !self.is_bad && self.line.is_empty(),
+            _ => false,
+        }
+    }
+
+    /// Whether what was taken is the text of a log; else BadLine with the number of the first line with
+    /// which no log begins, or that is missing. Takes no memory. The number of the next line must be
+    /// below 2^64.
+    pub fn finish(&self) -> Result<(), LogEnd>
+        requires { lines_in self.now + 1 < 2 ^ 64 }
+        ensures place { OnOk result (place_of self.now ≡ Place.Finished) }
+        ensures finishes { (log : Log) (bytes : List ℕ) → StandsFor self.now log bytes → Finishes log bytes result }
+    {
+        if self.is_whole() {
+            Ok(())
+        } else {
+            Err(LogEnd::BadLine {
+                line: self.next_number(),
+            })
         }
     }
 }

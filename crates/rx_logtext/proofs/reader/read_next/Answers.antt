@@ -1,6 +1,6 @@
 use Rattle.std.proofs.Common.{sym, subst, ℕ, Option}
 use Rattle.rx_logtext.specs.Lines.{ReadsAll, lines}
-use Rattle.rx_logtext.specs.declared.line.Line.{Line}
+use Rattle.rx_log.specs.declared.line.Line.{Line}
 use Rattle.rx_logtext.proofs.Readers.{never_comes}
 use Rattle.rx_logtext.proofs.reader.read_next.Goals as goal
 

@@ -1,8 +1,11 @@
-use Rattle.std.proofs.Common.{◌≡◌, suc, length, arith}
-use Rattle.rx_logtext.proofs.Readers.{far_from_end}
+use Rattle.std.proofs.Common.{◌≡◌, ℕ, suc, Bool, false, subst, sym, arith}
+use Rattle.rx_logtext.specs.Logs.{IsFirstBad}
+use Rattle.rx_logtext.specs.Readers.{IsWhole}
+use Rattle.rx_logtext.proofs.Texts.{not_whole_text}
 use Rattle.rx_logtext.proofs.reader.LogReader.finish.Goals as goal
 
-pub returns-in_default : goal.returns-in_default
-returns-in_default c = λ texts h.
-    let number : c.next_number-number.result ≡ suc (length texts) = omega (arith, h.counted, c.next_number-number.ensures) in
-    (number, far_from_end c.args.self.place c.args.self.log texts c.in_default.not-Finished h.taken)
+pub returns-else-is_whole-clause-finishes : goal.returns-else-is_whole-clause-finishes
+returns-else-is_whole-clause-finishes c = λ log bytes h.
+    let number : c.next_number.result ≡ suc c.args.self.now.taken = omega (arith, c.next_number.ensures) in
+    let rest : IsWhole c.args.self.now false = subst (λ (b : Bool). IsWhole c.args.self.now b) c.if-is_whole.false c.is_whole.ensures in
+    subst (λ (n : ℕ). IsFirstBad bytes n) (sym number) (not_whole_text h rest)

@@ -1,0 +1,3 @@
+-- Lemmas on what is written.
+pub mod RangeLaws
+pub mod Written

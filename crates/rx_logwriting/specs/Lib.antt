@@ -1,0 +1,2 @@
+-- Which logs have a text.
+pub mod Ranges

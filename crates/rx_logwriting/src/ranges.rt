@@ -1,0 +1,185 @@
+//! Which logs have a text: those in which all is in the ranges of the format.
+ghost use Rattle.std.specs.Prelude.{◌≡◌, ◌==◌, List, length};
+ghost use Rattle.std.specs.List.{list_all};
+ghost use Rattle.rx_logtext.specs.Lines.{is_readable_line, lines};
+ghost use Rattle.rx_log.specs.Lines.{by_symbol};
+ghost use Rattle.rx_logtext.specs.Logs.{has_ranges};
+ghost use Rattle.rx_logwriting.specs.Ranges.{are_parts_in_range, is_readable_pair};
+ghost use Rattle.rx_logtext.specs.Steps.{is_readable_step};
+ghost use Rattle.rx_log.specs.declared.line.Line.TheVariants as line;
+ghost use Rattle.rx_poly.specs.declared.body.Body.{Body};
+ghost use Rattle.rx_words.specs.Certificates.{certificate_lists};
+ghost use Rattle.rx_words.specs.Substitutions.{substitutions};
+ghost use Rattle.rx_words.specs.Words.{pairs};
+
+use rx_cert::Cert;
+use rx_cover::CoverTree;
+use rx_form::{Delete, Step};
+use rx_log::Log;
+use rx_logtext::is_width;
+use rx_pairs::PairCert;
+use rx_plain::Items;
+use rx_poly::Poly;
+use rx_ranges::{
+    cert_has_text, certs_have_text, equation_has_text, is_count, polys_have_text, row_has_text,
+    subst_has_text, trees_have_text,
+};
+
+// ---- lines
+
+/// Whether the trees of a symbol have a text, and its number has.
+fn cover_has_text(trees: &[CoverTree], symbol: usize) -> bool
+    ensures { result ≡ is_readable_line (line.Cover trees.now) symbol }
+{
+    is_count(symbol) && trees_have_text(trees)
+}
+
+/// Whether the rank of a symbol has a text, and the symbol's number has.
+fn rank_has_text(rank: &[Poly], symbol: usize) -> bool
+    ensures { result ≡ is_readable_line (line.Rank rank.now) symbol }
+{
+    is_count(symbol) && is_width(rank.len()) && polys_have_text(rank)
+}
+
+/// Whether the pair has a text.
+fn pair_has_text(pair: &PairCert) -> bool
+    ensures { result ≡ is_readable_pair pair.now }
+{
+    let _column = pair.column;
+    certs_have_text(pair.certs.as_slice())
+}
+
+/// Whether a substitution and certificates have a text.
+fn instance_has_text(subst: &[(u32, Poly)], certs: &[Cert]) -> bool
+    ensures { result ≡ (pairs substitutions certificate_lists).in_range (subst.now, certs.now) }
+{
+    subst_has_text(subst) && certs_have_text(certs)
+}
+
+/// Whether the step has a text.
+fn step_has_text(step: &Step) -> bool
+    ensures { result ≡ is_readable_step step.now }
+{
+    match step {
+        Step::Simplify { rule, certs, .. } => {
+            let _rule = *rule;
+            certs_have_text(certs.as_slice())
+        }
+        Step::Hyp {
+            place,
+            hyp,
+            subst,
+            certs,
+            ..
+        } => {
+            let (_place, _hyp) = (*place, *hyp);
+            instance_has_text(subst.as_slice(), certs.as_slice())
+        }
+        Step::Expand { .. } => true,
+        Step::Delete(Delete::Absurd(cert)) => cert_has_text(cert),
+        Step::Delete(Delete::Equal(certs)) => certs_have_text(certs.as_slice()),
+        Step::EqDelete => true,
+        Step::Generalise {
+            left,
+            right,
+            rows,
+            subst,
+            certs,
+        } => {
+            equation_has_text(left, right, rows.rows())
+                && instance_has_text(subst.as_slice(), certs.as_slice())
+        }
+        Step::Postulate { left, right, rows } => equation_has_text(left, right, rows.rows()),
+        Step::Split { row } => row_has_text(row),
+        Step::Decompose { certs } => certs_have_text(certs.as_slice()),
+        Step::Results { left, right, certs } => {
+            let (_left, _right) = (*left, *right);
+            certs_have_text(certs.as_slice())
+        }
+    }
+}
+
+// ---- lists of lines
+
+/// Whether all covers have a text.
+fn covers_have_text(covers: &[Items<CoverTree>]) -> bool
+    ensures { result ≡ list_all lines.in_range (by_symbol line.Cover 0 covers.now) }
+{
+    for (symbol, trees) in covers.iter().enumerate() {
+        if !cover_has_text(trees.as_slice(), symbol) {
+            return false;
+        }
+    }
+    true
+}
+
+/// Whether all steps have a text.
+fn steps_have_text(steps: &[Step]) -> bool
+    ensures { result ≡ list_all is_readable_step steps.now }
+{
+    for step in steps {
+        if !step_has_text(step) {
+            return false;
+        }
+    }
+    true
+}
+
+/// Whether all ranks have a text.
+fn ranks_have_text(ranks: &[Items<Poly>]) -> bool
+    ensures { result ≡ list_all lines.in_range (by_symbol line.Rank 0 ranks.now) }
+{
+    for (symbol, rank) in ranks.iter().enumerate() {
+        if !rank_has_text(rank.as_slice(), symbol) {
+            return false;
+        }
+    }
+    true
+}
+
+/// Whether all pairs have a text.
+fn pairs_have_text(pairs: &[PairCert]) -> bool
+    ensures { result ≡ list_all is_readable_pair pairs.now }
+{
+    for pair in pairs {
+        if !pair_has_text(pair) {
+            return false;
+        }
+    }
+    true
+}
+
+/// Whether each rank has so many columns.
+fn are_as_wide(ranks: &[Items<Poly>], columns: u32) -> bool
+    ensures { result ≡ list_all (λ (rank : List Body). length rank == columns) ranks.now }
+{
+    for rank in ranks {
+        if rank.len() != columns as usize {
+            return false;
+        }
+    }
+    true
+}
+
+// ---- logs
+
+/// Whether the covers, the steps, the ranks and the pairs have a text, and each rank has as many
+/// columns as the table.
+fn parts_have_text(log: &Log) -> bool
+    ensures { result ≡ are_parts_in_range log.now }
+{
+    covers_have_text(log.covers.as_slice())
+        && steps_have_text(log.steps.as_slice())
+        && is_width(log.table.columns as usize)
+        && ranks_have_text(log.table.ranks.as_slice())
+        && pairs_have_text(log.pairs.as_slice())
+        && are_as_wide(log.table.ranks.as_slice(), log.table.columns)
+}
+
+/// Whether all in the log is in the ranges of the format. Its certificates and trees are walked no
+/// deeper than 200.
+pub(crate) fn is_in_range(log: &Log) -> bool
+    ensures { result ≡ has_ranges log.now }
+{
+    parts_have_text(log)
+}
