@@ -85,3 +85,11 @@ module _ (parts : RuleParts) where
   run_rooted end _ NoStep rooted = rooted
   run_rooted end _ (OneMore state next step applies run) rooted =
       run_rooted end next run (next_rooted state next (applied_makes parts state next step applies) rooted)
+
+  -- so has what is left of the state after the answer to a step
+  pub step_rooted : (k : ℕ) (state next : State) (step : Step) (answer : Result State StepFault) → applied parts state step ≡ answer
+      → after_step k answer ≡ Ok next → All HasRoot state.hypotheses → All HasRoot next.hypotheses
+  step_rooted k state next step (Ok after) is e rooted =
+      let same : after ≡ next = cc in
+      subst (λ (s : State). All HasRoot s.hypotheses) same (next_rooted state after (applied_makes parts state after step is) rooted)
+  step_rooted k state next step (Err fault) is e rooted = absurd cc

@@ -5,3 +5,7 @@ pub mod Logs
 pub mod Turns
 pub mod Pairs
 pub mod Sound
+pub mod LineOrder
+pub mod LineFaults
+pub mod LineTurns
+pub mod LineAnswers

@@ -1,5 +1,7 @@
 -- The pairs of rules and hypotheses: there is one list of them, so a log has one verdict.
-use Rattle.std.proofs.Common.{◌≡◌, refl, sym, ap, ◌∙◌, List, ◌++◌, Ok, Err, All}
+use Rattle.std.proofs.Common.{◌≡◌, refl, sym, ap, subst, ◌∙◌, Option, Some, None, Result, List, ◌++◌, Ok, Err, All}
+use Rattle.std.proofs.lemmas.Option.{same_Some}
+use Rattle.std.specs.Option.{option_map}
 use Rattle.std.proofs.lemmas.List.Elements.{All-append}
 use Rattle.rx_term.specs.WellMade.{IsWellMade}
 use Rattle.rx_term.specs.declared.rule.Equation.{Equation}
@@ -9,8 +11,10 @@ use Rattle.rx_pairs.specs.Lowering.{descent_from}
 use Rattle.rx_pairs.specs.Pairs.{AreAllPairs, HasRoot}
 use Rattle.rx_pairs.specs.declared.pair.Pair.{Pair}
 use Rattle.rx_pairs.proofs.PairsLaws.{made_roots, one_all, some_all}
-use Rattle.rx_log.specs.Acceptance.{Checked, Concludes, Fails, Verdict, kept, of_descent}
+use Rattle.rx_log.specs.Acceptance.{Accepted, Checked, Concludes, Fails, HasVerdict, LogFault, Verdict, kept, of_descent}
 use Rattle.rx_log.specs.declared.log.Log.{Log}
+use Rattle.rx_check.specs.Answers.{Answers, Told, named, verdict_told}
+use Rattle.rx_check.specs.declared.check_end.CheckEnd.{CheckEnd}
 use Rattle.rx_check.proofs.Proofs.{kept_have_roots}
 
 -- the rules have pairs, and the hypotheses do
@@ -39,3 +43,19 @@ module _ (parts : RuleParts) (goal : Equation) (log : Log) (made : IsWellMade pa
 
   pub one_verdict : One (kept parts goal log)
   one_verdict = by_kept (kept parts goal log) refl
+
+  -- the verdict that an answer tells is one of the log
+  told : (r : Result (Unit {0}) CheckEnd) (verdict : Verdict) → Answers r parts goal log → verdict_told r ≡ Some verdict
+      → HasVerdict parts goal log verdict
+  told (Ok done) verdict answers is = subst (HasVerdict parts goal log) (same_Some Accepted verdict is) answers
+  told (Err end) verdict answers is = by_fault (named end) answers is where
+    by_fault : (o : Option LogFault) → Told o (λ fault. HasVerdict parts goal log (Fails fault)) → option_map Fails o ≡ Some verdict
+        → HasVerdict parts goal log verdict
+    by_fault None has is = absurd cc
+    by_fault (Some fault) has is = subst (HasVerdict parts goal log) (same_Some (Fails fault) verdict is) has
+
+  pub one_told : (one two : Result (Unit {0}) CheckEnd) → Answers one parts goal log → Answers two parts goal log
+      → (first second : Verdict) → verdict_told one ≡ Some first → verdict_told two ≡ Some second → first ≡ second
+  one_told one two has too first second is also =
+      let (_, _, only) = one_verdict in
+      only first (told one first has is) ∙ sym (only second (told two second too also))

@@ -32,7 +32,7 @@ module _ (parts : RuleParts) (goal : Equation) (log : Log) (hypotheses : List Ru
   decided = of_descent (descent_from log.table 0 pairs log.pairs)
 
   -- the pairs decide behind all other checks
-  concluded : (verdict : Verdict) → decided ≡ verdict → HasVerdict parts goal log verdict
+  pub concluded : (verdict : Verdict) → decided ≡ verdict → HasVerdict parts goal log verdict
   concluded verdict is =
       subst (λ check. Concludes parts log check verdict) (sym keeps) (record { pairs = pairs; all_pairs = all; is = is })
 

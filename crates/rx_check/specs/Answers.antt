@@ -1,5 +1,6 @@
 -- What the answer to a call tells of a log.
 use Rattle.std.specs.Prelude.{◌≡◌, ℕ, Option, Some, None, Result, Ok, Err}
+use Rattle.std.specs.Option.{option_map}
 use Rattle.rx_cover.specs.declared.cover_end.CoverEnd.{CoverEnd}
 use Rattle.rx_cover.specs.declared.cover_end.CoverEnd.TheVariants as cover_end
 use Rattle.rx_pairs.specs.declared.pair_end.PairEnd.{PairEnd}
@@ -73,3 +74,8 @@ Decides verdict (Err end) = Told (named end) (λ fault. verdict ≡ Fails fault)
 abbrev pub Answers : Result (Unit {0}) CheckEnd → RuleParts → Equation → Log → Type 0
 Answers (Ok _) parts goal log = HasVerdict parts goal log Accepted
 Answers (Err end) parts goal log = Told (named end) (λ fault. HasVerdict parts goal log (Fails fault))
+
+-- the verdict that an answer tells; memory that runs out tells none
+abbrev pub verdict_told : Result (Unit {0}) CheckEnd → Option Verdict
+verdict_told (Ok _) = Some Accepted
+verdict_told (Err end) = option_map Fails (named end)

@@ -1,2 +1,3 @@
--- What the ends of a replay tell.
+-- What the ends of a replay tell; what a replay keeps between two lines of a log.
 pub mod Answers
+pub mod LineByLine

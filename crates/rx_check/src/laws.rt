@@ -1,9 +1,13 @@
 //! What accepted logs are: laws, each a function with an empty body.
-ghost use Rattle.std.specs.Prelude.{◌≡◌, ◌∷◌, [], ℕ, ℤ, All, List, Ok};
+ghost use Rattle.std.specs.Prelude.{◌≡◌, ◌∷◌, [], ℕ, ℤ, All, List, Ok, Result, Some};
+ghost use Rattle.rx_check.specs.Answers.{Answers, verdict_told};
+ghost use Rattle.rx_check.specs.LineByLine.{log_of};
+ghost use Rattle.rx_check.specs.declared.check_end.CheckEnd.{CheckEnd};
 ghost use Rattle.rx_joins.specs.Example.{alike, example, hypothesis};
 ghost use Rattle.rx_joins.specs.Goals.{Inside, IsFitting};
 ghost use Rattle.rx_joins.specs.Runs.{IsProof};
 ghost use Rattle.rx_log.specs.Acceptance.{HasVerdict, IsAccepted, Verdict, kept};
+ghost use Rattle.rx_log.specs.Lines.{log_lines};
 ghost use Rattle.rx_log.specs.declared.log.Log.{Log};
 ghost use Rattle.rx_pairs.specs.Pairs.{HasRoot};
 ghost use Rattle.rx_pairs.specs.declared.table.RankTable.{RankTable};
@@ -20,6 +24,21 @@ pub fn each_log_has_one_verdict()
     ensures { (parts : RuleParts) (goal : Equation) (log : Log) → IsWellMade parts →
         (verdict : Verdict) × HasVerdict parts goal log verdict
         × ((other : Verdict) → HasVerdict parts goal log other → other ≡ verdict) }
+{}
+
+/// Over a well made rule set, two answers on one log, by `replay` or line by line, tell the same
+/// verdict, if each tells one.
+pub fn answers_agree()
+    ensures { (parts : RuleParts) (goal : Equation) (log : Log) →
+        (one two : Result (Unit {0}) CheckEnd) →
+        IsWellMade parts → Answers one parts goal log → Answers two parts goal log →
+        (first second : Verdict) → verdict_told one ≡ Some first → verdict_told two ≡ Some second →
+        first ≡ second }
+{}
+
+/// The lines of a log, one after the other, give that log.
+pub fn lines_give_their_log()
+    ensures { (log : Log) → log_of (log_lines log) ≡ log }
 {}
 
 /// For a well made rule set and a goal whose sides fit it, an accepted log is a proof, with the

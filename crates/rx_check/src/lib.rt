@@ -3,14 +3,18 @@
 
 mod check_end;
 mod laws;
+mod outcomes;
+mod progress;
+mod replayer;
 mod replaying;
 mod running;
 
 pub use check_end::{CheckEnd, Place};
 pub use laws::{
-    accepted_logs_are_proofs, each_log_has_one_verdict, kept_hypotheses_have_roots,
-    proofs_have_logs, the_premises_can_be_met,
+    accepted_logs_are_proofs, answers_agree, each_log_has_one_verdict, kept_hypotheses_have_roots,
+    lines_give_their_log, proofs_have_logs, the_premises_can_be_met,
 };
+pub use replayer::Replayer;
 pub use replaying::replay;
 pub use rx_log::Log;
 pub use rx_plain::NoMemory;

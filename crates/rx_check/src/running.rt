@@ -1,5 +1,5 @@
 //! The checks of a log before that of its pairs.
-ghost use Rattle.std.specs.Prelude.{◌≡◌};
+ghost use Rattle.std.specs.Prelude.{◌≡◌, OnErr};
 ghost use Rattle.rx_check.specs.Answers.{Finds, of_step_end};
 ghost use Rattle.rx_form.specs.States.{applied};
 ghost use Rattle.rx_log.specs.Acceptance.{after_step, after_steps, kept, kept_by, start};
@@ -25,16 +25,17 @@ fn step_end(step: usize, end: StepEnd) -> CheckEnd
     }
 }
 
-/// The step with that number on the state.
-fn take_step(
+/// The step with that number on the state; a step that doesn't apply leaves it as it was.
+pub(crate) fn take_step(
     alloc: Global,
     state: &mut State,
     rules: &RuleSet,
     number: usize,
     step: &Step,
 ) -> Result<(), CheckEnd>
-    ensures { Finds (λ _. state.new) result
+    ensures found { Finds (λ _. state.new) result
         (after_step number (applied rules.now state.old step.now)) }
+    ensures kept { OnErr result (state.new ≡ state.old) }
 {
     match apply(alloc, state, rules, step) {
         Ok(()) => Ok(()),

@@ -1,0 +1,7 @@
+use Rattle.rx_check.proofs.LineAnswers.{taken_rooted}
+use Rattle.rx_check.proofs.outcomes.step_failure.Goals as goal
+
+pub returns-clause-roots : goal.returns-clause-roots
+returns-clause-roots c =
+    taken_rooted c.args.rules.now c.args.number c.args.state.now c.take_step.new.state c.args.step.now c.take_step.result
+    c.take_step.ensures.found c.take_step.ensures.kept c.requires.roots

@@ -1,0 +1,9 @@
+use Rattle.rx_check.specs.LineByLine.{log_of}
+use Rattle.rx_check.proofs.LineAnswers.{all_accepted}
+use Rattle.rx_check.proofs.Proofs.{accepted_ends_alike}
+use Rattle.rx_check.proofs.replayer.Replayer.finish.Goals as goal
+
+pub returns-clause-sound : goal.returns-clause-sound
+returns-clause-sound c = λ goal its stands fits.
+    accepted_ends_alike c.args.rules.now goal (log_of its) c.parts-parts.ensures.made fits
+    (all_accepted c.args.rules.now goal its c.args.self stands c.requires c.in-None.is)

@@ -1,0 +1,192 @@
+-- A log that is replayed line by line: what is kept between two lines, and what that says of it.
+use Rattle.std.specs.Prelude.{◌≡◌, ℕ, Option, Some, None, Result, Ok, Err}
+use Rattle.std.specs.Prelude.{All, List, [], ◌∷◌, ◌++◌, drop}
+use Rattle.rx_cover.specs.Covering.{Covers, covering, covering_from}
+use Rattle.rx_cover.specs.declared.cover_tree.CoverTree.{CoverTree}
+use Rattle.rx_form.specs.declared.step.Step.{Step}
+use Rattle.rx_cert.specs.Findings.{Said, No}
+use Rattle.rx_pairs.specs.Lowering.{Descent, Descends, descent_from, lower_finding}
+use Rattle.rx_pairs.specs.Lowering as lowering
+use Rattle.rx_pairs.specs.Pairs.{AreAllPairs, HasRoot}
+use Rattle.rx_pairs.specs.declared.pair.Pair.{Pair}
+use Rattle.rx_pairs.specs.declared.pair_cert.PairCert.{PairCert}
+use Rattle.rx_pairs.specs.declared.table.RankTable.{RankTable}
+use Rattle.rx_term.specs.declared.rule.Equation.{Equation}
+use Rattle.rx_term.specs.declared.rule_set.RuleParts.{RuleParts}
+use Rattle.rx_log.specs.Acceptance.{Checked, HasVerdict, IsAccepted, after_steps, kept, start}
+use Rattle.rx_log.specs.Acceptance.{Fails, LogFault, AtPair, NotLower, PassesLimits}
+use Rattle.rx_log.specs.Places.{after, after_all}
+use Rattle.rx_log.specs.Reading.{blank, pushed}
+use Rattle.rx_log.specs.declared.line.Line.{Line}
+use Rattle.rx_log.specs.declared.log.Log.{Log}
+use Rattle.rx_log.specs.declared.place.Place.{Place}
+use Rattle.rx_log.specs.declared.place.Place.TheVariants.{AtHeader, InCovers, InSteps, InRanks, InPairs, Finished}
+use Rattle.rx_check.specs.Answers.{named}
+use Rattle.rx_check.specs.declared.check_end.CheckEnd.{CheckEnd}
+use Rattle.rx_check.specs.declared.progress.Progress.{Progress}
+use Rattle.rx_check.specs.declared.replayer.Replayer.{Replayer}
+
+-- ---- lines
+
+-- the log with what lines say, one after the other
+abbrev pub pushed_all : Log → List (Line × ℕ) → Log
+pushed_all log [] = log
+pushed_all log (it ∷ its) = pushed_all (pushed it.0 log) its
+
+-- the log as far as these lines have come
+abbrev pub log_of : List (Line × ℕ) → Log
+log_of its = pushed_all blank its
+
+-- such a line may come next at the place
+abbrev pub MayCome : Place → Line → Type 0
+MayCome place line = (symbol : ℕ) × (behind : Place) × (after place (line, symbol) ≡ Some behind)
+
+-- the second list begins with the first
+abbrev pub Extends : {A : Type 0} → List A → List A → Type 0
+Extends {A} xs ys = (more : List A) × (ys ≡ xs ++ more)
+
+-- the log so far, up to the place, is how the whole one begins
+abbrev pub GoesOn : Place → Log → Log → Type 0
+GoesOn AtHeader log whole = Extends log.covers whole.covers
+GoesOn (InCovers next) log whole = Extends log.covers whole.covers
+GoesOn InSteps log whole = (whole.covers ≡ log.covers) × Extends log.steps whole.steps
+GoesOn (InRanks columns next) log whole =
+    (whole.covers ≡ log.covers)
+    × ((whole.steps ≡ log.steps)
+    × ((whole.table.columns ≡ log.table.columns) × Extends log.table.ranks whole.table.ranks))
+GoesOn InPairs log whole =
+    (whole.covers ≡ log.covers)
+    × ((whole.steps ≡ log.steps) × ((whole.table ≡ log.table) × Extends log.pairs whole.pairs))
+GoesOn Finished log whole = whole ≡ log
+
+-- ---- failures
+
+-- whichever lines come next, the log has this fault
+abbrev pub HasFailed : RuleParts → Equation → Place → Log → LogFault → Type 0
+HasFailed parts goal place log fault =
+    (whole : Log) → GoesOn place log whole → HasVerdict parts goal whole (Fails fault)
+
+-- the end names a fault that the log has, whichever lines come next
+pub record FailsWith
+    (parts : RuleParts) (goal : Equation) (place : Place) (log : Log) (end : CheckEnd)
+    : Type 0 where
+  pub fault : LogFault
+  pub names : named end ≡ Some fault
+  pub fails : HasFailed parts goal place log fault
+
+-- ---- no failure so far
+
+-- no list of trees so far fails: the symbols from this one on decide, with the lists that follow
+abbrev pub CoversSoFar : RuleParts → Log → ℕ → Type 0
+CoversSoFar parts log next =
+    (more : List (List CoverTree)) →
+    covering parts (log.covers ++ more) ≡ covering_from parts next (drop next parts.symbols) more
+
+-- no step so far fails: the state is the one after them, and the steps that follow decide
+abbrev pub StepsSoFar : RuleParts → Equation → Log → Progress → Type 0
+StepsSoFar parts goal log progress =
+    (more : List Step) →
+    after_steps parts 0 (start goal) (log.steps ++ more)
+    ≡ after_steps parts progress.steps progress.state more
+
+-- no pair so far fails: the pairs from this one on decide, with the certificates that follow
+abbrev pub PairsSoFar : Log → Progress → Type 0
+PairsSoFar log progress =
+    (more : List PairCert) →
+    descent_from log.table 0 progress.pairs (log.pairs ++ more)
+    ≡ descent_from log.table progress.lower (drop progress.lower progress.pairs) more
+
+-- nothing is left to show, and the kept pairs are all that have to be lower
+pub record IsShown (parts : RuleParts) (log : Log) (progress : Progress) : Type 0 where
+  pub covers : covering parts log.covers ≡ Covers
+  pub goals : progress.state.goals ≡ []
+  pub pairs : AreAllPairs (parts.rules ++ progress.state.hypotheses) progress.pairs
+
+-- what is known at each place
+abbrev pub IsKnown : RuleParts → Equation → Place → Log → Progress → Type 0
+IsKnown parts goal AtHeader log progress = CoversSoFar parts log 0 × (log.pairs ≡ [])
+IsKnown parts goal (InCovers next) log progress = CoversSoFar parts log next × (log.pairs ≡ [])
+IsKnown parts goal InSteps log progress =
+    (covering parts log.covers ≡ Covers) × (log.pairs ≡ [])
+IsKnown parts goal (InRanks columns next) log progress =
+    IsShown parts log progress × ((log.pairs ≡ []) × (progress.lower ≡ 0))
+IsKnown parts goal InPairs log progress =
+    (kept parts goal log ≡ Ok progress.state.hypotheses)
+    × (AreAllPairs (parts.rules ++ progress.state.hypotheses) progress.pairs
+    × PairsSoFar log progress)
+IsKnown parts goal Finished log progress = IsAccepted parts goal log
+
+-- what is kept is what the log so far gives, and nothing of it fails
+pub record Holds
+    (parts : RuleParts) (goal : Equation) (place : Place) (log : Log) (progress : Progress)
+    : Type 0 where
+  pub steps : StepsSoFar parts goal log progress
+  pub table : progress.table ≡ log.table
+  pub known : IsKnown parts goal place log progress
+
+-- the same, or the failure that is kept is that of the log
+abbrev pub Stands : RuleParts → Equation → Place → Log → Progress → Option CheckEnd → Type 0
+Stands parts goal place log progress None = Holds parts goal place log progress
+Stands parts goal place log progress (Some end) = FailsWith parts goal place log end
+
+-- ---- what is kept
+
+-- the place behind the lines so far
+abbrev pub place_behind : Replayer → Place
+place_behind replayer = replayer.place
+
+-- no hypothesis that is kept has a result as its left side
+abbrev pub HasRoots : Replayer → Type 0
+HasRoots replayer = All HasRoot replayer.progress.state.hypotheses
+
+-- the lines so far, each with the number of its symbol, are in order, and what is kept is what they
+-- give for the rules and the goal: the state so far, or the first failure
+pub record StandsFor
+    (replayer : Replayer) (parts : RuleParts) (goal : Equation) (its : List (Line × ℕ))
+    : Type 0 where
+  pub arrives : after_all (Some AtHeader) its ≡ Some replayer.place
+  pub holds : Stands parts goal replayer.place (log_of its) replayer.progress replayer.failure
+
+-- what follows once all pairs are lower
+abbrev pub once_lower : {A : Type 0} → Descent → Checked A → Checked A
+once_lower Descends next = next
+once_lower (lowering.NotLower i) next = Err (NotLower i)
+once_lower (lowering.PassesLimits i) next = Err (PassesLimits (AtPair i))
+
+-- no certificate shows a pair that isn't there
+abbrev pub one_lower : RankTable → Option Pair → PairCert → Said
+one_lower table None cert = No
+one_lower table (Some pair) cert = lower_finding pair table cert
+
+-- with this failure, if any, the line makes this of what was kept at the place
+abbrev pub Judged : RuleParts → Place → Line → Progress → Progress → Option CheckEnd → Type 0
+Judged parts place line old new failure =
+    (goal : Equation) (log : Log) (symbol : ℕ) (behind : Place) → Holds parts goal place log old
+    → after place (line, symbol) ≡ Some behind
+    → Stands parts goal behind (pushed line log) new failure
+
+-- the same of a call; where there is no memory, what was kept stays
+abbrev pub Judges
+    : {E : Type 0} → RuleParts → Place → Line → Progress → Progress → Result (Option CheckEnd) E
+    → Type 0
+Judges parts place line old new (Ok failure) = Judged parts place line old new failure
+Judges parts place line old new (Err none) = new ≡ old
+
+-- a check comes to this, or has the fault that the failure names
+abbrev pub Ends : {A : Type 0} → Option CheckEnd → A → Checked A → Type 0
+Ends None x check = check ≡ Ok x
+Ends (Some end) x check = (fault : LogFault) × (named end ≡ Some fault) × (check ≡ Err fault)
+
+-- a check that finds nothing wrong
+abbrev pub passed : Checked (Unit {0})
+passed = Ok tt
+
+-- a check passes, or has the fault that the failure names
+abbrev pub IsOutcome : Option CheckEnd → Checked (Unit {0}) → Type 0
+IsOutcome failure check = Ends failure tt check
+
+-- the failure that an outcome is, which names a fault
+abbrev pub IsFailureOf : Result (Unit {0}) CheckEnd → Option CheckEnd → Type 0
+IsFailureOf (Ok done) failure = failure ≡ None
+IsFailureOf (Err end) failure =
+    (failure ≡ Some end) × ((fault : LogFault) × (named end ≡ Some fault))

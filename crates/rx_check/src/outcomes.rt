@@ -1,0 +1,152 @@
+//! Single checks, each with the failure that it comes to.
+ghost use Rattle.std.specs.Prelude.{◌≡◌, ◌+◌, ◌++◌, ℕ, None, Err, [], drop, slice_get, All};
+ghost use Rattle.std.specs.Prelude.{IfOk, OnErr};
+ghost use Rattle.rx_check.specs.Answers.{Finds};
+ghost use Rattle.rx_check.specs.LineByLine.{Ends, IsFailureOf, IsOutcome, once_lower, one_lower};
+ghost use Rattle.rx_check.specs.LineByLine.{passed};
+ghost use Rattle.rx_cover.specs.Covering.{Covers, covering_from, goes_on, one_covered};
+ghost use Rattle.rx_form.specs.States.{applied};
+ghost use Rattle.rx_log.specs.Acceptance.{after_step, once_covered, once_ranked};
+ghost use Rattle.rx_pairs.specs.Lowering.{Descends};
+ghost use Rattle.rx_pairs.specs.Lowering as lowering;
+ghost use Rattle.rx_pairs.specs.Pairs.{AreAllPairs, HasRoot};
+ghost use Rattle.rx_pairs.specs.Ranks.{bad_rank};
+
+use crate::check_end::{CheckEnd, Place as At};
+use crate::running::take_step;
+use rx_cover::{CoverTree, cover_one};
+use rx_log::Place;
+use rx_pairs::{Pair, PairCert, RankTable, all_pairs, bad_ranks, is_lower};
+use rx_plain::{Items, NoMemory};
+use rx_poly::PolyEnd;
+use rx_steps::{State, Step};
+use rx_term::{Rule, RuleSet};
+use std::alloc::Global;
+
+/// The failure that the outcome of a check is, if it is one.
+pub(crate) fn failure_of(outcome: Result<(), CheckEnd>) -> Result<Option<CheckEnd>, NoMemory>
+    ensures ok { IfOk result (IsFailureOf outcome) }
+    ensures err { OnErr result (outcome ≡ Err CheckEnd.NoMemory) }
+{
+    match outcome {
+        Ok(()) => Ok(None),
+        Err(end) => match end {
+            CheckEnd::NoMemory => Err(NoMemory),
+            other => Ok(Some(other)),
+        },
+    }
+}
+
+/// The number after this one; NoMemory where there is none.
+pub(crate) fn count_after(count: usize) -> Result<usize, NoMemory>
+    ensures { IfOk result (λ next. next ≡ count + 1) }
+{
+    match count.checked_add(1) {
+        Some(next) => Ok(next),
+        None => Err(NoMemory),
+    }
+}
+
+/// Whether the trees cover the symbol.
+#[tactic(auto, using(crate::proofs::Turns::not_covered))]
+pub(crate) fn check_cover(
+    alloc: Global,
+    rules: &RuleSet,
+    sym: usize,
+    trees: &[CoverTree],
+) -> Result<(), CheckEnd>
+    ensures { Finds (λ done. done) result
+        (once_covered (goes_on sym (one_covered rules.now sym trees.now) Covers) passed) }
+{
+    cover_one(alloc, rules, sym, trees)?;
+    Ok(())
+}
+
+/// The first symbol without a list of trees, as a failure, where the place is behind some covers.
+pub(crate) fn missing_cover(rules: &RuleSet, place: Place) -> Option<CheckEnd>
+    ensures covers { (next : ℕ) → place ≡ Place.InCovers next → IsOutcome result
+        (once_covered (covering_from rules.now next (drop next rules.now.symbols) []) passed) }
+    ensures steps { place ≡ Place.InSteps → result ≡ None }
+{
+    match place {
+        Place::InCovers(next) => {
+            if (next as usize) < rules.symbols().len() {
+                Some(CheckEnd::NotCovered { sym: next as usize })
+            } else {
+                None
+            }
+        }
+        _ => None,
+    }
+}
+
+/// Takes the step with that number, if it applies.
+pub(crate) fn step_failure(
+    alloc: Global,
+    state: &mut State,
+    rules: &RuleSet,
+    number: usize,
+    step: &Step,
+) -> Result<Option<CheckEnd>, NoMemory>
+    requires roots { All HasRoot state.old.hypotheses }
+    ensures ok { IfOk result (λ failure. Ends failure state.new
+        (after_step number (applied rules.now state.old step.now))) }
+    ensures err { OnErr result (state.new ≡ state.old) }
+    ensures roots { All HasRoot state.new.hypotheses }
+{
+    failure_of(take_step(alloc, state, rules, number, step))
+}
+
+/// The pairs of the rules, and then those of the hypotheses.
+pub(crate) fn made_pairs(
+    alloc: Global,
+    rules: &RuleSet,
+    hypotheses: &[Rule],
+) -> Result<Items<Pair>, NoMemory>
+    requires { All HasRoot hypotheses.now }
+    ensures { IfOk result (λ pairs. AreAllPairs (rules.now.rules ++ hypotheses.now) pairs) }
+{
+    // That the rules are well made is what gives them pairs.
+    let _parts = rules.parts();
+    let pairs = all_pairs(alloc, rules.rules(), hypotheses)?;
+    Ok(Items::from_vec(pairs))
+}
+
+/// The first symbol without a lawful rank, as a failure, where the place is behind some ranks.
+pub(crate) fn bad_rank_at(rules: &RuleSet, place: Place, table: &RankTable) -> Option<CheckEnd>
+    ensures ranks { (columns next : ℕ) → place ≡ Place.InRanks columns next →
+        IsOutcome result (once_ranked (bad_rank rules.now table.now) passed) }
+    ensures pairs { place ≡ Place.InPairs → result ≡ None }
+{
+    match place {
+        Place::InRanks { .. } => match bad_ranks(rules, table) {
+            Some(sym) => Some(CheckEnd::BadRanks { sym }),
+            None => None,
+        },
+        _ => None,
+    }
+}
+
+/// Whether the certificate shows that the pair with that number is lower.
+pub(crate) fn check_pair(
+    alloc: Global,
+    pairs: &[Pair],
+    number: usize,
+    table: &RankTable,
+    cert: &PairCert,
+) -> Result<(), CheckEnd>
+    ensures { Finds (λ done. done) result (once_lower (lowering.goes_on number
+        (one_lower table.now (slice_get pairs.now number) cert.now) Descends) passed) }
+{
+    let Some(pair) = pairs.get(number) else {
+        return Err(CheckEnd::NotLower { pair: number });
+    };
+    match is_lower(alloc, pair, table, cert) {
+        Ok(true) => Ok(()),
+        Ok(false) => Err(CheckEnd::NotLower { pair: number }),
+        Err(PolyEnd::Large) => Err(CheckEnd::Large {
+            place: At::Pair(number),
+        }),
+        Err(PolyEnd::NoMemory) => Err(CheckEnd::NoMemory),
+    }
+}
