@@ -1,0 +1,2 @@
+-- Lemmas on a log that is replayed while it is read.
+pub mod LogFileLemmas
