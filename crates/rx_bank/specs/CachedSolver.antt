@@ -1,14 +1,26 @@
 -- What is known of a solver behind a cache, and what becomes of it where it is asked.
-use Rattle.std.specs.Prelude.{◌≡◌, ◌⊎◌, Option, Result, List}
+use Rattle.std.specs.Prelude.{◌≡◌, ◌⊎◌, ℕ, Option, Result, List}
 use Rattle.std.specs.Fn.{Mut, CalledAt}
 use denote.Ref.{Bor}
 use Rattle.rx_row.specs.declared.row.Row.{Row}
 use Rattle.rx_cert.specs.declared.cert.Cert.{Cert}
 use Rattle.rx_fm.specs.declared.fm_end.FmEnd.{FmEnd}
 use Rattle.rx_solve.specs.Answers.{IsSolver}
-use Rattle.rx_bank.specs.Cache.{AreRight, IsKept, IsPromoted, NoneHas, Repeats}
+use Rattle.rx_bank.specs.Cache.{AreRight, Entry, IsKept, IsPromoted, NoneHas, Repeats}
 use Rattle.rx_bank.specs.declared.cached_answer.CachedAnswer.{CachedAnswer}
 use Rattle.rx_bank.specs.declared.cached_solver.CachedSolver.{CachedSolver}
+
+-- its entries, the most recently used first
+abbrev pub entries_in : {S : Type 0} → CachedSolver S → List Entry
+entries_in c = c.cache.entries
+
+-- how many entries it holds at most
+abbrev pub capacity_of : {S : Type 0} → CachedSolver S → ℕ
+capacity_of c = c.cache.cap
+
+-- the solver that it asks
+abbrev pub solver_in : {S : Type 0} → CachedSolver S → S
+solver_in c = c.solve
 
 -- an entry has the rows: its answer is given once more, it goes to the front, and the solver isn't asked
 pub record IsRecalled {S : Type 0} (before : CachedSolver S) (rows : List Row) (result : Result (Option Cert) FmEnd) (after : CachedSolver S) : Type 0 where

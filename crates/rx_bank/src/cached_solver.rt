@@ -1,6 +1,6 @@
 //! A solver behind a cache.
 ghost use Rattle.std.specs.Prelude.{◌≡◌, ◌≤◌, [], ℕ, ℤ, IfOk, IfSome};
-ghost use Rattle.rx_bank.specs.CachedSolver.{AfterAsk, IsCachedSolver};
+ghost use Rattle.rx_bank.specs.CachedSolver.{AfterAsk, IsCachedSolver, capacity_of, entries_in, solver_in};
 ghost use Rattle.rx_row.specs.Holds.{AllHold};
 ghost use Rattle.rx_solve.specs.Answers.{Answers, IsSolver};
 
@@ -31,9 +31,9 @@ impl<S: FnMut(&Constraint) -> Result<Option<Cert>, FmEnd>> CachedSolver<S> {
         requires low { 1 ≤ capacity }
         requires high { capacity ≤ 65536 }
         ensures known { IfOk result (IsCachedSolver S.FnMut) }
-        ensures entries { IfOk result (λ c. c.cache.entries ≡ []) }
-        ensures capacity { IfOk result (λ c. c.cache.cap ≡ capacity) }
-        ensures solve { IfOk result (λ c. c.solve ≡ solve) }
+        ensures entries { IfOk result (λ c. entries_in c ≡ []) }
+        ensures capacity { IfOk result (λ c. capacity_of c ≡ capacity) }
+        ensures solve { IfOk result (λ c. solver_in c ≡ solve) }
     {
         let most = NonZeroUsize::new(capacity as usize).unwrap();
         let cache = LruCache::sparse(alloc, most)?;
@@ -56,7 +56,7 @@ impl<S: FnMut(&Constraint) -> Result<Option<Cert>, FmEnd>> CachedSolver<S> {
         ensures answer { Answers rows.now result }
         ensures refuted { IfOk result (λ a. IfSome a (λ c. (a : ℕ → ℤ) → ¬ (AllHold a rows.now))) }
         ensures entries { AfterAsk S.FnMut self.old rows.now result self.new }
-        ensures capacity { self.new.cache.cap ≡ self.old.cache.cap }
+        ensures capacity { capacity_of self.new ≡ capacity_of self.old }
     {
         if let Some(answer) = recall(self.alloc, &mut self.cache, rows) {
             return answer;

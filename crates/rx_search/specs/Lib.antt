@@ -3,3 +3,4 @@ pub mod Ends
 pub mod Menu
 pub mod Nodes
 pub mod Search
+pub mod Searching

@@ -13,6 +13,7 @@ ghost use Rattle.rx_rank.specs.Ranking.{ranked};
 ghost use Rattle.rx_term.specs.declared.rule.Equation.{Equation};
 ghost use Rattle.rx_search.specs.Ends.{IsEnd};
 ghost use Rattle.rx_search.specs.Nodes.{IsNode, node_of, started};
+ghost use Rattle.rx_search.specs.Searching.{AsksSolver};
 ghost use Rattle.rx_search.specs.Search.{Closed, of_outcome, searched, settled, menu, start};
 ghost use Rattle.rx_settle.specs.Moves.{move_of};
 ghost use Rattle.rx_solve.specs.Answers.{IsSolver};
@@ -152,7 +153,7 @@ impl<S: FnMut(&Constraint) -> Result<Option<Cert>, FmEnd>> Search<S> {
     /// A search that asks this closure. Takes no memory.
     pub fn new(solve: S) -> Search<S>
         requires { IsSolver S.FnMut solve }
-        ensures { IsSolver S.FnMut result.solve }
+        ensures { AsksSolver S.FnMut result }
     {
         Search { solve }
     }
@@ -166,11 +167,11 @@ impl<S: FnMut(&Constraint) -> Result<Option<Cert>, FmEnd>> Search<S> {
         depth: u32,
         budget: u32,
     ) -> Result<Log, SearchEnd>
-        requires solver { IsSolver S.FnMut self.old.solve }
+        requires solver { AsksSolver S.FnMut self.old }
         requires coverable { is_coverable rules.now ≡ true }
         requires fits { IsFitting rules.now goal.now }
         requires ranked { ranked rules.now [] ≡ Yes }
-        ensures solver { IsSolver S.FnMut self.new.solve }
+        ensures solver { AsksSolver S.FnMut self.new }
         ensures steps { IfOk result (λ log. of_outcome (outcome budget (all_visits (settled rules.now) (menu rules.now) depth (start goal.now))) ≡ Closed (map move_of log.steps)) }
         ensures accepted { IfOk result (λ log. IsAccepted rules.now goal.now log) }
         ensures shallow { IfOk result (λ log. is_shallow_log log ≡ true) }
@@ -205,11 +206,11 @@ impl<S: FnMut(&Constraint) -> Result<Option<Cert>, FmEnd>> Search<S> {
         depth: u32,
         budget: u32,
     ) -> Result<Log, SearchEnd>
-        requires solver { IsSolver S.FnMut self.old.solve }
+        requires solver { AsksSolver S.FnMut self.old }
         requires coverable { is_coverable rules.now ≡ true }
         requires fits { IsFitting rules.now goal.now }
         requires depth { depth ≤ 12 }
-        ensures solver { IsSolver S.FnMut self.new.solve }
+        ensures solver { AsksSolver S.FnMut self.new }
         ensures steps { IfOk result (λ log. searched rules.now goal.now depth budget ≡ Closed (map move_of log.steps)) }
         ensures accepted { IfOk result (λ log. IsAccepted rules.now goal.now log) }
         ensures shallow { IfOk result (λ log. is_shallow_log log ≡ true) }
