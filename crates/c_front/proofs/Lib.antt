@@ -2,7 +2,6 @@ pub mod Composed
 pub mod FewParams
 pub mod FrontEndLaws
 pub mod OneCondition
-pub mod OneEnd
 pub mod OneFront
 pub mod OnePair
 pub mod Options

@@ -1,14 +1,11 @@
 -- A precondition on two functions of a text is read in one way.
-use Rattle.std.proofs.Common.{◌≡◌, ◌≢◌, ℕ, true, false, List, Option, Some, None, Ok, Err, inl, inr, refl, sym, ap, subst, ◌∙◌}
+use Rattle.std.proofs.Common.{◌≡◌, ℕ, List, Option, Some, None, sym, ap, subst, ◌∙◌}
 use Rattle.c_lex.specs.declared.token.Token.{Token}
 use Rattle.c_lex.specs.Tokens.{tokens_of}
-use Rattle.c_ast.specs.RowForms.{is_row_form}
 use Rattle.c_ast.specs.declared.expr.Expr.{Expr}
+use Rattle.c_parse.proofs.OneAnswer.{one_pre_refusal, spelled_unrefused_pre}
 use Rattle.c_parse.proofs.PreLemmas.{expression_unique}
 use Rattle.c_parse.proofs.Unique.{program_unique}
-use Rattle.c_parse.specs.Preconditions.{PreAnswers}
-use Rattle.c_parse.specs.declared.error.ParseEnd.{ParseEnd}
-use Rattle.c_parse.specs.declared.error.ParseEnd.TheVariants.{Syntax, TooDeep, TooManyParams, NoMemory, NotARowForm}
 use Rattle.c_scope.specs.Preconditions.{resolved_pre}
 use Rattle.c_scope.specs.Steps.{Found}
 use Rattle.c_scope.specs.declared.error.ScopeEnd.TheVariants as Wrong
@@ -20,68 +17,37 @@ use Rattle.c_front.specs.declared.stages.Next.TheVariants.{Ends, Goes}
 use Rattle.c_front.specs.declared.texts.ProgramText.{ProgramText}
 use Rattle.c_front.specs.Conditions.{IsResolved, comparison, condition_stage, params_at, pre_lex_stage, pre_name_stage, pre_parse_stage, read_pre, whole_front}
 use Rattle.c_front.specs.Front.{front}
-use Rattle.c_front.specs.FrontEnd.{IsProgram, IsSameRefusal}
-use Rattle.c_front.specs.Stages.{Alike, IsOne}
-use Rattle.c_front.proofs.OneFront.{one_front, same_itself}
-use Rattle.c_front.proofs.Options.{clash, none_some, same_err, same_ok, same_some}
-use Rattle.c_front.proofs.StageLaws.{one_before, one_by}
+use Rattle.c_front.specs.FrontEnd.{IsProgram}
+use Rattle.c_front.proofs.OneFront.{one_front}
+use Rattle.c_front.proofs.Options.{clash, same_err, same_ok}
+use Rattle.c_front.proofs.StageLaws.{AreSame, IsOne, one_before, one_by, same_next}
 
--- tokens that spell a row form within the limits aren't refused
-spelled_unrefused : (ts : List Token) (e : Expr) (end : ParseEnd) → PreAnswers ts (Ok e) → PreAnswers ts (Err end) → end ≢ NoMemory → ⊥
-spelled_unrefused ts e (TooDeep token) a b other = none_some a.0 b
-spelled_unrefused ts e (Syntax token) a b other = b.1.0 e a.1.0
-spelled_unrefused ts e NotARowForm a b other =
-    let same : e ≡ b.1.0 = expression_unique ts e b.1.0 a.1.0.0 b.1.1.0.0 in
-    let no : true ≡ false = sym a.1.1 ∙ (ap is_row_form same ∙ b.1.1.1) in cc
-spelled_unrefused ts e (TooManyParams token) a b other = b
-spelled_unrefused ts e NoMemory a b other = other refl
-
--- tokens are refused for one cause, but for the place of a syntax error
-one_end : (ts : List Token) (d e : ParseEnd) → PreAnswers ts (Err d) → PreAnswers ts (Err e) → d ≢ NoMemory → e ≢ NoMemory
-    → IsSameRefusal (PreParse d) (PreParse e)
-one_end ts (TooDeep t) (TooDeep u) a b p q = inl (ap (λ (n : ℕ). PreParse (TooDeep n)) (same_some a b))
-one_end ts (TooDeep t) (Syntax u) a b p q = absurd (none_some b.0 a)
-one_end ts (TooDeep t) NotARowForm a b p q = absurd (none_some b.0 a)
-one_end ts (TooDeep t) (TooManyParams u) a b p q = absurd b
-one_end ts (TooDeep t) NoMemory a b p q = absurd (q refl)
-one_end ts (Syntax t) (TooDeep u) a b p q = absurd (none_some a.0 b)
-one_end ts (Syntax t) (Syntax u) a b p q = inr tt
-one_end ts (Syntax t) NotARowForm a b p q = absurd (a.1.0 b.1.0 b.1.1.0)
-one_end ts (Syntax t) (TooManyParams u) a b p q = absurd b
-one_end ts (Syntax t) NoMemory a b p q = absurd (q refl)
-one_end ts NotARowForm (TooDeep u) a b p q = absurd (none_some a.0 b)
-one_end ts NotARowForm (Syntax u) a b p q = absurd (b.1.0 a.1.0 a.1.1.0)
-one_end ts NotARowForm NotARowForm a b p q = inl refl
-one_end ts NotARowForm (TooManyParams u) a b p q = absurd b
-one_end ts NotARowForm NoMemory a b p q = absurd (q refl)
-one_end ts (TooManyParams t) e a b p q = absurd a
-one_end ts NoMemory e a b p q = absurd (p refl)
-
-one_parse : IsOne IsSameRefusal pre_parse_stage
+-- tokens are parsed in one way
+one_parse : IsOne pre_parse_stage
 one_parse tokens (Ends r) (Ends s) (d, a, p, is_r) (e, b, q, is_s) =
-    subst (λ x. IsSameRefusal x s) (sym is_r) (subst (IsSameRefusal (PreParse d)) (sym is_s) (one_end tokens d e a b p q))
-one_parse tokens (Ends r) (Goes u) (d, a, p, is_r) (same, b) = spelled_unrefused tokens u.pre d b a p
-one_parse tokens (Goes t) (Ends s) (same, a) (e, b, q, is_s) = spelled_unrefused tokens t.pre e a b q
+    is_r ∙ (ap PreParse (one_pre_refusal tokens d e a b p q) ∙ sym is_s)
+one_parse tokens (Ends r) (Goes u) (d, a, p, is_r) (same, b) = spelled_unrefused_pre tokens u.pre d b a p
+one_parse tokens (Goes t) (Ends s) (same, a) (e, b, q, is_s) = spelled_unrefused_pre tokens t.pre e a b q
 one_parse tokens (Goes t) (Goes u) (same, a) (too, b) =
     let lists : t.tokens ≡ u.tokens = same ∙ sym too in
     let trees : t.pre ≡ u.pre = expression_unique tokens t.pre u.pre a.1.0.0 b.1.0.0 in
     λ i. record { tokens = lists i; pre = trees i }
 
 -- names are resolved in one way
-one_resolved : (found : Found Expr) (x y : Next Refusal Expr) → IsResolved found x → IsResolved found y → Alike IsSameRefusal x y
+one_resolved : (found : Found Expr) (x y : Next Refusal Expr) → IsResolved found x → IsResolved found y → AreSame x y
 one_resolved found (Ends r) (Ends s) (t, p, is_r) (u, q, is_s) =
     let faults : Wrong.UnknownName t ≡ Wrong.UnknownName u = same_err p q in
     let tokens : t ≡ u = cc in
-    inl (is_r ∙ (ap PreName tokens ∙ sym is_s))
+    is_r ∙ (ap PreName tokens ∙ sym is_s)
 one_resolved found (Ends r) (Goes e) (t, p, is_r) q = clash q p
 one_resolved found (Goes e) (Ends s) p (u, q, is_s) = clash p q
 one_resolved found (Goes e) (Goes f) p q = same_ok p q
 
 one_read : (source : List ℕ) (text : ProgramText) (first : ℕ) (bytes : List ℕ) (x y : Next Refusal Expr)
-    → read_pre source text first bytes x → read_pre source text first bytes y → Alike IsSameRefusal x y
+    → read_pre source text first bytes x → read_pre source text first bytes y → AreSame x y
 one_read source text first bytes =
-    one_before IsSameRefusal pre_lex_stage _ (one_by IsSameRefusal same_itself PreLex tokens_of)
-    (one_before IsSameRefusal pre_parse_stage (pre_name_stage source text first bytes) one_parse
+    one_before pre_lex_stage _ (one_by PreLex tokens_of)
+    (one_before pre_parse_stage (pre_name_stage source text first bytes) one_parse
     (λ read x y p q. one_resolved (resolved_pre source text.tokens (params_at text.program.functions first) bytes read.tokens read.pre) x y p q))
     bytes
 
@@ -94,7 +60,7 @@ one_text source t u p q =
     λ i. record { tokens = lists i; program = programs i }
 
 -- two functions and a precondition that is there or not
-one_condition : (source : List ℕ) (pre : Option (List ℕ)) → IsOne IsSameRefusal (condition_stage source pre)
+one_condition : (source : List ℕ) (pre : Option (List ℕ)) → IsOne (condition_stage source pre)
 one_condition source None two (Ends r) y p q = absurd p
 one_condition source None two (Goes c) (Ends s) p q = absurd q
 one_condition source None two (Goes c) (Goes d) p q = p ∙ sym q
@@ -109,7 +75,12 @@ one_condition source (Some bytes) two (Goes c) (Goes d) (t, p, e, a, is_c) (u, q
     is_c ∙ (ap (λ (x : Expr). comparison two (Some x)) same ∙ sym is_d)
 
 pub one_whole : (source first second : List ℕ) (pre : Option (List ℕ)) (x y : Next Refusal Compared)
-    → whole_front source first second pre x → whole_front source first second pre y → Alike IsSameRefusal x y
+    → whole_front source first second pre x → whole_front source first second pre y → AreSame x y
 one_whole source first second pre =
-    one_before IsSameRefusal (λ (text : List ℕ). front text first second) (condition_stage source pre)
+    one_before (λ (text : List ℕ). front text first second) (condition_stage source pre)
     (λ text x y p q. one_front text first second x y p q) (one_condition source pre) source
+
+-- a text, two names and a precondition have one answer
+pub one_compared : (source first second : List ℕ) (pre : Option (List ℕ)) (x y : Next Refusal Compared)
+    → whole_front source first second pre x → whole_front source first second pre y → x ≡ y
+one_compared source first second pre x y p q = same_next x y (one_whole source first second pre x y p q)

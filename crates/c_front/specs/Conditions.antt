@@ -27,8 +27,8 @@ use Rattle.c_front.specs.Stages.{Stage, before, by}
 abbrev pub pre_lex_stage : Stage Refusal (List ℕ) (List Token)
 pre_lex_stage = by PreLex tokens_of
 
--- the tokens spell this row form within the limits, or are refused for this cause; a relation, while the place of a
--- syntax error is free
+-- the tokens spell this row form within the limits, or are refused for this cause; a relation, which holds of one answer
+-- at most
 abbrev pub pre_parse_stage : List Token → Next Refusal PreText → Type 0
 pre_parse_stage tokens (Ends refusal) =
     (end : ParseEnd) × PreAnswers tokens (Err end) × (end ≢ Flaw.NoMemory) × (refusal ≡ PreParse end)

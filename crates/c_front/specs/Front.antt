@@ -23,7 +23,7 @@ use Rattle.c_front.specs.Stages.{Stage, by, before}
 abbrev pub lex_stage : Stage Refusal (List ℕ) (List Token)
 lex_stage = by Lex tokens_of
 
--- the tokens spell this program within the limits, or are refused for this cause; a relation, while the place of a syntax error is free
+-- the tokens spell this program within the limits, or are refused for this cause; a relation, which holds of one answer at most
 abbrev pub parse_stage : List Token → Next Refusal ProgramText → Type 0
 parse_stage tokens (Ends refusal) = (end : ParseEnd) × Answers tokens (Err end) × (end ≢ Flaw.NoMemory) × (refusal ≡ Parse end)
 parse_stage tokens (Goes text) = (text.tokens ≡ tokens) × Answers tokens (Ok text.program)

@@ -1,5 +1,5 @@
 -- What the front end says of a text and two names: its program with all names resolved and the two functions, of equally many parameters, or the first cause of a refusal.
-use Rattle.std.specs.Prelude.{◌≡◌, ◌≢◌, ◌⊎◌, ℕ, ⊤, List, Option, Some, None, Ok, Err, length, slice_get}
+use Rattle.std.specs.Prelude.{◌≡◌, ◌≢◌, ℕ, ⊤, List, Option, Some, None, Ok, Err, length, slice_get}
 use Rattle.c_lex.specs.declared.error.LexEnd.TheVariants as Fault
 use Rattle.c_lex.specs.declared.token.Token.{Token}
 use Rattle.c_lex.specs.Tokens.{tokens_of}
@@ -69,8 +69,7 @@ HaveDifferentArities source first second m n =
     (two : TwoFunctions) × (left : Function) × (right : Function) × AreNamed source first second two left right
     × (length left.params ≡ m) × (length right.params ≡ n) × (m ≢ n)
 
--- why a text is refused for two names, whatever the precondition is. The causes exclude each other: a text has at most one list of tokens, the list spells at most one program, and the program has at most one resolution. Only the place of a syntax error is
--- free, up to the number of tokens
+-- why a text is refused for two names, whatever the precondition is. The causes exclude each other: a text has at most one list of tokens, the list spells at most one program, and the program has at most one resolution
 abbrev pub IsRefused : List ℕ → List ℕ → List ℕ → Refusal → Type 0
 IsRefused source first second (Lex fault) = tokens_of source ≡ Err fault
 IsRefused source first second (Parse end) = IsUnparsed source end
@@ -81,12 +80,6 @@ IsRefused source first second (PreLex fault) = ⊥
 IsRefused source first second (PreParse end) = ⊥
 IsRefused source first second (PreName token) = ⊥
 
--- two refusals for a syntax error, whose place is free
-abbrev pub AreSyntax : Refusal → Refusal → Type 0
-AreSyntax (Parse (Flaw.Syntax t)) (Parse (Flaw.Syntax u)) = ⊤
-AreSyntax (PreParse (Flaw.Syntax t)) (PreParse (Flaw.Syntax u)) = ⊤
-AreSyntax r s = ⊥
-
 -- the two names are those of two functions of the well-formed program that the text spells, and these have equally many parameters
 pub record AreComparable (source first second : List ℕ) (two : TwoFunctions) (left right : Function) : Type 0 where
   pub are_named : AreNamed source first second two left right
@@ -96,10 +89,6 @@ pub record AreComparable (source first second : List ℕ) (two : TwoFunctions) (
 abbrev pub IsReading : List ℕ → List ℕ → List ℕ → Next Refusal TwoFunctions → Type 0
 IsReading source first second (Ends refusal) = IsRefused source first second refusal
 IsReading source first second (Goes two) = (left : Function) × (right : Function) × AreComparable source first second two left right
-
--- one refusal, but for the place of a syntax error
-abbrev pub IsSameRefusal : Refusal → Refusal → Type 0
-IsSameRefusal r s = (r ≡ s) ⊎ AreSyntax r s
 
 -- it can be said in a line: it is neither out of memory, nor an end of programs alone or of preconditions alone that stands for the other
 abbrev pub IsSayable : Refusal → Type 0

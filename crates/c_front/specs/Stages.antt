@@ -1,4 +1,4 @@
--- Stages of a run. A stage says of what it is given that the run ends, or what goes on to the next stage. It is a relation, so that a part of an end can be free.
+-- Stages of a run. A stage says of what it is given that the run ends, or what goes on to the next stage. It is a relation, as the grammar is one.
 use Rattle.std.specs.Prelude.{◌≡◌, ◌⊎◌, ⊤, Result, Ok, Err}
 use Rattle.c_front.specs.declared.stages.Next.{Next}
 use Rattle.c_front.specs.declared.stages.Next.TheVariants.{Ends, Goes}
@@ -18,18 +18,6 @@ module _ {E A B C : Type 0} where
   abbrev pub before : Stage E A B → Stage E B C → Stage E A C
   before first second a (Ends end) = first a (Ends end) ⊎ ((b : B) × first a (Goes b) × second b (Ends end))
   before first second a (Goes c) = (b : B) × first a (Goes b) × second b (Goes c)
-
--- two answers of a stage that are alike, where some ends are
-module _ {E B : Type 0} where
-  abbrev pub Alike : (E → E → Type 0) → Next E B → Next E B → Type 0
-  Alike same (Ends d) (Ends e) = same d e
-  Alike same (Goes b) (Goes c) = b ≡ c
-  Alike same x y = ⊥
-
--- a stage has at most one answer, but for ends that are alike
-module _ {E A B : Type 0} where
-  abbrev pub IsOne : (E → E → Type 0) → Stage E A B → Type 0
-  IsOne same stage = (a : A) (x y : Next E B) → stage a x → stage a y → Alike same x y
 
 -- what goes on is so
 module _ {E B : Type 0} where

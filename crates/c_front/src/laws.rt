@@ -1,21 +1,20 @@
 //! Laws of what the front end says.
-ghost use Rattle.std.specs.Prelude.{◌↔◌, ℕ, List, Option};
+ghost use Rattle.std.specs.Prelude.{◌≡◌, ◌↔◌, ℕ, List, Option};
 ghost use Rattle.c_front.specs.Conditions.{whole_front};
 ghost use Rattle.c_front.specs.Front.{front};
-ghost use Rattle.c_front.specs.FrontEnd.{IsReading, IsSameRefusal};
-ghost use Rattle.c_front.specs.Stages.{Alike};
+ghost use Rattle.c_front.specs.FrontEnd.{IsReading};
 ghost use Rattle.c_front.specs.declared.pairs.Compared.{Compared};
 ghost use Rattle.c_front.specs.declared.pairs.TwoFunctions.{TwoFunctions};
 ghost use Rattle.c_front.specs.declared.refusals.Refusal.{Refusal};
 ghost use Rattle.c_front.specs.declared.stages.Next.{Next};
 
-/// A text, two names and a precondition have at most one answer of the front end, but for the place of
-/// a syntax error (`one`). Each answer on the names comes exactly where its cause holds, as a fact of
-/// the text (`causes`). A law; it does nothing.
+/// A text, two names and a precondition have at most one answer of the front end (`one`). Each answer
+/// on the names comes exactly where its cause holds, as a fact of the text (`causes`). A law; it does
+/// nothing.
 pub fn a_text_has_one_answer()
     ensures one { (source first second : List ℕ) (pre : Option (List ℕ))
         (x y : Next Refusal Compared) → whole_front source first second pre x →
-        whole_front source first second pre y → Alike IsSameRefusal x y }
+        whole_front source first second pre y → x ≡ y }
     ensures causes { (source first second : List ℕ) (x : Next Refusal TwoFunctions) →
         front source first second x ↔ IsReading source first second x }
 {}

@@ -2,8 +2,8 @@
 //! functions of the text's program, with all names resolved, or to the first cause of a refusal.
 //!
 //! What a reader may rely on: each answer comes exactly where `specs/Front` says, out of memory
-//! apart, and a text, two names and a precondition have at most one answer, but for the place of a
-//! syntax error (`a_text_has_one_answer`).
+//! apart, and a text, two names and a precondition have at most one answer
+//! (`a_text_has_one_answer`).
 #![tactic(auto)]
 
 mod conditions;

@@ -3,7 +3,7 @@ use Rattle.std.proofs.Common.{◌≡◌, ℕ, ◌+◌, ◌≤◌, ◌<◌, Optio
 use Rattle.std.specs.List.{All}
 use Rattle.std.proofs.lemmas.List.{append-nil, length-append}
 use Rattle.std.specs.Option.{option_map}
-use Rattle.std.proofs.lemmas.List.Elements.{All-head, All-tail, All-push}
+use Rattle.std.proofs.lemmas.List.Elements.{All-nil, All-head, All-tail, All-push}
 use Rattle.c_lex.specs.declared.token.Token.{Token}
 use Rattle.c_lex.specs.declared.token.TokenKind.TheVariants.{Word, Mark}
 use Rattle.c_lex.specs.declared.token.Keyword.TheVariants.{Int}
@@ -189,6 +189,11 @@ program_push xs (Defined f) =
 program_push xs (Declared p) =
     ap (λ fs. made_of fs (prototypes_of (xs ++ Declared p ∷ []))) (functions_keep xs p) ∙ ap (λ ps. made_of (functions_of xs) ps) (prototypes_push xs p)
 
+-- functions and prototypes with one more
+externals_push : (ts : List Token) (i j k : ℕ) (xs : List External) (x : External) → Externals ts i j xs → ExternalDeclaration ts j k x → Externals ts i k (xs ++ x ∷ [])
+externals_push ts i j k xs x (finished _ _) d = followed ts i k k x [] d (finished ts k)
+externals_push ts i j k xs x (followed _ _ m _ y rest c r) d = followed ts i m k y (rest ++ x ∷ []) c (externals_push ts m j k rest x r d)
+
 -- one more function or prototype is at most one function more
 added_functions : (p : Program) (y : External) → length (added p y).functions ≤ length p.functions + 1
 added_functions p (Defined f) = let longer : length (p.functions ++ f ∷ []) ≡ length p.functions + 1 = length-append p.functions (f ∷ []) in omega (arith, longer)
@@ -206,6 +211,19 @@ module _ (ts : List Token) where
       let joined : all ≡ (found ++ x.value ∷ []) ++ rest = same ∙ (ap (λ zs. found ++ zs) (q ∙ ap (λ g. g ∷ rest) (sym is.1)) ∙ sym (append_assoc found (x.value ∷ []) rest)) in
       (rest, (joined, (there, All-tail IsLow y rest both)))
 
+  -- nothing is read
+  pub collecting_begins : (p : Program) → p.functions ≡ [] → p.prototypes ≡ [] → Collecting ts p 0
+  collecting_begins p none no_prototypes = record {
+    found = [];
+    is = λ i. record { functions = none i; prototypes = no_prototypes i };
+    forward = λ xs h. h;
+    spelled = finished ts 0;
+    low = All-nil IsLow;
+    only = λ all h low. (all, (refl, (h, low)));
+    within = omega arith;
+    few = let short : length p.functions ≡ 0 = ap length none in omega arith;
+  }
+
   -- one more function or prototype
   pub collecting_goes : (p : Program) (at : ℕ) (x : Span External) → Collecting ts p at → at < length ts → Gives (LowExternal ts at) at (length ts) (Some x)
       → Collecting ts (added p x.value) x.end
@@ -213,6 +231,7 @@ module _ (ts : List Token) where
     found = c.found ++ x.value ∷ [];
     is = ap (λ q. added q x.value) c.is ∙ sym (program_push c.found x.value);
     forward = λ xs h. rw (append_assoc c.found (x.value ∷ []) xs) (c.forward (x.value ∷ xs) (followed ts at x.end (length ts) x.value xs g.found.spelled.0 h));
+    spelled = externals_push ts 0 at x.end c.found x.value c.spelled g.found.spelled.0;
     low = All-push IsLow c.found x.value c.low g.found.spelled.1;
     only = λ all h low. let go = c.only all h low in one_more c.found at x within g all go.0 go.1.0 go.1.1.1 (fellows_of ts at (length ts) go.0 go.1.1.0);
     within = g.found.within;
@@ -227,8 +246,14 @@ module _ (ts : List Token) where
 
   -- a place at which neither is
   pub collecting_stops : (p : Program) (at : ℕ) → Collecting ts p at → at < length ts → Gives (LowExternal ts at) at (length ts) None → ReadsAll ts (Stopped at)
-  collecting_stops p at c within g =
-      (λ q s. let go = c.only s.externals s.spelled s.low in unread at within g go.0 go.1.1.1 (fellows_of ts at (length ts) go.0 go.1.1.0), omega arith)
+  collecting_stops p at c within g = record {
+    lower = c.found;
+    before = c.spelled;
+    low = c.low;
+    within = within;
+    nothing = λ j x low. g.only j x low;
+    unspelled = λ q s. let go = c.only s.externals s.spelled s.low in unread at within g go.0 go.1.1.1 (fellows_of ts at (length ts) go.0 go.1.1.0);
+  }
 
   -- the end of the list
   pub collecting_ends : (p : Program) (at : ℕ) → Collecting ts p at → length ts ≤ at → ReadsAll ts (Spelled p)

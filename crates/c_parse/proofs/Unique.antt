@@ -17,11 +17,11 @@ use Rattle.c_expr.proofs.UniqueExprs.{Same}
 use Rattle.c_stmt.proofs.UniqueStatements.{blocks_unique}
 
 -- what is in the parentheses of a heading is determined by where it begins
-parameters_unique : (ts : List Token) (i j k : ℕ) (ps qs : Option (List (Option ℕ))) → Parameters ts i j ps → Parameters ts i k qs → Same j k ps qs
+pub parameters_unique : (ts : List Token) (i j k : ℕ) (ps qs : Option (List (Option ℕ))) → Parameters ts i j ps → Parameters ts i k qs → Same j k ps qs
 parameters_unique ts i j k ps qs p q = parts_unique ts i j k ps qs (parts_of ts i j ps p) (parts_of ts i k qs q)
 
 -- so are a function and a prototype
-outer_unique : (ts : List Token) (i j k : ℕ) (x y : External) → Outer ts i j x → Outer ts i k y → Same j k x y
+pub outer_unique : (ts : List Token) (i j k : ℕ) (x y : External) → Outer ts i j x → Outer ts i k y → Same j k x y
 outer_unique ts i j k x y (outer_function m ps names body h p n b a) (outer_function l qs others inner g q o c d) =
     let first : Same m l ps qs = parameters_unique ts (i + 3) m l ps qs p q in
     let lists : Some names ≡ Some others = sym n ∙ (ap names_of first.1 ∙ o) in

@@ -2,6 +2,7 @@
 -- that has its cause.
 pub mod Programs
 pub mod Names
+pub mod HighStatements
 pub mod Answers
 pub mod Preconditions
 pub mod Readers

@@ -6,10 +6,13 @@ use thiserror::Error;
 /// order `TooDeep`, `Syntax`, `TooManyParams`, `NotARowForm`; out of memory may come at any time.
 #[derive(Clone, Copy, Debug, PartialEq, Eq, Error)]
 pub enum ParseEnd {
-    /// The tokens spell nothing that is wanted whose statements are at most 200 high.
+    /// The tokens spell nothing that is wanted and at most 200 high.
     #[error("syntax error at token {token}")]
     Syntax {
-        /// The number of a token, or the number of tokens.
+        /// The number of the first token with which the tokens begin nothing that is wanted, of
+        /// whatever height; the number of tokens where all of them begin it. Where they spell it,
+        /// but too high: of the first token of the first statement that is higher than 200, and 0
+        /// for a precondition.
         token: u32,
     },
     /// A bracket is opened where 200 are open already.

@@ -17,7 +17,7 @@ use rx_plain::{Items, NoMemory};
 use std::alloc::Global;
 
 // How high a statement may be.
-const MAX_HEIGHT: u32 = 200;
+pub const MAX_HEIGHT: u32 = 200;
 
 // The parameters of a heading, each by its name if it has one; none where the parentheses are
 // empty.
@@ -146,7 +146,7 @@ fn is_void(tokens: &[Token], at: usize) -> bool
 }
 
 // The parameters after the opening parenthesis, up to and with the closing one.
-fn parameters(
+pub fn parameters(
     alloc: Global,
     tokens: &[Token],
     at: usize,

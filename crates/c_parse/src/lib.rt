@@ -6,11 +6,12 @@
 
 mod error;
 mod external;
+mod fault;
 mod precondition;
 mod program;
 mod read;
 
 pub use error::ParseEnd;
-pub use precondition::{one_expression, parse_pre};
-pub use program::{one_program, parse};
+pub use precondition::{one_expression, one_pre_answer, parse_pre};
+pub use program::{one_answer, one_program, parse};
 pub use rx_plain::NoMemory;

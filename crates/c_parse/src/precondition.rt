@@ -1,5 +1,6 @@
 //! Preconditions.
-ghost use Rattle.std.specs.Prelude.{◌≡◌, ◌<◌, ◌^◌, suc, Some, None, length, IfOk};
+ghost use Rattle.std.specs.Prelude.{◌≡◌, ◌<◌, ◌^◌, suc, Some, None, Err, length, IfOk};
+ghost use Rattle.c_ast.specs.declared.expr.Expr.{Expr};
 ghost use Rattle.std.specs.List.{All};
 ghost use Rattle.c_ast.specs.Forms.{is_sign, is_sum_or_product};
 ghost use Rattle.c_ast.specs.RowForms.{is_comparison, is_row_form, is_straight};
@@ -7,13 +8,14 @@ ghost use Rattle.c_ast.specs.Variables.{variables};
 ghost use Rattle.c_expr.specs.Depth.{too_deep};
 ghost use Rattle.c_expr.specs.Grammar.{Expression, levels};
 ghost use Rattle.c_expr.specs.Names.{IsName};
-ghost use Rattle.c_parse.specs.Preconditions.{OneExpression, PreAnswers};
+ghost use Rattle.c_parse.specs.Preconditions.{IsExpression, OneExpression, OnePreAnswer, PreAnswers};
 ghost use Rattle.c_expr.specs.Readers.{Reads};
 
 use crate::error::ParseEnd;
 use c_ast::{BinOp, Expr, UnOp};
 use c_expr::{Read, too_deep, whole};
 use c_lex::Token;
+use c_place::expression_fault;
 use std::alloc::Global;
 
 // How high an expression may be.
@@ -24,8 +26,9 @@ const MAX_HEIGHT: u32 = 200;
 /// `+`, `-` and `*`.
 ///
 /// Refused, in this order: `TooDeep` at the first `(` or `{` where 200 brackets are open already;
-/// `Syntax` where the tokens spell no expression at most 200 high; `NotARowForm` where they spell
-/// another one.
+/// `Syntax` where the tokens spell no expression at most 200 high: at the first token with which they
+/// begin no expression of any height, or at the number of tokens where all of them begin one, and at 0
+/// where they spell a higher one; `NotARowForm` where they spell another one.
 pub fn parse_pre(alloc: Global, tokens: &[Token]) -> Result<Expr, ParseEnd>
     requires { length tokens.now < 2 ^ 32 }
     ensures answer { PreAnswers tokens.now result }
@@ -36,13 +39,13 @@ pub fn parse_pre(alloc: Global, tokens: &[Token]) -> Result<Expr, ParseEnd>
     }
     match whole(alloc, tokens, 0, MAX_HEIGHT) {
         Err(_) => Err(ParseEnd::NoMemory),
-        Ok(None) => Err(ParseEnd::Syntax { token: 0 }),
-        Ok(Some(read)) => judged(tokens, read),
+        Ok(None) => Err(pre_syntax_error(alloc, tokens)),
+        Ok(Some(read)) => judged(alloc, tokens, read),
     }
 }
 
 // The expression that was read, where it is all that the tokens spell and has the form.
-fn judged(tokens: &[Token], read: Read) -> Result<Expr, ParseEnd>
+fn judged(alloc: Global, tokens: &[Token], read: Read) -> Result<Expr, ParseEnd>
     requires few { length tokens.now < 2 ^ 32 }
     requires shallow { too_deep 0 0 tokens.now ≡ None }
     requires read { Reads (Expression tokens.now) tokens.now (suc levels) 0 200 (Some read) }
@@ -50,14 +53,26 @@ fn judged(tokens: &[Token], read: Read) -> Result<Expr, ParseEnd>
     ensures named { IfOk result (λ e. All (IsName tokens.now) (variables e)) }
 {
     if read.end < tokens.len() {
-        return Err(ParseEnd::Syntax {
-            token: read.end as u32,
-        });
+        return Err(pre_syntax_error(alloc, tokens));
     }
     if is_row_form(&read.tree) {
         Ok(read.tree)
     } else {
         Err(ParseEnd::NotARowForm)
+    }
+}
+
+// Why the tokens are refused that spell no expression at most 200 high.
+fn pre_syntax_error(alloc: Global, tokens: &[Token]) -> ParseEnd
+    requires few { length tokens.now < 2 ^ 32 }
+    requires shallow { too_deep 0 0 tokens.now ≡ None }
+    requires unspelled { (e : Expr) → IsExpression tokens.now e → ⊥ }
+    ensures { PreAnswers tokens.now (Err result) }
+{
+    match expression_fault(alloc, tokens) {
+        Err(_) => ParseEnd::NoMemory,
+        Ok(Some(token)) => ParseEnd::Syntax { token },
+        Ok(None) => ParseEnd::Syntax { token: 0 },
     }
 }
 
@@ -119,4 +134,9 @@ fn is_comparison(op: BinOp) -> bool
 /// A list of tokens spells at most one expression, of whatever height. A law; it does nothing.
 pub fn one_expression()
     ensures { OneExpression }
+{}
+
+/// A list of tokens has at most one answer of `parse_pre` but out of memory. A law; it does nothing.
+pub fn one_pre_answer()
+    ensures { OnePreAnswer }
 {}

@@ -1,13 +1,14 @@
 //! Programs.
 ghost use Rattle.std.specs.Prelude.{◌≡◌, ◌<◌, ◌≤◌, ◌^◌, length, IfOk, OnOk};
 ghost use Rattle.std.specs.List.{All};
-ghost use Rattle.c_parse.specs.Answers.{Answers, earlier, is_long, long_function, long_prototype, too_many};
+ghost use Rattle.c_parse.specs.Answers.{Answers, OneAnswer, earlier, is_long, long_function, long_prototype, too_many};
 ghost use Rattle.c_parse.specs.Names.{IsNamed};
 ghost use Rattle.c_parse.specs.Programs.{OneProgram};
 ghost use Rattle.c_parse.specs.Readers.{ReadsAll, added};
 
 use crate::error::ParseEnd;
 use crate::external::external;
+use crate::fault::syntax_error;
 use crate::read::ReadProgram;
 use c_ast::{Function, Program, Prototype};
 use c_expr::too_deep;
@@ -23,9 +24,11 @@ const MAX_PARAMETERS: usize = 16;
 ///
 /// Refused, in this order: `TooDeep` at the first `(` or `{` where 200 brackets are open already (a
 /// closing one lowers the count if it is above 0); `Syntax` where the tokens spell no program whose
-/// statements are at most 200 high; `TooManyParams` at the name of the first function or prototype
-/// with more than 16 parameters. The grammar is a part of that of ISO/IEC 9899:1999, 6.5, 6.8 and
-/// 6.9.1.
+/// statements are at most 200 high: at the first token with which they begin no program of any
+/// height, or at the number of tokens where all of them begin one; where they spell one, at the first
+/// token of the first statement of a function's body that is too high, in a list of declarations at
+/// its `int`. Last `TooManyParams` at the name of the first function or prototype with more than 16
+/// parameters. The grammar is a part of that of ISO/IEC 9899:1999, 6.5, 6.8 and 6.9.1.
 ///
 /// The clause `named` speaks of each function's own name, its parameters and the variables of its
 /// body. It leaves out the names of the functions that are called, and those of prototypes; the
@@ -41,7 +44,7 @@ pub fn parse(alloc: Global, tokens: &[Token]) -> Result<Program, ParseEnd>
     }
     match program(alloc, tokens) {
         Err(_) => Err(ParseEnd::NoMemory),
-        Ok(ReadProgram::Stopped(token)) => Err(ParseEnd::Syntax { token }),
+        Ok(ReadProgram::Stopped(at)) => Err(syntax_error(alloc, tokens, at)),
         Ok(ReadProgram::Spelled(program)) => match too_many(&program) {
             Some(token) => Err(ParseEnd::TooManyParams { token }),
             None => Ok(program),
@@ -116,7 +119,7 @@ fn program(alloc: Global, tokens: &[Token]) -> Result<ReadProgram, NoMemory>
     let mut at = 0;
     while at < tokens.len() {
         let Some(read) = external(alloc, tokens, at)? else {
-            return Ok(ReadProgram::Stopped(at as u32));
+            return Ok(ReadProgram::Stopped(at));
         };
         add(&mut program, read.value)?;
         at = read.end;
@@ -139,4 +142,9 @@ fn add(program: &mut Program, external: External) -> Result<(), NoMemory>
 /// does nothing.
 pub fn one_program()
     ensures { OneProgram }
+{}
+
+/// A list of tokens has at most one answer of `parse` but out of memory. A law; it does nothing.
+pub fn one_answer()
+    ensures { OneAnswer }
 {}

@@ -6,5 +6,5 @@ use c_ast::Program;
 #[derive(Drop)]
 pub enum ReadProgram {
     Spelled(Program),
-    Stopped(u32),
+    Stopped(usize),
 }

@@ -1,9 +1,9 @@
-use Rattle.c_front.proofs.OneCondition.{one_whole}
+use Rattle.c_front.proofs.OneCondition.{one_compared}
 use Rattle.c_front.proofs.Readings.{front_of, reading_of}
 use Rattle.c_front.proofs.laws.a_text_has_one_answer.Goals as goal
 
 pub returns-clause-one : goal.returns-clause-one
-returns-clause-one c = one_whole
+returns-clause-one c = one_compared
 
 pub returns-clause-causes : goal.returns-clause-causes
 returns-clause-causes c = λ source first second x. (reading_of source first second x, front_of source first second x)

@@ -1,8 +1,11 @@
 use Rattle.std.proofs.Common.{length, Some, None}
 use Rattle.c_expr.specs.Readers.{Gives}
 use Rattle.c_parse.specs.Readers.{LowExternal}
-use Rattle.c_parse.proofs.Phrases.{collecting_goes, collecting_stops, collecting_ends}
+use Rattle.c_parse.proofs.Phrases.{collecting_begins, collecting_goes, collecting_stops, collecting_ends}
 use Rattle.c_parse.proofs.program.program.Goals as goal
+
+pub loop-at-init : goal.loop-at-init
+loop-at-init c = collecting_begins c.args.tokens.now _ c.new.ensures c.new-2.ensures
 
 pub returns-in_default : goal.returns-in_default
 returns-in_default c =
