@@ -1,5 +1,5 @@
 -- What comparisons over points are answered by: which statuses, and what a difference means.
-use Rattle.std.proofs.Common.{◌≡◌, ◌<◌, ◌≤◌, ◌∙◌, ℕ, ℤ, Bool, true, false, List, length, nat_lt, inl, inr, refl, sym, ap, arith}
+use Rattle.std.proofs.Common.{◌≡◌, ◌<◌, ◌≤◌, ◌∙◌, ℕ, Bool, true, false, List, length, nat_lt, inl, inr, refl, sym, ap, arith}
 use Rattle.std.proofs.lemmas.Bool.{le-ltb, lt-ltb}
 use Rattle.std.specs.Prelude.{MatchBool}
 use Rattle.c_front.specs.declared.pairs.Compared.{Compared}
@@ -17,7 +17,6 @@ use Rattle.rx_cli.specs.declared.verdicts.Verdict.TheVariants as Said
 use Rattle.rx_cli.specs.Ends.{found_status, status_in, status_of}
 use Rattle.rx_cli.specs.Questions.{front_stage}
 use Rattle.rx_cli.specs.Refutations.{IsFound, IsRefuted, OnPoints, Refutes, arity_in, most_points, points_in}
-use Rattle.rx_cli.specs.Verdicts.{verdict_of}
 use Rattle.rx_cli.proofs.Checked.{status_refused}
 use Rattle.rx_cli.proofs.Refuted.{difference_refutes}
 

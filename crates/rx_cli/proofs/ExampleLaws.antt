@@ -1,5 +1,5 @@
 -- Where all examples are proved, the functions of each agree.
-use Rattle.std.proofs.Common.{◌≡◌, ◌<◌, ◌≤◌, ◌+◌, ◌∙◌, ◌⊎◌, ℕ, zero, suc, Bool, true, false, List, inl, inr, refl, sym, ap, subst, arith}
+use Rattle.std.proofs.Common.{◌≡◌, ◌<◌, ◌≤◌, ◌+◌, ◌∙◌, ◌⊎◌, ℕ, zero, suc, Bool, true, false, inl, inr, refl, sym, ap, subst, arith}
 use Rattle.std.specs.Prelude.{◌==◌, if◌then◌else◌}
 use Rattle.std.proofs.Math.Nat.{eq-or-lt_of_le}
 use Rattle.std.proofs.lemmas.Bool.{eqb-true}
@@ -11,7 +11,7 @@ use Rattle.rx_cli.specs.declared.verdicts.Verdict.TheVariants as Said
 use Rattle.rx_cli.specs.Agreement.{Agrees}
 use Rattle.rx_cli.specs.Answers.{ExamplesAgree}
 use Rattle.rx_cli.specs.Ends.{status_of}
-use Rattle.rx_cli.specs.Examples.{IsShown, IsStatus, IsTally, example_effort, example_functions, example_source, verdict_on, with_status}
+use Rattle.rx_cli.specs.Examples.{IsShown, IsStatus, IsTally, example_effort, example_functions, example_source, with_status}
 use Rattle.rx_cli.proofs.Proved.{proved_agrees}
 
 -- a status counts where it is that of equivalence alone

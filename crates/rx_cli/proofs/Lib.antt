@@ -2,9 +2,11 @@ pub mod AnswerLemmas
 pub mod Asked
 pub mod Checked
 pub mod Comparisons
+pub mod Complete
 pub mod Equals
 pub mod ExampleLaws
 pub mod LogFaults
+pub mod LogFileVerdicts
 pub mod MemoryLemmas
 pub mod OneReport
 pub mod Proved

@@ -75,9 +75,9 @@ read_fault_absent names read_fault write_fault words old new status (inr (inl (i
 read_fault_absent names read_fault write_fault words old new status (inr (inr (is, fault, cut))) works e = let no : ⊥ = cc in absurd no
 
 -- where a put falls short only at the end of the room, a write fault says that the report is longer than it
-pub write_fault_long : (names : Names) (read_fault write_fault : Type 0) (words : List (List ℕ)) (old new : Option (List ℕ)) (status : Status) (room : ℕ) → RunEnds (Some names) read_fault write_fault words old new status
-    → (read_fault → ⊥) → ((text : List ℕ) → write_fault → AppendsPrefix old new text → room < length text) → status ≡ Ends.WriteFault → IsTooLong names words room
+pub write_fault_long : (names : Names) (read_fault write_fault : Type 0) (words : List (List ℕ)) (old new : List ℕ) (status : Status) (room : ℕ) → RunEnds (Some names) read_fault write_fault words (Some old) (Some new) status
+    → (read_fault → ⊥) → ((text : List ℕ) → write_fault → AppendsPrefix (Some old) (Some new) text → room < length text) → status ≡ Ends.WriteFault → IsTooLong names words old new room
 write_fault_long names read_fault write_fault words old new status room (inl (text, (answer, answered, (is, said)), put)) works full e = absurd (never_cut answer (sym is ∙ e))
 write_fault_long names read_fault write_fault words old new status room (inr (inl (is, kept))) works full e = let no : ⊥ = cc in absurd no
 write_fault_long names read_fault write_fault words old new status room (inr (inr (is, fault, (meant, text, reports, put)))) works full e =
-    (meant, text, held_reports names read_fault words meant text works reports, full text fault put)
+    (meant, text, held_reports names read_fault words meant text works reports, full text fault put, put)

@@ -1,15 +1,10 @@
--- Words have one report, but for what shows the steps of a proof, over files whose contents are told and that find no fault.
+-- Words have one verdict, and one report but for what shows the steps of a proof, over files whose contents are told and that find no fault.
 use Rattle.std.proofs.Common.{◌≡◌, ◌∙◌, ◌⊎◌, ℕ, zero, suc, Bool, true, false, List, length, nat_lt, Option, Some, None, inl, inr, refl, sym, ap, subst}
-use Rattle.std.specs.Prelude.{MatchBool}
-use Rattle.c_front.specs.declared.refusals.Refusal.{Refusal}
-use Rattle.c_front.specs.declared.refusals.Refusal.TheVariants as Why
+use Rattle.std.specs.Prelude.{MatchBool, ⊤}
 use Rattle.c_front.specs.declared.stages.Next.TheVariants.{Ends, Goes}
-use Rattle.c_front.specs.FrontEnd.{AreSyntax, IsSameRefusal}
-use Rattle.c_front.specs.Stages.{IsOne}
 use Rattle.c_front.proofs.OneCondition.{one_whole}
-use Rattle.c_front.proofs.StageLaws.{one_before}
+use Rattle.c_front.proofs.StageLaws.{IsOne, one_before}
 use Rattle.c_front.specs.Front.{count_in}
-use Rattle.c_parse.specs.declared.error.ParseEnd.TheVariants as Flaw
 use Rattle.rx_check.proofs.Pairs.{one_verdict}
 use Rattle.rx_code.specs.Translation.{goal_at}
 use Rattle.rx_code_laws.proofs.Translations.{not_beyond, one_translation, translation_made}
@@ -22,7 +17,7 @@ use Rattle.rx_search.specs.Search.{Searched, NoRanks, Closed, Large, Spent, NoPl
 use Rattle.rx_settle.specs.Moves.{Move}
 use Rattle.rx_term.specs.WellMade.{IsWellMade}
 use Rattle.rx_cli.specs.declared.answers.Answer.{Answer}
-use Rattle.rx_cli.specs.declared.answers.Answer.TheVariants.{Line, Found}
+use Rattle.rx_cli.specs.declared.answers.Answer.TheVariants.{Line, Proof, Found}
 use Rattle.rx_cli.specs.declared.ends.Status.{Status}
 use Rattle.rx_cli.specs.declared.ends.Status.TheVariants as Ends
 use Rattle.rx_cli.specs.declared.questions.Question.{Question}
@@ -30,7 +25,7 @@ use Rattle.rx_cli.specs.declared.verdicts.Verdict.{Verdict}
 use Rattle.rx_cli.specs.declared.verdicts.Verdict.TheVariants as Said
 use Rattle.rx_cli.specs.Answers.{IsAnswerTo, IsDone, OnSource, functions_in, longest_source, text_in}
 use Rattle.rx_cli.specs.Checks.{IsChecked, OnLog, OnRead, OnText, longest_log}
-use Rattle.rx_cli.specs.Ends.{status_in, status_of}
+use Rattle.rx_cli.specs.Ends.{status_in}
 use Rattle.c_front.specs.declared.pairs.Compared.{Compared}
 use Rattle.c_refute.proofs.OneComparison.{one_comparison}
 use Rattle.c_refute.specs.Points.{finding_at}
@@ -41,55 +36,51 @@ use Rattle.rx_cli.specs.declared.examples.Tally.{Tally}
 use Rattle.rx_cli.specs.Questions.{asked, front_stage, question_stage, rows_of}
 use Rattle.rx_cli.specs.Run.{Reports}
 use Rattle.rx_cli.specs.Proofs.{AreOne, AreProofs, IsProofText, IsProved, OnQuestion, OnSearched}
-use Rattle.rx_cli.specs.Texts.{text_of}
 use Rattle.rx_cli.specs.Verdicts.{of_log_verdict, verdict_of}
-use Rattle.rx_cli.proofs.Checked.{status_refused}
 use Rattle.rx_cli.proofs.Ready.{ready}
 
--- two verdicts are reported alike
-abbrev pub SameLine : Verdict → Verdict → Type 0
-SameLine v w = (status_of v ≡ status_of w) × (text_of v ≡ text_of w)
+-- two verdicts that are equal to one
+equal_verdicts : (v w x : Verdict) → v ≡ x → w ≡ x → v ≡ w
+equal_verdicts v w x v_is w_is = v_is ∙ sym w_is
 
-same_line : (v w : Verdict) → v ≡ w → SameLine v w
-same_line v w is = (ap status_of is, ap text_of is)
+-- it is a proof
+abbrev IsProof : Answer → Type 0
+IsProof (Line verdict) = ⊥
+IsProof (Proof text) = ⊤
+IsProof (Found found) = ⊥
 
--- so are those that they are equal to
-line_of : (v w x y : Verdict) → v ≡ x → w ≡ y → SameLine x y → SameLine v w
-line_of v w x y v_is w_is same = (ap status_of v_is ∙ (same.0 ∙ sym (ap status_of w_is)), ap text_of v_is ∙ (same.1 ∙ sym (ap text_of w_is)))
+proof_status : (a : Answer) → IsProof a → status_in a ≡ Ends.Equivalent
+proof_status (Line verdict) is = absurd is
+proof_status (Proof text) is = refl
+proof_status (Found found) is = absurd is
 
-equal_lines : (v w x : Verdict) → v ≡ x → w ≡ x → SameLine v w
-equal_lines v w x v_is w_is = same_line v w (v_is ∙ sym w_is)
-
--- two answers have one status, and one text but for proofs of which this holds
+-- two answers are one, but for proofs of which this holds
 abbrev AreAlike : Type 0 → Answer → Answer → Type 0
-AreAlike Twice a b = (status_in a ≡ status_in b) × ((text_in a ≡ text_in b) ⊎ ((status_in a ≡ Ends.Equivalent) × Twice))
+AreAlike Twice a b = (a ≡ b) ⊎ (IsProof a × (IsProof b × Twice))
 
 alike_if : (P Q : Type 0) (a b : Answer) → (P → Q) → AreAlike P a b → AreAlike Q a b
-alike_if P Q a b then_so (same, inl is) = (same, inl is)
-alike_if P Q a b then_so (same, inr (equivalent, p)) = (same, inr (equivalent, then_so p))
+alike_if P Q a b then_so (inl is) = inl is
+alike_if P Q a b then_so (inr (first, (second, p))) = inr (first, (second, then_so p))
+
+alike_status : (P : Type 0) (a b : Answer) → AreAlike P a b → status_in a ≡ status_in b
+alike_status P a b (inl is) = ap status_in is
+alike_status P a b (inr (first, (second, p))) = proof_status a first ∙ sym (proof_status b second)
+
+alike_verdicts : (P : Type 0) (v w : Verdict) → AreAlike P (Line v) (Line w) → v ≡ w
+alike_verdicts P v w (inl is) = cc
+alike_verdicts P v w (inr (first, both)) = absurd first
 
 equal_answers : (P : Type 0) (a b c : Answer) → a ≡ c → b ≡ c → AreAlike P a b
-equal_answers P a b c a_is b_is = (ap status_in a_is ∙ sym (ap status_in b_is), inl (ap text_in a_is ∙ sym (ap text_in b_is)))
+equal_answers P a b c a_is b_is = inl (a_is ∙ sym b_is)
 
-alike_lines : (P : Type 0) (a b : Answer) (v w : Verdict) → a ≡ Line v → b ≡ Line w → SameLine v w → AreAlike P a b
-alike_lines P a b v w a_is b_is same =
-    (ap status_in a_is ∙ (same.0 ∙ sym (ap status_in b_is)), inl (ap text_in a_is ∙ (same.1 ∙ sym (ap text_in b_is))))
+alike_lines : (P : Type 0) (a b : Answer) (v w : Verdict) → a ≡ Line v → b ≡ Line w → v ≡ w → AreAlike P a b
+alike_lines P a b v w a_is b_is same = inl (a_is ∙ (ap (λ (verdict : Verdict). Line verdict) same ∙ sym b_is))
 
 -- ---- stages
 
--- syntax errors have one line
-syntax_line : (r s : Refusal) → AreSyntax r s → text_of (verdict_of r) ≡ text_of (verdict_of s)
-syntax_line (Why.Parse (Flaw.Syntax t)) (Why.Parse (Flaw.Syntax u)) are = refl
-syntax_line (Why.PreParse (Flaw.Syntax t)) (Why.PreParse (Flaw.Syntax u)) are = refl
-syntax_line _ _ are = absurd are
-
-refusal_line : (r s : Refusal) → IsSameRefusal r s → SameLine (verdict_of r) (verdict_of s)
-refusal_line r s (inl same) = same_line (verdict_of r) (verdict_of s) (ap verdict_of same)
-refusal_line r s (inr are) = (status_refused r ∙ sym (status_refused s), syntax_line r s are)
-
-one_front_stage : (f : Functions) → IsOne SameLine (front_stage f)
+one_front_stage : (f : Functions) → IsOne (front_stage f)
 one_front_stage f source (Ends v) (Ends w) (r, p, v_is) (s, q, w_is) =
-    line_of v w (verdict_of r) (verdict_of s) v_is w_is (refusal_line r s (one_whole source f.first f.second f.precondition (Ends r) (Ends s) p q))
+    v_is ∙ (ap verdict_of (one_whole source f.first f.second f.precondition (Ends r) (Ends s) p q) ∙ sym w_is)
 one_front_stage f source (Ends v) (Goes c) (r, p, v_is) q = one_whole source f.first f.second f.precondition (Ends r) (Goes c) p q
 one_front_stage f source (Goes c) (Ends w) p (s, q, w_is) = one_whole source f.first f.second f.precondition (Goes c) (Ends s) p q
 one_front_stage f source (Goes c) (Goes d) p q = one_whole source f.first f.second f.precondition (Goes c) (Goes d) p q
@@ -97,11 +88,11 @@ one_front_stage f source (Goes c) (Goes d) p q = one_whole source f.first f.seco
 no_both : (b : Bool) → b ≡ true → b ≡ false → ⊥
 no_both b holds fails = let e : true ≡ false = sym holds ∙ fails in cc
 
-one_question : IsOne SameLine question_stage
-one_question c (Ends v) (Ends w) (inl (beyond, v_is)) (inl (again, w_is)) = equal_lines v w Said.LargeTranslate v_is w_is
+one_question : IsOne question_stage
+one_question c (Ends v) (Ends w) (inl (beyond, v_is)) (inl (again, w_is)) = equal_verdicts v w Said.LargeTranslate v_is w_is
 one_question c (Ends v) (Ends w) (inl (beyond, v_is)) (inr (t, within, w_is)) = absurd (not_beyond c.two.program c.two.first c.two.second t.rules t.first t.second t.is beyond)
 one_question c (Ends v) (Ends w) (inr (t, within, v_is)) (inl (beyond, w_is)) = absurd (not_beyond c.two.program c.two.first c.two.second t.rules t.first t.second t.is beyond)
-one_question c (Ends v) (Ends w) (inr (t, within, v_is)) (inr (u, again, w_is)) = equal_lines v w Said.LargePre v_is w_is
+one_question c (Ends v) (Ends w) (inr (t, within, v_is)) (inr (u, again, w_is)) = equal_verdicts v w Said.LargePre v_is w_is
 one_question c (Ends v) (Goes q) (inl (beyond, v_is)) is = not_beyond c.two.program c.two.first c.two.second q.rules is.first is.second is.translated beyond
 one_question c (Ends v) (Goes q) (inr (t, beyond, v_is)) is = no_both (rows_of c.precondition).within is.within beyond
 one_question c (Goes q) (Ends w) is (inl (beyond, w_is)) = not_beyond c.two.program c.two.first c.two.second q.rules is.first is.second is.translated beyond
@@ -112,8 +103,8 @@ one_question c (Goes q) (Goes r) is too =
     ∙ ((λ i. goal_at (same.first_same i) (same.second_same i) (count_in c.two.program c.two.first) (rows_of c.precondition).form) ∙ sym too.goal) in
     λ i. record { rules = same.parts_same i; goal = goals i }
 
-one_asked : (f : Functions) → IsOne SameLine (asked f)
-one_asked f = one_before SameLine (front_stage f) question_stage (one_front_stage f) one_question
+pub one_asked : (f : Functions) → IsOne (asked f)
+one_asked f = one_before (front_stage f) question_stage (one_front_stage f) one_question
 
 -- ---- logs
 
@@ -123,27 +114,27 @@ question_made f source question (c, front, is) =
     translation_made c.two.program (ready source f.first f.second f.precondition c front).scoped c.two.first c.two.second question.rules is.first is.second is.translated
 
 module _ (question : Question) (made : IsWellMade question.rules) (v w : Verdict) where
-  one_on_log : (log : Log) → OnLog question log v → OnLog question log w → SameLine v w
+  one_on_log : (log : Log) → OnLog question log v → OnLog question log w → v ≡ w
   one_on_log log (said, has, v_is) (other, too, w_is) =
       let (verdict, is, only) = one_verdict question.rules question.goal log made in
       let same : said ≡ other = only said has ∙ sym (only other too) in
-      same_line v w (v_is ∙ (ap of_log_verdict same ∙ sym w_is))
+      v_is ∙ (ap of_log_verdict same ∙ sym w_is)
 
-  one_on_text : (bytes : List ℕ) → OnText question bytes v → OnText question bytes w → SameLine v w
-  one_on_text bytes (inl (m, bad, v_is)) (inl (n, too, w_is)) = same_line v w (v_is ∙ (ap Said.Line (one_bad_line bytes m n bad too) ∙ sym w_is))
+  one_on_text : (bytes : List ℕ) → OnText question bytes v → OnText question bytes w → v ≡ w
+  one_on_text bytes (inl (m, bad, v_is)) (inl (n, too, w_is)) = v_is ∙ (ap Said.Line (one_bad_line bytes m n bad too) ∙ sym w_is)
   one_on_text bytes (inl (m, bad, v_is)) (inr (log, read, on)) = absurd (never_both bytes log m read bad)
   one_on_text bytes (inr (log, read, on)) (inl (n, bad, w_is)) = absurd (never_both bytes log n read bad)
   one_on_text bytes (inr (log, read, on)) (inr (other, again, too)) = one_on_log other (subst (λ l. OnLog question l v) (one_log bytes log other read again) on) too
 
-  one_by_length : (bytes : List ℕ) (long : Bool) → MatchBool long (v ≡ Said.LongLog) (OnText question bytes v) → MatchBool long (w ≡ Said.LongLog) (OnText question bytes w) → SameLine v w
-  one_by_length bytes true v_is w_is = equal_lines v w Said.LongLog v_is w_is
+  one_by_length : (bytes : List ℕ) (long : Bool) → MatchBool long (v ≡ Said.LongLog) (OnText question bytes v) → MatchBool long (w ≡ Said.LongLog) (OnText question bytes w) → v ≡ w
+  one_by_length bytes true v_is w_is = equal_verdicts v w Said.LongLog v_is w_is
   one_by_length bytes false on too = one_on_text bytes on too
 
-  one_on_read : (log : Option (List ℕ)) → OnRead question log v → OnRead question log w → SameLine v w
-  one_on_read None v_is w_is = equal_lines v w Said.ReadFault v_is w_is
+  one_on_read : (log : Option (List ℕ)) → OnRead question log v → OnRead question log w → v ≡ w
+  one_on_read None v_is w_is = equal_verdicts v w Said.ReadFault v_is w_is
   one_on_read (Some bytes) on too = one_by_length bytes (nat_lt longest_log (length bytes)) on too
 
-one_checked : (f : Functions) (source : List ℕ) (log : Option (List ℕ)) (v w : Verdict) → IsChecked f source log v → IsChecked f source log w → SameLine v w
+pub one_checked : (f : Functions) (source : List ℕ) (log : Option (List ℕ)) (v w : Verdict) → IsChecked f source log v → IsChecked f source log w → v ≡ w
 one_checked f source log v w (inl p) (inl q) = one_asked f source (Ends v) (Ends w) p q
 one_checked f source log v w (inl p) (inr (r, q, on)) = absurd (one_asked f source (Ends v) (Goes r) p q)
 one_checked f source log v w (inr (r, q, on)) (inl p) = absurd (one_asked f source (Goes r) (Ends w) q p)
@@ -169,10 +160,10 @@ module _ (f : Functions) (effort : Effort) (source : List ℕ) (a b : Answer) wh
   module _ (question : Question) (found : asked f source (Goes question)) where
     one_searched : (s : Searched) → searched question.rules question.goal effort.depth effort.budget ≡ s → OnSearched question effort s a → OnSearched question effort s b → AreAlike Proofs a b
     one_searched NoRanks comes a_is b_is = equal_answers Proofs a b (Line Said.NoRanks) a_is b_is
-    one_searched (Closed moves) comes (t, p, a_is) (v, q, b_is) = (
-      ap status_in a_is ∙ sym (ap status_in b_is),
-      inr (
-        ap status_in a_is,
+    one_searched (Closed moves) comes (t, p, a_is) (v, q, b_is) = inr (
+      subst IsProof (sym a_is) tt,
+      (
+        subst IsProof (sym b_is) tt,
         record {
           question = question;
           moves = moves;
@@ -219,7 +210,8 @@ module _ (f : Functions) (extent : Extent) (source : List ℕ) (a b : Answer) wh
 
 one_status_of : (k : ℕ) (s u : Status) → IsStatus k s → IsStatus k u → s ≡ u
 one_status_of k s u (a, p, s_is) (b, q, u_is) =
-    s_is ∙ ((one_proved example_functions example_effort (example_source k) a b p q).0 ∙ sym u_is)
+    let alike = one_proved example_functions example_effort (example_source k) a b p q in
+    s_is ∙ (alike_status (AreFound example_functions example_effort (example_source k) (text_in a) (text_in b)) a b alike ∙ sym u_is)
 
 one_tally : (k : ℕ) (t u : Tally) → IsTally k t → IsTally k u → t ≡ u
 one_tally zero t u t_is u_is = t_is ∙ sym u_is
@@ -260,7 +252,7 @@ module _ (a b : Answer) where
   one_on_source command (Some source) log p q = one_by_size command source log (nat_lt longest_source (length source)) p q
 
   one_shown : {P : Type 0} (pairs : ℕ) → (v : Verdict) × IsShown pairs v × (a ≡ Line v) → (w : Verdict) × IsShown pairs w × (b ≡ Line w) → AreAlike P a b
-  one_shown {P} pairs (v, p, a_is) (w, q, b_is) = alike_lines P a b v w a_is b_is (same_line v w (one_verdict_shown pairs v w p q))
+  one_shown {P} pairs (v, p, a_is) (w, q, b_is) = alike_lines P a b v w a_is b_is (one_verdict_shown pairs v w p q)
 
   -- what is read for a command is what the names hold
   module _ (names : Names) where
@@ -319,14 +311,15 @@ asks_proof names words t v (Refute f extent, asks, (source, held, never)) = absu
 
 module _ (names : Names) (words : List (List ℕ)) (s u : Status) (t v : List ℕ) where
   one_text : (a b : Answer) → s ≡ status_in a → t ≡ text_in a → v ≡ text_in b → AreAlike (AreProofsIn names (command_of words) (text_in a) (text_in b)) a b → AreOne names words s t v
-  one_text a b is_s is_t is_v (same, inl is) = inl (is_t ∙ (is ∙ sym is_v))
-  one_text a b is_s is_t is_v (same, inr (equivalent, proofs)) =
-      inr (is_s ∙ equivalent, asks_proof names words t v (subst (λ z. AreProofsIn names (command_of words) t z) (sym is_v) (subst (λ z. AreProofsIn names (command_of words) z (text_in b)) (sym is_t) proofs)))
+  one_text a b is_s is_t is_v (inl is) = inl (is_t ∙ (ap text_in is ∙ sym is_v))
+  one_text a b is_s is_t is_v (inr (first, (second, proofs))) =
+      inr (is_s ∙ proof_status a first, asks_proof names words t v (subst (λ z. AreProofsIn names (command_of words) t z) (sym is_v) (subst (λ z. AreProofsIn names (command_of words) z (text_in b)) (sym is_t) proofs)))
 
   one_report : Reports (Some names) ⊥ words s t → Reports (Some names) ⊥ words u v → (s ≡ u) × AreOne names words s t v
   one_report (a, inl p, (is_s, is_t)) (b, inl q, (is_u, is_v)) =
       let both = one_answer a b names (command_of words) p q in
-      (is_s ∙ (both.0 ∙ sym is_u), one_text a b is_s is_t is_v both)
+      let statuses = alike_status (AreProofsIn names (command_of words) (text_in a) (text_in b)) a b both in
+      (is_s ∙ (statuses ∙ sym is_u), one_text a b is_s is_t is_v both)
   one_report (a, inl p, (is_s, is_t)) (b, inr (some, fault, line), (is_u, is_v)) = absurd fault
   one_report (a, inr (some, fault, line), (is_s, is_t)) (b, q, (is_u, is_v)) = absurd fault
 
@@ -336,3 +329,8 @@ one_status names words s u t v p q = (one_report names words s u t v p q).0
 
 pub one_for_words : (names : Names) (words : List (List ℕ)) (s u : Status) (t v : List ℕ) → Reports (Some names) ⊥ words s t → Reports (Some names) ⊥ words u v → AreOne names words s t v
 one_for_words names words s u t v p q = (one_report names words s u t v p q).1
+
+-- words have one verdict
+pub one_verdict_for_words : (names : Names) (words : List (List ℕ)) (v w : Verdict) → IsAnswerTo (Some names) (command_of words) (Line v) → IsAnswerTo (Some names) (command_of words) (Line w) → v ≡ w
+one_verdict_for_words names words v w p q =
+    alike_verdicts (AreProofsIn names (command_of words) (text_in (Line v)) (text_in (Line w))) v w (one_answer (Line v) (Line w) names (command_of words) p q)

@@ -25,7 +25,7 @@ use Rattle.rx_cli.specs.Texts.{text_of}
 use Rattle.rx_cli.proofs.Proved.{proved_text}
 
 -- a log that is accepted for a question is accepted by a check that reads its text
-written_accepted : (f : Functions) (source : List ℕ) (question : Question) (log : Log) (text : List ℕ) → asked f source (Goes question) → IsAccepted question.rules question.goal log → IsLog text log
+pub written_accepted : (f : Functions) (source : List ℕ) (question : Question) (log : Log) (text : List ℕ) → asked f source (Goes question) → IsAccepted question.rules question.goal log → IsLog text log
     → length text ≤ longest_log → IsChecked f source (Some text) Said.Equivalent
 written_accepted f source question log text found accepted is fits =
     let read : OnRead question (Some text) Said.Equivalent = rw (le-ltb longest_log (length text) fits) (inr (log, is, (Accepted, accepted, refl))) in

@@ -1,6 +1,6 @@
 -- Examples: pairs of a loop and a recursion that add up the multiples of a number, and what comes of searches for
 -- proofs that both return the same.
-use Rattle.std.specs.Prelude.{◌≡◌, ℕ, zero, suc, ◌+◌, Bool, true, false, if◌then◌else◌, None, List, [], ◌∷◌, ◌++◌, codes, ◌%◌}
+use Rattle.std.specs.Prelude.{◌≡◌, ℕ, zero, suc, ◌+◌, true, false, if◌then◌else◌, None, List, [], ◌∷◌, ◌++◌, codes, ◌%◌}
 use Rattle.rx_command.specs.Commands.{Functions}
 use Rattle.rx_command.specs.declared.command.Effort.{Effort}
 use Rattle.rx_cli.specs.declared.answers.Answer.{Answer}

@@ -1,6 +1,6 @@
 -- Why a run over memory whose lists are empty ends with a fault.
 use Rattle.std.specs.Prelude.{◌<◌, ℕ, Some, List, length}
-use Rattle.rx_io.specs.Outside.{Names}
+use Rattle.rx_io.specs.Outside.{AppendsPrefix, Names}
 use Rattle.rx_cli.specs.declared.ends.Status.{Status}
 use Rattle.rx_cli.specs.declared.ends.Status.TheVariants as Ends
 use Rattle.rx_cli.specs.Run.{Reports}
@@ -10,7 +10,8 @@ use Rattle.rx_cli.specs.Run.{Reports}
 abbrev pub IsAbsent : Names → List (List ℕ) → Type 0
 IsAbsent names words = (text : List ℕ) × Reports (Some names) ⊥ words Ends.ReadFault text
 
--- the report of what is held is longer than the room
-abbrev pub IsTooLong : Names → List (List ℕ) → ℕ → Type 0
-IsTooLong names words room =
-    (meant : Status) × (text : List ℕ) × Reports (Some names) ⊥ words meant text × (room < length text)
+-- the report of what is held is longer than the room, and a part of it was put
+abbrev pub IsTooLong : Names → List (List ℕ) → List ℕ → List ℕ → ℕ → Type 0
+IsTooLong names words old new room =
+    (meant : Status) × (text : List ℕ) × Reports (Some names) ⊥ words meant text
+    × (room < length text) × AppendsPrefix (Some old) (Some new) text

@@ -1,6 +1,7 @@
 pub mod Agreement
 pub mod Answers
 pub mod Checks
+pub mod Completeness
 pub mod Ends
 pub mod Examples
 pub mod InMemory

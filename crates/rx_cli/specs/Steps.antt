@@ -1,6 +1,6 @@
 -- What the functions inside promise to one another. Nothing that a caller of the run reads stands on
 -- these.
-use Rattle.std.specs.Prelude.{◌≡◌, ◌<◌, ◌≤◌, ◌^◌, ◌⊎◌, length, true, false, ⊤, ℕ, List, Option, Some, None, Vec, slice_get}
+use Rattle.std.specs.Prelude.{◌≡◌, ◌≢◌, ◌<◌, ◌≤◌, ◌^◌, ◌⊎◌, length, true, false, ⊤, ℕ, List, Option, Some, None, Vec, slice_get}
 use Rattle.c_ast.specs.declared.expr.Expr.{Expr}
 use Rattle.c_ast.specs.RowForms.{is_row_form}
 use Rattle.c_ast.specs.Scoped.{is_scoped, parameter_counts}
@@ -19,7 +19,11 @@ use Rattle.std.specs.declared.alloc.Global.{Global}
 use Rattle.rx_cli.specs.declared.verdicts.Verdict.{Verdict}
 use Rattle.rx_cli.specs.declared.verdicts.Verdict.TheVariants as Said
 use Rattle.rx_cli.specs.Answers.{IsHeld}
-use Rattle.rx_cli.specs.Checks.{IsChecked}
+use Rattle.rx_check.specs.declared.check_end.CheckEnd.TheVariants as check_end
+use Rattle.rx_logfile.specs.declared.file_end.FileEnd.{FileEnd}
+use Rattle.rx_logfile.specs.declared.file_end.FileEnd.TheVariants as file_end
+use Rattle.rx_cli.specs.declared.questions.Question.{Question}
+use Rattle.rx_cli.specs.Checks.{IsChecked, OnText, longest_log}
 use Rattle.rx_cli.specs.Texts.{HasLine}
 
 -- a precondition, where there is one, is a row form
@@ -85,6 +89,27 @@ Reads held fault name limit long (Goes bytes) = HoldsBytes held name bytes × (l
 Reads held fault name limit long (Ends verdict) =
     (HoldsMore held name limit × (verdict ≡ long))
     ⊎ ((fault ⊎ IsMissing held name) × (verdict ≡ Said.ReadFault))
+
+-- the verdict that names why the log in a file isn't accepted; out of memory has none
+abbrev pub SaysEndOfLog : FileEnd → Verdict → Type 0
+SaysEndOfLog file_end.Failed verdict = verdict ≡ Said.ReadFault
+SaysEndOfLog file_end.TooLong verdict = verdict ≡ Said.LongLog
+SaysEndOfLog (file_end.BadLine number) verdict = verdict ≡ Said.Line number
+SaysEndOfLog (file_end.Check end) verdict =
+    (verdict ≡ Said.Check end) × (end ≢ check_end.NoMemory)
+SaysEndOfLog file_end.NoMemory verdict = ⊥
+
+-- what is said of the bytes of a log, or why they can't be had
+abbrev pub OnNext : Question → Next Verdict (List ℕ) → Verdict → Type 0
+OnNext question (Ends end) verdict = verdict ≡ end
+OnNext question (Goes bytes) verdict = OnText question bytes verdict
+
+-- what is said of the log that is read under a name
+pub record ChecksRead (held : Option Names) (fault : Type 0) (name : List ℕ) (question : Question) (verdict : Verdict)
+    : Type 0 where
+  pub next : Next Verdict (List ℕ)
+  pub reads : Reads held fault name longest_log Said.LongLog next
+  pub on : OnNext question next verdict
 
 -- what is said of a text and a log that is read under a name, or that a call on the files found a fault
 abbrev pub ChecksNamed : Option Names → Type 0 → Functions → List ℕ → List ℕ → Verdict → Type 0

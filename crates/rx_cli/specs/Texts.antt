@@ -44,7 +44,7 @@ lex_line Fault.NoMemory = []
 -- the line of a source that spells no program within the limits; want of memory has none, and what is
 -- said of preconditions alone has none
 abbrev pub parse_line : ParseEnd → List ℕ
-parse_line (Flaw.Syntax token) = codes "REFUSED syntax\n"
+parse_line (Flaw.Syntax token) = place_line (codes "syntax") token
 parse_line (Flaw.TooDeep token) = place_line (codes "deep") token
 parse_line (Flaw.TooManyParams token) = place_line (codes "params") token
 parse_line Flaw.NoMemory = []
@@ -78,7 +78,7 @@ pre_lex_line Fault.NoMemory = []
 -- the line of a precondition that spells no row form within the limits; want of memory has none, and
 -- what is said of programs alone has none
 abbrev pub pre_parse_line : ParseEnd → List ℕ
-pre_parse_line (Flaw.Syntax token) = codes "REFUSED pre syntax\n"
+pre_parse_line (Flaw.Syntax token) = place_line (codes "pre syntax") token
 pre_parse_line (Flaw.TooDeep token) = place_line (codes "pre deep") token
 pre_parse_line Flaw.NotARowForm = codes "REFUSED pre not-row-form\n"
 pre_parse_line (Flaw.TooManyParams token) = []

@@ -9,7 +9,7 @@ ghost use Rattle.rx_cli.specs.Ends.{status_in};
 ghost use Rattle.rx_cli.specs.Steps.{ChecksNamed, HasLineNext, IsNotDeep, Reads, bytes_in};
 ghost use Rattle.rx_cli.specs.Texts.{HasLine};
 
-use crate::check::on_text;
+use crate::check::on_named;
 use crate::examples::show_examples;
 use crate::proving::prove;
 use crate::questions::ask;
@@ -72,9 +72,6 @@ impl Answer {
 /// The most bytes of a source.
 const LONGEST_SOURCE: u32 = 1_048_576;
 
-/// The most bytes of a log.
-const LONGEST_LOG: u32 = 67_108_864;
-
 /// The bytes of the named file, or why they can't be had: there are more than the limit, for which
 /// `long` is answered, or reading failed.
 fn read_within<F: Files>(
@@ -118,13 +115,9 @@ fn check_named<F: Files>(
         log.now) }
     ensures line { IfOk result HasLine }
 {
-    let question = match ask(alloc, source, functions)? {
-        Next::Ends(verdict) => return Ok(verdict),
-        Next::Goes(question) => question,
-    };
-    match read_within(alloc, files, log, LONGEST_LOG, Verdict::LongLog)? {
+    match ask(alloc, source, functions)? {
         Next::Ends(verdict) => Ok(verdict),
-        Next::Goes(bytes) => on_text(alloc, question, &bytes),
+        Next::Goes(question) => on_named(alloc, question, files, log),
     }
 }
 

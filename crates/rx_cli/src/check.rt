@@ -1,14 +1,14 @@
-//! The replay of the log of a proof.
-ghost use Rattle.std.specs.Prelude.{◌≡◌, ◌≢◌, IfOk, MatchOption};
-ghost use Rattle.rx_joins.specs.Goals.{IsFitting};
-ghost use Rattle.rx_cli.specs.Checks.{OnLog, OnText};
+//! The replay of the log of a proof, while it is read.
+ghost use Rattle.std.specs.Prelude.{◌≡◌, ◌≢◌, ◌≤◌, IfOk, MatchOption};
+ghost use Rattle.rx_io.specs.Outside.{Rose};
+ghost use Rattle.rx_cli.specs.Steps.{ChecksRead, SaysEndOfLog};
 ghost use Rattle.rx_cli.specs.Texts.{HasLine};
 
 use crate::Verdict;
 use crate::questions::Question;
-use rx_check::{CheckEnd, replay};
-use rx_log::Log;
-use rx_logtext::{LogEnd, read_log};
+use rx_check::CheckEnd;
+use rx_io::Files;
+use rx_logfile::{FileEnd, replay_file};
 use rx_plain::NoMemory;
 use std::alloc::Global;
 
@@ -28,31 +28,41 @@ fn verdict_on(end: CheckEnd) -> Option<Verdict>
     }
 }
 
-/// Replays a log for the rules and the goal.
-fn on_log(alloc: Global, question: Question, log: &Log) -> Result<Verdict, NoMemory>
-    requires { IsFitting question.rules question.goal }
-    ensures verdict { IfOk result (OnLog question log.now) }
-    ensures line { IfOk result HasLine }
+/// The verdict that names why the log in a file isn't accepted.
+fn verdict_on_file(end: FileEnd) -> Result<Verdict, NoMemory>
+    ensures { IfOk result (SaysEndOfLog end) }
 {
-    let Question { rules, goal } = question;
-    match replay(alloc, &rules, goal, log) {
-        Ok(()) => Ok(Verdict::Equivalent),
-        Err(end) => match verdict_on(end) {
+    match end {
+        FileEnd::Failed => Ok(Verdict::ReadFault),
+        FileEnd::TooLong => Ok(Verdict::LongLog),
+        FileEnd::BadLine { line } => Ok(Verdict::Line(line)),
+        FileEnd::Check(end) => match verdict_on(end) {
             Some(verdict) => Ok(verdict),
             None => Err(NoMemory),
         },
+        FileEnd::NoMemory => Err(NoMemory),
     }
 }
 
-/// Reads a log from its text, and replays it.
-pub fn on_text(alloc: Global, question: Question, bytes: &[u8]) -> Result<Verdict, NoMemory>
-    requires { IsFitting question.rules question.goal }
-    ensures verdict { IfOk result (OnText question bytes.now) }
+/// The most bytes of a log.
+const LONGEST_LOG: u32 = 67_108_864;
+
+/// What is said of the log that is read under a name; it is replayed while it is read.
+pub fn on_named<F: Files>(
+    alloc: Global,
+    question: Question,
+    files: &mut F,
+    name: &str,
+) -> Result<Verdict, NoMemory>
+    ensures reach { F.reaches files.old files.new }
+    ensures later { F.faults files.old ≤ F.faults files.new }
+    ensures verdict { IfOk result (ChecksRead (F.held files.old)
+        (Rose (F.faults files.old) (F.faults files.new)) name.now question) }
     ensures line { IfOk result HasLine }
 {
-    match read_log(alloc, bytes) {
-        Ok(log) => on_log(alloc, question, &log),
-        Err(LogEnd::BadLine { line }) => Ok(Verdict::Line(line)),
-        Err(LogEnd::TooDeep | LogEnd::OutOfRange | LogEnd::NoMemory) => Err(NoMemory),
+    let Question { rules, goal } = question;
+    match replay_file(alloc, &rules, goal, files, name, LONGEST_LOG) {
+        Ok(()) => Ok(Verdict::Equivalent),
+        Err(end) => verdict_on_file(end),
     }
 }

@@ -4,6 +4,7 @@ ghost use Rattle.rx_io.specs.MemoryFiles as kept;
 ghost use Rattle.rx_io.specs.MemorySink as sink;
 ghost use Rattle.rx_io.specs.Outside.{Rose};
 ghost use Rattle.rx_cli.specs.Answers.{AreEqual, IsRefutedBy};
+ghost use Rattle.rx_cli.specs.Completeness.{CanShow, SaysYes};
 ghost use Rattle.rx_cli.specs.InMemory.{IsAbsent, IsTooLong};
 ghost use Rattle.rx_cli.specs.Run.{RunEnds};
 
@@ -12,7 +13,8 @@ use rx_io::{MemoryFiles, MemorySink};
 use std::alloc::Global;
 
 /// Runs the program over memory in which no call is made to fail: then a read fault says that a file isn't held, and a
-/// write fault that the report is longer than the room left.
+/// write fault that the report is longer than the room left. What can be shown is answered by EQUIVALENT, unless there is no
+/// memory or no such room (`complete`).
 pub fn run_in_memory(
     alloc: Global,
     words: &[String],
@@ -26,7 +28,9 @@ pub fn run_in_memory(
     ensures sound { result ≡ Status.Equivalent → AreEqual (Some (kept.names_in files.old)) (map string_bytes words.now) }
     ensures different { result ≡ Status.Different → IsRefutedBy (Some (kept.names_in files.old)) (map string_bytes words.now) }
     ensures read { result ≡ Status.ReadFault → IsAbsent (kept.names_in files.old) (map string_bytes words.now) }
-    ensures write { result ≡ Status.WriteFault → IsTooLong (kept.names_in files.old) (map string_bytes words.now) (sink.room_left out.old) }
+    ensures write { result ≡ Status.WriteFault → IsTooLong (kept.names_in files.old) (map string_bytes words.now) (sink.put_in out.old) (sink.put_in out.new) (sink.room_left out.old) }
+    ensures complete { CanShow (kept.names_in files.old) (map string_bytes words.now) →
+        SaysYes ⊥ (IsTooLong (kept.names_in files.old) (map string_bytes words.now) (sink.put_in out.old) (sink.put_in out.new) (sink.room_left out.old)) result }
 {
     run(alloc, words, files, out)
 }

@@ -5,8 +5,11 @@ ghost use Rattle.rx_command.specs.declared.command.Effort.{Effort};
 ghost use Rattle.rx_io.specs.Outside.{Names};
 ghost use Rattle.rx_cli.specs.declared.ends.Status.{Status};
 ghost use Rattle.rx_cli.specs.declared.ends.Status.TheVariants as ends;
+ghost use Rattle.rx_cli.specs.declared.answers.Answer.TheVariants as answer;
+ghost use Rattle.rx_cli.specs.declared.verdicts.Verdict.{Verdict};
 ghost use Rattle.rx_cli.specs.declared.verdicts.Verdict.TheVariants as said;
 ghost use Rattle.rx_cli.specs.Agreement.{Agrees};
+ghost use Rattle.rx_cli.specs.Answers.{IsAnswerTo};
 ghost use Rattle.rx_cli.specs.Checks.{longest_log};
 ghost use Rattle.rx_cli.specs.Proofs.{AreOne};
 ghost use Rattle.rx_cli.specs.Refutations.{Refutes};
@@ -14,13 +17,16 @@ ghost use Rattle.rx_cli.specs.Run.{Reports};
 ghost use Rattle.rx_cli.specs.Texts.{text_of};
 
 /// Over files whose contents are told, and of which no call finds a fault, words have one status
-/// (`status`), and one text to be put, but for proofs: what shows the steps of a proof is free, so two of
-/// them may differ, but both are logs with the same moves that are accepted for the same question
-/// (`text`). So `run`'s clauses determine its report there: each answer comes exactly where its cause
-/// holds. A law; it does nothing.
+/// (`status`), one verdict at most (`verdict`), and one text to be put, but for proofs: what shows the
+/// steps of a proof is free, so two of them may differ, but both are logs with the same moves that are
+/// accepted for the same question (`text`). So `run`'s clauses determine its report there: each answer
+/// comes exactly where its cause holds. A law; it does nothing.
 pub fn words_have_one_report()
     ensures status { (names : Names) (words : List (List ℕ)) (s u : Status) (t v : List ℕ) →
         Reports (Some names) ⊥ words s t → Reports (Some names) ⊥ words u v → s ≡ u }
+    ensures verdict { (names : Names) (words : List (List ℕ)) (v w : Verdict) →
+        IsAnswerTo (Some names) (command_of words) (answer.Line v) →
+        IsAnswerTo (Some names) (command_of words) (answer.Line w) → v ≡ w }
     ensures text { (names : Names) (words : List (List ℕ)) (s u : Status) (t v : List ℕ) →
         Reports (Some names) ⊥ words s t → Reports (Some names) ⊥ words u v →
         AreOne names words s t v }

@@ -21,7 +21,7 @@ use rx_cert::Cert;
 use rx_command::{Effort, Functions};
 use rx_fm::FmEnd;
 use rx_log::Log;
-use rx_logtext::{LogEnd, write_log};
+use rx_logwriting::{LogEnd, write_log};
 use rx_plain::{Items, NoMemory};
 use rx_row::Constraint;
 use rx_search::{Search, SearchEnd};

@@ -33,7 +33,7 @@ pub fn parse_line(alloc: Global, end: ParseEnd) -> Result<String, AllocError>
     ensures { IfOk result (λ line. string_bytes line ≡ spec.parse_line end) }
 {
     match end {
-        ParseEnd::Syntax { token: _ } => String::from_str(alloc, "REFUSED syntax\n"),
+        ParseEnd::Syntax { token } => place_line(alloc, "syntax", token),
         ParseEnd::TooDeep { token } => place_line(alloc, "deep", token),
         ParseEnd::TooManyParams { token } => place_line(alloc, "params", token),
         ParseEnd::NoMemory | ParseEnd::NotARowForm => Ok(String::new(alloc)),
@@ -82,7 +82,7 @@ pub fn pre_parse_line(alloc: Global, end: ParseEnd) -> Result<String, AllocError
     ensures { IfOk result (λ line. string_bytes line ≡ spec.pre_parse_line end) }
 {
     match end {
-        ParseEnd::Syntax { token: _ } => String::from_str(alloc, "REFUSED pre syntax\n"),
+        ParseEnd::Syntax { token } => place_line(alloc, "pre syntax", token),
         ParseEnd::TooDeep { token } => place_line(alloc, "pre deep", token),
         ParseEnd::NotARowForm => String::from_str(alloc, "REFUSED pre not-row-form\n"),
         ParseEnd::TooManyParams { token: _ } | ParseEnd::NoMemory => Ok(String::new(alloc)),
