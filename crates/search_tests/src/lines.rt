@@ -2,7 +2,7 @@
 use crate::answer::is_wanted;
 use crate::printing::translation_text;
 use crate::set_calls::translation_of;
-use crate::{search_calls, state_cases};
+use crate::{search_calls, solve_calls, state_cases};
 use rx_term::RuleSet;
 use rx_translate::{TranslateEnd, Translation};
 use std::alloc::Global;
@@ -38,6 +38,15 @@ impl Lines {
         Some(text.as_slice() == wanted.as_bytes())
     }
 
+    // Whether the refuter's call answers this.
+    fn is_solved(alloc: Global, call: &str, given: &str, wanted: &str) -> Option<bool> {
+        let answer = match call {
+            "refutes" => solve_calls::refuted(alloc, given)?,
+            _ => solve_calls::entailed(alloc, given)?,
+        };
+        Some(is_wanted(&answer, wanted))
+    }
+
     // Whether the call on the rule set that was kept answers this.
     fn is_answered(&self, alloc: Global, call: &str, given: &str, wanted: &str) -> Option<bool> {
         let rules = self.rules.as_ref()?;
@@ -52,6 +61,7 @@ impl Lines {
         match call {
             "state" => Some(state_cases::holds(alloc, given)? == (wanted == "yes")),
             "rules" => self.take_rules(alloc, given, wanted),
+            "refutes" | "entails" => Lines::is_solved(alloc, call, given, wanted),
             _ => self.is_answered(alloc, call, given, wanted),
         }
     }

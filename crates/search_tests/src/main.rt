@@ -10,12 +10,16 @@
 
 mod answer;
 mod lines;
+mod log_calls;
 mod parts;
 mod printing;
 mod reading;
+mod running;
 mod search_calls;
 mod set_calls;
+mod solve_calls;
 mod state_cases;
+mod words;
 
 use crate::lines::Lines;
 use std::io::{self, BufRead, BufReader};

@@ -5,8 +5,10 @@ ghost use Rattle.std.specs.List.{All};
 ghost use Rattle.rx_pairs.specs.Pairs.{SidesFit};
 
 use crate::answer::{Answer, ended, written};
+use crate::log_calls::{covered, lowered};
 use crate::printing::{cover_text, lemma_text, lemmas_text, substitution_text, table_text};
 use crate::reading::{equation, place, rule, rules};
+use crate::running::ran;
 use rx_coverable::find_cover;
 use rx_fm::FmEnd;
 use rx_generalise::{lemmas, named};
@@ -108,6 +110,9 @@ fn lemmas_of(alloc: Global, set: &RuleSet, goal: &str) -> Option<Answer> {
 pub fn answer_to(alloc: Global, set: &RuleSet, call: &str, given: &str) -> Option<Answer> {
     match call {
         "cover" => cover(alloc, set),
+        "covers" => covered(alloc, set, given),
+        "decreases" => lowered(alloc, set, given),
+        "runs" => ran(alloc, set, given),
         "ranks" => ranks(alloc, set, given),
         "use" => use_of(alloc, given),
         "named" => naming(alloc, set, given),

@@ -1,0 +1,114 @@
+//! A text as words, one behind the other: numbers, polynomials, certificates, trees, and lists after
+//! the number of their elements.
+use rx_cert::Cert;
+use rx_cover::CoverTree;
+use rx_pairs::{PairCert, RankTable};
+use rx_plain::Items;
+use rx_poly::Poly;
+use rx_text::{read_poly, skip_word};
+use rx_tree_words::read_tree;
+use rx_words::{read_certs, read_number};
+use std::alloc::Global;
+
+/// A place in a text.
+#[derive(Drop)]
+pub struct Words<'a> {
+    alloc: Global,
+    text: &'a [u8],
+    at: usize,
+}
+
+impl<'a> Words<'a> {
+    /// The beginning of the text.
+    pub fn new(alloc: Global, text: &'a str) -> Words<'a> {
+        Words {
+            alloc,
+            text: text.as_bytes(),
+            at: 0,
+        }
+    }
+
+    // Where the next word begins: behind a space, but for the first.
+    fn next(&self) -> Option<usize> {
+        if self.at == 0 {
+            Some(0)
+        } else {
+            skip_word(self.text, self.at, b" ")
+        }
+    }
+
+    fn number(&mut self) -> Option<u32> {
+        let (number, end) = read_number(self.text, self.next()?)?;
+        self.at = end;
+        Some(number)
+    }
+
+    fn poly(&mut self) -> Option<Poly> {
+        let (poly, end) = read_poly(self.alloc, self.text, self.next()?).ok()??;
+        self.at = end;
+        Some(poly)
+    }
+
+    fn tree(&mut self) -> Option<CoverTree> {
+        let (tree, end) = read_tree(self.alloc, self.text, self.next()?).ok()??;
+        self.at = end;
+        Some(tree)
+    }
+
+    fn certs(&mut self) -> Option<Items<Cert>> {
+        let (certs, end) = read_certs(self.alloc, self.text, self.next()?).ok()??;
+        self.at = end;
+        Some(certs)
+    }
+
+    fn trees(&mut self) -> Option<Items<CoverTree>> {
+        let mut trees = Items::new(self.alloc);
+        for _ in 0..self.number()? {
+            trees.push(self.tree()?).ok()?;
+        }
+        Some(trees)
+    }
+
+    fn polys(&mut self, count: u32) -> Option<Items<Poly>> {
+        let mut polys = Items::new(self.alloc);
+        for _ in 0..count {
+            polys.push(self.poly()?).ok()?;
+        }
+        Some(polys)
+    }
+
+    /// Lists of trees.
+    pub fn lists(&mut self) -> Option<Items<Items<CoverTree>>> {
+        let mut lists = Items::new(self.alloc);
+        for _ in 0..self.number()? {
+            lists.push(self.trees()?).ok()?;
+        }
+        Some(lists)
+    }
+
+    /// The number of columns, and ranks.
+    pub fn table(&mut self) -> Option<RankTable> {
+        let columns = self.number()?;
+        let mut ranks = Items::new(self.alloc);
+        for _ in 0..self.number()? {
+            ranks.push(self.polys(columns)?).ok()?;
+        }
+        Some(RankTable { columns, ranks })
+    }
+
+    /// Columns with certificates.
+    pub fn pairs(&mut self) -> Option<Items<PairCert>> {
+        let mut pairs = Items::new(self.alloc);
+        for _ in 0..self.number()? {
+            let column = self.number()?;
+            let certs = self.certs()?;
+            pairs.push(PairCert { column, certs }).ok()?;
+        }
+        Some(pairs)
+    }
+
+    /// Whether the text ends here.
+    pub fn is_done(&self) -> bool {
+        self.at == self.text.len()
+    }
+}
