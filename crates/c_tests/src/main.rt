@@ -27,7 +27,9 @@ use std::io;
 fn answer(alloc: Global, call: &str, given: &str) -> Option<String> {
     match call {
         "lex" | "long lex" => lexing::answer(alloc, call, given),
-        "parse" | "pre" | "long parse" | "long pre" | "cut" => parsing::answer(alloc, call, given),
+        "parse" | "pre" | "accepts" | "long parse" | "long pre" | "cut" => {
+            parsing::answer(alloc, call, given)
+        }
         "copy"
         | "copy pre"
         | "copy resolved"

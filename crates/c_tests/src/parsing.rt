@@ -7,14 +7,6 @@ use c_lex::Token;
 use c_parse::{ParseEnd, parse, parse_pre};
 use std::alloc::Global;
 
-// Adds the refusal, without the place of a syntax error.
-fn put_end(out: &mut String, end: ParseEnd) {
-    match end {
-        ParseEnd::Syntax { token: _ } => put(out, "syntax"),
-        end => put_debug(out, end),
-    }
-}
-
 // The program of a text, or its refusal.
 fn program(alloc: Global, tokens: &[Token]) -> String
     requires { length tokens.now ≤ 1048576 }
@@ -22,7 +14,7 @@ fn program(alloc: Global, tokens: &[Token]) -> String
     let mut out = String::new(alloc);
     match parse(alloc, tokens) {
         Ok(program) => put_program(&mut out, &program),
-        Err(end) => put_end(&mut out, end),
+        Err(end) => put_debug(&mut out, end),
     }
     out
 }
@@ -34,7 +26,7 @@ fn is_program(alloc: Global, tokens: &[Token]) -> String
     let mut out = String::new(alloc);
     match parse(alloc, tokens) {
         Ok(_) => put(&mut out, "read"),
-        Err(end) => put_end(&mut out, end),
+        Err(end) => put_debug(&mut out, end),
     }
     out
 }
@@ -46,7 +38,7 @@ fn precondition(alloc: Global, tokens: &[Token]) -> String
     let mut out = String::new(alloc);
     match parse_pre(alloc, tokens) {
         Ok(e) => put_expr(&mut out, &e),
-        Err(end) => put_end(&mut out, end),
+        Err(end) => put_debug(&mut out, end),
     }
     out
 }
@@ -72,14 +64,14 @@ fn cut(alloc: Global, tokens: &[Token]) -> String
     out
 }
 
-/// `parse` and `pre` read a text; `long parse` and `long pre` say of a long text whether it is
-/// read; `cut` says after how many tokens a program may be cut.
+/// `parse` and `pre` read a text; `accepts`, and `long parse` and `long pre` of a long text, say
+/// whether it is read; `cut` says after how many tokens a program may be cut.
 pub fn answer(alloc: Global, call: &str, given: &str) -> Option<String> {
     let source = source_of(alloc, call, given)?;
     let tokens = tokens_of(alloc, &source)?;
     Some(match call {
         "parse" => program(alloc, &tokens),
-        "long parse" => is_program(alloc, &tokens),
+        "accepts" | "long parse" => is_program(alloc, &tokens),
         "cut" => cut(alloc, &tokens),
         _ => precondition(alloc, &tokens),
     })

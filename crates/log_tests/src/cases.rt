@@ -1,9 +1,12 @@
 //! A case: a command line, a source, a log, and a change of the log.
 
-use crate::changes::{Change, instead, joined, without};
+use crate::changes::{Change, instead, joined, long, without};
+use crate::depth::written;
+use crate::devices::{Inlet, Outlet};
 use rx_cli::{Status, run};
 use rx_io::{MemoryFiles, MemorySink};
-use rx_logtext::{read_log, write_log};
+use rx_logtext::read_log;
+use rx_logwriting::write_log;
 use std::alloc::Global;
 use std::str;
 
@@ -14,6 +17,9 @@ pub struct Case {
     source: Vec<String>,
     log: Vec<String>,
     change: Option<Change>,
+    cut: Option<usize>,
+    inlet: Option<Inlet>,
+    outlet: Option<Outlet>,
 }
 
 // The words of a command line.
@@ -42,11 +48,11 @@ fn hold(
 }
 
 // Two files in memory: the source and the log.
-fn files_of(alloc: Global, source: Vec<u8>, log: Vec<u8>) -> Option<MemoryFiles> {
+fn files_of(alloc: Global, source: Vec<u8>, log: Vec<u8>, inlet: Inlet) -> Option<MemoryFiles> {
     let mut held = Vec::new(alloc);
     hold(alloc, &mut held, "a.c", source)?;
     hold(alloc, &mut held, "a.log", log)?;
-    Some(MemoryFiles::new(held, 4096, Vec::new(alloc)))
+    inlet.files(held)
 }
 
 // A status and a report of one line, as a line.
@@ -74,6 +80,12 @@ fn is_written_again(alloc: Global, text: &[u8]) -> bool {
     }
 }
 
+// Whether a log with a certificate so deep is written as the line says.
+fn is_written(alloc: Global, line: &str) -> Option<bool> {
+    let (depth, wanted) = line.split_once(' ')?;
+    Some(written(alloc, depth.parse().ok()?)? == wanted)
+}
+
 impl Case {
     /// A case of which nothing is given.
     pub fn new(alloc: Global) -> Case {
@@ -82,6 +94,9 @@ impl Case {
             source: Vec::new(alloc),
             log: Vec::new(alloc),
             change: None,
+            cut: None,
+            inlet: None,
+            outlet: None,
         }
     }
 
@@ -92,18 +107,57 @@ impl Case {
         self.source = Vec::new(alloc);
         self.log = Vec::new(alloc);
         self.change = None;
+        self.cut = None;
+        self.inlet = None;
+        self.outlet = None;
         Some(())
+    }
+
+    // What a run over the log reports, read by such files.
+    fn reported(&self, alloc: Global, log: &[u8], inlet: Inlet) -> Option<String> {
+        let source = joined(alloc, &self.source, &None)?;
+        let mut copy = Vec::new(alloc);
+        copy.extend_from_slice(log).ok()?;
+        run_on(alloc, &self.words, files_of(alloc, source, copy, inlet)?)
+    }
+
+    // Whether the command line asks for a check.
+    fn is_check(&self) -> bool {
+        match self.words.get(1) {
+            Some(word) => word.as_str() == "check",
+            None => false,
+        }
+    }
+
+    // What a run over the log reports, however much of it the files give at a time.
+    fn reported_alike(&self, alloc: Global, log: &[u8]) -> Option<String> {
+        let report = self.reported(alloc, log, Inlet::new(alloc, 4096))?;
+        if !self.is_check() {
+            return Some(report);
+        }
+        for piece in [1usize, 7, 64] {
+            let other = self.reported(alloc, log, Inlet::new(alloc, piece))?;
+            if other.as_str() != report.as_str() {
+                return String::from_str(alloc, "other pieces, another report").ok();
+            }
+        }
+        Some(report)
     }
 
     // What a run reports, where the log is written as it was read; the change is done with.
     fn found(&mut self, alloc: Global) -> Option<String> {
-        let source = joined(alloc, &self.source, &None)?;
-        let log = joined(alloc, &self.log, &self.change)?;
+        let mut log = joined(alloc, &self.log, &self.change)?;
         self.change = None;
+        if let Some(bytes) = self.cut.take() {
+            log.truncate(bytes);
+        }
         if !is_written_again(alloc, &log) {
             return String::from_str(alloc, "the log is written otherwise").ok();
         }
-        run_on(alloc, &self.words, files_of(alloc, source, log)?)
+        match self.inlet.take() {
+            Some(inlet) => self.reported(alloc, &log, inlet),
+            None => self.reported_alike(alloc, &log),
+        }
     }
 
     // Whether a run reports this.
@@ -116,16 +170,25 @@ impl Case {
     fn writes(&self, alloc: Global) -> Option<bool> {
         let source = joined(alloc, &self.source, &None)?;
         let wanted = joined(alloc, &self.log, &None)?;
-        let mut files = files_of(alloc, source, Vec::new(alloc))?;
-        let mut sink = MemorySink::new(
-            alloc,
-            65_536,
-            65_536,
-            Vec::new(alloc),
-            Vec::new(alloc),
-        ).ok()?;
+        let mut files = files_of(alloc, source, Vec::new(alloc), Inlet::new(alloc, 4096))?;
+        let mut sink = Outlet::new(alloc).sink(alloc)?;
         let status = run(alloc, &self.words, &mut files, &mut sink);
         Some(status.code() == 0 && sink.put_so_far() == wanted.as_slice())
+    }
+
+    // Whether a run ends with the status, and so many bytes of its report are put.
+    fn puts(&mut self, alloc: Global, wanted: &str) -> Option<bool> {
+        let (code, count) = wanted.split_once(' ')?;
+        let code: u8 = code.parse().ok()?;
+        let count: usize = count.parse().ok()?;
+        let source = joined(alloc, &self.source, &None)?;
+        let log = joined(alloc, &self.log, &None)?;
+        let inlet = self.inlet.take().unwrap_or(Inlet::new(alloc, 4096));
+        let mut files = files_of(alloc, source, log, inlet)?;
+        let outlet = self.outlet.take().unwrap_or(Outlet::new(alloc));
+        let mut sink = outlet.sink(alloc)?;
+        let status = run(alloc, &self.words, &mut files, &mut sink);
+        Some(status.code() == code && sink.put_so_far().len() == count)
     }
 
     // Goes on with another command line over the same files.
@@ -140,6 +203,24 @@ impl Case {
         Some(())
     }
 
+    // Takes how many bytes of the log are there.
+    fn cut_at(&mut self, bytes: &str) -> Option<()> {
+        self.cut = Some(bytes.parse().ok()?);
+        Some(())
+    }
+
+    // Takes what the files are like.
+    fn read_over(&mut self, alloc: Global, line: &str) -> Option<()> {
+        self.inlet = Some(Inlet::given(alloc, line)?);
+        Some(())
+    }
+
+    // Takes what the sink is like.
+    fn write_into(&mut self, alloc: Global, line: &str) -> Option<()> {
+        self.outlet = Some(Outlet::given(alloc, line)?);
+        Some(())
+    }
+
     // Takes a line that is given, by its first word.
     fn given(&mut self, alloc: Global, word: &str, rest: &str) -> Option<()> {
         match word {
@@ -149,7 +230,11 @@ impl Case {
             "source" => push(alloc, &mut self.source, rest),
             "log" => push(alloc, &mut self.log, rest),
             "instead" => self.changed(instead(alloc, rest)),
+            "long" => self.changed(long(alloc, rest)),
             "without" => self.changed(without(rest)),
+            "cut" => self.cut_at(rest),
+            "over" => self.read_over(alloc, rest),
+            "into" => self.write_into(alloc, rest),
             _ => None,
         }
     }
@@ -161,6 +246,8 @@ impl Case {
         match word {
             "gives" => Some(Some(self.gives(alloc, rest)?)),
             "writes" => Some(Some(self.writes(alloc)?)),
+            "puts" => Some(Some(self.puts(alloc, rest)?)),
+            "deep" => Some(Some(is_written(alloc, rest)?)),
             _ => {
                 self.given(alloc, word, rest)?;
                 Some(None)

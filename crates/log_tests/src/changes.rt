@@ -1,4 +1,4 @@
-//! A change of one line of a log.
+//! A change of one line of a log, and long lines.
 
 use std::alloc::Global;
 
@@ -19,6 +19,37 @@ pub fn instead(alloc: Global, given: &str) -> Option<Change> {
     Some(Change {
         line,
         text: Some(text),
+    })
+}
+
+// Adds a text so many times.
+fn push_times(text: &mut String, unit: &str, count: usize) -> Option<()> {
+    for _ in 0..count {
+        text.push_str(unit).ok()?;
+    }
+    Some(())
+}
+
+// The pieces of a text, parted by `~`: a text, a unit and how many times it stands there, and so on.
+fn repeated(alloc: Global, given: &str) -> Option<String> {
+    let mut text = String::new(alloc);
+    let mut unit = String::new(alloc);
+    for (at, piece) in given.split('~').enumerate() {
+        match at % 3 {
+            0 => text.push_str(piece).ok()?,
+            1 => unit = String::from_str(alloc, piece).ok()?,
+            _ => push_times(&mut text, unit.as_str(), piece.parse().ok()?)?,
+        }
+    }
+    Some(text)
+}
+
+/// The change that puts a long text in place of a line: the number comes first, then the pieces.
+pub fn long(alloc: Global, given: &str) -> Option<Change> {
+    let (number, pieces) = given.split_once(' ').unwrap_or((given, ""));
+    Some(Change {
+        line: number.parse().ok()?,
+        text: Some(repeated(alloc, pieces)?),
     })
 }
 
