@@ -1,6 +1,6 @@
 /* Feeds changed logs and changed sources to the built program, and looks at how it ends.
 
-       cc -O2 -o /tmp/mutants bench/mutants.c && /tmp/mutants PROGRAM COUNT [SEED]
+       cc -O2 -o mutants bench/mutants.c && ./mutants PROGRAM COUNT [SEED]
 
    Half of the runs are `check` of a changed log: where the functions differ, or the log is that of other
    functions, none may end with EQUIVALENT. The other half are `check`, `prove` and `refute` of a changed source
