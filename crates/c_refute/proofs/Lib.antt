@@ -9,10 +9,12 @@ pub mod Differences
 pub mod OneComparison
 mod Examples
 pub mod Runs
-pub mod Stacking
-pub mod Evaluating
-pub mod Executing
-pub mod TakingRounds
-pub mod Weighing
+pub mod Positions
+pub mod Leading
+pub mod ExpressionCode
+pub mod StatementCode
+pub mod LoopCode
+pub mod RunningCode
 pub mod Slots
-pub mod Running
+pub mod ProgramCode
+pub mod Endings

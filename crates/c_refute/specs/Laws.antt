@@ -14,14 +14,17 @@ meant DivError = meaning.DivisionError
 meant More = meaning.More
 meant Over = meaning.More
 
--- the arguments meet the precondition, if there is one: by the meaning with this number of rounds it has a value at them, which isn't 0
+-- the arguments meet the precondition, if there is one: by the meaning with this number of rounds
+-- it has a value at them, which isn't 0
 abbrev pub Meets : Resolved → ℕ → Option Expr → List ℤ → Type 0
 Meets program rounds None arguments = ⊤
 Meets program rounds (Some precondition) arguments =
-    (value : ℤ) × (expr_outcome program rounds precondition arguments ≡ meaning.Value value) × (value ≢ pos 0)
+    (value : ℤ) × (expr_outcome program rounds precondition arguments ≡ meaning.Value value) ×
+    (value ≢ pos 0)
 
 -- by the meaning the functions at two places return these outcomes, which differ, on the arguments
-pub record ReturnDifferent (program : Resolved) (f g : ℕ) (arguments : List ℤ) (first second : Outcome) : Type 0 where
+pub record ReturnDifferent (program : Resolved) (f g : ℕ) (arguments : List ℤ)
+    (first second : Outcome) : Type 0 where
   pub first_returns : Returns program f arguments (meant first)
   pub second_returns : Returns program g arguments (meant second)
   pub different : meant first ≢ meant second

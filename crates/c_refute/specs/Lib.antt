@@ -7,7 +7,6 @@ pub mod Points
 pub mod Walk
 pub mod Laws
 pub mod Stores
-pub mod Stacks
-pub mod Weights
-pub mod Advances
+pub mod Flat
 pub mod Ends
+pub mod Machines

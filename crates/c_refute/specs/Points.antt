@@ -23,7 +23,9 @@ integers_from first (suc count) = first ∷ integers_from (first +ℤ pos 1) cou
 -- the points: the lists of `arity` arguments from -side to side, in lexicographic order
 abbrev pub points : (side arity : ℕ) → List (List ℤ)
 points side zero = [] ∷ []
-points side (suc arity) = flat_map (λ x. map (λ xs. x ∷ xs) (points side arity)) (integers_from (neg_ℤ (pos side)) (2 * side + 1))
+points side (suc arity) =
+    flat_map (λ x. map (λ xs. x ∷ xs) (points side arity))
+    (integers_from (neg_ℤ (pos side)) (2 * side + 1))
 
 -- how many parameters the function at a place has, 0 where there is none
 abbrev pub arity_at : Option Function → ℕ
@@ -60,8 +62,8 @@ abbrev pub precondition_at : Resolved → Option Expr → ℕ → List ℤ → O
 precondition_at program None rounds point = Value (pos 1)
 precondition_at program (Some e) rounds point = outcome_of (counted_expr program e rounds point)
 
--- a point counts where the precondition has a value other than 0; it is undecided where the precondition is 'more' or 'over', and excluded
--- where the value is 0 or there is none
+-- a point counts where the precondition has a value other than 0; it is undecided where the
+-- precondition is 'more' or 'over', and excluded where the value is 0 or there is none
 abbrev pub finding_under : Outcome → Finding → Finding
 finding_under (Value x) counts = if is_zero x then finding.Excluded else counts
 finding_under DivError counts = finding.Excluded
@@ -72,7 +74,8 @@ finding_under Over counts = finding.Undecided
 abbrev pub finding_at : Resolved → (f g : ℕ) → Option Expr → (rounds : ℕ) → List ℤ → Finding
 finding_at program f g precondition rounds point =
     finding_under (precondition_at program precondition rounds point)
-    (finding_of (outcome_of (counted program rounds f point)) (outcome_of (counted program rounds g point)))
+    (finding_of (outcome_of (counted program rounds f point))
+    (outcome_of (counted program rounds g point)))
 
 abbrev pub is_alike : Finding → Bool
 is_alike finding.Alike = true
@@ -87,7 +90,8 @@ is_different (finding.Different first second) = true
 is_different _ = false
 
 -- the first point at which something different is found, and what: these two outcomes
-pub record IsFirstDifference (found : List ℤ → Finding) (all : List (List ℤ)) (point : List ℤ) (first second : Outcome) : Type 0 where
+pub record IsFirstDifference (found : List ℤ → Finding) (all : List (List ℤ)) (point : List ℤ)
+    (first second : Outcome) : Type 0 where
   pub before : List (List ℤ)
   pub after : List (List ℤ)
   pub is_point : all ≡ before ++ point ∷ after
@@ -95,12 +99,14 @@ pub record IsFirstDifference (found : List ℤ → Finding) (all : List (List �
   pub none_before : All (λ p. is_different (found p) ≡ false) before
 
 -- nothing different is found, and these are the numbers of points found alike and undecided
-pub record IsAlike (found : List ℤ → Finding) (all : List (List ℤ)) (alike undecided : ℕ) : Type 0 where
-  pub none : All (λ p. is_different (found p) ≡ false) all
-  pub alike_are : alike ≡ count_by (λ p. is_alike (found p)) all
-  pub undecided_are : undecided ≡ count_by (λ p. is_undecided (found p)) all
+pub record IsAlike (found : List ℤ → Finding) (all : List (List ℤ)) (alike undecided : ℕ) : Type 0
+  where
+    pub none : All (λ p. is_different (found p) ≡ false) all
+    pub alike_are : alike ≡ count_by (λ p. is_alike (found p)) all
+    pub undecided_are : undecided ≡ count_by (λ p. is_undecided (found p)) all
 
 -- the answer of a comparison over these points
 abbrev pub IsComparison : (List ℤ → Finding) → List (List ℤ) → Compared → Type 0
-IsComparison found all (compared.Different arguments first second) = IsFirstDifference found all arguments first second
+IsComparison found all (compared.Different arguments first second) =
+    IsFirstDifference found all arguments first second
 IsComparison found all (compared.Alike alike undecided) = IsAlike found all alike undecided

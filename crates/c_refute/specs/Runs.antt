@@ -1,8 +1,9 @@
 -- What the counted evaluation of an expression and the counted execution of a statement lead to.
 use Rattle.std.specs.Prelude.{ℕ, ◌^◌, Bool, nat_lt, if◌then◌else◌, ℤ, pos, negsuc}
 
--- where a part of a run leads: to a value, with the number of rounds that are left; or to what ends the whole run: the division error,
--- 'more rounds are needed', and 'over', where the exact result of an arithmetic operator is no number of i128
+-- where a part of a run leads: to a value, with the number of rounds that are left; or to what ends
+-- the whole run: the division error, 'more rounds are needed', and 'over', where the exact result
+-- of an arithmetic operator is no number of i128
 pub data Run (A : Type 0) : Type 0 where
   Value : A → ℕ → Run A
   DivisionError : Run A

@@ -10,8 +10,8 @@ lowest side arity = replicate arity (neg_ℤ (pos side))
 abbrev pub next_integer : ℕ → ℤ → Option ℤ
 next_integer side x = if int_lt x (pos side) then Some (x +ℤ pos 1) else None
 
--- the next point from a first argument and the others, and the next point of these: where there is none, they start again, after the
--- first argument's next integer
+-- the next point from a first argument and the others, and the next point of these: where there is
+-- none, they start again, after the first argument's next integer
 abbrev pub next_with : ℕ → ℤ → List ℤ → Option (List ℤ) → Option (List ℤ)
 next_with side x xs (Some ys) = Some (x ∷ ys)
 next_with side x xs None = option_map (λ y. y ∷ lowest side (length xs)) (next_integer side x)

@@ -2,9 +2,9 @@
 ghost use Rattle.std.specs.Prelude.{◌≡◌, true, false, SomeIff, Some, ◌+ℤ◌, ◌-ℤ◌, ◌*ℤ◌, neg_ℤ, int_div, int_rem, ℤ};
 ghost use Rattle.c_ast.specs.declared.expr.BinOp.TheVariants.{Div, Rem};
 ghost use Rattle.c_meaning.specs.Expressions.{is_zero, truth};
-ghost use Rattle.c_refute.specs.Expressions.{apply, short_circuit, unary};
+ghost use Rattle.c_refute.specs.Expressions.{apply, unary};
 ghost use Rattle.c_refute.specs.Runs.{exact, fits_i128};
-ghost use Rattle.c_refute.specs.Stacks.{GivesNumber};
+ghost use Rattle.c_refute.specs.Ends.{GivesNumber};
 
 use crate::stop::Stop;
 use c_ast::{BinOp, UnOp};
@@ -112,11 +112,9 @@ pub(crate) fn apply_unary(op: UnOp, x: i128) -> Result<i128, Stop>
 }
 
 /// What an operator gives, from both operands.
-pub(crate) fn apply_binary(op: BinOp, x: &i128, y: &i128) -> Result<i128, Stop>
-    ensures { GivesNumber (apply op x.now y.now) result }
+pub(crate) fn apply_binary(op: BinOp, x: i128, y: i128) -> Result<i128, Stop>
+    ensures { GivesNumber (apply op x y) result }
 {
-    let x = *x;
-    let y = *y;
     match op {
         BinOp::Add => fitted(sum(x, y)),
         BinOp::Sub => fitted(difference(x, y)),
@@ -130,16 +128,5 @@ pub(crate) fn apply_binary(op: BinOp, x: &i128, y: &i128) -> Result<i128, Stop>
         BinOp::Eq => Ok(number_of(x == y)),
         BinOp::Ne => Ok(number_of(x != y)),
         BinOp::AndAlso | BinOp::OrElse => Ok(number_of(y != 0)),
-    }
-}
-
-/// The value of an operator that its left operand alone gives.
-pub(crate) fn known_by_left(op: BinOp, x: &i128) -> Option<i128>
-    ensures { result ≡ short_circuit op x.now }
-{
-    match op {
-        BinOp::AndAlso if *x == 0 => Some(0),
-        BinOp::OrElse if *x != 0 => Some(1),
-        _ => None,
     }
 }

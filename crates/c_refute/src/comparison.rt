@@ -2,9 +2,12 @@
 ghost use Rattle.std.specs.Prelude.{◌≡◌, ◌<◌, ◌+◌, ◌^◌, ℕ, length, option_copied};
 ghost use Rattle.std.specs.Prelude.{if◌then◌else◌, IfOk, ◌↔◌};
 ghost use Rattle.c_refute.specs.Counted.{counted, outcome_of};
-ghost use Rattle.c_refute.specs.Points.{arity, finding_at, finding_of, precondition_at};
+ghost use Rattle.c_refute.specs.Flat.{IsCode};
+ghost use Rattle.c_refute.specs.Points.{arity, finding_at, finding_of};
 ghost use Rattle.c_refute.specs.Points.{is_alike, is_undecided, points, IsComparison};
 
+use crate::code::Code;
+use crate::compiling::compile;
 use crate::findings::{Compared, Finding, RefuteEnd};
 use crate::machine::Machine;
 use crate::outcomes::Outcome;
@@ -23,23 +26,6 @@ fn arity_of(program: &Resolved, f: u32) -> usize
     }
 }
 
-// The outcome of the precondition at a point; a missing one is always met.
-fn precondition_outcome<'a>(
-    machine: &mut Machine<'a>,
-    program: &'a Resolved,
-    pre: Option<&'a Expr>,
-    point: &[i128],
-    rounds: u32,
-) -> Result<Outcome, NoMemory>
-    ensures { IfOk result (λ o. o ≡
-        precondition_at program.now (option_copied pre.entry) rounds point.now) }
-{
-    match pre {
-        Some(e) => machine.expr_outcome(program, e, point, rounds),
-        None => Ok(Outcome::Value(1)),
-    }
-}
-
 // What two outcomes at a point that counts are.
 fn compared_outcomes(first: Outcome, second: Outcome) -> Finding
     ensures { result ≡ finding_of first second }
@@ -54,39 +40,40 @@ fn compared_outcomes(first: Outcome, second: Outcome) -> Finding
 }
 
 // What is found at a point that counts.
-fn finding_that_counts<'a>(
-    machine: &mut Machine<'a>,
-    program: &'a Resolved,
+fn finding_that_counts(
+    machine: &mut Machine,
+    code: &Code<'_>,
     f: u32,
     g: u32,
     point: &[i128],
     rounds: u32,
 ) -> Result<Finding, NoMemory>
+    requires { IsCode code.now }
     ensures { IfOk result (λ o. o ≡
-        finding_of (outcome_of (counted program.now rounds f point.now))
-        (outcome_of (counted program.now rounds g point.now))) }
+        finding_of (outcome_of (counted code.now.program.now rounds f point.now))
+        (outcome_of (counted code.now.program.now rounds g point.now))) }
 {
-    let first = machine.call_outcome(program, f, point, rounds)?;
-    let second = machine.call_outcome(program, g, point, rounds)?;
+    let first = machine.call_outcome(code, f, point, rounds)?;
+    let second = machine.call_outcome(code, g, point, rounds)?;
     Ok(compared_outcomes(first, second))
 }
 
 // What is found at a point.
-fn finding<'a>(
-    machine: &mut Machine<'a>,
-    program: &'a Resolved,
+fn finding(
+    machine: &mut Machine,
+    code: &Code<'_>,
     f: u32,
     g: u32,
-    pre: Option<&'a Expr>,
     point: &[i128],
     rounds: u32,
 ) -> Result<Finding, NoMemory>
+    requires { IsCode code.now }
     ensures { IfOk result (λ o. o ≡
-        finding_at program.now f g (option_copied pre.entry) rounds point.now) }
+        finding_at code.now.program.now f g (option_copied code.now.whole) rounds point.now) }
 {
-    match precondition_outcome(machine, program, pre, point, rounds)? {
+    match machine.whole_outcome(code, point, rounds)? {
         Outcome::Value(0) | Outcome::DivError => Ok(Finding::Excluded),
-        Outcome::Value(_) => finding_that_counts(machine, program, f, g, point, rounds),
+        Outcome::Value(_) => finding_that_counts(machine, code, f, g, point, rounds),
         Outcome::More | Outcome::Over => Ok(Finding::Undecided),
     }
 }
@@ -140,6 +127,7 @@ pub fn compare(
     let Some(number) = number_of_points(side, params) else {
         return Err(RefuteEnd::TooManyPoints { params });
     };
+    let code = compile(alloc, program, pre)?;
     let mut machine = Machine::new(alloc);
     let mut point = first_point(alloc, side, params)?;
     let mut tally = Tally {
@@ -147,7 +135,7 @@ pub fn compare(
         undecided: 0,
     };
     for _ in 0..number {
-        let found = finding(&mut machine, program, f, g, pre, point.as_slice(), rounds)?;
+        let found = finding(&mut machine, &code, f, g, point.as_slice(), rounds)?;
         if let Finding::Different(first, second) = found {
             let args = Items::from_vec(point);
             return Ok(Compared::Different {

@@ -1,76 +1,138 @@
-//! The steps of an evaluation.
-ghost use Rattle.std.specs.Prelude.{ℕ, OnOk, ◌+◌, ◌<◌, map};
-ghost use Rattle.c_refute.specs.Expressions.{Calls};
-ghost use Rattle.c_refute.specs.Stacks.{Comes, stack, started, valued};
-ghost use Rattle.c_refute.specs.declared.frame.Start.TheVariants as start;
-ghost use Rattle.c_refute.specs.Weights.{arguments_weight, expr_weight, weights};
+//! The code of expressions. It is made from its end: what comes after a part stands at a lower
+//! position.
+ghost use Rattle.std.specs.Prelude.{◌≡◌, ◌<◌, ◌++◌, ◌∷◌, [], IfOk, OnOk, length};
+ghost use Rattle.c_refute.specs.Flat as spec;
+ghost use Rattle.c_refute.specs.Flat.{Leads, SinkWithin, TopLeads, arguments_run, expr_run, operand_run, right_run};
 
-use crate::arithmetic::{apply_binary, apply_unary, known_by_left};
-use crate::frame::{Came, Frame, OnValue, Round, Start};
-use crate::frames::begin_before;
-use crate::stop::Stop;
-use crate::store::Store;
-use c_ast::Expr;
+use crate::code::{Op, Operand, Sink, Work};
+use c_ast::{BinOp, Expr};
+use rx_plain::NoMemory;
 
-/// Begins an expression.
-pub(crate) fn begin_expr<'a>(
-    frames: &mut Vec<Frame<'a>>,
-    store: &Store,
-    e: &'a Expr,
-) -> Result<Came, Stop>
-    ensures comes { (calls : Calls) (left : ℕ) →
-        Comes (started calls (stack calls frames.old.items)
-        (start.Evaluate e.entry) store.now left) result
-        (λ back. stack calls frames.new.items back store.now left) }
-    ensures lighter { OnOk result
-        (weights frames.new.items < weights frames.old.items + expr_weight e.now) }
+/// Adds an op; returns its position.
+pub(crate) fn emit<'a>(ops: &mut Vec<Op<'a>>, op: Op<'a>) -> Result<usize, NoMemory>
+    ensures position { IfOk result (λ p. p ≡ length ops.old.items) }
+    ensures added { OnOk result (ops.new.items ≡ ops.old.items ++ op.entry ∷ []) }
+    ensures within { IfOk result (λ p. p < length ops.new.items) }
+{
+    let at = ops.len();
+    ops.push(op)?;
+    Ok(at)
+}
+
+/// Where the value of an expression is read: a literal and a variable need no step of their own.
+fn operand_of(e: &Expr) -> Operand
+    ensures { result ≡ spec.operand_of e.now }
 {
     match e {
-        Expr::Lit(value) => Ok(Came::Value(i128::from(*value))),
-        Expr::Var(at) => Ok(Came::Value(store.value_at(*at))),
-        Expr::Unary(op, a) => {
-            begin_before(
-                frames,
-                Start::Evaluate(a.get()),
-                Frame::Value(OnValue::Before(*op)),
-            )
-        }
-        Expr::Binary(op, a, b) => {
-            let waiting = OnValue::Right(*op, b.get());
-            begin_before(frames, Start::Evaluate(a.get()), Frame::Value(waiting))
-        }
-        Expr::Choose(c, a, b) => {
-            let waiting = OnValue::Branches(a.get(), b.get());
-            begin_before(frames, Start::Evaluate(c.get()), Frame::Value(waiting))
-        }
-        Expr::Apply(place, arguments) => {
-            let waiting = Round::Invoke(*place, store.waiting());
-            begin_before(
-                frames,
-                Start::Arguments(arguments.as_slice()),
-                Frame::Round(waiting),
-            )
-        }
+        Expr::Lit(value) => Operand::Constant(*value),
+        Expr::Var(slot) => Operand::Slot(*slot),
+        Expr::Unary(_, _) => Operand::Popped,
+        Expr::Binary(_, _, _) => Operand::Popped,
+        Expr::Choose(_, _, _) => Operand::Popped,
+        Expr::Apply(_, _) => Operand::Popped,
     }
 }
 
-/// Begins the arguments of a call.
-pub(crate) fn begin_arguments<'a>(
-    frames: &mut Vec<Frame<'a>>,
-    store: &Store,
-    arguments: &'a [Expr],
-) -> Result<Came, Stop>
-    ensures comes { (calls : Calls) (left : ℕ) →
-        Comes (started calls (stack calls frames.old.items)
-        (start.Arguments arguments.entry) store.now left) result
-        (λ back. stack calls frames.new.items back store.now left) }
-    ensures lighter { OnOk result
-        (weights frames.new.items < weights frames.old.items + arguments_weight
-        (map expr_weight arguments.now)) }
+/// The code that an operand needs before it is read.
+#[cycle(compiles)]
+fn compile_operand(ops: &mut Vec<Op<'_>>, e: &Expr, next: usize) -> Result<usize, NoMemory>
+    requires { next < length ops.old.items }
+    ensures { IfOk result (λ p. Leads ops.old.items ops.new.items p
+        (operand_run ops.old.items next e.now)) }
 {
-    let Some((first, rest)) = arguments.split_first() else {
-        return Ok(Came::Next);
-    };
-    frames.push(Frame::Start(Start::Arguments(rest)))?;
-    begin_before(frames, Start::Evaluate(first), Frame::Value(OnValue::Keep))
+    match operand_of(e) {
+        Operand::Popped => compile_expr(ops, e, Sink::Push(next)),
+        Operand::Constant(_) => Ok(next),
+        Operand::Slot(_) => Ok(next),
+    }
+}
+
+/// The code of the right operand of an operator, before the operator itself.
+#[cycle(compiles)]
+fn compile_right(
+    ops: &mut Vec<Op<'_>>,
+    op: BinOp,
+    left: Operand,
+    b: &Expr,
+    sink: Sink,
+) -> Result<usize, NoMemory>
+    ensures { IfOk result (λ p. Leads ops.old.items ops.new.items p
+        (right_run ops.old.items sink op left b.now)) }
+{
+    let work = Work::Between(op, left, operand_of(b));
+    let both = emit(ops, Op::Do(work, sink))?;
+    compile_operand(ops, b, both)
+}
+
+/// The code of arguments, the first before the second and so on.
+#[cycle(compiles)]
+fn compile_arguments(
+    ops: &mut Vec<Op<'_>>,
+    arguments: &[Expr],
+    next: usize,
+) -> Result<usize, NoMemory>
+    requires { next < length ops.old.items }
+    ensures { IfOk result (λ p. Leads ops.old.items ops.new.items p
+        (arguments_run ops.old.items next arguments.now)) }
+{
+    let mut at = next;
+    for i in (0..arguments.len()).rev() {
+        at = compile_expr(ops, &arguments[i], Sink::Push(at))?;
+    }
+    Ok(at)
+}
+
+/// Where the value on top is that of the sink.
+fn after_call(ops: &mut Vec<Op<'_>>, sink: Sink) -> Result<usize, NoMemory>
+    requires { SinkWithin (length ops.old.items) sink }
+    ensures { IfOk result (λ p. TopLeads ops.old.items ops.new.items p sink) }
+{
+    match sink {
+        Sink::Push(next) => Ok(next),
+        _ => emit(ops, Op::Do(Work::Read(Operand::Popped), sink)),
+    }
+}
+
+/// The code of an expression, whose value goes to the sink; returns the position at which it
+/// begins.
+#[cycle(compiles)]
+pub(crate) fn compile_expr(ops: &mut Vec<Op<'_>>, e: &Expr, sink: Sink) -> Result<usize, NoMemory>
+    requires { SinkWithin (length ops.old.items) sink }
+    ensures { IfOk result (λ p. Leads ops.old.items ops.new.items p
+        (expr_run ops.old.items sink e.now)) }
+{
+    match e {
+        Expr::Lit(value) => emit(ops, Op::Do(Work::Read(Operand::Constant(*value)), sink)),
+        Expr::Var(slot) => emit(ops, Op::Do(Work::Read(Operand::Slot(*slot)), sink)),
+        Expr::Unary(op, a) => {
+            let next = emit(ops, Op::Do(Work::Before(*op, operand_of(a.get())), sink))?;
+            compile_operand(ops, a.get(), next)
+        }
+        Expr::Binary(op, a, b) => match *op {
+            BinOp::AndAlso => {
+                let known = emit(ops, Op::Do(Work::Read(Operand::Constant(0)), sink))?;
+                let right = compile_right(ops, *op, Operand::Constant(1), b.get(), sink)?;
+                compile_expr(ops, a.get(), Sink::Branch(known, right))
+            }
+            BinOp::OrElse => {
+                let known = emit(ops, Op::Do(Work::Read(Operand::Constant(1)), sink))?;
+                let right = compile_right(ops, *op, Operand::Constant(0), b.get(), sink)?;
+                compile_expr(ops, a.get(), Sink::Branch(right, known))
+            }
+            _ => {
+                let right = compile_right(ops, *op, operand_of(a.get()), b.get(), sink)?;
+                compile_operand(ops, a.get(), right)
+            }
+        },
+        Expr::Choose(c, a, b) => {
+            let other = compile_expr(ops, b.get(), sink)?;
+            let first = compile_expr(ops, a.get(), sink)?;
+            compile_expr(ops, c.get(), Sink::Branch(other, first))
+        }
+        Expr::Apply(place, arguments) => {
+            let after = after_call(ops, sink)?;
+            let call = emit(ops, Op::Call(*place, arguments.len(), after))?;
+            compile_arguments(ops, arguments.as_slice(), call)
+        }
+    }
 }

@@ -73,8 +73,8 @@ pub fn differences_are_meant()
         length arguments ≡ arity }
 {}
 
-/// A comparison has one answer: whatever is found at each point, the first difference, or that there
-/// is none and how many points are found alike and undecided, is one.
+/// A comparison has one answer: whatever is found at each point, the first difference, or that
+/// there is none and how many points are found alike and undecided, is one.
 pub fn comparisons_have_one_answer()
     ensures { (found : List ℤ → Finding) (all : List (List ℤ)) (x y : Compared) →
         IsComparison found all x → IsComparison found all y → x ≡ y }

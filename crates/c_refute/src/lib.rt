@@ -6,17 +6,16 @@
 //! and each turn of a loop takes one off what is left (`specs/Counted`). By the laws, an integer or
 //! the division error that it leads to is what the function returns by the meaning of C, where a
 //! number of rounds is there for each part; so a difference that is found is one (`specs/Laws`). A
-//! run uses a stack of its own and no recursion (`specs/Stacks`).
+//! program is made into flat code once, and a run goes through that without recursion
+//! (`specs/Flat`).
 #![tactic(auto)]
 
-mod advance;
 mod arithmetic;
+mod code;
 mod comparison;
+mod compiling;
 mod expressions;
 mod findings;
-mod flows;
-mod frame;
-mod frames;
 pub mod laws;
 mod machine;
 mod outcomes;
@@ -24,7 +23,6 @@ mod points;
 mod statements;
 mod stop;
 mod store;
-mod values;
 
 pub use comparison::compare;
 pub use findings::{Compared, Finding, RefuteEnd};
@@ -32,7 +30,7 @@ pub use laws::{
     comparisons_have_one_answer, counted_calls_are_meant, counted_expressions_are_meant,
     differences_are_meant, what_is_left_was_there,
 };
-pub use machine::{Machine, call_outcome, expr_outcome};
+pub use machine::{call_outcome, expr_outcome};
 pub use outcomes::Outcome;
 pub use points::MAX_POINTS;
 pub use rx_plain::NoMemory;

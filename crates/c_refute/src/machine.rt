@@ -1,146 +1,344 @@
-//! The run of calls and expressions with a number of rounds, by a machine with a stack of its own.
-ghost use Rattle.std.specs.Prelude.{◌≡◌, ◌<◌, ◌-◌, ℕ, suc, IfOk, OnOk, ℤ, slice_get};
+//! The run of code with a number of rounds.
+ghost use Rattle.std.specs.Prelude.{◌≡◌, ◌<◌, ◌≤◌, ℕ, ℤ, List, Some, IfOk, IfErr, OnOk, OnErr, length, slice_get, take};
 ghost use Rattle.std.specs.Option.{option_copied};
 ghost use Rattle.c_ast.specs.declared.program.Resolved.{Resolved};
 ghost use Rattle.c_refute.specs.Counted.{counted, counted_expr, outcome_of};
-ghost use Rattle.c_refute.specs.Ends.{Ends};
+ghost use Rattle.c_refute.specs.Ends.{Ends, GivesNumber};
+ghost use Rattle.c_refute.specs.Flat.{Back, IsCode, Rest, code_run, kept_after, made, op_to, rests, sink_to};
+ghost use Rattle.c_refute.specs.Machines.{Falls, Sinks, Steps, back_to, machine_run};
+ghost use Rattle.c_refute.specs.Points.{precondition_at};
 ghost use Rattle.c_refute.specs.Runs.{Run};
-ghost use Rattle.c_refute.specs.Stacks.{Comes, in_rounds, stack};
 ghost use Rattle.c_refute.specs.Stores.{Kept};
-ghost use Rattle.c_refute.specs.declared.frame.Came.TheVariants as came;
-ghost use Rattle.c_refute.specs.declared.frame.Round.TheVariants as round;
+ghost use Rattle.c_refute.specs.declared.code.Op.{Op};
+ghost use Rattle.c_refute.specs.declared.code.Op.TheVariants as op;
+ghost use Rattle.c_refute.specs.declared.machine.Caller.{Caller};
+ghost use Rattle.c_refute.specs.declared.machine.Reached.TheVariants as reached;
+ghost use Rattle.c_refute.specs.declared.stop.Stop.TheVariants as stop;
 
-use crate::advance::{Paused, advance};
-use crate::frame::{Came, DoLoop, Frame, Loop, OnFlow, OnValue, Round, Start};
-use crate::frames::begin_before;
+use crate::arithmetic::{apply_binary, apply_unary, is_zero};
+use crate::code::{Code, Op, Sink, Work};
+use crate::compiling::compile;
 use crate::outcomes::Outcome;
 use crate::stop::Stop;
 use crate::store::Store;
-use c_ast::{Expr, Function, Resolved};
+use c_ast::{Expr, Resolved};
 use rx_plain::NoMemory;
 use std::alloc::Global;
 
-/// A machine that runs calls and expressions. Its memory is kept from one run to the next.
+/// A caller that waits for a value.
+#[derive(Clone, Copy)]
+pub(crate) struct Caller {
+    /// Where it goes on.
+    pub next: usize,
+    /// Where its slots begin.
+    pub base: usize,
+}
+
+/// What a run of code needs. Its memory is kept from one run to the next.
 #[derive(Drop)]
-pub struct Machine<'a> {
-    frames: Vec<Frame<'a>>,
+pub(crate) struct Machine {
+    callers: Vec<Caller>,
     store: Store,
 }
 
-/// The function at place `f`, if there is one.
-fn function_at(program: &Resolved, f: u32) -> Option<&Function>
-    ensures { option_copied result ≡ slice_get program.now.functions f }
-{
-    program.functions.as_slice().get(f as usize)
+/// Where a value leads.
+pub(crate) enum Sunk {
+    /// To a position.
+    On(usize),
+    /// To the caller.
+    Back(i128),
 }
 
-/// Begins the body of the function at place `f`, whose arguments wait from `first` on.
-fn begin_call<'a>(
-    frames: &mut Vec<Frame<'a>>,
-    store: &mut Store,
-    program: &'a Resolved,
-    f: u32,
-    first: usize,
-) -> Result<Came, Stop>
-    ensures { (left : ℕ) →
-        Comes (in_rounds (counted program.now) (stack (counted program.now) frames.old.items)
-        (round.Invoke f first) store.old (suc left)) result
-        (λ back. stack (counted program.now) frames.new.items back store.new left) }
-{
-    let Some(function) = function_at(program, f) else {
-        return Err(Stop::More);
-    };
-    let base = store.enter(first)?;
-    let body = Start::Sequence(function.body.as_slice());
-    begin_before(frames, body, Frame::Flow(OnFlow::Caller(base)))
+/// Where a step leads.
+pub(crate) enum Reached {
+    /// To a lower position.
+    On(usize),
+    /// To a turn of a loop or to a function, which took a round.
+    Round(usize),
+    /// To a caller.
+    Back(usize),
+    /// To the end of the run.
+    Ended(i128),
 }
 
-/// Begins a turn of a loop.
-fn begin_turn<'a>(frames: &mut Vec<Frame<'a>>, parts: Loop<'a>) -> Result<Came, Stop>
-    ensures { (program : Resolved) (k : Kept) (left : ℕ) →
-        Comes (in_rounds (counted program) (stack (counted program) frames.old.items)
-        (round.Turn parts.entry) k (suc left)) result
-        (λ back. stack (counted program) frames.new.items back k left) }
+/// Where the function at place `f` begins, if there is one.
+fn entry_of(code: &Code<'_>, f: u32) -> Option<usize>
+    ensures { result ≡ slice_get code.now.entries.items f }
 {
-    let waiting = Frame::Value(OnValue::Tested(parts));
-    match parts.test {
-        None => {
-            frames.push(waiting)?;
-            Ok(Came::Value(1))
+    match code.entries.as_slice().get(f as usize) {
+        Some(entry) => Some(*entry),
+        None => None,
+    }
+}
+
+/// The op at a position, if there is one.
+fn op_at<'a>(code: &Code<'a>, at: usize) -> Option<Op<'a>>
+    ensures { result ≡ slice_get code.now.ops.items at }
+{
+    match code.ops.as_slice().get(at) {
+        Some(op) => Some(*op),
+        None => None,
+    }
+}
+
+/// Makes a value.
+fn value_of(store: &mut Store, work: Work) -> Result<i128, Stop>
+    ensures number { GivesNumber (made work store.old) result }
+    ensures kept { OnOk result (store.new ≡ kept_after work store.old) }
+{
+    match work {
+        Work::Read(a) => Ok(store.read(a)),
+        Work::Before(op, a) => {
+            let x = store.read(a);
+            apply_unary(op, x)
         }
-        Some(test) => begin_before(frames, Start::Evaluate(test), waiting),
+        Work::Between(op, a, b) => {
+            let y = store.read(b);
+            let x = store.read(a);
+            apply_binary(op, x, y)
+        }
     }
 }
 
-/// Begins a turn of a `do`.
-fn begin_do_turn<'a>(frames: &mut Vec<Frame<'a>>, parts: DoLoop<'a>) -> Result<Came, Stop>
-    ensures { (program : Resolved) (k : Kept) (left : ℕ) →
-        Comes (in_rounds (counted program) (stack (counted program) frames.old.items)
-        (round.DoTurn parts.entry) k (suc left)) result
-        (λ back. stack (counted program) frames.new.items back k left) }
+/// Does something with a value.
+fn sink_value(store: &mut Store, sink: Sink, x: i128) -> Result<Sunk, Stop>
+    ensures { (rests : List Rest) (back : Back) (left : ℕ) →
+        Sinks rests back (sink_to rests back sink store.old x) result store.new left }
 {
-    let waiting = Frame::Flow(OnFlow::AfterDoBody(parts));
-    begin_before(frames, Start::Execute(parts.body), waiting)
-}
-
-/// Takes a round.
-fn take_round<'a>(
-    frames: &mut Vec<Frame<'a>>,
-    store: &mut Store,
-    program: &'a Resolved,
-    round: Round<'a>,
-) -> Result<Came, Stop>
-    ensures { (left : ℕ) →
-        Comes (in_rounds (counted program.now) (stack
-        (counted program.now) frames.old.items) round.entry store.old (suc left)) result
-        (λ back. stack (counted program.now) frames.new.items back store.new left) }
-{
-    match round {
-        Round::Invoke(f, first) => begin_call(frames, store, program, f, first),
-        Round::Turn(parts) => begin_turn(frames, parts),
-        Round::DoTurn(parts) => begin_do_turn(frames, parts),
+    match sink {
+        Sink::Push(next) => {
+            store.push(x)?;
+            Ok(Sunk::On(next))
+        }
+        Sink::Branch(zero, other) => {
+            if is_zero(&x) {
+                Ok(Sunk::On(zero))
+            } else {
+                Ok(Sunk::On(other))
+            }
+        }
+        Sink::Declare(at, next) => {
+            store.declare(at, x)?;
+            Ok(Sunk::On(next))
+        }
+        Sink::Assign(at, next) => {
+            store.assign(at, x);
+            Ok(Sunk::On(next))
+        }
+        Sink::Return(scopes) => {
+            store.end(scopes);
+            Ok(Sunk::Back(x))
+        }
     }
 }
 
-/// Takes one of the rounds that are left, if there is one.
-fn take_of<'a>(
-    frames: &mut Vec<Frame<'a>>,
-    store: &mut Store,
-    program: &'a Resolved,
-    round: Round<'a>,
-    left: u32,
-) -> Result<Came, Stop>
-    ensures comes { Comes (in_rounds (counted program.now) (stack
-        (counted program.now) frames.old.items) round.entry store.old left) result
-        (λ back. stack (counted program.now) frames.new.items back store.new (left - 1)) }
-    ensures taken { OnOk result (0 < left) }
+impl Machine {
+    /// A machine that has run nothing yet. Takes no memory.
+    pub fn new(alloc: Global) -> Machine {
+        Machine {
+            callers: Vec::new(alloc),
+            store: Store::new(alloc),
+        }
+    }
+
+    /// Goes back to the caller, if one waits.
+    fn go_back(&mut self, x: i128) -> Result<Reached, Stop>
+        ensures steps { (program : Resolved) (ops : List Op) (left : ℕ) →
+            Steps program ops (back_to (counted program) ops self.old.callers.items x self.old.store
+            left)
+            result self.new.callers.items self.new.store left }
+        ensures falls { (at left : ℕ) → Falls at result (length self.old.callers.items)
+            (length self.new.callers.items) left }
+    {
+        let Some(caller) = self.callers.pop() else {
+            return Ok(Reached::Ended(x));
+        };
+        self.store.return_to(caller.base);
+        self.store.push(x)?;
+        Ok(Reached::Back(caller.next))
+    }
+
+    /// Makes a value, and does something with it.
+    fn make(&mut self, work: Work, sink: Sink, at: usize) -> Result<Reached, Stop>
+        ensures steps { (program : Resolved) (ops : List Op) (left : ℕ) → Steps program ops
+            (op_to (counted program) (back_to (counted program) ops self.old.callers.items)
+            (rests (counted program) (back_to (counted program) ops self.old.callers.items)
+            (take at ops))
+            (op.Do work sink) self.old.store left) result self.new.callers.items self.new.store left }
+        ensures falls { (left : ℕ) → Falls at result (length self.old.callers.items)
+            (length self.new.callers.items) left }
+    {
+        let x = value_of(&mut self.store, work)?;
+        match sink_value(&mut self.store, sink, x)? {
+            Sunk::On(next) => go_on(next, at),
+            Sunk::Back(x) => self.go_back(x),
+        }
+    }
+
+    /// Begins a function.
+    fn invoke(
+        &mut self,
+        code: &Code<'_>,
+        f: u32,
+        count: usize,
+        next: usize,
+        at: usize,
+        left: u32,
+    ) -> Result<Reached, Stop>
+        requires { IsCode code.now }
+        ensures steps { Steps code.now.program.now code.now.ops.items
+            (op_to (counted code.now.program.now) (back_to (counted code.now.program.now)
+            code.now.ops.items self.old.callers.items) (rests (counted code.now.program.now)
+            (back_to (counted code.now.program.now) code.now.ops.items self.old.callers.items)
+            (take at code.now.ops.items)) (op.Call f count next) self.old.store left)
+            result self.new.callers.items self.new.store left }
+        ensures falls { Falls at result (length self.old.callers.items)
+            (length self.new.callers.items) left }
+    {
+        if left == 0 {
+            return Err(Stop::More);
+        }
+        let Some(entry) = entry_of(code, f) else {
+            return Err(Stop::More);
+        };
+        let base = self.store.call(count)?;
+        let next = lower(next, at, code.ops.len());
+        self.callers.push(Caller { next, base })?;
+        Ok(Reached::Round(entry))
+    }
+
+    /// One step, by the op at a position.
+    fn advance(
+        &mut self,
+        code: &Code<'_>,
+        op: Op<'_>,
+        at: usize,
+        left: u32,
+    ) -> Result<Reached, Stop>
+        requires code { IsCode code.now }
+        requires found { slice_get code.now.ops.items at ≡ Some op }
+        ensures steps { Steps code.now.program.now code.now.ops.items (machine_run
+            code.now.program.now code.now.ops.items self.old.callers.items at self.old.store left)
+            result self.new.callers.items self.new.store left }
+        ensures falls { Falls at result (length self.old.callers.items)
+            (length self.new.callers.items) left }
+    {
+        match op {
+            Op::Do(work, sink) => self.make(work, sink, at),
+            Op::Call(f, count, next) => self.invoke(code, f, count, next, at, left),
+            Op::Turn(_, _, begin) => begin_turn(begin, left),
+            Op::Enter(next) => {
+                self.store.enter()?;
+                go_on(next, at)
+            }
+            Op::Leave(next) => {
+                self.store.leave();
+                go_on(next, at)
+            }
+        }
+    }
+
+    /// Runs code from a position on, with this number of rounds.
+    fn run(&mut self, code: &Code<'_>, start: usize, rounds: u32) -> Result<i128, Stop>
+        requires { IsCode code.now }
+        ensures { Ends (machine_run code.now.program.now code.now.ops.items
+            self.old.callers.items start self.old.store rounds) result }
+    {
+        let mut at = start;
+        let mut left = rounds;
+        'steps: loop {
+            let Some(op) = op_at(code, at) else {
+                return Err(Stop::More);
+            };
+            match self.advance(code, op, at, left)? {
+                Reached::On(next) => at = next,
+                Reached::Round(next) => {
+                    at = next;
+                    left -= 1;
+                }
+                Reached::Back(next) => at = next,
+                Reached::Ended(x) => return Ok(x),
+            }
+        }
+    }
+
+    /// The outcome of a call of the function at place `f` on these arguments, with this number of
+    /// rounds, of which the call itself takes one; fails only out of memory.
+    pub fn call_outcome(
+        &mut self,
+        code: &Code<'_>,
+        f: u32,
+        args: &[i128],
+        rounds: u32,
+    ) -> Result<Outcome, NoMemory>
+        requires { IsCode code.now }
+        ensures { IfOk result (λ o. o ≡
+            outcome_of (counted code.now.program.now rounds f args.now)) }
+    {
+        if rounds == 0 {
+            return Ok(Outcome::More);
+        }
+        let Some(entry) = entry_of(code, f) else {
+            return Ok(Outcome::More);
+        };
+        self.callers.clear();
+        self.store.begin(args)?;
+        outcome_of(self.run(code, entry, rounds - 1))
+    }
+
+    /// The outcome of the code's expression in a state, and 1 where there is none; fails only out
+    /// of memory.
+    pub fn whole_outcome(
+        &mut self,
+        code: &Code<'_>,
+        state: &[i128],
+        rounds: u32,
+    ) -> Result<Outcome, NoMemory>
+        requires { IsCode code.now }
+        ensures { IfOk result (λ o. o ≡ precondition_at code.now.program.now
+            (option_copied code.now.whole) rounds state.now) }
+    {
+        let Some(start) = code.start else {
+            return Ok(Outcome::Value(1));
+        };
+        self.callers.clear();
+        self.store.begin(state)?;
+        outcome_of(self.run(code, start, rounds))
+    }
+}
+
+/// The position, if it is a lower one; else `end`, where nothing stands.
+fn lower(next: usize, at: usize, end: usize) -> usize
+    ensures next { next < at → result ≡ next }
+    ensures end { at ≤ next → result ≡ end }
+{
+    if next < at { next } else { end }
+}
+
+/// Begins a turn of a loop, if a round is left.
+fn begin_turn(begin: usize, left: u32) -> Result<Reached, Stop>
+    ensures begun { OnOk result (0 < left) }
+    ensures next { IfOk result (λ r. r ≡ reached.Round begin) }
+    ensures none { OnErr result (left ≡ 0) }
+    ensures more { IfErr result (λ e. e ≡ stop.More) }
 {
     if left == 0 {
         return Err(Stop::More);
     }
-    take_round(frames, store, program, round)
+    Ok(Reached::Round(begin))
 }
 
-/// Runs what is on the stack, with this number of rounds.
-fn run<'a>(
-    frames: &mut Vec<Frame<'a>>,
-    store: &mut Store,
-    program: &'a Resolved,
-    rounds: u32,
-) -> Result<i128, Stop>
-    ensures { Ends (stack
-        (counted program.now) frames.old.items came.Next store.old rounds) result }
+/// Goes on at a position, which has to be lower.
+fn go_on(next: usize, at: usize) -> Result<Reached, Stop>
+    ensures steps { (program : Resolved) (ops : List Op) (callers : List Caller) (k : Kept)
+        (left : ℕ) → Steps program ops (code_run (counted program)
+        (back_to (counted program) ops callers) (take at ops) next k left) result callers k left }
+    ensures falls { (callers left : ℕ) → Falls at result callers callers left }
 {
-    let mut left = rounds;
-    let mut back = Came::Next;
-    'rounds: loop {
-        match advance(frames, store, back)? {
-            Paused::Ended(value) => return Ok(value),
-            Paused::Round(round) => {
-                back = take_of(frames, store, program, round, left)?;
-                left -= 1;
-            }
-        }
+    if next < at {
+        Ok(Reached::On(next))
+    } else {
+        Err(Stop::More)
     }
 }
 
@@ -157,51 +355,6 @@ fn outcome_of(end: Result<i128, Stop>) -> Result<Outcome, NoMemory>
     }
 }
 
-impl<'a> Machine<'a> {
-    /// A machine that has run nothing yet. Takes no memory.
-    pub fn new(alloc: Global) -> Machine<'a> {
-        Machine {
-            frames: Vec::new(alloc),
-            store: Store::new(alloc),
-        }
-    }
-
-    /// The outcome of a call of the function at place `f` on these arguments, with this number of
-    /// rounds, of which the call itself takes one; fails only out of memory.
-    pub fn call_outcome(
-        &mut self,
-        program: &'a Resolved,
-        f: u32,
-        args: &[i128],
-        rounds: u32,
-    ) -> Result<Outcome, NoMemory>
-        ensures { IfOk result (λ o. o ≡ outcome_of (counted program.now rounds f args.now)) }
-    {
-        self.frames.clear();
-        self.store.begin(&[], args)?;
-        self.frames.push(Frame::Round(Round::Invoke(f, 0)))?;
-        outcome_of(run(&mut self.frames, &mut self.store, program, rounds))
-    }
-
-    /// The outcome of an expression in a state, which gives each slot in scope its integer, with
-    /// this number of rounds; fails only out of memory.
-    pub fn expr_outcome(
-        &mut self,
-        program: &'a Resolved,
-        e: &'a Expr,
-        state: &[i128],
-        rounds: u32,
-    ) -> Result<Outcome, NoMemory>
-        ensures { IfOk result (λ o. o ≡ outcome_of
-            (counted_expr program.now e.now rounds state.now)) }
-    {
-        self.frames.clear();
-        self.store.begin(state, &[])?;
-        self.frames.push(Frame::Start(Start::Evaluate(e)))?;
-        outcome_of(run(&mut self.frames, &mut self.store, program, rounds))
-    }
-}
-
 /// The outcome of a call of the function at place `f` on these arguments, with this number of
 /// rounds, of which the call itself takes one; fails only out of memory.
 pub fn call_outcome(
@@ -213,8 +366,9 @@ pub fn call_outcome(
 ) -> Result<Outcome, NoMemory>
     ensures { IfOk result (λ o. o ≡ outcome_of (counted program.now rounds f args.now)) }
 {
+    let code = compile(alloc, program, None)?;
     let mut machine = Machine::new(alloc);
-    machine.call_outcome(program, f, args, rounds)
+    machine.call_outcome(&code, f, args, rounds)
 }
 
 /// The outcome of an expression in a state, which gives each slot in scope its integer, with this
@@ -228,6 +382,7 @@ pub fn expr_outcome(
 ) -> Result<Outcome, NoMemory>
     ensures { IfOk result (λ o. o ≡ outcome_of (counted_expr program.now e.now rounds state.now)) }
 {
+    let code = compile(alloc, program, Some(e))?;
     let mut machine = Machine::new(alloc);
-    machine.expr_outcome(program, e, state, rounds)
+    machine.whole_outcome(&code, state, rounds)
 }

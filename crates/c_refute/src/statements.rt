@@ -1,211 +1,239 @@
-//! The steps that begin statements.
-ghost use Rattle.std.specs.Prelude.{◌≡◌, ℕ, length, map, OnOk, ◌+◌, ◌<◌};
-ghost use Rattle.std.specs.Option.{option_copied};
+//! The code of statements. It is made from its end: what comes after a part stands at a lower
+//! position.
+ghost use Rattle.std.specs.Prelude.{◌≡◌, ◌<◌, ◌+◌, ℕ, IfOk, Some, None, length, slice_set};
+ghost use Rattle.std.specs.Option.{option_map};
 ghost use Rattle.c_ast.specs.declared.stmt.Stmt.TheVariants as syntax;
-ghost use Rattle.c_refute.specs.Expressions.{Calls};
-ghost use Rattle.c_refute.specs.Runs.{on_value};
-ghost use Rattle.c_refute.specs.Stacks.{Comes, flow_to, in_rounds, stack, started, turn_of};
-ghost use Rattle.c_refute.specs.Statements.{in_order, leave, loop, on_next, stmt};
-ghost use Rattle.c_refute.specs.Stores.{Kept};
-ghost use Rattle.c_refute.specs.declared.frame.Round.TheVariants as round;
-ghost use Rattle.c_refute.specs.declared.frame.Start.TheVariants as start;
-ghost use Rattle.c_refute.specs.Weights.{sequence_weight, stmt_weight, weights};
+ghost use Rattle.c_refute.specs.Expressions.{Calls, expr};
+ghost use Rattle.c_refute.specs.Statements.{do_turn, loop, optional, stmt, while_turn};
+ghost use Rattle.c_refute.specs.Flat.{ExitsWithin, Leads, ScopeLeads, condition_run, flow_run, sequence_run, stmt_run, turn_of};
+ghost use Rattle.c_refute.specs.declared.code.Op.TheVariants as op;
 
-use crate::frame::{Came, DoLoop, Frame, Loop, OnFlow, OnValue, Round, Start};
-use crate::frames::begin_before;
-use crate::stop::Stop;
-use crate::store::Store;
+use crate::code::{Exits, Op, Operand, Sink, Work};
+use crate::expressions::{compile_expr, emit};
 use c_ast::{Expr, Stmt};
-use rx_plain::{Boxed, Items};
+use rx_plain::{Boxed, Items, NoMemory};
 
-/// The statement, where there is one.
-fn unboxed(part: &Option<Boxed<Stmt>>) -> Option<&Stmt>
-    ensures { option_copied result ≡ part.now }
+/// Where the statements of a scope lead: through its end.
+fn scoped(ops: &mut Vec<Op<'_>>, exits: Exits) -> Result<Exits, NoMemory>
+    requires { ExitsWithin (length ops.old.items) exits }
+    ensures { IfOk result (λ inner. ScopeLeads ops.old.items ops.new.items exits inner) }
 {
-    match part {
-        None => None,
-        Some(part) => Some(part.get()),
-    }
+    let next = emit(ops, Op::Leave(exits.next))?;
+    let broken = emit(ops, Op::Leave(exits.broken))?;
+    let continued = emit(ops, Op::Leave(exits.continued))?;
+    Ok(Exits {
+        next,
+        broken,
+        continued,
+        scopes: exits.scopes + 1,
+    })
 }
 
-/// The expression, where there is one.
-fn lent(part: &Option<Expr>) -> Option<&Expr>
-    ensures { option_copied result ≡ part.now }
-{
-    match part {
-        None => None,
-        Some(part) => Some(part),
-    }
-}
-
-/// Begins a declaration.
-fn begin_declaration<'a>(
-    frames: &mut Vec<Frame<'a>>,
-    store: &mut Store,
+/// The code of a declaration.
+fn compile_declaration(
+    ops: &mut Vec<Op<'_>>,
     at: u32,
-    value: &'a Option<Expr>,
-) -> Result<Came, Stop>
-    ensures comes { (calls : Calls) (left : ℕ) →
-        Comes (on_value (stmt calls (syntax.Declare at value.now) left store.old.state) (flow_to
-        (stack calls frames.old.items) store.old)) result
-        (λ back. stack calls frames.new.items back store.new left) }
-    ensures lighter { OnOk result
-        (weights frames.new.items < weights frames.old.items + stmt_weight
-        (syntax.Declare at value.now)) }
+    value: &Option<Expr>,
+    exits: Exits,
+) -> Result<usize, NoMemory>
+    requires { ExitsWithin (length ops.old.items) exits }
+    ensures { IfOk result (λ p. Leads ops.old.items ops.new.items p
+        (stmt_run ops.old.items exits (syntax.Declare at value.now))) }
 {
+    let sink = Sink::Declare(at, exits.next);
     match value {
-        None => {
-            store.declare(at, 0)?;
-            Ok(Came::Next)
-        }
-        Some(value) => {
-            begin_before(
-                frames,
-                Start::Evaluate(value),
-                Frame::Value(OnValue::Declare(at)),
-            )
-        }
+        None => emit(ops, Op::Do(Work::Read(Operand::Constant(0)), sink)),
+        Some(value) => compile_expr(ops, value, sink),
     }
 }
 
-/// Begins a list of statements.
-pub(crate) fn begin_sequence<'a>(
-    frames: &mut Vec<Frame<'a>>,
+/// The code of a part that may be left out.
+#[cycle(executes)]
+fn compile_other<'a>(
+    ops: &mut Vec<Op<'a>>,
+    other: &'a Option<Boxed<Stmt>>,
+    exits: Exits,
+) -> Result<usize, NoMemory>
+    requires { ExitsWithin (length ops.old.items) exits }
+    ensures { IfOk result (λ p. Leads ops.old.items ops.new.items p
+        (flow_run ops.old.items exits (λ calls. optional (option_map (stmt calls) other.now)))) }
+{
+    match other {
+        None => Ok(exits.next),
+        Some(other) => compile_stmt(ops, other.get(), exits),
+    }
+}
+
+/// The code of statements in their order.
+#[cycle(executes)]
+pub(crate) fn compile_sequence<'a>(
+    ops: &mut Vec<Op<'a>>,
     statements: &'a [Stmt],
-) -> Result<Came, Stop>
-    ensures comes { (calls : Calls) (k : Kept) (left : ℕ) →
-        Comes (started calls (stack calls frames.old.items)
-        (start.Sequence statements.entry) k left) result
-        (λ back. stack calls frames.new.items back k left) }
-    ensures lighter { OnOk result
-        (weights frames.new.items < weights frames.old.items + sequence_weight
-        (map stmt_weight statements.now)) }
+    exits: Exits,
+) -> Result<usize, NoMemory>
+    requires { ExitsWithin (length ops.old.items) exits }
+    ensures { IfOk result (λ p. Leads ops.old.items ops.new.items p
+        (sequence_run ops.old.items exits statements.now)) }
 {
-    let Some((first, rest)) = statements.split_first() else {
-        return Ok(Came::Next);
-    };
-    let waiting = Frame::Start(Start::Sequence(rest));
-    begin_before(frames, Start::Execute(first), waiting)
+    let mut next = exits.next;
+    for i in (0..statements.len()).rev() {
+        next = compile_stmt(ops, &statements[i], Exits { next, ..exits })?;
+    }
+    Ok(next)
 }
 
-/// Begins a block.
-fn begin_block<'a>(
-    frames: &mut Vec<Frame<'a>>,
-    store: &Store,
+/// The code of a condition; one that is left out holds.
+fn compile_condition(
+    ops: &mut Vec<Op<'_>>,
+    test: &Option<Expr>,
+    ended: usize,
+    holds: usize,
+) -> Result<usize, NoMemory>
+    requires ended { ended < length ops.old.items }
+    requires holds { holds < length ops.old.items }
+    ensures { IfOk result (λ p. Leads ops.old.items ops.new.items p
+        (condition_run ops.old.items ended holds test.now)) }
+{
+    match test {
+        None => Ok(holds),
+        Some(test) => compile_expr(ops, test, Sink::Branch(ended, holds)),
+    }
+}
+
+/// Where the body of a loop leads.
+fn inside(exits: Exits, next: usize) -> Exits
+    ensures { result ≡ record {
+      next = next;
+      broken = exits.next;
+      continued = next;
+      scopes = exits.scopes;
+    } }
+{
+    Exits {
+        next,
+        broken: exits.next,
+        continued: next,
+        scopes: exits.scopes,
+    }
+}
+
+/// Writes at which position a turn of the loop begins.
+fn close<'a>(ops: &mut Vec<Op<'a>>, turn: usize, whole: &'a Stmt, exits: Exits, begin: usize)
+    requires { turn < length ops.old.items }
+    ensures { ops.new.items ≡ slice_set ops.old.items turn (op.Turn whole.entry exits begin) }
+{
+    ops[turn] = Op::Turn(whole, exits, begin);
+}
+
+/// The code of a `while`.
+#[cycle(executes)]
+fn compile_while<'a>(
+    ops: &mut Vec<Op<'a>>,
+    body: &'a Stmt,
+    test: &Expr,
+    whole: &'a Stmt,
+    exits: Exits,
+) -> Result<usize, NoMemory>
+    requires within { ExitsWithin (length ops.old.items) exits }
+    requires parts { (calls : Calls) → turn_of calls whole.now ≡ while_turn calls (Some test.now)
+        (optional None) (stmt calls body.now) }
+    ensures { IfOk result (λ p. Leads ops.old.items ops.new.items p
+        (flow_run ops.old.items exits (λ calls. loop (turn_of calls whole.now)))) }
+{
+    let turn = emit(ops, Op::Turn(whole, exits, 0))?;
+    let holds = compile_stmt(ops, body, inside(exits, turn))?;
+    let begin = compile_expr(ops, test, Sink::Branch(exits.next, holds))?;
+    close(ops, turn, whole, exits, begin);
+    Ok(turn)
+}
+
+/// The code of a `do`.
+#[cycle(executes)]
+fn compile_do<'a>(
+    ops: &mut Vec<Op<'a>>,
+    body: &'a Stmt,
+    test: &Expr,
+    whole: &'a Stmt,
+    exits: Exits,
+) -> Result<usize, NoMemory>
+    requires within { ExitsWithin (length ops.old.items) exits }
+    requires parts { (calls : Calls) → turn_of calls whole.now ≡ do_turn calls test.now
+        (stmt calls body.now) }
+    ensures { IfOk result (λ p. Leads ops.old.items ops.new.items p
+        (flow_run ops.old.items exits (λ calls. loop (turn_of calls whole.now)))) }
+{
+    let turn = emit(ops, Op::Turn(whole, exits, 0))?;
+    let tested = compile_expr(ops, test, Sink::Branch(exits.next, turn))?;
+    let begin = compile_stmt(ops, body, inside(exits, tested))?;
+    close(ops, turn, whole, exits, begin);
+    Ok(turn)
+}
+
+/// The code of a block.
+#[cycle(executes)]
+fn compile_block<'a>(
+    ops: &mut Vec<Op<'a>>,
     inner: &'a Items<Stmt>,
-) -> Result<Came, Stop>
-    ensures comes { (calls : Calls) (left : ℕ) →
-        Comes (on_value (stmt calls (syntax.Block inner.now) left store.now.state) (flow_to
-        (stack calls frames.old.items) store.now)) result
-        (λ back. stack calls frames.new.items back store.now left) }
-    ensures lighter { OnOk result
-        (weights frames.new.items < weights frames.old.items + stmt_weight
-        (syntax.Block inner.now)) }
+    exits: Exits,
+) -> Result<usize, NoMemory>
+    requires { ExitsWithin (length ops.old.items) exits }
+    ensures { IfOk result (λ p. Leads ops.old.items ops.new.items p
+        (stmt_run ops.old.items exits (syntax.Block inner.now))) }
 {
-    let waiting = Frame::Flow(OnFlow::Scope(store.count()));
-    begin_before(frames, Start::Sequence(inner.as_slice()), waiting)
+    let within = scoped(ops, exits)?;
+    let begun = compile_sequence(ops, inner.as_slice(), within)?;
+    emit(ops, Op::Enter(begun))
 }
 
-/// Begins a loop.
-fn begin_loop<'a>(frames: &mut Vec<Frame<'a>>, parts: Loop<'a>) -> Result<Came, Stop>
-    ensures comes { (calls : Calls) (k : Kept) (left : ℕ) →
-        Comes (in_rounds calls (stack calls frames.old.items)
-        (round.Turn parts.entry) k left) result
-        (λ back. stack calls frames.new.items back k left) }
-    ensures lighter { OnOk result
-        (weights frames.new.items ≡ weights frames.old.items + 1) }
-{
-    frames.push(Frame::Round(Round::Turn(parts)))?;
-    Ok(Came::Next)
-}
-
-/// Begins a `do`.
-fn begin_do<'a>(frames: &mut Vec<Frame<'a>>, parts: DoLoop<'a>) -> Result<Came, Stop>
-    ensures comes { (calls : Calls) (k : Kept) (left : ℕ) →
-        Comes (in_rounds calls (stack calls frames.old.items)
-        (round.DoTurn parts.entry) k left) result
-        (λ back. stack calls frames.new.items back k left) }
-    ensures lighter { OnOk result
-        (weights frames.new.items ≡ weights frames.old.items + 1) }
-{
-    frames.push(Frame::Round(Round::DoTurn(parts)))?;
-    Ok(Came::Next)
-}
-
-/// Begins a `for`.
-fn begin_for<'a>(
-    frames: &mut Vec<Frame<'a>>,
-    store: &Store,
-    first: &'a Items<Stmt>,
-    parts: Loop<'a>,
-) -> Result<Came, Stop>
-    ensures comes { (calls : Calls) (left : ℕ) →
-        Comes (on_value (on_value (on_value (in_order (map
-        (stmt calls) first.now) left store.now.state)
-        (on_next (loop (turn_of calls parts.entry)))) (leave (length store.now.state))) (flow_to
-        (stack calls frames.old.items) store.now)) result
-        (λ back. stack calls frames.new.items back store.now left) }
-    ensures lighter { OnOk result
-        (weights frames.new.items < weights frames.old.items + (sequence_weight
-        (map stmt_weight first.now) + 3)) }
-{
-    frames.push(Frame::Flow(OnFlow::Scope(store.count())))?;
-    let waiting = Frame::Round(Round::Turn(parts));
-    begin_before(frames, Start::Sequence(first.as_slice()), waiting)
-}
-
-/// Begins a statement.
-pub(crate) fn begin_stmt<'a>(
-    frames: &mut Vec<Frame<'a>>,
-    store: &mut Store,
+/// The code of a statement; returns the position at which it begins.
+#[cycle(executes)]
+pub(crate) fn compile_stmt<'a>(
+    ops: &mut Vec<Op<'a>>,
     statement: &'a Stmt,
-) -> Result<Came, Stop>
-    ensures comes { (calls : Calls) (left : ℕ) →
-        Comes (started calls (stack calls frames.old.items)
-        (start.Execute statement.entry) store.old left) result
-        (λ back. stack calls frames.new.items back store.new left) }
-    ensures lighter { OnOk result
-        (weights frames.new.items < weights frames.old.items + stmt_weight statement.now) }
+    exits: Exits,
+) -> Result<usize, NoMemory>
+    requires { ExitsWithin (length ops.old.items) exits }
+    ensures { IfOk result (λ p. Leads ops.old.items ops.new.items p
+        (stmt_run ops.old.items exits statement.now)) }
 {
     match statement {
-        Stmt::Empty => Ok(Came::Next),
-        Stmt::Declare(at, value) => begin_declaration(frames, store, *at, value),
-        Stmt::Assign(at, value) => {
-            begin_before(
-                frames,
-                Start::Evaluate(value),
-                Frame::Value(OnValue::Assign(*at)),
-            )
-        }
+        Stmt::Empty => Ok(exits.next),
+        Stmt::Declare(at, value) => compile_declaration(ops, *at, value, exits),
+        Stmt::Assign(at, value) => compile_expr(ops, value, Sink::Assign(*at, exits.next)),
         Stmt::If(test, then, other) => {
-            let waiting = OnValue::Then(then.get(), unboxed(other));
-            begin_before(frames, Start::Evaluate(test), Frame::Value(waiting))
+            let other = compile_other(ops, other, exits)?;
+            let taken = compile_stmt(ops, then.get(), exits)?;
+            compile_expr(ops, test, Sink::Branch(other, taken))
         }
-        Stmt::While(test, body) => begin_loop(
-            frames,
-            Loop {
-                test: Some(test),
-                change: None,
-                body: body.get(),
-            },
-        ),
-        Stmt::DoWhile(body, test) => {
-            let body = body.get();
-            begin_do(frames, DoLoop { body, test })
-        }
+        Stmt::While(test, body) => compile_while(ops, body.get(), test, statement, exits),
+        Stmt::DoWhile(body, test) => compile_do(ops, body.get(), test, statement, exits),
         Stmt::For(first, test, change, body) => {
-            let parts = Loop {
-                test: lent(test),
-                change: unboxed(change),
-                body: body.get(),
-            };
-            begin_for(frames, store, first, parts)
+            let inner = scoped(ops, exits)?;
+            let turn = emit(ops, Op::Turn(statement, inner, 0))?;
+            let changed = compile_other(
+                ops,
+                change,
+                Exits {
+                    next: turn,
+                    ..inner
+                },
+            )?;
+            let holds = compile_stmt(ops, body.get(), inside(inner, changed))?;
+            let begin = compile_condition(ops, test, inner.next, holds)?;
+            close(ops, turn, statement, inner, begin);
+            let begun = compile_sequence(
+                ops,
+                first.as_slice(),
+                Exits {
+                    next: turn,
+                    ..inner
+                },
+            )?;
+            emit(ops, Op::Enter(begun))
         }
-        Stmt::Break(_) => Ok(Came::Break),
-        Stmt::Continue(_) => Ok(Came::Continue),
-        Stmt::Return(value) => {
-            begin_before(frames, Start::Evaluate(value), Frame::Value(OnValue::Give))
-        }
-        Stmt::Block(inner) => begin_block(frames, store, inner),
+        Stmt::Break(_) => Ok(exits.broken),
+        Stmt::Continue(_) => Ok(exits.continued),
+        Stmt::Return(value) => compile_expr(ops, value, Sink::Return(exits.scopes)),
+        Stmt::Block(inner) => compile_block(ops, inner, exits),
     }
 }

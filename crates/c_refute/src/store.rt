@@ -1,31 +1,35 @@
-//! What a run keeps: the slots of all functions that have begun, in one list, and the arguments
-//! that wait for their call.
-ghost use Rattle.std.specs.Prelude.{◌≡◌, ◌++◌, ◌∷◌, ◌<◌, [], IfOk, OnOk, length, take, drop, slice_set};
+//! What a run keeps: the slots of all functions that have begun, in one list, the values that wait
+//! for their operator or call, and how many slots there were as each scope began.
+ghost use Rattle.std.specs.Prelude.{◌≡◌, ◌++◌, ◌∷◌, ◌<◌, [], IfOk, OnOk, length, take, drop, reverse, slice_set};
 ghost use Rattle.c_meaning.specs.Expressions.{slot};
-ghost use Rattle.c_refute.specs.Stores.{with_pending, with_state};
+ghost use Rattle.c_refute.specs.Flat as spec;
+ghost use Rattle.c_refute.specs.Stores.{below_top, called, ended, entered, given_back, left_scope, pushed, top, with_state, with_values};
 
+use crate::code::Operand;
 use rx_plain::NoMemory;
 use std::alloc::Global;
 use std::marker::Model;
 
-/// The slots and the arguments of a run.
+/// The slots, values and scopes of a run.
 #[derive(Drop)]
 pub(crate) struct Store {
     slots: Vec<i128>,
     base: usize,
-    pending: Vec<i128>,
+    values: Vec<i128>,
+    scopes: Vec<usize>,
 }
 
 impl Model for Store {
-    ghost use Rattle.std.specs.Prelude.{◌≤◌, length, take, drop};
+    ghost use Rattle.std.specs.Prelude.{◌≤◌, length, take, drop, reverse};
     ghost use Rattle.c_refute.specs.Stores.{Kept};
 
     ghost Value = { Kept };
 
     ghost view = { λ s. record {
+      values = reverse s.values.items;
       below = take s.base s.slots.items;
       state = drop s.base s.slots.items;
-      pending = s.pending.items;
+      scopes = reverse s.scopes.items;
     } };
 
     ghost invariant = { λ s. s.base ≤ length s.slots.items };
@@ -42,28 +46,30 @@ fn put(slots: &mut Vec<i128>, at: usize, value: i128)
 impl Store {
     /// Nothing is kept.
     pub fn new(alloc: Global) -> Store
-        ensures { result ≡ record { below = []; state = []; pending = [] } }
+        ensures { result ≡ record { values = []; below = []; state = []; scopes = [] } }
     {
         Store {
             slots: Vec::new(alloc),
             base: 0,
-            pending: Vec::new(alloc),
+            values: Vec::new(alloc),
+            scopes: Vec::new(alloc),
         }
     }
 
-    /// Keeps nothing but these slots of the running function and these arguments.
-    pub fn begin(&mut self, state: &[i128], pending: &[i128]) -> Result<(), NoMemory>
+    /// Keeps nothing but these slots.
+    pub fn begin(&mut self, state: &[i128]) -> Result<(), NoMemory>
         ensures { OnOk result (self.new ≡ record {
+          values = [];
           below = [];
           state = state.now;
-          pending = pending.now;
+          scopes = [];
         }) }
     {
         self.base = 0;
         self.slots.clear();
-        self.pending.clear();
+        self.values.clear();
+        self.scopes.clear();
         self.slots.extend_from_slice(state)?;
-        self.pending.extend_from_slice(pending)?;
         Ok(())
     }
 
@@ -95,7 +101,7 @@ impl Store {
     }
 
     /// Lets go of all but the first `count` slots.
-    pub fn leave(&mut self, count: usize)
+    fn keep_first(&mut self, count: usize)
         ensures { self.new ≡ with_state self.old (take count self.old.state) }
     {
         if count < self.count() {
@@ -108,53 +114,90 @@ impl Store {
         ensures { OnOk result (self.new ≡ with_state self.old
             (take at self.old.state ++ value ∷ [])) }
     {
-        self.leave(at as usize);
+        self.keep_first(at as usize);
         self.slots.push(value)?;
         Ok(())
     }
 
-    /// Keeps an argument.
-    pub fn keep(&mut self, argument: i128) -> Result<(), NoMemory>
-        ensures { OnOk result (self.new ≡ with_pending self.old
-            (self.old.pending ++ argument ∷ [])) }
+    /// Puts a value on top.
+    pub fn push(&mut self, value: i128) -> Result<(), NoMemory>
+        ensures { OnOk result (self.new ≡ pushed self.old value) }
     {
-        self.pending.push(argument)?;
+        self.values.push(value)?;
         Ok(())
     }
 
-    /// How many arguments wait.
-    pub fn waiting(&self) -> usize
-        ensures { result ≡ length self.now.pending }
+    /// Takes the value on top off; 0 where there is none.
+    fn pop(&mut self) -> i128
+        ensures value { result ≡ top self.old.values }
+        ensures kept { self.new ≡ with_values self.old (below_top self.old.values) }
     {
-        self.pending.len()
+        match self.values.pop() {
+            Some(value) => value,
+            None => 0,
+        }
     }
 
-    /// Begins a function, whose slots are the arguments from that number on; returns where the slots
-    /// of its caller begin.
-    pub fn enter(&mut self, first: usize) -> Result<usize, NoMemory>
+    /// Reads an operand.
+    pub fn read(&mut self, operand: Operand) -> i128
+        ensures value { result ≡ spec.read operand self.old }
+        ensures kept { self.new ≡ spec.after operand self.old }
+    {
+        match operand {
+            Operand::Constant(value) => i128::from(value),
+            Operand::Slot(at) => self.value_at(at),
+            Operand::Popped => self.pop(),
+        }
+    }
+
+    /// Begins a scope.
+    pub fn enter(&mut self) -> Result<(), NoMemory>
+        ensures { OnOk result (self.new ≡ entered self.old) }
+    {
+        let count = self.count();
+        self.scopes.push(count)?;
+        Ok(())
+    }
+
+    /// Ends a scope.
+    pub fn leave(&mut self)
+        ensures { self.new ≡ left_scope self.old }
+    {
+        let count = match self.scopes.pop() {
+            Some(count) => count,
+            None => 0,
+        };
+        self.keep_first(count);
+    }
+
+    /// Ends a function, in which so many scopes have begun: none of its slots is read any more.
+    pub fn end(&mut self, scopes: usize)
+        ensures { self.new ≡ ended self.old scopes }
+    {
+        self.slots.truncate(self.base);
+        if scopes > 0 {
+            let left = self.scopes.len().saturating_sub(scopes);
+            self.scopes.truncate(left);
+        }
+    }
+
+    /// Begins a function, whose slots are so many values from the top; returns where the slots of
+    /// its caller begin.
+    pub fn call(&mut self, count: usize) -> Result<usize, NoMemory>
         ensures base { IfOk result (λ base. base ≡ length self.old.below) }
-        ensures kept { OnOk result (self.new ≡ record {
-          below = self.old.below ++ self.old.state;
-          state = drop first self.old.pending;
-          pending = take first self.old.pending;
-        }) }
+        ensures kept { OnOk result (self.new ≡ called self.old count) }
     {
         let base = self.base;
+        let first = self.values.len().saturating_sub(count);
         self.base = self.slots.len();
-        if first < self.pending.len() {
-            self.slots.extend_from_slice(&self.pending[first..])?;
-            self.pending.truncate(first);
-        }
+        self.slots.extend_from_slice(&self.values[first..])?;
+        self.values.truncate(first);
         Ok(base)
     }
 
     /// Ends a function; the slots of its caller begin at `base`.
     pub fn return_to(&mut self, base: usize)
-        ensures { self.new ≡ record {
-          below = take base self.old.below;
-          state = drop base self.old.below;
-          pending = self.old.pending;
-        } }
+        ensures { self.new ≡ given_back self.old base }
     {
         self.slots.truncate(self.base);
         self.base = base.min(self.slots.len());

@@ -1,0 +1,84 @@
+//! Flat code: each op says at which position the run goes on.
+use c_ast::{BinOp, Expr, Resolved, Stmt, UnOp};
+
+/// Where an operand is.
+#[derive(Clone, Copy)]
+pub(crate) enum Operand {
+    /// It is this integer.
+    Constant(i64),
+    /// In a slot; out of scope it is 0.
+    Slot(u32),
+    /// On top of the values, from where it is taken.
+    Popped,
+}
+
+/// How a value is made.
+#[derive(Clone, Copy)]
+pub(crate) enum Work {
+    /// It is the operand.
+    Read(Operand),
+    /// By an operator before its operand.
+    Before(UnOp, Operand),
+    /// By an operator between its operands; the right one is read first.
+    Between(BinOp, Operand, Operand),
+}
+
+/// What is done with a value, and where it goes on.
+#[derive(Clone, Copy)]
+pub(crate) enum Sink {
+    /// The value is put on top of the values.
+    Push(usize),
+    /// It goes on at the first position where the value is 0, and else at the second.
+    Branch(usize, usize),
+    /// The value is that of a new slot after so many.
+    Declare(u32, usize),
+    /// The value is the new one of a slot.
+    Assign(u32, usize),
+    /// The value goes to the caller, with so many scopes less.
+    Return(usize),
+}
+
+/// Where a statement leads.
+#[derive(Clone, Copy)]
+pub(crate) struct Exits {
+    /// The statement after it.
+    pub next: usize,
+    /// Where a break leads.
+    pub broken: usize,
+    /// Where a continue leads.
+    pub continued: usize,
+    /// How many scopes of the function have begun.
+    pub scopes: usize,
+}
+
+/// One step of a run. It goes on at a lower position, but for a call and a turn, which take a
+/// round.
+#[derive(Clone, Copy)]
+pub(crate) enum Op<'a> {
+    /// A value is made, and something is done with it.
+    Do(Work, Sink),
+    /// A call of the function at this place, with so many arguments from the top of the values;
+    /// then it goes on at the position.
+    Call(u32, usize, usize),
+    /// The turns of a loop, where it leads, and the position at which a turn begins.
+    Turn(&'a Stmt, Exits, usize),
+    /// A scope begins.
+    Enter(usize),
+    /// A scope ends: the slots stay that were there when it began.
+    Leave(usize),
+}
+
+/// The code of a program and of an expression, if there is one.
+#[derive(Drop)]
+pub(crate) struct Code<'a> {
+    /// The program.
+    pub program: &'a Resolved,
+    /// The expression.
+    pub whole: Option<&'a Expr>,
+    /// The ops.
+    pub ops: Vec<Op<'a>>,
+    /// Where each function begins.
+    pub entries: Vec<usize>,
+    /// Where the expression begins.
+    pub start: Option<usize>,
+}
