@@ -1,5 +1,10 @@
 -- Lemmas on the definitions of specs/.
 pub mod CountLaws
+pub mod KeepingLaws
+pub mod ListLaws
+pub mod NewLaws
 pub mod OutcomeLaws
+pub mod ResumeLaws
 pub mod SeenLaws
+pub mod VisitedLaws
 pub mod WalkLaws

@@ -13,11 +13,11 @@ use Rattle.rx_visits.specs.declared.tally.Tally.{Tally}
 use Rattle.rx_visits.proofs.CountLaws.{ended-stays}
 
 module _ {R : Type 0} where
-  or_none : (o : Option (Note R)) → option_or o None ≡ o
+  pub or_none : (o : Option (Note R)) → option_or o None ≡ o
   or_none None = refl
   or_none (Some note) = refl
 
-  or_or : (o p q : Option (Note R)) → option_or (option_or o p) q ≡ option_or o (option_or p q)
+  pub or_or : (o p q : Option (Note R)) → option_or (option_or o p) q ≡ option_or o (option_or p q)
   or_or None p q = refl
   or_or (Some note) p q = refl
 

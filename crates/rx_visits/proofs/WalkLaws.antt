@@ -103,7 +103,8 @@ module _ {N R : Type 0} (settled : N → Settled N R) (menu : N → Menu N R) wh
       ∙ ap (λ k. counted (counted t (visits settled menu more [] start)) (lists settled menu n k start)) next
       ∙ sym (counted-append t (visits settled menu more [] start) (lists settled menu n (suc more) start))
 
-  -- the last list
-  pub last-list : (t u : Tally N R) (more : ℕ) (start : N) → u ≡ counted t (visits settled menu more [] start) → u ≡ counted t (lists settled menu 1 more start)
+  -- where no list is left
+  pub no-list : (t : Tally N R) (n more : ℕ) (start : N) → n ≡ 0 → counted t (lists settled menu n more start) ≡ t
   unfolding lists
-  last-list t u more start e = e ∙ sym (counted-append t (visits settled menu more [] start) [])
+  no-list t zero more start h = refl
+  no-list t (suc n) more start h = absurd (omega (arith, h))

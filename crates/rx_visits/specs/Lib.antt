@@ -1,4 +1,5 @@
 -- Visits of a tree of nodes, and what the first of them come to.
+pub mod Keeping
 pub mod Outcomes
 pub mod Tallies
 pub mod Views

@@ -35,7 +35,8 @@ abbrev pub spent_if : {N R : Type 0} → Bool → Outcome N R
 spent_if true = Spent
 spent_if false = Through
 
--- the first closed node among the first `budget` visits; else the first note among them; else whether there are more
+-- the first closed node among the first `budget` visits; else the first note among them; else
+-- whether there are more
 abbrev pub outcome : {N R : Type 0} → ℕ → List (Visit N R) → Outcome N R
 outcome budget vs =
     closed_or (first_closed (take budget vs))

@@ -1,6 +1,6 @@
 -- How far the visits have come, where each is counted as it is made.
 use Rattle.std.specs.Prelude.{ℕ, zero, suc, if◌then◌else◌, Option, None, List, [], ◌∷◌}
-use Rattle.std.specs.Option.{option_or}
+use Rattle.std.specs.Option.{option_map, option_or}
 use Rattle.rx_visits.specs.Outcomes.{noted_or, note_of}
 use Rattle.rx_visits.specs.Visits.{Visit}
 use Rattle.rx_visits.specs.declared.outcome.Note.{Note}
@@ -12,7 +12,23 @@ use Rattle.rx_visits.specs.declared.tally.Tally.{Tally}
 
 -- a visit within the budget
 abbrev pub visited : {N R : Type 0} → ℕ → Tally N R → Visit N R → Tally N R
-visited left t v = record { left = left; note = option_or t.note (note_of v); ended = if v.closed then Found v.node else Going }
+visited left t v =
+    record {
+      left = left;
+      note = option_or t.note (note_of v);
+      ended = if v.closed then
+          Found v.node else Going;
+    }
+
+-- one of a node that isn't closed
+abbrev pub visited_open : {N R : Type 0} → ℕ → Tally N R → List ℕ → Option R → Tally N R
+visited_open left t path note =
+    record {
+      left = left;
+      note = option_or t.note
+          (option_map (λ rows. record { path = path; noted = rows }) note);
+      ended = Going;
+    }
 
 -- there are more visits than the budget
 abbrev pub over : {N R : Type 0} → Tally N R → Tally N R

@@ -1,4 +1,5 @@
--- What is seen of nodes, where a tree says how a node is seen: what shows that a step applies may be left out, say.
+-- What is seen of nodes, where a tree says how a node is seen: what shows that a step applies may
+-- be left out, say.
 use Rattle.std.specs.Prelude.{map}
 use Rattle.rx_visits.specs.Visits.{Visit}
 use Rattle.rx_visits.specs.declared.outcome.Outcome.{Outcome}

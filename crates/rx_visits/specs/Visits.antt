@@ -1,5 +1,6 @@
--- The visits of a tree: the tree cut at no choice, then at one, and so on, each in preorder. A node is
--- settled, and then, where more choices may come and it isn't closed, its choices lead to further nodes.
+-- The visits of a tree: the tree cut at no choice, then at one, and so on, each in preorder. A node
+-- is settled, and then, where more choices may come and it isn't closed, its choices lead to
+-- further nodes.
 use Rattle.std.specs.Prelude.{ℕ, zero, suc, Bool, if◌then◌else◌, Option, List, [], ◌∷◌, ◌++◌}
 use Rattle.std.specs.List.{flat_map}
 use Rattle.std.specs.Option.{option_or}
@@ -7,8 +8,8 @@ use Rattle.rx_visits.specs.declared.tree.Choice.{Choice}
 use Rattle.rx_visits.specs.declared.tree.Menu.{Menu}
 use Rattle.rx_visits.specs.declared.tree.Settled.{Settled}
 
--- a visit: the choices on the path to the node by their numbers, the node as it is settled, whether it is
--- closed, and what was noted first
+-- a visit: the choices on the path to the node by their numbers, the node as it is settled, whether
+-- it is closed, and what was noted first
 pub record Visit (N R : Type 0) : Type 0 where
   pub path : List ℕ
   pub node : N
@@ -21,7 +22,8 @@ alone path s = record { path = path; node = s.node; closed = s.closed; note = s.
 
 -- one that also finds the choices there
 abbrev pub choosing : {N R : Type 0} → List ℕ → Settled N R → Menu N R → Visit N R
-choosing path s m = record { path = path; node = s.node; closed = s.closed; note = option_or s.note m.note }
+choosing path s m =
+    record { path = path; node = s.node; closed = s.closed; note = option_or s.note m.note }
 
 module _ {N R : Type 0} (settled : N → Settled N R) (menu : N → Menu N R) where
   -- the visits from a node on, with at most so many choices to come
@@ -30,11 +32,13 @@ module _ {N R : Type 0} (settled : N → Settled N R) (menu : N → Menu N R) wh
   visits (suc more) path node =
       if (settled node).closed then alone path (settled node) ∷ []
       else choosing path (settled node) (menu (settled node).node)
-      ∷ flat_map (λ (c : Choice N). visits more (path ++ c.number ∷ []) c.node) (menu (settled node).node).choices
+      ∷ flat_map (λ (c : Choice N). visits more (path ++ c.number ∷ []) c.node)
+      (menu (settled node).node).choices
 
   -- those from the nodes on that the choices at a node lead to
   abbrev pub visits_of : ℕ → List ℕ → List (Choice N) → List (Visit N R)
-  visits_of more path choices = flat_map (λ (c : Choice N). visits more (path ++ c.number ∷ []) c.node) choices
+  visits_of more path choices =
+      flat_map (λ (c : Choice N). visits more (path ++ c.number ∷ []) c.node) choices
 
   -- so many lists one after the other, the first with at most that many choices on a path
   unfoldable pub lists : ℕ → ℕ → N → List (Visit N R)

@@ -1,7 +1,7 @@
 //! How far visits have come.
 ghost use Rattle.std.specs.Prelude.{◌≡◌, ◌↔◌, ◌<◌, ◌-◌, IsTrue};
 ghost use Rattle.std.specs.Option.{option_map};
-ghost use Rattle.rx_visits.specs.Tallies.{begin, outcome_by, over, visited};
+ghost use Rattle.rx_visits.specs.Tallies.{begin, outcome_by, over, visited, visited_open};
 ghost use Rattle.rx_visits.specs.declared.tally.Ended.TheVariants.{Going};
 
 use crate::outcome::{Note, Outcome};
@@ -72,6 +72,22 @@ fn with_path<R>(path: Items<u8>, note: Option<R>) -> Option<Note<R>>
     }
 }
 
+/// One more visit within the budget, of a node that isn't closed.
+pub(crate) fn count_open<N: Drop, R: Drop>(
+    tally: Tally<N, R>,
+    path: Items<u8>,
+    note: Option<R>,
+) -> Tally<N, R>
+    requires { 0 < tally.left }
+    ensures { result ≡ visited_open (tally.left - 1) tally path note }
+{
+    Tally {
+        left: tally.left - 1,
+        note: tally.note.or(with_path(path, note)),
+        ended: Ended::Going,
+    }
+}
+
 /// One more visit, within the budget.
 pub(crate) fn count<N: Drop, R: Drop>(
     tally: Tally<N, R>,
@@ -81,18 +97,16 @@ pub(crate) fn count<N: Drop, R: Drop>(
     note: Option<R>,
 ) -> Tally<N, R>
     requires { 0 < tally.left }
-    ensures { result ≡ visited (tally.left - 1) tally (record { path = path; node = node; closed = closed; note = note }) }
+    ensures { result ≡ visited (tally.left - 1) tally
+        (record { path = path; node = node; closed = closed; note = note }) }
 {
     let ended = if closed {
         Ended::Found(node)
     } else {
         Ended::Going
     };
-    Tally {
-        left: tally.left - 1,
-        note: tally.note.or(with_path(path, note)),
-        ended,
-    }
+    let Tally { left, note, .. } = count_open(tally, path, note);
+    Tally { left, note, ended }
 }
 
 /// What the visits come to.

@@ -73,7 +73,8 @@ pub trait Tree {
         requires valid { valid (world self.old) node.now }
         ensures ready { ready self.new }
         ensures world { world self.new ≡ world self.old }
-        ensures settled { IfOk result (λ s. seen_settled view s ≡ settled (world self.old) (view node.now)) }
+        ensures settled { IfOk result (λ s. seen_settled view s ≡
+            settled (world self.old) (view node.now)) }
         ensures valid { IfOk result (λ s. valid (world self.old) s.node) };
 
     /// Finds the choices at a settled node that isn't closed.

@@ -1,4 +1,5 @@
-//! The walk over visits: each node is settled as it is visited, and let go again.
+//! The walk over visits where nothing is kept: each node is settled as it is visited, and then let
+//! go.
 ghost use Rattle.std.specs.Prelude.{◌≡◌, ◌++◌, ◌∷◌, ◌<◌, ◌-◌, [], All, IfOk, map};
 ghost use Rattle.std.specs.List.{flat_map};
 ghost use Rattle.rx_visits.specs.Outcomes.{outcome};
@@ -13,7 +14,7 @@ use rx_plain::{Items, NoMemory};
 use std::alloc::{AllocError, Global};
 
 /// The path with one more choice.
-fn longer(alloc: Global, path: &[u8], number: u8) -> Result<Items<u8>, AllocError>
+pub(crate) fn longer(alloc: Global, path: &[u8], number: u8) -> Result<Items<u8>, AllocError>
     ensures { IfOk result (λ longer. longer ≡ path.now ++ number ∷ []) }
 {
     let mut made = Items::from_slice(alloc, path)?;
@@ -23,7 +24,7 @@ fn longer(alloc: Global, path: &[u8], number: u8) -> Result<Items<u8>, AllocErro
 
 /// The visits from the nodes on that the choices lead to, in order.
 #[cycle(walking)]
-fn walk_all<T: Tree>(
+pub(crate) fn walk_all<T: Tree>(
     alloc: Global,
     tree: &mut T,
     more: u32,
@@ -35,8 +36,11 @@ fn walk_all<T: Tree>(
     requires valid { All (λ c. T.valid (T.world tree.old) c.node) choices.now }
     ensures ready { T.ready tree.new }
     ensures world { T.world tree.new ≡ T.world tree.old }
-    ensures counted { IfOk result (λ t. seen_tally T.view t ≡ counted (seen_tally T.view tally) (visits_of (T.settled (T.world tree.old)) (T.menu (T.world tree.old)) more path.now (map (seen_choice T.view) choices.now))) }
-    ensures valid { IfFound (T.valid (T.world tree.old)) tally.ended → IfOk result (λ t. IfFound (T.valid (T.world tree.old)) t.ended) }
+    ensures counted { IfOk result (λ t. seen_tally T.view t ≡
+        counted (seen_tally T.view tally) (visits_of (T.settled (T.world tree.old))
+        (T.menu (T.world tree.old)) more path.now (map (seen_choice T.view) choices.now))) }
+    ensures valid { IfFound (T.valid (T.world tree.old)) tally.ended →
+        IfOk result (λ t. IfFound (T.valid (T.world tree.old)) t.ended) }
 {
     let mut tally = tally;
     for choice in choices {
@@ -61,7 +65,12 @@ fn walk_choices<T: Tree>(
     requires left { 0 < tally.left }
     ensures ready { T.ready tree.new }
     ensures world { T.world tree.new ≡ T.world tree.old }
-    ensures counted { IfOk result (λ t. seen_tally T.view t ≡ counted (visited (tally.left - 1) (seen_tally T.view tally) (choosing path.now (seen_settled T.view settled) (T.menu (T.world tree.old) (T.view settled.node)))) (visits_of (T.settled (T.world tree.old)) (T.menu (T.world tree.old)) more path.now (T.menu (T.world tree.old) (T.view settled.node)).choices)) }
+    ensures counted { IfOk result (λ t. seen_tally T.view t ≡
+        counted (visited (tally.left - 1) (seen_tally T.view tally)
+        (choosing path.now (seen_settled T.view settled)
+        (T.menu (T.world tree.old) (T.view settled.node))))
+        (visits_of (T.settled (T.world tree.old)) (T.menu (T.world tree.old)) more path.now
+        (T.menu (T.world tree.old) (T.view settled.node)).choices)) }
     ensures valid { IfOk result (λ t. IfFound (T.valid (T.world tree.old)) t.ended) }
 {
     let menu = tree.choices(&settled.node)?;
@@ -85,8 +94,11 @@ fn walk<T: Tree>(
     requires valid { T.valid (T.world tree.old) node.now }
     ensures ready { T.ready tree.new }
     ensures world { T.world tree.new ≡ T.world tree.old }
-    ensures counted { IfOk result (λ t. seen_tally T.view t ≡ counted (seen_tally T.view tally) (visits (T.settled (T.world tree.old)) (T.menu (T.world tree.old)) more path.now (T.view node.now))) }
-    ensures valid { IfFound (T.valid (T.world tree.old)) tally.ended → IfOk result (λ t. IfFound (T.valid (T.world tree.old)) t.ended) }
+    ensures counted { IfOk result (λ t. seen_tally T.view t ≡
+        counted (seen_tally T.view tally) (visits (T.settled (T.world tree.old))
+        (T.menu (T.world tree.old)) more path.now (T.view node.now))) }
+    ensures valid { IfFound (T.valid (T.world tree.old)) tally.ended →
+        IfOk result (λ t. IfFound (T.valid (T.world tree.old)) t.ended) }
 {
     if !is_going(&tally.ended) {
         return Ok(tally);
@@ -100,34 +112,4 @@ fn walk<T: Tree>(
         return Ok(count(tally, at, settled.node, settled.closed, settled.note));
     }
     walk_choices(alloc, tree, more - 1, path, settled, tally)
-}
-
-/// What the visits of the tree from the start node on come to, with at most `depth` choices on a
-/// path and at most `budget` visits: lists 0, 1, .., `depth` one after the other, where list k is
-/// the tree cut at k choices, in preorder. The first closed node among the first `budget` visits;
-/// else the first note among them, with the path to it; else whether there are more visits than
-/// that. A visit settles its node, and where more choices may come and the node isn't closed, it
-/// finds the choices there, before any of the nodes after them is visited. No more is settled than
-/// that.
-pub fn search<T: Tree>(
-    alloc: Global,
-    tree: &mut T,
-    start: &T::Node,
-    depth: u32,
-    budget: u32,
-) -> Result<Outcome<T::Node, T::Note>, NoMemory>
-    requires ready { T.ready tree.old }
-    requires valid { T.valid (T.world tree.old) start.now }
-    ensures ready { T.ready tree.new }
-    ensures world { T.world tree.new ≡ T.world tree.old }
-    ensures outcome { IfOk result (λ o. seen_outcome T.view o ≡ outcome budget (all_visits (T.settled (T.world tree.old)) (T.menu (T.world tree.old)) depth (T.view start.now))) }
-    ensures valid { IfOk result (λ o. IfClosed (T.valid (T.world tree.old)) o) }
-{
-    let path = Items::new(alloc);
-    let mut tally = begin(budget);
-    for more in 0..depth {
-        tally = walk(alloc, tree, more, path.as_slice(), start, tally)?;
-    }
-    let tally = walk(alloc, tree, depth, path.as_slice(), start, tally)?;
-    Ok(outcome_of(tally))
 }

@@ -1,0 +1,241 @@
+//! Visits from kept nodes on: each of these is settled once, and its choices are found once, where
+//! there is room to keep the nodes that they lead to.
+ghost use Rattle.std.specs.Prelude.{◌≡◌, ◌+◌, ◌-◌, ◌<◌, ◌++◌, ◌∷◌, [], All, ℕ, false, IfOk, List, map};
+ghost use Rattle.rx_visits.specs.Keeping.{IsAfterNote, IsLeaf, IsVisited, OfLeaf, StandsForVisits, visits_from};
+ghost use Rattle.rx_visits.specs.Tallies.{visited_open};
+ghost use Rattle.rx_visits.specs.Views.{IfFound, seen_choice, seen_menu};
+ghost use Rattle.rx_visits.specs.Visits.{Visit, alone, visits, visits_of};
+ghost use Rattle.rx_visits.specs.declared.kept.Kept.TheVariants.{Expanded};
+ghost use Rattle.rx_visits.specs.declared.tally.Ended.TheVariants.{Going};
+ghost use Rattle.rx_visits.specs.declared.tree.Settled.{Settled};
+
+use crate::kept::{Kept, Leaf, Progress, end_over, keep_expanded, keep_leaf};
+use crate::tally::{count, count_open, is_going};
+use crate::tree::{Choice, Menu, Tree};
+use crate::walk::{longer, walk_all};
+use rx_plain::{Items, NoMemory};
+use std::alloc::Global;
+
+/// The only visit of a node in its first list: it is settled, and kept unless it is closed.
+pub(crate) fn visit_new<T: Tree>(
+    alloc: Global,
+    tree: &mut T,
+    path: Items<u8>,
+    node: &T::Node,
+    progress: Progress<T::Node, T::Note>,
+) -> Result<Progress<T::Node, T::Note>, NoMemory>
+    requires ready { T.ready tree.old }
+    requires valid { T.valid (T.world tree.old) node.now }
+    ensures ready { T.ready tree.new }
+    ensures world { T.world tree.new ≡ T.world tree.old }
+    ensures visited { IfOk result (IsVisited T.view (T.settled (T.world tree.old))
+        (T.menu (T.world tree.old)) progress (λ n.
+        visits (T.settled (T.world tree.old)) (T.menu (T.world tree.old)) n path (T.view node.now))) }
+    ensures valid { IfFound (T.valid (T.world tree.old)) progress.tally.ended →
+        IfOk result (λ p. IfFound (T.valid (T.world tree.old)) p.tally.ended) }
+    ensures leaves { (most : ℕ) → 0 < most → All (OfLeaf (T.valid (T.world tree.old)) most)
+        progress.kept → IfOk result (λ p. All (OfLeaf (T.valid (T.world tree.old)) most) p.kept) }
+{
+    if !is_going(&progress.tally.ended) {
+        return Ok(progress);
+    }
+    if progress.tally.left == 0 {
+        return Ok(end_over(progress));
+    }
+    let settled = tree.settle(node)?;
+    if settled.closed {
+        return Ok(Progress {
+            tally: count(progress.tally, path, settled.node, true, settled.note),
+            kept: progress.kept,
+            room: progress.room,
+        });
+    }
+    keep_leaf(alloc, path, settled.node, settled.note, progress)
+}
+
+/// The visits of the nodes that the choices lead to, in order, in their first list.
+fn visit_each<T: Tree>(
+    alloc: Global,
+    tree: &mut T,
+    path: &[u8],
+    choices: Items<Choice<T::Node>>,
+    progress: Progress<T::Node, T::Note>,
+) -> Result<Progress<T::Node, T::Note>, NoMemory>
+    requires ready { T.ready tree.old }
+    requires valid { All (λ c. T.valid (T.world tree.old) c.node) choices }
+    ensures ready { T.ready tree.new }
+    ensures world { T.world tree.new ≡ T.world tree.old }
+    ensures visited { IfOk result (IsVisited T.view (T.settled (T.world tree.old))
+        (T.menu (T.world tree.old)) progress (λ n.
+        visits_of (T.settled (T.world tree.old)) (T.menu (T.world tree.old)) n path.now
+        (map (seen_choice T.view) choices))) }
+    ensures valid { IfFound (T.valid (T.world tree.old)) progress.tally.ended →
+        IfOk result (λ p. IfFound (T.valid (T.world tree.old)) p.tally.ended) }
+    ensures leaves { (most : ℕ) → 0 < most → All (OfLeaf (T.valid (T.world tree.old)) most)
+        progress.kept → IfOk result (λ p. All (OfLeaf (T.valid (T.world tree.old)) most) p.kept) }
+{
+    let mut progress = progress;
+    for choice in choices.as_slice() {
+        let at = longer(alloc, path, choice.number)?;
+        progress = visit_new(alloc, tree, at, &choice.node, progress)?;
+    }
+    Ok(progress)
+}
+
+/// The visits from a leaf on, by its choices; the nodes that they lead to are kept in its place.
+fn expand<T: Tree>(
+    alloc: Global,
+    tree: &mut T,
+    path: &[u8],
+    menu: Menu<T::Node, T::Note>,
+    progress: Progress<T::Node, T::Note>,
+) -> Result<Progress<T::Node, T::Note>, NoMemory>
+    requires ready { T.ready tree.old }
+    requires valid { All (λ c. T.valid (T.world tree.old) c.node) menu.choices }
+    requires going { progress.tally.ended ≡ Going }
+    requires left { 0 < progress.tally.left }
+    ensures ready { T.ready tree.new }
+    ensures world { T.world tree.new ≡ T.world tree.old }
+    ensures visited { (s : Settled T.View T.Note) → s.closed ≡ false →
+        IsAfterNote progress.tally.note (alone path.now s) → seen_menu T.view menu ≡
+        T.menu (T.world tree.old) s.node → IfOk result
+        (IsVisited T.view (T.settled (T.world tree.old)) (T.menu (T.world tree.old)) progress
+        (λ n. visits_from (T.settled (T.world tree.old)) (T.menu (T.world tree.old)) n path.now s)) }
+    ensures valid { IfOk result (λ p. IfFound (T.valid (T.world tree.old)) p.tally.ended) }
+    ensures leaves { (most : ℕ) → 0 < most → All (OfLeaf (T.valid (T.world tree.old)) most)
+        progress.kept → IfOk result (λ p. All (OfLeaf (T.valid (T.world tree.old)) most) p.kept) }
+{
+    let at = Items::from_slice(alloc, path)?;
+    let Menu { choices, note } = menu;
+    let progress = keep_expanded(at, note, choices.len(), progress)?;
+    visit_each(alloc, tree, path, choices, progress)
+}
+
+/// The visits from a leaf on, by its choices; it stays a leaf.
+fn walk_below<T: Tree>(
+    alloc: Global,
+    tree: &mut T,
+    leaf: Leaf<T::Node>,
+    menu: Menu<T::Node, T::Note>,
+    progress: Progress<T::Node, T::Note>,
+) -> Result<Progress<T::Node, T::Note>, NoMemory>
+    requires ready { T.ready tree.old }
+    requires leaf { T.valid (T.world tree.old) leaf.node }
+    requires below { leaf.below < u32.MAX }
+    requires valid { All (λ c. T.valid (T.world tree.old) c.node) menu.choices }
+    requires going { progress.tally.ended ≡ Going }
+    requires left { 0 < progress.tally.left }
+    ensures ready { T.ready tree.new }
+    ensures world { T.world tree.new ≡ T.world tree.old }
+    ensures visited { (s : Settled T.View T.Note) → IsLeaf T.view progress.tally.note leaf s →
+        seen_menu T.view menu ≡ T.menu (T.world tree.old) s.node →
+        IfOk result (IsVisited T.view (T.settled (T.world tree.old)) (T.menu (T.world tree.old))
+        progress (λ n. visits_from (T.settled (T.world tree.old)) (T.menu (T.world tree.old))
+        (n + leaf.below) leaf.path s)) }
+    ensures valid { IfOk result (λ p. IfFound (T.valid (T.world tree.old)) p.tally.ended) }
+    ensures leaves { (most : ℕ) → leaf.below < most →
+        All (OfLeaf (T.valid (T.world tree.old)) (most + 1)) progress.kept →
+        IfOk result (λ p. All (OfLeaf (T.valid (T.world tree.old)) (most + 1)) p.kept) }
+{
+    let Leaf { path, node, below } = leaf;
+    let Progress {
+        tally,
+        mut kept,
+        room,
+    } = progress;
+    let at = Items::from_slice(alloc, path.as_slice())?;
+    let tally = count_open(tally, at, menu.note);
+    let choices = menu.choices;
+    let tally = walk_all(
+        alloc,
+        tree,
+        below,
+        path.as_slice(),
+        choices.as_slice(),
+        tally,
+    )?;
+    kept.push(Kept::Frontier(Leaf {
+        path,
+        node,
+        below: below + 1,
+    }))?;
+    Ok(Progress { tally, kept, room })
+}
+
+/// The visits from a leaf on: its choices are found, and the nodes that they lead to are kept where
+/// there is room.
+fn visit_leaf<T: Tree>(
+    alloc: Global,
+    tree: &mut T,
+    leaf: Leaf<T::Node>,
+    progress: Progress<T::Node, T::Note>,
+) -> Result<Progress<T::Node, T::Note>, NoMemory>
+    requires ready { T.ready tree.old }
+    requires leaf { T.valid (T.world tree.old) leaf.node }
+    requires below { leaf.below < u32.MAX }
+    requires going { progress.tally.ended ≡ Going }
+    requires left { 0 < progress.tally.left }
+    ensures ready { T.ready tree.new }
+    ensures world { T.world tree.new ≡ T.world tree.old }
+    ensures visited { (s : Settled T.View T.Note) → IsLeaf T.view progress.tally.note leaf s →
+        IfOk result (IsVisited T.view (T.settled (T.world tree.old)) (T.menu (T.world tree.old))
+        progress (λ n. visits_from (T.settled (T.world tree.old)) (T.menu (T.world tree.old))
+        (n + leaf.below) leaf.path s)) }
+    ensures valid { IfOk result (λ p. IfFound (T.valid (T.world tree.old)) p.tally.ended) }
+    ensures leaves { (most : ℕ) → leaf.below < most →
+        All (OfLeaf (T.valid (T.world tree.old)) (most + 1)) progress.kept →
+        IfOk result (λ p. All (OfLeaf (T.valid (T.world tree.old)) (most + 1)) p.kept) }
+{
+    let menu = tree.choices(&leaf.node)?;
+    if leaf.below == 0 && menu.choices.len() <= progress.room {
+        expand(alloc, tree, leaf.path.as_slice(), menu, progress)
+    } else {
+        walk_below(alloc, tree, leaf, menu, progress)
+    }
+}
+
+/// The visit of an expanded node: whatever was noted there isn't the first note any more.
+fn visit_expanded<N: Drop, R: Drop>(
+    alloc: Global,
+    progress: Progress<N, R>,
+) -> Result<Progress<N, R>, NoMemory>
+    requires { 0 < progress.tally.left }
+    ensures tally { IfOk result (λ p. p.tally ≡
+        visited_open (progress.tally.left - 1) progress.tally [] None) }
+    ensures kept { IfOk result (λ p. p.kept ≡ progress.kept ++ Expanded ∷ []) }
+{
+    keep_expanded(Items::new(alloc), None, 0, progress)
+}
+
+/// The visits from a kept node on, up to the next one.
+pub(crate) fn visit_kept<T: Tree>(
+    alloc: Global,
+    tree: &mut T,
+    node: Kept<T::Node>,
+    progress: Progress<T::Node, T::Note>,
+) -> Result<Progress<T::Node, T::Note>, NoMemory>
+    requires ready { T.ready tree.old }
+    requires leaf { OfLeaf (T.valid (T.world tree.old)) u32.MAX node }
+    ensures ready { T.ready tree.new }
+    ensures world { T.world tree.new ≡ T.world tree.old }
+    ensures visited { (lists : ℕ → List (Visit T.View T.Note)) →
+        StandsForVisits T.view (T.settled (T.world tree.old)) (T.menu (T.world tree.old))
+        progress.tally.note node lists → IfOk result
+        (IsVisited T.view (T.settled (T.world tree.old)) (T.menu (T.world tree.old)) progress lists) }
+    ensures valid { IfFound (T.valid (T.world tree.old)) progress.tally.ended →
+        IfOk result (λ p. IfFound (T.valid (T.world tree.old)) p.tally.ended) }
+    ensures leaves { (most : ℕ) → OfLeaf (T.valid (T.world tree.old)) most node →
+        All (OfLeaf (T.valid (T.world tree.old)) (most + 1)) progress.kept →
+        IfOk result (λ p. All (OfLeaf (T.valid (T.world tree.old)) (most + 1)) p.kept) }
+{
+    if !is_going(&progress.tally.ended) {
+        return Ok(progress);
+    }
+    if progress.tally.left == 0 {
+        return Ok(end_over(progress));
+    }
+    match node {
+        Kept::Expanded => visit_expanded(alloc, progress),
+        Kept::Frontier(leaf) => visit_leaf(alloc, tree, leaf, progress),
+    }
+}
