@@ -1,5 +1,14 @@
 -- The first choices of the last lists, with one list more before them.
-use Rattle.std.proofs.Common.{◌≡◌, ◌∙◌, ap, sym, refl, arith, inl, inr, ℕ, ◌+◌, ◌<◌, ◌≤◌, List, [], ◌∷◌, ◌++◌, length, Some, append-nil, append_assoc, drop, map, min, slice_get, take}
+use Rattle.std.proofs.Common.{◌≡◌, ◌∙◌, ap, sym, refl, arith, inl, inr, ℕ, ◌+◌, ◌≤◌, List, [], ◌∷◌, ◌++◌, length, Option, Some, None, Contains, IfSome, append-nil, append_assoc, drop, map, min, slice_get, take}
+use Rattle.std.specs.Prelude.{Vec}
+use Rattle.std.specs.declared.alloc.Global.{Global}
+use Rattle.std.specs.Option.{option_map}
+use Rattle.std.proofs.lemmas.Option.{get_or_from_slice_get, slice_get-map, slice_get_within}
+use denote.Ref.{Bor}
+use Rattle.rx_pairs.specs.declared.pair.Pair.{Pair}
+use Rattle.rx_term.specs.declared.rule_set.SymInfo.{SymInfo}
+use Rattle.rx_rank.specs.Answers.{IsChosen, IsFirstFit, choices_at, polys_at}
+use Rattle.rx_rank.specs.declared.fitting.Fit.{Fit}
 use Rattle.std.proofs.Math.Seq.{take-length}
 use Rattle.std.proofs.lemmas.Bool.{cases_order}
 use Rattle.std.proofs.lemmas.List.{length-map, length-take-le, take-append-le, take-map, take-take, take_min}
@@ -79,3 +88,18 @@ begin lists choices is = record { last = []; whole = sym (append-nil lists); sam
 
 pub finished : (lists rest choices : List (List Body)) → rest ≡ [] → Chosen lists rest choices → choices ≡ take most_choices (products lists)
 finished lists rest choices none c = c.same ∙ ap (λ ls. take most_choices (products ls)) (sym (c.whole ∙ ap (λ ls. ls ++ c.last) none))
+
+-- ---- the first fit choice
+
+-- the choice at a place is one of them
+pub choice_among : (choices : List (Vec (Bor Body) Global)) (i : ℕ) (v : Vec (Bor Body) Global) → slice_get choices i ≡ Some v → Contains (choices_at choices) (polys_at v.items)
+choice_among choices i v there =
+    let at : slice_get (choices_at choices) i ≡ Some (polys_at v.items) =
+    slice_get-map (λ (w : Vec (Bor Body) Global). polys_at w.items) choices i ∙ ap (option_map (λ (w : Vec (Bor Body) Global). polys_at w.items)) there in
+    (i, slice_get_within (choices_at choices) i (polys_at v.items) at, get_or_from_slice_get (choices_at choices) i (polys_at v.items) (polys_at v.items) at)
+
+module _ (infos : List SymInfo) (pairs : List Pair) (anchors order : List ℕ) (choices : List (List Body)) (choice : List Body) where
+  -- what comes of one of the choices is a first fit
+  pub fit_among : (made : Option Fit) → Contains choices choice → IfSome made (IsChosen infos pairs anchors order choice) → IfSome made (IsFirstFit infos pairs anchors order choices)
+  fit_among None among chosen = tt
+  fit_among (Some fit) among chosen = record { choice = choice; among = among; chosen = chosen }

@@ -1,18 +1,16 @@
 -- The polynomials of a fit choice are of the component's symbols, over their arguments, with no variables but those of
 -- the rules' rows and of the pairs.
-use Rattle.std.proofs.Common.{◌≡◌, ◌∙◌, ap, sym, subst, refl, ℕ, zero, suc, ◌==◌, ◌+◌, Bool, true, false, ◌&&◌, not, cond, Option, Some, None, List, [], ◌∷◌, ◌++◌, length, map, take, Contains}
+use Rattle.std.proofs.Common.{◌≡◌, ◌∙◌, ap, sym, subst, refl, ℕ, zero, suc, ◌==◌, ◌+◌, Bool, true, false, ◌&&◌, not, cond, Option, Some, None, List, [], ◌∷◌, ◌++◌, length, map, take}
 use Rattle.std.proofs.lemmas.Bool.{and_parts}
 use Rattle.std.proofs.lemmas.List.Elements.{All-cons, All-contains, All-filter, All-head, All-nil, All-tail, All-take, All-weaker, filter_passes}
 use Rattle.std.specs.List.{All, AllZip, filter, find, list_all}
 use Rattle.std.specs.Option.{IfSome, option_map}
 use Rattle.rx_poly.specs.Substitution.{in_body, numbered, numbered_from, replaced}
-use Rattle.rx_poly.specs.Constants.{variable}
 use Rattle.rx_poly.specs.Variables.{uses_below, variables}
 use Rattle.rx_poly.specs.declared.body.Body.{Body}
 use Rattle.rx_poly_laws.specs.Tests.{passes}
 use Rattle.rx_poly_laws.proofs.InstanceVariables.{instance_passes}
 use Rattle.rx_poly_laws.proofs.TestLaws.{passes-variable}
-use Rattle.rx_plain.specs.Formed.{Formed}
 use Rattle.rx_cert.specs.Findings.{Said, Yes, No, Beyond}
 use Rattle.rx_cert.specs.Variables.{rows_pass}
 use Rattle.rx_solve.specs.Attempts.{Tried, where_shown}
@@ -24,12 +22,12 @@ use Rattle.rx_pairs.specs.declared.pair.Pair.{Pair}
 use Rattle.rx_rank.proofs.OwnCandidates.{IsOwnCandidate, candidates_own}
 use Rattle.rx_rank.proofs.TryLaws.{or_no}
 use Rattle.rx_rank.proofs.OwnValues.{AreOwn, choice_own, filled_own, made_by_one, made_of_both, none_own, products_own, length-choice, length-filled, length-without}
-use Rattle.rx_rank.specs.Answers.{IsChosen, IsComponentFit, IsFirstFit, IsOwn, pair_passes, rules_pass}
+use Rattle.rx_rank.specs.Answers.{IsComponentFit, IsFirstFit, IsOwn, pair_passes}
 use Rattle.rx_rank.specs.Candidates.{are_noted, arity_of, candidate_lists, candidates, is_anchor}
-use Rattle.rx_rank.specs.Choices.{filled, first_serving, from_target, hold_with, instance_on, is_ready, next_first, order_by, order_of, pairs_from, polynomial_of, products, serving, with_choice, without, without_polynomials}
+use Rattle.rx_rank.specs.Choices.{first_serving, from_target, hold_with, instance_on, is_ready, next_first, order_by, order_of, pairs_from, polynomial_of, products, serving, with_choice, without, without_polynomials}
 use Rattle.rx_rank.specs.Components.{is_member, members, symbols_of}
 use Rattle.rx_rank.specs.Ranking.{anchors, arities, component, first_fit, most_choices, others}
-use Rattle.rx_rank.specs.Tries.{and_then, kept_tried, noting}
+use Rattle.rx_rank.specs.Tries.{kept_tried, noting}
 use Rattle.rx_rank.specs.declared.fitting.Fit.{Fit}
 
 -- ---- orders

@@ -1,6 +1,6 @@
 -- Candidates that are gathered: those so far, and what is left to try.
-use Rattle.std.proofs.Common.{◌≡◌, ◌∙◌, ap, sym, refl, Bool, true, false, ◌||◌, Option, Some, None, List, [], ◌∷◌, ◌++◌, append-nil}
-use Rattle.std.specs.List.{cons_option, filter_map, flat_map, fold, list_any}
+use Rattle.std.proofs.Common.{◌≡◌, ◌∙◌, ap, sym, refl, Bool, true, false, ◌||◌, List, [], ◌∷◌, ◌++◌}
+use Rattle.std.specs.List.{fold}
 use Rattle.std.proofs.lemmas.List.Elements.{filter_map-append}
 use Rattle.std.proofs.lemmas.List.Folds.{list_any-append}
 use Rattle.rx_poly.specs.declared.body.Body.{Body}

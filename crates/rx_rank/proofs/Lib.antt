@@ -3,6 +3,7 @@ pub mod Certified
 pub mod Choosing
 pub mod ComponentLaws
 pub mod Gathering
+pub mod MemoLaws
 pub mod OwnCandidates
 pub mod OwnValues
 pub mod PairLaws

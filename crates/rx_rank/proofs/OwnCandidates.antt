@@ -1,6 +1,6 @@
 -- A candidate is over the arguments of its anchor, and has no variables but those of the rules' rows.
-use Rattle.std.proofs.Common.{◌≡◌, ◌∙◌, ap, sym, subst, refl, ℕ, ◌<◌, Bool, true, false, ◌&&◌, cond, Option, Some, None, List, [], ◌∷◌, ◌++◌}
-use Rattle.std.specs.List.{All, cons_option, filter_map, flat_map, fold, list_all, list_any}
+use Rattle.std.proofs.Common.{◌≡◌, subst, refl, ℕ, Bool, true, false, cond, Option, Some, None, List, [], ◌∷◌, ◌++◌}
+use Rattle.std.specs.List.{All, cons_option, flat_map, fold, list_any}
 use Rattle.std.specs.Prelude.{nat_lt, negsuc}
 use Rattle.std.proofs.lemmas.Bool.{and_parts}
 use Rattle.std.proofs.lemmas.List.Elements.{All-append, All-cons, All-head, All-nil, All-tail}
@@ -15,7 +15,7 @@ use Rattle.rx_row.specs.Parts.{poly_of}
 use Rattle.rx_row.specs.declared.row.Row.{Row}
 use Rattle.rx_row.specs.declared.row.Row.TheVariants.{Ge, Eq, Ne}
 use Rattle.rx_cert.specs.Variables.{row_passes, rows_pass}
-use Rattle.rx_solve.specs.Attempts.{Tried, applies, applying, beyond}
+use Rattle.rx_solve.specs.Attempts.{Tried, applies, applying}
 use Rattle.rx_term.specs.declared.rule.Rule.{Rule}
 use Rattle.rx_rank.specs.Answers.{rules_pass}
 use Rattle.rx_rank.specs.Candidates.{all_candidates, candidates, candidates_by, opposite_tried, row_candidates, rule_candidates, with_candidate}

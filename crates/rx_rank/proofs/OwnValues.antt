@@ -1,17 +1,15 @@
 -- What is true of each candidate, and of each polynomial that serves, is true of the polynomials of a choice.
-use Rattle.std.proofs.Common.{◌≡◌, ◌∙◌, ap, sym, subst, refl, inl, inr, ℕ, zero, suc, ◌==◌, ◌⊎◌, Bool, true, false, cond, not, Option, Some, None, List, [], ◌∷◌, ◌++◌, length, map, slice_get, Contains}
-use Rattle.std.proofs.Math.ListN.{length-set, set}
-use Rattle.std.proofs.lemmas.List.Elements.{All-append, All-cons, All-contains, All-head, All-map, All-nil, All-tail}
-use Rattle.std.specs.List.{All, AllZip, filter, find, flat_map}
-use Rattle.std.specs.Option.{option_map}
-use Rattle.std.specs.Prelude.{slice_set}
+use Rattle.std.proofs.Common.{◌≡◌, ◌∙◌, ap, sym, subst, refl, inl, inr, ℕ, zero, suc, ◌⊎◌, Bool, Option, Some, None, List, [], ◌∷◌, length, map}
+use Rattle.std.proofs.Math.ListN.{length-set}
+use Rattle.std.proofs.lemmas.List.Elements.{All-append, All-cons, All-head, All-map, All-nil, All-tail}
+use Rattle.std.specs.List.{All, AllZip, flat_map}
 use Rattle.rx_poly.specs.declared.body.Body.{Body}
 use Rattle.rx_solve.specs.Attempts.{Tried, first_applying, made_or}
 use Rattle.rx_term.specs.declared.rule_set.SymInfo.{SymInfo}
 use Rattle.rx_pairs.specs.declared.pair.Pair.{Pair}
 use Rattle.rx_rank.specs.Candidates.{arity_of}
-use Rattle.rx_rank.specs.Choices.{filled, first_serving, from_target, is_ready, next_first, order_by, order_of, pairs_from, polynomial_of, products, with_choice, with_polynomial, without, without_polynomials}
-use Rattle.rx_rank.specs.Tries.{and_then, made_then, noting}
+use Rattle.rx_rank.specs.Choices.{filled, first_serving, pairs_from, polynomial_of, products, with_choice, with_polynomial, without_polynomials}
+use Rattle.rx_rank.specs.Tries.{made_then}
 
 -- ---- polynomials by symbol
 

@@ -1,6 +1,5 @@
 -- What answers about the rows of a column tell.
-use Rattle.std.proofs.Common.{◌≡◌, ◌∙◌, ap, sym, subst, refl, ℕ, ◌≤◌, Bool, true, false, ◌&&◌, List, [], ◌∷◌, ◌++◌, Some, Result, Ok, Err, IfOk}
-use Rattle.std.specs.List.{All}
+use Rattle.std.proofs.Common.{◌≡◌, ◌∙◌, ap, sym, subst, refl, ◌≤◌, true, false, List, [], ◌∷◌, Result, Ok, Err, IfOk}
 use Rattle.std.proofs.lemmas.Bool.{and_from}
 use Rattle.std.proofs.lemmas.List.Elements.{All-nil}
 use Rattle.rx_plain.specs.Formed.{Formed}
@@ -17,11 +16,11 @@ use Rattle.rx_solve.specs.Refuter.{refuted}
 use Rattle.rx_solve.specs.Shown.{IsAllShown}
 use Rattle.rx_solve.specs.declared.showing.AllShown.{AllShown}
 use Rattle.rx_solve.specs.declared.showing.AllShown.TheVariants.{Shown, NotShown, TooLarge}
-use Rattle.rx_pairs.specs.Columns.{at_left, falls_rows, holds_rows}
+use Rattle.rx_pairs.specs.Columns.{at_left, falls_rows}
 use Rattle.rx_pairs.specs.declared.pair.Pair.{Pair}
 use Rattle.rx_rank.proofs.Certified.{certificates_append}
 use Rattle.rx_rank.specs.Answers.{IsProved, IsTold, joined}
-use Rattle.rx_rank.specs.PairTests.{falls, holds, less_by_one, not_negative, row_said}
+use Rattle.rx_rank.specs.PairTests.{falls, less_by_one, not_negative, row_said}
 
 both_last : (s : Said) → both s Yes ≡ s
 both_last Yes = refl

@@ -1,8 +1,7 @@
 -- What was noted so far, and what comes of a first part, leave it to the later parts or decide.
-use Rattle.std.proofs.Common.{◌≡◌, ◌∙◌, ap, sym, refl, Bool, true, false, ◌||◌, Option, Some, None, List, [], ◌∷◌}
-use Rattle.std.specs.Option.{is_some, option_map}
+use Rattle.std.proofs.Common.{◌≡◌, ◌∙◌, ap, sym, refl, Bool, true, false, ◌||◌, Option, Some, None}
 use Rattle.rx_solve.specs.Attempts.{Tried, made_or}
-use Rattle.rx_rank.specs.Tries.{and_then, made_then, noting}
+use Rattle.rx_rank.specs.Tries.{made_then, noting}
 
 pub or_again : (a b c : Bool) → ((a || b) || c) ≡ (a || (b || c))
 or_again true b c = refl

@@ -1,5 +1,5 @@
 -- What the answers of calls tell.
-use Rattle.std.specs.Prelude.{◌≡◌, ℕ, Bool, true, false, ◌&&◌, ◌||◌, Option, Some, None, List, [], ◌∷◌, ◌++◌, Vec, Contains, length, map}
+use Rattle.std.specs.Prelude.{◌≡◌, ℕ, Bool, true, false, ◌&&◌, Option, Some, None, List, [], ◌∷◌, ◌++◌, Vec, Contains, length, map}
 use Rattle.std.specs.List.{AllZip, fold, list_all}
 use Rattle.std.specs.declared.alloc.Global.{Global}
 use Rattle.std.specs.Option.{option_map}
@@ -75,9 +75,10 @@ polys_at refs = map (λ (r : Bor Body). r.now) refs
 -- ---- candidates
 
 -- the polynomials with those that are made, each unless it is one of them, and whether one passes the limits
-pub record Gathers (tries : List (Tried Body)) (before after : List Body) (noted : Bool) : Type 0 where
-  pub polys : after ≡ fold with_candidate before (applying tries)
-  pub noted_is : noted ≡ is_noted tries
+pub record Gathers (tries : List (Tried Body)) (before after : List Body) (noted : Bool) : Type 0
+  where
+    pub polys : after ≡ fold with_candidate before (applying tries)
+    pub noted_is : noted ≡ is_noted tries
 
 -- ---- certificates
 
@@ -138,13 +139,16 @@ pub record IsFit (values : List (Option Body)) (pairs : List Pair) (fit : Fit) :
   pub falls : AllZip (IsDecided values) pairs fit.falls.items
 
 -- it is that of a choice
-pub record IsChosen (infos : List SymInfo) (pairs : List Pair) (anchors order : List ℕ) (choice : List Body) (fit : Fit) : Type 0 where
+pub record IsChosen (infos : List SymInfo) (pairs : List Pair) (anchors order : List ℕ)
+    (choice : List Body) (fit : Fit) : Type 0 where
   pub values : List (Option Body)
-  pub filled_is : (filled infos pairs (with_choice (without_polynomials (length infos)) anchors choice) order).made ≡ Some values
+  pub filled_is : (filled infos pairs (with_choice (without_polynomials (length infos)) anchors
+      choice) order).made ≡ Some values
   pub fit_is : IsFit values pairs fit
 
 -- that of one of the choices
-pub record IsFirstFit (infos : List SymInfo) (pairs : List Pair) (anchors order : List ℕ) (choices : List (List Body)) (fit : Fit) : Type 0 where
+pub record IsFirstFit (infos : List SymInfo) (pairs : List Pair) (anchors order : List ℕ)
+    (choices : List (List Body)) (fit : Fit) : Type 0 where
   pub choice : List Body
   pub among : Contains choices choice
   pub chosen : IsChosen infos pairs anchors order choice fit
@@ -156,20 +160,26 @@ abbrev pub rules_pass : (ℕ → Bool) → List Rule → Bool
 rules_pass test rules = list_all (λ (rule : Rule). rows_pass test rule.rows) rules
 
 abbrev pub pair_passes : (ℕ → Bool) → Pair → Bool
-pair_passes test pair = rows_pass test pair.phi && (list_all (passes test) pair.left_args && list_all (passes test) pair.right_args)
+pair_passes test pair =
+    rows_pass test pair.phi && (list_all (passes test) pair.left_args &&
+    list_all (passes test) pair.right_args)
 
 -- the polynomial is of a symbol of the component, over its arguments, with no variables but those of the rules' rows
 -- and of the pairs
-pub record IsOwn (parts : RuleParts) (hypotheses : List Rule) (names : List ℕ) (c : ℕ) (pairs : List Pair) (f : ℕ) (p : Body) : Type 0 where
+pub record IsOwn (parts : RuleParts) (hypotheses : List Rule) (names : List ℕ) (c : ℕ)
+    (pairs : List Pair) (f : ℕ) (p : Body) : Type 0 where
   pub member : is_member names c f ≡ true
   pub over : uses_below (arity_of parts.symbols f) p ≡ true
-  pub own_variables : (test : ℕ → Bool) → rules_pass test (parts.rules ++ hypotheses) ≡ true → list_all (pair_passes test) pairs ≡ true → passes test p ≡ true
+  pub own_variables : (test : ℕ → Bool) → rules_pass test (parts.rules ++ hypotheses) ≡ true →
+      list_all (pair_passes test) pairs ≡ true → passes test p ≡ true
 
-pub record IsComponentFit (parts : RuleParts) (hypotheses : List Rule) (names : List ℕ) (c : ℕ) (pairs : List Pair) (fit : Fit) : Type 0 where
+pub record IsComponentFit (parts : RuleParts) (hypotheses : List Rule) (names : List ℕ) (c : ℕ)
+    (pairs : List Pair) (fit : Fit) : Type 0 where
   pub values : List (Option Body)
   pub fit_is : IsFit values pairs fit
   pub count : length values ≡ length parts.symbols
-  pub own : (f : ℕ) (p : Body) → polynomial_of values f ≡ Some p → IsOwn parts hypotheses names c pairs f p
+  pub own : (f : ℕ) (p : Body) → polynomial_of values f ≡ Some p →
+      IsOwn parts hypotheses names c pairs f p
 
 -- ---- choices in memory
 

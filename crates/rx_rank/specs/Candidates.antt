@@ -1,6 +1,6 @@
 -- The polynomials that an anchor of a component may get: entries, heads and left roots of hypotheses are anchors.
 use Rattle.std.specs.Prelude.{ℕ, ◌==◌, Bool, false, ◌||◌, if◌then◌else◌, List, [], ◌∷◌, ◌++◌, map, slice_get}
-use Rattle.std.specs.List.{flat_map, filter, fold, list_any}
+use Rattle.std.specs.List.{flat_map, fold, list_any}
 use Rattle.std.specs.Option.{option_map_or}
 use Rattle.rx_plain.specs.Formed.{kept}
 use Rattle.rx_poly.specs.Limits.{is_within}
@@ -14,7 +14,6 @@ use Rattle.rx_row.specs.declared.row.Row.TheVariants.{Ge, Eq, Ne}
 use Rattle.rx_solve.specs.Attempts.{Tried, applies, applying, is_noted}
 use Rattle.rx_term.specs.Stacks.{root_of}
 use Rattle.rx_term.specs.declared.rule.Rule.{Rule}
-use Rattle.rx_term.specs.declared.rule_set.RuleParts.{RuleParts}
 use Rattle.rx_term.specs.declared.rule_set.SymInfo.{SymInfo}
 use Rattle.rx_term.specs.declared.term.Sym.{Sym}
 use Rattle.rx_rank.specs.Components.{is_rule_of}
@@ -32,7 +31,8 @@ is_left_root f rule = option_map_or (λ (g : Sym). g.0 == f) (root_of rule.left)
 
 -- the symbol is an entry or a head
 abbrev pub is_start : List SymInfo → ℕ → Bool
-is_start infos f = option_map_or (λ (info : SymInfo). info.entry || info.head) (slice_get infos f) false
+is_start infos f =
+    option_map_or (λ (info : SymInfo). info.entry || info.head) (slice_get infos f) false
 
 -- the symbol is an entry, a head or the left root of a hypothesis
 abbrev pub is_anchor : List SymInfo → List Rule → ℕ → Bool
@@ -55,7 +55,8 @@ row_candidates arity row = if uses_below arity (poly_of row) then candidates_by 
 
 -- those of the rows of the rules whose left root is in the component
 abbrev pub rule_candidates : List ℕ → ℕ → ℕ → Rule → List (Tried Body)
-rule_candidates names c arity rule = if is_rule_of names c rule then flat_map (row_candidates arity) rule.rows else []
+rule_candidates names c arity rule =
+    if is_rule_of names c rule then flat_map (row_candidates arity) rule.rows else []
 
 abbrev pub all_candidates : List ℕ → ℕ → List Rule → ℕ → List (Tried Body)
 all_candidates names c rules arity = flat_map (rule_candidates names c arity) rules
@@ -66,11 +67,13 @@ with_candidate ps p = if list_any (λ q. (body_equal.ghosts).eq q p) ps then ps 
 
 -- each once, in order
 abbrev pub candidates : List ℕ → ℕ → List Rule → ℕ → List Body
-candidates names c rules arity = fold with_candidate [] (applying (all_candidates names c rules arity))
+candidates names c rules arity =
+    fold with_candidate [] (applying (all_candidates names c rules arity))
 
 -- for each anchor, by the numbers of arguments; and whether one of them passes the limits
 abbrev pub candidate_lists : List ℕ → ℕ → List Rule → List ℕ → List (List Body)
 candidate_lists names c rules arities = map (candidates names c rules) arities
 
 abbrev pub are_noted : List ℕ → ℕ → List Rule → List ℕ → Bool
-are_noted names c rules arities = list_any (λ arity. is_noted (all_candidates names c rules arity)) arities
+are_noted names c rules arities =
+    list_any (λ arity. is_noted (all_candidates names c rules arity)) arities

@@ -43,10 +43,12 @@ tested test (Some p) (Some q) = test p q
 
 -- a column of these holds at the pair, or falls there
 abbrev pub holds_by : List (Option Body) → Pair → Said
-holds_by values pair = tested (holds pair) (polynomial_of values pair.left.0) (polynomial_of values pair.right.0)
+holds_by values pair =
+    tested (holds pair) (polynomial_of values pair.left.0) (polynomial_of values pair.right.0)
 
 abbrev pub falls_by : List (Option Body) → Pair → Said
-falls_by values pair = tested (falls pair) (polynomial_of values pair.left.0) (polynomial_of values pair.right.0)
+falls_by values pair =
+    tested (falls pair) (polynomial_of values pair.left.0) (polynomial_of values pair.right.0)
 
 -- ---- the order of the symbols that are no anchors
 
@@ -56,7 +58,8 @@ pairs_from f pairs = filter (λ pair. pair.left.0 == f) pairs
 
 -- none of its pairs leads to one of those
 abbrev pub is_ready : List Pair → List ℕ → ℕ → Bool
-is_ready pairs waiting f = list_all (λ pair. not (list_any (λ g. g == pair.right.0) waiting)) (pairs_from f pairs)
+is_ready pairs waiting f =
+    list_all (λ pair. not (list_any (λ g. g == pair.right.0) waiting)) (pairs_from f pairs)
 
 -- the others
 abbrev pub without : ℕ → List ℕ → List ℕ
@@ -69,7 +72,8 @@ next_first (Some f) rest = option_map (λ fs. f ∷ fs) (rest f)
 
 abbrev pub order_by : ℕ → List Pair → List ℕ → Option (List ℕ)
 order_by zero pairs waiting = Some []
-order_by (suc n) pairs waiting = next_first (find (is_ready pairs waiting) waiting) (λ f. order_by n pairs (without f waiting))
+order_by (suc n) pairs waiting =
+    next_first (find (is_ready pairs waiting) waiting) (λ f. order_by n pairs (without f waiting))
 
 abbrev pub order_of : List Pair → List ℕ → Option (List ℕ)
 order_of pairs others = order_by (length others) pairs others
@@ -79,11 +83,14 @@ order_of pairs others = order_by (length others) pairs others
 -- a column holds at these pairs of one symbol with p for it
 abbrev pub hold_with : List (Option Body) → Body → List Pair → Said
 hold_with values p [] = Yes
-hold_with values p (pair ∷ pairs) = both (tested (holds pair) (Some p) (polynomial_of values pair.right.0)) (hold_with values p pairs)
+hold_with values p (pair ∷ pairs) =
+    both (tested (holds pair) (Some p) (polynomial_of values pair.right.0))
+    (hold_with values p pairs)
 
 -- p serves where it is over so many arguments and all of them hold with it
 abbrev pub serving : ℕ → List (Option Body) → List Pair → Body → Tried Body
-serving arity values mine p = if uses_below arity p then where_shown (hold_with values p mine) p else fails
+serving arity values mine p =
+    if uses_below arity p then where_shown (hold_with values p mine) p else fails
 
 -- the instance of the polynomial that a pair leads to
 abbrev pub instance_on : Pair → Option Body → Tried Body
@@ -99,10 +106,12 @@ abbrev pub first_serving : ℕ → List (Option Body) → List Pair → Tried Bo
 first_serving arity values mine = first_applying (map (from_target arity values mine) mine)
 
 -- the polynomials with those of the symbols in order
-abbrev pub filled : List SymInfo → List Pair → List (Option Body) → List ℕ → Tried (List (Option Body))
+abbrev pub filled : List SymInfo → List Pair → List (Option Body) → List ℕ →
+    Tried (List (Option Body))
 filled infos pairs values [] = applies values
 filled infos pairs values (f ∷ fs) =
-    and_then (first_serving (arity_of infos f) values (pairs_from f pairs)) (λ p. filled infos pairs (with_polynomial values f p) fs)
+    and_then (first_serving (arity_of infos f) values (pairs_from f pairs))
+    (λ p. filled infos pairs (with_polynomial values f p) fs)
 
 -- ---- a choice
 
@@ -128,7 +137,9 @@ not_falling values pairs = filter (λ pair. not (is_yes (falls_by values pair)))
 
 abbrev pub falling : List (Option Body) → List Pair → Tried (List Pair)
 falling values pairs = record {
-  made = if list_any (λ pair. is_yes (falls_by values pair)) pairs then Some (not_falling values pairs) else None;
+  made =
+      if list_any (λ pair. is_yes (falls_by values pair)) pairs then
+      Some (not_falling values pairs) else None;
   noted = list_any (λ pair. is_beyond (falls_by values pair)) pairs;
 }
 
@@ -139,7 +150,8 @@ fitting pairs values = if_shown (all_hold values pairs) (falling values pairs)
 -- what comes of a choice
 abbrev pub choosing : List SymInfo → List Pair → List ℕ → List ℕ → List Body → Tried (List Pair)
 choosing infos pairs anchors order choice =
-    and_then (filled infos pairs (with_choice (without_polynomials (length infos)) anchors choice) order) (fitting pairs)
+    and_then (filled infos pairs (with_choice (without_polynomials (length infos)) anchors choice)
+    order) (fitting pairs)
 
 -- ---- all choices
 

@@ -27,7 +27,8 @@ is_member names c f = option_map_or (λ name. name == c) (slice_get names f) fal
 
 -- both symbols of the pair are of one component
 abbrev pub is_inside : List ℕ → Pair → Bool
-is_inside names pair = option_map_or (λ name. is_member names name pair.right.0) (slice_get names pair.left.0) false
+is_inside names pair =
+    option_map_or (λ name. is_member names name pair.right.0) (slice_get names pair.left.0) false
 
 abbrev pub inside : ℕ → List Pair → List Pair
 inside n pairs = filter (is_inside (names_of n pairs)) pairs
@@ -41,4 +42,5 @@ pairs_in names c pairs = filter (λ pair. is_member names c pair.left.0) pairs
 
 -- the rule's left root is one of them
 abbrev pub is_rule_of : List ℕ → ℕ → Rule → Bool
-is_rule_of names c rule = option_map_or (λ (f : Sym). is_member names c f.0) (root_of rule.left) false
+is_rule_of names c rule =
+    option_map_or (λ (f : Sym). is_member names c f.0) (root_of rule.left) false

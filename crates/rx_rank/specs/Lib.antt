@@ -3,6 +3,7 @@ pub mod Answers
 pub mod Candidates
 pub mod Choices
 pub mod Components
+pub mod Memo
 pub mod PairTests
 pub mod Ranking
 pub mod Tries

@@ -1,6 +1,5 @@
 -- Whether a column holds at a pair, or falls there, with its polynomials for the left and for the right symbol, as the
 -- refuter shows it. Each instance is formed when it is asked for.
-use Rattle.std.specs.Prelude.{List}
 use Rattle.rx_plain.specs.Formed.{Formed, ◌>>=◌, ◌<$>◌}
 use Rattle.rx_poly.specs.declared.body.Body.{Body}
 use Rattle.rx_row.specs.declared.row.Row.{Row}
@@ -17,7 +16,8 @@ row_said pair row = within row.within (shown refuted pair.phi row.form)
 
 -- it holds: the right instance is a number below 0, or at most the left one
 abbrev pub holds : Pair → Body → Body → Said
-holds pair p q = within (holds_rows pair p q).within (all_shown refuted pair.phi (holds_rows pair p q).form)
+holds pair p q =
+    within (holds_rows pair p q).within (all_shown refuted pair.phi (holds_rows pair p q).form)
 
 -- l >= 0 for the left instance l, and then l - r - 1 >= 0 for the right instance r, which is formed only then
 abbrev pub not_negative : Pair → Body → Formed Row
@@ -30,4 +30,6 @@ less_by_one pair l q = do
 
 -- it falls
 abbrev pub falls : Pair → Body → Body → Said
-falls pair p q = both (row_said pair (not_negative pair p)) (row_said pair (less_by_one pair (at_left pair p).form q))
+falls pair p q =
+    both (row_said pair (not_negative pair p))
+    (row_said pair (less_by_one pair (at_left pair p).form q))

@@ -21,7 +21,8 @@ abbrev pub most_choices : ℕ
 most_choices = 4096
 
 -- the first choice that is fit, in lexicographic order; none is tried where the other symbols have no order
-abbrev pub first_fit : List SymInfo → List Pair → List ℕ → List (List Body) → Option (List ℕ) → Tried (List Pair)
+abbrev pub first_fit : List SymInfo → List Pair → List ℕ → List (List Body) → Option (List ℕ) →
+    Tried (List Pair)
 first_fit infos pairs anchors lists None = fails
 first_fit infos pairs anchors lists (Some order) =
     first_applying (map (choosing infos pairs anchors order) (take most_choices (products lists)))
@@ -42,7 +43,9 @@ module _ (parts : RuleParts) (hypotheses : List Rule) where
   abbrev pub component : List ℕ → ℕ → List Pair → Tried (List Pair)
   component names c pairs =
       noting (are_noted names c (parts.rules ++ hypotheses) (arities names c))
-      (first_fit parts.symbols pairs (anchors names c) (candidate_lists names c (parts.rules ++ hypotheses) (arities names c)) (order_of pairs (others names c)))
+      (first_fit parts.symbols pairs (anchors names c)
+      (candidate_lists names c (parts.rules ++ hypotheses) (arities names c))
+      (order_of pairs (others names c)))
 
   -- without an open pair nothing is tried in it
   abbrev pub unless_empty : List ℕ → ℕ → List Pair → Tried (List Pair)
@@ -54,7 +57,9 @@ module _ (parts : RuleParts) (hypotheses : List Rule) where
 
   -- the components in order, up to the first without a fit choice: the pairs that stay open
   abbrev pub polynomials : List Pair → Tried (List Pair)
-  polynomials pairs = all_made (map (tried_in (names_of (length parts.symbols) pairs) pairs) (symbols_of (length parts.symbols)))
+  polynomials pairs =
+      all_made (map (tried_in (names_of (length parts.symbols) pairs) pairs)
+      (symbols_of (length parts.symbols)))
 
   -- no pair is open, or what comes next
   abbrev pub unless_closed : List Pair → Tried (Unit {0}) → Tried (Unit {0})
@@ -65,7 +70,8 @@ module _ (parts : RuleParts) (hypotheses : List Rule) where
   unfoldable pub ranking_from : ℕ → List Pair → Tried (Unit {0})
   ranking_from zero pairs = unless_closed (inside (length parts.symbols) pairs) fails
   ranking_from (suc n) pairs =
-      unless_closed (inside (length parts.symbols) pairs) (and_then (polynomials (inside (length parts.symbols) pairs)) (ranking_from n))
+      unless_closed (inside (length parts.symbols) pairs)
+      (and_then (polynomials (inside (length parts.symbols) pairs)) (ranking_from n))
 
   -- whether there is a table, with what was noted on the way
   abbrev pub ranking : Tried (Unit {0})

@@ -60,7 +60,8 @@ fn push_opposite(polys: &mut Vec<Poly>, alloc: Global, poly: &Poly) -> Result<bo
 
 /// Adds both.
 fn push_both(polys: &mut Vec<Poly>, alloc: Global, poly: &Poly) -> Result<bool, NoMemory>
-    ensures { IfOk result (Gathers (applies poly.now ∷ opposite_tried poly.now ∷ []) polys.old.items polys.new.items) }
+    ensures { IfOk result (Gathers (applies poly.now ∷ opposite_tried poly.now ∷ []) polys.old.items
+        polys.new.items) }
 {
     push_same(polys, alloc, poly)?;
     push_opposite(polys, alloc, poly)
@@ -95,7 +96,8 @@ fn push_rows(
     arity: u32,
     rows: &[Row],
 ) -> Result<bool, NoMemory>
-    ensures { IfOk result (Gathers (flat_map (row_candidates arity) rows.now) polys.old.items polys.new.items) }
+    ensures { IfOk result (Gathers (flat_map (row_candidates arity) rows.now) polys.old.items
+        polys.new.items) }
 {
     let mut noted = false;
     for row in rows {
@@ -114,7 +116,8 @@ fn push_rules(
     arity: u32,
     rules: &[Rule],
 ) -> Result<bool, NoMemory>
-    ensures { IfOk result (Gathers (all_candidates names.now name rules.now arity) polys.old.items polys.new.items) }
+    ensures { IfOk result (Gathers (all_candidates names.now name rules.now arity) polys.old.items
+        polys.new.items) }
 {
     let mut noted = false;
     for rule in rules {
@@ -133,7 +136,8 @@ fn push_rule(
     arity: u32,
     rule: &Rule,
 ) -> Result<bool, NoMemory>
-    ensures { IfOk result (Gathers (rule_candidates names.now name arity rule.now) polys.old.items polys.new.items) }
+    ensures { IfOk result (Gathers (rule_candidates names.now name arity rule.now) polys.old.items
+        polys.new.items) }
 {
     if is_rule_of(names, name, rule) {
         push_rows(polys, alloc, arity, rule.rows.rows())
@@ -160,8 +164,10 @@ fn anchor_candidates(
     hypotheses: &[Rule],
     arity: u32,
 ) -> Result<Candidates, NoMemory>
-    ensures polys { IfOk result (λ c. c.polys.items ≡ candidates names.now name (rules.now ++ hypotheses.now) arity) }
-    ensures noted { IfOk result (λ c. c.noted ≡ is_noted (all_candidates names.now name (rules.now ++ hypotheses.now) arity)) }
+    ensures polys { IfOk result (λ c. c.polys.items ≡
+        candidates names.now name (rules.now ++ hypotheses.now) arity) }
+    ensures noted { IfOk result (λ c. c.noted ≡
+        is_noted (all_candidates names.now name (rules.now ++ hypotheses.now) arity)) }
 {
     let mut polys = Vec::new(alloc);
     let first = push_rules(&mut polys, alloc, names, name, arity, rules)?;
@@ -190,8 +196,10 @@ pub(crate) fn all_lists(
     hypotheses: &[Rule],
     arities: &[u32],
 ) -> Result<CandidateLists, NoMemory>
-    ensures lists { IfOk result (λ c. lists_in c.lists.items ≡ candidate_lists names.now name (rules.now ++ hypotheses.now) arities.now) }
-    ensures noted { IfOk result (λ c. c.noted ≡ are_noted names.now name (rules.now ++ hypotheses.now) arities.now) }
+    ensures lists { IfOk result (λ c. lists_in c.lists.items ≡
+        candidate_lists names.now name (rules.now ++ hypotheses.now) arities.now) }
+    ensures noted { IfOk result (λ c. c.noted ≡
+        are_noted names.now name (rules.now ++ hypotheses.now) arities.now) }
 {
     let mut lists = Vec::new(alloc);
     let mut noted = false;

@@ -12,6 +12,7 @@ use crate::attempt::Attempt;
 use crate::choices::choices;
 use crate::filling::filled;
 use crate::fitting::{Fit, fitting};
+use crate::pair_memo::PairMemo;
 use crate::values::choice_values;
 use rx_cert::Cert;
 use rx_fm::FmEnd;
@@ -30,20 +31,24 @@ fn choosing<S: FnMut(&Constraint) -> Result<Option<Cert>, FmEnd>>(
     anchors: &[u32],
     order: &[u32],
     choice: &[&Poly],
+    memo: &mut PairMemo,
     solve: &mut S,
 ) -> Result<Attempt<Fit>, NoMemory>
     requires solver { IsSolver S.FnMut solve.old }
     ensures solver { IsSolver S.FnMut solve.new }
-    ensures tried { IfOk result (λ t. tried_as (λ fit. still_open (pairs_at pairs.now) fit.falls.items) t ≡ choosing infos.now (pairs_at pairs.now) anchors.now order.now (polys_at choice.now)) }
-    ensures fit { IfOk result (λ t. IfSome t.made (IsChosen infos.now (pairs_at pairs.now) anchors.now order.now (polys_at choice.now))) }
+    ensures tried { IfOk result (λ t. tried_as
+        (λ fit. still_open (pairs_at pairs.now) fit.falls.items) t ≡
+        choosing infos.now (pairs_at pairs.now) anchors.now order.now (polys_at choice.now)) }
+    ensures fit { IfOk result (λ t. IfSome t.made
+        (IsChosen infos.now (pairs_at pairs.now) anchors.now order.now (polys_at choice.now))) }
 {
     let start = choice_values(alloc, infos.len(), anchors, choice)?;
-    let attempt = filled(alloc, infos, pairs, start, order, solve)?;
+    let attempt = filled(alloc, infos, pairs, start, order, memo, solve)?;
     let noted = attempt.noted;
     let Some(values) = attempt.made else {
         return Ok(Attempt { made: None, noted });
     };
-    let fit = fitting(alloc, values, pairs, solve)?;
+    let fit = fitting(alloc, values, pairs, memo, solve)?;
     Ok(Attempt {
         made: fit.made,
         noted: noted || fit.noted,
@@ -58,13 +63,17 @@ fn first_chosen<S: FnMut(&Constraint) -> Result<Option<Cert>, FmEnd>>(
     anchors: &[u32],
     order: &[u32],
     choices: &[Vec<&Poly>],
+    memo: &mut PairMemo,
     solve: &mut S,
 ) -> Result<Attempt<Fit>, NoMemory>
     requires solver { IsSolver S.FnMut solve.old }
     ensures solver { IsSolver S.FnMut solve.new }
-    ensures tried { IfOk result (λ t. tried_as (λ fit. still_open (pairs_at pairs.now) fit.falls.items) t ≡
-        first_applying (map (choosing infos.now (pairs_at pairs.now) anchors.now order.now) (choices_at choices.now))) }
-    ensures fit { IfOk result (λ t. IfSome t.made (IsFirstFit infos.now (pairs_at pairs.now) anchors.now order.now (choices_at choices.now))) }
+    ensures tried { IfOk result (λ t. tried_as
+        (λ fit. still_open (pairs_at pairs.now) fit.falls.items) t ≡
+        first_applying (map (choosing infos.now (pairs_at pairs.now) anchors.now order.now)
+        (choices_at choices.now))) }
+    ensures fit { IfOk result (λ t. IfSome t.made
+        (IsFirstFit infos.now (pairs_at pairs.now) anchors.now order.now (choices_at choices.now))) }
 {
     let mut noted = false;
     for choice in choices {
@@ -75,6 +84,7 @@ fn first_chosen<S: FnMut(&Constraint) -> Result<Option<Cert>, FmEnd>>(
             anchors,
             order,
             choice.as_slice(),
+            memo,
             solve,
         )?;
         noted = noted || attempt.noted;
@@ -96,14 +106,27 @@ pub(crate) fn first_fit<S: FnMut(&Constraint) -> Result<Option<Cert>, FmEnd>>(
     anchors: &[u32],
     lists: &[Vec<Poly>],
     order: &[u32],
+    memo: &mut PairMemo,
     solve: &mut S,
 ) -> Result<Attempt<Fit>, NoMemory>
     requires solver { IsSolver S.FnMut solve.old }
     ensures solver { IsSolver S.FnMut solve.new }
-    ensures tried { IfOk result (λ t. tried_as (λ fit. still_open (pairs_at pairs.now) fit.falls.items) t ≡
+    ensures tried { IfOk result (λ t. tried_as
+        (λ fit. still_open (pairs_at pairs.now) fit.falls.items) t ≡
         first_fit infos.now (pairs_at pairs.now) anchors.now (lists_in lists.now) (Some order.now)) }
-    ensures fit { IfOk result (λ t. IfSome t.made (IsFirstFit infos.now (pairs_at pairs.now) anchors.now order.now (take most_choices (products (lists_in lists.now))))) }
+    ensures fit { IfOk result (λ t. IfSome t.made
+        (IsFirstFit infos.now (pairs_at pairs.now) anchors.now order.now
+        (take most_choices (products (lists_in lists.now))))) }
 {
     let all = choices(alloc, lists)?;
-    first_chosen(alloc, infos, pairs, anchors, order, all.as_slice(), solve)
+    first_chosen(
+        alloc,
+        infos,
+        pairs,
+        anchors,
+        order,
+        all.as_slice(),
+        memo,
+        solve,
+    )
 }

@@ -35,7 +35,8 @@ fn push_choices<'a>(
     first: &'a Poly,
     rest: &[Vec<&'a Poly>],
 ) -> Result<(), NoMemory>
-    ensures { OnOk result (choices_at choices.new.items ≡ choices_at choices.old.items ++ map (λ ps. first.now ∷ ps) (choices_at rest.now)) }
+    ensures { OnOk result (choices_at choices.new.items ≡ choices_at choices.old.items ++
+        map (λ ps. first.now ∷ ps) (choices_at rest.now)) }
 {
     for others in rest {
         let choice = prepended(alloc, first, others.as_slice())?;
@@ -52,7 +53,8 @@ fn push_all<'a>(
     rest: &[Vec<&'a Poly>],
 ) -> Result<(), NoMemory>
     ensures { OnOk result (take most_choices (choices_at choices.new.items) ≡
-        take most_choices (choices_at choices.old.items ++ flat_map (λ p. map (λ ps. p ∷ ps) (choices_at rest.now)) list.now)) }
+        take most_choices (choices_at choices.old.items ++
+        flat_map (λ p. map (λ ps. p ∷ ps) (choices_at rest.now)) list.now)) }
 {
     for first in list {
         if choices.len() >= MOST_CHOICES {
@@ -92,7 +94,8 @@ pub(crate) fn choices<'a>(
     alloc: Global,
     lists: &'a [Vec<Poly>],
 ) -> Result<Vec<Vec<&'a Poly>>, NoMemory>
-    ensures { IfOk result (λ v. choices_at v.items ≡ take most_choices (products (lists_in lists.now))) }
+    ensures { IfOk result (λ v. choices_at v.items ≡
+        take most_choices (products (lists_in lists.now))) }
 {
     let mut choices = no_candidates(alloc)?;
     let mut rest = lists;

@@ -10,6 +10,7 @@ use crate::choice::first_fit;
 use crate::fitting::Fit;
 use crate::members::{arities_of, members_of};
 use crate::order::order_of;
+use crate::pair_memo::PairMemo;
 use rx_cert::Cert;
 use rx_fm::FmEnd;
 use rx_pairs::Pair;
@@ -28,12 +29,16 @@ pub fn fit_component<S: FnMut(&Constraint) -> Result<Option<Cert>, FmEnd>>(
     names: &[u32],
     name: u32,
     pairs: &[&Pair],
+    memo: &mut PairMemo,
     solve: &mut S,
 ) -> Result<Attempt<Fit>, NoMemory>
     requires solver { IsSolver S.FnMut solve.old }
     ensures solver { IsSolver S.FnMut solve.new }
-    ensures tried { IfOk result (λ t. tried_as (λ fit. still_open (pairs_at pairs.now) fit.falls.items) t ≡ component parts.now hypotheses.now names.now name (pairs_at pairs.now)) }
-    ensures fit { IfOk result (λ t. IfSome t.made (IsComponentFit parts.now hypotheses.now names.now name (pairs_at pairs.now))) }
+    ensures tried { IfOk result (λ t. tried_as
+        (λ fit. still_open (pairs_at pairs.now) fit.falls.items) t ≡
+        component parts.now hypotheses.now names.now name (pairs_at pairs.now)) }
+    ensures fit { IfOk result (λ t. IfSome t.made
+        (IsComponentFit parts.now hypotheses.now names.now name (pairs_at pairs.now))) }
 {
     let infos = parts.symbols.as_slice();
     let rules = parts.rules.as_slice();
@@ -48,7 +53,16 @@ pub fn fit_component<S: FnMut(&Constraint) -> Result<Option<Cert>, FmEnd>>(
         }),
         Some(order) => {
             let lists = all.lists.as_slice();
-            let fit = first_fit(alloc, infos, pairs, anchors, lists, order.as_slice(), solve)?;
+            let fit = first_fit(
+                alloc,
+                infos,
+                pairs,
+                anchors,
+                lists,
+                order.as_slice(),
+                memo,
+                solve,
+            )?;
             Ok(noted_before(all.noted, fit))
         }
     }

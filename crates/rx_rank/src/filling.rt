@@ -9,7 +9,7 @@ ghost use Rattle.rx_solve.specs.Answers.{IsSolver};
 use crate::attempt::{Attempt, Finding};
 use crate::members::arity_of;
 use crate::order::pairs_from;
-use crate::pair_tests::holds;
+use crate::pair_memo::PairMemo;
 use crate::values::{polynomial_of, put_polynomial};
 use rx_cert::Cert;
 use rx_fm::FmEnd;
@@ -17,7 +17,6 @@ use rx_pairs::{Pair, on_right};
 use rx_plain::NoMemory;
 use rx_poly::{Poly, PolyEnd, uses_below};
 use rx_row::Constraint;
-use rx_solve::AllShown;
 use rx_term::SymInfo;
 use std::alloc::Global;
 
@@ -27,20 +26,18 @@ fn holds_with<S: FnMut(&Constraint) -> Result<Option<Cert>, FmEnd>>(
     values: &[Option<Poly>],
     poly: &Poly,
     pair: &Pair,
+    memo: &mut PairMemo,
     solve: &mut S,
 ) -> Result<Finding, NoMemory>
     requires solver { IsSolver S.FnMut solve.old }
     ensures solver { IsSolver S.FnMut solve.new }
-    ensures found { IfOk result (λ f. found f ≡ tested (holds pair.now) (Some poly.now) (polynomial_of values.now pair.now.right.0)) }
+    ensures found { IfOk result (λ f. found f ≡
+        tested (holds pair.now) (Some poly.now) (polynomial_of values.now pair.now.right.0)) }
 {
     let Some(target) = polynomial_of(values, pair.right.0) else {
         return Ok(Finding::NotShown);
     };
-    match holds(alloc, pair, poly, target, solve)? {
-        AllShown::Shown(_) => Ok(Finding::Shown),
-        AllShown::NotShown => Ok(Finding::NotShown),
-        AllShown::TooLarge => Ok(Finding::TooLarge),
-    }
+    memo.is_held(alloc, pair, poly, target, solve)
 }
 
 /// Whether a column holds at these pairs of one symbol, with that polynomial for it.
@@ -49,6 +46,7 @@ fn all_hold_with<S: FnMut(&Constraint) -> Result<Option<Cert>, FmEnd>>(
     values: &[Option<Poly>],
     poly: &Poly,
     pairs: &[&Pair],
+    memo: &mut PairMemo,
     solve: &mut S,
 ) -> Result<Finding, NoMemory>
     requires solver { IsSolver S.FnMut solve.old }
@@ -56,7 +54,7 @@ fn all_hold_with<S: FnMut(&Constraint) -> Result<Option<Cert>, FmEnd>>(
     ensures found { IfOk result (λ f. found f ≡ hold_with values.now poly.now (pairs_at pairs.now)) }
 {
     for pair in pairs {
-        let finding = holds_with(alloc, values, poly, *pair, solve)?;
+        let finding = holds_with(alloc, values, poly, *pair, memo, solve)?;
         if !finding.is_shown() {
             return Ok(finding);
         }
@@ -72,6 +70,7 @@ fn serving<S: FnMut(&Constraint) -> Result<Option<Cert>, FmEnd>>(
     values: &[Option<Poly>],
     pairs: &[&Pair],
     poly: Poly,
+    memo: &mut PairMemo,
     solve: &mut S,
 ) -> Result<Attempt<Poly>, NoMemory>
     requires solver { IsSolver S.FnMut solve.old }
@@ -84,7 +83,7 @@ fn serving<S: FnMut(&Constraint) -> Result<Option<Cert>, FmEnd>>(
             noted: false,
         });
     }
-    match all_hold_with(alloc, values, &poly, pairs, solve)? {
+    match all_hold_with(alloc, values, &poly, pairs, memo, solve)? {
         Finding::Shown => Ok(Attempt {
             made: Some(poly),
             noted: false,
@@ -107,11 +106,13 @@ fn from_target<S: FnMut(&Constraint) -> Result<Option<Cert>, FmEnd>>(
     values: &[Option<Poly>],
     pairs: &[&Pair],
     pair: &Pair,
+    memo: &mut PairMemo,
     solve: &mut S,
 ) -> Result<Attempt<Poly>, NoMemory>
     requires solver { IsSolver S.FnMut solve.old }
     ensures solver { IsSolver S.FnMut solve.new }
-    ensures tried { IfOk result (λ t. tried t ≡ from_target arity values.now (pairs_at pairs.now) pair.now) }
+    ensures tried { IfOk result (λ t. tried t ≡
+        from_target arity values.now (pairs_at pairs.now) pair.now) }
 {
     let Some(target) = polynomial_of(values, pair.right.0) else {
         return Ok(Attempt {
@@ -120,7 +121,7 @@ fn from_target<S: FnMut(&Constraint) -> Result<Option<Cert>, FmEnd>>(
         });
     };
     match on_right(alloc, pair, target) {
-        Ok(poly) => serving(alloc, arity, values, pairs, poly, solve),
+        Ok(poly) => serving(alloc, arity, values, pairs, poly, memo, solve),
         Err(PolyEnd::Large) => Ok(Attempt {
             made: None,
             noted: true,
@@ -135,6 +136,7 @@ fn first_serving<S: FnMut(&Constraint) -> Result<Option<Cert>, FmEnd>>(
     arity: u32,
     values: &[Option<Poly>],
     pairs: &[&Pair],
+    memo: &mut PairMemo,
     solve: &mut S,
 ) -> Result<Attempt<Poly>, NoMemory>
     requires solver { IsSolver S.FnMut solve.old }
@@ -143,7 +145,7 @@ fn first_serving<S: FnMut(&Constraint) -> Result<Option<Cert>, FmEnd>>(
 {
     let mut noted = false;
     for pair in pairs {
-        let attempt = from_target(alloc, arity, values, pairs, *pair, solve)?;
+        let attempt = from_target(alloc, arity, values, pairs, *pair, memo, solve)?;
         noted = noted || attempt.noted;
         if attempt.made.is_some() {
             return Ok(Attempt {
@@ -162,15 +164,18 @@ fn symbol_polynomial<S: FnMut(&Constraint) -> Result<Option<Cert>, FmEnd>>(
     pairs: &[&Pair],
     values: &[Option<Poly>],
     symbol: u32,
+    memo: &mut PairMemo,
     solve: &mut S,
 ) -> Result<Attempt<Poly>, NoMemory>
     requires solver { IsSolver S.FnMut solve.old }
     ensures solver { IsSolver S.FnMut solve.new }
-    ensures tried { IfOk result (λ t. tried t ≡ first_serving (arity_of infos.now symbol) values.now (pairs_from symbol (pairs_at pairs.now))) }
+    ensures tried { IfOk result (λ t. tried t ≡
+        first_serving (arity_of infos.now symbol) values.now
+        (pairs_from symbol (pairs_at pairs.now))) }
 {
     let own = pairs_from(alloc, pairs, symbol)?;
     let arity = arity_of(infos, symbol);
-    first_serving(alloc, arity, values, own.as_slice(), solve)
+    first_serving(alloc, arity, values, own.as_slice(), memo, solve)
 }
 
 /// The polynomials with those of the symbols in order, up to the first without one.
@@ -180,16 +185,26 @@ pub(crate) fn filled<S: FnMut(&Constraint) -> Result<Option<Cert>, FmEnd>>(
     pairs: &[&Pair],
     start: Vec<Option<Poly>>,
     order: &[u32],
+    memo: &mut PairMemo,
     solve: &mut S,
 ) -> Result<Attempt<Vec<Option<Poly>>>, NoMemory>
     requires solver { IsSolver S.FnMut solve.old }
     ensures solver { IsSolver S.FnMut solve.new }
-    ensures tried { IfOk result (λ t. tried_as (λ v. v.items) t ≡ filled infos.now (pairs_at pairs.now) start.items order.now) }
+    ensures tried { IfOk result (λ t. tried_as (λ v. v.items) t ≡
+        filled infos.now (pairs_at pairs.now) start.items order.now) }
 {
     let mut values = start;
     let mut noted = false;
     for symbol in order {
-        let attempt = symbol_polynomial(alloc, infos, pairs, values.as_slice(), *symbol, solve)?;
+        let attempt = symbol_polynomial(
+            alloc,
+            infos,
+            pairs,
+            values.as_slice(),
+            *symbol,
+            memo,
+            solve,
+        )?;
         noted = noted || attempt.noted;
         let Some(poly) = attempt.made else {
             return Ok(Attempt { made: None, noted });

@@ -6,7 +6,7 @@ ghost use Rattle.rx_rank.specs.Choices.{all_hold, falling, falls_by, fitting, ho
 ghost use Rattle.rx_solve.specs.Answers.{IsSolver};
 
 use crate::attempt::Attempt;
-use crate::pair_tests::{falls, holds};
+use crate::pair_memo::PairMemo;
 use crate::values::polynomial_of;
 use rx_cert::Cert;
 use rx_fm::FmEnd;
@@ -33,6 +33,7 @@ fn holds_by<S: FnMut(&Constraint) -> Result<Option<Cert>, FmEnd>>(
     alloc: Global,
     values: &[Option<Poly>],
     pair: &Pair,
+    memo: &mut PairMemo,
     solve: &mut S,
 ) -> Result<AllShown, NoMemory>
     requires solver { IsSolver S.FnMut solve.old }
@@ -45,7 +46,7 @@ fn holds_by<S: FnMut(&Constraint) -> Result<Option<Cert>, FmEnd>>(
     let Some(right) = polynomial_of(values, pair.right.0) else {
         return Ok(AllShown::NotShown);
     };
-    holds(alloc, pair, left, right, solve)
+    memo.holds(alloc, pair, left, right, solve)
 }
 
 /// Whether it falls there.
@@ -53,6 +54,7 @@ fn falls_by<S: FnMut(&Constraint) -> Result<Option<Cert>, FmEnd>>(
     alloc: Global,
     values: &[Option<Poly>],
     pair: &Pair,
+    memo: &mut PairMemo,
     solve: &mut S,
 ) -> Result<AllShown, NoMemory>
     requires solver { IsSolver S.FnMut solve.old }
@@ -65,7 +67,7 @@ fn falls_by<S: FnMut(&Constraint) -> Result<Option<Cert>, FmEnd>>(
     let Some(right) = polynomial_of(values, pair.right.0) else {
         return Ok(AllShown::NotShown);
     };
-    falls(alloc, pair, left, right, solve)
+    memo.falls(alloc, pair, left, right, solve)
 }
 
 /// The certificates by which the pair holds.
@@ -73,6 +75,7 @@ fn held<S: FnMut(&Constraint) -> Result<Option<Cert>, FmEnd>>(
     alloc: Global,
     values: &[Option<Poly>],
     pair: &Pair,
+    memo: &mut PairMemo,
     solve: &mut S,
 ) -> Result<Attempt<Items<Cert>>, NoMemory>
     requires solver { IsSolver S.FnMut solve.old }
@@ -80,7 +83,7 @@ fn held<S: FnMut(&Constraint) -> Result<Option<Cert>, FmEnd>>(
     ensures tried { IfOk result (λ t. tried_only t ≡ only_shown (holds_by values.now pair.now)) }
     ensures held { IfOk result (λ t. IfSome t.made (IsHeld values.now pair.now)) }
 {
-    match holds_by(alloc, values, pair, solve)? {
+    match holds_by(alloc, values, pair, memo, solve)? {
         AllShown::Shown(certs) => Ok(Attempt {
             made: Some(certs),
             noted: false,
@@ -101,16 +104,19 @@ fn all_held<S: FnMut(&Constraint) -> Result<Option<Cert>, FmEnd>>(
     alloc: Global,
     values: &[Option<Poly>],
     pairs: &[&Pair],
+    memo: &mut PairMemo,
     solve: &mut S,
 ) -> Result<Attempt<Vec<Items<Cert>>>, NoMemory>
     requires solver { IsSolver S.FnMut solve.old }
     ensures solver { IsSolver S.FnMut solve.new }
-    ensures tried { IfOk result (λ t. tried_only t ≡ only_shown (all_hold values.now (pairs_at pairs.now))) }
-    ensures held { IfOk result (λ t. IfSome t.made (λ v. AllZip (IsHeld values.now) (pairs_at pairs.now) v.items)) }
+    ensures tried { IfOk result (λ t. tried_only t ≡
+        only_shown (all_hold values.now (pairs_at pairs.now))) }
+    ensures held { IfOk result (λ t. IfSome t.made
+        (λ v. AllZip (IsHeld values.now) (pairs_at pairs.now) v.items)) }
 {
     let mut all = Vec::new(alloc);
     for pair in pairs {
-        let attempt = held(alloc, values, *pair, solve)?;
+        let attempt = held(alloc, values, *pair, memo, solve)?;
         let noted = attempt.noted;
         match attempt.made {
             Some(certs) => all.push(certs)?,
@@ -137,6 +143,7 @@ fn decide<S: FnMut(&Constraint) -> Result<Option<Cert>, FmEnd>>(
     alloc: Global,
     values: &[Option<Poly>],
     pair: &Pair,
+    memo: &mut PairMemo,
     solve: &mut S,
 ) -> Result<Decision, NoMemory>
     requires solver { IsSolver S.FnMut solve.old }
@@ -144,7 +151,7 @@ fn decide<S: FnMut(&Constraint) -> Result<Option<Cert>, FmEnd>>(
     ensures certs { IfOk result (λ d. IsDecided values.now pair.now d.certs) }
     ensures noted { IfOk result (λ d. d.noted ≡ is_beyond (falls_by values.now pair.now)) }
 {
-    match falls_by(alloc, values, pair, solve)? {
+    match falls_by(alloc, values, pair, memo, solve)? {
         AllShown::Shown(certs) => Ok(Decision {
             certs: Some(certs),
             noted: false,
@@ -174,17 +181,20 @@ fn falling<S: FnMut(&Constraint) -> Result<Option<Cert>, FmEnd>>(
     alloc: Global,
     values: &[Option<Poly>],
     pairs: &[&Pair],
+    memo: &mut PairMemo,
     solve: &mut S,
 ) -> Result<Falls, NoMemory>
     requires solver { IsSolver S.FnMut solve.old }
     ensures solver { IsSolver S.FnMut solve.new }
-    ensures certs { IfOk result (λ f. AllZip (IsDecided values.now) (pairs_at pairs.now) f.certs.items) }
-    ensures noted { IfOk result (λ f. f.noted ≡ list_any (λ pair. is_beyond (falls_by values.now pair)) (pairs_at pairs.now)) }
+    ensures certs { IfOk result (λ f. AllZip (IsDecided values.now) (pairs_at pairs.now)
+        f.certs.items) }
+    ensures noted { IfOk result (λ f. f.noted ≡
+        list_any (λ pair. is_beyond (falls_by values.now pair)) (pairs_at pairs.now)) }
 {
     let mut certs = Vec::new(alloc);
     let mut noted = false;
     for pair in pairs {
-        let decision = decide(alloc, values, *pair, solve)?;
+        let decision = decide(alloc, values, *pair, memo, solve)?;
         noted = noted || decision.noted;
         certs.push(decision.certs)?;
     }
@@ -209,15 +219,18 @@ fn fit_falling<S: FnMut(&Constraint) -> Result<Option<Cert>, FmEnd>>(
     values: Vec<Option<Poly>>,
     held: Vec<Items<Cert>>,
     pairs: &[&Pair],
+    memo: &mut PairMemo,
     solve: &mut S,
 ) -> Result<Attempt<Fit>, NoMemory>
     requires solver { IsSolver S.FnMut solve.old }
     requires held { AllZip (IsHeld values.items) (pairs_at pairs.now) held.items }
     ensures solver { IsSolver S.FnMut solve.new }
-    ensures tried { IfOk result (λ t. tried_as (λ fit. still_open (pairs_at pairs.now) fit.falls.items) t ≡ falling values.items (pairs_at pairs.now)) }
+    ensures tried { IfOk result (λ t. tried_as
+        (λ fit. still_open (pairs_at pairs.now) fit.falls.items) t ≡
+        falling values.items (pairs_at pairs.now)) }
     ensures fit { IfOk result (λ t. IfSome t.made (IsFit values.items (pairs_at pairs.now))) }
 {
-    let falls = falling(alloc, values.as_slice(), pairs, solve)?;
+    let falls = falling(alloc, values.as_slice(), pairs, memo, solve)?;
     let noted = falls.noted;
     if !some_falls(falls.certs.as_slice()) {
         return Ok(Attempt { made: None, noted });
@@ -238,17 +251,20 @@ pub(crate) fn fitting<S: FnMut(&Constraint) -> Result<Option<Cert>, FmEnd>>(
     alloc: Global,
     values: Vec<Option<Poly>>,
     pairs: &[&Pair],
+    memo: &mut PairMemo,
     solve: &mut S,
 ) -> Result<Attempt<Fit>, NoMemory>
     requires solver { IsSolver S.FnMut solve.old }
     ensures solver { IsSolver S.FnMut solve.new }
-    ensures tried { IfOk result (λ t. tried_as (λ fit. still_open (pairs_at pairs.now) fit.falls.items) t ≡ fitting (pairs_at pairs.now) values.items) }
+    ensures tried { IfOk result (λ t. tried_as
+        (λ fit. still_open (pairs_at pairs.now) fit.falls.items) t ≡
+        fitting (pairs_at pairs.now) values.items) }
     ensures fit { IfOk result (λ t. IfSome t.made (IsFit values.items (pairs_at pairs.now))) }
 {
-    let attempt = all_held(alloc, values.as_slice(), pairs, solve)?;
+    let attempt = all_held(alloc, values.as_slice(), pairs, memo, solve)?;
     let noted = attempt.noted;
     let Some(held) = attempt.made else {
         return Ok(Attempt { made: None, noted });
     };
-    fit_falling(alloc, values, held, pairs, solve)
+    fit_falling(alloc, values, held, pairs, memo, solve)
 }

@@ -10,6 +10,7 @@ mod filling;
 mod fitting;
 mod members;
 mod order;
+mod pair_memo;
 mod pair_tests;
 mod values;
 
@@ -17,6 +18,7 @@ pub use attempt::{Attempt, noted_before};
 pub use component::fit_component;
 pub use fitting::Fit;
 pub use members::is_member;
+pub use pair_memo::PairMemo;
 pub use rx_fm::FmEnd;
 pub use rx_plain::NoMemory;
 pub use values::{polynomial_of, put_polynomial, without_polynomials};

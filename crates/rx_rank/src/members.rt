@@ -118,7 +118,8 @@ fn others_among(
     hypotheses: &[Rule],
     symbols: &[u32],
 ) -> Result<Vec<u32>, NoMemory>
-    ensures { IfOk result (λ v. v.items ≡ filter (λ f. not (is_anchor infos.now hypotheses.now f)) symbols.now) }
+    ensures { IfOk result (λ v. v.items ≡ filter (λ f. not (is_anchor infos.now hypotheses.now f))
+        symbols.now) }
 {
     let mut others = Vec::new(alloc);
     for symbol in symbols {
@@ -146,8 +147,10 @@ pub(crate) fn members_of(
     names: &[u32],
     name: u32,
 ) -> Result<Members, NoMemory>
-    ensures anchors { IfOk result (λ m. m.anchors.items ≡ filter (is_anchor infos.now hypotheses.now) (members names.now name)) }
-    ensures others { IfOk result (λ m. m.others.items ≡ filter (λ f. not (is_anchor infos.now hypotheses.now f)) (members names.now name)) }
+    ensures anchors { IfOk result (λ m. m.anchors.items ≡
+        filter (is_anchor infos.now hypotheses.now) (members names.now name)) }
+    ensures others { IfOk result (λ m. m.others.items ≡
+        filter (λ f. not (is_anchor infos.now hypotheses.now f)) (members names.now name)) }
 {
     let symbols = symbols_in(alloc, names, name)?;
     let anchors = anchors_among(alloc, infos, hypotheses, symbols.as_slice())?;

@@ -82,7 +82,8 @@ pub(crate) fn order_of(
     pairs: &[&Pair],
     symbols: &[u32],
 ) -> Result<Option<Vec<u32>>, NoMemory>
-    ensures { IfOk result (λ o. option_map (λ v. v.items) o ≡ order_of (pairs_at pairs.now) symbols.now) }
+    ensures { IfOk result (λ o. option_map (λ v. v.items) o ≡
+        order_of (pairs_at pairs.now) symbols.now) }
 {
     let mut waiting = Vec::from_slice(alloc, symbols)?;
     let mut order = Vec::new(alloc);

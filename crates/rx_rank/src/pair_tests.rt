@@ -43,8 +43,10 @@ fn try_holds<S: FnMut(&Constraint) -> Result<Option<Cert>, FmEnd>>(
 ) -> Result<AllShown, PolyEnd>
     requires solver { IsSolver S.FnMut solve.old }
     ensures solver { IsSolver S.FnMut solve.new }
-    ensures answer { IfOk result (IsTold (holds pair.now left.now right.now) pair.now (holds_rows pair.now left.now right.now)) }
-    ensures large { IfErr result (λ e. e ≡ PolyEnd.Large → holds pair.now left.now right.now ≡ Beyond) }
+    ensures answer { IfOk result (IsTold (holds pair.now left.now right.now) pair.now
+        (holds_rows pair.now left.now right.now)) }
+    ensures large { IfErr result (λ e. e ≡ PolyEnd.Large → holds pair.now left.now right.now ≡
+        Beyond) }
 {
     match hold_row(alloc, pair, left, right)? {
         Some(row) => show_row(alloc, pair, row, solve).map_err(|_| PolyEnd::NoMemory),
@@ -53,7 +55,7 @@ fn try_holds<S: FnMut(&Constraint) -> Result<Option<Cert>, FmEnd>>(
 }
 
 /// Whether a column with these polynomials for the left and the right symbol holds at the pair.
-pub(crate) fn holds<S: FnMut(&Constraint) -> Result<Option<Cert>, FmEnd>>(
+pub(crate) fn show_hold<S: FnMut(&Constraint) -> Result<Option<Cert>, FmEnd>>(
     alloc: Global,
     pair: &Pair,
     left: &Poly,
@@ -62,7 +64,8 @@ pub(crate) fn holds<S: FnMut(&Constraint) -> Result<Option<Cert>, FmEnd>>(
 ) -> Result<AllShown, NoMemory>
     requires solver { IsSolver S.FnMut solve.old }
     ensures solver { IsSolver S.FnMut solve.new }
-    ensures answer { IfOk result (IsTold (holds pair.now left.now right.now) pair.now (holds_rows pair.now left.now right.now)) }
+    ensures answer { IfOk result (IsTold (holds pair.now left.now right.now) pair.now
+        (holds_rows pair.now left.now right.now)) }
 {
     match try_holds(alloc, pair, left, right, solve) {
         Ok(answer) => Ok(answer),
@@ -90,8 +93,11 @@ fn try_less<S: FnMut(&Constraint) -> Result<Option<Cert>, FmEnd>>(
 ) -> Result<AllShown, PolyEnd>
     requires solver { IsSolver S.FnMut solve.old }
     ensures solver { IsSolver S.FnMut solve.new }
-    ensures answer { IfOk result (IsTold (row_said pair.now (less_by_one pair.now here.now right.now)) pair.now (one_formed (less_by_one pair.now here.now right.now))) }
-    ensures large { IfErr result (λ e. e ≡ PolyEnd.Large → row_said pair.now (less_by_one pair.now here.now right.now) ≡ Beyond) }
+    ensures answer { IfOk result (IsTold (row_said pair.now
+        (less_by_one pair.now here.now right.now)) pair.now
+        (one_formed (less_by_one pair.now here.now right.now))) }
+    ensures large { IfErr result (λ e. e ≡ PolyEnd.Large →
+        row_said pair.now (less_by_one pair.now here.now right.now) ≡ Beyond) }
 {
     let row = less_row(alloc, pair, here, right)?;
     show_row(alloc, pair, row, solve).map_err(|_| PolyEnd::NoMemory)
@@ -137,8 +143,10 @@ fn try_falls<S: FnMut(&Constraint) -> Result<Option<Cert>, FmEnd>>(
 ) -> Result<AllShown, PolyEnd>
     requires solver { IsSolver S.FnMut solve.old }
     ensures solver { IsSolver S.FnMut solve.new }
-    ensures answer { IfOk result (IsTold (falls pair.now left.now right.now) pair.now (falls_rows pair.now left.now right.now)) }
-    ensures large { IfErr result (λ e. e ≡ PolyEnd.Large → falls pair.now left.now right.now ≡ Beyond) }
+    ensures answer { IfOk result (IsTold (falls pair.now left.now right.now) pair.now
+        (falls_rows pair.now left.now right.now)) }
+    ensures large { IfErr result (λ e. e ≡ PolyEnd.Large → falls pair.now left.now right.now ≡
+        Beyond) }
 {
     let here = on_left(alloc, pair, left)?;
     match show_instance(alloc, pair, &here, solve) {
@@ -153,7 +161,7 @@ fn try_falls<S: FnMut(&Constraint) -> Result<Option<Cert>, FmEnd>>(
 }
 
 /// Whether a column with these polynomials for the left and the right symbol falls at the pair.
-pub(crate) fn falls<S: FnMut(&Constraint) -> Result<Option<Cert>, FmEnd>>(
+pub(crate) fn show_fall<S: FnMut(&Constraint) -> Result<Option<Cert>, FmEnd>>(
     alloc: Global,
     pair: &Pair,
     left: &Poly,
@@ -162,7 +170,8 @@ pub(crate) fn falls<S: FnMut(&Constraint) -> Result<Option<Cert>, FmEnd>>(
 ) -> Result<AllShown, NoMemory>
     requires solver { IsSolver S.FnMut solve.old }
     ensures solver { IsSolver S.FnMut solve.new }
-    ensures answer { IfOk result (IsTold (falls pair.now left.now right.now) pair.now (falls_rows pair.now left.now right.now)) }
+    ensures answer { IfOk result (IsTold (falls pair.now left.now right.now) pair.now
+        (falls_rows pair.now left.now right.now)) }
 {
     match try_falls(alloc, pair, left, right, solve) {
         Ok(answer) => Ok(answer),

@@ -46,7 +46,8 @@ pub(crate) fn choice_values(
     anchors: &[u32],
     choice: &[&Poly],
 ) -> Result<Vec<Option<Poly>>, NoMemory>
-    ensures { IfOk result (λ values. values.items ≡ with_choice (without_polynomials symbols) anchors.now (polys_at choice.now)) }
+    ensures { IfOk result (λ values. values.items ≡
+        with_choice (without_polynomials symbols) anchors.now (polys_at choice.now)) }
 {
     let mut values = without_polynomials(alloc, symbols)?;
     for (at, anchor) in anchors.iter().enumerate() {

@@ -13,7 +13,8 @@ closing column o = record { column = column; certs = o.certs }
 -- the certificates by the numbers of pairs, with those of pairs that are closed
 abbrev pub close_all : ℕ → List (Option PairCert) → List OpenPair → List (Option PairCert)
 close_all column closed [] = closed
-close_all column closed (o ∷ os) = close_all column (slice_set closed o.number (Some (closing column o))) os
+close_all column closed (o ∷ os) =
+    close_all column (slice_set closed o.number (Some (closing column o))) os
 
 -- that of a pair; where it isn't closed one by no column, which shows nothing
 abbrev pub cert_of : Option PairCert → PairCert

@@ -25,5 +25,7 @@ RanksAnswer said (Err e) = e ≡ Large → said ≡ Beyond
 -- that are at most 174 deep
 pub record LowersAll (parts : RuleParts) (hypotheses : List Rule) (found : Ranking) : Type 0 where
   pub lawful : bad_rank parts found.table ≡ None
-  pub lower : (pairs : List Pair) → AreAllPairs (parts.rules ++ hypotheses) pairs → descent_from found.table 0 pairs found.certs ≡ Descends
-  pub deep : All (λ (c : PairCert). All (λ (cert : Cert). cert_depth cert ≤ most_deep) c.certs) found.certs
+  pub lower : (pairs : List Pair) → AreAllPairs (parts.rules ++ hypotheses) pairs →
+      descent_from found.table 0 pairs found.certs ≡ Descends
+  pub deep : All (λ (c : PairCert). All (λ (cert : Cert). cert_depth cert ≤ most_deep) c.certs)
+      found.certs

@@ -40,10 +40,12 @@ abbrev pub ungrouped : List (List OpenPair) → List OpenPair
 ungrouped groups = flat_map (λ group. group) groups
 
 -- what comes of groups, as those of the components from that name on
-abbrev pub tries_from : RuleParts → List Rule → List ℕ → ℕ → List (List OpenPair) → List (Tried (List Pair))
+abbrev pub tries_from : RuleParts → List Rule → List ℕ → ℕ → List (List OpenPair) →
+    List (Tried (List Pair))
 tries_from parts hypotheses names c [] = []
 tries_from parts hypotheses names c (group ∷ groups) =
-    unless_empty parts hypotheses names c (pairs_open group) ∷ tries_from parts hypotheses names (c + 1) groups
+    unless_empty parts hypotheses names c (pairs_open group) ∷
+    tries_from parts hypotheses names (c + 1) groups
 
 -- ---- fits of several components
 
@@ -73,13 +75,18 @@ pub record IsOwnBelow (infos : List SymInfo) (names : List ℕ) (c f : ℕ) (p :
   pub over : uses_below (arity_of infos f) p ≡ true
 
 -- the fit is of components whose names are below that, with these pairs
-pub record IsFitBelow (infos : List SymInfo) (names : List ℕ) (c : ℕ) (pairs : List Pair) (fit : Fit) : Type 0 where
+pub record IsFitBelow (infos : List SymInfo) (names : List ℕ) (c : ℕ) (pairs : List Pair)
+    (fit : Fit) : Type 0 where
   pub fit_is : IsFit fit.values.items pairs fit
   pub count : length fit.values.items ≡ length infos
-  pub own : (f : ℕ) (p : Body) → polynomial_of fit.values.items f ≡ Some p → IsOwnBelow infos names c f p
+  pub own : (f : ℕ) (p : Body) → polynomial_of fit.values.items f ≡ Some p →
+      IsOwnBelow infos names c f p
 
 -- what comes of the component with that name, after those whose names are below it
-pub record IsOneMore (parts : RuleParts) (hypotheses : List Rule) (names : List ℕ) (c : ℕ) (pairs : List Pair) (before : Fit) (t : Attempt Fit) : Type 0 where
+pub record IsOneMore (parts : RuleParts) (hypotheses : List Rule) (names : List ℕ) (c : ℕ)
+    (pairs : List Pair) (before : Fit) (t : Attempt Fit) : Type 0 where
   pub tried : (done : List Pair) → IsFitBelow parts.symbols names c done before
-      → tried_as (λ fit. still_open (done ++ pairs) fit.falls.items) t ≡ after (still_open done before.falls.items) (unless_empty parts hypotheses names c pairs)
-  pub fits : (done : List Pair) → IsFitBelow parts.symbols names c done before → IfSome t.made (IsFitBelow parts.symbols names (c + 1) (done ++ pairs))
+      → tried_as (λ fit. still_open (done ++ pairs) fit.falls.items) t ≡
+      after (still_open done before.falls.items) (unless_empty parts hypotheses names c pairs)
+  pub fits : (done : List Pair) → IsFitBelow parts.symbols names c done before →
+      IfSome t.made (IsFitBelow parts.symbols names (c + 1) (done ++ pairs))

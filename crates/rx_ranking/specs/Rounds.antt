@@ -9,7 +9,8 @@ use Rattle.rx_term.specs.declared.rule_set.SymInfo.{SymInfo}
 
 -- each pair is open or closed by the columns
 abbrev pub IsSplitBy : List Pair → Progress → Type 0
-IsSplitBy pairs progress = IsSplit pairs (columns_in progress.columns.items) progress.entries.items progress.closed.items
+IsSplitBy pairs progress =
+    IsSplit pairs (columns_in progress.columns.items) progress.entries.items progress.closed.items
 
 -- the columns are lawful for the symbols
 abbrev pub AreLawful : List SymInfo → Progress → Type 0

@@ -41,7 +41,8 @@ columns_in columns = map (λ v. v.items) columns
 
 -- each polynomial is over the arguments of its symbol
 abbrev pub IsLawful : List SymInfo → Column → Type 0
-IsLawful infos column = (f : ℕ) (p : Body) → polynomial_of column f ≡ Some p → uses_below (arity_of infos f) p ≡ true
+IsLawful infos column =
+    (f : ℕ) (p : Body) → polynomial_of column f ≡ Some p → uses_below (arity_of infos f) p ≡ true
 
 -- the column of heights by symbol
 abbrev pub height_column : List ℕ → Column
@@ -67,7 +68,8 @@ has_number k opens = list_any (λ (o : OpenPair). o.number == k) opens
 -- it is the pair with its number, and all columns hold there by its certificates
 pub record IsOpenBy (pairs : List Pair) (columns : List Column) (o : OpenPair) : Type 0 where
   pub there : slice_get pairs o.number ≡ Some o.pair
-  pub held : IsProved o.pair (held_rows o.pair (rank_at columns o.pair.left.0) (rank_at columns o.pair.right.0)) o.certs
+  pub held : IsProved o.pair (held_rows o.pair (rank_at columns o.pair.left.0)
+      (rank_at columns o.pair.right.0)) o.certs
 
 -- each certificate is at most 174 deep
 abbrev pub AreDeep : List Cert → Type 0
@@ -78,12 +80,15 @@ IsDeepPair cert = AreDeep cert.certs
 
 -- it is lower by one of the columns
 pub record IsLowerBy (columns : List Column) (pair : Pair) (cert : PairCert) : Type 0 where
-  pub finds : column_finding pair cert.column (rank_at columns pair.left.0) (rank_at columns pair.right.0) cert.certs ≡ Yes
+  pub finds : column_finding pair cert.column (rank_at columns pair.left.0)
+      (rank_at columns pair.right.0) cert.certs ≡ Yes
   pub deep : IsDeepPair cert
 
 -- each pair is open, or closed by its certificates
-pub record IsSplit (pairs : List Pair) (columns : List Column) (opens : List OpenPair) (closed : List (Option PairCert)) : Type 0 where
+pub record IsSplit (pairs : List Pair) (columns : List Column) (opens : List OpenPair)
+    (closed : List (Option PairCert)) : Type 0 where
   pub count : length closed ≡ length pairs
   pub opened : All (IsOpenBy pairs columns) opens
-  pub lower : (k : ℕ) (pair : Pair) (cert : PairCert) → slice_get pairs k ≡ Some pair → slice_get closed k ≡ Some (Some cert) → IsLowerBy columns pair cert
+  pub lower : (k : ℕ) (pair : Pair) (cert : PairCert) → slice_get pairs k ≡ Some pair →
+      slice_get closed k ≡ Some (Some cert) → IsLowerBy columns pair cert
   pub rest : (k : ℕ) → slice_get closed k ≡ Some None → has_number k opens ≡ true

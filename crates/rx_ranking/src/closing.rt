@@ -20,7 +20,8 @@ fn close(closed: &mut Vec<Option<PairCert>>, number: usize, cert: PairCert)
 
 /// Closes the pair by its certificates: it falls by the column with that number.
 pub(crate) fn close_entry(closed: &mut Vec<Option<PairCert>>, column: u32, entry: OpenPair)
-    ensures { closed.new.items ≡ slice_set closed.old.items entry.number (Some (closing column entry)) }
+    ensures { closed.new.items ≡ slice_set closed.old.items entry.number
+        (Some (closing column entry)) }
 {
     let cert = PairCert {
         column,
@@ -58,8 +59,10 @@ pub(crate) fn close_fallen(
     falls: Vec<Option<Items<Cert>>>,
     closed: &mut Vec<Option<PairCert>>,
 ) -> Result<Vec<OpenPair>, NoMemory>
-    ensures staying { IfOk result (λ left. left.items ≡ left_open (fitted entries.items holds.items falls.items)) }
-    ensures leaving { OnOk result (closed.new.items ≡ close_all column closed.old.items (fallen (fitted entries.items holds.items falls.items))) }
+    ensures staying { IfOk result (λ left. left.items ≡
+        left_open (fitted entries.items holds.items falls.items)) }
+    ensures leaving { OnOk result (closed.new.items ≡
+        close_all column closed.old.items (fallen (fitted entries.items holds.items falls.items))) }
 {
     let mut left = Vec::new(alloc);
     for ((entry, held), fall) in entries.into_iter().zip(holds).zip(falls) {

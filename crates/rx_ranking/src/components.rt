@@ -13,7 +13,7 @@ use rx_cert::Cert;
 use rx_fm::FmEnd;
 use rx_plain::NoMemory;
 use rx_poly::Poly;
-use rx_rank::{Attempt, Fit, fit_component, without_polynomials};
+use rx_rank::{Attempt, Fit, PairMemo, fit_component, without_polynomials};
 use rx_row::Constraint;
 use rx_term::{Rule, RuleParts};
 use std::alloc::Global;
@@ -84,6 +84,7 @@ fn fit_one_more<S: FnMut(&Constraint) -> Result<Option<Cert>, FmEnd>>(
     name: u32,
     entries: &[OpenPair],
     before: Fit,
+    memo: &mut PairMemo,
     solve: &mut S,
 ) -> Result<Attempt<Fit>, NoMemory>
     requires solver { IsSolver S.FnMut solve.old }
@@ -105,6 +106,7 @@ fn fit_one_more<S: FnMut(&Constraint) -> Result<Option<Cert>, FmEnd>>(
         names,
         name,
         pairs.as_slice(),
+        memo,
         solve,
     )?;
     let noted = tried.noted;
@@ -125,6 +127,7 @@ pub(crate) fn fit_groups<S: FnMut(&Constraint) -> Result<Option<Cert>, FmEnd>>(
     hypotheses: &[Rule],
     names: &[u32],
     groups: &[Vec<OpenPair>],
+    memo: &mut PairMemo,
     solve: &mut S,
 ) -> Result<Attempt<Fit>, NoMemory>
     requires solver { IsSolver S.FnMut solve.old }
@@ -148,6 +151,7 @@ pub(crate) fn fit_groups<S: FnMut(&Constraint) -> Result<Option<Cert>, FmEnd>>(
             name as u32,
             entries,
             fit,
+            memo,
             solve,
         )?;
         noted = noted || tried.noted;

@@ -16,7 +16,7 @@ use rx_cert::Cert;
 use rx_fm::FmEnd;
 use rx_plain::{Items, NoMemory};
 use rx_poly::Poly;
-use rx_rank::{Attempt, Fit};
+use rx_rank::{Attempt, Fit, PairMemo};
 use rx_row::Constraint;
 use rx_term::{Rule, RuleParts};
 use std::alloc::Global;
@@ -41,6 +41,7 @@ pub(crate) fn fit_all<S: FnMut(&Constraint) -> Result<Option<Cert>, FmEnd>>(
     parts: &RuleParts,
     hypotheses: &[Rule],
     entries: Vec<OpenPair>,
+    memo: &mut PairMemo,
     solve: &mut S,
 ) -> Result<Attempt<Fits>, NoMemory>
     requires solver { IsSolver S.FnMut solve.old }
@@ -55,7 +56,15 @@ pub(crate) fn fit_all<S: FnMut(&Constraint) -> Result<Option<Cert>, FmEnd>>(
     let components = find_names(alloc, parts.symbols.len(), entries.as_slice())?;
     let names = components.as_slice();
     let groups = group_entries(alloc, names, entries)?;
-    let tried = fit_groups(alloc, parts, hypotheses, names, groups.as_slice(), solve)?;
+    let tried = fit_groups(
+        alloc,
+        parts,
+        hypotheses,
+        names,
+        groups.as_slice(),
+        memo,
+        solve,
+    )?;
     let noted = tried.noted;
     match tried.made {
         Some(fit) => {

@@ -15,6 +15,7 @@ mod ranking;
 mod rounds;
 mod table;
 
-pub use ranking::{Ranking, find_ranks};
+pub use ranking::{Ranking, find_ranks, find_ranks_with};
 pub use rx_fm::FmEnd;
 pub use rx_plain::NoMemory;
+pub use rx_rank::PairMemo;

@@ -15,7 +15,8 @@ use std::alloc::Global;
 /// The graph of the pairs.
 fn graph_of(alloc: Global, symbols: usize, entries: &[OpenPair]) -> Result<Graph, NoMemory>
     requires { IsOver symbols (edges_of (pairs_open entries.now)) }
-    ensures edges { IfOk result (λ graph. IsGraphOf symbols (edges_of (pairs_open entries.now)) (rows_of graph.rows.items)) }
+    ensures edges { IfOk result (λ graph. IsGraphOf symbols (edges_of (pairs_open entries.now))
+        (rows_of graph.rows.items)) }
     ensures closed { IfOk result (λ graph. IsClosed (rows_of graph.rows.items)) }
 {
     let mut graph = Graph::new(alloc, symbols)?;
@@ -57,11 +58,15 @@ pub(crate) fn find_levels(
 ) -> Result<Levels, NoMemory>
     requires over { IsOver symbols (edges_of (pairs_open entries.now)) }
     requires few { symbols ≤ 2 ^ 32 }
-    ensures names { IfOk result (λ found. found.names.items ≡ names_of symbols (pairs_open entries.now)) }
-    ensures heights { IfOk result (λ found. AreHeights symbols (edges_of (pairs_open entries.now)) found.heights.items) }
-    ensures components { IfOk result (λ found. AreComponents symbols (edges_of (pairs_open entries.now)) found.names.items) }
+    ensures names { IfOk result (λ found. found.names.items ≡
+        names_of symbols (pairs_open entries.now)) }
+    ensures heights { IfOk result (λ found. AreHeights symbols (edges_of (pairs_open entries.now))
+        found.heights.items) }
+    ensures components { IfOk result (λ found.
+        AreComponents symbols (edges_of (pairs_open entries.now)) found.names.items) }
     ensures count { IfOk result (λ found. length found.heights.items ≡ symbols) }
-    ensures below { IfOk result (λ found. (a : ℕ) → a < symbols → slice_index found.heights.items a < symbols) }
+    ensures below { IfOk result (λ found. (a : ℕ) → a < symbols →
+        slice_index found.heights.items a < symbols) }
 {
     let graph = graph_of(alloc, symbols, entries)?;
     let names = graph.components(alloc)?;

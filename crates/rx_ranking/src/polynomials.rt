@@ -14,7 +14,7 @@ use crate::progress::Progress;
 use rx_cert::Cert;
 use rx_fm::FmEnd;
 use rx_plain::NoMemory;
-use rx_rank::Attempt;
+use rx_rank::{Attempt, PairMemo};
 use rx_row::Constraint;
 use rx_term::{Rule, RuleParts};
 use std::alloc::Global;
@@ -26,6 +26,7 @@ pub(crate) fn add_polynomials<S: FnMut(&Constraint) -> Result<Option<Cert>, FmEn
     parts: &RuleParts,
     hypotheses: &[Rule],
     progress: Progress,
+    memo: &mut PairMemo,
     solve: &mut S,
 ) -> Result<Attempt<Progress>, NoMemory>
     requires solver { IsSolver S.FnMut solve.old }
@@ -33,7 +34,8 @@ pub(crate) fn add_polynomials<S: FnMut(&Constraint) -> Result<Option<Cert>, FmEn
     requires few { length parts.now.symbols ≤ 2 ^ 32 }
     requires width { length progress.columns.items ≤ 14 }
     ensures solver { IsSolver S.FnMut solve.new }
-    ensures tried { IfOk result (λ t. tried_as (λ after. pairs_open after.entries.items) t ≡ polynomials parts.now hypotheses.now (pairs_open progress.entries.items)) }
+    ensures tried { IfOk result (λ t. tried_as (λ after. pairs_open after.entries.items) t ≡
+        polynomials parts.now hypotheses.now (pairs_open progress.entries.items)) }
     ensures grown { IfOk result (λ t. IfSome t.made (IsGrown parts.now.symbols progress)) }
 {
     let Progress {
@@ -43,7 +45,7 @@ pub(crate) fn add_polynomials<S: FnMut(&Constraint) -> Result<Option<Cert>, FmEn
     } = progress;
     let mut columns = columns;
     let mut closed = closed;
-    let tried = fit_all(alloc, parts, hypotheses, entries, solve)?;
+    let tried = fit_all(alloc, parts, hypotheses, entries, memo, solve)?;
     let noted = tried.noted;
     let Some(fits) = tried.made else {
         return Ok(Attempt { made: None, noted });

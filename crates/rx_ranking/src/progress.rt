@@ -67,8 +67,10 @@ pub(crate) fn add_heights(
     requires over { IsOver symbols (edges_of (pairs_open progress.entries.items)) }
     requires few { symbols ≤ 2 ^ 32 }
     requires width { length progress.columns.items ≤ 14 }
-    ensures pairs { IfOk result (λ after. pairs_open after.entries.items ≡ inside symbols (pairs_open progress.entries.items)) }
-    ensures grown { IfOk result (λ after. (infos : List SymInfo) → symbols ≡ length infos → IsGrown infos progress after) }
+    ensures pairs { IfOk result (λ after. pairs_open after.entries.items ≡
+        inside symbols (pairs_open progress.entries.items)) }
+    ensures grown { IfOk result (λ after. (infos : List SymInfo) → symbols ≡ length infos →
+        IsGrown infos progress after) }
 {
     let Progress {
         columns,

@@ -13,7 +13,7 @@ use rx_cert::Cert;
 use rx_fm::FmEnd;
 use rx_pairs::{PairCert, RankTable, all_pairs};
 use rx_plain::{Items, NoMemory};
-use rx_rank::Attempt;
+use rx_rank::{Attempt, PairMemo};
 use rx_row::Constraint;
 use rx_term::{Rule, RuleSet};
 use std::alloc::Global;
@@ -32,6 +32,7 @@ fn rank_all<S: FnMut(&Constraint) -> Result<Option<Cert>, FmEnd>>(
     alloc: Global,
     rules: &RuleSet,
     hypotheses: &[Rule],
+    memo: &mut PairMemo,
     solve: &mut S,
 ) -> Result<Attempt<Ranking>, NoMemory>
     requires solver { IsSolver S.FnMut solve.old }
@@ -48,7 +49,7 @@ fn rank_all<S: FnMut(&Constraint) -> Result<Option<Cert>, FmEnd>>(
     }
     let pairs = all_pairs(alloc, parts.rules.as_slice(), hypotheses)?;
     let start = begin(alloc, pairs)?;
-    let tried = rank_from(alloc, parts, hypotheses, 7, start, solve)?;
+    let tried = rank_from(alloc, parts, hypotheses, 7, start, memo, solve)?;
     let noted = tried.noted;
     match tried.made {
         Some(done) => {
@@ -69,7 +70,36 @@ fn rank_all<S: FnMut(&Constraint) -> Result<Option<Cert>, FmEnd>>(
 
 /// Finds ranks by which all pairs of the rules and of the hypotheses are lower, as the solver shows
 /// it. None where there are none of the kind that is tried; Large where there are none and something
-/// on the way passed the limits.
+/// on the way passed the limits. What is found out of pairs is kept in the memo, and what it has
+/// isn't asked again; it may come from other rules, hypotheses and solvers.
+pub fn find_ranks_with<S: FnMut(&Constraint) -> Result<Option<Cert>, FmEnd>>(
+    alloc: Global,
+    rules: &RuleSet,
+    hypotheses: &[Rule],
+    memo: &mut PairMemo,
+    solve: &mut S,
+) -> Result<Option<Ranking>, FmEnd>
+    requires solver { IsSolver S.FnMut solve.old }
+    requires roots { All HasRoot hypotheses.now }
+    requires fits { All (SidesFit rules.now) hypotheses.now }
+    ensures solver { IsSolver S.FnMut solve.new }
+    ensures answer { RanksAnswer (ranked rules.now hypotheses.now) result }
+    ensures lowers { IfOk result (λ a. IfSome a (LowersAll rules.now hypotheses.now)) }
+{
+    match rank_all(alloc, rules, hypotheses, memo, solve) {
+        Ok(tried) => {
+            let noted = tried.noted;
+            match tried.made {
+                Some(found) => Ok(Some(found)),
+                None if noted => Err(FmEnd::Large),
+                None => Ok(None),
+            }
+        }
+        Err(NoMemory) => Err(FmEnd::NoMemory),
+    }
+}
+
+/// The same, with a memo of its own.
 pub fn find_ranks<S: FnMut(&Constraint) -> Result<Option<Cert>, FmEnd>>(
     alloc: Global,
     rules: &RuleSet,
@@ -83,15 +113,6 @@ pub fn find_ranks<S: FnMut(&Constraint) -> Result<Option<Cert>, FmEnd>>(
     ensures answer { RanksAnswer (ranked rules.now hypotheses.now) result }
     ensures lowers { IfOk result (λ a. IfSome a (LowersAll rules.now hypotheses.now)) }
 {
-    match rank_all(alloc, rules, hypotheses, solve) {
-        Ok(tried) => {
-            let noted = tried.noted;
-            match tried.made {
-                Some(found) => Ok(Some(found)),
-                None if noted => Err(FmEnd::Large),
-                None => Ok(None),
-            }
-        }
-        Err(NoMemory) => Err(FmEnd::NoMemory),
-    }
+    let mut memo = PairMemo::new(alloc);
+    find_ranks_with(alloc, rules, hypotheses, &mut memo, solve)
 }

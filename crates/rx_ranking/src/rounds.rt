@@ -13,7 +13,7 @@ use crate::progress::{Progress, add_heights};
 use rx_cert::Cert;
 use rx_fm::FmEnd;
 use rx_plain::NoMemory;
-use rx_rank::{Attempt, noted_before};
+use rx_rank::{Attempt, PairMemo, noted_before};
 use rx_row::Constraint;
 use rx_term::{Rule, RuleParts};
 use std::alloc::Global;
@@ -26,6 +26,7 @@ pub(crate) fn rank_from<S: FnMut(&Constraint) -> Result<Option<Cert>, FmEnd>>(
     hypotheses: &[Rule],
     left: u32,
     progress: Progress,
+    memo: &mut PairMemo,
     solve: &mut S,
 ) -> Result<Attempt<Progress>, NoMemory>
     requires solver { IsSolver S.FnMut solve.old }
@@ -33,7 +34,8 @@ pub(crate) fn rank_from<S: FnMut(&Constraint) -> Result<Option<Cert>, FmEnd>>(
     requires few { length parts.now.symbols ≤ 2 ^ 32 }
     requires width { length progress.columns.items + 2 * left ≤ 14 }
     ensures solver { IsSolver S.FnMut solve.new }
-    ensures tried { IfOk result (λ t. tried_only t ≡ ranking_from parts.now hypotheses.now left (pairs_open progress.entries.items)) }
+    ensures tried { IfOk result (λ t. tried_only t ≡
+        ranking_from parts.now hypotheses.now left (pairs_open progress.entries.items)) }
     ensures made { IfOk result (λ t. IfSome t.made (IsRanked parts.now.symbols progress)) }
 {
     if left == 0 && progress.is_done() {
@@ -55,11 +57,11 @@ pub(crate) fn rank_from<S: FnMut(&Constraint) -> Result<Option<Cert>, FmEnd>>(
             noted: false,
         });
     }
-    let tried = add_polynomials(alloc, parts, hypotheses, grown, solve)?;
+    let tried = add_polynomials(alloc, parts, hypotheses, grown, memo, solve)?;
     let noted = tried.noted;
     match tried.made {
         Some(next) => {
-            let rest = rank_from(alloc, parts, hypotheses, left - 1, next, solve)?;
+            let rest = rank_from(alloc, parts, hypotheses, left - 1, next, memo, solve)?;
             Ok(noted_before(noted, rest))
         }
         None => Ok(Attempt { made: None, noted }),

@@ -49,7 +49,8 @@ fn ranks_of(
     symbols: usize,
 ) -> Result<Items<Items<Poly>>, NoMemory>
     requires { symbols ≤ 2 ^ 32 }
-    ensures { IfOk result (λ ranks. ranks ≡ map (rank_at (columns_in columns.now)) (symbols_of symbols)) }
+    ensures { IfOk result (λ ranks. ranks ≡ map (rank_at (columns_in columns.now))
+        (symbols_of symbols)) }
 {
     let mut ranks = Items::new(alloc);
     for symbol in 0..symbols {
@@ -86,9 +87,11 @@ pub(crate) fn ranking_of(
     requires width { length columns.now ≤ 15 }
     ensures lawful { IfOk result (λ found. (parts : RuleParts) → symbols ≡ length parts.symbols →
         All (IsLawful parts.symbols) (columns_in columns.now) → bad_rank parts found.table ≡ None) }
-    ensures lower { IfOk result (λ found. (pairs : List Pair) → IsSplit pairs (columns_in columns.now) [] closed.items →
+    ensures lower { IfOk result (λ found. (pairs : List Pair) →
+        IsSplit pairs (columns_in columns.now) [] closed.items →
         IsOver symbols (edges_of pairs) → descent_from found.table 0 pairs found.certs ≡ Descends) }
-    ensures deep { IfOk result (λ found. (pairs : List Pair) → IsSplit pairs (columns_in columns.now) [] closed.items → All IsDeepPair found.certs) }
+    ensures deep { IfOk result (λ found. (pairs : List Pair) →
+        IsSplit pairs (columns_in columns.now) [] closed.items → All IsDeepPair found.certs) }
 {
     let ranks = ranks_of(alloc, columns, symbols)?;
     let certs = certs_of(alloc, closed)?;

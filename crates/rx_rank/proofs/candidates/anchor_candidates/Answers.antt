@@ -1,5 +1,5 @@
 -- Those of the rules, and then those of the hypotheses.
-use Rattle.std.proofs.Common.{◌≡◌, ◌∙◌, ap, sym, subst, [], ◌++◌}
+use Rattle.std.proofs.Common.{◌∙◌, ap, sym, subst, []}
 use Rattle.std.proofs.lemmas.List.Concat.{flat_map-append}
 use Rattle.std.specs.List.{fold}
 use Rattle.rx_solve.specs.Attempts.{applying}

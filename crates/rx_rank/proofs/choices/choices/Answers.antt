@@ -1,10 +1,10 @@
 -- The choices with one list more before the last.
-use Rattle.std.proofs.Common.{◌≡◌, ◌∙◌, ap, sym, subst, ◌++◌, [], ◌∷◌, map, take}
+use Rattle.std.proofs.Common.{◌∙◌, ap, [], ◌∷◌, take}
 use Rattle.std.proofs.lemmas.List.{map-append}
 use Rattle.std.specs.List.{flat_map}
 use Rattle.rx_rank.specs.Answers.{choices_at, lists_in}
 use Rattle.rx_rank.specs.Ranking.{most_choices}
-use Rattle.rx_rank.proofs.Choosing.{Chosen, each_after, more_chosen}
+use Rattle.rx_rank.proofs.Choosing.{each_after, more_chosen}
 use Rattle.rx_rank.proofs.choices.choices.Goals as goal
 
 pub loop-last-preserved : goal.loop-last-preserved

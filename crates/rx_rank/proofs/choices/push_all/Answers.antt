@@ -1,5 +1,5 @@
 -- There are enough, or those of one candidate more.
-use Rattle.std.proofs.Common.{◌≡◌, ◌≤◌, ◌++◌, arith, length, map, take, vec_len}
+use Rattle.std.proofs.Common.{◌≤◌, ◌++◌, arith, length, take}
 use Rattle.std.proofs.lemmas.List.{length-map}
 use Rattle.std.specs.List.{flat_map}
 use Rattle.rx_term.proofs.Places.{at_some}

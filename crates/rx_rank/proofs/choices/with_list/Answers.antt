@@ -1,5 +1,5 @@
 -- The first of them.
-use Rattle.std.proofs.Common.{◌≡◌, ◌∙◌, ap, sym, subst, ◌++◌, [], map, take}
+use Rattle.std.proofs.Common.{◌∙◌, ap, sym, ◌++◌, take}
 use Rattle.std.proofs.lemmas.List.{take-map}
 use Rattle.std.specs.List.{flat_map}
 use Rattle.rx_rank.specs.Answers.{choices_at, polys_at}

@@ -1,5 +1,5 @@
 -- What is handed on makes what comes of the component.
-use Rattle.std.proofs.Common.{◌≡◌, ◌∙◌, ap, sym, subst, refl, Some, None, List, take}
+use Rattle.std.proofs.Common.{◌∙◌, ap, sym, subst, refl, Some, None, List, take}
 use Rattle.std.specs.Option.{IfSome, option_map}
 use Rattle.rx_rank.specs.Answers.{IsComponentFit, IsFirstFit, lists_in, pairs_at, still_open}
 use Rattle.rx_pairs.specs.declared.pair.Pair.{Pair}

@@ -1,8 +1,8 @@
 -- One pair more.
-use Rattle.std.proofs.Common.{◌≡◌, ◌∙◌, ap, sym, subst, refl, ◌+◌, ◌++◌, [], ◌∷◌, drop, take, Some, None}
+use Rattle.std.proofs.Common.{◌≡◌, ◌∙◌, ap, sym, subst, refl, ◌+◌, ◌++◌, [], ◌∷◌, drop, take, Some}
 use Rattle.std.specs.List.{AllZip}
 use Rattle.std.specs.Option.{IfSome}
-use Rattle.rx_cert.specs.Findings.{Said, Yes, both}
+use Rattle.rx_cert.specs.Findings.{Yes}
 use Rattle.rx_rank.specs.Answers.{IsHeld, only_shown, pairs_at}
 use Rattle.rx_rank.specs.Choices.{all_hold, holds_by}
 use Rattle.rx_rank.proofs.Walks.{made_not, made_yes, next_hold, refs_until, zip_more}

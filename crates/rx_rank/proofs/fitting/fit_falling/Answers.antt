@@ -1,5 +1,5 @@
 -- Where none falls nothing is made, and where one does those that don't stay open.
-use Rattle.std.proofs.Common.{◌≡◌, ◌∙◌, ap, sym, subst}
+use Rattle.std.proofs.Common.{◌∙◌, ap, sym, subst}
 use Rattle.std.specs.List.{AllZip, list_any}
 use Rattle.std.specs.Option.{is_some}
 use Rattle.rx_rank.specs.Answers.{IsDecided, pairs_at}

@@ -1,0 +1,14 @@
+-- The answer that is found is right, and so is its copy.
+use Rattle.std.proofs.Common.{IfSome, option_copied, subst, sym}
+use Rattle.rx_rank.proofs.MemoLaws.{of_copy}
+use Rattle.rx_rank.specs.Memo.{AreRight, Tells}
+use Rattle.rx_rank.proofs.pair_memo.recall_answer.Goals as goal
+
+pub returns-in-Some-clause-answer : goal.returns-in-Some-clause-answer
+returns-in-Some-clause-answer g c =
+    let a = c.args in
+    let pair = a.known.now.pair in
+    let tells = Tells a.test pair a.left.now a.right.now in
+    let right = subst (AreRight pair) (sym c.as_slice.ensures.value) c.requires.right in
+    let told = subst (λ o. IfSome (option_copied o) tells) c.in-Some.is (c.find_answer.ensures pair right) in
+    of_copy tells c.in-Some.answer.now c.copied_answer.result c.copied_answer.ensures told

@@ -1,0 +1,46 @@
+-- What a memo keeps of pairs: answers of tests, each of which is right.
+use Rattle.std.specs.Prelude.{◌≡◌, ℕ, Some, All, List, slice_get}
+use Rattle.rx_plain.specs.Formed.{Formed}
+use Rattle.rx_poly.specs.declared.body.Body.{Body}
+use Rattle.rx_row.specs.declared.row.Row.{Row}
+use Rattle.rx_cert.specs.Findings.{Said}
+use Rattle.rx_solve.specs.declared.showing.AllShown.{AllShown}
+use Rattle.rx_pairs.specs.Columns.{falls_rows, holds_rows}
+use Rattle.rx_pairs.specs.declared.pair.Pair.{Pair}
+use Rattle.rx_rank.specs.Answers.{IsTold}
+use Rattle.rx_rank.specs.PairTests.{falls, holds}
+use Rattle.rx_rank.specs.declared.pair_memo.KnownAnswer.{KnownAnswer}
+use Rattle.rx_rank.specs.declared.pair_memo.KnownPair.{KnownPair}
+use Rattle.rx_rank.specs.declared.pair_memo.PairTest.{PairTest}
+use Rattle.rx_rank.specs.declared.pair_memo.PairTest.TheVariants.{Holds, Falls}
+
+-- what is said of the test by these polynomials of the left and the right symbol
+abbrev pub said_of : PairTest → Pair → Body → Body → Said
+said_of Holds pair p q = holds pair p q
+said_of Falls pair p q = falls pair p q
+
+-- the rows that it asks for
+abbrev pub rows_of : PairTest → Pair → Body → Body → Formed (List Row)
+rows_of Holds pair p q = holds_rows pair p q
+rows_of Falls pair p q = falls_rows pair p q
+
+-- the answer tells what is said, where they are shown by certificates
+abbrev pub Tells : PairTest → Pair → Body → Body → AllShown → Type 0
+Tells test pair p q answer = IsTold (said_of test pair p q) pair (rows_of test pair p q) answer
+
+-- an answer that is kept of the pair is right
+abbrev pub IsRight : Pair → KnownAnswer → Type 0
+IsRight pair known = Tells known.test pair known.left known.right known.answer
+
+abbrev pub AreRight : Pair → List KnownAnswer → Type 0
+AreRight pair answers = All (IsRight pair) answers
+
+-- so are all that are kept
+abbrev pub AreRightPairs : List KnownPair → Type 0
+AreRightPairs pairs = All (λ (known : KnownPair). AreRight known.pair known.answers.items) pairs
+
+-- the pair has that place
+pub record HasPair (pair : Pair) (pairs : List KnownPair) (at : ℕ) : Type 0 where
+  pub known : KnownPair
+  pub there : slice_get pairs at ≡ Some known
+  pub same : known.pair ≡ pair
