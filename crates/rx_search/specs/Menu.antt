@@ -1,4 +1,5 @@
--- The choices at a settled goal: the four expansions, Decompose, and lemmas. Each that applies leads to a further node.
+-- The choices at a settled goal: the four expansions, Decompose, and lemmas. Each that applies
+-- leads to a further node.
 use Rattle.std.specs.Prelude.{ℕ, Bool, true, false, Option, Some, None, List, [], ◌∷◌, map}
 use Rattle.std.specs.List.{list_any}
 use Rattle.rx_solve.specs.Attempts.{Tried, beyond, where_shown}
@@ -33,11 +34,13 @@ module _ (parts : RuleParts) (state : State) where
   -- Expand that keeps the goal as a hypothesis, where ranks are found with that
   abbrev pub keeping : Side → Tried Next
   keeping side =
-      then_try (attempt parts state (Expand side true)) (λ (next : Next). where_shown (ranked parts next.state.hypotheses) next)
+      then_try (attempt parts state (Expand side true))
+      (λ (next : Next). where_shown (ranked parts next.state.hypotheses) next)
 
   -- a lemma
   abbrev pub by_lemma : Generalisation → Chosen
-  by_lemma lemma = choice (number_of lemma.kind) (attempt parts state (Generalise lemma.goal lemma.subst))
+  by_lemma lemma =
+      choice (number_of lemma.kind) (attempt parts state (Generalise lemma.goal lemma.subst))
 
   -- all lemmas; where they pass the limits none applies, and that is noted once
   abbrev pub by_lemmas : Option (List Generalisation) → List Chosen

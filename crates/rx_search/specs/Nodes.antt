@@ -1,4 +1,5 @@
--- Nodes as calls have them, whose steps have certificates: what is seen of them, and which of them a search comes to.
+-- Nodes as calls have them, whose steps have certificates: what is seen of them, and which of them
+-- a search comes to.
 use Rattle.std.specs.Prelude.{◌≡◌, ◌==◌, ◌||◌, if◌then◌else◌, ℕ, Bool, true, false, Option, Some, None, Ok, List, [], ◌∷◌, ◌++◌, map, slice_get}
 use Rattle.std.specs.List.{filter_map}
 use Rattle.std.specs.Option.{option_map}
@@ -31,7 +32,8 @@ abbrev pub node_of : Node → search.Node
 node_of node = record { moves = map move_of node.steps; state = node.state; left = node.left }
 
 module _ (parts : RuleParts) (goal : Equation) where
-  -- the rules are well made and the goal fits them; the steps lead from it to the state, and no certificate is deep
+  -- the rules are well made and the goal fits them; the steps lead from it to the state, and no
+  -- certificate is deep
   pub record IsReached (node : Node) : Type 0 where
     pub made : IsWellMade parts
     pub fits : IsFitting parts goal
@@ -51,18 +53,21 @@ module _ (from : Node) where
     pub node : option_map node_of found.node ≡ option_map (node_with (node_of from)) tried.made
     pub noted : found.noted ≡ tried.noted
 
-  -- the choices that apply, with their nodes, and whether something was noted, are those that were tried
+  -- the choices that apply, with their nodes, and whether something was noted, are those that were
+  -- tried
   pub record AreChoices (cs : List Chosen) (found : Choices) : Type 0 where
     pub choices : map (seen_choice node_of) found.choices ≡ filter_map (child (node_of from)) cs
     pub noted : found.noted ≡ is_any_noted cs
 
 -- the node with one more step, which made this state
 abbrev pub with_step : Node → Step → State → Node
-with_step from step state = record { steps = from.steps ++ step ∷ []; state = state; left = most_moves }
+with_step from step state =
+    record { steps = from.steps ++ step ∷ []; state = state; left = most_moves }
 
 -- the node with no steps
 abbrev pub started : Equation → Node
-started goal = record { steps = []; state = record { goals = goal ∷ []; hypotheses = [] }; left = most_moves }
+started goal =
+    record { steps = []; state = record { goals = goal ∷ []; hypotheses = [] }; left = most_moves }
 
 -- what comes of a step that was taken, or of none
 abbrev pub led : Node → Option Step → Bool → State → Trial

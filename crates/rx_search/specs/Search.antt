@@ -1,5 +1,5 @@
--- What a search comes to: ranks of the rules alone first, then the visits within the budget, each node settled and its
--- choices tried.
+-- What a search comes to: ranks of the rules alone first, then the visits within the budget, each
+-- node settled and its choices tried.
 use Rattle.std.specs.Prelude.{ℕ, Bool, true, false, ◌==◌, if◌then◌else◌, Option, None, List, [], ◌∷◌, ◌++◌}
 use Rattle.std.specs.List.{filter_map}
 use Rattle.std.specs.Option.{option_map}
@@ -24,7 +24,8 @@ use Rattle.rx_visits.specs.declared.tree.Settled.{Settled}
 
 -- ---- nodes
 
--- a node: the moves from the start, the state after them, and how many more moves its settling might have made
+-- a node: the moves from the start, the state after them, and how many more moves its settling
+-- might have made
 pub record Node : Type 0 where
   pub moves : List Move
   pub state : State
@@ -40,18 +41,26 @@ abbrev pub node_after : Node → settling.Settled → Node
 node_after node s = record { moves = node.moves ++ s.moves; state = s.state; left = s.left }
 
 abbrev pub settled_after : Node → settling.Settled → Settled Node (List Row)
-settled_after node s = record { node = node_after node s; closed = is_closed s.state.goals; note = s.note }
+settled_after node s =
+    record { node = node_after node s; closed = is_closed s.state.goals; note = s.note }
 
 -- one more move, after which nothing is settled yet
 abbrev pub node_with : Node → Next → Node
-node_with node next = record { moves = node.moves ++ next.move ∷ []; state = next.state; left = most_moves }
+node_with node next =
+    record { moves = node.moves ++ next.move ∷ []; state = next.state; left = most_moves }
 
 -- a choice that applies
 abbrev pub child : Node → Chosen → Option (Choice Node)
-child node c = option_map (λ next. record { number = c.number; node = node_with node next }) c.tried.made
+child node c =
+    option_map (λ next. record { number = c.number; node = node_with node next }) c.tried.made
 
 abbrev pub menu_of : Node → List Chosen → Menu Node (List Row)
-menu_of node cs = record { choices = filter_map (child node) cs; note = rows_if (is_any_noted cs) node.state.goals }
+menu_of node cs =
+    record {
+      choices = filter_map (child node) cs;
+      note =
+          rows_if (is_any_noted cs) node.state.goals;
+    }
 
 module _ (parts : RuleParts) where
   -- the node is settled by 200 moves at most
@@ -60,12 +69,15 @@ module _ (parts : RuleParts) where
 
   -- its choices; none where settling took all moves
   abbrev pub menu : Node → Menu Node (List Row)
-  menu node = if node.left == 0 then record { choices = []; note = None } else menu_of node (chosen parts node.state)
+  menu node =
+      if node.left == 0 then record { choices = []; note = None } else
+      menu_of node (chosen parts node.state)
 
 -- ---- the search
 
--- what a search comes to: no ranks of the rules; the moves of a proof; the rows of the goal at which the limits were
--- passed first, and the choices on the path to it; more visits than the budget; no plan of the depth
+-- what a search comes to: no ranks of the rules; the moves of a proof; the rows of the goal at
+-- which the limits were passed first, and the choices on the path to it; more visits than the
+-- budget; no plan of the depth
 pub data Searched : Type 0 where
   NoRanks : Searched
   Closed : List Move → Searched
@@ -81,11 +93,13 @@ of_outcome outcomes.Through = NoPlan
 
 -- the goal alone, with no moves made
 abbrev pub start : Equation → Node
-start goal = record { moves = []; state = record { goals = goal ∷ []; hypotheses = [] }; left = most_moves }
+start goal =
+    record { moves = []; state = record { goals = goal ∷ []; hypotheses = [] }; left = most_moves }
 
 -- where the rules have ranks, the visits decide; the ranks' own note comes before theirs
 abbrev pub searched_with : Said → RuleParts → Equation → ℕ → ℕ → Searched
-searched_with Yes parts goal depth budget = of_outcome (outcome budget (all_visits (settled parts) (menu parts) depth (start goal)))
+searched_with Yes parts goal depth budget =
+    of_outcome (outcome budget (all_visits (settled parts) (menu parts) depth (start goal)))
 searched_with No parts goal depth budget = NoRanks
 searched_with Beyond parts goal depth budget = Large [] goal.rows
 

@@ -20,7 +20,7 @@ use rx_form::{Side, Step};
 use rx_generalise::{Generalised, lemmas};
 use rx_lemma::LemmaKind;
 use rx_plain::{Items, NoMemory};
-use rx_ranking::find_ranks;
+use rx_ranking::{PairMemo, find_ranks_with};
 use rx_row::Constraint;
 use rx_settle::try_step;
 use rx_steps::State;
@@ -101,7 +101,8 @@ fn try_plain<S: FnMut(&Constraint) -> Result<Option<Cert>, FmEnd>>(
     requires solver { IsSolver S.FnMut solve.old }
     ensures solver { IsSolver S.FnMut solve.new }
     ensures tried { IfOk result (IsTried node.now (attempt rules.now node.now.state (move_of step))) }
-    ensures reached { (goal : Equation) → IsReached rules.now goal node.now → IfOk result (λ t. IfSome t.node (IsReached rules.now goal)) }
+    ensures reached { (goal : Equation) → IsReached rules.now goal node.now →
+        IfOk result (λ t. IfSome t.node (IsReached rules.now goal)) }
 {
     let mut state = node.state.try_clone(alloc)?;
     let trial = try_step(alloc, rules, &mut state, step, solve)?;
@@ -114,15 +115,17 @@ fn where_ranked<S: FnMut(&Constraint) -> Result<Option<Cert>, FmEnd>>(
     rules: &RuleSet,
     node: Node,
     noted: bool,
+    memo: &mut PairMemo,
     solve: &mut S,
 ) -> Result<Trial, NoMemory>
     requires solver { IsSolver S.FnMut solve.old }
     requires roots { All HasRoot node.state.hypotheses }
     requires fits { All (SidesFit rules.now) node.state.hypotheses }
     ensures solver { IsSolver S.FnMut solve.new }
-    ensures ranked { IfOk result (λ t. t ≡ if_ranked (ranked rules.now node.state.hypotheses) node noted) }
+    ensures ranked { IfOk result (λ t. t ≡ if_ranked (ranked rules.now node.state.hypotheses) node
+        noted) }
 {
-    match find_ranks(alloc, rules, node.state.hypotheses(), solve) {
+    match find_ranks_with(alloc, rules, node.state.hypotheses(), memo, solve) {
         Ok(Some(_)) => Ok(Trial {
             node: Some(node),
             noted,
@@ -142,19 +145,21 @@ fn try_keeping<S: FnMut(&Constraint) -> Result<Option<Cert>, FmEnd>>(
     rules: &RuleSet,
     node: &Node,
     side: Side,
+    memo: &mut PairMemo,
     solve: &mut S,
 ) -> Result<Trial, NoMemory>
     requires reached { (goal : Equation) × IsReached rules.now goal node.now }
     requires solver { IsSolver S.FnMut solve.old }
     ensures solver { IsSolver S.FnMut solve.new }
     ensures tried { IfOk result (IsTried node.now (keeping rules.now node.now.state side)) }
-    ensures nodes { (goal : Equation) → IsReached rules.now goal node.now → IfOk result (λ t. IfSome t.node (IsNode rules.now goal)) }
+    ensures nodes { (goal : Equation) → IsReached rules.now goal node.now →
+        IfOk result (λ t. IfSome t.node (IsNode rules.now goal)) }
 {
     let step = Step::Expand { side, keep: true };
     let trial = try_plain(alloc, rules, node, step, solve)?;
     let Trial { node: found, noted } = trial;
     match found {
-        Some(next) => where_ranked(alloc, rules, next, noted, solve),
+        Some(next) => where_ranked(alloc, rules, next, noted, memo, solve),
         None => Ok(Trial { node: None, noted }),
     }
 }
@@ -167,15 +172,20 @@ fn add_keeping<S: FnMut(&Constraint) -> Result<Option<Cert>, FmEnd>>(
     number: u8,
     side: Side,
     found: &mut Choices,
+    memo: &mut PairMemo,
     solve: &mut S,
 ) -> Result<(), NoMemory>
     requires reached { (goal : Equation) × IsReached rules.now goal node.now }
     requires solver { IsSolver S.FnMut solve.old }
     ensures solver { IsSolver S.FnMut solve.new }
-    ensures grows { (cs : List Chosen) → AreChoices node.now cs found.old → OnOk result (AreChoices node.now (cs ++ choice number (keeping rules.now node.now.state side) ∷ []) found.new) }
-    ensures nodes { (goal : Equation) → IsNode rules.now goal node.now → All (λ c. IsNode rules.now goal c.node) found.old.choices → OnOk result (All (λ c. IsNode rules.now goal c.node) found.new.choices) }
+    ensures grows { (cs : List Chosen) → AreChoices node.now cs found.old →
+        OnOk result (AreChoices node.now (cs ++
+        choice number (keeping rules.now node.now.state side) ∷ []) found.new) }
+    ensures nodes { (goal : Equation) → IsNode rules.now goal node.now →
+        All (λ c. IsNode rules.now goal c.node) found.old.choices →
+        OnOk result (All (λ c. IsNode rules.now goal c.node) found.new.choices) }
 {
-    let trial = try_keeping(alloc, rules, node, side, solve)?;
+    let trial = try_keeping(alloc, rules, node, side, memo, solve)?;
     found.add(number, trial)
 }
 
@@ -193,8 +203,12 @@ fn add_step<S: FnMut(&Constraint) -> Result<Option<Cert>, FmEnd>>(
     requires keeps { KeepsNone (move_of step) }
     requires solver { IsSolver S.FnMut solve.old }
     ensures solver { IsSolver S.FnMut solve.new }
-    ensures grows { (cs : List Chosen) → AreChoices node.now cs found.old → OnOk result (AreChoices node.now (cs ++ choice number (attempt rules.now node.now.state (move_of step)) ∷ []) found.new) }
-    ensures nodes { (goal : Equation) → IsNode rules.now goal node.now → All (λ c. IsNode rules.now goal c.node) found.old.choices → OnOk result (All (λ c. IsNode rules.now goal c.node) found.new.choices) }
+    ensures grows { (cs : List Chosen) → AreChoices node.now cs found.old →
+        OnOk result (AreChoices node.now (cs ++
+        choice number (attempt rules.now node.now.state (move_of step)) ∷ []) found.new) }
+    ensures nodes { (goal : Equation) → IsNode rules.now goal node.now →
+        All (λ c. IsNode rules.now goal c.node) found.old.choices →
+        OnOk result (All (λ c. IsNode rules.now goal c.node) found.new.choices) }
 {
     let trial = try_plain(alloc, rules, node, step, solve)?;
     found.add(number, trial)
@@ -222,8 +236,12 @@ fn add_lemma<S: FnMut(&Constraint) -> Result<Option<Cert>, FmEnd>>(
 ) -> Result<(), NoMemory>
     requires solver { IsSolver S.FnMut solve.old }
     ensures solver { IsSolver S.FnMut solve.new }
-    ensures grows { (cs : List Chosen) → AreChoices node.now cs found.old → OnOk result (AreChoices node.now (cs ++ by_lemma rules.now node.now.state (found_as lemma) ∷ []) found.new) }
-    ensures nodes { (goal : Equation) → IsNode rules.now goal node.now → All (λ c. IsNode rules.now goal c.node) found.old.choices → OnOk result (All (λ c. IsNode rules.now goal c.node) found.new.choices) }
+    ensures grows { (cs : List Chosen) → AreChoices node.now cs found.old →
+        OnOk result (AreChoices node.now (cs ++ by_lemma rules.now node.now.state (found_as lemma) ∷
+        []) found.new) }
+    ensures nodes { (goal : Equation) → IsNode rules.now goal node.now →
+        All (λ c. IsNode rules.now goal c.node) found.old.choices →
+        OnOk result (All (λ c. IsNode rules.now goal c.node) found.new.choices) }
 {
     let Generalised { kind, goal, subst } = lemma;
     let Equation { left, right, rows } = goal;
@@ -248,8 +266,12 @@ fn add_each<S: FnMut(&Constraint) -> Result<Option<Cert>, FmEnd>>(
 ) -> Result<(), NoMemory>
     requires solver { IsSolver S.FnMut solve.old }
     ensures solver { IsSolver S.FnMut solve.new }
-    ensures grows { (cs : List Chosen) → AreChoices node.now cs found.old → OnOk result (AreChoices node.now (cs ++ map (by_lemma rules.now node.now.state) (map found_as all)) found.new) }
-    ensures nodes { (goal : Equation) → IsNode rules.now goal node.now → All (λ c. IsNode rules.now goal c.node) found.old.choices → OnOk result (All (λ c. IsNode rules.now goal c.node) found.new.choices) }
+    ensures grows { (cs : List Chosen) → AreChoices node.now cs found.old →
+        OnOk result (AreChoices node.now (cs ++
+        map (by_lemma rules.now node.now.state) (map found_as all)) found.new) }
+    ensures nodes { (goal : Equation) → IsNode rules.now goal node.now →
+        All (λ c. IsNode rules.now goal c.node) found.old.choices →
+        OnOk result (All (λ c. IsNode rules.now goal c.node) found.new.choices) }
 {
     for lemma in all.into_vec() {
         add_lemma(alloc, rules, node, lemma, found, solve)?;
@@ -268,8 +290,12 @@ fn add_lemmas<S: FnMut(&Constraint) -> Result<Option<Cert>, FmEnd>>(
 ) -> Result<(), NoMemory>
     requires solver { IsSolver S.FnMut solve.old }
     ensures solver { IsSolver S.FnMut solve.new }
-    ensures grows { (cs : List Chosen) → AreChoices node.now cs found.old → OnOk result (AreChoices node.now (cs ++ by_lemmas rules.now node.now.state (generalisations rules.now first.now)) found.new) }
-    ensures nodes { (goal : Equation) → IsNode rules.now goal node.now → All (λ c. IsNode rules.now goal c.node) found.old.choices → OnOk result (All (λ c. IsNode rules.now goal c.node) found.new.choices) }
+    ensures grows { (cs : List Chosen) → AreChoices node.now cs found.old →
+        OnOk result (AreChoices node.now (cs ++
+        by_lemmas rules.now node.now.state (generalisations rules.now first.now)) found.new) }
+    ensures nodes { (goal : Equation) → IsNode rules.now goal node.now →
+        All (λ c. IsNode rules.now goal c.node) found.old.choices →
+        OnOk result (All (λ c. IsNode rules.now goal c.node) found.new.choices) }
 {
     match lemmas(alloc, first, rules, solve) {
         Ok(all) => add_each(alloc, rules, node, all, found, solve),
@@ -291,17 +317,20 @@ pub(crate) fn find_choices<S: FnMut(&Constraint) -> Result<Option<Cert>, FmEnd>>
     rules: &RuleSet,
     node: &Node,
     first: &Equation,
+    memo: &mut PairMemo,
     solve: &mut S,
 ) -> Result<Choices, NoMemory>
     requires reached { (goal : Equation) × IsReached rules.now goal node.now }
     requires solver { IsSolver S.FnMut solve.old }
     ensures solver { IsSolver S.FnMut solve.new }
-    ensures choices { IfOk result (AreChoices node.now (chosen_at rules.now node.now.state first.now)) }
-    ensures nodes { (goal : Equation) → IsNode rules.now goal node.now → IfOk result (λ f. All (λ c. IsNode rules.now goal c.node) f.choices) }
+    ensures choices { IfOk result (AreChoices node.now
+        (chosen_at rules.now node.now.state first.now)) }
+    ensures nodes { (goal : Equation) → IsNode rules.now goal node.now →
+        IfOk result (λ f. All (λ c. IsNode rules.now goal c.node) f.choices) }
 {
     let mut found = Choices::new(alloc);
-    add_keeping(alloc, rules, node, 1, Side::Left, &mut found, solve)?;
-    add_keeping(alloc, rules, node, 2, Side::Right, &mut found, solve)?;
+    add_keeping(alloc, rules, node, 1, Side::Left, &mut found, memo, solve)?;
+    add_keeping(alloc, rules, node, 2, Side::Right, &mut found, memo, solve)?;
     let left = Step::Expand {
         side: Side::Left,
         keep: false,

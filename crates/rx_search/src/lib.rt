@@ -1,7 +1,7 @@
 //! The search for a proof: choices at settled goals, and the visits of the tree of choices.
 //!
-//! What a reader may rely on: `Search::search` comes to exactly what the definition in `specs/Search`
-//! says, and each log that it makes is accepted.
+//! What a reader may rely on: `Search::search` comes to exactly what the definition in
+//! `specs/Search` says, and each log that it makes is accepted.
 #![tactic(auto)]
 
 mod choices;

@@ -12,6 +12,7 @@ use crate::node::{Node, copied_rows};
 use rx_cert::Cert;
 use rx_fm::FmEnd;
 use rx_plain::{Items, NoMemory};
+use rx_ranking::PairMemo;
 use rx_row::{Constraint, Row};
 use rx_steps::State;
 use rx_term::{Equation, RuleSet};
@@ -44,13 +45,15 @@ pub(crate) fn find_menu<S: FnMut(&Constraint) -> Result<Option<Cert>, FmEnd>>(
     alloc: Global,
     rules: &RuleSet,
     node: &Node,
+    memo: &mut PairMemo,
     solve: &mut S,
 ) -> Result<Menu<Node, Items<Row>>, NoMemory>
     requires reached { (goal : Equation) × IsReached rules.now goal node.now }
     requires solver { IsSolver S.FnMut solve.old }
     ensures solver { IsSolver S.FnMut solve.new }
     ensures menu { IfOk result (λ m. seen_menu node_of m ≡ menu rules.now (node_of node.now)) }
-    ensures nodes { (goal : Equation) → IsNode rules.now goal node.now → IfOk result (λ m. All (λ c. IsNode rules.now goal c.node) m.choices) }
+    ensures nodes { (goal : Equation) → IsNode rules.now goal node.now →
+        IfOk result (λ m. All (λ c. IsNode rules.now goal c.node) m.choices) }
 {
     let Some(first) = open_goal(node) else {
         return Ok(Menu {
@@ -58,7 +61,7 @@ pub(crate) fn find_menu<S: FnMut(&Constraint) -> Result<Option<Cert>, FmEnd>>(
             note: None,
         });
     };
-    let found = find_choices(alloc, rules, node, first, solve)?;
+    let found = find_choices(alloc, rules, node, first, memo, solve)?;
     let note = noted_rows(alloc, found.noted, &node.state)?;
     Ok(Menu {
         choices: found.choices,

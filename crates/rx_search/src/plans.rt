@@ -12,6 +12,7 @@ use crate::node::{Node, copied_steps, is_closed};
 use rx_cert::Cert;
 use rx_fm::FmEnd;
 use rx_plain::{Items, NoMemory};
+use rx_ranking::PairMemo;
 use rx_row::{Constraint, Row};
 use rx_settle::{LoopPoints, settle};
 use rx_term::{Equation, RuleSet};
@@ -29,8 +30,10 @@ fn settle_node<S: FnMut(&Constraint) -> Result<Option<Cert>, FmEnd>>(
     requires points { AreLoopPoints rules.now points.now }
     requires solver { IsSolver S.FnMut solve.old }
     ensures solver { IsSolver S.FnMut solve.new }
-    ensures settled { IfOk result (λ s. seen_settled node_of s ≡ settled rules.now (node_of node.now)) }
-    ensures node { (goal : Equation) → IsNode rules.now goal node.now → IfOk result (λ s. IsNode rules.now goal s.node) }
+    ensures settled { IfOk result (λ s. seen_settled node_of s ≡
+        settled rules.now (node_of node.now)) }
+    ensures node { (goal : Equation) → IsNode rules.now goal node.now →
+        IfOk result (λ s. IsNode rules.now goal s.node) }
 {
     let mut steps = copied_steps(alloc, node.steps.as_slice())?;
     let mut state = node.state.try_clone(alloc)?;
@@ -59,6 +62,8 @@ pub(crate) struct Plans<'a, S> {
     pub(crate) goal: &'a Equation,
     /// The loop points of the rules.
     pub(crate) points: &'a LoopPoints,
+    /// What was found out of pairs.
+    pub(crate) memo: &'a mut PairMemo,
     /// What refutes rows.
     pub(crate) solve: &'a mut S,
 }
@@ -77,7 +82,12 @@ impl<'a, S: FnMut(&Constraint) -> Result<Option<Cert>, FmEnd>> Tree for Plans<'a
 
     ghost World = { Problem };
 
-    ghost world = { λ p. record { parts = p.rules.now; goal = p.goal.now; solver = p.solve.ghost_name } };
+    ghost world = { λ p. record {
+      parts = p.rules.now;
+      goal = p.goal.now;
+      solver =
+          p.solve.ghost_name;
+    } };
 
     ghost ready = { λ p. IsSolver S.FnMut p.solve.now × AreLoopPoints p.rules.now p.points.now };
 
@@ -96,6 +106,6 @@ impl<'a, S: FnMut(&Constraint) -> Result<Option<Cert>, FmEnd>> Tree for Plans<'a
     }
 
     fn choices(&mut self, node: &Node) -> Result<Menu<Node, Items<Row>>, NoMemory> {
-        find_menu(self.alloc, self.rules, node, self.solve)
+        find_menu(self.alloc, self.rules, node, self.memo, self.solve)
     }
 }

@@ -30,13 +30,16 @@ use rx_coverable::find_cover;
 use rx_fm::FmEnd;
 use rx_log::Log;
 use rx_plain::{Items, NoMemory};
-use rx_ranking::{Ranking, find_ranks};
+use rx_ranking::{PairMemo, Ranking, find_ranks_with};
 use rx_row::{Constraint, Row};
 use rx_settle::LoopPoints;
 use rx_steps::State;
 use rx_term::{Equation, Rule, RuleSet};
 use rx_visits::{Note, Outcome};
 use std::alloc::Global;
+
+/// How many nodes are kept from one list of visits to the next, at most.
+const MOST_KEPT: usize = 4096;
 
 /// The node with no steps.
 fn start_node(alloc: Global, goal: &Equation) -> Result<Node, NoMemory>
@@ -57,13 +60,15 @@ fn visit_plans<S: FnMut(&Constraint) -> Result<Option<Cert>, FmEnd>>(
     goal: &Equation,
     depth: u32,
     budget: u32,
+    memo: &mut PairMemo,
     solve: &mut S,
 ) -> Result<Outcome<Node, Items<Row>>, NoMemory>
     requires fits { IsFitting rules.now goal.now }
     requires ranked { ranked rules.now [] ≡ Yes }
     requires solver { IsSolver S.FnMut solve.old }
     ensures solver { IsSolver S.FnMut solve.new }
-    ensures outcome { IfOk result (λ o. seen_outcome node_of o ≡ outcome budget (all_visits (settled rules.now) (menu rules.now) depth (start goal.now))) }
+    ensures outcome { IfOk result (λ o. seen_outcome node_of o ≡
+        outcome budget (all_visits (settled rules.now) (menu rules.now) depth (start goal.now))) }
     ensures node { IfOk result (λ o. IfClosed (IsNode rules.now goal.now) o) }
 {
     let _made = rules.parts();
@@ -74,9 +79,10 @@ fn visit_plans<S: FnMut(&Constraint) -> Result<Option<Cert>, FmEnd>>(
         rules,
         goal,
         points: &points,
+        memo,
         solve,
     };
-    rx_visits::search(alloc, &mut plans, &start, depth, budget)
+    rx_visits::search(alloc, &mut plans, &start, depth, budget, MOST_KEPT)
 }
 
 /// Trees that cover the rules; as the rules are coverable, only want of memory stands against it.
@@ -102,6 +108,7 @@ fn ranks_of<S: FnMut(&Constraint) -> Result<Option<Cert>, FmEnd>>(
     alloc: Global,
     rules: &RuleSet,
     hypotheses: &[Rule],
+    memo: &mut PairMemo,
     solve: &mut S,
 ) -> Result<Ranking, NoMemory>
     requires ranked { ranked rules.now hypotheses.now ≡ Yes }
@@ -111,7 +118,7 @@ fn ranks_of<S: FnMut(&Constraint) -> Result<Option<Cert>, FmEnd>>(
     ensures solver { IsSolver S.FnMut solve.new }
     ensures lowers { IfOk result (LowersAll rules.now hypotheses.now) }
 {
-    match find_ranks(alloc, rules, hypotheses, solve) {
+    match find_ranks_with(alloc, rules, hypotheses, memo, solve) {
         Ok(Some(ranking)) => Ok(ranking),
         _ => Err(NoMemory),
     }
@@ -122,6 +129,7 @@ fn log_of<S: FnMut(&Constraint) -> Result<Option<Cert>, FmEnd>>(
     alloc: Global,
     rules: &RuleSet,
     node: Node,
+    memo: &mut PairMemo,
     solve: &mut S,
 ) -> Result<Log, NoMemory>
     requires coverable { is_coverable rules.now ≡ true }
@@ -130,11 +138,12 @@ fn log_of<S: FnMut(&Constraint) -> Result<Option<Cert>, FmEnd>>(
     requires solver { IsSolver S.FnMut solve.old }
     ensures solver { IsSolver S.FnMut solve.new }
     ensures steps { IfOk result (λ log. log.steps ≡ node.steps) }
-    ensures accepted { (goal : Equation) → IsNode rules.now goal node → IfOk result (IsAccepted rules.now goal) }
+    ensures accepted { (goal : Equation) → IsNode rules.now goal node →
+        IfOk result (IsAccepted rules.now goal) }
     ensures shallow { IfOk result (λ log. is_shallow_log log ≡ true) }
 {
     let covers = cover_of(alloc, rules, solve)?;
-    let ranking = ranks_of(alloc, rules, node.state.hypotheses(), solve)?;
+    let ranking = ranks_of(alloc, rules, node.state.hypotheses(), memo, solve)?;
     Ok(Log {
         covers,
         steps: node.steps,
@@ -166,21 +175,26 @@ impl<S: FnMut(&Constraint) -> Result<Option<Cert>, FmEnd>> Search<S> {
         goal: &Equation,
         depth: u32,
         budget: u32,
+        memo: &mut PairMemo,
     ) -> Result<Log, SearchEnd>
         requires solver { AsksSolver S.FnMut self.old }
         requires coverable { is_coverable rules.now ≡ true }
         requires fits { IsFitting rules.now goal.now }
         requires ranked { ranked rules.now [] ≡ Yes }
         ensures solver { AsksSolver S.FnMut self.new }
-        ensures steps { IfOk result (λ log. of_outcome (outcome budget (all_visits (settled rules.now) (menu rules.now) depth (start goal.now))) ≡ Closed (map move_of log.steps)) }
+        ensures steps { IfOk result (λ log. of_outcome
+            (outcome budget (all_visits (settled rules.now) (menu rules.now) depth
+            (start goal.now))) ≡ Closed (map move_of log.steps)) }
         ensures accepted { IfOk result (λ log. IsAccepted rules.now goal.now log) }
         ensures shallow { IfOk result (λ log. is_shallow_log log ≡ true) }
-        ensures ends { IfErr result (λ e. IsEnd depth budget (of_outcome (outcome budget (all_visits (settled rules.now) (menu rules.now) depth (start goal.now)))) e) }
+        ensures ends { IfErr result (λ e. IsEnd depth budget
+            (of_outcome (outcome budget (all_visits (settled rules.now) (menu rules.now) depth
+            (start goal.now)))) e) }
     {
-        let outcome = visit_plans(alloc, rules, goal, depth, budget, &mut self.solve)?;
+        let outcome = visit_plans(alloc, rules, goal, depth, budget, memo, &mut self.solve)?;
         match outcome {
             Outcome::Closed(node) => {
-                let log = log_of(alloc, rules, node, &mut self.solve)?;
+                let log = log_of(alloc, rules, node, memo, &mut self.solve)?;
                 Ok(log)
             }
             Outcome::Noted(Note { path, noted }) => Err(SearchEnd::Large { path, rows: noted }),
@@ -189,15 +203,16 @@ impl<S: FnMut(&Constraint) -> Result<Option<Cert>, FmEnd>> Search<S> {
         }
     }
 
-    /// Searches for a proof that both sides of the goal come to the same: nodes are visited by lists,
-    /// the first with no choices on a path, the last with at most `depth` of them, and at most
+    /// Searches for a proof that both sides of the goal come to the same: nodes are visited by
+    /// lists, the first with no choices on a path, the last with at most `depth` of them, and at
+    /// most
     /// `budget` nodes are visited. The depth is at most 12.
     ///
-    /// The answer is a log that is accepted for the rules and the goal; no certificate and no tree in it
-    /// is deeper than 200. `NoRanks` where the rules alone
-    /// have no ranks; `NoPlan` where all lists are visited and no node is closed; `Spent` where there
-    /// are more nodes than the budget; `Large`, before these two, where a polynomial passed the limits
-    /// at a node that was visited. Each of these says exactly that; `NoMemory` says nothing else.
+    /// The answer is a log that is accepted for the rules and the goal; no certificate and no tree
+    /// in it is deeper than 200. `NoRanks` where the rules alone have no ranks; `NoPlan` where all
+    /// lists are visited and no node is closed; `Spent` where there are more nodes than the budget;
+    /// `Large`, before these two, where a polynomial passed the limits at a node that was visited.
+    /// Each of these says exactly that; `NoMemory` says nothing else.
     pub fn search(
         &mut self,
         alloc: Global,
@@ -211,13 +226,16 @@ impl<S: FnMut(&Constraint) -> Result<Option<Cert>, FmEnd>> Search<S> {
         requires fits { IsFitting rules.now goal.now }
         requires depth { depth ≤ 12 }
         ensures solver { AsksSolver S.FnMut self.new }
-        ensures steps { IfOk result (λ log. searched rules.now goal.now depth budget ≡ Closed (map move_of log.steps)) }
+        ensures steps { IfOk result (λ log. searched rules.now goal.now depth budget ≡
+            Closed (map move_of log.steps)) }
         ensures accepted { IfOk result (λ log. IsAccepted rules.now goal.now log) }
         ensures shallow { IfOk result (λ log. is_shallow_log log ≡ true) }
-        ensures ends { IfErr result (λ e. IsEnd depth budget (searched rules.now goal.now depth budget) e) }
+        ensures ends { IfErr result (λ e. IsEnd depth budget
+            (searched rules.now goal.now depth budget) e) }
     {
-        match find_ranks(alloc, rules, &[], &mut self.solve) {
-            Ok(Some(_)) => self.visit(alloc, rules, goal, depth, budget),
+        let mut memo = PairMemo::new(alloc);
+        match find_ranks_with(alloc, rules, &[], &mut memo, &mut self.solve) {
+            Ok(Some(_)) => self.visit(alloc, rules, goal, depth, budget, &mut memo),
             Ok(None) => Err(SearchEnd::NoRanks),
             Err(FmEnd::Large) => Err(SearchEnd::Large {
                 path: Items::new(alloc),
