@@ -1,5 +1,5 @@
 -- What a look-up of rows finds among the entries of a cache.
-use Rattle.std.proofs.Common.{◌≡◌, ◌∙◌, ap, sym, refl, Bool, true, false, take, ◌-◌, Some, None, List, [], ◌∷◌, ◌++◌}
+use Rattle.std.proofs.Common.{◌≡◌, ◌∙◌, ap, sym, refl, Bool, true, false, is_some, slice_get, take, ◌-◌, Some, None, List, [], ◌∷◌, ◌++◌}
 use Rattle.std.proofs.lemmas.List.Elements.{All-cons, All-head, All-nil, All-tail}
 use Rattle.std.specs.Cmp.Lexicographic.{pointwise}
 use Rattle.std.specs.Map.{lookup, lookup_entry, remove_entry}
@@ -83,6 +83,30 @@ module _ (rows : List Row) where
     | true ↦ λ t. absurd (All-head Other e es none (sym (told_same_rows rows e.0 t)))
     | false ↦ λ t. rw t (no_entry es (All-tail Other e es none))
   ]) refl
+
+  -- where a look-up finds an answer, the first entry that has the rows has one
+  pub hit : (es : List Entry) → is_some (lookup (same_rows rows) es) ≡ true → (cached : CachedAnswer) × Found es cached
+  hit es t = (elim (lookup (same_rows rows) es) as (λ o. lookup (same_rows rows) es ≡ o → is_some o ≡ true → (cached : CachedAnswer) × Found es cached) [
+    | Some cached ↦ λ look some. (cached, found es cached look)
+    | None ↦ λ look some. cc
+  ]) refl t
+
+  -- where it finds none, no entry has them, and nothing goes to the front
+  pub missed : (es : List Entry) → is_some (lookup (same_rows rows) es) ≡ false → NoneHas rows es × (promoted (same_rows rows) es ≡ es)
+  missed es t = (elim (lookup (same_rows rows) es) as (λ o. lookup (same_rows rows) es ≡ o → is_some o ≡ false → NoneHas rows es × (promoted (same_rows rows) es ≡ es)) [
+    | Some cached ↦ λ look some. cc
+    | None ↦ λ look some. let none = none_has es look in (none, rw (no_entry es none) refl)
+  ]) refl t
+
+  -- what is in front after that is the entry that was found
+  front : (es after : List Entry) (cached : CachedAnswer) → Found es cached → after ≡ promoted (same_rows rows) es → slice_get after 0 ≡ Some (rows, cached)
+  front es after cached f e = ap (λ (xs : List Entry). slice_get xs 0) (e ∙ (promoted_found es cached f).becomes)
+
+  pub never_empty : (es after : List Entry) (cached : CachedAnswer) → Found es cached → after ≡ promoted (same_rows rows) es → None ≡ slice_get after 0 → ⊥
+  never_empty es after cached f e none = let is = none ∙ front es after cached f e in cc
+
+  pub found_in_front : (es after : List Entry) (cached : CachedAnswer) → Found es cached → after ≡ promoted (same_rows rows) es → (first : Entry) → Some first ≡ slice_get after 0 → first.1 ≡ cached
+  found_in_front es after cached f e first some = let is = some ∙ front es after cached f e in cc
 
   -- where no entry has the rows, the new one is put before the others, and a full cache drops its last
   pub put_new : (c : LruCache (List Row) CachedAnswer) (cached : CachedAnswer) → NoneHas rows c.entries → put_entries same_rows c rows cached ≡ (rows, cached) ∷ take (c.cap - 1) c.entries

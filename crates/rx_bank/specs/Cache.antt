@@ -39,20 +39,28 @@ abbrev pub NoneHas : List Row → List Entry → Type 0
 NoneHas rows = All (λ (e : Entry). ¬ (e.0 ≡ rows))
 
 -- an entry has the rows and that answer; it goes to the front, and the others keep their order
-pub record IsPromoted (rows : List Row) (cached : CachedAnswer) (before after : List Entry) : Type 0 where
-  pub newer : List Entry
-  pub older : List Entry
-  pub first : NoneHas rows newer
-  pub was : before ≡ newer ++ (rows, cached) ∷ older
-  pub becomes : after ≡ (rows, cached) ∷ (newer ++ older)
+pub record IsPromoted (rows : List Row) (cached : CachedAnswer) (before after : List Entry) : Type 0
+  where
+    pub newer : List Entry
+    pub older : List Entry
+    pub first : NoneHas rows newer
+    pub was : before ≡ newer ++ (rows, cached) ∷ older
+    pub becomes : after ≡ (rows, cached) ∷ (newer ++ older)
 
 -- ---- caches
 
--- the answer of the entry that has the rows is given once more, and the entry goes to the front; or none has them
-abbrev pub AfterRecall : List Row → LruCache (List Row) CachedAnswer → LruCache (List Row) CachedAnswer → Option (Result (Option Cert) FmEnd) → Type 0
+-- the answer of the entry that has the rows is given once more, and the entry goes to the front; or
+-- none has them
+abbrev pub AfterRecall : List Row → LruCache (List Row) CachedAnswer →
+    LruCache (List Row) CachedAnswer → Option (Result (Option Cert) FmEnd) → Type 0
 AfterRecall rows before after None = NoneHas rows before.entries × (after ≡ before)
-AfterRecall rows before after (Some result) = (cached : CachedAnswer) × IsPromoted rows cached before.entries after.entries × Repeats cached result × (after.cap ≡ before.cap)
+AfterRecall rows before after (Some result) =
+    (cached : CachedAnswer) × IsPromoted rows cached before.entries after.entries ×
+    Repeats cached result × (after.cap ≡ before.cap)
 
 -- the answer becomes that of the rows, in front, and from a full cache the last entry goes
-abbrev pub IsKept : List Row → LruCache (List Row) CachedAnswer → Result (Option Cert) FmEnd → LruCache (List Row) CachedAnswer → Type 0
-IsKept rows before answer after = (cached : CachedAnswer) × (answer ≡ answer_of cached) × (after ≡ lru_cache ((rows, cached) ∷ take (before.cap - 1) before.entries) before.cap)
+abbrev pub IsKept : List Row → LruCache (List Row) CachedAnswer → Result (Option Cert) FmEnd →
+    LruCache (List Row) CachedAnswer → Type 0
+IsKept rows before answer after =
+    (cached : CachedAnswer) × (answer ≡ answer_of cached) ×
+    (after ≡ lru_cache ((rows, cached) ∷ take (before.cap - 1) before.entries) before.cap)

@@ -44,7 +44,8 @@ impl Bank {
     pub fn number(&mut self, alloc: Global, poly: &Poly) -> Result<usize, NoMemory>
         ensures number { IfOk result (λ at. slice_get self.new at ≡ Some poly.now) }
         ensures known { Contains self.old poly.now → self.new ≡ self.old }
-        ensures new { OnOk result (¬ (Contains self.old poly.now) → self.new ≡ self.old ++ poly.now ∷ []) }
+        ensures new { OnOk result (¬ (Contains self.old poly.now) → self.new ≡ self.old ++
+            poly.now ∷ []) }
         ensures err { OnErr result (self.new ≡ self.old) }
         ensures stay { KeepsNumbers self.old self.new }
     {

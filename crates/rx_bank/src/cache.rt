@@ -20,9 +20,11 @@ pub(crate) fn recall(
 ) -> Option<Result<Option<Cert>, FmEnd>>
     ensures { AfterRecall rows.now cache.old cache.new result }
 {
-    let answer = cache.peek(rows)?.repeat(alloc);
-    cache.promote(rows);
-    Some(answer)
+    if !cache.promote(rows) {
+        return None;
+    }
+    let (_, cached) = cache.peek_mru()?;
+    Some(cached.repeat(alloc))
 }
 
 /// Puts the answer as that of the rows, which no entry has, in front; from a full cache the last

@@ -1,24 +1,34 @@
--- What the look-up finds is the answer of the first entry that has the rows, which goes to the front.
-use Rattle.std.proofs.Common.{◌≡◌, ◌∙◌, ap, sym, refl, subst, Some, None, List}
-use Rattle.std.specs.Option.{option_copied}
-use Rattle.std.specs.Map.{lookup}
-use Rattle.rx_bank.specs.Cache.{AfterRecall, Entry, IsPromoted}
-use Rattle.rx_bank.proofs.LookUps.{found, none_has, promoted_found, same_rows}
+-- Where an entry has the rows it goes to the front, and what is in front then is it.
+use Rattle.std.proofs.Common.{◌∙◌, ap, subst, sym, List}
+use Rattle.lru.specs.LruCache.{lru_cache}
+use Rattle.rx_bank.specs.Cache.{Entry, IsPromoted, Repeats}
+use Rattle.rx_bank.specs.declared.cached_answer.CachedAnswer.{CachedAnswer}
+use Rattle.rx_bank.proofs.LookUps.{found_in_front, hit, missed, never_empty, promoted_found}
 use Rattle.rx_bank.proofs.cache.recall.Goals as goal
 
-pub returns-in_err-peek : goal.returns-in_err-peek
-returns-in_err-peek c =
-    let rows = c.args.rows.now in
+pub returns-then-not-promote : goal.returns-then-not-promote
+returns-then-not-promote c =
     let before = c.args.cache.now in
-    let look : lookup (same_rows rows) before.entries ≡ None = sym c.peek.ensures ∙ ap option_copied c.in_err-peek.was in
-    subst (AfterRecall rows before before) (sym c.from_residual.ensures) (none_has rows before.entries look, refl)
+    let none = missed c.args.rows.now before.entries (sym c.promote.ensures.value ∙ c.if-not-promote.true) in
+    (none.0, c.promote.ensures.entries ∙ ap (λ (es : List Entry). lru_cache es before.cap) none.1)
+
+pub returns-in_err-cached : goal.returns-in_err-cached
+returns-in_err-cached c =
+    let rows = c.args.rows.now in
+    let before = c.args.cache.now.entries in
+    let found = hit rows before (sym c.promote.ensures.value ∙ c.if-not-promote.false) in
+    absurd (never_empty rows before c.promote.new.self.entries found.0 found.1 (ap (λ m. m.entries) c.promote.ensures.entries) c.in_err-cached.ensures)
 
 pub returns : goal.returns
 returns c =
     let rows = c.args.rows.now in
-    let before = c.args.cache.now in
-    let cached = c.in_ok-peek.field-0.now in
-    let look : lookup (same_rows rows) before.entries ≡ Some cached = sym c.peek.ensures ∙ ap option_copied c.in_ok-peek.was in
-    let moved = promoted_found rows before.entries cached (found rows before.entries cached look) in
-    let entries = sym (ap (λ m. m.entries) c.promote.ensures.entries) in
-    (cached, subst (λ (es : List Entry). IsPromoted rows cached before.entries es) entries moved, c.repeat-answer.ensures, ap (λ m. m.cap) c.promote.ensures.entries)
+    let before = c.args.cache.now.entries in
+    let after = c.promote.new.self.entries in
+    let found = hit rows before (sym c.promote.ensures.value ∙ c.if-not-promote.false) in
+    let moved = promoted_found rows before found.0 found.1 in
+    let same = found_in_front rows before after found.0 found.1 (ap (λ m. m.entries) c.promote.ensures.entries) _ c.in_ok-cached.ensures in (
+      found.0,
+      subst (λ (es : List Entry). IsPromoted rows found.0 before es) (sym (ap (λ m. m.entries) c.promote.ensures.entries)) moved,
+      subst (λ (cached : CachedAnswer). Repeats cached c.repeat.result) same c.repeat.ensures,
+      ap (λ m. m.cap) c.promote.ensures.entries,
+    )
