@@ -1,10 +1,13 @@
 -- An accepted log is a proof: what its checks show, one by one.
-use Rattle.std.proofs.Common.{◌≡◌, ℕ, Option, Some, None, Ok, Err, List, [], ◌∷◌, ◌++◌, refl, subst, ℤ, All}
+use Rattle.std.proofs.Common.{◌≡◌, ℕ, Option, Some, None, Ok, Err, List, [], ◌∷◌, ◌++◌, refl, sym, subst, ℤ, All}
 use Rattle.std.proofs.lemmas.List.Elements.{All-nil}
 use Rattle.rx_row.specs.Holds.{AllHold}
 use Rattle.rx_rewriting.specs.Premises.{EndAlike}
+use Rattle.rx_rewriting.specs.Steps.{IsSingleValued, Reaches}
+use Rattle.rx_rewriting.proofs.UniqueResults.{convertible_results_equal}
 use Rattle.rx_term.specs.Meaning.{Instance, ground_at}
 use Rattle.rx_term.specs.WellMade.{IsWellMade}
+use Rattle.rx_term.proofs.RuleLaws.{results_rest}
 use Rattle.rx_term.specs.declared.rule.Equation.{Equation}
 use Rattle.rx_term.specs.declared.rule.Rule.{Rule}
 use Rattle.rx_term.specs.declared.rule_set.RuleParts.{RuleParts}
@@ -19,6 +22,7 @@ use Rattle.rx_joins.proofs.Runs.{proof_ends_alike}
 use Rattle.rx_log.specs.Acceptance.{Accepted, Checked, IsAccepted, LogFault, OnPairs, ◌>>=◌, after_steps, kept, kept_by, of_descent, once_covered, once_finished, once_ranked}
 use Rattle.rx_log.specs.Acceptance as acceptance
 use Rattle.rx_log.specs.declared.log.Log.{Log}
+use Rattle.rx_check.specs.Results.{EndEqual}
 use Rattle.rx_check.proofs.Kept.{run_rooted, steps_run}
 
 -- ---- back from the checks
@@ -112,3 +116,18 @@ module _ (parts : RuleParts) (goal : Equation) (log : Log) (made : IsWellMade pa
   accepted_ends_alike accepted a holds =
       let (hypotheses, _, proof) = accepted_proof accepted in
       proof_ends_alike parts goal hypotheses log.table proof a holds
+
+  -- where the rules are single-valued, both sides reach one result
+  pub accepted_ends_equal : IsAccepted parts goal log → IsSingleValued (Instance parts.rules) → (a : ℕ → ℤ)
+      → AllHold a goal.rows → EndEqual (Instance parts.rules) (ground_at a goal.left) (ground_at a goal.right)
+  accepted_ends_equal accepted single a holds =
+      let rules = Instance parts.rules in
+      let alike = accepted_ends_alike accepted a holds in
+      let same = convertible_results_equal rules single (results_rest parts made) alike.left.end alike.right.end
+      alike.left.is_result alike.right.is_result alike.convertible in
+      record {
+        end = alike.left.end;
+        is_result = alike.left.is_result;
+        left = alike.left.reached;
+        right = subst (Reaches rules (ground_at a goal.right)) (sym same) alike.right.reached;
+      }

@@ -73,7 +73,8 @@ Decides verdict (Err end) = Told (named end) (λ fault. verdict ≡ Fails fault)
 -- the log is accepted, or its verdict is the fault that the end names
 abbrev pub Answers : Result (Unit {0}) CheckEnd → RuleParts → Equation → Log → Type 0
 Answers (Ok _) parts goal log = HasVerdict parts goal log Accepted
-Answers (Err end) parts goal log = Told (named end) (λ fault. HasVerdict parts goal log (Fails fault))
+Answers (Err end) parts goal log =
+    Told (named end) (λ fault. HasVerdict parts goal log (Fails fault))
 
 -- the verdict that an answer tells; memory that runs out tells none
 abbrev pub verdict_told : Result (Unit {0}) CheckEnd → Option Verdict

@@ -1,3 +1,5 @@
--- What the ends of a replay tell; what a replay keeps between two lines of a log.
+-- What the ends of a replay tell; what a replay keeps between two lines of a log; what an accepted
+-- log says.
 pub mod Answers
 pub mod LineByLine
+pub mod Results

@@ -2,6 +2,7 @@
 ghost use Rattle.std.specs.Prelude.{◌≡◌, ◌∷◌, [], ℕ, ℤ, All, List, Ok, Result, Some};
 ghost use Rattle.rx_check.specs.Answers.{Answers, verdict_told};
 ghost use Rattle.rx_check.specs.LineByLine.{log_of};
+ghost use Rattle.rx_check.specs.Results.{EndEqual};
 ghost use Rattle.rx_check.specs.declared.check_end.CheckEnd.{CheckEnd};
 ghost use Rattle.rx_joins.specs.Example.{alike, example, hypothesis};
 ghost use Rattle.rx_joins.specs.Goals.{Inside, IsFitting};
@@ -12,6 +13,7 @@ ghost use Rattle.rx_log.specs.declared.log.Log.{Log};
 ghost use Rattle.rx_pairs.specs.Pairs.{HasRoot};
 ghost use Rattle.rx_pairs.specs.declared.table.RankTable.{RankTable};
 ghost use Rattle.rx_rewriting.specs.Premises.{EndAlike};
+ghost use Rattle.rx_rewriting.specs.Steps.{IsSingleValued};
 ghost use Rattle.rx_row.specs.Holds.{AllHold};
 ghost use Rattle.rx_term.specs.Meaning.{Instance, ground_at};
 ghost use Rattle.rx_term.specs.WellMade.{IsWellMade};
@@ -43,7 +45,8 @@ pub fn lines_give_their_log()
 
 /// For a well made rule set and a goal whose sides fit it, an accepted log is a proof, with the
 /// hypotheses that its steps keep (`proof`). So at each assignment that meets the goal's rows both
-/// sides reach results, and these are convertible by the rules alone (`alike`).
+/// sides reach results, and these are convertible by the rules alone (`alike`); where the rules are
+/// single-valued, as those of a program are, both sides reach the same one (`equal`).
 pub fn accepted_logs_are_proofs()
     ensures proof { (parts : RuleParts) (goal : Equation) (log : Log) → IsWellMade parts →
         IsFitting parts goal → IsAccepted parts goal log →
@@ -53,6 +56,10 @@ pub fn accepted_logs_are_proofs()
         IsFitting parts goal → IsAccepted parts goal log → (a : ℕ → ℤ) → AllHold a goal.rows →
         EndAlike (Inside parts) (Instance parts.rules)
         (ground_at a goal.left) (ground_at a goal.right) }
+    ensures equal { (parts : RuleParts) (goal : Equation) (log : Log) → IsWellMade parts →
+        IsFitting parts goal → IsAccepted parts goal log →
+        IsSingleValued (Instance parts.rules) → (a : ℕ → ℤ) → AllHold a goal.rows →
+        EndEqual (Instance parts.rules) (ground_at a goal.left) (ground_at a goal.right) }
 {}
 
 /// Each proof is that of an accepted log, with its table, whose steps keep its hypotheses.

@@ -124,9 +124,9 @@ impl Replayer {
         Ok(())
     }
 
-    /// Takes the next line. Once a line has failed, the failure is kept, and only the place moves on.
-    /// Fails only where there is no memory, or at more than 2^64 - 1 lines of a kind; all then stays
-    /// as it was.
+    /// Takes the next line. Once a line has failed, the failure is kept, and only the place moves
+    /// on. Fails only where there is no memory, or at more than 2^64 - 1 lines of a kind; all then
+    /// stays as it was.
     ///
     /// The line must be one that may come after those so far. No kept hypothesis may have a result
     /// as its left side; that is so at the start and after each line.

@@ -15,14 +15,15 @@ use Rattle.rx_logfile.specs.declared.log_check.LogCheck.{LogCheck}
 abbrev pub lines_in : LogCheck → ℕ
 lines_in check = text.lines_in check.reader
 
--- the reader and the replay stand at one place of the log, and no kept hypothesis has a result as its
--- left side
+-- the reader and the replay stand at one place of the log, and no kept hypothesis has a result as
+-- its left side
 pub record IsInStep (check : LogCheck) : Type 0 where
   pub place : place_behind check.replayer ≡ place_of check.reader
   pub roots : HasRoots check.replayer
 
 -- all bytes were looked at, and the lines that they end were replayed
-pub record IsReplayed (check : LogCheck) (parts : RuleParts) (goal : Equation) (log : Log) (more : List ℕ)
+pub record IsReplayed (check : LogCheck) (parts : RuleParts) (goal : Equation) (log : Log)
+    (more : List ℕ)
     : Type 0 where
   pub its : List (Line × ℕ)
   pub are : log_of its ≡ log
@@ -34,7 +35,8 @@ abbrev pub UnlessBad : Bool → Type 0 → Type 0
 UnlessBad true replayed = ⊤
 UnlessBad false replayed = replayed
 
--- what is kept is what the bytes give for the rules and the goal; behind a bad line nothing is looked at
+-- what is kept is what the bytes give for the rules and the goal; behind a bad line nothing is
+-- looked at
 pub record StandsFor (check : LogCheck) (parts : RuleParts) (goal : Equation) (bytes : List ℕ)
     : Type 0 where
   pub log : Log

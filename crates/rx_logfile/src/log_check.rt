@@ -44,8 +44,8 @@ impl LogCheck {
         })
     }
 
-    /// Takes the piece up to and with its first line feed, or all of it, and answers how many bytes that
-    /// were; None where a line is bad, behind which nothing more is looked at.
+    /// Takes the piece up to and with its first line feed, or all of it, and answers how many bytes
+    /// that were; None where a line is bad, behind which nothing more is looked at.
     fn take_line(
         &mut self,
         alloc: Global,

@@ -12,11 +12,12 @@ use std::alloc::Global;
 // The most bytes that one call takes.
 const PIECE: usize = 65_536;
 
-/// Whether the log in the named file, of at most `limit` bytes, is accepted for the rules and the goal.
+/// Whether the log in the named file, of at most `limit` bytes, is accepted for the rules and the
+/// goal.
 ///
 /// The file is read to its end, whatever the first lines have come to, since a call that fails, too
-/// many bytes and a bad line count before the replay. Kept are a piece of the file, the next line, and
-/// what the replay keeps; never the text or the log.
+/// many bytes and a bad line count before the replay. Kept are a piece of the file, the next line,
+/// and what the replay keeps; never the text or the log.
 pub fn replay_file<F: Files>(
     alloc: Global,
     rules: &RuleSet,

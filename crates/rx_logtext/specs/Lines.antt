@@ -65,7 +65,8 @@ pub record IsText {A : Type 0} (format : Format A) (bytes : List ℕ) (thing : A
   pub in_range : format.in_range thing ≡ true
   pub text : bytes ≡ format.text thing
 
--- what a reader of whole texts answers: the thing; None exactly where the bytes are the text of none
+-- what a reader of whole texts answers: the thing; None exactly where the bytes are the text of
+-- none
 abbrev pub ReadsAll : {A : Type 0} → Format A → List ℕ → Option A → Type 0
 ReadsAll format bytes (Some thing) = IsText format bytes thing
 ReadsAll {A} format bytes None = (thing : A) → ¬ (IsText format bytes thing)
@@ -83,16 +84,17 @@ SkipsWhole word bytes at (Some end) =
 SkipsWhole word bytes at None =
     (left : List ℕ) → is_over in_word left ≡ true → ¬ (drop at bytes ≡ word ++ left)
 
--- what a reader of things that are each behind a space answers; None exactly where the bytes are no such
--- list
+-- what a reader of things that are each behind a space answers; None exactly where the bytes are no
+-- such list
 abbrev pub ReadsEach : {A : Type 0} → Format A → List ℕ → Option (List A) → Type 0
 ReadsEach each bytes (Some things) =
     (list_all each.in_range things ≡ true) × (bytes ≡ each_spaced each.text things)
 ReadsEach {A} each bytes None =
-    (things : List A) → list_all each.in_range things ≡ true → ¬ (bytes ≡ each_spaced each.text things)
+    (things : List A) → list_all each.in_range things ≡ true →
+    ¬ (bytes ≡ each_spaced each.text things)
 
--- what a reader of one line answers: a line of a log; BadLine with the number 1 exactly where the bytes
--- are a line of none
+-- what a reader of one line answers: a line of a log; BadLine with the number 1 exactly where the
+-- bytes are a line of none
 abbrev pub ReadsLine : List ℕ → Result Line LogEnd → Type 0
 ReadsLine bytes (Ok line) = IsLine bytes line
 ReadsLine bytes (Err (end.BadLine number)) = (number ≡ 1) × ((line : Line) → ¬ (IsLine bytes line))

@@ -51,7 +51,8 @@ is_one_line bytes = list_all lines.goes_on bytes
 
 -- The line with this number, counted from 1, is the first with which no log begins. The text begins
 -- with the lines before it, and so does some log. The next line of the text is one with which none
--- begins; or the text ends there, and no log has just those lines; or a line feed is missing at its end.
+-- begins; or the text ends there, and no log has just those lines; or a line feed is missing at its
+-- end.
 pub record IsFirstBad (text : List ℕ) (number : ℕ) : Type 0 where
   pub before : List (List ℕ)
   pub left : List ℕ
@@ -64,7 +65,8 @@ pub record IsFirstBad (text : List ℕ) (number : ℕ) : Type 0 where
       → ¬ (Begins (before ++ next ∷ []))
   pub missing : left ≡ [] → (log : Log) → ¬ (HasLines log before)
 
--- what a reader of logs answers: the log whose text this is, or the first line with which no log begins
+-- what a reader of logs answers: the log whose text this is, or the first line with which no log
+-- begins
 abbrev pub ReadsLog : List ℕ → Result Log LogEnd → Type 0
 ReadsLog text (Ok log) = IsLog text log
 ReadsLog text (Err (end.BadLine number)) = IsFirstBad text number
@@ -74,8 +76,8 @@ ReadsLog text (Err end.NoMemory) = Unit {0}
 
 -- ---- cutting a text into lines
 
--- the first line of a text without its line feed, and what stands behind that; None exactly where there
--- is no line feed
+-- the first line of a text without its line feed, and what stands behind that; None exactly where
+-- there is no line feed
 abbrev pub SplitsLine : List ℕ → Option (List ℕ × List ℕ) → Type 0
 SplitsLine text (Some cut) = (text ≡ cut.0 ++ 10 ∷ cut.1) × (is_one_line cut.0 ≡ true)
 SplitsLine text None = is_one_line text ≡ true

@@ -26,8 +26,8 @@ abbrev pub IsLeft : Bool → List ℕ → List (List ℕ) → List ℕ → Type 
 IsLeft false line texts left = (left ≡ line) × (is_one_line left ≡ true)
 IsLeft true line texts left = IsBadNext texts left
 
--- The bytes are lines of a log up to the reader's place, of which this is the log so far, and behind
--- them the next line so far, or a line with which no log begins.
+-- The bytes are lines of a log up to the reader's place, of which this is the log so far, and
+-- behind them the next line so far, or a line with which no log begins.
 pub record StandsFor (reader : LogReader) (log : Log) (bytes : List ℕ) : Type 0 where
   pub texts : List (List ℕ)
   pub taken : HasTaken reader.place log texts
@@ -79,7 +79,8 @@ taken_of true piece = []
 taken_of false piece = up_to_feed piece
 
 -- what a reader that stands for these bytes answers to a piece, and what it stands for then
-abbrev pub Takes : LogReader → Log → List ℕ → List ℕ → LogReader → Result (ℕ × Option Line) LogEnd → Type 0
+abbrev pub Takes : LogReader → Log → List ℕ → List ℕ → LogReader → Result (ℕ × Option Line) LogEnd →
+    Type 0
 Takes old log bytes piece new (Ok taken) =
     (old.is_bad ≡ false) × ((new.is_bad ≡ false)
     × StandsFor new (pushed_if taken.1 log) (bytes ++ up_to_feed piece))
@@ -105,8 +106,8 @@ Finishes log bytes (Err end.TooDeep) = ⊥
 Finishes log bytes (Err end.OutOfRange) = ⊥
 Finishes log bytes (Err end.NoMemory) = ⊥
 
--- a reader that stands for the front of a text has taken all that it takes of it: the whole text, or a
--- line with which no log begins, whatever is behind that
+-- a reader that stands for the front of a text has taken all that it takes of it: the whole text,
+-- or a line with which no log begins, whatever is behind that
 abbrev pub HasTakenAll : LogReader → List ℕ → Type 0
 HasTakenAll reader behind = (behind ≡ []) ⊎ (has_bad reader ≡ true)
 

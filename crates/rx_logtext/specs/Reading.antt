@@ -26,8 +26,8 @@ pub record MayCome (place : Place) (bytes : List ℕ) : Type 0 where
   pub is : IsText lines bytes next
   pub leads : after place next ≡ Some behind
 
--- what a reader of the next line answers: the line and the place behind it; None exactly where no line
--- that may come has these bytes
+-- what a reader of the next line answers: the line and the place behind it; None exactly where no
+-- line that may come has these bytes
 abbrev pub ReadsNext : Place → List ℕ → Option (Line × Place) → Type 0
 ReadsNext place bytes (Some it) =
     (symbol : ℕ) × (IsText lines bytes (it.0, symbol) × (after place (it.0, symbol) ≡ Some it.1))

@@ -37,7 +37,8 @@ keeps = words keep_text (λ keep. true)
 abbrev pub simplify_parts : Format (Side × (ℕ × List Cert))
 simplify_parts = pairs sides (pairs numbers certificate_lists)
 
--- the side, how many frames are over the part, the hypothesis, what replaces its variables, certificates
+-- the side, how many frames are over the part, the hypothesis, what replaces its variables,
+-- certificates
 abbrev pub hyp_parts : Format (Side × (ℕ × (ℕ × (List (ℕ × Body) × List Cert))))
 hyp_parts = pairs sides (pairs numbers (pairs numbers (pairs substitutions certificate_lists)))
 

@@ -12,8 +12,8 @@ fn feed_at(text: &[u8]) -> Option<usize>
     text.iter().position(|byte| *byte == b'\n')
 }
 
-/// The first line of the text without its line feed, and the text behind that; None exactly where there
-/// is no line feed.
+/// The first line of the text without its line feed, and the text behind that; None exactly where
+/// there is no line feed.
 pub(crate) fn split_line(text: &[u8]) -> Option<(&[u8], &[u8])>
     ensures { SplitsLine text.now (option_map (λ cut. (cut.0.now, cut.1.now)) result) }
 {

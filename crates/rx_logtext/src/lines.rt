@@ -7,7 +7,7 @@ ghost use Rattle.rx_logtext.specs.Lines as spec;
 ghost use Rattle.rx_logtext.specs.Steps.{steps};
 
 use crate::log_end::LogEnd;
-use crate::part::{Part, is_word, read_rest};
+use crate::part::{Part, is_word, read_rest, skip_beginning};
 use crate::steps::read_step;
 use rx_cert::Cert;
 use rx_cover::CoverTree;
@@ -19,8 +19,8 @@ use rx_text::skip_word;
 use rx_words::read_number;
 use std::alloc::Global;
 
-/// The parts that the bytes from the place on are, each behind a space; None exactly where they are no
-/// such list.
+/// The parts that the bytes from the place on are, each behind a space; None exactly where they are
+/// no such list.
 fn read_each<T: Part>(
     alloc: Global,
     bytes: &[u8],
@@ -125,23 +125,23 @@ fn read_frame(alloc: Global, line: &[u8]) -> Result<Option<(Line, u32)>, NoMemor
     if is_word(line, b"EQUIVALENT") {
         return Ok(Some((Line::End, 0)));
     }
-    if let Some(at) = skip_word(line, 0, b"cover s") {
+    if let Some(at) = skip_beginning(line, b"cover s") {
         return read_cover(alloc, line, at);
     }
-    if let Some(at) = skip_word(line, 0, b"ranks ") {
+    if let Some(at) = skip_beginning(line, b"ranks ") {
         return read_ranks(alloc, line, at);
     }
-    if let Some(at) = skip_word(line, 0, b"rank s") {
+    if let Some(at) = skip_beginning(line, b"rank s") {
         return read_rank(alloc, line, at);
     }
-    if let Some(at) = skip_word(line, 0, b"pair ") {
+    if let Some(at) = skip_beginning(line, b"pair ") {
         return read_pair(alloc, line, at);
     }
     Ok(None)
 }
 
-/// The line that the bytes are, with the number of the symbol in it, or 0 where none stands there; None
-/// exactly where the bytes are no line of any log.
+/// The line that the bytes are, with the number of the symbol in it, or 0 where none stands there;
+/// None exactly where the bytes are no line of any log.
 pub(crate) fn read_numbered(alloc: Global, bytes: &[u8]) -> Result<Option<(Line, u32)>, NoMemory>
     ensures { IfOk result (ReadsAll lines bytes.now) }
 {
@@ -152,8 +152,8 @@ pub(crate) fn read_numbered(alloc: Global, bytes: &[u8]) -> Result<Option<(Line,
 }
 
 /// The line of a log that the bytes are, given without the line feed that ends it. BadLine with the
-/// number 1 exactly where they are no line of any log. Where a symbol stands in it, its number isn't
-/// kept. Fails else only for want of memory.
+/// number 1 exactly where they are no line of any log. Where a symbol stands in it, its number
+/// isn't kept. Fails else only for want of memory.
 pub fn read_line(alloc: Global, bytes: &[u8]) -> Result<Line, LogEnd>
     ensures { ReadsLine bytes.now result }
 {

@@ -1,6 +1,6 @@
 //! Parts of a line: what stands in its words.
-ghost use Rattle.std.specs.Prelude.{◌≡◌, ◌<◌, ◌↔◌, ℕ, IsTrue, Bool, List, IfOk, drop, length};
-ghost use Rattle.rx_text.specs.Formats.{IsUnambiguous, Reads, is_over};
+ghost use Rattle.std.specs.Prelude.{◌≡◌, ◌<◌, ◌↔◌, ◌++◌, true, ℕ, IsTrue, Bool, List, IfOk, drop, length};
+ghost use Rattle.rx_text.specs.Formats.{IsUnambiguous, Reads, Skips, is_over};
 ghost use Rattle.rx_words.specs.Lists.{ending_word};
 ghost use Rattle.rx_words.specs.Words.{in_word, words};
 ghost use Rattle.rx_logtext.specs.Lines.{ReadsAll, SkipsWhole};
@@ -24,15 +24,16 @@ pub(crate) trait Part: Drop {
 
     ghost in_range: { Self → Bool };
 
-    /// The part whose text stands at the place, with the place after it; None exactly where no part in
-    /// range has its text there.
+    /// The part whose text stands at the place, with the place after it; None exactly where no part
+    /// in range has its text there.
     fn read_part(alloc: Global, bytes: &[u8], at: usize) -> Result<Option<(Self, usize)>, NoMemory>
         ensures { IfOk result (λ found. Reads (words text in_range) bytes.now at found) };
 
     ghost once: { IsUnambiguous (words text in_range) };
 }
 
-/// The part that the bytes from the place on are; None exactly where they are the text of none in range.
+/// The part that the bytes from the place on are; None exactly where they are the text of none in
+/// range.
 pub(crate) fn read_rest<T: Part>(
     alloc: Global,
     bytes: &[u8],
@@ -58,7 +59,8 @@ impl<A: Part, B: Part> Part for (A, B) {
 
     ghost text = { (spec.pairs (spec.words A.text A.in_range) (spec.words B.text B.in_range)).text };
 
-    ghost in_range = { (spec.pairs (spec.words A.text A.in_range) (spec.words B.text B.in_range)).in_range };
+    ghost in_range = { (spec.pairs (spec.words A.text A.in_range)
+        (spec.words B.text B.in_range)).in_range };
 
     fn read_part(
         alloc: Global,
@@ -123,12 +125,36 @@ fn skip_whole(bytes: &[u8], at: usize, word: &[u8]) -> Option<usize>
     }
 }
 
+/// Whether both begin with the same byte.
+fn have_same_first(line: &[u8], word: &[u8]) -> bool
+    requires { 0 < length word.now }
+    ensures { (left : List ℕ) → line.now ≡ word.now ++ left → result ≡ true }
+{
+    match (line.first(), word.first()) {
+        (Some(first), Some(other)) => *first == *other,
+        _ => false,
+    }
+}
+
+/// The place after the word, where the line begins with it; None where it doesn't. Most words are
+/// told from the line by its first byte.
+pub(crate) fn skip_beginning(line: &[u8], word: &[u8]) -> Option<usize>
+    requires { 0 < length word.now }
+    ensures { Skips word.now line.now 0 result }
+{
+    if have_same_first(line, word) {
+        skip_word(line, 0, word)
+    } else {
+        None
+    }
+}
+
 /// Whether the line is just that word.
 pub(crate) fn is_word(line: &[u8], word: &[u8]) -> bool
     requires { 0 < length word.now }
     ensures { IsTrue result ↔ (line.now ≡ word.now) }
 {
-    match skip_word(line, 0, word) {
+    match skip_beginning(line, word) {
         Some(end) => end == line.len(),
         None => false,
     }

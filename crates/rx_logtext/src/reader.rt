@@ -13,8 +13,8 @@ use rx_log::{Line, Place};
 use rx_plain::{Items, NoMemory};
 use std::alloc::Global;
 
-/// The line that the bytes are, where it may come at the place, with the place behind it; None exactly
-/// where the bytes are no line that may.
+/// The line that the bytes are, where it may come at the place, with the place behind it; None
+/// exactly where the bytes are no line that may.
 fn read_next(alloc: Global, place: Place, bytes: &[u8]) -> Result<Option<(Line, Place)>, NoMemory>
     ensures { IfOk result (ReadsNext place bytes.now) }
 {
@@ -37,8 +37,8 @@ fn extend(line: &mut Items<u8>, alloc: Global, bytes: &[u8]) -> Result<(), NoMem
     Ok(())
 }
 
-/// The line that begins with the bytes so far and ends with the others, as `read_next` has it. The bytes
-/// so far stay as they were.
+/// The line that begins with the bytes so far and ends with the others, as `read_next` has it. The
+/// bytes so far stay as they were.
 fn read_joined(
     alloc: Global,
     place: Place,
@@ -55,8 +55,8 @@ fn read_joined(
     read
 }
 
-/// A log that is read from pieces of its text, wherever that is cut. It keeps the next line as far as it
-/// has come, and nothing else of the text or of the log.
+/// A log that is read from pieces of its text, wherever that is cut. It keeps the next line as far
+/// as it has come, and nothing else of the text or of the log.
 #[derive(Drop)]
 pub struct LogReader {
     // Which lines may come next.
@@ -103,21 +103,23 @@ impl LogReader {
         }
     }
 
-    /// Takes the piece up to and with its first line feed, or all of it, and answers how many bytes that
-    /// were, and the line that the line feed ends.
+    /// Takes the piece up to and with its first line feed, or all of it, and answers how many bytes
+    /// that were, and the line that the line feed ends.
     ///
-    /// BadLine with the number of the line, counted from 1, exactly where no log begins with it, which
-    /// is judged at its line feed: it has then been taken, and from then on each call takes nothing and
-    /// answers the same. Fails else only for want of memory, and then the reader stays as it was. The
-    /// number of the line must be below 2^64.
+    /// BadLine with the number of the line, counted from 1, exactly where no log begins with it,
+    /// which is judged at its line feed: it has then been taken, and from then on each call takes
+    /// nothing and answers the same. Fails else only for want of memory, and then the reader stays
+    /// as it was. The number of the line must be below 2^64.
     pub fn take(&mut self, alloc: Global, piece: &[u8]) -> Result<(usize, Option<Line>), LogEnd>
         requires { lines_in self.old + 1 < 2 ^ 64 }
         ensures count { IfOk result (λ taken. taken.0 ≡ length (up_to_feed piece.now)) }
         ensures within { IfOk result (λ taken. taken.0 ≤ length piece.now) }
         ensures line { IfOk result (λ taken. EndsLine piece.now taken.1) }
         ensures next { IfOk result (λ taken. IsNext (place_of self.old) taken.1 (place_of self.new)) }
-        ensures number { IfOk result (λ taken. lines_in self.new ≡ lines_in self.old + count_of taken.1) }
-        ensures stays { OnErr result ((place_of self.new ≡ place_of self.old) × (lines_in self.new ≡ lines_in self.old)) }
+        ensures number { IfOk result (λ taken. lines_in self.new ≡ lines_in self.old +
+            count_of taken.1) }
+        ensures stays { OnErr result ((place_of self.new ≡ place_of self.old) ×
+            (lines_in self.new ≡ lines_in self.old)) }
         ensures takes { (log : Log) (bytes : List ℕ) → StandsFor self.old log bytes →
             Takes self.old log bytes piece.now self.new result }
         ensures kept { IsErrOf result LogEnd.NoMemory → self.new ≡ self.old }
@@ -153,13 +155,14 @@ impl LogReader {
         }
     }
 
-    /// Whether what was taken is the text of a log; else BadLine with the number of the first line with
-    /// which no log begins, or that is missing. Takes no memory. The number of the next line must be
-    /// below 2^64.
+    /// Whether what was taken is the text of a log; else BadLine with the number of the first line
+    /// with which no log begins, or that is missing. Takes no memory. The number of the next line
+    /// must be below 2^64.
     pub fn finish(&self) -> Result<(), LogEnd>
         requires { lines_in self.now + 1 < 2 ^ 64 }
         ensures place { OnOk result (place_of self.now ≡ Place.Finished) }
-        ensures finishes { (log : Log) (bytes : List ℕ) → StandsFor self.now log bytes → Finishes log bytes result }
+        ensures finishes { (log : Log) (bytes : List ℕ) → StandsFor self.now log bytes →
+            Finishes log bytes result }
     {
         if self.is_whole() {
             Ok(())

@@ -3,14 +3,13 @@ ghost use Rattle.std.specs.Prelude.{◌≡◌, ◌++◌, codes, IfOk, drop};
 ghost use Rattle.rx_logtext.specs.Lines.{ReadsAll};
 ghost use Rattle.rx_logtext.specs.Steps.{steps};
 
-use crate::part::{is_word, read_rest};
+use crate::part::{is_word, read_rest, skip_beginning};
 use rx_cert::Cert;
 use rx_form::{Delete, Side, Step};
 use rx_plain::{Items, NoMemory};
 use rx_poly::Poly;
 use rx_row::Row;
 use rx_term::Equation;
-use rx_text::skip_word;
 use std::alloc::Global;
 
 /// A line that begins with `simplify `.
@@ -139,34 +138,34 @@ fn read_results(alloc: Global, line: &[u8], at: usize) -> Result<Option<Step>, N
 pub(crate) fn read_step(alloc: Global, line: &[u8]) -> Result<Option<Step>, NoMemory>
     ensures { IfOk result (ReadsAll steps line.now) }
 {
-    if let Some(at) = skip_word(line, 0, b"simplify ") {
+    if let Some(at) = skip_beginning(line, b"simplify ") {
         return read_simplify(alloc, line, at);
     }
-    if let Some(at) = skip_word(line, 0, b"hyp ") {
+    if let Some(at) = skip_beginning(line, b"hyp ") {
         return read_hyp(alloc, line, at);
     }
-    if let Some(at) = skip_word(line, 0, b"expand ") {
+    if let Some(at) = skip_beginning(line, b"expand ") {
         return read_expand(alloc, line, at);
     }
-    if let Some(at) = skip_word(line, 0, b"absurd ") {
+    if let Some(at) = skip_beginning(line, b"absurd ") {
         return read_absurd(alloc, line, at);
     }
-    if let Some(at) = skip_word(line, 0, b"equal ") {
+    if let Some(at) = skip_beginning(line, b"equal ") {
         return read_equal(alloc, line, at);
     }
-    if let Some(at) = skip_word(line, 0, b"generalise ") {
+    if let Some(at) = skip_beginning(line, b"generalise ") {
         return read_generalise(alloc, line, at);
     }
-    if let Some(at) = skip_word(line, 0, b"postulate ") {
+    if let Some(at) = skip_beginning(line, b"postulate ") {
         return read_postulate(alloc, line, at);
     }
-    if let Some(at) = skip_word(line, 0, b"split ") {
+    if let Some(at) = skip_beginning(line, b"split ") {
         return read_split(alloc, line, at);
     }
-    if let Some(at) = skip_word(line, 0, b"decompose ") {
+    if let Some(at) = skip_beginning(line, b"decompose ") {
         return read_decompose(alloc, line, at);
     }
-    if let Some(at) = skip_word(line, 0, b"results ") {
+    if let Some(at) = skip_beginning(line, b"results ") {
         return read_results(alloc, line, at);
     }
     if is_word(line, b"eqdelete") {
