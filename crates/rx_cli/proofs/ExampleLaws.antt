@@ -1,7 +1,8 @@
 -- Where all examples are proved, the functions of each agree.
-use Rattle.std.proofs.Common.{◌≡◌, ◌<◌, ◌≤◌, ◌+◌, ◌∙◌, ◌⊎◌, ℕ, zero, suc, Bool, true, false, inl, inr, refl, sym, ap, subst, arith}
+use Rattle.std.proofs.Common.{◌≡◌, ◌<◌, ◌≤◌, ◌+◌, ◌%◌, ◌∙◌, ◌⊎◌, ◌++◌, ◌∷◌, [], List, length, min, get_or, ℕ, zero, suc, Bool, true, false, inl, inr, refl, sym, ap, subst, arith}
 use Rattle.std.specs.Prelude.{◌==◌, if◌then◌else◌}
-use Rattle.std.proofs.Math.Nat.{eq-or-lt_of_le}
+use Rattle.std.proofs.Math.Nat.{eq-or-lt_of_le, mod-le, mod-lt, mod-mod}
+use Rattle.std.proofs.lemmas.List.{get_or_append_left, get_or_push, length-append}
 use Rattle.std.proofs.lemmas.Bool.{eqb-true}
 use Rattle.rx_cli.specs.declared.examples.Tally.{Tally}
 use Rattle.rx_cli.specs.declared.ends.Status.{Status}
@@ -11,7 +12,10 @@ use Rattle.rx_cli.specs.declared.verdicts.Verdict.TheVariants as Said
 use Rattle.rx_cli.specs.Agreement.{Agrees}
 use Rattle.rx_cli.specs.Answers.{ExamplesAgree}
 use Rattle.rx_cli.specs.Ends.{status_of}
-use Rattle.rx_cli.specs.Examples.{IsShown, IsStatus, IsTally, example_effort, example_functions, example_source, with_status}
+use Rattle.rx_cli.specs.declared.answers.Answer.{Answer}
+use Rattle.rx_cli.specs.Ends.{status_in}
+use Rattle.rx_cli.specs.Examples.{AreStatuses, HasStatuses, IsShown, IsStatus, IsTally, example_effort, example_functions, example_source, example_text, repeats, with_status}
+use Rattle.rx_cli.specs.Proofs.{IsProved}
 use Rattle.rx_cli.proofs.Proved.{proved_agrees}
 
 -- a status counts where it is that of equivalence alone
@@ -38,6 +42,45 @@ one_more t s n u is most = by_count (counts t s) (ap (λ (v : Tally). v.equivale
 -- the tally with an answer more
 pub tally_more : (n : ℕ) (t u : Tally) (s : Status) → IsTally n t → IsStatus n s → u ≡ with_status t s → IsTally (n + 1) u
 tally_more n t u s so_far status is = let next : suc n ≡ n + 1 = omega arith in subst (λ k. IsTally k u) next (t, so_far, (s, status, is))
+
+-- ---- examples with one text
+
+-- an example ends as the first with its text does
+pub repeated_status : (k : ℕ) (s : Status) → IsStatus (repeats k) s → IsStatus k s
+repeated_status k s is = subst EndsSo (ap (λ r. 49 + r) (mod-mod k 7)) is
+  where
+    EndsSo : ℕ → Type 0
+    EndsSo d = (answer : Answer) × IsProved example_functions example_effort (example_text d) answer × (s ≡ status_in answer)
+
+-- the statuses with that of the next example
+pub statuses_more : (n : ℕ) (xs : List Status) (s : Status) → length xs ≡ n → AreStatuses xs → IsStatus n s
+    → AreStatuses (xs ++ s ∷ [])
+statuses_more n xs s count are status k d below = by_place place
+  where
+    place : (k ≡ length xs) ⊎ (k < length xs)
+    place =
+        let more = length-append xs (s ∷ []) in
+        let most : k ≤ length xs = omega (arith, below, more) in eq-or-lt_of_le most
+
+    by_place : (k ≡ length xs) ⊎ (k < length xs) → IsStatus k (get_or (xs ++ s ∷ []) k d)
+    by_place (inl last) =
+        let number : n ≡ k = sym count ∙ sym last in
+        subst (IsStatus k) (sym (get_or_push xs s d k (sym last))) (subst (λ m. IsStatus m s) number status)
+    by_place (inr under) = subst (IsStatus k) (sym (get_or_append_left xs (s ∷ []) d k under)) (are k d under)
+
+-- seven examples have all statuses
+pub few_are_all : (pairs : ℕ) (xs : List Status) → length xs ≡ min pairs 7 → (k : ℕ) → k < pairs → repeats k < length xs
+few_are_all pairs xs count k below =
+    let some : 0 < 7 = omega arith in
+    let under : k % 7 < 7 = mod-lt k some in
+    let least : k % 7 ≤ k = mod-le k 7 in
+    omega (arith, below, count, under, least)
+
+-- the status that is found for an example is its own
+pub found_status : (pairs : ℕ) (xs : List Status) (k : ℕ) (s : Status) → HasStatuses pairs xs → k < pairs
+    → ((d : Status) → s ≡ get_or xs (repeats k) d) → IsStatus k s
+found_status pairs xs k s has below is =
+    repeated_status k s (subst (IsStatus (repeats k)) (sym (is s)) (has.each (repeats k) s (has.all k below)))
 
 -- no more examples are proved than there are
 pub few : (k : ℕ) (t : Tally) → IsTally k t → t.equivalent ≤ k

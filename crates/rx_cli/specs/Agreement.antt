@@ -1,6 +1,6 @@
 -- What it means that two functions of a text agree: on all integers that meet the precondition they
--- return alike, the same integer or both the division error, by the meaning of C over the mathematical
--- integers, where nothing overflows.
+-- return alike, the same integer or both the division error, by the meaning of C over the
+-- mathematical integers, where nothing overflows.
 use Rattle.std.specs.Prelude.{◌≡◌, ◌≢◌, ⊤, ℕ, ℤ, pos, List, Option, Some, None, length}
 use Rattle.c_ast.specs.declared.expr.Expr.{Expr}
 use Rattle.c_ast.specs.declared.program.Resolved.{Resolved}
@@ -29,8 +29,9 @@ AreAlike compared =
     → Meets compared.two.program compared.precondition arguments
     → ReturnAlike compared.two.program compared.two.first compared.two.second arguments
 
--- the text spells a well-formed program, the names are those of two of its functions, of equally many
--- parameters, the precondition is one on these, and both functions return alike where it is met
+-- the text spells a well-formed program, the names are those of two of its functions, of equally
+-- many parameters, the precondition is one on these, and both functions return alike where it is
+-- met
 pub record Agrees (source : List ℕ) (f : Functions) : Type 0 where
   pub compared : Compared
   pub front : whole_front source f.first f.second f.precondition (Goes compared)

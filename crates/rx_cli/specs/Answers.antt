@@ -106,11 +106,12 @@ Means (Some (Compare comparison)) given =
     (source : List ℕ) × (given.source ≡ Some source) × Agrees source (functions_in comparison)
 
 -- the answer to what was read, which is right where it says that the functions are equal
-pub record IsAnswerTo (held : Option Names) (command : Option Command) (answer : Answer) : Type 0 where
-  pub given : Given
-  pub is_given : IsGiven held command given
-  pub is : IsAnswer command given answer
-  pub right : status_in answer ≡ Ends.Equivalent → Means command given
+pub record IsAnswerTo (held : Option Names) (command : Option Command) (answer : Answer) : Type 0
+  where
+    pub given : Given
+    pub is_given : IsGiven held command given
+    pub is : IsAnswer command given answer
+    pub right : status_in answer ≡ Ends.Equivalent → Means command given
 
 -- an answer to what was read, or a read fault because a call on the files found a fault
 abbrev pub IsAnswered : Option Names → Type 0 → Option Command → Answer → Type 0
@@ -118,8 +119,8 @@ IsAnswered held read_fault command answer =
     IsAnswerTo held command answer
     ⊎ (IsSome command × read_fault × (answer ≡ Line Said.ReadFault))
 
--- in a text that stands under the name, where that is told, both functions agree; where it isn't told,
--- in some text; or those of each example do
+-- in a text that stands under the name, where that is told, both functions agree; where it isn't
+-- told, in some text; or those of each example do
 abbrev pub Holds : Option Names → Command → Type 0
 Holds held (Demo pairs) = ExamplesAgree pairs
 Holds held (Compare comparison) =
@@ -130,8 +131,8 @@ Holds held (Compare comparison) =
 abbrev pub AreEqual : Option Names → List (List ℕ) → Type 0
 AreEqual held words = (command : Command) × (command_of words ≡ Some command) × Holds held command
 
--- where the words ask for a counterexample, a text that stands under the name, where that is told, has
--- one; where it isn't told, some text
+-- where the words ask for a counterexample, a text that stands under the name, where that is told,
+-- has one; where it isn't told, some text
 abbrev pub IsRefutedBy : Option Names → List (List ℕ) → Type 0
 IsRefutedBy held words =
     (f : Functions) (extent : Extent) → command_of words ≡ Some (Compare (Refute f extent))

@@ -1,5 +1,5 @@
--- What words ask about can be shown, by the log that is held or by a search that closes: then a run says
--- yes, unless a call finds a fault or there is no memory.
+-- What words ask about can be shown, by the log that is held or by a search that closes: then a run
+-- says yes, unless a call finds a fault or there is no memory.
 use Rattle.std.specs.Prelude.{◌≡◌, ◌⊎◌, ◌≤◌, ℕ, List, Some, length}
 use Rattle.c_front.specs.declared.stages.Next.TheVariants.{Goes}
 use Rattle.rx_command.specs.Commands.{Check, Compare, Functions, Prove, command_of}

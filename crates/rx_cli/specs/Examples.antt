@@ -1,6 +1,6 @@
--- Examples: pairs of a loop and a recursion that add up the multiples of a number, and what comes of searches for
--- proofs that both return the same.
-use Rattle.std.specs.Prelude.{◌≡◌, ℕ, zero, suc, ◌+◌, true, false, if◌then◌else◌, None, List, [], ◌∷◌, ◌++◌, codes, ◌%◌}
+-- Examples: pairs of a loop and a recursion that add up the multiples of a number, and what comes
+-- of searches for proofs that both return the same.
+use Rattle.std.specs.Prelude.{◌≡◌, ◌<◌, ℕ, zero, suc, ◌+◌, true, false, if◌then◌else◌, None, List, [], ◌∷◌, ◌++◌, codes, ◌%◌, length, get_or}
 use Rattle.rx_command.specs.Commands.{Functions}
 use Rattle.rx_command.specs.declared.command.Effort.{Effort}
 use Rattle.rx_cli.specs.declared.answers.Answer.{Answer}
@@ -16,12 +16,16 @@ use Rattle.rx_cli.specs.Ends.{status_in}
 abbrev pub digit : ℕ → ℕ
 digit k = 49 + k % 7
 
--- the text of the example with this number, counted from 0
-abbrev pub example_source : ℕ → List ℕ
-example_source k =
-    codes "int u(int n) { int s = 0; for (int i = 1; i <= n; i++) s += " ++ (digit k
-    ∷ (codes " * i; return s; } int r(int n) { if (n <= 0) return 0; return " ++ (digit k
+-- the text of the example that adds up the multiples of a digit
+abbrev pub example_text : ℕ → List ℕ
+example_text d =
+    codes "int u(int n) { int s = 0; for (int i = 1; i <= n; i++) s += " ++ (d
+    ∷ (codes " * i; return s; } int r(int n) { if (n <= 0) return 0; return " ++ (d
     ∷ codes " * n + r(n - 1); }")))
+
+-- that of the example with this number, counted from 0
+abbrev pub example_source : ℕ → List ℕ
+example_source k = example_text (digit k)
 
 -- its two functions
 abbrev pub example_functions : Functions
@@ -48,6 +52,19 @@ with_status tally status = tally
 abbrev pub IsStatus : ℕ → Status → Type 0
 IsStatus k status = (answer : Answer) × IsExample k answer × (status ≡ status_in answer)
 
+-- the first example with the same text: seven differ
+abbrev pub repeats : ℕ → ℕ
+repeats k = k % 7
+
+-- how the searches for the first examples end, one by one
+abbrev pub AreStatuses : List Status → Type 0
+AreStatuses statuses = (k : ℕ) (d : Status) → k < length statuses → IsStatus k (get_or statuses k d)
+
+-- a list with the status of each of so many examples, where those with one text have one status
+pub record HasStatuses (pairs : ℕ) (statuses : List Status) : Type 0 where
+  pub all : (k : ℕ) → k < pairs → repeats k < length statuses
+  pub each : AreStatuses statuses
+
 -- the tally of the first examples
 abbrev pub IsTally : ℕ → Tally → Type 0
 IsTally zero tally = tally ≡ none_yet
@@ -57,7 +74,8 @@ IsTally (suc k) tally =
 
 -- what is said of a tally of so many examples
 abbrev pub verdict_on : ℕ → Tally → Verdict
-verdict_on pairs tally = if tally.is_large then Said.LargeSearch else Said.Demo pairs tally.equivalent
+verdict_on pairs tally =
+    if tally.is_large then Said.LargeSearch else Said.Demo pairs tally.equivalent
 
 -- what is said of the first examples
 abbrev pub IsShown : ℕ → Verdict → Type 0

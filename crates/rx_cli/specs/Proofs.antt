@@ -46,8 +46,8 @@ IsProved f effort source answer =
     ((verdict : Verdict) × asked f source (Ends verdict) × (answer ≡ Line verdict))
     ⊎ ((question : Question) × asked f source (Goes question) × OnQuestion question effort answer)
 
--- both texts are those of accepted logs, with the same moves and for the same question: the one that
--- the words ask about what is held
+-- both texts are those of accepted logs, with the same moves and for the same question: the one
+-- that the words ask about what is held
 pub record AreProofs (names : Names) (words : List (List ℕ)) (t v : List ℕ) : Type 0 where
   pub functions : Functions
   pub effort : Effort

@@ -1,5 +1,5 @@
--- The front end and the translation as stages: from a text to the question whether the entries of two
--- functions are equal by rules.
+-- The front end and the translation as stages: from a text to the question whether the entries of
+-- two functions are equal by rules.
 use Rattle.std.specs.Prelude.{◌≡◌, ◌⊎◌, true, false, ℕ, List, [], Option, Some, None}
 use Rattle.c_ast.specs.declared.expr.Expr.{Expr}
 use Rattle.c_front.specs.declared.pairs.Compared.{Compared}
@@ -29,8 +29,8 @@ front_stage f source (Ends verdict) =
 front_stage f source (Goes compared) =
     whole_front source f.first f.second f.precondition (Goes compared)
 
--- the rows of a precondition, none where there is none, and whether all that is formed for them keeps the
--- limits
+-- the rows of a precondition, none where there is none, and whether all that is formed for them
+-- keeps the limits
 abbrev pub rows_of : Option Expr → Formed (List Row)
 rows_of None = pure []
 rows_of (Some pre) = pre_rows pre
@@ -40,10 +40,11 @@ pub record IsTranslated (compared : Compared) : Type 0 where
   pub rules : RuleParts
   pub first : Sym
   pub second : Sym
-  pub is : IsTranslation compared.two.program compared.two.first compared.two.second rules first second
+  pub is : IsTranslation compared.two.program compared.two.first compared.two.second rules first
+      second
 
--- the rules are the translation of both functions, and the goal says that their entries are equal on as
--- many variables as they have parameters, under the rows of the precondition
+-- the rules are the translation of both functions, and the goal says that their entries are equal
+-- on as many variables as they have parameters, under the rows of the precondition
 pub record IsQuestion (compared : Compared) (question : Question) : Type 0 where
   pub first : Sym
   pub second : Sym
@@ -56,7 +57,8 @@ pub record IsQuestion (compared : Compared) (question : Question) : Type 0 where
       ≡ goal_at first second (count_in compared.two.program compared.two.first)
       (rows_of compared.precondition).form
 
--- the translation passes the limits; or else the rows of the precondition do; or else that is the question
+-- the translation passes the limits; or else the rows of the precondition do; or else that is the
+-- question
 abbrev pub question_stage : Compared → Next Verdict Question → Type 0
 question_stage compared (Ends verdict) =
     (IsBeyond compared.two.program compared.two.first compared.two.second

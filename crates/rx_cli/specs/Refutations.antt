@@ -36,7 +36,8 @@ abbrev pub IsFound : Compared → Extent → Answer → Type 0
 IsFound compared extent answer =
     (c : found.Compared)
     × IsComparison
-    (finding_at compared.two.program compared.two.first compared.two.second compared.precondition extent.rounds)
+    (finding_at compared.two.program compared.two.first compared.two.second compared.precondition
+    extent.rounds)
     (points_in compared extent.side) c
     × (answer ≡ Found c)
 
@@ -51,13 +52,14 @@ OnPoints compared extent answer =
 abbrev pub IsRefuted : Functions → Extent → List ℕ → Answer → Type 0
 IsRefuted f extent source answer =
     ((verdict : Verdict) × front_stage f source (Ends verdict) × (answer ≡ Line verdict))
-    ⊎ ((compared : Compared) × front_stage f source (Goes compared) × OnPoints compared extent answer)
+    ⊎ ((compared : Compared) × front_stage f source (Goes compared) ×
+    OnPoints compared extent answer)
 
 -- ---- what a counterexample means
 
--- the text spells a well-formed program, the names are those of two of its functions, of equally many
--- parameters, and on integers that meet the precondition both return, by the meaning of C, other
--- outcomes: other integers, or one of them the division error
+-- the text spells a well-formed program, the names are those of two of its functions, of equally
+-- many parameters, and on integers that meet the precondition both return, by the meaning of C,
+-- other outcomes: other integers, or one of them the division error
 pub record Refutes (source : List ℕ) (f : Functions) : Type 0 where
   pub compared : Compared
   pub front : whole_front source f.first f.second f.precondition (Goes compared)

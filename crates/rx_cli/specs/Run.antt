@@ -10,22 +10,31 @@ use Rattle.rx_command.specs.Commands.{command_of}
 
 -- a report that the words may have: that of what was read, or that of a read fault
 abbrev pub Reports : Option Names → Type 0 → List (List ℕ) → Status → List ℕ → Type 0
-Reports held read_fault words status text = (answer : Answer) × IsAnswered held read_fault (command_of words) answer × IsReport answer status text
+Reports held read_fault words status text =
+    (answer : Answer) × IsAnswered held read_fault (command_of words) answer ×
+    IsReport answer status text
 
 -- the whole report was put, and the status is its own
-abbrev pub IsReported : Option Names → Type 0 → List (List ℕ) → Option (List ℕ) → Option (List ℕ) → Status → Type 0
-IsReported held read_fault words old new status = (text : List ℕ) × Reports held read_fault words status text × Appends old new text
+abbrev pub IsReported : Option Names → Type 0 → List (List ℕ) → Option (List ℕ) → Option (List ℕ) →
+    Status → Type 0
+IsReported held read_fault words old new status =
+    (text : List ℕ) × Reports held read_fault words status text × Appends old new text
 
 -- there was no memory, and nothing was put
 abbrev pub IsOutOfMemory : Option (List ℕ) → Option (List ℕ) → Status → Type 0
 IsOutOfMemory old new status = (status ≡ Ends.NoMemory) × Keeps old new
 
 -- a call on the output found a fault, and less than the whole report was put
-abbrev pub IsCutShort : Option Names → Type 0 → Type 0 → List (List ℕ) → Option (List ℕ) → Option (List ℕ) → Status → Type 0
+abbrev pub IsCutShort : Option Names → Type 0 → Type 0 → List (List ℕ) → Option (List ℕ) →
+    Option (List ℕ) → Status → Type 0
 IsCutShort held read_fault write_fault words old new status =
-    (status ≡ Ends.WriteFault) × write_fault × ((meant : Status) × (text : List ℕ) × Reports held read_fault words meant text × AppendsPrefix old new text)
+    (status ≡ Ends.WriteFault) × write_fault ×
+    ((meant : Status) × (text : List ℕ) × Reports held read_fault words meant text ×
+    AppendsPrefix old new text)
 
 -- how a run ends
-abbrev pub RunEnds : Option Names → Type 0 → Type 0 → List (List ℕ) → Option (List ℕ) → Option (List ℕ) → Status → Type 0
+abbrev pub RunEnds : Option Names → Type 0 → Type 0 → List (List ℕ) → Option (List ℕ) →
+    Option (List ℕ) → Status → Type 0
 RunEnds held read_fault write_fault words old new status =
-    IsReported held read_fault words old new status ⊎ (IsOutOfMemory old new status ⊎ IsCutShort held read_fault write_fault words old new status)
+    IsReported held read_fault words old new status ⊎
+    (IsOutOfMemory old new status ⊎ IsCutShort held read_fault write_fault words old new status)

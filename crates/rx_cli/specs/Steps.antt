@@ -1,5 +1,5 @@
--- What the functions inside promise to one another. Nothing that a caller of the run reads stands on
--- these.
+-- What the functions inside promise to one another. Nothing that a caller of the run reads stands
+-- on these.
 use Rattle.std.specs.Prelude.{◌≡◌, ◌≢◌, ◌<◌, ◌≤◌, ◌^◌, ◌⊎◌, length, true, false, ⊤, ℕ, List, Option, Some, None, Vec, slice_get}
 use Rattle.c_ast.specs.declared.expr.Expr.{Expr}
 use Rattle.c_ast.specs.RowForms.{is_row_form}
@@ -56,7 +56,8 @@ FormsSome None f = f.within ≡ false
 -- the translation of two functions; none exactly where it passes the limits
 abbrev pub Translates : Compared → Option Translation → Type 0
 Translates compared (Some t) =
-    IsTranslation compared.two.program compared.two.first compared.two.second t.rules t.first t.second
+    IsTranslation compared.two.program compared.two.first compared.two.second t.rules t.first
+    t.second
 Translates compared None =
     IsBeyond compared.two.program compared.two.first compared.two.second
 
@@ -105,13 +106,15 @@ OnNext question (Ends end) verdict = verdict ≡ end
 OnNext question (Goes bytes) verdict = OnText question bytes verdict
 
 -- what is said of the log that is read under a name
-pub record ChecksRead (held : Option Names) (fault : Type 0) (name : List ℕ) (question : Question) (verdict : Verdict)
+pub record ChecksRead (held : Option Names) (fault : Type 0) (name : List ℕ) (question : Question)
+    (verdict : Verdict)
     : Type 0 where
   pub next : Next Verdict (List ℕ)
   pub reads : Reads held fault name longest_log Said.LongLog next
   pub on : OnNext question next verdict
 
--- what is said of a text and a log that is read under a name, or that a call on the files found a fault
+-- what is said of a text and a log that is read under a name, or that a call on the files found a
+-- fault
 abbrev pub ChecksNamed : Option Names → Type 0 → Functions → List ℕ → List ℕ → Verdict → Type 0
 ChecksNamed held fault f source name verdict =
     ((given : Option (List ℕ)) × IsHeld held name given × IsChecked f source given verdict)

@@ -41,8 +41,8 @@ lex_line (Fault.LeadingZero at) = place_line (codes "lex leading-zero") at
 lex_line (Fault.Directive at) = place_line (codes "lex directive") at
 lex_line Fault.NoMemory = []
 
--- the line of a source that spells no program within the limits; want of memory has none, and what is
--- said of preconditions alone has none
+-- the line of a source that spells no program within the limits; want of memory has none, and what
+-- is said of preconditions alone has none
 abbrev pub parse_line : ParseEnd → List ℕ
 parse_line (Flaw.Syntax token) = place_line (codes "syntax") token
 parse_line (Flaw.TooDeep token) = place_line (codes "deep") token
@@ -75,8 +75,8 @@ pre_lex_line (Fault.LeadingZero at) = place_line (codes "pre leading-zero") at
 pre_lex_line (Fault.Directive at) = place_line (codes "pre directive") at
 pre_lex_line Fault.NoMemory = []
 
--- the line of a precondition that spells no row form within the limits; want of memory has none, and
--- what is said of programs alone has none
+-- the line of a precondition that spells no row form within the limits; want of memory has none,
+-- and what is said of programs alone has none
 abbrev pub pre_parse_line : ParseEnd → List ℕ
 pre_parse_line (Flaw.Syntax token) = place_line (codes "pre syntax") token
 pre_parse_line (Flaw.TooDeep token) = place_line (codes "pre deep") token
@@ -91,12 +91,14 @@ abbrev pub step_line : ℕ → List ℕ → List ℕ
 step_line step words =
     codes "REFUSED step " ++ (decimal step ++ (codes " " ++ (words ++ codes "\n")))
 
--- the line of a step that doesn't apply; want of memory has none, and what passes the limits has its own
+-- the line of a step that doesn't apply; want of memory has none, and what passes the limits has
+-- its own
 abbrev pub unmet_line : ℕ → StepEnd → List ℕ
 unmet_line step Unmet.NoGoal = step_line step (codes "no-goal")
 unmet_line step Unmet.WrongShape = step_line step (codes "wrong-shape")
 unmet_line step Unmet.NoSuchRule = step_line step (codes "no-such-rule")
-unmet_line step (Unmet.NotShown condition) = step_line step (codes "not-shown " ++ decimal condition)
+unmet_line step (Unmet.NotShown condition) =
+    step_line step (codes "not-shown " ++ decimal condition)
 unmet_line step Unmet.Large = []
 unmet_line step Unmet.NoMemory = []
 
@@ -159,7 +161,9 @@ found_text (found.Alike points undecided) = alike_line points undecided
 
 -- the line of words that ask for nothing
 abbrev pub usage_line : List ℕ
-usage_line = codes "usage: ctrl MODE FILE [F] [G] [LOG] [--pre E] [--depth N] [--budget N] [--box N] [--rounds N]\n"
+usage_line =
+    codes
+    "usage: ctrl MODE FILE [F] [G] [LOG] [--pre E] [--depth N] [--budget N] [--box N] [--rounds N]\n"
 
 -- the line of so many examples, of which so many are proved and so many aren't
 abbrev pub counts_line : ℕ → ℕ → ℕ → List ℕ
@@ -196,8 +200,8 @@ text_of Said.LargeTranslate = codes "LARGE translate\n"
 text_of Said.LargePre = codes "LARGE pre\n"
 text_of Said.LargeSearch = codes "LARGE search\n"
 
--- an end of a replay that has a line: it isn't out of memory, and a step that passes the limits isn't a
--- step that doesn't apply
+-- an end of a replay that has a line: it isn't out of memory, and a step that passes the limits
+-- isn't a step that doesn't apply
 abbrev pub IsSayableEnd : CheckEnd → Type 0
 IsSayableEnd (End.Step step Unmet.Large) = ⊥
 IsSayableEnd (End.Step step Unmet.NoMemory) = ⊥

@@ -3,7 +3,7 @@ ghost use Rattle.std.specs.Prelude.{◌≡◌, ◌≤◌, true, length, map, str
 ghost use Rattle.rx_command.specs.Commands as words_say;
 ghost use Rattle.rx_command.specs.Commands.{Check, Compare, Demo, Prove, Refute, comparison_view, functions_view, is_short};
 ghost use Rattle.rx_io.specs.Outside.{Names, Rose};
-ghost use Rattle.rx_cli.specs.Answers.{AreEqual, IsAnswerTo, IsRefutedBy, IsAnswered, IsReportable, functions_in, text_in};
+ghost use Rattle.rx_cli.specs.Answers.{AreEqual, IsAnswerTo, IsRefutedBy, IsAnswered, IsReportable, functions_in, longest_source, text_in};
 ghost use Rattle.rx_cli.specs.Ends as ends;
 ghost use Rattle.rx_cli.specs.Ends.{status_in};
 ghost use Rattle.rx_cli.specs.Steps.{ChecksNamed, HasLineNext, IsNotDeep, Reads, bytes_in};
@@ -72,33 +72,31 @@ impl Answer {
 /// The most bytes of a source.
 const LONGEST_SOURCE: u32 = 1_048_576;
 
-/// The bytes of the named file, or why they can't be had: there are more than the limit, for which
-/// `long` is answered, or reading failed.
-fn read_within<F: Files>(
+/// The bytes of the file that has the functions, or why they can't be had: there are more than a
+/// source may have, or reading failed.
+fn read_source<F: Files>(
     alloc: Global,
+    functions: &Functions<'_>,
     files: &mut F,
-    name: &str,
-    limit: u32,
-    long: Verdict,
 ) -> Result<Next<Verdict, Vec<u8>>, NoMemory>
-    requires { HasLine long }
     ensures reach { F.reaches files.old files.new }
     ensures held { F.held files.new ≡ F.held files.old }
     ensures later { F.faults files.old ≤ F.faults files.new }
     ensures read { IfOk result (λ next. Reads (F.held files.old)
-        (Rose (F.faults files.old) (F.faults files.new)) name.now limit long (bytes_in next)) }
+        (Rose (F.faults files.old) (F.faults files.new)) functions.now.file.now longest_source
+        Verdict.LongSource (bytes_in next)) }
     ensures line { IfOk result HasLineNext }
 {
-    match read_all(alloc, files, name, limit) {
+    match read_all(alloc, files, functions.file, LONGEST_SOURCE) {
         Ok(bytes) => Ok(Next::Goes(bytes)),
         Err(ReadEnd::Failed) => Ok(Next::Ends(Verdict::ReadFault)),
-        Err(ReadEnd::TooLong) => Ok(Next::Ends(long)),
+        Err(ReadEnd::TooLong) => Ok(Next::Ends(Verdict::LongSource)),
         Err(ReadEnd::NoMemory) => Err(NoMemory),
     }
 }
 
-/// What is said of a text and of the log that is read under a name. The log is read only where the text
-/// is a question.
+/// What is said of a text and of the log that is read under a name. The log is read only where the
+/// text is a question.
 fn check_named<F: Files>(
     alloc: Global,
     source: &[u8],
@@ -135,13 +133,7 @@ fn judge_check<F: Files>(
         (Some (Compare (Check (functions_view functions.now) log.now)))) }
     ensures reportable { IfOk result IsReportable }
 {
-    match read_within(
-        alloc,
-        files,
-        functions.file,
-        LONGEST_SOURCE,
-        Verdict::LongSource,
-    )? {
+    match read_source(alloc, functions, files)? {
         Next::Ends(verdict) => Ok(Answer::Line(verdict)),
         Next::Goes(source) => {
             Ok(Answer::Line(check_named(alloc, &source, functions, log, files)?))
@@ -164,13 +156,7 @@ fn judge_prove<F: Files>(
         (Some (Compare (Prove (functions_view functions.now) effort)))) }
     ensures reportable { IfOk result IsReportable }
 {
-    match read_within(
-        alloc,
-        files,
-        functions.file,
-        LONGEST_SOURCE,
-        Verdict::LongSource,
-    )? {
+    match read_source(alloc, functions, files)? {
         Next::Ends(verdict) => Ok(Answer::Line(verdict)),
         Next::Goes(source) => prove(alloc, &source, functions, effort),
     }
@@ -190,13 +176,7 @@ fn judge_refute<F: Files>(
         (Some (Compare (Refute (functions_view functions.now) extent)))) }
     ensures reportable { IfOk result IsReportable }
 {
-    match read_within(
-        alloc,
-        files,
-        functions.file,
-        LONGEST_SOURCE,
-        Verdict::LongSource,
-    )? {
+    match read_source(alloc, functions, files)? {
         Next::Ends(verdict) => Ok(Answer::Line(verdict)),
         Next::Goes(source) => refute(alloc, &source, functions, extent),
     }

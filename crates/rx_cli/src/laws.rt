@@ -17,10 +17,10 @@ ghost use Rattle.rx_cli.specs.Run.{Reports};
 ghost use Rattle.rx_cli.specs.Texts.{text_of};
 
 /// Over files whose contents are told, and of which no call finds a fault, words have one status
-/// (`status`), one verdict at most (`verdict`), and one text to be put, but for proofs: what shows the
-/// steps of a proof is free, so two of them may differ, but both are logs with the same moves that are
-/// accepted for the same question (`text`). So `run`'s clauses determine its report there: each answer
-/// comes exactly where its cause holds. A law; it does nothing.
+/// (`status`), one verdict at most (`verdict`), and one text to be put, but for proofs: what shows
+/// the steps of a proof is free, so two of them may differ, but both are logs with the same moves
+/// that are accepted for the same question (`text`). So `run`'s clauses determine its report there:
+/// each answer comes exactly where its cause holds. A law; it does nothing.
 pub fn words_have_one_report()
     ensures status { (names : Names) (words : List (List ℕ)) (s u : Status) (t v : List ℕ) →
         Reports (Some names) ⊥ words s t → Reports (Some names) ⊥ words u v → s ≡ u }
@@ -32,10 +32,10 @@ pub fn words_have_one_report()
         AreOne names words s t v }
 {}
 
-/// What a search proves, a check accepts. Words that ask for a proof are reported with EQUIVALENT and
-/// a text of at most 67,108,864 bytes. Then words that ask for a check of the same functions are
-/// reported with EQUIVALENT, where the same source is held and, under the name of the log, this text.
-/// A law; it does nothing.
+/// What a search proves, a check accepts. Words that ask for a proof are reported with EQUIVALENT
+/// and a text of at most 67,108,864 bytes. Then words that ask for a check of the same functions
+/// are reported with EQUIVALENT, where the same source is held and, under the name of the log, this
+/// text. A law; it does nothing.
 pub fn written_logs_are_accepted()
     ensures { (before after : Names) (f : Functions) (effort : Effort) (name text : List ℕ)
         (searching checking : List (List ℕ)) →

@@ -1,4 +1,5 @@
-//! The commands of ctrl: the words, what is answered to them, the reports, and the run of the program.
+//! The commands of ctrl: the words, what is answered to them, the reports, and the run of the
+//! program.
 #![tactic(auto)]
 
 mod answers;

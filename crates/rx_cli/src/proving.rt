@@ -29,8 +29,8 @@ use rx_solve::refutes;
 use std::alloc::Global;
 
 /// The text of a log in which nothing is too deep for one. Where the log has no text for another
-/// reason, as for a list of more than 4,294,967,295 things or a variable of 1,000,000 or greater, it
-/// is taken for what memory doesn't hold.
+/// reason, as for a list of more than 4,294,967,295 things or a variable of 1,000,000 or greater,
+/// it is taken for what memory doesn't hold.
 fn proof_text(alloc: Global, log: &Log) -> Result<Items<u8>, NoMemory>
     requires { is_shallow_log log.now ≡ true }
     ensures { IfOk result (λ text. IsLog text log.now) }
@@ -104,8 +104,8 @@ fn on_question(alloc: Global, question: &Question, effort: Effort) -> Result<Ans
     search_with(alloc, question, effort, cached)
 }
 
-/// Searches for a proof that the two named functions of a text return the same, as far as the effort
-/// goes.
+/// Searches for a proof that the two named functions of a text return the same, as far as the
+/// effort goes.
 pub fn prove(
     alloc: Global,
     source: &[u8],

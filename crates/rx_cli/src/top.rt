@@ -17,10 +17,13 @@ fn report_answer<F: Files, O: Sink>(
     files: &mut F,
     out: &mut O,
 ) -> Status
-    ensures ends { RunEnds (F.held files.old) (Rose (F.faults files.old) (F.faults files.new)) (Rose (O.faults out.old) (O.faults out.new))
+    ensures ends { RunEnds (F.held files.old) (Rose (F.faults files.old) (F.faults files.new))
+        (Rose (O.faults out.old) (O.faults out.new))
         (map string_bytes words.now) (O.contents out.old) (O.contents out.new) result }
-    ensures sound { result ≡ Status.Equivalent → AreEqual (F.held files.old) (map string_bytes words.now) }
-    ensures different { result ≡ Status.Different → IsRefutedBy (F.held files.old) (map string_bytes words.now) }
+    ensures sound { result ≡ Status.Equivalent →
+        AreEqual (F.held files.old) (map string_bytes words.now) }
+    ensures different { result ≡ Status.Different →
+        IsRefutedBy (F.held files.old) (map string_bytes words.now) }
     ensures kept { result ≡ Status.NoMemory → out.new ≡ out.old }
     ensures reach_files { F.reaches files.old files.new }
     ensures reach_out { O.reaches out.old out.new }
@@ -41,18 +44,24 @@ fn report_answer<F: Files, O: Sink>(
 /// Runs the program: reads the words and the files that they name, and puts the whole report.
 ///
 /// `words` begins with the program's name. Where the status is `NoMemory` nothing was put; where it is `WriteFault` a part of
-/// the report that isn't the whole. Where the files hold a log that is accepted for what the words ask, or
-/// a search that they ask for closes, the status is `Equivalent`, unless a call finds a fault or there is no memory (`complete`).
+/// the report that isn't the whole. Where the files hold a log that is accepted for what the words
+/// ask, or a search that they ask for closes, the status is `Equivalent`, unless a call finds a
+/// fault or there is no memory (`complete`).
 pub fn run<F: Files, O: Sink>(alloc: Global, words: &[String], files: &mut F, out: &mut O) -> Status
-    ensures ends { RunEnds (F.held files.old) (Rose (F.faults files.old) (F.faults files.new)) (Rose (O.faults out.old) (O.faults out.new))
+    ensures ends { RunEnds (F.held files.old) (Rose (F.faults files.old) (F.faults files.new))
+        (Rose (O.faults out.old) (O.faults out.new))
         (map string_bytes words.now) (O.contents out.old) (O.contents out.new) result }
-    ensures sound { result ≡ Status.Equivalent → AreEqual (F.held files.old) (map string_bytes words.now) }
-    ensures different { result ≡ Status.Different → IsRefutedBy (F.held files.old) (map string_bytes words.now) }
+    ensures sound { result ≡ Status.Equivalent →
+        AreEqual (F.held files.old) (map string_bytes words.now) }
+    ensures different { result ≡ Status.Different →
+        IsRefutedBy (F.held files.old) (map string_bytes words.now) }
     ensures kept { result ≡ Status.NoMemory → out.new ≡ out.old }
     ensures reach_files { F.reaches files.old files.new }
     ensures reach_out { O.reaches out.old out.new }
-    ensures complete { (names : Names) → F.held files.old ≡ Some names → CanShow names (map string_bytes words.now) →
-        SaysYes (Rose (F.faults files.old) (F.faults files.new)) (Rose (O.faults out.old) (O.faults out.new)) result }
+    ensures complete { (names : Names) → F.held files.old ≡ Some names →
+        CanShow names (map string_bytes words.now) →
+        SaysYes (Rose (F.faults files.old) (F.faults files.new))
+        (Rose (O.faults out.old) (O.faults out.new)) result }
 {
     report_answer(alloc, words, files, out)
 }

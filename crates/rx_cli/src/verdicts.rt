@@ -40,8 +40,8 @@ pub enum Verdict {
     PreLex(LexEnd),
     /// The precondition spells no row form within the parser's limits.
     PreParse(ParseEnd),
-    /// The token of the precondition with this number, counted from 0, is a name that no parameter of
-    /// the first function has.
+    /// The token of the precondition with this number, counted from 0, is a name that no parameter
+    /// of the first function has.
     PreName(u32),
     /// There are more than 1,000,000 points of this many arguments.
     Box(usize),
