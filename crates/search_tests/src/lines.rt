@@ -1,13 +1,13 @@
 //! The lines, and what one line leaves for the next.
 use crate::answer::is_wanted;
 use crate::printing::translation_text;
-use crate::set_calls::translation_of;
+use crate::set_calls::{parts_of, translation_of};
 use crate::{search_calls, solve_calls, state_cases};
 use rx_term::RuleSet;
 use rx_translate::{TranslateEnd, Translation};
 use std::alloc::Global;
 
-/// The lines so far: the rule set of the last program, if there was one within the limits.
+/// The lines so far: the rule set that was read last, if there was one.
 #[derive(Drop)]
 pub struct Lines {
     rules: Option<RuleSet>,
@@ -38,6 +38,17 @@ impl Lines {
         Some(text.as_slice() == wanted.as_bytes())
     }
 
+    // Whether these parts are those of a rule set, as is wanted; it is kept.
+    fn take_set(&mut self, alloc: Global, given: &str, wanted: &str) -> Option<bool> {
+        self.rules = None;
+        self.rules = RuleSet::from_parts(parts_of(alloc, given)?);
+        match wanted {
+            "yes" => Some(self.rules.is_some()),
+            "no" => Some(self.rules.is_none()),
+            _ => None,
+        }
+    }
+
     // Whether the refuter's call answers this.
     fn is_solved(alloc: Global, call: &str, given: &str, wanted: &str) -> Option<bool> {
         let answer = match call {
@@ -61,6 +72,7 @@ impl Lines {
         match call {
             "state" => Some(state_cases::holds(alloc, given)? == (wanted == "yes")),
             "rules" => self.take_rules(alloc, given, wanted),
+            "set" => self.take_set(alloc, given, wanted),
             "refutes" | "entails" => Lines::is_solved(alloc, call, given, wanted),
             _ => self.is_answered(alloc, call, given, wanted),
         }

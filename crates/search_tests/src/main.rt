@@ -3,9 +3,10 @@
 //!
 //! Each line of the standard input is a call, what it is given, and what it is to answer, with
 //! ` | ` between them. Equations, rows, polynomials and cover trees have the notation of a log. A
-//! line `rules` makes the rule set of two functions, which the lines after it speak of. A line that
-//! begins with `#` is a heading. The program prints each line whose answer is another with the word
-//! `differs`, each that it can't read with `unread`, and at the end how many lines hold.
+//! line `rules` makes the rule set of two functions, and a line `set` one that is written out; the
+//! lines after it speak of that. A line that begins with `#` is a heading. The program prints each
+//! line whose answer is another with the word `differs`, each that it can't read with `unread`, and
+//! at the end how many lines hold.
 #![tactic(auto)]
 
 mod answer;
@@ -16,6 +17,7 @@ mod printing;
 mod reading;
 mod running;
 mod search_calls;
+mod searching;
 mod set_calls;
 mod solve_calls;
 mod state_cases;

@@ -2,7 +2,7 @@
 use rx_cover::CoverTree;
 use rx_generalise::Generalised;
 use rx_lemma::LemmaKind;
-use rx_pairs::RankTable;
+use rx_pairs::{PairCert, RankTable};
 use rx_plain::{Items, NoMemory};
 use rx_poly::Poly;
 use rx_term::{Rule, SymInfo};
@@ -96,6 +96,19 @@ pub fn table_text(alloc: Global, table: &RankTable) -> Result<Vec<u8>, NoMemory>
     push_natural(&mut out, table.columns)?;
     for rank in table.ranks.as_slice() {
         push_columns(rank.as_slice(), &mut out)?;
+    }
+    Ok(out)
+}
+
+/// The number of pairs, and then the column of each and how many certificates it has.
+pub fn lowering_text(alloc: Global, pairs: &[PairCert]) -> Result<Vec<u8>, NoMemory> {
+    let mut out = Vec::new(alloc);
+    push_count(&mut out, pairs.len())?;
+    for pair in pairs {
+        push_word(&mut out, b" ")?;
+        push_natural(&mut out, pair.column)?;
+        push_word(&mut out, b" ")?;
+        push_count(&mut out, pair.certs.len())?;
     }
     Ok(out)
 }

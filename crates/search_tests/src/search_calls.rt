@@ -1,4 +1,4 @@
-//! The calls of a search on a rule set: covers, ranks, uses of hypotheses and lemmas.
+//! The calls of a search on a rule set: covers, ranks, uses of hypotheses, lemmas, and the search.
 ghost use Rattle.std.specs.Prelude.{◌↔◌};
 ghost use Rattle.std.specs.Bool.{IsTrue};
 ghost use Rattle.std.specs.List.{All};
@@ -6,15 +6,18 @@ ghost use Rattle.rx_pairs.specs.Pairs.{SidesFit};
 
 use crate::answer::{Answer, ended, written};
 use crate::log_calls::{covered, lowered};
-use crate::printing::{cover_text, lemma_text, lemmas_text, substitution_text, table_text};
+use crate::printing::{
+    cover_text, lemma_text, lemmas_text, lowering_text, substitution_text, table_text,
+};
 use crate::reading::{equation, place, rule, rules};
 use crate::running::ran;
+use crate::searching::{asked, searched};
 use rx_coverable::find_cover;
 use rx_fm::FmEnd;
 use rx_generalise::{lemmas, named};
 use rx_match::find_use;
 use rx_pairs::{have_roots, loops_of};
-use rx_ranking::find_ranks;
+use rx_ranking::{Ranking, find_ranks};
 use rx_row::Constraint;
 use rx_solve::refutes;
 use rx_term::{Rule, RuleSet};
@@ -52,15 +55,29 @@ fn have_fitting_sides(set: &RuleSet, rules: &[Rule]) -> bool
     true
 }
 
-// What is found of ranks under these hypotheses.
-fn ranks(alloc: Global, set: &RuleSet, hypotheses: &str) -> Option<Answer> {
-    let hypotheses = rules(alloc, hypotheses)?;
+// What is found of ranks under these hypotheses; none where they don't fit the set.
+fn ranking(alloc: Global, set: &RuleSet, given: &str) -> Option<Result<Option<Ranking>, FmEnd>> {
+    let hypotheses = rules(alloc, given)?;
     if !have_roots(hypotheses.as_slice()) || !have_fitting_sides(set, hypotheses.as_slice()) {
         return None;
     }
     let mut solve = |rows: &Constraint| refutes(alloc, rows);
-    match find_ranks(alloc, set, hypotheses.as_slice(), &mut solve) {
+    Some(find_ranks(alloc, set, hypotheses.as_slice(), &mut solve))
+}
+
+// The ranks that are found under these hypotheses.
+fn ranks(alloc: Global, set: &RuleSet, hypotheses: &str) -> Option<Answer> {
+    match ranking(alloc, set, hypotheses)? {
         Ok(Some(found)) => written(table_text(alloc, &found.table)),
+        Ok(None) => Some(Answer::Nothing),
+        Err(end) => ended(end),
+    }
+}
+
+// Why the pairs are lower by the ranks that are found.
+fn lowers(alloc: Global, set: &RuleSet, hypotheses: &str) -> Option<Answer> {
+    match ranking(alloc, set, hypotheses)? {
+        Ok(Some(found)) => written(lowering_text(alloc, found.certs.as_slice())),
         Ok(None) => Some(Answer::Nothing),
         Err(end) => ended(end),
     }
@@ -114,9 +131,12 @@ pub fn answer_to(alloc: Global, set: &RuleSet, call: &str, given: &str) -> Optio
         "decreases" => lowered(alloc, set, given),
         "runs" => ran(alloc, set, given),
         "ranks" => ranks(alloc, set, given),
+        "lowers" => lowers(alloc, set, given),
         "use" => use_of(alloc, given),
         "named" => naming(alloc, set, given),
         "lemmas" => lemmas_of(alloc, set, given),
+        "search" => searched(alloc, set, given),
+        "asks" => asked(alloc, set, given),
         _ => None,
     }
 }

@@ -1,8 +1,12 @@
-//! The rule set of two functions of a text.
+//! The rule set of two functions of a text, and the parts of one that are written out.
 ghost use Rattle.std.specs.Prelude.{◌≡◌, true, IfSome};
 ghost use Rattle.c_ast.specs.Scoped.{is_scoped};
 
+use crate::reading::rules;
+use crate::words::Words;
 use c_front::{Compared, Next, TwoFunctions, compared_functions};
+use rx_plain::Items;
+use rx_term::RuleParts;
 use rx_translate::{TranslateEnd, Translation, rules_of};
 use std::alloc::Global;
 
@@ -35,4 +39,20 @@ pub fn translation_of(
         return None;
     }
     Some(rules_of(alloc, &two.program, two.first, two.second))
+}
+
+/// The greatest failure code, the symbols and the rules that the text is.
+pub fn parts_of(alloc: Global, given: &str) -> Option<RuleParts> {
+    let (fails, rest) = given.split_once(" | ")?;
+    let (symbols, listed) = rest.split_once(" | ")?;
+    let mut words = Words::new(alloc, symbols);
+    let symbols = words.symbols()?;
+    if !words.is_done() {
+        return None;
+    }
+    Some(RuleParts {
+        symbols,
+        rules: Items::from_vec(rules(alloc, listed)?),
+        fails: fails.parse::<u8>().ok()?,
+    })
 }

@@ -1,11 +1,12 @@
-//! A text as words, one behind the other: numbers, polynomials, certificates, trees, and lists after
-//! the number of their elements.
+//! A text as words, one behind the other: numbers, symbols, polynomials, certificates, trees, and
+//! lists after the number of their elements.
 use rx_cert::Cert;
 use rx_cover::CoverTree;
 use rx_pairs::{PairCert, RankTable};
 use rx_plain::Items;
 use rx_poly::Poly;
-use rx_text::{read_poly, skip_word};
+use rx_term::SymInfo;
+use rx_text::{read_natural, read_poly, skip_word};
 use rx_tree_words::read_tree;
 use rx_words::{read_certs, read_number};
 use std::alloc::Global;
@@ -37,10 +38,36 @@ impl<'a> Words<'a> {
         }
     }
 
-    fn number(&mut self) -> Option<u32> {
+    /// A number.
+    pub fn number(&mut self) -> Option<u32> {
         let (number, end) = read_number(self.text, self.next()?)?;
         self.at = end;
         Some(number)
+    }
+
+    // Whether the letter stands here; what is next is after it then.
+    fn letter(&mut self, letter: &[u8]) -> bool {
+        if letter.is_empty() {
+            return false;
+        }
+        match skip_word(self.text, self.at, letter) {
+            Some(end) => {
+                self.at = end;
+                true
+            }
+            None => false,
+        }
+    }
+
+    fn symbol(&mut self) -> Option<SymInfo> {
+        let (arity, end) = read_natural(self.text, self.next()?, u32::MAX)?;
+        self.at = end;
+        Some(SymInfo {
+            arity,
+            frame: self.letter(b"f"),
+            entry: self.letter(b"e"),
+            head: self.letter(b"h"),
+        })
     }
 
     fn poly(&mut self) -> Option<Poly> {
@@ -75,6 +102,15 @@ impl<'a> Words<'a> {
             polys.push(self.poly()?).ok()?;
         }
         Some(polys)
+    }
+
+    /// Symbols, each as the number of its arguments and letters.
+    pub fn symbols(&mut self) -> Option<Items<SymInfo>> {
+        let mut symbols = Items::new(self.alloc);
+        for _ in 0..self.number()? {
+            symbols.push(self.symbol()?).ok()?;
+        }
+        Some(symbols)
     }
 
     /// Lists of trees.

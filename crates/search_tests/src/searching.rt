@@ -1,0 +1,154 @@
+//! The search for a proof of a goal over a rule set, by the refuter.
+ghost use Rattle.std.specs.Prelude.{◌≡◌, ◌≤◌, true};
+ghost use Rattle.std.specs.Bool.{IsTrue};
+ghost use Rattle.rx_coverable.specs.Coverable.{is_coverable};
+ghost use Rattle.rx_joins.specs.Goals.{IsFitting};
+
+use crate::answer::{Answer, written};
+use crate::reading::equation;
+use crate::words::Words;
+use rx_coverable::find_cover;
+use rx_log::Log;
+use rx_plain::NoMemory;
+use rx_row::{Constraint, Row};
+use rx_search::{Search, SearchEnd};
+use rx_solve::refutes;
+use rx_term::{Equation, RuleSet};
+use rx_text::push_word;
+use rx_words::{push_count, push_rows};
+use std::alloc::Global;
+use std::cmp::Ordering;
+
+/// A depth is at most this.
+const MOST_DEEP: u32 = 12;
+
+/// How a search ended, and how often it asked the refuter.
+#[derive(Drop)]
+struct Outcome {
+    end: Result<Log, SearchEnd>,
+    calls: u64,
+}
+
+/// Whether trees are found that cover the set.
+fn is_covered(alloc: Global, set: &RuleSet) -> bool
+    ensures { IsTrue result → is_coverable set.now ≡ true }
+{
+    let mut solve = |rows: &Constraint| refutes(alloc, rows);
+    match find_cover(alloc, set, &mut solve) {
+        Ok(Some(_)) => true,
+        _ => false,
+    }
+}
+
+/// Whether both sides of the goal fit the set.
+fn is_fitting(set: &RuleSet, goal: &Equation) -> bool
+    ensures { IsTrue result → IsFitting set.now goal.now }
+{
+    set.fits(&goal.left) && set.fits(&goal.right)
+}
+
+/// The search for the goal, by a solver that counts its calls.
+fn counted(alloc: Global, set: &RuleSet, goal: &Equation, depth: u32, budget: u32) -> Outcome
+    requires coverable { is_coverable set.now ≡ true }
+    requires fits { IsFitting set.now goal.now }
+    requires depth { depth ≤ 12 }
+{
+    let mut calls = 0u64;
+    let end = Search::new(|rows: &Constraint| {
+        calls = calls.saturating_add(1);
+        refutes(alloc, rows)
+    })
+    .search(alloc, set, goal, depth, budget);
+    Outcome { end, calls }
+}
+
+// The search for the goal; none where nothing covers the set, the goal doesn't fit it, or the depth
+// is too great.
+fn search_for(
+    alloc: Global,
+    set: &RuleSet,
+    goal: &Equation,
+    depth: u32,
+    budget: u32,
+) -> Option<Outcome> {
+    if depth > MOST_DEEP || !is_fitting(set, goal) || !is_covered(alloc, set) {
+        return None;
+    }
+    Some(counted(alloc, set, goal, depth, budget))
+}
+
+// A word and a number.
+fn push_numbered(word: &[u8], number: usize, out: &mut Vec<u8>) -> Result<(), NoMemory> {
+    push_word(out, word)?;
+    push_word(out, b" ")?;
+    push_count(out, number)
+}
+
+// The path to the node where the limits are passed, as a list of choices, and the rows there.
+fn push_large(path: &[u8], rows: &[Row], out: &mut Vec<u8>) -> Result<(), NoMemory> {
+    push_numbered(b"large", path.len(), out)?;
+    for choice in path {
+        push_word(out, b" ")?;
+        push_count(out, *choice as usize)?;
+    }
+    push_word(out, b" ")?;
+    push_rows(rows, out)
+}
+
+fn end_text(alloc: Global, end: &Result<Log, SearchEnd>) -> Result<Vec<u8>, NoMemory> {
+    let mut out = Vec::new(alloc);
+    match end {
+        Ok(log) => push_numbered(b"closed", log.steps.len(), &mut out)?,
+        Err(SearchEnd::NoRanks) => push_word(&mut out, b"ranks")?,
+        Err(SearchEnd::NoPlan { depth }) => push_numbered(b"depth", *depth as usize, &mut out)?,
+        Err(SearchEnd::Spent { visits }) => push_numbered(b"visits", *visits as usize, &mut out)?,
+        Err(SearchEnd::Large { path, rows }) => {
+            push_large(path.as_slice(), rows.as_slice(), &mut out)?
+        }
+        Err(SearchEnd::NoMemory) => return Err(NoMemory),
+    }
+    Ok(out)
+}
+
+/// What a search for the equation comes to, to the depth and within the budget behind it: the number
+/// of the steps of its log, or how it ends without one.
+pub fn searched(alloc: Global, set: &RuleSet, given: &str) -> Option<Answer> {
+    let (goal, effort) = given.split_once(" | ")?;
+    let goal = equation(alloc, goal)?;
+    let mut words = Words::new(alloc, effort);
+    let depth = words.number()?;
+    let budget = words.number()?;
+    if !words.is_done() {
+        return None;
+    }
+    let found = search_for(alloc, set, &goal, depth, budget)?;
+    written(end_text(alloc, &found.end))
+}
+
+// How many calls of the refuter more there are, as a word.
+fn compared(alloc: Global, before: u64, after: u64) -> Result<Vec<u8>, NoMemory> {
+    let mut out = Vec::new(alloc);
+    match after.cmp(&before) {
+        Ordering::Less => push_word(&mut out, b"fewer")?,
+        Ordering::Equal => push_word(&mut out, b"same")?,
+        Ordering::Greater => push_word(&mut out, b"more")?,
+    }
+    Ok(out)
+}
+
+/// Whether a search for the equation to the second depth behind it asks the refuter as often as one
+/// to the first, more often, or less, both within the budget that follows.
+pub fn asked(alloc: Global, set: &RuleSet, given: &str) -> Option<Answer> {
+    let (goal, effort) = given.split_once(" | ")?;
+    let goal = equation(alloc, goal)?;
+    let mut words = Words::new(alloc, effort);
+    let first = words.number()?;
+    let second = words.number()?;
+    let budget = words.number()?;
+    if !words.is_done() {
+        return None;
+    }
+    let before = search_for(alloc, set, &goal, first, budget)?.calls;
+    let after = search_for(alloc, set, &goal, second, budget)?.calls;
+    written(compared(alloc, before, after))
+}
