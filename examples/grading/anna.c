@@ -1,3 +1,6 @@
-int student(int x, int y) {
-    return x * x - y * y;
+int student(int n) {
+    int sum = 0;
+    for (int i = 1; i <= n; i++)
+        sum += i;
+    return sum;
 }

@@ -1,3 +1,6 @@
-int student(int x, int y) {
-    return x * x - 2 * x * y + y * y;
+int student(int n) {
+    int sum = 0;
+    for (int i = 0; i < n; i++)
+        sum += i;
+    return sum;
 }

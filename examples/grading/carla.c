@@ -1,4 +1,10 @@
-int student(int x, int y) {
-    int square = x * x;
-    return square - y * y;
+#include <stdio.h>
+
+int student(int n) {
+    int sum;
+    while (n > 0) {
+        sum = sum + n;
+        n--;
+    }
+    return sum;
 }
