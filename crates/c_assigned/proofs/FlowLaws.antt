@@ -47,47 +47,76 @@ joined-assoc a b c = λ i. record {
 
 -- with nothing behind it a flow is itself
 done_is : (f g : Flow) → g ≡ (passing [] f.behind None).flow → f ≡ joined f g
-done_is f g e = sym (ap (joined f) e ∙ (λ i. record { behind = f.behind; breaks = meet-none f.breaks i; continues = meet-none f.continues i; unset = or-none f.unset i }))
+done_is f g e =
+    sym (ap (joined f) e ∙ (λ i. record {
+      behind = f.behind;
+      breaks = meet-none f.breaks i;
+      continues = meet-none f.continues i;
+      unset = or-none f.unset i;
+    }))
 
 -- what was seen of a list of statements, from a scope and a set: with the rest it makes the whole
-pub record Going (names scope : List ℕ) (set : Assigned) (statements : List Stmt) (now : List ℕ) (flow : Flow) (i : ℕ) : Type 0 where
-  pub flows : joined flow (in_order (map (stmt_flow names) (drop i statements)) now flow.behind).flow ≡ (in_order (map (stmt_flow names) statements) scope set).flow
-  pub scopes : (in_order (map (stmt_flow names) (drop i statements)) now flow.behind).scope ≡ (in_order (map (stmt_flow names) statements) scope set).scope
+pub record Going (names scope : List ℕ) (set : Assigned) (statements : List Stmt) (now : List ℕ)
+    (flow : Flow) (i : ℕ) : Type 0 where
+  pub flows : joined flow (in_order (map (stmt_flow names) (drop i statements)) now
+      flow.behind).flow ≡ (in_order (map (stmt_flow names) statements) scope set).flow
+  pub scopes : (in_order (map (stmt_flow names) (drop i statements)) now flow.behind).scope ≡
+      (in_order (map (stmt_flow names) statements) scope set).scope
   pub kept : take (length scope) now ≡ scope
   pub few : length now < 2 ^ 32
 
 -- at the start all is left
-pub going_begun : (names scope : List ℕ) (set : Assigned) (statements : List Stmt) → length scope < 2 ^ 32 → Going names scope set statements scope (passing scope set None).flow 0
-going_begun names scope set statements few = record { flows = refl; scopes = refl; kept = take-length scope; few = few }
+pub going_begun : (names scope : List ℕ) (set : Assigned) (statements : List Stmt) → length scope <
+    2 ^ 32 → Going names scope set statements scope (passing scope set None).flow 0
+going_begun names scope set statements few =
+    record { flows = refl; scopes = refl; kept = take-length scope; few = few }
 
-module _ (names scope : List ℕ) (set : Assigned) (statements : List Stmt) (now : List ℕ) (flow : Flow) (i : ℕ) (g : Going names scope set statements now flow i) where
+module _ (names scope : List ℕ) (set : Assigned) (statements : List Stmt) (now : List ℕ)
+    (flow : Flow) (i : ℕ) (g : Going names scope set statements now flow i) where
   -- one statement more
-  pub going_on : i < length statements → (s : Stmt) → s ≡ get_or statements i s → (next : Flow) (further : List ℕ) → next ≡ (stmt_flow names s now flow.behind).flow → further ≡ (stmt_flow names s now flow.behind).scope
-      → take (length now) further ≡ now → length further < 2 ^ 32 → (whole : Flow) → whole ≡ joined flow next → Going names scope set statements further whole (i + 1)
+  pub going_on : i < length statements → (s : Stmt) → s ≡ get_or statements i s →
+      (next : Flow) (further : List ℕ) → next ≡ (stmt_flow names s now flow.behind).flow → further ≡
+      (stmt_flow names s now flow.behind).scope
+      → take (length now) further ≡ now → length further < 2 ^ 32 → (whole : Flow) → whole ≡
+      joined flow next → Going names scope set statements further whole (i + 1)
   going_on h s is next further fe se kept few whole we =
-      let step : drop i statements ≡ s ∷ drop (i + 1) statements = drop-cons statements i s h ∙ (λ k. sym is k ∷ drop (let e : suc i ≡ i + 1 = omega arith in e k) statements) in
-      let way = λ (rest : List Stmt) (from : List ℕ) (behind : Assigned). in_order (map (stmt_flow names) rest) from behind in
+      let step : drop i statements ≡ s ∷ drop (i + 1) statements = drop-cons statements i s h ∙
+      (λ k. sym is k ∷ drop (let e : suc i ≡ i + 1 = omega arith in e k) statements) in
+      let way = λ (rest : List Stmt) (from : List ℕ) (behind : Assigned). in_order
+      (map (stmt_flow names) rest) from behind in
       record {
         flows =
             (λ k. joined (we k) (way (drop (i + 1) statements) further (we k).behind).flow)
-            ∙ (λ k. joined (joined flow (fe k)) (way (drop (i + 1) statements) (se k) (fe k).behind).flow)
-            ∙ joined-assoc flow (stmt_flow names s now flow.behind).flow (way (drop (i + 1) statements) (stmt_flow names s now flow.behind).scope (stmt_flow names s now flow.behind).flow.behind).flow
+            ∙ (λ k. joined (joined flow (fe k))
+            (way (drop (i + 1) statements) (se k) (fe k).behind).flow)
+            ∙ joined-assoc flow (stmt_flow names s now flow.behind).flow
+            (way (drop (i + 1) statements) (stmt_flow names s now flow.behind).scope
+            (stmt_flow names s now flow.behind).flow.behind).flow
             ∙ (λ k. joined flow (way (sym step k) now flow.behind).flow) ∙ g.flows;
-        scopes = (λ k. (way (drop (i + 1) statements) further (we k).behind).scope) ∙ (λ k. (way (drop (i + 1) statements) (se k) (fe k).behind).scope) ∙ (λ k. (way (sym step k) now flow.behind).scope) ∙ g.scopes;
+        scopes =
+            (λ k. (way (drop (i + 1) statements) further (we k).behind).scope) ∙
+            (λ k. (way (drop (i + 1) statements) (se k) (fe k).behind).scope) ∙
+            (λ k. (way (sym step k) now flow.behind).scope) ∙ g.scopes;
         kept = take-through kept;
         few = few;
       }
     where
       take-through : take (length now) further ≡ now → take (length scope) further ≡ scope
-      take-through k = sym (take-take (length scope) (length now) further no_longer) ∙ ap (take (length scope)) k ∙ g.kept
+      take-through k =
+          sym (take-take (length scope) (length now) further no_longer) ∙
+          ap (take (length scope)) k ∙ g.kept
         where
           no_longer : length scope ≤ length now
           no_longer = let cut = ap length g.kept in grind (arith, length-take)
 
   -- and where nothing is left, the whole is there
-  pub going_done : length statements ≤ i → (flow ≡ (in_order (map (stmt_flow names) statements) scope set).flow) × (now ≡ (in_order (map (stmt_flow names) statements) scope set).scope)
+  pub going_done : length statements ≤ i → (flow ≡
+      (in_order (map (stmt_flow names) statements) scope set).flow) ×
+      (now ≡ (in_order (map (stmt_flow names) statements) scope set).scope)
   going_done h =
       let none = drop_of_length-le statements h in (
-        done_is flow (in_order (map (stmt_flow names) (drop i statements)) now flow.behind).flow (ap (λ ss. (in_order (map (stmt_flow names) ss) now flow.behind).flow) none) ∙ g.flows,
-        sym (ap (λ ss. (in_order (map (stmt_flow names) ss) now flow.behind).scope) none) ∙ g.scopes,
+        done_is flow (in_order (map (stmt_flow names) (drop i statements)) now flow.behind).flow
+            (ap (λ ss. (in_order (map (stmt_flow names) ss) now flow.behind).flow) none) ∙ g.flows,
+        sym (ap (λ ss. (in_order (map (stmt_flow names) ss) now flow.behind).scope) none) ∙
+            g.scopes,
       )

@@ -8,9 +8,12 @@ use Rattle.c_assigned.specs.Sets.{both}
 length-both : (xs ys : List Bool) → length xs ≤ length ys → length (both xs ys) ≡ length xs
 length-both [] ys h = refl
 length-both (x ∷ xs) [] h = absurd (omega arith)
-length-both (x ∷ xs) (y ∷ ys) h = let rest : length (both xs ys) ≡ length xs = length-both xs ys (omega arith) in omega (arith, rest)
+length-both (x ∷ xs) (y ∷ ys) h =
+    let rest : length (both xs ys) ≡ length xs = length-both xs ys (omega arith) in
+    omega (arith, rest)
 
-both-last : (xs ys : List Bool) (x y : Bool) → length xs ≡ length ys → both (xs ++ x ∷ []) (ys ++ y ∷ []) ≡ both xs ys ++ (x && y) ∷ []
+both-last : (xs ys : List Bool) (x y : Bool) → length xs ≡ length ys →
+    both (xs ++ x ∷ []) (ys ++ y ∷ []) ≡ both xs ys ++ (x && y) ∷ []
 both-last [] [] x y e = refl
 both-last [] (v ∷ ys) x y e = absurd (omega arith)
 both-last (u ∷ xs) [] x y e = absurd (omega arith)
@@ -47,12 +50,14 @@ module _ (xs ys flags : List Bool) (i : ℕ) (m : Meeting xs ys flags i) where
   pub as_long : length flags ≡ length xs
   as_long =
       let d = done in
-      let whole : length flags ≡ length (both (take i xs) (take i ys)) + length (drop i xs) = ap length m.made ∙ length-append (both (take i xs) (take i ys)) (drop i xs) in
+      let whole : length flags ≡ length (both (take i xs) (take i ys)) + length (drop i xs) =
+      ap length m.made ∙ length-append (both (take i xs) (take i ys)) (drop i xs) in
       let rest : length (drop i xs) ≡ length xs - i = length-drop i xs in
       omega (arith, d, whole, rest, m.within)
 
   -- the slot that is met next
-  pub met_next : i < length xs → (x v : Bool) → x ≡ get_or flags i x → v ≡ (x && get_or ys i false) → Meeting xs ys (set flags i v) (i + 1)
+  pub met_next : i < length xs → (x v : Bool) → x ≡ get_or flags i x → v ≡
+      (x && get_or ys i false) → Meeting xs ys (set flags i v) (i + 1)
   met_next h x v xe ve =
       let front = both (take i xs) (take i ys) in
       let here = get_or xs i x in
@@ -60,19 +65,25 @@ module _ (xs ys flags : List Bool) (i : ℕ) (m : Meeting xs ys flags i) where
       let hy : i < length ys = omega (arith, h, m.shorter) in
       let rest = drop (suc i) xs in
       let next : suc i ≡ i + 1 = omega arith in
-      let split : flags ≡ front ++ here ∷ rest = m.made ∙ ap (λ zs. front ++ zs) (drop-cons xs i x h) in
-      let seam : get_or (front ++ here ∷ rest) i x ≡ here = ap (λ k. get_or (front ++ here ∷ rest) k x) (sym done) ∙ get_or-append_seam front here rest x in
+      let split : flags ≡ front ++ here ∷ rest = m.made ∙
+      ap (λ zs. front ++ zs) (drop-cons xs i x h) in
+      let seam : get_or (front ++ here ∷ rest) i x ≡ here =
+      ap (λ k. get_or (front ++ here ∷ rest) k x) (sym done) ∙
+      get_or-append_seam front here rest x in
       let held : x ≡ here = xe ∙ ap (λ zs. get_or zs i x) split ∙ seam in
       let value : v ≡ (here && there) = ve ∙ ap (λ u. u && there) held in
       let both_more : both (take (i + 1) xs) (take (i + 1) ys) ≡ front ++ (here && there) ∷ [] =
       (λ k. both (take_more xs i x h k) (take_more ys i false hy k))
-      ∙ both-last (take i xs) (take i ys) here there (taken xs i m.within ∙ sym (taken ys i (omega (arith, m.within, m.shorter)))) in
+      ∙ both-last (take i xs) (take i ys) here there
+      (taken xs i m.within ∙ sym (taken ys i (omega (arith, m.within, m.shorter)))) in
       record {
         within = omega (arith, h);
         shorter = m.shorter;
         made =
-            ap (λ zs. set zs i v) split ∙ ap (λ k. set (front ++ here ∷ rest) k v) (sym done) ∙ set-append_seam front here rest v
-            ∙ ap (λ u. front ++ u ∷ rest) value ∙ sym (append_assoc front ((here && there) ∷ []) rest)
+            ap (λ zs. set zs i v) split ∙ ap (λ k. set (front ++ here ∷ rest) k v) (sym done) ∙
+            set-append_seam front here rest v
+            ∙ ap (λ u. front ++ u ∷ rest) value ∙
+            sym (append_assoc front ((here && there) ∷ []) rest)
             ∙ (λ k. sym both_more k ++ drop (next k) xs);
       }
 
@@ -93,7 +104,8 @@ met_none xs ys = record { within = omega arith; shorter = short; made = refl }
     short = grind (arith, length-take)
 
 -- and at the end the slots of both are found
-pub met_both : (xs ys flags : List Bool) (i : ℕ) → Meeting (take (length ys) xs) ys flags i → length flags ≤ i → flags ≡ both xs ys
+pub met_both : (xs ys flags : List Bool) (i : ℕ) → Meeting (take (length ys) xs) ys flags i →
+    length flags ≤ i → flags ≡ both xs ys
 met_both xs ys flags i m h =
     let long = as_long (take (length ys) xs) ys flags i m in
     met_all (take (length ys) xs) ys flags i m (omega (arith, long, h)) ∙ both-cut xs ys

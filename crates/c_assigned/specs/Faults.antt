@@ -1,4 +1,5 @@
--- The fault of a function: a variable that is read where it may have no value, or else an end that may be reached without a `return`.
+-- The fault of a function: a variable that is read where it may have no value, or else an end that
+-- may be reached without a `return`.
 use Rattle.std.specs.Prelude.{ℕ, true, List, map, length, replicate, Option, Some, None}
 use Rattle.c_ast.specs.declared.program.Function.{Function}
 use Rattle.c_assigned.specs.Sets.{Assigned}
@@ -9,7 +10,9 @@ use Rattle.c_names.specs.Names.{name_at}
 
 -- what comes of a function's body: its parameters are in scope, and assigned
 abbrev pub body_flow : List ℕ → Function → Behind
-body_flow names f = in_order (map (stmt_flow names) f.body) (map (name_at names) f.params) (Some (replicate (length f.params) true))
+body_flow names f =
+    in_order (map (stmt_flow names) f.body) (map (name_at names) f.params)
+    (Some (replicate (length f.params) true))
 
 -- where the end is reached, the function may not return
 abbrev pub at_end : ℕ → Assigned → Option Fault

@@ -1,5 +1,5 @@
--- Sets of slots that are surely assigned. A set says of each slot in scope whether it is; none is the set behind a place that is never
--- reached, which contains every slot.
+-- Sets of slots that are surely assigned. A set says of each slot in scope whether it is; none is
+-- the set behind a place that is never reached, which contains every slot.
 use Rattle.std.specs.Prelude.{ℕ, Bool, true, false, not, ◌&&◌, nat_eq, List, [], ◌∷◌, ◌++◌, take, Option, Some, None, option_map, unwrap_or, slice_get, slice_set, if◌then◌else◌}
 use Rattle.c_names.specs.Names.{name_at}
 use Rattle.c_names.specs.Slots.{slot_of}
@@ -8,7 +8,8 @@ use Rattle.c_names.specs.Slots.{slot_of}
 abbrev pub Assigned : Type 0
 Assigned = Option (List Bool)
 
--- the slots that are in both: of sets of different scopes, those of the outer scope, which both have in front
+-- the slots that are in both: of sets of different scopes, those of the outer scope, which both
+-- have in front
 abbrev pub both : List Bool → List Bool → List Bool
 both [] ys = []
 both (x ∷ xs) [] = []
@@ -42,18 +43,20 @@ abbrev pub is_slot : Option ℕ → ℕ → Bool
 is_slot None slot = false
 is_slot (Some own) slot = nat_eq own slot
 
--- whether a variable of this slot may be read, where `own` is the slot whose initial value is being read
+-- whether a variable of this slot may be read, where `own` is the slot whose initial value is being
+-- read
 abbrev pub may_read : Assigned → Option ℕ → Option ℕ → Bool
 may_read set own None = true
 may_read set own (Some slot) = not (is_slot own slot) && is_assigned set slot
 
 module _ (names : List ℕ) where
-  -- whether the variable whose name is this token may be read: its slot is in the set, and it isn't the one whose initial value is
-  -- being read; a name that is no variable in scope is no fault here
+  -- whether the variable whose name is this token may be read: its slot is in the set, and it isn't
+  -- the one whose initial value is being read; a name that is no variable in scope is no fault here
   abbrev pub is_readable : List ℕ → Assigned → Option ℕ → ℕ → Bool
   is_readable scope set own token = may_read set own (slot_of scope (name_at names token))
 
   -- the first of the tokens whose variable may not be read
   abbrev pub first_unset : List ℕ → Assigned → Option ℕ → List ℕ → Option ℕ
   first_unset scope set own [] = None
-  first_unset scope set own (token ∷ tokens) = if is_readable scope set own token then first_unset scope set own tokens else Some token
+  first_unset scope set own (token ∷ tokens) =
+      if is_readable scope set own token then first_unset scope set own tokens else Some token

@@ -6,8 +6,9 @@ ghost use Rattle.c_assigned.specs.Flows as spec;
 use crate::sets::{cut, meet};
 use rx_plain::Items;
 
-/// The sets of surely assigned slots behind a statement, at its `break`s and at its `continue`s, where none is what
-/// no way reaches, and the token of the first variable that is read where it may have no value.
+/// The sets of surely assigned slots behind a statement, at its `break`s and at its `continue`s,
+/// where none is what no way reaches, and the token of the first variable that is read where it may
+/// have no value.
 #[derive(Debug, Drop)]
 pub struct Flow {
     /// Behind the statement.

@@ -8,7 +8,8 @@ use c_ast::Expr;
 use c_names::{name_at, slot_of};
 use rx_plain::Items;
 
-// Whether a variable of this slot may be read, where `own` is the slot whose initial value is being read.
+// Whether a variable of this slot may be read, where `own` is the slot whose initial value is being
+// read.
 fn may_read(set: &Option<Items<bool>>, own: Option<u32>, slot: Option<u32>) -> bool
     ensures { result ≡ spec.may_read set.now own slot }
 {
@@ -21,8 +22,8 @@ fn may_read(set: &Option<Items<bool>>, own: Option<u32>, slot: Option<u32>) -> b
     }
 }
 
-/// The first variable that an expression reads where it may have no value, where the names in scope are listed by
-/// slot, and `own` is the slot whose initial value is being read. Takes no memory.
+/// The first variable that an expression reads where it may have no value, where the names in scope
+/// are listed by slot, and `own` is the slot whose initial value is being read. Takes no memory.
 #[tactic(auto, using(crate::proofs::Reading::unset_Lit, crate::proofs::Reading::unset_Var, crate::proofs::Reading::unset_Unary, crate::proofs::Reading::unset_Binary, crate::proofs::Reading::unset_Choose))]
 pub fn first_unset(
     names: &[u32],

@@ -1,4 +1,5 @@
-//! Sets of slots that are surely assigned: a flag for each slot in scope, or none behind a place that is never reached.
+//! Sets of slots that are surely assigned: a flag for each slot in scope, or none behind a place
+//! that is never reached.
 ghost use Rattle.std.specs.Prelude.{◌≡◌, ◌&&◌, IfOk};
 ghost use Rattle.c_assigned.specs.Sets as spec;
 

@@ -83,7 +83,9 @@ fn assigned(
     value: &Expr,
 ) -> Flow
     requires { length scope.now < 2 ^ 32 }
-    ensures { result ≡ (spec.passing scope.now (spec.assign (slots_spec.slot_of scope.now (names_spec.name_at names.now token)) set) (spec.unset_in names.now scope.now set value.now)).flow }
+    ensures { result ≡ (spec.passing scope.now
+        (spec.assign (slots_spec.slot_of scope.now (names_spec.name_at names.now token)) set)
+        (spec.unset_in names.now scope.now set value.now)).flow }
 {
     let unset = first_unset(names, scope, &set, None, value);
     match slot_of(scope, name_at(names, token)) {
@@ -100,7 +102,8 @@ fn for_behind(
     breaks: Option<Items<bool>>,
     unset: Option<u32>,
 ) -> Flow
-    ensures { result ≡ (spec.passing [] (spec_sets.cut outside (if is_endless then breaks else begun.behind)) (option_or begun.unset unset)).flow }
+    ensures { result ≡ (spec.passing [] (spec_sets.cut outside
+        (if is_endless then breaks else begun.behind)) (option_or begun.unset unset)).flow }
 {
     let unset = first_of(begun.unset, unset);
     if is_endless {
@@ -110,7 +113,8 @@ fn for_behind(
     }
 }
 
-// Puts the name of a declaration in scope, as the last. A scope that no number could count any more answers that there is no memory.
+// Puts the name of a declaration in scope, as the last. A scope that no number could count any more
+// answers that there is no memory.
 fn bring_in(scope: &mut Vec<u32>, name: u32) -> Result<(), NoMemory>
     ensures ok { OnOk result (scope.new.items ≡ scope.old.items ++ name ∷ []) }
     ensures few { OnOk result (length scope.new.items < 2 ^ 32) }
@@ -122,7 +126,8 @@ fn bring_in(scope: &mut Vec<u32>, name: u32) -> Result<(), NoMemory>
     Ok(())
 }
 
-/// What comes of a statement, with the names in scope and the set in front of it. It fails only for want of memory.
+/// What comes of a statement, with the names in scope and the set in front of it. It fails only for
+/// want of memory.
 #[cycle(flows)]
 pub fn stmt_flow(
     alloc: Global,
@@ -132,8 +137,10 @@ pub fn stmt_flow(
     stmt: &Stmt,
 ) -> Result<Flow, NoMemory>
     requires { length scope.old.items < 2 ^ 32 }
-    ensures flow { IfOk result (λ f. f ≡ (spec.stmt_flow names.now stmt.now scope.old.items set).flow) }
-    ensures scope { OnOk result (scope.new.items ≡ (spec.stmt_flow names.now stmt.now scope.old.items set).scope) }
+    ensures flow { IfOk result (λ f. f ≡ (spec.stmt_flow names.now stmt.now scope.old.items
+        set).flow) }
+    ensures scope { OnOk result (scope.new.items ≡
+        (spec.stmt_flow names.now stmt.now scope.old.items set).scope) }
     ensures kept { OnOk result (take (length scope.old.items) scope.new.items ≡ scope.old.items) }
     ensures few { OnOk result (length scope.new.items < 2 ^ 32) }
 {
@@ -195,7 +202,8 @@ fn inside(
     stmt: &Stmt,
 ) -> Result<Flow, NoMemory>
     requires { length scope.old.items < 2 ^ 32 }
-    ensures flow { IfOk result (λ f. f ≡ spec.inside (spec.stmt_flow names.now stmt.now) scope.old.items set) }
+    ensures flow { IfOk result (λ f. f ≡ spec.inside (spec.stmt_flow names.now stmt.now)
+        scope.old.items set) }
     ensures scope { OnOk result (scope.new.items ≡ scope.old.items) }
 {
     let outside = scope.len();
@@ -214,7 +222,8 @@ fn inside_optional(
     part: &Option<Boxed<Stmt>>,
 ) -> Result<Flow, NoMemory>
     requires { length scope.old.items < 2 ^ 32 }
-    ensures flow { IfOk result (λ f. f ≡ spec.inside_optional (option_map (spec.stmt_flow names.now) part.now) scope.old.items set) }
+    ensures flow { IfOk result (λ f. f ≡ spec.inside_optional
+        (option_map (spec.stmt_flow names.now) part.now) scope.old.items set) }
     ensures scope { OnOk result (scope.new.items ≡ scope.old.items) }
 {
     match part {
@@ -233,8 +242,10 @@ pub fn in_order(
     statements: &[Stmt],
 ) -> Result<Flow, NoMemory>
     requires { length scope.old.items < 2 ^ 32 }
-    ensures flow { IfOk result (λ f. f ≡ (spec.in_order (map (spec.stmt_flow names.now) statements.now) scope.old.items set).flow) }
-    ensures scope { OnOk result (scope.new.items ≡ (spec.in_order (map (spec.stmt_flow names.now) statements.now) scope.old.items set).scope) }
+    ensures flow { IfOk result (λ f. f ≡ (spec.in_order
+        (map (spec.stmt_flow names.now) statements.now) scope.old.items set).flow) }
+    ensures scope { OnOk result (scope.new.items ≡
+        (spec.in_order (map (spec.stmt_flow names.now) statements.now) scope.old.items set).scope) }
     ensures kept { OnOk result (take (length scope.old.items) scope.new.items ≡ scope.old.items) }
     ensures few { OnOk result (length scope.new.items < 2 ^ 32) }
 {
@@ -258,8 +269,10 @@ fn while_flow(
     test: &Expr,
 ) -> Result<Flow, NoMemory>
     requires { length scope.old.items < 2 ^ 32 }
-    ensures flow { IfOk result (λ f. f ≡ (spec.while_loop names.now scope.old.items set (spec.is_above_zero (out-Expr test.now))
-        (spec.unset_in names.now scope.old.items set test.now) (spec.inside (spec.stmt_flow names.now inner.now) scope.old.items set)).flow) }
+    ensures flow { IfOk result (λ f. f ≡ (spec.while_loop names.now scope.old.items set
+        (spec.is_above_zero (out-Expr test.now))
+        (spec.unset_in names.now scope.old.items set test.now)
+        (spec.inside (spec.stmt_flow names.now inner.now) scope.old.items set)).flow) }
     ensures scope { OnOk result (scope.new.items ≡ scope.old.items) }
 {
     let tested = first_unset(names, scope.as_slice(), &set, None, test);
@@ -284,7 +297,8 @@ fn do_flow(
     test: &Expr,
 ) -> Result<Flow, NoMemory>
     requires { length scope.old.items < 2 ^ 32 }
-    ensures flow { IfOk result (λ f. f ≡ (spec.do_loop names.now scope.old.items test.now (spec.inside (spec.stmt_flow names.now inner.now) scope.old.items set)).flow) }
+    ensures flow { IfOk result (λ f. f ≡ (spec.do_loop names.now scope.old.items test.now
+        (spec.inside (spec.stmt_flow names.now inner.now) scope.old.items set)).flow) }
     ensures scope { OnOk result (scope.new.items ≡ scope.old.items) }
 {
     let turn = inside(alloc, names, scope, set, inner)?;
@@ -310,7 +324,8 @@ fn block_flow(
     inner: &[Stmt],
 ) -> Result<Flow, NoMemory>
     requires { length scope.old.items < 2 ^ 32 }
-    ensures flow { IfOk result (λ f. f ≡ spec.leave (length scope.old.items) (spec.in_order (map (spec.stmt_flow names.now) inner.now) scope.old.items set).flow) }
+    ensures flow { IfOk result (λ f. f ≡ spec.leave (length scope.old.items)
+        (spec.in_order (map (spec.stmt_flow names.now) inner.now) scope.old.items set).flow) }
     ensures scope { OnOk result (scope.new.items ≡ scope.old.items) }
 {
     let outside = scope.len();

@@ -27,16 +27,21 @@ pub height-Unary : (op : UnOp) (a : Expr) → expr_height (Unary op a) ≡ 1 + e
 height-Unary op a = fold_out-Expr ℕ expr_height_level (Unary op a) ∙ rw (outs-Unary op a) refl
 
 -- an operator between two operands is one higher than the higher of them
-pub height-Binary : (op : BinOp) (a b : Expr) → expr_height (Binary op a b) ≡ 1 + max (expr_height a) (expr_height b)
-height-Binary op a b = fold_out-Expr ℕ expr_height_level (Binary op a b) ∙ rw (outs-Binary op a b) refl
+pub height-Binary : (op : BinOp) (a b : Expr) → expr_height (Binary op a b) ≡ 1 +
+    max (expr_height a) (expr_height b)
+height-Binary op a b =
+    fold_out-Expr ℕ expr_height_level (Binary op a b) ∙ rw (outs-Binary op a b) refl
 
 -- a choice is one higher than the highest of its three parts
-pub height-Choose : (c a b : Expr) → expr_height (Choose c a b) ≡ 1 + max (max (expr_height c) (expr_height a)) (expr_height b)
+pub height-Choose : (c a b : Expr) → expr_height (Choose c a b) ≡ 1 +
+    max (max (expr_height c) (expr_height a)) (expr_height b)
 height-Choose c a b = fold_out-Expr ℕ expr_height_level (Choose c a b) ∙ rw (outs-Choose c a b) refl
 
 -- a call is one higher than its highest argument
-pub height-Apply : (name : ℕ) (arguments : List Expr) → expr_height (Apply name arguments) ≡ 1 + greatest (map expr_height arguments)
-height-Apply name arguments = fold_out-Expr ℕ expr_height_level (Apply name arguments) ∙ rw (outs-Apply name arguments) refl
+pub height-Apply : (name : ℕ) (arguments : List Expr) → expr_height (Apply name arguments) ≡ 1 +
+    greatest (map expr_height arguments)
+height-Apply name arguments =
+    fold_out-Expr ℕ expr_height_level (Apply name arguments) ∙ rw (outs-Apply name arguments) refl
 
 -- a return is one higher than its value
 pub height-Return : (value : Expr) → stmt_height (Return value) ≡ 1 + expr_height value
@@ -44,27 +49,40 @@ height-Return value = fold_out-Stmt ℕ stmt_height_level (Return value) ∙ rw 
 
 -- a literal is its value
 pub straight-Lit : (variable : ℕ → Option ℤ) (n : ℤ) → straight_value variable (Lit n) ≡ Some n
-straight-Lit variable n = fold_out-Expr (Option ℤ) (straight_level variable) (Lit n) ∙ rw (outs-Lit n) refl
+straight-Lit variable n =
+    fold_out-Expr (Option ℤ) (straight_level variable) (Lit n) ∙ rw (outs-Lit n) refl
 
 -- a variable has the value that it is given
 pub straight-Var : (variable : ℕ → Option ℤ) (v : ℕ) → straight_value variable (Var v) ≡ variable v
-straight-Var variable v = fold_out-Expr (Option ℤ) (straight_level variable) (Var v) ∙ rw (outs-Var v) refl
+straight-Var variable v =
+    fold_out-Expr (Option ℤ) (straight_level variable) (Var v) ∙ rw (outs-Var v) refl
 
 -- an operator between two operands takes their values, left before right
-pub straight-Binary : (variable : ℕ → Option ℤ) (op : BinOp) (a b : Expr) → straight_value variable (Binary op a b) ≡ binary_value op (straight_value variable a) (straight_value variable b)
-straight-Binary variable op a b = fold_out-Expr (Option ℤ) (straight_level variable) (Binary op a b) ∙ rw (outs-Binary op a b) refl
+pub straight-Binary : (variable : ℕ → Option ℤ) (op : BinOp) (a b : Expr) →
+    straight_value variable (Binary op a b) ≡
+    binary_value op (straight_value variable a) (straight_value variable b)
+straight-Binary variable op a b =
+    fold_out-Expr (Option ℤ) (straight_level variable) (Binary op a b) ∙
+    rw (outs-Binary op a b) refl
 
 -- an operator before an operand takes its value
-pub straight-Unary : (variable : ℕ → Option ℤ) (op : UnOp) (a : Expr) → straight_value variable (Unary op a) ≡ unary_value op (straight_value variable a)
-straight-Unary variable op a = fold_out-Expr (Option ℤ) (straight_level variable) (Unary op a) ∙ rw (outs-Unary op a) refl
+pub straight-Unary : (variable : ℕ → Option ℤ) (op : UnOp) (a : Expr) →
+    straight_value variable (Unary op a) ≡ unary_value op (straight_value variable a)
+straight-Unary variable op a =
+    fold_out-Expr (Option ℤ) (straight_level variable) (Unary op a) ∙ rw (outs-Unary op a) refl
 
 -- a choice has no straight value
-pub straight-Choose : (variable : ℕ → Option ℤ) (c a b : Expr) → straight_value variable (Choose c a b) ≡ None
-straight-Choose variable c a b = fold_out-Expr (Option ℤ) (straight_level variable) (Choose c a b) ∙ rw (outs-Choose c a b) refl
+pub straight-Choose : (variable : ℕ → Option ℤ) (c a b : Expr) →
+    straight_value variable (Choose c a b) ≡ None
+straight-Choose variable c a b =
+    fold_out-Expr (Option ℤ) (straight_level variable) (Choose c a b) ∙ rw (outs-Choose c a b) refl
 
 -- a call has no straight value
-pub straight-Apply : (variable : ℕ → Option ℤ) (name : ℕ) (arguments : List Expr) → straight_value variable (Apply name arguments) ≡ None
-straight-Apply variable name arguments = fold_out-Expr (Option ℤ) (straight_level variable) (Apply name arguments) ∙ rw (outs-Apply name arguments) refl
+pub straight-Apply : (variable : ℕ → Option ℤ) (name : ℕ) (arguments : List Expr) →
+    straight_value variable (Apply name arguments) ≡ None
+straight-Apply variable name arguments =
+    fold_out-Expr (Option ℤ) (straight_level variable) (Apply name arguments) ∙
+    rw (outs-Apply name arguments) refl
 
 -- one level of an expression is at least 1 high
 level_positive : (y : Expr-F ℕ) → 1 ≤ expr_height_level y
@@ -78,7 +96,8 @@ level_positive (Expr-F.Apply name arguments) = omega arith
 -- every expression is at least 1 high
 pub height-positive : (e : Expr) → 1 ≤ expr_height e
 height-positive e =
-    let opened : expr_height e ≡ expr_height_level (map-Expr Expr ℕ expr_height (out-Expr e)) = fold_out-Expr ℕ expr_height_level e in
+    let opened : expr_height e ≡ expr_height_level (map-Expr Expr ℕ expr_height (out-Expr e)) =
+    fold_out-Expr ℕ expr_height_level e in
     rw opened (level_positive (map-Expr Expr ℕ expr_height (out-Expr e)))
 
 -- a literal has no variables
@@ -91,20 +110,29 @@ variables-Var v = fold_out-Expr (List ℕ) variables_level (Var v) ∙ rw (outs-
 
 -- an operator before an operand has the operand's
 pub variables-Unary : (op : UnOp) (a : Expr) → variables (Unary op a) ≡ variables a
-variables-Unary op a = fold_out-Expr (List ℕ) variables_level (Unary op a) ∙ rw (outs-Unary op a) refl
+variables-Unary op a =
+    fold_out-Expr (List ℕ) variables_level (Unary op a) ∙ rw (outs-Unary op a) refl
 
 -- an operator between two operands has those of the left and then those of the right
-pub variables-Binary : (op : BinOp) (a b : Expr) → variables (Binary op a b) ≡ variables a ++ variables b
-variables-Binary op a b = fold_out-Expr (List ℕ) variables_level (Binary op a b) ∙ rw (outs-Binary op a b) refl
+pub variables-Binary : (op : BinOp) (a b : Expr) → variables (Binary op a b) ≡ variables a ++
+    variables b
+variables-Binary op a b =
+    fold_out-Expr (List ℕ) variables_level (Binary op a b) ∙ rw (outs-Binary op a b) refl
 
 -- a choice has those of its three parts in order
-pub variables-Choose : (c a b : Expr) → variables (Choose c a b) ≡ variables c ++ variables a ++ variables b
-variables-Choose c a b = fold_out-Expr (List ℕ) variables_level (Choose c a b) ∙ rw (outs-Choose c a b) refl
+pub variables-Choose : (c a b : Expr) → variables (Choose c a b) ≡ variables c ++ variables a ++
+    variables b
+variables-Choose c a b =
+    fold_out-Expr (List ℕ) variables_level (Choose c a b) ∙ rw (outs-Choose c a b) refl
 
 -- a call has those of its arguments in order
-pub variables-Apply : (name : ℕ) (arguments : List Expr) → variables (Apply name arguments) ≡ concat (map variables arguments)
-variables-Apply name arguments = fold_out-Expr (List ℕ) variables_level (Apply name arguments) ∙ rw (outs-Apply name arguments) refl
+pub variables-Apply : (name : ℕ) (arguments : List Expr) → variables (Apply name arguments) ≡
+    concat (map variables arguments)
+variables-Apply name arguments =
+    fold_out-Expr (List ℕ) variables_level (Apply name arguments) ∙
+    rw (outs-Apply name arguments) refl
 
 -- a return has the variables of its value
 pub variables-Return : (value : Expr) → stmt_variables (Return value) ≡ variables value
-variables-Return value = fold_out-Stmt (List ℕ) stmt_variables_level (Return value) ∙ rw (outs-Return value) refl
+variables-Return value =
+    fold_out-Stmt (List ℕ) stmt_variables_level (Return value) ∙ rw (outs-Return value) refl

@@ -26,13 +26,16 @@ module _ (count : ℕ) where
   variable_says true = refl
   variable_says false = refl
 
-  unary_says : (sign whole straight all : Bool) → whole ≡ (straight && all) → (sign && whole) ≡ ((sign && straight) && all)
+  unary_says : (sign whole straight all : Bool) → whole ≡ (straight && all) → (sign && whole) ≡
+      ((sign && straight) && all)
   unary_says true whole straight all is = is
   unary_says false whole straight all is = refl
 
-  binary_says : (sum a b left right us vs : Bool) → a ≡ (left && us) → b ≡ (right && vs) → (sum && (a && b)) ≡ ((sum && (left && right)) && (us && vs))
+  binary_says : (sum a b left right us vs : Bool) → a ≡ (left && us) → b ≡ (right && vs) →
+      (sum && (a && b)) ≡ ((sum && (left && right)) && (us && vs))
   binary_says false a b left right us vs is_a is_b = refl
-  binary_says true a b left right us vs is_a is_b = (λ i. is_a i && is_b i) ∙ regrouped left us right vs
+  binary_says true a b left right us vs is_a is_b =
+      (λ i. is_a i && is_b i) ∙ regrouped left us right vs
     where
       regrouped : (l u r v : Bool) → ((l && u) && (r && v)) ≡ ((l && r) && (u && v))
       regrouped false u r v = refl
@@ -46,25 +49,36 @@ module _ (count : ℕ) where
   abbrev Part : Type 0
   Part = (e : Expr) × SaysBoth (whole e) (forms e) (variables e)
 
-  level : (y : Expr-F Part) → SaysBoth (over_parameters.is_straight_level count (map-Expr Expr Bool whole (map-Expr Part Expr (λ p. p.0) y)))
+  level : (y : Expr-F Part) → SaysBoth (over_parameters.is_straight_level count
+      (map-Expr Expr Bool whole (map-Expr Part Expr (λ p. p.0) y)))
       (forms_level (map-Expr Expr Forms forms (map-Expr Part Expr (λ p. p.0) y)))
       (variables_level (map-Expr Expr (List ℕ) variables (map-Expr Part Expr (λ p. p.0) y)))
   level (Expr-F.Lit k) = refl
   level (Expr-F.Var v) = variable_says (nat_lt v count)
-  level (Expr-F.Unary op p) = unary_says (is_sign op) (whole p.0) (is_straight p.0) (all_parameters (variables p.0)) p.1
+  level (Expr-F.Unary op p) =
+      unary_says (is_sign op) (whole p.0) (is_straight p.0) (all_parameters (variables p.0)) p.1
   level (Expr-F.Binary op p q) =
-      binary_says (is_sum_or_product op) (whole p.0) (whole q.0) (is_straight p.0) (is_straight q.0) (all_parameters (variables p.0)) (all_parameters (variables q.0)) p.1 q.1
-      ∙ ap (λ all. (is_sum_or_product op && (is_straight p.0 && is_straight q.0)) && all) (sym (list_all-append (λ v. nat_lt v count) (variables p.0) (variables q.0)))
+      binary_says (is_sum_or_product op) (whole p.0) (whole q.0) (is_straight p.0) (is_straight q.0)
+      (all_parameters (variables p.0)) (all_parameters (variables q.0)) p.1 q.1
+      ∙ ap (λ all. (is_sum_or_product op && (is_straight p.0 && is_straight q.0)) && all)
+      (sym (list_all-append (λ v. nat_lt v count) (variables p.0) (variables q.0)))
   level (Expr-F.Choose c p q) = refl
   level (Expr-F.Apply f ps) = refl
 
-  step : (x : Expr-F Expr) (y : Expr-F Part) → map-Expr Part Expr (λ p. p.0) y ≡ x → SaysBoth (whole (roll-Expr x)) (forms (roll-Expr x)) (variables (roll-Expr x))
+  step : (x : Expr-F Expr) (y : Expr-F Part) → map-Expr Part Expr (λ p. p.0) y ≡ x →
+      SaysBoth (whole (roll-Expr x)) (forms (roll-Expr x)) (variables (roll-Expr x))
   step x y is =
-      let P : Expr-F Expr → Type 0 = λ z. SaysBoth (over_parameters.is_straight_level count (map-Expr Expr Bool whole z)) (forms_level (map-Expr Expr Forms forms z)) (variables_level (map-Expr Expr (List ℕ) variables z)) in
+      let P : Expr-F Expr → Type 0 = λ z. SaysBoth
+      (over_parameters.is_straight_level count (map-Expr Expr Bool whole z))
+      (forms_level (map-Expr Expr Forms forms z))
+      (variables_level (map-Expr Expr (List ℕ) variables z)) in
       let opened : P x = subst P is (level y) in
       fold-roll-Expr Bool (over_parameters.is_straight_level count) x ∙ opened
-      ∙ (λ i. (sym (fold-roll-Expr Forms forms_level x) i).straight && all_parameters (sym (fold-roll-Expr (List ℕ) variables_level x) i))
+      ∙ (λ i. (sym (fold-roll-Expr Forms forms_level x) i).straight &&
+      all_parameters (sym (fold-roll-Expr (List ℕ) variables_level x) i))
 
-  -- an expression is straight over parameters where it is straight, and its variables are parameters
-  pub straight_over_parameters : (e : Expr) → over_parameters.is_straight count e ≡ (is_straight e && list_all (λ v. nat_lt v count) (variables e))
+  -- an expression is straight over parameters where it is straight, and its variables are
+  -- parameters
+  pub straight_over_parameters : (e : Expr) → over_parameters.is_straight count e ≡
+      (is_straight e && list_all (λ v. nat_lt v count) (variables e))
   straight_over_parameters = ind-Expr (λ e. SaysBoth (whole e) (forms e) (variables e)) step

@@ -1,4 +1,5 @@
--- Straight functions: the body is one `return` of an expression made of literals, parameters, signs, `+`, `-` and `*`.
+-- Straight functions: the body is one `return` of an expression made of literals, parameters,
+-- signs, `+`, `-` and `*`.
 use Rattle.std.specs.Prelude.{ℕ, Bool, true, false, ◌&&◌, nat_lt, if◌then◌else◌, Option, Some, None, List, [], ◌∷◌, length}
 use Rattle.c_ast.specs.declared.expr.UnOp.{UnOp}
 use Rattle.c_ast.specs.declared.expr.UnOp.TheVariants.{Plus, Minus, Not}
@@ -25,7 +26,8 @@ is_sign Plus = true
 is_sign Minus = true
 is_sign Not = false
 
--- whether an expression is straight, from whether its parts are, where the parameters have the slots below `count`
+-- whether an expression is straight, from whether its parts are, where the parameters have the
+-- slots below `count`
 abbrev pub is_straight_level : ℕ → Expr-F Bool → Bool
 is_straight_level count (Expr-F.Lit n) = true
 is_straight_level count (Expr-F.Var slot) = nat_lt slot count

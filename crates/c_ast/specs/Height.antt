@@ -1,4 +1,5 @@
--- The height of an expression and of a statement: 1, and 1 more for each level of parts. A list adds no height of its own.
+-- The height of an expression and of a statement: 1, and 1 more for each level of parts. A list
+-- adds no height of its own.
 use Rattle.std.specs.Prelude.{ℕ, ◌+◌, max, Option, Some, None, List, [], ◌∷◌}
 use Rattle.c_ast.specs.declared.expr.Expr.{Expr}
 use Rattle.c_ast.specs.declared.expr.Expr.TheOpen.{Expr-F}
@@ -35,11 +36,13 @@ abbrev pub stmt_height_level : Stmt-F ℕ → ℕ
 stmt_height_level Stmt-F.Empty = 1
 stmt_height_level (Stmt-F.Declare name value) = 1 + of_option expr_height value
 stmt_height_level (Stmt-F.Assign name value) = 1 + expr_height value
-stmt_height_level (Stmt-F.If test then other) = 1 + max (max (expr_height test) then) (of_option (λ h. h) other)
+stmt_height_level (Stmt-F.If test then other) =
+    1 + max (max (expr_height test) then) (of_option (λ h. h) other)
 stmt_height_level (Stmt-F.While test body) = 1 + max (expr_height test) body
 stmt_height_level (Stmt-F.DoWhile body test) = 1 + max body (expr_height test)
 stmt_height_level (Stmt-F.For first test change body) =
-    1 + max (max (max (greatest first) (of_option expr_height test)) body) (of_option (λ h. h) change)
+    1 + max (max (max (greatest first) (of_option expr_height test)) body)
+    (of_option (λ h. h) change)
 stmt_height_level (Stmt-F.Break token) = 1
 stmt_height_level (Stmt-F.Continue token) = 1
 stmt_height_level (Stmt-F.Return value) = 1 + expr_height value

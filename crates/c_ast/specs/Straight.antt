@@ -1,4 +1,5 @@
--- The value of a straight expression, of literals, variables, signs, `+`, `-` and `*`, over the integers, which never overflow.
+-- The value of a straight expression, of literals, variables, signs, `+`, `-` and `*`, over the
+-- integers, which never overflow.
 use Rattle.std.specs.Prelude.{ℕ, ℤ, ◌+ℤ◌, ◌-ℤ◌, ◌*ℤ◌, neg_ℤ, Option, Some, None, option_map}
 use Rattle.c_ast.specs.declared.expr.UnOp.{UnOp}
 use Rattle.c_ast.specs.declared.expr.UnOp.TheVariants.{Plus, Minus, Not}

@@ -17,7 +17,8 @@ variables_level (Expr-F.Binary op a b) = a ++ b
 variables_level (Expr-F.Choose c a b) = c ++ a ++ b
 variables_level (Expr-F.Apply name arguments) = concat arguments
 
--- the variables of an expression from left to right, each as often as it stands there; the name of a called function is none
+-- the variables of an expression from left to right, each as often as it stands there; the name of
+-- a called function is none
 abbrev pub variables : Expr → List ℕ
 variables = fold-Expr (List ℕ) variables_level
 
@@ -31,7 +32,8 @@ abbrev pub stmt_variables_level : Stmt-F (List ℕ) → List ℕ
 stmt_variables_level Stmt-F.Empty = []
 stmt_variables_level (Stmt-F.Declare name value) = name ∷ list_of_option variables value
 stmt_variables_level (Stmt-F.Assign name value) = name ∷ variables value
-stmt_variables_level (Stmt-F.If test then other) = variables test ++ then ++ list_of_option (λ vs. vs) other
+stmt_variables_level (Stmt-F.If test then other) =
+    variables test ++ then ++ list_of_option (λ vs. vs) other
 stmt_variables_level (Stmt-F.While test body) = variables test ++ body
 stmt_variables_level (Stmt-F.DoWhile body test) = body ++ variables test
 stmt_variables_level (Stmt-F.For first test change body) =
@@ -41,6 +43,7 @@ stmt_variables_level (Stmt-F.Continue token) = []
 stmt_variables_level (Stmt-F.Return value) = variables value
 stmt_variables_level (Stmt-F.Block inner) = concat inner
 
--- the variables that a statement declares, assigns or reads, in the order of its parts, each as often as it stands there
+-- the variables that a statement declares, assigns or reads, in the order of its parts, each as
+-- often as it stands there
 abbrev pub stmt_variables : Stmt → List ℕ
 stmt_variables = fold-Stmt (List ℕ) stmt_variables_level

@@ -61,12 +61,13 @@ pub enum Expr {
     Binary(BinOp, Boxed<Expr>, Boxed<Expr>),
     /// `c ? a : b`: the condition, the value where it holds, and the value where it doesn't.
     Choose(Boxed<Expr>, Boxed<Expr>, Boxed<Expr>),
-    /// A call: the number of the name's token, or in a resolved program the function's place in the list; then the arguments.
+    /// A call: the number of the name's token, or in a resolved program the function's place in the
+    /// list; then the arguments.
     Apply(u32, Items<Expr>),
 }
 
-/// The height of `e`: 1 for a literal, a variable and a call without arguments, and else 1 more than the
-/// greatest height of its parts. Takes no memory.
+/// The height of `e`: 1 for a literal, a variable and a call without arguments, and else 1 more
+/// than the greatest height of its parts. Takes no memory.
 pub fn expr_height(e: &Expr) -> u32
     requires { expr_height e.now < 2 ^ 32 }
     ensures { result ≡ expr_height e.now }
@@ -92,8 +93,8 @@ pub fn expr_height(e: &Expr) -> u32
 }
 
 impl Expr {
-    /// Adds the functions that the expression calls to the end of `called`, from left to right, each as often as it
-    /// is called there; fails only for want of memory.
+    /// Adds the functions that the expression calls to the end of `called`, from left to right,
+    /// each as often as it is called there; fails only for want of memory.
     pub fn push_calls(&self, called: &mut Items<u32>) -> Result<(), NoMemory>
         ensures { OnOk result (called.new ≡ called.old ++ calls self.now) }
     {

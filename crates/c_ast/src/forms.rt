@@ -1,5 +1,6 @@
-//! Straight functions: the body is one `return` of an expression made of literals, parameters, signs, `+`, `-` and `*`.
-//! Preconditions: comparisons of two such expressions over any names, joined by `&&`.
+//! Straight functions: the body is one `return` of an expression made of literals, parameters,
+//! signs, `+`, `-` and `*`. Preconditions: comparisons of two such expressions over any names,
+//! joined by `&&`.
 ghost use Rattle.std.specs.Prelude.{◌≡◌, option_copied};
 ghost use Rattle.c_ast.specs.Forms as spec;
 ghost use Rattle.c_ast.specs.Forms.{straight_of};
@@ -9,7 +10,8 @@ use crate::expr::{BinOp, Expr, UnOp};
 use crate::program::Function;
 use crate::stmt::Stmt;
 
-// Whether an expression is made of literals, parameters, signs, `+`, `-` and `*`, where the parameters have the slots below `count`.
+// Whether an expression is made of literals, parameters, signs, `+`, `-` and `*`, where the
+// parameters have the slots below `count`.
 fn is_straight(e: &Expr, count: usize) -> bool
     ensures { result ≡ spec.is_straight count e.now }
 {
@@ -38,7 +40,8 @@ fn returned(body: &[Stmt]) -> Option<&Expr>
     }
 }
 
-/// The expression that a function of a resolved program returns; `None` exactly where the body is anything but one
+/// The expression that a function of a resolved program returns; `None` exactly where the body is
+/// anything but one
 /// `return` of an expression made of literals, parameters, the signs `+` and `-`, and `+`, `-` and `*` between operands.
 /// Takes no memory.
 pub fn straight(function: &Function) -> Option<&Expr>
@@ -74,9 +77,9 @@ fn is_straight_operand(e: &Expr) -> bool
     }
 }
 
-/// Whether an expression may be a precondition: a comparison by `<`, `<=`, `>`, `>=`, `==` or `!=` of two expressions
-/// made of literals, names, the signs `+` and `-`, and `+`, `-` and `*` between operands, or several such comparisons
-/// joined by `&&`. Takes no memory.
+/// Whether an expression may be a precondition: a comparison by `<`, `<=`, `>`, `>=`, `==` or `!=`
+/// of two expressions made of literals, names, the signs `+` and `-`, and `+`, `-` and `*` between
+/// operands, or several such comparisons joined by `&&`. Takes no memory.
 pub fn is_row_form(e: &Expr) -> bool
     ensures { result ≡ rows.is_row_form e.now }
 {

@@ -1,11 +1,10 @@
 //! Trees of the C subset: expressions, statements, functions and programs, with their heights and
-//! exact copies, the functions that they call, which functions are straight, which expressions may be
-//! preconditions, and when a resolved program's slots and calls are in
-//! order.
+//! exact copies, the functions that they call, which functions are straight, which expressions may
+//! be preconditions, and when a resolved program's slots and calls are in order.
 //!
-//! Contracts see each tree as plain data, so that `≡` compares trees. What a `u32` names is the reader's
-//! affair: in a program as it was read it is the number of a token, and in a resolved one a variable is a
-//! slot and a called function its place in the list.
+//! Contracts see each tree as plain data, so that `≡` compares trees. What a `u32` names is the
+//! reader's affair: in a program as it was read it is the number of a token, and in a resolved one
+//! a variable is a slot and a called function its place in the list.
 #![tactic(auto)]
 
 mod expr;

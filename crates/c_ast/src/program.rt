@@ -44,8 +44,9 @@ pub struct Resolved {
 }
 
 impl Function {
-    /// Adds the functions that the body calls to the end of `called`, in the order of its statements, each as often
-    /// as it is called there, also where nothing leads; fails only for want of memory.
+    /// Adds the functions that the body calls to the end of `called`, in the order of its
+    /// statements, each as often as it is called there, also where nothing leads; fails only for
+    /// want of memory.
     #[tactic(auto, using(crate::proofs::CallEquations::calls_of_list))]
     pub fn push_calls(&self, called: &mut Items<u32>) -> Result<(), NoMemory>
         ensures { OnOk result (called.new ≡ called.old ++ flat_map calls_in self.now.body) }

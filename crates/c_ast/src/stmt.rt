@@ -36,8 +36,8 @@ pub enum Stmt {
     Block(Items<Stmt>),
 }
 
-/// The height of `s`: 1 for a statement without parts, and else 1 more than the greatest height of its parts.
-/// Takes no memory.
+/// The height of `s`: 1 for a statement without parts, and else 1 more than the greatest height of
+/// its parts. Takes no memory.
 #[cycle(stmt_heights)]
 pub fn stmt_height(s: &Stmt) -> u32
     requires { stmt_height s.now < 2 ^ 32 }
@@ -97,8 +97,9 @@ fn option_height(e: &Option<Expr>) -> u32
 }
 
 impl Stmt {
-    /// Adds the functions that the statement calls to the end of `called`, in the order of its parts, each as often
-    /// as it is called there, also where nothing leads; fails only for want of memory.
+    /// Adds the functions that the statement calls to the end of `called`, in the order of its
+    /// parts, each as often as it is called there, also where nothing leads; fails only for want of
+    /// memory.
     #[cycle(stmt_calls)]
     pub fn push_calls(&self, called: &mut Items<u32>) -> Result<(), NoMemory>
         ensures { OnOk result (called.new ≡ called.old ++ calls_in self.now) }

@@ -19,29 +19,52 @@ pub record Ended (m : TheMark) (ts : List Token) (i j : ℕ) (e : Expr) : Type 0
   pub marked : kind_at ts middle ≡ Some (Mark m)
   pub behind : j ≡ middle + 1
 
-pub ended_of : (m : TheMark) (ts : List Token) (i j : ℕ) (e : Expr) → UpTo m ts i j e → Ended m ts i j e
-ended_of m ts i j e (ended _ _ _ k _ w h) = record { middle = k; reads = w; marked = h; behind = refl }
+pub ended_of : (m : TheMark) (ts : List Token) (i j : ℕ) (e : Expr) → UpTo m ts i j e →
+    Ended m ts i j e
+ended_of m ts i j e (ended _ _ _ k _ w h) =
+    record { middle = k; reads = w; marked = h; behind = refl }
 
-module _ (m : TheMark) (ts : List Token) (at room : ℕ) (no_operator : binary_of (Some (Mark m)) ≡ None) (no_choice : m ≢ Question) (no_call : m ≢ LeftParen) where
+module _ (m : TheMark) (ts : List Token) (at room : ℕ)
+    (no_operator : binary_of (Some (Mark m)) ≡ None) (no_choice : m ≢ Question)
+    (no_call : m ≢ LeftParen) where
   module _ (x : Read) (r : Reads (Expression ts) ts (suc levels) at room (Some x)) where
-    up_to_is : (j : ℕ) (e : Expr) → Ended m ts at j e → expr_height e ≤ room → (j ≡ x.end + 1) × ((x.tree ≡ e) × (kind_at ts x.end ≡ Some (Mark m)))
+    up_to_is : (j : ℕ) (e : Expr) → Ended m ts at j e → expr_height e ≤ room → (j ≡ x.end + 1) ×
+        ((x.tree ≡ e) × (kind_at ts x.end ≡ Some (Mark m)))
     up_to_is j e p fits =
         let is : (x.end ≡ p.middle) × (x.tree ≡ e) =
-        r.only p.middle e p.reads (token_stops ts (suc levels) p.middle (Mark m) p.marked no_operator (λ q. no_choice cc) (λ q. no_call cc)) fits in
+        r.only p.middle e p.reads (token_stops ts (suc levels) p.middle (Mark m) p.marked
+        no_operator (λ q. no_choice cc) (λ q. no_call cc)) fits in
         (p.behind ∙ ap (λ k. k + 1) (sym is.0), (is.1, rw is.0 p.marked))
 
     -- the mark is after the expression
-    pub up_to_ends : (y : Span Expr) → kind_at ts x.end ≡ Some (Mark m) → y.value ≡ x.tree → y.end ≡ x.end + 1 → Gives (Low expr_height room (UpTo m ts at)) at (length ts) (Some y)
+    pub up_to_ends : (y : Span Expr) → kind_at ts x.end ≡ Some (Mark m) → y.value ≡ x.tree → y.end ≡
+        x.end + 1 → Gives (Low expr_height room (UpTo m ts at)) at (length ts) (Some y)
     up_to_ends y h yv ye =
         let within : x.end < length ts = kind_within ts x.end (Mark m) h in
         let further : at < x.end = r.found.further in
         let high : x.height ≡ expr_height x.tree = r.found.high in
         let fits : x.height ≤ room = r.found.fits in
         record {
-          found = record { spelled = rw (ye, yv) (ended m ts at x.end x.tree r.found.spelled h, omega arith); further = omega arith; within = omega arith };
-          only = λ j e low. let is = up_to_is j e (ended_of m ts at j e low.0) low.1 in (ye ∙ sym is.0, yv ∙ is.1.0);
+          found =
+              record {
+                spelled = rw (ye, yv) (
+                  ended m ts at x.end x.tree r.found.spelled h,
+                  omega arith,
+                );
+                further = omega arith;
+                within = omega arith;
+              };
+          only =
+              λ j e low. let is = up_to_is j e (ended_of m ts at j e low.0) low.1 in
+              (ye ∙ sym is.0, yv ∙ is.1.0);
         }
 
     -- another token is there
-    pub up_to_misses : (kind_at ts x.end ≡ Some (Mark m) → ⊥) → Gives (Low expr_height room (UpTo m ts at)) at (length ts) None
-    up_to_misses h = record { found = tt; only = λ j e low. let is = up_to_is j e (ended_of m ts at j e low.0) low.1 in h is.1.1 }
+    pub up_to_misses : (kind_at ts x.end ≡ Some (Mark m) → ⊥) →
+        Gives (Low expr_height room (UpTo m ts at)) at (length ts) None
+    up_to_misses h =
+        record {
+          found = tt;
+          only = λ j e low. let is =
+              up_to_is j e (ended_of m ts at j e low.0) low.1 in h is.1.1;
+        }

@@ -18,4 +18,6 @@ open_behind count _ = count
 -- count and the number that the list begins with
 abbrev pub too_deep : ℕ → ℕ → List Token → Option ℕ
 too_deep count at [] = None
-too_deep count at (t ∷ ts) = if nat_lt 200 (open_behind count t.kind) then Some at else too_deep (open_behind count t.kind) (at + 1) ts
+too_deep count at (t ∷ ts) =
+    if nat_lt 200 (open_behind count t.kind) then Some at else
+    too_deep (open_behind count t.kind) (at + 1) ts

@@ -63,50 +63,67 @@ unary_of _ = None
 mutual
   -- an expression
   pub data Expression : List Token → ℕ → ℕ → Expr → Type 0 where
-    plain : (ts : List Token) → (i j : ℕ) → (e : Expr) → BinaryAt ts levels i j e → Expression ts i j e
+    plain : (ts : List Token) → (i j : ℕ) → (e : Expr) → BinaryAt ts levels i j e →
+        Expression ts i j e
     choice : (ts : List Token) → (i j k l : ℕ) → (c a b : Expr)
-        → BinaryAt ts levels i j c → kind_at ts j ≡ Some (Mark mark.Question) → Expression ts (j + 1) k a → kind_at ts k ≡ Some (Mark mark.Colon) → Expression ts (k + 1) l b
+        → BinaryAt ts levels i j c → kind_at ts j ≡ Some (Mark mark.Question) →
+        Expression ts (j + 1) k a → kind_at ts k ≡ Some (Mark mark.Colon) →
+        Expression ts (k + 1) l b
         → Expression ts i l (Choose c a b)
 
   -- an expression by the operators of the lowest levels alone, as many as the number says
   pub data BinaryAt : List Token → ℕ → ℕ → ℕ → Expr → Type 0 where
-    signed : (ts : List Token) → (i j : ℕ) → (e : Expr) → UnaryExpression ts i j e → BinaryAt ts zero i j e
-    chain : (ts : List Token) → (n i j k : ℕ) → (a e : Expr) → BinaryAt ts n i j a → Operands ts n a j k e → BinaryAt ts (suc n) i k e
+    signed : (ts : List Token) → (i j : ℕ) → (e : Expr) → UnaryExpression ts i j e →
+        BinaryAt ts zero i j e
+    chain : (ts : List Token) → (n i j k : ℕ) → (a e : Expr) → BinaryAt ts n i j a →
+        Operands ts n a j k e → BinaryAt ts (suc n) i k e
 
   -- the operators of one level and their right operands, after an operand that has been spelled
   pub data Operands : List Token → ℕ → Expr → ℕ → ℕ → Expr → Type 0 where
     done : (ts : List Token) → (n : ℕ) → (a : Expr) → (i : ℕ) → Operands ts n a i i a
     more : (ts : List Token) → (n : ℕ) → (a : Expr) → (i j k : ℕ) → (op : BinOp) → (b e : Expr)
-        → binary_of (kind_at ts i) ≡ Some (infixed n op) → BinaryAt ts n (i + 1) j b → Operands ts n (Binary op a b) j k e → Operands ts n a i k e
+        → binary_of (kind_at ts i) ≡ Some (infixed n op) → BinaryAt ts n (i + 1) j b →
+        Operands ts n (Binary op a b) j k e → Operands ts n a i k e
 
   -- an operand, with the operators before it
   pub data UnaryExpression : List Token → ℕ → ℕ → Expr → Type 0 where
-    unsigned : (ts : List Token) → (i j : ℕ) → (e : Expr) → PrimaryExpression ts i j e → UnaryExpression ts i j e
-    prefixed : (ts : List Token) → (i j : ℕ) → (op : UnOp) → (e : Expr) → unary_of (kind_at ts i) ≡ Some op → UnaryExpression ts (i + 1) j e → UnaryExpression ts i j (Unary op e)
+    unsigned : (ts : List Token) → (i j : ℕ) → (e : Expr) → PrimaryExpression ts i j e →
+        UnaryExpression ts i j e
+    prefixed : (ts : List Token) → (i j : ℕ) → (op : UnOp) → (e : Expr) → unary_of (kind_at ts i) ≡
+        Some op → UnaryExpression ts (i + 1) j e → UnaryExpression ts i j (Unary op e)
 
   -- an operand without operators before it
   pub data PrimaryExpression : List Token → ℕ → ℕ → Expr → Type 0 where
-    number : (ts : List Token) → (i : ℕ) → (value : ℤ) → kind_at ts i ≡ Some (Number value) → PrimaryExpression ts i (i + 1) (Lit value)
-    name : (ts : List Token) → (i : ℕ) → kind_at ts i ≡ Some Name → PrimaryExpression ts i (i + 1) (Var i)
+    number : (ts : List Token) → (i : ℕ) → (value : ℤ) → kind_at ts i ≡ Some (Number value) →
+        PrimaryExpression ts i (i + 1) (Lit value)
+    name : (ts : List Token) → (i : ℕ) → kind_at ts i ≡ Some Name →
+        PrimaryExpression ts i (i + 1) (Var i)
     call : (ts : List Token) → (i j : ℕ) → (arguments : List Expr)
-        → kind_at ts i ≡ Some Name → kind_at ts (i + 1) ≡ Some (Mark mark.LeftParen) → Arguments ts (i + 2) j arguments → PrimaryExpression ts i j (Apply i arguments)
+        → kind_at ts i ≡ Some Name → kind_at ts (i + 1) ≡ Some (Mark mark.LeftParen) →
+        Arguments ts (i + 2) j arguments → PrimaryExpression ts i j (Apply i arguments)
     parens : (ts : List Token) → (i j : ℕ) → (e : Expr)
-        → kind_at ts i ≡ Some (Mark mark.LeftParen) → Expression ts (i + 1) j e → kind_at ts j ≡ Some (Mark mark.RightParen) → PrimaryExpression ts i (j + 1) e
+        → kind_at ts i ≡ Some (Mark mark.LeftParen) → Expression ts (i + 1) j e → kind_at ts j ≡
+        Some (Mark mark.RightParen) → PrimaryExpression ts i (j + 1) e
 
   -- the arguments of a call, from after its opening parenthesis up to and with the closing one
   pub data Arguments : List Token → ℕ → ℕ → List Expr → Type 0 where
-    no_arguments : (ts : List Token) → (i : ℕ) → kind_at ts i ≡ Some (Mark mark.RightParen) → Arguments ts i (i + 1) []
-    arguments : (ts : List Token) → (i j k : ℕ) → (e : Expr) → (es : List Expr) → Expression ts i j e → Following ts j k es → Arguments ts i k (e ∷ es)
+    no_arguments : (ts : List Token) → (i : ℕ) → kind_at ts i ≡ Some (Mark mark.RightParen) →
+        Arguments ts i (i + 1) []
+    arguments : (ts : List Token) → (i j k : ℕ) → (e : Expr) → (es : List Expr) →
+        Expression ts i j e → Following ts j k es → Arguments ts i k (e ∷ es)
 
   -- the arguments after the first, up to and with the closing parenthesis
   pub data Following : List Token → ℕ → ℕ → List Expr → Type 0 where
-    last_argument : (ts : List Token) → (i : ℕ) → kind_at ts i ≡ Some (Mark mark.RightParen) → Following ts i (i + 1) []
+    last_argument : (ts : List Token) → (i : ℕ) → kind_at ts i ≡ Some (Mark mark.RightParen) →
+        Following ts i (i + 1) []
     next_argument : (ts : List Token) → (i j k : ℕ) → (e : Expr) → (es : List Expr)
-        → kind_at ts i ≡ Some (Mark mark.Comma) → Expression ts (i + 1) j e → Following ts j k es → Following ts i k (e ∷ es)
+        → kind_at ts i ≡ Some (Mark mark.Comma) → Expression ts (i + 1) j e → Following ts j k es →
+        Following ts i k (e ∷ es)
 
 -- an expression, up to and with the mark after it
 pub data UpTo : TheMark → List Token → ℕ → ℕ → Expr → Type 0 where
-  ended : (m : TheMark) → (ts : List Token) → (i j : ℕ) → (e : Expr) → Expression ts i j e → kind_at ts j ≡ Some (Mark m) → UpTo m ts i (j + 1) e
+  ended : (m : TheMark) → (ts : List Token) → (i j : ℕ) → (e : Expr) → Expression ts i j e →
+      kind_at ts j ≡ Some (Mark m) → UpTo m ts i (j + 1) e
 
 -- an expression in parentheses
 abbrev pub Test : List Token → ℕ → ℕ → Expr → Type 0

@@ -20,7 +20,8 @@ pub record Stops (ts : List Token) (n i : ℕ) : Type 0 where
   pub call : kind_at ts i ≡ Some (Mark LeftParen) → ⊥
 
 -- what was read is spelled, with its height, and takes at least one token
-pub record IsFound (Spells : ℕ → ℕ → Expr → Type 0) (ts : List Token) (at room : ℕ) (x : Read) : Type 0 where
+pub record IsFound (Spells : ℕ → ℕ → Expr → Type 0) (ts : List Token) (at room : ℕ) (x : Read) :
+    Type 0 where
   pub spelled : Spells at x.end x.tree
   pub high : x.height ≡ expr_height x.tree
   pub fits : x.height ≤ room
@@ -39,15 +40,18 @@ IsRead (Some x) j e = (x.end ≡ j) × (x.tree ≡ e)
 
 -- a reader's answer: `found` and `only`, for trees no higher than `room` and places at which the
 -- lowest n levels stop
-pub record Reads (Spells : ℕ → ℕ → Expr → Type 0) (ts : List Token) (n at room : ℕ) (r : Option Read) : Type 0 where
+pub record Reads (Spells : ℕ → ℕ → Expr → Type 0) (ts : List Token) (n at room : ℕ)
+    (r : Option Read) : Type 0 where
   pub found : Found Spells ts at room r
-  pub only : (j : ℕ) → (e : Expr) → Spells at j e → Stops ts n j → expr_height e ≤ room → IsRead r j e
+  pub only : (j : ℕ) → (e : Expr) → Spells at j e → Stops ts n j → expr_height e ≤ room →
+      IsRead r j e
 
 -- a chain of operators of level n while it is read: the tree up to `end` goes on to whatever the
 -- whole can be
 pub record Turning (ts : List Token) (n at room : ℕ) (x : Read) : Type 0 where
   pub forward : (j : ℕ) → (e : Expr) → Operands ts n x.tree x.end j e → BinaryAt ts (suc n) at j e
-  pub only : (j : ℕ) → (e : Expr) → BinaryAt ts (suc n) at j e → Stops ts (suc n) j → expr_height e ≤ room → Operands ts n x.tree x.end j e
+  pub only : (j : ℕ) → (e : Expr) → BinaryAt ts (suc n) at j e → Stops ts (suc n) j →
+      expr_height e ≤ room → Operands ts n x.tree x.end j e
   pub high : x.height ≡ expr_height x.tree
   pub fits : x.height ≤ room
   pub further : at < x.end
@@ -75,17 +79,22 @@ IsReadList (Some x) j es = (x.end ≡ j) × (x.arguments ≡ es)
 -- a reader's answer for arguments no higher than `room`
 pub record ReadsList (ts : List Token) (at room : ℕ) (r : Option ReadArguments) : Type 0 where
   pub found : FoundList ts at room r
-  pub only : (j : ℕ) → (es : List Expr) → Arguments ts at j es → greatest (map expr_height es) ≤ room → IsReadList r j es
+  pub only : (j : ℕ) → (es : List Expr) → Arguments ts at j es → greatest (map expr_height es) ≤
+      room → IsReadList r j es
 
 -- arguments while they are read, after the first: those found go on to whatever the whole can be
-pub record Passing (ts : List Token) (at room : ℕ) (found : List Expr) (end height : ℕ) : Type 0 where
-  pub forward : (j : ℕ) → (es : List Expr) → Following ts end j es → Arguments ts at j (found ++ es)
-  pub only : (j : ℕ) → (all : List Expr) → Arguments ts at j all → greatest (map expr_height all) ≤ room
-      → (es : List Expr) × ((all ≡ found ++ es) × Following ts end j es)
-  pub high : height ≡ greatest (map expr_height found)
-  pub fits : height ≤ room
-  pub further : at < end
-  pub within : end ≤ length ts
+pub record Passing (ts : List Token) (at room : ℕ) (found : List Expr) (end height : ℕ) : Type 0
+  where
+    pub forward : (j : ℕ) → (es : List Expr) → Following ts end j es →
+        Arguments ts at j (found ++ es)
+    pub only : (j : ℕ) → (all : List Expr) → Arguments ts at j all →
+        greatest (map expr_height all) ≤
+        room
+        → (es : List Expr) × ((all ≡ found ++ es) × Following ts end j es)
+    pub high : height ≡ greatest (map expr_height found)
+    pub fits : height ≤ room
+    pub further : at < end
+    pub within : end ≤ length ts
 
 -- what was read is spelled and takes at least one token
 pub record IsGiven {A : Type 0} (Spells : ℕ → A → Type 0) (at bound : ℕ) (x : Span A) : Type 0 where
@@ -104,7 +113,8 @@ IsThat None j value = ⊥
 IsThat (Some x) j value = (x.end ≡ j) × (x.value ≡ value)
 
 -- a reader's answer where nothing but the phrase itself says where it ends
-pub record Gives {A : Type 0} (Spells : ℕ → A → Type 0) (at bound : ℕ) (r : Option (Span A)) : Type 0 where
+pub record Gives {A : Type 0} (Spells : ℕ → A → Type 0) (at bound : ℕ) (r : Option (Span A)) : Type
+    0 where
   pub found : Given Spells at bound r
   pub only : (j : ℕ) → (value : A) → Spells j value → IsThat r j value
 

@@ -25,7 +25,8 @@ pub fn up_to(
     requires no_operator { binary_of (Some (TokenKind.Mark mark)) ≡ None }
     requires no_choice { mark ≢ Mark.Question }
     requires no_call { mark ≢ Mark.LeftParen }
-    ensures { IfOk result (Gives (Low expr_height room (UpTo mark tokens.now at)) at (length tokens.now)) }
+    ensures { IfOk result (Gives (Low expr_height room (UpTo mark tokens.now at)) at
+        (length tokens.now)) }
 {
     if room == 0 {
         return Ok(None);

@@ -59,7 +59,8 @@ fn chosen(alloc: Global, test: Read, first: Read, other: Read) -> Result<Read, N
     requires other { other.height < 2 ^ 32 - 1 }
     ensures tree { IfOk result (λ x. x.tree ≡ Choose test.tree first.tree other.tree) }
     ensures end { IfOk result (λ x. x.end ≡ other.end) }
-    ensures height { IfOk result (λ x. x.height ≡ 1 + max (max test.height first.height) other.height) }
+    ensures height { IfOk result (λ x. x.height ≡ 1 +
+        max (max test.height first.height) other.height) }
 {
     let height = 1 + test.height.max(first.height).max(other.height);
     let condition = Boxed::new(alloc, test.tree)?;

@@ -19,7 +19,8 @@ pub fn kind_at(tokens: &[Token], at: usize) -> Option<TokenKind>
 
 // Whether the mark is at `at`.
 pub fn stands(tokens: &[Token], at: usize, mark: Mark) -> bool
-    ensures { MatchBool result (kind_at tokens.now at ≡ Some (TokenKind.Mark mark)) (kind_at tokens.now at ≡ Some (TokenKind.Mark mark) → ⊥) }
+    ensures { MatchBool result (kind_at tokens.now at ≡ Some (TokenKind.Mark mark))
+        (kind_at tokens.now at ≡ Some (TokenKind.Mark mark) → ⊥) }
 {
     match kind_at(tokens, at) {
         Some(TokenKind::Mark(found)) => found == mark,
@@ -29,7 +30,8 @@ pub fn stands(tokens: &[Token], at: usize, mark: Mark) -> bool
 
 // Whether the keyword is at `at`.
 pub fn says(tokens: &[Token], at: usize, word: Keyword) -> bool
-    ensures { MatchBool result (kind_at tokens.now at ≡ Some (TokenKind.Word word)) (kind_at tokens.now at ≡ Some (TokenKind.Word word) → ⊥) }
+    ensures { MatchBool result (kind_at tokens.now at ≡ Some (TokenKind.Word word))
+        (kind_at tokens.now at ≡ Some (TokenKind.Word word) → ⊥) }
 {
     match kind_at(tokens, at) {
         Some(TokenKind::Word(found)) => found == word,
@@ -39,7 +41,8 @@ pub fn says(tokens: &[Token], at: usize, word: Keyword) -> bool
 
 // Whether a name is at `at`.
 pub fn names(tokens: &[Token], at: usize) -> bool
-    ensures { MatchBool result (kind_at tokens.now at ≡ Some TokenKind.Name) (kind_at tokens.now at ≡ Some TokenKind.Name → ⊥) }
+    ensures { MatchBool result (kind_at tokens.now at ≡ Some TokenKind.Name)
+        (kind_at tokens.now at ≡ Some TokenKind.Name → ⊥) }
 {
     match kind_at(tokens, at) {
         Some(TokenKind::Name) => true,

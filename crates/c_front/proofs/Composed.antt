@@ -12,18 +12,29 @@ use Rattle.c_front.specs.declared.texts.PreText.{PreText}
 use Rattle.c_front.specs.Conditions.{pre_lex_stage, pre_name_stage, pre_parse_stage, read_pre}
 use Rattle.c_front.specs.Front.{count_stage, front, lex_stage, name_stage, parse_stage, scope_stage}
 
-module _ (source first second : List ℕ) (tokens : List Token) (text : ProgramText) (known : ResolvedText)
-    (lexed : lex_stage source (Goes tokens)) (parsed : parse_stage tokens (Goes text)) (scoped : scope_stage source text (Goes known)) where
-  pub names_decide : (refusal : Refusal) → name_stage source first second known (Ends refusal) → front source first second (Ends refusal)
-  names_decide refusal named = inr (tokens, lexed, inr (text, parsed, inr (known, scoped, inl named)))
+module _ (source first second : List ℕ) (tokens : List Token) (text : ProgramText)
+    (known : ResolvedText)
+    (lexed : lex_stage source (Goes tokens)) (parsed : parse_stage tokens (Goes text))
+    (scoped : scope_stage source text (Goes known)) where
+  pub names_decide : (refusal : Refusal) → name_stage source first second known (Ends refusal) →
+      front source first second (Ends refusal)
+  names_decide refusal named =
+      inr (tokens, lexed, inr (text, parsed, inr (known, scoped, inl named)))
 
-  pub counts_decide : (two : TwoFunctions) → name_stage source first second known (Goes two) → (x : Next Refusal TwoFunctions) → count_stage two x → front source first second x
-  counts_decide two named (Ends refusal) counted = inr (tokens, lexed, inr (text, parsed, inr (known, scoped, inr (two, named, counted))))
-  counts_decide two named (Goes t) counted = (tokens, lexed, (text, parsed, (known, scoped, (two, named, counted))))
+  pub counts_decide : (two : TwoFunctions) → name_stage source first second known (Goes two) →
+      (x : Next Refusal TwoFunctions) → count_stage two x → front source first second x
+  counts_decide two named (Ends refusal) counted =
+      inr (tokens, lexed, inr (text, parsed, inr (known, scoped, inr (two, named, counted))))
+  counts_decide two named (Goes t) counted =
+      (tokens, lexed, (text, parsed, (known, scoped, (two, named, counted))))
 
 -- what is said of the names of a precondition is said of it
-pub pre_names_decide : (source : List ℕ) (text : ProgramText) (first : ℕ) (bytes : List ℕ) (tokens : List Token) (read : PreText)
+pub pre_names_decide : (source : List ℕ) (text : ProgramText) (first : ℕ) (bytes : List ℕ)
+    (tokens : List Token) (read : PreText)
     → pre_lex_stage bytes (Goes tokens) → pre_parse_stage tokens (Goes read)
-    → (x : Next Refusal Expr) → pre_name_stage source text first bytes read x → read_pre source text first bytes x
-pre_names_decide source text first bytes tokens read lexed parsed (Ends refusal) named = inr (tokens, lexed, inr (read, parsed, named))
-pre_names_decide source text first bytes tokens read lexed parsed (Goes pre) named = (tokens, lexed, (read, parsed, named))
+    → (x : Next Refusal Expr) → pre_name_stage source text first bytes read x →
+    read_pre source text first bytes x
+pre_names_decide source text first bytes tokens read lexed parsed (Ends refusal) named =
+    inr (tokens, lexed, inr (read, parsed, named))
+pre_names_decide source text first bytes tokens read lexed parsed (Goes pre) named =
+    (tokens, lexed, (read, parsed, named))

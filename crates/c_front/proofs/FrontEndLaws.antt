@@ -17,23 +17,30 @@ use Rattle.std.proofs.lemmas.Option.{none-some}
 use Rattle.c_scope.proofs.ResolvedPrograms.{counted, counts_kept}
 
 -- the place found stands in the list
-within_from : {K : Type 0} (p : K → Bool) (i : ℕ) (xs : List K) (k : ℕ) → position_from p i xs ≡ Some k → k < i + length xs
+within_from : {K : Type 0} (p : K → Bool) (i : ℕ) (xs : List K) (k : ℕ) → position_from p i xs ≡
+    Some k → k < i + length xs
 within_from p i [] k is = absurd (none-some _ is)
-within_from p i (x ∷ xs) k is = elim (p x) as (λ b. cond b (Some i) (position_from p (i + 1) xs) ≡ Some k → k < i + length (x ∷ xs)) [
-  | true ↦ (λ e. let h : i ≡ k = cc in omega (arith, h))
-  | false ↦ (λ e. let h = within_from p (i + 1) xs k e in omega (arith, h))
-] is
+within_from p i (x ∷ xs) k is =
+    elim (p x) as (λ b. cond b (Some i) (position_from p (i + 1) xs) ≡ Some k → k < i +
+    length (x ∷ xs)) [
+      | true ↦ (λ e. let h : i ≡ k = cc in omega (arith, h))
+      | false ↦ (λ e. let h = within_from p (i + 1) xs k e in omega (arith, h))
+    ] is
 
 -- an element stands at each place in the list
-element_within : {A : Type 0} (xs : List A) (i : ℕ) → i < length xs → (x : A) × (slice_get xs i ≡ Some x)
+element_within : {A : Type 0} (xs : List A) (i : ℕ) → i < length xs → (x : A) ×
+    (slice_get xs i ≡ Some x)
 element_within [] i h = absurd (omega (arith, h))
 element_within (x ∷ xs) zero h = (x, refl)
 element_within (x ∷ xs) (suc i) h = element_within xs i (omega (arith, h))
 
 -- a resolved program has as many parameters at each place
-pub counts_at : (source : List ℕ) (tokens : List Token) (program : Program) (resolved : Resolved) → scope_of source tokens program ≡ Ok resolved
+pub counts_at : (source : List ℕ) (tokens : List Token) (program : Program) (resolved : Resolved) →
+    scope_of source tokens program ≡ Ok resolved
     → (i : ℕ) → count_at (slice_get resolved.functions i) ≡ count_at (slice_get program.functions i)
-counts_at source tokens program resolved scoped i = by_counted (slice_get resolved.functions i) (slice_get program.functions i) (counts_kept source tokens program resolved scoped i)
+counts_at source tokens program resolved scoped i =
+    by_counted (slice_get resolved.functions i) (slice_get program.functions i)
+    (counts_kept source tokens program resolved scoped i)
   where
     by_counted : (o p : Option Function) → counted o ≡ counted p → count_at o ≡ count_at p
     by_counted None None e = refl
@@ -41,40 +48,56 @@ counts_at source tokens program resolved scoped i = by_counted (slice_get resolv
     by_counted (Some f) None e = absurd (none-some _ (sym e))
     by_counted (Some f) (Some g) e = let same : length f.params ≡ length g.params = cc in same
 
-module _ (source : List ℕ) (tokens : List Token) (program : Program) (resolved : Resolved) (well : IsWellFormed source tokens program resolved) where
+module _ (source : List ℕ) (tokens : List Token) (program : Program) (resolved : Resolved)
+    (well : IsWellFormed source tokens program resolved) where
   -- a name's place is that of a function of the program
-  place_within : (name : List ℕ) (i : ℕ) → place_in source tokens program name ≡ Some i → i < length program.functions
+  place_within : (name : List ℕ) (i : ℕ) → place_in source tokens program name ≡ Some i → i <
+      length program.functions
   place_within name i is =
-      let h = within_from _ 0 (spellings source tokens (map (λ (f : Function). f.name) program.functions)) i is in
-      let l : length (spellings source tokens (map (λ (f : Function). f.name) program.functions)) ≡ length (map (λ (f : Function). f.name) program.functions) = length-map (map (λ (f : Function). f.name) program.functions) (spelling_at source tokens) in
-      let m : length (map (λ (f : Function). f.name) program.functions) ≡ length program.functions = length-map program.functions (λ (f : Function). f.name) in
+      let h = within_from _ 0 (spellings source tokens
+      (map (λ (f : Function). f.name) program.functions)) i is in
+      let l : length (spellings source tokens (map (λ (f : Function). f.name) program.functions)) ≡
+      length (map (λ (f : Function). f.name) program.functions) =
+      length-map (map (λ (f : Function). f.name) program.functions) (spelling_at source tokens)
+      in
+      let m : length (map (λ (f : Function). f.name) program.functions) ≡ length program.functions =
+      length-map program.functions (λ (f : Function). f.name) in
       omega (arith, h, l, m)
 
   -- the function that stands at a place, with so many parameters
   abbrev Stands : ℕ → Type 0
-  Stands i = (g : Function) × (slice_get resolved.functions i ≡ Some g) × (length g.params ≡ count_at (slice_get program.functions i))
+  Stands i =
+      (g : Function) × (slice_get resolved.functions i ≡ Some g) ×
+      (length g.params ≡ count_at (slice_get program.functions i))
 
-  stands_as : (i : ℕ) (f : Function) (o p : Option Function) → slice_get resolved.functions i ≡ o → slice_get program.functions i ≡ p → p ≡ Some f → counted o ≡ counted p → Stands i
-  stands_as i f (Some g) (Some h) is_o is_p there e = let same : length g.params ≡ length h.params = cc in (g, is_o, same ∙ sym (ap count_at is_p))
+  stands_as : (i : ℕ) (f : Function) (o p : Option Function) → slice_get resolved.functions i ≡ o →
+      slice_get program.functions i ≡ p → p ≡ Some f → counted o ≡ counted p → Stands i
+  stands_as i f (Some g) (Some h) is_o is_p there e =
+      let same : length g.params ≡ length h.params = cc in (g, is_o, same ∙ sym (ap count_at is_p))
   stands_as i f None (Some h) is_o is_p there e = absurd (none-some _ e)
   stands_as i f o None is_o is_p there e = absurd (none-some _ there)
 
   stands : (name : List ℕ) (i : ℕ) → place_in source tokens program name ≡ Some i → Stands i
   stands name i is =
-      let there : (f : Function) × (slice_get program.functions i ≡ Some f) = element_within program.functions i (place_within name i is) in
-      stands_as i there.0 (slice_get resolved.functions i) (slice_get program.functions i) refl refl there.1 (counts_kept source tokens program resolved well.scoped i)
+      let there : (f : Function) × (slice_get program.functions i ≡ Some f) =
+      element_within program.functions i (place_within name i is) in
+      stands_as i there.0 (slice_get resolved.functions i) (slice_get program.functions i) refl refl
+      there.1 (counts_kept source tokens program resolved well.scoped i)
 
   module _ (first second : List ℕ) where
     -- one of the names has no function
-    pub lacks : (name : ℕ) → missing (place_in source tokens program first) (place_in source tokens program second) ≡ Some name
+    pub lacks : (name : ℕ) → missing (place_in source tokens program first)
+        (place_in source tokens program second) ≡ Some name
         → IsReading source first second (Ends (NoFunction name))
     lacks name is = (tokens, program, resolved, well, is)
 
-    module _ (i j : ℕ) (first_is : place_in source tokens program first ≡ Some i) (second_is : place_in source tokens program second ≡ Some j) where
+    module _ (i j : ℕ) (first_is : place_in source tokens program first ≡ Some i)
+        (second_is : place_in source tokens program second ≡ Some j) where
       abbrev pub named : TwoFunctions
       named = record { program = resolved; first = i; second = j }
 
-      are_named : (f g : Function) → slice_get resolved.functions i ≡ Some f → slice_get resolved.functions j ≡ Some g → AreNamed source first second named f g
+      are_named : (f g : Function) → slice_get resolved.functions i ≡ Some f →
+          slice_get resolved.functions j ≡ Some g → AreNamed source first second named f g
       are_named f g at_i at_j = record {
         tokens = tokens;
         program = program;
@@ -86,17 +109,33 @@ module _ (source : List ℕ) (tokens : List Token) (program : Program) (resolved
       }
 
       -- both have functions, with other numbers of parameters
-      pub other_counts : (m n : ℕ) → m ≡ count_at (slice_get program.functions i) → n ≡ count_at (slice_get program.functions j) → m ≢ n
+      pub other_counts : (m n : ℕ) → m ≡ count_at (slice_get program.functions i) → n ≡
+          count_at (slice_get program.functions j) → m ≢ n
           → IsReading source first second (Ends (Arity m n))
       other_counts m n is_m is_n differ =
           let left = stands first i first_is in
-          let right = stands second j second_is in
-          (named, left.0, right.0, are_named left.0 right.0 left.1 right.1, left.2 ∙ sym is_m, right.2 ∙ sym is_n, differ)
+          let right = stands second j second_is in (
+            named,
+            left.0,
+            right.0,
+            are_named left.0 right.0 left.1 right.1,
+            left.2 ∙ sym is_m,
+            right.2 ∙ sym is_n,
+            differ,
+          )
 
       -- both have functions, of equally many parameters
-      pub comparable : (m n : ℕ) → m ≡ count_at (slice_get program.functions i) → n ≡ count_at (slice_get program.functions j) → m ≡ n
+      pub comparable : (m n : ℕ) → m ≡ count_at (slice_get program.functions i) → n ≡
+          count_at (slice_get program.functions j) → m ≡ n
           → IsReading source first second (Goes named)
       comparable m n is_m is_n same =
           let left = stands first i first_is in
-          let right = stands second j second_is in
-          (left.0, right.0, record { are_named = are_named left.0 right.0 left.1 right.1; counts = left.2 ∙ (sym is_m ∙ (same ∙ (is_n ∙ sym right.2))) })
+          let right = stands second j second_is in (
+            left.0,
+            right.0,
+            record {
+              are_named = are_named left.0 right.0 left.1 right.1;
+              counts =
+                  left.2 ∙ (sym is_m ∙ (same ∙ (is_n ∙ sym right.2)));
+            },
+          )

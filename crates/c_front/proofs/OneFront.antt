@@ -15,19 +15,27 @@ use Rattle.c_front.proofs.StageLaws.{AreSame, IsOne, one_before, one_by}
 
 -- a list of tokens is parsed in one way
 one_parse : IsOne parse_stage
-one_parse tokens (Ends r) (Ends s) (d, a, p, is_r) (e, b, q, is_s) = is_r ∙ (ap Parse (one_refusal tokens d e a b p q) ∙ sym is_s)
-one_parse tokens (Ends r) (Goes u) (d, a, p, is_r) (same, b) = spelled_unrefused tokens u.program d b a p
-one_parse tokens (Goes t) (Ends s) (same, a) (e, b, q, is_s) = spelled_unrefused tokens t.program e a b q
+one_parse tokens (Ends r) (Ends s) (d, a, p, is_r) (e, b, q, is_s) =
+    is_r ∙ (ap Parse (one_refusal tokens d e a b p q) ∙ sym is_s)
+one_parse tokens (Ends r) (Goes u) (d, a, p, is_r) (same, b) =
+    spelled_unrefused tokens u.program d b a p
+one_parse tokens (Goes t) (Ends s) (same, a) (e, b, q, is_s) =
+    spelled_unrefused tokens t.program e a b q
 one_parse tokens (Goes t) (Goes u) (same, a) (too, b) =
     let lists : t.tokens ≡ u.tokens = same ∙ sym too in
     let programs : t.program ≡ u.program = program_unique tokens t.program u.program a.1 b.1 in
     λ i. record { tokens = lists i; program = programs i }
 
-pub one_front : (source first second : List ℕ) (x y : Next Refusal TwoFunctions) → front source first second x → front source first second y → AreSame x y
+pub one_front : (source first second : List ℕ) (x y : Next Refusal TwoFunctions) →
+    front source first second x → front source first second y → AreSame x y
 one_front source first second =
     one_before lex_stage _ (one_by Lex tokens_of)
     (one_before parse_stage _ one_parse
-    (one_before (scope_stage source) _ (one_by Scope (λ text. with_names text (scope_of source text.tokens text.program)))
+    (one_before (scope_stage source) _ (one_by Scope
+    (λ text. with_names text (scope_of source text.tokens text.program)))
     (one_before (name_stage source first second) count_stage
-    (one_by NoFunction (λ known. two_at known.resolved (place_in source known.text.tokens known.text.program first) (place_in source known.text.tokens known.text.program second)))
-    (one_by (λ refusal. refusal) (λ two. with_counts two (count_in two.program two.first) (count_in two.program two.second)))))) source
+    (one_by NoFunction (λ known. two_at known.resolved
+    (place_in source known.text.tokens known.text.program first)
+    (place_in source known.text.tokens known.text.program second)))
+    (one_by (λ refusal. refusal) (λ two. with_counts two (count_in two.program two.first)
+    (count_in two.program two.second)))))) source

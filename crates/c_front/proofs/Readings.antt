@@ -22,28 +22,38 @@ use Rattle.c_front.specs.FrontEnd.{AreNamed, IsProgram, IsReading, IsRefused, Is
 use Rattle.c_front.proofs.FrontEndLaws.{comparable, counts_at, other_counts}
 
 -- what the names were resolved to
-pub names_ok : (text : ProgramText) (r : Result Resolved ScopeEnd) (known : ResolvedText) → with_names text r ≡ Ok known → (r ≡ Ok known.resolved) × (known.text ≡ text)
-names_ok text (Ok resolved) known is = let same : record { text = text; resolved = resolved } ≡ known = cc in (ap (λ (k : ResolvedText). Ok k.resolved) same, sym (ap (λ (k : ResolvedText). k.text) same))
+pub names_ok : (text : ProgramText) (r : Result Resolved ScopeEnd) (known : ResolvedText) →
+    with_names text r ≡ Ok known → (r ≡ Ok known.resolved) × (known.text ≡ text)
+names_ok text (Ok resolved) known is =
+    let same : record { text = text; resolved = resolved } ≡ known = cc in
+    (ap (λ (k : ResolvedText). Ok k.resolved) same, sym (ap (λ (k : ResolvedText). k.text) same))
 names_ok text (Err fault) known is = let no : ⊥ = cc in absurd no
 
-names_err : (text : ProgramText) (r : Result Resolved ScopeEnd) (fault : ScopeEnd) → with_names text r ≡ Err fault → r ≡ Err fault
+names_err : (text : ProgramText) (r : Result Resolved ScopeEnd) (fault : ScopeEnd) →
+    with_names text r ≡ Err fault → r ≡ Err fault
 names_err text (Ok resolved) fault is = let no : ⊥ = cc in absurd no
 names_err text (Err other) fault is = let same : other ≡ fault = cc in ap Err same
 
 -- the functions at two places
-pub two_ok : (resolved : Resolved) (o p : Option ℕ) (two : TwoFunctions) → two_at resolved o p ≡ Ok two → (two.program ≡ resolved) × (o ≡ Some two.first) × (p ≡ Some two.second)
+pub two_ok : (resolved : Resolved) (o p : Option ℕ) (two : TwoFunctions) → two_at resolved o p ≡
+    Ok two → (two.program ≡ resolved) × (o ≡ Some two.first) × (p ≡ Some two.second)
 two_ok resolved None p two is = let no : ⊥ = cc in absurd no
 two_ok resolved (Some i) None two is = let no : ⊥ = cc in absurd no
 two_ok resolved (Some i) (Some j) two is =
-    let same : record { program = resolved; first = i; second = j } ≡ two = cc in
-    (sym (ap (λ (t : TwoFunctions). t.program) same), ap (λ (t : TwoFunctions). Some t.first) same, ap (λ (t : TwoFunctions). Some t.second) same)
+    let same : record { program = resolved; first = i; second = j } ≡ two = cc in (
+      sym (ap (λ (t : TwoFunctions). t.program) same),
+      ap (λ (t : TwoFunctions). Some t.first) same,
+      ap (λ (t : TwoFunctions). Some t.second) same,
+    )
 
-two_err : (resolved : Resolved) (o p : Option ℕ) (name : ℕ) → two_at resolved o p ≡ Err name → missing o p ≡ Some name
+two_err : (resolved : Resolved) (o p : Option ℕ) (name : ℕ) → two_at resolved o p ≡ Err name →
+    missing o p ≡ Some name
 two_err resolved None p name is = let same : 1 ≡ name = cc in ap Some same
 two_err resolved (Some i) None name is = let same : 2 ≡ name = cc in ap Some same
 two_err resolved (Some i) (Some j) name is = let no : ⊥ = cc in absurd no
 
-err_two : (resolved : Resolved) (o p : Option ℕ) (name : ℕ) → missing o p ≡ Some name → two_at resolved o p ≡ Err name
+err_two : (resolved : Resolved) (o p : Option ℕ) (name : ℕ) → missing o p ≡ Some name →
+    two_at resolved o p ≡ Err name
 err_two resolved None p name is = let same : 1 ≡ name = cc in ap Err same
 err_two resolved (Some i) None name is = let same : 2 ≡ name = cc in ap Err same
 err_two resolved (Some i) (Some j) name is = let no : ⊥ = cc in absurd no
@@ -55,14 +65,19 @@ module _ (two : TwoFunctions) (m n : ℕ) where
 
   pub counts_ok : (t : TwoFunctions) → with_counts two m n ≡ Ok t → (two ≡ t) × (m ≡ n)
   counts_ok t is = elim (eqb_tells m n) as (λ _. (two ≡ t) × (m ≡ n)) [
-    | inl (test, same) ↦ (let both : Ok two ≡ Ok t = sym (ap by_test test) ∙ is in (let e : two ≡ t = cc in e, same))
-    | inr (test, differ) ↦ (let both : Err (Arity m n) ≡ Ok t = sym (ap by_test test) ∙ is in absurd (let no : ⊥ = cc in no))
+    | inl (test, same) ↦ (let both : Ok two ≡ Ok t = sym (ap by_test test) ∙ is in
+        (let e : two ≡ t = cc in e, same))
+    | inr (test, differ) ↦ (let both : Err (Arity m n) ≡ Ok t = sym (ap by_test test) ∙ is in
+        absurd (let no : ⊥ = cc in no))
   ]
 
-  pub counts_err : (refusal : Refusal) → with_counts two m n ≡ Err refusal → (Arity m n ≡ refusal) × (m ≢ n)
+  pub counts_err : (refusal : Refusal) → with_counts two m n ≡ Err refusal → (Arity m n ≡ refusal) ×
+      (m ≢ n)
   counts_err refusal is = elim (eqb_tells m n) as (λ _. (Arity m n ≡ refusal) × (m ≢ n)) [
-    | inl (test, same) ↦ (let both : Ok two ≡ Err refusal = sym (ap by_test test) ∙ is in absurd (let no : ⊥ = cc in no))
-    | inr (test, differ) ↦ (let both : Err (Arity m n) ≡ Err refusal = sym (ap by_test test) ∙ is in (let e : Arity m n ≡ refusal = cc in e, differ))
+    | inl (test, same) ↦ (let both : Ok two ≡ Err refusal = sym (ap by_test test) ∙ is in
+        absurd (let no : ⊥ = cc in no))
+    | inr (test, differ) ↦ (let both : Err (Arity m n) ≡ Err refusal = sym (ap by_test test) ∙ is in
+        (let e : Arity m n ≡ refusal = cc in e, differ))
   ]
 
   pub ok_counts : m ≡ n → with_counts two m n ≡ Ok two
@@ -78,7 +93,9 @@ module _ (two : TwoFunctions) (m n : ℕ) where
   ]
 
 -- the tokens and the program that the stages found are those of the text
-is_program : (source : List ℕ) (tokens : List Token) (text : ProgramText) → tokens_of source ≡ Ok tokens → text.tokens ≡ tokens → Answers tokens (Ok text.program) → IsProgram source text.tokens text.program
+is_program : (source : List ℕ) (tokens : List Token) (text : ProgramText) → tokens_of source ≡
+    Ok tokens → text.tokens ≡ tokens → Answers tokens (Ok text.program) →
+    IsProgram source text.tokens text.program
 is_program source tokens text lexed same spelled = record {
   lexed = lexed ∙ ap Ok (sym same);
   spelled = subst (λ ts. Answers ts (Ok text.program)) (sym same) spelled;
@@ -86,20 +103,28 @@ is_program source tokens text lexed same spelled = record {
 
 module _ (source first second : List ℕ) where
   -- the functions that the stages name are named by the text
-  module _ (tokens : List Token) (text : ProgramText) (known : ResolvedText) (two : TwoFunctions) (lexed : tokens_of source ≡ Ok tokens) (same : text.tokens ≡ tokens) (spelled : Answers tokens (Ok text.program))
+  module _ (tokens : List Token) (text : ProgramText) (known : ResolvedText) (two : TwoFunctions)
+      (lexed : tokens_of source ≡ Ok tokens) (same : text.tokens ≡ tokens)
+      (spelled : Answers tokens (Ok text.program))
       (scoped : with_names text (scope_of source text.tokens text.program) ≡ Ok known)
-      (named : two_at known.resolved (place_in source known.text.tokens known.text.program first) (place_in source known.text.tokens known.text.program second) ≡ Ok two) where
+      (named : two_at known.resolved (place_in source known.text.tokens known.text.program first)
+      (place_in source known.text.tokens known.text.program second) ≡ Ok two) where
     well : IsWellFormed source text.tokens text.program two.program
     well = record {
       is = is_program source tokens text lexed same spelled;
-      scoped = (names_ok text (scope_of source text.tokens text.program) known scoped).0 ∙ ap Ok (sym (two_ok known.resolved _ _ two named).0);
+      scoped =
+          (names_ok text (scope_of source text.tokens text.program) known scoped).0 ∙
+          ap Ok (sym (two_ok known.resolved _ _ two named).0);
     }
 
     counted_as : (i : ℕ) → count_in two.program i ≡ count_at (slice_get text.program.functions i)
     counted_as i = counts_at source text.tokens text.program two.program well.scoped i
 
-    place : (name : List ℕ) (i : ℕ) → place_in source known.text.tokens known.text.program name ≡ Some i → place_in source text.tokens text.program name ≡ Some i
-    place name i is = sym (ap (λ (t : ProgramText). place_in source t.tokens t.program name) (names_ok text (scope_of source text.tokens text.program) known scoped).1) ∙ is
+    place : (name : List ℕ) (i : ℕ) → place_in source known.text.tokens known.text.program name ≡
+        Some i → place_in source text.tokens text.program name ≡ Some i
+    place name i is =
+        sym (ap (λ (t : ProgramText). place_in source t.tokens t.program name)
+        (names_ok text (scope_of source text.tokens text.program) known scoped).1) ∙ is
 
     first_is : place_in source text.tokens text.program first ≡ Some two.first
     first_is = place first two.first (two_ok known.resolved _ _ two named).1
@@ -107,37 +132,81 @@ module _ (source first second : List ℕ) where
     second_is : place_in source text.tokens text.program second ≡ Some two.second
     second_is = place second two.second (two_ok known.resolved _ _ two named).2
 
-    pub reading_by_counts : (x : Next Refusal TwoFunctions) → count_stage two x → IsReading source first second x
+    pub reading_by_counts : (x : Next Refusal TwoFunctions) → count_stage two x →
+        IsReading source first second x
     reading_by_counts (Ends refusal) (found, is, is_found) =
-        let e = counts_err two (count_in two.program two.first) (count_in two.program two.second) found is in
+        let e = counts_err two (count_in two.program two.first) (count_in two.program two.second)
+        found is in
         subst (λ r. IsReading source first second (Ends r)) (e.0 ∙ sym is_found)
-        (other_counts source text.tokens text.program two.program well first second two.first two.second first_is second_is (count_in two.program two.first) (count_in two.program two.second)
+        (other_counts source text.tokens text.program two.program well first second two.first
+        two.second first_is second_is (count_in two.program two.first)
+        (count_in two.program two.second)
         (counted_as two.first) (counted_as two.second) e.1)
     reading_by_counts (Goes t) is =
-        let e = counts_ok two (count_in two.program two.first) (count_in two.program two.second) t is in
+        let e = counts_ok two (count_in two.program two.first) (count_in two.program two.second) t
+        is in
         subst (λ r. IsReading source first second (Goes r)) e.0
-        (comparable source text.tokens text.program two.program well first second two.first two.second first_is second_is (count_in two.program two.first) (count_in two.program two.second)
+        (comparable source text.tokens text.program two.program well first second two.first
+        two.second first_is second_is (count_in two.program two.first)
+        (count_in two.program two.second)
         (counted_as two.first) (counted_as two.second) e.1)
 
   -- what the stages say is so of the text
-  pub reading_of : (x : Next Refusal TwoFunctions) → front source first second x → IsReading source first second x
-  reading_of (Ends refusal) (inl (fault, lexed, is)) = subst (IsRefused source first second) (sym is) lexed
-  reading_of (Ends refusal) (inr (tokens, lexed, inl (end, answers, other, is))) = subst (IsRefused source first second) (sym is) (tokens, lexed, answers, other)
-  reading_of (Ends refusal) (inr (tokens, lexed, inr (text, (same, spelled), inl (fault, scoped, is)))) =
-      subst (IsRefused source first second) (sym is) (text.tokens, text.program, is_program source tokens text lexed same spelled, names_err text (scope_of source text.tokens text.program) fault scoped)
-  reading_of (Ends refusal) (inr (tokens, lexed, inr (text, (same, spelled), inr (known, scoped, inl (name, named, is))))) =
+  pub reading_of : (x : Next Refusal TwoFunctions) → front source first second x →
+      IsReading source first second x
+  reading_of (Ends refusal) (inl (fault, lexed, is)) =
+      subst (IsRefused source first second) (sym is) lexed
+  reading_of (Ends refusal) (inr (tokens, lexed, inl (end, answers, other, is))) =
+      subst (IsRefused source first second) (sym is) (tokens, lexed, answers, other)
+  reading_of (Ends refusal) (inr (
+    tokens,
+    lexed,
+    inr (text, (same, spelled), inl (fault, scoped, is)),
+  )) =
+      subst (IsRefused source first second) (sym is) (
+        text.tokens,
+        text.program,
+        is_program source tokens text lexed same spelled,
+        names_err text (scope_of source text.tokens text.program) fault scoped,
+      )
+  reading_of (Ends refusal) (inr (
+    tokens,
+    lexed,
+    inr (text, (same, spelled), inr (known, scoped, inl (name, named, is))),
+  )) =
       let found = names_ok text (scope_of source text.tokens text.program) known scoped in
       let lacks = two_err known.resolved _ _ name named in
-      let here : missing (place_in source text.tokens text.program first) (place_in source text.tokens text.program second) ≡ Some name =
-      subst (λ (t : ProgramText). missing (place_in source t.tokens t.program first) (place_in source t.tokens t.program second) ≡ Some name) found.1 lacks in
-      subst (IsRefused source first second) (sym is) (text.tokens, text.program, known.resolved, record { is = is_program source tokens text lexed same spelled; scoped = found.0 }, here)
-  reading_of (Ends refusal) (inr (tokens, lexed, inr (text, (same, spelled), inr (known, scoped, inr (two, named, counted))))) =
+      let here : missing (place_in source text.tokens text.program first)
+      (place_in source text.tokens text.program second) ≡ Some name =
+      subst (λ (t : ProgramText). missing (place_in source t.tokens t.program first)
+      (place_in source t.tokens t.program second) ≡ Some name) found.1 lacks in
+      subst (IsRefused source first second) (sym is) (
+        text.tokens,
+        text.program,
+        known.resolved,
+        record { is = is_program source tokens text lexed same spelled; scoped = found.0 },
+        here,
+      )
+  reading_of (Ends refusal) (inr (
+    tokens,
+    lexed,
+    inr (text, (same, spelled), inr (known, scoped, inr (two, named, counted))),
+  )) =
       reading_by_counts tokens text known two lexed same spelled scoped named (Ends refusal) counted
-  reading_of (Goes t) (tokens, lexed, (text, (same, spelled), (known, scoped, (two, named, counted)))) =
+  reading_of (Goes t) (
+    tokens,
+    lexed,
+    (
+      text,
+      (same, spelled),
+      (known, scoped, (two, named, counted)),
+    ),
+  ) =
       reading_by_counts tokens text known two lexed same spelled scoped named (Goes t) counted
 
   -- the stages up to the names
-  named_so : (two : TwoFunctions) (left right : Function) (are : AreNamed source first second two left right) (x : Next Refusal TwoFunctions)
+  named_so : (two : TwoFunctions) (left right : Function)
+      (are : AreNamed source first second two left right) (x : Next Refusal TwoFunctions)
       → count_stage two x → front source first second x
   named_so two left right are x counted = go x counted
     where
@@ -150,31 +219,72 @@ module _ (source first second : List ℕ) where
       scoped : with_names text (scope_of source are.tokens are.program) ≡ Ok known
       scoped = ap (with_names text) are.is.scoped
 
-      named : two_at two.program (place_in source are.tokens are.program first) (place_in source are.tokens are.program second) ≡ Ok two
+      named : two_at two.program (place_in source are.tokens are.program first)
+          (place_in source are.tokens are.program second) ≡ Ok two
       named = λ i. two_at two.program (are.first_stands i) (are.second_stands i)
 
       go : (x : Next Refusal TwoFunctions) → count_stage two x → front source first second x
-      go (Ends refusal) counted = inr (are.tokens, are.is.is.lexed, inr (text, (refl, are.is.is.spelled), inr (known, scoped, inr (two, named, counted))))
-      go (Goes t) counted = (are.tokens, are.is.is.lexed, (text, (refl, are.is.is.spelled), (known, scoped, (two, named, counted))))
+      go (Ends refusal) counted =
+          inr (
+            are.tokens,
+            are.is.is.lexed,
+            inr
+                (text, (refl, are.is.is.spelled), inr (known, scoped, inr (two, named, counted))),
+          )
+      go (Goes t) counted = (
+        are.tokens,
+        are.is.is.lexed,
+        (
+          text,
+          (refl, are.is.is.spelled),
+          (known, scoped, (two, named, counted)),
+        ),
+      )
 
   -- what is so of the text, the stages say
-  pub front_of : (x : Next Refusal TwoFunctions) → IsReading source first second x → front source first second x
+  pub front_of : (x : Next Refusal TwoFunctions) → IsReading source first second x →
+      front source first second x
   front_of (Ends (Lex fault)) is = inl (fault, is, refl)
-  front_of (Ends (Parse end)) (tokens, lexed, answers, other) = inr (tokens, lexed, inl (end, answers, other, refl))
+  front_of (Ends (Parse end)) (tokens, lexed, answers, other) =
+      inr (tokens, lexed, inl (end, answers, other, refl))
   front_of (Ends (Scope fault)) (tokens, program, is, wrong) =
       let text : ProgramText = record { tokens = tokens; program = program } in
-      inr (tokens, is.lexed, inr (text, (refl, is.spelled), inl (fault, ap (with_names text) wrong, refl)))
+      inr (
+        tokens,
+        is.lexed,
+        inr (
+          text,
+          (refl, is.spelled),
+          inl (fault, ap (with_names text) wrong, refl),
+        ),
+      )
   front_of (Ends (NoFunction name)) (tokens, program, resolved, well, lacks) =
       let text : ProgramText = record { tokens = tokens; program = program } in
-      inr (tokens, well.is.lexed, inr (text, (refl, well.is.spelled), inr (record { text = text; resolved = resolved }, ap (with_names text) well.scoped, inl (name, err_two resolved _ _ name lacks, refl))))
+      inr (
+        tokens,
+        well.is.lexed,
+        inr (
+          text,
+          (refl, well.is.spelled),
+          inr (
+            record { text = text; resolved = resolved },
+            ap (with_names text) well.scoped,
+            inl (name, err_two resolved _ _ name lacks, refl),
+          ),
+        ),
+      )
   front_of (Ends (Arity m n)) (two, left, right, are, is_m, is_n, differ) =
       let p : count_in two.program two.first ≡ m = ap count_at are.is_left ∙ is_m in
       let q : count_in two.program two.second ≡ n = ap count_at are.is_right ∙ is_n in
-      named_so two left right are (Ends (Arity m n)) (Arity m n, (λ i. with_counts two (p i) (q i)) ∙ err_counts two m n differ, refl)
+      named_so two left right are (Ends (Arity m n))
+      (Arity m n, (λ i. with_counts two (p i) (q i)) ∙ err_counts two m n differ, refl)
   front_of (Ends (PreLex fault)) is = absurd is
   front_of (Ends (PreParse end)) is = absurd is
   front_of (Ends (PreName token)) is = absurd is
   front_of (Goes two) (left, right, are) =
-      let p : count_in two.program two.first ≡ length left.params = ap count_at are.are_named.is_left in
-      let q : count_in two.program two.second ≡ length right.params = ap count_at are.are_named.is_right in
-      named_so two left right are.are_named (Goes two) (ok_counts two _ _ (p ∙ (are.counts ∙ sym q)))
+      let p : count_in two.program two.first ≡ length left.params =
+      ap count_at are.are_named.is_left in
+      let q : count_in two.program two.second ≡ length right.params =
+      ap count_at are.are_named.is_right in
+      named_so two left right are.are_named (Goes two)
+      (ok_counts two _ _ (p ∙ (are.counts ∙ sym q)))

@@ -1,4 +1,5 @@
--- Preconditions as stages: tokens, grammar, names. The names are those of the parameters of the first function.
+-- Preconditions as stages: tokens, grammar, names. The names are those of the parameters of the
+-- first function.
 use Rattle.std.specs.Prelude.{◌≡◌, ◌≢◌, ℕ, List, [], Option, Some, None, Ok, Err, slice_get}
 use Rattle.std.specs.Option.{option_map_or}
 use Rattle.c_lex.specs.declared.token.Token.{Token}
@@ -27,26 +28,31 @@ use Rattle.c_front.specs.Stages.{Stage, before, by}
 abbrev pub pre_lex_stage : Stage Refusal (List ℕ) (List Token)
 pre_lex_stage = by PreLex tokens_of
 
--- the tokens spell this row form within the limits, or are refused for this cause; a relation, which holds of one answer
--- at most
+-- the tokens spell this row form within the limits, or are refused for this cause; a relation,
+-- which holds of one answer at most
 abbrev pub pre_parse_stage : List Token → Next Refusal PreText → Type 0
 pre_parse_stage tokens (Ends refusal) =
-    (end : ParseEnd) × PreAnswers tokens (Err end) × (end ≢ Flaw.NoMemory) × (refusal ≡ PreParse end)
+    (end : ParseEnd) × PreAnswers tokens (Err end) × (end ≢ Flaw.NoMemory) ×
+    (refusal ≡ PreParse end)
 pre_parse_stage tokens (Goes text) = (text.tokens ≡ tokens) × PreAnswers tokens (Ok text.pre)
 
 -- the parameters of the function at a place, by their tokens
 abbrev pub params_at : List Function → ℕ → List ℕ
-params_at functions place = option_map_or (λ (f : Function). f.params) (slice_get functions place) []
+params_at functions place =
+    option_map_or (λ (f : Function). f.params) (slice_get functions place) []
 
--- the names of a precondition are resolved, or this token is the first that no parameter has as its name
+-- the names of a precondition are resolved, or this token is the first that no parameter has as its
+-- name
 abbrev pub IsResolved : Found Expr → Next Refusal Expr → Type 0
-IsResolved found (Ends refusal) = (token : ℕ) × (found ≡ Err (Wrong.UnknownName token)) × (refusal ≡ PreName token)
+IsResolved found (Ends refusal) =
+    (token : ℕ) × (found ≡ Err (Wrong.UnknownName token)) × (refusal ≡ PreName token)
 IsResolved found (Goes pre) = found ≡ Ok pre
 
 abbrev pub pre_name_stage : List ℕ → ProgramText → ℕ → List ℕ → PreText → Next Refusal Expr → Type 0
 pre_name_stage source text first bytes read =
     IsResolved
-    (resolved_pre source text.tokens (params_at text.program.functions first) bytes read.tokens read.pre)
+    (resolved_pre source text.tokens (params_at text.program.functions first) bytes read.tokens
+    read.pre)
 
 -- what is said of the bytes of a precondition, for the function at a place of a program
 abbrev pub read_pre : List ℕ → ProgramText → ℕ → List ℕ → Next Refusal Expr → Type 0
@@ -58,7 +64,8 @@ abbrev pub comparison : TwoFunctions → Option Expr → Compared
 comparison two pre = record { two = two; precondition = pre }
 
 -- what is said of a precondition on two functions of the program that a text spells
-abbrev pub condition_stage : List ℕ → Option (List ℕ) → TwoFunctions → Next Refusal Compared → Type 0
+abbrev pub condition_stage : List ℕ → Option (List ℕ) → TwoFunctions → Next Refusal Compared →
+    Type 0
 condition_stage source None two (Ends refusal) = ⊥
 condition_stage source None two (Goes compared) = compared ≡ comparison two None
 condition_stage source (Some bytes) two (Ends refusal) =
@@ -66,7 +73,8 @@ condition_stage source (Some bytes) two (Ends refusal) =
     × read_pre source text two.first bytes (Ends refusal)
 condition_stage source (Some bytes) two (Goes compared) =
     (text : ProgramText) × IsProgram source text.tokens text.program
-    × (pre : Expr) × read_pre source text two.first bytes (Goes pre) × (compared ≡ comparison two (Some pre))
+    × (pre : Expr) × read_pre source text two.first bytes (Goes pre) ×
+    (compared ≡ comparison two (Some pre))
 
 -- what the front end says of a text, two names and a precondition
 abbrev pub whole_front : List ℕ → List ℕ → List ℕ → Option (List ℕ) → Next Refusal Compared → Type 0

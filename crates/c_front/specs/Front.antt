@@ -1,4 +1,5 @@
--- The front end as stages: tokens, grammar, scope, the two names, their numbers of parameters. The first stage that ends the run decides.
+-- The front end as stages: tokens, grammar, scope, the two names, their numbers of parameters. The
+-- first stage that ends the run decides.
 use Rattle.std.specs.Prelude.{◌≡◌, ◌≢◌, ℕ, List, Option, Some, None, Result, Ok, Err, nat_eq, slice_get, if◌then◌else◌}
 use Rattle.c_lex.specs.declared.token.Token.{Token}
 use Rattle.c_lex.specs.Tokens.{tokens_of}
@@ -23,9 +24,11 @@ use Rattle.c_front.specs.Stages.{Stage, by, before}
 abbrev pub lex_stage : Stage Refusal (List ℕ) (List Token)
 lex_stage = by Lex tokens_of
 
--- the tokens spell this program within the limits, or are refused for this cause; a relation, which holds of one answer at most
+-- the tokens spell this program within the limits, or are refused for this cause; a relation, which
+-- holds of one answer at most
 abbrev pub parse_stage : List Token → Next Refusal ProgramText → Type 0
-parse_stage tokens (Ends refusal) = (end : ParseEnd) × Answers tokens (Err end) × (end ≢ Flaw.NoMemory) × (refusal ≡ Parse end)
+parse_stage tokens (Ends refusal) =
+    (end : ParseEnd) × Answers tokens (Err end) × (end ≢ Flaw.NoMemory) × (refusal ≡ Parse end)
 parse_stage tokens (Goes text) = (text.tokens ≡ tokens) × Answers tokens (Ok text.program)
 
 -- with the names of the program resolved
@@ -45,7 +48,10 @@ two_at resolved (Some i) (Some j) = Ok (record { program = resolved; first = i; 
 
 -- both names have functions, or this is the first that has none
 abbrev pub name_stage : List ℕ → List ℕ → List ℕ → Stage Refusal ResolvedText TwoFunctions
-name_stage source first second = by NoFunction (λ known. two_at known.resolved (place_in source known.text.tokens known.text.program first) (place_in source known.text.tokens known.text.program second))
+name_stage source first second =
+    by NoFunction (λ known. two_at known.resolved
+    (place_in source known.text.tokens known.text.program first)
+    (place_in source known.text.tokens known.text.program second))
 
 -- the functions, where these numbers of parameters are equal
 abbrev pub with_counts : TwoFunctions → ℕ → ℕ → Result TwoFunctions Refusal
@@ -57,8 +63,12 @@ count_in program place = count_at (slice_get program.functions place)
 
 -- both functions have equally many parameters, or these are their numbers
 abbrev pub count_stage : Stage Refusal TwoFunctions TwoFunctions
-count_stage = by (λ refusal. refusal) (λ two. with_counts two (count_in two.program two.first) (count_in two.program two.second))
+count_stage =
+    by (λ refusal. refusal) (λ two. with_counts two (count_in two.program two.first)
+    (count_in two.program two.second))
 
 -- what the front end says of a text and two names
 abbrev pub front : List ℕ → List ℕ → List ℕ → Next Refusal TwoFunctions → Type 0
-front source first second = before lex_stage (before parse_stage (before (scope_stage source) (before (name_stage source first second) count_stage))) source
+front source first second =
+    before lex_stage (before parse_stage (before (scope_stage source)
+    (before (name_stage source first second) count_stage))) source

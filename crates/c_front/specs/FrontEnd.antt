@@ -1,4 +1,5 @@
--- What the front end says of a text and two names: its program with all names resolved and the two functions, of equally many parameters, or the first cause of a refusal.
+-- What the front end says of a text and two names: its program with all names resolved and the two
+-- functions, of equally many parameters, or the first cause of a refusal.
 use Rattle.std.specs.Prelude.{◌≡◌, ◌≢◌, ℕ, ⊤, List, Option, Some, None, Ok, Err, length, slice_get}
 use Rattle.c_lex.specs.declared.error.LexEnd.TheVariants as Fault
 use Rattle.c_lex.specs.declared.token.Token.{Token}
@@ -25,7 +26,8 @@ pub record IsProgram (source : List ℕ) (tokens : List Token) (program : Progra
   pub spelled : Answers tokens (Ok program)
 
 -- the text spells a well-formed program, which is this one with its names resolved
-pub record IsWellFormed (source : List ℕ) (tokens : List Token) (program : Program) (resolved : Resolved) : Type 0 where
+pub record IsWellFormed (source : List ℕ) (tokens : List Token) (program : Program)
+    (resolved : Resolved) : Type 0 where
   pub is : IsProgram source tokens program
   pub scoped : scope_of source tokens program ≡ Ok resolved
 
@@ -33,8 +35,10 @@ pub record IsWellFormed (source : List ℕ) (tokens : List Token) (program : Pro
 abbrev pub place_in : List ℕ → List Token → Program → List ℕ → Option ℕ
 place_in source tokens program name = place_of_function source tokens program.functions name
 
--- the text spells a well-formed program, where the two names are those of the functions `left` and `right`, at these places
-pub record AreNamed (source first second : List ℕ) (two : TwoFunctions) (left right : Function) : Type 0 where
+-- the text spells a well-formed program, where the two names are those of the functions `left` and
+-- `right`, at these places
+pub record AreNamed (source first second : List ℕ) (two : TwoFunctions) (left right : Function) :
+    Type 0 where
   pub tokens : List Token
   pub program : Program
   pub is : IsWellFormed source tokens program two.program
@@ -51,25 +55,35 @@ missing (Some i) (Some j) = None
 
 -- the text is a list of tokens, which the parser refuses for this cause
 abbrev pub IsUnparsed : List ℕ → ParseEnd → Type 0
-IsUnparsed source end = (tokens : List Token) × (tokens_of source ≡ Ok tokens) × Answers tokens (Err end) × (end ≢ Flaw.NoMemory)
+IsUnparsed source end =
+    (tokens : List Token) × (tokens_of source ≡ Ok tokens) × Answers tokens (Err end) ×
+    (end ≢ Flaw.NoMemory)
 
 -- the text spells a program that isn't well formed, and this is its first fault
 abbrev pub IsIllFormed : List ℕ → ScopeEnd → Type 0
-IsIllFormed source end = (tokens : List Token) × (program : Program) × IsProgram source tokens program × (scope_of source tokens program ≡ Err end)
+IsIllFormed source end =
+    (tokens : List Token) × (program : Program) × IsProgram source tokens program ×
+    (scope_of source tokens program ≡ Err end)
 
--- the text spells a well-formed program, where no function has the first name, which is 1, or else none has the second, which is 2
+-- the text spells a well-formed program, where no function has the first name, which is 1, or else
+-- none has the second, which is 2
 abbrev pub LacksFunction : List ℕ → List ℕ → List ℕ → ℕ → Type 0
 LacksFunction source first second name =
-    (tokens : List Token) × (program : Program) × (resolved : Resolved) × IsWellFormed source tokens program resolved
-    × (missing (place_in source tokens program first) (place_in source tokens program second) ≡ Some name)
+    (tokens : List Token) × (program : Program) × (resolved : Resolved) ×
+    IsWellFormed source tokens program resolved
+    × (missing (place_in source tokens program first) (place_in source tokens program second) ≡
+    Some name)
 
 -- both names have functions, whose numbers of parameters are these and differ
 abbrev pub HaveDifferentArities : List ℕ → List ℕ → List ℕ → ℕ → ℕ → Type 0
 HaveDifferentArities source first second m n =
-    (two : TwoFunctions) × (left : Function) × (right : Function) × AreNamed source first second two left right
+    (two : TwoFunctions) × (left : Function) × (right : Function) ×
+    AreNamed source first second two left right
     × (length left.params ≡ m) × (length right.params ≡ n) × (m ≢ n)
 
--- why a text is refused for two names, whatever the precondition is. The causes exclude each other: a text has at most one list of tokens, the list spells at most one program, and the program has at most one resolution
+-- why a text is refused for two names, whatever the precondition is. The causes exclude each other:
+-- a text has at most one list of tokens, the list spells at most one program, and the program has
+-- at most one resolution
 abbrev pub IsRefused : List ℕ → List ℕ → List ℕ → Refusal → Type 0
 IsRefused source first second (Lex fault) = tokens_of source ≡ Err fault
 IsRefused source first second (Parse end) = IsUnparsed source end
@@ -80,17 +94,21 @@ IsRefused source first second (PreLex fault) = ⊥
 IsRefused source first second (PreParse end) = ⊥
 IsRefused source first second (PreName token) = ⊥
 
--- the two names are those of two functions of the well-formed program that the text spells, and these have equally many parameters
-pub record AreComparable (source first second : List ℕ) (two : TwoFunctions) (left right : Function) : Type 0 where
+-- the two names are those of two functions of the well-formed program that the text spells, and
+-- these have equally many parameters
+pub record AreComparable (source first second : List ℕ) (two : TwoFunctions) (left right : Function)
+    : Type 0 where
   pub are_named : AreNamed source first second two left right
   pub counts : length left.params ≡ length right.params
 
 -- what the front end says
 abbrev pub IsReading : List ℕ → List ℕ → List ℕ → Next Refusal TwoFunctions → Type 0
 IsReading source first second (Ends refusal) = IsRefused source first second refusal
-IsReading source first second (Goes two) = (left : Function) × (right : Function) × AreComparable source first second two left right
+IsReading source first second (Goes two) =
+    (left : Function) × (right : Function) × AreComparable source first second two left right
 
--- it can be said in a line: it is neither out of memory, nor an end of programs alone or of preconditions alone that stands for the other
+-- it can be said in a line: it is neither out of memory, nor an end of programs alone or of
+-- preconditions alone that stands for the other
 abbrev pub IsSayable : Refusal → Type 0
 IsSayable (Lex Fault.NoMemory) = ⊥
 IsSayable (Parse Flaw.NoMemory) = ⊥

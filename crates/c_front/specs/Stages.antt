@@ -1,4 +1,5 @@
--- Stages of a run. A stage says of what it is given that the run ends, or what goes on to the next stage. It is a relation, as the grammar is one.
+-- Stages of a run. A stage says of what it is given that the run ends, or what goes on to the next
+-- stage. It is a relation, as the grammar is one.
 use Rattle.std.specs.Prelude.{◌≡◌, ◌⊎◌, ⊤, Result, Ok, Err}
 use Rattle.c_front.specs.declared.stages.Next.{Next}
 use Rattle.c_front.specs.declared.stages.Next.TheVariants.{Ends, Goes}
@@ -16,7 +17,8 @@ module _ {D E A B : Type 0} where
 -- one stage, and then another where the first goes on
 module _ {E A B C : Type 0} where
   abbrev pub before : Stage E A B → Stage E B C → Stage E A C
-  before first second a (Ends end) = first a (Ends end) ⊎ ((b : B) × first a (Goes b) × second b (Ends end))
+  before first second a (Ends end) =
+      first a (Ends end) ⊎ ((b : B) × first a (Goes b) × second b (Ends end))
   before first second a (Goes c) = (b : B) × first a (Goes b) × second b (Goes c)
 
 -- what goes on is so

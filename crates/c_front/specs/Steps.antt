@@ -15,7 +15,8 @@ HaveFewParams functions = All (λ (f : Function). length f.params < 2 ^ 32) func
 
 -- so have the two
 abbrev pub CanBeCounted : TwoFunctions → Type 0
-CanBeCounted two = (count_in two.program two.first < 2 ^ 32) × (count_in two.program two.second < 2 ^ 32)
+CanBeCounted two =
+    (count_in two.program two.first < 2 ^ 32) × (count_in two.program two.second < 2 ^ 32)
 
 -- the two functions alone
 abbrev pub two_of : Next Refusal NamedText → Next Refusal TwoFunctions

@@ -61,7 +61,8 @@ fn resolve_in(
     requires within { IsWithin source.now text.now.tokens }
     requires few { length function.now.params < 2 ^ 32 }
     requires pre_within { IsWithin bytes.now read.now.tokens }
-    ensures stage { IfOk result (IsResolved (resolved_pre source.now text.now.tokens function.now.params bytes.now read.now.tokens read.now.pre)) }
+    ensures stage { IfOk result (IsResolved (resolved_pre source.now text.now.tokens
+        function.now.params bytes.now read.now.tokens read.now.pre)) }
     ensures sayable { IfOk result IsSayableNext }
 {
     let tokens = text.tokens.as_slice();

@@ -190,7 +190,8 @@ pub fn compared_functions(
 ) -> Result<Next<Refusal, Compared>, NoMemory>
     requires source { length source.now ≤ 1048576 }
     requires precondition { MatchOption precondition ⊤ (λ bytes. length bytes.now ≤ 1048576) }
-    ensures front { IfOk result (whole_front source.now first.now second.now (bytes_of precondition.entry)) }
+    ensures front { IfOk result (whole_front source.now first.now second.now
+        (bytes_of precondition.entry)) }
     ensures sayable { IfOk result IsSayableNext }
 {
     match named_text(alloc, source, first, second)? {

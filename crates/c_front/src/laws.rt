@@ -8,9 +8,9 @@ ghost use Rattle.c_front.specs.declared.pairs.TwoFunctions.{TwoFunctions};
 ghost use Rattle.c_front.specs.declared.refusals.Refusal.{Refusal};
 ghost use Rattle.c_front.specs.declared.stages.Next.{Next};
 
-/// A text, two names and a precondition have at most one answer of the front end (`one`). Each answer
-/// on the names comes exactly where its cause holds, as a fact of the text (`causes`). A law; it does
-/// nothing.
+/// A text, two names and a precondition have at most one answer of the front end (`one`). Each
+/// answer on the names comes exactly where its cause holds, as a fact of the text (`causes`). A
+/// law; it does nothing.
 pub fn a_text_has_one_answer()
     ensures one { (source first second : List ℕ) (pre : Option (List ℕ))
         (x y : Next Refusal Compared) → whole_front source first second pre x →

@@ -17,21 +17,28 @@ until_le p [] = omega arith
 until_le p (x ∷ xs) = omega (arith, step_le (p (x ∷ xs)) (until p xs) (length xs) (until_le p xs))
 
 -- from one place on, it is that place, or it is looked for behind it
-pub until_turn : (p : List ℕ → Bool) (xs : List ℕ) (i : ℕ) → i < length xs → until p (drop i xs) ≡ cond (p (drop i xs)) 0 (1 + until p (drop (i + 1) xs))
+pub until_turn : (p : List ℕ → Bool) (xs : List ℕ) (i : ℕ) → i < length xs → until p (drop i xs) ≡
+    cond (p (drop i xs)) 0 (1 + until p (drop (i + 1) xs))
 unfolding until
 until_turn p xs i h =
-    at_drop_more (until p) xs i 0 h ∙ ap (λ b. cond b 0 (1 + until p (drop (i + 1) xs))) (sym (at_drop_more p xs i 0 h))
+    at_drop_more (until p) xs i 0 h ∙ ap (λ b. cond b 0 (1 + until p (drop (i + 1) xs)))
+    (sym (at_drop_more p xs i 0 h))
 
 -- the place where the test stands, and none before it, is the first
-pub until_found : (p : List ℕ → Bool) (xs : List ℕ) (i limit : ℕ) → i < limit → limit ≤ length xs → i + until p (drop i xs) ≡ until p xs → p (drop i xs) ≡ true → i ≡ min (until p xs) limit
+pub until_found : (p : List ℕ → Bool) (xs : List ℕ) (i limit : ℕ) → i < limit → limit ≤ length xs →
+    i + until p (drop i xs) ≡ until p xs → p (drop i xs) ≡ true → i ≡ min (until p xs) limit
 until_found p xs i limit below within passed test =
-    let here : until p (drop i xs) ≡ 0 = until_turn p xs i (omega arith) ∙ ap (λ b. cond b 0 (1 + until p (drop (i + 1) xs))) test in
+    let here : until p (drop i xs) ≡ 0 = until_turn p xs i (omega arith) ∙
+    ap (λ b. cond b 0 (1 + until p (drop (i + 1) xs))) test in
     omega arith
 
 -- a place where the test doesn't stand is passed
-pub until_more : (p : List ℕ → Bool) (xs : List ℕ) (i : ℕ) → i < length xs → i + until p (drop i xs) ≡ until p xs → p (drop i xs) ≡ false → (i + 1) + until p (drop (i + 1) xs) ≡ until p xs
+pub until_more : (p : List ℕ → Bool) (xs : List ℕ) (i : ℕ) → i < length xs → i +
+    until p (drop i xs) ≡ until p xs → p (drop i xs) ≡ false → (i + 1) + until p (drop (i + 1) xs) ≡
+    until p xs
 until_more p xs i below passed test =
-    let here : until p (drop i xs) ≡ 1 + until p (drop (i + 1) xs) = until_turn p xs i below ∙ ap (λ b. cond b 0 (1 + until p (drop (i + 1) xs))) test in
+    let here : until p (drop i xs) ≡ 1 + until p (drop (i + 1) xs) = until_turn p xs i below ∙
+    ap (λ b. cond b 0 (1 + until p (drop (i + 1) xs))) test in
     omega arith
 
 -- where the test fails at the front, the place lies behind it
@@ -43,7 +50,8 @@ step_some false n h = omega arith
 pub line_comment_some : (xs : List ℕ) → get_or xs 0 0 ≡ slash → 1 ≤ until at_line_end xs
 unfolding until
 line_comment_some [] h = absurd (omega arith)
-line_comment_some (x ∷ xs) h = step_some (at_line_end (x ∷ xs)) (until at_line_end xs) (ap (λ b. b == line_feed) h)
+line_comment_some (x ∷ xs) h =
+    step_some (at_line_end (x ∷ xs)) (until at_line_end xs) (ap (λ b. b == line_feed) h)
 
 -- an include line has a byte
 pub include_line_some : (xs : List ℕ) → get_or xs 0 0 ≡ hash → 1 ≤ until at_include_end xs
@@ -64,7 +72,8 @@ close_two x [] h = absurd (false≢true (sym (and_false (x == star)) ∙ h))
 close_two x (y ∷ xs) h = omega arith
 
 -- so they do one byte further on
-close_step : (b : Bool) (n m : ℕ) → (b ≡ true → 1 ≤ m) → (n < m → n + 2 ≤ m) → cond b 0 (1 + n) < 1 + m → cond b 0 (1 + n) + 2 ≤ 1 + m
+close_step : (b : Bool) (n m : ℕ) → (b ≡ true → 1 ≤ m) → (n < m → n + 2 ≤ m) → cond b 0 (1 + n) <
+    1 + m → cond b 0 (1 + n) + 2 ≤ 1 + m
 close_step true n m here behind h = omega (arith, here refl)
 close_step false n m here behind h = omega (arith, behind (omega arith))
 
@@ -73,10 +82,16 @@ pub close_fits : (xs : List ℕ) → until at_close xs < length xs → until at_
 unfolding until
 close_fits [] h = absurd (omega arith)
 close_fits (x ∷ xs) h =
-    omega (arith, close_step (at_close (x ∷ xs)) (until at_close xs) (length xs) (close_two x xs) (close_fits xs) (omega arith))
+    omega (
+      arith,
+      close_step (at_close (x ∷ xs)) (until at_close xs) (length xs) (close_two x xs)
+          (close_fits xs) (omega arith),
+    )
 
 -- the test stands at the first place, one byte further on
-stands_step : (p : List ℕ → Bool) (x : ℕ) (xs : List ℕ) (b : Bool) → p (x ∷ xs) ≡ b → (n : ℕ) → cond b 0 (1 + n) < suc (length xs) → (n < length xs → p (drop n xs) ≡ true) → p (drop (cond b 0 (1 + n)) (x ∷ xs)) ≡ true
+stands_step : (p : List ℕ → Bool) (x : ℕ) (xs : List ℕ) (b : Bool) → p (x ∷ xs) ≡ b → (n : ℕ) →
+    cond b 0 (1 + n) < suc (length xs) → (n < length xs → p (drop n xs) ≡ true) →
+    p (drop (cond b 0 (1 + n)) (x ∷ xs)) ≡ true
 stands_step p x xs true is n h behind = is
 stands_step p x xs false is n h behind =
     let e : 1 + n ≡ suc n = omega arith in
@@ -88,19 +103,23 @@ and_second true b h = h
 and_second false b h = absurd (false≢true h)
 
 -- where the place lies within the text, the test stands there
-pub until_stands : (p : List ℕ → Bool) (xs : List ℕ) → until p xs < length xs → p (drop (until p xs) xs) ≡ true
+pub until_stands : (p : List ℕ → Bool) (xs : List ℕ) → until p xs < length xs →
+    p (drop (until p xs) xs) ≡ true
 unfolding until
 until_stands p [] h = absurd (omega arith)
 until_stands p (x ∷ xs) h = stands_step p x xs (p (x ∷ xs)) refl (until p xs) h (until_stands p xs)
 
 -- a block comment ends in a slash
-pub close_slash : (rest : List ℕ) → until at_close (drop 2 rest) < length (drop 2 rest) → get_or rest (until at_close (drop 2 rest) + 3) 0 ≡ slash
+pub close_slash : (rest : List ℕ) → until at_close (drop 2 rest) < length (drop 2 rest) →
+    get_or rest (until at_close (drop 2 rest) + 3) 0 ≡ slash
 close_slash rest h =
     let n = until at_close (drop 2 rest) in
     let here : at_close (drop n (drop 2 rest)) ≡ true = until_stands at_close (drop 2 rest) h in
-    let second : get_or (drop n (drop 2 rest)) 1 0 ≡ slash = eqb-true _ _ (and_second (get_or (drop n (drop 2 rest)) 0 0 == star) _ here) in
+    let second : get_or (drop n (drop 2 rest)) 1 0 ≡ slash =
+    eqb-true _ _ (and_second (get_or (drop n (drop 2 rest)) 0 0 == star) _ here) in
     let e : n + 3 ≡ 2 + (n + 1) = omega arith in
-    ap (λ k. get_or rest k 0) e ∙ sym (get_or-drop 2 rest (n + 1) 0) ∙ sym (get_or-drop n (drop 2 rest) 1 0) ∙ second
+    ap (λ k. get_or rest k 0) e ∙ sym (get_or-drop 2 rest (n + 1) 0) ∙
+    sym (get_or-drop n (drop 2 rest) 1 0) ∙ second
 
 -- the first of two facts
 and_first : (a b : Bool) → (a && b) ≡ true → a ≡ true

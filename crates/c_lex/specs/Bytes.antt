@@ -43,7 +43,9 @@ is_space b = b == space || b == tab
 
 -- a byte that separates tokens
 abbrev pub is_separator : ℕ → Bool
-is_separator b = (((is_space b || b == carriage_return) || b == line_feed) || b == vertical_tab) || b == form_feed
+is_separator b =
+    (((is_space b || b == carriage_return) || b == line_feed) || b == vertical_tab) ||
+    b == form_feed
 
 -- 0 to 9
 abbrev pub is_digit : ℕ → Bool
@@ -79,7 +81,9 @@ at_close text = begins star slash text
 
 -- a backslash stands here, directly before LF, or before CR LF
 abbrev pub at_splice : List ℕ → Bool
-at_splice text = begins backslash line_feed text || (begins backslash carriage_return text && slice_index text 2 == line_feed)
+at_splice text =
+    begins backslash line_feed text || (begins backslash carriage_return text &&
+    slice_index text 2 == line_feed)
 
 -- how many bytes stand in front of the first place that the test accepts, or all of them
 unfoldable pub until : (List ℕ → Bool) → List ℕ → ℕ

@@ -13,9 +13,11 @@ EndsBelow limit at (Blank n) = at + n < limit
 EndsBelow limit at (Spelled kind n) = at + n < limit
 EndsBelow limit at (Bad fault n) = at + n < limit
 
--- a token is added, for which memory may be wanting; all else leaves the list as it was; a fault is answered
+-- a token is added, for which memory may be wanting; all else leaves the list as it was; a fault is
+-- answered
 abbrev pub Keeps : Piece → ℕ → List Token → List Token → Result ℕ LexEnd → Type 0
 Keeps (Blank n) at old new result = MatchResult result (λ len. (len ≡ n) × (new ≡ old)) (λ _. ⊥)
 Keeps (Spelled kind n) at old new result =
-    MatchResult result (λ len. (len ≡ n) × (new ≡ old ++ record { kind = kind; at = at; len = n } ∷ [])) (λ e. e ≡ NoMemory)
+    MatchResult result (λ len. (len ≡ n) × (new ≡ old ++ record { kind = kind; at = at; len = n } ∷
+    [])) (λ e. e ≡ NoMemory)
 Keeps (Bad fault n) at old new result = MatchResult result (λ _. ⊥) (λ e. e ≡ end_at fault (at + n))

@@ -1,4 +1,5 @@
--- The 30 marks (punctuators of the subset: ISO/IEC 9899:1999, 6.4.6), and which of them two bytes or one byte are.
+-- The 30 marks (punctuators of the subset: ISO/IEC 9899:1999, 6.4.6), and which of them two bytes
+-- or one byte are.
 use Rattle.std.specs.Prelude.{ℕ, ◌&&◌, ◌==◌, if◌then◌else◌, List, Option, Some, None, codes}
 use Rattle.c_lex.specs.declared.token.Mark.{Mark}
 use Rattle.c_lex.specs.declared.token.Mark.TheVariants.{LeftParen, RightParen, LeftBrace, RightBrace, Comma, Semicolon, Question, Colon, Assign, EqualEqual, NotEqual, Less, LessEqual, Greater, GreaterEqual, Plus, Minus, Star, Slash, Percent, Not, AndAnd, OrOr, PlusAssign, MinusAssign, StarAssign, SlashAssign, PercentAssign, PlusPlus, MinusMinus}

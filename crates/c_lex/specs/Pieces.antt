@@ -1,4 +1,5 @@
--- What begins at a place of the text: something that is not kept (a separator, a comment, an include line), a token, or a fault.
+-- What begins at a place of the text: something that is not kept (a separator, a comment, an
+-- include line), a token, or a fault.
 use Rattle.std.specs.Prelude.{ℕ, ◌+◌, ◌^◌, ◌<◌, ◌≤◌, ◌≡◌, Bool, ◌&&◌, ◌||◌, ◌==◌, nat_le, nat_lt, if◌then◌else◌, List, length, take, drop, fold, slice_index, Option, Some, None, codes, bytes_eq, pos}
 use Rattle.std.specs.List.{prefix_len}
 use Rattle.c_lex.specs.declared.piece.Piece.{Piece}
@@ -36,7 +37,8 @@ number rest =
 
 -- The first n bytes are not kept, unless a backslash among them stands directly before a line end.
 unfoldable pub blank : ℕ → List ℕ → Piece
-blank n rest = if nat_lt (until at_splice rest) n then Bad BadByte (until at_splice rest) else Blank n
+blank n rest =
+    if nat_lt (until at_splice rest) n then Bad BadByte (until at_splice rest) else Blank n
 
 -- from `/*` to the first `*/` behind it
 unfoldable pub block_comment : List ℕ → Piece
@@ -61,7 +63,8 @@ names_include rest =
 -- from `#`, in front of which its line has only spaces and tabs where `fresh`
 unfoldable pub directive : Bool → List ℕ → Piece
 directive fresh rest =
-    if fresh && names_include (drop 1 rest) then blank (until at_include_end rest) rest else Bad Directive 0
+    if fresh && names_include (drop 1 rest) then blank (until at_include_end rest) rest else
+    Bad Directive 0
 
 -- the longest of the marks that begin here
 abbrev pub longest : Option TheMark → Option TheMark → Piece
@@ -69,7 +72,8 @@ longest (Some two) one = Spelled (Mark two) 2
 longest None (Some one) = Spelled (Mark one) 1
 longest None None = Bad BadByte 0
 
--- What begins at the front of the text. `fresh` says that only spaces and tabs stand between it and the line end before it.
+-- What begins at the front of the text. `fresh` says that only spaces and tabs stand between it and
+-- the line end before it.
 unfoldable pub piece : Bool → List ℕ → Piece
 piece fresh rest =
     let b = slice_index rest 0 in
@@ -83,10 +87,12 @@ piece fresh rest =
 
 -- behind the first n bytes a line is as fresh as behind the first of them
 abbrev pub IsSeenAtFront : List ℕ → ℕ → Type 0
-IsSeenAtFront rest n = (fresh : Bool) → fold fresh_behind fresh (take n rest) ≡ fresh_behind fresh (slice_index rest 0)
+IsSeenAtFront rest n =
+    (fresh : Bool) → fold fresh_behind fresh (take n rest) ≡ fresh_behind fresh (slice_index rest 0)
 
 -- a piece has at least one byte, lies within the text, and its bytes spell its kind
 abbrev pub IsPieceOf : List ℕ → Piece → Type 0
 IsPieceOf rest (Blank n) = (1 ≤ n) × (n ≤ length rest) × IsSeenAtFront rest n
-IsPieceOf rest (Spelled kind n) = (1 ≤ n) × (n ≤ length rest) × IsSeenAtFront rest n × Spells kind (take n rest)
+IsPieceOf rest (Spelled kind n) =
+    (1 ≤ n) × (n ≤ length rest) × IsSeenAtFront rest n × Spells kind (take n rest)
 IsPieceOf rest (Bad fault n) = n < length rest

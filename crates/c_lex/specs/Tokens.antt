@@ -31,8 +31,9 @@ follow (Blank n) at behind = behind n
 follow (Spelled kind n) at behind = put (record { kind = kind; at = at; len = n }) (behind n)
 follow (Bad fault n) at behind = Err (end_at fault (at + n))
 
--- The tokens of the text that stands at the offset. Its first bytes, `covered` in number, belong to the piece before; `fresh` says that only spaces
--- and tabs stand between the text and the line end before it.
+-- The tokens of the text that stands at the offset. Its first bytes, `covered` in number, belong to
+-- the piece before; `fresh` says that only spaces and tabs stand between the text and the line end
+-- before it.
 unfoldable pub tokens_from : ℕ → Bool → ℕ → List ℕ → Result (List Token) LexEnd
 tokens_from covered fresh at [] = Ok []
 tokens_from (suc covered) fresh at (x ∷ xs) = tokens_from covered (fresh_behind fresh x) (suc at) xs
@@ -51,7 +52,8 @@ Gives (Err e) answer = answer ≡ Err e
 
 -- the token is a slice of the text, of one byte at least, and the slice spells its kind
 abbrev pub IsTokenOf : List ℕ → Token → Type 0
-IsTokenOf source t = (1 ≤ t.len) × (t.at + t.len ≤ length source) × Spells t.kind (take t.len (drop t.at source))
+IsTokenOf source t =
+    (1 ≤ t.len) × (t.at + t.len ≤ length source) × Spells t.kind (take t.len (drop t.at source))
 
 -- the first token ends before the second begins
 abbrev pub IsBefore : Token → Token → Type 0

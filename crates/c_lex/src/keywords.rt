@@ -1,4 +1,5 @@
-//! Which keyword a word is. Words of one length are compared with the keywords of that length alone.
+//! Which keyword a word is. Words of one length are compared with the keywords of that length
+//! alone.
 ghost use Rattle.std.specs.Prelude.{◌≡◌};
 ghost use Rattle.c_lex.specs.Keywords as spec;
 

@@ -80,7 +80,8 @@ fn number(rest: &[u8]) -> Piece
     Piece::Spelled(TokenKind::Number(value as i64), len)
 }
 
-/// So many bytes that are not kept, unless a backslash among them stands directly before a line end.
+/// So many bytes that are not kept, unless a backslash among them stands directly before a line
+/// end.
 #[tactic(auto, unfolding(crate::specs::Pieces::blank))]
 fn blank(len: usize, rest: &[u8]) -> Piece
     requires some { 1 ≤ len }
@@ -132,7 +133,8 @@ fn names_include(rest: &[u8]) -> bool
     &behind[..run(Class::Word, behind)] == b"include".as_slice()
 }
 
-/// What a `#` begins, where `fresh` says that only spaces and tabs stand in front of it on its line.
+/// What a `#` begins, where `fresh` says that only spaces and tabs stand in front of it on its
+/// line.
 #[tactic(auto, unfolding(crate::specs::Pieces::directive))]
 fn directive(fresh: bool, rest: &[u8]) -> Piece
     requires { slice_index rest.now 0 ≡ bytes_spec.hash }
@@ -150,7 +152,8 @@ fn directive(fresh: bool, rest: &[u8]) -> Piece
 fn mark(rest: &[u8]) -> Piece
     requires { 1 ≤ length rest.now }
     ensures value { result
-        ≡ spec.longest (two_mark (slice_index rest.now 0) (slice_index rest.now 1)) (one_mark (slice_index rest.now 0)) }
+        ≡ spec.longest (two_mark (slice_index rest.now 0) (slice_index rest.now 1))
+        (one_mark (slice_index rest.now 0)) }
     ensures part { spec.IsPieceOf rest.now result }
 {
     let first = byte_at(rest, 0);
@@ -161,7 +164,8 @@ fn mark(rest: &[u8]) -> Piece
     }
 }
 
-/// What begins at the front of the text, where `fresh` says that only spaces and tabs stand in front of it on its line.
+/// What begins at the front of the text, where `fresh` says that only spaces and tabs stand in
+/// front of it on its line.
 #[tactic(auto, unfolding(crate::specs::Pieces::piece))]
 pub(crate) fn piece_at_front(fresh: bool, rest: &[u8]) -> Piece
     requires { 1 ≤ length rest.now }

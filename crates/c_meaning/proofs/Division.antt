@@ -52,7 +52,8 @@ truncated x y nonzero = record {
   not_above = not_above x y;
 }
 
-module _ (calls : Calls) (a b : Expr) (s : State) (x y : ℤ) (left : expr calls a s ≡ Value x) (right : expr calls b s ≡ Value y) where
+module _ (calls : Calls) (a b : Expr) (s : State) (x y : ℤ) (left : expr calls a s ≡ Value x)
+    (right : expr calls b s ≡ Value y) where
   -- the two expressions divide the values of their operands
   quotient_outcome : expr calls (Binary Op.Div a b) s ≡ quotient x y
   quotient_outcome = expr-Binary calls Op.Div a b s ∙ rw (left, right) refl
@@ -60,14 +61,19 @@ module _ (calls : Calls) (a b : Expr) (s : State) (x y : ℤ) (left : expr calls
   remainder_outcome : expr calls (Binary Op.Rem a b) s ≡ remainder x y
   remainder_outcome = expr-Binary calls Op.Rem a b s ∙ rw (left, right) refl
 
-  pub truncates : ¬ (y ≡ pos 0) → Truncates x y (expr calls (Binary Op.Div a b) s) (expr calls (Binary Op.Rem a b) s)
+  pub truncates : ¬ (y ≡ pos 0) → Truncates x y (expr calls (Binary Op.Div a b) s)
+      (expr calls (Binary Op.Rem a b) s)
   truncates nonzero =
       let Q : Outcome ℤ → Type 0 = λ o. Truncates x y o (expr calls (Binary Op.Rem a b) s) in
       let R : Outcome ℤ → Type 0 = λ o. Truncates x y (quotient x y) o in
       subst Q (sym quotient_outcome) (subst R (sym remainder_outcome) (truncated x y nonzero))
 
 -- by 0 both give the division error
-pub by_zero : (calls : Calls) (a b : Expr) (s : State) (x : ℤ) → expr calls a s ≡ Value x → expr calls b s ≡ Value (pos 0)
-    → (expr calls (Binary Op.Div a b) s ≡ DivisionError) × (expr calls (Binary Op.Rem a b) s ≡ DivisionError)
-by_zero calls a b s x left right =
-    (quotient_outcome calls a b s x (pos 0) left right, remainder_outcome calls a b s x (pos 0) left right)
+pub by_zero : (calls : Calls) (a b : Expr) (s : State) (x : ℤ) → expr calls a s ≡ Value x →
+    expr calls b s ≡ Value (pos 0)
+    → (expr calls (Binary Op.Div a b) s ≡ DivisionError) ×
+    (expr calls (Binary Op.Rem a b) s ≡ DivisionError)
+by_zero calls a b s x left right = (
+  quotient_outcome calls a b s x (pos 0) left right,
+  remainder_outcome calls a b s x (pos 0) left right,
+)

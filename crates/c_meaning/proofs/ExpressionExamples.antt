@@ -1,5 +1,7 @@
--- The definitions, run on programs of expressions and calls. The values come from an independent second program that runs C by rounds. Of most calls stand here
--- the least number of rounds with which they have an outcome, and with one round less that more are needed: the test that ends a loop takes a round.
+-- The definitions, run on programs of expressions and calls. The values come from an independent
+-- second program that runs C by rounds. Of most calls stand here the least number of rounds with
+-- which they have an outcome, and with one round less that more are needed: the test that ends a
+-- loop takes a round.
 use Rattle.std.proofs.Common.{◌≡◌, ℕ, zero, suc, pos, negsuc, None, List, [], ◌∷◌, refl}
 use Rattle.c_ast.specs.declared.expr.UnOp.TheVariants as Sign
 use Rattle.c_ast.specs.declared.expr.BinOp.TheVariants as Op
@@ -91,7 +93,8 @@ left_over-4 = simp equations
 left_over-5 : call_outcome left_over 1 0 (pos 5 ∷ pos 0 ∷ []) ≡ DivisionError
 left_over-5 = simp equations
 
--- int f(int a, int b) { return (a < b) + 2 * (a <= b) + 4 * (a > b) + 8 * (a >= b) + 16 * (a == b) + 32 * (a != b) + 64 * !a; }
+-- int f(int a, int b) { return (a < b) + 2 * (a <= b) + 4 * (a > b) + 8 * (a >= b) + 16 * (a == b)
+-- + 32 * (a != b) + 64 * !a; }
 abbrev compared : Resolved
 compared = record {
   functions =
@@ -179,7 +182,8 @@ abbrev chosen : Resolved
 chosen = record {
   functions =
       function 1 (0 ∷ 1 ∷ []) (
-      (Return (Choose (Binary Op.Gt (Var 0) (Var 1)) (Binary Op.Sub (Var 0) (Var 1)) (Binary Op.Div (Var 1) (Var 0)))) ∷
+      (Return (Choose (Binary Op.Gt (Var 0) (Var 1)) (Binary Op.Sub (Var 0) (Var 1))
+      (Binary Op.Div (Var 1) (Var 0)))) ∷
       []) ∷
       [];
 }
@@ -228,7 +232,8 @@ never_first = record {
 never_first-1 : call_outcome never_first 6 0 (pos 0 ∷ []) ≡ More
 never_first-1 = simp equations
 
--- int f(int a) { return pair(1 / a, never()); } int pair(int x, int y) { return x; } int never(void) { while (1) { } }
+-- int f(int a) { return pair(1 / a, never()); } int pair(int x, int y) { return x; } int
+-- never(void) { while (1) { } }
 abbrev arguments : Resolved
 arguments = record {
   functions =

@@ -1,5 +1,7 @@
--- The definitions, run on programs of loops and other statements. The values come from an independent second program that runs C by rounds. Of most calls stand here
--- the least number of rounds with which they have an outcome, and with one round less that more are needed: the test that ends a loop takes a round.
+-- The definitions, run on programs of loops and other statements. The values come from an
+-- independent second program that runs C by rounds. Of most calls stand here the least number of
+-- rounds with which they have an outcome, and with one round less that more are needed: the test
+-- that ends a loop takes a round.
 use Rattle.std.proofs.Common.{◌≡◌, ℕ, zero, suc, pos, Some, None, List, [], ◌∷◌, refl, sym, ◌∙◌}
 use Rattle.c_ast.specs.declared.expr.BinOp.TheVariants as Op
 use Rattle.c_ast.specs.declared.expr.Expr.TheVariants.{Lit, Var, Binary, Choose, Apply}
@@ -22,7 +24,8 @@ root = record {
       function 1 (0 ∷ []) (
       (Declare 1 None) ∷
       (Assign 1 (Lit (pos 0))) ∷
-      (While (Binary Op.Lt (Binary Op.Mul (Var 1) (Var 1)) (Var 0)) (Assign 1 (Binary Op.Add (Var 1) (Lit (pos 1))))) ∷
+      (While (Binary Op.Lt (Binary Op.Mul (Var 1) (Var 1)) (Var 0))
+      (Assign 1 (Binary Op.Add (Var 1) (Lit (pos 1))))) ∷
       (Return (Var 1)) ∷
       []) ∷
       [];
@@ -58,10 +61,12 @@ power = record {
 power-1 : call_outcome power 6 0 (pos 5 ∷ []) ≡ More
 power-1 = simp equations
 
-power-2 : call_outcome power 7 0 (pos 5 ∷ []) ≡ Value (pos 1000000035000000490000003430000012005000016807)
+power-2 : call_outcome power 7 0 (pos 5 ∷ []) ≡
+    Value (pos 1000000035000000490000003430000012005000016807)
 power-2 = simp equations
 
--- int f(int n) { int i = 0; do { i = i + 2; if (i == 4) continue; n = n - 1; } while (n > 0); return i; }
+-- int f(int n) { int i = 0; do { i = i + 2; if (i == 4) continue; n = n - 1; } while (n > 0);
+-- return i; }
 abbrev repeated : Resolved
 repeated = record {
   functions =
@@ -71,7 +76,8 @@ repeated = record {
       (Block
       ((Assign 1 (Binary Op.Add (Var 1) (Lit (pos 2)))) ∷
       (If (Binary Op.Eq (Var 1) (Lit (pos 4))) (Continue 26) None) ∷
-      (Assign 0 (Binary Op.Sub (Var 0) (Lit (pos 1)))) ∷ [])) (Binary Op.Gt (Var 0) (Lit (pos 0)))) ∷
+      (Assign 0 (Binary Op.Sub (Var 0) (Lit (pos 1)))) ∷ [])) (Binary Op.Gt (Var 0) (Lit (pos 0))))
+      ∷
       (Return (Var 1)) ∷
       []) ∷
       [];
@@ -97,7 +103,8 @@ endless = record {
       (Declare 1 (Some (Lit (pos 0)))) ∷
       (For [] None None
       (Block
-      ((If (Binary Op.Ge (Var 1) (Var 0)) (Break 24) None) ∷ (Assign 1 (Binary Op.Add (Var 1) (Lit (pos 1)))) ∷ []))) ∷
+      ((If (Binary Op.Ge (Var 1) (Var 0)) (Break 24) None) ∷
+      (Assign 1 (Binary Op.Add (Var 1) (Lit (pos 1)))) ∷ []))) ∷
       (Return (Var 1)) ∷
       []) ∷
       [];
@@ -115,7 +122,8 @@ endless-3 = simp equations
 endless-4 : call_outcome endless 4 0 (pos 2 ∷ []) ≡ Value (pos 2)
 endless-4 = simp equations
 
--- int f(int n) { int s = 0; for (int i = 0; i < n; i++) { if (i % 2 == 0) continue; s = s + i; } return s; }
+-- int f(int n) { int s = 0; for (int i = 0; i < n; i++) { if (i % 2 == 0) continue; s = s + i; }
+-- return s; }
 abbrev odd_sum : Resolved
 odd_sum = record {
   functions =
@@ -137,7 +145,8 @@ odd_sum-1 = simp equations
 odd_sum-2 : call_outcome odd_sum 6 0 (pos 4 ∷ []) ≡ Value (pos 4)
 odd_sum-2 = simp equations
 
--- int f(int n) { int s = 0; for (int i = 0; i < n; i++) { int j = 0; while (1) { if (j == i) break; j++; s++; } } return s; }
+-- int f(int n) { int s = 0; for (int i = 0; i < n; i++) { int j = 0; while (1) { if (j == i) break;
+-- j++; s++; } } return s; }
 abbrev nested : Resolved
 nested = record {
   functions =
@@ -150,7 +159,8 @@ nested = record {
       (While (Lit (pos 1))
       (Block
       ((If (Binary Op.Eq (Var 3) (Var 2)) (Break 43) None) ∷
-      (Assign 3 (Binary Op.Add (Var 3) (Lit (pos 1)))) ∷ (Assign 1 (Binary Op.Add (Var 1) (Lit (pos 1))))
+      (Assign 3 (Binary Op.Add (Var 3) (Lit (pos 1)))) ∷
+      (Assign 1 (Binary Op.Add (Var 1) (Lit (pos 1))))
       ∷ []))) ∷ []))) ∷
       (Return (Var 1)) ∷
       []) ∷
@@ -170,7 +180,8 @@ returning = record {
       function 1 (0 ∷ []) (
       (While (Lit (pos 1))
       (Block
-      ((If (Binary Op.Eq (Binary Op.Rem (Var 0) (Lit (pos 3))) (Lit (pos 0))) (Return (Var 0)) None) ∷
+      ((If (Binary Op.Eq (Binary Op.Rem (Var 0) (Lit (pos 3))) (Lit (pos 0))) (Return (Var 0)) None)
+      ∷
       (Assign 0 (Binary Op.Add (Var 0) (Lit (pos 1)))) ∷ []))) ∷
       []) ∷
       [];
@@ -182,7 +193,8 @@ returning-1 = simp equations
 returning-2 : call_outcome returning 4 0 (pos 4 ∷ []) ≡ Value (pos 6)
 returning-2 = simp equations
 
--- int f(int n) { int i = 0; while (below(i, n)) i++; return i; } int below(int a, int b) { return a < b; }
+-- int f(int n) { int i = 0; while (below(i, n)) i++; return i; } int below(int a, int b) { return a
+-- < b; }
 abbrev called_test : Resolved
 called_test = record {
   functions =
@@ -203,7 +215,8 @@ called_test-1 = simp equations
 called_test-2 : call_outcome called_test 5 0 (pos 2 ∷ []) ≡ Value (pos 2)
 called_test-2 = simp equations
 
--- int f(int x) { int y = x; { int x = 2; { int z = x + y; y = z; } y = y * x; } return 10 * x + y; }
+-- int f(int x) { int y = x; { int x = 2; { int z = x + y; y = z; } y = y * x; } return 10 * x + y;
+-- }
 abbrev hidden : Resolved
 hidden = record {
   functions =
@@ -229,7 +242,8 @@ hidden_counter = record {
       (Declare 1 (Some (Lit (pos 0)))) ∷
       (For ((Declare 2 (Some (Lit (pos 0)))) ∷ []) (Some (Binary Op.Lt (Var 2) (Lit (pos 2))))
       (Some (Assign 2 (Binary Op.Add (Var 2) (Lit (pos 1)))))
-      (Block ((Declare 3 (Some (Lit (pos 5)))) ∷ (Assign 1 (Binary Op.Add (Var 1) (Var 3))) ∷ []))) ∷
+      (Block ((Declare 3 (Some (Lit (pos 5)))) ∷ (Assign 1 (Binary Op.Add (Var 1) (Var 3))) ∷ [])))
+      ∷
       (Return (Binary Op.Add (Var 1) (Var 0))) ∷
       []) ∷
       [];
@@ -241,8 +255,8 @@ hidden_counter-1 = simp equations
 hidden_counter-2 : call_outcome hidden_counter 4 0 (pos 100 ∷ []) ≡ Value (pos 110)
 hidden_counter-2 = simp equations
 
--- int f(int n) { int s = 0; while (1) { int a = 1; { int b = 2; n = a + b; if (s < 2) { s++; continue; } break; } } int c = n;
--- return 10 * c + s; }
+-- int f(int n) { int s = 0; while (1) { int a = 1; { int b = 2; n = a + b; if (s < 2) { s++;
+-- continue; } break; } } int c = n; return 10 * c + s; }
 abbrev left_by_break : Resolved
 left_by_break = record {
   functions =
@@ -254,7 +268,8 @@ left_by_break = record {
       (Block
       ((Declare 3 (Some (Lit (pos 2)))) ∷ (Assign 0 (Binary Op.Add (Var 2) (Var 3))) ∷
       (If (Binary Op.Lt (Var 1) (Lit (pos 2)))
-      (Block ((Assign 1 (Binary Op.Add (Var 1) (Lit (pos 1)))) ∷ (Continue 44) ∷ [])) None) ∷ (Break 47) ∷
+      (Block ((Assign 1 (Binary Op.Add (Var 1) (Lit (pos 1)))) ∷ (Continue 44) ∷ [])) None) ∷
+      (Break 47) ∷
       [])) ∷ []))) ∷
       (Declare 2 (Some (Var 0))) ∷
       (Return (Binary Op.Add (Binary Op.Mul (Lit (pos 10)) (Var 2)) (Var 1))) ∷
@@ -268,7 +283,8 @@ left_by_break-1 = simp equations
 left_by_break-2 : call_outcome left_by_break 4 0 (pos 0 ∷ []) ≡ Value (pos 32)
 left_by_break-2 = simp equations
 
--- int f(int a) { int x = 3; if (a == 0) { x = g(a); x = 7; } else ; return x; } int g(int a) { return 10 / a; }
+-- int f(int a) { int x = 3; if (a == 0) { x = g(a); x = 7; } else ; return x; } int g(int a) {
+-- return 10 / a; }
 abbrev error_in_callee : Resolved
 error_in_callee = record {
   functions =
@@ -366,7 +382,8 @@ tail = record {
       function 1 (0 ∷ 1 ∷ []) (
       (Return
       (Choose (Binary Op.Eq (Var 0) (Lit (pos 0))) (Var 1)
-      (Apply 0 ((Binary Op.Sub (Var 0) (Lit (pos 1))) ∷ (Binary Op.Add (Var 1) (Lit (pos 1))) ∷ [])))) ∷
+      (Apply 0 ((Binary Op.Sub (Var 0) (Lit (pos 1))) ∷ (Binary Op.Add (Var 1) (Lit (pos 1))) ∷
+      [])))) ∷
       []) ∷
       [];
 }
@@ -377,8 +394,8 @@ tail-1 = simp equations
 tail-2 : call_outcome tail 4 0 (pos 3 ∷ pos 10 ∷ []) ≡ Value (pos 13)
 tail-2 = simp equations
 
--- int f(int n) { int s = 0; do { if (n == 3) { n = 1; continue; } if (n == 2) break; s = s + n; n = n - 1; } while (n); return 10 *
--- s + n; }
+-- int f(int n) { int s = 0; do { if (n == 3) { n = 1; continue; } if (n == 2) break; s = s + n; n =
+-- n - 1; } while (n); return 10 * s + n; }
 abbrev both_jumps : Resolved
 both_jumps = record {
   functions =
@@ -386,8 +403,10 @@ both_jumps = record {
       (Declare 1 (Some (Lit (pos 0)))) ∷
       (DoWhile
       (Block
-      ((If (Binary Op.Eq (Var 0) (Lit (pos 3))) (Block ((Assign 0 (Lit (pos 1))) ∷ (Continue 25) ∷ [])) None) ∷
-      (If (Binary Op.Eq (Var 0) (Lit (pos 2))) (Break 34) None) ∷ (Assign 1 (Binary Op.Add (Var 1) (Var 0))) ∷
+      ((If (Binary Op.Eq (Var 0) (Lit (pos 3)))
+      (Block ((Assign 0 (Lit (pos 1))) ∷ (Continue 25) ∷ [])) None) ∷
+      (If (Binary Op.Eq (Var 0) (Lit (pos 2))) (Break 34) None) ∷
+      (Assign 1 (Binary Op.Add (Var 1) (Var 0))) ∷
       (Assign 0 (Binary Op.Sub (Var 0) (Lit (pos 1)))) ∷ [])) (Var 0)) ∷
       (Return (Binary Op.Add (Binary Op.Mul (Lit (pos 10)) (Var 1)) (Var 0))) ∷
       []) ∷
@@ -418,7 +437,8 @@ empty_parts = record {
   functions =
       function 1 [] (
       (Declare 0 (Some (Lit (pos 4)))) ∷
-      (For [] (Some (Binary Op.Gt (Var 0) (Lit (pos 1)))) None (Assign 0 (Binary Op.Div (Var 0) (Lit (pos 2))))) ∷
+      (For [] (Some (Binary Op.Gt (Var 0) (Lit (pos 1)))) None
+      (Assign 0 (Binary Op.Div (Var 0) (Lit (pos 2))))) ∷
       Empty ∷
       (Block []) ∷
       (Return (Var 0)) ∷
@@ -432,17 +452,20 @@ empty_parts-1 = simp equations
 empty_parts-2 : call_outcome empty_parts 4 0 [] ≡ Value (pos 1)
 empty_parts-2 = simp equations
 
--- int f(int n) { int s = 0; for (int i = 0, j = n; i < j; i++) { j--; s = 10 * s + j - i; } return s; }
+-- int f(int n) { int s = 0; for (int i = 0, j = n; i < j; i++) { j--; s = 10 * s + j - i; } return
+-- s; }
 abbrev two_counters : Resolved
 two_counters = record {
   functions =
       function 1 (0 ∷ []) (
       (Declare 1 (Some (Lit (pos 0)))) ∷
-      (For ((Declare 2 (Some (Lit (pos 0)))) ∷ (Declare 3 (Some (Var 0))) ∷ []) (Some (Binary Op.Lt (Var 2) (Var 3)))
+      (For ((Declare 2 (Some (Lit (pos 0)))) ∷ (Declare 3 (Some (Var 0))) ∷ [])
+      (Some (Binary Op.Lt (Var 2) (Var 3)))
       (Some (Assign 2 (Binary Op.Add (Var 2) (Lit (pos 1)))))
       (Block
       ((Assign 3 (Binary Op.Sub (Var 3) (Lit (pos 1)))) ∷
-      (Assign 1 (Binary Op.Sub (Binary Op.Add (Binary Op.Mul (Lit (pos 10)) (Var 1)) (Var 3)) (Var 2))) ∷ []))) ∷
+      (Assign 1 (Binary Op.Sub (Binary Op.Add (Binary Op.Mul (Lit (pos 10)) (Var 1)) (Var 3))
+      (Var 2))) ∷ []))) ∷
       (Return (Var 1)) ∷
       []) ∷
       [];
@@ -495,7 +518,8 @@ abbrev error_in_first : Resolved
 error_in_first = record {
   functions =
       function 1 (0 ∷ []) (
-      (For ((Declare 1 (Some (Binary Op.Div (Lit (pos 1)) (Var 0)))) ∷ []) (Some (Binary Op.Lt (Var 1) (Lit (pos 1))))
+      (For ((Declare 1 (Some (Binary Op.Div (Lit (pos 1)) (Var 0)))) ∷ [])
+      (Some (Binary Op.Lt (Var 1) (Lit (pos 1))))
       (Some (Assign 1 (Binary Op.Add (Var 1) (Lit (pos 1))))) (Assign 0 (Lit (pos 5)))) ∷
       (Return (Var 0)) ∷
       []) ∷
@@ -525,7 +549,8 @@ unset = simp equations
 -- a loop that never ends needs more rounds, however many there are
 never_ends : (n : ℕ) (s : State) → stmt_outcome same n (While (Lit (pos 1)) Empty) s ≡ More
 never_ends zero s = simp equations
-never_ends (suc n) s = simp equations (sym (stmt-While (Lit (pos 1)) Empty (rounds same n) s) ∙ never_ends n s)
+never_ends (suc n) s =
+    simp equations (sym (stmt-While (Lit (pos 1)) Empty (rounds same n) s) ∙ never_ends n s)
 
 -- what a function returns
 power_returns : Returns power 0 (pos 2 ∷ []) (Value (pos 1000000014000000049))

@@ -27,7 +27,8 @@ abbrev Fits : Option ℤ → Outcome ℤ → Type 0
 Fits value outcome = (k : ℤ) → value ≡ Some k → outcome ≡ Value k
 
 -- a sign
-signed : (op : UnOp) (u : Option ℤ) (x : Outcome ℤ) → Fits u x → Fits (unary_value op u) (on_value x (λ a. Value (unary op a)))
+signed : (op : UnOp) (u : Option ℤ) (x : Outcome ℤ) → Fits u x →
+    Fits (unary_value op u) (on_value x (λ a. Value (unary op a)))
 signed Sign.Plus None x fits k is = full is
 signed Sign.Plus (Some a) x fits k is = rw (fits a refl) cc
 signed Sign.Minus None x fits k is = full is
@@ -35,7 +36,8 @@ signed Sign.Minus (Some a) x fits k is = rw (fits a refl) cc
 signed Sign.Not u x fits k is = full is
 
 -- an operator between operands
-joined : (op : BinOp) (u v : Option ℤ) (x y : Outcome ℤ) → Fits u x → Fits v y → Fits (binary_value op u v) (binary op x y)
+joined : (op : BinOp) (u v : Option ℤ) (x y : Outcome ℤ) → Fits u x → Fits v y →
+    Fits (binary_value op u v) (binary op x y)
 joined Op.Add None v x y left right k is = full is
 joined Op.Add (Some a) None x y left right k is = full is
 joined Op.Add (Some a) (Some b) x y left right k is = rw (left a refl, right b refl) cc
@@ -60,24 +62,31 @@ module _ (calls : Calls) (s : State) where
   placed (Some a) k is = cc
 
   level : (y : Expr-F Part) → Fits
-      (straight_level (slice_get s) (map-Expr Expr (Option ℤ) (straight_value (slice_get s)) (map-Expr Part Expr (λ p. p.0) y)))
-      (expr_level calls (map-Expr Expr (State → Outcome ℤ) (expr calls) (map-Expr Part Expr (λ p. p.0) y)) s)
+      (straight_level (slice_get s) (map-Expr Expr (Option ℤ) (straight_value (slice_get s))
+      (map-Expr Part Expr (λ p. p.0) y)))
+      (expr_level calls (map-Expr Expr (State → Outcome ℤ) (expr calls)
+      (map-Expr Part Expr (λ p. p.0) y)) s)
   level (Expr-F.Lit n) k is = cc
   level (Expr-F.Var v) k is = placed (slice_get s v) k is
-  level (Expr-F.Unary op p) k is = signed op (straight_value (slice_get s) p.0) (expr calls p.0 s) p.1 k is
+  level (Expr-F.Unary op p) k is =
+      signed op (straight_value (slice_get s) p.0) (expr calls p.0 s) p.1 k is
   level (Expr-F.Binary op p q) k is =
-      joined op (straight_value (slice_get s) p.0) (straight_value (slice_get s) q.0) (expr calls p.0 s) (expr calls q.0 s) p.1 q.1 k is
+      joined op (straight_value (slice_get s) p.0) (straight_value (slice_get s) q.0)
+      (expr calls p.0 s) (expr calls q.0 s) p.1 q.1 k is
   level (Expr-F.Choose t p q) k is = full is
   level (Expr-F.Apply f ps) k is = full is
 
-  step : (x : Expr-F Expr) (y : Expr-F Part) → map-Expr Part Expr (λ p. p.0) y ≡ x → Valued (roll-Expr x)
+  step : (x : Expr-F Expr) (y : Expr-F Part) → map-Expr Part Expr (λ p. p.0) y ≡ x →
+      Valued (roll-Expr x)
   step x y is =
       let P : Expr-F Expr → Type 0 = λ z. Fits
       (straight_level (slice_get s) (map-Expr Expr (Option ℤ) (straight_value (slice_get s)) z))
       (expr_level calls (map-Expr Expr (State → Outcome ℤ) (expr calls) z) s) in
       let opened : P x = subst P is (level y) in
-      let V : Option ℤ → Type 0 = λ v. Fits v (expr_level calls (map-Expr Expr (State → Outcome ℤ) (expr calls) x) s) in
-      let M : (State → Outcome ℤ) → Type 0 = λ m. Fits (straight_value (slice_get s) (roll-Expr x)) (m s) in
+      let V : Option ℤ → Type 0 = λ v. Fits v
+      (expr_level calls (map-Expr Expr (State → Outcome ℤ) (expr calls) x) s) in
+      let M : (State → Outcome ℤ) → Type 0 = λ m.
+      Fits (straight_value (slice_get s) (roll-Expr x)) (m s) in
       subst M (sym (fold-roll-Expr (State → Outcome ℤ) (expr_level calls) x))
       (subst V (sym (fold-roll-Expr (Option ℤ) (straight_level (slice_get s)) x)) opened)
 
@@ -85,8 +94,10 @@ module _ (calls : Calls) (s : State) where
   pub expr_straight : (e : Expr) → Valued e
   expr_straight = ind-Expr Valued step
 
--- a function that returns an expression has this value as the outcome of its calls, from one round on
-pub body_straight : (program : Resolved) (f : ℕ) (e : Expr) (arguments : List ℤ) (k : ℤ) → ReturnsExpression program f e → HasStraightValue arguments e k
+-- a function that returns an expression has this value as the outcome of its calls, from one round
+-- on
+pub body_straight : (program : Resolved) (f : ℕ) (e : Expr) (arguments : List ℤ) (k : ℤ) →
+    ReturnsExpression program f e → HasStraightValue arguments e k
     → (n : ℕ) → call_outcome program (suc n) f arguments ≡ Value k
 body_straight program f e arguments k (function, there, body) value n =
     let calls = calls_with (rounds program n) in

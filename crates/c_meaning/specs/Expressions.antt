@@ -1,6 +1,7 @@
--- The outcome of an expression in a state, where what calls give is handed in. Numbers as 6.5.5 are sections of ISO/IEC 9899:1999.
--- Values are the mathematical integers, so nothing overflows (6.5p5). Operands and arguments are evaluated from left to right, an order
--- that C leaves open (6.5p3, 6.5.2.2p10).
+-- The outcome of an expression in a state, where what calls give is handed in. Numbers as 6.5.5 are
+-- sections of ISO/IEC 9899:1999. Values are the mathematical integers, so nothing overflows
+-- (6.5p5). Operands and arguments are evaluated from left to right, an order that C leaves open
+-- (6.5p3, 6.5.2.2p10).
 use Rattle.std.specs.Prelude.{ℕ, Bool, not, if◌then◌else◌, unwrap_or, List, [], ◌∷◌, slice_get, ℤ, pos, ◌+ℤ◌, ◌-ℤ◌, ◌*ℤ◌, neg_ℤ, int_lt, int_le, int_div, int_rem}
 use Rattle.std.specs.Ordering.{int_eq}
 use Rattle.c_ast.specs.declared.expr.UnOp.{UnOp}
@@ -20,7 +21,8 @@ Calls = ℕ → List ℤ → Outcome ℤ
 abbrev pub slot : State → ℕ → ℤ
 slot s v = unwrap_or (slice_get s v) (pos 0)
 
--- whether the value is 0; any other value counts as true (6.5.3.3p5, 6.5.13p3, 6.5.14p3, 6.5.15p4, 6.8.4.1p2, 6.8.5p4)
+-- whether the value is 0; any other value counts as true (6.5.3.3p5, 6.5.13p3, 6.5.14p3, 6.5.15p4,
+-- 6.8.4.1p2, 6.8.5p4)
 abbrev pub is_zero : ℤ → Bool
 is_zero x = int_eq x (pos 0)
 
@@ -36,7 +38,8 @@ quotient x y = if is_zero y then DivisionError else Value (int_div x y)
 abbrev pub remainder : ℤ → ℤ → Outcome ℤ
 remainder x y = if is_zero y then DivisionError else Value (int_rem x y)
 
--- an operator that takes both operands, left before right: the first outcome that is no integer is the outcome
+-- an operator that takes both operands, left before right: the first outcome that is no integer is
+-- the outcome
 abbrev pub of_both : (ℤ → ℤ → Outcome ℤ) → Outcome ℤ → Outcome ℤ → Outcome ℤ
 of_both operation left right = on_value left (λ x. on_value right (λ y. operation x y))
 
@@ -65,11 +68,16 @@ binary Ge left right = of_both (λ x y. Value (truth (int_le y x))) left right
 binary Eq left right = of_both (λ x y. Value (truth (int_eq x y))) left right
 binary Ne left right = of_both (λ x y. Value (truth (not (int_eq x y)))) left right
 -- `&&` (6.5.13p3, p4): 0 where the left operand is 0, whatever the right one is; else 1 or 0 as the right one is true or not
-binary AndAlso left right = on_value left (λ x. if is_zero x then Value (pos 0) else on_value right (λ y. Value (truth (not (is_zero y)))))
+binary AndAlso left right =
+    on_value left (λ x. if is_zero x then Value (pos 0) else
+    on_value right (λ y. Value (truth (not (is_zero y)))))
 -- `||` (6.5.14p3, p4): 1 where the left operand isn't 0, whatever the right one is; else 1 or 0 as the right one is true or not
-binary OrElse left right = on_value left (λ x. if is_zero x then on_value right (λ y. Value (truth (not (is_zero y)))) else Value (pos 1))
+binary OrElse left right =
+    on_value left (λ x. if is_zero x then on_value right (λ y. Value (truth (not (is_zero y)))) else
+    Value (pos 1))
 
--- the values of arguments, the first before the second and so on; the first outcome that is no integer is the outcome
+-- the values of arguments, the first before the second and so on; the first outcome that is no
+-- integer is the outcome
 abbrev pub values : List (State → Outcome ℤ) → State → Outcome (List ℤ)
 values [] s = Value []
 values (e ∷ es) s = on_value (e s) (λ x. on_value (values es s) (λ xs. Value (x ∷ xs)))

@@ -13,14 +13,18 @@ Stays outcome = (m n : ℕ) → m ≤ n → IsAnswer (outcome m) → outcome n �
 
 -- the body of the function at place `f` is one `return` of this expression
 abbrev pub ReturnsExpression : Resolved → ℕ → Expr → Type 0
-ReturnsExpression program f e = (function : Function) × (slice_get program.functions f ≡ Some function) × (function.body ≡ Syntax.Return e ∷ [])
+ReturnsExpression program f e =
+    (function : Function) × (slice_get program.functions f ≡ Some function) ×
+    (function.body ≡ Syntax.Return e ∷ [])
 
--- the expression has this straight value, of literals, variables, signs, `+`, `-` and `*`, where the state gives the variables by their slots
+-- the expression has this straight value, of literals, variables, signs, `+`, `-` and `*`, where
+-- the state gives the variables by their slots
 abbrev pub HasStraightValue : State → Expr → ℤ → Type 0
 HasStraightValue s e k = straight_value (slice_get s) e ≡ Some k
 
--- the outcomes of a quotient and of a remainder of x and y: q and r with q*y + r = x, where r is nearer to 0 than y and never on the other
--- side of 0 than x. So q is the algebraic quotient with its fraction dropped (6.5.5p6)
+-- the outcomes of a quotient and of a remainder of x and y: q and r with q*y + r = x, where r is
+-- nearer to 0 than y and never on the other side of 0 than x. So q is the algebraic quotient with
+-- its fraction dropped (6.5.5p6)
 pub record Truncates (x y : ℤ) (quotient remainder : Outcome ℤ) : Type 0 where
   pub q : ℤ
   pub r : ℤ

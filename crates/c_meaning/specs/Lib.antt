@@ -1,4 +1,5 @@
--- What a resolved program means: the outcome of its expressions, statements and calls with a number of rounds, and what a function returns.
+-- What a resolved program means: the outcome of its expressions, statements and calls with a number
+-- of rounds, and what a function returns.
 pub mod Outcomes
 pub mod Expressions
 pub mod Statements

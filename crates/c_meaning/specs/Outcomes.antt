@@ -1,7 +1,9 @@
--- What the evaluation of an expression and the execution of a statement lead to. Numbers as 6.8.6 are sections of ISO/IEC 9899:1999.
+-- What the evaluation of an expression and the execution of a statement lead to. Numbers as 6.8.6
+-- are sections of ISO/IEC 9899:1999.
 use Rattle.std.specs.Prelude.{List, ℤ}
 
--- an outcome with some number of rounds: a value; the division error, which ends the whole computation; or 'more rounds are needed'
+-- an outcome with some number of rounds: a value; the division error, which ends the whole
+-- computation; or 'more rounds are needed'
 pub data Outcome (A : Type 0) : Type 0 where
   Value : A → Outcome A
   DivisionError : Outcome A
@@ -23,7 +25,8 @@ IsAnswer More = ⊥
 abbrev pub State : Type 0
 State = List ℤ
 
--- where a statement leads: behind it (next), to a break or to a continue (6.8.6), each in a state; or to a return with its integer
+-- where a statement leads: behind it (next), to a break or to a continue (6.8.6), each in a state;
+-- or to a return with its integer
 pub data Flow : Type 0 where
   Next : State → Flow
   Break : State → Flow

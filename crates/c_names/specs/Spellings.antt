@@ -13,7 +13,8 @@ spelling source token = take token.len (drop token.at source)
 
 -- the bytes of the token with this number, none where there is no such token
 abbrev pub spelling_at : List ℕ → List Token → ℕ → List ℕ
-spelling_at source tokens number = unwrap_or (option_map (spelling source) (slice_get tokens number)) []
+spelling_at source tokens number =
+    unwrap_or (option_map (spelling source) (slice_get tokens number)) []
 
 -- the bytes of the tokens with these numbers
 abbrev pub spellings : List ℕ → List Token → List ℕ → List (List ℕ)

@@ -21,7 +21,8 @@ fn number_of<'a>(
 ) -> Result<u32, NoMemory>
     ensures number { IfOk result (λ n. n ≡ unwrap_or (number_in seen.old.entries word.now) number) }
     ensures known { OnOk result ((w : List ℕ) → number_in seen.new.entries w ≡
-        option_or (number_in seen.old.entries w) (if bytes_eq word.now w then Some number else None)) }
+        option_or (number_in seen.old.entries w)
+        (if bytes_eq word.now w then Some number else None)) }
 {
     if let Some(first) = seen.get(word) {
         return Ok(*first);
@@ -30,8 +31,8 @@ fn number_of<'a>(
     Ok(number)
 }
 
-/// The names of all tokens of a text, in order: each is the number of the first token that is spelled alike.
-/// It fails only for want of memory.
+/// The names of all tokens of a text, in order: each is the number of the first token that is
+/// spelled alike. It fails only for want of memory.
 pub fn names_of(alloc: Global, source: &[u8], tokens: &[Token]) -> Result<Vec<u32>, NoMemory>
     requires within { IsWithin source.now tokens.now }
     requires few { length tokens.now < 2 ^ 32 }
@@ -55,8 +56,8 @@ pub fn names_tell_spellings()
     ensures { (source : List ℕ) (tokens : List TheToken) → NamesTellSpellings source tokens }
 {}
 
-/// The name of the token with this number, where these are the names of all tokens; 0 where there is no
-/// such token. Takes no memory.
+/// The name of the token with this number, where these are the names of all tokens; 0 where there
+/// is no such token. Takes no memory.
 pub fn name_at(names: &[u32], number: u32) -> u32
     ensures { result ≡ spec.name_at names.now number }
 {

@@ -13,14 +13,16 @@ use Rattle.c_expr.proofs.UniqueExprs.{whole_unique}
 
 module _ (ts : List Token) where
   -- nothing low enough was read
-  pub no_expression : Reads (Expression ts) ts (suc levels) 0 200 None → (e : Expr) → IsExpression ts e → ⊥
+  pub no_expression : Reads (Expression ts) ts (suc levels) 0 200 None → (e : Expr) →
+      IsExpression ts e → ⊥
   no_expression r e is = r.only (length ts) e is.0 (over_stops ts (suc levels)) is.1
 
   module _ (x : Read) (r : Reads (Expression ts) ts (suc levels) 0 200 (Some x)) where
     -- what was read ends before the list does
     pub no_whole : x.end < length ts → (e : Expr) → IsExpression ts e → ⊥
     no_whole before e is =
-        let that : (x.end ≡ length ts) × (x.tree ≡ e) = r.only (length ts) e is.0 (over_stops ts (suc levels)) is.1 in
+        let that : (x.end ≡ length ts) × (x.tree ≡ e) =
+        r.only (length ts) e is.0 (over_stops ts (suc levels)) is.1 in
         let there : x.end ≡ length ts = that.0 in omega arith
 
     -- what was read is all that is spelled
@@ -36,4 +38,5 @@ module _ (ts : List Token) where
 -- a list of tokens spells at most one expression
 pub expression_unique : OneExpression
 expression_unique ts e f w v =
-    (whole_unique ts 0 (length ts) (length ts) e f w (chosen_of ts 0 (length ts) f v) (over_stops ts (suc levels)) (over_stops ts (suc levels))).1
+    (whole_unique ts 0 (length ts) (length ts) e f w (chosen_of ts 0 (length ts) f v)
+    (over_stops ts (suc levels)) (over_stops ts (suc levels))).1

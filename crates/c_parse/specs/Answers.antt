@@ -47,11 +47,15 @@ IsSyntaxError ts token = IsLost SpellsProgram ts token ⊎ IsHigh ts token
 abbrev pub Answers : List Token → Result Program ParseEnd → Type 0
 Answers ts (Ok p) = (too_deep 0 0 ts ≡ None) × Spells ts p × (too_many p ≡ None)
 Answers ts (Err (TooDeep token)) = too_deep 0 0 ts ≡ Some token
-Answers ts (Err (Syntax token)) = (too_deep 0 0 ts ≡ None) × ((p : Program) → Spells ts p → ⊥) × IsSyntaxError ts token
-Answers ts (Err (TooManyParams token)) = (too_deep 0 0 ts ≡ None) × ((p : Program) × (Spells ts p × (too_many p ≡ Some token)))
+Answers ts (Err (Syntax token)) =
+    (too_deep 0 0 ts ≡ None) × ((p : Program) → Spells ts p → ⊥) × IsSyntaxError ts token
+Answers ts (Err (TooManyParams token)) =
+    (too_deep 0 0 ts ≡ None) × ((p : Program) × (Spells ts p × (too_many p ≡ Some token)))
 Answers ts (Err NoMemory) = Unit {0}
 Answers ts (Err NotARowForm) = ⊥
 
 -- a list of tokens has at most one answer but out of memory
 abbrev pub OneAnswer : Type 0
-OneAnswer = (ts : List Token) → (r s : Result Program ParseEnd) → Answers ts r → Answers ts s → r ≢ Err NoMemory → s ≢ Err NoMemory → r ≡ s
+OneAnswer =
+    (ts : List Token) → (r s : Result Program ParseEnd) → Answers ts r → Answers ts s →
+    r ≢ Err NoMemory → s ≢ Err NoMemory → r ≡ s

@@ -15,10 +15,11 @@ use Rattle.c_parse.specs.Programs.{IsLow}
 -- items of a block one after the other, without the brace after them
 pub data LeadingItems : List Token → ℕ → ℕ → List Stmt → Type 0 where
   no_items : (ts : List Token) → (i : ℕ) → LeadingItems ts i i []
-  one_more : (ts : List Token) → (i j k : ℕ) → (xs ss : List Stmt) → BlockItem ts i j xs → LeadingItems ts j k ss → LeadingItems ts i k (xs ++ ss)
+  one_more : (ts : List Token) → (i j k : ℕ) → (xs ss : List Stmt) → BlockItem ts i j xs →
+      LeadingItems ts j k ss → LeadingItems ts i k (xs ++ ss)
 
--- from the first of two places up to the second are items no higher than 200, and there a higher one
--- begins
+-- from the first of two places up to the second are items no higher than 200, and there a higher
+-- one begins
 pub record IsFirstHigh (ts : List Token) (i token : ℕ) : Type 0 where
   pub lower : List Stmt
   pub before : LeadingItems ts i token lower
@@ -28,8 +29,8 @@ pub record IsFirstHigh (ts : List Token) (i token : ℕ) : Type 0 where
   pub is_item : BlockItem ts token end item
   pub high : 200 < list_height item
 
--- a function begins at the first of two places; the first item of its body that is higher than 200, at
--- the second
+-- a function begins at the first of two places; the first item of its body that is higher than 200,
+-- at the second
 pub record IsHighIn (ts : List Token) (i token : ℕ) : Type 0 where
   pub heading : IsHeading ts i
   pub params : Option (List (Option ℕ))

@@ -23,15 +23,21 @@ IsPreSyntaxError ts token = IsLost SpellsExpression ts token ⊎ (SpellsExpressi
 abbrev pub PreAnswers : List Token → Result Expr ParseEnd → Type 0
 PreAnswers ts (Ok e) = (too_deep 0 0 ts ≡ None) × (IsExpression ts e × (is_row_form e ≡ true))
 PreAnswers ts (Err (TooDeep token)) = too_deep 0 0 ts ≡ Some token
-PreAnswers ts (Err (Syntax token)) = (too_deep 0 0 ts ≡ None) × (((e : Expr) → IsExpression ts e → ⊥) × IsPreSyntaxError ts token)
-PreAnswers ts (Err NotARowForm) = (too_deep 0 0 ts ≡ None) × ((e : Expr) × (IsExpression ts e × (is_row_form e ≡ false)))
+PreAnswers ts (Err (Syntax token)) =
+    (too_deep 0 0 ts ≡ None) × (((e : Expr) → IsExpression ts e → ⊥) × IsPreSyntaxError ts token)
+PreAnswers ts (Err NotARowForm) =
+    (too_deep 0 0 ts ≡ None) × ((e : Expr) × (IsExpression ts e × (is_row_form e ≡ false)))
 PreAnswers ts (Err NoMemory) = Unit {0}
 PreAnswers ts (Err (TooManyParams token)) = ⊥
 
 -- a list of tokens spells at most one expression
 abbrev pub OneExpression : Type 0
-OneExpression = (ts : List Token) → (e f : Expr) → Expression ts 0 (length ts) e → Expression ts 0 (length ts) f → e ≡ f
+OneExpression =
+    (ts : List Token) → (e f : Expr) → Expression ts 0 (length ts) e →
+    Expression ts 0 (length ts) f → e ≡ f
 
 -- a list of tokens has at most one answer but out of memory
 abbrev pub OnePreAnswer : Type 0
-OnePreAnswer = (ts : List Token) → (r s : Result Expr ParseEnd) → PreAnswers ts r → PreAnswers ts s → r ≢ Err NoMemory → s ≢ Err NoMemory → r ≡ s
+OnePreAnswer =
+    (ts : List Token) → (r s : Result Expr ParseEnd) → PreAnswers ts r → PreAnswers ts s →
+    r ≢ Err NoMemory → s ≢ Err NoMemory → r ≡ s

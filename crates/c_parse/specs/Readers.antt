@@ -21,7 +21,8 @@ LowExternal ts i j x = ExternalDeclaration ts i j x × IsLow x
 -- a list of parameters while it is read: those found go on to whatever the whole can be
 pub record Listing (ts : List Token) (at : ℕ) (found : List (Option ℕ)) (end : ℕ) : Type 0 where
   pub forward : (j : ℕ) → (os : List (Option ℕ)) → Listed ts end j os → Listed ts at j (found ++ os)
-  pub only : (j : ℕ) → (all : List (Option ℕ)) → Listed ts at j all → (os : List (Option ℕ)) × ((all ≡ found ++ os) × Listed ts end j os)
+  pub only : (j : ℕ) → (all : List (Option ℕ)) → Listed ts at j all → (os : List (Option ℕ)) ×
+      ((all ≡ found ++ os) × Listed ts end j os)
   pub begun : at ≤ end
   pub within : end ≤ length ts
 
@@ -34,11 +35,13 @@ added p (Declared q) = record { functions = p.functions; prototypes = p.prototyp
 pub record Collecting (ts : List Token) (p : Program) (at : ℕ) : Type 0 where
   pub found : List External
   pub is : p ≡ program_of found
-  pub forward : (xs : List External) → Externals ts at (length ts) xs → Externals ts 0 (length ts) (found ++ xs)
+  pub forward : (xs : List External) → Externals ts at (length ts) xs →
+      Externals ts 0 (length ts) (found ++ xs)
   pub spelled : Externals ts 0 at found
   pub low : All IsLow found
   pub only : (all : List External) → Externals ts 0 (length ts) all → All IsLow all
-      → (xs : List External) × ((all ≡ found ++ xs) × (Externals ts at (length ts) xs × All IsLow xs))
+      → (xs : List External) × ((all ≡ found ++ xs) ×
+      (Externals ts at (length ts) xs × All IsLow xs))
   pub within : at ≤ length ts
   pub few : length p.functions ≤ at
 

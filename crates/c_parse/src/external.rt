@@ -49,7 +49,8 @@ pub fn external(
 fn prototype(tokens: &[Token], at: usize, params: &Span<ParameterList>) -> Span<External>
     requires few { length tokens.now < 2 ^ 32 }
     requires heading { IsHeading tokens.now at }
-    requires params { Gives (Parameters tokens.now (at + 3)) (at + 3) (length tokens.now) (Some params.now) }
+    requires params { Gives (Parameters tokens.now (at + 3)) (at + 3) (length tokens.now)
+        (Some params.now) }
     requires ended { kind_at tokens.now params.now.end ≡ Some (TokenKind.Mark Mark.Semicolon) }
     ensures { Gives (LowExternal tokens.now at) at (length tokens.now) (Some result) }
 {
@@ -82,8 +83,10 @@ fn function(
 ) -> Result<Option<Span<External>>, NoMemory>
     requires few { length tokens.now < 2 ^ 32 }
     requires heading { IsHeading tokens.now at }
-    requires params { Gives (Parameters tokens.now (at + 3)) (at + 3) (length tokens.now) (Some params.now) }
-    requires continued { kind_at tokens.now params.now.end ≡ Some (TokenKind.Mark Mark.Semicolon) → ⊥ }
+    requires params { Gives (Parameters tokens.now (at + 3)) (at + 3) (length tokens.now)
+        (Some params.now) }
+    requires continued { kind_at tokens.now params.now.end ≡ Some (TokenKind.Mark Mark.Semicolon) →
+        ⊥ }
     ensures { IfOk result (Gives (LowExternal tokens.now at) at (length tokens.now)) }
 {
     let Some(names) = names_of(alloc, &params.value)? else {
@@ -231,7 +234,8 @@ fn parameter(tokens: &[Token], at: usize) -> Option<Span<Option<u32>>>
 fn block(alloc: Global, tokens: &[Token], at: usize) -> Result<Option<Span<Items<Stmt>>>, NoMemory>
     requires few { length tokens.now < 2 ^ 32 }
     requires inside { at ≤ length tokens.now }
-    ensures { IfOk result (Gives (Low list_height 200 (CompoundStatement tokens.now at)) at (length tokens.now)) }
+    ensures { IfOk result (Gives (Low list_height 200 (CompoundStatement tokens.now at)) at
+        (length tokens.now)) }
 {
     if !stands(tokens, at, Mark::LeftBrace) {
         return Ok(None);

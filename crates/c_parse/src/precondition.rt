@@ -27,8 +27,8 @@ const MAX_HEIGHT: u32 = 200;
 ///
 /// Refused, in this order: `TooDeep` at the first `(` or `{` where 200 brackets are open already;
 /// `Syntax` where the tokens spell no expression at most 200 high: at the first token with which they
-/// begin no expression of any height, or at the number of tokens where all of them begin one, and at 0
-/// where they spell a higher one; `NotARowForm` where they spell another one.
+/// begin no expression of any height, or at the number of tokens where all of them begin one, and
+/// at 0 where they spell a higher one; `NotARowForm` where they spell another one.
 pub fn parse_pre(alloc: Global, tokens: &[Token]) -> Result<Expr, ParseEnd>
     requires { length tokens.now < 2 ^ 32 }
     ensures answer { PreAnswers tokens.now result }
@@ -136,7 +136,8 @@ pub fn one_expression()
     ensures { OneExpression }
 {}
 
-/// A list of tokens has at most one answer of `parse_pre` but out of memory. A law; it does nothing.
+/// A list of tokens has at most one answer of `parse_pre` but out of memory. A law; it does
+/// nothing.
 pub fn one_pre_answer()
     ensures { OnePreAnswer }
 {}

@@ -25,10 +25,11 @@ const MAX_PARAMETERS: usize = 16;
 /// Refused, in this order: `TooDeep` at the first `(` or `{` where 200 brackets are open already (a
 /// closing one lowers the count if it is above 0); `Syntax` where the tokens spell no program whose
 /// statements are at most 200 high: at the first token with which they begin no program of any
-/// height, or at the number of tokens where all of them begin one; where they spell one, at the first
-/// token of the first statement of a function's body that is too high, in a list of declarations at
-/// its `int`. Last `TooManyParams` at the name of the first function or prototype with more than 16
-/// parameters. The grammar is a part of that of ISO/IEC 9899:1999, 6.5, 6.8 and 6.9.1.
+/// height, or at the number of tokens where all of them begin one; where they spell one, at the
+/// first token of the first statement of a function's body that is too high, in a list of
+/// declarations at its `int`. Last `TooManyParams` at the name of the first function or prototype
+/// with more than 16 parameters. The grammar is a part of that of ISO/IEC 9899:1999, 6.5, 6.8 and
+/// 6.9.1.
 ///
 /// The clause `named` speaks of each function's own name, its parameters and the variables of its
 /// body. It leaves out the names of the functions that are called, and those of prototypes; the

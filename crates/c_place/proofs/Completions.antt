@@ -45,7 +45,8 @@ shortest symbol.ForTest = Mark mark.Semicolon ∷ []
 shortest symbol.ForChange = Mark mark.RightParen ∷ []
 shortest symbol.Program = []
 shortest symbol.Parameters = Mark mark.RightParen ∷ Mark mark.Semicolon ∷ []
-shortest (symbol.Parameter naming) = Word word.Int ∷ Name ∷ Mark mark.RightParen ∷ Mark mark.Semicolon ∷ []
+shortest (symbol.Parameter naming) =
+    Word word.Int ∷ Name ∷ Mark mark.RightParen ∷ Mark mark.Semicolon ∷ []
 shortest (symbol.ParameterName naming) = Name ∷ Mark mark.RightParen ∷ Mark mark.Semicolon ∷ []
 shortest (symbol.MoreParameters naming) = Mark mark.RightParen ∷ Mark mark.Semicolon ∷ []
 shortest symbol.Body = Mark mark.Semicolon ∷ []
@@ -69,29 +70,46 @@ calm (symbol.Program ∷ ss) = calm ss
 calm (_ ∷ ss) = record { going = refl; alone = refl }
 
 -- after a call nothing need go on
-going_over : (ss : List Symbol) (at : ℕ) → fault ss at (completion ss) ≡ None → fault (symbol.Going ∷ ss) at (completion ss) ≡ None
+going_over : (ss : List Symbol) (at : ℕ) → fault ss at (completion ss) ≡ None →
+    fault (symbol.Going ∷ ss) at (completion ss) ≡ None
 going_over ss at h = skips_token symbol.Going ss at (completion ss) (calm ss).going ∙ h
 
 -- the end of the parameters of a prototype
-closing : (naming : Naming) (ss : List Symbol) (at : ℕ) (ts : List Token) → fault ss (at + 1 + 1) ts ≡ None → fault (symbol.MoreParameters naming ∷ ss) at (spell (Mark mark.RightParen ∷ Mark mark.Semicolon ∷ []) ts) ≡ None
+closing : (naming : Naming) (ss : List Symbol) (at : ℕ) (ts : List Token) →
+    fault ss (at + 1 + 1) ts ≡ None → fault (symbol.MoreParameters naming ∷ ss) at
+    (spell (Mark mark.RightParen ∷ Mark mark.Semicolon ∷ []) ts) ≡ None
 unfolding fault fed
 closing Full ss at ts h = h
 closing Partial ss at ts h = h
 
 -- a stack accepts its completion
-pub completed : (ss : List Symbol) (at : ℕ) → is_stack ss ≡ true → fault ss at (completion ss) ≡ None
+pub completed : (ss : List Symbol) (at : ℕ) → is_stack ss ≡ true → fault ss at (completion ss) ≡
+    None
 unfolding fault fed
 completed [] at h = refl
 completed (symbol.Program ∷ []) at h = refl
 completed (symbol.Program ∷ (r ∷ ss)) at h = absurd cc
-completed (symbol.Going ∷ ss) at h = going_over ss at (completed ss at (stack_tail symbol.Going ss h))
-completed (symbol.Else ∷ ss) at h = skips_token symbol.Else ss at (completion ss) (calm ss).alone ∙ completed ss at (stack_tail symbol.Else ss h)
-completed (symbol.Expression ∷ ss) at h = going_over ss (at + 1 + 1 + 1) (completed ss (at + 1 + 1 + 1) (stack_tail symbol.Expression ss h))
-completed (symbol.Called ∷ ss) at h = going_over ss (at + 1 + 1) (completed ss (at + 1 + 1) (stack_tail symbol.Called ss h))
-completed (symbol.Declarators ∷ ss) at h = completed ss (at + 1 + 1) (stack_tail symbol.Declarators ss h)
-completed (symbol.Parameters ∷ ss) at h = completed ss (at + 1 + 1) (stack_tail symbol.Parameters ss h)
+completed (symbol.Going ∷ ss) at h =
+    going_over ss at (completed ss at (stack_tail symbol.Going ss h))
+completed (symbol.Else ∷ ss) at h =
+    skips_token symbol.Else ss at (completion ss) (calm ss).alone ∙
+    completed ss at (stack_tail symbol.Else ss h)
+completed (symbol.Expression ∷ ss) at h =
+    going_over ss (at + 1 + 1 + 1) (completed ss (at + 1 + 1 + 1)
+    (stack_tail symbol.Expression ss h))
+completed (symbol.Called ∷ ss) at h =
+    going_over ss (at + 1 + 1) (completed ss (at + 1 + 1) (stack_tail symbol.Called ss h))
+completed (symbol.Declarators ∷ ss) at h =
+    completed ss (at + 1 + 1) (stack_tail symbol.Declarators ss h)
+completed (symbol.Parameters ∷ ss) at h =
+    completed ss (at + 1 + 1) (stack_tail symbol.Parameters ss h)
 completed (symbol.Parameter naming ∷ ss) at h =
-    closing naming ss (at + 1 + 1) (completion ss) (completed ss (at + 1 + 1 + 1 + 1) (stack_tail (symbol.Parameter naming) ss h))
-completed (symbol.ParameterName naming ∷ ss) at h = closing naming ss (at + 1) (completion ss) (completed ss (at + 1 + 1 + 1) (stack_tail (symbol.ParameterName naming) ss h))
-completed (symbol.MoreParameters naming ∷ ss) at h = closing naming ss at (completion ss) (completed ss (at + 1 + 1) (stack_tail (symbol.MoreParameters naming) ss h))
+    closing naming ss (at + 1 + 1) (completion ss)
+    (completed ss (at + 1 + 1 + 1 + 1) (stack_tail (symbol.Parameter naming) ss h))
+completed (symbol.ParameterName naming ∷ ss) at h =
+    closing naming ss (at + 1) (completion ss)
+    (completed ss (at + 1 + 1 + 1) (stack_tail (symbol.ParameterName naming) ss h))
+completed (symbol.MoreParameters naming ∷ ss) at h =
+    closing naming ss at (completion ss) (completed ss (at + 1 + 1)
+    (stack_tail (symbol.MoreParameters naming) ss h))
 completed (s ∷ ss) at h = completed ss (at + 1) (stack_tail s ss h)

@@ -37,5 +37,6 @@ complete ts w =
     ∙ (whole_passes ts 0 (length ts) w.0 w.1 (λ z. cc) []
     ∙ (skipped ts symbol.Going [] (length ts) None none refl ∙ accepted_at_end ts))
 
-pub expression_places : (ts : List Token) (o : Option ℕ) → o ≡ fault (symbol.Expression ∷ []) 0 ts → IsPlace IsExpression ts o
+pub expression_places : (ts : List Token) (o : Option ℕ) → o ≡ fault (symbol.Expression ∷ []) 0 ts →
+    IsPlace IsExpression ts o
 expression_places ts o h = places (symbol.Expression ∷ []) IsExpression refl sound complete ts o h

@@ -23,5 +23,6 @@ complete ts w =
     ∙ (externals_passes ts 0 (length ts) w.0 w.1 []
     ∙ (skipped ts symbol.Program [] (length ts) None (none_at_end ts) refl ∙ accepted_at_end ts))
 
-pub program_places : (ts : List Token) (o : Option ℕ) → o ≡ fault (symbol.Program ∷ []) 0 ts → IsPlace IsProgram ts o
+pub program_places : (ts : List Token) (o : Option ℕ) → o ≡ fault (symbol.Program ∷ []) 0 ts →
+    IsPlace IsProgram ts o
 program_places ts o h = places (symbol.Program ∷ []) IsProgram refl sound complete ts o h

@@ -10,7 +10,8 @@ use Rattle.c_place.proofs.Spans.{Spans, Goes}
 use Rattle.c_place.proofs.ExpressionRows.{back_name, back_left_paren, back_right_paren, back_colon, back_semicolon, back_while, back_expression, back_going, back_called, back_arguments, back_following}
 use Rattle.c_place.proofs.StatementRows.{back_items, back_statement, back_else, back_changed, back_declarators, back_declared, back_more_declarators, back_for_start, back_for_test, back_for_change, back_program, back_parameters, back_parameter, back_parameter_name, back_more_parameters, back_body}
 
-pub back : (s : Symbol) (ts : List Token) (i : ℕ) (kind : Option TokenKind) → kind_at ts i ≡ kind → (Rest : ℕ → Type 0) → Goes (action s kind) kind ts i Rest → Spans s ts i Rest
+pub back : (s : Symbol) (ts : List Token) (i : ℕ) (kind : Option TokenKind) → kind_at ts i ≡ kind →
+    (Rest : ℕ → Type 0) → Goes (action s kind) kind ts i Rest → Spans s ts i Rest
 back symbol.Name ts i kind h Rest g = back_name ts i kind h Rest g
 back symbol.LeftParen ts i kind h Rest g = back_left_paren ts i kind h Rest g
 back symbol.RightParen ts i kind h Rest g = back_right_paren ts i kind h Rest g
@@ -35,6 +36,8 @@ back symbol.ForChange ts i kind h Rest g = back_for_change ts i kind h Rest g
 back symbol.Program ts i kind h Rest g = back_program ts i kind h Rest g
 back symbol.Parameters ts i kind h Rest g = back_parameters ts i kind h Rest g
 back (symbol.Parameter naming) ts i kind h Rest g = back_parameter naming ts i kind h Rest g
-back (symbol.ParameterName naming) ts i kind h Rest g = back_parameter_name naming ts i kind h Rest g
-back (symbol.MoreParameters naming) ts i kind h Rest g = back_more_parameters naming ts i kind h Rest g
+back (symbol.ParameterName naming) ts i kind h Rest g =
+    back_parameter_name naming ts i kind h Rest g
+back (symbol.MoreParameters naming) ts i kind h Rest g =
+    back_more_parameters naming ts i kind h Rest g
 back symbol.Body ts i kind h Rest g = back_body ts i kind h Rest g

@@ -51,7 +51,8 @@ Spans symbol.ForTest ts i Rest = Phrase (λ j. (o : Option Expr) × ForTest ts i
 Spans symbol.ForChange ts i Rest = Phrase (λ j. (o : Option Stmt) × ForStep ts i j o) Rest
 Spans symbol.Program ts i Rest = Phrase (λ j. (xs : List External) × Externals ts i j xs) Rest
 Spans symbol.Parameters ts i Rest = Phrase (AfterOpening ts i) Rest
-Spans (symbol.Parameter naming) ts i Rest = (kind_at ts i ≡ Some (Word word.Int)) × Phrase (AfterInt naming ts (i + 1)) Rest
+Spans (symbol.Parameter naming) ts i Rest =
+    (kind_at ts i ≡ Some (Word word.Int)) × Phrase (AfterInt naming ts (i + 1)) Rest
 Spans (symbol.ParameterName naming) ts i Rest = Phrase (AfterInt naming ts i) Rest
 Spans (symbol.MoreParameters naming) ts i Rest = Phrase (AfterParameter naming ts i) Rest
 Spans symbol.Body ts i Rest = Phrase (AfterHeading ts i) Rest

@@ -32,25 +32,39 @@ inner_action (takes expected) = is_inner expected
 inner_action skips = true
 inner_action fails = true
 
-inner_append : (ss more : List Symbol) → is_inner ss ≡ true → is_inner more ≡ true → is_inner (ss ++ more) ≡ true
+inner_append : (ss more : List Symbol) → is_inner ss ≡ true → is_inner more ≡ true →
+    is_inner (ss ++ more) ≡ true
 inner_append [] more h g = g
-inner_append (s ∷ ss) more h g = elim (is_program s) as (λ b. (if b then false else is_inner ss) ≡ true → (if b then false else is_inner (ss ++ more)) ≡ true) [ true ↦ λ z. z | false ↦ λ z. inner_append ss more z g ] h
+inner_append (s ∷ ss) more h g =
+    elim (is_program s) as (λ b. (if b then false else is_inner ss) ≡ true →
+    (if b then false else is_inner (ss ++ more)) ≡ true)
+    [ true ↦ λ z. z | false ↦ λ z. inner_append ss more z g ] h
 
 inner_head : (s : Symbol) (ss : List Symbol) → is_inner (s ∷ ss) ≡ true → is_program s ≡ false
-inner_head s ss h = elim (is_program s) as (λ b. (if b then false else is_inner ss) ≡ true → b ≡ false) [ true ↦ λ z. absurd cc | false ↦ λ z. refl ] h
+inner_head s ss h =
+    elim (is_program s) as (λ b. (if b then false else is_inner ss) ≡ true → b ≡ false)
+    [ true ↦ λ z. absurd cc | false ↦ λ z. refl ] h
 
 inner_tail : (s : Symbol) (ss : List Symbol) → is_inner (s ∷ ss) ≡ true → is_inner ss ≡ true
-inner_tail s ss h = elim (is_program s) as (λ b. (if b then false else is_inner ss) ≡ true → is_inner ss ≡ true) [ true ↦ λ z. absurd cc | false ↦ λ z. z ] h
+inner_tail s ss h =
+    elim (is_program s) as (λ b. (if b then false else is_inner ss) ≡ true → is_inner ss ≡ true)
+    [ true ↦ λ z. absurd cc | false ↦ λ z. z ] h
 
-stack_put : (s : Symbol) (ss : List Symbol) → is_program s ≡ false → is_stack ss ≡ true → is_stack (s ∷ ss) ≡ true
+stack_put : (s : Symbol) (ss : List Symbol) → is_program s ≡ false → is_stack ss ≡ true →
+    is_stack (s ∷ ss) ≡ true
 stack_put s [] h g = refl
-stack_put s (r ∷ ss) h g = elim (is_program s) as (λ b. b ≡ false → (if b then false else is_stack (r ∷ ss)) ≡ true) [ true ↦ λ z. absurd cc | false ↦ λ z. g ] h
+stack_put s (r ∷ ss) h g =
+    elim (is_program s) as (λ b. b ≡ false → (if b then false else is_stack (r ∷ ss)) ≡ true)
+    [ true ↦ λ z. absurd cc | false ↦ λ z. g ] h
 
-stack_append : (ss more : List Symbol) → is_inner ss ≡ true → is_stack more ≡ true → is_stack (ss ++ more) ≡ true
+stack_append : (ss more : List Symbol) → is_inner ss ≡ true → is_stack more ≡ true →
+    is_stack (ss ++ more) ≡ true
 stack_append [] more h g = g
-stack_append (s ∷ ss) more h g = stack_put s (ss ++ more) (inner_head s ss h) (stack_append ss more (inner_tail s ss h) g)
+stack_append (s ∷ ss) more h g =
+    stack_put s (ss ++ more) (inner_head s ss h) (stack_append ss more (inner_tail s ss h) g)
 
-inner_before : (more : List Symbol) (a : Action) → is_inner more ≡ true → inner_action a ≡ true → inner_action (before more a) ≡ true
+inner_before : (more : List Symbol) (a : Action) → is_inner more ≡ true → inner_action a ≡ true →
+    inner_action (before more a) ≡ true
 inner_before more (takes expected) h g = inner_append expected more g h
 inner_before more skips h g = refl
 inner_before more fails h g = refl
@@ -88,7 +102,8 @@ expression_inner (Some (Mark mark.Minus)) = refl
 expression_inner (Some (Mark mark.Not)) = refl
 expression_inner _ = refl
 
-operator_inner : (o : Option Operator) (kind : Option TokenKind) → inner_action (operator_action o kind) ≡ true
+operator_inner : (o : Option Operator) (kind : Option TokenKind) →
+    inner_action (operator_action o kind) ≡ true
 operator_inner (Some o) kind = refl
 operator_inner None (Some (Mark mark.Question)) = refl
 operator_inner None _ = refl
@@ -102,7 +117,8 @@ called_inner kind = going_inner kind
 
 arguments_inner : (kind : Option TokenKind) → inner_action (arguments_action kind) ≡ true
 arguments_inner (Some (Mark mark.RightParen)) = refl
-arguments_inner kind = inner_before (symbol.Following ∷ []) (expression_action kind) refl (expression_inner kind)
+arguments_inner kind =
+    inner_before (symbol.Following ∷ []) (expression_action kind) refl (expression_inner kind)
 
 following_inner : (kind : Option TokenKind) → inner_action (following_action kind) ≡ true
 following_inner (Some (Mark mark.RightParen)) = refl
@@ -142,13 +158,15 @@ changed_inner _ = refl
 items_inner : (kind : Option TokenKind) → inner_action (items_action kind) ≡ true
 items_inner (Some (Mark mark.RightBrace)) = refl
 items_inner (Some (Word word.Int)) = refl
-items_inner kind = inner_before (symbol.Items ∷ []) (statement_action kind) refl (statement_inner kind)
+items_inner kind =
+    inner_before (symbol.Items ∷ []) (statement_action kind) refl (statement_inner kind)
 
 declarators_inner : (kind : Option TokenKind) → inner_action (declarators_action kind) ≡ true
 declarators_inner (Some Name) = refl
 declarators_inner _ = refl
 
-more_declarators_inner : (kind : Option TokenKind) → inner_action (more_declarators_action kind) ≡ true
+more_declarators_inner : (kind : Option TokenKind) → inner_action (more_declarators_action kind) ≡
+    true
 more_declarators_inner (Some (Mark mark.Comma)) = refl
 more_declarators_inner (Some (Mark mark.Semicolon)) = refl
 more_declarators_inner _ = refl
@@ -167,7 +185,8 @@ for_start_inner _ = refl
 
 for_test_inner : (kind : Option TokenKind) → inner_action (for_test_action kind) ≡ true
 for_test_inner (Some (Mark mark.Semicolon)) = refl
-for_test_inner kind = inner_before (symbol.Semicolon ∷ []) (expression_action kind) refl (expression_inner kind)
+for_test_inner kind =
+    inner_before (symbol.Semicolon ∷ []) (expression_action kind) refl (expression_inner kind)
 
 for_change_inner : (kind : Option TokenKind) → inner_action (for_change_action kind) ≡ true
 for_change_inner (Some (Mark mark.RightParen)) = refl
@@ -187,22 +206,26 @@ parameters_inner (Some (Word word.Void)) = refl
 parameters_inner (Some (Word word.Int)) = refl
 parameters_inner _ = refl
 
-parameter_inner : (naming : Naming) (kind : Option TokenKind) → inner_action (parameter_action naming kind) ≡ true
+parameter_inner : (naming : Naming) (kind : Option TokenKind) →
+    inner_action (parameter_action naming kind) ≡ true
 parameter_inner naming (Some (Word word.Int)) = refl
 parameter_inner naming _ = refl
 
-more_parameters_inner : (naming : Naming) (kind : Option TokenKind) → inner_action (more_parameters_action naming kind) ≡ true
+more_parameters_inner : (naming : Naming) (kind : Option TokenKind) →
+    inner_action (more_parameters_action naming kind) ≡ true
 more_parameters_inner naming (Some (Mark mark.Comma)) = refl
 more_parameters_inner Full (Some (Mark mark.RightParen)) = refl
 more_parameters_inner Partial (Some (Mark mark.RightParen)) = refl
 more_parameters_inner naming _ = refl
 
-parameter_name_inner : (naming : Naming) (kind : Option TokenKind) → inner_action (parameter_name_action naming kind) ≡ true
+parameter_name_inner : (naming : Naming) (kind : Option TokenKind) →
+    inner_action (parameter_name_action naming kind) ≡ true
 parameter_name_inner naming (Some Name) = refl
 parameter_name_inner naming kind = more_parameters_inner Partial kind
 
 -- no symbol but `Program` expects programs
-pub action_inner : (s : Symbol) (kind : Option TokenKind) → is_program s ≡ false → inner_action (action s kind) ≡ true
+pub action_inner : (s : Symbol) (kind : Option TokenKind) → is_program s ≡ false →
+    inner_action (action s kind) ≡ true
 action_inner symbol.Name kind h = name_inner kind
 action_inner symbol.LeftParen kind h = left_paren_inner kind
 action_inner symbol.RightParen kind h = right_paren_inner kind
@@ -234,27 +257,36 @@ action_inner symbol.Body kind h = body_inner kind
 -- what is below the top is a stack, and so is what an action makes of it
 pub stack_tail : (s : Symbol) (ss : List Symbol) → is_stack (s ∷ ss) ≡ true → is_stack ss ≡ true
 stack_tail s [] h = refl
-stack_tail s (r ∷ ss) h = elim (is_program s) as (λ b. (if b then false else is_stack (r ∷ ss)) ≡ true → is_stack (r ∷ ss) ≡ true) [ true ↦ λ z. absurd cc | false ↦ λ z. z ] h
+stack_tail s (r ∷ ss) h =
+    elim (is_program s) as (λ b. (if b then false else is_stack (r ∷ ss)) ≡ true →
+    is_stack (r ∷ ss) ≡ true) [ true ↦ λ z. absurd cc | false ↦ λ z. z ] h
 
-stack_acted : (a : Action) (ss : List Symbol) (o : Option (List Symbol)) (new : List Symbol) → inner_action a ≡ true → is_stack ss ≡ true → (o ≡ Some new → is_stack new ≡ true)
+stack_acted : (a : Action) (ss : List Symbol) (o : Option (List Symbol)) (new : List Symbol) →
+    inner_action a ≡ true → is_stack ss ≡ true → (o ≡ Some new → is_stack new ≡ true)
     → stack_by a ss o ≡ Some new → is_stack new ≡ true
-stack_acted (takes expected) ss o new h g f e = let same : expected ++ ss ≡ new = cc in rw (← same) (stack_append expected ss h g)
+stack_acted (takes expected) ss o new h g f e =
+    let same : expected ++ ss ≡ new = cc in rw (← same) (stack_append expected ss h g)
 stack_acted skips ss o new h g f e = f e
 stack_acted fails ss o new h g f e = absurd cc
 
 -- the stack where programs alone are expected
-programs_fed : (kind : Option TokenKind) (new : List Symbol) → fed (symbol.Program ∷ []) kind ≡ Some new → is_stack new ≡ true
+programs_fed : (kind : Option TokenKind) (new : List Symbol) → fed (symbol.Program ∷ []) kind ≡
+    Some new → is_stack new ≡ true
 unfolding fed
 programs_fed None new h = let same : [] ≡ new = cc in rw (← same) refl
-programs_fed (Some (Word word.Int)) new h = let same : symbol.Name ∷ symbol.LeftParen ∷ symbol.Parameters ∷ symbol.Program ∷ [] ≡ new = cc in rw (← same) refl
+programs_fed (Some (Word word.Int)) new h =
+    let same : symbol.Name ∷ symbol.LeftParen ∷ symbol.Parameters ∷ symbol.Program ∷ [] ≡ new =
+    cc in rw (← same) refl
 programs_fed _ new h = absurd cc
 
 -- it stays so
-pub stack_fed : (ss : List Symbol) (kind : Option TokenKind) (new : List Symbol) → is_stack ss ≡ true → fed ss kind ≡ Some new → is_stack new ≡ true
+pub stack_fed : (ss : List Symbol) (kind : Option TokenKind) (new : List Symbol) → is_stack ss ≡
+    true → fed ss kind ≡ Some new → is_stack new ≡ true
 unfolding fed
 stack_fed [] None new h e = let same : [] ≡ new = cc in rw (← same) refl
 stack_fed [] (Some kind) new h e = absurd cc
 stack_fed (symbol.Program ∷ []) kind new h e = programs_fed kind new e
 stack_fed (symbol.Program ∷ (r ∷ ss)) kind new h e = absurd cc
 stack_fed (s ∷ ss) kind new h e =
-    stack_acted (action s kind) ss (fed ss kind) new (action_inner s kind refl) (stack_tail s ss h) (λ z. stack_fed ss kind new (stack_tail s ss h) z) e
+    stack_acted (action s kind) ss (fed ss kind) new (action_inner s kind refl) (stack_tail s ss h)
+    (λ z. stack_fed ss kind new (stack_tail s ss h) z) e

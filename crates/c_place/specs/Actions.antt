@@ -54,7 +54,8 @@ while_action _ = fails
 abbrev pub expression_action : Option TokenKind → Action
 expression_action (Some Name) = takes (symbol.Called ∷ [])
 expression_action (Some (Number value)) = takes (symbol.Going ∷ [])
-expression_action (Some (Mark mark.LeftParen)) = takes (symbol.Expression ∷ symbol.RightParen ∷ symbol.Going ∷ [])
+expression_action (Some (Mark mark.LeftParen)) =
+    takes (symbol.Expression ∷ symbol.RightParen ∷ symbol.Going ∷ [])
 expression_action (Some (Mark mark.Plus)) = takes (symbol.Expression ∷ [])
 expression_action (Some (Mark mark.Minus)) = takes (symbol.Expression ∷ [])
 expression_action (Some (Mark mark.Not)) = takes (symbol.Expression ∷ [])
@@ -63,7 +64,8 @@ expression_action _ = fails
 -- after an operand, by the operator that the token is, if it is one
 abbrev pub operator_action : Option Operator → Option TokenKind → Action
 operator_action (Some o) kind = takes (symbol.Expression ∷ [])
-operator_action None (Some (Mark mark.Question)) = takes (symbol.Expression ∷ symbol.Colon ∷ symbol.Expression ∷ [])
+operator_action None (Some (Mark mark.Question)) =
+    takes (symbol.Expression ∷ symbol.Colon ∷ symbol.Expression ∷ [])
 operator_action None _ = skips
 
 abbrev pub going_action : Option TokenKind → Action
@@ -91,11 +93,17 @@ statement_action (Some (Mark mark.LeftBrace)) = takes (symbol.Items ∷ [])
 statement_action (Some Name) = takes (symbol.Changed ∷ symbol.Semicolon ∷ [])
 statement_action (Some (Mark mark.PlusPlus)) = takes (symbol.Name ∷ symbol.Semicolon ∷ [])
 statement_action (Some (Mark mark.MinusMinus)) = takes (symbol.Name ∷ symbol.Semicolon ∷ [])
-statement_action (Some (Word word.If)) = takes (symbol.LeftParen ∷ symbol.Expression ∷ symbol.RightParen ∷ symbol.Statement ∷ symbol.Else ∷ [])
-statement_action (Some (Word word.While)) = takes (symbol.LeftParen ∷ symbol.Expression ∷ symbol.RightParen ∷ symbol.Statement ∷ [])
+statement_action (Some (Word word.If)) =
+    takes (symbol.LeftParen ∷ symbol.Expression ∷ symbol.RightParen ∷ symbol.Statement ∷
+    symbol.Else ∷ [])
+statement_action (Some (Word word.While)) =
+    takes (symbol.LeftParen ∷ symbol.Expression ∷ symbol.RightParen ∷ symbol.Statement ∷ [])
 statement_action (Some (Word word.Do)) =
-    takes (symbol.Statement ∷ symbol.While ∷ symbol.LeftParen ∷ symbol.Expression ∷ symbol.RightParen ∷ symbol.Semicolon ∷ [])
-statement_action (Some (Word word.For)) = takes (symbol.LeftParen ∷ symbol.ForStart ∷ symbol.ForTest ∷ symbol.ForChange ∷ symbol.Statement ∷ [])
+    takes (symbol.Statement ∷ symbol.While ∷ symbol.LeftParen ∷ symbol.Expression ∷
+    symbol.RightParen ∷ symbol.Semicolon ∷ [])
+statement_action (Some (Word word.For)) =
+    takes (symbol.LeftParen ∷ symbol.ForStart ∷ symbol.ForTest ∷ symbol.ForChange ∷
+    symbol.Statement ∷ [])
 statement_action (Some (Word word.Break)) = takes (symbol.Semicolon ∷ [])
 statement_action (Some (Word word.Continue)) = takes (symbol.Semicolon ∷ [])
 statement_action (Some (Word word.Return)) = takes (symbol.Expression ∷ symbol.Semicolon ∷ [])
@@ -159,7 +167,8 @@ for_change_action _ = fails
 
 -- programs
 abbrev pub program_action : Option TokenKind → Action
-program_action (Some (Word word.Int)) = takes (symbol.Name ∷ symbol.LeftParen ∷ symbol.Parameters ∷ symbol.Program ∷ [])
+program_action (Some (Word word.Int)) =
+    takes (symbol.Name ∷ symbol.LeftParen ∷ symbol.Parameters ∷ symbol.Program ∷ [])
 program_action None = skips
 program_action _ = fails
 

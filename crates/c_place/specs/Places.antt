@@ -18,8 +18,8 @@ IsProgram ts = (xs : List External) × Externals ts 0 (length ts) xs
 abbrev pub Begins : (List Token → Type 0) → List Token → ℕ → Type 0
 Begins IsSpelled ts k = (us : List Token) × ((take k us ≡ take k ts) × IsSpelled us)
 
--- The list isn't spelled, and k is the least number such that no list that begins with tokens 0 to k
--- is; it is the number of tokens where the whole list begins one that is spelled.
+-- The list isn't spelled, and k is the least number such that no list that begins with tokens 0 to
+-- k is; it is the number of tokens where the whole list begins one that is spelled.
 pub record IsLost (IsSpelled : List Token → Type 0) (ts : List Token) (k : ℕ) : Type 0 where
   pub within : k ≤ length ts
   pub begun : Begins IsSpelled ts k

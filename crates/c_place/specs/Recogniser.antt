@@ -1,4 +1,5 @@
--- The recogniser: a stack of symbols, the first of them expected next, and the place where it is lost.
+-- The recogniser: a stack of symbols, the first of them expected next, and the place where it is
+-- lost.
 use Rattle.std.specs.Prelude.{◌≡◌, ℕ, ◌+◌, Bool, true, false, Option, Some, None, List, [], ◌∷◌, ◌++◌, reverse, Result, Ok, Err}
 use Rattle.rx_plain.specs.declared.no_memory.NoMemory.{NoMemory}
 use Rattle.c_lex.specs.declared.token.Token.{Token}
@@ -8,7 +9,8 @@ use Rattle.c_place.specs.declared.symbol.Step.{Step}
 use Rattle.c_place.specs.declared.symbol.Step.TheVariants as step
 use Rattle.c_place.specs.Actions.{Action, takes, skips, fails, action}
 
--- the stack after an action, where the symbols below are these and come to this if the symbol is skipped
+-- the stack after an action, where the symbols below are these and come to this if the symbol is
+-- skipped
 abbrev pub stack_by : Action → List Symbol → Option (List Symbol) → Option (List Symbol)
 stack_by (takes expected) below skipped = Some (expected ++ below)
 stack_by skips below skipped = skipped
@@ -41,7 +43,8 @@ abbrev pub pushed : List Symbol → List Symbol → List Symbol
 pushed [] there = there
 pushed (s ∷ ss) there = pushed ss there ++ (s ∷ [])
 
--- What a step did to the stack, whose top is its last, by the table's action; want of memory is free.
+-- What a step did to the stack, whose top is its last, by the table's action; want of memory is
+-- free.
 abbrev pub Acts : Result Step NoMemory → List Symbol → List Symbol → Action → Type 0
 Acts (Ok step.Taken) old new (takes expected) = new ≡ pushed expected old
 Acts (Ok step.Skipped) old new skips = new ≡ old

@@ -18,7 +18,8 @@ use Rattle.c_refute.specs.Laws.{meant, Meets, ReturnDifferent}
 use Rattle.c_refute.proofs.Meaning.{Means, Leaves, Divides, Waits, Passes, call_means, expression_means}
 
 -- the outcome that a decided run has
-decided_meant : {n : ℕ} {run : Run ℤ} {o : meaning.Outcome ℤ} → Means ℤ n run o → is_decided (outcome_of run) ≡ true → o ≡ meant (outcome_of run)
+decided_meant : {n : ℕ} {run : Run ℤ} {o : meaning.Outcome ℤ} → Means ℤ n run o →
+    is_decided (outcome_of run) ≡ true → o ≡ meant (outcome_of run)
 decided_meant (Leaves below) decided = refl
 decided_meant Divides decided = refl
 decided_meant Waits decided = absurd (cc)
@@ -42,7 +43,8 @@ same_integer : (x : ℤ) → int_eq x x ≡ true
 same_integer x = (Decides-int_eq x x).1 refl
 
 values_differ : (u v : ℤ) (x y : Outcome) (same : Bool) → int_eq u v ≡ same
-    → (if same then finding.Alike else finding.Different (Value u) (Value v)) ≡ finding.Different x y → AreDifferent (Value u) (Value v) x y
+    → (if same then finding.Alike else finding.Different (Value u) (Value v)) ≡
+    finding.Different x y → AreDifferent (Value u) (Value v) x y
 values_differ u v x y true tested is = absurd (cc)
 values_differ u v x y false tested is = record {
   first_is = cc;
@@ -52,7 +54,8 @@ values_differ u v x y false tested is = record {
   differ = λ alike.
       let first : Value u ≡ x = cc in
       let second : Value v ≡ y = cc in
-      let equal : meaning.Value u ≡ meaning.Value v = ap meant first ∙ (alike ∙ sym (ap meant second)) in
+      let equal : meaning.Value u ≡ meaning.Value v = ap meant first ∙
+      (alike ∙ sym (ap meant second)) in
       let one : u ≡ v = cc in
       let P : ℤ → Type 0 = λ k. int_eq u k ≡ true in
       let both : int_eq u v ≡ true = subst P one (same_integer u) in
@@ -69,7 +72,8 @@ are_different (Value u) DivError x y is = record {
   differ = λ alike.
       let first : Value u ≡ x = cc in
       let second : DivError ≡ y = cc in
-      let equal : meaning.Value u ≡ meaning.DivisionError = ap meant first ∙ (alike ∙ sym (ap meant second)) in
+      let equal : meaning.Value u ≡ meaning.DivisionError = ap meant first ∙
+      (alike ∙ sym (ap meant second)) in
       absurd (cc);
 }
 are_different (Value u) More x y is = absurd (cc)
@@ -82,7 +86,8 @@ are_different DivError (Value v) x y is = record {
   differ = λ alike.
       let first : DivError ≡ x = cc in
       let second : Value v ≡ y = cc in
-      let equal : meaning.DivisionError ≡ meaning.Value v = ap meant first ∙ (alike ∙ sym (ap meant second)) in
+      let equal : meaning.DivisionError ≡ meaning.Value v = ap meant first ∙
+      (alike ∙ sym (ap meant second)) in
       absurd (cc);
 }
 are_different DivError DivError x y is = absurd (cc)
@@ -99,11 +104,14 @@ record Counts (precondition : Outcome) (counts : Finding) (x y : Outcome) : Type
   rest : counts ≡ finding.Different x y
 
 counts_with : (v : ℤ) (counts : Finding) (x y : Outcome) (zeroes : Bool) → is_zero v ≡ zeroes
-    → (if zeroes then finding.Excluded else counts) ≡ finding.Different x y → Counts (Value v) counts x y
+    → (if zeroes then finding.Excluded else counts) ≡ finding.Different x y →
+    Counts (Value v) counts x y
 counts_with v counts x y true tested is = absurd (cc)
-counts_with v counts x y false tested is = record { value = v; value_is = refl; not_zero = tested; rest = is }
+counts_with v counts x y false tested is =
+    record { value = v; value_is = refl; not_zero = tested; rest = is }
 
-counts_if_different : (precondition : Outcome) (counts : Finding) (x y : Outcome) → finding_under precondition counts ≡ finding.Different x y
+counts_if_different : (precondition : Outcome) (counts : Finding) (x y : Outcome) →
+    finding_under precondition counts ≡ finding.Different x y
     → Counts precondition counts x y
 counts_if_different (Value v) counts x y is = counts_with v counts x y (is_zero v) refl is
 counts_if_different DivError counts x y is = absurd (cc)
@@ -111,8 +119,10 @@ counts_if_different More counts x y is = absurd (cc)
 counts_if_different Over counts x y is = absurd (cc)
 
 -- a call with a decided outcome returns it
-returns_decided : (program : Resolved) (rounds f : ℕ) (point : List ℤ) (x : Outcome) → outcome_of (counted program rounds f point) ≡ x
-    → is_decided (outcome_of (counted program rounds f point)) ≡ true → Returns program f point (meant x)
+returns_decided : (program : Resolved) (rounds f : ℕ) (point : List ℤ) (x : Outcome) →
+    outcome_of (counted program rounds f point) ≡ x
+    → is_decided (outcome_of (counted program rounds f point)) ≡ true →
+    Returns program f point (meant x)
 returns_decided program rounds f point x is decided =
     let P : Outcome → Type 0 = λ o. Returns program f point (meant o) in
     subst P is (record {
@@ -122,12 +132,15 @@ returns_decided program rounds f point x is decided =
     })
 
 -- by the meaning both functions return what was found, and that differs
-pub difference_returns : (program : Resolved) (f g : ℕ) (precondition : Option Expr) (rounds : ℕ) (point : List ℤ) (x y : Outcome)
-    → finding_at program f g precondition rounds point ≡ finding.Different x y → ReturnDifferent program f g point x y
+pub difference_returns : (program : Resolved) (f g : ℕ) (precondition : Option Expr) (rounds : ℕ)
+    (point : List ℤ) (x y : Outcome)
+    → finding_at program f g precondition rounds point ≡ finding.Different x y →
+    ReturnDifferent program f g point x y
 difference_returns program f g precondition rounds point x y is =
     let a = outcome_of (counted program rounds f point) in
     let b = outcome_of (counted program rounds g point) in
-    let counts = counts_if_different (precondition_at program precondition rounds point) (finding_of a b) x y is in
+    let counts = counts_if_different (precondition_at program precondition rounds point)
+    (finding_of a b) x y is in
     let both = are_different a b x y counts.rest in
     record {
       first_returns = returns_decided program rounds f point x both.first_is both.first_decided;
@@ -136,21 +149,28 @@ difference_returns program f g precondition rounds point x y is =
     }
 
 -- the value of an expression whose outcome is one
-value_decided : (program : Resolved) (e : Expr) (rounds : ℕ) (point : List ℤ) (v : ℤ) → outcome_of (counted_expr program e rounds point) ≡ Value v
+value_decided : (program : Resolved) (e : Expr) (rounds : ℕ) (point : List ℤ) (v : ℤ) →
+    outcome_of (counted_expr program e rounds point) ≡ Value v
     → expr_outcome program rounds e point ≡ meaning.Value v
 value_decided program e rounds point v is =
-    let decided : is_decided (outcome_of (counted_expr program e rounds point)) ≡ true = ap is_decided is in
+    let decided : is_decided (outcome_of (counted_expr program e rounds point)) ≡ true =
+    ap is_decided is in
     decided_meant (expression_means program e rounds point) decided ∙ ap meant is
 
 -- and the point meets the precondition
-pub difference_meets : (program : Resolved) (f g : ℕ) (precondition : Option Expr) (rounds : ℕ) (point : List ℤ) (x y : Outcome)
-    → finding_at program f g precondition rounds point ≡ finding.Different x y → Meets program rounds precondition point
+pub difference_meets : (program : Resolved) (f g : ℕ) (precondition : Option Expr) (rounds : ℕ)
+    (point : List ℤ) (x y : Outcome)
+    → finding_at program f g precondition rounds point ≡ finding.Different x y →
+    Meets program rounds precondition point
 difference_meets program f g None rounds point x y is = tt
 difference_meets program f g (Some e) rounds point x y is =
     let a = outcome_of (counted program rounds f point) in
     let b = outcome_of (counted program rounds g point) in
-    let counts = counts_if_different (outcome_of (counted_expr program e rounds point)) (finding_of a b) x y is in (
+    let counts = counts_if_different (outcome_of (counted_expr program e rounds point))
+    (finding_of a b) x y is in (
       counts.value,
       value_decided program e rounds point counts.value counts.value_is,
-      λ zero_is. let P : ℤ → Type 0 = λ k. is_zero k ≡ false in let wrong : is_zero (pos 0) ≡ false = subst P zero_is counts.not_zero in absurd (cc),
+      λ zero_is. let P : ℤ → Type 0 =
+          λ k. is_zero k ≡ false in let wrong : is_zero (pos 0) ≡ false =
+          subst P zero_is counts.not_zero in absurd (cc),
     )

@@ -47,8 +47,10 @@ abbrev pub fresh : List ℤ → Kept
 fresh state = record { values = []; below = []; state = state; scopes = [] }
 
 -- a whole call
-pub whole-call : (program : Resolved) (ops : List Op) (callers : List Caller) (entries : List ℕ) (rounds f entry : ℕ) (args : List ℤ) (k : Kept)
-    → FunctionsAreRight ops entries program.functions → slice_get entries f ≡ Some entry → 0 < rounds → callers ≡ [] → k ≡ fresh args
+pub whole-call : (program : Resolved) (ops : List Op) (callers : List Caller) (entries : List ℕ)
+    (rounds f entry : ℕ) (args : List ℤ) (k : Kept)
+    → FunctionsAreRight ops entries program.functions → slice_get entries f ≡ Some entry → 0 <
+    rounds → callers ≡ [] → k ≡ fresh args
     → machine_run program ops callers entry k (rounds - 1) ≡ counted program rounds f args
 whole-call program ops callers entries rounds f entry args k right found some none is =
     let below = slice_get_within entries f entry found in
@@ -56,7 +58,8 @@ whole-call program ops callers entries rounds f entry args k right found some no
     let there = function-found program.functions f (omega arith) in
     let same : rounds ≡ suc (rounds - 1) = omega arith in
     let function = right.each f entry there.0 there.1 found in
-    rw (none, is) (function.comes (counted program) (back_to (counted program) ops []) (fresh args) (rounds - 1)
+    rw (none, is) (function.comes (counted program) (back_to (counted program) ops []) (fresh args)
+    (rounds - 1)
     ∙ (on_value-Value (body_run (Some there.0) (counted program) (rounds - 1) args)
     ∙ sym (ap (λ (n : ℕ). counted program n f args) same ∙ (counted_call program (rounds - 1) f args
     ∙ ap (λ (o : Option Function). body_run o (counted program) (rounds - 1) args) there.1))))
@@ -67,31 +70,40 @@ entries-past (x ∷ entries) zero is = absurd (cc)
 entries-past (x ∷ entries) (suc p) is = let rec = entries-past entries p is in omega arith
 
 -- there is no such function
-pub no-call : (program : Resolved) (ops : List Op) (entries : List ℕ) (rounds f : ℕ) (args : List ℤ) → FunctionsAreRight ops entries program.functions
-    → slice_get entries f ≡ None → 0 < rounds → outcome_of (counted program rounds f args) ≡ outcome.More
+pub no-call : (program : Resolved) (ops : List Op) (entries : List ℕ) (rounds f : ℕ) (args : List ℤ)
+    → FunctionsAreRight ops entries program.functions
+    → slice_get entries f ≡ None → 0 < rounds → outcome_of (counted program rounds f args) ≡
+    outcome.More
 no-call program ops entries rounds f args right none some =
     let past = entries-past entries f none in
     let count = right.count in
     let same : rounds ≡ suc (rounds - 1) = omega arith in
-    ap outcome_of (ap (λ (n : ℕ). counted program n f args) same ∙ (counted_call program (rounds - 1) f args
-    ∙ ap (λ (o : Option Function). body_run o (counted program) (rounds - 1) args) (slice_get_past program.functions f (omega arith))))
+    ap outcome_of (ap (λ (n : ℕ). counted program n f args) same ∙
+    (counted_call program (rounds - 1) f args
+    ∙ ap (λ (o : Option Function). body_run o (counted program) (rounds - 1) args)
+    (slice_get_past program.functions f (omega arith))))
 
 -- a whole expression
-pub whole-expr : (program : Resolved) (ops : List Op) (callers : List Caller) (whole : Option Expr) (start : Option ℕ) (p rounds : ℕ) (state : State) (k : Kept)
+pub whole-expr : (program : Resolved) (ops : List Op) (callers : List Caller) (whole : Option Expr)
+    (start : Option ℕ) (p rounds : ℕ) (state : State) (k : Kept)
     → WholeIsRight ops whole start → start ≡ Some p → callers ≡ [] → k ≡ fresh state
-    → outcome_of (machine_run program ops callers p k rounds) ≡ precondition_at program whole rounds state
+    → outcome_of (machine_run program ops callers p k rounds) ≡
+    precondition_at program whole rounds state
 whole-expr program ops callers None None p rounds state k right there none is = absurd (cc)
 whole-expr program ops callers None (Some q) p rounds state k right there none is = absurd right
 whole-expr program ops callers (Some e) None p rounds state k right there none is = absurd right
 whole-expr program ops callers (Some e) (Some q) p rounds state k right there none is =
     let same : q ≡ p = cc in
-    rw (none, is) (ap outcome_of (ap (λ (n : ℕ). machine_run program ops [] n (fresh state) rounds) (sym same)
+    rw (none, is) (ap outcome_of (ap (λ (n : ℕ). machine_run program ops [] n (fresh state) rounds)
+    (sym same)
     ∙ (right (counted program) (back_to (counted program) ops []) (fresh state) rounds
     ∙ on_value-Value (expr (counted program) e rounds state))))
 
 -- there is no expression
-pub no-whole-expr : (program : Resolved) (ops : List Op) (whole : Option Expr) (start : Option ℕ) (rounds : ℕ) (state : State)
-    → WholeIsRight ops whole start → start ≡ None → outcome.Value (pos 1) ≡ precondition_at program whole rounds state
+pub no-whole-expr : (program : Resolved) (ops : List Op) (whole : Option Expr) (start : Option ℕ)
+    (rounds : ℕ) (state : State)
+    → WholeIsRight ops whole start → start ≡ None → outcome.Value (pos 1) ≡
+    precondition_at program whole rounds state
 no-whole-expr program ops None None rounds state right none = refl
 no-whole-expr program ops None (Some q) rounds state right none = absurd right
 no-whole-expr program ops (Some e) None rounds state right none = absurd right

@@ -1,4 +1,5 @@
--- The definitions, computed on small programs. The values come from an independent second program that runs C by counted rounds.
+-- The definitions, computed on small programs. The values come from an independent second program
+-- that runs C by counted rounds.
 use Rattle.std.proofs.Common.{◌≡◌, ℕ, pos, negsuc, None, Some, List, [], ◌∷◌, refl}
 use Rattle.c_ast.specs.declared.expr.BinOp.TheVariants as bin_op
 use Rattle.c_ast.specs.declared.expr.Expr.TheVariants.{Lit, Var, Binary, Apply}
@@ -41,7 +42,8 @@ sums = record {
       Return (Binary bin_op.Add (Apply 0 (Var 0 ∷ [])) (Apply 1 (Var 0 ∷ []))) ∷
       []) ∷
       function 4 (0 ∷ []) (
-      Return (Binary bin_op.Mul (Binary bin_op.Mul (Lit (pos 9223372036854775807)) (Lit (pos 9223372036854775807))) (Var 0)) ∷
+      Return (Binary bin_op.Mul (Binary bin_op.Mul (Lit (pos 9223372036854775807))
+      (Lit (pos 9223372036854775807))) (Var 0)) ∷
       []) ∷
       function 5 (0 ∷ 1 ∷ []) (
       Return (Binary bin_op.Div (Var 0) (Var 1)) ∷
@@ -91,14 +93,17 @@ found-2 : finding_at sums 0 1 None 10 (pos 2 ∷ []) ≡ finding.Alike
 found-2 = simp equations
 
 found-3 : finding_at sums 0 3 None 10 (negsuc 1 ∷ [])
-    ≡ finding.Different (outcome.Value (pos 0)) (outcome.Value (negsuc 170141183460469231694793815568465002497))
+    ≡ finding.Different (outcome.Value (pos 0))
+    (outcome.Value (negsuc 170141183460469231694793815568465002497))
 found-3 = simp equations
 
-found-4 : finding_at sums 0 3 (Some (Binary bin_op.Lt (Var 0) (Lit (negsuc 1)))) 10 (negsuc 1 ∷ []) ≡ finding.Excluded
+found-4 : finding_at sums 0 3 (Some (Binary bin_op.Lt (Var 0) (Lit (negsuc 1)))) 10 (negsuc 1 ∷ [])
+    ≡ finding.Excluded
 found-4 = simp equations
 
 -- the points in their order
 order : points 1 2
-    ≡ (negsuc 0 ∷ negsuc 0 ∷ []) ∷ (negsuc 0 ∷ pos 0 ∷ []) ∷ (negsuc 0 ∷ pos 1 ∷ []) ∷ (pos 0 ∷ negsuc 0 ∷ []) ∷ (pos 0 ∷ pos 0 ∷ []) ∷ (pos 0 ∷ pos 1 ∷ [])
+    ≡ (negsuc 0 ∷ negsuc 0 ∷ []) ∷ (negsuc 0 ∷ pos 0 ∷ []) ∷ (negsuc 0 ∷ pos 1 ∷ []) ∷
+    (pos 0 ∷ negsuc 0 ∷ []) ∷ (pos 0 ∷ pos 0 ∷ []) ∷ (pos 0 ∷ pos 1 ∷ [])
     ∷ (pos 1 ∷ negsuc 0 ∷ []) ∷ (pos 1 ∷ pos 0 ∷ []) ∷ (pos 1 ∷ pos 1 ∷ []) ∷ []
 order = refl

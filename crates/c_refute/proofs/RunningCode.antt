@@ -38,11 +38,14 @@ use Rattle.c_refute.proofs.StatementCode.{flow-state}
 use Rattle.c_refute.proofs.Runs.{on_value-same, on_value-then}
 
 -- one caller more, one less
-pub back-pushed : (calls : Calls) (ops : List Op) (old new : List Caller) (c : Caller) → new ≡ old ++ c ∷ []
+pub back-pushed : (calls : Calls) (ops : List Op) (old new : List Caller) (c : Caller) → new ≡
+    old ++ c ∷ []
     → back_to calls ops new ≡ resumed calls ops (back_to calls ops old) c
-back-pushed calls ops old new c is = ap (back_to calls ops) is ∙ fold-append (resumed calls ops) done old (c ∷ [])
+back-pushed calls ops old new c is =
+    ap (back_to calls ops) is ∙ fold-append (resumed calls ops) done old (c ∷ [])
 
-split-at : (ops : List Op) (p : ℕ) (o : Op) → slice_get ops p ≡ Some o → ops ≡ take p ops ++ o ∷ drop (suc p) ops
+split-at : (ops : List Op) (p : ℕ) (o : Op) → slice_get ops p ≡ Some o → ops ≡ take p ops ++ o ∷
+    drop (suc p) ops
 split-at [] p o is = absurd (cc)
 split-at (x ∷ ops) zero o is = let same : x ≡ o = cc in rw same refl
 split-at (x ∷ ops) (suc p) o is = ap (λ (xs : List Op). x ∷ xs) (split-at ops p o is)
@@ -65,22 +68,26 @@ none-past (x ∷ ops) (suc p) is = let rec = none-past ops p is in omega arith
 
 module _ (calls : Calls) (back : Back) (ops : List Op) (p : ℕ) where
   -- the op at a position, from the ops before it
-  pub op-found : (o : Op) → slice_get ops p ≡ Some o → at (rests calls back ops) p ≡ op_to calls back (rests calls back (take p ops)) o
+  pub op-found : (o : Op) → slice_get ops p ≡ Some o → at (rests calls back ops) p ≡
+      op_to calls back (rests calls back (take p ops)) o
   op-found o is =
       let below = slice_get_within ops p o is in
       ap (λ (all : List Op). at (rests calls back all) p) (split-at ops p o is)
-      ∙ (ap (λ (n : ℕ). at (rests calls back (take p ops ++ o ∷ drop (suc p) ops)) n) (sym (length-split ops p below))
+      ∙ (ap (λ (n : ℕ). at (rests calls back (take p ops ++ o ∷ drop (suc p) ops)) n)
+      (sym (length-split ops p below))
       ∙ at-split calls back (take p ops) (drop (suc p) ops) o)
 
   -- a lower position
-  pub lower-found : (q : ℕ) → q < p → p < length ops → at (rests calls back (take p ops)) q ≡ at (rests calls back ops) q
+  pub lower-found : (q : ℕ) → q < p → p < length ops → at (rests calls back (take p ops)) q ≡
+      at (rests calls back ops) q
   lower-found q lower below =
       let many = length-split ops p below in
       let there : q < length (take p ops) = omega arith in
       sym (at-stays calls back (take p ops) (drop p ops) ops q (sym (take-append-drop p ops)) there)
 
   -- a lower position, whether the op is there or not
-  pub lower-kept : (q : ℕ) → q < p → at (rests calls back (take p ops)) q ≡ at (rests calls back ops) q
+  pub lower-kept : (q : ℕ) → q < p → at (rests calls back (take p ops)) q ≡
+      at (rests calls back ops) q
   lower-kept q lower =
       elim (le_or_less (length ops) p) [
         | inr there ↦ lower-found q lower there
@@ -102,17 +109,27 @@ module _ (calls : Calls) (back : Back) (ops : List Op) (p : ℕ) where
 
 -- what a loop executes leaves no more rounds than there were
 module _ (program : Resolved) (n : ℕ) where
-  optional-agrees : (change : Option Stmt) → FromEach n (optional (option_map (stmt (counted program)) change)) (optional (option_map (stmt (counted program)) change))
+  optional-agrees : (change : Option Stmt) → FromEach n
+      (optional (option_map (stmt (counted program)) change))
+      (optional (option_map (stmt (counted program)) change))
   optional-agrees None m below s = Leaves (omega arith)
-  optional-agrees (Some change) m below s = stmt_agrees (counted program) (counted program) n (counted_agree program n) change m below s
+  optional-agrees (Some change) m below s =
+      stmt_agrees (counted program) (counted program) n (counted_agree program n) change m below s
 
-  turn-agrees : (t : Stmt-F Stmt) → FromEach n (turn_level (counted program) t) (turn_level (counted program) t)
-  turn-agrees (Stmt-F.While e body) = while_turn_agrees (counted program) (counted program) n (counted_agree program n) (Some e) _ _ _ _
-      (optional-agrees None) (stmt_agrees (counted program) (counted program) n (counted_agree program n) body)
-  turn-agrees (Stmt-F.DoWhile body e) = do_turn_agrees (counted program) (counted program) n (counted_agree program n) e _ _
+  turn-agrees : (t : Stmt-F Stmt) → FromEach n (turn_level (counted program) t)
+      (turn_level (counted program) t)
+  turn-agrees (Stmt-F.While e body) =
+      while_turn_agrees (counted program) (counted program) n (counted_agree program n) (Some e) _ _
+      _ _
+      (optional-agrees None) (stmt_agrees (counted program) (counted program) n
+      (counted_agree program n) body)
+  turn-agrees (Stmt-F.DoWhile body e) =
+      do_turn_agrees (counted program) (counted program) n (counted_agree program n) e _ _
       (stmt_agrees (counted program) (counted program) n (counted_agree program n) body)
-  turn-agrees (Stmt-F.For first test change body) = while_turn_agrees (counted program) (counted program) n (counted_agree program n) test _ _ _ _
-      (optional-agrees change) (stmt_agrees (counted program) (counted program) n (counted_agree program n) body)
+  turn-agrees (Stmt-F.For first test change body) =
+      while_turn_agrees (counted program) (counted program) n (counted_agree program n) test _ _ _ _
+      (optional-agrees change) (stmt_agrees (counted program) (counted program) n
+      (counted_agree program n) body)
   turn-agrees Stmt-F.Empty = λ m below s. Waits
   turn-agrees (Stmt-F.Declare v e) = λ m below s. Waits
   turn-agrees (Stmt-F.Assign v e) = λ m below s. Waits
@@ -123,37 +140,51 @@ module _ (program : Resolved) (n : ℕ) where
   turn-agrees (Stmt-F.Block ts) = λ m below s. Waits
 
 -- a turn is begun
-module _ (program : Resolved) (back : Back) (ops : List Op) (turn : ℕ) (whole : Bor Stmt) (exits : Exits) (begin : ℕ)
-    (right : TurnIsRight ops turn whole.now exits begin) (found : slice_get ops turn ≡ Some (op.Turn whole exits begin)) (k : Kept) where
-  leads-there : (flow : Flow) (m : ℕ) → flow_to (rests (counted program) back (take turn ops)) back exits k flow m ≡ flow_to (rests (counted program) back ops) back exits k flow m
+module _ (program : Resolved) (back : Back) (ops : List Op) (turn : ℕ) (whole : Bor Stmt)
+    (exits : Exits) (begin : ℕ)
+    (right : TurnIsRight ops turn whole.now exits begin)
+    (found : slice_get ops turn ≡ Some (op.Turn whole exits begin)) (k : Kept) where
+  leads-there : (flow : Flow) (m : ℕ) → flow_to (rests (counted program) back (take turn ops)) back
+      exits k flow m ≡ flow_to (rests (counted program) back ops) back exits k flow m
   leads-there (Next s) m = ap (λ (r : Rest). r (with_state k s) m)
-      (lower-found (counted program) back ops turn exits.next right.leads.next (slice_get_within ops turn (op.Turn whole exits begin) found))
+      (lower-found (counted program) back ops turn exits.next right.leads.next
+      (slice_get_within ops turn (op.Turn whole exits begin) found))
   leads-there (Break s) m = ap (λ (r : Rest). r (with_state k s) m)
-      (lower-found (counted program) back ops turn exits.broken right.leads.broken (slice_get_within ops turn (op.Turn whole exits begin) found))
+      (lower-found (counted program) back ops turn exits.broken right.leads.broken
+      (slice_get_within ops turn (op.Turn whole exits begin) found))
   leads-there (Continue s) m = ap (λ (r : Rest). r (with_state k s) m)
-      (lower-found (counted program) back ops turn exits.continued right.leads.continued (slice_get_within ops turn (op.Turn whole exits begin) found))
+      (lower-found (counted program) back ops turn exits.continued right.leads.continued
+      (slice_get_within ops turn (op.Turn whole exits begin) found))
   leads-there (Return x) m = refl
 
   after-turn : (t : Turn) (m : ℕ)
-      → on_value (on_again (loop (turn_of (counted program) whole.now)) t m) (flow_to (rests (counted program) back (take turn ops)) back exits k)
+      → on_value (on_again (loop (turn_of (counted program) whole.now)) t m)
+      (flow_to (rests (counted program) back (take turn ops)) back exits k)
       ≡ turn_to (rests (counted program) back ops) back turn exits k t m
   after-turn (Again s) m =
-      sym (ap (λ (r : Rest). r (with_state k s) m) (op-found (counted program) back ops turn (op.Turn whole exits begin) found)
+      sym (ap (λ (r : Rest). r (with_state k s) m)
+      (op-found (counted program) back ops turn (op.Turn whole exits begin) found)
       ∙ on_value-same (loop (turn_of (counted program) whole.now) m s) _ _
       (λ flow n. flow-state (rests (counted program) back (take turn ops)) back exits k s flow n))
   after-turn (Ends flow) m = leads-there flow m
 
-  pub turn-begun : (left : ℕ) → code_run (counted program) back ops turn k (suc left) ≡ code_run (counted program) back ops begin k left
+  pub turn-begun : (left : ℕ) → code_run (counted program) back ops turn k (suc left) ≡
+      code_run (counted program) back ops begin k left
   turn-begun left =
-      ap (λ (r : Rest). r k (suc left)) (op-found (counted program) back ops turn (op.Turn whole exits begin) found)
-      ∙ (ap (λ (r : Run Flow). on_value r (flow_to (rests (counted program) back (take turn ops)) back exits k))
-      (loop_turn (turn_of (counted program) whole.now) left (turn-agrees program left (out-Stmt whole.now)) k.state)
-      ∙ (on_value-then (turn_of (counted program) whole.now left k.state) (on_again (loop (turn_of (counted program) whole.now)))
+      ap (λ (r : Rest). r k (suc left)) (op-found (counted program) back ops turn
+      (op.Turn whole exits begin) found)
+      ∙ (ap (λ (r : Run Flow). on_value r (flow_to (rests (counted program) back (take turn ops))
+      back exits k))
+      (loop_turn (turn_of (counted program) whole.now) left
+      (turn-agrees program left (out-Stmt whole.now)) k.state)
+      ∙ (on_value-then (turn_of (counted program) whole.now left k.state)
+      (on_again (loop (turn_of (counted program) whole.now)))
       (flow_to (rests (counted program) back (take turn ops)) back exits k) _ after-turn
       ∙ sym (right.turns (counted program) back k left)))
 
 -- no round is left
-pub turn-out : (program : Resolved) (back : Back) (rs : List Rest) (whole : Bor Stmt) (exits : Exits) (begin : ℕ) (k : Kept)
+pub turn-out : (program : Resolved) (back : Back) (rs : List Rest) (whole : Bor Stmt)
+    (exits : Exits) (begin : ℕ) (k : Kept)
     → op_to (counted program) back rs (op.Turn whole exits begin) k 0 ≡ More
 turn-out program back rs whole exits begin k = refl
 
@@ -162,58 +193,83 @@ pub call-out : (program : Resolved) (back : Back) (rs : List Rest) (f count next
 call-out program back rs f count next k = refl
 
 -- a call of a function that isn't there
-pub not-there : (program : Resolved) (back : Back) (rs : List Rest) (f count next : ℕ) (k : Kept) (left : ℕ) → slice_get program.functions f ≡ None
+pub not-there : (program : Resolved) (back : Back) (rs : List Rest) (f count next : ℕ) (k : Kept)
+    (left : ℕ) → slice_get program.functions f ≡ None
     → op_to (counted program) back rs (op.Call f count next) k (suc left) ≡ More
 not-there program back rs f count next k left none =
-    ap (λ (r : Run ℤ). on_value r (λ x. at rs next (pushed (with_values k (drop count k.values)) x)))
-    (counted_call program left f (reverse (take count k.values)) ∙ ap (λ (o : Option Function). body_run o (counted program) left (reverse (take count k.values))) none)
+    ap (λ (r : Run ℤ). on_value r (λ x. at rs next
+    (pushed (with_values k (drop count k.values)) x)))
+    (counted_call program left f (reverse (take count k.values)) ∙
+    ap (λ (o : Option Function). body_run o (counted program) left
+    (reverse (take count k.values))) none)
 
 -- where a caller goes on
-pub caller-found : (calls : Calls) (back : Back) (ops : List Op) (p next waits : ℕ) → (next < p → waits ≡ next) → (p ≤ next → waits ≡ length ops)
+pub caller-found : (calls : Calls) (back : Back) (ops : List Op) (p next waits : ℕ) →
+    (next < p → waits ≡ next) → (p ≤ next → waits ≡ length ops)
     → at (rests calls back (take p ops)) next ≡ at (rests calls back ops) waits
 caller-found calls back ops p next waits low high =
     elim (le_or_less p next) [
-      | inr lower ↦ lower-kept calls back ops p next lower ∙ ap (λ (q : ℕ). at (rests calls back ops) q) (sym (low lower))
+      | inr lower ↦ lower-kept calls back ops p next lower ∙
+          ap (λ (q : ℕ). at (rests calls back ops) q) (sym (low lower))
       | inl above ↦
           let many = length-rests calls back ops in
           let end = high above in
-          lost-above calls back ops p next above ∙ sym (get_or_past (rests calls back ops) waits lost (omega arith))
+          lost-above calls back ops p next above ∙
+          sym (get_or_past (rests calls back ops) waits lost (omega arith))
     ]
 
 -- a call of a function begins it
-module _ (program : Resolved) (back : Back) (ops : List Op) (p f count next waits base : ℕ) (k : Kept)
-    (found-next : at (rests (counted program) back (take p ops)) next ≡ at (rests (counted program) back ops) waits) (is : base ≡ length k.below) where
+module _ (program : Resolved) (back : Back) (ops : List Op) (p f count next waits base : ℕ)
+    (k : Kept)
+    (found-next : at (rests (counted program) back (take p ops)) next ≡
+    at (rests (counted program) back ops) waits) (is : base ≡ length k.below) where
   caller-waits : (x : ℤ) (m : ℕ)
-      → at (rests (counted program) back (take p ops)) next (pushed (with_values k (drop count k.values)) x) m
-      ≡ resumed (counted program) ops back (record { next = waits; base = base }) x (ended (called k count) 0) m
+      → at (rests (counted program) back (take p ops)) next
+      (pushed (with_values k (drop count k.values)) x) m
+      ≡ resumed (counted program) ops back (record { next = waits; base = base }) x
+      (ended (called k count) 0) m
   caller-waits x m =
       ap (λ (r : Rest). r (pushed (with_values k (drop count k.values)) x) m) found-next
       ∙ sym (rw (is, take-append_seam k.below k.state, drop-append_seam k.below k.state) refl)
 
-  pub call-begun : (entry left : ℕ) (function : Function) → slice_get program.functions f ≡ Some function → FunctionIsRight ops entry function
-      → op_to (counted program) back (rests (counted program) back (take p ops)) (op.Call f count next) k (suc left)
-      ≡ code_run (counted program) (resumed (counted program) ops back (record { next = waits; base = base })) ops entry (called k count) left
+  pub call-begun : (entry left : ℕ) (function : Function) → slice_get program.functions f ≡
+      Some function → FunctionIsRight ops entry function
+      → op_to (counted program) back (rests (counted program) back (take p ops))
+      (op.Call f count next) k (suc left)
+      ≡ code_run (counted program) (resumed (counted program) ops back
+      (record { next = waits; base = base })) ops entry (called k count) left
   call-begun entry left function found right =
-      ap (λ (r : Run ℤ). on_value r (λ x. at (rests (counted program) back (take p ops)) next (pushed (with_values k (drop count k.values)) x)))
-      (counted_call program left f (reverse (take count k.values)) ∙ ap (λ (o : Option Function). body_run o (counted program) left (reverse (take count k.values))) found)
-      ∙ (on_value-same (on_value (in_order (map (stmt (counted program)) function.body) left (reverse (take count k.values))) returned) _ _ caller-waits
-      ∙ sym (right.comes (counted program) (resumed (counted program) ops back (record { next = waits; base = base })) (called k count) left))
+      ap (λ (r : Run ℤ). on_value r (λ x. at (rests (counted program) back (take p ops)) next
+      (pushed (with_values k (drop count k.values)) x)))
+      (counted_call program left f (reverse (take count k.values)) ∙
+      ap (λ (o : Option Function). body_run o (counted program) left
+      (reverse (take count k.values))) found)
+      ∙ (on_value-same (on_value (in_order (map (stmt (counted program)) function.body) left
+      (reverse (take count k.values))) returned) _ _ caller-waits
+      ∙ sym (right.comes (counted program) (resumed (counted program) ops back
+      (record { next = waits; base = base })) (called k count) left))
 
 -- a function at a place that is there
-pub function-found : (functions : List Function) (f : ℕ) → f < length functions → (g : Function) × (slice_get functions f ≡ Some g)
+pub function-found : (functions : List Function) (f : ℕ) → f < length functions → (g : Function) ×
+    (slice_get functions f ≡ Some g)
 function-found [] f below = absurd (omega arith)
 function-found (g ∷ functions) zero below = (g, refl)
 function-found (g ∷ functions) (suc f) below = function-found functions f (omega arith)
 
 -- a value that is made goes to its sink
-pub made-to : (calls : Calls) (back : Back) (rs : List Rest) (work : Work) (s : Sink) (k new : Kept) (x : ℤ) (left : ℕ)
-    → made work k left ≡ Value x left → new ≡ kept_after work k → op_to calls back rs (op.Do work s) k left ≡ sink_to rs back s new x left
+pub made-to : (calls : Calls) (back : Back) (rs : List Rest) (work : Work) (s : Sink) (k new : Kept)
+    (x : ℤ) (left : ℕ)
+    → made work k left ≡ Value x left → new ≡ kept_after work k →
+    op_to calls back rs (op.Do work s) k left ≡ sink_to rs back s new x left
 made-to calls back rs work s k new x left is kept =
-    ap (λ (r : Run ℤ). on_value r (sink_to rs back s (kept_after work k))) is ∙ ap (λ (j : Kept). sink_to rs back s j x left) (sym kept)
+    ap (λ (r : Run ℤ). on_value r (sink_to rs back s (kept_after work k))) is ∙
+    ap (λ (j : Kept). sink_to rs back s j x left) (sym kept)
 
 -- what is the same leads to the same
-pub steps-same : (program : Resolved) (ops : List Op) (run other : Run ℤ) (result : Result Reached Stop) (callers : List Caller) (k : Kept) (left : ℕ)
-    → run ≡ other → Steps program ops other result callers k left → Steps program ops run result callers k left
+pub steps-same : (program : Resolved) (ops : List Op) (run other : Run ℤ)
+    (result : Result Reached Stop) (callers : List Caller) (k : Kept) (left : ℕ)
+    → run ≡ other → Steps program ops other result callers k left →
+    Steps program ops run result callers k left
 steps-same program ops run other (Ok (reached.On p)) callers k left same is = same ∙ is
 steps-same program ops run other (Ok (reached.Round p)) callers k left same is = same ∙ is
 steps-same program ops run other (Ok (reached.Back p)) callers k left same is = same ∙ is
@@ -232,31 +288,45 @@ falls-by a b size m n le small =
     let more : (a + 1) * (size + 1) ≤ b * (size + 1) = mul-le-mul_right (size + 1) le in
     omega arith
 
-pub falls-round : (rounds old new size p q : ℕ) → 0 < rounds → new ≤ old + 1 → left_to_do (rounds - 1) new size q < left_to_do rounds old size p
+pub falls-round : (rounds old new size p q : ℕ) → 0 < rounds → new ≤ old + 1 →
+    left_to_do (rounds - 1) new size q < left_to_do rounds old size p
 falls-round rounds old new size p q some le =
-    falls-by (2 * (rounds - 1) + new) (2 * rounds + old) size (q - (q - size)) (p - (p - size)) (omega arith) (omega arith)
+    falls-by (2 * (rounds - 1) + new) (2 * rounds + old) size (q - (q - size)) (p - (p - size))
+    (omega arith) (omega arith)
 
-pub falls-back : (rounds old new size p q : ℕ) → new + 1 ≡ old → left_to_do rounds new size q < left_to_do rounds old size p
+pub falls-back : (rounds old new size p q : ℕ) → new + 1 ≡ old → left_to_do rounds new size q <
+    left_to_do rounds old size p
 falls-back rounds old new size p q less =
-    falls-by (2 * rounds + new) (2 * rounds + old) size (q - (q - size)) (p - (p - size)) (omega arith) (omega arith)
+    falls-by (2 * rounds + new) (2 * rounds + old) size (q - (q - size)) (p - (p - size))
+    (omega arith) (omega arith)
 
-pub falls-on : (rounds old new size p q : ℕ) → q < p → p < size → new ≡ old → left_to_do rounds new size q < left_to_do rounds old size p
+pub falls-on : (rounds old new size p q : ℕ) → q < p → p < size → new ≡ old →
+    left_to_do rounds new size q < left_to_do rounds old size p
 falls-on rounds old new size p q lower there same =
     rw same (let less : q - (q - size) < p - (p - size) = omega arith in omega arith)
 
 -- a turn is begun, if a round is left
-pub turn-steps : (program : Resolved) (ops : List Op) (callers : List Caller) (turn : ℕ) (whole : Bor Stmt) (exits : Exits) (begin : ℕ)
-    → TurnIsRight ops turn whole.now exits begin → slice_get ops turn ≡ Some (op.Turn whole exits begin)
+pub turn-steps : (program : Resolved) (ops : List Op) (callers : List Caller) (turn : ℕ)
+    (whole : Bor Stmt) (exits : Exits) (begin : ℕ)
+    → TurnIsRight ops turn whole.now exits begin → slice_get ops turn ≡
+    Some (op.Turn whole exits begin)
     → (result : Result Reached Stop) (k : Kept) (left : ℕ)
-    → OnOk result (0 < left) → IfOk result (λ r. r ≡ reached.Round begin) → OnErr result (left ≡ 0) → IfErr result (λ e. e ≡ stop.More)
+    → OnOk result (0 < left) → IfOk result (λ r. r ≡ reached.Round begin) →
+    OnErr result (left ≡ 0) → IfErr result (λ e. e ≡ stop.More)
     → Steps program ops (machine_run program ops callers turn k left) result callers k left
 turn-steps program ops callers turn whole exits begin right found (Ok r) k left some is none more =
     let same : left ≡ suc (left - 1) = omega arith in
-    let P : Reached → Type 0 = λ q. Steps program ops (machine_run program ops callers turn k left) (Ok q) callers k left in
+    let P : Reached → Type 0 = λ q. Steps program ops (machine_run program ops callers turn k left)
+    (Ok q) callers k left in
     subst P (sym is) (ap (λ (n : ℕ). machine_run program ops callers turn k n) same
-    ∙ turn-begun program (back_to (counted program) ops callers) ops turn whole exits begin right found k (left - 1))
+    ∙ turn-begun program (back_to (counted program) ops callers) ops turn whole exits begin right
+    found k (left - 1))
 turn-steps program ops callers turn whole exits begin right found (Err e) k left some is none more =
-    let P : Stop → Type 0 = λ q. Steps program ops (machine_run program ops callers turn k left) (Err q) callers k left in
+    let P : Stop → Type 0 = λ q. Steps program ops (machine_run program ops callers turn k left)
+    (Err q) callers k left in
     subst P (sym more) (ap (λ (n : ℕ). machine_run program ops callers turn k n) none
-    ∙ (ap (λ (r : Rest). r k 0) (op-found (counted program) (back_to (counted program) ops callers) ops turn (op.Turn whole exits begin) found)
-    ∙ turn-out program (back_to (counted program) ops callers) (rests (counted program) (back_to (counted program) ops callers) (take turn ops)) whole exits begin k))
+    ∙ (ap (λ (r : Rest). r k 0) (op-found (counted program) (back_to (counted program) ops callers)
+    ops turn (op.Turn whole exits begin) found)
+    ∙ turn-out program (back_to (counted program) ops callers)
+    (rests (counted program) (back_to (counted program) ops callers) (take turn ops)) whole
+    exits begin k))

@@ -11,9 +11,15 @@ use Rattle.c_scope.specs.Expressions.{called, resolved_expr, expr_level}
 use Rattle.c_scope.specs.Steps.{Found, on_found, all_found}
 
 -- a call is resolved by its name, and then by its arguments
-pub resolved_call : (names : List ℕ) (functions : List Function) (scope : List ℕ) (token : ℕ) (arguments : List Expr) → resolved_expr names functions scope (Apply token arguments) ≡
-    on_found (called names functions token (length arguments) (slot_of scope (name_at names token))) (λ place. on_found (all_found (map (resolved_expr names functions scope) arguments)) (λ xs. Ok (Apply place xs)))
+pub resolved_call : (names : List ℕ) (functions : List Function) (scope : List ℕ) (token : ℕ)
+    (arguments : List Expr) → resolved_expr names functions scope (Apply token arguments) ≡
+    on_found (called names functions token (length arguments) (slot_of scope (name_at names token)))
+    (λ place. on_found (all_found (map (resolved_expr names functions scope) arguments))
+    (λ xs. Ok (Apply place xs)))
 resolved_call names functions scope token arguments =
     fold_out-Expr (Found Expr) (expr_level names functions scope) (Apply token arguments)
-    ∙ rw (outs-Apply token arguments) (ap (λ n. on_found (called names functions token n (slot_of scope (name_at names token))) (λ place. on_found (all_found (map (resolved_expr names functions scope) arguments)) (λ xs. Ok (Apply place xs))))
+    ∙ rw (outs-Apply token arguments) (ap (λ n.
+    on_found (called names functions token n (slot_of scope (name_at names token)))
+    (λ place. on_found (all_found (map (resolved_expr names functions scope) arguments))
+    (λ xs. Ok (Apply place xs))))
     (length-map arguments (resolved_expr names functions scope)))

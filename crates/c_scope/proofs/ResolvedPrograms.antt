@@ -1,4 +1,5 @@
--- A program with its names resolved has the functions of the program as it was read, each at its place and with as many parameters.
+-- A program with its names resolved has the functions of the program as it was read, each at its
+-- place and with as many parameters.
 use Rattle.std.proofs.Common.{◌≡◌, ℕ, zero, suc, ◌+◌, false, List, [], ◌∷◌, length, map, Option, Some, None, option_map, Ok, Err, slice_get, refl, sym, ap, subst, ◌∙◌}
 use Rattle.c_lex.specs.declared.token.Token.{Token}
 use Rattle.c_ast.specs.declared.stmt.Stmt.{Stmt}
@@ -27,62 +28,82 @@ module _ (f g : Function) where
   abbrev with_body : List Stmt → Function
   with_body body = record { name = f.name; params = numbered 0 f.params; body = body }
 
-  of_placed : (x : Found (Placed (List Stmt))) → on_found x (λ body. Ok (with_body body.what)) ≡ Ok g → numbered 0 f.params ≡ g.params
+  of_placed : (x : Found (Placed (List Stmt))) → on_found x (λ body. Ok (with_body body.what)) ≡
+      Ok g → numbered 0 f.params ≡ g.params
   of_placed (Ok body) is = let e : with_body body.what ≡ g = cc in ap (λ (h : Function). h.params) e
   of_placed (Err fault) is = let no : ⊥ = cc in absurd no
 
-  of_scope : (x : Found Scope) (next : Scope → Found (Placed (List Stmt))) → on_found x (λ s. on_found (next s) (λ body. Ok (with_body body.what))) ≡ Ok g
+  of_scope : (x : Found Scope) (next : Scope → Found (Placed (List Stmt))) →
+      on_found x (λ s. on_found (next s) (λ body. Ok (with_body body.what))) ≡ Ok g
       → numbered 0 f.params ≡ g.params
   of_scope (Ok s) next is = of_placed (next s) is
   of_scope (Err fault) next is = let no : ⊥ = cc in absurd no
 
 module _ (names : List ℕ) (functions : List Function) where
   -- a resolved function has as many parameters
-  same_count : (f g : Function) → resolved_function names functions f ≡ Ok g → length g.params ≡ length f.params
+  same_count : (f g : Function) → resolved_function names functions f ≡ Ok g → length g.params ≡
+      length f.params
   same_count f g is =
       let numbers : numbered 0 f.params ≡ g.params =
-      of_scope f g (with_params names f.params nothing) (λ s. in_order (map (resolved_stmt names functions) f.body) s false) is in
+      of_scope f g (with_params names f.params nothing)
+      (λ s. in_order (map (resolved_stmt names functions) f.body) s false) is in
       sym (ap length numbers) ∙ numbered_length 0 f.params
 
   -- each function stands where it stood
   abbrev Kept : List Function → List Function → Type 0
   Kept fs gs = (i : ℕ) → counted (slice_get gs i) ≡ counted (slice_get fs i)
 
-  kept_front : (f g : Function) (fs gs : List Function) → length g.params ≡ length f.params → Kept fs gs → Kept (f ∷ fs) (g ∷ gs)
+  kept_front : (f g : Function) (fs gs : List Function) → length g.params ≡ length f.params →
+      Kept fs gs → Kept (f ∷ fs) (g ∷ gs)
   kept_front f g fs gs same kept zero = ap Some same
   kept_front f g fs gs same kept (suc i) = kept i
 
-  of_rest : (f g : Function) (fs gs : List Function) → length g.params ≡ length f.params → (xs : Found (List Function)) → ((hs : List Function) → xs ≡ Ok hs → Kept fs hs)
+  of_rest : (f g : Function) (fs gs : List Function) → length g.params ≡ length f.params →
+      (xs : Found (List Function)) → ((hs : List Function) → xs ≡ Ok hs → Kept fs hs)
       → on_found xs (λ hs. Ok (g ∷ hs)) ≡ Ok gs → Kept (f ∷ fs) gs
-  of_rest f g fs gs same (Ok hs) kept is = let e : g ∷ hs ≡ gs = cc in subst (Kept (f ∷ fs)) e (kept_front f g fs hs same (kept hs refl))
+  of_rest f g fs gs same (Ok hs) kept is =
+      let e : g ∷ hs ≡ gs = cc in subst (Kept (f ∷ fs)) e (kept_front f g fs hs same (kept hs refl))
   of_rest f g fs gs same (Err fault) kept is = let no : ⊥ = cc in absurd no
 
-  of_both : (f : Function) (fs gs : List Function) (x : Found Function) → resolved_function names functions f ≡ x
+  of_both : (f : Function) (fs gs : List Function) (x : Found Function) →
+      resolved_function names functions f ≡ x
       → (xs : Found (List Function)) → ((hs : List Function) → xs ≡ Ok hs → Kept fs hs)
       → on_found x (λ g. on_found xs (λ hs. Ok (g ∷ hs))) ≡ Ok gs → Kept (f ∷ fs) gs
-  of_both f fs gs (Ok g) resolved xs kept is = of_rest f g fs gs (same_count f g resolved) xs kept is
+  of_both f fs gs (Ok g) resolved xs kept is =
+      of_rest f g fs gs (same_count f g resolved) xs kept is
   of_both f fs gs (Err fault) resolved xs kept is = let no : ⊥ = cc in absurd no
 
-  of_all : (fs gs : List Function) → all_found (map (resolved_function names functions) fs) ≡ Ok gs → Kept fs gs
+  of_all : (fs gs : List Function) → all_found (map (resolved_function names functions) fs) ≡
+      Ok gs → Kept fs gs
   of_all [] gs is = let e : [] ≡ gs = cc in subst (Kept []) e (λ i. refl)
-  of_all (f ∷ fs) gs is = of_both f fs gs (resolved_function names functions f) refl (all_found (map (resolved_function names functions) fs)) (of_all fs) is
+  of_all (f ∷ fs) gs is =
+      of_both f fs gs (resolved_function names functions f) refl
+      (all_found (map (resolved_function names functions) fs)) (of_all fs) is
 
   -- what stands behind the passes
-  of_names : (fault : Option ScopeEnd) (fs : List Function) (r : Resolved) → behind_names fault fs ≡ Ok r → fs ≡ r.functions
-  of_names None fs r is = let e : record { functions = fs } ≡ r = cc in ap (λ (q : Resolved). q.functions) e
+  of_names : (fault : Option ScopeEnd) (fs : List Function) (r : Resolved) → behind_names fault fs ≡
+      Ok r → fs ≡ r.functions
+  of_names None fs r is =
+      let e : record { functions = fs } ≡ r = cc in ap (λ (q : Resolved). q.functions) e
   of_names (Some fault) fs r is = let no : ⊥ = cc in absurd no
 
-  of_functions : (x : Found (List Function)) (fault : Option ScopeEnd) (r : Resolved) → on_found x (λ fs. behind_names fault fs) ≡ Ok r → x ≡ Ok r.functions
+  of_functions : (x : Found (List Function)) (fault : Option ScopeEnd) (r : Resolved) →
+      on_found x (λ fs. behind_names fault fs) ≡ Ok r → x ≡ Ok r.functions
   of_functions (Ok fs) fault r is = ap Ok (of_names fault fs r is)
   of_functions (Err end) fault r is = let no : ⊥ = cc in absurd no
 
-of_definitions : (names : List ℕ) (fault : Option ScopeEnd) (p : Program) (r : Resolved) → behind_definitions names fault p ≡ Ok r → resolved_functions names p.functions ≡ Ok r.functions
-of_definitions names None p r is = of_functions names p.functions (resolved_functions names p.functions) (assigned_fault names p.functions) r is
+of_definitions : (names : List ℕ) (fault : Option ScopeEnd) (p : Program) (r : Resolved) →
+    behind_definitions names fault p ≡ Ok r → resolved_functions names p.functions ≡ Ok r.functions
+of_definitions names None p r is =
+    of_functions names p.functions (resolved_functions names p.functions)
+    (assigned_fault names p.functions) r is
 of_definitions names (Some fault) p r is = let no : ⊥ = cc in absurd no
 
 -- each function of the program stands at its place with as many parameters
-pub counts_kept : (source : List ℕ) (tokens : List Token) (p : Program) (r : Resolved) → scope_of source tokens p ≡ Ok r
+pub counts_kept : (source : List ℕ) (tokens : List Token) (p : Program) (r : Resolved) →
+    scope_of source tokens p ≡ Ok r
     → (i : ℕ) → counted (slice_get r.functions i) ≡ counted (slice_get p.functions i)
 counts_kept source tokens p r is =
     let names = names_of source tokens in
-    of_all names p.functions p.functions r.functions (of_definitions names (definition_fault names p.functions p.prototypes) p r is)
+    of_all names p.functions p.functions r.functions
+    (of_definitions names (definition_fault names p.functions p.prototypes) p r is)

@@ -1,4 +1,5 @@
--- The definitions and prototypes of a program: no function is defined twice, and a prototype of a defined function has as many parameters.
+-- The definitions and prototypes of a program: no function is defined twice, and a prototype of a
+-- defined function has as many parameters.
 use Rattle.std.specs.Prelude.{ℕ, ◌+◌, Bool, false, not, nat_eq, nat_lt, List, [], ◌∷◌, Option, Some, None, if◌then◌else◌, slice_get}
 use Rattle.c_ast.specs.declared.program.Function.{Function}
 use Rattle.c_ast.specs.declared.program.Prototype.{Prototype}
@@ -16,7 +17,9 @@ module _ (names : List ℕ) (functions : List Function) where
   -- the name of the first function that was defined before, among these, which begin at a place
   abbrev pub second_definition : ℕ → List Function → Option ℕ
   second_definition place [] = None
-  second_definition place (f ∷ fs) = if is_second place (definition_of names functions (name_at names f.name)) then Some f.name else second_definition (place + 1) fs
+  second_definition place (f ∷ fs) =
+      if is_second place (definition_of names functions (name_at names f.name)) then
+      Some f.name else second_definition (place + 1) fs
 
   -- whether a prototype says another number of parameters than the definition at a place
   abbrev pub differs : Option ℕ → Option ℕ → Bool
@@ -27,15 +30,20 @@ module _ (names : List ℕ) (functions : List Function) where
   -- the name of the first prototype that does
   abbrev pub wrong_prototype : List Prototype → Option ℕ
   wrong_prototype [] = None
-  wrong_prototype (p ∷ ps) = if differs p.params (definition_of names functions (name_at names p.name)) then Some p.name else wrong_prototype ps
+  wrong_prototype (p ∷ ps) =
+      if differs p.params (definition_of names functions (name_at names p.name)) then
+      Some p.name else wrong_prototype ps
 
 -- the first of the two in the text
 abbrev pub first_of : Option ℕ → Option ℕ → Option ScopeEnd
 first_of None None = None
 first_of (Some token) None = Some (TwiceDeclared token)
 first_of None (Some token) = Some (WrongCount token)
-first_of (Some twice) (Some wrong) = if nat_lt twice wrong then Some (TwiceDeclared twice) else Some (WrongCount wrong)
+first_of (Some twice) (Some wrong) =
+    if nat_lt twice wrong then Some (TwiceDeclared twice) else Some (WrongCount wrong)
 
 -- the first fault of the definitions and prototypes
 abbrev pub definition_fault : List ℕ → List Function → List Prototype → Option ScopeEnd
-definition_fault names functions prototypes = first_of (second_definition names functions 0 functions) (wrong_prototype names functions prototypes)
+definition_fault names functions prototypes =
+    first_of (second_definition names functions 0 functions)
+    (wrong_prototype names functions prototypes)

@@ -1,4 +1,5 @@
--- Expressions with their names resolved: a variable becomes its slot, and a called function its place in the list.
+-- Expressions with their names resolved: a variable becomes its slot, and a called function its
+-- place in the list.
 use Rattle.std.specs.Prelude.{◌≡◌, ℕ, nat_eq, List, length, Option, Some, None, Ok, Err, slice_get, if◌then◌else◌}
 use Rattle.std.specs.List.{position_from}
 use Rattle.std.specs.Map.{lookup}
@@ -25,7 +26,8 @@ count_at (Some f) = length f.params
 module _ (names : List ℕ) (functions : List Function) where
   -- the place of the first definition of a name
   abbrev pub definition_of : ℕ → Option ℕ
-  definition_of name = position_from (λ (f : Function). nat_eq (name_at names f.name) name) 0 functions
+  definition_of name =
+      position_from (λ (f : Function). nat_eq (name_at names f.name) name) 0 functions
 
   -- a table has the place of the first definition of each name, and no other name
   abbrev pub IsTable : List (ℕ × ℕ) → Type 0
@@ -33,11 +35,15 @@ module _ (names : List ℕ) (functions : List Function) where
 
   -- a function that is called with so many arguments, at its place
   abbrev pub with_count : ℕ → ℕ → ℕ → Found ℕ
-  with_count token count place = if nat_eq count (count_at (slice_get functions place)) then Ok place else Err (WrongCount token)
+  with_count token count place =
+      if nat_eq count (count_at (slice_get functions place)) then Ok place else
+      Err (WrongCount token)
 
-  -- what a call's name stands for: it is looked up among the variables first, and a variable can't be called
+  -- what a call's name stands for: it is looked up among the variables first, and a variable can't
+  -- be called
   abbrev pub called : ℕ → ℕ → Option ℕ → Found ℕ
-  called token count None = on_found (known token (definition_of (name_at names token))) (with_count token count)
+  called token count None =
+      on_found (known token (definition_of (name_at names token))) (with_count token count)
   called token count (Some slot) = Err (UnknownName token)
 
   module _ (scope : List ℕ) where
@@ -45,15 +51,18 @@ module _ (names : List ℕ) (functions : List Function) where
     abbrev pub slot_at : ℕ → Found ℕ
     slot_at token = known token (slot_of scope (name_at names token))
 
-    -- an expression, from its resolved parts, from left to right; a call's name stands in front of its arguments
+    -- an expression, from its resolved parts, from left to right; a call's name stands in front of
+    -- its arguments
     abbrev pub expr_level : Expr-F (Found Expr) → Found Expr
     expr_level (Expr-F.Lit n) = Ok (Lit n)
     expr_level (Expr-F.Var token) = on_found (slot_at token) (λ slot. Ok (Var slot))
     expr_level (Expr-F.Unary op a) = on_found a (λ x. Ok (Unary op x))
     expr_level (Expr-F.Binary op a b) = on_found a (λ x. on_found b (λ y. Ok (Binary op x y)))
-    expr_level (Expr-F.Choose c a b) = on_found c (λ w. on_found a (λ x. on_found b (λ y. Ok (Choose w x y))))
+    expr_level (Expr-F.Choose c a b) =
+        on_found c (λ w. on_found a (λ x. on_found b (λ y. Ok (Choose w x y))))
     expr_level (Expr-F.Apply token arguments) =
-        on_found (called token (length arguments) (slot_of scope (name_at names token))) (λ place. on_found (all_found arguments) (λ xs. Ok (Apply place xs)))
+        on_found (called token (length arguments) (slot_of scope (name_at names token)))
+        (λ place. on_found (all_found arguments) (λ xs. Ok (Apply place xs)))
 
     -- an expression with its names resolved, or its first fault
     abbrev pub resolved_expr : Expr → Found Expr

@@ -10,7 +10,8 @@ use Rattle.c_scope.specs.Steps.{Found, on_found, all_found}
 
 -- the place of the first definition whose name these bytes spell
 abbrev pub place_of_function : List ℕ → List Token → List Function → List ℕ → Option ℕ
-place_of_function source tokens functions name = place_of (spellings source tokens (map (λ (f : Function). f.name) functions)) name
+place_of_function source tokens functions name =
+    place_of (spellings source tokens (map (λ (f : Function). f.name) functions)) name
 
 -- as few parameters as there may be slots
 abbrev pub HasFewParams : Function → Type 0
@@ -25,10 +26,12 @@ module _ (names : List ℕ) where
   -- the parameters are declared in their order
   abbrev pub with_params : List ℕ → Scope → Found Scope
   with_params [] s = Ok s
-  with_params (token ∷ tokens) s = on_found (declare token (name_at names token) s) (with_params tokens)
+  with_params (token ∷ tokens) s =
+      on_found (declare token (name_at names token) s) (with_params tokens)
 
   module _ (functions : List Function) where
-    -- a function with its names resolved: parameters share the scope of the body's outermost block (6.2.1p4)
+    -- a function with its names resolved: parameters share the scope of the body's outermost block
+    -- (6.2.1p4)
     abbrev pub resolved_function : Function → Found Function
     resolved_function f =
         on_found (with_params f.params nothing) (λ s.

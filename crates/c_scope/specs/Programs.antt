@@ -1,5 +1,6 @@
--- A program with its names resolved, or its first fault. There are three passes, and the first that finds a fault decides: over definitions and
--- prototypes; over all names, counts and scopes; over what is surely assigned, and whether each function surely returns.
+-- A program with its names resolved, or its first fault. There are three passes, and the first that
+-- finds a fault decides: over definitions and prototypes; over all names, counts and scopes; over
+-- what is surely assigned, and whether each function surely returns.
 use Rattle.std.specs.Prelude.{ℕ, List, [], ◌∷◌, Option, Some, None, Ok, Err}
 use Rattle.c_lex.specs.declared.token.Token.{Token}
 use Rattle.c_ast.specs.declared.program.Function.{Function}
@@ -39,8 +40,12 @@ module _ (names : List ℕ) where
   -- a program whose definitions are in order
   abbrev pub behind_definitions : Option ScopeEnd → Program → Found Resolved
   behind_definitions (Some fault) p = Err fault
-  behind_definitions None p = on_found (resolved_functions names p.functions) (λ functions. behind_names (assigned_fault p.functions) functions)
+  behind_definitions None p =
+      on_found (resolved_functions names p.functions)
+      (λ functions. behind_names (assigned_fault p.functions) functions)
 
 -- a program with its names resolved, or its first fault
 abbrev pub scope_of : List ℕ → List Token → Program → Found Resolved
-scope_of source tokens p = let names = names_of source tokens in behind_definitions names (definition_fault names p.functions p.prototypes) p
+scope_of source tokens p =
+    let names = names_of source tokens in behind_definitions names
+    (definition_fault names p.functions p.prototypes) p

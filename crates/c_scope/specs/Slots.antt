@@ -1,4 +1,5 @@
--- Scopes (ISO/IEC 9899:1999, 6.2.1): the names in scope by slot, and where the innermost scope begins.
+-- Scopes (ISO/IEC 9899:1999, 6.2.1): the names in scope by slot, and where the innermost scope
+-- begins.
 use Rattle.std.specs.Prelude.{◌≡◌, ◌≢◌, ℕ, Bool, nat_eq, nat_lt, List, [], ◌∷◌, ◌++◌, length, drop, Result, Ok, Err, if◌then◌else◌}
 use Rattle.std.specs.List.{list_any}
 use Rattle.c_scope.specs.Steps.{Found}
@@ -6,7 +7,8 @@ use Rattle.c_scope.specs.declared.error.ScopeEnd.{ScopeEnd}
 use Rattle.c_scope.specs.declared.error.ScopeEnd.TheVariants.{TwiceDeclared, TooManySlots, NoMemory}
 
 pub record Scope : Type 0 where
-  -- the names of the variables in scope, in the order of declaration: each has its place as its slot
+  -- the names of the variables in scope, in the order of declaration: each has its place as its
+  -- slot
   pub names : List ℕ
   -- how many of them the innermost scope found in scope when it began
   pub outer : ℕ
@@ -23,11 +25,13 @@ opened s = record { names = s.names; outer = length s.names }
 abbrev pub is_declared : Scope → ℕ → Bool
 is_declared s name = list_any (λ standing. nat_eq standing name) (drop s.outer s.names)
 
--- a variable is declared: its slot is the next one. No name stands twice in one scope (6.7p3), and 64 slots may be in scope
+-- a variable is declared: its slot is the next one. No name stands twice in one scope (6.7p3), and
+-- 64 slots may be in scope
 abbrev pub declare : ℕ → ℕ → Scope → Found Scope
 declare token name s =
     if is_declared s name then Err (TwiceDeclared token)
-    else if nat_lt (length s.names) 64 then Ok (record { names = s.names ++ name ∷ []; outer = s.outer })
+    else if nat_lt (length s.names) 64 then Ok
+    (record { names = s.names ++ name ∷ []; outer = s.outer })
     else Err (TooManySlots token)
 
 -- the scope is this, apart from want of memory

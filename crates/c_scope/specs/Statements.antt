@@ -29,7 +29,8 @@ in_scope s x = Ok (record { what = x; scope = s })
 -- statements in their order, each in the scope behind the one before
 abbrev pub in_order : List Waiting → Scope → Bool → Found (Placed (List Stmt))
 in_order [] s in_loop = in_scope s []
-in_order (t ∷ ts) s in_loop = on_found (t s in_loop) (λ first. on_found (in_order ts first.scope in_loop) (λ rest.
+in_order (t ∷ ts) s in_loop =
+    on_found (t s in_loop) (λ first. on_found (in_order ts first.scope in_loop) (λ rest.
     Ok (record { what = first.what ∷ rest.what; scope = rest.scope })))
 
 -- a part of a statement: what it declares is gone behind it
@@ -52,11 +53,15 @@ module _ (names : List ℕ) (functions : List Function) where
   -- the name is in scope from behind its declarator, in front of its initial value (6.2.1p7)
   abbrev pub declared : ℕ → Option Expr → Scope → Found (Placed Stmt)
   declared token value s =
-      on_found (declare token (name_at names token) s) (λ behind. on_found (resolved_optional behind value) (λ v. in_scope behind (Declare (length s.names) v)))
+      on_found (declare token (name_at names token) s)
+      (λ behind. on_found (resolved_optional behind value)
+      (λ v. in_scope behind (Declare (length s.names) v)))
 
   -- the variable is looked at in front of its new value
   abbrev pub assigned : ℕ → Expr → Scope → Found (Placed Stmt)
-  assigned token e s = on_found (slot_at names functions s.names token) (λ slot. on_found (resolved_expr names functions s.names e) (λ v. in_scope s (Assign slot v)))
+  assigned token e s =
+      on_found (slot_at names functions s.names token)
+      (λ slot. on_found (resolved_expr names functions s.names e) (λ v. in_scope s (Assign slot v)))
 
   -- a statement, from those in it
   abbrev pub stmt_level : Stmt-F Waiting → Waiting
@@ -64,22 +69,34 @@ module _ (names : List ℕ) (functions : List Function) where
   stmt_level (Stmt-F.Declare token value) s in_loop = declared token value s
   stmt_level (Stmt-F.Assign token e) s in_loop = assigned token e s
   stmt_level (Stmt-F.If e inner other) s in_loop =
-      on_found (resolved_expr names functions s.names e) (λ test. on_found (inside inner s in_loop) (λ holds. on_found (inside_optional other s in_loop) (λ fails. in_scope s (If test holds fails))))
+      on_found (resolved_expr names functions s.names e)
+      (λ test. on_found (inside inner s in_loop)
+      (λ holds. on_found (inside_optional other s in_loop)
+      (λ fails. in_scope s (If test holds fails))))
   stmt_level (Stmt-F.While e inner) s in_loop =
-      on_found (resolved_expr names functions s.names e) (λ test. on_found (inside inner s true) (λ body. in_scope s (While test body)))
+      on_found (resolved_expr names functions s.names e)
+      (λ test. on_found (inside inner s true) (λ body. in_scope s (While test body)))
   stmt_level (Stmt-F.DoWhile inner e) s in_loop =
-      on_found (inside inner s true) (λ body. on_found (resolved_expr names functions s.names e) (λ test. in_scope s (DoWhile body test)))
-  -- a scope that holds the declarations of a `for`, and its body in a scope inside it (6.8.5p5); only the body is in the loop
+      on_found (inside inner s true) (λ body.
+      on_found (resolved_expr names functions s.names e)
+      (λ test. in_scope s (DoWhile body test)))
+  -- a scope that holds the declarations of a `for`, and its body in a scope inside it (6.8.5p5);
+  -- only the body is in the loop
   stmt_level (Stmt-F.For first test change inner) s in_loop =
       on_found (in_order first (opened s) false) (λ begun.
       on_found (resolved_optional begun.scope test) (λ e.
       on_found (inside_optional change begun.scope false) (λ step.
-      on_found (inside inner (opened begun.scope) true) (λ body. in_scope s (For begun.what e step body)))))
-  stmt_level (Stmt-F.Break token) s in_loop = on_found (only_in_loops (Break token) token in_loop) (in_scope s)
-  stmt_level (Stmt-F.Continue token) s in_loop = on_found (only_in_loops (Continue token) token in_loop) (in_scope s)
-  stmt_level (Stmt-F.Return e) s in_loop = on_found (resolved_expr names functions s.names e) (λ v. in_scope s (Return v))
+      on_found (inside inner (opened begun.scope) true)
+      (λ body. in_scope s (For begun.what e step body)))))
+  stmt_level (Stmt-F.Break token) s in_loop =
+      on_found (only_in_loops (Break token) token in_loop) (in_scope s)
+  stmt_level (Stmt-F.Continue token) s in_loop =
+      on_found (only_in_loops (Continue token) token in_loop) (in_scope s)
+  stmt_level (Stmt-F.Return e) s in_loop =
+      on_found (resolved_expr names functions s.names e) (λ v. in_scope s (Return v))
   -- a block is a scope (6.8.2, 6.2.1p4)
-  stmt_level (Stmt-F.Block inner) s in_loop = on_found (in_order inner (opened s) in_loop) (λ block. in_scope s (Block block.what))
+  stmt_level (Stmt-F.Block inner) s in_loop =
+      on_found (in_order inner (opened s) in_loop) (λ block. in_scope s (Block block.what))
 
   -- a statement with its names resolved, and the scope behind it, or its first fault
   abbrev pub resolved_stmt : Stmt → Waiting

@@ -6,7 +6,8 @@ use thiserror::Error;
 /// Why a program isn't well formed, by the number of a token of its text.
 #[derive(Clone, Copy, Debug, PartialEq, Eq, Error)]
 pub enum ScopeEnd {
-    /// No variable of this name is in scope, or no function of this name is defined, or a variable is called.
+    /// No variable of this name is in scope, or no function of this name is defined, or a variable
+    /// is called.
     #[error("the name of token {token} is not known")]
     UnknownName {
         /// The name's token.

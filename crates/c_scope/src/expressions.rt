@@ -17,7 +17,8 @@ use std::alloc::Global;
 
 /// The slot of a variable.
 pub fn slot_at(names: &[u32], scope: &Scope, token: u32) -> Result<u32, ScopeEnd>
-    ensures { Gives result (spec.known token (slot_spec.slot_of scope.now.names (name_spec.name_at names.now token))) }
+    ensures { Gives result (spec.known token (slot_spec.slot_of scope.now.names
+        (name_spec.name_at names.now token))) }
 {
     match slot_of(scope.names.as_slice(), name_at(names, token)) {
         Some(slot) => Ok(slot),
@@ -43,7 +44,9 @@ fn called(
     arguments: &Items<Expr>,
 ) -> Result<u32, ScopeEnd>
     requires { Knows definitions.now }
-    ensures { Gives result (spec.called definitions.now.names.now definitions.now.functions.now token (length arguments.now) (slot_spec.slot_of scope.now.names (name_spec.name_at definitions.now.names.now token))) }
+    ensures { Gives result (spec.called definitions.now.names.now definitions.now.functions.now
+        token (length arguments.now) (slot_spec.slot_of scope.now.names
+        (name_spec.name_at definitions.now.names.now token))) }
 {
     let name = name_at(definitions.names, token);
     if slot_of(scope.names.as_slice(), name).is_some() {
@@ -71,7 +74,8 @@ pub fn resolve_expr(
     e: &Expr,
 ) -> Result<Expr, ScopeEnd>
     requires { Knows definitions.now }
-    ensures { Gives result (resolved_expr definitions.now.names.now definitions.now.functions.now scope.now.names e.now) }
+    ensures { Gives result (resolved_expr definitions.now.names.now definitions.now.functions.now
+        scope.now.names e.now) }
 {
     match e {
         Expr::Lit(n) => Ok(Expr::Lit(*n)),
@@ -104,7 +108,8 @@ fn resolve_boxed(
     e: &Boxed<Expr>,
 ) -> Result<Boxed<Expr>, ScopeEnd>
     requires { Knows definitions.now }
-    ensures { Gives result (resolved_expr definitions.now.names.now definitions.now.functions.now scope.now.names e.now) }
+    ensures { Gives result (resolved_expr definitions.now.names.now definitions.now.functions.now
+        scope.now.names e.now) }
 {
     let inner = resolve_expr(alloc, definitions, scope, e.get())?;
     Ok(Boxed::new(alloc, inner)?)
@@ -119,7 +124,8 @@ fn resolve_arguments(
     arguments: &Items<Expr>,
 ) -> Result<Items<Expr>, ScopeEnd>
     requires { Knows definitions.now }
-    ensures { Gives result (all_found (map (resolved_expr definitions.now.names.now definitions.now.functions.now scope.now.names) arguments.now)) }
+    ensures { Gives result (all_found (map (resolved_expr definitions.now.names.now
+        definitions.now.functions.now scope.now.names) arguments.now)) }
 {
     let mut resolved = Items::new(alloc);
     for argument in arguments.as_slice() {

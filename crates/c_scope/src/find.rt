@@ -7,7 +7,8 @@ use c_ast::Program;
 use c_lex::Token;
 use c_names::spelling_at;
 
-/// The place of the first definition of a function with this name, none where there is none. Takes no memory.
+/// The place of the first definition of a function with this name, none where there is none. Takes
+/// no memory.
 pub fn find_function(source: &[u8], tokens: &[Token], program: &Program, name: &str) -> Option<u32>
     requires within { IsWithin source.now tokens.now }
     requires few { length program.now.functions < 2 ^ 32 }

@@ -21,7 +21,8 @@ fn declare_params(
     scope: &mut Scope,
     params: &[u32],
 ) -> Result<Items<u32>, ScopeEnd>
-    ensures scope { GivesScope result (seen scope.new) (with_params names.now params.now (seen scope.old)) }
+    ensures scope { GivesScope result (seen scope.new)
+        (with_params names.now params.now (seen scope.old)) }
     ensures slots { IfOk result (λ slots. slots ≡ numbered (length scope.old.names) params.now) }
     ensures few { OnOk result (length params.now ≤ 64) }
 {
@@ -40,7 +41,8 @@ fn resolve_function(
     function: &Function,
 ) -> Result<Function, ScopeEnd>
     requires { Knows definitions.now }
-    ensures answer { Gives result (spec.resolved_function definitions.now.names.now definitions.now.functions.now function.now) }
+    ensures answer { Gives result (spec.resolved_function definitions.now.names.now
+        definitions.now.functions.now function.now) }
     ensures few { OnOk result (HasFewParams function.now) }
 {
     let mut scope = Scope::new(alloc);
@@ -64,7 +66,8 @@ pub fn resolve_functions(
     definitions: &Definitions,
 ) -> Result<Items<Function>, ScopeEnd>
     requires { Knows definitions.now }
-    ensures answer { Gives result (spec.resolved_functions definitions.now.names.now definitions.now.functions.now) }
+    ensures answer { Gives result (spec.resolved_functions definitions.now.names.now
+        definitions.now.functions.now) }
     ensures few { OnOk result (All HasFewParams definitions.now.functions.now) }
 {
     let mut resolved = Items::new(alloc);

@@ -12,9 +12,10 @@ use c_names::{find_spelling, spelling_at};
 use rx_plain::Boxed;
 use std::alloc::Global;
 
-/// A precondition of a function, with the slots of the parameters for their names, or `UnknownName` with the
-/// precondition's token: a name that is no parameter's, or that of a called function. It fails otherwise only for
-/// want of memory. The precondition is one of `pre_tokens`, which are those of `pre_source`.
+/// A precondition of a function, with the slots of the parameters for their names, or `UnknownName`
+/// with the precondition's token: a name that is no parameter's, or that of a called function. It
+/// fails otherwise only for want of memory. The precondition is one of `pre_tokens`, which are
+/// those of `pre_source`.
 pub fn resolve_pre(
     alloc: Global,
     source: &[u8],
@@ -27,7 +28,8 @@ pub fn resolve_pre(
     requires within { IsWithin source.now tokens.now }
     requires pre_within { IsWithin pre_source.now pre_tokens.now }
     requires few { length function.now.params < 2 ^ 32 }
-    ensures answer { Gives result (resolved_pre source.now tokens.now function.now.params pre_source.now pre_tokens.now pre.now) }
+    ensures answer { Gives result (resolved_pre source.now tokens.now function.now.params
+        pre_source.now pre_tokens.now pre.now) }
     ensures refusals { IfErr result IsUnknownOrMemory }
 {
     let names = Params {
@@ -55,7 +57,9 @@ fn slot_at(names: &Params, token: u32) -> Result<u32, ScopeEnd>
     requires within { IsWithin names.now.source.now names.now.tokens.now }
     requires pre_within { IsWithin names.now.pre_source.now names.now.pre_tokens.now }
     requires few { length names.now.numbers.now < 2 ^ 32 }
-    ensures answer { Gives result (known token (param_of names.now.source.now names.now.tokens.now names.now.numbers.now names.now.pre_source.now names.now.pre_tokens.now token)) }
+    ensures answer { Gives result (known token
+        (param_of names.now.source.now names.now.tokens.now names.now.numbers.now
+        names.now.pre_source.now names.now.pre_tokens.now token)) }
     ensures refusals { IfErr result IsUnknownOrMemory }
 {
     let name = spelling_at(names.pre_source, names.pre_tokens, token);
@@ -71,7 +75,8 @@ fn resolve_part(alloc: Global, names: &Params, e: &Expr) -> Result<Expr, ScopeEn
     requires within { IsWithin names.now.source.now names.now.tokens.now }
     requires pre_within { IsWithin names.now.pre_source.now names.now.pre_tokens.now }
     requires few { length names.now.numbers.now < 2 ^ 32 }
-    ensures answer { Gives result (resolved_pre names.now.source.now names.now.tokens.now names.now.numbers.now names.now.pre_source.now names.now.pre_tokens.now e.now) }
+    ensures answer { Gives result (resolved_pre names.now.source.now names.now.tokens.now
+        names.now.numbers.now names.now.pre_source.now names.now.pre_tokens.now e.now) }
     ensures refusals { IfErr result IsUnknownOrMemory }
 {
     match e {
@@ -98,7 +103,8 @@ fn resolve_boxed(alloc: Global, names: &Params, e: &Boxed<Expr>) -> Result<Boxed
     requires within { IsWithin names.now.source.now names.now.tokens.now }
     requires pre_within { IsWithin names.now.pre_source.now names.now.pre_tokens.now }
     requires few { length names.now.numbers.now < 2 ^ 32 }
-    ensures answer { Gives result (resolved_pre names.now.source.now names.now.tokens.now names.now.numbers.now names.now.pre_source.now names.now.pre_tokens.now e.now) }
+    ensures answer { Gives result (resolved_pre names.now.source.now names.now.tokens.now
+        names.now.numbers.now names.now.pre_source.now names.now.pre_tokens.now e.now) }
     ensures refusals { IfErr result IsUnknownOrMemory }
 {
     let inner = resolve_part(alloc, names, e.get())?;

@@ -20,7 +20,9 @@ use std::alloc::Global;
 // A program with its names resolved, or its first fault, where these are the names of its tokens.
 fn resolve_named(alloc: Global, names: &[u32], program: &Program) -> Result<Resolved, ScopeEnd>
     requires { length program.now.functions < 2 ^ 32 }
-    ensures { Gives result (spec.behind_definitions names.now (definition_spec.definition_fault names.now program.now.functions program.now.prototypes) program.now) }
+    ensures { Gives result (spec.behind_definitions names.now
+        (definition_spec.definition_fault names.now program.now.functions program.now.prototypes)
+        program.now) }
 {
     let functions = program.functions.as_slice();
     let places = places_of(alloc, names, functions)?;
@@ -41,8 +43,8 @@ fn resolve_named(alloc: Global, names: &[u32], program: &Program) -> Result<Reso
     })
 }
 
-/// A program with its names resolved, or its first fault; fails otherwise only for want of memory. The program is
-/// one of these tokens, which are those of the source.
+/// A program with its names resolved, or its first fault; fails otherwise only for want of memory.
+/// The program is one of these tokens, which are those of the source.
 pub fn resolve(
     alloc: Global,
     source: &[u8],

@@ -1,4 +1,5 @@
-//! Definitions and prototypes: no function is defined twice, and prototypes have as many parameters.
+//! Definitions and prototypes: no function is defined twice, and prototypes have as many
+//! parameters.
 ghost use Rattle.std.specs.Prelude.{◌≡◌, ◌<◌, ◌^◌, length};
 ghost use Rattle.c_names.specs.Names as name_spec;
 ghost use Rattle.c_scope.specs.Definitions as spec;
@@ -14,7 +15,8 @@ use c_names::name_at;
 // Whether another definition of the name of this token stands in front of this place.
 fn is_second(definitions: &Definitions, token: u32, place: u32) -> bool
     requires { Knows definitions.now }
-    ensures { result ≡ spec.is_second place (definition_of definitions.now.names.now definitions.now.functions.now (name_spec.name_at definitions.now.names.now token)) }
+    ensures { result ≡ spec.is_second place (definition_of definitions.now.names.now
+        definitions.now.functions.now (name_spec.name_at definitions.now.names.now token)) }
 {
     match find_definition(definitions, name_at(definitions.names, token)) {
         None => false,
@@ -26,7 +28,8 @@ fn is_second(definitions: &Definitions, token: u32, place: u32) -> bool
 fn second_definition(definitions: &Definitions) -> Option<u32>
     requires known { Knows definitions.now }
     requires few { length definitions.now.functions.now < 2 ^ 32 }
-    ensures { result ≡ spec.second_definition definitions.now.names.now definitions.now.functions.now 0 definitions.now.functions.now }
+    ensures { result ≡ spec.second_definition definitions.now.names.now
+        definitions.now.functions.now 0 definitions.now.functions.now }
 {
     let mut place: u32 = 0;
     for function in definitions.functions {
@@ -41,7 +44,9 @@ fn second_definition(definitions: &Definitions) -> Option<u32>
 // Whether a prototype says another number of parameters than the definition.
 fn differs(definitions: &Definitions, prototype: &Prototype) -> bool
     requires { Knows definitions.now }
-    ensures { result ≡ spec.differs definitions.now.names.now definitions.now.functions.now prototype.now.params (definition_of definitions.now.names.now definitions.now.functions.now (name_spec.name_at definitions.now.names.now prototype.now.name)) }
+    ensures { result ≡ spec.differs definitions.now.names.now definitions.now.functions.now
+        prototype.now.params (definition_of definitions.now.names.now definitions.now.functions.now
+        (name_spec.name_at definitions.now.names.now prototype.now.name)) }
 {
     match prototype.params {
         None => false,
@@ -58,7 +63,8 @@ fn differs(definitions: &Definitions, prototype: &Prototype) -> bool
 // The name of the first prototype that does.
 fn wrong_prototype(definitions: &Definitions, prototypes: &[Prototype]) -> Option<u32>
     requires { Knows definitions.now }
-    ensures { result ≡ spec.wrong_prototype definitions.now.names.now definitions.now.functions.now prototypes.now }
+    ensures { result ≡ spec.wrong_prototype definitions.now.names.now definitions.now.functions.now
+        prototypes.now }
 {
     for prototype in prototypes {
         if differs(definitions, prototype) {
@@ -90,7 +96,8 @@ fn first_of(second: Option<u32>, wrong: Option<u32>) -> Option<ScopeEnd>
 pub fn definition_fault(definitions: &Definitions, prototypes: &[Prototype]) -> Option<ScopeEnd>
     requires known { Knows definitions.now }
     requires few { length definitions.now.functions.now < 2 ^ 32 }
-    ensures { result ≡ spec.definition_fault definitions.now.names.now definitions.now.functions.now prototypes.now }
+    ensures { result ≡ spec.definition_fault definitions.now.names.now definitions.now.functions.now
+        prototypes.now }
 {
     first_of(
         second_definition(definitions),

@@ -8,8 +8,8 @@ use std::alloc::Global;
 
 const MAX_SLOTS: usize = 64;
 
-/// The names in scope, and where the innermost scope begins. A scope inside is a copy, so that the slots of its
-/// variables are given back with it.
+/// The names in scope, and where the innermost scope begins. A scope inside is a copy, so that the
+/// slots of its variables are given back with it.
 #[derive(Drop)]
 pub struct Scope {
     /// The names of the variables in scope by slot, in the order of declaration.
@@ -61,7 +61,8 @@ impl Scope {
     pub fn declare(&mut self, names: &[u32], token: u32) -> Result<u32, ScopeEnd>
         ensures slot { IfOk result (λ slot. slot ≡ length self.old.names) }
         ensures more { OnOk result (length self.new.names ≡ length self.old.names + 1) }
-        ensures scope { GivesScope result (seen self.new) (spec.declare token (name_spec.name_at names.now token) (seen self.old)) }
+        ensures scope { GivesScope result (seen self.new)
+            (spec.declare token (name_spec.name_at names.now token) (seen self.old)) }
     {
         let name = name_at(names, token);
         if self.is_declared(name) {

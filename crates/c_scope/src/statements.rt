@@ -21,7 +21,8 @@ fn resolve_optional(
     e: &Option<Expr>,
 ) -> Result<Option<Expr>, ScopeEnd>
     requires { Knows definitions.now }
-    ensures { Gives result (spec.resolved_optional definitions.now.names.now definitions.now.functions.now (seen scope.now) e.now) }
+    ensures { Gives result (spec.resolved_optional definitions.now.names.now
+        definitions.now.functions.now (seen scope.now) e.now) }
 {
     match e {
         None => Ok(None),
@@ -38,7 +39,9 @@ fn declare(
     value: &Option<Expr>,
 ) -> Result<Stmt, ScopeEnd>
     requires { Knows definitions.now }
-    ensures { GivesPlaced result (seen scope.new) (spec.declared definitions.now.names.now definitions.now.functions.now token value.now (seen scope.old)) }
+    ensures { GivesPlaced result (seen scope.new)
+        (spec.declared definitions.now.names.now definitions.now.functions.now token value.now
+        (seen scope.old)) }
 {
     let slot = scope.declare(definitions.names, token)?;
     let value = resolve_optional(alloc, definitions, scope, value)?;
@@ -54,7 +57,9 @@ fn assign(
     value: &Expr,
 ) -> Result<Stmt, ScopeEnd>
     requires { Knows definitions.now }
-    ensures { GivesPlaced result (seen scope.now) (spec.assigned definitions.now.names.now definitions.now.functions.now token value.now (seen scope.now)) }
+    ensures { GivesPlaced result (seen scope.now)
+        (spec.assigned definitions.now.names.now definitions.now.functions.now token value.now
+        (seen scope.now)) }
 {
     let slot = slot_at(definitions.names, scope, token)?;
     let value = resolve_expr(alloc, definitions, scope, value)?;
@@ -82,7 +87,9 @@ pub fn resolve_stmt(
     s: &Stmt,
 ) -> Result<Stmt, ScopeEnd>
     requires { Knows definitions.now }
-    ensures { GivesPlaced result (seen scope.new) (resolved_stmt definitions.now.names.now definitions.now.functions.now s.now (seen scope.old) in_loop) }
+    ensures { GivesPlaced result (seen scope.new)
+        (resolved_stmt definitions.now.names.now definitions.now.functions.now s.now
+        (seen scope.old) in_loop) }
 {
     match s {
         Stmt::Empty => Ok(Stmt::Empty),
@@ -131,7 +138,8 @@ fn inside(
     part: &Boxed<Stmt>,
 ) -> Result<Boxed<Stmt>, ScopeEnd>
     requires { Knows definitions.now }
-    ensures { Gives result (spec.inside (resolved_stmt definitions.now.names.now definitions.now.functions.now part.now) (seen scope.now) in_loop) }
+    ensures { Gives result (spec.inside (resolved_stmt definitions.now.names.now
+        definitions.now.functions.now part.now) (seen scope.now) in_loop) }
 {
     let mut within = scope.try_clone(alloc)?;
     let part = resolve_stmt(alloc, definitions, &mut within, in_loop, part.get())?;
@@ -148,7 +156,9 @@ fn inside_optional(
     part: &Option<Boxed<Stmt>>,
 ) -> Result<Option<Boxed<Stmt>>, ScopeEnd>
     requires { Knows definitions.now }
-    ensures { Gives result (spec.inside_optional (option_map (resolved_stmt definitions.now.names.now definitions.now.functions.now) part.now) (seen scope.now) in_loop) }
+    ensures { Gives result (spec.inside_optional
+        (option_map (resolved_stmt definitions.now.names.now definitions.now.functions.now)
+        part.now) (seen scope.now) in_loop) }
 {
     match part {
         None => Ok(None),
@@ -170,7 +180,9 @@ pub fn in_order(
     statements: &Items<Stmt>,
 ) -> Result<Items<Stmt>, ScopeEnd>
     requires { Knows definitions.now }
-    ensures { GivesPlaced result (seen scope.new) (spec.in_order (map (resolved_stmt definitions.now.names.now definitions.now.functions.now) statements.now) (seen scope.old) in_loop) }
+    ensures { GivesPlaced result (seen scope.new)
+        (spec.in_order (map (resolved_stmt definitions.now.names.now definitions.now.functions.now)
+        statements.now) (seen scope.old) in_loop) }
 {
     let mut resolved = Items::new(alloc);
     for statement in statements.as_slice() {

@@ -33,19 +33,24 @@ known_is token place None is = no_fault _ place is
 known_is token place (Some k) is = ap Some (same_Ok k place is)
 
 -- a function stands at each place in the list
-element_within : {A : Type 0} (xs : List A) (i : ℕ) → i < length xs → (x : A) × (slice_get xs i ≡ Some x)
+element_within : {A : Type 0} (xs : List A) (i : ℕ) → i < length xs → (x : A) ×
+    (slice_get xs i ≡ Some x)
 element_within [] i h = absurd (omega (arith, h))
 element_within (x ∷ xs) zero h = (x, refl)
 element_within (x ∷ xs) (suc i) h = element_within xs i (omega (arith, h))
 
 -- a place with the right count is the one that is answered
-right_count : (token here place : ℕ) (is_right : Bool) → ◌≡◌ {A = Found ℕ} (if is_right then Ok here else Err (WrongCount token)) (Ok place) → (here ≡ place) × (is_right ≡ true)
+right_count : (token here place : ℕ) (is_right : Bool) →
+    ◌≡◌ {A = Found ℕ} (if is_right then Ok here else Err (WrongCount token)) (Ok place) →
+    (here ≡ place) × (is_right ≡ true)
 right_count token here place true is = (same_Ok here place is, refl)
 right_count token here place false is = no_fault _ place is
 
 -- a function that is there and has the right count takes so many arguments
-takes_count : (count : ℕ) (o : Option Function) (f : Function) → o ≡ Some f → nat_eq count (count_at o) ≡ true → takes (counted o) count ≡ true
-takes_count count (Some g) f there is = eq-eqb (length g.params) count (sym (eqb-true count (length g.params) is))
+takes_count : (count : ℕ) (o : Option Function) (f : Function) → o ≡ Some f →
+    nat_eq count (count_at o) ≡ true → takes (counted o) count ≡ true
+takes_count count (Some g) f there is =
+    eq-eqb (length g.params) count (sym (eqb-true count (length g.params) is))
 takes_count count None f there is = absurd (none-some f there)
 
 -- a variable that isn't unset may be read
@@ -53,20 +58,29 @@ readable_is : (token : ℕ) (may : Bool) → (if may then None else Some token) 
 readable_is token true is = refl
 readable_is token false is = absurd (let no : ⊥ = cc in no)
 
-module _ (names : List ℕ) (functions : List Function) (counts : List ℕ) (counts_are : (i : ℕ) → slice_get counts i ≡ counted (slice_get functions i)) where
+module _ (names : List ℕ) (functions : List Function) (counts : List ℕ)
+    (counts_are : (i : ℕ) → slice_get counts i ≡ counted (slice_get functions i)) where
   -- what is called takes so many arguments
-  called_takes : (token count place : ℕ) (slot : Option ℕ) → called names functions token count slot ≡ Ok place → takes (slice_get counts place) count ≡ true
+  called_takes : (token count place : ℕ) (slot : Option ℕ) →
+      called names functions token count slot ≡ Ok place → takes (slice_get counts place) count ≡
+      true
   called_takes token count place (Some k) is = no_fault _ place is
   called_takes token count place None is =
       let h = found _ _ place is in
-      let there = element_within functions h.0 (definition_within names functions (name_at names token) h.0 (known_is token h.0 _ h.1)) in
-      let right = right_count token h.0 place (nat_eq count (count_at (slice_get functions h.0))) h.2 in
-      let fits : takes (counted (slice_get functions h.0)) count ≡ true = takes_count count (slice_get functions h.0) there.0 there.1 right.1 in
-      subst (λ k. takes (slice_get counts k) count ≡ true) right.0 (subst (λ o. takes o count ≡ true) (sym (counts_are h.0)) fits)
+      let there = element_within functions h.0
+      (definition_within names functions (name_at names token) h.0 (known_is token h.0 _ h.1))
+      in
+      let right = right_count token h.0 place (nat_eq count (count_at (slice_get functions h.0)))
+      h.2 in
+      let fits : takes (counted (slice_get functions h.0)) count ≡ true =
+      takes_count count (slice_get functions h.0) there.0 there.1 right.1 in
+      subst (λ k. takes (slice_get counts k) count ≡ true) right.0
+      (subst (λ o. takes o count ≡ true) (sym (counts_are h.0)) fits)
 
   -- each variable that may be read has a slot below n
   module _ (scope : List ℕ) (set : Assigned) (own : Option ℕ) (n : ℕ)
-      (below : (token slot : ℕ) → slot_of scope (name_at names token) ≡ Some slot → is_readable names scope set own token ≡ true → slot < n) where
+      (below : (token slot : ℕ) → slot_of scope (name_at names token) ≡ Some slot →
+      is_readable names scope set own token ≡ true → slot < n) where
     abbrev unset : List ℕ → Option ℕ
     unset = first_unset names scope set own
 
@@ -90,17 +104,20 @@ module _ (names : List ℕ) (functions : List Function) (counts : List ℕ) (cou
     literal_fine : (k : ℤ) → Reads (Ok (Lit k)) []
     literal_fine k x is none = subst IsFine (same_Ok (Lit k) x is) (scoped-Lit counts n k)
 
-    variable_fine : (token : ℕ) → Reads (on_found (slot_at names functions scope token) (λ slot. Ok (Var slot))) (token ∷ [])
+    variable_fine : (token : ℕ) → Reads (on_found (slot_at names functions scope token)
+        (λ slot. Ok (Var slot))) (token ∷ [])
     variable_fine token x is none =
         let h = found _ _ x is in
         let readable = readable_is token (is_readable names scope set own token) none in
         let small : h.0 < n = below token h.0 (known_is token h.0 _ h.1) readable in
         subst IsFine (same_Ok (Var h.0) x h.2) (scoped-Var counts n h.0 ∙ lt-ltb h.0 n small)
 
-    unary_fine : (op : UnOp) (a : Found Expr) (us : List ℕ) → Reads a us → Reads (on_found a (λ u. Ok (Unary op u))) us
+    unary_fine : (op : UnOp) (a : Found Expr) (us : List ℕ) → Reads a us →
+        Reads (on_found a (λ u. Ok (Unary op u))) us
     unary_fine op a us fine x is none =
         let h = found _ _ x is in
-        subst IsFine (same_Ok (Unary op h.0) x h.2) (scoped-Unary counts n op h.0 ∙ fine h.0 h.1 none)
+        subst IsFine (same_Ok (Unary op h.0) x h.2)
+        (scoped-Unary counts n op h.0 ∙ fine h.0 h.1 none)
 
     binary_fine : (op : BinOp) (a b : Found Expr) (us vs : List ℕ) → Reads a us → Reads b vs
         → Reads (on_found a (λ u. on_found b (λ v. Ok (Binary op u v)))) (us ++ vs)
@@ -108,20 +125,24 @@ module _ (names : List ℕ) (functions : List Function) (counts : List ℕ) (cou
         let parted = sym (unset-append names scope set own us vs) ∙ none in
         let h = found _ _ x is in
         let g = found _ _ x h.2 in
-        let fine = both_true _ _ (left h.0 h.1 (none_first _ _ parted)) (right g.0 g.1 (none_second _ _ parted)) in
+        let fine = both_true _ _ (left h.0 h.1 (none_first _ _ parted))
+        (right g.0 g.1 (none_second _ _ parted)) in
         subst IsFine (same_Ok (Binary op h.0 g.0) x g.2) (scoped-Binary counts n op h.0 g.0 ∙ fine)
 
     choose_fine : (c a b : Found Expr) (ts us vs : List ℕ) → Reads c ts → Reads a us → Reads b vs
-        → Reads (on_found c (λ t. on_found a (λ u. on_found b (λ v. Ok (Choose t u v))))) (ts ++ us ++ vs)
+        → Reads (on_found c (λ t. on_found a (λ u. on_found b (λ v. Ok (Choose t u v)))))
+        (ts ++ us ++ vs)
     choose_fine c a b ts us vs test left right x is none =
         let parted = sym (unset-append names scope set own (ts ++ us) vs) ∙ none in
         let front = sym (unset-append names scope set own ts us) ∙ none_first _ _ parted in
         let k = found _ _ x is in
         let h = found _ _ x k.2 in
         let g = found _ _ x h.2 in
-        let branches = both_true _ _ (left h.0 h.1 (none_second _ _ front)) (right g.0 g.1 (none_second _ _ parted)) in
+        let branches = both_true _ _ (left h.0 h.1 (none_second _ _ front))
+        (right g.0 g.1 (none_second _ _ parted)) in
         let fine = both_true _ _ (test k.0 k.1 (none_first _ _ front)) branches in
-        subst IsFine (same_Ok (Choose k.0 h.0 g.0) x g.2) (scoped-Choose counts n k.0 h.0 g.0 ∙ fine)
+        subst IsFine (same_Ok (Choose k.0 h.0 g.0) x g.2)
+        (scoped-Choose counts n k.0 h.0 g.0 ∙ fine)
 
     -- the arguments of a call, and their number
     record Arguments (xs : List Expr) (count : ℕ) : Type 0 where
@@ -129,19 +150,25 @@ module _ (names : List ℕ) (functions : List Function) (counts : List ℕ) (cou
       pub number : count ≡ length xs
 
     arguments_fine : (ps : List Part) (xs : List Expr) → all_found (map resolved (trees ps)) ≡ Ok xs
-        → unset (concat (map variables (trees ps))) ≡ None → Arguments xs (length (map resolved (trees ps)))
-    arguments_fine [] xs is none = subst (λ ys. Arguments ys 0) (same_Ok [] xs is) (record { fine = refl; number = refl })
+        → unset (concat (map variables (trees ps))) ≡ None →
+        Arguments xs (length (map resolved (trees ps)))
+    arguments_fine [] xs is none =
+        subst (λ ys. Arguments ys 0) (same_Ok [] xs is) (record { fine = refl; number = refl })
     arguments_fine (p ∷ ps) xs is none =
-        let parted = sym (unset-append names scope set own (variables p.0) (concat (map variables (trees ps)))) ∙ none in
+        let parted = sym (unset-append names scope set own (variables p.0)
+        (concat (map variables (trees ps)))) ∙ none in
         let first = found _ _ xs is in
         let rest = found _ _ xs first.2 in
         let others = arguments_fine ps rest.0 rest.1 (none_second _ _ parted) in
         let fine = both_true _ _ (p.1 first.0 first.1 (none_first _ _ parted)) others.fine in
-        subst (λ ys. Arguments ys (length (map resolved (trees (p ∷ ps))))) (same_Ok (first.0 ∷ rest.0) xs rest.2)
+        subst (λ ys. Arguments ys (length (map resolved (trees (p ∷ ps)))))
+        (same_Ok (first.0 ∷ rest.0) xs rest.2)
         (record { fine = fine; number = ap suc others.number })
 
     call_fine : (token : ℕ) (ps : List Part) → let arguments = map resolved (trees ps) in
-        Reads (on_found (called names functions token (length arguments) (slot_of scope (name_at names token))) (λ place. on_found (all_found arguments) (λ xs. Ok (Apply place xs))))
+        Reads (on_found (called names functions token (length arguments)
+        (slot_of scope (name_at names token)))
+        (λ place. on_found (all_found arguments) (λ xs. Ok (Apply place xs))))
         (concat (map variables (trees ps)))
     call_fine token ps x is none =
         let count = length (map resolved (trees ps)) in
@@ -150,23 +177,31 @@ module _ (names : List ℕ) (functions : List Function) (counts : List ℕ) (cou
         let arguments = arguments_fine ps g.0 g.1 none in
         let takes_all = called_takes token count h.0 (slot_of scope (name_at names token)) h.1 in
         let right = subst (λ m. takes (slice_get counts h.0) m ≡ true) arguments.number takes_all in
-        subst IsFine (same_Ok (Apply h.0 g.0) x g.2) (scoped-Apply counts n h.0 g.0 ∙ both_true _ _ right arguments.fine)
+        subst IsFine (same_Ok (Apply h.0 g.0) x g.2)
+        (scoped-Apply counts n h.0 g.0 ∙ both_true _ _ right arguments.fine)
 
-    level : (y : Expr-F Part) → Reads (expr_level names functions scope (map-Expr Expr (Found Expr) resolved (map-Expr Part Expr (λ p. p.0) y)))
+    level : (y : Expr-F Part) → Reads (expr_level names functions scope
+        (map-Expr Expr (Found Expr) resolved (map-Expr Part Expr (λ p. p.0) y)))
         (variables_level (map-Expr Expr (List ℕ) variables (map-Expr Part Expr (λ p. p.0) y)))
     level (Expr-F.Lit k) = literal_fine k
     level (Expr-F.Var token) = variable_fine token
     level (Expr-F.Unary op p) = unary_fine op (resolved p.0) (variables p.0) p.1
-    level (Expr-F.Binary op p q) = binary_fine op (resolved p.0) (resolved q.0) (variables p.0) (variables q.0) p.1 q.1
+    level (Expr-F.Binary op p q) =
+        binary_fine op (resolved p.0) (resolved q.0) (variables p.0) (variables q.0) p.1 q.1
     level (Expr-F.Choose c p q) =
-        choose_fine (resolved c.0) (resolved p.0) (resolved q.0) (variables c.0) (variables p.0) (variables q.0) c.1 p.1 q.1
+        choose_fine (resolved c.0) (resolved p.0) (resolved q.0) (variables c.0) (variables p.0)
+        (variables q.0) c.1 p.1 q.1
     level (Expr-F.Apply token ps) = call_fine token ps
 
-    step : (x : Expr-F Expr) (y : Expr-F Part) → map-Expr Part Expr (λ p. p.0) y ≡ x → Reads (resolved (roll-Expr x)) (variables (roll-Expr x))
+    step : (x : Expr-F Expr) (y : Expr-F Part) → map-Expr Part Expr (λ p. p.0) y ≡ x →
+        Reads (resolved (roll-Expr x)) (variables (roll-Expr x))
     step x y is =
-        let P : Expr-F Expr → Type 0 = λ z. Reads (expr_level names functions scope (map-Expr Expr (Found Expr) resolved z)) (variables_level (map-Expr Expr (List ℕ) variables z)) in
+        let P : Expr-F Expr → Type 0 = λ z. Reads
+        (expr_level names functions scope (map-Expr Expr (Found Expr) resolved z))
+        (variables_level (map-Expr Expr (List ℕ) variables z)) in
         let opened : P x = subst P is (level y) in
-        let V : List ℕ → Type 0 = λ vs. Reads (expr_level names functions scope (map-Expr Expr (Found Expr) resolved x)) vs in
+        let V : List ℕ → Type 0 = λ vs. Reads
+        (expr_level names functions scope (map-Expr Expr (Found Expr) resolved x)) vs in
         let M : Found Expr → Type 0 = λ m. Reads m (variables (roll-Expr x)) in
         subst M (sym (fold-roll-Expr (Found Expr) (expr_level names functions scope) x))
         (subst V (sym (fold-roll-Expr (List ℕ) variables_level x)) opened)

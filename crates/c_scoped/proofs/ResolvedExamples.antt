@@ -29,22 +29,39 @@ use Rattle.c_scope.specs.declared.error.ScopeEnd.TheVariants.{MayBeUnset}
 use Rattle.c_scoped.proofs.Programs.{resolved_is_scoped}
 
 module _ (names : List ℕ) (functions : List Function) where
-  expr-Var : (scope : List ℕ) (token : ℕ) → resolved_expr names functions scope (Var token) ≡ on_found (slot_at names functions scope token) (λ slot. Ok (Var slot))
-  expr-Var scope token = fold_out-Expr (Found Expr) (expr_level names functions scope) (Var token) ∙ rw (outs-Var token) refl
+  expr-Var : (scope : List ℕ) (token : ℕ) → resolved_expr names functions scope (Var token) ≡
+      on_found (slot_at names functions scope token) (λ slot. Ok (Var slot))
+  expr-Var scope token =
+      fold_out-Expr (Found Expr) (expr_level names functions scope) (Var token) ∙
+      rw (outs-Var token) refl
 
-  stmt-Declare : (token : ℕ) (e : Expr) (s : Scope) (in_loop : Bool) → resolved_stmt names functions (Declare token (Some e)) s in_loop ≡ Scoping.declared names functions token (Some e) s
+  stmt-Declare : (token : ℕ) (e : Expr) (s : Scope) (in_loop : Bool) →
+      resolved_stmt names functions (Declare token (Some e)) s in_loop ≡
+      Scoping.declared names functions token (Some e) s
   stmt-Declare token e s in_loop =
-      ap (λ (w : Waiting). w s in_loop) (fold_out-Stmt Waiting (Scoping.stmt_level names functions) (Declare token (Some e))) ∙ rw (outs-Declare token (Some e)) refl
+      ap (λ (w : Waiting). w s in_loop) (fold_out-Stmt Waiting (Scoping.stmt_level names functions)
+      (Declare token (Some e))) ∙ rw (outs-Declare token (Some e)) refl
 
-  stmt-Return : (e : Expr) (s : Scope) (in_loop : Bool) → resolved_stmt names functions (Return e) s in_loop ≡ on_found (resolved_expr names functions s.names e) (λ v. in_scope s (Return v))
-  stmt-Return e s in_loop = ap (λ (w : Waiting). w s in_loop) (fold_out-Stmt Waiting (Scoping.stmt_level names functions) (Return e)) ∙ rw (outs-Return e) refl
+  stmt-Return : (e : Expr) (s : Scope) (in_loop : Bool) →
+      resolved_stmt names functions (Return e) s in_loop ≡
+      on_found (resolved_expr names functions s.names e) (λ v. in_scope s (Return v))
+  stmt-Return e s in_loop =
+      ap (λ (w : Waiting). w s in_loop) (fold_out-Stmt Waiting (Scoping.stmt_level names functions)
+      (Return e)) ∙ rw (outs-Return e) refl
 
 module _ (names : List ℕ) where
-  flow-Declare : (token : ℕ) (e : Expr) (scope : List ℕ) (set : Assigned) → stmt_flow names (Declare token (Some e)) scope set ≡ Assigning.declared names (scope ++ name_at names token ∷ []) set (Some e)
-  flow-Declare token e scope set = ap (λ (w : Way). w scope set) (fold_out-Stmt Way (Assigning.stmt_level names) (Declare token (Some e))) ∙ rw (outs-Declare token (Some e)) refl
+  flow-Declare : (token : ℕ) (e : Expr) (scope : List ℕ) (set : Assigned) →
+      stmt_flow names (Declare token (Some e)) scope set ≡
+      Assigning.declared names (scope ++ name_at names token ∷ []) set (Some e)
+  flow-Declare token e scope set =
+      ap (λ (w : Way). w scope set) (fold_out-Stmt Way (Assigning.stmt_level names)
+      (Declare token (Some e))) ∙ rw (outs-Declare token (Some e)) refl
 
-  flow-Return : (e : Expr) (scope : List ℕ) (set : Assigned) → stmt_flow names (Return e) scope set ≡ passing scope None (unset_in names scope set e)
-  flow-Return e scope set = ap (λ (w : Way). w scope set) (fold_out-Stmt Way (Assigning.stmt_level names) (Return e)) ∙ rw (outs-Return e) refl
+  flow-Return : (e : Expr) (scope : List ℕ) (set : Assigned) →
+      stmt_flow names (Return e) scope set ≡ passing scope None (unset_in names scope set e)
+  flow-Return e scope set =
+      ap (λ (w : Way). w scope set) (fold_out-Stmt Way (Assigning.stmt_level names) (Return e)) ∙
+      rw (outs-Return e) refl
 
 ruleset equations = (expr-Var, stmt-Declare, stmt-Return, flow-Declare, flow-Return, variables-Var)
 
@@ -60,14 +77,23 @@ tokens = letter 0 ∷ letter 1 ∷ letter 2 ∷ []
 
 -- int f(int n) { int s = ..; return s; }
 abbrev with_value : List ℕ → Expr → List Function
-with_value params value = record { name = 0; params = params; body = Declare 2 (Some value) ∷ Return (Var 2) ∷ [] } ∷ []
+with_value params value =
+    record { name = 0; params = params; body = Declare 2 (Some value) ∷ Return (Var 2) ∷ [] } ∷ []
 
 -- with n as its value
 abbrev copies : Program
 copies = record { functions = with_value (1 ∷ []) (Var 1); prototypes = [] }
 
 abbrev copies_resolved : Resolved
-copies_resolved = record { functions = record { name = 0; params = 0 ∷ []; body = Declare 1 (Some (Var 0)) ∷ Return (Var 1) ∷ [] } ∷ [] }
+copies_resolved =
+    record {
+      functions = record {
+        name = 0;
+        params = 0 ∷ [];
+        body = Declare 1 (Some (Var 0)) ∷
+            Return (Var 1) ∷ [];
+      } ∷ [];
+    }
 
 resolves : scope_of source tokens copies ≡ Ok copies_resolved
 resolves = simp equations
@@ -80,14 +106,23 @@ abbrev reads_itself : Program
 reads_itself = record { functions = with_value (1 ∷ []) (Var 2); prototypes = [] }
 
 abbrev names_alone : Resolved
-names_alone = record { functions = record { name = 0; params = 0 ∷ []; body = Declare 1 (Some (Var 1)) ∷ Return (Var 1) ∷ [] } ∷ [] }
+names_alone =
+    record {
+      functions = record {
+        name = 0;
+        params = 0 ∷ [];
+        body = Declare 1 (Some (Var 1)) ∷
+            Return (Var 1) ∷ [];
+      } ∷ [];
+    }
 
 -- it is refused
 refused : scope_of source tokens reads_itself ≡ Err (MayBeUnset 2)
 refused = simp equations
 
 -- though all names are known, and what they would come to isn't in order
-known_names : resolved_functions (names_of source tokens) reads_itself.functions ≡ Ok names_alone.functions
+known_names : resolved_functions (names_of source tokens) reads_itself.functions ≡
+    Ok names_alone.functions
 known_names = simp equations
 
 out_of_order : is_scoped names_alone ≡ false

@@ -33,15 +33,20 @@ use Rattle.c_scoped.proofs.Expressions.{known_is, expr_fine}
 passed : (fine : Bool) (n : ℕ) → fine ≡ true → only_if fine n ≡ Some n
 passed fine n is = ap (λ (b : Bool). only_if b n) is
 
-by_tests : (f g : ScopeEnd) (after s : Scope) (twice few : Bool) → ◌≡◌ {A = Found Scope} (if twice then Err f else if few then Ok after else Err g) (Ok s) → after ≡ s
+by_tests : (f g : ScopeEnd) (after s : Scope) (twice few : Bool) →
+    ◌≡◌ {A = Found Scope} (if twice then Err f else if few then Ok after else Err g) (Ok s) →
+    after ≡ s
 by_tests f g after s true few is = no_fault f s is
 by_tests f g after s false true is = same_Ok after s is
 by_tests f g after s false false is = no_fault g s is
 
 -- a declared name is the next
-pub declared_names : (token name : ℕ) (s after : Scope) → declare token name s ≡ Ok after → s.names ++ name ∷ [] ≡ after.names
+pub declared_names : (token name : ℕ) (s after : Scope) → declare token name s ≡ Ok after →
+    s.names ++ name ∷ [] ≡ after.names
 declared_names token name s after is =
-    ap (λ (t : Scope). t.names) (by_tests _ _ (record { names = s.names ++ name ∷ []; outer = s.outer }) after (is_declared s name) (nat_lt (length s.names) 64) is)
+    ap (λ (t : Scope). t.names) (by_tests _ _
+    (record { names = s.names ++ name ∷ []; outer = s.outer }) after (is_declared s name)
+    (nat_lt (length s.names) 64) is)
 
 not_true : (b : Bool) → not b ≡ true → b ≡ false
 not_true true is = sym is
@@ -49,44 +54,64 @@ not_true false is = refl
 
 -- a variable that may be read isn't the one whose initial value is read
 another : (set : Assigned) (own slot : ℕ) → may_read set (Some own) (Some slot) ≡ true → own ≢ slot
-another set own slot is = eqb-false own slot (not_true (nat_eq own slot) (first_true (not (nat_eq own slot)) (is_assigned set slot) is))
+another set own slot is =
+    eqb-false own slot (not_true (nat_eq own slot)
+    (first_true (not (nat_eq own slot)) (is_assigned set slot) is))
 
-module _ (names : List ℕ) (functions : List Function) (counts : List ℕ) (counts_are : (i : ℕ) → slice_get counts i ≡ counted (slice_get functions i)) where
+module _ (names : List ℕ) (functions : List Function) (counts : List ℕ)
+    (counts_are : (i : ℕ) → slice_get counts i ≡ counted (slice_get functions i)) where
   -- an expression
-  plain : (scope : List ℕ) (set : Assigned) (e x : Expr) → resolved_expr names functions scope e ≡ Ok x → unset_in names scope set e ≡ None → is_scoped_expr counts (length scope) x ≡ true
+  plain : (scope : List ℕ) (set : Assigned) (e x : Expr) → resolved_expr names functions scope e ≡
+      Ok x → unset_in names scope set e ≡ None → is_scoped_expr counts (length scope) x ≡ true
   plain scope set e x is none =
-      expr_fine names functions counts counts_are scope set None (length scope) (λ token slot at readable. slot_in_scope scope (name_at names token) slot at) e x is none
+      expr_fine names functions counts counts_are scope set None (length scope)
+      (λ token slot at readable. slot_in_scope scope (name_at names token) slot at) e x is none
 
   -- an expression that may be left out
-  optional_plain : (s : Scope) (set : Assigned) (e x : Option Expr) → resolved_optional names functions s e ≡ Ok x → unset_in_test names s.names set e ≡ None
+  optional_plain : (s : Scope) (set : Assigned) (e x : Option Expr) →
+      resolved_optional names functions s e ≡ Ok x → unset_in_test names s.names set e ≡ None
       → passes_if_there (is_scoped_expr counts (length s.names)) x ≡ true
-  optional_plain s set None x is none = subst (λ y. passes_if_there (is_scoped_expr counts (length s.names)) y ≡ true) (same_Ok None x is) refl
+  optional_plain s set None x is none =
+      subst (λ y. passes_if_there (is_scoped_expr counts (length s.names)) y ≡ true)
+      (same_Ok None x is) refl
   optional_plain s set (Some e) x is none =
       let h = found _ _ x is in
-      subst (λ y. passes_if_there (is_scoped_expr counts (length s.names)) y ≡ true) (same_Ok (Some h.0) x h.2) (plain s.names set e h.0 h.1 none)
+      subst (λ y. passes_if_there (is_scoped_expr counts (length s.names)) y ≡ true)
+      (same_Ok (Some h.0) x h.2) (plain s.names set e h.0 h.1 none)
 
   module _ (scope : List ℕ) (name : ℕ) (set : Assigned) where
     -- an initial value reads only slots before its own
     before_own : (token slot : ℕ) → slot_of (scope ++ name ∷ []) (name_at names token) ≡ Some slot
-        → is_readable names (scope ++ name ∷ []) (with_slot false set) (Some (length (scope ++ name ∷ []) - 1)) token ≡ true → slot < length scope
+        → is_readable names (scope ++ name ∷ []) (with_slot false set)
+        (Some (length (scope ++ name ∷ []) - 1)) token ≡ true → slot < length scope
     before_own token slot at readable =
         let within = slot_in_scope (scope ++ name ∷ []) (name_at names token) slot at in
         let own : ℕ = length (scope ++ name ∷ []) - 1 in
-        let differs = another (with_slot false set) own slot (subst (λ o. may_read (with_slot false set) (Some own) o ≡ true) at readable) in
-        let size : length (scope ++ name ∷ []) ≡ length scope + 1 = length-append scope (name ∷ []) in
+        let differs = another (with_slot false set) own slot
+        (subst (λ o. may_read (with_slot false set) (Some own) o ≡ true) at readable) in
+        let size : length (scope ++ name ∷ []) ≡ length scope + 1 =
+        length-append scope (name ∷ []) in
         omega (arith, within, differs, size)
 
     -- so it is in order before its own slot is in scope
-    initial : (e x : Option Expr) → optional (option_map (resolved_expr names functions (scope ++ name ∷ [])) e) ≡ Ok x
-        → (Assigning.declared names (scope ++ name ∷ []) set e).flow.unset ≡ None → passes_if_there (is_scoped_expr counts (length scope)) x ≡ true
-    initial None x is none = subst (λ y. passes_if_there (is_scoped_expr counts (length scope)) y ≡ true) (same_Ok None x is) refl
+    initial : (e x : Option Expr) → optional (option_map
+        (resolved_expr names functions (scope ++ name ∷ [])) e) ≡ Ok x
+        → (Assigning.declared names (scope ++ name ∷ []) set e).flow.unset ≡ None →
+        passes_if_there (is_scoped_expr counts (length scope)) x ≡ true
+    initial None x is none =
+        subst (λ y. passes_if_there (is_scoped_expr counts (length scope)) y ≡ true)
+        (same_Ok None x is) refl
     initial (Some e) x is none =
         let h = found _ _ x is in
-        let fine = expr_fine names functions counts counts_are (scope ++ name ∷ []) (with_slot false set) (Some (length (scope ++ name ∷ []) - 1)) (length scope) before_own e h.0 h.1 none in
-        subst (λ y. passes_if_there (is_scoped_expr counts (length scope)) y ≡ true) (same_Ok (Some h.0) x h.2) fine
+        let fine = expr_fine names functions counts counts_are (scope ++ name ∷ [])
+        (with_slot false set) (Some (length (scope ++ name ∷ []) - 1)) (length scope) before_own
+        e h.0 h.1 none in
+        subst (λ y. passes_if_there (is_scoped_expr counts (length scope)) y ≡ true)
+        (same_Ok (Some h.0) x h.2) fine
 
     -- and after it the name is in scope
-    scope_after : (e : Option Expr) → (Assigning.declared names (scope ++ name ∷ []) set e).scope ≡ scope ++ name ∷ []
+    scope_after : (e : Option Expr) → (Assigning.declared names (scope ++ name ∷ []) set e).scope ≡
+        scope ++ name ∷ []
     scope_after None = refl
     scope_after (Some e) = refl
 
@@ -103,86 +128,123 @@ module _ (names : List ℕ) (functions : List Function) (counts : List ℕ) (cou
 
   -- and so are statements in their order
   pub record AreFine (before : ℕ) (after : List ℕ) (placed : Placed (List Stmt)) : Type 0 where
-    pub slots : slots_in_order (map (slots_after counts) placed.what) before ≡ Some (length placed.scope.names)
+    pub slots : slots_in_order (map (slots_after counts) placed.what) before ≡
+        Some (length placed.scope.names)
     pub scope : after ≡ placed.scope.names
 
   -- this holds of what is resolved so, and walked so, where it reads no variable unset
   abbrev Kept : Waiting → Way → Type 0
-  Kept t way = (s : Scope) (set : Assigned) (in_loop : Bool) (placed : Placed Stmt) → t s in_loop ≡ Ok placed → (way s.names set).flow.unset ≡ None
+  Kept t way =
+      (s : Scope) (set : Assigned) (in_loop : Bool) (placed : Placed Stmt) → t s in_loop ≡
+      Ok placed → (way s.names set).flow.unset ≡ None
       → IsFine (length s.names) (way s.names set).scope placed
 
   abbrev KeptList : List Waiting → List Way → Type 0
-  KeptList ts ways = (s : Scope) (set : Assigned) (in_loop : Bool) (placed : Placed (List Stmt)) → Scoping.in_order ts s in_loop ≡ Ok placed
-      → (Assigning.in_order ways s.names set).flow.unset ≡ None → AreFine (length s.names) (Assigning.in_order ways s.names set).scope placed
+  KeptList ts ways =
+      (s : Scope) (set : Assigned) (in_loop : Bool) (placed : Placed (List Stmt)) →
+      Scoping.in_order ts s in_loop ≡ Ok placed
+      → (Assigning.in_order ways s.names set).flow.unset ≡ None →
+      AreFine (length s.names) (Assigning.in_order ways s.names set).scope placed
 
   -- of a part that may be left out
   abbrev KeptPart : Option Waiting → Option Way → Type 0
-  KeptPart t way = (s : Scope) (set : Assigned) (in_loop : Bool) (x : Option Stmt) → Scoping.inside_optional t s in_loop ≡ Ok x
-      → (Assigning.inside_optional way s.names set).unset ≡ None → passes_if_there (λ u. is_fine u (length s.names)) (option_map (slots_after counts) x) ≡ true
+  KeptPart t way =
+      (s : Scope) (set : Assigned) (in_loop : Bool) (x : Option Stmt) →
+      Scoping.inside_optional t s in_loop ≡ Ok x
+      → (Assigning.inside_optional way s.names set).unset ≡ None →
+      passes_if_there (λ u. is_fine u (length s.names)) (option_map (slots_after counts) x) ≡
+      true
 
   -- a statement that leaves the scope as it was
-  in_place : (t : Stmt) (s : Scope) (placed : Placed Stmt) → slots_after counts t (length s.names) ≡ Some (length s.names) → in_scope s t ≡ Ok placed
+  in_place : (t : Stmt) (s : Scope) (placed : Placed Stmt) → slots_after counts t (length s.names) ≡
+      Some (length s.names) → in_scope s t ≡ Ok placed
       → IsFine (length s.names) s.names placed
   in_place t s placed fine is =
-      subst (IsFine (length s.names) s.names) (same_Ok (record { what = t; scope = s }) placed is) (record { slots = fine; scope = refl })
+      subst (IsFine (length s.names) s.names) (same_Ok (record { what = t; scope = s }) placed is)
+      (record { slots = fine; scope = refl })
 
   -- a part of a statement
-  inside_kept : (t : Waiting) (way : Way) → Kept t way → (s : Scope) (set : Assigned) (in_loop : Bool) (x : Stmt) → Scoping.inside t s in_loop ≡ Ok x
+  inside_kept : (t : Waiting) (way : Way) → Kept t way →
+      (s : Scope) (set : Assigned) (in_loop : Bool) (x : Stmt) → Scoping.inside t s in_loop ≡ Ok x
       → (way s.names set).flow.unset ≡ None → is_fine (slots_after counts x) (length s.names) ≡ true
   inside_kept t way kept s set in_loop x is none =
       let h = found _ _ x is in
       let fine = kept s set in_loop h.0 h.1 none in
-      subst (λ y. is_fine (slots_after counts y) (length s.names) ≡ true) (same_Ok h.0.what x h.2) (ap (λ o. is_some o) fine.slots)
+      subst (λ y. is_fine (slots_after counts y) (length s.names) ≡ true) (same_Ok h.0.what x h.2)
+      (ap (λ o. is_some o) fine.slots)
 
   no_part : KeptPart None None
-  no_part s set in_loop x is none = subst (λ y. passes_if_there (λ u. is_fine u (length s.names)) (option_map (slots_after counts) y) ≡ true) (same_Ok None x is) refl
+  no_part s set in_loop x is none =
+      subst (λ y. passes_if_there (λ u. is_fine u (length s.names))
+      (option_map (slots_after counts) y) ≡ true) (same_Ok None x is) refl
 
   one_part : (t : Waiting) (way : Way) → Kept t way → KeptPart (Some t) (Some way)
   one_part t way kept s set in_loop x is none =
       let h = found _ _ x is in
-      subst (λ y. passes_if_there (λ u. is_fine u (length s.names)) (option_map (slots_after counts) y) ≡ true) (same_Ok (Some h.0) x h.2)
+      subst (λ y. passes_if_there (λ u. is_fine u (length s.names))
+      (option_map (slots_after counts) y) ≡ true) (same_Ok (Some h.0) x h.2)
       (inside_kept t way kept s set in_loop h.0 h.1 none)
 
   -- statements in their order
   nothing_kept : KeptList [] []
   nothing_kept s set in_loop placed is none =
-      subst (AreFine (length s.names) s.names) (same_Ok (record { what = []; scope = s }) placed is) (record { slots = refl; scope = refl })
+      subst (AreFine (length s.names) s.names) (same_Ok (record { what = []; scope = s }) placed is)
+      (record { slots = refl; scope = refl })
 
-  more_kept : (t : Waiting) (way : Way) (ts : List Waiting) (ways : List Way) → Kept t way → KeptList ts ways → KeptList (t ∷ ts) (way ∷ ways)
+  more_kept : (t : Waiting) (way : Way) (ts : List Waiting) (ways : List Way) → Kept t way →
+      KeptList ts ways → KeptList (t ∷ ts) (way ∷ ways)
   more_kept t way ts ways kept rest_kept s set in_loop placed is none =
       let first = way s.names set in
       let h = found _ _ placed is in
       let g = found _ _ placed h.2 in
       let fine = kept s set in_loop h.0 h.1 (none_first _ _ none) in
-      let left = subst (λ now. (Assigning.in_order ways now first.flow.behind).flow.unset ≡ None) fine.scope (none_second _ _ none) in
+      let left = subst (λ now. (Assigning.in_order ways now first.flow.behind).flow.unset ≡ None)
+      fine.scope (none_second _ _ none) in
       let others = rest_kept h.0.scope first.flow.behind in_loop g.0 g.1 left in
-      subst (AreFine (length s.names) (Assigning.in_order (way ∷ ways) s.names set).scope) (same_Ok (record { what = h.0.what ∷ g.0.what; scope = g.0.scope }) placed g.2)
+      subst (AreFine (length s.names) (Assigning.in_order (way ∷ ways) s.names set).scope)
+      (same_Ok (record { what = h.0.what ∷ g.0.what; scope = g.0.scope }) placed g.2)
       (record {
-        slots = ap (option_and_then (slots_in_order (map (slots_after counts) g.0.what))) fine.slots ∙ others.slots;
-        scope = ap (λ now. (Assigning.in_order ways now first.flow.behind).scope) fine.scope ∙ others.scope;
+        slots =
+            ap (option_and_then (slots_in_order (map (slots_after counts) g.0.what))) fine.slots ∙
+            others.slots;
+        scope =
+            ap (λ now. (Assigning.in_order ways now first.flow.behind).scope) fine.scope ∙
+            others.scope;
       })
 
   -- ---- each form
 
-  empty_kept : Kept (Scoping.stmt_level names functions Stmt-F.Empty) (Assigning.stmt_level names Stmt-F.Empty)
-  empty_kept s set in_loop placed is none = in_place Empty s placed (slots-Empty counts (length s.names)) is
+  empty_kept : Kept (Scoping.stmt_level names functions Stmt-F.Empty)
+      (Assigning.stmt_level names Stmt-F.Empty)
+  empty_kept s set in_loop placed is none =
+      in_place Empty s placed (slots-Empty counts (length s.names)) is
 
-  declare_kept : (token : ℕ) (e : Option Expr) → Kept (Scoping.stmt_level names functions (Stmt-F.Declare token e)) (Assigning.stmt_level names (Stmt-F.Declare token e))
+  declare_kept : (token : ℕ) (e : Option Expr) →
+      Kept (Scoping.stmt_level names functions (Stmt-F.Declare token e))
+      (Assigning.stmt_level names (Stmt-F.Declare token e))
   declare_kept token e s set in_loop placed is none =
       let name = name_at names token in
       let n = length s.names in
       let h = found _ _ placed is in
       let g = found _ _ placed h.2 in
       let after : s.names ++ name ∷ [] ≡ h.0.names = declared_names token name s h.0 h.1 in
-      let fine = initial s.names name set e g.0 (subst (λ now. optional (option_map (resolved_expr names functions now) e) ≡ Ok g.0) (sym after) g.1) none in
-      let size : n + 1 ≡ length h.0.names = sym (length-append s.names (name ∷ [])) ∙ ap length after in
-      subst (IsFine n (Assigning.declared names (s.names ++ name ∷ []) set e).scope) (same_Ok (record { what = Declare n g.0; scope = h.0 }) placed g.2)
+      let fine = initial s.names name set e g.0
+      (subst (λ now. optional (option_map (resolved_expr names functions now) e) ≡ Ok g.0)
+      (sym after) g.1) none in
+      let size : n + 1 ≡ length h.0.names = sym (length-append s.names (name ∷ [])) ∙
+      ap length after in
+      subst (IsFine n (Assigning.declared names (s.names ++ name ∷ []) set e).scope)
+      (same_Ok (record { what = Declare n g.0; scope = h.0 }) placed g.2)
       (record {
-        slots = slots-Declare counts n g.0 n ∙ passed _ (n + 1) (both_true _ _ (eq-eqb n n refl) fine) ∙ ap Some size;
+        slots =
+            slots-Declare counts n g.0 n ∙ passed _ (n + 1) (both_true _ _ (eq-eqb n n refl) fine) ∙
+            ap Some size;
         scope = scope_after s.names name set e ∙ after;
       })
 
-  assign_kept : (token : ℕ) (e : Expr) → Kept (Scoping.stmt_level names functions (Stmt-F.Assign token e)) (Assigning.stmt_level names (Stmt-F.Assign token e))
+  assign_kept : (token : ℕ) (e : Expr) → Kept
+      (Scoping.stmt_level names functions (Stmt-F.Assign token e))
+      (Assigning.stmt_level names (Stmt-F.Assign token e))
   assign_kept token e s set in_loop placed is none =
       let n = length s.names in
       let h = found _ _ placed is in
@@ -191,8 +253,10 @@ module _ (names : List ℕ) (functions : List Function) (counts : List ℕ) (cou
       let fine = both_true _ _ (lt-ltb h.0 n there) (plain s.names set e g.0 g.1 none) in
       in_place (Assign h.0 g.0) s placed (slots-Assign counts h.0 g.0 n ∙ passed _ n fine) g.2
 
-  if_kept : (e : Expr) (t : Waiting) (way : Way) (o : Option Waiting) (other : Option Way) → Kept t way → KeptPart o other
-      → Kept (Scoping.stmt_level names functions (Stmt-F.If e t o)) (Assigning.stmt_level names (Stmt-F.If e way other))
+  if_kept : (e : Expr) (t : Waiting) (way : Way) (o : Option Waiting) (other : Option Way) →
+      Kept t way → KeptPart o other
+      → Kept (Scoping.stmt_level names functions (Stmt-F.If e t o))
+      (Assigning.stmt_level names (Stmt-F.If e way other))
   if_kept e t way o other kept part_kept s set in_loop placed is none =
       let n = length s.names in
       let h = found _ _ placed is in
@@ -201,34 +265,48 @@ module _ (names : List ℕ) (functions : List Function) (counts : List ℕ) (cou
       let branches = none_second _ _ none in
       let inner = inside_kept t way kept s set in_loop g.0 g.1 (none_first _ _ branches) in
       let others = part_kept s set in_loop k.0 k.1 (none_second _ _ branches) in
-      let fine = both_true _ _ (plain s.names set e h.0 h.1 (none_first _ _ none)) (both_true _ _ inner others) in
+      let fine = both_true _ _ (plain s.names set e h.0 h.1 (none_first _ _ none))
+      (both_true _ _ inner others) in
       in_place (If h.0 g.0 k.0) s placed (slots-If counts h.0 g.0 k.0 n ∙ passed _ n fine) k.2
 
-  while_kept : (e : Expr) (t : Waiting) (way : Way) → Kept t way → Kept (Scoping.stmt_level names functions (Stmt-F.While e t)) (Assigning.stmt_level names (Stmt-F.While e way))
+  while_kept : (e : Expr) (t : Waiting) (way : Way) → Kept t way →
+      Kept (Scoping.stmt_level names functions (Stmt-F.While e t))
+      (Assigning.stmt_level names (Stmt-F.While e way))
   while_kept e t way kept s set in_loop placed is none =
       let n = length s.names in
       let h = found _ _ placed is in
       let g = found _ _ placed h.2 in
-      let fine = both_true _ _ (plain s.names set e h.0 h.1 (none_first _ _ none)) (inside_kept t way kept s set true g.0 g.1 (none_second _ _ none)) in
+      let fine = both_true _ _ (plain s.names set e h.0 h.1 (none_first _ _ none))
+      (inside_kept t way kept s set true g.0 g.1 (none_second _ _ none)) in
       in_place (While h.0 g.0) s placed (slots-While counts h.0 g.0 n ∙ passed _ n fine) g.2
 
-  do_kept : (t : Waiting) (way : Way) (e : Expr) → Kept t way → Kept (Scoping.stmt_level names functions (Stmt-F.DoWhile t e)) (Assigning.stmt_level names (Stmt-F.DoWhile way e))
+  do_kept : (t : Waiting) (way : Way) (e : Expr) → Kept t way →
+      Kept (Scoping.stmt_level names functions (Stmt-F.DoWhile t e))
+      (Assigning.stmt_level names (Stmt-F.DoWhile way e))
   do_kept t way e kept s set in_loop placed is none =
       let n = length s.names in
       let turn = Assigning.inside way s.names set in
       let h = found _ _ placed is in
       let g = found _ _ placed h.2 in
-      let fine = both_true _ _ (inside_kept t way kept s set true h.0 h.1 (none_first _ _ none)) (plain s.names (meet turn.behind turn.continues) e g.0 g.1 (none_second _ _ none)) in
+      let fine = both_true _ _ (inside_kept t way kept s set true h.0 h.1 (none_first _ _ none))
+      (plain s.names (meet turn.behind turn.continues) e g.0 g.1 (none_second _ _ none)) in
       in_place (DoWhile h.0 g.0) s placed (slots-DoWhile counts h.0 g.0 n ∙ passed _ n fine) g.2
 
   -- a `for` in order leaves the slots as they were
-  for_slots : (first : List Stmt) (test : Option Expr) (change : Option Stmt) (inner : Stmt) (n i : ℕ) → slots_in_order (map (slots_after counts) first) n ≡ Some i
-      → (passes_if_there (is_scoped_expr counts i) test && (passes_if_there (λ u. is_fine u i) (option_map (slots_after counts) change) && is_fine (slots_after counts inner) i)) ≡ true
+  for_slots : (first : List Stmt) (test : Option Expr) (change : Option Stmt) (inner : Stmt)
+      (n i : ℕ) → slots_in_order (map (slots_after counts) first) n ≡ Some i
+      → (passes_if_there (is_scoped_expr counts i) test &&
+      (passes_if_there (λ u. is_fine u i) (option_map (slots_after counts) change) &&
+      is_fine (slots_after counts inner) i)) ≡ true
       → slots_after counts (For first test change inner) n ≡ Some n
-  for_slots first test change inner n i started fine = slots-For counts first test change inner n ∙ rw started (passed _ n fine)
+  for_slots first test change inner n i started fine =
+      slots-For counts first test change inner n ∙ rw started (passed _ n fine)
 
-  for_kept : (ts : List Waiting) (ways : List Way) (e : Option Expr) (o : Option Waiting) (change : Option Way) (t : Waiting) (way : Way) → KeptList ts ways → KeptPart o change → Kept t way
-      → Kept (Scoping.stmt_level names functions (Stmt-F.For ts e o t)) (Assigning.stmt_level names (Stmt-F.For ways e change way))
+  for_kept : (ts : List Waiting) (ways : List Way) (e : Option Expr) (o : Option Waiting)
+      (change : Option Way) (t : Waiting) (way : Way) → KeptList ts ways → KeptPart o change →
+      Kept t way
+      → Kept (Scoping.stmt_level names functions (Stmt-F.For ts e o t))
+      (Assigning.stmt_level names (Stmt-F.For ways e change way))
   for_kept ts ways e o change t way list_kept part_kept kept s set in_loop placed is none =
       let n = length s.names in
       let begun = Assigning.in_order ways s.names set in
@@ -241,35 +319,52 @@ module _ (names : List ℕ) (functions : List Function) (counts : List ℕ) (cou
       let started = list_kept (opened s) set false h.0 h.1 (none_first _ _ none) in
       let parts = none_second _ _ none in
       let rest = none_second _ _ parts in
-      let no_test = subst (λ now. unset_in_test names now begun.flow.behind e ≡ None) started.scope (none_first _ _ parts) in
-      let no_change = subst (λ now. (Assigning.inside_optional change now set_after).unset ≡ None) started.scope (none_first _ _ rest) in
-      let no_body = subst (λ now. (way now begun.flow.behind).flow.unset ≡ None) started.scope (none_second _ _ rest) in
+      let no_test = subst (λ now. unset_in_test names now begun.flow.behind e ≡ None) started.scope
+      (none_first _ _ parts) in
+      let no_change = subst (λ now. (Assigning.inside_optional change now set_after).unset ≡ None)
+      started.scope (none_first _ _ rest) in
+      let no_body = subst (λ now. (way now begun.flow.behind).flow.unset ≡ None) started.scope
+      (none_second _ _ rest) in
       let tested = optional_plain h.0.scope begun.flow.behind e g.0 g.1 no_test in
       let changed = part_kept h.0.scope set_after false k.0 k.1 no_change in
-      let inner = inside_kept t way kept (opened h.0.scope) begun.flow.behind true b.0 b.1 no_body in
+      let inner = inside_kept t way kept (opened h.0.scope) begun.flow.behind true b.0 b.1 no_body
+      in
       let fine = both_true _ _ tested (both_true _ _ changed inner) in
-      in_place (For h.0.what g.0 k.0 b.0) s placed (for_slots h.0.what g.0 k.0 b.0 n (length h.0.scope.names) started.slots fine) b.2
+      in_place (For h.0.what g.0 k.0 b.0) s placed
+      (for_slots h.0.what g.0 k.0 b.0 n (length h.0.scope.names) started.slots fine) b.2
 
-  in_loop_is : (t : Stmt) (token : ℕ) (s : Scope) (in_loop : Bool) (placed : Placed Stmt) → on_found (only_in_loops t token in_loop) (in_scope s) ≡ Ok placed → in_scope s t ≡ Ok placed
+  in_loop_is : (t : Stmt) (token : ℕ) (s : Scope) (in_loop : Bool) (placed : Placed Stmt) →
+      on_found (only_in_loops t token in_loop) (in_scope s) ≡ Ok placed → in_scope s t ≡ Ok placed
   in_loop_is t token s true placed is = is
   in_loop_is t token s false placed is = no_fault _ placed is
 
-  break_kept : (token : ℕ) → Kept (Scoping.stmt_level names functions (Stmt-F.Break token)) (Assigning.stmt_level names (Stmt-F.Break token))
-  break_kept token s set in_loop placed is none = in_place (Break token) s placed (slots-Break counts token (length s.names)) (in_loop_is (Break token) token s in_loop placed is)
+  break_kept : (token : ℕ) → Kept (Scoping.stmt_level names functions (Stmt-F.Break token))
+      (Assigning.stmt_level names (Stmt-F.Break token))
+  break_kept token s set in_loop placed is none =
+      in_place (Break token) s placed (slots-Break counts token (length s.names))
+      (in_loop_is (Break token) token s in_loop placed is)
 
-  continue_kept : (token : ℕ) → Kept (Scoping.stmt_level names functions (Stmt-F.Continue token)) (Assigning.stmt_level names (Stmt-F.Continue token))
-  continue_kept token s set in_loop placed is none = in_place (Continue token) s placed (slots-Continue counts token (length s.names)) (in_loop_is (Continue token) token s in_loop placed is)
+  continue_kept : (token : ℕ) → Kept (Scoping.stmt_level names functions (Stmt-F.Continue token))
+      (Assigning.stmt_level names (Stmt-F.Continue token))
+  continue_kept token s set in_loop placed is none =
+      in_place (Continue token) s placed (slots-Continue counts token (length s.names))
+      (in_loop_is (Continue token) token s in_loop placed is)
 
-  return_kept : (e : Expr) → Kept (Scoping.stmt_level names functions (Stmt-F.Return e)) (Assigning.stmt_level names (Stmt-F.Return e))
+  return_kept : (e : Expr) → Kept (Scoping.stmt_level names functions (Stmt-F.Return e))
+      (Assigning.stmt_level names (Stmt-F.Return e))
   return_kept e s set in_loop placed is none =
       let h = found _ _ placed is in
-      in_place (Return h.0) s placed (slots-Return counts h.0 (length s.names) ∙ passed _ (length s.names) (plain s.names set e h.0 h.1 none)) h.2
+      in_place (Return h.0) s placed (slots-Return counts h.0 (length s.names) ∙
+      passed _ (length s.names) (plain s.names set e h.0 h.1 none)) h.2
 
-  block_kept : (ts : List Waiting) (ways : List Way) → KeptList ts ways → Kept (Scoping.stmt_level names functions (Stmt-F.Block ts)) (Assigning.stmt_level names (Stmt-F.Block ways))
+  block_kept : (ts : List Waiting) (ways : List Way) → KeptList ts ways →
+      Kept (Scoping.stmt_level names functions (Stmt-F.Block ts))
+      (Assigning.stmt_level names (Stmt-F.Block ways))
   block_kept ts ways list_kept s set in_loop placed is none =
       let h = found _ _ placed is in
       let fine = list_kept (opened s) set in_loop h.0 h.1 none in
-      in_place (Block h.0.what) s placed (slots-Block counts h.0.what (length s.names) ∙ passed _ (length s.names) (ap (λ o. is_some o) fine.slots)) h.2
+      in_place (Block h.0.what) s placed (slots-Block counts h.0.what (length s.names) ∙
+      passed _ (length s.names) (ap (λ o. is_some o) fine.slots)) h.2
 
   -- ---- by induction on the tree
 
@@ -281,32 +376,47 @@ module _ (names : List ℕ) (functions : List Function) (counts : List ℕ) (cou
 
   parts_kept : (ps : List Part) → KeptList (map resolved (trees ps)) (map flow (trees ps))
   parts_kept [] = nothing_kept
-  parts_kept (p ∷ ps) = more_kept (resolved p.0) (flow p.0) (map resolved (trees ps)) (map flow (trees ps)) p.1 (parts_kept ps)
+  parts_kept (p ∷ ps) =
+      more_kept (resolved p.0) (flow p.0) (map resolved (trees ps)) (map flow (trees ps)) p.1
+      (parts_kept ps)
 
-  level : (y : Stmt-F Part) → Kept (Scoping.stmt_level names functions (map-Stmt Stmt Waiting resolved (map-Stmt Part Stmt (λ p. p.0) y)))
+  level : (y : Stmt-F Part) → Kept (Scoping.stmt_level names functions
+      (map-Stmt Stmt Waiting resolved (map-Stmt Part Stmt (λ p. p.0) y)))
       (Assigning.stmt_level names (map-Stmt Stmt Way flow (map-Stmt Part Stmt (λ p. p.0) y)))
   level Stmt-F.Empty = empty_kept
   level (Stmt-F.Declare token e) = declare_kept token e
   level (Stmt-F.Assign token e) = assign_kept token e
   level (Stmt-F.If e p None) = if_kept e (resolved p.0) (flow p.0) None None p.1 no_part
-  level (Stmt-F.If e p (Some q)) = if_kept e (resolved p.0) (flow p.0) (Some (resolved q.0)) (Some (flow q.0)) p.1 (one_part (resolved q.0) (flow q.0) q.1)
+  level (Stmt-F.If e p (Some q)) =
+      if_kept e (resolved p.0) (flow p.0) (Some (resolved q.0)) (Some (flow q.0)) p.1
+      (one_part (resolved q.0) (flow q.0) q.1)
   level (Stmt-F.While e p) = while_kept e (resolved p.0) (flow p.0) p.1
   level (Stmt-F.DoWhile p e) = do_kept (resolved p.0) (flow p.0) e p.1
-  level (Stmt-F.For ps e None p) = for_kept (map resolved (trees ps)) (map flow (trees ps)) e None None (resolved p.0) (flow p.0) (parts_kept ps) no_part p.1
+  level (Stmt-F.For ps e None p) =
+      for_kept (map resolved (trees ps)) (map flow (trees ps)) e None None (resolved p.0) (flow p.0)
+      (parts_kept ps) no_part p.1
   level (Stmt-F.For ps e (Some q) p) =
-      for_kept (map resolved (trees ps)) (map flow (trees ps)) e (Some (resolved q.0)) (Some (flow q.0)) (resolved p.0) (flow p.0) (parts_kept ps) (one_part (resolved q.0) (flow q.0) q.1) p.1
+      for_kept (map resolved (trees ps)) (map flow (trees ps)) e (Some (resolved q.0))
+      (Some (flow q.0)) (resolved p.0) (flow p.0) (parts_kept ps)
+      (one_part (resolved q.0) (flow q.0) q.1) p.1
   level (Stmt-F.Break token) = break_kept token
   level (Stmt-F.Continue token) = continue_kept token
   level (Stmt-F.Return e) = return_kept e
-  level (Stmt-F.Block ps) = block_kept (map resolved (trees ps)) (map flow (trees ps)) (parts_kept ps)
+  level (Stmt-F.Block ps) =
+      block_kept (map resolved (trees ps)) (map flow (trees ps)) (parts_kept ps)
 
-  step : (x : Stmt-F Stmt) (y : Stmt-F Part) → map-Stmt Part Stmt (λ p. p.0) y ≡ x → Kept (resolved (roll-Stmt x)) (flow (roll-Stmt x))
+  step : (x : Stmt-F Stmt) (y : Stmt-F Part) → map-Stmt Part Stmt (λ p. p.0) y ≡ x →
+      Kept (resolved (roll-Stmt x)) (flow (roll-Stmt x))
   step x y is =
-      let P : Stmt-F Stmt → Type 0 = λ z. Kept (Scoping.stmt_level names functions (map-Stmt Stmt Waiting resolved z)) (Assigning.stmt_level names (map-Stmt Stmt Way flow z)) in
+      let P : Stmt-F Stmt → Type 0 = λ z. Kept
+      (Scoping.stmt_level names functions (map-Stmt Stmt Waiting resolved z))
+      (Assigning.stmt_level names (map-Stmt Stmt Way flow z)) in
       let opened_so : P x = subst P is (level y) in
-      let F : Way → Type 0 = λ m. Kept (Scoping.stmt_level names functions (map-Stmt Stmt Waiting resolved x)) m in
+      let F : Way → Type 0 = λ m. Kept (Scoping.stmt_level names functions
+      (map-Stmt Stmt Waiting resolved x)) m in
       let R : Waiting → Type 0 = λ m. Kept m (flow (roll-Stmt x)) in
-      subst R (sym (fold-roll-Stmt Waiting (Scoping.stmt_level names functions) x)) (subst F (sym (fold-roll-Stmt Way (Assigning.stmt_level names) x)) opened_so)
+      subst R (sym (fold-roll-Stmt Waiting (Scoping.stmt_level names functions) x))
+      (subst F (sym (fold-roll-Stmt Way (Assigning.stmt_level names) x)) opened_so)
 
   -- a statement that reads no variable unset, with its names resolved, is in order
   pub stmt_kept : (t : Stmt) → Kept (resolved t) (flow t)
@@ -315,4 +425,5 @@ module _ (names : List ℕ) (functions : List Function) (counts : List ℕ) (cou
   -- and so are statements in their order
   pub list_kept : (ts : List Stmt) → KeptList (map resolved ts) (map flow ts)
   list_kept [] = nothing_kept
-  list_kept (t ∷ ts) = more_kept (resolved t) (flow t) (map resolved ts) (map flow ts) (stmt_kept t) (list_kept ts)
+  list_kept (t ∷ ts) =
+      more_kept (resolved t) (flow t) (map resolved ts) (map flow ts) (stmt_kept t) (list_kept ts)

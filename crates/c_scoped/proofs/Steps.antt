@@ -13,7 +13,8 @@ pub no_fault : {A P : Type 0} (fault : ScopeEnd) (y : A) → ◌≡◌ {A = Foun
 no_fault fault y e = absurd (let no : ⊥ = cc in no)
 
 -- a step that was followed by another has found something
-pub found : {A B : Type 0} (x : Found A) (next : A → Found B) (y : B) → on_found x next ≡ Ok y → (a : A) × (x ≡ Ok a) × (next a ≡ Ok y)
+pub found : {A B : Type 0} (x : Found A) (next : A → Found B) (y : B) → on_found x next ≡ Ok y →
+    (a : A) × (x ≡ Ok a) × (next a ≡ Ok y)
 found (Ok a) next y is = (a, refl, is)
 found (Err fault) next y is = no_fault fault y is
 

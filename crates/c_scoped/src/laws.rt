@@ -19,8 +19,8 @@ ghost use Rattle.c_scope.specs.Programs.{scope_of};
 /// The slots and the calls of a program are in order once its names are resolved: each variable
 /// that is read or assigned has a slot in scope, each declaration takes the next slot, which its
 /// initial value doesn't read, and each call gives as many arguments as the called function has
-/// parameters, also where nothing leads (`scoped`). Its functions are those of the program as it was
-/// read, each at its place with as many parameters (`counts`).
+/// parameters, also where nothing leads (`scoped`). Its functions are those of the program as it
+/// was read, each at its place with as many parameters (`counts`).
 pub fn resolved_programs_are_scoped()
     ensures scoped { (source : List ℕ) (tokens : List Token) (p : Program) (r : Resolved) →
         scope_of source tokens p ≡ Ok r → is_scoped r ≡ true }

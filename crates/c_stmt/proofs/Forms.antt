@@ -31,8 +31,10 @@ pub record Filled (ts : List Token) (i j : ℕ) (s : Stmt) : Type 0 where
 
 -- how an `if` ends after its first statement
 pub data Way (ts : List Token) (i j : ℕ) (e : Expr) (t s : Stmt) : Type 0 where
-  way_alone : (kind_at ts i ≡ Some (Word word.Else) → ⊥) → i ≡ j → s ≡ If e t None → Way ts i j e t s
-  way_else : (o : Stmt) → kind_at ts i ≡ Some (Word word.Else) → Statement ts (i + 1) j o → s ≡ If e t (Some o) → Way ts i j e t s
+  way_alone : (kind_at ts i ≡ Some (Word word.Else) → ⊥) → i ≡ j → s ≡ If e t None →
+      Way ts i j e t s
+  way_else : (o : Stmt) → kind_at ts i ≡ Some (Word word.Else) → Statement ts (i + 1) j o → s ≡
+      If e t (Some o) → Way ts i j e t s
 
 -- an `if`, by its parts
 pub record Branching (ts : List Token) (i j : ℕ) (s : Stmt) : Type 0 where
@@ -101,38 +103,93 @@ Form (Word word.Return) ts i j s = Returning ts i j s
 Form _ ts i j s = ⊥
 
 -- a change begins with a name, `++` or `--`
-pub changed_start : (ts : List Token) (i j : ℕ) (s : Stmt) (k : TokenKind) → kind_at ts i ≡ Some k → changing_of (Some k) ≡ None → (k ≡ Name → ⊥) → Changed mark.Semicolon ts i j s → ⊥
-changed_start ts i j s k g no_step no_name (changed_value e h a u q) = let same : k ≡ Name = cc in no_name same
-changed_start ts i j s k g no_step no_name (changed_update op e h a u q) = let same : k ≡ Name = cc in no_name same
-changed_start ts i j s k g no_step no_name (changed_behind op h a c p q) = let same : k ≡ Name = cc in no_name same
-changed_start ts i j s k g no_step no_name (changed_before op a h c p q) = unchanging ts i k (step op) g no_step a
+pub changed_start : (ts : List Token) (i j : ℕ) (s : Stmt) (k : TokenKind) → kind_at ts i ≡ Some k →
+    changing_of (Some k) ≡ None → (k ≡ Name → ⊥) → Changed mark.Semicolon ts i j s → ⊥
+changed_start ts i j s k g no_step no_name (changed_value e h a u q) =
+    let same : k ≡ Name = cc in no_name same
+changed_start ts i j s k g no_step no_name (changed_update op e h a u q) =
+    let same : k ≡ Name = cc in no_name same
+changed_start ts i j s k g no_step no_name (changed_behind op h a c p q) =
+    let same : k ≡ Name = cc in no_name same
+changed_start ts i j s k g no_step no_name (changed_before op a h c p q) =
+    unchanging ts i k (step op) g no_step a
 
 -- the form of another kind, where two tokens are one
-same_form : (ts : List Token) (i j : ℕ) (s : Stmt) (here k : TokenKind) → kind_at ts i ≡ Some here → kind_at ts i ≡ Some k → Form here ts i j s → Form k ts i j s
-same_form ts i j s here k h g f = let same : here ≡ k = cc in subst (λ (x : TokenKind). Form x ts i j s) same f
+same_form : (ts : List Token) (i j : ℕ) (s : Stmt) (here k : TokenKind) → kind_at ts i ≡ Some here →
+    kind_at ts i ≡ Some k → Form here ts i j s → Form k ts i j s
+same_form ts i j s here k h g f =
+    let same : here ≡ k = cc in subst (λ (x : TokenKind). Form x ts i j s) same f
 
 -- the form of a statement, by its first token
-pub form_of : (ts : List Token) (i j : ℕ) (s : Stmt) (k : TokenKind) → kind_at ts i ≡ Some k → changing_of (Some k) ≡ None → (k ≡ Name → ⊥) → Statement ts i j s → Form k ts i j s
-form_of ts i j s k g no_step no_name (nothing _ _ h) = same_form ts i (i + 1) Empty (Mark mark.Semicolon) k h g (refl, refl)
-form_of ts i j s k g no_step no_name (block _ _ l ss h r) = same_form ts i l (Block ss) (Mark mark.LeftBrace) k h g (record { inside = ss; inner = r; is = refl })
-form_of ts i j s k g no_step no_name (changes _ _ l t c) = absurd (changed_start ts i l t k g no_step no_name (changed_of mark.Semicolon ts i l t c))
-form_of ts i j s k g no_step no_name (if_alone _ _ m l e t h c r o) = same_form ts i l (If e t None) (Word word.If) k h g
-    (record { middle = m; test = e; tests = c; last = l; taken = t; runs = r; way = way_alone o refl refl })
-form_of ts i j s k g no_step no_name (if_else _ _ m n l e t u h c r o v) = same_form ts i l (If e t (Some u)) (Word word.If) k h g
-    (record { middle = m; test = e; tests = c; last = n; taken = t; runs = r; way = way_else u o v refl })
-form_of ts i j s k g no_step no_name (while_loop _ _ m l e t h c r) = same_form ts i l (While e t) (Word word.While) k h g
+pub form_of : (ts : List Token) (i j : ℕ) (s : Stmt) (k : TokenKind) → kind_at ts i ≡ Some k →
+    changing_of (Some k) ≡ None → (k ≡ Name → ⊥) → Statement ts i j s → Form k ts i j s
+form_of ts i j s k g no_step no_name (nothing _ _ h) =
+    same_form ts i (i + 1) Empty (Mark mark.Semicolon) k h g (refl, refl)
+form_of ts i j s k g no_step no_name (block _ _ l ss h r) =
+    same_form ts i l (Block ss) (Mark mark.LeftBrace) k h g
+    (record { inside = ss; inner = r; is = refl })
+form_of ts i j s k g no_step no_name (changes _ _ l t c) =
+    absurd (changed_start ts i l t k g no_step no_name (changed_of mark.Semicolon ts i l t c))
+form_of ts i j s k g no_step no_name (if_alone _ _ m l e t h c r o) =
+    same_form ts i l (If e t None) (Word word.If) k h g
+    (record {
+      middle = m;
+      test = e;
+      tests = c;
+      last = l;
+      taken = t;
+      runs = r;
+      way =
+          way_alone o refl refl;
+    })
+form_of ts i j s k g no_step no_name (if_else _ _ m n l e t u h c r o v) =
+    same_form ts i l (If e t (Some u)) (Word word.If) k h g
+    (record {
+      middle = m;
+      test = e;
+      tests = c;
+      last = n;
+      taken = t;
+      runs = r;
+      way =
+          way_else u o v refl;
+    })
+form_of ts i j s k g no_step no_name (while_loop _ _ m l e t h c r) =
+    same_form ts i l (While e t) (Word word.While) k h g
     (record { middle = m; test = e; tests = c; body = t; runs = r; is = refl })
-form_of ts i j s k g no_step no_name (do_loop _ _ m l t e h r w c z) = same_form ts i (l + 1) (DoWhile t e) (Word word.Do) k h g
-    (record { middle = m; body = t; runs = r; again = w; last = l; test = e; tests = c; marked = z; behind = refl; is = refl })
-form_of ts i j s k g no_step no_name (for_loop _ _ m l d t h c r) = same_form ts i l (For d.first d.test d.change t) (Word word.For) k h g
+form_of ts i j s k g no_step no_name (do_loop _ _ m l t e h r w c z) =
+    same_form ts i (l + 1) (DoWhile t e) (Word word.Do) k h g
+    (record {
+      middle = m;
+      body = t;
+      runs = r;
+      again = w;
+      last = l;
+      test = e;
+      tests = c;
+      marked = z;
+      behind = refl;
+      is = refl;
+    })
+form_of ts i j s k g no_step no_name (for_loop _ _ m l d t h c r) =
+    same_form ts i l (For d.first d.test d.change t) (Word word.For) k h g
     (record { middle = m; head = d; heads = c; body = t; runs = r; is = refl })
-form_of ts i j s k g no_step no_name (breaks _ _ h c) = same_form ts i (i + 2) (Break i) (Word word.Break) k h g (record { marked = c; behind = refl; is = refl })
-form_of ts i j s k g no_step no_name (continues _ _ h c) = same_form ts i (i + 2) (Continue i) (Word word.Continue) k h g (record { marked = c; behind = refl; is = refl })
-form_of ts i j s k g no_step no_name (returns _ _ l e h u) = same_form ts i l (Return e) (Word word.Return) k h g (record { value = e; reads = u; is = refl })
+form_of ts i j s k g no_step no_name (breaks _ _ h c) =
+    same_form ts i (i + 2) (Break i) (Word word.Break) k h g
+    (record { marked = c; behind = refl; is = refl })
+form_of ts i j s k g no_step no_name (continues _ _ h c) =
+    same_form ts i (i + 2) (Continue i) (Word word.Continue) k h g
+    (record { marked = c; behind = refl; is = refl })
+form_of ts i j s k g no_step no_name (returns _ _ l e h u) =
+    same_form ts i l (Return e) (Word word.Return) k h g
+    (record { value = e; reads = u; is = refl })
 
 -- a statement that begins with none of the other first tokens is a change
-pub change_of : (ts : List Token) (i j : ℕ) (s : Stmt) → IsSimple ts i → (kind_at ts i ≡ Some (Mark mark.Semicolon) → ⊥) → (kind_at ts i ≡ Some (Word word.Break) → ⊥)
-    → (kind_at ts i ≡ Some (Word word.Continue) → ⊥) → (kind_at ts i ≡ Some (Word word.Return) → ⊥) → Statement ts i j s → Change mark.Semicolon ts i j s
+pub change_of : (ts : List Token) (i j : ℕ) (s : Stmt) → IsSimple ts i →
+    (kind_at ts i ≡ Some (Mark mark.Semicolon) → ⊥) → (kind_at ts i ≡ Some (Word word.Break) → ⊥)
+    → (kind_at ts i ≡ Some (Word word.Continue) → ⊥) →
+    (kind_at ts i ≡ Some (Word word.Return) → ⊥) → Statement ts i j s →
+    Change mark.Semicolon ts i j s
 change_of ts i j s simple a b c d (nothing _ _ h) = absurd (a h)
 change_of ts i j s simple a b c d (block _ _ l ss h r) = absurd (simple.no_block h)
 change_of ts i j s simple a b c d (changes _ _ _ _ x) = x
@@ -147,14 +204,22 @@ change_of ts i j s simple a b c d (returns _ _ l e h u) = absurd (d h)
 
 module _ (ts : List Token) (at room : ℕ) (some : 0 < room) where
   -- the empty statement
-  pub reads_nothing : (y : Span Stmt) → kind_at ts at ≡ Some (Mark mark.Semicolon) → y.value ≡ Empty → y.end ≡ at + 1 → Gives (Low stmt_height room (Statement ts at)) at (length ts) (Some y)
+  pub reads_nothing : (y : Span Stmt) → kind_at ts at ≡ Some (Mark mark.Semicolon) → y.value ≡
+      Empty → y.end ≡ at + 1 → Gives (Low stmt_height room (Statement ts at)) at (length ts)
+      (Some y)
   reads_nothing y h yv ye =
       let within : at < length ts = kind_within ts at (Mark mark.Semicolon) h in
       let high : stmt_height Empty ≡ 1 = height-Empty in
       record {
-        found = record { spelled = rw (ye, yv) (nothing ts at h, omega arith); further = omega arith; within = omega arith };
+        found =
+            record {
+              spelled = rw (ye, yv) (nothing ts at h, omega arith);
+              further = omega arith;
+              within = omega arith;
+            };
         only = λ j s p.
-            let f : (j ≡ at + 1) × (s ≡ Empty) = form_of ts at j s (Mark mark.Semicolon) h refl (λ q. cc) p.0 in
+            let f : (j ≡ at + 1) × (s ≡ Empty) =
+            form_of ts at j s (Mark mark.Semicolon) h refl (λ q. cc) p.0 in
             (ye ∙ sym f.0, yv ∙ sym f.1);
       }
 
@@ -167,7 +232,13 @@ module _ (ts : List Token) (at room : ℕ) (some : 0 < room) where
       let within : at + 1 < length ts = kind_within ts (at + 1) (Mark mark.Semicolon) h.0 in
       let there : x.end ≡ at + 2 = h.1.1 in
       record {
-        found = record { spelled = record { marked = h.0; behind = h.1.1; is = h.1.0 }; further = omega arith; within = omega arith };
+        found =
+            record {
+              spelled = record { marked = h.0; behind = h.1.1; is = h.1.0 };
+              further =
+                  omega arith;
+              within = omega arith;
+            };
         only = λ j s p. (h.1.1 ∙ sym p.behind, h.1.0 ∙ sym p.is);
       }
 
@@ -175,7 +246,9 @@ module _ (ts : List Token) (at room : ℕ) (some : 0 < room) where
   pub reads_break : (r : Option (Span Stmt)) → kind_at ts at ≡ Some (Word word.Break)
       → Jumps ts at (Break at) r
       → Gives (Low stmt_height room (Statement ts at)) at (length ts) r
-  reads_break r h g = renamed (Jumping ts at (Break at)) (Low stmt_height room (Statement ts at)) at at (length ts) r (omega arith)
+  reads_break r h g =
+      renamed (Jumping ts at (Break at)) (Low stmt_height room (Statement ts at)) at at (length ts)
+      r (omega arith)
       (λ j s p.
       let high : stmt_height (Break at) ≡ 1 = height-Break at in
       let same : stmt_height s ≡ stmt_height (Break at) = ap stmt_height p.is in
@@ -187,7 +260,9 @@ module _ (ts : List Token) (at room : ℕ) (some : 0 < room) where
   pub reads_continue : (r : Option (Span Stmt)) → kind_at ts at ≡ Some (Word word.Continue)
       → Jumps ts at (Continue at) r
       → Gives (Low stmt_height room (Statement ts at)) at (length ts) r
-  reads_continue r h g = renamed (Jumping ts at (Continue at)) (Low stmt_height room (Statement ts at)) at at (length ts) r (omega arith)
+  reads_continue r h g =
+      renamed (Jumping ts at (Continue at)) (Low stmt_height room (Statement ts at)) at at
+      (length ts) r (omega arith)
       (λ j s p.
       let high : stmt_height (Continue at) ≡ 1 = height-Continue at in
       let same : stmt_height s ≡ stmt_height (Continue at) = ap stmt_height p.is in
@@ -196,7 +271,9 @@ module _ (ts : List Token) (at room : ℕ) (some : 0 < room) where
       (jumps (Continue at) r g)
 
   -- a `return`, built of its value
-  pub builds_return : kind_at ts at ≡ Some (Word word.Return) → Built Return (Low expr_height (room - 1) (UpTo mark.Semicolon ts (at + 1))) (Low stmt_height room (Statement ts at))
+  pub builds_return : kind_at ts at ≡ Some (Word word.Return) →
+      Built Return (Low expr_height (room - 1) (UpTo mark.Semicolon ts (at + 1)))
+      (Low stmt_height room (Statement ts at))
   builds_return h = record {
     make = λ j e p.
         let high : stmt_height (Return e) ≡ 1 + expr_height e = height-Return e in
@@ -211,14 +288,23 @@ module _ (ts : List Token) (at room : ℕ) (some : 0 < room) where
   }
 
   -- a change
-  pub reads_change : (r : Result (Option (Span Stmt)) NoMemory) → IsSimple ts at → (kind_at ts at ≡ Some (Mark mark.Semicolon) → ⊥) → (kind_at ts at ≡ Some (Word word.Break) → ⊥)
-      → (kind_at ts at ≡ Some (Word word.Continue) → ⊥) → (kind_at ts at ≡ Some (Word word.Return) → ⊥)
-      → IfOk r (Gives (Low stmt_height room (Change mark.Semicolon ts at)) at (length ts)) → IfOk r (Gives (Low stmt_height room (Statement ts at)) at (length ts))
-  reads_change r simple a b c d = renamed_ok (Low stmt_height room (Change mark.Semicolon ts at)) (Low stmt_height room (Statement ts at)) at at (length ts) r (omega arith)
-      (λ j s p. (changes ts at j s p.0, p.1)) (λ j s q. (change_of ts at j s simple a b c d q.0, q.1))
+  pub reads_change : (r : Result (Option (Span Stmt)) NoMemory) → IsSimple ts at →
+      (kind_at ts at ≡ Some (Mark mark.Semicolon) → ⊥) →
+      (kind_at ts at ≡ Some (Word word.Break) → ⊥)
+      → (kind_at ts at ≡ Some (Word word.Continue) → ⊥) →
+      (kind_at ts at ≡ Some (Word word.Return) → ⊥)
+      → IfOk r (Gives (Low stmt_height room (Change mark.Semicolon ts at)) at (length ts)) →
+      IfOk r (Gives (Low stmt_height room (Statement ts at)) at (length ts))
+  reads_change r simple a b c d =
+      renamed_ok (Low stmt_height room (Change mark.Semicolon ts at))
+      (Low stmt_height room (Statement ts at)) at at (length ts) r (omega arith)
+      (λ j s p. (changes ts at j s p.0, p.1))
+      (λ j s q. (change_of ts at j s simple a b c d q.0, q.1))
 
   -- a block, built of what is in it
-  pub builds_block : kind_at ts at ≡ Some (Mark mark.LeftBrace) → Built Block (Low list_height (room - 1) (BlockItems ts (at + 1))) (Low stmt_height room (Statement ts at))
+  pub builds_block : kind_at ts at ≡ Some (Mark mark.LeftBrace) →
+      Built Block (Low list_height (room - 1) (BlockItems ts (at + 1)))
+      (Low stmt_height room (Statement ts at))
   builds_block h = record {
     make = λ j ss p.
         let high : stmt_height (Block ss) ≡ 1 + list_height ss = height-Block ss in
@@ -226,7 +312,8 @@ module _ (ts : List Token) (at room : ℕ) (some : 0 < room) where
         (block ts at j ss h p.0, omega arith);
     part = λ j s q.
         let f : Filled ts at j s = form_of ts at j s (Mark mark.LeftBrace) h refl (λ z. cc) q.0 in
-        let high : stmt_height (Block f.inside) ≡ 1 + list_height f.inside = height-Block f.inside in
+        let high : stmt_height (Block f.inside) ≡ 1 + list_height f.inside =
+        height-Block f.inside in
         let same : stmt_height s ≡ stmt_height (Block f.inside) = ap stmt_height f.is in
         let fits : stmt_height s ≤ room = q.1 in
         (f.inside, ((f.inner, omega arith), f.is));
@@ -236,29 +323,41 @@ module _ (ts : List Token) (at room : ℕ) (some : 0 < room) where
     looping : (j : ℕ) (s : Stmt) → Statement ts at j s → Looping ts at j s
     looping j s w = form_of ts at j s (Word word.While) h refl (λ z. cc) w
 
-    loop_fits : (j : ℕ) (s : Stmt) (f : Looping ts at j s) → stmt_height s ≤ room → (expr_height f.test ≤ room - 1) × (stmt_height f.body ≤ room - 1)
+    loop_fits : (j : ℕ) (s : Stmt) (f : Looping ts at j s) → stmt_height s ≤ room →
+        (expr_height f.test ≤ room - 1) × (stmt_height f.body ≤ room - 1)
     loop_fits j s f fits =
-        let high : stmt_height (While f.test f.body) ≡ 1 + max (expr_height f.test) (stmt_height f.body) = height-While f.test f.body in
+        let high : stmt_height (While f.test f.body) ≡ 1 +
+        max (expr_height f.test) (stmt_height f.body) = height-While f.test f.body in
         let same : stmt_height s ≡ stmt_height (While f.test f.body) = ap stmt_height f.is in
         (omega arith, omega arith)
 
     -- a loop without a test is none
-    pub while_testless : Gives (Low expr_height (room - 1) (Test ts (at + 1))) (at + 1) (length ts) None → Gives (Low stmt_height room (Statement ts at)) at (length ts) None
-    while_testless r = record { found = tt; only = λ j s p. let f = looping j s p.0 in let fit = loop_fits j s f p.1 in r.only f.middle f.test (f.tests, fit.0) }
+    pub while_testless : Gives (Low expr_height (room - 1) (Test ts (at + 1))) (at + 1) (length ts)
+        None → Gives (Low stmt_height room (Statement ts at)) at (length ts) None
+    while_testless r =
+        record {
+          found = tt;
+          only = λ j s p. let f = looping j s p.0 in let fit =
+              loop_fits j s f p.1 in r.only f.middle f.test (f.tests, fit.0);
+        }
 
     -- a loop after its test, built of its body
-    pub builds_while : (x : Span Expr) → Gives (Low expr_height (room - 1) (Test ts (at + 1))) (at + 1) (length ts) (Some x)
-        → Built (While x.value) (Low stmt_height (room - 1) (Statement ts x.end)) (Low stmt_height room (Statement ts at))
+    pub builds_while : (x : Span Expr) → Gives (Low expr_height (room - 1) (Test ts (at + 1)))
+        (at + 1) (length ts) (Some x)
+        → Built (While x.value) (Low stmt_height (room - 1) (Statement ts x.end))
+        (Low stmt_height room (Statement ts at))
     builds_while x r = record {
       make = λ j b p.
-          let high : stmt_height (While x.value b) ≡ 1 + max (expr_height x.value) (stmt_height b) = height-While x.value b in
+          let high : stmt_height (While x.value b) ≡ 1 + max (expr_height x.value) (stmt_height b) =
+          height-While x.value b in
           let low : expr_height x.value ≤ room - 1 = r.found.spelled.1 in
           let fits : stmt_height b ≤ room - 1 = p.1 in
           (while_loop ts at x.end j x.value b h r.found.spelled.0 p.0, omega arith);
       part = λ j s q.
           let f = looping j s q.0 in
           let fit = loop_fits j s f q.1 in
-          let is : (x.end ≡ f.middle) × (x.value ≡ f.test) = r.only f.middle f.test (f.tests, fit.0) in
+          let is : (x.end ≡ f.middle) × (x.value ≡ f.test) =
+          r.only f.middle f.test (f.tests, fit.0) in
           let there : Statement ts x.end j f.body = rw is.0 f.runs in
           (f.body, ((there, fit.1), f.is ∙ ap (λ z. While z f.body) (sym is.1)));
     }
@@ -267,26 +366,39 @@ module _ (ts : List Token) (at room : ℕ) (some : 0 < room) where
     counting : (j : ℕ) (s : Stmt) → Statement ts at j s → Counting ts at j s
     counting j s w = form_of ts at j s (Word word.For) h refl (λ z. cc) w
 
-    count_fits : (j : ℕ) (s : Stmt) (f : Counting ts at j s) → stmt_height s ≤ room → (head_height f.head ≤ room - 1) × (stmt_height f.body ≤ room - 1)
+    count_fits : (j : ℕ) (s : Stmt) (f : Counting ts at j s) → stmt_height s ≤ room →
+        (head_height f.head ≤ room - 1) × (stmt_height f.body ≤ room - 1)
     count_fits j s f fits =
         let d = f.head in
         let high : stmt_height (For f.head.first f.head.test f.head.change f.body)
-        ≡ 1 + max (max (max (list_height f.head.first) (of_option expr_height f.head.test)) (stmt_height f.body)) (of_option stmt_height f.head.change) =
+        ≡ 1 + max (max (max (list_height f.head.first) (of_option expr_height f.head.test))
+        (stmt_height f.body)) (of_option stmt_height f.head.change) =
         height-For f.head.first f.head.test f.head.change f.body in
-        let same : stmt_height s ≡ stmt_height (For f.head.first f.head.test f.head.change f.body) = ap stmt_height f.is in
+        let same : stmt_height s ≡ stmt_height (For f.head.first f.head.test f.head.change f.body) =
+        ap stmt_height f.is in
         (omega arith, omega arith)
 
     -- a loop without a head is none
-    pub for_headless : Gives (Low head_height (room - 1) (ForHead ts (at + 1))) (at + 1) (length ts) None → Gives (Low stmt_height room (Statement ts at)) at (length ts) None
-    for_headless r = record { found = tt; only = λ j s p. let f = counting j s p.0 in let fit = count_fits j s f p.1 in r.only f.middle f.head (f.heads, fit.0) }
+    pub for_headless : Gives (Low head_height (room - 1) (ForHead ts (at + 1))) (at + 1) (length ts)
+        None → Gives (Low stmt_height room (Statement ts at)) at (length ts) None
+    for_headless r =
+        record {
+          found = tt;
+          only = λ j s p. let f = counting j s p.0 in let fit =
+              count_fits j s f p.1 in r.only f.middle f.head (f.heads, fit.0);
+        }
 
     -- a loop after its head, built of its body
-    pub builds_for : (x : Span Head) → Gives (Low head_height (room - 1) (ForHead ts (at + 1))) (at + 1) (length ts) (Some x)
-        → Built (For x.value.first x.value.test x.value.change) (Low stmt_height (room - 1) (Statement ts x.end)) (Low stmt_height room (Statement ts at))
+    pub builds_for : (x : Span Head) → Gives (Low head_height (room - 1) (ForHead ts (at + 1)))
+        (at + 1) (length ts) (Some x)
+        → Built (For x.value.first x.value.test x.value.change)
+        (Low stmt_height (room - 1) (Statement ts x.end))
+        (Low stmt_height room (Statement ts at))
     builds_for x r = record {
       make = λ j b p.
           let high : stmt_height (For x.value.first x.value.test x.value.change b)
-          ≡ 1 + max (max (max (list_height x.value.first) (of_option expr_height x.value.test)) (stmt_height b)) (of_option stmt_height x.value.change) =
+          ≡ 1 + max (max (max (list_height x.value.first) (of_option expr_height x.value.test))
+          (stmt_height b)) (of_option stmt_height x.value.change) =
           height-For x.value.first x.value.test x.value.change b in
           let low : head_height x.value ≤ room - 1 = r.found.spelled.1 in
           let fits : stmt_height b ≤ room - 1 = p.1 in
@@ -294,35 +406,59 @@ module _ (ts : List Token) (at room : ℕ) (some : 0 < room) where
       part = λ j s q.
           let f = counting j s q.0 in
           let fit = count_fits j s f q.1 in
-          let is : (x.end ≡ f.middle) × (x.value ≡ f.head) = r.only f.middle f.head (f.heads, fit.0) in
-          let there : Statement ts x.end j f.body = rw is.0 f.runs in
-          (f.body, ((there, fit.1), f.is ∙ ap (λ (z : Head). For z.first z.test z.change f.body) (sym is.1)));
+          let is : (x.end ≡ f.middle) × (x.value ≡ f.head) =
+          r.only f.middle f.head (f.heads, fit.0) in
+          let there : Statement ts x.end j f.body = rw is.0 f.runs in (
+            f.body,
+            (
+              (there, fit.1),
+              f.is ∙ ap (λ (z : Head). For z.first z.test z.change f.body)
+                  (sym is.1),
+            ),
+          );
     }
 
   module _ (h : kind_at ts at ≡ Some (Word word.Do)) where
     doing : (j : ℕ) (s : Stmt) → Statement ts at j s → Doing ts at j s
     doing j s w = form_of ts at j s (Word word.Do) h refl (λ z. cc) w
 
-    do_fits : (j : ℕ) (s : Stmt) (f : Doing ts at j s) → stmt_height s ≤ room → (stmt_height f.body ≤ room - 1) × (expr_height f.test ≤ room - 1)
+    do_fits : (j : ℕ) (s : Stmt) (f : Doing ts at j s) → stmt_height s ≤ room →
+        (stmt_height f.body ≤ room - 1) × (expr_height f.test ≤ room - 1)
     do_fits j s f fits =
-        let high : stmt_height (DoWhile f.body f.test) ≡ 1 + max (stmt_height f.body) (expr_height f.test) = height-DoWhile f.body f.test in
+        let high : stmt_height (DoWhile f.body f.test) ≡ 1 +
+        max (stmt_height f.body) (expr_height f.test) = height-DoWhile f.body f.test in
         let same : stmt_height s ≡ stmt_height (DoWhile f.body f.test) = ap stmt_height f.is in
         (omega arith, omega arith)
 
     -- a loop without a body is none
-    pub do_bodiless : Gives (Low stmt_height (room - 1) (Statement ts (at + 1))) (at + 1) (length ts) None → Gives (Low stmt_height room (Statement ts at)) at (length ts) None
-    do_bodiless r = record { found = tt; only = λ j s p. let f = doing j s p.0 in let fit = do_fits j s f p.1 in r.only f.middle f.body (f.runs, fit.0) }
+    pub do_bodiless : Gives (Low stmt_height (room - 1) (Statement ts (at + 1))) (at + 1)
+        (length ts) None → Gives (Low stmt_height room (Statement ts at)) at (length ts) None
+    do_bodiless r =
+        record {
+          found = tt;
+          only = λ j s p. let f = doing j s p.0 in let fit = do_fits j s f p.1 in
+              r.only f.middle f.body (f.runs, fit.0);
+        }
 
-    module _ (x : Span Stmt) (r : Gives (Low stmt_height (room - 1) (Statement ts (at + 1))) (at + 1) (length ts) (Some x)) where
-      body_is : (j : ℕ) (s : Stmt) (f : Doing ts at j s) → stmt_height s ≤ room → (x.end ≡ f.middle) × (x.value ≡ f.body)
+    module _ (x : Span Stmt) (r : Gives (Low stmt_height (room - 1) (Statement ts (at + 1)))
+        (at + 1) (length ts) (Some x)) where
+      body_is : (j : ℕ) (s : Stmt) (f : Doing ts at j s) → stmt_height s ≤ room →
+          (x.end ≡ f.middle) × (x.value ≡ f.body)
       body_is j s f fits = let fit = do_fits j s f fits in r.only f.middle f.body (f.runs, fit.0)
 
       -- no `while` after the body
-      pub do_whileless : (kind_at ts x.end ≡ Some (Word word.While) → ⊥) → Gives (Low stmt_height room (Statement ts at)) at (length ts) None
-      do_whileless no_while = record { found = tt; only = λ j s p. let f = doing j s p.0 in let is = body_is j s f p.1 in no_while (rw is.0 f.again) }
+      pub do_whileless : (kind_at ts x.end ≡ Some (Word word.While) → ⊥) →
+          Gives (Low stmt_height room (Statement ts at)) at (length ts) None
+      do_whileless no_while =
+          record {
+            found = tt;
+            only = λ j s p. let f = doing j s p.0 in let is =
+                body_is j s f p.1 in no_while (rw is.0 f.again);
+          }
 
       -- no test after it
-      pub do_testless : Gives (Low expr_height (room - 1) (Test ts (x.end + 1))) (x.end + 1) (length ts) None → Gives (Low stmt_height room (Statement ts at)) at (length ts) None
+      pub do_testless : Gives (Low expr_height (room - 1) (Test ts (x.end + 1))) (x.end + 1)
+          (length ts) None → Gives (Low stmt_height room (Statement ts at)) at (length ts) None
       do_testless t = record {
         found = tt;
         only = λ j s p.
@@ -333,8 +469,10 @@ module _ (ts : List Token) (at room : ℕ) (some : 0 < room) where
             t.only f.last f.test (there, fit.1);
       }
 
-      module _ (y : Span Expr) (t : Gives (Low expr_height (room - 1) (Test ts (x.end + 1))) (x.end + 1) (length ts) (Some y)) where
-        test_is : (j : ℕ) (s : Stmt) (f : Doing ts at j s) → stmt_height s ≤ room → (y.end ≡ f.last) × (y.value ≡ f.test)
+      module _ (y : Span Expr) (t : Gives (Low expr_height (room - 1) (Test ts (x.end + 1)))
+          (x.end + 1) (length ts) (Some y)) where
+        test_is : (j : ℕ) (s : Stmt) (f : Doing ts at j s) → stmt_height s ≤ room →
+            (y.end ≡ f.last) × (y.value ≡ f.test)
         test_is j s f fits =
             let fit = do_fits j s f fits in
             let is = body_is j s f fits in
@@ -342,26 +480,46 @@ module _ (ts : List Token) (at room : ℕ) (some : 0 < room) where
             t.only f.last f.test (there, fit.1)
 
         -- no semicolon after the test
-        pub do_endless : (kind_at ts y.end ≡ Some (Mark mark.Semicolon) → ⊥) → Gives (Low stmt_height room (Statement ts at)) at (length ts) None
-        do_endless no_semicolon = record { found = tt; only = λ j s p. let f = doing j s p.0 in let is = test_is j s f p.1 in no_semicolon (rw is.0 f.marked) }
+        pub do_endless : (kind_at ts y.end ≡ Some (Mark mark.Semicolon) → ⊥) →
+            Gives (Low stmt_height room (Statement ts at)) at (length ts) None
+        do_endless no_semicolon =
+            record {
+              found = tt;
+              only = λ j s p. let f = doing j s p.0 in let is =
+                  test_is j s f p.1 in no_semicolon (rw is.0 f.marked);
+            }
 
         -- a `do` loop
-        pub reads_do : (z : Span Stmt) → kind_at ts x.end ≡ Some (Word word.While) → kind_at ts y.end ≡ Some (Mark mark.Semicolon) → z.value ≡ DoWhile x.value y.value → z.end ≡ y.end + 1
+        pub reads_do : (z : Span Stmt) → kind_at ts x.end ≡ Some (Word word.While) →
+            kind_at ts y.end ≡ Some (Mark mark.Semicolon) → z.value ≡ DoWhile x.value y.value →
+            z.end ≡ y.end + 1
             → Gives (Low stmt_height room (Statement ts at)) at (length ts) (Some z)
         reads_do z w c zv ze =
-            let high : stmt_height (DoWhile x.value y.value) ≡ 1 + max (stmt_height x.value) (expr_height y.value) = height-DoWhile x.value y.value in
+            let high : stmt_height (DoWhile x.value y.value) ≡ 1 +
+            max (stmt_height x.value) (expr_height y.value) = height-DoWhile x.value y.value in
             let low1 : stmt_height x.value ≤ room - 1 = r.found.spelled.1 in
             let low2 : expr_height y.value ≤ room - 1 = t.found.spelled.1 in
             let f1 : at + 1 < x.end = r.found.further in
             let f2 : x.end + 1 < y.end = t.found.further in
             let within : y.end < length ts = kind_within ts y.end (Mark mark.Semicolon) c in
             record {
-              found = record { spelled = rw (ze, zv) (do_loop ts at x.end y.end x.value y.value h r.found.spelled.0 w t.found.spelled.0 c, omega arith); further = omega arith; within = omega arith };
+              found =
+                  record {
+                    spelled = rw (ze, zv) (
+                      do_loop ts at x.end y.end x.value y.value h r.found.spelled.0 w
+                          t.found.spelled.0
+                          c,
+                      omega arith,
+                    );
+                    further = omega arith;
+                    within = omega arith;
+                  };
               only = λ j s p.
                   let f = doing j s p.0 in
                   let is1 = body_is j s f p.1 in
                   let is2 = test_is j s f p.1 in
-                  let tree : DoWhile x.value y.value ≡ DoWhile f.body f.test = rw (is1.1, is2.1) refl in
+                  let tree : DoWhile x.value y.value ≡ DoWhile f.body f.test =
+                  rw (is1.1, is2.1) refl in
                   (ze ∙ (ap (λ k. k + 1) is2.0 ∙ sym f.behind), zv ∙ (tree ∙ sym f.is));
             }
 
@@ -369,29 +527,43 @@ module _ (ts : List Token) (at room : ℕ) (some : 0 < room) where
     branching : (j : ℕ) (s : Stmt) → Statement ts at j s → Branching ts at j s
     branching j s w = form_of ts at j s (Word word.If) h refl (λ z. cc) w
 
-    way_fits : (i j : ℕ) (e : Expr) (t s : Stmt) → Way ts i j e t s → stmt_height s ≤ room → (expr_height e ≤ room - 1) × (stmt_height t ≤ room - 1)
+    way_fits : (i j : ℕ) (e : Expr) (t s : Stmt) → Way ts i j e t s → stmt_height s ≤ room →
+        (expr_height e ≤ room - 1) × (stmt_height t ≤ room - 1)
     way_fits i j e t s (way_alone o p q) fits =
-        let high : stmt_height (If e t None) ≡ 1 + max (expr_height e) (stmt_height t) = height-alone e t in
+        let high : stmt_height (If e t None) ≡ 1 + max (expr_height e) (stmt_height t) =
+        height-alone e t in
         let same : stmt_height s ≡ stmt_height (If e t None) = ap stmt_height q in
         (omega arith, omega arith)
     way_fits i j e t s (way_else u o r q) fits =
-        let high : stmt_height (If e t (Some u)) ≡ 1 + max (max (expr_height e) (stmt_height t)) (stmt_height u) = height-else e t u in
+        let high : stmt_height (If e t (Some u)) ≡ 1 +
+        max (max (expr_height e) (stmt_height t)) (stmt_height u) = height-else e t u in
         let same : stmt_height s ≡ stmt_height (If e t (Some u)) = ap stmt_height q in
         (omega arith, omega arith)
 
-    branch_fits : (j : ℕ) (s : Stmt) (f : Branching ts at j s) → stmt_height s ≤ room → (expr_height f.test ≤ room - 1) × (stmt_height f.taken ≤ room - 1)
+    branch_fits : (j : ℕ) (s : Stmt) (f : Branching ts at j s) → stmt_height s ≤ room →
+        (expr_height f.test ≤ room - 1) × (stmt_height f.taken ≤ room - 1)
     branch_fits j s f fits = way_fits f.last j f.test f.taken s f.way fits
 
     -- an `if` without a test is none
-    pub if_testless : Gives (Low expr_height (room - 1) (Test ts (at + 1))) (at + 1) (length ts) None → Gives (Low stmt_height room (Statement ts at)) at (length ts) None
-    if_testless r = record { found = tt; only = λ j s p. let f = branching j s p.0 in let fit = branch_fits j s f p.1 in r.only f.middle f.test (f.tests, fit.0) }
+    pub if_testless : Gives (Low expr_height (room - 1) (Test ts (at + 1))) (at + 1) (length ts)
+        None → Gives (Low stmt_height room (Statement ts at)) at (length ts) None
+    if_testless r =
+        record {
+          found = tt;
+          only = λ j s p. let f = branching j s p.0 in let fit =
+              branch_fits j s f p.1 in r.only f.middle f.test (f.tests, fit.0);
+        }
 
-    module _ (x : Span Expr) (r : Gives (Low expr_height (room - 1) (Test ts (at + 1))) (at + 1) (length ts) (Some x)) where
-      if_test_is : (j : ℕ) (s : Stmt) (f : Branching ts at j s) → stmt_height s ≤ room → (x.end ≡ f.middle) × (x.value ≡ f.test)
-      if_test_is j s f fits = let fit = branch_fits j s f fits in r.only f.middle f.test (f.tests, fit.0)
+    module _ (x : Span Expr) (r : Gives (Low expr_height (room - 1) (Test ts (at + 1))) (at + 1)
+        (length ts) (Some x)) where
+      if_test_is : (j : ℕ) (s : Stmt) (f : Branching ts at j s) → stmt_height s ≤ room →
+          (x.end ≡ f.middle) × (x.value ≡ f.test)
+      if_test_is j s f fits =
+          let fit = branch_fits j s f fits in r.only f.middle f.test (f.tests, fit.0)
 
       -- an `if` without a statement is none
-      pub if_thenless : Gives (Low stmt_height (room - 1) (Statement ts x.end)) x.end (length ts) None → Gives (Low stmt_height room (Statement ts at)) at (length ts) None
+      pub if_thenless : Gives (Low stmt_height (room - 1) (Statement ts x.end)) x.end (length ts)
+          None → Gives (Low stmt_height room (Statement ts at)) at (length ts) None
       if_thenless t = record {
         found = tt;
         only = λ j s p.
@@ -402,58 +574,87 @@ module _ (ts : List Token) (at room : ℕ) (some : 0 < room) where
             t.only f.last f.taken (there, fit.1);
       }
 
-      module _ (y : Span Stmt) (t : Gives (Low stmt_height (room - 1) (Statement ts x.end)) x.end (length ts) (Some y)) where
-        then_is : (j : ℕ) (s : Stmt) (f : Branching ts at j s) → stmt_height s ≤ room → (y.end ≡ f.last) × (y.value ≡ f.taken)
+      module _ (y : Span Stmt) (t : Gives (Low stmt_height (room - 1) (Statement ts x.end)) x.end
+          (length ts) (Some y)) where
+        then_is : (j : ℕ) (s : Stmt) (f : Branching ts at j s) → stmt_height s ≤ room →
+            (y.end ≡ f.last) × (y.value ≡ f.taken)
         then_is j s f fits =
             let fit = branch_fits j s f fits in
             let is = if_test_is j s f fits in
             let there : Statement ts x.end f.last f.taken = rw is.0 f.runs in
             t.only f.last f.taken (there, fit.1)
 
-        way_here : (j : ℕ) (s : Stmt) → Statement ts at j s → stmt_height s ≤ room → Way ts y.end j x.value y.value s
+        way_here : (j : ℕ) (s : Stmt) → Statement ts at j s → stmt_height s ≤ room →
+            Way ts y.end j x.value y.value s
         way_here j s w fits =
             let f = branching j s w in
             let is1 = if_test_is j s f fits in
             let is2 = then_is j s f fits in
             rw (is2.0, is1.1, is2.1) f.way
 
-        alone_only : (z : Span Stmt) → (kind_at ts y.end ≡ Some (Word word.Else) → ⊥) → z.value ≡ If x.value y.value None → z.end ≡ y.end → (j : ℕ) (s : Stmt)
+        alone_only : (z : Span Stmt) → (kind_at ts y.end ≡ Some (Word word.Else) → ⊥) → z.value ≡
+            If x.value y.value None → z.end ≡ y.end → (j : ℕ) (s : Stmt)
             → Way ts y.end j x.value y.value s → IsThat (Some z) j s
         alone_only z no_else zv ze j s (way_alone o p q) = (ze ∙ p, zv ∙ sym q)
         alone_only z no_else zv ze j s (way_else u o v q) = absurd (no_else o)
 
         -- an `if` without an `else`
-        pub reads_alone : (z : Span Stmt) → (kind_at ts y.end ≡ Some (Word word.Else) → ⊥) → z.value ≡ If x.value y.value None → z.end ≡ y.end
+        pub reads_alone : (z : Span Stmt) → (kind_at ts y.end ≡ Some (Word word.Else) → ⊥) →
+            z.value ≡ If x.value y.value None → z.end ≡ y.end
             → Gives (Low stmt_height room (Statement ts at)) at (length ts) (Some z)
         reads_alone z no_else zv ze =
-            let high : stmt_height (If x.value y.value None) ≡ 1 + max (expr_height x.value) (stmt_height y.value) = height-alone x.value y.value in
+            let high : stmt_height (If x.value y.value None) ≡ 1 +
+            max (expr_height x.value) (stmt_height y.value) = height-alone x.value y.value in
             let low1 : expr_height x.value ≤ room - 1 = r.found.spelled.1 in
             let low2 : stmt_height y.value ≤ room - 1 = t.found.spelled.1 in
             let f1 : at + 1 < x.end = r.found.further in
             let f2 : x.end < y.end = t.found.further in
             let within : y.end ≤ length ts = t.found.within in
             record {
-              found = record { spelled = rw (ze, zv) (if_alone ts at x.end y.end x.value y.value h r.found.spelled.0 t.found.spelled.0 no_else, omega arith); further = omega arith; within = omega arith };
+              found =
+                  record {
+                    spelled = rw (ze, zv) (
+                      if_alone ts at x.end y.end x.value y.value h r.found.spelled.0
+                          t.found.spelled.0
+                          no_else,
+                      omega arith,
+                    );
+                    further = omega arith;
+                    within = omega arith;
+                  };
               only = λ j s p. alone_only z no_else zv ze j s (way_here j s p.0 p.1);
             }
 
-        other_of : kind_at ts y.end ≡ Some (Word word.Else) → (j : ℕ) (s : Stmt) → Way ts y.end j x.value y.value s → stmt_height s ≤ room
-            → (u : Stmt) × ((Statement ts (y.end + 1) j u × (stmt_height u ≤ room - 1)) × (s ≡ If x.value y.value (Some u)))
+        other_of : kind_at ts y.end ≡ Some (Word word.Else) → (j : ℕ) (s : Stmt) →
+            Way ts y.end j x.value y.value s → stmt_height s ≤ room
+            → (u : Stmt) × ((Statement ts (y.end + 1) j u × (stmt_height u ≤ room - 1)) ×
+            (s ≡ If x.value y.value (Some u)))
         other_of o j s (way_alone no_else p q) fits = absurd (no_else o)
         other_of o j s (way_else u g v q) fits =
-            let high : stmt_height (If x.value y.value (Some u)) ≡ 1 + max (max (expr_height x.value) (stmt_height y.value)) (stmt_height u) = height-else x.value y.value u in
-            let same : stmt_height s ≡ stmt_height (If x.value y.value (Some u)) = ap stmt_height q in
+            let high : stmt_height (If x.value y.value (Some u)) ≡ 1 +
+            max (max (expr_height x.value) (stmt_height y.value)) (stmt_height u) =
+            height-else x.value y.value u in
+            let same : stmt_height s ≡ stmt_height (If x.value y.value (Some u)) =
+            ap stmt_height q in
             (u, ((v, omega arith), q))
 
         -- an `if` after its `else`, built of the other statement
         pub builds_else : kind_at ts y.end ≡ Some (Word word.Else)
-            → Built (λ (u : Stmt). If x.value y.value (Some u)) (Low stmt_height (room - 1) (Statement ts (y.end + 1))) (Low stmt_height room (Statement ts at))
+            → Built (λ (u : Stmt). If x.value y.value (Some u))
+            (Low stmt_height (room - 1) (Statement ts (y.end + 1)))
+            (Low stmt_height room (Statement ts at))
         builds_else o = record {
           make = λ j u p.
-              let high : stmt_height (If x.value y.value (Some u)) ≡ 1 + max (max (expr_height x.value) (stmt_height y.value)) (stmt_height u) = height-else x.value y.value u in
+              let high : stmt_height (If x.value y.value (Some u)) ≡ 1 +
+              max (max (expr_height x.value) (stmt_height y.value)) (stmt_height u) =
+              height-else x.value y.value u in
               let low1 : expr_height x.value ≤ room - 1 = r.found.spelled.1 in
               let low2 : stmt_height y.value ≤ room - 1 = t.found.spelled.1 in
-              let fits : stmt_height u ≤ room - 1 = p.1 in
-              (if_else ts at x.end y.end j x.value y.value u h r.found.spelled.0 t.found.spelled.0 o p.0, omega arith);
+              let fits : stmt_height u ≤ room - 1 = p.1 in (
+                if_else ts at x.end y.end j x.value y.value u h r.found.spelled.0 t.found.spelled.0
+                    o
+                    p.0,
+                omega arith,
+              );
           part = λ j s q. other_of o j s (way_here j s q.0 q.1) q.1;
         }

@@ -10,4 +10,5 @@ list_height ss = greatest (map stmt_height ss)
 
 -- the greatest height of the parts of the head of a `for`
 abbrev pub head_height : Head → ℕ
-head_height h = max (max (list_height h.first) (of_option expr_height h.test)) (of_option stmt_height h.change)
+head_height h =
+    max (max (list_height h.first) (of_option expr_height h.test)) (of_option stmt_height h.change)

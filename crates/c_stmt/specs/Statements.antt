@@ -57,29 +57,38 @@ updated name op value = Assign name (Binary op (Var name) value)
 -- a change, up to and with the mark after it
 pub data Change : TheMark → List Token → ℕ → ℕ → Stmt → Type 0 where
   by_value : (m : TheMark) → (ts : List Token) → (i j : ℕ) → (e : Expr)
-      → kind_at ts i ≡ Some Name → kind_at ts (i + 1) ≡ Some (Mark mark.Assign) → UpTo m ts (i + 2) j e → Change m ts i j (Assign i e)
+      → kind_at ts i ≡ Some Name → kind_at ts (i + 1) ≡ Some (Mark mark.Assign) →
+      UpTo m ts (i + 2) j e → Change m ts i j (Assign i e)
   by_update : (m : TheMark) → (ts : List Token) → (i j : ℕ) → (op : BinOp) → (e : Expr)
-      → kind_at ts i ≡ Some Name → changing_of (kind_at ts (i + 1)) ≡ Some (update op) → UpTo m ts (i + 2) j e → Change m ts i j (updated i op e)
+      → kind_at ts i ≡ Some Name → changing_of (kind_at ts (i + 1)) ≡ Some (update op) →
+      UpTo m ts (i + 2) j e → Change m ts i j (updated i op e)
   by_step_behind : (m : TheMark) → (ts : List Token) → (i : ℕ) → (op : BinOp)
-      → kind_at ts i ≡ Some Name → changing_of (kind_at ts (i + 1)) ≡ Some (step op) → kind_at ts (i + 2) ≡ Some (Mark m) → Change m ts i (i + 3) (updated i op unit)
+      → kind_at ts i ≡ Some Name → changing_of (kind_at ts (i + 1)) ≡ Some (step op) →
+      kind_at ts (i + 2) ≡ Some (Mark m) → Change m ts i (i + 3) (updated i op unit)
   by_step_before : (m : TheMark) → (ts : List Token) → (i : ℕ) → (op : BinOp)
-      → changing_of (kind_at ts i) ≡ Some (step op) → kind_at ts (i + 1) ≡ Some Name → kind_at ts (i + 2) ≡ Some (Mark m) → Change m ts i (i + 3) (updated (i + 1) op unit)
+      → changing_of (kind_at ts i) ≡ Some (step op) → kind_at ts (i + 1) ≡ Some Name →
+      kind_at ts (i + 2) ≡ Some (Mark m) → Change m ts i (i + 3) (updated (i + 1) op unit)
 
 -- a comma or a semicolon is at a place
 abbrev pub IsParted : List Token → ℕ → Type 0
-IsParted ts i = (kind_at ts i ≡ Some (Mark mark.Comma)) ⊎ (kind_at ts i ≡ Some (Mark mark.Semicolon))
+IsParted ts i =
+    (kind_at ts i ≡ Some (Mark mark.Comma)) ⊎ (kind_at ts i ≡ Some (Mark mark.Semicolon))
 
 -- the declaration of one name, before a comma or a semicolon
 pub data InitDeclarator : List Token → ℕ → ℕ → Stmt → Type 0 where
-  bare : (ts : List Token) → (i : ℕ) → kind_at ts i ≡ Some Name → IsParted ts (i + 1) → InitDeclarator ts i (i + 1) (Declare i None)
+  bare : (ts : List Token) → (i : ℕ) → kind_at ts i ≡ Some Name → IsParted ts (i + 1) →
+      InitDeclarator ts i (i + 1) (Declare i None)
   valued : (ts : List Token) → (i j : ℕ) → (e : Expr)
-      → kind_at ts i ≡ Some Name → kind_at ts (i + 1) ≡ Some (Mark mark.Assign) → Expression ts (i + 2) j e → IsParted ts j → InitDeclarator ts i j (Declare i (Some e))
+      → kind_at ts i ≡ Some Name → kind_at ts (i + 1) ≡ Some (Mark mark.Assign) →
+      Expression ts (i + 2) j e → IsParted ts j → InitDeclarator ts i j (Declare i (Some e))
 
 -- declarations of names, up to and with the semicolon
 pub data InitDeclarators : List Token → ℕ → ℕ → List Stmt → Type 0 where
-  last_name : (ts : List Token) → (i j : ℕ) → (s : Stmt) → InitDeclarator ts i j s → kind_at ts j ≡ Some (Mark mark.Semicolon) → InitDeclarators ts i (j + 1) (s ∷ [])
+  last_name : (ts : List Token) → (i j : ℕ) → (s : Stmt) → InitDeclarator ts i j s → kind_at ts j ≡
+      Some (Mark mark.Semicolon) → InitDeclarators ts i (j + 1) (s ∷ [])
   next_name : (ts : List Token) → (i j k : ℕ) → (s : Stmt) → (ss : List Stmt)
-      → InitDeclarator ts i j s → kind_at ts j ≡ Some (Mark mark.Comma) → InitDeclarators ts (j + 1) k ss → InitDeclarators ts i k (s ∷ ss)
+      → InitDeclarator ts i j s → kind_at ts j ≡ Some (Mark mark.Comma) →
+      InitDeclarators ts (j + 1) k ss → InitDeclarators ts i k (s ∷ ss)
 
 -- a declaration
 abbrev pub Declaration : List Token → ℕ → ℕ → List Stmt → Type 0
@@ -87,19 +96,26 @@ Declaration ts i j ss = (kind_at ts i ≡ Some (Word word.Int)) × InitDeclarato
 
 -- the part of a `for` before its test, with the semicolon
 pub data ForInit : List Token → ℕ → ℕ → List Stmt → Type 0 where
-  no_start : (ts : List Token) → (i : ℕ) → kind_at ts i ≡ Some (Mark mark.Semicolon) → ForInit ts i (i + 1) []
-  start_change : (ts : List Token) → (i j : ℕ) → (s : Stmt) → Change mark.Semicolon ts i j s → ForInit ts i j (s ∷ [])
-  start_names : (ts : List Token) → (i j : ℕ) → (ss : List Stmt) → Declaration ts i j ss → ForInit ts i j ss
+  no_start : (ts : List Token) → (i : ℕ) → kind_at ts i ≡ Some (Mark mark.Semicolon) →
+      ForInit ts i (i + 1) []
+  start_change : (ts : List Token) → (i j : ℕ) → (s : Stmt) → Change mark.Semicolon ts i j s →
+      ForInit ts i j (s ∷ [])
+  start_names : (ts : List Token) → (i j : ℕ) → (ss : List Stmt) → Declaration ts i j ss →
+      ForInit ts i j ss
 
 -- the test of a `for`, with the semicolon
 pub data ForTest : List Token → ℕ → ℕ → Option Expr → Type 0 where
-  no_test : (ts : List Token) → (i : ℕ) → kind_at ts i ≡ Some (Mark mark.Semicolon) → ForTest ts i (i + 1) None
-  a_test : (ts : List Token) → (i j : ℕ) → (e : Expr) → UpTo mark.Semicolon ts i j e → ForTest ts i j (Some e)
+  no_test : (ts : List Token) → (i : ℕ) → kind_at ts i ≡ Some (Mark mark.Semicolon) →
+      ForTest ts i (i + 1) None
+  a_test : (ts : List Token) → (i j : ℕ) → (e : Expr) → UpTo mark.Semicolon ts i j e →
+      ForTest ts i j (Some e)
 
 -- the change after the test of a `for`, with the closing parenthesis
 pub data ForStep : List Token → ℕ → ℕ → Option Stmt → Type 0 where
-  no_change : (ts : List Token) → (i : ℕ) → kind_at ts i ≡ Some (Mark mark.RightParen) → ForStep ts i (i + 1) None
-  a_change : (ts : List Token) → (i j : ℕ) → (s : Stmt) → Change mark.RightParen ts i j s → ForStep ts i j (Some s)
+  no_change : (ts : List Token) → (i : ℕ) → kind_at ts i ≡ Some (Mark mark.RightParen) →
+      ForStep ts i (i + 1) None
+  a_change : (ts : List Token) → (i j : ℕ) → (s : Stmt) → Change mark.RightParen ts i j s →
+      ForStep ts i j (Some s)
 
 -- the head of a `for`, from its opening parenthesis up to and with the closing one
 pub record ForHead (ts : List Token) (i l : ℕ) (h : Head) : Type 0 where
@@ -113,36 +129,51 @@ pub record ForHead (ts : List Token) (i l : ℕ) (h : Head) : Type 0 where
 mutual
   -- a statement
   pub data Statement : List Token → ℕ → ℕ → Stmt → Type 0 where
-    nothing : (ts : List Token) → (i : ℕ) → kind_at ts i ≡ Some (Mark mark.Semicolon) → Statement ts i (i + 1) Empty
-    block : (ts : List Token) → (i j : ℕ) → (ss : List Stmt) → kind_at ts i ≡ Some (Mark mark.LeftBrace) → BlockItems ts (i + 1) j ss → Statement ts i j (Block ss)
-    changes : (ts : List Token) → (i j : ℕ) → (s : Stmt) → Change mark.Semicolon ts i j s → Statement ts i j s
+    nothing : (ts : List Token) → (i : ℕ) → kind_at ts i ≡ Some (Mark mark.Semicolon) →
+        Statement ts i (i + 1) Empty
+    block : (ts : List Token) → (i j : ℕ) → (ss : List Stmt) → kind_at ts i ≡
+        Some (Mark mark.LeftBrace) → BlockItems ts (i + 1) j ss → Statement ts i j (Block ss)
+    changes : (ts : List Token) → (i j : ℕ) → (s : Stmt) → Change mark.Semicolon ts i j s →
+        Statement ts i j s
     if_alone : (ts : List Token) → (i j k : ℕ) → (e : Expr) → (s : Stmt)
         → kind_at ts i ≡ Some (Word word.If) → Test ts (i + 1) j e → Statement ts j k s
         → (kind_at ts k ≡ Some (Word word.Else) → ⊥) → Statement ts i k (If e s None)
     if_else : (ts : List Token) → (i j k l : ℕ) → (e : Expr) → (s t : Stmt)
         → kind_at ts i ≡ Some (Word word.If) → Test ts (i + 1) j e → Statement ts j k s
-        → kind_at ts k ≡ Some (Word word.Else) → Statement ts (k + 1) l t → Statement ts i l (If e s (Some t))
+        → kind_at ts k ≡ Some (Word word.Else) → Statement ts (k + 1) l t →
+        Statement ts i l (If e s (Some t))
     while_loop : (ts : List Token) → (i j k : ℕ) → (e : Expr) → (s : Stmt)
-        → kind_at ts i ≡ Some (Word word.While) → Test ts (i + 1) j e → Statement ts j k s → Statement ts i k (While e s)
+        → kind_at ts i ≡ Some (Word word.While) → Test ts (i + 1) j e → Statement ts j k s →
+        Statement ts i k (While e s)
     do_loop : (ts : List Token) → (i j k : ℕ) → (s : Stmt) → (e : Expr)
         → kind_at ts i ≡ Some (Word word.Do) → Statement ts (i + 1) j s
-        → kind_at ts j ≡ Some (Word word.While) → Test ts (j + 1) k e → kind_at ts k ≡ Some (Mark mark.Semicolon) → Statement ts i (k + 1) (DoWhile s e)
+        → kind_at ts j ≡ Some (Word word.While) → Test ts (j + 1) k e → kind_at ts k ≡
+        Some (Mark mark.Semicolon) → Statement ts i (k + 1) (DoWhile s e)
     for_loop : (ts : List Token) → (i j k : ℕ) → (h : Head) → (s : Stmt)
-        → kind_at ts i ≡ Some (Word word.For) → ForHead ts (i + 1) j h → Statement ts j k s → Statement ts i k (For h.first h.test h.change s)
-    breaks : (ts : List Token) → (i : ℕ) → kind_at ts i ≡ Some (Word word.Break) → kind_at ts (i + 1) ≡ Some (Mark mark.Semicolon) → Statement ts i (i + 2) (Break i)
-    continues : (ts : List Token) → (i : ℕ) → kind_at ts i ≡ Some (Word word.Continue) → kind_at ts (i + 1) ≡ Some (Mark mark.Semicolon) → Statement ts i (i + 2) (Continue i)
-    returns : (ts : List Token) → (i j : ℕ) → (e : Expr) → kind_at ts i ≡ Some (Word word.Return) → UpTo mark.Semicolon ts (i + 1) j e → Statement ts i j (Return e)
+        → kind_at ts i ≡ Some (Word word.For) → ForHead ts (i + 1) j h → Statement ts j k s →
+        Statement ts i k (For h.first h.test h.change s)
+    breaks : (ts : List Token) → (i : ℕ) → kind_at ts i ≡ Some (Word word.Break) →
+        kind_at ts (i + 1) ≡ Some (Mark mark.Semicolon) → Statement ts i (i + 2) (Break i)
+    continues : (ts : List Token) → (i : ℕ) → kind_at ts i ≡ Some (Word word.Continue) →
+        kind_at ts (i + 1) ≡ Some (Mark mark.Semicolon) → Statement ts i (i + 2) (Continue i)
+    returns : (ts : List Token) → (i j : ℕ) → (e : Expr) → kind_at ts i ≡ Some (Word word.Return) →
+        UpTo mark.Semicolon ts (i + 1) j e → Statement ts i j (Return e)
 
   -- a statement or a declaration in a block
   pub data BlockItem : List Token → ℕ → ℕ → List Stmt → Type 0 where
-    statement : (ts : List Token) → (i j : ℕ) → (s : Stmt) → Statement ts i j s → BlockItem ts i j (s ∷ [])
-    declaration : (ts : List Token) → (i j : ℕ) → (ss : List Stmt) → Declaration ts i j ss → BlockItem ts i j ss
+    statement : (ts : List Token) → (i j : ℕ) → (s : Stmt) → Statement ts i j s →
+        BlockItem ts i j (s ∷ [])
+    declaration : (ts : List Token) → (i j : ℕ) → (ss : List Stmt) → Declaration ts i j ss →
+        BlockItem ts i j ss
 
   -- the items of a block, from after its opening brace up to and with the closing one
   pub data BlockItems : List Token → ℕ → ℕ → List Stmt → Type 0 where
-    closed : (ts : List Token) → (i : ℕ) → kind_at ts i ≡ Some (Mark mark.RightBrace) → BlockItems ts i (i + 1) []
-    item : (ts : List Token) → (i j k : ℕ) → (xs ss : List Stmt) → BlockItem ts i j xs → BlockItems ts j k ss → BlockItems ts i k (xs ++ ss)
+    closed : (ts : List Token) → (i : ℕ) → kind_at ts i ≡ Some (Mark mark.RightBrace) →
+        BlockItems ts i (i + 1) []
+    item : (ts : List Token) → (i j k : ℕ) → (xs ss : List Stmt) → BlockItem ts i j xs →
+        BlockItems ts j k ss → BlockItems ts i k (xs ++ ss)
 
 -- a block, by its items
 abbrev pub CompoundStatement : List Token → ℕ → ℕ → List Stmt → Type 0
-CompoundStatement ts i j ss = (kind_at ts i ≡ Some (Mark mark.LeftBrace)) × BlockItems ts (i + 1) j ss
+CompoundStatement ts i j ss =
+    (kind_at ts i ≡ Some (Mark mark.LeftBrace)) × BlockItems ts (i + 1) j ss

@@ -37,7 +37,8 @@ fn stepped(
     mark: Mark,
 ) -> Result<Option<Span<Stmt>>, NoMemory>
     requires { at < 2 ^ 33 }
-    ensures { IfOk result (Gives (Low stmt_height room (IsStep mark tokens.now name op at)) at (length tokens.now)) }
+    ensures { IfOk result (Gives (Low stmt_height room (IsStep mark tokens.now name op at)) at
+        (length tokens.now)) }
 {
     if room < STEP_HEIGHT {
         return Ok(None);
@@ -61,11 +62,13 @@ fn assigned(
 ) -> Result<Option<Span<Stmt>>, NoMemory>
     requires few { length tokens.now < 2 ^ 32 }
     requires named { kind_at tokens.now at ≡ Some TokenKind.Name }
-    requires no_step { (op : BinOp) → changing_of (kind_at tokens.now (at + 1)) ≡ Some (step op) → ⊥ }
+    requires no_step { (op : BinOp) → changing_of (kind_at tokens.now (at + 1)) ≡ Some (step op) →
+        ⊥ }
     requires no_operator { binary_of (Some (TokenKind.Mark mark)) ≡ None }
     requires no_choice { mark ≢ Mark.Question }
     requires no_call { mark ≢ Mark.LeftParen }
-    ensures { IfOk result (Gives (Low stmt_height room (Change mark tokens.now at)) at (length tokens.now)) }
+    ensures { IfOk result (Gives (Low stmt_height room (Change mark tokens.now at)) at
+        (length tokens.now)) }
 {
     if stands(tokens, at + 1, Mark::Assign) {
         let Some(value) = up_to(alloc, tokens, at + 2, room.saturating_sub(1), mark)? else {
@@ -101,7 +104,8 @@ pub fn change(
     requires no_operator { binary_of (Some (TokenKind.Mark mark)) ≡ None }
     requires no_choice { mark ≢ Mark.Question }
     requires no_call { mark ≢ Mark.LeftParen }
-    ensures { IfOk result (Gives (Low stmt_height room (Change mark tokens.now at)) at (length tokens.now)) }
+    ensures { IfOk result (Gives (Low stmt_height room (Change mark tokens.now at)) at
+        (length tokens.now)) }
 {
     if let Some(op) = step_at(tokens, at) {
         if !names(tokens, at + 1) {

@@ -28,7 +28,8 @@ fn declarator(
 ) -> Result<Option<Span<Stmt>>, NoMemory>
     requires few { length tokens.now < 2 ^ 32 }
     requires inside { at ≤ length tokens.now }
-    ensures { IfOk result (Gives (Low stmt_height room (InitDeclarator tokens.now at)) at (length tokens.now)) }
+    ensures { IfOk result (Gives (Low stmt_height room (InitDeclarator tokens.now at)) at
+        (length tokens.now)) }
 {
     if !names(tokens, at) {
         return Ok(None);
@@ -58,7 +59,8 @@ fn valued(
     requires few { length tokens.now < 2 ^ 32 }
     requires named { kind_at tokens.now at ≡ Some TokenKind.Name }
     requires assigned { kind_at tokens.now (at + 1) ≡ Some (TokenKind.Mark Mark.Assign) }
-    ensures { IfOk result (Gives (Low stmt_height room (InitDeclarator tokens.now at)) at (length tokens.now)) }
+    ensures { IfOk result (Gives (Low stmt_height room (InitDeclarator tokens.now at)) at
+        (length tokens.now)) }
 {
     if room < 2 {
         return Ok(None);
@@ -84,7 +86,8 @@ fn declarators(
 ) -> Result<Option<Span<Items<Stmt>>>, NoMemory>
     requires few { length tokens.now < 2 ^ 32 }
     requires inside { at ≤ length tokens.now }
-    ensures { IfOk result (Gives (Low list_height room (InitDeclarators tokens.now at)) at (length tokens.now)) }
+    ensures { IfOk result (Gives (Low list_height room (InitDeclarators tokens.now at)) at
+        (length tokens.now)) }
 {
     let mut found = Items::new(alloc);
     let mut end = at;
@@ -109,7 +112,8 @@ pub fn declaration(
 ) -> Result<Option<Span<Items<Stmt>>>, NoMemory>
     requires few { length tokens.now < 2 ^ 32 }
     requires inside { at ≤ length tokens.now }
-    ensures { IfOk result (Gives (Low list_height room (Declaration tokens.now at)) at (length tokens.now)) }
+    ensures { IfOk result (Gives (Low list_height room (Declaration tokens.now at)) at
+        (length tokens.now)) }
 {
     if !says(tokens, at, Keyword::Int) {
         return Ok(None);

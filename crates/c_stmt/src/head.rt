@@ -23,7 +23,8 @@ fn start(
 ) -> Result<Option<Span<Items<Stmt>>>, NoMemory>
     requires few { length tokens.now < 2 ^ 32 }
     requires inside { at ≤ length tokens.now }
-    ensures { IfOk result (Gives (Low list_height room (ForInit tokens.now at)) at (length tokens.now)) }
+    ensures { IfOk result (Gives (Low list_height room (ForInit tokens.now at)) at
+        (length tokens.now)) }
 {
     if stands(tokens, at, Mark::Semicolon) {
         return Ok(Some(Span {
@@ -54,7 +55,8 @@ fn continuing(
 ) -> Result<Option<Span<Option<Expr>>>, NoMemory>
     requires few { length tokens.now < 2 ^ 32 }
     requires inside { at ≤ length tokens.now }
-    ensures { IfOk result (Gives (Low (of_option expr_height) room (ForTest tokens.now at)) at (length tokens.now)) }
+    ensures { IfOk result (Gives (Low (of_option expr_height) room (ForTest tokens.now at)) at
+        (length tokens.now)) }
 {
     if stands(tokens, at, Mark::Semicolon) {
         return Ok(Some(Span {
@@ -80,7 +82,8 @@ fn advance(
 ) -> Result<Option<Span<Option<Boxed<Stmt>>>>, NoMemory>
     requires few { length tokens.now < 2 ^ 32 }
     requires inside { at ≤ length tokens.now }
-    ensures { IfOk result (Gives (Low (of_option stmt_height) room (ForStep tokens.now at)) at (length tokens.now)) }
+    ensures { IfOk result (Gives (Low (of_option stmt_height) room (ForStep tokens.now at)) at
+        (length tokens.now)) }
 {
     if stands(tokens, at, Mark::RightParen) {
         return Ok(Some(Span {
@@ -106,7 +109,8 @@ pub fn head(
 ) -> Result<Option<Span<Head>>, NoMemory>
     requires few { length tokens.now < 2 ^ 32 }
     requires inside { at ≤ length tokens.now }
-    ensures { IfOk result (Gives (Low head_height room (ForHead tokens.now at)) at (length tokens.now)) }
+    ensures { IfOk result (Gives (Low head_height room (ForHead tokens.now at)) at
+        (length tokens.now)) }
 {
     if !stands(tokens, at, Mark::LeftParen) {
         return Ok(None);

@@ -29,7 +29,8 @@ fn statement(
 ) -> Result<Option<Span<Stmt>>, NoMemory>
     requires few { length tokens.now < 2 ^ 32 }
     requires inside { at ≤ length tokens.now }
-    ensures { IfOk result (Gives (Low stmt_height room (Statement tokens.now at)) at (length tokens.now)) }
+    ensures { IfOk result (Gives (Low stmt_height room (Statement tokens.now at)) at
+        (length tokens.now)) }
 {
     if room == 0 {
         return Ok(None);
@@ -62,7 +63,8 @@ fn part(
 ) -> Result<Option<Span<Boxed<Stmt>>>, NoMemory>
     requires few { length tokens.now < 2 ^ 32 }
     requires inside { at ≤ length tokens.now }
-    ensures { IfOk result (Gives (Low stmt_height room (Statement tokens.now at)) at (length tokens.now)) }
+    ensures { IfOk result (Gives (Low stmt_height room (Statement tokens.now at)) at
+        (length tokens.now)) }
 {
     let Some(read) = statement(alloc, tokens, at, room)? else {
         return Ok(None);
@@ -84,7 +86,8 @@ fn block(
     requires few { length tokens.now < 2 ^ 32 }
     requires some { 0 < room }
     requires here { kind_at tokens.now at ≡ Some (TokenKind.Mark Mark.LeftBrace) }
-    ensures { IfOk result (Gives (Low stmt_height room (Statement tokens.now at)) at (length tokens.now)) }
+    ensures { IfOk result (Gives (Low stmt_height room (Statement tokens.now at)) at
+        (length tokens.now)) }
 {
     let Some(inside) = inner(alloc, tokens, at + 1, room - 1)? else {
         return Ok(None);
@@ -106,7 +109,8 @@ fn branch(
     requires few { length tokens.now < 2 ^ 32 }
     requires some { 0 < room }
     requires here { kind_at tokens.now at ≡ Some (TokenKind.Word Keyword.If) }
-    ensures { IfOk result (Gives (Low stmt_height room (Statement tokens.now at)) at (length tokens.now)) }
+    ensures { IfOk result (Gives (Low stmt_height room (Statement tokens.now at)) at
+        (length tokens.now)) }
 {
     let Some(test) = test(alloc, tokens, at + 1, room - 1)? else {
         return Ok(None);
@@ -140,7 +144,8 @@ fn while_loop(
     requires few { length tokens.now < 2 ^ 32 }
     requires some { 0 < room }
     requires here { kind_at tokens.now at ≡ Some (TokenKind.Word Keyword.While) }
-    ensures { IfOk result (Gives (Low stmt_height room (Statement tokens.now at)) at (length tokens.now)) }
+    ensures { IfOk result (Gives (Low stmt_height room (Statement tokens.now at)) at
+        (length tokens.now)) }
 {
     let Some(test) = test(alloc, tokens, at + 1, room - 1)? else {
         return Ok(None);
@@ -165,7 +170,8 @@ fn do_loop(
     requires few { length tokens.now < 2 ^ 32 }
     requires some { 0 < room }
     requires here { kind_at tokens.now at ≡ Some (TokenKind.Word Keyword.Do) }
-    ensures { IfOk result (Gives (Low stmt_height room (Statement tokens.now at)) at (length tokens.now)) }
+    ensures { IfOk result (Gives (Low stmt_height room (Statement tokens.now at)) at
+        (length tokens.now)) }
 {
     let Some(body) = part(alloc, tokens, at + 1, room - 1)? else {
         return Ok(None);
@@ -196,7 +202,8 @@ fn for_loop(
     requires few { length tokens.now < 2 ^ 32 }
     requires some { 0 < room }
     requires here { kind_at tokens.now at ≡ Some (TokenKind.Word Keyword.For) }
-    ensures { IfOk result (Gives (Low stmt_height room (Statement tokens.now at)) at (length tokens.now)) }
+    ensures { IfOk result (Gives (Low stmt_height room (Statement tokens.now at)) at
+        (length tokens.now)) }
 {
     let Some(head) = head(alloc, tokens, at + 1, room - 1)? else {
         return Ok(None);
@@ -226,7 +233,8 @@ pub fn inner(
 ) -> Result<Option<Span<Items<Stmt>>>, NoMemory>
     requires few { length tokens.now < 2 ^ 32 }
     requires inside { at ≤ length tokens.now }
-    ensures { IfOk result (Gives (Low list_height room (BlockItems tokens.now at)) at (length tokens.now)) }
+    ensures { IfOk result (Gives (Low list_height room (BlockItems tokens.now at)) at
+        (length tokens.now)) }
 {
     let mut found = Items::new(alloc);
     let mut end = at;
@@ -253,7 +261,8 @@ pub fn item(
 ) -> Result<Option<Span<Items<Stmt>>>, NoMemory>
     requires few { length tokens.now < 2 ^ 32 }
     requires inside { at ≤ length tokens.now }
-    ensures { IfOk result (Gives (Low list_height room (BlockItem tokens.now at)) at (length tokens.now)) }
+    ensures { IfOk result (Gives (Low list_height room (BlockItem tokens.now at)) at
+        (length tokens.now)) }
 {
     if says(tokens, at, Keyword::Int) {
         return declaration(alloc, tokens, at, room);
@@ -292,7 +301,8 @@ fn simple(
     requires inside { at ≤ length tokens.now }
     requires some { 0 < room }
     requires simple { IsSimple tokens.now at }
-    ensures { IfOk result (Gives (Low stmt_height room (Statement tokens.now at)) at (length tokens.now)) }
+    ensures { IfOk result (Gives (Low stmt_height room (Statement tokens.now at)) at
+        (length tokens.now)) }
 {
     if stands(tokens, at, Mark::Semicolon) {
         return Ok(Some(Span {

@@ -1,6 +1,7 @@
 //! The files and the output of the system, in the form in which a run sees them.
 //!
-//! They tell no content. Each counts its faults, in a number that stands still at its greatest value.
+//! They tell no content. Each counts its faults, in a number that stands still at its greatest
+//! value.
 ghost use Rattle.std.specs.Prelude.{None};
 
 use rx_io::{Failed, Files, Sink};

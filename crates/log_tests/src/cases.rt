@@ -239,8 +239,8 @@ impl Case {
         }
     }
 
-    /// Takes a line: whether the report is the one that is wanted, where one is; none where the line
-    /// can't be read.
+    /// Takes a line: whether the report is the one that is wanted, where one is; none where the
+    /// line can't be read.
     pub fn take(&mut self, alloc: Global, line: &str) -> Option<Option<bool>> {
         let (word, rest) = line.split_once(' ').unwrap_or((line, ""));
         match word {

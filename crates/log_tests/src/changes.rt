@@ -30,7 +30,8 @@ fn push_times(text: &mut String, unit: &str, count: usize) -> Option<()> {
     Some(())
 }
 
-// The pieces of a text, parted by `~`: a text, a unit and how many times it stands there, and so on.
+// The pieces of a text, parted by `~`: a text, a unit and how many times it stands there, and so
+// on.
 fn repeated(alloc: Global, given: &str) -> Option<String> {
     let mut text = String::new(alloc);
     let mut unit = String::new(alloc);

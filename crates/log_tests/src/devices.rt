@@ -67,8 +67,8 @@ impl Outlet {
         }
     }
 
-    /// A sink as a line says: the most bytes of a call and the room; the numbers of the calls that fail;
-    /// those of the calls that put nothing, with `;` between the three.
+    /// A sink as a line says: the most bytes of a call and the room; the numbers of the calls that
+    /// fail; those of the calls that put nothing, with `;` between the three.
     pub fn given(alloc: Global, line: &str) -> Option<Outlet> {
         let (sizes, calls) = line.split_once(';')?;
         let (piece, room) = sizes.trim().split_once(' ')?;

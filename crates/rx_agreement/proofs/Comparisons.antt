@@ -27,7 +27,8 @@ pub record Tests (α : ℕ → ℤ) (row : Row) (b : Bool) : Type 0 where
   pub holds : b ≡ true → RowHolds α row
   pub fails : b ≡ false → RowHolds α row → ⊥
 
-pub test_fails : (α : ℕ → ℤ) (row : Row) (b : Bool) → Tests α row b → b ≡ false → RowHolds α (negation row)
+pub test_fails : (α : ℕ → ℤ) (row : Row) (b : Bool) → Tests α row b → b ≡ false →
+    RowHolds α (negation row)
 test_fails α row b tests is = (negation-holds α row).1 (tests.fails is)
 
 -- the integer test of a comparison
@@ -67,20 +68,24 @@ not_false true is = refl
 not_false false is = sym is
 
 -- the row tells the comparison of the values
-pub comparison_tests : (op : BinOp) (p q : Body) (row : Row) → IsComparison op p q row → (α : ℕ → ℤ) → Tests α row (test_of op (value α p) (value α q))
+pub comparison_tests : (op : BinOp) (p q : Body) (row : Row) → IsComparison op p q row →
+    (α : ℕ → ℤ) → Tests α row (test_of op (value α p) (value α q))
 comparison_tests op p q row (code.less _ _) α =
     let e = value-subtracted α (subtracted q p) (number (pos 1)) in
     let f = value-subtracted α q p in
     let g = value-number α (pos 1) in
     record {
       holds = λ is. let h = lt_yes (value α p) (value α q) is in omega (arith, ints, e, f, g, h);
-      fails = λ is hold. let h = lt_no (value α p) (value α q) is in omega (arith, ints, e, f, g, h, hold);
+      fails =
+          λ is hold. let h = lt_no (value α p) (value α q) is in
+          omega (arith, ints, e, f, g, h, hold);
     }
 comparison_tests op p q row (code.at_most _ _) α =
     let f = value-subtracted α q p in
     record {
       holds = λ is. let h = le_yes (value α p) (value α q) is in omega (arith, ints, f, h);
-      fails = λ is hold. let h = le_no (value α p) (value α q) is in omega (arith, ints, f, h, hold);
+      fails =
+          λ is hold. let h = le_no (value α p) (value α q) is in omega (arith, ints, f, h, hold);
     }
 comparison_tests op p q row (code.greater _ _) α =
     let e = value-subtracted α (subtracted p q) (number (pos 1)) in
@@ -88,30 +93,43 @@ comparison_tests op p q row (code.greater _ _) α =
     let g = value-number α (pos 1) in
     record {
       holds = λ is. let h = lt_yes (value α q) (value α p) is in omega (arith, ints, e, f, g, h);
-      fails = λ is hold. let h = lt_no (value α q) (value α p) is in omega (arith, ints, e, f, g, h, hold);
+      fails =
+          λ is hold. let h = lt_no (value α q) (value α p) is in
+          omega (arith, ints, e, f, g, h, hold);
     }
 comparison_tests op p q row (code.at_least _ _) α =
     let f = value-subtracted α p q in
     record {
       holds = λ is. let h = le_yes (value α q) (value α p) is in omega (arith, ints, f, h);
-      fails = λ is hold. let h = le_no (value α q) (value α p) is in omega (arith, ints, f, h, hold);
+      fails =
+          λ is hold. let h = le_no (value α q) (value α p) is in omega (arith, ints, f, h, hold);
     }
 comparison_tests op p q row (code.equal _ _) α =
     let f = value-subtracted α p q in
     record {
-      holds = λ is. let h : value α p ≡ value α q = (Decides-int_eq (value α p) (value α q)).0 is in omega (arith, ints, f, h);
-      fails = λ is hold. not_eq (value α p) (value α q) is (difference_zero (value α p) (value α q) (sym f ∙ hold));
+      holds =
+          λ is. let h : value α p ≡ value α q = (Decides-int_eq (value α p) (value α q)).0 is in
+          omega (arith, ints, f, h);
+      fails =
+          λ is hold. not_eq (value α p) (value α q) is
+          (difference_zero (value α p) (value α q) (sym f ∙ hold));
     }
 comparison_tests op p q row (code.unequal _ _) α =
     let f = value-subtracted α p q in
     record {
-      holds = λ is hold. not_eq (value α p) (value α q) (not_true (int_eq (value α p) (value α q)) is) (difference_zero (value α p) (value α q) (sym f ∙ hold));
-      fails = λ is hold. let h : value α p ≡ value α q = (Decides-int_eq (value α p) (value α q)).0 (not_false (int_eq (value α p) (value α q)) is) in
+      holds =
+          λ is hold. not_eq (value α p) (value α q) (not_true (int_eq (value α p) (value α q)) is)
+          (difference_zero (value α p) (value α q) (sym f ∙ hold));
+      fails =
+          λ is hold. let h : value α p ≡ value α q =
+          (Decides-int_eq (value α p) (value α q)).0 (not_false (int_eq (value α p) (value α q)) is)
+          in
           hold (let e : value α p -ℤ value α q ≡ pos 0 = omega (arith, ints, h) in f ∙ e);
     }
 
 -- a comparison gives the truth of its test
-pub comparison_value : (op : BinOp) (p q : Body) (row : Row) → IsComparison op p q row → (x y : ℤ) → binary op (Value x) (Value y) ≡ Value (truth (test_of op x y))
+pub comparison_value : (op : BinOp) (p q : Body) (row : Row) → IsComparison op p q row → (x y : ℤ) →
+    binary op (Value x) (Value y) ≡ Value (truth (test_of op x y))
 comparison_value op p q row (code.less _ _) x y = refl
 comparison_value op p q row (code.at_most _ _) x y = refl
 comparison_value op p q row (code.greater _ _) x y = refl
@@ -124,7 +142,9 @@ pub truth_zero : (b : Bool) → is_zero (truth b) ≡ not b
 truth_zero true = refl
 truth_zero false = refl
 
-pub comparison_outcome : (op : BinOp) (p q : Body) (row : Row) (o u : Outcome ℤ) → IsComparison op p q row → binary op o u ≡ on_value o (λ x. on_value u (λ y. binary op (Value x) (Value y)))
+pub comparison_outcome : (op : BinOp) (p q : Body) (row : Row) (o u : Outcome ℤ) →
+    IsComparison op p q row → binary op o u ≡
+    on_value o (λ x. on_value u (λ y. binary op (Value x) (Value y)))
 comparison_outcome op p q row o u (code.less _ _) = refl
 comparison_outcome op p q row o u (code.at_most _ _) = refl
 comparison_outcome op p q row o u (code.greater _ _) = refl

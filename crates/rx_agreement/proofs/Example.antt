@@ -61,10 +61,17 @@ between_is_row_form =
     let minus_one = expr.Unary un.Minus one in
     let left = expr.Binary bin.Ge (expr.Var 0) zero in
     let right = expr.Binary bin.Le (expr.Var 0) minus_one in
-    let minus_form : forms minus_one ≡ record { straight = true; row = false } = forms-Unary un.Minus one ∙ (λ i. record { straight = true && (forms-Lit (pos 1) i).straight; row = false }) in
-    let left_form : (forms left).row ≡ true = ap (λ (r : Forms). r.row) (forms-Binary bin.Ge (expr.Var 0) zero) ∙ (λ i. row_of bin.Ge (forms-Var 0 i) (forms-Lit (pos 0) i)) in
-    let right_form : (forms right).row ≡ true = ap (λ (r : Forms). r.row) (forms-Binary bin.Le (expr.Var 0) minus_one) ∙ (λ i. row_of bin.Le (forms-Var 0 i) (minus_form i)) in
-    ap (λ (r : Forms). r.row) (forms-Binary bin.AndAlso left right) ∙ (λ i. left_form i && right_form i)
+    let minus_form : forms minus_one ≡ record { straight = true; row = false } =
+    forms-Unary un.Minus one ∙ (λ i. record
+    { straight = true && (forms-Lit (pos 1) i).straight; row = false }) in
+    let left_form : (forms left).row ≡ true =
+    ap (λ (r : Forms). r.row) (forms-Binary bin.Ge (expr.Var 0) zero) ∙
+    (λ i. row_of bin.Ge (forms-Var 0 i) (forms-Lit (pos 0) i)) in
+    let right_form : (forms right).row ≡ true =
+    ap (λ (r : Forms). r.row) (forms-Binary bin.Le (expr.Var 0) minus_one) ∙
+    (λ i. row_of bin.Le (forms-Var 0 i) (minus_form i)) in
+    ap (λ (r : Forms). r.row) (forms-Binary bin.AndAlso left right) ∙
+    (λ i. left_form i && right_form i)
 
 -- ---- the reached functions
 
@@ -82,15 +89,20 @@ no_number_in : (x : ℕ) → Contains [] x → ⊥
 no_number_in x h = no_element x h
 
 -- what is called is one of both
-stays : (h k : ℕ) (f : Function) → Contains both h → slice_get example.functions h ≡ Some f → Contains (calls_of f) k → Contains both k
+stays : (h k : ℕ) (f : Function) → Contains both h → slice_get example.functions h ≡ Some f →
+    Contains (calls_of f) k → Contains both k
 stays h k f among stands calls_it = by (first_or_other 0 (1 ∷ []) h among) where
   there : (n : ℕ) (g : Function) → n ≡ h → slice_get example.functions n ≡ Some g → g ≡ f
-  there n g same is = let e : Some g ≡ Some f = sym is ∙ ap (slice_get example.functions) same ∙ stands in cc
+  there n g same is =
+      let e : Some g ≡ Some f = sym is ∙ ap (slice_get example.functions) same ∙ stands in cc
 
   second : (1 ≡ h) ⊎ Contains [] h → Contains both k
   second (inl same) =
       let calls = ap calls_of (sym (there 1 last same refl)) ∙ last_calls in
-      elim (first_or_other 0 [] k (subst (λ (ns : List ℕ). Contains ns k) calls calls_it)) [ inl is ↦ subst (λ n. Contains both n) is (first_one 0 (1 ∷ [])) | inr none ↦ absurd (no_number_in k none) ]
+      elim (first_or_other 0 [] k (subst (λ (ns : List ℕ). Contains ns k) calls calls_it)) [
+        | inl is ↦ subst (λ n. Contains both n) is (first_one 0 (1 ∷ []))
+        | inr none ↦ absurd (no_number_in k none)
+      ]
   second (inr other) = absurd (no_number_in h other)
 
   by : (0 ≡ h) ⊎ Contains (1 ∷ []) h → Contains both k
@@ -116,7 +128,9 @@ reached_both h among = by (first_or_other 0 (1 ∷ []) h among) where
 
 are_reached : AreReached example 1 0 both
 are_reached = record {
-  in_order = next_number 0 (1 ∷ []) (All-cons (λ k. 0 < k) 1 [] (omega arith) (All-nil (λ k. 0 < k))) (next_number 1 [] (All-nil (λ k. 1 < k)) no_number);
+  in_order =
+      next_number 0 (1 ∷ []) (All-cons (λ k. 0 < k) 1 [] (omega arith) (All-nil (λ k. 0 < k)))
+      (next_number 1 [] (All-nil (λ k. 1 < k)) no_number);
   members = λ h. (reached_both h, one_of_both h);
 }
 
@@ -127,17 +141,25 @@ abbrev pair : ℕ → List Compiled → ℕ → List Compiled → Formed Code
 pair n ts m us =
     let c = body_code 0 n ts 0 in
     let d = body_code 1 m us (after 0 c.form) in
-    record { form = append_code c.form (append_code d.form no_code); within = c.within && (d.within && true) }
+    record {
+      form = append_code c.form (append_code d.form no_code);
+      within = c.within &&
+          (d.within && true);
+    }
 
-both_code : (f g : Function) {ts us : List Compiled} → StmtsAre f.body ts → StmtsAre g.body us → places_code (f ∷ g ∷ []) both 0 ≡ pair (length f.params) ts (length g.params) us
+both_code : (f g : Function) {ts us : List Compiled} → StmtsAre f.body ts → StmtsAre g.body us →
+    places_code (f ∷ g ∷ []) both 0 ≡ pair (length f.params) ts (length g.params) us
 both_code f g p q i = pair (length f.params) (p.are i) (length g.params) (q.are i)
 
 pub compiled : program_code example both ≡ record { form = example_code; within = true }
-compiled = both_code inverse last (statement (returns (binary bin.Div (lit (pos 1)) (var 0))) no_statement)
-    (statement (while_loop (var 0) (breaks 0)) (statement (returns (apply 0 (argument (var 0) no_argument))) no_statement))
+compiled =
+    both_code inverse last (statement (returns (binary bin.Div (lit (pos 1)) (var 0))) no_statement)
+    (statement (while_loop (var 0) (breaks 0))
+    (statement (returns (apply 0 (argument (var 0) no_argument))) no_statement))
 
 -- one monomial of one atom, in size and depth
-one_term_size : (xs : List Atom) (k : ℤ) → body_size (of_terms ((of_atoms xs, k) ∷ [])) ≡ 1 + sum_by atom_size xs
+one_term_size : (xs : List Atom) (k : ℤ) → body_size (of_terms ((of_atoms xs, k) ∷ [])) ≡ 1 +
+    sum_by atom_size xs
 one_term_size xs k =
     let e = size-of_terms ((of_atoms xs, k) ∷ []) in
     let f = sum_by-cons (λ (t : Mono × ℤ). mono_size t.0) (of_atoms xs, k) [] in
@@ -145,17 +167,24 @@ one_term_size xs k =
     let h = ap (λ ys. 1 + sum_by atom_size ys) (atoms-of_atoms xs) in
     e ∙ f ∙ omega (arith, g, h)
 
-one_term_depth : (xs : List Atom) (k : ℤ) → body_depth (of_terms ((of_atoms xs, k) ∷ [])) ≡ max (greatest atom_depth xs) 0
+one_term_depth : (xs : List Atom) (k : ℤ) → body_depth (of_terms ((of_atoms xs, k) ∷ [])) ≡
+    max (greatest atom_depth xs) 0
 one_term_depth xs k =
-    depth-of_terms ((of_atoms xs, k) ∷ []) ∙ ap (λ d. max d 0) (mono_depth_is (of_atoms xs) ∙ ap (greatest atom_depth) (atoms-of_atoms xs))
+    depth-of_terms ((of_atoms xs, k) ∷ []) ∙ ap (λ d. max d 0)
+    (mono_depth_is (of_atoms xs) ∙ ap (greatest atom_depth) (atoms-of_atoms xs))
 
-quotient_is : quotient_of (number (pos 1)) (variable 0) ≡ of_terms ((of_atoms (Div (number (pos 1)) (variable 0) ∷ []), pos 1) ∷ [])
+quotient_is : quotient_of (number (pos 1)) (variable 0) ≡
+    of_terms ((of_atoms (Div (number (pos 1)) (variable 0) ∷ []), pos 1) ∷ [])
 quotient_is =
     let n = number (pos 1) in
     let v = variable 0 in
-    let n_terms : (out-Body n).terms ≡ (of_atoms [], pos 1) ∷ [] = ap (λ b. (out-Body b).terms) (number-nonzero (pos 1) refl) ∙ terms-of_terms ((of_atoms [], pos 1) ∷ []) in
-    let v_terms : (out-Body v).terms ≡ (of_atoms (Var 0 ∷ []), pos 1) ∷ [] = terms-of_terms ((of_atoms (Var 0 ∷ []), pos 1) ∷ []) in
-    (λ i. division int_div (atom_alone (Div n v)) (parts_of (constant_of (n_terms i)) (constant_of (v_terms i))))
+    let n_terms : (out-Body n).terms ≡ (of_atoms [], pos 1) ∷ [] =
+    ap (λ b. (out-Body b).terms) (number-nonzero (pos 1) refl) ∙
+    terms-of_terms ((of_atoms [], pos 1) ∷ []) in
+    let v_terms : (out-Body v).terms ≡ (of_atoms (Var 0 ∷ []), pos 1) ∷ [] =
+    terms-of_terms ((of_atoms (Var 0 ∷ []), pos 1) ∷ []) in
+    (λ i. division int_div (atom_alone (Div n v))
+    (parts_of (constant_of (n_terms i)) (constant_of (v_terms i))))
 
 quotient_within : is_within (quotient_of (number (pos 1)) (variable 0)) ≡ true
 quotient_within =
@@ -163,10 +192,12 @@ quotient_within =
     let v = variable 0 in
     let one = ap body_size (number-nonzero (pos 1) refl) ∙ one_term_size [] (pos 1) in
     let two = one_term_size (Var 0 ∷ []) (pos 1) in
-    let atom : atom_size (Var 0) ≡ 1 = fold_out-Atom ℕ ℕ ℕ atom_size_level body_size_level mono_size_level (Var 0) ∙ rw (outs-Var 0) refl in
+    let atom : atom_size (Var 0) ≡ 1 = fold_out-Atom ℕ ℕ ℕ atom_size_level body_size_level
+    mono_size_level (Var 0) ∙ rw (outs-Var 0) refl in
     let flat = ap body_depth (number-nonzero (pos 1) refl) ∙ one_term_depth [] (pos 1) in
     let low = one_term_depth (Var 0 ∷ []) (pos 1) in
-    let atom_low : atom_depth (Var 0) ≡ 0 = fold_out-Atom ℕ ℕ ℕ atom_depth_level body_depth_level mono_depth_level (Var 0) ∙ rw (outs-Var 0) refl in
+    let atom_low : atom_depth (Var 0) ≡ 0 = fold_out-Atom ℕ ℕ ℕ atom_depth_level body_depth_level
+    mono_depth_level (Var 0) ∙ rw (outs-Var 0) refl in
     let size = size_Div n v in
     let depth = depth_Div n v in
     ap is_within quotient_is ∙ term_within (Div n v ∷ []) (pos 1) (record {
@@ -186,7 +217,9 @@ example_translated = record {
   second_there = omega arith;
   functions = both;
   reached = are_reached;
-  within = ap (λ (c : Formed Code). c.within && list_all deed_within c.form.deeds) compiled ∙ deeds_within;
+  within =
+      ap (λ (c : Formed Code). c.within && list_all deed_within c.form.deeds) compiled ∙
+      deeds_within;
   parts_are = sym (ap (λ (c : Formed Code). rule_set.parts_of c.form) compiled);
   first_is = sym (ap (λ (c : Formed Code). symbol (entry_of c.form.entries 1)) compiled);
   second_is = sym (ap (λ (c : Formed Code). symbol (entry_of c.form.entries 0)) compiled);
@@ -201,10 +234,13 @@ last_at_zero : Returns example 1 (pos 0 ∷ []) DivisionError
 last_at_zero = record { enough = 2; outcome = simp equations; is_answer = tt }
 
 agrees : AgreeOn example example_parts.rules 1 3
-agrees = first_agrees example example_scoped 1 0 example_parts (symbol 3) (symbol 0) example_translated
+agrees =
+    first_agrees example example_scoped 1 0 example_parts (symbol 3) (symbol 0) example_translated
 
-pub returned_integer : Reaches (Instance example_parts.rules) (stack.Call 3 (pos 1 ∷ [])) (stack.Ret (pos 1))
+pub returned_integer : Reaches (Instance example_parts.rules) (stack.Call 3 (pos 1 ∷ []))
+    (stack.Ret (pos 1))
 returned_integer = (agrees (pos 1 ∷ []) refl (Value (pos 1)) tt).0 last_at_one
 
-pub division_error : Reaches (Instance example_parts.rules) (stack.Call 3 (pos 0 ∷ [])) (stack.Fail 1)
+pub division_error : Reaches (Instance example_parts.rules) (stack.Call 3 (pos 0 ∷ []))
+    (stack.Fail 1)
 division_error = (agrees (pos 0 ∷ []) refl DivisionError tt).0 last_at_zero

@@ -41,23 +41,33 @@ module _ (R : Relation) (w : ℕ) where
   pub long-after : {m h : ℕ} {s t : Ground} → Runs R w s t → Long R w m h t → Long R w m h s
   long-after {m} {h} (i, one) long =
       let e = times_sum i long.steps w in
-      record { steps = i + long.steps; end = long.end; run = ReachesIn-trans one long.run; enough = omega (arith, e, long.enough) }
+      record {
+        steps = i + long.steps;
+        end = long.end;
+        run = ReachesIn-trans one long.run;
+        enough =
+            omega (arith, e, long.enough);
+      }
 
-  -- where an outcome leads: a value as P says, the division error to the failure, and 'more' to a long run
+  -- where an outcome leads: a value as P says, the division error to the failure, and 'more' to a
+  -- long run
   abbrev pub Leads : {A : Type 0} → ℕ → ℕ → Ground → (A → Type 0) → Outcome A → Type 0
   Leads m h start P (Value x) = P x
   Leads m h start P DivisionError = Runs R w start (stack.Fail 1)
   Leads m h start P More = Long R w m h start
 
   -- goes on from a value
-  pub leads-on : {A B : Type 0} (m h : ℕ) (start : Ground) (P : A → Type 0) (Q : B → Type 0) (o : Outcome A) (g : A → Outcome B)
-      → Leads m h start P o → ((x : A) → P x → Leads m h start Q (g x)) → Leads m h start Q (on_value o g)
+  pub leads-on : {A B : Type 0} (m h : ℕ) (start : Ground) (P : A → Type 0) (Q : B → Type 0)
+      (o : Outcome A) (g : A → Outcome B)
+      → Leads m h start P o → ((x : A) → P x → Leads m h start Q (g x)) →
+      Leads m h start Q (on_value o g)
   leads-on m h start P Q (Value x) g here next = next x here
   leads-on m h start P Q DivisionError g here next = here
   leads-on m h start P Q More g here next = here
 
   -- a run before
-  pub leads-after : {B : Type 0} (m h : ℕ) (start middle : Ground) (P Q : B → Type 0) (o : Outcome B)
+  pub leads-after : {B : Type 0} (m h : ℕ) (start middle : Ground) (P Q : B → Type 0)
+      (o : Outcome B)
       → Runs R w start middle → ((y : B) → P y → Q y) → Leads m h middle P o → Leads m h start Q o
   leads-after m h start middle P Q (Value x) run wider there = wider x there
   leads-after m h start middle P Q DivisionError run wider there = run-trans run there

@@ -40,7 +40,8 @@ module _ (R : Relation) (w : ℕ) where
   abbrev pub Stands : Body → List ℤ → ℤ → Type 0
   Stands p ys x = (zs : List ℤ) → value (assigned (ys ++ zs)) p ≡ x
 
-  -- the run comes from a to the point b, whose integers begin with xs and may be more, and the polynomial has the value there
+  -- the run comes from a to the point b, whose integers begin with xs and may be more, and the
+  -- polynomial has the value there
   pub record Comes (a b : Point) (xs : List ℤ) (p : Body) (x : ℤ) : Type 0 where
     pub more : List ℤ
     pub run : Runs (stack.Call a.symbol xs) (stack.Call b.symbol (xs ++ more))
@@ -56,4 +57,5 @@ module _ (R : Relation) (w : ℕ) where
 
   -- the run is at y, or at z where the integer is 0
   abbrev pub Forked : Ground → Point → Point → List ℤ → ℤ → Type 0
-  Forked start y z xs x = Branch (is_zero x) (RunsOn start (at_point z xs)) (RunsOn start (at_point y xs))
+  Forked start y z xs x =
+      Branch (is_zero x) (RunsOn start (at_point z xs)) (RunsOn start (at_point y xs))

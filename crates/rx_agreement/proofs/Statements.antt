@@ -36,24 +36,38 @@ use Rattle.rx_agreement.proofs.Values.{value_runs, condition_runs}
 at_least : (j w : ℕ) → w ≤ suc j * w
 at_least j w = omega arith
 
-module _ (R : Relation) (entry : ℕ → ℕ) (acts : Actions) (callable : ℕ → ℕ → Type 0) (does : DoAll R entry acts) (w : ℕ) (positive : 0 < w) where
+module _ (R : Relation) (entry : ℕ → ℕ) (acts : Actions) (callable : ℕ → ℕ → Type 0)
+    (does : DoAll R entry acts) (w : ℕ) (positive : 0 < w) where
   -- calls do with m rounds what the rules do from the entries
   abbrev pub CallsRun : ℕ → Calls → Type 0
-  CallsRun m calls = (f : ℕ) (args : List ℤ) → callable f (length args) → Leads R w m w (stack.Call (entry f) args) (λ k. Runs R w (stack.Call (entry f) args) (stack.Ret k)) (calls f args)
+  CallsRun m calls =
+      (f : ℕ) (args : List ℤ) → callable f (length args) →
+      Leads R w m w (stack.Call (entry f) args)
+      (λ k. Runs R w (stack.Call (entry f) args) (stack.Ret k)) (calls f args)
 
   -- so many rounds, with each of which calls do so
   pub data Fine : Rounds → ℕ → Type 0 where
     no_round : Fine [] zero
-    one_round : (call : Calls) (left : Rounds) (m : ℕ) → CallsRun (suc m) call → Fine left m → Fine (call ∷ left) (suc m)
+    one_round : (call : Calls) (left : Rounds) (m : ℕ) → CallsRun (suc m) call → Fine left m →
+        Fine (call ∷ left) (suc m)
 
   pub calls_run : (r : Rounds) (m : ℕ) → Fine r m → CallsRun m (calls_with r)
-  calls_run r m no_round f args may = record { steps = 0; end = stack.Call (entry f) args; run = NoStep; enough = omega arith }
+  calls_run r m no_round f args may =
+      record { steps = 0; end = stack.Call (entry f) args; run = NoStep; enough = omega arith }
   calls_run r m (one_round call left n fine rest) f args may = fine f args may
 
   long-wider : (m h g : ℕ) (s : Ground) → h ≤ g → Long R w m h s → Long R w m g s
-  long-wider m h g s below long = record { steps = long.steps; end = long.end; run = long.run; enough = let e = long.enough in omega (arith, e, below) }
+  long-wider m h g s below long =
+      record {
+        steps = long.steps;
+        end = long.end;
+        run = long.run;
+        enough = let e = long.enough in
+            omega (arith, e, below);
+      }
 
-  leads-wider : {A : Type 0} (m h g : ℕ) (s : Ground) (P : A → Type 0) (o : Outcome A) → h ≤ g → Leads R w m h s P o → Leads R w m g s P o
+  leads-wider : {A : Type 0} (m h g : ℕ) (s : Ground) (P : A → Type 0) (o : Outcome A) → h ≤ g →
+      Leads R w m h s P o → Leads R w m g s P o
   leads-wider m h g s P (Value x) below there = there
   leads-wider m h g s P DivisionError below there = there
   leads-wider m h g s P More below there = long-wider m h g s below there
@@ -68,107 +82,153 @@ module _ (R : Relation) (entry : ℕ → ℕ) (acts : Actions) (callable : ℕ �
   abbrev pub Executes : ℕ → ℕ → Ground → ℕ → ℕ → Point → Point → Point → Outcome Flow → Type 0
   Executes m h start n k z B K o = Leads R w m h start (Flowed start n k z B K) o
 
-  flowed-after : (start middle : Ground) (n k : ℕ) (z B K : Point) → Runs R w start middle → (f : Flow) → Flowed middle n k z B K f → Flowed start n k z B K f
+  flowed-after : (start middle : Ground) (n k : ℕ) (z B K : Point) → Runs R w start middle →
+      (f : Flow) → Flowed middle n k z B K f → Flowed start n k z B K f
   flowed-after start middle n k z B K run (Next s) there = (run-trans R w run there.0, there.1)
   flowed-after start middle n k z B K run (Break s) there = (run-trans R w run there.0, there.1)
   flowed-after start middle n k z B K run (Continue s) there = (run-trans R w run there.0, there.1)
   flowed-after start middle n k z B K run (Return x) there = run-trans R w run there
 
-  executes-after : (m h : ℕ) (start middle : Ground) (n k : ℕ) (z B K : Point) (o : Outcome Flow) → Runs R w start middle → Executes m h middle n k z B K o → Executes m h start n k z B K o
+  executes-after : (m h : ℕ) (start middle : Ground) (n k : ℕ) (z B K : Point) (o : Outcome Flow) →
+      Runs R w start middle → Executes m h middle n k z B K o → Executes m h start n k z B K o
   executes-after m h start middle n k z B K o run there =
-      leads-after R w m h start middle (Flowed middle n k z B K) (Flowed start n k z B K) o run (flowed-after start middle n k z B K run) there
+      leads-after R w m h start middle (Flowed middle n k z B K) (Flowed start n k z B K) o run
+      (flowed-after start middle n k z B K run) there
 
   -- a state of at least so many slots, at a point
-  over_state : (n : ℕ) (a : Point) (s : State) → a.width ≡ n → n ≤ length s → Over n s (take a.width s)
+  over_state : (n : ℕ) (a : Point) (s : State) → a.width ≡ n → n ≤ length s →
+      Over n s (take a.width s)
   over_state n a s same enough = record {
     agree = λ v below. sym (assigned-take a.width s v (omega (arith, same, below)));
-    enough = let e = length-take-le a.width s (omega (arith, same, enough)) in omega (arith, e, same);
+    enough =
+        let e = length-take-le a.width s (omega (arith, same, enough)) in omega (arith, e, same);
   }
 
-  long_state : (n : ℕ) (a : Point) (s : State) → a.width ≡ n → n ≤ length s → length (take a.width s) ≡ a.width
+  long_state : (n : ℕ) (a : Point) (s : State) → a.width ≡ n → n ≤ length s →
+      length (take a.width s) ≡ a.width
   long_state n a s same enough = length-take-le a.width s (omega (arith, same, enough))
 
   -- a jump from a point on a state
-  jump_same : (a z : Point) (s : State) → z.width ≤ a.width → at_point z (take a.width s) ≡ at_point z s
+  jump_same : (a z : Point) (s : State) → z.width ≤ a.width → at_point z (take a.width s) ≡
+      at_point z s
   jump_same a z s fits = ap (stack.Call z.symbol) (take-take z.width a.width s fits)
 
-  goes : (a z : Point) (s : State) (n : ℕ) → acts a (Go z) → a.width ≡ n → n ≤ length s → z.width ≤ n → Runs R w (at_point a s) (at_point z s)
+  goes : (a z : Point) (s : State) (n : ℕ) → acts a (Go z) → a.width ≡ n → n ≤ length s → z.width ≤
+      n → Runs R w (at_point a s) (at_point z s)
   goes a z s n act same enough fits =
       subst (Runs R w (at_point a s)) (jump_same a z s (omega (arith, same, fits)))
-      (on-run R w (run-step R w (does a (Go z) act (take a.width s) (long_state n a s same enough))))
+      (on-run R w (run-step R w (does a (Go z) act (take a.width s)
+      (long_state n a s same enough))))
 
   -- the value of an expression, from a point on a state
-  evaluates : (r : Rounds) (m : ℕ) → Fine r m → (n : ℕ) (e : Expr) (a b : Point) (p : Body) → IsValue acts callable n e a b p → (s : State) → a.width ≡ n → n ≤ length s
+  evaluates : (r : Rounds) (m : ℕ) → Fine r m → (n : ℕ) (e : Expr) (a b : Point) (p : Body) →
+      IsValue acts callable n e a b p → (s : State) → a.width ≡ n → n ≤ length s
       → Leads R w m 0 (at_point a s) (Comes R w a b (take a.width s) p) (expr (calls_with r) e s)
   evaluates r m fine n e a b p is s same enough =
-      value_runs R entry acts callable does w n m (calls_with r) (calls_run r m fine) e a b p is s (take a.width s) (over_state n a s same enough) (long_state n a s same enough)
+      value_runs R entry acts callable does w n m (calls_with r) (calls_run r m fine) e a b p is s
+      (take a.width s) (over_state n a s same enough) (long_state n a s same enough)
 
-  decides : (r : Rounds) (m : ℕ) → Fine r m → (n : ℕ) (e : Expr) (a y z : Point) → IsCondition acts callable n e a y z → (s : State) → a.width ≡ n → n ≤ length s
-      → Leads R w m 0 (at_point a s) (Forked R w (at_point a s) y z (take a.width s)) (expr (calls_with r) e s)
+  decides : (r : Rounds) (m : ℕ) → Fine r m → (n : ℕ) (e : Expr) (a y z : Point) →
+      IsCondition acts callable n e a y z → (s : State) → a.width ≡ n → n ≤ length s
+      → Leads R w m 0 (at_point a s) (Forked R w (at_point a s) y z (take a.width s))
+      (expr (calls_with r) e s)
   decides r m fine n e a y z is s same enough =
-      condition_runs R entry acts callable does w n m (calls_with r) (calls_run r m fine) e a y z is s (take a.width s) (over_state n a s same enough) (long_state n a s same enough)
+      condition_runs R entry acts callable does w n m (calls_with r) (calls_run r m fine) e a y z is
+      s (take a.width s) (over_state n a s same enough) (long_state n a s same enough)
 
   -- a condition decides between two statements
-  branches : (m h : ℕ) (n : ℕ) (a y x z B K : Point) (s : State) (k : ℕ) (o : Outcome ℤ) (then_ else_ : Outcome Flow) → a.width ≡ n → y.width ≤ n → x.width ≤ n
+  branches : (m h : ℕ) (n : ℕ) (a y x z B K : Point) (s : State) (k : ℕ) (o : Outcome ℤ)
+      (then_ else_ : Outcome Flow) → a.width ≡ n → y.width ≤ n → x.width ≤ n
       → Leads R w m 0 (at_point a s) (Forked R w (at_point a s) y x (take a.width s)) o
       → Executes m h (at_point y s) n k z B K then_ → Executes m h (at_point x s) n k z B K else_
       → Executes m h (at_point a s) n k z B K (on_value o (λ v. if is_zero v then else_ else then_))
-  branches m h n a y x z B K s k (Value v) then_ else_ same fits_y fits_x fork first second = go (is_zero v) fork
+  branches m h n a y x z B K s k (Value v) then_ else_ same fits_y fits_x fork first second =
+      go (is_zero v) fork
     where
-      go : (t : Bool) → Branch t (RunsOn R w (at_point a s) (at_point x (take a.width s))) (RunsOn R w (at_point a s) (at_point y (take a.width s)))
+      go : (t : Bool) → Branch t (RunsOn R w (at_point a s) (at_point x (take a.width s)))
+          (RunsOn R w (at_point a s) (at_point y (take a.width s)))
           → Executes m h (at_point a s) n k z B K (if t then else_ else then_)
-      go true there = executes-after m h (at_point a s) (at_point x s) n k z B K else_ (on-run R w (subst (RunsOn R w (at_point a s)) (jump_same a x s (omega (arith, same, fits_x))) there)) second
-      go false there = executes-after m h (at_point a s) (at_point y s) n k z B K then_ (on-run R w (subst (RunsOn R w (at_point a s)) (jump_same a y s (omega (arith, same, fits_y))) there)) first
-  branches m h n a y x z B K s k DivisionError then_ else_ same fits_y fits_x there first second = there
-  branches m h n a y x z B K s k More then_ else_ same fits_y fits_x there first second = long-wider m 0 h (at_point a s) (omega arith) there
+      go true there =
+          executes-after m h (at_point a s) (at_point x s) n k z B K else_
+          (on-run R w (subst (RunsOn R w (at_point a s))
+          (jump_same a x s (omega (arith, same, fits_x))) there)) second
+      go false there =
+          executes-after m h (at_point a s) (at_point y s) n k z B K then_
+          (on-run R w (subst (RunsOn R w (at_point a s))
+          (jump_same a y s (omega (arith, same, fits_y))) there)) first
+  branches m h n a y x z B K s k DivisionError then_ else_ same fits_y fits_x there first second =
+      there
+  branches m h n a y x z B K s k More then_ else_ same fits_y fits_x there first second =
+      long-wider m 0 h (at_point a s) (omega arith) there
 
   -- a value is set
-  sets : (n v : ℕ) (a b z : Point) (s : State) (p : Body) (x : ℤ) → acts b (Set v p z) → a.width ≡ n → n ≤ length s → v ≤ n → z.width ≤ suc n → (z.width ≤ n ⊎ (v ≡ n))
-      → Comes R w a b (take a.width s) p x → Runs R w (at_point a s) (at_point z (with_element v x (take n s)))
+  sets : (n v : ℕ) (a b z : Point) (s : State) (p : Body) (x : ℤ) → acts b (Set v p z) → a.width ≡
+      n → n ≤ length s → v ≤ n → z.width ≤ suc n → (z.width ≤ n ⊎ (v ≡ n))
+      → Comes R w a b (take a.width s) p x → Runs R w (at_point a s)
+      (at_point z (with_element v x (take n s)))
   sets n v a b z s p x act same enough below fits wide come =
       let xs = take a.width s in
       let long = long_state n a s same enough in
       let step = does b (Set v p z) act (xs ++ come.more) come.long in
-      let is : value (assigned (xs ++ come.more)) p ≡ x = ap (λ l. value (assigned l) p) (sym (append-nil (xs ++ come.more))) ∙ come.stands [] in
-      let e : at_point z (with_element v (value (assigned (xs ++ come.more)) p) (xs ++ come.more)) ≡ at_point z (with_element v x (take n s)) =
+      let is : value (assigned (xs ++ come.more)) p ≡ x =
+      ap (λ l. value (assigned l) p) (sym (append-nil (xs ++ come.more))) ∙ come.stands [] in
+      let e : at_point z (with_element v (value (assigned (xs ++ come.more)) p) (xs ++ come.more)) ≡
+      at_point z (with_element v x (take n s)) =
       ap (λ k. at_point z (with_element v k (xs ++ come.more))) is
-      ∙ (ap (stack.Call z.symbol) (take-with_element z.width v x xs come.more (omega (arith, long, same, below)) (omega (arith, long, same, fits))
-      (elim wide [ inl h ↦ inl (omega (arith, long, same, h)) | inr h ↦ inr (omega (arith, long, same, h)) ]))
+      ∙ (ap (stack.Call z.symbol) (take-with_element z.width v x xs come.more
+      (omega (arith, long, same, below)) (omega (arith, long, same, fits))
+      (elim wide [
+        | inl h ↦ inl (omega (arith, long, same, h))
+        | inr h ↦ inr (omega (arith, long, same, h))
+      ]))
       ∙ ap (λ k. at_point z (with_element v x (take k s))) same) in
-      run-trans R w come.run (subst (Runs R w (stack.Call b.symbol (xs ++ come.more))) e (on-run R w (run-step R w step)))
+      run-trans R w come.run (subst (Runs R w (stack.Call b.symbol (xs ++ come.more))) e
+      (on-run R w (run-step R w step)))
 
   -- fewer slots after it
-  flowed-fewer : (start : Ground) (n k l : ℕ) (z B K : Point) → l ≤ k → (f : Flow) → Flowed start n k z B K f → Flowed start n l z B K f
-  flowed-fewer start n k l z B K below (Next s) there = (there.0, let e = there.1 in omega (arith, e, below))
+  flowed-fewer : (start : Ground) (n k l : ℕ) (z B K : Point) → l ≤ k → (f : Flow) →
+      Flowed start n k z B K f → Flowed start n l z B K f
+  flowed-fewer start n k l z B K below (Next s) there =
+      (there.0, let e = there.1 in omega (arith, e, below))
   flowed-fewer start n k l z B K below (Break s) there = there
   flowed-fewer start n k l z B K below (Continue s) there = there
   flowed-fewer start n k l z B K below (Return x) there = there
 
-  executes-fewer : (m h : ℕ) (start : Ground) (n k l : ℕ) (z B K : Point) (o : Outcome Flow) → l ≤ k → Executes m h start n k z B K o → Executes m h start n l z B K o
-  executes-fewer m h start n k l z B K o below there = leads-after R w m h start start (Flowed start n k z B K) (Flowed start n l z B K) o (run-none R w start) (flowed-fewer start n k l z B K below) there
+  executes-fewer : (m h : ℕ) (start : Ground) (n k l : ℕ) (z B K : Point) (o : Outcome Flow) → l ≤
+      k → Executes m h start n k z B K o → Executes m h start n l z B K o
+  executes-fewer m h start n k l z B K o below there =
+      leads-after R w m h start start (Flowed start n k z B K) (Flowed start n l z B K) o
+      (run-none R w start) (flowed-fewer start n k l z B K below) there
 
   -- the end of a scope
-  flowed-leave : (start : Ground) (n i count : ℕ) (z B K : Point) → n ≤ i → n ≤ count → z.width ≤ n → B.width ≤ n → K.width ≤ n → (f : Flow) → Flowed start n i z B K f
+  flowed-leave : (start : Ground) (n i count : ℕ) (z B K : Point) → n ≤ i → n ≤ count → z.width ≤
+      n → B.width ≤ n → K.width ≤ n → (f : Flow) → Flowed start n i z B K f
       → Leads R w 0 0 start (Flowed start n n z B K) (leave count f)
   flowed-leave start n i count z B K below enough fits_z fits_B fits_K (Next s) there = (
-    subst (Runs R w start) (ap (stack.Call z.symbol) (sym (take-take z.width count s (omega (arith, fits_z, enough))))) there.0,
+    subst (Runs R w start) (ap (stack.Call z.symbol)
+        (sym (take-take z.width count s (omega (arith, fits_z, enough))))) there.0,
     let e = length-take count s in let h = there.1 in omega (arith, e, h, below, enough),
   )
   flowed-leave start n i count z B K below enough fits_z fits_B fits_K (Break s) there = (
-    subst (Runs R w start) (ap (stack.Call B.symbol) (sym (take-take B.width count s (omega (arith, fits_B, enough))))) there.0,
+    subst (Runs R w start) (ap (stack.Call B.symbol)
+        (sym (take-take B.width count s (omega (arith, fits_B, enough))))) there.0,
     let e = length-take count s in let h = there.1 in omega (arith, e, h, below, enough),
   )
   flowed-leave start n i count z B K below enough fits_z fits_B fits_K (Continue s) there = (
-    subst (Runs R w start) (ap (stack.Call K.symbol) (sym (take-take K.width count s (omega (arith, fits_K, enough))))) there.0,
+    subst (Runs R w start) (ap (stack.Call K.symbol)
+        (sym (take-take K.width count s (omega (arith, fits_K, enough))))) there.0,
     let e = length-take count s in let h = there.1 in omega (arith, e, h, below, enough),
   )
   flowed-leave start n i count z B K below enough fits_z fits_B fits_K (Return x) there = there
 
-  leaves : (m h : ℕ) (start : Ground) (n i count : ℕ) (z B K : Point) → n ≤ i → n ≤ count → z.width ≤ n → B.width ≤ n → K.width ≤ n → (o : Outcome Flow) → Executes m h start n i z B K o
+  leaves : (m h : ℕ) (start : Ground) (n i count : ℕ) (z B K : Point) → n ≤ i → n ≤ count →
+      z.width ≤ n → B.width ≤ n → K.width ≤ n → (o : Outcome Flow) → Executes m h start n i z B K o
       → Executes m h start n n z B K (on_value o (leave count))
-  leaves m h start n i count z B K below enough fits_z fits_B fits_K (Value f) there = go f (flowed-leave start n i count z B K below enough fits_z fits_B fits_K f there)
+  leaves m h start n i count z B K below enough fits_z fits_B fits_K (Value f) there =
+      go f (flowed-leave start n i count z B K below enough fits_z fits_B fits_K f there)
     where
-      go : (f : Flow) → Leads R w 0 0 start (Flowed start n n z B K) (leave count f) → Executes m h start n n z B K (leave count f)
+      go : (f : Flow) → Leads R w 0 0 start (Flowed start n n z B K) (leave count f) →
+          Executes m h start n n z B K (leave count f)
       go (Next s) done = done
       go (Break s) done = done
       go (Continue s) done = done
@@ -177,10 +237,15 @@ module _ (R : Relation) (entry : ℕ → ℕ) (acts : Actions) (callable : ℕ �
   leaves m h start n i count z B K below enough fits_z fits_B fits_K More there = there
 
   -- one statement after another
-  nexts : (m h : ℕ) (start : Ground) (n k l : ℕ) (c z B K : Point) (o : Outcome Flow) (rest : State → Outcome Flow) → n ≤ k → Executes m h start n k c B K o
-      → ((s : State) → k ≤ length s → Executes m h (at_point c s) k l z B K (rest s)) → Executes m h start n l z B K (on_value o (on_next rest))
+  nexts : (m h : ℕ) (start : Ground) (n k l : ℕ) (c z B K : Point) (o : Outcome Flow)
+      (rest : State → Outcome Flow) → n ≤ k → Executes m h start n k c B K o
+      → ((s : State) → k ≤ length s → Executes m h (at_point c s) k l z B K (rest s)) →
+      Executes m h start n l z B K (on_value o (on_next rest))
   nexts m h start n k l c z B K (Value (Next s)) rest below there each =
-      leads-after R w m h start (at_point c s) (Flowed (at_point c s) k l z B K) (Flowed start n l z B K) (rest s) there.0 (λ f next. fewer f (flowed-after start (at_point c s) k l z B K there.0 f next)) (each s there.1)
+      leads-after R w m h start (at_point c s) (Flowed (at_point c s) k l z B K)
+      (Flowed start n l z B K) (rest s) there.0
+      (λ f next. fewer f (flowed-after start (at_point c s) k l z B K there.0 f next))
+      (each s there.1)
     where
       fewer : (f : Flow) → Flowed start k l z B K f → Flowed start n l z B K f
       fewer (Next s) there = there
@@ -200,32 +265,55 @@ module _ (R : Relation) (entry : ℕ → ℕ) (acts : Actions) (callable : ℕ �
 
   -- a loop, by its turns
   loops_run : (n h : ℕ) (head z B K : Point) (turn : Rounds → State → Outcome Turn)
-      → ((r : Rounds) (m : ℕ) → Fine r m → (s : State) → n ≤ length s → Leads R w m h (at_point head s) (Turned (at_point head s) n head z B K) (turn r s))
-      → (r : Rounds) (m : ℕ) → Fine r m → (s : State) → n ≤ length s → Executes m (suc h) (at_point head s) n n z B K (loop turn r s)
-  loops_run n h head z B K turn each r m no_round s enough = record { steps = 0; end = at_point head s; run = NoStep; enough = omega arith }
-  loops_run n h head z B K turn each r m (one_round call left l fine rest) s enough = go (λ s' fits. loops_run n h head z B K turn each left l rest s' fits) (turn left s) (each left l rest s enough)
+      → ((r : Rounds) (m : ℕ) → Fine r m → (s : State) → n ≤ length s →
+      Leads R w m h (at_point head s) (Turned (at_point head s) n head z B K) (turn r s))
+      → (r : Rounds) (m : ℕ) → Fine r m → (s : State) → n ≤ length s →
+      Executes m (suc h) (at_point head s) n n z B K (loop turn r s)
+  loops_run n h head z B K turn each r m no_round s enough =
+      record { steps = 0; end = at_point head s; run = NoStep; enough = omega arith }
+  loops_run n h head z B K turn each r m (one_round call left l fine rest) s enough =
+      go (λ s' fits. loops_run n h head z B K turn each left l rest s' fits) (turn left s)
+      (each left l rest s enough)
     where
       longer : Long R w l h (at_point head s) → Long R w (suc l) (suc h) (at_point head s)
-      longer long = record { steps = long.steps; end = long.end; run = long.run; enough = let e = long.enough in omega (arith, e) }
+      longer long =
+          record {
+            steps = long.steps;
+            end = long.end;
+            run = long.run;
+            enough = let e =
+                long.enough in omega (arith, e);
+          }
 
-      a_turn_more : (start middle : Ground) → RunsOn R w start middle → Long R w l (suc h) middle → Long R w (suc l) (suc h) start
+      a_turn_more : (start middle : Ground) → RunsOn R w start middle → Long R w l (suc h) middle →
+          Long R w (suc l) (suc h) start
       a_turn_more start middle (j, run) long =
           let e = times_sum (suc j) long.steps w in
           record {
             steps = suc j + long.steps;
             end = long.end;
             run = ReachesIn-trans run long.run;
-            enough = let f = long.enough in let g = positive in let k = at_least j w in omega (arith, e, f, g, k);
+            enough =
+                let f = long.enough in let g = positive in let k = at_least j w in
+                omega (arith, e, f, g, k);
           }
 
-      again : (s' : State) → RunsOn R w (at_point head s) (at_point head s') → (o : Outcome Flow) → Executes l (suc h) (at_point head s') n n z B K o → Executes (suc l) (suc h) (at_point head s) n n z B K o
-      again s' run (Value f) there = flowed-after (at_point head s) (at_point head s') n n z B K (on-run R w run) f there
+      again : (s' : State) → RunsOn R w (at_point head s) (at_point head s') → (o : Outcome Flow) →
+          Executes l (suc h) (at_point head s') n n z B K o →
+          Executes (suc l) (suc h) (at_point head s) n n z B K o
+      again s' run (Value f) there =
+          flowed-after (at_point head s) (at_point head s') n n z B K (on-run R w run) f there
       again s' run DivisionError there = run-trans R w (on-run R w run) there
       again s' run More there = a_turn_more (at_point head s) (at_point head s') run there
 
-      go : ((s' : State) → n ≤ length s' → Executes l (suc h) (at_point head s') n n z B K (loop turn left s'))
-          → (o : Outcome Turn) → Leads R w l h (at_point head s) (Turned (at_point head s) n head z B K) o → Executes (suc l) (suc h) (at_point head s) n n z B K (on_value o (on_again (loop turn left)))
-      go next_turns (Value (Again s')) there = again s' there.0 (loop turn left s') (next_turns s' there.1)
+      go : ((s' : State) → n ≤ length s' → Executes l (suc h) (at_point head s') n n z B K
+          (loop turn left s'))
+          → (o : Outcome Turn) → Leads R w l h (at_point head s)
+          (Turned (at_point head s) n head z B K) o →
+          Executes (suc l) (suc h) (at_point head s) n n z B K
+          (on_value o (on_again (loop turn left)))
+      go next_turns (Value (Again s')) there =
+          again s' there.0 (loop turn left s') (next_turns s' there.1)
       go next_turns (Value (Ends f)) there = there
       go next_turns DivisionError there = there
       go next_turns More there = longer there
@@ -235,20 +323,27 @@ module _ (R : Relation) (entry : ℕ → ℕ) (acts : Actions) (callable : ℕ �
   Turning start n head z B K (Again s) = Runs R w start (at_point head s) × (n ≤ length s)
   Turning start n head z B K (Ends f) = Flowed start n n z B K f
 
-  turned-after : (start middle : Ground) (n : ℕ) (head z B K : Point) → Runs R w start middle → (t : Turn) → Turned middle n head z B K t → Turned start n head z B K t
+  turned-after : (start middle : Ground) (n : ℕ) (head z B K : Point) → Runs R w start middle →
+      (t : Turn) → Turned middle n head z B K t → Turned start n head z B K t
   turned-after start middle n head z B K run (Again s) there = (run-on R w run there.0, there.1)
-  turned-after start middle n head z B K run (Ends f) there = flowed-after start middle n n z B K run f there
+  turned-after start middle n head z B K run (Ends f) there =
+      flowed-after start middle n n z B K run f there
 
-  turning-after : (start middle : Ground) (n : ℕ) (head z B K : Point) → Runs R w start middle → (t : Turn) → Turning middle n head z B K t → Turning start n head z B K t
+  turning-after : (start middle : Ground) (n : ℕ) (head z B K : Point) → Runs R w start middle →
+      (t : Turn) → Turning middle n head z B K t → Turning start n head z B K t
   turning-after start middle n head z B K run (Again s) there = (run-trans R w run there.0, there.1)
-  turning-after start middle n head z B K run (Ends f) there = flowed-after start middle n n z B K run f there
+  turning-after start middle n head z B K run (Ends f) there =
+      flowed-after start middle n n z B K run f there
 
-  turned-on : (start middle : Ground) (n : ℕ) (head z B K : Point) → RunsOn R w start middle → (t : Turn) → Turning middle n head z B K t → Turned start n head z B K t
+  turned-on : (start middle : Ground) (n : ℕ) (head z B K : Point) → RunsOn R w start middle →
+      (t : Turn) → Turning middle n head z B K t → Turned start n head z B K t
   turned-on start middle n head z B K run (Again s) there = (on-then R w run there.0, there.1)
-  turned-on start middle n head z B K run (Ends f) there = flowed-after start middle n n z B K (on-run R w run) f there
+  turned-on start middle n head z B K run (Ends f) there =
+      flowed-after start middle n n z B K (on-run R w run) f there
 
   -- the body of a loop in a turn: next and continue lead to c, a break to z
-  after_body_runs : (T : Ground → Turn → Type 0) (m h : ℕ) (start : Ground) (n k : ℕ) (c z : Point) (o : Outcome Flow) (rest : State → Outcome Turn) → n ≤ k
+  after_body_runs : (T : Ground → Turn → Type 0) (m h : ℕ) (start : Ground) (n k : ℕ) (c z : Point)
+      (o : Outcome Flow) (rest : State → Outcome Turn) → n ≤ k
       → ((s : State) → Runs R w start (at_point z s) → n ≤ length s → T start (Ends (Next s)))
       → ((x : ℤ) → Runs R w start (stack.Ret x) → T start (Ends (Return x)))
       → ((middle : Ground) → Runs R w start middle → (t : Turn) → T middle t → T start t)
@@ -256,57 +351,105 @@ module _ (R : Relation) (entry : ℕ → ℕ) (acts : Actions) (callable : ℕ �
       → ((s : State) → n ≤ length s → Leads R w m h (at_point c s) (T (at_point c s)) (rest s))
       → Leads R w m h start (T start) (on_value o (after_body rest))
   after_body_runs T m h start n k c z (Value (Next s)) rest below broken back carry there each =
-      leads-after R w m h start (at_point c s) (T (at_point c s)) (T start) (rest s) there.0 (carry (at_point c s) there.0) (each s (let e = there.1 in omega (arith, e, below)))
+      leads-after R w m h start (at_point c s) (T (at_point c s)) (T start) (rest s) there.0
+      (carry (at_point c s) there.0) (each s (let e = there.1 in omega (arith, e, below)))
   after_body_runs T m h start n k c z (Value (Continue s)) rest below broken back carry there each =
-      leads-after R w m h start (at_point c s) (T (at_point c s)) (T start) (rest s) there.0 (carry (at_point c s) there.0) (each s there.1)
-  after_body_runs T m h start n k c z (Value (Break s)) rest below broken back carry there each = broken s there.0 there.1
-  after_body_runs T m h start n k c z (Value (Return x)) rest below broken back carry there each = back x there
+      leads-after R w m h start (at_point c s) (T (at_point c s)) (T start) (rest s) there.0
+      (carry (at_point c s) there.0) (each s there.1)
+  after_body_runs T m h start n k c z (Value (Break s)) rest below broken back carry there each =
+      broken s there.0 there.1
+  after_body_runs T m h start n k c z (Value (Return x)) rest below broken back carry there each =
+      back x there
   after_body_runs T m h start n k c z DivisionError rest below broken back carry there each = there
   after_body_runs T m h start n k c z More rest below broken back carry there each = there
 
   -- a turn of a `while` or a `for`
-  while_runs : (m h n k : ℕ) (head y c z B K : Point) (s : State) (o : Outcome ℤ) (body : Outcome Flow) (rest : State → Outcome Turn) → n ≤ k → head.width ≡ n → y.width ≤ n → z.width ≤ n → n ≤ length s
+  while_runs : (m h n k : ℕ) (head y c z B K : Point) (s : State) (o : Outcome ℤ)
+      (body : Outcome Flow) (rest : State → Outcome Turn) → n ≤ k → head.width ≡ n → y.width ≤ n →
+      z.width ≤ n → n ≤ length s
       → Leads R w m 0 (at_point head s) (Forked R w (at_point head s) y z (take head.width s)) o
       → Executes m h (at_point y s) n k c z c body
-      → ((t : State) → n ≤ length t → Leads R w m h (at_point c t) (Turning (at_point c t) n head z B K) (rest t))
-      → Leads R w m h (at_point head s) (Turned (at_point head s) n head z B K) (on_value o (λ x. if is_zero x then Value (Ends (Next s)) else on_value body (after_body rest)))
-  while_runs m h n k head y c z B K s (Value x) body rest below same fits_y fits_z enough fork inner each = go (is_zero x) fork
+      → ((t : State) → n ≤ length t → Leads R w m h (at_point c t)
+      (Turning (at_point c t) n head z B K) (rest t))
+      → Leads R w m h (at_point head s) (Turned (at_point head s) n head z B K)
+      (on_value o (λ x. if is_zero x then Value (Ends (Next s)) else
+      on_value body (after_body rest)))
+  while_runs m h n k head y c z B K s (Value x) body rest below same fits_y fits_z enough fork inner
+      each =
+      go (is_zero x) fork
     where
-      go : (t : Bool) → Branch t (RunsOn R w (at_point head s) (at_point z (take head.width s))) (RunsOn R w (at_point head s) (at_point y (take head.width s)))
-          → Leads R w m h (at_point head s) (Turned (at_point head s) n head z B K) (if t then Value (Ends (Next s)) else on_value body (after_body rest))
-      go true there = (on-run R w (subst (RunsOn R w (at_point head s)) (jump_same head z s (omega (arith, same, fits_z))) there), enough)
+      go : (t : Bool) → Branch t (RunsOn R w (at_point head s) (at_point z (take head.width s)))
+          (RunsOn R w (at_point head s) (at_point y (take head.width s)))
+          → Leads R w m h (at_point head s) (Turned (at_point head s) n head z B K)
+          (if t then Value (Ends (Next s)) else on_value body (after_body rest))
+      go true there = (
+        on-run R w (subst (RunsOn R w (at_point head s))
+            (jump_same head z s (omega (arith, same, fits_z))) there),
+        enough,
+      )
       go false there =
-          let run = subst (RunsOn R w (at_point head s)) (jump_same head y s (omega (arith, same, fits_y))) there in
-          leads-after R w m h (at_point head s) (at_point y s) (Turning (at_point y s) n head z B K) (Turned (at_point head s) n head z B K) (on_value body (after_body rest)) (on-run R w run)
+          let run = subst (RunsOn R w (at_point head s))
+          (jump_same head y s (omega (arith, same, fits_y))) there in
+          leads-after R w m h (at_point head s) (at_point y s) (Turning (at_point y s) n head z B K)
+          (Turned (at_point head s) n head z B K) (on_value body (after_body rest))
+          (on-run R w run)
           (turned-on (at_point head s) (at_point y s) n head z B K run)
-          (after_body_runs (λ g. Turning g n head z B K) m h (at_point y s) n k c z body rest below (λ t run fits. (run, fits)) (λ x run. run) (λ middle run. turning-after (at_point y s) middle n head z B K run) inner each)
-  while_runs m h n k head y c z B K s DivisionError body rest below same fits_y fits_z enough there inner each = there
-  while_runs m h n k head y c z B K s More body rest below same fits_y fits_z enough there inner each = long-wider m 0 h (at_point head s) (omega arith) there
+          (after_body_runs (λ g. Turning g n head z B K) m h (at_point y s) n k c z body rest below
+          (λ t run fits. (run, fits)) (λ x run. run)
+          (λ middle run. turning-after (at_point y s) middle n head z B K run) inner each)
+  while_runs m h n k head y c z B K s DivisionError body rest below same fits_y fits_z enough there
+      inner each =
+      there
+  while_runs m h n k head y c z B K s More body rest below same fits_y fits_z enough there inner
+      each =
+      long-wider m 0 h (at_point head s) (omega arith) there
 
   -- a turn of a `do`
-  do_runs : (m h n k : ℕ) (head c z B K : Point) (s : State) (o : State → Outcome ℤ) (body : Outcome Flow) → n ≤ k → c.width ≡ n → head.width ≤ n → z.width ≤ n
+  do_runs : (m h n k : ℕ) (head c z B K : Point) (s : State) (o : State → Outcome ℤ)
+      (body : Outcome Flow) → n ≤ k → c.width ≡ n → head.width ≤ n → z.width ≤ n
       → Executes m h (at_point head s) n k c z c body
-      → ((t : State) → n ≤ length t → Leads R w m 0 (at_point c t) (Forked R w (at_point c t) head z (take c.width t)) (o t))
+      → ((t : State) → n ≤ length t → Leads R w m 0 (at_point c t)
+      (Forked R w (at_point c t) head z (take c.width t)) (o t))
       → Leads R w m h (at_point head s) (Turned (at_point head s) n head z B K)
-      (on_value body (after_body (λ t. on_value (o t) (λ x. if is_zero x then Value (Ends (Next t)) else Value (Again t)))))
+      (on_value body (after_body (λ t. on_value (o t)
+      (λ x. if is_zero x then Value (Ends (Next t)) else Value (Again t)))))
   do_runs m h n k head c z B K s o body below same fits_h fits_z inner each =
-      after_body_runs (λ g. Turned g n head z B K) m h (at_point head s) n k c z body (λ t. on_value (o t) (λ x. if is_zero x then Value (Ends (Next t)) else Value (Again t))) below
-      (λ t run fits. (run, fits)) (λ x run. run) (λ middle run. turned-after (at_point head s) middle n head z B K run) inner (λ t enough. test t enough (o t) (each t enough))
+      after_body_runs (λ g. Turned g n head z B K) m h (at_point head s) n k c z body
+      (λ t. on_value (o t) (λ x. if is_zero x then Value (Ends (Next t)) else Value (Again t)))
+      below
+      (λ t run fits. (run, fits)) (λ x run. run)
+      (λ middle run. turned-after (at_point head s) middle n head z B K run) inner
+      (λ t enough. test t enough (o t) (each t enough))
     where
-      test : (t : State) → n ≤ length t → (o : Outcome ℤ) → Leads R w m 0 (at_point c t) (Forked R w (at_point c t) head z (take c.width t)) o
-          → Leads R w m h (at_point c t) (Turned (at_point c t) n head z B K) (on_value o (λ x. if is_zero x then Value (Ends (Next t)) else Value (Again t)))
+      test : (t : State) → n ≤ length t → (o : Outcome ℤ) →
+          Leads R w m 0 (at_point c t) (Forked R w (at_point c t) head z (take c.width t)) o
+          → Leads R w m h (at_point c t) (Turned (at_point c t) n head z B K)
+          (on_value o (λ x. if is_zero x then Value (Ends (Next t)) else Value (Again t)))
       test t enough (Value x) fork = go (is_zero x) fork
         where
-          go : (b : Bool) → Branch b (RunsOn R w (at_point c t) (at_point z (take c.width t))) (RunsOn R w (at_point c t) (at_point head (take c.width t)))
-              → Leads R w m h (at_point c t) (Turned (at_point c t) n head z B K) (if b then Value (Ends (Next t)) else Value (Again t))
-          go true there = (on-run R w (subst (RunsOn R w (at_point c t)) (jump_same c z t (omega (arith, same, fits_z))) there), enough)
-          go false there = (subst (RunsOn R w (at_point c t)) (jump_same c head t (omega (arith, same, fits_h))) there, enough)
+          go : (b : Bool) → Branch b (RunsOn R w (at_point c t) (at_point z (take c.width t)))
+              (RunsOn R w (at_point c t) (at_point head (take c.width t)))
+              → Leads R w m h (at_point c t) (Turned (at_point c t) n head z B K)
+              (if b then Value (Ends (Next t)) else Value (Again t))
+          go true there = (
+            on-run R w (subst (RunsOn R w (at_point c t))
+                (jump_same c z t (omega (arith, same, fits_z))) there),
+            enough,
+          )
+          go false there = (
+            subst (RunsOn R w (at_point c t)) (jump_same c head t (omega (arith, same, fits_h)))
+                there,
+            enough,
+          )
       test t enough DivisionError there = there
       test t enough More there = long-wider m 0 h (at_point c t) (omega arith) there
 
   -- the last part of a `for`
-  changes : (m h n k : ℕ) (c head z B K : Point) (t : State) (o : Outcome Flow) → n ≤ k → Executes m h (at_point c t) n k head B K o → Leads R w m h (at_point c t) (Turning (at_point c t) n head z B K) (on_value o after_change)
-  changes m h n k c head z B K t (Value (Next s)) below there = (there.0, let e = there.1 in omega (arith, e, below))
+  changes : (m h n k : ℕ) (c head z B K : Point) (t : State) (o : Outcome Flow) → n ≤ k →
+      Executes m h (at_point c t) n k head B K o →
+      Leads R w m h (at_point c t) (Turning (at_point c t) n head z B K) (on_value o after_change)
+  changes m h n k c head z B K t (Value (Next s)) below there =
+      (there.0, let e = there.1 in omega (arith, e, below))
   changes m h n k c head z B K t (Value (Break s)) below there = there
   changes m h n k c head z B K t (Value (Continue s)) below there = there
   changes m h n k c head z B K t (Value (Return x)) below there = there
@@ -314,7 +457,8 @@ module _ (R : Relation) (entry : ℕ → ℕ) (acts : Actions) (callable : ℕ �
   changes m h n k c head z B K t More below there = there
 
   -- a statement gives no slots back
-  at_least_slots : (n k : ℕ) (t : Stmt) (a z B K : Point) → IsStatement acts callable n t k a z B K → n ≤ k
+  at_least_slots : (n k : ℕ) (t : Stmt) (a z B K : Point) →
+      IsStatement acts callable n t k a z B K → n ≤ k
   at_least_slots n k t a z B K (code.empty _ _ _ _ _ _ _) = omega arith
   at_least_slots n k t a z B K (code.unset _ _ _ _ _ _ _) = omega arith
   at_least_slots n k t a z B K (code.declared _ _ _ _ _ _ _ _ _ _ _) = omega arith
@@ -323,7 +467,8 @@ module _ (R : Relation) (entry : ℕ → ℕ) (acts : Actions) (callable : ℕ �
   at_least_slots n k t a z B K (code.if_else _ _ _ _ _ _ _ _ _ _ _ _ _ _ _ _ _ _) = omega arith
   at_least_slots n k t a z B K (code.while_loop _ _ _ _ _ _ _ _ _ _ _ _ _) = omega arith
   at_least_slots n k t a z B K (code.do_loop _ _ _ _ _ _ _ _ _ _ _ _ _) = omega arith
-  at_least_slots n k t a z B K (code.for_loop _ _ _ _ _ _ _ _ _ _ _ _ _ _ _ _ _ _ _ _ _ _) = omega arith
+  at_least_slots n k t a z B K (code.for_loop _ _ _ _ _ _ _ _ _ _ _ _ _ _ _ _ _ _ _ _ _ _) =
+      omega arith
   at_least_slots n k t a z B K (code.break_out _ _ _ _ _ _ _) = omega arith
   at_least_slots n k t a z B K (code.go_on _ _ _ _ _ _ _) = omega arith
   at_least_slots n k t a z B K (code.returned _ _ _ _ _ _ _ _ _ _) = omega arith
@@ -334,50 +479,82 @@ module _ (R : Relation) (entry : ℕ → ℕ) (acts : Actions) (callable : ℕ �
     pub breaks : B.width ≤ n
     pub continues : K.width ≤ n
 
-  sets_next : (m h n v k : ℕ) (a b z B K : Point) (s : State) (p : Body) (o : Outcome ℤ) (next : ℤ → State) → acts b (Set v p z) → a.width ≡ n → n ≤ length s → v ≤ n → z.width ≤ suc n
-      → (z.width ≤ n) ⊎ (v ≡ n) → ((x : ℤ) → take z.width (with_element v x (take n s)) ≡ take z.width (next x)) → ((x : ℤ) → k ≤ length (next x))
-      → Leads R w m 0 (at_point a s) (Comes R w a b (take a.width s) p) o → Executes m h (at_point a s) n k z B K (on_value o (λ x. Value (Next (next x))))
-  sets_next m h n v k a b z B K s p (Value x) next act same enough below fits wide is long come =
-      (subst (Runs R w (at_point a s)) (ap (stack.Call z.symbol) (is x)) (sets n v a b z s p x act same enough below fits wide come), long x)
-  sets_next m h n v k a b z B K s p DivisionError next act same enough below fits wide is long there = there
-  sets_next m h n v k a b z B K s p More next act same enough below fits wide is long there = long-wider m 0 h (at_point a s) (omega arith) there
+  sets_next : (m h n v k : ℕ) (a b z B K : Point) (s : State) (p : Body) (o : Outcome ℤ)
+      (next : ℤ → State) → acts b (Set v p z) → a.width ≡ n → n ≤ length s → v ≤ n → z.width ≤ suc n
+      → (z.width ≤ n) ⊎ (v ≡ n) → ((x : ℤ) → take z.width (with_element v x (take n s)) ≡
+      take z.width (next x)) → ((x : ℤ) → k ≤ length (next x))
+      → Leads R w m 0 (at_point a s) (Comes R w a b (take a.width s) p) o →
+      Executes m h (at_point a s) n k z B K (on_value o (λ x. Value (Next (next x))))
+  sets_next m h n v k a b z B K s p (Value x) next act same enough below fits wide is long come = (
+    subst (Runs R w (at_point a s)) (ap (stack.Call z.symbol) (is x))
+        (sets n v a b z s p x act same enough below fits wide come),
+    long x,
+  )
+  sets_next m h n v k a b z B K s p DivisionError next act same enough below fits wide is long there
+      =
+      there
+  sets_next m h n v k a b z B K s p More next act same enough below fits wide is long there =
+      long-wider m 0 h (at_point a s) (omega arith) there
 
-  returns_value : (m h n : ℕ) (a b z B K : Point) (s : State) (p : Body) (o : Outcome ℤ) → acts b (does_at.Return p) → Leads R w m 0 (at_point a s) (Comes R w a b (take a.width s) p) o
+  returns_value : (m h n : ℕ) (a b z B K : Point) (s : State) (p : Body) (o : Outcome ℤ) →
+      acts b (does_at.Return p) → Leads R w m 0 (at_point a s) (Comes R w a b (take a.width s) p) o
       → Executes m h (at_point a s) n n z B K (on_value o (λ x. Value (Return x)))
   returns_value m h n a b z B K s p (Value x) act come =
       let ys = take a.width s ++ come.more in
-      let is : value (assigned ys) p ≡ x = ap (λ l. value (assigned l) p) (sym (append-nil ys)) ∙ come.stands [] in
-      run-trans R w come.run (on-run R w (run-step R w (subst (λ k. Step R (stack.Call b.symbol ys) (stack.Ret k)) is (does b (does_at.Return p) act ys come.long))))
+      let is : value (assigned ys) p ≡ x = ap (λ l. value (assigned l) p) (sym (append-nil ys)) ∙
+      come.stands [] in
+      run-trans R w come.run (on-run R w (run-step R w
+      (subst (λ k. Step R (stack.Call b.symbol ys) (stack.Ret k)) is
+      (does b (does_at.Return p) act ys come.long))))
   returns_value m h n a b z B K s p DivisionError act there = there
-  returns_value m h n a b z B K s p More act there = long-wider m 0 h (at_point a s) (omega arith) there
+  returns_value m h n a b z B K s p More act there =
+      long-wider m 0 h (at_point a s) (omega arith) there
 
   targets-wider : (n k : ℕ) (B K : Point) → n ≤ k → Targets n B K → Targets k B K
-  targets-wider n k B K below targets = record { breaks = let e = targets.breaks in omega (arith, e, below); continues = let e = targets.continues in omega (arith, e, below) }
+  targets-wider n k B K below targets =
+      record {
+        breaks = let e = targets.breaks in omega (arith, e, below);
+        continues = let e =
+            targets.continues in omega (arith, e, below);
+      }
 
-  condition_is : (test : Option Expr) (r : Rounds) (s : State) → condition test r s ≡ expr (calls_with r) (test_or_one test) s
+  condition_is : (test : Option Expr) (r : Rounds) (s : State) → condition test r s ≡
+      expr (calls_with r) (test_or_one test) s
   condition_is None r s = sym (means.expr-Lit (calls_with r) (pos 1) s)
   condition_is (Some e) r s = refl
 
-  flowed-outer : (start : Ground) (n i k : ℕ) (z B K : Point) → n ≤ i → (f : Flow) → Flowed start i k z B K f → Flowed start n k z B K f
+  flowed-outer : (start : Ground) (n i k : ℕ) (z B K : Point) → n ≤ i → (f : Flow) →
+      Flowed start i k z B K f → Flowed start n k z B K f
   flowed-outer start n i k z B K below (Next s) there = there
-  flowed-outer start n i k z B K below (Break s) there = (there.0, let e = there.1 in omega (arith, e, below))
-  flowed-outer start n i k z B K below (Continue s) there = (there.0, let e = there.1 in omega (arith, e, below))
+  flowed-outer start n i k z B K below (Break s) there =
+      (there.0, let e = there.1 in omega (arith, e, below))
+  flowed-outer start n i k z B K below (Continue s) there =
+      (there.0, let e = there.1 in omega (arith, e, below))
   flowed-outer start n i k z B K below (Return x) there = there
 
-  executes-outer : (m h : ℕ) (start : Ground) (n i k : ℕ) (z B K : Point) (o : Outcome Flow) → n ≤ i → Executes m h start i k z B K o → Executes m h start n k z B K o
-  executes-outer m h start n i k z B K o below there = leads-after R w m h start start (Flowed start i k z B K) (Flowed start n k z B K) o (run-none R w start) (flowed-outer start n i k z B K below) there
+  executes-outer : (m h : ℕ) (start : Ground) (n i k : ℕ) (z B K : Point) (o : Outcome Flow) → n ≤
+      i → Executes m h start i k z B K o → Executes m h start n k z B K o
+  executes-outer m h start n i k z B K o below there =
+      leads-after R w m h start start (Flowed start i k z B K) (Flowed start n k z B K) o
+      (run-none R w start) (flowed-outer start n i k z B K below) there
 
   -- the change's point is as wide as the head
-  change_width : (i : ℕ) (change : Option Stmt) (c h B K : Point) → h.width ≡ i → IsChange acts callable i change c h B K → c.width ≤ i
+  change_width : (i : ℕ) (change : Option Stmt) (c h B K : Point) → h.width ≡ i →
+      IsChange acts callable i change c h B K → c.width ≤ i
   change_width i change c h B K wide (code.no_change _ _ _ _) = omega (arith, wide)
   change_width i change c h B K wide (code.some_change _ _ _ _ _ _ _ same _) = omega (arith, same)
 
-  for_count : (first : List Stmt) (test : Option Expr) (change : Option Stmt) (u : Stmt) → loops (Syntax.For first test change u) ≡ total (map loops first) + suc (loops u + of_part (option_map loops change))
+  for_count : (first : List Stmt) (test : Option Expr) (change : Option Stmt) (u : Stmt) →
+      loops (Syntax.For first test change u) ≡ total (map loops first) +
+      suc (loops u + of_part (option_map loops change))
   for_count first test None u = count.loops-For-None first test u
   for_count first test (Some c) u = count.loops-For-Some first test c u
 
-  for_is : (first : List Stmt) (test : Option Expr) (change : Option Stmt) (u : Stmt) (r : Rounds) (s : State) → stmt (Syntax.For first test change u) r s
-      ≡ on_value (on_value (in_order (map stmt first) r s) (on_next (loop (while_turn test (optional (option_map stmt change)) (stmt u)) r))) (leave (length s))
+  for_is : (first : List Stmt) (test : Option Expr) (change : Option Stmt) (u : Stmt) (r : Rounds)
+      (s : State) → stmt (Syntax.For first test change u) r s
+      ≡ on_value (on_value (in_order (map stmt first) r s)
+      (on_next (loop (while_turn test (optional (option_map stmt change)) (stmt u)) r)))
+      (leave (length s))
   for_is first test None u r s = means.stmt-For-None first test u r s
   for_is first test (Some c) u r s = means.stmt-For-Some first test c u r s
 
@@ -391,113 +568,207 @@ module _ (R : Relation) (entry : ℕ → ℕ) (acts : Actions) (callable : ℕ �
 
   mutual
     -- the code of a statement leads where the statement does
-    pub statement_runs : (n : ℕ) (t : Stmt) (k : ℕ) (a z B K : Point) → IsStatement acts callable n t k a z B K → Targets n B K → (r : Rounds) (m : ℕ) → Fine r m → (s : State)
+    pub statement_runs : (n : ℕ) (t : Stmt) (k : ℕ) (a z B K : Point) →
+        IsStatement acts callable n t k a z B K → Targets n B K → (r : Rounds) (m : ℕ) → Fine r m →
+        (s : State)
         → a.width ≡ n → n ≤ length s → Executes m (loops t) (at_point a s) n k z B K (stmt t r s)
     statement_runs n t k a z B K (code.empty _ _ _ _ _ act fits) targets r m fine s same enough =
-        subst (Executes m (loops t) (at_point a s) n n z B K) (sym (means.stmt-Empty r s)) (goes a z s n act same enough fits, enough)
+        subst (Executes m (loops t) (at_point a s) n n z B K) (sym (means.stmt-Empty r s))
+        (goes a z s n act same enough fits, enough)
     statement_runs n t k a z B K (code.unset _ _ _ _ _ act fits) targets r m fine s same enough =
-        subst (Executes m (loops t) (at_point a s) n (suc n) z B K) (sym (means.stmt-Declare-None n r s))
-        (sets_next m (loops t) n n (suc n) a a z B K s (number (pos 0)) (Value (pos 0)) (λ x. take n s ++ x ∷ []) act same enough (omega arith) fits (inr refl)
-        (λ x. ap (take z.width) (with_element-end-is n x s enough)) (λ x. let e = length-append (take n s) (x ∷ []) in let g = length-take-le n s enough in omega (arith, e, g))
+        subst (Executes m (loops t) (at_point a s) n (suc n) z B K)
+        (sym (means.stmt-Declare-None n r s))
+        (sets_next m (loops t) n n (suc n) a a z B K s (number (pos 0)) (Value (pos 0))
+        (λ x. take n s ++ x ∷ []) act same enough (omega arith) fits (inr refl)
+        (λ x. ap (take z.width) (with_element-end-is n x s enough))
+        (λ x. let e = length-append (take n s) (x ∷ []) in let g = length-take-le n s enough in
+        omega (arith, e, g))
         (record {
           more = [];
-          run = subst (λ l. Runs R w (stack.Call a.symbol (take a.width s)) (stack.Call a.symbol l)) (sym (append-nil (take a.width s))) (run-none R w (at_point a s));
+          run =
+              subst (λ l. Runs R w (stack.Call a.symbol (take a.width s)) (stack.Call a.symbol l))
+              (sym (append-nil (take a.width s))) (run-none R w (at_point a s));
           long = ap length (append-nil (take a.width s)) ∙ long_state n a s same enough;
           stands = λ zs. value-number (assigned ((take a.width s ++ []) ++ zs)) (pos 0);
         }))
-    statement_runs n t k a z B K (code.declared _ e _ b _ _ _ p inner act fits) targets r m fine s same enough =
-        subst (Executes m (loops t) (at_point a s) n (suc n) z B K) (sym (means.stmt-Declare-Some n e r s))
-        (sets_next m (loops t) n n (suc n) a b z B K s p (expr (calls_with r) e s) (λ x. take n s ++ x ∷ []) act same enough (omega arith) fits (inr refl)
-        (λ x. ap (take z.width) (with_element-end-is n x s enough)) (λ x. let e = length-append (take n s) (x ∷ []) in let g = length-take-le n s enough in omega (arith, e, g))
+    statement_runs n t k a z B K (code.declared _ e _ b _ _ _ p inner act fits) targets r m fine s
+        same enough =
+        subst (Executes m (loops t) (at_point a s) n (suc n) z B K)
+        (sym (means.stmt-Declare-Some n e r s))
+        (sets_next m (loops t) n n (suc n) a b z B K s p (expr (calls_with r) e s)
+        (λ x. take n s ++ x ∷ []) act same enough (omega arith) fits (inr refl)
+        (λ x. ap (take z.width) (with_element-end-is n x s enough))
+        (λ x. let e = length-append (take n s) (x ∷ []) in let g = length-take-le n s enough in
+        omega (arith, e, g))
         (evaluates r m fine n e a b p inner s same enough))
-    statement_runs n t k a z B K (code.assigned_to _ v e _ b _ _ _ p below inner act fits) targets r m fine s same enough =
+    statement_runs n t k a z B K (code.assigned_to _ v e _ b _ _ _ p below inner act fits) targets r
+        m fine s same enough =
         subst (Executes m (loops t) (at_point a s) n n z B K) (sym (means.stmt-Assign v e r s))
-        (sets_next m (loops t) n v n a b z B K s p (expr (calls_with r) e s) (λ x. slice_set s v x) act same enough (omega (arith, below)) (omega (arith, fits)) (inl fits)
-        (λ x. take-with_element-set z.width n v x s below fits enough) (λ x. let e = length-set s v x in omega (arith, e, enough))
+        (sets_next m (loops t) n v n a b z B K s p (expr (calls_with r) e s) (λ x. slice_set s v x)
+        act same enough (omega (arith, below)) (omega (arith, fits)) (inl fits)
+        (λ x. take-with_element-set z.width n v x s below fits enough)
+        (λ x. let e = length-set s v x in omega (arith, e, enough))
         (evaluates r m fine n e a b p inner s same enough))
-    statement_runs n t k a z B K (code.if_alone _ l e u _ y _ _ _ fits_y fits_z test inner) targets r m fine s same enough =
+    statement_runs n t k a z B K (code.if_alone _ l e u _ y _ _ _ fits_y fits_z test inner) targets
+        r m fine s same enough =
         subst (Executes m (loops t) (at_point a s) n n z B K) (sym (means.stmt-If-None e u r s))
-        (branches m (loops t) n a y z z B K s n (expr (calls_with r) e s) (stmt u r s) (Value (Next s)) same (omega (arith, fits_y)) fits_z (decides r m fine n e a y z test s same enough)
-        (leads-wider m (loops u) (loops t) (at_point y s) (Flowed (at_point y s) n n z B K) (stmt u r s) (let q = count.loops-If-None e u in omega (arith, q))
-        (executes-fewer m (loops u) (at_point y s) n l n z B K (stmt u r s) (at_least_slots n l u y z B K inner) (statement_runs n u l y z B K inner targets r m fine s fits_y enough)))
+        (branches m (loops t) n a y z z B K s n (expr (calls_with r) e s) (stmt u r s)
+        (Value (Next s)) same (omega (arith, fits_y)) fits_z
+        (decides r m fine n e a y z test s same enough)
+        (leads-wider m (loops u) (loops t) (at_point y s) (Flowed (at_point y s) n n z B K)
+        (stmt u r s) (let q = count.loops-If-None e u in omega (arith, q))
+        (executes-fewer m (loops u) (at_point y s) n l n z B K (stmt u r s)
+        (at_least_slots n l u y z B K inner)
+        (statement_runs n u l y z B K inner targets r m fine s fits_y enough)))
         (run-none R w (at_point z s), enough))
-    statement_runs n t k a z B K (code.if_else _ l l' e u v _ y x _ _ _ fits_y fits_x fits_z test inner other) targets r m fine s same enough =
+    statement_runs n t k a z B K (code.if_else _ l l' e u v _ y x _ _ _ fits_y fits_x fits_z test
+        inner other) targets r m fine s same enough =
         subst (Executes m (loops t) (at_point a s) n n z B K) (sym (means.stmt-If-Some e u v r s))
-        (branches m (loops t) n a y x z B K s n (expr (calls_with r) e s) (stmt u r s) (stmt v r s) same (omega (arith, fits_y)) (omega (arith, fits_x)) (decides r m fine n e a y x test s same enough)
-        (leads-wider m (loops u) (loops t) (at_point y s) (Flowed (at_point y s) n n z B K) (stmt u r s) (let q = count.loops-If-Some e u v in omega (arith, q))
-        (executes-fewer m (loops u) (at_point y s) n l n z B K (stmt u r s) (at_least_slots n l u y z B K inner) (statement_runs n u l y z B K inner targets r m fine s fits_y enough)))
-        (leads-wider m (loops v) (loops t) (at_point x s) (Flowed (at_point x s) n n z B K) (stmt v r s) (let q = count.loops-If-Some e u v in omega (arith, q))
-        (executes-fewer m (loops v) (at_point x s) n l' n z B K (stmt v r s) (at_least_slots n l' v x z B K other) (statement_runs n v l' x z B K other targets r m fine s fits_x enough))))
-    statement_runs n t k a z B K (code.while_loop _ l e u _ y _ _ _ fits_y fits_z test inner) targets r m fine s same enough =
+        (branches m (loops t) n a y x z B K s n (expr (calls_with r) e s) (stmt u r s) (stmt v r s)
+        same (omega (arith, fits_y)) (omega (arith, fits_x))
+        (decides r m fine n e a y x test s same enough)
+        (leads-wider m (loops u) (loops t) (at_point y s) (Flowed (at_point y s) n n z B K)
+        (stmt u r s) (let q = count.loops-If-Some e u v in omega (arith, q))
+        (executes-fewer m (loops u) (at_point y s) n l n z B K (stmt u r s)
+        (at_least_slots n l u y z B K inner)
+        (statement_runs n u l y z B K inner targets r m fine s fits_y enough)))
+        (leads-wider m (loops v) (loops t) (at_point x s) (Flowed (at_point x s) n n z B K)
+        (stmt v r s) (let q = count.loops-If-Some e u v in omega (arith, q))
+        (executes-fewer m (loops v) (at_point x s) n l' n z B K (stmt v r s)
+        (at_least_slots n l' v x z B K other)
+        (statement_runs n v l' x z B K other targets r m fine s fits_x enough))))
+    statement_runs n t k a z B K (code.while_loop _ l e u _ y _ _ _ fits_y fits_z test inner)
+        targets r m fine s same enough =
         subst (Executes m (loops t) (at_point a s) n n z B K) (sym (means.stmt-While e u r s))
-        (subst (λ h. Executes m h (at_point a s) n n z B K (loop (while_turn (Some e) (optional None) (stmt u)) r s)) (sym (count.loops-While e u))
-        (loops_run n (loops u) a z B K (while_turn (Some e) (optional None) (stmt u)) (λ r' m' fine' s' enough'.
-        while_runs m' (loops u) n l a y a z B K s' (expr (calls_with r') e s') (stmt u r' s') (λ c. on_value (optional None r' c) after_change) (at_least_slots n l u y a z a inner) same (omega (arith, fits_y)) fits_z enough'
+        (subst (λ h. Executes m h (at_point a s) n n z B K
+        (loop (while_turn (Some e) (optional None) (stmt u)) r s)) (sym (count.loops-While e u))
+        (loops_run n (loops u) a z B K (while_turn (Some e) (optional None) (stmt u))
+        (λ r' m' fine' s' enough'.
+        while_runs m' (loops u) n l a y a z B K s' (expr (calls_with r') e s') (stmt u r' s')
+        (λ c. on_value (optional None r' c) after_change) (at_least_slots n l u y a z a inner)
+        same (omega (arith, fits_y)) fits_z enough'
         (decides r' m' fine' n e a y z test s' same enough')
-        (statement_runs n u l y a z a inner (record { breaks = fits_z; continues = omega (arith, same) }) r' m' fine' s' fits_y enough')
+        (statement_runs n u l y a z a inner (record
+        { breaks = fits_z; continues = omega (arith, same) }) r' m' fine' s' fits_y enough')
         (λ c enough_c. (run-none R w (at_point a c), enough_c))) r m fine s enough))
-    statement_runs n t k a z B K (code.do_loop _ l e u _ c _ _ _ fits_c fits_z inner test) targets r m fine s same enough =
+    statement_runs n t k a z B K (code.do_loop _ l e u _ c _ _ _ fits_c fits_z inner test) targets r
+        m fine s same enough =
         subst (Executes m (loops t) (at_point a s) n n z B K) (sym (means.stmt-DoWhile u e r s))
-        (subst (λ h. Executes m h (at_point a s) n n z B K (loop (do_turn e (stmt u)) r s)) (sym (count.loops-DoWhile u e))
+        (subst (λ h. Executes m h (at_point a s) n n z B K (loop (do_turn e (stmt u)) r s))
+        (sym (count.loops-DoWhile u e))
         (loops_run n (loops u) a z B K (do_turn e (stmt u)) (λ r' m' fine' s' enough'.
-        do_runs m' (loops u) n l a c z B K s' (λ c'. expr (calls_with r') e c') (stmt u r' s') (at_least_slots n l u a c z c inner) fits_c (omega (arith, same)) fits_z
-        (statement_runs n u l a c z c inner (record { breaks = fits_z; continues = omega (arith, fits_c) }) r' m' fine' s' same enough')
+        do_runs m' (loops u) n l a c z B K s' (λ c'. expr (calls_with r') e c') (stmt u r' s')
+        (at_least_slots n l u a c z c inner) fits_c (omega (arith, same)) fits_z
+        (statement_runs n u l a c z c inner (record
+        { breaks = fits_z; continues = omega (arith, fits_c) }) r' m' fine' s' same enough')
         (λ c' enough_c. decides r' m' fine' n e c a z test c' fits_c enough_c)) r m fine s enough))
-    statement_runs n t k a z B K (code.for_loop _ i l first test change u _ h y c _ _ _ below wide fits_y fits_z begun test_code inner changed) targets r m fine s same enough =
+    statement_runs n t k a z B K (code.for_loop _ i l first test change u _ h y c _ _ _ below wide
+        fits_y fits_z begun test_code inner changed) targets r m fine s same enough =
         let g = loops u + of_part (option_map loops change) in
         let whole = total (map loops first) + suc g in
         let turn = while_turn test (optional (option_map stmt change)) (stmt u) in
         subst (Executes m (loops t) (at_point a s) n n z B K) (sym (for_is first test change u r s))
-        (subst (λ q. Executes m q (at_point a s) n n z B K (on_value (on_value (in_order (map stmt first) r s) (on_next (loop turn r))) (leave (length s)))) (sym (for_count first test change u))
-        (leaves m whole (at_point a s) n i (length s) z B K below enough fits_z targets.breaks targets.continues (on_value (in_order (map stmt first) r s) (on_next (loop turn r)))
-        (nexts m whole (at_point a s) n i i h z B K (in_order (map stmt first) r s) (loop turn r) below
+        (subst (λ q. Executes m q (at_point a s) n n z B K
+        (on_value (on_value (in_order (map stmt first) r s) (on_next (loop turn r)))
+        (leave (length s)))) (sym (for_count first test change u))
+        (leaves m whole (at_point a s) n i (length s) z B K below enough fits_z targets.breaks
+        targets.continues (on_value (in_order (map stmt first) r s) (on_next (loop turn r)))
+        (nexts m whole (at_point a s) n i i h z B K (in_order (map stmt first) r s) (loop turn r)
+        below
         (begun_runs n first i a h B K g begun targets r m fine s same enough)
-        (λ s1 enough1. leads-wider m (suc g) whole (at_point h s1) (Flowed (at_point h s1) i i z B K) (loop turn r s1) (omega arith)
+        (λ s1 enough1. leads-wider m (suc g) whole (at_point h s1)
+        (Flowed (at_point h s1) i i z B K) (loop turn r s1) (omega arith)
         (loops_run i g h z B K turn (λ r' m' fine' s' enough'.
-        subst (λ o. Leads R w m' g (at_point h s') (Turned (at_point h s') i h z B K) (on_value o (λ x. if is_zero x then Value (Ends (Next s')) else on_value (stmt u r' s') (after_body (λ t'. on_value (optional (option_map stmt change) r' t') after_change)))))
+        subst (λ o. Leads R w m' g (at_point h s') (Turned (at_point h s') i h z B K)
+        (on_value o (λ x. if is_zero x then Value (Ends (Next s')) else
+        on_value (stmt u r' s') (after_body
+        (λ t'. on_value (optional (option_map stmt change) r' t') after_change)))))
         (sym (condition_is test r' s'))
-        (while_runs m' g i l h y c z B K s' (expr (calls_with r') (test_or_one test) s') (stmt u r' s') (λ t'. on_value (optional (option_map stmt change) r' t') after_change)
-        (at_least_slots i l u y c z c inner) wide (omega (arith, fits_y)) (omega (arith, fits_z, below)) enough'
+        (while_runs m' g i l h y c z B K s' (expr (calls_with r') (test_or_one test) s')
+        (stmt u r' s') (λ t'. on_value (optional (option_map stmt change) r' t') after_change)
+        (at_least_slots i l u y c z c inner) wide (omega (arith, fits_y))
+        (omega (arith, fits_z, below)) enough'
         (decides r' m' fine' i (test_or_one test) h y z test_code s' wide enough')
-        (leads-wider m' (loops u) g (at_point y s') (Flowed (at_point y s') i l c z c) (stmt u r' s') (omega arith)
-        (statement_runs i u l y c z c inner (record { breaks = omega (arith, fits_z, below); continues = change_width i change c h B K wide changed }) r' m' fine' s' fits_y enough'))
-        (λ t' enough_t. change_runs i change c h z B K (loops u) changed (targets-wider n i B K below targets) r' m' fine' t' enough_t))) r m fine s1 enough1)))))
-    statement_runs n t k a z B K (code.break_out _ token _ _ _ _ act) targets r m fine s same enough =
-        subst (Executes m (loops t) (at_point a s) n n z B K) (sym (means.stmt-Break token r s)) (goes a B s n act same enough targets.breaks, enough)
+        (leads-wider m' (loops u) g (at_point y s') (Flowed (at_point y s') i l c z c)
+        (stmt u r' s') (omega arith)
+        (statement_runs i u l y c z c inner (record {
+          breaks = omega (arith, fits_z, below);
+          continues =
+              change_width i change c h B K wide changed;
+        }) r' m' fine' s' fits_y enough'))
+        (λ t' enough_t. change_runs i change c h z B K (loops u) changed
+        (targets-wider n i B K below targets) r' m' fine' t' enough_t))) r m fine s1
+        enough1)))))
+    statement_runs n t k a z B K (code.break_out _ token _ _ _ _ act) targets r m fine s same enough
+        =
+        subst (Executes m (loops t) (at_point a s) n n z B K) (sym (means.stmt-Break token r s))
+        (goes a B s n act same enough targets.breaks, enough)
     statement_runs n t k a z B K (code.go_on _ token _ _ _ _ act) targets r m fine s same enough =
-        subst (Executes m (loops t) (at_point a s) n n z B K) (sym (means.stmt-Continue token r s)) (goes a K s n act same enough targets.continues, enough)
-    statement_runs n t k a z B K (code.returned _ e _ b _ _ _ p inner act) targets r m fine s same enough =
+        subst (Executes m (loops t) (at_point a s) n n z B K) (sym (means.stmt-Continue token r s))
+        (goes a K s n act same enough targets.continues, enough)
+    statement_runs n t k a z B K (code.returned _ e _ b _ _ _ p inner act) targets r m fine s same
+        enough =
         subst (Executes m (loops t) (at_point a s) n n z B K) (sym (means.stmt-Return e r s))
-        (returns_value m (loops t) n a b z B K s p (expr (calls_with r) e s) act (evaluates r m fine n e a b p inner s same enough))
-    statement_runs n t k a z B K (code.block _ i ts _ _ _ _ below fits_z inner) targets r m fine s same enough =
+        (returns_value m (loops t) n a b z B K s p (expr (calls_with r) e s) act
+        (evaluates r m fine n e a b p inner s same enough))
+    statement_runs n t k a z B K (code.block _ i ts _ _ _ _ below fits_z inner) targets r m fine s
+        same enough =
         subst (Executes m (loops t) (at_point a s) n n z B K) (sym (means.stmt-Block ts r s))
-        (subst (λ h. Executes m h (at_point a s) n n z B K (on_value (in_order (map stmt ts) r s) (leave (length s)))) (sym (count.loops-Block ts))
-        (leaves m (total (map loops ts)) (at_point a s) n i (length s) z B K below enough fits_z targets.breaks targets.continues (in_order (map stmt ts) r s)
+        (subst (λ h. Executes m h (at_point a s) n n z B K
+        (on_value (in_order (map stmt ts) r s) (leave (length s)))) (sym (count.loops-Block ts))
+        (leaves m (total (map loops ts)) (at_point a s) n i (length s) z B K below enough fits_z
+        targets.breaks targets.continues (in_order (map stmt ts) r s)
         (list_runs n ts i a z B K inner targets r m fine s same enough)))
 
-    begun_runs : (n : ℕ) (first : List Stmt) (i : ℕ) (a h B K : Point) (g : ℕ) → IsBegun acts callable n first i a h B K → Targets n B K → (r : Rounds) (m : ℕ) → Fine r m → (s : State)
-        → a.width ≡ n → n ≤ length s → Executes m (total (map loops first) + suc g) (at_point a s) n i h B K (in_order (map stmt first) r s)
-    begun_runs n first i a h B K g (code.no_first _ _ _ _) targets r m fine s same enough = (run-none R w (at_point a s), enough)
-    begun_runs n first i a h B K g (code.some_first _ _ t ts _ _ _ _ inner) targets r m fine s same enough =
-        leads-wider m (total (map loops first)) (total (map loops first) + suc g) (at_point a s) (Flowed (at_point a s) n i h B K) (in_order (map stmt first) r s) (omega arith)
+    begun_runs : (n : ℕ) (first : List Stmt) (i : ℕ) (a h B K : Point) (g : ℕ) →
+        IsBegun acts callable n first i a h B K → Targets n B K → (r : Rounds) (m : ℕ) → Fine r m →
+        (s : State)
+        → a.width ≡ n → n ≤ length s → Executes m (total (map loops first) + suc g) (at_point a s) n
+        i h B K (in_order (map stmt first) r s)
+    begun_runs n first i a h B K g (code.no_first _ _ _ _) targets r m fine s same enough =
+        (run-none R w (at_point a s), enough)
+    begun_runs n first i a h B K g (code.some_first _ _ t ts _ _ _ _ inner) targets r m fine s same
+        enough =
+        leads-wider m (total (map loops first)) (total (map loops first) + suc g) (at_point a s)
+        (Flowed (at_point a s) n i h B K) (in_order (map stmt first) r s) (omega arith)
         (list_runs n (t ∷ ts) i a h B K inner targets r m fine s same enough)
 
-    change_runs : (i : ℕ) (change : Option Stmt) (c h z B K : Point) (u : ℕ) → IsChange acts callable i change c h B K → Targets i B K → (r : Rounds) (m : ℕ) → Fine r m → (t : State)
-        → i ≤ length t → Leads R w m (u + of_part (option_map loops change)) (at_point c t) (Turning (at_point c t) i h z B K) (on_value (optional (option_map stmt change) r t) after_change)
-    change_runs i change c h z B K u (code.no_change _ _ _ _) targets r m fine t enough = (run-none R w (at_point c t), enough)
-    change_runs i change c h z B K u (code.some_change _ l v _ _ _ _ same inner) targets r m fine t enough =
+    change_runs : (i : ℕ) (change : Option Stmt) (c h z B K : Point) (u : ℕ) →
+        IsChange acts callable i change c h B K → Targets i B K → (r : Rounds) (m : ℕ) → Fine r m →
+        (t : State)
+        → i ≤ length t → Leads R w m (u + of_part (option_map loops change)) (at_point c t)
+        (Turning (at_point c t) i h z B K)
+        (on_value (optional (option_map stmt change) r t) after_change)
+    change_runs i change c h z B K u (code.no_change _ _ _ _) targets r m fine t enough =
+        (run-none R w (at_point c t), enough)
+    change_runs i change c h z B K u (code.some_change _ l v _ _ _ _ same inner) targets r m fine t
+        enough =
         changes m (u + loops v) i l c h z B K t (stmt v r t) (at_least_slots i l v c h B K inner)
-        (leads-wider m (loops v) (u + loops v) (at_point c t) (Flowed (at_point c t) i l h B K) (stmt v r t) (omega arith) (statement_runs i v l c h B K inner targets r m fine t same enough))
+        (leads-wider m (loops v) (u + loops v) (at_point c t) (Flowed (at_point c t) i l h B K)
+        (stmt v r t) (omega arith) (statement_runs i v l c h B K inner targets r m fine t same
+        enough))
 
-    pub list_runs : (n : ℕ) (ts : List Stmt) (k : ℕ) (a z B K : Point) → IsList acts callable n ts k a z B K → Targets n B K → (r : Rounds) (m : ℕ) → Fine r m → (s : State)
-        → a.width ≡ n → n ≤ length s → Executes m (total (map loops ts)) (at_point a s) n k z B K (in_order (map stmt ts) r s)
-    list_runs n ts k a z B K (code.nothing _ _ _ _ _ act fits) targets r m fine s same enough = (goes a z s n act same enough fits, enough)
+    pub list_runs : (n : ℕ) (ts : List Stmt) (k : ℕ) (a z B K : Point) →
+        IsList acts callable n ts k a z B K → Targets n B K → (r : Rounds) (m : ℕ) → Fine r m →
+        (s : State)
+        → a.width ≡ n → n ≤ length s → Executes m (total (map loops ts)) (at_point a s) n k z B K
+        (in_order (map stmt ts) r s)
+    list_runs n ts k a z B K (code.nothing _ _ _ _ _ act fits) targets r m fine s same enough =
+        (goes a z s n act same enough fits, enough)
     list_runs n ts k a z B K (code.last _ _ t _ _ _ _ inner) targets r m fine s same enough =
         subst (Executes m (loops t + 0) (at_point a s) n k z B K) (sym (last_is (stmt t r s) r))
-        (leads-wider m (loops t) (loops t + 0) (at_point a s) (Flowed (at_point a s) n k z B K) (stmt t r s) (omega arith) (statement_runs n t k a z B K inner targets r m fine s same enough))
-    list_runs n ts k a z B K (code.more _ l _ t u us _ c _ _ _ below wide inner rest) targets r m fine s same enough =
-        nexts m (loops t + total (map loops (u ∷ us))) (at_point a s) n l k c z B K (stmt t r s) (in_order (map stmt (u ∷ us)) r) below
-        (leads-wider m (loops t) (loops t + total (map loops (u ∷ us))) (at_point a s) (Flowed (at_point a s) n l c B K) (stmt t r s) (omega arith)
+        (leads-wider m (loops t) (loops t + 0) (at_point a s) (Flowed (at_point a s) n k z B K)
+        (stmt t r s) (omega arith) (statement_runs n t k a z B K inner targets r m fine s same
+        enough))
+    list_runs n ts k a z B K (code.more _ l _ t u us _ c _ _ _ below wide inner rest) targets r m
+        fine s same enough =
+        nexts m (loops t + total (map loops (u ∷ us))) (at_point a s) n l k c z B K (stmt t r s)
+        (in_order (map stmt (u ∷ us)) r) below
+        (leads-wider m (loops t) (loops t + total (map loops (u ∷ us))) (at_point a s)
+        (Flowed (at_point a s) n l c B K) (stmt t r s) (omega arith)
         (statement_runs n t l a c B K inner targets r m fine s same enough))
-        (λ s' enough'. leads-wider m (total (map loops (u ∷ us))) (loops t + total (map loops (u ∷ us))) (at_point c s') (Flowed (at_point c s') l k z B K) (in_order (map stmt (u ∷ us)) r s') (omega arith)
-        (list_runs l (u ∷ us) k c z B K rest (targets-wider n l B K below targets) r m fine s' wide enough'))
+        (λ s' enough'. leads-wider m (total (map loops (u ∷ us)))
+        (loops t + total (map loops (u ∷ us))) (at_point c s')
+        (Flowed (at_point c s') l k z B K) (in_order (map stmt (u ∷ us)) r s') (omega arith)
+        (list_runs l (u ∷ us) k c z B K rest (targets-wider n l B K below targets) r m fine s' wide
+        enough'))

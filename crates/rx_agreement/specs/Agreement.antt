@@ -1,4 +1,5 @@
--- What it means that rules and the meaning of C agree: on a function, on two of them, and on a precondition.
+-- What it means that rules and the meaning of C agree: on a function, on two of them, and on a
+-- precondition.
 use Rattle.std.specs.Prelude.{◌≡◌, ◌≢◌, ◌↔◌, ℕ, Some, List, length, slice_get, ℤ, pos}
 use Rattle.rx_rewriting.specs.Terms as stack
 use Rattle.rx_rewriting.specs.Terms.{Ground, IsResult}
@@ -14,18 +15,22 @@ use Rattle.c_ast.specs.declared.program.Resolved.{Resolved}
 use Rattle.c_meaning.specs.Outcomes.{Outcome, Value, DivisionError, More, IsAnswer}
 use Rattle.c_meaning.specs.Programs.{Returns, expr_outcome}
 
--- the result that an outcome is: the returned integer, or the first failure for the division error. 'More' is no answer; it has no result
+-- the result that an outcome is: the returned integer, or the first failure for the division error.
+-- 'More' is no answer; it has no result
 abbrev pub result_of : Outcome ℤ → Ground
 result_of (Value k) = stack.Ret k
 result_of DivisionError = stack.Fail 1
 result_of More = stack.Fail 0
 
--- on so many arguments as it has parameters the function at the place returns an outcome exactly where its entry at these arguments reaches it
+-- on so many arguments as it has parameters the function at the place returns an outcome exactly
+-- where its entry at these arguments reaches it
 abbrev pub AgreeOn : Resolved → List Rule → ℕ → ℕ → Type 0
 AgreeOn program rules f symbol =
-    (arguments : List ℤ) → slice_get (parameter_counts program.functions) f ≡ Some (length arguments)
+    (arguments : List ℤ) → slice_get (parameter_counts program.functions) f ≡
+    Some (length arguments)
     → (r : Outcome ℤ) → IsAnswer r
-    → Returns program f arguments r ↔ Reaches (Instance rules) (stack.Call symbol arguments) (result_of r)
+    → Returns program f arguments r ↔ Reaches (Instance rules) (stack.Call symbol arguments)
+    (result_of r)
 
 -- both functions return on the arguments, with one outcome
 pub record ReturnAlike (program : Resolved) (f g : ℕ) (arguments : List ℤ) : Type 0 where
@@ -43,7 +48,8 @@ pub record ReachConvertible (rules : List Rule) (s t : Ground) : Type 0 where
   pub right_reached : Reaches (Instance rules) t right
   pub convertible : Convertible (Instance rules) left right
 
--- the precondition has a value at these integers, whatever the program is, and its rows hold there exactly where that isn't 0
+-- the precondition has a value at these integers, whatever the program is, and its rows hold there
+-- exactly where that isn't 0
 pub record MeansItsRows (program : Resolved) (pre : Expr) (arguments : List ℤ) : Type 0 where
   pub value : ℤ
   pub outcome : (n : ℕ) → expr_outcome program n pre arguments ≡ Value value

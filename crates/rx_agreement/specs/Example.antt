@@ -18,21 +18,34 @@ use Rattle.rx_code.specs.declared.action.Division.TheVariants.{Quotient}
 use Rattle.rx_code.specs.declared.code.Code.{Code}
 
 abbrev pub inverse : Function
-inverse = record { name = 1; params = 0 ∷ []; body = stmt.Return (Binary Div (Lit (pos 1)) (Var 0)) ∷ [] }
+inverse =
+    record { name = 1; params = 0 ∷ []; body = stmt.Return (Binary Div (Lit (pos 1)) (Var 0)) ∷ [] }
 
 abbrev pub last : Function
-last = record { name = 2; params = 0 ∷ []; body = stmt.While (Var 0) (stmt.Break 0) ∷ stmt.Return (Apply 0 (Var 0 ∷ [])) ∷ [] }
+last =
+    record {
+      name = 2;
+      params = 0 ∷ [];
+      body = stmt.While (Var 0) (stmt.Break 0) ∷
+          stmt.Return (Apply 0 (Var 0 ∷ [])) ∷ [];
+    }
 
 abbrev pub example : Resolved
 example = record { functions = inverse ∷ last ∷ [] }
 
 -- s0 to s2 of inverse: entry, end, after the division
--- s3 to s8 of last: entry and head of the loop, end, after the loop, its body, the frame of the call, after the call
+-- s3 to s8 of last: entry and head of the loop, end, after the loop, its body, the frame of the
+-- call, after the call
 abbrev pub example_code : Code
 example_code = record {
-  opened = a_point 1 ∷ a_point 0 ∷ a_point 2 ∷ a_point 1 ∷ a_point 0 ∷ a_point 1 ∷ a_point 1 ∷ a_frame 1 ∷ a_point 2 ∷ [];
+  opened =
+      a_point 1 ∷ a_point 0 ∷ a_point 2 ∷ a_point 1 ∷ a_point 0 ∷ a_point 1 ∷ a_point 1 ∷
+      a_frame 1 ∷ a_point 2 ∷ [];
   deeds = record { at = point 1 0; action = Return (number (pos 0)) }
-      ∷ record { at = point 0 1; action = Divide Quotient (number (pos 1)) (variable 0) (point 2 2) }
+      ∷ record {
+        at = point 0 1;
+        action = Divide Quotient (number (pos 1)) (variable 0) (point 2 2);
+      }
       ∷ record { at = point 2 2; action = Return (variable 1) }
       ∷ record { at = point 4 0; action = Return (number (pos 0)) }
       ∷ record { at = point 3 1; action = Test (Ne (variable 0)) (point 6 1) (point 5 1) }

@@ -1,4 +1,5 @@
-//! The rules of a translation agree with the meaning of C: laws, each a function with an empty body.
+//! The rules of a translation agree with the meaning of C: laws, each a function with an empty
+//! body.
 ghost use Rattle.std.specs.Prelude.{◌≡◌, ℕ, ℤ, true, [], ◌∷◌, List, Contains, Some, length, pos, slice_get};
 ghost use Rattle.c_ast.specs.RowForms.{is_row_form};
 ghost use Rattle.c_ast.specs.Scoped.{is_scoped, parameter_counts};
@@ -27,8 +28,8 @@ ghost use Rattle.rx_agreement.specs.Example.{example, example_parts};
 
 /// Let code carry a program, and let the rules of a well made and paired set do what is done in the
 /// code. Then each function that has an entry returns an outcome, on as many integers as it has
-/// parameters, exactly where its entry at these integers reaches that outcome by steps of the rules.
-/// Where points lie and how they are numbered doesn't matter.
+/// parameters, exactly where its entry at these integers reaches that outcome by steps of the
+/// rules. Where points lie and how they are numbered doesn't matter.
 pub fn carried_code_agrees_with_the_meaning()
     ensures { (program : Resolved) (code : Code) → CarriesProgram program code →
         (parts : RuleParts) → IsWellMade parts → IsPaired parts →
@@ -63,13 +64,14 @@ pub fn convertible_results_are_one_outcome()
         IsTranslation program f g parts first second → (arguments : List ℤ) →
         slice_get (parameter_counts program.functions) f ≡ Some (length arguments) →
         slice_get (parameter_counts program.functions) g ≡ Some (length arguments) →
-        ReachConvertible parts.rules (stack.Call first.0 arguments) (stack.Call second.0 arguments) →
+        ReachConvertible parts.rules (stack.Call first.0 arguments) (stack.Call second.0 arguments)
+        →
         ReturnAlike program f g arguments }
 {}
 
-/// Where both sides of the goal of two functions reach results that are convertible by the rules, at
-/// all assignments that meet its rows, both functions return on all integers that meet the rows, with
-/// one outcome.
+/// Where both sides of the goal of two functions reach results that are convertible by the rules,
+/// at all assignments that meet its rows, both functions return on all integers that meet the rows,
+/// with one outcome.
 pub fn goals_speak_of_both_functions()
     ensures { (program : Resolved) → is_scoped program ≡ true →
         (f g : ℕ) (parts : RuleParts) (first second : Sym) →
@@ -83,8 +85,8 @@ pub fn goals_speak_of_both_functions()
         ReturnAlike program f g arguments }
 {}
 
-/// A precondition has a value on all integers, and its rows hold on them exactly where that isn't 0:
-/// so what meets the rows is what meets the precondition by the meaning of C.
+/// A precondition has a value on all integers, and its rows hold on them exactly where that isn't
+/// 0: so what meets the rows is what meets the precondition by the meaning of C.
 pub fn preconditions_mean_their_rows()
     ensures { (program : Resolved) (pre : Expr) (arguments : List ℤ) → is_row_form pre ≡ true →
         MeansItsRows program pre arguments }
@@ -97,7 +99,9 @@ pub fn preconditions_mean_their_rows()
 pub fn the_premises_can_be_met()
     ensures scoped { is_scoped example ≡ true }
     ensures translated { IsTranslation example 1 0 example_parts (symbol 3) (symbol 0) }
-    ensures returned { Reaches (Instance example_parts.rules) (stack.Call 3 (pos 1 ∷ [])) (stack.Ret (pos 1)) }
-    ensures failed { Reaches (Instance example_parts.rules) (stack.Call 3 (pos 0 ∷ [])) (stack.Fail 1) }
+    ensures returned { Reaches (Instance example_parts.rules) (stack.Call 3 (pos 1 ∷ []))
+        (stack.Ret (pos 1)) }
+    ensures failed { Reaches (Instance example_parts.rules) (stack.Call 3 (pos 0 ∷ []))
+        (stack.Fail 1) }
     ensures precondition { is_row_form between ≡ true }
 {}

@@ -27,9 +27,12 @@ module _ (rows : List Row) where
   Other e = ¬ (e.0 ≡ rows)
 
   apart : (other : List Row) → same_rows rows other ≡ false → ¬ (other ≡ rows)
-  apart other differ e = let same_there : same_rows rows other ≡ true = ap (same_rows rows) e ∙ told_themselves rows in cc
+  apart other differ e =
+      let same_there : same_rows rows other ≡ true = ap (same_rows rows) e ∙ told_themselves rows in
+      cc
 
-  found_here : (e : Entry) (es : List Entry) (cached : CachedAnswer) → same_rows rows e.0 ≡ true → e.1 ≡ cached → Found (e ∷ es) cached
+  found_here : (e : Entry) (es : List Entry) (cached : CachedAnswer) → same_rows rows e.0 ≡ true →
+      e.1 ≡ cached → Found (e ∷ es) cached
   found_here e es cached same_there value =
       let same : e ≡ (rows, cached) = λ i. (sym (told_same_rows rows e.0 same_there) i, value i) in
       record {
@@ -41,7 +44,8 @@ module _ (rows : List Row) where
         others = rw same_there refl;
       }
 
-  found_after : (e : Entry) (es : List Entry) (cached : CachedAnswer) → same_rows rows e.0 ≡ false → Found es cached → Found (e ∷ es) cached
+  found_after : (e : Entry) (es : List Entry) (cached : CachedAnswer) → same_rows rows e.0 ≡ false →
+      Found es cached → Found (e ∷ es) cached
   found_after e es cached differ f = record {
     newer = e ∷ f.newer;
     older = f.older;
@@ -52,23 +56,27 @@ module _ (rows : List Row) where
   }
 
   -- a look-up that finds an answer finds that of the first entry that has the rows
-  pub found : (es : List Entry) (cached : CachedAnswer) → lookup (same_rows rows) es ≡ Some cached → Found es cached
+  pub found : (es : List Entry) (cached : CachedAnswer) → lookup (same_rows rows) es ≡ Some cached →
+      Found es cached
   found [] cached h = cc
-  found (e ∷ es) cached h = (elim (same_rows rows e.0) as (λ b. same_rows rows e.0 ≡ b → Found (e ∷ es) cached) [
-    | true ↦ λ t. let h' = rw t at h in found_here e es cached t cc
-    | false ↦ λ t. found_after e es cached t (found es cached (rw t at h))
-  ]) refl
+  found (e ∷ es) cached h =
+      (elim (same_rows rows e.0) as (λ b. same_rows rows e.0 ≡ b → Found (e ∷ es) cached) [
+        | true ↦ λ t. let h' = rw t at h in found_here e es cached t cc
+        | false ↦ λ t. found_after e es cached t (found es cached (rw t at h))
+      ]) refl
 
   -- where it finds none, no entry has them
   pub none_has : (es : List Entry) → lookup (same_rows rows) es ≡ None → NoneHas rows es
   none_has [] h = All-nil Other
-  none_has (e ∷ es) h = (elim (same_rows rows e.0) as (λ b. same_rows rows e.0 ≡ b → NoneHas rows (e ∷ es)) [
-    | true ↦ λ t. let h' = rw t at h in cc
-    | false ↦ λ t. All-cons Other e es (apart e.0 t) (none_has es (rw t at h))
-  ]) refl
+  none_has (e ∷ es) h =
+      (elim (same_rows rows e.0) as (λ b. same_rows rows e.0 ≡ b → NoneHas rows (e ∷ es)) [
+        | true ↦ λ t. let h' = rw t at h in cc
+        | false ↦ λ t. All-cons Other e es (apart e.0 t) (none_has es (rw t at h))
+      ]) refl
 
   -- the entry that is found goes to the front
-  pub promoted_found : (es : List Entry) (cached : CachedAnswer) → Found es cached → IsPromoted rows cached es (promoted (same_rows rows) es)
+  pub promoted_found : (es : List Entry) (cached : CachedAnswer) → Found es cached →
+      IsPromoted rows cached es (promoted (same_rows rows) es)
   promoted_found es cached f = record {
     newer = f.newer;
     older = f.older;
@@ -79,35 +87,51 @@ module _ (rows : List Row) where
 
   no_entry : (es : List Entry) → NoneHas rows es → lookup_entry (same_rows rows) es ≡ None
   no_entry [] none = refl
-  no_entry (e ∷ es) none = (elim (same_rows rows e.0) as (λ b. same_rows rows e.0 ≡ b → lookup_entry (same_rows rows) (e ∷ es) ≡ None) [
-    | true ↦ λ t. absurd (All-head Other e es none (sym (told_same_rows rows e.0 t)))
-    | false ↦ λ t. rw t (no_entry es (All-tail Other e es none))
-  ]) refl
+  no_entry (e ∷ es) none =
+      (elim (same_rows rows e.0) as (λ b. same_rows rows e.0 ≡ b →
+      lookup_entry (same_rows rows) (e ∷ es) ≡ None) [
+        | true ↦ λ t. absurd (All-head Other e es none (sym (told_same_rows rows e.0 t)))
+        | false ↦ λ t. rw t (no_entry es (All-tail Other e es none))
+      ]) refl
 
   -- where a look-up finds an answer, the first entry that has the rows has one
-  pub hit : (es : List Entry) → is_some (lookup (same_rows rows) es) ≡ true → (cached : CachedAnswer) × Found es cached
-  hit es t = (elim (lookup (same_rows rows) es) as (λ o. lookup (same_rows rows) es ≡ o → is_some o ≡ true → (cached : CachedAnswer) × Found es cached) [
-    | Some cached ↦ λ look some. (cached, found es cached look)
-    | None ↦ λ look some. cc
-  ]) refl t
+  pub hit : (es : List Entry) → is_some (lookup (same_rows rows) es) ≡ true →
+      (cached : CachedAnswer) × Found es cached
+  hit es t =
+      (elim (lookup (same_rows rows) es) as (λ o. lookup (same_rows rows) es ≡ o → is_some o ≡
+      true → (cached : CachedAnswer) × Found es cached) [
+        | Some cached ↦ λ look some. (cached, found es cached look)
+        | None ↦ λ look some. cc
+      ]) refl t
 
   -- where it finds none, no entry has them, and nothing goes to the front
-  pub missed : (es : List Entry) → is_some (lookup (same_rows rows) es) ≡ false → NoneHas rows es × (promoted (same_rows rows) es ≡ es)
-  missed es t = (elim (lookup (same_rows rows) es) as (λ o. lookup (same_rows rows) es ≡ o → is_some o ≡ false → NoneHas rows es × (promoted (same_rows rows) es ≡ es)) [
-    | Some cached ↦ λ look some. cc
-    | None ↦ λ look some. let none = none_has es look in (none, rw (no_entry es none) refl)
-  ]) refl t
+  pub missed : (es : List Entry) → is_some (lookup (same_rows rows) es) ≡ false → NoneHas rows es ×
+      (promoted (same_rows rows) es ≡ es)
+  missed es t =
+      (elim (lookup (same_rows rows) es) as (λ o. lookup (same_rows rows) es ≡ o → is_some o ≡
+      false → NoneHas rows es × (promoted (same_rows rows) es ≡ es)) [
+        | Some cached ↦ λ look some. cc
+        | None ↦ λ look some. let none = none_has es look in (none, rw (no_entry es none) refl)
+      ]) refl t
 
   -- what is in front after that is the entry that was found
-  front : (es after : List Entry) (cached : CachedAnswer) → Found es cached → after ≡ promoted (same_rows rows) es → slice_get after 0 ≡ Some (rows, cached)
-  front es after cached f e = ap (λ (xs : List Entry). slice_get xs 0) (e ∙ (promoted_found es cached f).becomes)
+  front : (es after : List Entry) (cached : CachedAnswer) → Found es cached → after ≡
+      promoted (same_rows rows) es → slice_get after 0 ≡ Some (rows, cached)
+  front es after cached f e =
+      ap (λ (xs : List Entry). slice_get xs 0) (e ∙ (promoted_found es cached f).becomes)
 
-  pub never_empty : (es after : List Entry) (cached : CachedAnswer) → Found es cached → after ≡ promoted (same_rows rows) es → None ≡ slice_get after 0 → ⊥
+  pub never_empty : (es after : List Entry) (cached : CachedAnswer) → Found es cached → after ≡
+      promoted (same_rows rows) es → None ≡ slice_get after 0 → ⊥
   never_empty es after cached f e none = let is = none ∙ front es after cached f e in cc
 
-  pub found_in_front : (es after : List Entry) (cached : CachedAnswer) → Found es cached → after ≡ promoted (same_rows rows) es → (first : Entry) → Some first ≡ slice_get after 0 → first.1 ≡ cached
+  pub found_in_front : (es after : List Entry) (cached : CachedAnswer) → Found es cached → after ≡
+      promoted (same_rows rows) es → (first : Entry) → Some first ≡ slice_get after 0 → first.1 ≡
+      cached
   found_in_front es after cached f e first some = let is = some ∙ front es after cached f e in cc
 
-  -- where no entry has the rows, the new one is put before the others, and a full cache drops its last
-  pub put_new : (c : LruCache (List Row) CachedAnswer) (cached : CachedAnswer) → NoneHas rows c.entries → put_entries same_rows c rows cached ≡ (rows, cached) ∷ take (c.cap - 1) c.entries
+  -- where no entry has the rows, the new one is put before the others, and a full cache drops its
+  -- last
+  pub put_new : (c : LruCache (List Row) CachedAnswer) (cached : CachedAnswer) →
+      NoneHas rows c.entries → put_entries same_rows c rows cached ≡ (rows, cached) ∷
+      take (c.cap - 1) c.entries
   put_new c cached none = rw (no_entry c.entries none) refl

@@ -32,7 +32,8 @@ or_left false c e = cc
 
 -- ---- evident rows
 
-told : (test : ℤ → Bool) (o : Option ℤ) (z : ℤ) → ((k : ℤ) → o ≡ Some k → z ≡ k) → is_number_with test o ≡ true → test z ≡ true
+told : (test : ℤ → Bool) (o : Option ℤ) (z : ℤ) → ((k : ℤ) → o ≡ Some k → z ≡ k) →
+    is_number_with test o ≡ true → test z ≡ true
 told test None z worth e = cc
 told test (Some k) z worth e = ap test (worth k refl) ∙ e
 
@@ -44,65 +45,97 @@ not_zero : (z : ℤ) → not (is_zero z) ≡ true → z ≡ pos 0 → ⊥
 not_zero z e is = let no : false ≡ true = sym (ap (λ k. not (is_zero k)) is) ∙ e in cc
 
 evident_holds : (a : ℕ → ℤ) (row : Row) → is_evident row ≡ true → RowHolds a row
-evident_holds a (Ge p) e = not_below (value a p) (told (λ k. not (int_lt k (pos 0))) (constant_of (out-Body p).terms) (value a p) (constant_worth a p) e)
-evident_holds a (Eq p) e = zero_is (value a p) (told is_zero (constant_of (out-Body p).terms) (value a p) (constant_worth a p) e)
-evident_holds a (Ne p) e = not_zero (value a p) (told (λ k. not (is_zero k)) (constant_of (out-Body p).terms) (value a p) (constant_worth a p) e)
+evident_holds a (Ge p) e =
+    not_below (value a p) (told (λ k. not (int_lt k (pos 0))) (constant_of (out-Body p).terms)
+    (value a p) (constant_worth a p) e)
+evident_holds a (Eq p) e =
+    zero_is (value a p) (told is_zero (constant_of (out-Body p).terms) (value a p)
+    (constant_worth a p) e)
+evident_holds a (Ne p) e =
+    not_zero (value a p) (told (λ k. not (is_zero k)) (constant_of (out-Body p).terms) (value a p)
+    (constant_worth a p) e)
 
 -- a plain row holds wherever the given rows do
-pub plain_holds : (a : ℕ → ℤ) (given : List Row) (row : Row) → is_plain_row given row ≡ true → AllHold a given → RowHolds a row
+pub plain_holds : (a : ℕ → ℤ) (given : List Row) (row : Row) → is_plain_row given row ≡ true →
+    AllHold a given → RowHolds a row
 plain_holds a given row e holds = by (stands_among given row) refl e
   where
     by : (b : Bool) → stands_among given row ≡ b → (b || is_evident row) ≡ true → RowHolds a row
     by true s h = All-contains (RowHolds a) given row holds (stands-contains given row s)
     by false s h = evident_holds a row h
 
--- what a `bool` that tells which rows stand there, and one that tells what is evident, say of a plain row
-pub plain_then : (b : Bool) (rows : List Row) (row : Row) → ((b ≡ true) ↔ Contains rows row) → b ≡ true → b ≡ is_plain_row rows row
-plain_then b rows row tells h = h ∙ sym (or_left (stands_among rows row) (is_evident row) (sym (stands_is b rows row tells) ∙ h))
+-- what a `bool` that tells which rows stand there, and one that tells what is evident, say of a
+-- plain row
+pub plain_then : (b : Bool) (rows : List Row) (row : Row) → ((b ≡ true) ↔ Contains rows row) → b ≡
+    true → b ≡ is_plain_row rows row
+plain_then b rows row tells h =
+    h ∙ sym (or_left (stands_among rows row) (is_evident row)
+    (sym (stands_is b rows row tells) ∙ h))
 
-pub plain_else : (b e : Bool) (rows : List Row) (row : Row) → ((b ≡ true) ↔ Contains rows row) → b ≡ false → e ≡ is_evident row → e ≡ is_plain_row rows row
-plain_else b e rows row tells h evident = evident ∙ ap (λ s. s || is_evident row) (sym h ∙ stands_is b rows row tells)
+pub plain_else : (b e : Bool) (rows : List Row) (row : Row) → ((b ≡ true) ↔ Contains rows row) → b ≡
+    false → e ≡ is_evident row → e ≡ is_plain_row rows row
+plain_else b e rows row tells h evident =
+    evident ∙ ap (λ s. s || is_evident row) (sym h ∙ stands_is b rows row tells)
 
 -- ---- lists
 
 module _ (a : ℕ → ℤ) (given : List Row) (holds : AllHold a given) where
-  plain_or_shown : (row : Row) (rows : List Row) (further other : Option ConditionsAnswer) → (further ≡ Some Shown → AllHold a rows) → (other ≡ Some Shown → RowHolds a row × AllHold a rows) →
-      (b : Bool) → is_plain_row given row ≡ b → cond b further other ≡ Some Shown → AllHold a (row ∷ rows)
-  plain_or_shown row rows further other f g true plain e = All-cons (RowHolds a) row rows (plain_holds a given row plain holds) (f e)
-  plain_or_shown row rows further other f g false plain e = let both = g e in All-cons (RowHolds a) row rows both.0 both.1
+  plain_or_shown : (row : Row) (rows : List Row) (further other : Option ConditionsAnswer) →
+      (further ≡ Some Shown → AllHold a rows) →
+      (other ≡ Some Shown → RowHolds a row × AllHold a rows) →
+      (b : Bool) → is_plain_row given row ≡ b → cond b further other ≡ Some Shown →
+      AllHold a (row ∷ rows)
+  plain_or_shown row rows further other f g true plain e =
+      All-cons (RowHolds a) row rows (plain_holds a given row plain holds) (f e)
+  plain_or_shown row rows further other f g false plain e =
+      let both = g e in All-cons (RowHolds a) row rows both.0 both.1
 
-  shown_parts : (found : Said) (i : ℕ) (later : Option ConditionsAnswer) → shown_or found i later ≡ Some Shown → (found ≡ Yes) × (later ≡ Some Shown)
+  shown_parts : (found : Said) (i : ℕ) (later : Option ConditionsAnswer) → shown_or found i later ≡
+      Some Shown → (found ≡ Yes) × (later ≡ Some Shown)
   shown_parts Beyond i later e = cc
   shown_parts Yes i later e = (refl, e)
   shown_parts No i later e = cc
 
-  shown_row : (row : Row) (rows : List Row) (cert : Cert) (i : ℕ) (later : Option ConditionsAnswer) → (later ≡ Some Shown → AllHold a rows) → shown_or (row_finding given row cert) i later ≡ Some Shown → RowHolds a row × AllHold a rows
+  shown_row : (row : Row) (rows : List Row) (cert : Cert) (i : ℕ) (later : Option ConditionsAnswer)
+      → (later ≡ Some Shown → AllHold a rows) → shown_or (row_finding given row cert) i later ≡
+      Some Shown → RowHolds a row × AllHold a rows
   shown_row row rows cert i later f e =
       let parts = shown_parts (row_finding given row cert) i later e in
       (shown_holds given row cert parts.0 a holds, f parts.1)
 
-  wrong_count : (row : Row) (rows : List Row) → Some WrongCount ≡ Some Shown → RowHolds a row × AllHold a rows
+  wrong_count : (row : Row) (rows : List Row) → Some WrongCount ≡ Some Shown → RowHolds a row ×
+      AllHold a rows
   wrong_count row rows e = cc
 
-  pub in_order_holds : (rows : List Row) (i : ℕ) (certs : List Cert) → in_order i given rows certs ≡ Some Shown → AllHold a rows
+  pub in_order_holds : (rows : List Row) (i : ℕ) (certs : List Cert) → in_order i given rows certs ≡
+      Some Shown → AllHold a rows
   in_order_holds [] i certs e = All-nil (RowHolds a)
   in_order_holds (row ∷ rows) i [] e =
-      plain_or_shown row rows (in_order (i + 1) given rows []) (Some WrongCount) (in_order_holds rows (i + 1) []) (wrong_count row rows) (is_plain_row given row) refl e
+      plain_or_shown row rows (in_order (i + 1) given rows []) (Some WrongCount)
+      (in_order_holds rows (i + 1) []) (wrong_count row rows) (is_plain_row given row) refl e
   in_order_holds (row ∷ rows) i (cert ∷ certs) e =
-      plain_or_shown row rows (in_order (i + 1) given rows (cert ∷ certs)) (shown_or (row_finding given row cert) i (in_order (i + 1) given rows certs))
+      plain_or_shown row rows (in_order (i + 1) given rows (cert ∷ certs))
+      (shown_or (row_finding given row cert) i (in_order (i + 1) given rows certs))
       (in_order_holds rows (i + 1) (cert ∷ certs))
-      (shown_row row rows cert i (in_order (i + 1) given rows certs) (in_order_holds rows (i + 1) certs))
+      (shown_row row rows cert i (in_order (i + 1) given rows certs)
+      (in_order_holds rows (i + 1) certs))
       (is_plain_row given row) refl e
 
--- as many certificates as are asked for, and each row shown: the rows hold wherever the given ones do
-pub conditions_hold : (given rows : List Row) (certs : List Cert) → conditions given (Some rows) certs ≡ Some Shown → (a : ℕ → ℤ) → AllHold a given → AllHold a rows
+-- as many certificates as are asked for, and each row shown: the rows hold wherever the given ones
+-- do
+pub conditions_hold : (given rows : List Row) (certs : List Cert) →
+    conditions given (Some rows) certs ≡ Some Shown → (a : ℕ → ℤ) → AllHold a given → AllHold a rows
 conditions_hold given rows certs e a holds = by (length certs == asked_for given rows) e
   where
-    by : (b : Bool) → cond b (in_order 0 given rows certs) (Some WrongCount) ≡ Some Shown → AllHold a rows
+    by : (b : Bool) → cond b (in_order 0 given rows certs) (Some WrongCount) ≡ Some Shown →
+        AllHold a rows
     by true h = in_order_holds a given holds rows 0 certs h
     by false h = cc
 
 -- the same of an answer
-pub answer_holds : (r : Result ConditionsAnswer PolyEnd) (given rows : List Row) (certs : List Cert) → IfOk r (λ c. in_order 0 given rows certs ≡ Some c) → IfOk r (λ c. c ≡ Shown → (a : ℕ → ℤ) → AllHold a given → AllHold a rows)
-answer_holds (Ok c) given rows certs e = λ is a holds. in_order_holds a given holds rows 0 certs (e ∙ ap Some is)
+pub answer_holds : (r : Result ConditionsAnswer PolyEnd) (given rows : List Row) (certs : List Cert)
+    → IfOk r (λ c. in_order 0 given rows certs ≡ Some c) →
+    IfOk r (λ c. c ≡ Shown → (a : ℕ → ℤ) → AllHold a given → AllHold a rows)
+answer_holds (Ok c) given rows certs e =
+    λ is a holds. in_order_holds a given holds rows 0 certs (e ∙ ap Some is)
 answer_holds (Err x) given rows certs e = tt

@@ -22,11 +22,16 @@ pub said_yes : (b : Bool) → said b ≡ Yes → b ≡ true
 said_yes true e = refl
 said_yes false e = cc
 
--- where a variable has a value, and all that is formed keeps the limits, what is found of the rows with it is found
-pub solve_found : (x : ℕ) (o : Option Body) (p e : Body) (ws : List (ℕ × Body)) (rows changed : List Row) (rest : List Row → Said) →
-    o ≡ Some p → solution x p ≡ Some e → solution_within x p ≡ true → ws ≡ (x, e) ∷ [] → rows_within ws rows ≡ true → changed ≡ in_rows ws rows → solve_finding x o rows rest ≡ rest changed
+-- where a variable has a value, and all that is formed keeps the limits, what is found of the rows
+-- with it is found
+pub solve_found : (x : ℕ) (o : Option Body) (p e : Body) (ws : List (ℕ × Body))
+    (rows changed : List Row) (rest : List Row → Said) →
+    o ≡ Some p → solution x p ≡ Some e → solution_within x p ≡ true → ws ≡ (x, e) ∷ [] →
+    rows_within ws rows ≡ true → changed ≡ in_rows ws rows → solve_finding x o rows rest ≡
+    rest changed
 solve_found x o p e ws rows changed rest zero value first is second made =
     ap (λ z. solve_finding x z rows rest) zero
     ∙ (λ i. within (first i) (replaced_finding x (value i) rows rest))
-    ∙ ap (λ b. within b (rest (in_rows ((x, e) ∷ []) rows))) (ap (λ (vs : List (ℕ × Body)). rows_within vs rows) (sym is) ∙ second)
+    ∙ ap (λ b. within b (rest (in_rows ((x, e) ∷ []) rows)))
+    (ap (λ (vs : List (ℕ × Body)). rows_within vs rows) (sym is) ∙ second)
     ∙ ap rest (sym (made ∙ ap (λ (vs : List (ℕ × Body)). in_rows vs rows) is))

@@ -1,4 +1,5 @@
--- A polynomial that is rounded stays one: coefficients only fall in size, and what is 0 is left out.
+-- A polynomial that is rounded stays one: coefficients only fall in size, and what is 0 is left
+-- out.
 use Rattle.std.proofs.Common.{◌≡◌, ap, subst, sym, refl, ℕ, zero, suc, ◌+◌, ◌*◌, ◌/◌, ◌%◌, ◌^◌, ◌<◌, ◌≤◌, Bool, true, false, ◌&&◌, ◌||◌, ◌==◌, nat_le, sum_by, List, [], ◌∷◌, length, ℤ, pos, negsuc, ◌<ℤ◌, arith}
 use Rattle.std.proofs.lemmas.Bool.{and_parts, and_from, ltb-true, lt-ltb}
 use Rattle.std.proofs.lemmas.Bool.Decides.{nat_tests}
@@ -29,9 +30,12 @@ and_true true = refl
 and_true false = refl
 
 -- a first term may be the constant only where it is the last
-pub divides_step : (d : ℤ) (t : Mono × ℤ) (more : List (Mono × ℤ)) → divides_terms d (t ∷ more) ≡ ((((length more == 0) && is_one t.0) || divides d t.1) && divides_terms d more)
+pub divides_step : (d : ℤ) (t : Mono × ℤ) (more : List (Mono × ℤ)) → divides_terms d (t ∷ more) ≡
+    ((((length more == 0) && is_one t.0) || divides d t.1) && divides_terms d more)
 divides_step d t [] = sym (and_true (is_one t.0 || divides d t.1))
-divides_step d t (u ∷ us) = ap (λ b. ((b && is_one t.0) || divides d t.1) && divides_terms d (u ∷ us)) (sym (not_zero (length us)))
+divides_step d t (u ∷ us) =
+    ap (λ b. ((b && is_one t.0) || divides d t.1) && divides_terms d (u ∷ us))
+    (sym (not_zero (length us)))
 
 -- ---- numbers
 
@@ -40,9 +44,12 @@ quotient_below a n m h =
     let whole : suc n * (a / suc n) + a % suc n ≡ a = omega arith in
     omega arith
 
-fits_rounded : (c : ℤ) (n : ℕ) → fits_i128 c ≡ true → fits_i128 (int_div_euclid c (pos (suc n))) ≡ true
-fits_rounded (pos a) n h = lt-ltb (a / suc n) (2 ^ 127) (quotient_below a n (2 ^ 127) (ltb-true a (2 ^ 127) h))
-fits_rounded (negsuc a) n h = lt-ltb (a / suc n) (2 ^ 127) (quotient_below a n (2 ^ 127) (ltb-true a (2 ^ 127) h))
+fits_rounded : (c : ℤ) (n : ℕ) → fits_i128 c ≡ true → fits_i128 (int_div_euclid c (pos (suc n))) ≡
+    true
+fits_rounded (pos a) n h =
+    lt-ltb (a / suc n) (2 ^ 127) (quotient_below a n (2 ^ 127) (ltb-true a (2 ^ 127) h))
+fits_rounded (negsuc a) n h =
+    lt-ltb (a / suc n) (2 ^ 127) (quotient_below a n (2 ^ 127) (ltb-true a (2 ^ 127) h))
 
 -- ---- terms
 
@@ -50,60 +57,88 @@ module _ (n : ℕ) where
   abbrev d : ℤ
   d = pos (suc n)
 
-  keys-rounded : (test : Mono → Bool) (ts : List (Mono × ℤ)) → all_keys test ts ≡ true → all_keys test (rounded_terms d ts) ≡ true
+  keys-rounded : (test : Mono → Bool) (ts : List (Mono × ℤ)) → all_keys test ts ≡ true →
+      all_keys test (rounded_terms d ts) ≡ true
   keys-rounded test [] h = refl
   keys-rounded test (t ∷ ts) h =
       let p = and_parts (test t.0) (all_keys test ts) h in
-      all_keys-put test t.0 (int_div_euclid t.1 d) (rounded_terms d ts) p.0 (keys-rounded test ts p.1)
+      all_keys-put test t.0 (int_div_euclid t.1 d) (rounded_terms d ts) p.0
+      (keys-rounded test ts p.1)
 
-  listed-rounded : (ts : List (Mono × ℤ)) → is_listed mono_cmp ts ≡ true → is_listed mono_cmp (rounded_terms d ts) ≡ true
+  listed-rounded : (ts : List (Mono × ℤ)) → is_listed mono_cmp ts ≡ true →
+      is_listed mono_cmp (rounded_terms d ts) ≡ true
   listed-rounded [] h = refl
   listed-rounded (t ∷ ts) h =
       let l = listed_parts mono_cmp mono_total same_mono t ts h in
-      listed-put mono_cmp mono_total same_mono t.0 (int_div_euclid t.1 d) (rounded_terms d ts) (keys-rounded (λ x. is_lt (mono_cmp t.0 x)) ts l.before) (listed-rounded ts l.rest)
+      listed-put mono_cmp mono_total same_mono t.0 (int_div_euclid t.1 d) (rounded_terms d ts)
+      (keys-rounded (λ x. is_lt (mono_cmp t.0 x)) ts l.before) (listed-rounded ts l.rest)
 
   all_fit-rounded : (ts : List (Mono × ℤ)) → all_fit ts ≡ true → all_fit (rounded_terms d ts) ≡ true
   all_fit-rounded [] h = refl
   all_fit-rounded (t ∷ ts) h =
       let p = and_parts (fits_i128 t.1) (all_fit ts) h in
       let rest = all_fit-rounded ts p.1 in
-      put_cases (λ us. all_fit us ≡ true) t.0 (int_div_euclid t.1 d) (rounded_terms d ts) (λ _. rest)
-      (λ _. and_from (fits_i128 (int_div_euclid t.1 d)) (all_fit (rounded_terms d ts)) (fits_rounded t.1 n p.0) rest)
+      put_cases (λ us. all_fit us ≡ true) t.0 (int_div_euclid t.1 d) (rounded_terms d ts)
+      (λ _. rest)
+      (λ _. and_from (fits_i128 (int_div_euclid t.1 d)) (all_fit (rounded_terms d ts))
+      (fits_rounded t.1 n p.0) rest)
 
-  size-rounded : (ts : List (Mono × ℤ)) → sum_by (λ (t : Mono × ℤ). mono_size t.0) (rounded_terms d ts) ≤ sum_by (λ (t : Mono × ℤ). mono_size t.0) ts
+  size-rounded : (ts : List (Mono × ℤ)) → sum_by (λ (t : Mono × ℤ). mono_size t.0)
+      (rounded_terms d ts) ≤ sum_by (λ (t : Mono × ℤ). mono_size t.0) ts
   size-rounded [] = omega arith
   size-rounded (t ∷ ts) =
       let rest = size-rounded ts in
       let whole = sum_by-cons (λ (t : Mono × ℤ). mono_size t.0) t ts in
-      put_cases (λ us. sum_by (λ (t : Mono × ℤ). mono_size t.0) us ≤ sum_by (λ (t : Mono × ℤ). mono_size t.0) (t ∷ ts)) t.0 (int_div_euclid t.1 d) (rounded_terms d ts)
-      (λ _. omega arith) (λ _. omega (arith, sum_by-cons (λ (t : Mono × ℤ). mono_size t.0) (t.0, int_div_euclid t.1 d) (rounded_terms d ts)))
+      put_cases (λ us. sum_by (λ (t : Mono × ℤ). mono_size t.0) us ≤
+      sum_by (λ (t : Mono × ℤ). mono_size t.0) (t ∷ ts)) t.0 (int_div_euclid t.1 d)
+      (rounded_terms d ts)
+      (λ _. omega arith) (λ _. omega (
+        arith,
+        sum_by-cons (λ (t : Mono × ℤ). mono_size t.0)
+            (t.0, int_div_euclid t.1 d) (rounded_terms d ts),
+      ))
 
-  depth-rounded : (ts : List (Mono × ℤ)) → greatest (λ (t : Mono × ℤ). mono_depth t.0) (rounded_terms d ts) ≤ greatest (λ (t : Mono × ℤ). mono_depth t.0) ts
+  depth-rounded : (ts : List (Mono × ℤ)) → greatest (λ (t : Mono × ℤ). mono_depth t.0)
+      (rounded_terms d ts) ≤ greatest (λ (t : Mono × ℤ). mono_depth t.0) ts
   depth-rounded [] = omega arith
   depth-rounded (t ∷ ts) =
       let rest = depth-rounded ts in
-      put_cases (λ us. greatest (λ (t : Mono × ℤ). mono_depth t.0) us ≤ greatest (λ (t : Mono × ℤ). mono_depth t.0) (t ∷ ts)) t.0 (int_div_euclid t.1 d) (rounded_terms d ts)
+      put_cases (λ us. greatest (λ (t : Mono × ℤ). mono_depth t.0) us ≤
+      greatest (λ (t : Mono × ℤ). mono_depth t.0) (t ∷ ts)) t.0 (int_div_euclid t.1 d)
+      (rounded_terms d ts)
       (λ _. omega arith) (λ _. omega arith)
 
   below : (m k limit : ℕ) → m ≤ k → nat_le k limit ≡ true → nat_le m limit ≡ true
   below m k limit h g = grind (arith, nat_tests)
 
-  small-rounded : (p : Body) → is_small p ≡ true → is_small (of_terms (rounded_terms d (out-Body p).terms)) ≡ true
+  small-rounded : (p : Body) → is_small p ≡ true →
+      is_small (of_terms (rounded_terms d (out-Body p).terms)) ≡ true
   small-rounded p h =
       let q = and_parts (nat_le (body_size p) 4096) (nat_le (body_depth p) 64) h in
       let ts = (out-Body p).terms in
       let size : body_size (of_terms (rounded_terms d ts)) ≤ body_size p =
-      subst (λ k. k ≤ body_size p) (sym (size-of_terms (rounded_terms d ts))) (subst (λ k. sum_by (λ (t : Mono × ℤ). mono_size t.0) (rounded_terms d ts) ≤ k) (sym (body_size_is p)) (size-rounded ts)) in
+      subst (λ k. k ≤ body_size p) (sym (size-of_terms (rounded_terms d ts)))
+      (subst (λ k. sum_by (λ (t : Mono × ℤ). mono_size t.0) (rounded_terms d ts) ≤ k)
+      (sym (body_size_is p)) (size-rounded ts)) in
       let depth : body_depth (of_terms (rounded_terms d ts)) ≤ body_depth p =
-      subst (λ k. k ≤ body_depth p) (sym (depth-of_terms (rounded_terms d ts))) (subst (λ k. greatest (λ (t : Mono × ℤ). mono_depth t.0) (rounded_terms d ts) ≤ k) (sym (body_depth_is p)) (depth-rounded ts)) in
-      and_from (nat_le (body_size (of_terms (rounded_terms d ts))) 4096) (nat_le (body_depth (of_terms (rounded_terms d ts))) 64)
-      (below (body_size (of_terms (rounded_terms d ts))) (body_size p) 4096 size q.0) (below (body_depth (of_terms (rounded_terms d ts))) (body_depth p) 64 depth q.1)
+      subst (λ k. k ≤ body_depth p) (sym (depth-of_terms (rounded_terms d ts)))
+      (subst (λ k. greatest (λ (t : Mono × ℤ). mono_depth t.0) (rounded_terms d ts) ≤ k)
+      (sym (body_depth_is p)) (depth-rounded ts)) in
+      and_from (nat_le (body_size (of_terms (rounded_terms d ts))) 4096)
+      (nat_le (body_depth (of_terms (rounded_terms d ts))) 64)
+      (below (body_size (of_terms (rounded_terms d ts))) (body_size p) 4096 size q.0)
+      (below (body_depth (of_terms (rounded_terms d ts))) (body_depth p) 64 depth q.1)
 
   poly-rounded : (p : Body) → is_poly p ≡ true → is_poly (rounded d p) ≡ true
   poly-rounded p h =
       let ts = (out-Body p).terms in
       let t = poly_terms p h in
-      poly_of_terms (rounded_terms d ts) (record { keys = keys-rounded is_normal_mono ts t.keys; fits = all_fit-rounded ts t.fits; listed = listed-rounded ts t.listed })
+      poly_of_terms (rounded_terms d ts) (record {
+        keys = keys-rounded is_normal_mono ts t.keys;
+        fits = all_fit-rounded ts t.fits;
+        listed =
+            listed-rounded ts t.listed;
+      })
       (small-rounded p (and_parts (is_normal p) (is_small p) h).1)
 
 -- a divisor above 0

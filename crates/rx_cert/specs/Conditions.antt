@@ -41,7 +41,8 @@ shown_or Beyond i later = None
 shown_or Yes i later = later
 shown_or No i later = Some (NotShown i)
 
--- the rows in order, the first being number i, with the certificates that are left; as many are given as are asked for
+-- the rows in order, the first being number i, with the certificates that are left; as many are
+-- given as are asked for
 abbrev pub in_order : ℕ → List Row → List Row → List Cert → Option ConditionsAnswer
 in_order i given [] certs = Some Shown
 in_order i given (row ∷ rows) [] =
@@ -52,9 +53,11 @@ in_order i given (row ∷ rows) (cert ∷ certs) =
 
 -- as many certificates as are asked for, and then row by row
 abbrev pub counted : List Row → List Row → List Cert → Option ConditionsAnswer
-counted given rows certs = if length certs == asked_for given rows then in_order 0 given rows certs else Some WrongCount
+counted given rows certs =
+    if length certs == asked_for given rows then in_order 0 given rows certs else Some WrongCount
 
--- where a row of the list passes the limits itself there are no rows, and nothing else is looked at; `None` is also the answer where a certificate comes to a polynomial that passes them
+-- where a row of the list passes the limits itself there are no rows, and nothing else is looked
+-- at; `None` is also the answer where a certificate comes to a polynomial that passes them
 abbrev pub conditions : List Row → Option (List Row) → List Cert → Option ConditionsAnswer
 conditions given None certs = None
 conditions given (Some rows) certs = counted given rows certs

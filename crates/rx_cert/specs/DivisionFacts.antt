@@ -1,4 +1,5 @@
--- What is known of a dividend, its quotient q and its remainder r by a number that isn't 0, truncated toward zero; a is the divisor without its sign.
+-- What is known of a dividend, its quotient q and its remainder r by a number that isn't 0,
+-- truncated toward zero; a is the divisor without its sign.
 use Rattle.std.specs.Prelude.{Bool, ◌&&◌, List, [], ◌∷◌, ℤ, pos, ◌-ℤ◌, unsigned_abs}
 use Rattle.rx_plain.specs.Formed.{Formed}
 use Rattle.rx_poly.specs.Constants.{number}
@@ -18,10 +19,12 @@ remainder_by dividend divisor = remainder_of dividend (number divisor)
 
 -- dividend - divisor*q - r, from left to right
 abbrev pub without_quotient : Body → ℤ → Body
-without_quotient dividend divisor = subtracted dividend (scaled_by divisor (quotient_by dividend divisor))
+without_quotient dividend divisor =
+    subtracted dividend (scaled_by divisor (quotient_by dividend divisor))
 
 abbrev pub nothing_left : Body → ℤ → Body
-nothing_left dividend divisor = subtracted (without_quotient dividend divisor) (remainder_by dividend divisor)
+nothing_left dividend divisor =
+    subtracted (without_quotient dividend divisor) (remainder_by dividend divisor)
 
 -- a - 1
 abbrev pub greatest_remainder : ℤ → Body
@@ -30,34 +33,47 @@ greatest_remainder divisor = number (pos (unsigned_abs divisor) -ℤ pos 1)
 -- q, r, divisor*q, dividend - divisor*q, dividend - divisor*q - r and a keep the limits
 abbrev pub division_within : Body → ℤ → Bool
 division_within dividend divisor =
-    is_within (quotient_by dividend divisor) && (is_within (remainder_by dividend divisor) && (is_within (scaled_by divisor (quotient_by dividend divisor))
-    && (is_within (without_quotient dividend divisor) && (is_within (nothing_left dividend divisor) && fits_i128 (pos (unsigned_abs divisor))))))
+    is_within (quotient_by dividend divisor) &&
+    (is_within (remainder_by dividend divisor) &&
+    (is_within (scaled_by divisor (quotient_by dividend divisor))
+    && (is_within (without_quotient dividend divisor) &&
+    (is_within (nothing_left dividend divisor) && fits_i128 (pos (unsigned_abs divisor))))))
 
--- what a division leaves: dividend - divisor*q - r, r and a - 1, and whether all on the way keeps the limits
+-- what a division leaves: dividend - divisor*q - r, r and a - 1, and whether all on the way keeps
+-- the limits
 abbrev pub division_formed : Body → ℤ → Formed (Body × Body × Body)
 division_formed dividend divisor = record {
   form = (nothing_left dividend divisor, remainder_by dividend divisor, greatest_remainder divisor);
   within = division_within dividend divisor;
 }
 
--- where the dividend is at least 0: dividend >= 0, dividend - divisor*q - r = 0, r >= 0, a - 1 - r >= 0
+-- where the dividend is at least 0: dividend >= 0, dividend - divisor*q - r = 0, r >= 0, a - 1 - r
+-- >= 0
 abbrev pub rows_at_least_zero : Body → ℤ → List Row
 rows_at_least_zero dividend divisor =
-    Ge dividend ∷ Eq (nothing_left dividend divisor) ∷ Ge (remainder_by dividend divisor) ∷ Ge (subtracted (greatest_remainder divisor) (remainder_by dividend divisor)) ∷ []
+    Ge dividend ∷ Eq (nothing_left dividend divisor) ∷ Ge (remainder_by dividend divisor) ∷
+    Ge (subtracted (greatest_remainder divisor) (remainder_by dividend divisor)) ∷ []
 
 abbrev pub at_least_zero_within : Body → ℤ → Bool
-at_least_zero_within dividend divisor = division_within dividend divisor && is_within (subtracted (greatest_remainder divisor) (remainder_by dividend divisor))
+at_least_zero_within dividend divisor =
+    division_within dividend divisor && is_within
+    (subtracted (greatest_remainder divisor) (remainder_by dividend divisor))
 
 -- where it is below: -dividend - 1 >= 0, dividend - divisor*q - r = 0, -r >= 0, a - 1 + r >= 0
 abbrev pub rows_below_zero : Body → ℤ → List Row
 rows_below_zero dividend divisor =
-    negation (Ge dividend) ∷ Eq (nothing_left dividend divisor) ∷ Ge (opposite (remainder_by dividend divisor)) ∷ Ge (added (greatest_remainder divisor) (remainder_by dividend divisor)) ∷ []
+    negation (Ge dividend) ∷ Eq (nothing_left dividend divisor) ∷
+    Ge (opposite (remainder_by dividend divisor)) ∷
+    Ge (added (greatest_remainder divisor) (remainder_by dividend divisor)) ∷ []
 
 abbrev pub below_zero_within : Body → ℤ → Bool
 below_zero_within dividend divisor =
-    negation_within (Ge dividend) && (division_within dividend divisor && (is_within (opposite (remainder_by dividend divisor)) && is_within (added (greatest_remainder divisor) (remainder_by dividend divisor))))
+    negation_within (Ge dividend) && (division_within dividend divisor &&
+    (is_within (opposite (remainder_by dividend divisor)) &&
+    is_within (added (greatest_remainder divisor) (remainder_by dividend divisor))))
 
--- the same rows of a division whose parts are formed, and whether what is formed of them keeps the limits: where the dividend is at least 0
+-- the same rows of a division whose parts are formed, and whether what is formed of them keeps the
+-- limits: where the dividend is at least 0
 abbrev pub facts_at_least_zero : Body → Body → Body → Body → Formed (List Row)
 facts_at_least_zero dividend equation rest bound = record {
   form = Ge dividend ∷ Eq equation ∷ Ge rest ∷ Ge (subtracted bound rest) ∷ [];
@@ -68,5 +84,6 @@ facts_at_least_zero dividend equation rest bound = record {
 abbrev pub facts_below_zero : Body → Body → Body → Body → Formed (List Row)
 facts_below_zero dividend equation rest bound = record {
   form = negation (Ge dividend) ∷ Eq equation ∷ Ge (opposite rest) ∷ Ge (added bound rest) ∷ [];
-  within = negation_within (Ge dividend) && (is_within (opposite rest) && is_within (added bound rest));
+  within =
+      negation_within (Ge dividend) && (is_within (opposite rest) && is_within (added bound rest));
 }

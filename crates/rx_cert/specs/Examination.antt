@@ -1,4 +1,5 @@
--- Whether a certificate refutes rows: by cases over its kind, its parts examined from left to right. New rows go after the others, also where they are there already.
+-- Whether a certificate refutes rows: by cases over its kind, its parts examined from left to
+-- right. New rows go after the others, also where they are there already.
 use Rattle.std.specs.Prelude.{if◌then◌else◌, List, [], ◌∷◌, ◌++◌, slice_get}
 use Rattle.rx_poly.specs.Terms.{is_zero}
 use Rattle.rx_row.specs.Negation.{negation, negation_within}
@@ -17,12 +18,15 @@ use Rattle.rx_cert.specs.declared.cert.Cert.TheFolds.{fold-Cert}
 -- what is found of rows, by what the certificates inside find of the rows that they are given
 abbrev pub level : Cert-F (List Row → Said) → List Row → Said
 level (Cert-F.Sum parts) rows = sum_finding rows parts
-level (Cert-F.Cut parts d rest) rows = within (parts_within rows parts) (with_row rows (rounding_row d (sum_of rows parts)) rest)
+level (Cert-F.Cut parts d rest) rows =
+    within (parts_within rows parts) (with_row rows (rounding_row d (sum_of rows parts)) rest)
 level (Cert-F.Split row holds fails) rows = both
     (holds (rows ++ row ∷ []))
     (within (negation_within row) (fails (rows ++ negation row ∷ [])))
-level (Cert-F.Differ at above below) rows = differ_finding (disequal (slice_get rows at)) rows above below
-level (Cert-F.Solve first second x rest) rows = solve_finding x (zero_polynomial rows first second) rows rest
+level (Cert-F.Differ at above below) rows =
+    differ_finding (disequal (slice_get rows at)) rows above below
+level (Cert-F.Solve first second x rest) rows =
+    solve_finding x (zero_polynomial rows first second) rows rest
 level (Cert-F.DivFacts num d above below) rows = if is_zero d then No else both
     (within (at_least_zero_within num d) (above (rows ++ rows_at_least_zero num d)))
     (within (below_zero_within num d) (below (rows ++ rows_below_zero num d)))

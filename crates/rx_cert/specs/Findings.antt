@@ -1,4 +1,5 @@
--- What is found of rows. An examination goes from left to right and ends at the first thing that decides.
+-- What is found of rows. An examination goes from left to right and ends at the first thing that
+-- decides.
 use Rattle.std.specs.Prelude.{Bool, true, false, Option, Some, None, List, [], ◌∷◌, ◌++◌}
 use Rattle.rx_row.specs.declared.row.Row.{Row}
 

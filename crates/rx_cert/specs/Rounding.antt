@@ -1,4 +1,5 @@
--- A sum of rows that is divided by a number and rounded down, coefficient by coefficient. The number divides all but the constant exactly.
+-- A sum of rows that is divided by a number and rounded down, coefficient by coefficient. The
+-- number divides all but the constant exactly.
 use Rattle.std.specs.Prelude.{ℕ, Bool, true, ◌&&◌, ◌||◌, if◌then◌else◌, Option, Some, None, List, [], ◌∷◌, ℤ, pos, int_lt}
 use Rattle.std.specs.Int.{int_div_euclid, int_rem_euclid}
 use Rattle.rx_plain.specs.Formed.{Formed}
@@ -19,7 +20,8 @@ divides d c = is_zero (int_rem_euclid c d)
 abbrev pub is_one : Mono → Bool
 is_one m = is_empty (out-Mono m).atoms
 
--- each coefficient but the constant is a multiple of the divisor; in a normal form the constant is the last of the terms
+-- each coefficient but the constant is a multiple of the divisor; in a normal form the constant is
+-- the last of the terms
 abbrev pub divides_terms : ℤ → List (Mono × ℤ) → Bool
 divides_terms d [] = true
 divides_terms d (t ∷ []) = is_one t.0 || divides d t.1
@@ -44,4 +46,5 @@ rounding_row d (Some p) = if can_be_rounded_by d p then Some (Ge (rounded d p)) 
 
 -- the row of a rounded sum of parts, and whether all on the way to the sum keeps the limits
 abbrev pub rounding_formed : ℤ → List Row → List (ℕ × ℤ) → Formed (Option Row)
-rounding_formed d rows ps = record { form = rounding_row d (sum_of rows ps); within = parts_within rows ps }
+rounding_formed d rows ps =
+    record { form = rounding_row d (sum_of rows ps); within = parts_within rows ps }

@@ -7,7 +7,8 @@ use Rattle.rx_cert.specs.Examination.{finding}
 use Rattle.rx_cert.specs.Findings.{Said, Yes, both, within}
 use Rattle.rx_cert.specs.declared.cert.Cert.{Cert}
 
--- what is said of the given rows with the negation of the row after them; beyond where the negation passes the limits
+-- what is said of the given rows with the negation of the row after them; beyond where the negation
+-- passes the limits
 abbrev pub negation_said : (List Row → Said) → List Row → Row → Said
 negation_said says given row = within (negation_within row) (says (given ++ negation row ∷ []))
 
@@ -22,4 +23,5 @@ all_shown says given (row ∷ rows) = both (shown says given row) (all_shown say
 
 -- what is said to be refuted has a certificate
 abbrev pub HasCertificates : (List Row → Said) → Type 0
-HasCertificates says = (rows : List Row) → says rows ≡ Yes → (cert : Cert) × (finding rows cert ≡ Yes)
+HasCertificates says =
+    (rows : List Row) → says rows ≡ Yes → (cert : Cert) × (finding rows cert ≡ Yes)

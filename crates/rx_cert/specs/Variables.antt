@@ -1,4 +1,5 @@
--- Tests that the variables of rows, and of a certificate, pass, at every level: that all are below a number, say, or that all are a list's.
+-- Tests that the variables of rows, and of a certificate, pass, at every level: that all are below
+-- a number, say, or that all are a list's.
 use Rattle.std.specs.Prelude.{ℕ, Bool, true, ◌&&◌, nat_lt, List}
 use Rattle.std.specs.List.{list_all}
 use Rattle.rx_poly_laws.specs.Tests.{passes}

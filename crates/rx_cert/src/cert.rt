@@ -10,8 +10,8 @@ use std::alloc::{AllocError, Global};
 /// Which rows are summed: their numbers, counted from 0, each with its multiplier.
 pub type Parts = Items<(u32, i128)>;
 
-/// Why no integers meet a list of rows. All kinds but the first go on with more rows after those, or with
-/// others in their place.
+/// Why no integers meet a list of rows. All kinds but the first go on with more rows after those,
+/// or with others in their place.
 #[derive(Debug, Drop, PartialEq, Eq)]
 pub enum Cert {
     /// A sum of the rows is a negative number.
@@ -54,8 +54,8 @@ pub enum Cert {
         /// What refutes the rows with its value in its place.
         rest: Boxed<Cert>,
     },
-    /// What is known of the quotient and the remainder by a number: where the dividend is at least 0, and where
-    /// it is below.
+    /// What is known of the quotient and the remainder by a number: where the dividend is at least
+    /// 0, and where it is below.
     DivFacts {
         /// The dividend.
         num: Poly,
@@ -85,7 +85,8 @@ fn copy_parts(alloc: Global, parts: &Parts) -> Result<Parts, AllocError>
 }
 
 impl Cert {
-    /// How deep the certificate is: 1, and 1 more for each level of certificates in it. Takes no memory.
+    /// How deep the certificate is: 1, and 1 more for each level of certificates in it. Takes no
+    /// memory.
     pub fn depth(&self) -> u32
         requires { cert_depth self.now < 2 ^ 32 }
         ensures { result ≡ cert_depth self.now }

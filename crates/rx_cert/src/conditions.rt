@@ -35,7 +35,8 @@ fn says_evident(row: &Row) -> bool
     }
 }
 
-/// Whether the row follows from the rows without a certificate: it is one of them, or it is `k >= 0`, `0 = 0` or
+/// Whether the row follows from the rows without a certificate: it is one of them, or it is `k >=
+/// 0`, `0 = 0` or
 /// `k != 0` of a number for which that is so. Takes no memory.
 pub fn is_plain(rows: &Constraint, row: &Row) -> bool
     ensures plain { result ≡ is_plain_row rows.now row.now }
@@ -59,7 +60,8 @@ fn examine_in_order(
     certs: &[Cert],
 ) -> Result<ConditionsAnswer, PolyEnd>
     ensures answer { IfOk result (λ c. in_order 0 given.now rows.now certs.now ≡ Some c) }
-    ensures large { IfErr result (λ e. e ≡ PolyEnd.Large → in_order 0 given.now rows.now certs.now ≡ None) }
+    ensures large { IfErr result (λ e. e ≡ PolyEnd.Large → in_order 0 given.now rows.now certs.now ≡
+        None) }
 {
     let mut lent = copy_rows(alloc, given.rows())?;
     let mut left = certs;
@@ -78,10 +80,11 @@ fn examine_in_order(
     Ok(ConditionsAnswer::Shown)
 }
 
-/// Whether the rows follow from the given ones, with one certificate for each that isn't plain. The number of
-/// certificates is looked at first, then the rows are taken in order. Large exactly where a certificate, or the
-/// negation of its row, comes to a polynomial that passes the limits before another answer is found. A caller
-/// that forms the rows answers Large first where one of them passes the limits.
+/// Whether the rows follow from the given ones, with one certificate for each that isn't plain. The
+/// number of certificates is looked at first, then the rows are taken in order. Large exactly where
+/// a certificate, or the negation of its row, comes to a polynomial that passes the limits before
+/// another answer is found. A caller that forms the rows answers Large first where one of them
+/// passes the limits.
 pub fn check_conditions(
     alloc: Global,
     given: &Constraint,
@@ -89,8 +92,10 @@ pub fn check_conditions(
     certs: &[Cert],
 ) -> Result<ConditionsAnswer, PolyEnd>
     ensures answer { IfOk result (λ c. conditions given.now (Some rows.now) certs.now ≡ Some c) }
-    ensures large { IfErr result (λ e. e ≡ PolyEnd.Large → conditions given.now (Some rows.now) certs.now ≡ None) }
-    ensures holds { IfOk result (λ c. c ≡ ConditionsAnswer.Shown → (a : ℕ → ℤ) → AllHold a given.now → AllHold a rows.now) }
+    ensures large { IfErr result (λ e. e ≡ PolyEnd.Large →
+        conditions given.now (Some rows.now) certs.now ≡ None) }
+    ensures holds { IfOk result (λ c. c ≡ ConditionsAnswer.Shown → (a : ℕ → ℤ) →
+        AllHold a given.now → AllHold a rows.now) }
 {
     if certs.len() != count_asked(given, rows) {
         return Ok(ConditionsAnswer::WrongCount);

@@ -30,7 +30,8 @@ fn remainder(alloc: Global, num: &Poly, den: &i128) -> Result<Poly, PolyEnd>
 fn size_minus_one(alloc: Global, den: &i128) -> Result<Poly, PolyEnd>
     ensures same { IfOk result (λ p. p ≡ greatest_remainder den.now) }
     ensures within { OnOk result (fits_i128 (pos (unsigned_abs den.now)) ≡ true) }
-    ensures large { IfErr result (λ e. e ≡ PolyEnd.Large → fits_i128 (pos (unsigned_abs den.now)) ≡ false) }
+    ensures large { IfErr result (λ e. e ≡ PolyEnd.Large → fits_i128 (pos (unsigned_abs den.now)) ≡
+        false) }
 {
     match den.checked_abs() {
         Some(size) => Ok(Poly::constant(alloc, size - 1)?),
@@ -53,7 +54,8 @@ pub struct Division {
 /// polynomial on the way passes the limits.
 pub fn divide(alloc: Global, num: &Poly, den: &i128) -> Result<Division, PolyEnd>
     requires { is_zero den.now ≡ false }
-    ensures forms { FormsAs (λ d. (d.equation, d.rest, d.bound)) PolyEnd.Large result (division_formed num.now den.now) }
+    ensures forms { FormsAs (λ d. (d.equation, d.rest, d.bound)) PolyEnd.Large result
+        (division_formed num.now den.now) }
 {
     let quotient = quotient(alloc, num, den)?;
     let rest = remainder(alloc, num, den)?;
@@ -89,7 +91,8 @@ pub fn facts_at_least_zero(
     num: &Poly,
     division: &Division,
 ) -> Result<Vec<Row>, PolyEnd>
-    ensures forms { FormsAs (λ v. v.items) PolyEnd.Large result (facts_at_least_zero num.now division.now.equation division.now.rest division.now.bound) }
+    ensures forms { FormsAs (λ v. v.items) PolyEnd.Large result
+        (facts_at_least_zero num.now division.now.equation division.now.rest division.now.bound) }
 {
     let room = division.bound.sub(alloc, &division.rest)?;
     let num = num.try_clone(alloc)?;
@@ -106,7 +109,8 @@ pub fn facts_at_least_zero(
 
 /// The facts of a dividend below 0. Large exactly where a polynomial on the way passes the limits.
 pub fn facts_below_zero(alloc: Global, num: &Poly, division: &Division) -> Result<Vec<Row>, PolyEnd>
-    ensures forms { FormsAs (λ v. v.items) PolyEnd.Large result (facts_below_zero num.now division.now.equation division.now.rest division.now.bound) }
+    ensures forms { FormsAs (λ v. v.items) PolyEnd.Large result
+        (facts_below_zero num.now division.now.equation division.now.rest division.now.bound) }
 {
     let below = row_below(alloc, num)?;
     let negated = division.rest.scale(alloc, -1)?;

@@ -15,7 +15,8 @@ use std::alloc::Global;
 
 /// Whether the two terms have one monomial and opposite coefficients.
 fn is_opposite(left: &(Mono, i128), right: &(Mono, i128)) -> bool
-    ensures { result ≡ (is_eq (mono_cmp left.now.0 right.now.0) && is_zero (left.now.1 +ℤ right.now.1)) }
+    ensures { result ≡ (is_eq (mono_cmp left.now.0 right.now.0) &&
+        is_zero (left.now.1 +ℤ right.now.1)) }
 {
     left.0.cmp(&right.0).is_eq() && are_opposite_numbers(&left.1, &right.1)
 }
@@ -75,7 +76,8 @@ pub fn polynomial_at_zero(rows: &[Row], first: u32, second: u32) -> Option<&Poly
 fn solved_plus(alloc: Global, poly: &Poly, alone: &Poly, var: u32) -> Result<Option<Poly>, PolyEnd>
     ensures value { IfOk result (λ s. s ≡ solution_plus var (subtracted poly.now alone.now)) }
     ensures within { OnOk result (solution_plus_within var (subtracted poly.now alone.now) ≡ true) }
-    ensures large { IfErr result (λ e. e ≡ PolyEnd.Large → solution_plus_within var (subtracted poly.now alone.now) ≡ false) }
+    ensures large { IfErr result (λ e. e ≡ PolyEnd.Large →
+        solution_plus_within var (subtracted poly.now alone.now) ≡ false) }
 {
     let rest = poly.sub(alloc, alone)?;
     if uses(&rest, var) {
@@ -88,7 +90,8 @@ fn solved_plus(alloc: Global, poly: &Poly, alone: &Poly, var: u32) -> Result<Opt
 fn solved_minus(alloc: Global, poly: &Poly, alone: &Poly, var: u32) -> Result<Option<Poly>, PolyEnd>
     ensures value { IfOk result (λ s. s ≡ solution_minus var (added poly.now alone.now)) }
     ensures within { OnOk result (is_within (added poly.now alone.now) ≡ true) }
-    ensures large { IfErr result (λ e. e ≡ PolyEnd.Large → is_within (added poly.now alone.now) ≡ false) }
+    ensures large { IfErr result (λ e. e ≡ PolyEnd.Large → is_within (added poly.now alone.now) ≡
+        false) }
 {
     let rest = poly.add(alloc, alone)?;
     if uses(&rest, var) {

@@ -1,5 +1,5 @@
-//! The examination of a certificate. The rows are borrowed: what a branch puts after them it takes off again,
-//! and only the elimination of a variable makes a new list.
+//! The examination of a certificate. The rows are borrowed: what a branch puts after them it takes
+//! off again, and only the elimination of a variable makes a new list.
 ghost use Rattle.std.specs.Prelude.{◌≡◌, ◌∷◌, ◌++◌, [], IfOk, IfErr, OnOk};
 ghost use Rattle.rx_cert.specs.Examination.{examined, finding, level};
 ghost use Rattle.rx_cert.specs.Findings.{Beyond, said};
@@ -26,7 +26,8 @@ fn examine_with(
     cert: &Boxed<Cert>,
 ) -> Result<bool, PolyEnd>
     ensures answer { IfOk result (λ b. finding (rows.old.items ++ row ∷ []) cert.now ≡ said b) }
-    ensures large { IfErr result (λ e. e ≡ PolyEnd.Large → finding (rows.old.items ++ row ∷ []) cert.now ≡ Beyond) }
+    ensures large { IfErr result (λ e. e ≡ PolyEnd.Large →
+        finding (rows.old.items ++ row ∷ []) cert.now ≡ Beyond) }
     ensures kept { OnOk result (rows.new.items ≡ rows.old.items) }
 {
     let count = rows.len();
@@ -45,7 +46,8 @@ fn examine_with_all(
     cert: &Boxed<Cert>,
 ) -> Result<bool, PolyEnd>
     ensures answer { IfOk result (λ b. finding (rows.old.items ++ more.items) cert.now ≡ said b) }
-    ensures large { IfErr result (λ e. e ≡ PolyEnd.Large → finding (rows.old.items ++ more.items) cert.now ≡ Beyond) }
+    ensures large { IfErr result (λ e. e ≡ PolyEnd.Large →
+        finding (rows.old.items ++ more.items) cert.now ≡ Beyond) }
     ensures kept { OnOk result (rows.new.items ≡ rows.old.items) }
 {
     let count = rows.len();
@@ -64,8 +66,10 @@ fn examine_cut(
     div: &i128,
     rest: &Boxed<Cert>,
 ) -> Result<bool, PolyEnd>
-    ensures answer { IfOk result (λ b. level (Cert-F.Cut parts.now div.now (examined rest.now)) rows.old.items ≡ said b) }
-    ensures large { IfErr result (λ e. e ≡ PolyEnd.Large → level (Cert-F.Cut parts.now div.now (examined rest.now)) rows.old.items ≡ Beyond) }
+    ensures answer { IfOk result (λ b. level (Cert-F.Cut parts.now div.now (examined rest.now))
+        rows.old.items ≡ said b) }
+    ensures large { IfErr result (λ e. e ≡ PolyEnd.Large →
+        level (Cert-F.Cut parts.now div.now (examined rest.now)) rows.old.items ≡ Beyond) }
     ensures kept { OnOk result (rows.new.items ≡ rows.old.items) }
 {
     match rounded_row(alloc, rows.as_slice(), parts, div)? {
@@ -83,8 +87,10 @@ fn examine_split(
     yes: &Boxed<Cert>,
     no: &Boxed<Cert>,
 ) -> Result<bool, PolyEnd>
-    ensures answer { IfOk result (λ b. level (Cert-F.Split row.now (examined yes.now) (examined no.now)) rows.old.items ≡ said b) }
-    ensures large { IfErr result (λ e. e ≡ PolyEnd.Large → level (Cert-F.Split row.now (examined yes.now) (examined no.now)) rows.old.items ≡ Beyond) }
+    ensures answer { IfOk result (λ b. level (Cert-F.Split row.now (examined yes.now)
+        (examined no.now)) rows.old.items ≡ said b) }
+    ensures large { IfErr result (λ e. e ≡ PolyEnd.Large →
+        level (Cert-F.Split row.now (examined yes.now) (examined no.now)) rows.old.items ≡ Beyond) }
     ensures kept { OnOk result (rows.new.items ≡ rows.old.items) }
 {
     let same = row.try_clone(alloc)?;
@@ -104,8 +110,10 @@ fn examine_differ(
     pos: &Boxed<Cert>,
     neg: &Boxed<Cert>,
 ) -> Result<bool, PolyEnd>
-    ensures answer { IfOk result (λ b. level (Cert-F.Differ at (examined pos.now) (examined neg.now)) rows.old.items ≡ said b) }
-    ensures large { IfErr result (λ e. e ≡ PolyEnd.Large → level (Cert-F.Differ at (examined pos.now) (examined neg.now)) rows.old.items ≡ Beyond) }
+    ensures answer { IfOk result (λ b. level (Cert-F.Differ at (examined pos.now)
+        (examined neg.now)) rows.old.items ≡ said b) }
+    ensures large { IfErr result (λ e. e ≡ PolyEnd.Large →
+        level (Cert-F.Differ at (examined pos.now) (examined neg.now)) rows.old.items ≡ Beyond) }
     ensures kept { OnOk result (rows.new.items ≡ rows.old.items) }
 {
     let Some(poly) = disequal_at(alloc, rows.as_slice(), at)? else {
@@ -129,8 +137,10 @@ fn examine_solve(
     var: u32,
     rest: &Boxed<Cert>,
 ) -> Result<bool, PolyEnd>
-    ensures answer { IfOk result (λ b. level (Cert-F.Solve first second var (examined rest.now)) rows.now ≡ said b) }
-    ensures large { IfErr result (λ e. e ≡ PolyEnd.Large → level (Cert-F.Solve first second var (examined rest.now)) rows.now ≡ Beyond) }
+    ensures answer { IfOk result (λ b. level (Cert-F.Solve first second var (examined rest.now))
+        rows.now ≡ said b) }
+    ensures large { IfErr result (λ e. e ≡ PolyEnd.Large →
+        level (Cert-F.Solve first second var (examined rest.now)) rows.now ≡ Beyond) }
 {
     let Some(poly) = polynomial_at_zero(rows, first, second) else {
         return Ok(false);
@@ -153,8 +163,11 @@ fn examine_division(
     pos: &Boxed<Cert>,
     neg: &Boxed<Cert>,
 ) -> Result<bool, PolyEnd>
-    ensures answer { IfOk result (λ b. level (Cert-F.DivFacts num.now den.now (examined pos.now) (examined neg.now)) rows.old.items ≡ said b) }
-    ensures large { IfErr result (λ e. e ≡ PolyEnd.Large → level (Cert-F.DivFacts num.now den.now (examined pos.now) (examined neg.now)) rows.old.items ≡ Beyond) }
+    ensures answer { IfOk result (λ b. level (Cert-F.DivFacts num.now den.now (examined pos.now)
+        (examined neg.now)) rows.old.items ≡ said b) }
+    ensures large { IfErr result (λ e. e ≡ PolyEnd.Large →
+        level (Cert-F.DivFacts num.now den.now (examined pos.now) (examined neg.now)) rows.old.items
+        ≡ Beyond) }
     ensures kept { OnOk result (rows.new.items ≡ rows.old.items) }
 {
     if *den == 0 {
@@ -169,8 +182,8 @@ fn examine_division(
     examine_with_all(alloc, rows, below, neg)
 }
 
-/// Whether the certificate refutes the rows, which are the same again after it. Large exactly where a
-/// polynomial passes the limits before that is seen.
+/// Whether the certificate refutes the rows, which are the same again after it. Large exactly where
+/// a polynomial passes the limits before that is seen.
 #[cycle(examination)]
 #[tactic(auto, using(crate::proofs::Equations::finding_sum, crate::proofs::Equations::finding_cut, crate::proofs::Equations::finding_split, crate::proofs::Equations::finding_differ, crate::proofs::Equations::finding_solve, crate::proofs::Equations::finding_division, crate::proofs::Equations::depth_cut, crate::proofs::Equations::depth_split, crate::proofs::Equations::depth_differ, crate::proofs::Equations::depth_solve, crate::proofs::Equations::depth_division))]
 pub(crate) fn examine(alloc: Global, rows: &mut Vec<Row>, cert: &Cert) -> Result<bool, PolyEnd>

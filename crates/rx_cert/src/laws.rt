@@ -11,6 +11,7 @@ ghost use Rattle.rx_row.specs.declared.row.Row.{Row};
 /// that makes the condition list shown.
 #[tactic(auto, using(crate::proofs::ShowingLaws::shown_have_certificates))]
 pub fn shown_rows_have_certificates()
-    ensures { (says : List Row → Said) → HasCertificates says → (given rows : List Row) → all_shown says given rows ≡ Yes →
+    ensures { (says : List Row → Said) → HasCertificates says → (given rows : List Row) →
+        all_shown says given rows ≡ Yes →
         (certs : List Cert) × (conditions given (Some rows) certs ≡ Some Shown) }
 {}

@@ -21,8 +21,8 @@ pub(crate) fn copy_rows(alloc: Global, rows: &[Row]) -> Result<Vec<Row>, AllocEr
     Ok(copies)
 }
 
-/// Whether the certificate refutes the rows with the negation of one more after them, also where that stands
-/// there already. The rows are the same again after it.
+/// Whether the certificate refutes the rows with the negation of one more after them, also where
+/// that stands there already. The rows are the same again after it.
 pub(crate) fn examine_negation(
     alloc: Global,
     rows: &mut Vec<Row>,
@@ -30,7 +30,8 @@ pub(crate) fn examine_negation(
     cert: &Cert,
 ) -> Result<bool, PolyEnd>
     ensures answer { IfOk result (λ b. row_finding rows.old.items row.now cert.now ≡ said b) }
-    ensures large { IfErr result (λ e. e ≡ PolyEnd.Large → row_finding rows.old.items row.now cert.now ≡ Beyond) }
+    ensures large { IfErr result (λ e. e ≡ PolyEnd.Large →
+        row_finding rows.old.items row.now cert.now ≡ Beyond) }
     ensures kept { OnOk result (rows.new.items ≡ rows.old.items) }
 {
     let count = rows.len();
@@ -41,9 +42,9 @@ pub(crate) fn examine_negation(
     Ok(found)
 }
 
-/// Whether the certificate refutes the rows: then no assignment of integers meets them. Its parts are examined
-/// from left to right, and the first that is false ends the examination. Large exactly where a polynomial passes
-/// the limits before that.
+/// Whether the certificate refutes the rows: then no assignment of integers meets them. Its parts
+/// are examined from left to right, and the first that is false ends the examination. Large exactly
+/// where a polynomial passes the limits before that.
 pub fn shows(alloc: Global, rows: &Constraint, cert: &Cert) -> Result<bool, PolyEnd>
     ensures answer { IfOk result (λ b. finding rows.now cert.now ≡ said b) }
     ensures refuted { IfOk result (λ b. IsTrue b → (a : ℕ → ℤ) → ¬ (AllHold a rows.now)) }
@@ -53,13 +54,15 @@ pub fn shows(alloc: Global, rows: &Constraint, cert: &Cert) -> Result<bool, Poly
     examine(alloc, &mut lent, cert)
 }
 
-/// Whether the certificate refutes the rows with the negation of the row after them: then the row holds under
-/// each assignment that meets the rows. Large exactly where the negation, or a polynomial on the way of the
-/// certificate, passes the limits before the answer is found.
+/// Whether the certificate refutes the rows with the negation of the row after them: then the row
+/// holds under each assignment that meets the rows. Large exactly where the negation, or a
+/// polynomial on the way of the certificate, passes the limits before the answer is found.
 pub fn shows_row(alloc: Global, rows: &Constraint, row: &Row, cert: &Cert) -> Result<bool, PolyEnd>
     ensures answer { IfOk result (λ b. row_finding rows.now row.now cert.now ≡ said b) }
-    ensures holds { IfOk result (λ b. IsTrue b → (a : ℕ → ℤ) → AllHold a rows.now → RowHolds a row.now) }
-    ensures large { IfErr result (λ e. e ≡ PolyEnd.Large → row_finding rows.now row.now cert.now ≡ Beyond) }
+    ensures holds { IfOk result (λ b. IsTrue b → (a : ℕ → ℤ) → AllHold a rows.now →
+        RowHolds a row.now) }
+    ensures large { IfErr result (λ e. e ≡ PolyEnd.Large → row_finding rows.now row.now cert.now ≡
+        Beyond) }
 {
     let mut lent = copy_rows(alloc, rows.rows())?;
     examine_negation(alloc, &mut lent, row, cert)

@@ -65,7 +65,8 @@ fn push_rounded(
     term: &(Mono, i128),
 ) -> Result<(), AllocError>
     requires { pos 0 <ℤ div.now }
-    ensures { OnOk result (terms.new ≡ terms.old ++ put term.now.0 (int_div_euclid term.now.1 div.now) []) }
+    ensures { OnOk result (terms.new ≡ terms.old ++
+        put term.now.0 (int_div_euclid term.now.1 div.now) []) }
 {
     let quotient = rounded_down(div, &term.1);
     if quotient == 0 {

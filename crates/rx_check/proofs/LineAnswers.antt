@@ -30,63 +30,88 @@ use Rattle.rx_check.proofs.LineOrder.{after_all-append, pushed_all-append}
 use Rattle.rx_check.proofs.LineTurns.{AsksRanks, cover_judged, failed_stands, pair_judged}
 
 -- the trees of a symbol, examined
-pub cover_answers : {E : Type 0} (parts : RuleParts) (place : Place) (next : ℕ) (trees : List CoverTree) (progress : Progress)
+pub cover_answers : {E : Type 0} (parts : RuleParts) (place : Place) (next : ℕ)
+    (trees : List CoverTree) (progress : Progress)
     (outcome : Result (Unit {0}) CheckEnd) (r : Result (Option CheckEnd) E) → place ≡ InCovers next
-    → Finds (λ (done : Unit {0}). done) outcome (once_covered (goes_on next (one_covered parts next trees) Covers) passed)
+    → Finds (λ (done : Unit {0}). done) outcome
+    (once_covered (goes_on next (one_covered parts next trees) Covers) passed)
     → IfOk r (IsFailureOf outcome) → Judges parts place (line.Cover trees) progress progress r
 cover_answers parts place next trees progress outcome (Ok failure) at found is =
     cover_judged parts place trees progress failure (λ n here.
     let same : next ≡ n = cc in
-    subst (λ k. IsOutcome failure (once_covered (goes_on k (one_covered parts k trees) Covers) passed)) same
-    (ends_of tt (once_covered (goes_on next (one_covered parts next trees) Covers) passed) outcome failure is found))
+    subst (λ k. IsOutcome failure (once_covered (goes_on k (one_covered parts k trees) Covers)
+    passed)) same
+    (ends_of tt (once_covered (goes_on next (one_covered parts next trees) Covers) passed) outcome
+    failure is found))
 cover_answers parts place next trees progress outcome (Err none) at found is = refl
 
 -- what a step leaves of the hypotheses
-pub taken_rooted : (parts : RuleParts) (k : ℕ) (old new : State) (step : Step) (outcome : Result (Unit {0}) CheckEnd)
-    → Finds (λ (_ : Unit {0}). new) outcome (after_step k (applied parts old step)) → OnErr outcome (new ≡ old)
+pub taken_rooted : (parts : RuleParts) (k : ℕ) (old new : State) (step : Step)
+    (outcome : Result (Unit {0}) CheckEnd)
+    → Finds (λ (_ : Unit {0}). new) outcome (after_step k (applied parts old step)) →
+    OnErr outcome (new ≡ old)
     → All HasRoot old.hypotheses → All HasRoot new.hypotheses
-taken_rooted parts k old new step (Ok done) found kept rooted = step_rooted parts k old new step (applied parts old step) refl found rooted
-taken_rooted parts k old new step (Err end) found kept rooted = subst (λ (s : State). All HasRoot s.hypotheses) (sym kept) rooted
+taken_rooted parts k old new step (Ok done) found kept rooted =
+    step_rooted parts k old new step (applied parts old step) refl found rooted
+taken_rooted parts k old new step (Err end) found kept rooted =
+    subst (λ (s : State). All HasRoot s.hypotheses) (sym kept) rooted
 
 -- the next pair, examined
-pub pair_answers : (parts : RuleParts) (place : Place) (cert : PairCert) (old : Progress) (lower : ℕ) (failure : Option CheckEnd)
+pub pair_answers : (parts : RuleParts) (place : Place) (cert : PairCert) (old : Progress)
+    (lower : ℕ) (failure : Option CheckEnd)
     → AsksRanks parts place old.table None → lower ≡ old.lower + 1
-    → (lent : List Pair) → lent ≡ old.pairs → (outcome : Result (Unit {0}) CheckEnd) → IsFailureOf outcome failure
+    → (lent : List Pair) → lent ≡ old.pairs → (outcome : Result (Unit {0}) CheckEnd) →
+    IsFailureOf outcome failure
     → Finds (λ (done : Unit {0}). done) outcome
-    (once_lower (lowering.goes_on old.lower (one_lower old.table (slice_get lent old.lower) cert) Descends) passed)
+    (once_lower (lowering.goes_on old.lower (one_lower old.table (slice_get lent old.lower) cert)
+    Descends) passed)
     → Judged parts place (line.Pair cert) old (record old { lower = lower }) failure
 pair_answers parts place cert old lower failure asks next lent same outcome is found =
     pair_judged parts place cert old lower failure asks next
-    (subst (λ pairs. IsOutcome failure (once_lower (lowering.goes_on old.lower (one_lower old.table (slice_get pairs old.lower) cert) Descends) passed)) same
-    (ends_of tt (once_lower (lowering.goes_on old.lower (one_lower old.table (slice_get lent old.lower) cert) Descends) passed) outcome failure is found))
+    (subst (λ pairs. IsOutcome failure (once_lower
+    (lowering.goes_on old.lower (one_lower old.table (slice_get pairs old.lower) cert) Descends)
+    passed)) same
+    (ends_of tt (once_lower (lowering.goes_on old.lower
+    (one_lower old.table (slice_get lent old.lower) cert) Descends) passed) outcome failure is
+    found))
 
 -- ---- what is kept
 
 -- behind a failure nothing changes
-pub still_stands : (parts : RuleParts) (goal : Equation) (place : Place) (log : Log) (progress : Progress) (failure : Option CheckEnd)
-    (next : Line) (symbol : ℕ) (behind : Place) → is_some failure ≡ true → Stands parts goal place log progress failure
-    → after place (next, symbol) ≡ Some behind → Stands parts goal behind (pushed next log) progress failure
+pub still_stands : (parts : RuleParts) (goal : Equation) (place : Place) (log : Log)
+    (progress : Progress) (failure : Option CheckEnd)
+    (next : Line) (symbol : ℕ) (behind : Place) → is_some failure ≡ true →
+    Stands parts goal place log progress failure
+    → after place (next, symbol) ≡ Some behind →
+    Stands parts goal behind (pushed next log) progress failure
 still_stands parts goal place log progress None next symbol behind some stands e = absurd cc
 still_stands parts goal place log progress (Some end) next symbol behind some stands e =
     failed_stands parts goal place log next symbol behind end stands e
 
 -- one line more
-pub line_stands : (parts : RuleParts) (goal : Equation) (its : List (Line × ℕ)) (next : Line) (symbol : ℕ) (behind : Place) (old new : Replayer)
-    → StandsFor old parts goal its → after old.place (next, symbol) ≡ Some behind → new.place ≡ behind
-    → Stands parts goal behind (pushed next (log_of its)) new.progress new.failure → StandsFor new parts goal (its ++ (next, symbol) ∷ [])
+pub line_stands : (parts : RuleParts) (goal : Equation) (its : List (Line × ℕ)) (next : Line)
+    (symbol : ℕ) (behind : Place) (old new : Replayer)
+    → StandsFor old parts goal its → after old.place (next, symbol) ≡ Some behind → new.place ≡
+    behind
+    → Stands parts goal behind (pushed next (log_of its)) new.progress new.failure →
+    StandsFor new parts goal (its ++ (next, symbol) ∷ [])
 line_stands parts goal its next symbol behind old new before e at stands = record {
   arrives = after_all-append (Some AtHeader) its ((next, symbol) ∷ [])
       ∙ ap (λ place. after_all place ((next, symbol) ∷ [])) before.arrives ∙ e ∙ ap Some (sym at);
   holds =
-      subst (λ place. Stands parts goal place (log_of (its ++ (next, symbol) ∷ [])) new.progress new.failure) (sym at)
-      (subst (λ log. Stands parts goal behind log new.progress new.failure) (sym (pushed_all-append blank its ((next, symbol) ∷ []))) stands);
+      subst (λ place. Stands parts goal place (log_of (its ++ (next, symbol) ∷ [])) new.progress
+      new.failure) (sym at)
+      (subst (λ log. Stands parts goal behind log new.progress new.failure)
+      (sym (pushed_all-append blank its ((next, symbol) ∷ []))) stands);
 }
 
 -- where the last line has come and nothing failed, the log is accepted
-pub all_accepted : (parts : RuleParts) (goal : Equation) (its : List (Line × ℕ)) (replayer : Replayer) → StandsFor replayer parts goal its
+pub all_accepted : (parts : RuleParts) (goal : Equation) (its : List (Line × ℕ))
+    (replayer : Replayer) → StandsFor replayer parts goal its
     → replayer.place ≡ Finished → replayer.failure ≡ None → IsAccepted parts goal (log_of its)
 all_accepted parts goal its replayer stands at none =
     let holds : Holds parts goal Finished (log_of its) replayer.progress =
     subst (λ place. Holds parts goal place (log_of its) replayer.progress) at
-    (subst (λ failure. Stands parts goal replayer.place (log_of its) replayer.progress failure) none stands.holds) in
+    (subst (λ failure. Stands parts goal replayer.place (log_of its) replayer.progress failure) none
+    stands.holds) in
     holds.known

@@ -1,4 +1,5 @@
--- Single checks of a log that is replayed line by line: what each comes to, and which logs then have its fault.
+-- Single checks of a log that is replayed line by line: what each comes to, and which logs then
+-- have its fault.
 use Rattle.std.proofs.Common.{◌≡◌, ◌∙◌, ap, sym, subst, refl, ℕ, Option, Some, None, Result, Ok, Err, List, [], ◌∷◌, length, ◌<◌, arith}
 use Rattle.rx_term.specs.declared.rule.Equation.{Equation}
 use Rattle.rx_term.specs.declared.rule_set.RuleParts.{RuleParts}
@@ -21,7 +22,8 @@ use Rattle.rx_check.specs.declared.check_end.CheckEnd.TheVariants as ends
 -- ---- ends of checks
 
 -- the failure that an outcome is, is what the check comes to
-pub ends_of : {A : Type 0} (x : A) (check : Checked A) (outcome : Result (Unit {0}) CheckEnd) (failure : Option CheckEnd)
+pub ends_of : {A : Type 0} (x : A) (check : Checked A) (outcome : Result (Unit {0}) CheckEnd)
+    (failure : Option CheckEnd)
     → IsFailureOf outcome failure → Finds (λ (_ : Unit {0}). x) outcome check → Ends failure x check
 ends_of x check (Ok done) failure is found = subst (λ f. Ends f x check) (sym is) found
 ends_of x check (Err end) failure is found =
@@ -29,7 +31,8 @@ ends_of x check (Err end) failure is found =
     (is.1.0, is.1.1, subst (λ o. Told o (λ fault. check ≡ Err fault)) is.1.1 found)
 
 -- an end that isn't want of memory names a fault
-pub names_fault : (end : CheckEnd) → (end ≡ ends.NoMemory → ⊥) → (fault : LogFault) × (named end ≡ Some fault)
+pub names_fault : (end : CheckEnd) → (end ≡ ends.NoMemory → ⊥) → (fault : LogFault) ×
+    (named end ≡ Some fault)
 names_fault (ends.Step k end) some = (log_fault.Refused k (fault end), refl)
 names_fault (ends.Unfinished n) some = (log_fault.Unfinished n, refl)
 names_fault (ends.NotCovered f) some = (log_fault.NotCovered f, refl)
@@ -43,7 +46,8 @@ covers_fail : {A : Type 0} (found : Covering) (next : Checked A) (fault : LogFau
     → once_covered found passed ≡ Err fault → once_covered found next ≡ Err fault
 covers_fail Covers next fault e = absurd cc
 covers_fail (Fails f) next fault e = let is : log_fault.NotCovered f ≡ fault = cc in ap Err is
-covers_fail (PassesLimits f) next fault e = let is : log_fault.PassesLimits (AtCover f) ≡ fault = cc in ap Err is
+covers_fail (PassesLimits f) next fault e =
+    let is : log_fault.PassesLimits (AtCover f) ≡ fault = cc in ap Err is
 
 pub covers_hold : (found : Covering) → once_covered found passed ≡ passed → found ≡ Covers
 covers_hold Covers e = refl
@@ -62,8 +66,10 @@ ranks_hold (Some f) e = absurd cc
 pub pairs_fail : (found : Descent) (fault : LogFault) → once_lower found passed ≡ Err fault
     → of_descent found ≡ log_fault.Fails fault
 pairs_fail Descends fault e = absurd cc
-pairs_fail (lowering.NotLower i) fault e = let is : log_fault.NotLower i ≡ fault = cc in ap log_fault.Fails is
-pairs_fail (lowering.PassesLimits i) fault e = let is : log_fault.PassesLimits (AtPair i) ≡ fault = cc in ap log_fault.Fails is
+pairs_fail (lowering.NotLower i) fault e =
+    let is : log_fault.NotLower i ≡ fault = cc in ap log_fault.Fails is
+pairs_fail (lowering.PassesLimits i) fault e =
+    let is : log_fault.PassesLimits (AtPair i) ≡ fault = cc in ap log_fault.Fails is
 
 pub pairs_hold : (found : Descent) → once_lower found passed ≡ passed → found ≡ Descends
 pairs_hold Descends e = refl
@@ -74,27 +80,33 @@ pairs_hold (lowering.PassesLimits i) e = absurd cc
 
 module _ (parts : RuleParts) (goal : Equation) (whole : Log) where
   -- before the pairs, a fault decides
-  pub fails_before : (fault : LogFault) → kept parts goal whole ≡ Err fault → HasVerdict parts goal whole (log_fault.Fails fault)
-  fails_before fault e = subst (λ check. Concludes parts whole check (log_fault.Fails fault)) (sym e) refl
+  pub fails_before : (fault : LogFault) → kept parts goal whole ≡ Err fault →
+      HasVerdict parts goal whole (log_fault.Fails fault)
+  fails_before fault e =
+      subst (λ check. Concludes parts whole check (log_fault.Fails fault)) (sym e) refl
 
   -- so does one of the covers
   pub uncovered : (fault : LogFault) → once_covered (covering parts whole.covers) passed ≡ Err fault
       → kept parts goal whole ≡ Err fault
   uncovered fault e =
-      covers_fail (covering parts whole.covers) (after_steps parts 0 (start goal) whole.steps >>= kept_by parts whole.table) fault e
+      covers_fail (covering parts whole.covers)
+      (after_steps parts 0 (start goal) whole.steps >>= kept_by parts whole.table) fault e
 
   module _ (covers : covering parts whole.covers ≡ Covers) where
     -- one of the steps
-    pub refused : (fault : LogFault) → after_steps parts 0 (start goal) whole.steps ≡ Err fault → kept parts goal whole ≡ Err fault
+    pub refused : (fault : LogFault) → after_steps parts 0 (start goal) whole.steps ≡ Err fault →
+        kept parts goal whole ≡ Err fault
     refused fault e =
-        ap (λ found. once_covered found (after_steps parts 0 (start goal) whole.steps >>= kept_by parts whole.table)) covers
+        ap (λ found. once_covered found (after_steps parts 0 (start goal) whole.steps >>= kept_by
+        parts whole.table)) covers
         ∙ ap (λ (check : Checked State). check >>= kept_by parts whole.table) e
 
     -- and behind them what the last state and the ranks come to
     pub kept_behind : (state : State) → after_steps parts 0 (start goal) whole.steps ≡ Ok state
         → kept parts goal whole ≡ kept_by parts whole.table state
     kept_behind state e =
-        ap (λ found. once_covered found (after_steps parts 0 (start goal) whole.steps >>= kept_by parts whole.table)) covers
+        ap (λ found. once_covered found (after_steps parts 0 (start goal) whole.steps >>= kept_by
+        parts whole.table)) covers
         ∙ ap (λ (check : Checked State). check >>= kept_by parts whole.table) e
 
 -- where goals are left, that is the fault
@@ -102,7 +114,8 @@ pub unfinished : (parts : RuleParts) (table : RankTable) (state : State) → 0 <
     → kept_by parts table state ≡ Err (log_fault.Unfinished (length state.goals))
 unfinished parts table state some = by_goals state.goals some where
   by_goals : (goals : List Equation) → 0 < length goals
-      → once_finished goals (once_ranked (bad_rank parts table) (Ok state.hypotheses)) ≡ Err (log_fault.Unfinished (length goals))
+      → once_finished goals (once_ranked (bad_rank parts table) (Ok state.hypotheses)) ≡
+      Err (log_fault.Unfinished (length goals))
   by_goals [] some = absurd (omega (arith, some))
   by_goals (g ∷ gs) some = refl
 
@@ -110,20 +123,27 @@ unfinished parts table state some = by_goals state.goals some where
 pub finished : (parts : RuleParts) (table : RankTable) (state : State) → state.goals ≡ []
     → kept_by parts table state ≡ once_ranked (bad_rank parts table) (Ok state.hypotheses)
 finished parts table state none =
-    ap (λ goals. once_finished goals (once_ranked (bad_rank parts table) (Ok state.hypotheses))) none
+    ap (λ goals. once_finished goals (once_ranked (bad_rank parts table) (Ok state.hypotheses)))
+    none
 
 -- logs with the same covers, steps and ranks keep the same
-pub kept_same : (parts : RuleParts) (goal : Equation) (log whole : Log) → whole.covers ≡ log.covers → whole.steps ≡ log.steps → whole.table ≡ log.table
+pub kept_same : (parts : RuleParts) (goal : Equation) (log whole : Log) → whole.covers ≡
+    log.covers → whole.steps ≡ log.steps → whole.table ≡ log.table
     → kept parts goal whole ≡ kept parts goal log
 kept_same parts goal log whole c s t =
-    ap (λ covers. once_covered (covering parts covers) (after_steps parts 0 (start goal) whole.steps >>= kept_by parts whole.table)) c
-    ∙ ap (λ steps. once_covered (covering parts log.covers) (after_steps parts 0 (start goal) steps >>= kept_by parts whole.table)) s
-    ∙ ap (λ table. once_covered (covering parts log.covers) (after_steps parts 0 (start goal) log.steps >>= kept_by parts table)) t
+    ap (λ covers. once_covered (covering parts covers)
+    (after_steps parts 0 (start goal) whole.steps >>= kept_by parts whole.table)) c
+    ∙ ap (λ steps. once_covered (covering parts log.covers)
+    (after_steps parts 0 (start goal) steps >>= kept_by parts whole.table)) s
+    ∙ ap (λ table. once_covered (covering parts log.covers)
+    (after_steps parts 0 (start goal) log.steps >>= kept_by parts table)) t
 
 -- ---- what failed stays so
 
-pub failed_at : (parts : RuleParts) (goal : Equation) (place : Place) (log : Log) (end : CheckEnd) (fault : LogFault) → named end ≡ Some fault
-    → ((whole : Log) → GoesOn place log whole → kept parts goal whole ≡ Err fault) → FailsWith parts goal place log end
+pub failed_at : (parts : RuleParts) (goal : Equation) (place : Place) (log : Log) (end : CheckEnd)
+    (fault : LogFault) → named end ≡ Some fault
+    → ((whole : Log) → GoesOn place log whole → kept parts goal whole ≡ Err fault) →
+    FailsWith parts goal place log end
 failed_at parts goal place log end fault names fails = record {
   fault = fault;
   names = names;

@@ -1,4 +1,5 @@
--- The order of lines: what comes behind each, and how the logs that go on behind a line go on before it.
+-- The order of lines: what comes behind each, and how the logs that go on behind a line go on
+-- before it.
 use Rattle.std.proofs.Common.{◌≡◌, ◌∙◌, ap, sym, subst, refl, ℕ, ◌+◌, ◌==◌, Bool, true, false, if◌then◌else◌, Option, Some, None, List, [], ◌∷◌, ◌++◌, length, append_assoc}
 use Rattle.std.proofs.lemmas.List.{append-nil}
 use Rattle.std.proofs.lemmas.Option.{same_Some}
@@ -22,38 +23,50 @@ nowhere : (its : List (Line × ℕ)) → after_all None its ≡ None
 nowhere [] = refl
 nowhere (it ∷ its) = refl
 
-pub after_all-append : (place : Option Place) (its more : List (Line × ℕ)) → after_all place (its ++ more) ≡ after_all (after_all place its) more
+pub after_all-append : (place : Option Place) (its more : List (Line × ℕ)) →
+    after_all place (its ++ more) ≡ after_all (after_all place its) more
 after_all-append place [] more = refl
 after_all-append None (it ∷ its) more = sym (nowhere more)
 after_all-append (Some place) (it ∷ its) more = after_all-append (after place it) its more
 
-pub pushed_all-append : (log : Log) (its more : List (Line × ℕ)) → pushed_all log (its ++ more) ≡ pushed_all (pushed_all log its) more
+pub pushed_all-append : (log : Log) (its more : List (Line × ℕ)) → pushed_all log (its ++ more) ≡
+    pushed_all (pushed_all log its) more
 pushed_all-append log [] more = refl
 pushed_all-append log (it ∷ its) more = pushed_all-append (pushed it.0 log) its more
 
 -- ---- the lines of a log
 
-covers_pushed : (log : Log) (k : ℕ) (xs : List (List CoverTree)) → pushed_all log (by_symbol line.Cover k xs) ≡ record log { covers = log.covers ++ xs }
+covers_pushed : (log : Log) (k : ℕ) (xs : List (List CoverTree)) →
+    pushed_all log (by_symbol line.Cover k xs) ≡ record log { covers = log.covers ++ xs }
 covers_pushed log k [] = ap (λ covers. record log { covers = covers }) (sym (append-nil log.covers))
 covers_pushed log k (x ∷ xs) =
-    covers_pushed (pushed (line.Cover x) log) (k + 1) xs ∙ ap (λ covers. record log { covers = covers }) (append_assoc log.covers (x ∷ []) xs)
+    covers_pushed (pushed (line.Cover x) log) (k + 1) xs ∙
+    ap (λ covers. record log { covers = covers }) (append_assoc log.covers (x ∷ []) xs)
 
-steps_pushed : (log : Log) (xs : List Step) → pushed_all log (plain line.Step xs) ≡ record log { steps = log.steps ++ xs }
+steps_pushed : (log : Log) (xs : List Step) → pushed_all log (plain line.Step xs) ≡
+    record log { steps = log.steps ++ xs }
 steps_pushed log [] = ap (λ steps. record log { steps = steps }) (sym (append-nil log.steps))
 steps_pushed log (x ∷ xs) =
-    steps_pushed (pushed (line.Step x) log) xs ∙ ap (λ steps. record log { steps = steps }) (append_assoc log.steps (x ∷ []) xs)
+    steps_pushed (pushed (line.Step x) log) xs ∙
+    ap (λ steps. record log { steps = steps }) (append_assoc log.steps (x ∷ []) xs)
 
-ranks_pushed : (log : Log) (k : ℕ) (xs : List (List Body)) → pushed_all log (by_symbol line.Rank k xs)
+ranks_pushed : (log : Log) (k : ℕ) (xs : List (List Body)) →
+    pushed_all log (by_symbol line.Rank k xs)
     ≡ record log { table = record log.table { ranks = log.table.ranks ++ xs } }
-ranks_pushed log k [] = ap (λ ranks. record log { table = record log.table { ranks = ranks } }) (sym (append-nil log.table.ranks))
+ranks_pushed log k [] =
+    ap (λ ranks. record log { table = record log.table { ranks = ranks } })
+    (sym (append-nil log.table.ranks))
 ranks_pushed log k (x ∷ xs) =
     ranks_pushed (pushed (line.Rank x) log) (k + 1) xs
-    ∙ ap (λ ranks. record log { table = record log.table { ranks = ranks } }) (append_assoc log.table.ranks (x ∷ []) xs)
+    ∙ ap (λ ranks. record log { table = record log.table { ranks = ranks } })
+    (append_assoc log.table.ranks (x ∷ []) xs)
 
-pairs_pushed : (log : Log) (xs : List PairCert) → pushed_all log (plain line.Pair xs) ≡ record log { pairs = log.pairs ++ xs }
+pairs_pushed : (log : Log) (xs : List PairCert) → pushed_all log (plain line.Pair xs) ≡
+    record log { pairs = log.pairs ++ xs }
 pairs_pushed log [] = ap (λ pairs. record log { pairs = pairs }) (sym (append-nil log.pairs))
 pairs_pushed log (x ∷ xs) =
-    pairs_pushed (pushed (line.Pair x) log) xs ∙ ap (λ pairs. record log { pairs = pairs }) (append_assoc log.pairs (x ∷ []) xs)
+    pairs_pushed (pushed (line.Pair x) log) xs ∙
+    ap (λ pairs. record log { pairs = pairs }) (append_assoc log.pairs (x ∷ []) xs)
 
 module _ (log : Log) where
   abbrev so_far : Log
@@ -82,23 +95,28 @@ module _ (log : Log) where
 
 -- ---- where trees and ranks come
 
-cover_test : (next : ℕ) (behind : Place) (b : Bool) → (if b then Some (InCovers (next + 1)) else None) ≡ Some behind → InCovers (next + 1) ≡ behind
+cover_test : (next : ℕ) (behind : Place) (b : Bool) →
+    (if b then Some (InCovers (next + 1)) else None) ≡ Some behind → InCovers (next + 1) ≡ behind
 cover_test next behind true e = same_Some (InCovers (next + 1)) behind e
 cover_test next behind false e = absurd cc
 
-pub behind_cover : (next : ℕ) (trees : List CoverTree) (symbol : ℕ) (behind : Place) → after (InCovers next) (line.Cover trees, symbol) ≡ Some behind
+pub behind_cover : (next : ℕ) (trees : List CoverTree) (symbol : ℕ) (behind : Place) →
+    after (InCovers next) (line.Cover trees, symbol) ≡ Some behind
     → InCovers (next + 1) ≡ behind
 behind_cover next trees symbol behind e = cover_test next behind (symbol == next) e
 
 rank_test : (columns next : ℕ) (behind : Place) (b c : Bool)
-    → (if b then (if c then Some (InRanks columns (next + 1)) else None) else None) ≡ Some behind → InRanks columns (next + 1) ≡ behind
+    → (if b then (if c then Some (InRanks columns (next + 1)) else None) else None) ≡ Some behind →
+    InRanks columns (next + 1) ≡ behind
 rank_test columns next behind true true e = same_Some (InRanks columns (next + 1)) behind e
 rank_test columns next behind true false e = absurd cc
 rank_test columns next behind false c e = absurd cc
 
-pub behind_rank : (columns next : ℕ) (rank : List Body) (symbol : ℕ) (behind : Place) → after (InRanks columns next) (line.Rank rank, symbol) ≡ Some behind
+pub behind_rank : (columns next : ℕ) (rank : List Body) (symbol : ℕ) (behind : Place) →
+    after (InRanks columns next) (line.Rank rank, symbol) ≡ Some behind
     → InRanks columns (next + 1) ≡ behind
-behind_rank columns next rank symbol behind e = rank_test columns next behind (symbol == next) (length rank == columns) e
+behind_rank columns next rank symbol behind e =
+    rank_test columns next behind (symbol == next) (length rank == columns) e
 
 -- ---- logs that go on
 
@@ -111,9 +129,12 @@ same xs ys e = ([], e ∙ sym (append-nil xs))
 
 module _ (log whole : Log) (symbol : ℕ) (behind : Place) where
   -- a log that goes on behind a line goes on before it
-  pub goes_on_before : (place : Place) (next : Line) → after place (next, symbol) ≡ Some behind → GoesOn behind (pushed next log) whole → GoesOn place log whole
+  pub goes_on_before : (place : Place) (next : Line) → after place (next, symbol) ≡ Some behind →
+      GoesOn behind (pushed next log) whole → GoesOn place log whole
   goes_on_before AtHeader line.Header e there =
-      let on : GoesOn (InCovers 0) (pushed line.Header log) whole = subst (λ b. GoesOn b (pushed line.Header log) whole) (sym (same_Some (InCovers 0) behind e)) there in
+      let on : GoesOn (InCovers 0) (pushed line.Header log) whole =
+      subst (λ b. GoesOn b (pushed line.Header log) whole)
+      (sym (same_Some (InCovers 0) behind e)) there in
       on
   goes_on_before AtHeader (line.Cover trees) e there = absurd cc
   goes_on_before AtHeader (line.Step step) e there = absurd cc
@@ -123,13 +144,19 @@ module _ (log whole : Log) (symbol : ℕ) (behind : Place) where
   goes_on_before AtHeader line.End e there = absurd cc
   goes_on_before (InCovers n) line.Header e there = absurd cc
   goes_on_before (InCovers n) (line.Cover trees) e there =
-      let on : GoesOn (InCovers (n + 1)) (pushed (line.Cover trees) log) whole = subst (λ b. GoesOn b (pushed (line.Cover trees) log) whole) (sym (behind_cover n trees symbol behind e)) there in
+      let on : GoesOn (InCovers (n + 1)) (pushed (line.Cover trees) log) whole =
+      subst (λ b. GoesOn b (pushed (line.Cover trees) log) whole)
+      (sym (behind_cover n trees symbol behind e)) there in
       less log.covers trees whole.covers on
   goes_on_before (InCovers n) (line.Step step) e there =
-      let on : GoesOn (InSteps) (pushed (line.Step step) log) whole = subst (λ b. GoesOn b (pushed (line.Step step) log) whole) (sym (same_Some InSteps behind e)) there in
+      let on : GoesOn (InSteps) (pushed (line.Step step) log) whole =
+      subst (λ b. GoesOn b (pushed (line.Step step) log) whole)
+      (sym (same_Some InSteps behind e)) there in
       same log.covers whole.covers on.0
   goes_on_before (InCovers n) (line.Ranks columns) e there =
-      let on : GoesOn (InRanks columns 0) (pushed (line.Ranks columns) log) whole = subst (λ b. GoesOn b (pushed (line.Ranks columns) log) whole) (sym (same_Some (InRanks columns 0) behind e)) there in
+      let on : GoesOn (InRanks columns 0) (pushed (line.Ranks columns) log) whole =
+      subst (λ b. GoesOn b (pushed (line.Ranks columns) log) whole)
+      (sym (same_Some (InRanks columns 0) behind e)) there in
       same log.covers whole.covers on.0
   goes_on_before (InCovers n) (line.Rank rank) e there = absurd cc
   goes_on_before (InCovers n) (line.Pair pair) e there = absurd cc
@@ -137,10 +164,14 @@ module _ (log whole : Log) (symbol : ℕ) (behind : Place) where
   goes_on_before InSteps line.Header e there = absurd cc
   goes_on_before InSteps (line.Cover trees) e there = absurd cc
   goes_on_before InSteps (line.Step step) e there =
-      let on : GoesOn (InSteps) (pushed (line.Step step) log) whole = subst (λ b. GoesOn b (pushed (line.Step step) log) whole) (sym (same_Some InSteps behind e)) there in
+      let on : GoesOn (InSteps) (pushed (line.Step step) log) whole =
+      subst (λ b. GoesOn b (pushed (line.Step step) log) whole)
+      (sym (same_Some InSteps behind e)) there in
       (on.0, less log.steps step whole.steps on.1)
   goes_on_before InSteps (line.Ranks columns) e there =
-      let on : GoesOn (InRanks columns 0) (pushed (line.Ranks columns) log) whole = subst (λ b. GoesOn b (pushed (line.Ranks columns) log) whole) (sym (same_Some (InRanks columns 0) behind e)) there in
+      let on : GoesOn (InRanks columns 0) (pushed (line.Ranks columns) log) whole =
+      subst (λ b. GoesOn b (pushed (line.Ranks columns) log) whole)
+      (sym (same_Some (InRanks columns 0) behind e)) there in
       (on.0, same log.steps whole.steps on.1.0)
   goes_on_before InSteps (line.Rank rank) e there = absurd cc
   goes_on_before InSteps (line.Pair pair) e there = absurd cc
@@ -150,25 +181,57 @@ module _ (log whole : Log) (symbol : ℕ) (behind : Place) where
   goes_on_before (InRanks c n) (line.Step step) e there = absurd cc
   goes_on_before (InRanks c n) (line.Ranks columns) e there = absurd cc
   goes_on_before (InRanks c n) (line.Rank rank) e there =
-      let on : GoesOn (InRanks c (n + 1)) (pushed (line.Rank rank) log) whole = subst (λ b. GoesOn b (pushed (line.Rank rank) log) whole) (sym (behind_rank c n rank symbol behind e)) there in
+      let on : GoesOn (InRanks c (n + 1)) (pushed (line.Rank rank) log) whole =
+      subst (λ b. GoesOn b (pushed (line.Rank rank) log) whole)
+      (sym (behind_rank c n rank symbol behind e)) there in
       (on.0, (on.1.0, (on.1.1.0, less log.table.ranks rank whole.table.ranks on.1.1.1)))
   goes_on_before (InRanks c n) (line.Pair pair) e there =
-      let on : GoesOn (InPairs) (pushed (line.Pair pair) log) whole = subst (λ b. GoesOn b (pushed (line.Pair pair) log) whole) (sym (same_Some InPairs behind e)) there in
-      (on.0, (on.1.0, (ap (λ t. t.columns) on.1.1.0, same log.table.ranks whole.table.ranks (ap (λ t. t.ranks) on.1.1.0))))
+      let on : GoesOn (InPairs) (pushed (line.Pair pair) log) whole =
+      subst (λ b. GoesOn b (pushed (line.Pair pair) log) whole)
+      (sym (same_Some InPairs behind e)) there in (
+        on.0,
+        (
+          on.1.0,
+          (
+            ap (λ t. t.columns) on.1.1.0,
+            same log.table.ranks whole.table.ranks (ap (λ t. t.ranks) on.1.1.0),
+          ),
+        ),
+      )
   goes_on_before (InRanks c n) line.End e there =
-      let on : GoesOn (Finished) (pushed line.End log) whole = subst (λ b. GoesOn b (pushed line.End log) whole) (sym (same_Some Finished behind e)) there in
-      (ap (λ l. l.covers) on, (ap (λ l. l.steps) on, (ap (λ l. l.table.columns) on, same log.table.ranks whole.table.ranks (ap (λ l. l.table.ranks) on))))
+      let on : GoesOn (Finished) (pushed line.End log) whole =
+      subst (λ b. GoesOn b (pushed line.End log) whole) (sym (same_Some Finished behind e))
+      there in (
+        ap (λ l. l.covers) on,
+        (
+          ap (λ l. l.steps) on,
+          (
+            ap (λ l. l.table.columns) on,
+            same log.table.ranks whole.table.ranks
+                (ap (λ l. l.table.ranks) on),
+          ),
+        ),
+      )
   goes_on_before InPairs line.Header e there = absurd cc
   goes_on_before InPairs (line.Cover trees) e there = absurd cc
   goes_on_before InPairs (line.Step step) e there = absurd cc
   goes_on_before InPairs (line.Ranks columns) e there = absurd cc
   goes_on_before InPairs (line.Rank rank) e there = absurd cc
   goes_on_before InPairs (line.Pair pair) e there =
-      let on : GoesOn (InPairs) (pushed (line.Pair pair) log) whole = subst (λ b. GoesOn b (pushed (line.Pair pair) log) whole) (sym (same_Some InPairs behind e)) there in
+      let on : GoesOn (InPairs) (pushed (line.Pair pair) log) whole =
+      subst (λ b. GoesOn b (pushed (line.Pair pair) log) whole)
+      (sym (same_Some InPairs behind e)) there in
       (on.0, (on.1.0, (on.1.1.0, less log.pairs pair whole.pairs on.1.1.1)))
   goes_on_before InPairs line.End e there =
-      let on : GoesOn (Finished) (pushed line.End log) whole = subst (λ b. GoesOn b (pushed line.End log) whole) (sym (same_Some Finished behind e)) there in
-      (ap (λ l. l.covers) on, (ap (λ l. l.steps) on, (ap (λ l. l.table) on, same log.pairs whole.pairs (ap (λ l. l.pairs) on))))
+      let on : GoesOn (Finished) (pushed line.End log) whole =
+      subst (λ b. GoesOn b (pushed line.End log) whole) (sym (same_Some Finished behind e))
+      there in (
+        ap (λ l. l.covers) on,
+        (
+          ap (λ l. l.steps) on,
+          (ap (λ l. l.table) on, same log.pairs whole.pairs (ap (λ l. l.pairs) on)),
+        ),
+      )
   goes_on_before Finished line.Header e there = absurd cc
   goes_on_before Finished (line.Cover trees) e there = absurd cc
   goes_on_before Finished (line.Step step) e there = absurd cc

@@ -39,8 +39,10 @@ use Rattle.rx_check.proofs.Sound.{concluded}
 
 -- ---- the header
 
-pub header_stands : (parts : RuleParts) (place : Place) (progress : Progress) (goal : Equation) (log : Log) (symbol : ℕ) (behind : Place)
-    → Holds parts goal place log progress → after place (line.Header, symbol) ≡ Some behind → Stands parts goal behind log progress None
+pub header_stands : (parts : RuleParts) (place : Place) (progress : Progress) (goal : Equation)
+    (log : Log) (symbol : ℕ) (behind : Place)
+    → Holds parts goal place log progress → after place (line.Header, symbol) ≡ Some behind →
+    Stands parts goal behind log progress None
 header_stands parts AtHeader progress goal log symbol behind holds e =
     subst (λ b. Holds parts goal b log progress) (same_Some (InCovers 0) behind e)
     (record { steps = holds.steps; table = holds.table; known = holds.known })
@@ -56,22 +58,32 @@ module _ (parts : RuleParts) (next : ℕ) (trees : List CoverTree) where
   abbrev examined : Covering → Covering
   examined rest = goes_on next (one_covered parts next trees) rest
 
-  one_list : (more : List (List CoverTree)) → covering_from parts next (drop next parts.symbols) (trees ∷ more)
+  one_list : (more : List (List CoverTree)) →
+      covering_from parts next (drop next parts.symbols) (trees ∷ more)
       ≡ examined (covering_from parts (next + 1) (drop (next + 1) parts.symbols) more)
   one_list more = by_symbol (slice_get parts.symbols next) refl where
-    by_symbol : (o : Option SymInfo) → slice_get parts.symbols next ≡ o → covering_from parts next (drop next parts.symbols) (trees ∷ more)
-        ≡ goes_on next (symbol_finding parts next o trees) (covering_from parts (next + 1) (drop (next + 1) parts.symbols) more)
-    by_symbol None none = ap (λ infos. covering_from parts next infos (trees ∷ more)) (from_nowhere parts.symbols next none)
-    by_symbol (Some info) some = ap (λ infos. covering_from parts next infos (trees ∷ more)) (from_place parts.symbols next info some)
+    by_symbol : (o : Option SymInfo) → slice_get parts.symbols next ≡ o →
+        covering_from parts next (drop next parts.symbols) (trees ∷ more)
+        ≡ goes_on next (symbol_finding parts next o trees)
+        (covering_from parts (next + 1) (drop (next + 1) parts.symbols) more)
+    by_symbol None none =
+        ap (λ infos. covering_from parts next infos (trees ∷ more))
+        (from_nowhere parts.symbols next none)
+    by_symbol (Some info) some =
+        ap (λ infos. covering_from parts next infos (trees ∷ more))
+        (from_place parts.symbols next info some)
 
-  examined_good : once_covered (examined Covers) passed ≡ passed → (rest : Covering) → examined rest ≡ rest
+  examined_good : once_covered (examined Covers) passed ≡ passed → (rest : Covering) →
+      examined rest ≡ rest
   examined_good e rest = by_found (one_covered parts next trees) e where
-    by_found : (found : Said) → once_covered (goes_on next found Covers) passed ≡ passed → goes_on next found rest ≡ rest
+    by_found : (found : Said) → once_covered (goes_on next found Covers) passed ≡ passed →
+        goes_on next found rest ≡ rest
     by_found Beyond e = absurd cc
     by_found Yes e = refl
     by_found No e = absurd cc
 
-  examined_bad : (fault : LogFault) → once_covered (examined Covers) passed ≡ Err fault → (rest : Covering)
+  examined_bad : (fault : LogFault) → once_covered (examined Covers) passed ≡ Err fault →
+      (rest : Covering)
       → once_covered (examined rest) passed ≡ Err fault
   examined_bad fault e rest = by_found (one_covered parts next trees) e where
     by_found : (found : Said) → once_covered (goes_on next found Covers) passed ≡ Err fault
@@ -80,34 +92,49 @@ module _ (parts : RuleParts) (next : ℕ) (trees : List CoverTree) where
     by_found Yes e = absurd cc
     by_found No e = e
 
-  module _ (goal : Equation) (log : Log) (progress : Progress) (holds : Holds parts goal (InCovers next) log progress) where
+  module _ (goal : Equation) (log : Log) (progress : Progress)
+      (holds : Holds parts goal (InCovers next) log progress) where
     push_list : (more : List (List CoverTree)) → covering parts ((log.covers ++ trees ∷ []) ++ more)
         ≡ examined (covering_from parts (next + 1) (drop (next + 1) parts.symbols) more)
-    push_list more = ap (covering parts) (append_assoc log.covers (trees ∷ []) more) ∙ holds.known.0 (trees ∷ more) ∙ one_list more
+    push_list more =
+        ap (covering parts) (append_assoc log.covers (trees ∷ []) more) ∙
+        holds.known.0 (trees ∷ more) ∙ one_list more
 
-    cover_stands : (failure : Option CheckEnd) → IsOutcome failure (once_covered (examined Covers) passed)
+    cover_stands : (failure : Option CheckEnd) →
+        IsOutcome failure (once_covered (examined Covers) passed)
         → Stands parts goal (InCovers (next + 1)) (pushed (line.Cover trees) log) progress failure
     cover_stands None e = record {
       steps = holds.steps;
       table = holds.table;
-      known = (λ more. push_list more ∙ examined_good e (covering_from parts (next + 1) (drop (next + 1) parts.symbols) more), holds.known.1);
+      known = (
+        λ more. push_list more ∙ examined_good e
+            (covering_from parts (next + 1) (drop (next + 1) parts.symbols) more),
+        holds.known.1,
+      );
     }
     cover_stands (Some end) e =
         failed_at parts goal (InCovers (next + 1)) (pushed (line.Cover trees) log) end e.0 e.1
         (λ whole on. uncovered parts goal whole e.0
         (ap (λ found. once_covered found passed) (ap (covering parts) on.1 ∙ push_list on.0)
-        ∙ examined_bad e.0 e.2 (covering_from parts (next + 1) (drop (next + 1) parts.symbols) on.0)))
+        ∙ examined_bad e.0 e.2 (covering_from parts (next + 1) (drop (next + 1) parts.symbols)
+        on.0)))
 
-pub cover_judged : (parts : RuleParts) (place : Place) (trees : List CoverTree) (progress : Progress) (failure : Option CheckEnd)
-    → ((next : ℕ) → place ≡ InCovers next → IsOutcome failure (once_covered (goes_on next (one_covered parts next trees) Covers) passed))
-    → (goal : Equation) (log : Log) (symbol : ℕ) (behind : Place) → Holds parts goal place log progress
-    → after place (line.Cover trees, symbol) ≡ Some behind → Stands parts goal behind (pushed (line.Cover trees) log) progress failure
+pub cover_judged : (parts : RuleParts) (place : Place) (trees : List CoverTree)
+    (progress : Progress) (failure : Option CheckEnd)
+    → ((next : ℕ) → place ≡ InCovers next → IsOutcome failure
+    (once_covered (goes_on next (one_covered parts next trees) Covers) passed))
+    → (goal : Equation) (log : Log) (symbol : ℕ) (behind : Place) →
+    Holds parts goal place log progress
+    → after place (line.Cover trees, symbol) ≡ Some behind →
+    Stands parts goal behind (pushed (line.Cover trees) log) progress failure
 cover_judged parts AtHeader trees progress failure ends goal log symbol behind holds e = absurd cc
 cover_judged parts (InCovers n) trees progress failure ends goal log symbol behind holds e =
-    subst (λ b. Stands parts goal b (pushed (line.Cover trees) log) progress failure) (behind_cover n trees symbol behind e)
+    subst (λ b. Stands parts goal b (pushed (line.Cover trees) log) progress failure)
+    (behind_cover n trees symbol behind e)
     (cover_stands parts n trees goal log progress holds failure (ends n refl))
 cover_judged parts InSteps trees progress failure ends goal log symbol behind holds e = absurd cc
-cover_judged parts (InRanks c n) trees progress failure ends goal log symbol behind holds e = absurd cc
+cover_judged parts (InRanks c n) trees progress failure ends goal log symbol behind holds e =
+    absurd cc
 cover_judged parts InPairs trees progress failure ends goal log symbol behind holds e = absurd cc
 cover_judged parts Finished trees progress failure ends goal log symbol behind holds e = absurd cc
 
@@ -122,7 +149,8 @@ IsOpen (InRanks columns next) = ⊥
 IsOpen InPairs = ⊥
 IsOpen Finished = ⊥
 
-step_comes : (place : Place) (step : Step) (symbol : ℕ) (behind : Place) → after place (line.Step step, symbol) ≡ Some behind
+step_comes : (place : Place) (step : Step) (symbol : ℕ) (behind : Place) →
+    after place (line.Step step, symbol) ≡ Some behind
     → IsOpen place × (InSteps ≡ behind)
 step_comes AtHeader step symbol behind e = absurd cc
 step_comes (InCovers n) step symbol behind e = (tt, same_Some InSteps behind e)
@@ -131,7 +159,8 @@ step_comes (InRanks c n) step symbol behind e = absurd cc
 step_comes InPairs step symbol behind e = absurd cc
 step_comes Finished step symbol behind e = absurd cc
 
-ranks_come : (place : Place) (columns symbol : ℕ) (behind : Place) → after place (line.Ranks columns, symbol) ≡ Some behind
+ranks_come : (place : Place) (columns symbol : ℕ) (behind : Place) →
+    after place (line.Ranks columns, symbol) ≡ Some behind
     → IsOpen place × (InRanks columns 0 ≡ behind)
 ranks_come AtHeader columns symbol behind e = absurd cc
 ranks_come (InCovers n) columns symbol behind e = (tt, same_Some (InRanks columns 0) behind e)
@@ -143,36 +172,46 @@ ranks_come Finished columns symbol behind e = absurd cc
 -- what is asked of the covers there
 pub record Asks (parts : RuleParts) (place : Place) (failure : Option CheckEnd) : Type 0 where
   pub covers : (next : ℕ) → place ≡ InCovers next
-      → IsOutcome failure (once_covered (covering_from parts next (drop next parts.symbols) []) passed)
+      → IsOutcome failure (once_covered (covering_from parts next (drop next parts.symbols) [])
+      passed)
   pub steps : place ≡ InSteps → failure ≡ None
 
 -- it is the answer for all covers
-covers_end : (parts : RuleParts) (goal : Equation) (place : Place) (log : Log) (progress : Progress) (failure : Option CheckEnd) → IsOpen place
+covers_end : (parts : RuleParts) (goal : Equation) (place : Place) (log : Log) (progress : Progress)
+    (failure : Option CheckEnd) → IsOpen place
     → Asks parts place failure → Holds parts goal place log progress
     → IsOutcome failure (once_covered (covering parts log.covers) passed) × (log.pairs ≡ [])
 covers_end parts goal AtHeader log progress failure there asks holds = absurd there
 covers_end parts goal (InCovers n) log progress failure there asks holds =
     let is : covering parts log.covers ≡ covering_from parts n (drop n parts.symbols) [] =
-    ap (covering parts) (sym (append-nil log.covers)) ∙ holds.known.0 [] in
-    (subst (λ found. IsOutcome failure (once_covered found passed)) (sym is) (asks.covers n refl), holds.known.1)
+    ap (covering parts) (sym (append-nil log.covers)) ∙ holds.known.0 [] in (
+      subst (λ found. IsOutcome failure (once_covered found passed)) (sym is) (asks.covers n refl),
+      holds.known.1,
+    )
 covers_end parts goal InSteps log progress failure there asks holds =
     let is : once_covered (covering parts log.covers) passed ≡ passed =
-    ap (λ found. once_covered found passed) holds.known.0 in
-    (subst (λ f. IsOutcome f (once_covered (covering parts log.covers) passed)) (sym (asks.steps refl)) is, holds.known.1)
+    ap (λ found. once_covered found passed) holds.known.0 in (
+      subst (λ f. IsOutcome f (once_covered (covering parts log.covers) passed))
+          (sym (asks.steps refl)) is,
+      holds.known.1,
+    )
 covers_end parts goal (InRanks c n) log progress failure there asks holds = absurd there
 covers_end parts goal InPairs log progress failure there asks holds = absurd there
 covers_end parts goal Finished log progress failure there asks holds = absurd there
 
 -- the state so far is the one after the steps of the log so far
-state_now : (parts : RuleParts) (goal : Equation) (place : Place) (log : Log) (progress : Progress) → Holds parts goal place log progress
+state_now : (parts : RuleParts) (goal : Equation) (place : Place) (log : Log) (progress : Progress)
+    → Holds parts goal place log progress
     → after_steps parts 0 (start goal) log.steps ≡ Ok progress.state
 state_now parts goal place log progress holds =
     ap (after_steps parts 0 (start goal)) (sym (append-nil log.steps)) ∙ holds.steps []
 
 -- where the covers fail, a step has that failure
-pub step_uncovered : (parts : RuleParts) (place : Place) (step : Step) (old new : Progress) (end : CheckEnd) → Asks parts place (Some end)
+pub step_uncovered : (parts : RuleParts) (place : Place) (step : Step) (old new : Progress)
+    (end : CheckEnd) → Asks parts place (Some end)
     → (goal : Equation) (log : Log) (symbol : ℕ) (behind : Place) → Holds parts goal place log old
-    → after place (line.Step step, symbol) ≡ Some behind → Stands parts goal behind (pushed (line.Step step) log) new (Some end)
+    → after place (line.Step step, symbol) ≡ Some behind →
+    Stands parts goal behind (pushed (line.Step step) log) new (Some end)
 step_uncovered parts place step old new end asks goal log symbol behind holds e =
     let comes = step_comes place step symbol behind e in
     let ends = (covers_end parts goal place log old (Some end) comes.0 asks holds).0 in
@@ -182,9 +221,11 @@ step_uncovered parts place step old new end asks goal log symbol behind holds e 
     (ap (λ covers. once_covered (covering parts covers) passed) on.0 ∙ ends.2)))
 
 -- and so has the line that begins the ranks
-pub ranks_uncovered : (parts : RuleParts) (place : Place) (columns : ℕ) (old new : Progress) (end : CheckEnd) → Asks parts place (Some end)
+pub ranks_uncovered : (parts : RuleParts) (place : Place) (columns : ℕ) (old new : Progress)
+    (end : CheckEnd) → Asks parts place (Some end)
     → (goal : Equation) (log : Log) (symbol : ℕ) (behind : Place) → Holds parts goal place log old
-    → after place (line.Ranks columns, symbol) ≡ Some behind → Stands parts goal behind (pushed (line.Ranks columns) log) new (Some end)
+    → after place (line.Ranks columns, symbol) ≡ Some behind →
+    Stands parts goal behind (pushed (line.Ranks columns) log) new (Some end)
 ranks_uncovered parts place columns old new end asks goal log symbol behind holds e =
     let comes = ranks_come place columns symbol behind e in
     let ends = (covers_end parts goal place log old (Some end) comes.0 asks holds).0 in
@@ -195,18 +236,26 @@ ranks_uncovered parts place columns old new end asks goal log symbol behind hold
 
 -- ---- steps
 
-module _ (parts : RuleParts) (step : Step) (goal : Equation) (place : Place) (log : Log) (old new : Progress) (holds : Holds parts goal place log old) (covers : covering parts log.covers ≡ Covers) (none : log.pairs ≡ []) (counts : new.steps ≡ old.steps + 1) (table : new.table ≡ old.table) where
+module _ (parts : RuleParts) (step : Step) (goal : Equation) (place : Place) (log : Log)
+    (old new : Progress) (holds : Holds parts goal place log old)
+    (covers : covering parts log.covers ≡ Covers) (none : log.pairs ≡ [])
+    (counts : new.steps ≡ old.steps + 1) (table : new.table ≡ old.table) where
   abbrev taken : Checked State
   taken = after_step old.steps (applied parts old.state step)
 
-  push_step : (more : List Step) → after_steps parts 0 (start goal) ((log.steps ++ step ∷ []) ++ more)
+  push_step : (more : List Step) → after_steps parts 0 (start goal)
+      ((log.steps ++ step ∷ []) ++ more)
       ≡ (taken >>= λ next. after_steps parts (old.steps + 1) next more)
-  push_step more = ap (after_steps parts 0 (start goal)) (append_assoc log.steps (step ∷ []) more) ∙ holds.steps (step ∷ more)
+  push_step more =
+      ap (after_steps parts 0 (start goal)) (append_assoc log.steps (step ∷ []) more) ∙
+      holds.steps (step ∷ more)
 
-  step_stands : (failure : Option CheckEnd) → Ends failure new.state taken → Stands parts goal InSteps (pushed (line.Step step) log) new failure
+  step_stands : (failure : Option CheckEnd) → Ends failure new.state taken →
+      Stands parts goal InSteps (pushed (line.Step step) log) new failure
   step_stands None e = record {
     steps = λ more. push_step more
-        ∙ ap (λ (check : Checked State). check >>= λ next. after_steps parts (old.steps + 1) next more) e
+        ∙ ap (λ (check : Checked State). check >>= λ next.
+        after_steps parts (old.steps + 1) next more) e
         ∙ ap (λ k. after_steps parts k new.state more) (sym counts);
     table = table ∙ holds.table;
     known = (covers, none);
@@ -215,21 +264,27 @@ module _ (parts : RuleParts) (step : Step) (goal : Equation) (place : Place) (lo
       failed_at parts goal InSteps (pushed (line.Step step) log) end e.0 e.1
       (λ whole on. refused parts goal whole (ap (covering parts) on.0 ∙ covers) e.0
       (ap (after_steps parts 0 (start goal)) on.1.1 ∙ push_step on.1.0
-      ∙ ap (λ (check : Checked State). check >>= λ next. after_steps parts (old.steps + 1) next on.1.0) e.2))
+      ∙ ap (λ (check : Checked State). check >>= λ next.
+      after_steps parts (old.steps + 1) next on.1.0) e.2))
 
-pub step_judged : (parts : RuleParts) (place : Place) (step : Step) (old new : Progress) (failure : Option CheckEnd) → Asks parts place None
-    → new.steps ≡ old.steps + 1 → new.table ≡ old.table → Ends failure new.state (after_step old.steps (applied parts old.state step))
+pub step_judged : (parts : RuleParts) (place : Place) (step : Step) (old new : Progress)
+    (failure : Option CheckEnd) → Asks parts place None
+    → new.steps ≡ old.steps + 1 → new.table ≡ old.table →
+    Ends failure new.state (after_step old.steps (applied parts old.state step))
     → (goal : Equation) (log : Log) (symbol : ℕ) (behind : Place) → Holds parts goal place log old
-    → after place (line.Step step, symbol) ≡ Some behind → Stands parts goal behind (pushed (line.Step step) log) new failure
+    → after place (line.Step step, symbol) ≡ Some behind →
+    Stands parts goal behind (pushed (line.Step step) log) new failure
 step_judged parts place step old new failure asks counts table ends goal log symbol behind holds e =
     let comes = step_comes place step symbol behind e in
     let before = covers_end parts goal place log old None comes.0 asks holds in
     subst (λ b. Stands parts goal b (pushed (line.Step step) log) new failure) comes.1
-    (step_stands parts step goal place log old new holds (covers_hold (covering parts log.covers) before.0) before.1 counts table failure ends)
+    (step_stands parts step goal place log old new holds
+    (covers_hold (covering parts log.covers) before.0) before.1 counts table failure ends)
 
 -- ---- the beginning of the ranks
 
-pub ranks_unfinished : (parts : RuleParts) (place : Place) (columns : ℕ) (old new : Progress) (goals : ℕ) → Asks parts place None
+pub ranks_unfinished : (parts : RuleParts) (place : Place) (columns : ℕ) (old new : Progress)
+    (goals : ℕ) → Asks parts place None
     → goals ≡ length old.state.goals → 0 < goals
     → (goal : Equation) (log : Log) (symbol : ℕ) (behind : Place) → Holds parts goal place log old
     → after place (line.Ranks columns, symbol) ≡ Some behind
@@ -238,25 +293,33 @@ ranks_unfinished parts place columns old new goals asks is some goal log symbol 
     let comes = ranks_come place columns symbol behind e in
     let before = covers_end parts goal place log old None comes.0 asks holds in
     let covers = covers_hold (covering parts log.covers) before.0 in
-    subst (λ b. Stands parts goal b (pushed (line.Ranks columns) log) new (Some (end.Unfinished goals))) comes.1
-    (failed_at parts goal (InRanks columns 0) (pushed (line.Ranks columns) log) (end.Unfinished goals) (log_fault.Unfinished goals) refl
+    subst (λ b. Stands parts goal b (pushed (line.Ranks columns) log) new
+    (Some (end.Unfinished goals))) comes.1
+    (failed_at parts goal (InRanks columns 0) (pushed (line.Ranks columns) log)
+    (end.Unfinished goals) (log_fault.Unfinished goals) refl
     (λ whole on.
     kept_behind parts goal whole (ap (covering parts) on.0 ∙ covers) old.state
     (ap (after_steps parts 0 (start goal)) on.1.0 ∙ state_now parts goal place log old holds)
     ∙ unfinished parts whole.table old.state (subst (λ n. 0 < n) is some)
     ∙ ap (λ n. Err (log_fault.Unfinished n)) (sym is)))
 
-pub ranks_begin : (parts : RuleParts) (place : Place) (columns : ℕ) (old new : Progress) → Asks parts place None
+pub ranks_begin : (parts : RuleParts) (place : Place) (columns : ℕ) (old new : Progress) →
+    Asks parts place None
     → length old.state.goals ≡ 0 → new.state ≡ old.state → new.steps ≡ old.steps → new.lower ≡ 0
-    → new.table ≡ record old.table { columns = columns } → AreAllPairs (parts.rules ++ old.state.hypotheses) new.pairs
+    → new.table ≡ record old.table { columns = columns } →
+    AreAllPairs (parts.rules ++ old.state.hypotheses) new.pairs
     → (goal : Equation) (log : Log) (symbol : ℕ) (behind : Place) → Holds parts goal place log old
-    → after place (line.Ranks columns, symbol) ≡ Some behind → Stands parts goal behind (pushed (line.Ranks columns) log) new None
-ranks_begin parts place columns old new asks no_goals state steps lower table all goal log symbol behind holds e =
+    → after place (line.Ranks columns, symbol) ≡ Some behind →
+    Stands parts goal behind (pushed (line.Ranks columns) log) new None
+ranks_begin parts place columns old new asks no_goals state steps lower table all goal log symbol
+    behind holds e =
     let comes = ranks_come place columns symbol behind e in
     let before = covers_end parts goal place log old None comes.0 asks holds in
     subst (λ b. Stands parts goal b (pushed (line.Ranks columns) log) new None) comes.1
     (record {
-      steps = λ more. holds.steps more ∙ ap (λ k. after_steps parts k old.state more) (sym steps) ∙ ap (λ s. after_steps parts new.steps s more) (sym state);
+      steps =
+          λ more. holds.steps more ∙ ap (λ k. after_steps parts k old.state more) (sym steps) ∙
+          ap (λ s. after_steps parts new.steps s more) (sym state);
       table = table ∙ ap (λ (t : RankTable). record t { columns = columns }) holds.table;
       known = (
         record {
@@ -277,16 +340,27 @@ ranks_begin parts place columns old new asks no_goals state steps lower table al
 pub rank_stands : (parts : RuleParts) (place : Place) (rank : List Body) (old new : Progress)
     → new ≡ record old { table = record old.table { ranks = old.table.ranks ++ rank ∷ [] } }
     → (goal : Equation) (log : Log) (symbol : ℕ) (behind : Place) → Holds parts goal place log old
-    → after place (line.Rank rank, symbol) ≡ Some behind → Stands parts goal behind (pushed (line.Rank rank) log) new None
+    → after place (line.Rank rank, symbol) ≡ Some behind →
+    Stands parts goal behind (pushed (line.Rank rank) log) new None
 rank_stands parts AtHeader rank old new is goal log symbol behind holds e = absurd cc
 rank_stands parts (InCovers n) rank old new is goal log symbol behind holds e = absurd cc
 rank_stands parts InSteps rank old new is goal log symbol behind holds e = absurd cc
 rank_stands parts (InRanks c n) rank old new is goal log symbol behind holds e =
-    subst (λ b. Holds parts goal b (pushed (line.Rank rank) log) new) (behind_rank c n rank symbol behind e)
-    (subst (λ p. Holds parts goal (InRanks c (n + 1)) (pushed (line.Rank rank) log) p) (sym is) (record {
+    subst (λ b. Holds parts goal b (pushed (line.Rank rank) log) new)
+    (behind_rank c n rank symbol behind e)
+    (subst (λ p. Holds parts goal (InRanks c (n + 1)) (pushed (line.Rank rank) log) p) (sym is)
+    (record {
       steps = holds.steps;
       table = ap (λ (t : RankTable). record t { ranks = t.ranks ++ rank ∷ [] }) holds.table;
-      known = (record { covers = holds.known.0.covers; goals = holds.known.0.goals; pairs = holds.known.0.pairs }, holds.known.1);
+      known = (
+        record {
+          covers = holds.known.0.covers;
+          goals = holds.known.0.goals;
+          pairs =
+              holds.known.0.pairs;
+        },
+        holds.known.1,
+      );
     }))
 rank_stands parts InPairs rank old new is goal log symbol behind holds e = absurd cc
 rank_stands parts Finished rank old new is goal log symbol behind holds e = absurd cc
@@ -302,7 +376,8 @@ IsRanked (InRanks columns next) = Unit {0}
 IsRanked InPairs = Unit {0}
 IsRanked Finished = ⊥
 
-pair_comes : (place : Place) (cert : PairCert) (symbol : ℕ) (behind : Place) → after place (line.Pair cert, symbol) ≡ Some behind
+pair_comes : (place : Place) (cert : PairCert) (symbol : ℕ) (behind : Place) →
+    after place (line.Pair cert, symbol) ≡ Some behind
     → IsRanked place × (InPairs ≡ behind)
 pair_comes AtHeader cert symbol behind e = absurd cc
 pair_comes (InCovers n) cert symbol behind e = absurd cc
@@ -311,7 +386,8 @@ pair_comes (InRanks c n) cert symbol behind e = (tt, same_Some InPairs behind e)
 pair_comes InPairs cert symbol behind e = (tt, same_Some InPairs behind e)
 pair_comes Finished cert symbol behind e = absurd cc
 
-end_comes : (place : Place) (symbol : ℕ) (behind : Place) → after place (line.End, symbol) ≡ Some behind
+end_comes : (place : Place) (symbol : ℕ) (behind : Place) → after place (line.End, symbol) ≡
+    Some behind
     → IsRanked place × (Finished ≡ behind)
 end_comes AtHeader symbol behind e = absurd cc
 end_comes (InCovers n) symbol behind e = absurd cc
@@ -321,60 +397,80 @@ end_comes InPairs symbol behind e = (tt, same_Some Finished behind e)
 end_comes Finished symbol behind e = absurd cc
 
 -- what is asked of the ranks there
-pub record AsksRanks (parts : RuleParts) (place : Place) (table : RankTable) (failure : Option CheckEnd) : Type 0 where
-  pub ranks : (columns next : ℕ) → place ≡ InRanks columns next → IsOutcome failure (once_ranked (bad_rank parts table) passed)
+pub record AsksRanks (parts : RuleParts) (place : Place) (table : RankTable)
+    (failure : Option CheckEnd) : Type 0 where
+  pub ranks : (columns next : ℕ) → place ≡ InRanks columns next →
+      IsOutcome failure (once_ranked (bad_rank parts table) passed)
   pub pairs : place ≡ InPairs → failure ≡ None
 
-module _ (parts : RuleParts) (goal : Equation) (c n : ℕ) (log : Log) (progress : Progress) (holds : Holds parts goal (InRanks c n) log progress) where
+module _ (parts : RuleParts) (goal : Equation) (c n : ℕ) (log : Log) (progress : Progress)
+    (holds : Holds parts goal (InRanks c n) log progress) where
   -- the ranks decide
-  kept_now : kept parts goal log ≡ once_ranked (bad_rank parts log.table) (Ok progress.state.hypotheses)
+  kept_now : kept parts goal log ≡ once_ranked (bad_rank parts log.table)
+      (Ok progress.state.hypotheses)
   kept_now =
-      kept_behind parts goal log holds.known.0.covers progress.state (state_now parts goal (InRanks c n) log progress holds)
+      kept_behind parts goal log holds.known.0.covers progress.state
+      (state_now parts goal (InRanks c n) log progress holds)
       ∙ finished parts log.table progress.state holds.known.0.goals
 
-  ranks_good : once_ranked (bad_rank parts progress.table) passed ≡ passed → IsKnown parts goal InPairs log progress
+  ranks_good : once_ranked (bad_rank parts progress.table) passed ≡ passed →
+      IsKnown parts goal InPairs log progress
   ranks_good e =
-      let lawful : bad_rank parts log.table ≡ None = ap (bad_rank parts) (sym holds.table) ∙ ranks_hold (bad_rank parts progress.table) e in (
+      let lawful : bad_rank parts log.table ≡ None = ap (bad_rank parts) (sym holds.table) ∙
+      ranks_hold (bad_rank parts progress.table) e in (
         kept_now ∙ ap (λ bad. once_ranked bad (Ok progress.state.hypotheses)) lawful,
         (
           holds.known.0.pairs,
           λ more.
-              ap (λ before. descent_from log.table 0 progress.pairs (before ++ more)) holds.known.1.0
-              ∙ ap (λ k. descent_from log.table k (drop k progress.pairs) more) (sym holds.known.1.1),
+              ap (λ before. descent_from log.table 0 progress.pairs (before ++ more))
+              holds.known.1.0
+              ∙ ap (λ k. descent_from log.table k (drop k progress.pairs) more)
+              (sym holds.known.1.1),
         ),
       )
 
-  ranks_bad : (fault : LogFault) → once_ranked (bad_rank parts progress.table) passed ≡ Err fault → kept parts goal log ≡ Err fault
+  ranks_bad : (fault : LogFault) → once_ranked (bad_rank parts progress.table) passed ≡ Err fault →
+      kept parts goal log ≡ Err fault
   ranks_bad fault e =
       kept_now ∙ ranks_fail (bad_rank parts log.table) (Ok progress.state.hypotheses) fault
       (ap (λ table. once_ranked (bad_rank parts table) passed) (sym holds.table) ∙ e)
 
 -- where they are lawful, the pairs decide
-ranked : (parts : RuleParts) (goal : Equation) (place : Place) (log : Log) (progress : Progress) → IsRanked place
-    → AsksRanks parts place progress.table None → Holds parts goal place log progress → IsKnown parts goal InPairs log progress
+ranked : (parts : RuleParts) (goal : Equation) (place : Place) (log : Log) (progress : Progress) →
+    IsRanked place
+    → AsksRanks parts place progress.table None → Holds parts goal place log progress →
+    IsKnown parts goal InPairs log progress
 ranked parts goal AtHeader log progress is asks holds = absurd is
 ranked parts goal (InCovers n) log progress is asks holds = absurd is
 ranked parts goal InSteps log progress is asks holds = absurd is
-ranked parts goal (InRanks c n) log progress is asks holds = ranks_good parts goal c n log progress holds (asks.ranks c n refl)
+ranked parts goal (InRanks c n) log progress is asks holds =
+    ranks_good parts goal c n log progress holds (asks.ranks c n refl)
 ranked parts goal InPairs log progress is asks holds = holds.known
 ranked parts goal Finished log progress is asks holds = absurd is
 
 -- where they aren't, that is the fault
-unranked : (parts : RuleParts) (goal : Equation) (place : Place) (log : Log) (progress : Progress) (end : CheckEnd) → IsRanked place
+unranked : (parts : RuleParts) (goal : Equation) (place : Place) (log : Log) (progress : Progress)
+    (end : CheckEnd) → IsRanked place
     → AsksRanks parts place progress.table (Some end) → Holds parts goal place log progress
     → (fault : LogFault) × (named end ≡ Some fault) × (kept parts goal log ≡ Err fault)
 unranked parts goal AtHeader log progress end is asks holds = absurd is
 unranked parts goal (InCovers n) log progress end is asks holds = absurd is
 unranked parts goal InSteps log progress end is asks holds = absurd is
 unranked parts goal (InRanks c n) log progress end is asks holds =
-    let ends = asks.ranks c n refl in (ends.0, ends.1, ranks_bad parts goal c n log progress holds ends.0 ends.2)
+    let ends = asks.ranks c n refl in (
+      ends.0,
+      ends.1,
+      ranks_bad parts goal c n log progress holds ends.0 ends.2,
+    )
 unranked parts goal InPairs log progress end is asks holds = let no = asks.pairs refl in absurd cc
 unranked parts goal Finished log progress end is asks holds = absurd is
 
-pub pair_unranked : (parts : RuleParts) (place : Place) (cert : PairCert) (old new : Progress) (end : CheckEnd)
+pub pair_unranked : (parts : RuleParts) (place : Place) (cert : PairCert) (old new : Progress)
+    (end : CheckEnd)
     → AsksRanks parts place old.table (Some end)
     → (goal : Equation) (log : Log) (symbol : ℕ) (behind : Place) → Holds parts goal place log old
-    → after place (line.Pair cert, symbol) ≡ Some behind → Stands parts goal behind (pushed (line.Pair cert) log) new (Some end)
+    → after place (line.Pair cert, symbol) ≡ Some behind →
+    Stands parts goal behind (pushed (line.Pair cert) log) new (Some end)
 pair_unranked parts place cert old new end asks goal log symbol behind holds e =
     let comes = pair_comes place cert symbol behind e in
     let ends = unranked parts goal place log old end comes.0 asks holds in
@@ -382,14 +478,17 @@ pair_unranked parts place cert old new end asks goal log symbol behind holds e =
     (failed_at parts goal InPairs (pushed (line.Pair cert) log) end ends.0 ends.1
     (λ whole on. kept_same parts goal log whole on.0 on.1.0 on.1.1.0 ∙ ends.2))
 
-pub end_unranked : (parts : RuleParts) (place : Place) (old new : Progress) (end : CheckEnd) → AsksRanks parts place old.table (Some end)
+pub end_unranked : (parts : RuleParts) (place : Place) (old new : Progress) (end : CheckEnd) →
+    AsksRanks parts place old.table (Some end)
     → (goal : Equation) (log : Log) (symbol : ℕ) (behind : Place) → Holds parts goal place log old
-    → after place (line.End, symbol) ≡ Some behind → Stands parts goal behind (pushed line.End log) new (Some end)
+    → after place (line.End, symbol) ≡ Some behind →
+    Stands parts goal behind (pushed line.End log) new (Some end)
 end_unranked parts place old new end asks goal log symbol behind holds e =
     let comes = end_comes place symbol behind e in
     let ends = unranked parts goal place log old end comes.0 asks holds in
     subst (λ b. Stands parts goal b log new (Some end)) comes.1
-    (failed_at parts goal Finished log end ends.0 ends.1 (λ whole on. ap (kept parts goal) on ∙ ends.2))
+    (failed_at parts goal Finished log end ends.0 ends.1
+    (λ whole on. ap (kept parts goal) on ∙ ends.2))
 
 -- ---- pairs
 
@@ -400,12 +499,17 @@ module _ (table : RankTable) (number : ℕ) (pairs : List Pair) (cert : PairCert
   one_pair : (more : List PairCert) → descent_from table number (drop number pairs) (cert ∷ more)
       ≡ lowered (descent_from table (number + 1) (drop (number + 1) pairs) more)
   one_pair more = by_pair (slice_get pairs number) refl where
-    by_pair : (o : Option Pair) → slice_get pairs number ≡ o → descent_from table number (drop number pairs) (cert ∷ more)
-        ≡ lowering.goes_on number (one_lower table o cert) (descent_from table (number + 1) (drop (number + 1) pairs) more)
-    by_pair None none = ap (λ ps. descent_from table number ps (cert ∷ more)) (from_nowhere pairs number none)
-    by_pair (Some pair) some = ap (λ ps. descent_from table number ps (cert ∷ more)) (from_place pairs number pair some)
+    by_pair : (o : Option Pair) → slice_get pairs number ≡ o →
+        descent_from table number (drop number pairs) (cert ∷ more)
+        ≡ lowering.goes_on number (one_lower table o cert)
+        (descent_from table (number + 1) (drop (number + 1) pairs) more)
+    by_pair None none =
+        ap (λ ps. descent_from table number ps (cert ∷ more)) (from_nowhere pairs number none)
+    by_pair (Some pair) some =
+        ap (λ ps. descent_from table number ps (cert ∷ more)) (from_place pairs number pair some)
 
-  lowered_good : once_lower (lowered Descends) passed ≡ passed → (rest : Descent) → lowered rest ≡ rest
+  lowered_good : once_lower (lowered Descends) passed ≡ passed → (rest : Descent) → lowered rest ≡
+      rest
   lowered_good e rest = by_found (one_lower table (slice_get pairs number) cert) e where
     by_found : (found : Said) → once_lower (lowering.goes_on number found Descends) passed ≡ passed
         → lowering.goes_on number found rest ≡ rest
@@ -413,25 +517,32 @@ module _ (table : RankTable) (number : ℕ) (pairs : List Pair) (cert : PairCert
     by_found Yes e = refl
     by_found No e = absurd cc
 
-  lowered_bad : (fault : LogFault) → once_lower (lowered Descends) passed ≡ Err fault → (rest : Descent)
+  lowered_bad : (fault : LogFault) → once_lower (lowered Descends) passed ≡ Err fault →
+      (rest : Descent)
       → once_lower (lowered rest) passed ≡ Err fault
   lowered_bad fault e rest = by_found (one_lower table (slice_get pairs number) cert) e where
-    by_found : (found : Said) → once_lower (lowering.goes_on number found Descends) passed ≡ Err fault
+    by_found : (found : Said) → once_lower (lowering.goes_on number found Descends) passed ≡
+        Err fault
         → once_lower (lowering.goes_on number found rest) passed ≡ Err fault
     by_found Beyond e = e
     by_found Yes e = absurd cc
     by_found No e = e
 
-module _ (parts : RuleParts) (goal : Equation) (place : Place) (log : Log) (old : Progress) (holds : Holds parts goal place log old) (known : IsKnown parts goal InPairs log old) where
+module _ (parts : RuleParts) (goal : Equation) (place : Place) (log : Log) (old : Progress)
+    (holds : Holds parts goal place log old) (known : IsKnown parts goal InPairs log old) where
   module _ (cert : PairCert) where
-    push_pair : (more : List PairCert) → descent_from log.table 0 old.pairs ((log.pairs ++ cert ∷ []) ++ more)
-        ≡ lowered log.table old.lower old.pairs cert (descent_from log.table (old.lower + 1) (drop (old.lower + 1) old.pairs) more)
+    push_pair : (more : List PairCert) → descent_from log.table 0 old.pairs
+        ((log.pairs ++ cert ∷ []) ++ more)
+        ≡ lowered log.table old.lower old.pairs cert
+        (descent_from log.table (old.lower + 1) (drop (old.lower + 1) old.pairs) more)
     push_pair more =
         ap (descent_from log.table 0 old.pairs) (append_assoc log.pairs (cert ∷ []) more)
         ∙ known.1.1 (cert ∷ more) ∙ one_pair log.table old.lower old.pairs cert more
 
-    pair_stands : (failure : Option CheckEnd) → IsOutcome failure (once_lower (lowered log.table old.lower old.pairs cert Descends) passed)
-        → Stands parts goal InPairs (pushed (line.Pair cert) log) (record old { lower = old.lower + 1 }) failure
+    pair_stands : (failure : Option CheckEnd) →
+        IsOutcome failure (once_lower (lowered log.table old.lower old.pairs cert Descends) passed)
+        → Stands parts goal InPairs (pushed (line.Pair cert) log)
+        (record old { lower = old.lower + 1 }) failure
     pair_stands None e = record {
       steps = holds.steps;
       table = holds.table;
@@ -440,7 +551,8 @@ module _ (parts : RuleParts) (goal : Equation) (place : Place) (log : Log) (old 
         (
           known.1.0,
           λ more. push_pair more
-              ∙ lowered_good log.table old.lower old.pairs cert e (descent_from log.table (old.lower + 1) (drop (old.lower + 1) old.pairs) more),
+              ∙ lowered_good log.table old.lower old.pairs cert e
+              (descent_from log.table (old.lower + 1) (drop (old.lower + 1) old.pairs) more),
         ),
       );
     }
@@ -449,41 +561,54 @@ module _ (parts : RuleParts) (goal : Equation) (place : Place) (log : Log) (old 
       names = e.1;
       fails = λ whole on.
           concluded parts goal whole old.state.hypotheses
-          (kept_same parts goal log whole on.0 on.1.0 on.1.1.0 ∙ known.0) old.pairs known.1.0 (Fails e.0)
+          (kept_same parts goal log whole on.0 on.1.0 on.1.1.0 ∙ known.0) old.pairs known.1.0
+          (Fails e.0)
           (ap (λ table. of_descent (descent_from table 0 old.pairs whole.pairs)) on.1.1.0
           ∙ ap (λ certs. of_descent (descent_from log.table 0 old.pairs certs)) on.1.1.1.1
           ∙ ap of_descent (push_pair on.1.1.1.0)
-          ∙ pairs_fail (lowered log.table old.lower old.pairs cert (descent_from log.table (old.lower + 1) (drop (old.lower + 1) old.pairs) on.1.1.1.0)) e.0
-          (lowered_bad log.table old.lower old.pairs cert e.0 e.2 (descent_from log.table (old.lower + 1) (drop (old.lower + 1) old.pairs) on.1.1.1.0)));
+          ∙ pairs_fail (lowered log.table old.lower old.pairs cert
+          (descent_from log.table (old.lower + 1) (drop (old.lower + 1) old.pairs) on.1.1.1.0))
+          e.0
+          (lowered_bad log.table old.lower old.pairs cert e.0 e.2
+          (descent_from log.table (old.lower + 1) (drop (old.lower + 1) old.pairs)
+          on.1.1.1.0)));
     }
 
   -- the pairs that are left decide
-  descent_now : descent_from log.table 0 old.pairs log.pairs ≡ descent_from log.table old.lower (drop old.lower old.pairs) []
+  descent_now : descent_from log.table 0 old.pairs log.pairs ≡
+      descent_from log.table old.lower (drop old.lower old.pairs) []
   descent_now = ap (descent_from log.table 0 old.pairs) (sym (append-nil log.pairs)) ∙ known.1.1 []
 
-  left_stands : (new : Progress) → old.lower < length old.pairs → Stands parts goal Finished log new (Some (end.NotLower old.lower))
+  left_stands : (new : Progress) → old.lower < length old.pairs →
+      Stands parts goal Finished log new (Some (end.NotLower old.lower))
   left_stands new left = record {
     fault = log_fault.NotLower old.lower;
     names = refl;
     fails = λ whole on.
-        concluded parts goal whole old.state.hypotheses (ap (kept parts goal) on ∙ known.0) old.pairs known.1.0
+        concluded parts goal whole old.state.hypotheses (ap (kept parts goal) on ∙ known.0)
+        old.pairs known.1.0
         (Fails (log_fault.NotLower old.lower))
-        (ap (λ (l : Log). of_descent (descent_from l.table 0 old.pairs l.pairs)) on ∙ ap of_descent (descent_now ∙ by_pair (slice_get old.pairs old.lower) refl));
+        (ap (λ (l : Log). of_descent (descent_from l.table 0 old.pairs l.pairs)) on ∙
+        ap of_descent (descent_now ∙ by_pair (slice_get old.pairs old.lower) refl));
   } where
     by_pair : (o : Option Pair) → slice_get old.pairs old.lower ≡ o
         → descent_from log.table old.lower (drop old.lower old.pairs) [] ≡ NotLower old.lower
-    by_pair None none = let no = from_end old.pairs old.lower none in absurd (omega (arith, no, left))
-    by_pair (Some pair) some = ap (λ ps. descent_from log.table old.lower ps []) (from_place old.pairs old.lower pair some)
+    by_pair None none =
+        let no = from_end old.pairs old.lower none in absurd (omega (arith, no, left))
+    by_pair (Some pair) some =
+        ap (λ ps. descent_from log.table old.lower ps []) (from_place old.pairs old.lower pair some)
 
   all_stand : length old.pairs ≤ old.lower → Stands parts goal Finished log old None
   all_stand none = record {
     steps = holds.steps;
     table = holds.table;
     known = concluded parts goal log old.state.hypotheses known.0 old.pairs known.1.0 Accepted
-        (ap of_descent (descent_now ∙ ap (λ ps. descent_from log.table old.lower ps []) (drop_of_length-le old.pairs none)));
+        (ap of_descent (descent_now ∙ ap (λ ps. descent_from log.table old.lower ps [])
+        (drop_of_length-le old.pairs none)));
   }
 
-pub pair_judged : (parts : RuleParts) (place : Place) (cert : PairCert) (old : Progress) (lower : ℕ) (failure : Option CheckEnd)
+pub pair_judged : (parts : RuleParts) (place : Place) (cert : PairCert) (old : Progress) (lower : ℕ)
+    (failure : Option CheckEnd)
     → AsksRanks parts place old.table None → lower ≡ old.lower + 1
     → IsOutcome failure (once_lower (lowered old.table old.lower old.pairs cert Descends) passed)
     → (goal : Equation) (log : Log) (symbol : ℕ) (behind : Place) → Holds parts goal place log old
@@ -492,31 +617,42 @@ pub pair_judged : (parts : RuleParts) (place : Place) (cert : PairCert) (old : P
 pair_judged parts place cert old lower failure asks is ends goal log symbol behind holds e =
     let comes = pair_comes place cert symbol behind e in
     let known = ranked parts goal place log old comes.0 asks holds in
-    subst (λ b. Stands parts goal b (pushed (line.Pair cert) log) (record old { lower = lower }) failure) comes.1
-    (subst (λ k. Stands parts goal InPairs (pushed (line.Pair cert) log) (record old { lower = k }) failure) (sym is)
+    subst (λ b. Stands parts goal b (pushed (line.Pair cert) log) (record old { lower = lower })
+    failure) comes.1
+    (subst (λ k. Stands parts goal InPairs (pushed (line.Pair cert) log) (record old { lower = k })
+    failure) (sym is)
     (pair_stands parts goal place log old holds known cert failure
-    (subst (λ table. IsOutcome failure (once_lower (lowered table old.lower old.pairs cert Descends) passed)) holds.table ends)))
+    (subst (λ table. IsOutcome failure (once_lower (lowered table old.lower old.pairs cert Descends)
+    passed)) holds.table ends)))
 
-pub end_left : (parts : RuleParts) (place : Place) (old new : Progress) → AsksRanks parts place old.table None → old.lower < length old.pairs
+pub end_left : (parts : RuleParts) (place : Place) (old new : Progress) →
+    AsksRanks parts place old.table None → old.lower < length old.pairs
     → (goal : Equation) (log : Log) (symbol : ℕ) (behind : Place) → Holds parts goal place log old
-    → after place (line.End, symbol) ≡ Some behind → Stands parts goal behind (pushed line.End log) new (Some (end.NotLower old.lower))
+    → after place (line.End, symbol) ≡ Some behind →
+    Stands parts goal behind (pushed line.End log) new (Some (end.NotLower old.lower))
 end_left parts place old new asks left goal log symbol behind holds e =
     let comes = end_comes place symbol behind e in
     let known = ranked parts goal place log old comes.0 asks holds in
-    subst (λ b. Stands parts goal b log new (Some (end.NotLower old.lower))) comes.1 (left_stands parts goal place log old holds known new left)
+    subst (λ b. Stands parts goal b log new (Some (end.NotLower old.lower))) comes.1
+    (left_stands parts goal place log old holds known new left)
 
-pub end_judged : (parts : RuleParts) (place : Place) (old : Progress) → AsksRanks parts place old.table None → length old.pairs ≤ old.lower
+pub end_judged : (parts : RuleParts) (place : Place) (old : Progress) →
+    AsksRanks parts place old.table None → length old.pairs ≤ old.lower
     → (goal : Equation) (log : Log) (symbol : ℕ) (behind : Place) → Holds parts goal place log old
-    → after place (line.End, symbol) ≡ Some behind → Stands parts goal behind (pushed line.End log) old None
+    → after place (line.End, symbol) ≡ Some behind →
+    Stands parts goal behind (pushed line.End log) old None
 end_judged parts place old asks none goal log symbol behind holds e =
     let comes = end_comes place symbol behind e in
     let known = ranked parts goal place log old comes.0 asks holds in
-    subst (λ b. Stands parts goal b log old None) comes.1 (all_stand parts goal place log old holds known none)
+    subst (λ b. Stands parts goal b log old None) comes.1
+    (all_stand parts goal place log old holds known none)
 
 -- ---- behind a failure
 
-pub failed_stands : (parts : RuleParts) (goal : Equation) (place : Place) (log : Log) (next : Line) (symbol : ℕ) (behind : Place) (end : CheckEnd)
-    → FailsWith parts goal place log end → after place (next, symbol) ≡ Some behind → FailsWith parts goal behind (pushed next log) end
+pub failed_stands : (parts : RuleParts) (goal : Equation) (place : Place) (log : Log) (next : Line)
+    (symbol : ℕ) (behind : Place) (end : CheckEnd)
+    → FailsWith parts goal place log end → after place (next, symbol) ≡ Some behind →
+    FailsWith parts goal behind (pushed next log) end
 failed_stands parts goal place log next symbol behind end failed e = record {
   fault = failed.fault;
   names = failed.names;

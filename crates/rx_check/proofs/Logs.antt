@@ -17,17 +17,24 @@ steps_of : (parts : RuleParts) (end state : State) (k : ℕ) → Run parts end s
     → (steps : List Step) × (after_steps parts k state steps ≡ Ok end)
 steps_of parts end _ k NoStep = ([], refl)
 steps_of parts end _ k (OneMore state next step is run) =
-    let (steps, later) = steps_of parts end next (k + 1) run in
-    (step ∷ steps, ap (λ answer. after_step k answer >>= λ next. after_steps parts (k + 1) next steps) is ∙ later)
+    let (steps, later) = steps_of parts end next (k + 1) run in (
+      step ∷ steps,
+      ap (λ answer. after_step k answer >>= λ next.
+          after_steps parts (k + 1) next steps) is ∙ later,
+    )
 
-module _ (parts : RuleParts) (goal : Equation) (hypotheses : List Rule) (ranks : RankTable) (proof : IsProof parts goal hypotheses ranks) where
+module _ (parts : RuleParts) (goal : Equation) (hypotheses : List Rule) (ranks : RankTable)
+    (proof : IsProof parts goal hypotheses ranks) where
   abbrev log_with : List Step → Log
-  log_with steps = record { covers = proof.trees; steps = steps; table = ranks; pairs = proof.certs }
+  log_with steps =
+      record { covers = proof.trees; steps = steps; table = ranks; pairs = proof.certs }
 
-  kept_with : (steps : List Step) → after_steps parts 0 (start goal) steps ≡ Ok (finished hypotheses)
+  kept_with : (steps : List Step) → after_steps parts 0 (start goal) steps ≡
+      Ok (finished hypotheses)
       → kept parts goal (log_with steps) ≡ Ok hypotheses
   kept_with steps is =
-      ap (λ found. once_covered found (after_steps parts 0 (start goal) steps >>= kept_by parts ranks)) proof.covers
+      ap (λ found. once_covered found (after_steps parts 0 (start goal) steps >>= kept_by parts
+      ranks)) proof.covers
       ∙ ap (λ (check : Checked State). check >>= kept_by parts ranks) is
       ∙ ap (λ bad. once_ranked bad (Ok hypotheses)) proof.lawful
 
@@ -42,15 +49,19 @@ module _ (parts : RuleParts) (goal : Equation) (hypotheses : List Rule) (ranks :
   accepted_with : (steps : List Step) → kept parts goal (log_with steps) ≡ Ok hypotheses
       → IsAccepted parts goal (log_with steps)
   accepted_with steps keeps =
-      subst (λ check. Concludes parts (log_with steps) check Accepted) (sym keeps) (lower_with steps)
+      subst (λ check. Concludes parts (log_with steps) check Accepted) (sym keeps)
+      (lower_with steps)
 
-  pub proof_has_log : (log : Log) × (kept parts goal log ≡ Ok hypotheses) × (log.table ≡ ranks) × IsAccepted parts goal log
+  pub proof_has_log : (log : Log) × (kept parts goal log ≡ Ok hypotheses) × (log.table ≡ ranks) ×
+      IsAccepted parts goal log
   proof_has_log =
       let (steps, is) = steps_of parts (finished hypotheses) (start goal) 0 proof.run in
       let keeps = kept_with steps is in
       (log_with steps, keeps, refl, accepted_with steps keeps)
 
-pub example_has_log : (log : Log) × (kept example alike log ≡ Ok (hypothesis ∷ [])) × IsAccepted example alike log
+pub example_has_log : (log : Log) × (kept example alike log ≡ Ok (hypothesis ∷ [])) ×
+    IsAccepted example alike log
 example_has_log =
-    let (log, keeps, _, accepted) = proof_has_log example alike (hypothesis ∷ []) table example_proof in
+    let (log, keeps, _, accepted) = proof_has_log example alike (hypothesis ∷ []) table
+    example_proof in
     (log, keeps, accepted)

@@ -18,7 +18,8 @@ use Rattle.rx_check.specs.declared.check_end.CheckEnd.{CheckEnd}
 use Rattle.rx_check.proofs.Proofs.{kept_have_roots}
 
 -- the rules have pairs, and the hypotheses do
-pub pairs_there : (parts : RuleParts) (hypotheses : List Rule) → IsWellMade parts → All HasRoot hypotheses
+pub pairs_there : (parts : RuleParts) (hypotheses : List Rule) → IsWellMade parts →
+    All HasRoot hypotheses
     → (pairs : List Pair) × AreAllPairs (parts.rules ++ hypotheses) pairs
 pairs_there parts hypotheses made rooted =
     some_all (parts.rules ++ hypotheses)
@@ -34,28 +35,36 @@ module _ (parts : RuleParts) (goal : Equation) (log : Log) (made : IsWellMade pa
   by_kept : (check : Checked (List Rule)) → kept parts goal log ≡ check → One check
   by_kept (Err fault) e = (Fails fault, refl, λ other is. is)
   by_kept (Ok hypotheses) e =
-      let (pairs, all) = pairs_there parts hypotheses made (kept_have_roots parts goal log hypotheses e) in
+      let (pairs, all) = pairs_there parts hypotheses made
+      (kept_have_roots parts goal log hypotheses e) in
       let found : List Pair → Verdict = λ ps. of_descent (descent_from log.table 0 ps log.pairs) in (
         found pairs,
         record { pairs = pairs; all_pairs = all; is = refl },
-        λ other on. sym on.is ∙ ap found (one_all (parts.rules ++ hypotheses) on.pairs pairs on.all_pairs all),
+        λ other on. sym on.is ∙ ap found (one_all (parts.rules ++ hypotheses) on.pairs pairs
+            on.all_pairs all),
       )
 
   pub one_verdict : One (kept parts goal log)
   one_verdict = by_kept (kept parts goal log) refl
 
   -- the verdict that an answer tells is one of the log
-  told : (r : Result (Unit {0}) CheckEnd) (verdict : Verdict) → Answers r parts goal log → verdict_told r ≡ Some verdict
+  told : (r : Result (Unit {0}) CheckEnd) (verdict : Verdict) → Answers r parts goal log →
+      verdict_told r ≡ Some verdict
       → HasVerdict parts goal log verdict
-  told (Ok done) verdict answers is = subst (HasVerdict parts goal log) (same_Some Accepted verdict is) answers
+  told (Ok done) verdict answers is =
+      subst (HasVerdict parts goal log) (same_Some Accepted verdict is) answers
   told (Err end) verdict answers is = by_fault (named end) answers is where
-    by_fault : (o : Option LogFault) → Told o (λ fault. HasVerdict parts goal log (Fails fault)) → option_map Fails o ≡ Some verdict
+    by_fault : (o : Option LogFault) → Told o (λ fault. HasVerdict parts goal log (Fails fault)) →
+        option_map Fails o ≡ Some verdict
         → HasVerdict parts goal log verdict
     by_fault None has is = absurd cc
-    by_fault (Some fault) has is = subst (HasVerdict parts goal log) (same_Some (Fails fault) verdict is) has
+    by_fault (Some fault) has is =
+        subst (HasVerdict parts goal log) (same_Some (Fails fault) verdict is) has
 
-  pub one_told : (one two : Result (Unit {0}) CheckEnd) → Answers one parts goal log → Answers two parts goal log
-      → (first second : Verdict) → verdict_told one ≡ Some first → verdict_told two ≡ Some second → first ≡ second
+  pub one_told : (one two : Result (Unit {0}) CheckEnd) → Answers one parts goal log →
+      Answers two parts goal log
+      → (first second : Verdict) → verdict_told one ≡ Some first → verdict_told two ≡ Some second →
+      first ≡ second
   one_told one two has too first second is also =
       let (_, _, only) = one_verdict in
       only first (told one first has is) ∙ sym (only second (told two second too also))

@@ -27,13 +27,15 @@ use Rattle.rx_check.proofs.Kept.{run_rooted, steps_run}
 
 -- ---- back from the checks
 
-covered_back : {A : Type 0} (found : Covering) (next : Checked A) (x : A) → once_covered found next ≡ Ok x
+covered_back : {A : Type 0} (found : Covering) (next : Checked A) (x : A) →
+    once_covered found next ≡ Ok x
     → (found ≡ Covers) × (next ≡ Ok x)
 covered_back Covers next x e = (refl, e)
 covered_back (Fails f) next x e = absurd cc
 covered_back (PassesLimits f) next x e = absurd cc
 
-finished_back : {A : Type 0} (goals : List Equation) (next : Checked A) (x : A) → once_finished goals next ≡ Ok x
+finished_back : {A : Type 0} (goals : List Equation) (next : Checked A) (x : A) →
+    once_finished goals next ≡ Ok x
     → (goals ≡ []) × (next ≡ Ok x)
 finished_back [] next x e = (refl, e)
 finished_back (goal ∷ goals) next x e = absurd cc
@@ -43,13 +45,15 @@ ranked_back : {A : Type 0} (bad : Option ℕ) (next : Checked A) (x : A) → onc
 ranked_back None next x e = (refl, e)
 ranked_back (Some f) next x e = absurd cc
 
-first_back : {A B : Type 0} (check : Checked A) (next : A → Checked B) (y : B) → (check >>= next) ≡ Ok y
+first_back : {A B : Type 0} (check : Checked A) (next : A → Checked B) (y : B) → (check >>= next) ≡
+    Ok y
     → (x : A) × (check ≡ Ok x) × (next x ≡ Ok y)
 first_back (Ok x) next y e = (x, refl, e)
 first_back (Err fault) next y e = absurd cc
 
 -- what the checks before that of the pairs show
-pub record Checks (parts : RuleParts) (goal : Equation) (log : Log) (hypotheses : List Rule) : Type 0 where
+pub record Checks (parts : RuleParts) (goal : Equation) (log : Log) (hypotheses : List Rule) : Type
+    0 where
   pub covers : covering parts log.covers ≡ Covers
   pub run : Run parts (finished hypotheses) (start goal)
   pub lawful : bad_rank parts log.table ≡ None
@@ -58,14 +62,17 @@ pub kept_checks : (parts : RuleParts) (goal : Equation) (log : Log) (hypotheses 
     → kept parts goal log ≡ Ok hypotheses → Checks parts goal log hypotheses
 kept_checks parts goal log hypotheses e =
     let one = covered_back (covering parts log.covers) _ hypotheses e in
-    let (end, steps, ends) = first_back (after_steps parts 0 (start goal) log.steps) _ hypotheses one.1 in
+    let (end, steps, ends) = first_back (after_steps parts 0 (start goal) log.steps) _ hypotheses
+    one.1 in
     let two = finished_back end.goals _ hypotheses ends in
     let three = ranked_back (bad_rank parts log.table) _ hypotheses two.1 in
     let same : end.hypotheses ≡ hypotheses = cc in
     let is : end ≡ finished hypotheses = (λ i. record { goals = two.0 i; hypotheses = same i }) in
     record {
       covers = one.0;
-      run = subst (λ final. Run parts final (start goal)) is (steps_run parts end 0 (start goal) log.steps steps);
+      run =
+          subst (λ final. Run parts final (start goal)) is
+          (steps_run parts end 0 (start goal) log.steps steps);
       lawful = three.0;
     }
 
@@ -73,7 +80,8 @@ kept_checks parts goal log hypotheses e =
 pub kept_have_roots : (parts : RuleParts) (goal : Equation) (log : Log) (hypotheses : List Rule)
     → kept parts goal log ≡ Ok hypotheses → All HasRoot hypotheses
 kept_have_roots parts goal log hypotheses e =
-    run_rooted parts (finished hypotheses) (start goal) (kept_checks parts goal log hypotheses e).run (All-nil HasRoot)
+    run_rooted parts (finished hypotheses) (start goal)
+    (kept_checks parts goal log hypotheses e).run (All-nil HasRoot)
 
 -- ---- accepted logs
 
@@ -82,10 +90,12 @@ descends_back Descends e = refl
 descends_back (NotLower i) e = absurd cc
 descends_back (lowering.PassesLimits i) e = absurd cc
 
-module _ (parts : RuleParts) (goal : Equation) (log : Log) (made : IsWellMade parts) (fits : IsFitting parts goal) where
+module _ (parts : RuleParts) (goal : Equation) (log : Log) (made : IsWellMade parts)
+    (fits : IsFitting parts goal) where
   -- the proof, with what the checks came to
   proof_of : (hypotheses : List Rule) → kept parts goal log ≡ Ok hypotheses
-      → OnPairs (parts.rules ++ hypotheses) log.table log.pairs Accepted → IsProof parts goal hypotheses log.table
+      → OnPairs (parts.rules ++ hypotheses) log.table log.pairs Accepted →
+      IsProof parts goal hypotheses log.table
   proof_of hypotheses e verdict =
       let checks = kept_checks parts goal log hypotheses e in
       record {
@@ -103,27 +113,33 @@ module _ (parts : RuleParts) (goal : Equation) (log : Log) (made : IsWellMade pa
 
   by_kept : (check : Checked (List Rule)) → kept parts goal log ≡ check
       → acceptance.Concludes parts log check Accepted
-      → (hypotheses : List Rule) × (kept parts goal log ≡ Ok hypotheses) × IsProof parts goal hypotheses log.table
+      → (hypotheses : List Rule) × (kept parts goal log ≡ Ok hypotheses) ×
+      IsProof parts goal hypotheses log.table
   by_kept (Ok hypotheses) e verdict = (hypotheses, e, proof_of hypotheses e verdict)
   by_kept (Err fault) e verdict = absurd cc
 
   pub accepted_proof : IsAccepted parts goal log
-      → (hypotheses : List Rule) × (kept parts goal log ≡ Ok hypotheses) × IsProof parts goal hypotheses log.table
+      → (hypotheses : List Rule) × (kept parts goal log ≡ Ok hypotheses) ×
+      IsProof parts goal hypotheses log.table
   accepted_proof accepted = by_kept (kept parts goal log) refl accepted
 
   pub accepted_ends_alike : IsAccepted parts goal log → (a : ℕ → ℤ) → AllHold a goal.rows
-      → EndAlike (Inside parts) (Instance parts.rules) (ground_at a goal.left) (ground_at a goal.right)
+      → EndAlike (Inside parts) (Instance parts.rules) (ground_at a goal.left)
+      (ground_at a goal.right)
   accepted_ends_alike accepted a holds =
       let (hypotheses, _, proof) = accepted_proof accepted in
       proof_ends_alike parts goal hypotheses log.table proof a holds
 
   -- where the rules are single-valued, both sides reach one result
-  pub accepted_ends_equal : IsAccepted parts goal log → IsSingleValued (Instance parts.rules) → (a : ℕ → ℤ)
-      → AllHold a goal.rows → EndEqual (Instance parts.rules) (ground_at a goal.left) (ground_at a goal.right)
+  pub accepted_ends_equal : IsAccepted parts goal log → IsSingleValued (Instance parts.rules) →
+      (a : ℕ → ℤ)
+      → AllHold a goal.rows → EndEqual (Instance parts.rules) (ground_at a goal.left)
+      (ground_at a goal.right)
   accepted_ends_equal accepted single a holds =
       let rules = Instance parts.rules in
       let alike = accepted_ends_alike accepted a holds in
-      let same = convertible_results_equal rules single (results_rest parts made) alike.left.end alike.right.end
+      let same = convertible_results_equal rules single (results_rest parts made) alike.left.end
+      alike.right.end
       alike.left.is_result alike.right.is_result alike.convertible in
       record {
         end = alike.left.end;

@@ -20,48 +20,61 @@ use Rattle.rx_check.proofs.Pairs.{pairs_there}
 use Rattle.rx_check.proofs.Proofs.{accepted_ends_alike, kept_have_roots}
 
 -- what is told of a fault means something else of it
-told_too : (o : Option LogFault) (Says Means : LogFault → Type 0) → ((fault : LogFault) → Says fault → Means fault)
+told_too : (o : Option LogFault) (Says Means : LogFault → Type 0) →
+    ((fault : LogFault) → Says fault → Means fault)
     → Told o Says → Told o Means
 told_too None Says Means too told = tt
 told_too (Some fault) Says Means too told = too fault told
 
 -- ---- the verdict
 
-module _ (parts : RuleParts) (goal : Equation) (log : Log) (hypotheses : List Rule) (keeps : kept parts goal log ≡ Ok hypotheses) (pairs : List Pair) (all : AreAllPairs (parts.rules ++ hypotheses) pairs) where
+module _ (parts : RuleParts) (goal : Equation) (log : Log) (hypotheses : List Rule)
+    (keeps : kept parts goal log ≡ Ok hypotheses) (pairs : List Pair)
+    (all : AreAllPairs (parts.rules ++ hypotheses) pairs) where
   abbrev decided : Verdict
   decided = of_descent (descent_from log.table 0 pairs log.pairs)
 
   -- the pairs decide behind all other checks
   pub concluded : (verdict : Verdict) → decided ≡ verdict → HasVerdict parts goal log verdict
   concluded verdict is =
-      subst (λ check. Concludes parts log check verdict) (sym keeps) (record { pairs = pairs; all_pairs = all; is = is })
+      subst (λ check. Concludes parts log check verdict) (sym keeps)
+      (record { pairs = pairs; all_pairs = all; is = is })
 
   answered : (r : Result (Unit {0}) CheckEnd) → Decides decided r → Answers r parts goal log
   answered (Ok _) is = concluded _ is
   answered (Err end) told =
-      told_too (named end) (λ fault. decided ≡ Fails fault) (λ fault. HasVerdict parts goal log (Fails fault))
+      told_too (named end) (λ fault. decided ≡ Fails fault)
+      (λ fault. HasVerdict parts goal log (Fails fault))
       (λ fault is. concluded (Fails fault) is) told
 
--- the answer on the pairs of lent hypotheses, which speaks of each list of pairs, is that of the log
-pub lent_answered : (parts : RuleParts) (goal : Equation) (log : Log) (hypotheses lent : List Rule) (certs : List PairCert)
+-- the answer on the pairs of lent hypotheses, which speaks of each list of pairs, is that of the
+-- log
+pub lent_answered : (parts : RuleParts) (goal : Equation) (log : Log) (hypotheses lent : List Rule)
+    (certs : List PairCert)
     → IsWellMade parts → kept parts goal log ≡ Ok hypotheses → lent ≡ hypotheses → certs ≡ log.pairs
     → (r : Result (Unit {0}) CheckEnd)
-    → ((pairs : List Pair) → AreAllPairs (parts.rules ++ lent) pairs → Decides (of_descent (descent_from log.table 0 pairs certs)) r)
+    → ((pairs : List Pair) → AreAllPairs (parts.rules ++ lent) pairs →
+    Decides (of_descent (descent_from log.table 0 pairs certs)) r)
     → Answers r parts goal log
 lent_answered parts goal log hypotheses lent certs made keeps same same_certs r decides =
-    let (pairs, all) = pairs_there parts hypotheses made (kept_have_roots parts goal log hypotheses keeps) in
+    let (pairs, all) = pairs_there parts hypotheses made
+    (kept_have_roots parts goal log hypotheses keeps) in
     let ours = subst (λ hs. AreAllPairs (parts.rules ++ hs) pairs) (sym same) all in
     answered parts goal log hypotheses keeps pairs all r
-    (subst (λ cs. Decides (of_descent (descent_from log.table 0 pairs cs)) r) same_certs (decides pairs ours))
+    (subst (λ cs. Decides (of_descent (descent_from log.table 0 pairs cs)) r) same_certs
+    (decides pairs ours))
 
 -- ---- the goal
 
 -- both sides of the goal reach results that are convertible by the rules alone
 abbrev pub IsSound : RuleParts → Equation → Type 0
 IsSound parts goal = (a : ℕ → ℤ) → AllHold a goal.rows
-    → EndAlike (Inside parts) (Instance parts.rules) (ground_at a goal.left) (ground_at a goal.right)
+    → EndAlike (Inside parts) (Instance parts.rules) (ground_at a goal.left)
+    (ground_at a goal.right)
 
-pub answer_sound : (parts : RuleParts) (goal : Equation) (log : Log) → IsWellMade parts → IsFitting parts goal
+pub answer_sound : (parts : RuleParts) (goal : Equation) (log : Log) → IsWellMade parts →
+    IsFitting parts goal
     → (r : Result (Unit {0}) CheckEnd) → Answers r parts goal log → OnOk r (IsSound parts goal)
-answer_sound parts goal log made fits (Ok _) accepted = accepted_ends_alike parts goal log made fits accepted
+answer_sound parts goal log made fits (Ok _) accepted =
+    accepted_ends_alike parts goal log made fits accepted
 answer_sound parts goal log made fits (Err end) told = tt

@@ -29,58 +29,79 @@ use Rattle.rx_cli.proofs.ExampleLaws.{shown_agree}
 use Rattle.rx_cli.proofs.Proved.{proved_agrees}
 
 -- bytes that stand under a name were given under it
-pub given_under : (held : Option Names) (name bytes : List ℕ) → HoldsBytes held name bytes → IsHeld held name (Some bytes)
+pub given_under : (held : Option Names) (name bytes : List ℕ) → HoldsBytes held name bytes →
+    IsHeld held name (Some bytes)
 given_under None name bytes holds = (bytes, refl)
 given_under (Some names) name bytes holds = sym holds
 
 -- something was given under each name
-pub given_any : (held : Option Names) (name : List ℕ) → (given : Option (List ℕ)) × IsHeld held name given
+pub given_any : (held : Option Names) (name : List ℕ) → (given : Option (List ℕ)) ×
+    IsHeld held name given
 given_any None name = (Some [], ([], refl))
 given_any (Some names) name = (names name, refl)
 
-log_any : (held : Option Names) (command : Comparison) → (given : Option (List ℕ)) × IsLogHeld held command given
+log_any : (held : Option Names) (command : Comparison) → (given : Option (List ℕ)) ×
+    IsLogHeld held command given
 log_any held (Prove f effort) = (None, tt)
 log_any held (Check f log) = given_any held log
 log_any held (Refute f extent) = (None, tt)
 
 -- ---- a log
 
-module _ (held : Option Names) (fault : Type 0) (f : Functions) (source name : List ℕ) (verdict : Verdict) where
+module _ (held : Option Names) (fault : Type 0) (f : Functions) (source name : List ℕ)
+    (verdict : Verdict) where
   -- a text that is no question
   pub checks_asked : asked f source (Ends verdict) → ChecksNamed held fault f source name verdict
   checks_asked ended = let any = given_any held name in inl (any.0, any.1, inl ended)
 
   module _ (question : Question) (found : asked f source (Goes question)) where
-    unheld : (h : Option Names) → held ≡ h → IsMissing h name → verdict ≡ Said.ReadFault → ChecksNamed held fault f source name verdict
+    unheld : (h : Option Names) → held ≡ h → IsMissing h name → verdict ≡ Said.ReadFault →
+        ChecksNamed held fault f source name verdict
     unheld None told missing is = absurd missing
-    unheld (Some names) told missing is = inl (None, subst (λ h. IsHeld h name None) (sym told) (sym missing), inr (question, found, is))
+    unheld (Some names) told missing is =
+        inl (
+          None,
+          subst (λ h. IsHeld h name None) (sym told) (sym missing),
+          inr (question, found, is),
+        )
 
     -- a log that can't be had
-    pub checks_unread : Reads held fault name longest_log Said.LongLog (Ends verdict) → ChecksNamed held fault f source name verdict
+    pub checks_unread : Reads held fault name longest_log Said.LongLog (Ends verdict) →
+        ChecksNamed held fault f source name verdict
     checks_unread (inl ((bytes, holds, more), is)) =
-        let on : OnRead question (Some bytes) verdict = rw (lt-ltb longest_log (length bytes) more) is in
+        let on : OnRead question (Some bytes) verdict =
+        rw (lt-ltb longest_log (length bytes) more) is in
         inl (Some bytes, given_under held name bytes holds, inr (question, found, on))
     checks_unread (inr (inl failed, is)) = inr (failed, is)
     checks_unread (inr (inr missing, is)) = unheld held refl missing is
 
     -- a log that was read
-    pub checks_text : (bytes lent : List ℕ) → HoldsBytes held name bytes → length bytes ≤ longest_log → lent ≡ bytes → OnText question lent verdict → ChecksNamed held fault f source name verdict
+    pub checks_text : (bytes lent : List ℕ) → HoldsBytes held name bytes → length bytes ≤
+        longest_log → lent ≡ bytes → OnText question lent verdict →
+        ChecksNamed held fault f source name verdict
     checks_text bytes lent holds fits same on =
-        let read : OnRead question (Some bytes) verdict = rw (le-ltb longest_log (length bytes) fits) (subst (λ b. OnText question b verdict) same on) in
+        let read : OnRead question (Some bytes) verdict =
+        rw (le-ltb longest_log (length bytes) fits)
+        (subst (λ b. OnText question b verdict) same on) in
         inl (Some bytes, given_under held name bytes holds, inr (question, found, read))
 
 -- a fault that rose later has risen
 pub rose_later : (a b c : ℕ) → a ≤ b → Rose b c → Rose a c
 rose_later a b c below rose =
-    le_trans (le-min (le_trans (min-le_left (a + 1) (2 ^ 64 - 1)) (omega (arith, below))) (min-le_right (a + 1) (2 ^ 64 - 1))) rose
+    le_trans (le-min (le_trans (min-le_left (a + 1) (2 ^ 64 - 1)) (omega (arith, below)))
+    (min-le_right (a + 1) (2 ^ 64 - 1))) rose
 
-pub checks_later : (held told : Option Names) (a b c : ℕ) (f : Functions) (source name : List ℕ) (verdict : Verdict) → told ≡ held → a ≤ b → ChecksNamed told (Rose b c) f source name verdict
+pub checks_later : (held told : Option Names) (a b c : ℕ) (f : Functions) (source name : List ℕ)
+    (verdict : Verdict) → told ≡ held → a ≤ b → ChecksNamed told (Rose b c) f source name verdict
     → ChecksNamed held (Rose a c) f source name verdict
-checks_later held told a b c f source name verdict same below (inl (given, is_held, checked)) = inl (given, subst (λ h. IsHeld h name given) same is_held, checked)
-checks_later held told a b c f source name verdict same below (inr (rose, is)) = inr (rose_later a b c below rose, is)
+checks_later held told a b c f source name verdict same below (inl (given, is_held, checked)) =
+    inl (given, subst (λ h. IsHeld h name given) same is_held, checked)
+checks_later held told a b c f source name verdict same below (inr (rose, is)) =
+    inr (rose_later a b c below rose, is)
 
 -- words that ask for nothing are told the usage
-pub answers_usage : (held : Option Names) (fault : Type 0) (asked_for : Option Command) → None ≡ asked_for → IsAnswered held fault asked_for (Line Said.Usage)
+pub answers_usage : (held : Option Names) (fault : Type 0) (asked_for : Option Command) → None ≡
+    asked_for → IsAnswered held fault asked_for (Line Said.Usage)
 answers_usage held fault asked_for is =
     subst (λ o. IsAnswered held fault o (Line Said.Usage)) is (inl (record {
       given = record { source = None; log = None };
@@ -93,62 +114,98 @@ answers_usage held fault asked_for is =
 
 -- a source that can't be had
 module _ (held : Option Names) (fault : Type 0) (command : Comparison) (verdict : Verdict) where
-  long_answer : (bytes : List ℕ) → HoldsBytes held (functions_in command).file bytes → longest_source < length bytes → verdict ≡ Said.LongSource → IsAnswered held fault (Some (Compare command)) (Line verdict)
+  long_answer : (bytes : List ℕ) → HoldsBytes held (functions_in command).file bytes →
+      longest_source < length bytes → verdict ≡ Said.LongSource →
+      IsAnswered held fault (Some (Compare command)) (Line verdict)
   long_answer bytes holds more is =
       let log = log_any held command in
-      let said : OnSource command (Some bytes) log.0 (Line verdict) = rw (lt-ltb longest_source (length bytes) more) (ap Line is) in
+      let said : OnSource command (Some bytes) log.0 (Line verdict) =
+      rw (lt-ltb longest_source (length bytes) more) (ap Line is) in
       inl (record {
         given = record { source = Some bytes; log = log.0 };
         is_given = (given_under held (functions_in command).file bytes holds, log.1);
         is = said;
-        right = λ says. let no : Ends.Refused ≡ Ends.Equivalent = sym (ap status_of is) ∙ says in absurd (let none : ⊥ = cc in none);
+        right =
+            λ says. let no : Ends.Refused ≡ Ends.Equivalent = sym (ap status_of is) ∙ says in
+            absurd (let none : ⊥ = cc in none);
       })
 
-  missing_answer : (names : Names) → held ≡ Some names → names (functions_in command).file ≡ None → verdict ≡ Said.ReadFault → IsAnswered held fault (Some (Compare command)) (Line verdict)
+  missing_answer : (names : Names) → held ≡ Some names → names (functions_in command).file ≡ None →
+      verdict ≡ Said.ReadFault → IsAnswered held fault (Some (Compare command)) (Line verdict)
   missing_answer names told missing is =
       let log = log_any held command in
       inl (record {
         given = record { source = None; log = log.0 };
-        is_given = (subst (λ h. IsHeld h (functions_in command).file None) (sym told) (sym missing), log.1);
+        is_given = (
+          subst (λ h. IsHeld h (functions_in command).file None) (sym told) (sym missing),
+          log.1,
+        );
         is = ap Line is;
-        right = λ says. let no : Ends.ReadFault ≡ Ends.Equivalent = sym (ap status_of is) ∙ says in absurd (let none : ⊥ = cc in none);
+        right =
+            λ says. let no : Ends.ReadFault ≡ Ends.Equivalent = sym (ap status_of is) ∙ says in
+            absurd (let none : ⊥ = cc in none);
       })
 
-  by_held : (h : Option Names) → held ≡ h → IsMissing h (functions_in command).file → verdict ≡ Said.ReadFault → IsAnswered held fault (Some (Compare command)) (Line verdict)
+  by_held : (h : Option Names) → held ≡ h → IsMissing h (functions_in command).file → verdict ≡
+      Said.ReadFault → IsAnswered held fault (Some (Compare command)) (Line verdict)
   by_held None told missing is = absurd missing
   by_held (Some names) told missing is = missing_answer names told missing is
 
-  pub answers_unread : Reads held fault (functions_in command).file longest_source Said.LongSource (Ends verdict) → IsAnswered held fault (Some (Compare command)) (Line verdict)
+  pub answers_unread : Reads held fault (functions_in command).file longest_source Said.LongSource
+      (Ends verdict) → IsAnswered held fault (Some (Compare command)) (Line verdict)
   answers_unread (inl ((bytes, holds, more), is)) = long_answer bytes holds more is
   answers_unread (inr (inl failed, is)) = inr (refl, failed, ap Line is)
   answers_unread (inr (inr missing, is)) = by_held held refl missing is
 
 -- a source that was read
-module _ (held : Option Names) (fault : Type 0) (f : Functions) (source lent : List ℕ) (holds : HoldsBytes held f.file source) (fits : length source ≤ longest_source) (same : lent ≡ source) where
-  pub answers_checked : (name : List ℕ) (verdict : Verdict) → ChecksNamed held fault f lent name verdict → IsAnswered held fault (Some (Compare (Check f name))) (Line verdict)
+module _ (held : Option Names) (fault : Type 0) (f : Functions) (source lent : List ℕ)
+    (holds : HoldsBytes held f.file source) (fits : length source ≤ longest_source)
+    (same : lent ≡ source) where
+  pub answers_checked : (name : List ℕ) (verdict : Verdict) →
+      ChecksNamed held fault f lent name verdict →
+      IsAnswered held fault (Some (Compare (Check f name))) (Line verdict)
   answers_checked name verdict (inl (given, is_held, checked)) =
-      let said : OnSource (Check f name) (Some source) given (Line verdict) = rw (le-ltb longest_source (length source) fits) (verdict, rw (← same) checked, refl) in
+      let said : OnSource (Check f name) (Some source) given (Line verdict) =
+      rw (le-ltb longest_source (length source) fits) (verdict, rw (← same) checked, refl) in
       inl (record {
         given = record { source = Some source; log = given };
         is_given = (given_under held f.file source holds, is_held);
         is = said;
-        right = λ says. (source, refl, subst (λ text. Agrees text f) same (checked_agrees verdict says f lent given checked));
+        right =
+            λ says. (
+              source,
+              refl,
+              subst (λ text. Agrees text f) same
+                  (checked_agrees verdict says f lent given checked),
+            );
       })
   answers_checked name verdict (inr (failed, is)) = inr (refl, failed, ap Line is)
 
-  pub answers_proved : (effort : Effort) (answer : Answer) → IsProved f effort lent answer → IsAnswered held fault (Some (Compare (Prove f effort))) answer
+  pub answers_proved : (effort : Effort) (answer : Answer) → IsProved f effort lent answer →
+      IsAnswered held fault (Some (Compare (Prove f effort))) answer
   answers_proved effort answer proved =
-      let said : OnSource (Prove f effort) (Some source) None answer = rw (le-ltb longest_source (length source) fits) (subst (λ text. IsProved f effort text answer) same proved) in
+      let said : OnSource (Prove f effort) (Some source) None answer =
+      rw (le-ltb longest_source (length source) fits)
+      (subst (λ text. IsProved f effort text answer) same proved) in
       inl (record {
         given = record { source = Some source; log = None };
         is_given = (given_under held f.file source holds, tt);
         is = said;
-        right = λ says. (source, refl, subst (λ text. Agrees text f) same (proved_agrees f lent answer says effort proved));
+        right =
+            λ says. (
+              source,
+              refl,
+              subst (λ text. Agrees text f) same
+                  (proved_agrees f lent answer says effort proved),
+            );
       })
 
-  pub answers_refuted : (extent : Extent) (answer : Answer) → IsRefuted f extent lent answer → IsAnswered held fault (Some (Compare (Refute f extent))) answer
+  pub answers_refuted : (extent : Extent) (answer : Answer) → IsRefuted f extent lent answer →
+      IsAnswered held fault (Some (Compare (Refute f extent))) answer
   answers_refuted extent answer refuted =
-      let said : OnSource (Refute f extent) (Some source) None answer = rw (le-ltb longest_source (length source) fits) (subst (λ text. IsRefuted f extent text answer) same refuted) in
+      let said : OnSource (Refute f extent) (Some source) None answer =
+      rw (le-ltb longest_source (length source) fits)
+      (subst (λ text. IsRefuted f extent text answer) same refuted) in
       inl (record {
         given = record { source = Some source; log = None };
         is_given = (given_under held f.file source holds, tt);
@@ -157,7 +214,8 @@ module _ (held : Option Names) (fault : Type 0) (f : Functions) (source lent : L
       })
 
 -- examples that were shown
-pub answers_shown : (held : Option Names) (pairs : ℕ) (verdict : Verdict) → IsShown pairs verdict → IsAnswerTo held (Some (Demo pairs)) (Line verdict)
+pub answers_shown : (held : Option Names) (pairs : ℕ) (verdict : Verdict) → IsShown pairs verdict →
+    IsAnswerTo held (Some (Demo pairs)) (Line verdict)
 answers_shown held pairs verdict shown = record {
   given = record { source = None; log = None };
   is_given = tt;

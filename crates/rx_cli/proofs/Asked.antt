@@ -29,21 +29,31 @@ named_short (Some file) (Some first) (Some second) pre f is = go (is_short pre) 
     whole : Functions
     whole = record { file = file; first = first; second = second; precondition = pre }
 
-    go : (b : Bool) → is_short pre ≡ b → (if b then Some whole else None) ≡ Some f → is_short f.precondition ≡ true
-    go true short is = let same : whole ≡ f = same_some refl is in sym (ap (λ (g : Functions). is_short g.precondition) same) ∙ short
+    go : (b : Bool) → is_short pre ≡ b → (if b then Some whole else None) ≡ Some f →
+        is_short f.precondition ≡ true
+    go true short is =
+        let same : whole ≡ f = same_some refl is in
+        sym (ap (λ (g : Functions). is_short g.precondition) same) ∙ short
     go false short is = absurd (none-some _ is)
 
 -- a number that is read is at most the greatest that may be
-read_below : (least most : ℕ) (text : List ℕ) (n : ℕ) → number_of least most text ≡ Some n → n ≤ most
-read_below least most text n is = go (is_decimal text) (nat_le least (digits_value 10 text)) (nat_le (digits_value 10 text) most) refl is
+read_below : (least most : ℕ) (text : List ℕ) (n : ℕ) → number_of least most text ≡ Some n → n ≤
+    most
+read_below least most text n is =
+    go (is_decimal text) (nat_le least (digits_value 10 text)) (nat_le (digits_value 10 text) most)
+    refl is
   where
-    go : (decimal above below : Bool) → nat_le (digits_value 10 text) most ≡ below → (if decimal && (above && below) then Some (digits_value 10 text) else None) ≡ Some n → n ≤ most
-    go true true true fits is = subst (λ k. k ≤ most) (same_some refl is) (leb-true (digits_value 10 text) most fits)
+    go : (decimal above below : Bool) → nat_le (digits_value 10 text) most ≡ below →
+        (if decimal && (above && below) then Some (digits_value 10 text) else None) ≡ Some n → n ≤
+        most
+    go true true true fits is =
+        subst (λ k. k ≤ most) (same_some refl is) (leb-true (digits_value 10 text) most fits)
     go true true false fits is = absurd (none-some _ is)
     go true false below fits is = absurd (none-some _ is)
     go false above below fits is = absurd (none-some _ is)
 
-number_below : (least most usual : ℕ) → usual ≤ most → (o : Option (List ℕ)) (n : ℕ) → number_or least most usual o ≡ Some n → n ≤ most
+number_below : (least most usual : ℕ) → usual ≤ most → (o : Option (List ℕ)) (n : ℕ) →
+    number_or least most usual o ≡ Some n → n ≤ most
 number_below least most usual below None n is = subst (λ k. k ≤ most) (same_some refl is) below
 number_below least most usual below (Some text) n is = read_below least most text n is
 
@@ -51,15 +61,18 @@ number_below least most usual below (Some text) n is = read_below least most tex
 abbrev IsEffort : Option Effort → Type 0
 IsEffort o = (e : Effort) → o ≡ Some e → e.depth ≤ 12
 
-both_deep : (depth budget : Option ℕ) → ((n : ℕ) → depth ≡ Some n → n ≤ 12) → IsEffort (both_numbers depth budget)
+both_deep : (depth budget : Option ℕ) → ((n : ℕ) → depth ≡ Some n → n ≤ 12) →
+    IsEffort (both_numbers depth budget)
 both_deep None budget below e is = absurd (none-some _ is)
 both_deep (Some depth) None below e is = absurd (none-some _ is)
 both_deep (Some depth) (Some budget) below e is =
-    let same : record { depth = depth; budget = budget } ≡ e = same_some refl is in subst (λ (z : Effort). z.depth ≤ 12) same (below depth refl)
+    let same : record { depth = depth; budget = budget } ≡ e = same_some refl is in
+    subst (λ (z : Effort). z.depth ≤ 12) same (below depth refl)
 
 effort_deep : (rows : List Row) → IsEffort (effort_of rows)
 effort_deep rows =
-    both_deep (number_or 0 12 5 (first_of (codes "depth") rows)) (number_or 1 1000000 100000 (first_of (codes "budget") rows))
+    both_deep (number_or 0 12 5 (first_of (codes "depth") rows))
+    (number_or 1 1000000 100000 (first_of (codes "budget") rows))
     (number_below 0 12 5 (omega arith) (first_of (codes "depth") rows))
 
 -- a comparison with a short precondition whose search isn't deep
@@ -78,80 +91,106 @@ AllowsOnly o = (command : Command) → o ≡ Some command → IsAllowed command
 none_allowed : AllowsOnly None
 none_allowed command is = absurd (none-some _ is)
 
-prove_allowed : (o : Option Functions) (e : Option Effort) (log : Option (List ℕ)) → AreShort o → IsEffort e → AllowsOnly (prove_of o e log)
+prove_allowed : (o : Option Functions) (e : Option Effort) (log : Option (List ℕ)) → AreShort o →
+    IsEffort e → AllowsOnly (prove_of o e log)
 prove_allowed None e log short deep command is = none_allowed command is
 prove_allowed (Some f) None log short deep command is = none_allowed command is
 prove_allowed (Some f) (Some effort) (Some log) short deep command is = none_allowed command is
 prove_allowed (Some f) (Some effort) None short deep command is =
-    let same : Compare (Prove f effort) ≡ command = same_some refl is in subst IsAllowed same (record { short = short f refl; depth = deep effort refl })
+    let same : Compare (Prove f effort) ≡ command = same_some refl is in
+    subst IsAllowed same (record { short = short f refl; depth = deep effort refl })
 
-check_allowed : (o : Option Functions) (log depth budget : Option (List ℕ)) → AreShort o → AllowsOnly (check_of o log depth budget)
+check_allowed : (o : Option Functions) (log depth budget : Option (List ℕ)) → AreShort o →
+    AllowsOnly (check_of o log depth budget)
 check_allowed None log depth budget short command is = none_allowed command is
 check_allowed (Some f) None depth budget short command is = none_allowed command is
 check_allowed (Some f) (Some log) (Some depth) budget short command is = none_allowed command is
 check_allowed (Some f) (Some log) None (Some budget) short command is = none_allowed command is
 check_allowed (Some f) (Some log) None None short command is =
-    let same : Compare (Check f log) ≡ command = same_some refl is in subst IsAllowed same (record { short = short f refl; depth = tt })
+    let same : Compare (Check f log) ≡ command = same_some refl is in
+    subst IsAllowed same (record { short = short f refl; depth = tt })
 
-refute_allowed : (o : Option Functions) (e : Option Extent) (log : Option (List ℕ)) → AreShort o → AllowsOnly (refute_of o e log)
+refute_allowed : (o : Option Functions) (e : Option Extent) (log : Option (List ℕ)) → AreShort o →
+    AllowsOnly (refute_of o e log)
 refute_allowed None e log short command is = none_allowed command is
 refute_allowed (Some f) None log short command is = none_allowed command is
 refute_allowed (Some f) (Some extent) (Some log) short command is = none_allowed command is
 refute_allowed (Some f) (Some extent) None short command is =
-    let same : Compare (Refute f extent) ≡ command = same_some refl is in subst IsAllowed same (record { short = short f refl; depth = tt })
+    let same : Compare (Refute f extent) ≡ command = same_some refl is in
+    subst IsAllowed same (record { short = short f refl; depth = tt })
 
 demo_allowed : (o : Option (List ℕ)) → AllowsOnly (demo_of o)
 demo_allowed None command is = none_allowed command is
 demo_allowed (Some text) command is = go (number_of 1 100 text) refl is
   where
-    go : (o : Option ℕ) → number_of 1 100 text ≡ o → option_map Demo o ≡ Some command → IsAllowed command
+    go : (o : Option ℕ) → number_of 1 100 text ≡ o → option_map Demo o ≡ Some command →
+        IsAllowed command
     go None read is = absurd (none-some _ is)
     go (Some pairs) read is = subst IsAllowed (same_some refl is) (read_below 1 100 text pairs read)
 
-if_allowed : (b : Bool) (x y : Option Command) → AllowsOnly x → AllowsOnly y → AllowsOnly (if b then x else y)
+if_allowed : (b : Bool) (x y : Option Command) → AllowsOnly x → AllowsOnly y →
+    AllowsOnly (if b then x else y)
 if_allowed true x y p q = p
 if_allowed false x y p q = q
 
 functions_short : (rows : List Row) → AreShort (functions_of rows)
-functions_short rows = named_short (first_of (codes "file") rows) (first_of (codes "first") rows) (first_of (codes "second") rows) (first_of (codes "pre") rows)
+functions_short rows =
+    named_short (first_of (codes "file") rows) (first_of (codes "first") rows)
+    (first_of (codes "second") rows) (first_of (codes "pre") rows)
 
 -- what each mode asks for
 abbrev in_demo : List ℕ → List Row → Option Command
-in_demo mode rows = if bytes_eq mode (codes "demo") && (has_no_more_words rows && has_no_options rows) then demo_of (first_of (codes "file") rows) else None
+in_demo mode rows =
+    if bytes_eq mode (codes "demo") && (has_no_more_words rows && has_no_options rows) then
+    demo_of (first_of (codes "file") rows) else None
 
 abbrev in_refute : List Row → Option Command
 in_refute rows = refute_of (functions_of rows) (extent_of rows) (first_of (codes "log") rows)
 
 abbrev after_check : List ℕ → List Row → Option Command
-after_check mode rows = if bytes_eq mode (codes "refute") && has_no_effort rows then in_refute rows else in_demo mode rows
+after_check mode rows =
+    if bytes_eq mode (codes "refute") && has_no_effort rows then in_refute rows else
+    in_demo mode rows
 
 abbrev in_check : List Row → Option Command
-in_check rows = check_of (functions_of rows) (first_of (codes "log") rows) (first_of (codes "depth") rows) (first_of (codes "budget") rows)
+in_check rows =
+    check_of (functions_of rows) (first_of (codes "log") rows) (first_of (codes "depth") rows)
+    (first_of (codes "budget") rows)
 
 abbrev after_prove : List ℕ → List Row → Option Command
-after_prove mode rows = if bytes_eq mode (codes "check") && has_no_extent rows then in_check rows else after_check mode rows
+after_prove mode rows =
+    if bytes_eq mode (codes "check") && has_no_extent rows then in_check rows else
+    after_check mode rows
 
 demo_mode_allowed : (mode : List ℕ) (rows : List Row) → AllowsOnly (in_demo mode rows)
 demo_mode_allowed mode rows =
-    if_allowed (bytes_eq mode (codes "demo") && (has_no_more_words rows && has_no_options rows)) (demo_of (first_of (codes "file") rows)) None (demo_allowed (first_of (codes "file") rows)) none_allowed
+    if_allowed (bytes_eq mode (codes "demo") && (has_no_more_words rows && has_no_options rows))
+    (demo_of (first_of (codes "file") rows)) None (demo_allowed (first_of (codes "file") rows))
+    none_allowed
 
 after_check_allowed : (mode : List ℕ) (rows : List Row) → AllowsOnly (after_check mode rows)
 after_check_allowed mode rows =
-    if_allowed (bytes_eq mode (codes "refute") && has_no_effort rows) (in_refute rows) (in_demo mode rows)
-    (refute_allowed (functions_of rows) (extent_of rows) (first_of (codes "log") rows) (functions_short rows)) (demo_mode_allowed mode rows)
+    if_allowed (bytes_eq mode (codes "refute") && has_no_effort rows) (in_refute rows)
+    (in_demo mode rows)
+    (refute_allowed (functions_of rows) (extent_of rows) (first_of (codes "log") rows)
+    (functions_short rows)) (demo_mode_allowed mode rows)
 
 after_prove_allowed : (mode : List ℕ) (rows : List Row) → AllowsOnly (after_prove mode rows)
 after_prove_allowed mode rows =
-    if_allowed (bytes_eq mode (codes "check") && has_no_extent rows) (in_check rows) (after_check mode rows)
-    (check_allowed (functions_of rows) (first_of (codes "log") rows) (first_of (codes "depth") rows) (first_of (codes "budget") rows) (functions_short rows))
+    if_allowed (bytes_eq mode (codes "check") && has_no_extent rows) (in_check rows)
+    (after_check mode rows)
+    (check_allowed (functions_of rows) (first_of (codes "log") rows) (first_of (codes "depth") rows)
+    (first_of (codes "budget") rows) (functions_short rows))
     (after_check_allowed mode rows)
 
 mode_allowed : (mode : Option (List ℕ)) (rows : List Row) → AllowsOnly (in_mode mode rows)
 mode_allowed None rows = none_allowed
 mode_allowed (Some mode) rows =
-    if_allowed (bytes_eq mode (codes "prove") && has_no_extent rows) (prove_of (functions_of rows) (effort_of rows) (first_of (codes "log") rows))
+    if_allowed (bytes_eq mode (codes "prove") && has_no_extent rows)
+    (prove_of (functions_of rows) (effort_of rows) (first_of (codes "log") rows))
     (after_prove mode rows)
-    (prove_allowed (functions_of rows) (effort_of rows) (first_of (codes "log") rows) (functions_short rows) (effort_deep rows))
+    (prove_allowed (functions_of rows) (effort_of rows) (first_of (codes "log") rows)
+    (functions_short rows) (effort_deep rows))
     (after_prove_allowed mode rows)
 
 taken_allowed : (kinds : Kinds) (rows : List Row) → AllowsOnly (if_taken kinds rows)
@@ -159,5 +198,7 @@ taken_allowed [] rows = mode_allowed (first_of (codes "mode") rows) rows
 taken_allowed (kind ∷ kinds) rows = none_allowed
 
 -- what words ask for
-pub command_allowed : (words : List (List ℕ)) (command : Command) → Some command ≡ command_of words → IsAllowed command
-command_allowed words command is = taken_allowed (fault_of command_app words) (matches_of command_app words) command (sym is)
+pub command_allowed : (words : List (List ℕ)) (command : Command) → Some command ≡
+    command_of words → IsAllowed command
+command_allowed words command is =
+    taken_allowed (fault_of command_app words) (matches_of command_app words) command (sym is)

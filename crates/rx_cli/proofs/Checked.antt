@@ -48,30 +48,47 @@ module _ (verdict : Verdict) (says : status_of verdict ≡ Ends.Equivalent) wher
   status_is other is = sym (ap status_of is) ∙ says
 
   -- the replay accepts
-  pub log_accepted : (question : Question) (log : Log) → OnLog question log verdict → IsAccepted question.rules question.goal log
+  pub log_accepted : (question : Question) (log : Log) → OnLog question log verdict →
+      IsAccepted question.rules question.goal log
   log_accepted question log (acceptance.Accepted, has, is) = has
-  log_accepted question log (acceptance.Fails fault, has, is) = absurd (no_yes (end_of fault) (status_is (Said.Check (end_of fault)) is))
+  log_accepted question log (acceptance.Fails fault, has, is) =
+      absurd (no_yes (end_of fault) (status_is (Said.Check (end_of fault)) is))
 
-  text_accepted : (question : Question) (bytes : List ℕ) → OnText question bytes verdict → (log : Log) × IsAccepted question.rules question.goal log
-  text_accepted question bytes (inl (number, bad, is)) = let no : Ends.Refused ≡ Ends.Equivalent = status_is (Said.Line number) is in absurd (let none : ⊥ = cc in none)
+  text_accepted : (question : Question) (bytes : List ℕ) → OnText question bytes verdict →
+      (log : Log) × IsAccepted question.rules question.goal log
+  text_accepted question bytes (inl (number, bad, is)) =
+      let no : Ends.Refused ≡ Ends.Equivalent = status_is (Said.Line number) is in
+      absurd (let none : ⊥ = cc in none)
   text_accepted question bytes (inr (log, read, on)) = (log, log_accepted question log on)
 
-  by_length : (question : Question) (bytes : List ℕ) (long : Bool) → MatchBool long (verdict ≡ Said.LongLog) (OnText question bytes verdict) → (log : Log) × IsAccepted question.rules question.goal log
-  by_length question bytes true is = let no : Ends.Refused ≡ Ends.Equivalent = status_is Said.LongLog is in absurd (let none : ⊥ = cc in none)
+  by_length : (question : Question) (bytes : List ℕ) (long : Bool) →
+      MatchBool long (verdict ≡ Said.LongLog) (OnText question bytes verdict) → (log : Log) ×
+      IsAccepted question.rules question.goal log
+  by_length question bytes true is =
+      let no : Ends.Refused ≡ Ends.Equivalent = status_is Said.LongLog is in
+      absurd (let none : ⊥ = cc in none)
   by_length question bytes false on = text_accepted question bytes on
 
-  read_accepted : (question : Question) (log : Option (List ℕ)) → OnRead question log verdict → (log : Log) × IsAccepted question.rules question.goal log
-  read_accepted question None is = let no : Ends.ReadFault ≡ Ends.Equivalent = status_is Said.ReadFault is in absurd (let none : ⊥ = cc in none)
-  read_accepted question (Some bytes) on = by_length question bytes (nat_lt longest_log (length bytes)) on
+  read_accepted : (question : Question) (log : Option (List ℕ)) → OnRead question log verdict →
+      (log : Log) × IsAccepted question.rules question.goal log
+  read_accepted question None is =
+      let no : Ends.ReadFault ≡ Ends.Equivalent = status_is Said.ReadFault is in
+      absurd (let none : ⊥ = cc in none)
+  read_accepted question (Some bytes) on =
+      by_length question bytes (nat_lt longest_log (length bytes)) on
 
   -- no text alone is a says
   pub never_asked : (f : Functions) (source : List ℕ) → asked f source (Ends verdict) → ⊥
   never_asked f source (inl (refusal, refused, is)) =
-      let no : Ends.Refused ≡ Ends.Equivalent = sym (status_refused refusal) ∙ status_is (verdict_of refusal) is in cc
-  never_asked f source (inr (compared, front, inl (beyond, is))) = let no : Ends.Large ≡ Ends.Equivalent = status_is Said.LargeTranslate is in cc
-  never_asked f source (inr (compared, front, inr (translated, beyond, is))) = let no : Ends.Large ≡ Ends.Equivalent = status_is Said.LargePre is in cc
+      let no : Ends.Refused ≡ Ends.Equivalent = sym (status_refused refusal) ∙
+      status_is (verdict_of refusal) is in cc
+  never_asked f source (inr (compared, front, inl (beyond, is))) =
+      let no : Ends.Large ≡ Ends.Equivalent = status_is Said.LargeTranslate is in cc
+  never_asked f source (inr (compared, front, inr (translated, beyond, is))) =
+      let no : Ends.Large ≡ Ends.Equivalent = status_is Said.LargePre is in cc
 
-  pub checked_agrees : (f : Functions) (source : List ℕ) (log : Option (List ℕ)) → IsChecked f source log verdict → Agrees source f
+  pub checked_agrees : (f : Functions) (source : List ℕ) (log : Option (List ℕ)) →
+      IsChecked f source log verdict → Agrees source f
   checked_agrees f source log (inl ended) = absurd (never_asked f source ended)
   checked_agrees f source log (inr (question, (compared, front, is), on)) =
       let (read, accepted) = read_accepted question log on in

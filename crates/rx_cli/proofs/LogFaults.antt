@@ -1,5 +1,5 @@
--- The end of a replay says the verdict on the log; a step that passes the limits is never one that doesn't
--- apply.
+-- The end of a replay says the verdict on the log; a step that passes the limits is never one that
+-- doesn't apply.
 use Rattle.std.proofs.Common.{◌≡◌, ◌≢◌, ℕ, List, [], ◌∷◌, Option, None, Some, Result, Ok, Err, refl, sym, ap, subst}
 use Rattle.std.specs.Prelude.{◌+◌}
 use Rattle.rx_check.specs.Answers.{Answers}
@@ -37,7 +37,8 @@ abbrev HasNone : {A : Type 0} → Checked A → Type 0
 HasNone check = (k : ℕ) → check ≡ Err (large k) → ⊥
 
 -- nor do two checks, one after the other
-then_none : {A B : Type 0} (check : Checked A) (next : A → Checked B) → HasNone check → ((x : A) → HasNone (next x)) → HasNone (check >>= next)
+then_none : {A B : Type 0} (check : Checked A) (next : A → Checked B) → HasNone check →
+    ((x : A) → HasNone (next x)) → HasNone (check >>= next)
 then_none (Ok x) next none rest k is = rest x k is
 then_none (Err fault) next none rest k is = let same : fault ≡ large k = cc in none k (ap Err same)
 
@@ -49,61 +50,91 @@ step_none n (Err judging.NoSuchRule) k is = cc
 step_none n (Err (judging.NotShown i)) k is = cc
 step_none n (Err judging.Large) k is = cc
 
-steps_none : (parts : RuleParts) (n : ℕ) (state : State) (steps : List Step) → HasNone (after_steps parts n state steps)
+steps_none : (parts : RuleParts) (n : ℕ) (state : State) (steps : List Step) →
+    HasNone (after_steps parts n state steps)
 steps_none parts n state [] k is = cc
 steps_none parts n state (step ∷ steps) k is =
-    then_none (after_step n (applied parts state step)) (λ next. after_steps parts (n + 1) next steps) (step_none n (applied parts state step)) (λ next. steps_none parts (n + 1) next steps) k is
+    then_none (after_step n (applied parts state step))
+    (λ next. after_steps parts (n + 1) next steps) (step_none n (applied parts state step))
+    (λ next. steps_none parts (n + 1) next steps) k is
 
 ranked_none : (bad : Option ℕ) (hypotheses : List Rule) → HasNone (once_ranked bad (Ok hypotheses))
 ranked_none None hypotheses k is = cc
 ranked_none (Some f) hypotheses k is = cc
 
-finished_none : (goals : List Equation) (next : Checked (List Rule)) → HasNone next → HasNone (once_finished goals next)
+finished_none : (goals : List Equation) (next : Checked (List Rule)) → HasNone next →
+    HasNone (once_finished goals next)
 finished_none [] next none k is = none k is
 finished_none (goal ∷ goals) next none k is = cc
 
-covered_none : (covered : Covering) (next : Checked (List Rule)) → HasNone next → HasNone (once_covered covered next)
+covered_none : (covered : Covering) (next : Checked (List Rule)) → HasNone next →
+    HasNone (once_covered covered next)
 covered_none Covers next none k is = none k is
 covered_none (cover.Fails f) next none k is = cc
 covered_none (cover.PassesLimits f) next none k is = cc
 
 kept_none : (parts : RuleParts) (goal : Equation) (log : Log) → HasNone (kept parts goal log)
 kept_none parts goal log k is =
-    covered_none (covering parts log.covers) (after_steps parts 0 (start goal) log.steps >>= kept_by parts log.table)
-    (then_none (after_steps parts 0 (start goal) log.steps) (kept_by parts log.table) (steps_none parts 0 (start goal) log.steps)
-    (λ end. finished_none end.goals (once_ranked (bad_rank parts log.table) (Ok end.hypotheses)) (ranked_none (bad_rank parts log.table) end.hypotheses))) k is
+    covered_none (covering parts log.covers) (after_steps parts 0 (start goal) log.steps >>= kept_by
+    parts log.table)
+    (then_none (after_steps parts 0 (start goal) log.steps) (kept_by parts log.table)
+    (steps_none parts 0 (start goal) log.steps)
+    (λ end. finished_none end.goals (once_ranked (bad_rank parts log.table) (Ok end.hypotheses))
+    (ranked_none (bad_rank parts log.table) end.hypotheses))) k is
 
 descent_none : (descent : Descent) (k : ℕ) → of_descent descent ≡ acceptance.Fails (large k) → ⊥
 descent_none Descends k is = cc
 descent_none (lowering.NotLower i) k is = cc
 descent_none (lowering.PassesLimits i) k is = cc
 
-concludes_none : (parts : RuleParts) (log : Log) (check : Checked (List Rule)) → HasNone check → (k : ℕ) → Concludes parts log check (acceptance.Fails (large k)) → ⊥
-concludes_none parts log (Err fault) none k is = let same : fault ≡ large k = cc in none k (ap Err same)
-concludes_none parts log (Ok hypotheses) none k on = descent_none (descent_from log.table 0 on.pairs log.pairs) k on.is
+concludes_none : (parts : RuleParts) (log : Log) (check : Checked (List Rule)) → HasNone check →
+    (k : ℕ) → Concludes parts log check (acceptance.Fails (large k)) → ⊥
+concludes_none parts log (Err fault) none k is =
+    let same : fault ≡ large k = cc in none k (ap Err same)
+concludes_none parts log (Ok hypotheses) none k on =
+    descent_none (descent_from log.table 0 on.pairs log.pairs) k on.is
 
-never_large : (parts : RuleParts) (goal : Equation) (log : Log) (k : ℕ) → HasVerdict parts goal log (acceptance.Fails (large k)) → ⊥
-never_large parts goal log k has = concludes_none parts log (kept parts goal log) (kept_none parts goal log) k has
+never_large : (parts : RuleParts) (goal : Equation) (log : Log) (k : ℕ) →
+    HasVerdict parts goal log (acceptance.Fails (large k)) → ⊥
+never_large parts goal log k has =
+    concludes_none parts log (kept parts goal log) (kept_none parts goal log) k has
 
 -- what an end of a replay says
-pub end_said : (question : Question) (log : Log) (end : CheckEnd) → end ≢ End.NoMemory → Answers (Err end) question.rules question.goal log
+pub end_said : (question : Question) (log : Log) (end : CheckEnd) → end ≢ End.NoMemory →
+    Answers (Err end) question.rules question.goal log
     → OnLog question log (Said.Check end) × IsSayableEnd end
-end_said question log (End.Step k Unmet.NoGoal) other told = ((acceptance.Fails (acceptance.Refused k judging.NoGoal), told, refl), tt)
-end_said question log (End.Step k Unmet.WrongShape) other told = ((acceptance.Fails (acceptance.Refused k judging.WrongShape), told, refl), tt)
-end_said question log (End.Step k Unmet.NoSuchRule) other told = ((acceptance.Fails (acceptance.Refused k judging.NoSuchRule), told, refl), tt)
-end_said question log (End.Step k (Unmet.NotShown i)) other told = ((acceptance.Fails (acceptance.Refused k (judging.NotShown i)), told, refl), tt)
-end_said question log (End.Step k Unmet.Large) other told = absurd (never_large question.rules question.goal log k told)
-end_said question log (End.Step k Unmet.NoMemory) other told = absurd (never_large question.rules question.goal log k told)
-end_said question log (End.Unfinished n) other told = ((acceptance.Fails (acceptance.Unfinished n), told, refl), tt)
-end_said question log (End.NotCovered f) other told = ((acceptance.Fails (acceptance.NotCovered f), told, refl), tt)
-end_said question log (End.BadRanks f) other told = ((acceptance.Fails (acceptance.BadRanks f), told, refl), tt)
-end_said question log (End.NotLower i) other told = ((acceptance.Fails (acceptance.NotLower i), told, refl), tt)
-end_said question log (End.Large (At.Cover f)) other told = ((acceptance.Fails (acceptance.PassesLimits (acceptance.AtCover f)), told, refl), tt)
-end_said question log (End.Large (At.Step k)) other told = ((acceptance.Fails (acceptance.PassesLimits (acceptance.AtStep k)), told, refl), tt)
-end_said question log (End.Large (At.Pair i)) other told = ((acceptance.Fails (acceptance.PassesLimits (acceptance.AtPair i)), told, refl), tt)
+end_said question log (End.Step k Unmet.NoGoal) other told =
+    ((acceptance.Fails (acceptance.Refused k judging.NoGoal), told, refl), tt)
+end_said question log (End.Step k Unmet.WrongShape) other told =
+    ((acceptance.Fails (acceptance.Refused k judging.WrongShape), told, refl), tt)
+end_said question log (End.Step k Unmet.NoSuchRule) other told =
+    ((acceptance.Fails (acceptance.Refused k judging.NoSuchRule), told, refl), tt)
+end_said question log (End.Step k (Unmet.NotShown i)) other told =
+    ((acceptance.Fails (acceptance.Refused k (judging.NotShown i)), told, refl), tt)
+end_said question log (End.Step k Unmet.Large) other told =
+    absurd (never_large question.rules question.goal log k told)
+end_said question log (End.Step k Unmet.NoMemory) other told =
+    absurd (never_large question.rules question.goal log k told)
+end_said question log (End.Unfinished n) other told =
+    ((acceptance.Fails (acceptance.Unfinished n), told, refl), tt)
+end_said question log (End.NotCovered f) other told =
+    ((acceptance.Fails (acceptance.NotCovered f), told, refl), tt)
+end_said question log (End.BadRanks f) other told =
+    ((acceptance.Fails (acceptance.BadRanks f), told, refl), tt)
+end_said question log (End.NotLower i) other told =
+    ((acceptance.Fails (acceptance.NotLower i), told, refl), tt)
+end_said question log (End.Large (At.Cover f)) other told =
+    ((acceptance.Fails (acceptance.PassesLimits (acceptance.AtCover f)), told, refl), tt)
+end_said question log (End.Large (At.Step k)) other told =
+    ((acceptance.Fails (acceptance.PassesLimits (acceptance.AtStep k)), told, refl), tt)
+end_said question log (End.Large (At.Pair i)) other told =
+    ((acceptance.Fails (acceptance.PassesLimits (acceptance.AtPair i)), told, refl), tt)
 end_said question log End.NoMemory other told = absurd (other refl)
 
 -- so does a verdict that names the end
-pub verdict_said : (question : Question) (log : Log) (end : CheckEnd) (verdict : Verdict) → (verdict ≡ Said.Check end) × (end ≢ End.NoMemory) → Answers (Err end) question.rules question.goal log
+pub verdict_said : (question : Question) (log : Log) (end : CheckEnd) (verdict : Verdict) →
+    (verdict ≡ Said.Check end) × (end ≢ End.NoMemory) →
+    Answers (Err end) question.rules question.goal log
     → OnLog question log verdict × HasLine verdict
-verdict_said question log end verdict (is, other) told = subst (λ v. OnLog question log v × HasLine v) (sym is) (end_said question log end other told)
+verdict_said question log end verdict (is, other) told =
+    subst (λ v. OnLog question log v × HasLine v) (sym is) (end_said question log end other told)

@@ -19,14 +19,16 @@ use Rattle.rx_cli.proofs.AnswerLemmas.{checks_text, checks_unread}
 use Rattle.rx_cli.proofs.LogFaults.{verdict_said}
 
 module _ (held : Option Names) (fault : Type 0) (name : List ℕ) (question : Question) where
-  pub accepted_said : OnFile held fault name longest_log question.rules question.goal (Ok tt) → ChecksRead held fault name question Said.Equivalent
+  pub accepted_said : OnFile held fault name longest_log question.rules question.goal (Ok tt) →
+      ChecksRead held fault name question Said.Equivalent
   accepted_said told = record {
     next = Goes told.bytes;
     reads = (told.holds, told.within);
     on = inr (told.said.0, told.said.1.0, (acceptance.Accepted, told.said.1.1, refl));
   }
 
-  pub end_said : (why : FileEnd) (verdict : Verdict) → SaysEndOfLog why verdict → OnFile held fault name longest_log question.rules question.goal (Err why)
+  pub end_said : (why : FileEnd) (verdict : Verdict) → SaysEndOfLog why verdict →
+      OnFile held fault name longest_log question.rules question.goal (Err why)
       → ChecksRead held fault name question verdict × HasLine verdict
   end_said end.Failed verdict is told =
       let line : HasLine verdict = subst HasLine (sym is) tt in
@@ -35,19 +37,39 @@ module _ (held : Option Names) (fault : Type 0) (name : List ℕ) (question : Qu
       let line : HasLine verdict = subst HasLine (sym is) tt in
       (record { next = Ends Said.LongLog; reads = inl (told, refl); on = is }, line)
   end_said (end.BadLine number) verdict is told =
-      let line : HasLine verdict = subst HasLine (sym is) tt in
-      (record { next = Goes told.bytes; reads = (told.holds, told.within); on = inl (number, told.said, is) }, line)
+      let line : HasLine verdict = subst HasLine (sym is) tt in (
+        record {
+          next = Goes told.bytes;
+          reads = (told.holds, told.within);
+          on =
+              inl (number, told.said, is);
+        },
+        line,
+      )
   end_said (end.Check why) verdict is told =
-      let said = verdict_said question told.said.0 why verdict is told.said.1.1 in
-      (record { next = Goes told.bytes; reads = (told.holds, told.within); on = inr (told.said.0, told.said.1.0, said.0) }, said.1)
+      let said = verdict_said question told.said.0 why verdict is told.said.1.1 in (
+        record {
+          next = Goes told.bytes;
+          reads = (told.holds, told.within);
+          on =
+              inr (told.said.0, told.said.1.0, said.0);
+        },
+        said.1,
+      )
   end_said end.NoMemory verdict is told = absurd is
 
-module _ (held : Option Names) (fault : Type 0) (f : Functions) (source name : List ℕ) (verdict : Verdict) (question : Question) (found : asked f source (Goes question)) where
-  by_next : (next : Next Verdict (List ℕ)) → Reads held fault name longest_log Said.LongLog next → OnNext question next verdict → ChecksNamed held fault f source name verdict
+module _ (held : Option Names) (fault : Type 0) (f : Functions) (source name : List ℕ)
+    (verdict : Verdict) (question : Question) (found : asked f source (Goes question)) where
+  by_next : (next : Next Verdict (List ℕ)) → Reads held fault name longest_log Said.LongLog next →
+      OnNext question next verdict → ChecksNamed held fault f source name verdict
   by_next (Ends end) reads is =
-      checks_unread held fault f source name verdict question found (subst (λ v. Reads held fault name longest_log Said.LongLog (Ends v)) (sym is) reads)
-  by_next (Goes bytes) reads on = checks_text held fault f source name verdict question found bytes bytes reads.0 reads.1 refl on
+      checks_unread held fault f source name verdict question found
+      (subst (λ v. Reads held fault name longest_log Said.LongLog (Ends v)) (sym is) reads)
+  by_next (Goes bytes) reads on =
+      checks_text held fault f source name verdict question found bytes bytes reads.0 reads.1 refl
+      on
 
   -- what is said of a log that is read is said of the question
-  pub read_said : ChecksRead held fault name question verdict → ChecksNamed held fault f source name verdict
+  pub read_said : ChecksRead held fault name question verdict →
+      ChecksNamed held fault f source name verdict
   read_said read = by_next read.next read.reads read.on

@@ -62,22 +62,50 @@ never_cut (Found (found.Different arguments first second)) e = cc
 never_cut (Found (found.Alike points undecided)) e = cc
 
 -- such a report is of what is held
-held_reports : (names : Names) (read_fault : Type 0) (words : List (List ℕ)) (status : Status) (text : List ℕ) → (read_fault → ⊥) → Reports (Some names) read_fault words status text → Reports (Some names) ⊥ words status text
-held_reports names read_fault words status text works (answer, inl answered, (is, said)) = (answer, inl answered, (is, said))
-held_reports names read_fault words status text works (answer, inr (some, fault, line), (is, said)) = absurd (works fault)
+held_reports : (names : Names) (read_fault : Type 0) (words : List (List ℕ)) (status : Status)
+    (text : List ℕ) → (read_fault → ⊥) → Reports (Some names) read_fault words status text →
+    Reports (Some names) ⊥ words status text
+held_reports names read_fault words status text works (answer, inl answered, (is, said)) =
+    (answer, inl answered, (is, said))
+held_reports names read_fault words status text works (answer, inr (some, fault, line), (is, said))
+    =
+    absurd (works fault)
 
 -- where no call on the files finds a fault, a read fault says that a file isn't held
-pub read_fault_absent : (names : Names) (read_fault write_fault : Type 0) (words : List (List ℕ)) (old new : Option (List ℕ)) (status : Status) → RunEnds (Some names) read_fault write_fault words old new status
+pub read_fault_absent : (names : Names) (read_fault write_fault : Type 0) (words : List (List ℕ))
+    (old new : Option (List ℕ)) (status : Status) →
+    RunEnds (Some names) read_fault write_fault words old new status
     → (read_fault → ⊥) → status ≡ Ends.ReadFault → IsAbsent names words
-read_fault_absent names read_fault write_fault words old new status (inl (text, reports, put)) works e =
-    (text, subst (λ s. Reports (Some names) ⊥ words s text) e (held_reports names read_fault words status text works reports))
-read_fault_absent names read_fault write_fault words old new status (inr (inl (is, kept))) works e = let no : ⊥ = cc in absurd no
-read_fault_absent names read_fault write_fault words old new status (inr (inr (is, fault, cut))) works e = let no : ⊥ = cc in absurd no
+read_fault_absent names read_fault write_fault words old new status (inl (text, reports, put)) works
+    e = (
+      text,
+      subst (λ s. Reports (Some names) ⊥ words s text) e
+          (held_reports names read_fault words status text works reports),
+    )
+read_fault_absent names read_fault write_fault words old new status (inr (inl (is, kept))) works e =
+    let no : ⊥ = cc in absurd no
+read_fault_absent names read_fault write_fault words old new status (inr (inr (is, fault, cut)))
+    works e =
+    let no : ⊥ = cc in absurd no
 
--- where a put falls short only at the end of the room, a write fault says that the report is longer than it
-pub write_fault_long : (names : Names) (read_fault write_fault : Type 0) (words : List (List ℕ)) (old new : List ℕ) (status : Status) (room : ℕ) → RunEnds (Some names) read_fault write_fault words (Some old) (Some new) status
-    → (read_fault → ⊥) → ((text : List ℕ) → write_fault → AppendsPrefix (Some old) (Some new) text → room < length text) → status ≡ Ends.WriteFault → IsTooLong names words old new room
-write_fault_long names read_fault write_fault words old new status room (inl (text, (answer, answered, (is, said)), put)) works full e = absurd (never_cut answer (sym is ∙ e))
-write_fault_long names read_fault write_fault words old new status room (inr (inl (is, kept))) works full e = let no : ⊥ = cc in absurd no
-write_fault_long names read_fault write_fault words old new status room (inr (inr (is, fault, (meant, text, reports, put)))) works full e =
-    (meant, text, held_reports names read_fault words meant text works reports, full text fault put, put)
+-- where a put falls short only at the end of the room, a write fault says that the report is longer
+-- than it
+pub write_fault_long : (names : Names) (read_fault write_fault : Type 0) (words : List (List ℕ))
+    (old new : List ℕ) (status : Status) (room : ℕ) →
+    RunEnds (Some names) read_fault write_fault words (Some old) (Some new) status
+    → (read_fault → ⊥) → ((text : List ℕ) → write_fault → AppendsPrefix (Some old) (Some new) text →
+    room < length text) → status ≡ Ends.WriteFault → IsTooLong names words old new room
+write_fault_long names read_fault write_fault words old new status room
+    (inl (text, (answer, answered, (is, said)), put)) works full e =
+    absurd (never_cut answer (sym is ∙ e))
+write_fault_long names read_fault write_fault words old new status room (inr (inl (is, kept))) works
+    full e =
+    let no : ⊥ = cc in absurd no
+write_fault_long names read_fault write_fault words old new status room
+    (inr (inr (is, fault, (meant, text, reports, put)))) works full e = (
+      meant,
+      text,
+      held_reports names read_fault words meant text works reports,
+      full text fault put,
+      put,
+    )

@@ -19,25 +19,42 @@ use Rattle.rx_cli.specs.Questions.{asked}
 use Rattle.rx_cli.proofs.Checked.{never_asked}
 use Rattle.rx_cli.proofs.Sound.{question_agrees}
 
-module _ (f : Functions) (source : List ℕ) (answer : Answer) (says : status_in answer ≡ Ends.Equivalent) where
+module _ (f : Functions) (source : List ℕ) (answer : Answer)
+    (says : status_in answer ≡ Ends.Equivalent) where
   status_is : (verdict : Verdict) → answer ≡ Line verdict → status_of verdict ≡ Ends.Equivalent
   status_is verdict is = sym (ap status_in is) ∙ says
 
   -- the answer is the text of an accepted log
-  searched_proof : (question : Question) (effort : Effort) (s : Searched) → OnSearched question effort s answer
+  searched_proof : (question : Question) (effort : Effort) (s : Searched) →
+      OnSearched question effort s answer
       → (moves : List Move) × IsProofText question moves (text_in answer)
-  searched_proof question effort NoRanks is = let no : Ends.Unknown ≡ Ends.Equivalent = status_is Said.NoRanks is in absurd (let none : ⊥ = cc in none)
-  searched_proof question effort (Closed moves) (text, proof, is) = (moves, subst (IsProofText question moves) (sym (ap text_in is)) proof)
-  searched_proof question effort (Large path rows) is = let no : Ends.Large ≡ Ends.Equivalent = status_is Said.LargeSearch is in absurd (let none : ⊥ = cc in none)
-  searched_proof question effort Spent is = let no : Ends.Unknown ≡ Ends.Equivalent = status_is (Said.Visits effort.budget) is in absurd (let none : ⊥ = cc in none)
-  searched_proof question effort NoPlan is = let no : Ends.Unknown ≡ Ends.Equivalent = status_is (Said.Depth effort.depth) is in absurd (let none : ⊥ = cc in none)
+  searched_proof question effort NoRanks is =
+      let no : Ends.Unknown ≡ Ends.Equivalent = status_is Said.NoRanks is in
+      absurd (let none : ⊥ = cc in none)
+  searched_proof question effort (Closed moves) (text, proof, is) =
+      (moves, subst (IsProofText question moves) (sym (ap text_in is)) proof)
+  searched_proof question effort (Large path rows) is =
+      let no : Ends.Large ≡ Ends.Equivalent = status_is Said.LargeSearch is in
+      absurd (let none : ⊥ = cc in none)
+  searched_proof question effort Spent is =
+      let no : Ends.Unknown ≡ Ends.Equivalent = status_is (Said.Visits effort.budget) is in
+      absurd (let none : ⊥ = cc in none)
+  searched_proof question effort NoPlan is =
+      let no : Ends.Unknown ≡ Ends.Equivalent = status_is (Said.Depth effort.depth) is in
+      absurd (let none : ⊥ = cc in none)
 
   -- it is one for the question that both functions are
   pub proved_text : (effort : Effort) → IsProved f effort source answer
-      → (question : Question) × asked f source (Goes question) × ((moves : List Move) × IsProofText question moves (text_in answer))
-  proved_text effort (inl (verdict, ended, is)) = absurd (never_asked verdict (status_is verdict is) f source ended)
-  proved_text effort (inr (question, found, on)) =
-      (question, found, searched_proof question effort (searched question.rules question.goal effort.depth effort.budget) on)
+      → (question : Question) × asked f source (Goes question) ×
+      ((moves : List Move) × IsProofText question moves (text_in answer))
+  proved_text effort (inl (verdict, ended, is)) =
+      absurd (never_asked verdict (status_is verdict is) f source ended)
+  proved_text effort (inr (question, found, on)) = (
+    question,
+    found,
+    searched_proof question effort
+        (searched question.rules question.goal effort.depth effort.budget) on,
+  )
 
   -- both functions agree
   pub proved_agrees : (effort : Effort) → IsProved f effort source answer → Agrees source f

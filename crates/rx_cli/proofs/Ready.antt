@@ -21,39 +21,56 @@ use Rattle.rx_translate.specs.Arity.{AritiesDiffer}
 use Rattle.rx_cli.specs.Steps.{HasRowForm, IsReady}
 
 -- the number of parameters of the function at a place, in both words for it
-counted : (functions : List Function) (place : ℕ) (f : Function) (n : ℕ) → slice_get functions place ≡ Some f → length f.params ≡ n → slice_get (parameter_counts functions) place ≡ Some n
+counted : (functions : List Function) (place : ℕ) (f : Function) (n : ℕ) →
+    slice_get functions place ≡ Some f → length f.params ≡ n →
+    slice_get (parameter_counts functions) place ≡ Some n
 counted functions place f n there is =
     slice_get-map (λ (g : Function). length g.params) functions place
     ∙ (ap (option_map (λ (g : Function). length g.params)) there ∙ ap Some is)
 
-module _ (source first second : List ℕ) (two : TwoFunctions) (left right : Function) (are : AreComparable source first second two left right) where
+module _ (source first second : List ℕ) (two : TwoFunctions) (left right : Function)
+    (are : AreComparable source first second two left right) where
   first_count : length left.params ≡ count_in two.program two.first
   first_count = sym (ap count_at are.are_named.is_left)
 
   -- two comparable functions are ready, with a precondition that is a row form
   comparable_ready : (pre : Option Expr) → HasRowForm pre → IsReady (comparison two pre)
   comparable_ready pre form = let well = are.are_named.is in record {
-    scoped = resolved_is_scoped source are.are_named.tokens are.are_named.program two.program well.scoped;
+    scoped =
+        resolved_is_scoped source are.are_named.tokens are.are_named.program two.program
+        well.scoped;
     first_counts = counted two.program.functions two.first left _ are.are_named.is_left first_count;
-    second_counts = counted two.program.functions two.second right _ are.are_named.is_right (sym are.counts ∙ first_count);
-    few = resolved_few source are.are_named.tokens are.are_named.program two.program well.scoped (few are.are_named.program well.is.spelled.2) two.first;
+    second_counts =
+        counted two.program.functions two.second right _ are.are_named.is_right
+        (sym are.counts ∙ first_count);
+    few =
+        resolved_few source are.are_named.tokens are.are_named.program two.program well.scoped
+        (few are.are_named.program well.is.spelled.2) two.first;
     row_form = form;
   }
 
 module _ (source first second : List ℕ) where
-  by_condition : (pre : Option (List ℕ)) (two : TwoFunctions) (compared : Compared) → front source first second (Goes two) → condition_stage source pre two (Goes compared) → IsReady compared
+  by_condition : (pre : Option (List ℕ)) (two : TwoFunctions) (compared : Compared) →
+      front source first second (Goes two) → condition_stage source pre two (Goes compared) →
+      IsReady compared
   by_condition None two compared named is =
       let (left, right, are) = reading_of source first second (Goes two) named in
       subst IsReady (sym is) (comparable_ready source first second two left right are None tt)
-  by_condition (Some bytes) two compared named (text, program, pre, (tokens, lexed, (read, (same, answers), resolved)), is) =
+  by_condition (Some bytes) two compared named
+      (text, program, pre, (tokens, lexed, (read, (same, answers), resolved)), is) =
       let (left, right, are) = reading_of source first second (Goes two) named in
-      let kept = row_form_kept source text.tokens (params_at text.program.functions two.first) bytes read.tokens read.pre pre resolved in
-      subst IsReady (sym is) (comparable_ready source first second two left right are (Some pre) (kept ∙ answers.1.1))
+      let kept = row_form_kept source text.tokens (params_at text.program.functions two.first) bytes
+      read.tokens read.pre pre resolved in
+      subst IsReady (sym is) (comparable_ready source first second two left right are (Some pre)
+      (kept ∙ answers.1.1))
 
-  pub ready : (pre : Option (List ℕ)) (compared : Compared) → whole_front source first second pre (Goes compared) → IsReady compared
+  pub ready : (pre : Option (List ℕ)) (compared : Compared) →
+      whole_front source first second pre (Goes compared) → IsReady compared
   ready pre compared (two, named, condition) = by_condition pre two compared named condition
 
 -- such functions have equally many parameters
-pub arities_agree : (compared : Compared) → IsReady compared → (m n : ℕ) → AritiesDiffer compared.two.program compared.two.first compared.two.second m n → ⊥
+pub arities_agree : (compared : Compared) → IsReady compared → (m n : ℕ) →
+    AritiesDiffer compared.two.program compared.two.first compared.two.second m n → ⊥
 arities_agree compared is m n arities =
-    arities.differ (same_some arities.first is.first_counts ∙ sym (same_some arities.second is.second_counts))
+    arities.differ (same_some arities.first is.first_counts ∙
+    sym (same_some arities.second is.second_counts))

@@ -30,7 +30,8 @@ same_count None = refl
 same_count (Some f) = refl
 
 -- a precondition that is a row form has its value with any number of rounds
-meets_always : (program : Resolved) (pre : Option Expr) (rounds : ℕ) (arguments : List ℤ) → HasRowForm pre → found.Meets program rounds pre arguments → Meets program pre arguments
+meets_always : (program : Resolved) (pre : Option Expr) (rounds : ℕ) (arguments : List ℤ) →
+    HasRowForm pre → found.Meets program rounds pre arguments → Meets program pre arguments
 meets_always program None rounds arguments form met = tt
 meets_always program (Some pre) rounds arguments form (value, outcome, other) =
     let means = means_its_rows program pre arguments form in
@@ -39,19 +40,28 @@ meets_always program (Some pre) rounds arguments form (value, outcome, other) =
     (means.value, means.outcome, subst (λ v. v ≢ pos 0) values other)
 
 -- the first difference over the points is a counterexample
-pub difference_refutes : (f : Functions) (source : List ℕ) (compared : Compared) (side rounds : ℕ) (arguments : List ℤ) (first second : Outcome)
+pub difference_refutes : (f : Functions) (source : List ℕ) (compared : Compared) (side rounds : ℕ)
+    (arguments : List ℤ) (first second : Outcome)
     → front_stage f source (Goes compared)
-    → IsFirstDifference (finding_at compared.two.program compared.two.first compared.two.second compared.precondition rounds) (points_in compared side) arguments first second → Refutes source f
+    → IsFirstDifference (finding_at compared.two.program compared.two.first compared.two.second
+    compared.precondition rounds) (points_in compared side) arguments first second →
+    Refutes source f
 difference_refutes f source compared side rounds arguments first second front is =
     let two = compared.two in
-    let returns = difference_returns two.program two.first two.second compared.precondition rounds arguments first second is.different in
-    let met = difference_meets two.program two.first two.second compared.precondition rounds arguments first second is.different in
+    let returns = difference_returns two.program two.first two.second compared.precondition rounds
+    arguments first second is.different in
+    let met = difference_meets two.program two.first two.second compared.precondition rounds
+    arguments first second is.different in
     record {
       compared = compared;
       front = front;
       arguments = arguments;
-      count = point_long side (arity_in compared) is.before is.after arguments is.is_point ∙ same_count (slice_get two.program.functions two.first);
-      meets = meets_always two.program compared.precondition rounds arguments (ready source f.first f.second f.precondition compared front).row_form met;
+      count =
+          point_long side (arity_in compared) is.before is.after arguments is.is_point ∙
+          same_count (slice_get two.program.functions two.first);
+      meets =
+          meets_always two.program compared.precondition rounds arguments
+          (ready source f.first f.second f.precondition compared front).row_form met;
       first = meant first;
       second = meant second;
       first_returns = returns.first_returns;
@@ -64,9 +74,12 @@ pub never_both : (f : Functions) (source : List ℕ) → Agrees source f → Ref
 never_both f source agrees refutes =
     let two = refutes.compared.two in
     let same : agrees.compared ≡ refutes.compared =
-    one_whole source f.first f.second f.precondition (Goes agrees.compared) (Goes refutes.compared) agrees.front refutes.front in
+    one_whole source f.first f.second f.precondition (Goes agrees.compared) (Goes refutes.compared)
+    agrees.front refutes.front in
     let are : AreAlike refutes.compared = subst AreAlike same agrees.alike in
     let alike = are refutes.arguments refutes.count refutes.meets in
-    let firsts = one_outcome two.program two.first refutes.arguments refutes.first alike.outcome refutes.first_returns alike.first in
-    let seconds = one_outcome two.program two.second refutes.arguments refutes.second alike.outcome refutes.second_returns alike.second in
+    let firsts = one_outcome two.program two.first refutes.arguments refutes.first alike.outcome
+    refutes.first_returns alike.first in
+    let seconds = one_outcome two.program two.second refutes.arguments refutes.second alike.outcome
+    refutes.second_returns alike.second in
     refutes.different (firsts ∙ sym seconds)

@@ -9,6 +9,10 @@ use Rattle.rx_cli.specs.Run.{RunEnds}
 use Rattle.rx_command.specs.Commands.{command_of}
 
 -- a part of the text was put
-pub ends_cut : (held : Option Names) (read_fault write_fault : Type 0) (words : List (List ℕ)) (old new : Option (List ℕ)) (answer : Answer) (text lent : List ℕ)
-    → IsAnswered held read_fault (command_of words) answer → text ≡ text_in answer → lent ≡ text → write_fault → AppendsPrefix old new lent → RunEnds held read_fault write_fault words old new Ends.WriteFault
-ends_cut held read_fault write_fault words old new answer text lent answered is same fault put = inr (inr (refl, fault, (status_in answer, lent, (answer, answered, (refl, same ∙ is)), put)))
+pub ends_cut : (held : Option Names) (read_fault write_fault : Type 0) (words : List (List ℕ))
+    (old new : Option (List ℕ)) (answer : Answer) (text lent : List ℕ)
+    → IsAnswered held read_fault (command_of words) answer → text ≡ text_in answer → lent ≡ text →
+    write_fault → AppendsPrefix old new lent →
+    RunEnds held read_fault write_fault words old new Ends.WriteFault
+ends_cut held read_fault write_fault words old new answer text lent answered is same fault put =
+    inr (inr (refl, fault, (status_in answer, lent, (answer, answered, (refl, same ∙ is)), put)))

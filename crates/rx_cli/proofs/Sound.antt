@@ -32,17 +32,24 @@ use Rattle.rx_row.specs.declared.row.Row.{Row}
 use Rattle.rx_cli.proofs.Ready.{ready}
 
 -- a goal on both entries fits the rules
-pub fits_goal : (compared : Compared) → IsReady compared → (t : Translation) → Translates compared (Some t) → (n : ℕ) → n ≡ count_in compared.two.program compared.two.first → (rows : List Row) (goal : Equation)
+pub fits_goal : (compared : Compared) → IsReady compared → (t : Translation) →
+    Translates compared (Some t) → (n : ℕ) → n ≡ count_in compared.two.program compared.two.first →
+    (rows : List Row) (goal : Equation)
     → goal ≡ goal_at t.first t.second n rows → IsFitting t.rules goal
 fits_goal compared is t translated n count rows goal goal_is =
     let first = ap Some (sym count) in
     subst (IsFitting t.rules) (sym goal_is) (record {
-      left = left_fits compared.two.program is.scoped compared.two.first compared.two.second t.rules t.first t.second translated n rows (is.first_counts ∙ first);
-      right = right_fits compared.two.program is.scoped compared.two.first compared.two.second t.rules t.first t.second translated n rows (is.second_counts ∙ first);
+      left =
+          left_fits compared.two.program is.scoped compared.two.first compared.two.second t.rules
+          t.first t.second translated n rows (is.first_counts ∙ first);
+      right =
+          right_fits compared.two.program is.scoped compared.two.first compared.two.second t.rules
+          t.first t.second translated n rows (is.second_counts ∙ first);
     })
 
 -- arguments that meet a precondition meet its rows
-meets_rows : (program : Resolved) (pre : Option Expr) (arguments : List ℤ) → HasRowForm pre → Meets program pre arguments → AllHold (assigned arguments) (rows_of pre).form
+meets_rows : (program : Resolved) (pre : Option Expr) (arguments : List ℤ) → HasRowForm pre →
+    Meets program pre arguments → AllHold (assigned arguments) (rows_of pre).form
 meets_rows program None arguments form met = λ k d h. let no : ⊥ = omega (arith, h) in absurd no
 meets_rows program (Some pre) arguments form (value, outcome, other) =
     let means = means_its_rows program pre arguments form in
@@ -51,7 +58,8 @@ meets_rows program (Some pre) arguments form (value, outcome, other) =
     means.rows.1 (subst (λ v. v ≢ pos 0) values other)
 
 -- what is reached alike is convertible
-reached : (parts : RuleParts) (s t : Ground) → EndAlike (Inside parts) (Instance parts.rules) s t → ReachConvertible parts.rules s t
+reached : (parts : RuleParts) (s t : Ground) → EndAlike (Inside parts) (Instance parts.rules) s t →
+    ReachConvertible parts.rules s t
 reached parts s t ends = record {
   left = ends.left.end;
   right = ends.right.end;
@@ -62,17 +70,26 @@ reached parts s t ends = record {
   convertible = ends.convertible;
 }
 
-module _ (compared : Compared) (question : Question) (is_ready : IsReady compared) (is : IsQuestion compared question) where
+module _ (compared : Compared) (question : Question) (is_ready : IsReady compared)
+    (is : IsQuestion compared question) where
   abbrev goal : Equation
-  goal = goal_at is.first is.second (count_in compared.two.program compared.two.first) (rows_of compared.precondition).form
+  goal =
+      goal_at is.first is.second (count_in compared.two.program compared.two.first)
+      (rows_of compared.precondition).form
 
   -- the goal fits the rules
   goal_fits : IsFitting question.rules goal
   goal_fits = record {
-    left = left_fits compared.two.program is_ready.scoped compared.two.first compared.two.second question.rules is.first is.second is.translated
-        (count_in compared.two.program compared.two.first) (rows_of compared.precondition).form is_ready.first_counts;
-    right = right_fits compared.two.program is_ready.scoped compared.two.first compared.two.second question.rules is.first is.second is.translated
-        (count_in compared.two.program compared.two.first) (rows_of compared.precondition).form is_ready.second_counts;
+    left =
+        left_fits compared.two.program is_ready.scoped compared.two.first compared.two.second
+        question.rules is.first is.second is.translated
+        (count_in compared.two.program compared.two.first) (rows_of compared.precondition).form
+        is_ready.first_counts;
+    right =
+        right_fits compared.two.program is_ready.scoped compared.two.first compared.two.second
+        question.rules is.first is.second is.translated
+        (count_in compared.two.program compared.two.first) (rows_of compared.precondition).form
+        is_ready.second_counts;
   }
 
   pub question_fits : IsFitting question.rules question.goal
@@ -81,18 +98,25 @@ module _ (compared : Compared) (question : Question) (is_ready : IsReady compare
   -- so both functions return alike where a log is accepted
   pub question_alike : (log : Log) → IsAccepted question.rules question.goal log → AreAlike compared
   question_alike log accepted arguments long met =
-      goal_alike compared.two.program is_ready.scoped compared.two.first compared.two.second question.rules is.first is.second is.translated
-      (count_in compared.two.program compared.two.first) (rows_of compared.precondition).form is_ready.first_counts is_ready.second_counts
+      goal_alike compared.two.program is_ready.scoped compared.two.first compared.two.second
+      question.rules is.first is.second is.translated
+      (count_in compared.two.program compared.two.first) (rows_of compared.precondition).form
+      is_ready.first_counts is_ready.second_counts
       (λ a holds. reached question.rules (ground_at a goal.left) (ground_at a goal.right)
       (accepted_ends_alike question.rules goal log
-      (translation_made compared.two.program is_ready.scoped compared.two.first compared.two.second question.rules is.first is.second is.translated)
+      (translation_made compared.two.program is_ready.scoped compared.two.first compared.two.second
+      question.rules is.first is.second is.translated)
       goal_fits (subst (λ g. IsAccepted question.rules g log) is.goal accepted) a holds))
-      arguments long (meets_rows compared.two.program compared.precondition arguments is_ready.row_form met)
+      arguments long (meets_rows compared.two.program compared.precondition arguments
+      is_ready.row_form met)
 
-pub question_agrees : (f : Functions) (source : List ℕ) (compared : Compared) (question : Question) → front_stage f source (Goes compared) → IsQuestion compared question
+pub question_agrees : (f : Functions) (source : List ℕ) (compared : Compared) (question : Question)
+    → front_stage f source (Goes compared) → IsQuestion compared question
     → (log : Log) → IsAccepted question.rules question.goal log → Agrees source f
 question_agrees f source compared question front is log accepted = record {
   compared = compared;
   front = front;
-  alike = question_alike compared question (ready source f.first f.second f.precondition compared front) is log accepted;
+  alike =
+      question_alike compared question (ready source f.first f.second f.precondition compared front)
+      is log accepted;
 }

@@ -25,41 +25,69 @@ use Rattle.rx_cli.specs.Texts.{text_of}
 use Rattle.rx_cli.proofs.Proved.{proved_text}
 
 -- a log that is accepted for a question is accepted by a check that reads its text
-pub written_accepted : (f : Functions) (source : List ℕ) (question : Question) (log : Log) (text : List ℕ) → asked f source (Goes question) → IsAccepted question.rules question.goal log → IsLog text log
+pub written_accepted : (f : Functions) (source : List ℕ) (question : Question) (log : Log)
+    (text : List ℕ) → asked f source (Goes question) → IsAccepted question.rules question.goal log →
+    IsLog text log
     → length text ≤ longest_log → IsChecked f source (Some text) Said.Equivalent
 written_accepted f source question log text found accepted is fits =
-    let read : OnRead question (Some text) Said.Equivalent = rw (le-ltb longest_log (length text) fits) (inr (log, is, (Accepted, accepted, refl))) in
+    let read : OnRead question (Some text) Said.Equivalent =
+    rw (le-ltb longest_log (length text) fits) (inr (log, is, (Accepted, accepted, refl))) in
     inr (question, found, read)
 
-module _ (f : Functions) (effort : Effort) (name text : List ℕ) (answer : Answer) (says : status_in answer ≡ Ends.Equivalent) (same : text ≡ text_in answer) (fits : length text ≤ longest_log) where
+module _ (f : Functions) (effort : Effort) (name text : List ℕ) (answer : Answer)
+    (says : status_in answer ≡ Ends.Equivalent) (same : text ≡ text_in answer)
+    (fits : length text ≤ longest_log) where
   -- so is the text that a search is answered by
-  proof_checked : (source : List ℕ) → IsProved f effort source answer → IsChecked f source (Some text) Said.Equivalent
+  proof_checked : (source : List ℕ) → IsProved f effort source answer →
+      IsChecked f source (Some text) Said.Equivalent
   proof_checked source proved =
       let (question, found, (moves, proof)) = proved_text f source answer says effort proved in
-      written_accepted f source question proof.log text found proof.accepted (subst (λ t. IsLog t proof.log) (sym same) proof.is) fits
+      written_accepted f source question proof.log text found proof.accepted
+      (subst (λ t. IsLog t proof.log) (sym same) proof.is) fits
 
-  by_length : (source : List ℕ) (long : Bool) → MatchBool long (answer ≡ Line Said.LongSource) (IsProved f effort source answer)
-      → MatchBool long (Line Said.Equivalent ≡ Line Said.LongSource) (IsDone (Check f name) source (Some text) (Line Said.Equivalent))
-  by_length source true is = let no : Ends.Refused ≡ Ends.Equivalent = sym (ap status_in is) ∙ says in absurd (let none : ⊥ = cc in none)
+  by_length : (source : List ℕ) (long : Bool) →
+      MatchBool long (answer ≡ Line Said.LongSource) (IsProved f effort source answer)
+      → MatchBool long (Line Said.Equivalent ≡ Line Said.LongSource)
+      (IsDone (Check f name) source (Some text) (Line Said.Equivalent))
+  by_length source true is =
+      let no : Ends.Refused ≡ Ends.Equivalent = sym (ap status_in is) ∙ says in
+      absurd (let none : ⊥ = cc in none)
   by_length source false proved = (Said.Equivalent, proof_checked source proved, refl)
 
-  by_source : (given log : Option (List ℕ)) → OnSource (Prove f effort) given log answer → OnSource (Check f name) given (Some text) (Line Said.Equivalent)
-  by_source None log is = let no : Ends.ReadFault ≡ Ends.Equivalent = sym (ap status_in is) ∙ says in absurd (let none : ⊥ = cc in none)
+  by_source : (given log : Option (List ℕ)) → OnSource (Prove f effort) given log answer →
+      OnSource (Check f name) given (Some text) (Line Said.Equivalent)
+  by_source None log is =
+      let no : Ends.ReadFault ≡ Ends.Equivalent = sym (ap status_in is) ∙ says in
+      absurd (let none : ⊥ = cc in none)
   by_source (Some source) log on = by_length source (nat_lt longest_source (length source)) on
 
--- a proof that is reported is accepted by a check of the same functions, where the source is the same
-pub proofs_accepted : (before after : Names) (f : Functions) (effort : Effort) (name text : List ℕ) (searching checking : List (List ℕ))
-    → command_of searching ≡ Some (Compare (Prove f effort)) → command_of checking ≡ Some (Compare (Check f name))
+-- a proof that is reported is accepted by a check of the same functions, where the source is the
+-- same
+pub proofs_accepted : (before after : Names) (f : Functions) (effort : Effort) (name text : List ℕ)
+    (searching checking : List (List ℕ))
+    → command_of searching ≡ Some (Compare (Prove f effort)) → command_of checking ≡
+    Some (Compare (Check f name))
     → Reports (Some before) ⊥ searching Ends.Equivalent text
     → after f.file ≡ before f.file → after name ≡ Some text → length text ≤ longest_log
     → Reports (Some after) ⊥ checking Ends.Equivalent (text_of Said.Equivalent)
-proofs_accepted before after f effort name text searching checking asks_proof asks_check (answer, inl found, (status, is_text)) file log fits =
-    let search : IsAnswerTo (Some before) (Some (Compare (Prove f effort))) answer = subst (λ o. IsAnswerTo (Some before) o answer) asks_proof found in
-    let check : IsAnswerTo (Some after) (Some (Compare (Check f name))) (Line Said.Equivalent) = record {
+proofs_accepted before after f effort name text searching checking asks_proof asks_check
+    (answer, inl found, (status, is_text)) file log fits =
+    let search : IsAnswerTo (Some before) (Some (Compare (Prove f effort))) answer =
+    subst (λ o. IsAnswerTo (Some before) o answer) asks_proof found in
+    let check : IsAnswerTo (Some after) (Some (Compare (Check f name))) (Line Said.Equivalent) =
+    record {
       given = record { source = search.given.source; log = Some text };
       is_given = (search.is_given.0 ∙ sym file, sym log);
-      is = by_source f effort name text answer (sym status) is_text fits search.given.source search.given.log search.is;
+      is =
+          by_source f effort name text answer (sym status) is_text fits search.given.source
+          search.given.log search.is;
       right = λ _. search.right (sym status);
-    } in
-    (Line Said.Equivalent, inl (subst (λ o. IsAnswerTo (Some after) o (Line Said.Equivalent)) (sym asks_check) check), (refl, refl))
-proofs_accepted before after f effort name text searching checking asks_proof asks_check (answer, inr (some, fault, is), report) file log fits = absurd fault
+    } in (
+      Line Said.Equivalent,
+      inl (subst (λ o. IsAnswerTo (Some after) o (Line Said.Equivalent))
+          (sym asks_check) check),
+      (refl, refl),
+    )
+proofs_accepted before after f effort name text searching checking asks_proof asks_check
+    (answer, inr (some, fault, is), report) file log fits =
+    absurd fault

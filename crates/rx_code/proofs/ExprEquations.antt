@@ -9,19 +9,23 @@ use Rattle.c_ast.specs.declared.expr.Expr.TheFolds.{fold_out-Expr}
 use Rattle.rx_code.specs.Expressions.{Asked, of_value, unary_code, binary_code, kind_of, choice, call, expr_level, expr_code}
 use Rattle.rx_code.specs.Pieces.{no_code}
 
-pub code-Lit : (k : ℤ) → expr_code (Lit k) ≡ of_value (λ a next. record { code = no_code; at = a; value = number k; within = true })
+pub code-Lit : (k : ℤ) → expr_code (Lit k) ≡ of_value
+    (λ a next. record { code = no_code; at = a; value = number k; within = true })
 code-Lit k = fold_out-Expr Asked expr_level (Lit k) ∙ rw (outs-Lit k) refl
 
-pub code-Var : (v : ℕ) → expr_code (Var v) ≡ of_value (λ a next. record { code = no_code; at = a; value = variable v; within = true })
+pub code-Var : (v : ℕ) → expr_code (Var v) ≡ of_value
+    (λ a next. record { code = no_code; at = a; value = variable v; within = true })
 code-Var v = fold_out-Expr Asked expr_level (Var v) ∙ rw (outs-Var v) refl
 
 pub code-Unary : (op : UnOp) (e : Expr) → expr_code (Unary op e) ≡ unary_code op (expr_code e)
 code-Unary op e = fold_out-Expr Asked expr_level (Unary op e) ∙ rw (outs-Unary op e) refl
 
-pub code-Binary : (op : BinOp) (l r : Expr) → expr_code (Binary op l r) ≡ binary_code (kind_of op) op (expr_code l) (expr_code r)
+pub code-Binary : (op : BinOp) (l r : Expr) → expr_code (Binary op l r) ≡
+    binary_code (kind_of op) op (expr_code l) (expr_code r)
 code-Binary op l r = fold_out-Expr Asked expr_level (Binary op l r) ∙ rw (outs-Binary op l r) refl
 
-pub code-Choose : (c e f : Expr) → expr_code (Choose c e f) ≡ choice (expr_code c) (expr_code e) (expr_code f)
+pub code-Choose : (c e f : Expr) → expr_code (Choose c e f) ≡
+    choice (expr_code c) (expr_code e) (expr_code f)
 code-Choose c e f = fold_out-Expr Asked expr_level (Choose c e f) ∙ rw (outs-Choose c e f) refl
 
 pub code-Apply : (f : ℕ) (es : List Expr) → expr_code (Apply f es) ≡ call f (map expr_code es)

@@ -19,9 +19,11 @@ read-Var v = fold_out-Expr Read read_level (Var v) ∙ rw (outs-Var v) refl
 pub read-Unary : (op : UnOp) (e : Expr) → read_expr (Unary op e) ≡ unary_read op (read_expr e)
 read-Unary op e = fold_out-Expr Read read_level (Unary op e) ∙ rw (outs-Unary op e) refl
 
-pub read-Binary : (op : BinOp) (l r : Expr) → read_expr (Binary op l r) ≡ binary_read (kind_of op) op (read_expr l) (read_expr r)
+pub read-Binary : (op : BinOp) (l r : Expr) → read_expr (Binary op l r) ≡
+    binary_read (kind_of op) op (read_expr l) (read_expr r)
 read-Binary op l r = fold_out-Expr Read read_level (Binary op l r) ∙ rw (outs-Binary op l r) refl
 
 -- what an operator's operands are
-pub read_of : (op : BinOp) (l r : Expr) (x y : Read) → read_expr l ≡ x → read_expr r ≡ y → read_expr (Binary op l r) ≡ binary_read (kind_of op) op x y
+pub read_of : (op : BinOp) (l r : Expr) (x y : Read) → read_expr l ≡ x → read_expr r ≡ y →
+    read_expr (Binary op l r) ≡ binary_read (kind_of op) op x y
 read_of op l r x y p q = read-Binary op l r ∙ (λ i. binary_read (kind_of op) op (p i) (q i))

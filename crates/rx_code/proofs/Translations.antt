@@ -1,4 +1,5 @@
--- There is a translation: that of the program of the example that calls and tests; and there is a program that is beyond the limits.
+-- There is a translation: that of the program of the example that calls and tests; and there is a
+-- program that is beyond the limits.
 use Rattle.std.proofs.Common.{◌≡◌, ◌∙◌, ap, sym, subst, refl, true, ◌&&◌, ◌⊎◌, inl, inr, ℕ, ◌<◌, Some, List, [], ◌∷◌, pos, arith}
 use Rattle.std.specs.Prelude.{Contains, slice_get}
 use Rattle.std.specs.List.{list_all, range_with_len}
@@ -35,24 +36,31 @@ no_number_in : (x : ℕ) → IsIn [] x → ⊥
 no_number_in x h = omega (arith, h)
 
 is_one : (xs : List ℕ) (y x : ℕ) → xs ≡ y ∷ [] → Contains xs x → x ≡ y
-is_one xs y x is among = elim (first_or_other y [] x (subst (λ (ys : List ℕ). Contains ys x) is among)) [ inl same ↦ sym same | inr other ↦ absurd (no_number_in x other) ]
+is_one xs y x is among =
+    elim (first_or_other y [] x (subst (λ (ys : List ℕ). Contains ys x) is among))
+    [ inl same ↦ sym same | inr other ↦ absurd (no_number_in x other) ]
 
 is_none : (xs : List ℕ) (x : ℕ) → xs ≡ [] → Contains xs x → ⊥
 is_none xs x is among = no_number_in x (subst (λ (ys : List ℕ). Contains ys x) is among)
 
 -- what one of the two calls is one of the two
-stays : (h k : ℕ) (f : Function) → Contains both h → slice_get calls.functions h ≡ Some f → Contains (calls_of f) k → Contains both k
+stays : (h k : ℕ) (f : Function) → Contains both h → slice_get calls.functions h ≡ Some f →
+    Contains (calls_of f) k → Contains both k
 stays h k f among stands calls_it = by (first_or_other 1 (2 ∷ []) h among) where
   there : (n : ℕ) (g : Function) → n ≡ h → slice_get calls.functions n ≡ Some g → g ≡ f
-  there n g same is = let e : Some g ≡ Some f = sym is ∙ ap (slice_get calls.functions) same ∙ stands in cc
+  there n g same is =
+      let e : Some g ≡ Some f = sym is ∙ ap (slice_get calls.functions) same ∙ stands in cc
 
   second_case : (2 ≡ h) ⊎ IsIn [] h → Contains both k
-  second_case (inl same) = absurd (is_none (calls_of f) k (ap calls_of (sym (there 2 called same refl)) ∙ called_calls) calls_it)
+  second_case (inl same) =
+      absurd (is_none (calls_of f) k (ap calls_of (sym (there 2 called same refl)) ∙ called_calls)
+      calls_it)
   second_case (inr other) = absurd (no_number_in h other)
 
   by : (1 ≡ h) ⊎ Contains (2 ∷ []) h → Contains both k
   by (inl same) =
-      let two : k ≡ 2 = is_one (calls_of f) 2 k (ap calls_of (sym (there 1 caller same refl)) ∙ caller_calls) calls_it in
+      let two : k ≡ 2 = is_one (calls_of f) 2 k
+      (ap calls_of (sym (there 1 caller same refl)) ∙ caller_calls) calls_it in
       subst (λ n. Contains both n) (sym two) (other_one 1 (2 ∷ []) 2 (first_one 2 []))
   by (inr other) = second_case (first_or_other 2 [] h other)
 
@@ -73,26 +81,30 @@ reached_both h among = by (first_or_other 1 (2 ∷ []) h among) where
 
 are_reached : AreReached calls 1 2 both
 are_reached = record {
-  in_order = next_number 1 (2 ∷ []) (All-cons (λ k. 1 < k) 2 [] (omega arith) (All-nil (λ k. 1 < k)))
+  in_order =
+      next_number 1 (2 ∷ []) (All-cons (λ k. 1 < k) 2 [] (omega arith) (All-nil (λ k. 1 < k)))
       (next_number 2 [] (All-nil (λ k. 2 < k)) no_number);
   members = λ h. (reached_both h, one_of_both h);
 }
 
 -- what code is translated to
 abbrev of_code : Formed Code → Formed RuleParts
-of_code c = record { form = parts_of c.form; within = c.within && list_all deed_within c.form.deeds }
+of_code c =
+    record { form = parts_of c.form; within = c.within && list_all deed_within c.form.deeds }
 
 translated : rules_of calls both ≡ record { form = calls_parts; within = true }
 translated = ap of_code (
     last_two unused caller called
     (statement (returns (apply 2 (argument (var 0) no_argument))) no_statement)
-    (statement (if_else (var 0) (returns (var 0)) no_part) (statement (returns (lit (pos 1))) no_statement)))
+    (statement (if_else (var 0) (returns (var 0)) no_part)
+    (statement (returns (lit (pos 1))) no_statement)))
 
 pub calls_translated : IsTranslation calls 1 2 calls_parts (symbol 0) (symbol 4)
 calls_translated =
     let whole = last_two unused caller called
     (statement (returns (apply 2 (argument (var 0) no_argument))) no_statement)
-    (statement (if_else (var 0) (returns (var 0)) no_part) (statement (returns (lit (pos 1))) no_statement)) in
+    (statement (if_else (var 0) (returns (var 0)) no_part)
+    (statement (returns (lit (pos 1))) no_statement)) in
     record {
       first_there = omega arith;
       second_there = omega arith;
@@ -109,14 +121,15 @@ calls_translated =
 alone : (h : ℕ) → Reached crowded 0 0 h → IsIn (0 ∷ []) h
 alone h IsFirst = first_one 0 []
 alone h IsSecond = first_one 0 []
-alone h (ByCall g k f reached stands among) = absurd (calls_nothing (first_or_other 0 [] g (alone g reached))) where
-  calls_nothing : (0 ≡ g) ⊎ IsIn [] g → ⊥
-  calls_nothing (inl same) =
-      let crowd : Function = record { name = 1; params = range_with_len 0 129; body = [] } in
-      let is : Some crowd ≡ Some f = ap (slice_get crowded.functions) same ∙ stands in
-      let same_body : f ≡ crowd = cc in
-      is_none (calls_of f) k (ap calls_of same_body) among
-  calls_nothing (inr other) = no_number_in g other
+alone h (ByCall g k f reached stands among) =
+    absurd (calls_nothing (first_or_other 0 [] g (alone g reached))) where
+      calls_nothing : (0 ≡ g) ⊎ IsIn [] g → ⊥
+      calls_nothing (inl same) =
+          let crowd : Function = record { name = 1; params = range_with_len 0 129; body = [] } in
+          let is : Some crowd ≡ Some f = ap (slice_get crowded.functions) same ∙ stands in
+          let same_body : f ≡ crowd = cc in
+          is_none (calls_of f) k (ap calls_of same_body) among
+      calls_nothing (inr other) = no_number_in g other
 
 alone_reached : (h : ℕ) → IsIn (0 ∷ []) h → Reached crowded 0 0 h
 alone_reached h among = by (first_or_other 0 [] h among) where

@@ -1,4 +1,5 @@
--- Small programs, and the rules that they are compiled to. A rule is written like `s4(v0,v1) -> s5(v0)`: `s` is the call of a symbol.
+-- Small programs, and the rules that they are compiled to. A rule is written like `s4(v0,v1) ->
+-- s5(v0)`: `s` is the call of a symbol.
 use Rattle.std.specs.Prelude.{ℕ, Bool, true, false, Some, None, List, [], ◌∷◌, pos, negsuc}
 use Rattle.std.specs.List.{range_with_len}
 use Rattle.rx_poly.specs.Constants.{number, variable}
@@ -73,7 +74,8 @@ rec = record {
   name = 2;
   params = 0 ∷ [];
   body = stmt.If (Binary binary.Le (Var 0) (Lit (pos 0))) (stmt.Return (Lit (pos 0))) None
-      ∷ stmt.Return (Binary binary.Add (Var 0) (Apply 1 ((Binary binary.Sub (Var 0) (Lit (pos 1))) ∷ [])))
+      ∷ stmt.Return (Binary binary.Add (Var 0)
+      (Apply 1 ((Binary binary.Sub (Var 0) (Lit (pos 1))) ∷ [])))
       ∷ [];
 }
 
@@ -104,13 +106,16 @@ sums_rules =
     ∷ always (s 2 (v0 ∷ v1 ∷ [])) (s 4 (v0 ∷ v1 ∷ number (pos 1) ∷ []))
     ∷ always (s 3 (v0 ∷ v1 ∷ [])) (Return v1)
     ∷ where_holds (Ge (subtracted v0 v2)) (s 4 (v0 ∷ v1 ∷ v2 ∷ [])) (s 5 (v0 ∷ v1 ∷ v2 ∷ []))
-    ∷ where_holds (Ge (minus_one_more (subtracted v0 v2))) (s 4 (v0 ∷ v1 ∷ v2 ∷ [])) (s 3 (v0 ∷ v1 ∷ []))
+    ∷ where_holds (Ge (minus_one_more (subtracted v0 v2))) (s 4 (v0 ∷ v1 ∷ v2 ∷ []))
+    (s 3 (v0 ∷ v1 ∷ []))
     ∷ always (s 5 (v0 ∷ v1 ∷ v2 ∷ [])) (s 6 (v0 ∷ added v1 v2 ∷ v2 ∷ []))
     ∷ always (s 6 (v0 ∷ v1 ∷ v2 ∷ [])) (s 4 (v0 ∷ v1 ∷ added v2 (number (pos 1)) ∷ []))
     ∷ where_holds (Ge (subtracted (number (pos 0)) v0)) (s 7 (v0 ∷ [])) (s 10 (v0 ∷ []))
-    ∷ where_holds (Ge (minus_one_more (subtracted (number (pos 0)) v0))) (s 7 (v0 ∷ [])) (s 9 (v0 ∷ []))
+    ∷ where_holds (Ge (minus_one_more (subtracted (number (pos 0)) v0))) (s 7 (v0 ∷ []))
+    (s 9 (v0 ∷ []))
     ∷ always (s 8 []) (Return (number (pos 0)))
-    ∷ always (s 9 (v0 ∷ [])) (Frame (symbol 11) (v0 ∷ []) (s 7 (added v0 (scaled_by (negsuc 0) (number (pos 1))) ∷ [])))
+    ∷ always (s 9 (v0 ∷ [])) (Frame (symbol 11) (v0 ∷ [])
+    (s 7 (added v0 (scaled_by (negsuc 0) (number (pos 1))) ∷ [])))
     ∷ always (s 10 (v0 ∷ [])) (Return (number (pos 0)))
     ∷ always (Frame (symbol 11) (v0 ∷ []) (Return v1)) (s 12 (v0 ∷ v1 ∷ []))
     ∷ always (Frame (symbol 11) (v0 ∷ []) (Fail 1)) (Fail 1)
@@ -180,7 +185,8 @@ mixed = record {
   params = 0 ∷ 1 ∷ [];
   body = stmt.DoWhile
       (stmt.Block
-      ((stmt.If (Binary binary.OrElse (Unary unary.Not (Binary binary.Lt (Var 0) (Var 1))) (Binary binary.Eq (Var 0) (Lit (pos 3))))
+      ((stmt.If (Binary binary.OrElse (Unary unary.Not (Binary binary.Lt (Var 0) (Var 1)))
+      (Binary binary.Eq (Var 0) (Lit (pos 3))))
       (stmt.Break 25)
       (Some (stmt.Assign 0 (Binary binary.Rem (Var 0) (Var 1))))) ∷
       (stmt.While (Binary binary.AndAlso (Binary binary.Gt (Var 0) (Lit (pos 0))) (Var 1))
@@ -188,7 +194,9 @@ mixed = record {
       ((stmt.Declare 2 (Some (Unary unary.Minus (Var 0)))) ∷
       (stmt.Assign 1 (Var 2)) ∷
       (stmt.If (Binary binary.Ge (Var 1) (Var 0))
-      (stmt.Continue 57) None) ∷ []))) ∷ [])) (Choose (Var 0) (Binary binary.Ne (Var 1) (Lit (pos 1))) (Binary binary.Sub (Binary binary.Lt (Var 0) (Lit (pos 2))) (Var 1)))
+      (stmt.Continue 57) None) ∷ []))) ∷ []))
+      (Choose (Var 0) (Binary binary.Ne (Var 1) (Lit (pos 1)))
+      (Binary binary.Sub (Binary binary.Lt (Var 0) (Lit (pos 2))) (Var 1)))
       ∷ stmt.Return (Unary unary.Plus (Binary binary.Gt (Var 0) (Var 1)))
       ∷ [];
 }
@@ -228,15 +236,21 @@ forms_symbols =
 
 abbrev forms_rules : List Rule
 forms_rules =
-    where_holds (Ge (subtracted (subtracted v1 v0) (number (pos 1)))) (s 0 (v0 ∷ v1 ∷ [])) (s 7 (v0 ∷ v1 ∷ []))
-    ∷ where_holds (Ge (minus_one_more (subtracted (subtracted v1 v0) (number (pos 1))))) (s 0 (v0 ∷ v1 ∷ [])) (s 5 (v0 ∷ v1 ∷ []))
+    where_holds (Ge (subtracted (subtracted v1 v0) (number (pos 1)))) (s 0 (v0 ∷ v1 ∷ []))
+    (s 7 (v0 ∷ v1 ∷ []))
+    ∷ where_holds (Ge (minus_one_more (subtracted (subtracted v1 v0) (number (pos 1)))))
+    (s 0 (v0 ∷ v1 ∷ [])) (s 5 (v0 ∷ v1 ∷ []))
     ∷ always (s 1 []) (Return (number (pos 0)))
-    ∷ where_holds (Ge (subtracted (subtracted v0 v1) (number (pos 1)))) (s 2 (v0 ∷ v1 ∷ [])) (s 23 (v0 ∷ v1 ∷ []))
-    ∷ where_holds (Ge (minus_one_more (subtracted (subtracted v0 v1) (number (pos 1))))) (s 2 (v0 ∷ v1 ∷ [])) (s 24 (v0 ∷ v1 ∷ []))
+    ∷ where_holds (Ge (subtracted (subtracted v0 v1) (number (pos 1)))) (s 2 (v0 ∷ v1 ∷ []))
+    (s 23 (v0 ∷ v1 ∷ []))
+    ∷ where_holds (Ge (minus_one_more (subtracted (subtracted v0 v1) (number (pos 1)))))
+    (s 2 (v0 ∷ v1 ∷ [])) (s 24 (v0 ∷ v1 ∷ []))
     ∷ where_holds (Ne v0) (s 3 (v0 ∷ v1 ∷ [])) (s 14 (v0 ∷ v1 ∷ []))
     ∷ where_holds (Eq v0) (s 3 (v0 ∷ v1 ∷ [])) (s 15 (v0 ∷ v1 ∷ []))
-    ∷ where_holds (Ge (subtracted (subtracted v0 (number (pos 0))) (number (pos 1)))) (s 4 (v0 ∷ v1 ∷ [])) (s 10 (v0 ∷ v1 ∷ []))
-    ∷ where_holds (Ge (minus_one_more (subtracted (subtracted v0 (number (pos 0))) (number (pos 1))))) (s 4 (v0 ∷ v1 ∷ [])) (s 3 (v0 ∷ v1 ∷ []))
+    ∷ where_holds (Ge (subtracted (subtracted v0 (number (pos 0))) (number (pos 1))))
+    (s 4 (v0 ∷ v1 ∷ [])) (s 10 (v0 ∷ v1 ∷ []))
+    ∷ where_holds (Ge (minus_one_more (subtracted (subtracted v0 (number (pos 0)))
+    (number (pos 1))))) (s 4 (v0 ∷ v1 ∷ [])) (s 3 (v0 ∷ v1 ∷ []))
     ∷ always (s 5 (v0 ∷ v1 ∷ [])) (s 2 (v0 ∷ v1 ∷ []))
     ∷ where_holds (Eq v1) (s 6 (v0 ∷ v1 ∷ [])) (Fail 1)
     ∷ where_holds (Ne v1) (s 6 (v0 ∷ v1 ∷ [])) (s 8 (v0 ∷ v1 ∷ remainder_of v0 v1 ∷ []))
@@ -248,12 +262,15 @@ forms_rules =
     ∷ where_holds (Eq v1) (s 10 (v0 ∷ v1 ∷ [])) (s 3 (v0 ∷ v1 ∷ []))
     ∷ always (s 11 (v0 ∷ v1 ∷ v2 ∷ [])) (s 12 (v0 ∷ v2 ∷ v2 ∷ []))
     ∷ where_holds (Ge (subtracted v1 v0)) (s 12 (v0 ∷ v1 ∷ v2 ∷ [])) (s 13 (v0 ∷ v1 ∷ v2 ∷ []))
-    ∷ where_holds (Ge (minus_one_more (subtracted v1 v0))) (s 12 (v0 ∷ v1 ∷ v2 ∷ [])) (s 4 (v0 ∷ v1 ∷ []))
+    ∷ where_holds (Ge (minus_one_more (subtracted v1 v0))) (s 12 (v0 ∷ v1 ∷ v2 ∷ []))
+    (s 4 (v0 ∷ v1 ∷ []))
     ∷ always (s 13 (v0 ∷ v1 ∷ v2 ∷ [])) (s 4 (v0 ∷ v1 ∷ []))
     ∷ where_holds (Ne (subtracted v1 (number (pos 1)))) (s 14 (v0 ∷ v1 ∷ [])) (s 17 (v0 ∷ v1 ∷ []))
     ∷ where_holds (Eq (subtracted v1 (number (pos 1)))) (s 14 (v0 ∷ v1 ∷ [])) (s 18 (v0 ∷ v1 ∷ []))
-    ∷ where_holds (Ge (subtracted (subtracted (number (pos 2)) v0) (number (pos 1)))) (s 15 (v0 ∷ v1 ∷ [])) (s 20 (v0 ∷ v1 ∷ []))
-    ∷ where_holds (Ge (minus_one_more (subtracted (subtracted (number (pos 2)) v0) (number (pos 1))))) (s 15 (v0 ∷ v1 ∷ [])) (s 21 (v0 ∷ v1 ∷ []))
+    ∷ where_holds (Ge (subtracted (subtracted (number (pos 2)) v0) (number (pos 1))))
+    (s 15 (v0 ∷ v1 ∷ [])) (s 20 (v0 ∷ v1 ∷ []))
+    ∷ where_holds (Ge (minus_one_more (subtracted (subtracted (number (pos 2)) v0)
+    (number (pos 1))))) (s 15 (v0 ∷ v1 ∷ [])) (s 21 (v0 ∷ v1 ∷ []))
     ∷ where_holds (Ne v2) (s 16 (v0 ∷ v1 ∷ v2 ∷ [])) (s 0 (v0 ∷ v1 ∷ []))
     ∷ where_holds (Eq v2) (s 16 (v0 ∷ v1 ∷ v2 ∷ [])) (s 2 (v0 ∷ v1 ∷ []))
     ∷ always (s 17 (v0 ∷ v1 ∷ [])) (s 19 (v0 ∷ v1 ∷ number (pos 1) ∷ []))
@@ -313,7 +330,8 @@ walk = record {
       (stmt.Block
       ((stmt.If (Var 1)
       (stmt.Continue 90) None) ∷ [])) (Binary binary.OrElse (Var 0) (Var 1))) ∷
-      (stmt.Assign 0 (Apply 2 ((Binary binary.Sub (Var 0) (Lit (pos 1))) ∷ (Apply 2 ((Var 1) ∷ (Binary binary.OrElse (Var 0) (Var 1)) ∷ [])) ∷ []))) ∷ []))
+      (stmt.Assign 0 (Apply 2 ((Binary binary.Sub (Var 0) (Lit (pos 1))) ∷
+      (Apply 2 ((Var 1) ∷ (Binary binary.OrElse (Var 0) (Var 1)) ∷ [])) ∷ []))) ∷ []))
       ∷ stmt.Return (Var 2)
       ∷ [];
 }
@@ -393,8 +411,10 @@ walks_rules =
     ∷ where_holds (Eq v1) (s 13 (v0 ∷ v1 ∷ v2 ∷ [])) (s 12 (v0 ∷ v1 ∷ v2 ∷ []))
     ∷ where_holds (Ne v1) (s 14 (v0 ∷ v1 ∷ v2 ∷ [])) (s 22 (v0 ∷ v1 ∷ v2 ∷ []))
     ∷ where_holds (Eq v1) (s 14 (v0 ∷ v1 ∷ v2 ∷ [])) (s 21 (v0 ∷ v1 ∷ v2 ∷ []))
-    ∷ where_holds (Ge (subtracted (subtracted v1 v2) (number (pos 1)))) (s 15 (v0 ∷ v1 ∷ v2 ∷ [])) (s 16 (v0 ∷ v1 ∷ v2 ∷ []))
-    ∷ where_holds (Ge (minus_one_more (subtracted (subtracted v1 v2) (number (pos 1))))) (s 15 (v0 ∷ v1 ∷ v2 ∷ [])) (s 14 (v0 ∷ v1 ∷ v2 ∷ []))
+    ∷ where_holds (Ge (subtracted (subtracted v1 v2) (number (pos 1)))) (s 15 (v0 ∷ v1 ∷ v2 ∷ []))
+    (s 16 (v0 ∷ v1 ∷ v2 ∷ []))
+    ∷ where_holds (Ge (minus_one_more (subtracted (subtracted v1 v2) (number (pos 1)))))
+    (s 15 (v0 ∷ v1 ∷ v2 ∷ [])) (s 14 (v0 ∷ v1 ∷ v2 ∷ []))
     ∷ where_holds (Eq (subtracted v2 v0)) (s 16 (v0 ∷ v1 ∷ v2 ∷ [])) (s 19 (v0 ∷ v1 ∷ v2 ∷ []))
     ∷ where_holds (Ne (subtracted v2 v0)) (s 16 (v0 ∷ v1 ∷ v2 ∷ [])) (s 18 (v0 ∷ v1 ∷ v2 ∷ []))
     ∷ always (s 17 (v0 ∷ v1 ∷ v2 ∷ [])) (s 15 (v0 ∷ v1 ∷ added v2 (number (pos 1)) ∷ []))
@@ -409,13 +429,18 @@ walks_rules =
     ∷ where_holds (Eq v1) (s 23 (v0 ∷ v1 ∷ v2 ∷ [])) (s 20 (v0 ∷ v1 ∷ v2 ∷ []))
     ∷ always (s 24 (v0 ∷ v1 ∷ v2 ∷ [])) (s 26 (v0 ∷ v1 ∷ v2 ∷ number (pos 1) ∷ []))
     ∷ always (s 25 (v0 ∷ v1 ∷ v2 ∷ [])) (s 26 (v0 ∷ v1 ∷ v2 ∷ number (pos 0) ∷ []))
-    ∷ always (s 26 (v0 ∷ v1 ∷ v2 ∷ v3 ∷ [])) (Frame (symbol 28) (v0 ∷ v1 ∷ v2 ∷ v3 ∷ []) (s 32 (v1 ∷ v3 ∷ [])))
+    ∷ always (s 26 (v0 ∷ v1 ∷ v2 ∷ v3 ∷ [])) (Frame (symbol 28) (v0 ∷ v1 ∷ v2 ∷ v3 ∷ [])
+    (s 32 (v1 ∷ v3 ∷ [])))
     ∷ where_holds (Ne v1) (s 27 (v0 ∷ v1 ∷ v2 ∷ [])) (s 24 (v0 ∷ v1 ∷ v2 ∷ []))
     ∷ where_holds (Eq v1) (s 27 (v0 ∷ v1 ∷ v2 ∷ [])) (s 25 (v0 ∷ v1 ∷ v2 ∷ []))
-    ∷ always (Frame (symbol 28) (v0 ∷ v1 ∷ v2 ∷ v3 ∷ []) (Return v4)) (s 29 (v0 ∷ v1 ∷ v2 ∷ v3 ∷ v4 ∷ []))
+    ∷ always (Frame (symbol 28) (v0 ∷ v1 ∷ v2 ∷ v3 ∷ []) (Return v4))
+    (s 29 (v0 ∷ v1 ∷ v2 ∷ v3 ∷ v4 ∷ []))
     ∷ always (Frame (symbol 28) (v0 ∷ v1 ∷ v2 ∷ v3 ∷ []) (Fail 1)) (Fail 1)
-    ∷ always (s 29 (v0 ∷ v1 ∷ v2 ∷ v3 ∷ v4 ∷ [])) (Frame (symbol 30) (v0 ∷ v1 ∷ v2 ∷ v3 ∷ v4 ∷ []) (s 32 (added v0 (scaled_by (negsuc 0) (number (pos 1))) ∷ v4 ∷ [])))
-    ∷ always (Frame (symbol 30) (v0 ∷ v1 ∷ v2 ∷ v3 ∷ v4 ∷ []) (Return v5)) (s 31 (v0 ∷ v1 ∷ v2 ∷ v3 ∷ v4 ∷ v5 ∷ []))
+    ∷ always (s 29 (v0 ∷ v1 ∷ v2 ∷ v3 ∷ v4 ∷ []))
+    (Frame (symbol 30) (v0 ∷ v1 ∷ v2 ∷ v3 ∷ v4 ∷ [])
+    (s 32 (added v0 (scaled_by (negsuc 0) (number (pos 1))) ∷ v4 ∷ [])))
+    ∷ always (Frame (symbol 30) (v0 ∷ v1 ∷ v2 ∷ v3 ∷ v4 ∷ []) (Return v5))
+    (s 31 (v0 ∷ v1 ∷ v2 ∷ v3 ∷ v4 ∷ v5 ∷ []))
     ∷ always (Frame (symbol 30) (v0 ∷ v1 ∷ v2 ∷ v3 ∷ v4 ∷ []) (Fail 1)) (Fail 1)
     ∷ always (s 31 (v0 ∷ v1 ∷ v2 ∷ v3 ∷ v4 ∷ v5 ∷ [])) (s 3 (v5 ∷ v1 ∷ v2 ∷ []))
     ∷ always (s 32 (v0 ∷ v1 ∷ [])) (s 34 (v0 ∷ v1 ∷ []))

@@ -1,4 +1,5 @@
--- The code of expressions: what is opened and done from a point on, to have an expression's value, or to go to one of two points by whether it is 0.
+-- The code of expressions: what is opened and done from a point on, to have an expression's value,
+-- or to go to one of two points by whether it is 0.
 use Rattle.std.specs.Prelude.{ℕ, ◌+◌, Bool, true, false, ◌&&◌, List, [], ◌∷◌, Option, Some, None, pos, negsuc}
 use Rattle.rx_plain.specs.Formed.{Formed, pure, kept, ◌>>=◌, ◌<$>◌}
 use Rattle.rx_poly.specs.Constants.{number, variable}
@@ -54,7 +55,8 @@ test_of _ p q = row.Ne <$> kept is_within (subtracted p q)
 
 -- ---- what a compiled expression is
 
--- the code, the point at which the value is known, the value there, and whether all that is formed and opened keeps the limits
+-- the code, the point at which the value is known, the value there, and whether all that is formed
+-- and opened keeps the limits
 pub record Valued : Type 0 where
   pub code : Code
   pub at : Point
@@ -65,7 +67,8 @@ pub record Valued : Type 0 where
 abbrev pub Value : Type 0
 Value = Point → ℕ → Valued
 
--- a condition is compiled from a point on to two others, the one where it holds and the one where it doesn't
+-- a condition is compiled from a point on to two others, the one where it holds and the one where
+-- it doesn't
 abbrev pub Condition : Type 0
 Condition = Point → Point → Point → ℕ → Formed Code
 
@@ -80,7 +83,11 @@ of_value value = record {
   value = value;
   condition = λ a y w next.
       let v = value a next in
-      record { form = append_code v.code (does v.at (Test (row.Ne v.value) y w)); within = v.within };
+      record {
+        form = append_code v.code (does v.at (Test (row.Ne v.value) y w));
+        within =
+            v.within;
+      };
 }
 
 -- a condition has the value 1 or 0
@@ -94,10 +101,13 @@ of_condition condition = record {
       record {
         code = append_code (opens (a_point a.width ∷ a_point a.width ∷ a_point (a.width + 1) ∷ []))
             (append_code c.form
-            (append_code (does y (Set a.width (number (pos 1)) b)) (does w (Set a.width (number (pos 0)) b))));
+            (append_code (does y (Set a.width (number (pos 1)) b))
+            (does w (Set a.width (number (pos 0)) b))));
         at = b;
         value = variable a.width;
-        within = is_room next a.width && (is_room (next + 1) a.width && (is_room (next + 2) (a.width + 1) && c.within));
+        within =
+            is_room next a.width && (is_room (next + 1) a.width &&
+            (is_room (next + 2) (a.width + 1) && c.within));
       };
   condition = condition;
 }
@@ -116,7 +126,14 @@ abbrev pub operands : Asked → Asked → Point → ℕ → Operands
 operands l r a next =
     let x = l.value a next in
     let y = r.value x.at (after next x.code) in
-    record { code = append_code x.code y.code; at = y.at; left = x.value; right = y.value; within = x.within && y.within }
+    record {
+      code = append_code x.code y.code;
+      at = y.at;
+      left = x.value;
+      right = y.value;
+      within =
+          x.within && y.within;
+    }
 
 -- `+`, `-` and `*`
 abbrev pub arithmetic : BinOp → Asked → Asked → Asked
@@ -131,7 +148,9 @@ division d l r = of_value (λ a next.
     let t = operands l r a next in
     let b = point (after next t.code) (t.at.width + 1) in
     record {
-      code = append_code t.code (append_code (opens (a_point (t.at.width + 1) ∷ [])) (does t.at (Divide d t.left t.right b)));
+      code =
+          append_code t.code (append_code (opens (a_point (t.at.width + 1) ∷ []))
+          (does t.at (Divide d t.left t.right b)));
       at = b;
       value = variable t.at.width;
       within = t.within && is_room (after next t.code) (t.at.width + 1);
@@ -142,7 +161,11 @@ abbrev pub comparison : BinOp → Asked → Asked → Asked
 comparison op l r = of_condition (λ a y w next.
     let t = operands l r a next in
     let tested = test_of op t.left t.right in
-    record { form = append_code t.code (does t.at (Test tested.form y w)); within = t.within && tested.within })
+    record {
+      form = append_code t.code (does t.at (Test tested.form y w));
+      within = t.within &&
+          tested.within;
+    })
 
 -- `&&`: the second operand is tested at a new point, where the first holds
 abbrev pub conjunction : Asked → Asked → Asked
@@ -223,7 +246,13 @@ arguments [] a next = record { code = no_code; at = a; values = []; within = tru
 arguments (e ∷ es) a next =
     let x = e.value a next in
     let xs = arguments es x.at (after next x.code) in
-    record { code = append_code x.code xs.code; at = xs.at; values = x.value ∷ xs.values; within = x.within && xs.within }
+    record {
+      code = append_code x.code xs.code;
+      at = xs.at;
+      values = x.value ∷ xs.values;
+      within =
+          x.within && xs.within;
+    }
 
 -- `c ? e : f`: the value of one of two becomes one variable more of a new point
 abbrev pub choice : Asked → Asked → Asked → Asked
@@ -265,8 +294,10 @@ call f es = of_value (λ a next.
 
 -- an expression, from its parts
 abbrev pub expr_level : Expr-F Asked → Asked
-expr_level (Expr-F.Lit k) = of_value (λ a next. record { code = no_code; at = a; value = number k; within = true })
-expr_level (Expr-F.Var v) = of_value (λ a next. record { code = no_code; at = a; value = variable v; within = true })
+expr_level (Expr-F.Lit k) =
+    of_value (λ a next. record { code = no_code; at = a; value = number k; within = true })
+expr_level (Expr-F.Var v) =
+    of_value (λ a next. record { code = no_code; at = a; value = variable v; within = true })
 expr_level (Expr-F.Unary op e) = unary_code op e
 expr_level (Expr-F.Binary op l r) = binary_code (kind_of op) op l r
 expr_level (Expr-F.Choose c e f) = choice c e f

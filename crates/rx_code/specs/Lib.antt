@@ -1,4 +1,6 @@
--- What C programs are compiled to, as a table: pieces of code, expressions, statements, functions and programs, the rules of code, the rule set of two functions; and what it guarantees of points, as a relation without numbers.
+-- What C programs are compiled to, as a table: pieces of code, expressions, statements, functions
+-- and programs, the rules of code, the rule set of two functions; and what it guarantees of points,
+-- as a relation without numbers.
 pub mod Points
 pub mod Codes
 pub mod Pieces

@@ -1,4 +1,5 @@
--- Pieces of compiled code, and how they are put together. Symbols are numbered in the order in which they are opened, so a piece is compiled from the number of the symbols before it.
+-- Pieces of compiled code, and how they are put together. Symbols are numbered in the order in
+-- which they are opened, so a piece is compiled from the number of the symbols before it.
 use Rattle.std.specs.Prelude.{ℕ, ◌+◌, Bool, true, false, ◌&&◌, nat_le, nat_lt, List, [], ◌∷◌, ◌++◌, length}
 use Rattle.rx_code.specs.declared.action.Action.{Action}
 use Rattle.rx_code.specs.declared.code.Code.{Code}
@@ -39,7 +40,14 @@ opens os = record { opened = os; deeds = []; heads = []; entries = [] }
 
 -- the code that does this at the point
 abbrev pub does : Point → Action → Code
-does a action = record { opened = []; deeds = record { at = a; action = action } ∷ []; heads = []; entries = [] }
+does a action =
+    record {
+      opened = [];
+      deeds = record { at = a; action = action } ∷ [];
+      heads = [];
+      entries =
+          [];
+    }
 
 -- the code that marks a symbol as the head of a loop
 abbrev pub marks_head : ℕ → Code
@@ -47,7 +55,8 @@ marks_head symbol = record { opened = []; deeds = []; heads = symbol ∷ []; ent
 
 -- the code that marks a symbol as the entry of the function at that place
 abbrev pub marks_entry : ℕ → ℕ → Code
-marks_entry place symbol = record { opened = []; deeds = []; heads = []; entries = (place, symbol) ∷ [] }
+marks_entry place symbol =
+    record { opened = []; deeds = []; heads = []; entries = (place, symbol) ∷ [] }
 
 -- how many symbols there may be, and how many variables each may have
 abbrev pub most_symbols : ℕ

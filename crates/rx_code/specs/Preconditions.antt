@@ -1,4 +1,5 @@
--- The rows of a precondition: a comparison of straight expressions is one row, and `&&` takes the rows of its operands from left to right.
+-- The rows of a precondition: a comparison of straight expressions is one row, and `&&` takes the
+-- rows of its operands from left to right.
 use Rattle.std.specs.Prelude.{List, [], ◌∷◌, ◌++◌, pos, negsuc}
 use Rattle.rx_plain.specs.Formed.{Formed, pure, kept, ◌>>=◌, ◌<$>◌}
 use Rattle.rx_poly.specs.Constants.{number, variable}
@@ -64,6 +65,7 @@ read_level (Expr-F.Apply f es) = unread
 abbrev pub read_expr : Expr → Read
 read_expr = fold-Expr Read read_level
 
--- the rows of a precondition, equal ones kept, and whether all that is formed for them keeps the limits
+-- the rows of a precondition, equal ones kept, and whether all that is formed for them keeps the
+-- limits
 abbrev pub pre_rows : Expr → Formed (List Row)
 pre_rows e = (read_expr e).rows

@@ -9,12 +9,20 @@ use Rattle.rx_code.specs.Statements.{Compiled, list_code, stmt_code}
 use Rattle.rx_code.specs.declared.action.Action.TheVariants.{Return}
 use Rattle.rx_code.specs.declared.code.Code.{Code}
 
--- a function of n parameters: its entry over them, its end, where 0 is returned, and its body from the one to the other, also by a `break` or `continue` outside loops, which no well-formed program has
+-- a function of n parameters: its entry over them, its end, where 0 is returned, and its body from
+-- the one to the other, also by a `break` or `continue` outside loops, which no well-formed program
+-- has
 abbrev pub body_code : ℕ → ℕ → List Compiled → ℕ → Formed Code
 body_code place n statements next =
     let entry = point next n in
     let end = point (next + 1) 0 in
-    let body = list_code statements (record { at = entry; to = end; break_to = end; continue_to = end }) (next + 2) in
+    let body = list_code statements (record {
+      at = entry;
+      to = end;
+      break_to = end;
+      continue_to =
+          end;
+    }) (next + 2) in
     record {
       form = append_code (opens (a_point n ∷ a_point 0 ∷ []))
           (append_code (marks_entry place next)

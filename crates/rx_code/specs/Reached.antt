@@ -13,7 +13,8 @@ calls_of f = flat_map calls_in f.body
 pub data Reached (program : Resolved) (f g : ℕ) : ℕ → Type 0 where
   IsFirst : Reached program f g f
   IsSecond : Reached program f g g
-  ByCall : (h k : ℕ) (caller : Function) → Reached program f g h → slice_get program.functions h ≡ Some caller
+  ByCall : (h k : ℕ) (caller : Function) → Reached program f g h → slice_get program.functions h ≡
+      Some caller
       → Contains (calls_of caller) k → Reached program f g k
 
 -- each number is above those before it

@@ -1,4 +1,5 @@
--- The rules of code: what is done at a symbol, as rules whose left side has that symbol at its root.
+-- The rules of code: what is done at a symbol, as rules whose left side has that symbol at its
+-- root.
 use Rattle.std.specs.Prelude.{ℕ, ◌==◌, Bool, true, List, [], ◌∷◌, ◌++◌, map, take, filter}
 use Rattle.std.specs.List.{enumerate_from, flat_map, list_any}
 use Rattle.rx_poly.specs.Constants.{variable}
@@ -54,10 +55,12 @@ always left right = record { left = left; right = right; rows = [] }
 abbrev pub where_holds : Row → Term → Term → Rule
 where_holds row left right = record { left = left; right = right; rows = row ∷ [] }
 
--- the rules of an action, where `entry` is the entry of each function; `Resume` is done at a frame, over what is returned and over a failure
+-- the rules of an action, where `entry` is the entry of each function; `Resume` is done at a frame,
+-- over what is returned and over a failure
 abbrev pub rules_of_action : (ℕ → ℕ) → Point → Action → List Rule
 rules_of_action entry a (Go z) = always (call_of a) (jump z (variables_of a)) ∷ []
-rules_of_action entry a (Set k p z) = always (call_of a) (jump z (with_element k p (variables_of a))) ∷ []
+rules_of_action entry a (Set k p z) =
+    always (call_of a) (jump z (with_element k p (variables_of a))) ∷ []
 rules_of_action entry a (Test row y w) =
     where_holds row (call_of a) (jump y (variables_of a))
     ∷ where_holds (negation row) (call_of a) (jump w (variables_of a)) ∷ []
@@ -66,7 +69,8 @@ rules_of_action entry a (Divide d p q b) =
     ∷ where_holds (Ne q) (call_of a) (jump b (variables_of a ++ divided d p q ∷ [])) ∷ []
 rules_of_action entry a (Call f ps r) =
     always (call_of a)
-    (term.Frame (symbol r.symbol) (take r.width (variables_of a)) (term.Call (symbol (entry f)) ps)) ∷ []
+    (term.Frame (symbol r.symbol) (take r.width (variables_of a)) (term.Call (symbol (entry f)) ps))
+    ∷ []
 rules_of_action entry a (Resume b) =
     always (term.Frame (symbol a.symbol) (variables_of a) (term.Return (variable a.width)))
     (jump b (variables_of a ++ variable a.width ∷ []))
@@ -76,7 +80,8 @@ rules_of_action entry a (Return p) = always (call_of a) (term.Return p) ∷ []
 abbrev pub rules_of_deed : (ℕ → ℕ) → Deed → List Rule
 rules_of_deed entry d = rules_of_action entry d.at d.action
 
--- whether what is formed for the rules of an action keeps the limits: the negation of a row, and the result of a division
+-- whether what is formed for the rules of an action keeps the limits: the negation of a row, and
+-- the result of a division
 abbrev pub action_within : Action → Bool
 action_within (Test row y w) = negation_within row
 action_within (Divide d p q b) = is_within (divided d p q)
@@ -87,7 +92,8 @@ deed_within d = action_within d.action
 
 -- the rules of what is done at the symbol of that number
 abbrev pub rules_at : Code → ℕ → List Rule
-rules_at c k = flat_map (rules_of_deed (entry_of c.entries)) (filter (λ (d : Deed). d.at.symbol == k) c.deeds)
+rules_at c k =
+    flat_map (rules_of_deed (entry_of c.entries)) (filter (λ (d : Deed). d.at.symbol == k) c.deeds)
 
 -- what the symbol of that number is
 abbrev pub info_at : Code → ℕ × Opening → SymInfo

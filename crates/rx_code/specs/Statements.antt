@@ -22,7 +22,8 @@ pub record Places : Type 0 where
   pub break_to : Point
   pub continue_to : Point
 
--- a compiled statement: how many slots are in scope after it, given how many are before it, and its code at given places, given the number of the next symbol
+-- a compiled statement: how many slots are in scope after it, given how many are before it, and its
+-- code at given places, given the number of the next symbol
 pub record Compiled : Type 0 where
   pub slots_after : ℕ → ℕ
   pub code : Places → ℕ → Formed Code
@@ -45,7 +46,8 @@ abbrev pub slots_after_all : List Compiled → ℕ → ℕ
 slots_after_all [] n = n
 slots_after_all (t ∷ ts) n = slots_after_all ts (t.slots_after n)
 
--- a list of statements: before each of the others is compiled, a new point is opened for what follows it
+-- a list of statements: before each of the others is compiled, a new point is opened for what
+-- follows it
 abbrev pub list_code : List Compiled → Places → ℕ → Formed Code
 list_code [] at next = pure (does at.at (Go at.to))
 list_code (t ∷ []) at next = t.code at next
@@ -80,7 +82,9 @@ if_else_code e t u at next =
     record {
       form = append_code (opens (a_point at.at.width ∷ a_point at.at.width ∷ []))
           (append_code c.form (append_code d.form f.form));
-      within = is_room next at.at.width && (is_room (next + 1) at.at.width && (c.within && (d.within && f.within)));
+      within =
+          is_room next at.at.width && (is_room (next + 1) at.at.width &&
+          (c.within && (d.within && f.within)));
     }
 
 abbrev pub branches_code : Asked → Compiled → Option Compiled → Places → ℕ → Formed Code
@@ -92,7 +96,8 @@ abbrev pub while_code : Asked → Compiled → Places → ℕ → Formed Code
 while_code e t at next =
     let y = point next at.at.width in
     let c = e.condition at.at y at.to (next + 1) in
-    let d = t.code (record { at = y; to = at.at; break_to = at.to; continue_to = at.at }) (after (next + 1) c.form) in
+    let d = t.code (record { at = y; to = at.at; break_to = at.to; continue_to = at.at })
+    (after (next + 1) c.form) in
     record {
       form = append_code (marks_head at.at.symbol)
           (append_code (opens (a_point at.at.width ∷ [])) (append_code c.form d.form));
@@ -116,9 +121,12 @@ abbrev pub turn_code : Asked → Compiled → Point → Point → ℕ → Formed
 turn_code e t h z next =
     let y = point next h.width in
     let c = e.condition h y z (next + 1) in
-    let d = t.code (record { at = y; to = h; break_to = z; continue_to = h }) (after (next + 1) c.form) in
+    let d = t.code (record { at = y; to = h; break_to = z; continue_to = h })
+    (after (next + 1) c.form) in
     record {
-      form = append_code (marks_head h.symbol) (append_code (opens (a_point h.width ∷ [])) (append_code c.form d.form));
+      form =
+          append_code (marks_head h.symbol) (append_code (opens (a_point h.width ∷ []))
+          (append_code c.form d.form));
       within = is_room next h.width && (c.within && d.within);
     }
 
@@ -128,13 +136,16 @@ change_turn_code e u t h at next =
     let y = point next h.width in
     let k = point (next + 1) h.width in
     let c = e.condition h y at.to (next + 2) in
-    let d = t.code (record { at = y; to = k; break_to = at.to; continue_to = k }) (after (next + 2) c.form) in
+    let d = t.code (record { at = y; to = k; break_to = at.to; continue_to = k })
+    (after (next + 2) c.form) in
     let f = u.code (record at { at = k; to = h }) (after (after (next + 2) c.form) d.form) in
     record {
       form = append_code (marks_head h.symbol)
           (append_code (opens (a_point h.width ∷ a_point h.width ∷ []))
           (append_code c.form (append_code d.form f.form)));
-      within = is_room next h.width && (is_room (next + 1) h.width && (c.within && (d.within && f.within)));
+      within =
+          is_room next h.width && (is_room (next + 1) h.width &&
+          (c.within && (d.within && f.within)));
     }
 
 abbrev pub loop_code : Asked → Option Compiled → Compiled → Point → Places → ℕ → Formed Code
@@ -172,10 +183,12 @@ stmt_level (Stmt-F.Assign slot value) =
 stmt_level (Stmt-F.If test inner other) = in_scope (branches_code (expr_code test) inner other)
 stmt_level (Stmt-F.While test inner) = in_scope (while_code (expr_code test) inner)
 stmt_level (Stmt-F.DoWhile inner test) = in_scope (do_code inner (expr_code test))
-stmt_level (Stmt-F.For first test change inner) = in_scope (for_code first (expr_code (test_or_one test)) change inner)
+stmt_level (Stmt-F.For first test change inner) =
+    in_scope (for_code first (expr_code (test_or_one test)) change inner)
 stmt_level (Stmt-F.Break token) = in_scope (λ at next. pure (does at.at (Go at.break_to)))
 stmt_level (Stmt-F.Continue token) = in_scope (λ at next. pure (does at.at (Go at.continue_to)))
-stmt_level (Stmt-F.Return value) = in_scope (λ at next. with_value (expr_code value) Return at.at next)
+stmt_level (Stmt-F.Return value) =
+    in_scope (λ at next. with_value (expr_code value) Return at.at next)
 stmt_level (Stmt-F.Block inner) = in_scope (list_code inner)
 
 -- the code of a statement

@@ -13,14 +13,17 @@ use Rattle.rx_code.specs.Programs.{entry_of, program_code}
 use Rattle.rx_code.specs.Reached.{AreReached}
 use Rattle.rx_code.specs.Rules.{deed_within, parts_of, symbol}
 
--- the rule set of these functions of a program, and whether all that is formed and opened for it keeps the limits
+-- the rule set of these functions of a program, and whether all that is formed and opened for it
+-- keeps the limits
 abbrev pub rules_of : Resolved → List ℕ → Formed RuleParts
 rules_of program fs =
     let c = program_code program fs in
     record { form = parts_of c.form; within = c.within && list_all deed_within c.form.deeds }
 
--- f and g are functions of the program, the parts are the rule set of all functions that they reach, within the limits, and the two symbols are their entries
-pub record IsTranslation (program : Resolved) (f g : ℕ) (parts : RuleParts) (first second : Sym) : Type 0 where
+-- f and g are functions of the program, the parts are the rule set of all functions that they
+-- reach, within the limits, and the two symbols are their entries
+pub record IsTranslation (program : Resolved) (f g : ℕ) (parts : RuleParts) (first second : Sym) :
+    Type 0 where
   pub first_there : f < length program.functions
   pub second_there : g < length program.functions
   pub functions : List ℕ
@@ -38,4 +41,5 @@ pub record IsBeyond (program : Resolved) (f g : ℕ) : Type 0 where
 
 -- the equation of two symbols on n variables under the rows
 abbrev pub goal_at : Sym → Sym → ℕ → List Row → Equation
-goal_at f g n rows = record { left = Call f (variables_from 0 n); right = Call g (variables_from 0 n); rows = rows }
+goal_at f g n rows =
+    record { left = Call f (variables_from 0 n); right = Call g (variables_from 0 n); rows = rows }

@@ -45,10 +45,12 @@ impl Code {
     /// are 4,096 symbols already, or the variables are more than 128. Where it fails nothing is
     /// opened.
     pub fn open(&mut self, width: u32, frame: bool) -> Result<Point, PolyEnd>
-        ensures code { OnOk result (self.new ≡ append_code self.old (opens (record { width = width; frame = frame } ∷ []))) }
+        ensures code { OnOk result (self.new ≡
+            append_code self.old (opens (record { width = width; frame = frame } ∷ []))) }
         ensures point { IfOk result (λ p. p ≡ point (length self.old.opened) width) }
         ensures within { OnOk result (is_room (length self.old.opened) width ≡ true) }
-        ensures large { IfErr result (λ e. e ≡ PolyEnd.Large → is_room (length self.old.opened) width ≡ false) }
+        ensures large { IfErr result (λ e. e ≡ PolyEnd.Large →
+            is_room (length self.old.opened) width ≡ false) }
         ensures kept { OnErr result (self.new ≡ self.old) }
     {
         let count = self.opened.len();
@@ -65,10 +67,12 @@ impl Code {
     /// Opens the next symbol, a point with one variable more than that many. Large exactly where
     /// `open` is, for that number.
     pub fn open_wider(&mut self, width: u32) -> Result<Point, PolyEnd>
-        ensures code { OnOk result (self.new ≡ append_code self.old (opens (a_point (width + 1) ∷ []))) }
+        ensures code { OnOk result (self.new ≡
+            append_code self.old (opens (a_point (width + 1) ∷ []))) }
         ensures point { IfOk result (λ p. p ≡ point (length self.old.opened) (width + 1)) }
         ensures within { OnOk result (is_room (length self.old.opened) (width + 1) ≡ true) }
-        ensures large { IfErr result (λ e. e ≡ PolyEnd.Large → is_room (length self.old.opened) (width + 1) ≡ false) }
+        ensures large { IfErr result (λ e. e ≡ PolyEnd.Large →
+            is_room (length self.old.opened) (width + 1) ≡ false) }
         ensures kept { OnErr result (self.new ≡ self.old) }
     {
         if width >= MOST_VARIABLES {

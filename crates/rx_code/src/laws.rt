@@ -11,7 +11,8 @@ ghost use Rattle.rx_code.specs.Translation.{IsBeyond, IsTranslation};
 /// expressions (`forms`, `walks`); and the rows of a precondition (`rows`).
 pub fn small_programs_are_compiled_so()
     ensures sums { parts_of (program_code sample.sums (0 ∷ 1 ∷ [])).form ≡ sample.sums_parts }
-    ensures division { parts_of (program_code sample.division (0 ∷ 1 ∷ [])).form ≡ sample.division_parts }
+    ensures division { parts_of (program_code sample.division (0 ∷ 1 ∷ [])).form ≡
+        sample.division_parts }
     ensures forms { parts_of (program_code sample.forms (0 ∷ [])).form ≡ sample.forms_parts }
     ensures walks { parts_of (program_code sample.walks (1 ∷ 2 ∷ [])).form ≡ sample.walks_parts }
     ensures rows { (pre_rows sample.between).form ≡ sample.between_rows }

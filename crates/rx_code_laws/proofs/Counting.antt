@@ -1,4 +1,5 @@
--- Each symbol that is opened has one deed: what a piece of code does at a symbol, counted. A piece also has no entries but those of functions.
+-- Each symbol that is opened has one deed: what a piece of code does at a symbol, counted. A piece
+-- also has no entries but those of functions.
 use Rattle.std.proofs.Common.{◌≡◌, ◌∙◌, ap, sym, subst, refl, Bool, if◌then◌else◌, ℕ, zero, suc, ◌+◌, List, [], ◌∷◌, ◌++◌, length, map, pos, arith, length-append}
 use Rattle.std.specs.Prelude.{nat_eq}
 use Rattle.rx_poly.specs.Constants.{number}
@@ -43,12 +44,15 @@ deeds-append : (x : ℕ) (ds es : List Deed) → deeds_at x (ds ++ es) ≡ deeds
 deeds-append x [] es = omega arith
 deeds-append x (d ∷ ds) es = let h = deeds-append x ds es in omega (arith, h)
 
-among-append : (next j k x : ℕ) → among_from next (j + k) x ≡ among_from next j x + among_from (next + j) k x
+among-append : (next j k x : ℕ) → among_from next (j + k) x ≡ among_from next j x +
+    among_from (next + j) k x
 among-append next zero k x =
     let e : 0 + k ≡ k = omega arith in let f : next + 0 ≡ next = omega arith in
-    let g = ap (λ i. among_from i k x) f in let h = ap (λ i. among_from next i x) e in omega (arith, g, h)
+    let g = ap (λ i. among_from i k x) f in let h = ap (λ i. among_from next i x) e in
+    omega (arith, g, h)
 among-append next (suc j) k x =
-    let e : suc j + k ≡ suc (j + k) = omega arith in let f : (next + 1) + j ≡ next + suc j = omega arith in
+    let e : suc j + k ≡ suc (j + k) = omega arith in let f : (next + 1) + j ≡ next + suc j =
+    omega arith in
     let h = among-append (next + 1) j k x in let g = ap (λ i. among_from i k x) f in
     ap (λ i. among_from next i x) e ∙ omega (arith, h, g)
 
@@ -56,47 +60,61 @@ among-append next (suc j) k x =
 pub two_from : (next x : ℕ) → among_from next 2 x ≡ at_symbol x next + at_symbol x (next + 1)
 two_from next x = omega arith
 
-pub three_from : (next x : ℕ) → among_from next 3 x ≡ at_symbol x next + (at_symbol x (next + 1) + at_symbol x (next + 2))
-three_from next x = let e : (next + 1) + 1 ≡ next + 2 = omega arith in let f = ap (at_symbol x) e in omega (arith, f)
+pub three_from : (next x : ℕ) → among_from next 3 x ≡ at_symbol x next +
+    (at_symbol x (next + 1) + at_symbol x (next + 2))
+three_from next x =
+    let e : (next + 1) + 1 ≡ next + 2 = omega arith in let f = ap (at_symbol x) e in
+    omega (arith, f)
 
 -- a piece and then another
 pub record Joined (x next : ℕ) (c d : Code) : Type 0 where
   pub deeds : deeds_at x (append_code c d).deeds ≡ deeds_at x c.deeds + deeds_at x d.deeds
-  pub symbols : among_from next (length (append_code c d).opened) x ≡ among_from next (length c.opened) x + among_from (after next c) (length d.opened) x
+  pub symbols : among_from next (length (append_code c d).opened) x ≡
+      among_from next (length c.opened) x + among_from (after next c) (length d.opened) x
 
 pub joined : (x next : ℕ) (c d : Code) → Joined x next c d
 joined x next c d = record {
   deeds = deeds-append x c.deeds d.deeds;
-  symbols = ap (λ i. among_from next i x) (length-append c.opened d.opened) ∙ among-append next (length c.opened) (length d.opened) x;
+  symbols =
+      ap (λ i. among_from next i x) (length-append c.opened d.opened) ∙
+      among-append next (length c.opened) (length d.opened) x;
 }
 
--- what a piece takes over from a point, which has no deed before, and what it does to the symbols that it opens
+-- what a piece takes over from a point, which has no deed before, and what it does to the symbols
+-- that it opens
 pub record Closed (x next : ℕ) (a : Point) (c : Code) : Type 0 where
   pub counts : deeds_at x c.deeds ≡ at_symbol x a.symbol + among_from next (length c.opened) x
   pub entries : c.entries ≡ []
 
 -- the same of a piece that leads on to a point without a deed
 pub record Open (x next : ℕ) (a b : Point) (c : Code) : Type 0 where
-  pub counts : deeds_at x c.deeds + at_symbol x b.symbol ≡ at_symbol x a.symbol + among_from next (length c.opened) x
+  pub counts : deeds_at x c.deeds + at_symbol x b.symbol ≡ at_symbol x a.symbol +
+      among_from next (length c.opened) x
   pub entries : c.entries ≡ []
 
 pub no_entries : (c d : Code) → c.entries ≡ [] → d.entries ≡ [] → (append_code c d).entries ≡ []
 no_entries c d first second i = first i ++ second i
 
 -- one piece after another
-pub open_open : (x next : ℕ) (a b z : Point) (c d : Code) → Open x next a b c → Open x (after next c) b z d → Open x next a z (append_code c d)
+pub open_open : (x next : ℕ) (a b z : Point) (c d : Code) → Open x next a b c →
+    Open x (after next c) b z d → Open x next a z (append_code c d)
 open_open x next a b z c d first second =
     let j = joined x next c d in
     record {
-      counts = let h = first.counts in let k = second.counts in let l = j.deeds in let m = j.symbols in omega (arith, h, k, l, m);
+      counts =
+          let h = first.counts in let k = second.counts in let l = j.deeds in let m = j.symbols in
+          omega (arith, h, k, l, m);
       entries = no_entries c d first.entries second.entries;
     }
 
-pub open_closed : (x next : ℕ) (a b : Point) (c d : Code) → Open x next a b c → Closed x (after next c) b d → Closed x next a (append_code c d)
+pub open_closed : (x next : ℕ) (a b : Point) (c d : Code) → Open x next a b c →
+    Closed x (after next c) b d → Closed x next a (append_code c d)
 open_closed x next a b c d first second =
     let j = joined x next c d in
     record {
-      counts = let h = first.counts in let k = second.counts in let l = j.deeds in let m = j.symbols in omega (arith, h, k, l, m);
+      counts =
+          let h = first.counts in let k = second.counts in let l = j.deeds in let m = j.symbols in
+          omega (arith, h, k, l, m);
       entries = no_entries c d first.entries second.entries;
     }
 
@@ -108,13 +126,18 @@ module _ (x : ℕ) where
     pub value : (a : Point) (next : ℕ) → Open x next a (y.value a next).at (y.value a next).code
     pub condition : (a p q : Point) (next : ℕ) → Closed x next a (y.condition a p q next).form
 
-  by_value : (value : Value) → ((a : Point) (next : ℕ) → Open x next a (value a next).at (value a next).code) → CountsExpr (of_value value)
+  by_value : (value : Value) → ((a : Point) (next : ℕ) →
+      Open x next a (value a next).at (value a next).code) → CountsExpr (of_value value)
   by_value value is = record {
     value = is;
-    condition = λ a p q next. let v = value a next in open_closed x next a v.at v.code (does v.at (Test (Ne v.value) p q)) (is a next) (does_closed x (after next v.code) v.at (Test (Ne v.value) p q));
+    condition =
+        λ a p q next. let v = value a next in
+        open_closed x next a v.at v.code (does v.at (Test (Ne v.value) p q)) (is a next)
+        (does_closed x (after next v.code) v.at (Test (Ne v.value) p q));
   }
 
-  by_condition : (condition : Condition) → ((a p q : Point) (next : ℕ) → Closed x next a (condition a p q next).form) → CountsExpr (of_condition condition)
+  by_condition : (condition : Condition) → ((a p q : Point) (next : ℕ) →
+      Closed x next a (condition a p q next).form) → CountsExpr (of_condition condition)
   by_condition condition is = record {
     value = λ a next.
         let y = point next a.width in
@@ -131,53 +154,70 @@ module _ (x : ℕ) where
         let three = joined x (after (next + 3) c) yes no in
         let s = three_from next x in
         record {
-          counts = let c0 = h.counts in let d1 = one.deeds in let s1 = one.symbols in let d2 = two.deeds in let s2 = two.symbols in let d3 = three.deeds in let s3 = three.symbols in
+          counts =
+              let c0 = h.counts in let d1 = one.deeds in let s1 = one.symbols in let d2 =
+              two.deeds in let s2 = two.symbols in let d3 = three.deeds in let s3 = three.symbols in
               omega (arith, c0, d1, s1, d2, s2, d3, s3, s);
           entries = no_entries c (append_code yes no) h.entries refl;
         };
     condition = is;
   }
 
-  operands_open : (l r : Asked) → CountsExpr l → CountsExpr r → (a : Point) (next : ℕ) → Open x next a (operands l r a next).at (operands l r a next).code
+  operands_open : (l r : Asked) → CountsExpr l → CountsExpr r → (a : Point) (next : ℕ) →
+      Open x next a (operands l r a next).at (operands l r a next).code
   operands_open l r left right a next =
       let p = l.value a next in let q = r.value p.at (after next p.code) in
-      open_open x next a p.at q.at p.code q.code (left.value a next) (right.value p.at (after next p.code))
+      open_open x next a p.at q.at p.code q.code (left.value a next)
+      (right.value p.at (after next p.code))
 
   -- a new point after a deed
   opened_after : (next : ℕ) (a b : Point) (c : Code) (width : ℕ) (y : Action) → Open x next a b c
-      → Open x next a (point (after next c) width) (append_code c (append_code (opens (a_point width ∷ [])) (does b y)))
+      → Open x next a (point (after next c) width)
+      (append_code c (append_code (opens (a_point width ∷ [])) (does b y)))
   opened_after next a b c width y is =
       let os = a_point width ∷ [] in
       let one = joined x next c (append_code (opens os) (does b y)) in
       let two = joined x (after next c) (opens os) (does b y) in
       record {
-        counts = let c0 = is.counts in let d1 = one.deeds in let s1 = one.symbols in let d2 = two.deeds in let s2 = two.symbols in omega (arith, c0, d1, s1, d2, s2);
+        counts =
+            let c0 = is.counts in let d1 = one.deeds in let s1 = one.symbols in let d2 =
+            two.deeds in let s2 = two.symbols in omega (arith, c0, d1, s1, d2, s2);
         entries = no_entries c (append_code (opens os) (does b y)) is.entries refl;
       }
 
-  arithmetic_counted : (op : BinOp) (l r : Asked) → CountsExpr l → CountsExpr r → CountsExpr (arithmetic op l r)
+  arithmetic_counted : (op : BinOp) (l r : Asked) → CountsExpr l → CountsExpr r →
+      CountsExpr (arithmetic op l r)
   arithmetic_counted op l r left right = by_value _ (λ a next. operands_open l r left right a next)
 
-  division_counted : (d : Division) (l r : Asked) → CountsExpr l → CountsExpr r → CountsExpr (division d l r)
+  division_counted : (d : Division) (l r : Asked) → CountsExpr l → CountsExpr r →
+      CountsExpr (division d l r)
   division_counted d l r left right = by_value _ (λ a next.
       let t = operands l r a next in
-      opened_after next a t.at t.code (t.at.width + 1) (Divide d t.left t.right (point (after next t.code) (t.at.width + 1))) (operands_open l r left right a next))
+      opened_after next a t.at t.code (t.at.width + 1)
+      (Divide d t.left t.right (point (after next t.code) (t.at.width + 1)))
+      (operands_open l r left right a next))
 
-  comparison_counted : (op : BinOp) (l r : Asked) → CountsExpr l → CountsExpr r → CountsExpr (comparison op l r)
+  comparison_counted : (op : BinOp) (l r : Asked) → CountsExpr l → CountsExpr r →
+      CountsExpr (comparison op l r)
   comparison_counted op l r left right = by_condition _ (λ a p q next.
       let t = operands l r a next in
       let action = Test (test_of op t.left t.right).form p q in
-      open_closed x next a t.at t.code (does t.at action) (operands_open l r left right a next) (does_closed x (after next t.code) t.at action))
+      open_closed x next a t.at t.code (does t.at action) (operands_open l r left right a next)
+      (does_closed x (after next t.code) t.at action))
 
   -- one opened point, and two pieces of which the second begins there
-  pub one_opened : (next : ℕ) (a : Point) (width : ℕ) (c d : Code) → Closed x (next + 1) a c → Closed x (after (next + 1) c) (point next width) d
+  pub one_opened : (next : ℕ) (a : Point) (width : ℕ) (c d : Code) → Closed x (next + 1) a c →
+      Closed x (after (next + 1) c) (point next width) d
       → Closed x next a (append_code (opens (a_point width ∷ [])) (append_code c d))
   one_opened next a width c d first second =
       let os = a_point width ∷ [] in
       let one = joined x next (opens os) (append_code c d) in
       let two = joined x (next + 1) c d in
       record {
-        counts = let c0 = first.counts in let c1 = second.counts in let d1 = one.deeds in let s1 = one.symbols in let d2 = two.deeds in let s2 = two.symbols in omega (arith, c0, c1, d1, s1, d2, s2);
+        counts =
+            let c0 = first.counts in let c1 = second.counts in let d1 = one.deeds in let s1 =
+            one.symbols in let d2 = two.deeds in let s2 = two.symbols in
+            omega (arith, c0, c1, d1, s1, d2, s2);
         entries = no_entries c d first.entries second.entries;
       }
 
@@ -185,15 +225,18 @@ module _ (x : ℕ) where
   conjunction_counted l r left right = by_condition _ (λ a y w next.
       let m = point next a.width in
       let c = (l.condition a m w (next + 1)).form in
-      one_opened next a a.width c (r.condition m y w (after (next + 1) c)).form (left.condition a m w (next + 1)) (right.condition m y w (after (next + 1) c)))
+      one_opened next a a.width c (r.condition m y w (after (next + 1) c)).form
+      (left.condition a m w (next + 1)) (right.condition m y w (after (next + 1) c)))
 
   disjunction_counted : (l r : Asked) → CountsExpr l → CountsExpr r → CountsExpr (disjunction l r)
   disjunction_counted l r left right = by_condition _ (λ a y w next.
       let m = point next a.width in
       let c = (l.condition a y m (next + 1)).form in
-      one_opened next a a.width c (r.condition m y w (after (next + 1) c)).form (left.condition a y m (next + 1)) (right.condition m y w (after (next + 1) c)))
+      one_opened next a a.width c (r.condition m y w (after (next + 1) c)).form
+      (left.condition a y m (next + 1)) (right.condition m y w (after (next + 1) c)))
 
-  choice_counted : (t l r : Asked) → CountsExpr t → CountsExpr l → CountsExpr r → CountsExpr (choice t l r)
+  choice_counted : (t l r : Asked) → CountsExpr t → CountsExpr l → CountsExpr r →
+      CountsExpr (choice t l r)
   choice_counted t l r test left right = by_value _ (λ a next.
       let y = point next a.width in
       let w = point (next + 1) a.width in
@@ -220,10 +263,14 @@ module _ (x : ℕ) where
       record {
         counts =
             let h = tested.counts in let i = first.counts in let j = second.counts in
-            let d1 = one.deeds in let d2 = two.deeds in let d3 = three.deeds in let d4 = four.deeds in let d5 = five.deeds in
-            let s1 = one.symbols in let s2 = two.symbols in let s3 = three.symbols in let s4 = four.symbols in let s5 = five.symbols in
+            let d1 = one.deeds in let d2 = two.deeds in let d3 = three.deeds in let d4 =
+            four.deeds in let d5 = five.deeds in
+            let s1 = one.symbols in let s2 = two.symbols in let s3 = three.symbols in let s4 =
+            four.symbols in let s5 = five.symbols in
             omega (arith, h, i, j, d1, d2, d3, d4, d5, s1, s2, s3, s4, s5, s);
-        entries = no_entries c values tested.entries (no_entries p.code middle first.entries (no_entries q.code set_q second.entries refl));
+        entries =
+            no_entries c values tested.entries
+            (no_entries p.code middle first.entries (no_entries q.code set_q second.entries refl));
       })
 
   unary_counted : (op : UnOp) (y : Asked) → CountsExpr y → CountsExpr (unary_code op y)
@@ -231,7 +278,8 @@ module _ (x : ℕ) where
   unary_counted un.Minus y is = by_value _ is.value
   unary_counted un.Not y is = by_condition _ (λ a p q next. is.condition a q p next)
 
-  binary_counted : (op : BinOp) (l r : Asked) → CountsExpr l → CountsExpr r → CountsExpr (binary_code (kind_of op) op l r)
+  binary_counted : (op : BinOp) (l r : Asked) → CountsExpr l → CountsExpr r →
+      CountsExpr (binary_code (kind_of op) op l r)
   binary_counted bin.Add l r left right = arithmetic_counted bin.Add l r left right
   binary_counted bin.Sub l r left right = arithmetic_counted bin.Sub l r left right
   binary_counted bin.Mul l r left right = arithmetic_counted bin.Mul l r left right
@@ -246,7 +294,8 @@ module _ (x : ℕ) where
   binary_counted bin.AndAlso l r left right = conjunction_counted l r left right
   binary_counted bin.OrElse l r left right = disjunction_counted l r left right
 
-  call_counted : (f : ℕ) (ys : List Asked) → ((a : Point) (next : ℕ) → Open x next a (arguments ys a next).at (arguments ys a next).code) → CountsExpr (call f ys)
+  call_counted : (f : ℕ) (ys : List Asked) → ((a : Point) (next : ℕ) →
+      Open x next a (arguments ys a next).at (arguments ys a next).code) → CountsExpr (call f ys)
   call_counted f ys each = by_value _ (λ a next.
       let xs = arguments ys a next in
       let m = after next xs.code in
@@ -263,28 +312,44 @@ module _ (x : ℕ) where
       let is = each a next in
       record {
         counts =
-            let h = is.counts in let d1 = one.deeds in let d2 = two.deeds in let d3 = three.deeds in let s1 = one.symbols in let s2 = two.symbols in let s3 = three.symbols in
+            let h = is.counts in let d1 = one.deeds in let d2 = two.deeds in let d3 = three.deeds in
+            let s1 = one.symbols in let s2 = two.symbols in let s3 = three.symbols in
             omega (arith, h, d1, d2, d3, s1, s2, s3, s);
         entries = no_entries xs.code (append_code (opens os) ends) is.entries refl;
       })
 
   mutual
     expr_tree_counted : (e : Expr) → ExprTree e → CountsExpr (expr_code e)
-    expr_tree_counted e (tree.Literal k) = subst CountsExpr (sym (code-Lit k)) (by_value _ (λ a next. record { counts = omega arith; entries = refl }))
-    expr_tree_counted e (tree.Variable v) = subst CountsExpr (sym (code-Var v)) (by_value _ (λ a next. record { counts = omega arith; entries = refl }))
-    expr_tree_counted e (tree.OneOperand op f inner) = subst CountsExpr (sym (code-Unary op f)) (unary_counted op (expr_code f) (expr_tree_counted f inner))
+    expr_tree_counted e (tree.Literal k) =
+        subst CountsExpr (sym (code-Lit k)) (by_value _
+        (λ a next. record { counts = omega arith; entries = refl }))
+    expr_tree_counted e (tree.Variable v) =
+        subst CountsExpr (sym (code-Var v)) (by_value _
+        (λ a next. record { counts = omega arith; entries = refl }))
+    expr_tree_counted e (tree.OneOperand op f inner) =
+        subst CountsExpr (sym (code-Unary op f))
+        (unary_counted op (expr_code f) (expr_tree_counted f inner))
     expr_tree_counted e (tree.TwoOperands op f g left right) =
-        subst CountsExpr (sym (code-Binary op f g)) (binary_counted op (expr_code f) (expr_code g) (expr_tree_counted f left) (expr_tree_counted g right))
+        subst CountsExpr (sym (code-Binary op f g))
+        (binary_counted op (expr_code f) (expr_code g) (expr_tree_counted f left)
+        (expr_tree_counted g right))
     expr_tree_counted e (tree.Chosen c f g test left right) =
-        subst CountsExpr (sym (code-Choose c f g)) (choice_counted (expr_code c) (expr_code f) (expr_code g) (expr_tree_counted c test) (expr_tree_counted f left) (expr_tree_counted g right))
-    expr_tree_counted e (tree.Applied f es inner) = subst CountsExpr (sym (code-Apply f es)) (call_counted f (map expr_code es) (expr_trees_counted es inner))
+        subst CountsExpr (sym (code-Choose c f g))
+        (choice_counted (expr_code c) (expr_code f) (expr_code g) (expr_tree_counted c test)
+        (expr_tree_counted f left) (expr_tree_counted g right))
+    expr_tree_counted e (tree.Applied f es inner) =
+        subst CountsExpr (sym (code-Apply f es))
+        (call_counted f (map expr_code es) (expr_trees_counted es inner))
 
-    expr_trees_counted : (es : List Expr) → ExprTrees es → (a : Point) (next : ℕ) → Open x next a (arguments (map expr_code es) a next).at (arguments (map expr_code es) a next).code
+    expr_trees_counted : (es : List Expr) → ExprTrees es → (a : Point) (next : ℕ) →
+        Open x next a (arguments (map expr_code es) a next).at
+        (arguments (map expr_code es) a next).code
     expr_trees_counted es tree.NoTree a next = record { counts = omega arith; entries = refl }
     expr_trees_counted es (tree.OneMore e fs first rest) a next =
         let v = (expr_code e).value a next in
         let xs = arguments (map expr_code fs) v.at (after next v.code) in
-        open_open x next a v.at xs.at v.code xs.code ((expr_tree_counted e first).value a next) (expr_trees_counted fs rest v.at (after next v.code))
+        open_open x next a v.at xs.at v.code xs.code ((expr_tree_counted e first).value a next)
+        (expr_trees_counted fs rest v.at (after next v.code))
 
   -- the code of each expression is so
   pub expr_counted : (e : Expr) → CountsExpr (expr_code e)

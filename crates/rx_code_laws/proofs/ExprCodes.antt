@@ -30,9 +30,11 @@ use Rattle.rx_code_laws.proofs.Scoped as scope
 use Rattle.rx_code_laws.proofs.Scoped.{IsExpr, AreExprs}
 
 -- each argument has a value
-pub count_values : (xs : List Asked) (a : Point) (next : ℕ) → length (arguments xs a next).values ≡ length xs
+pub count_values : (xs : List Asked) (a : Point) (next : ℕ) → length (arguments xs a next).values ≡
+    length xs
 count_values [] a next = refl
-count_values (x ∷ xs) a next = let v = x.value a next in ap suc (count_values xs v.at (after next v.code))
+count_values (x ∷ xs) a next =
+    let v = x.value a next in ap suc (count_values xs v.at (after next v.code))
 
 module _ (acts : Actions) where
   -- all that is written down is done
@@ -46,25 +48,34 @@ module _ (acts : Actions) where
   written_right c d written x there = written x (Contains-append_right c.deeds d.deeds x there)
 
   pub written_deed : (a : Point) (x : Action) → Written (does a x) → acts a x
-  written_deed a x written = let d : Deed = record { at = a; action = x } in written d (first_one d [])
+  written_deed a x written =
+      let d : Deed = record { at = a; action = x } in written d (first_one d [])
 
   module _ (callable : ℕ → ℕ → Type 0) (n : ℕ) where
     -- the compiled expression is its code, as a value and as a condition
     pub record CodesExpr (e : Expr) (x : Asked) : Type 0 where
-      pub value : (a : Point) (next : ℕ) → Written (x.value a next).code → IsValue acts callable n e a (x.value a next).at (x.value a next).value
-      pub condition : (a y w : Point) (next : ℕ) → y.width ≤ a.width → w.width ≤ a.width → Written (x.condition a y w next).form → IsCondition acts callable n e a y w
+      pub value : (a : Point) (next : ℕ) → Written (x.value a next).code →
+          IsValue acts callable n e a (x.value a next).at (x.value a next).value
+      pub condition : (a y w : Point) (next : ℕ) → y.width ≤ a.width → w.width ≤ a.width →
+          Written (x.condition a y w next).form → IsCondition acts callable n e a y w
 
-    by_value : (e : Expr) (value : Value) → ((a : Point) (next : ℕ) → Written (value a next).code → IsValue acts callable n e a (value a next).at (value a next).value) → CodesExpr e (of_value value)
+    by_value : (e : Expr) (value : Value) → ((a : Point) (next : ℕ) → Written (value a next).code →
+        IsValue acts callable n e a (value a next).at (value a next).value) →
+        CodesExpr e (of_value value)
     by_value e value is = record {
       value = is;
       condition = λ a y w next fits_y fits_w written.
           let v = value a next in
           let test = does v.at (Test (Ne v.value) y w) in
-          code.tested e a v.at y w v.value (is a next (written_left v.code test written)) (written_deed v.at (Test (Ne v.value) y w) (written_right v.code test written)) fits_y fits_w;
+          code.tested e a v.at y w v.value (is a next (written_left v.code test written))
+          (written_deed v.at (Test (Ne v.value) y w) (written_right v.code test written)) fits_y
+          fits_w;
     }
 
     by_condition : (e : Expr) (condition : Condition) → IsLogical e
-        → ((a y w : Point) (next : ℕ) → y.width ≤ a.width → w.width ≤ a.width → Written (condition a y w next).form → IsCondition acts callable n e a y w) → CodesExpr e (of_condition condition)
+        → ((a y w : Point) (next : ℕ) → y.width ≤ a.width → w.width ≤ a.width →
+        Written (condition a y w next).form → IsCondition acts callable n e a y w) →
+        CodesExpr e (of_condition condition)
     by_condition e condition logical is = record {
       value = λ a next written.
           let y = point next a.width in
@@ -75,18 +86,24 @@ module _ (acts : Actions) where
           let no = Set a.width (number (pos 0)) b in
           let ends = written_right c (append_code (does y yes) (does w no)) written in
           code.truth e a y w b logical (record { first = refl; second = refl; both = omega arith })
-          (is a y w (next + 3) (omega arith) (omega arith) (written_left c (append_code (does y yes) (does w no)) written))
-          (written_deed y yes (written_left (does y yes) (does w no) ends)) (written_deed w no (written_right (does y yes) (does w no) ends));
+          (is a y w (next + 3) (omega arith) (omega arith)
+          (written_left c (append_code (does y yes) (does w no)) written))
+          (written_deed y yes (written_left (does y yes) (does w no) ends))
+          (written_deed w no (written_right (does y yes) (does w no) ends));
       condition = is;
     }
 
-    arithmetic_coded : (op : BinOp) (e f : Expr) (l r : Asked) → ((p q : Body) → IsArithmetic op p q (arithmetic_of op p q).form) → CodesExpr e l → CodesExpr f r → CodesExpr (expr.Binary op e f) (arithmetic op l r)
+    arithmetic_coded : (op : BinOp) (e f : Expr) (l r : Asked) →
+        ((p q : Body) → IsArithmetic op p q (arithmetic_of op p q).form) → CodesExpr e l →
+        CodesExpr f r → CodesExpr (expr.Binary op e f) (arithmetic op l r)
     arithmetic_coded op e f l r is left right = by_value (expr.Binary op e f) _ (λ a next written.
         let x = l.value a next in let y = r.value x.at (after next x.code) in
         code.arithmetic op e f a x.at y.at x.value y.value _ (is x.value y.value)
-        (left.value a next (written_left x.code y.code written)) (right.value x.at (after next x.code) (written_right x.code y.code written)))
+        (left.value a next (written_left x.code y.code written))
+        (right.value x.at (after next x.code) (written_right x.code y.code written)))
 
-    division_coded : (op : BinOp) (d : Division) (e f : Expr) (l r : Asked) → IsDivision op d → CodesExpr e l → CodesExpr f r → CodesExpr (expr.Binary op e f) (division d l r)
+    division_coded : (op : BinOp) (d : Division) (e f : Expr) (l r : Asked) → IsDivision op d →
+        CodesExpr e l → CodesExpr f r → CodesExpr (expr.Binary op e f) (division d l r)
     division_coded op d e f l r is left right = by_value (expr.Binary op e f) _ (λ a next written.
         let x = l.value a next in let y = r.value x.at (after next x.code) in
         let both = append_code x.code y.code in
@@ -94,38 +111,53 @@ module _ (acts : Actions) where
         let deed = does y.at (Divide d x.value y.value b) in
         let operands_written = written_left both deed written in
         code.division op d e f a x.at y.at b x.value y.value is
-        (left.value a next (written_left x.code y.code operands_written)) (right.value x.at (after next x.code) (written_right x.code y.code operands_written))
-        (written_deed y.at (Divide d x.value y.value b) (written_right both deed written)) (omega arith))
+        (left.value a next (written_left x.code y.code operands_written))
+        (right.value x.at (after next x.code) (written_right x.code y.code operands_written))
+        (written_deed y.at (Divide d x.value y.value b) (written_right both deed written))
+        (omega arith))
 
-    comparison_coded : (op : BinOp) (e f : Expr) (l r : Asked) → ((p q : Body) → IsComparison op p q (test_of op p q).form) → CodesExpr e l → CodesExpr f r → CodesExpr (expr.Binary op e f) (comparison op l r)
+    comparison_coded : (op : BinOp) (e f : Expr) (l r : Asked) →
+        ((p q : Body) → IsComparison op p q (test_of op p q).form) → CodesExpr e l → CodesExpr f r →
+        CodesExpr (expr.Binary op e f) (comparison op l r)
     comparison_coded op e f l r is left right =
         let zero = number (pos 0) in
-        by_condition (expr.Binary op e f) _ (code.comparison op e f zero zero _ (is zero zero)) (λ a y w next fits_y fits_w written.
+        by_condition (expr.Binary op e f) _ (code.comparison op e f zero zero _ (is zero zero))
+        (λ a y w next fits_y fits_w written.
         let p = l.value a next in let q = r.value p.at (after next p.code) in
         let both = append_code p.code q.code in
         let action = Test (test_of op p.value q.value).form y w in
         let operands_written = written_left both (does q.at action) written in
         code.compared op e f a p.at q.at y w p.value q.value _ (is p.value q.value)
-        (left.value a next (written_left p.code q.code operands_written)) (right.value p.at (after next p.code) (written_right p.code q.code operands_written))
+        (left.value a next (written_left p.code q.code operands_written))
+        (right.value p.at (after next p.code) (written_right p.code q.code operands_written))
         (written_deed q.at action (written_right both (does q.at action) written)) fits_y fits_w)
 
-    conjunction_coded : (e f : Expr) (l r : Asked) → CodesExpr e l → CodesExpr f r → CodesExpr (expr.Binary bin.AndAlso e f) (conjunction l r)
-    conjunction_coded e f l r left right = by_condition (expr.Binary bin.AndAlso e f) _ (code.conjunction e f) (λ a y w next fits_y fits_w written.
+    conjunction_coded : (e f : Expr) (l r : Asked) → CodesExpr e l → CodesExpr f r →
+        CodesExpr (expr.Binary bin.AndAlso e f) (conjunction l r)
+    conjunction_coded e f l r left right =
+        by_condition (expr.Binary bin.AndAlso e f) _ (code.conjunction e f)
+        (λ a y w next fits_y fits_w written.
         let m = point next a.width in
         let c = (l.condition a m w (next + 1)).form in
         let d = (r.condition m y w (after (next + 1) c)).form in
-        code.both e f a m y w refl (left.condition a m w (next + 1) (omega arith) fits_w (written_left c d written))
+        code.both e f a m y w refl (left.condition a m w (next + 1) (omega arith) fits_w
+        (written_left c d written))
         (right.condition m y w (after (next + 1) c) fits_y fits_w (written_right c d written)))
 
-    disjunction_coded : (e f : Expr) (l r : Asked) → CodesExpr e l → CodesExpr f r → CodesExpr (expr.Binary bin.OrElse e f) (disjunction l r)
-    disjunction_coded e f l r left right = by_condition (expr.Binary bin.OrElse e f) _ (code.disjunction e f) (λ a y w next fits_y fits_w written.
+    disjunction_coded : (e f : Expr) (l r : Asked) → CodesExpr e l → CodesExpr f r →
+        CodesExpr (expr.Binary bin.OrElse e f) (disjunction l r)
+    disjunction_coded e f l r left right =
+        by_condition (expr.Binary bin.OrElse e f) _ (code.disjunction e f)
+        (λ a y w next fits_y fits_w written.
         let m = point next a.width in
         let c = (l.condition a y m (next + 1)).form in
         let d = (r.condition m y w (after (next + 1) c)).form in
-        code.either e f a m y w refl (left.condition a y m (next + 1) fits_y (omega arith) (written_left c d written))
+        code.either e f a m y w refl (left.condition a y m (next + 1) fits_y (omega arith)
+        (written_left c d written))
         (right.condition m y w (after (next + 1) c) fits_y fits_w (written_right c d written)))
 
-    choice_coded : (c e f : Expr) (x l r : Asked) → CodesExpr c x → CodesExpr e l → CodesExpr f r → CodesExpr (expr.Choose c e f) (choice x l r)
+    choice_coded : (c e f : Expr) (x l r : Asked) → CodesExpr c x → CodesExpr e l → CodesExpr f r →
+        CodesExpr (expr.Choose c e f) (choice x l r)
     choice_coded c e f x l r test left right = by_value (expr.Choose c e f) _ (λ a next written.
         let y = point next a.width in
         let w = point (next + 1) a.width in
@@ -141,33 +173,53 @@ module _ (acts : Actions) where
         let values = written_right t from_first written in
         let rest = written_right p.code from_middle values in
         let other = written_right middle second rest in
-        code.choice c e f a y p.at w q.at b p.value q.value (record { first = refl; second = refl; both = omega arith })
-        (test.condition a y w (next + 3) (omega arith) (omega arith) (written_left t from_first written))
-        (left.value y (after (next + 3) t) (written_left p.code from_middle values)) (written_deed p.at (Set a.width p.value b) (written_left middle second rest))
-        (right.value w (after (after (next + 3) t) p.code) (written_left q.code last other)) (written_deed q.at (Set a.width q.value b) (written_right q.code last other)))
+        code.choice c e f a y p.at w q.at b p.value q.value
+        (record { first = refl; second = refl; both = omega arith })
+        (test.condition a y w (next + 3) (omega arith) (omega arith)
+        (written_left t from_first written))
+        (left.value y (after (next + 3) t) (written_left p.code from_middle values))
+        (written_deed p.at (Set a.width p.value b) (written_left middle second rest))
+        (right.value w (after (after (next + 3) t) p.code) (written_left q.code last other))
+        (written_deed q.at (Set a.width q.value b) (written_right q.code last other)))
 
-    unary_coded : (op : UnOp) (e : Expr) (x : Asked) → CodesExpr e x → CodesExpr (expr.Unary op e) (unary_code op x)
-    unary_coded un.Plus e x is = by_value (expr.Unary un.Plus e) _ (λ a next written. code.plus e a _ _ (is.value a next written))
-    unary_coded un.Minus e x is = by_value (expr.Unary un.Minus e) _ (λ a next written. code.minus e a _ _ (is.value a next written))
-    unary_coded un.Not e x is = by_condition (expr.Unary un.Not e) _ (code.negation e) (λ a y w next fits_y fits_w written. code.negated e a y w (is.condition a w y next fits_w fits_y written))
+    unary_coded : (op : UnOp) (e : Expr) (x : Asked) → CodesExpr e x →
+        CodesExpr (expr.Unary op e) (unary_code op x)
+    unary_coded un.Plus e x is =
+        by_value (expr.Unary un.Plus e) _ (λ a next written.
+        code.plus e a _ _ (is.value a next written))
+    unary_coded un.Minus e x is =
+        by_value (expr.Unary un.Minus e) _ (λ a next written.
+        code.minus e a _ _ (is.value a next written))
+    unary_coded un.Not e x is =
+        by_condition (expr.Unary un.Not e) _ (code.negation e)
+        (λ a y w next fits_y fits_w written. code.negated e a y w
+        (is.condition a w y next fits_w fits_y written))
 
-    binary_coded : (op : BinOp) (e f : Expr) (l r : Asked) → CodesExpr e l → CodesExpr f r → CodesExpr (expr.Binary op e f) (binary_code (kind_of op) op l r)
+    binary_coded : (op : BinOp) (e f : Expr) (l r : Asked) → CodesExpr e l → CodesExpr f r →
+        CodesExpr (expr.Binary op e f) (binary_code (kind_of op) op l r)
     binary_coded bin.Add e f l r left right = arithmetic_coded bin.Add e f l r code.sum left right
-    binary_coded bin.Sub e f l r left right = arithmetic_coded bin.Sub e f l r code.difference left right
-    binary_coded bin.Mul e f l r left right = arithmetic_coded bin.Mul e f l r code.product left right
-    binary_coded bin.Div e f l r left right = division_coded bin.Div Quotient e f l r code.of_quotient left right
-    binary_coded bin.Rem e f l r left right = division_coded bin.Rem Remainder e f l r code.of_remainder left right
+    binary_coded bin.Sub e f l r left right =
+        arithmetic_coded bin.Sub e f l r code.difference left right
+    binary_coded bin.Mul e f l r left right =
+        arithmetic_coded bin.Mul e f l r code.product left right
+    binary_coded bin.Div e f l r left right =
+        division_coded bin.Div Quotient e f l r code.of_quotient left right
+    binary_coded bin.Rem e f l r left right =
+        division_coded bin.Rem Remainder e f l r code.of_remainder left right
     binary_coded bin.Lt e f l r left right = comparison_coded bin.Lt e f l r code.less left right
     binary_coded bin.Le e f l r left right = comparison_coded bin.Le e f l r code.at_most left right
     binary_coded bin.Gt e f l r left right = comparison_coded bin.Gt e f l r code.greater left right
-    binary_coded bin.Ge e f l r left right = comparison_coded bin.Ge e f l r code.at_least left right
+    binary_coded bin.Ge e f l r left right =
+        comparison_coded bin.Ge e f l r code.at_least left right
     binary_coded bin.Eq e f l r left right = comparison_coded bin.Eq e f l r code.equal left right
     binary_coded bin.Ne e f l r left right = comparison_coded bin.Ne e f l r code.unequal left right
     binary_coded bin.AndAlso e f l r left right = conjunction_coded e f l r left right
     binary_coded bin.OrElse e f l r left right = disjunction_coded e f l r left right
 
     call_coded : (f : ℕ) (es : List Expr) → callable f (length es)
-        → ((a : Point) (next : ℕ) → let xs = arguments (map expr_code es) a next in Written xs.code → AreValues acts callable n es a xs.at xs.values) → CodesExpr (expr.Apply f es) (call f (map expr_code es))
+        → ((a : Point) (next : ℕ) → let xs = arguments (map expr_code es) a next in
+        Written xs.code → AreValues acts callable n es a xs.at xs.values) →
+        CodesExpr (expr.Apply f es) (call f (map expr_code es))
     call_coded f es may each = by_value (expr.Apply f es) _ (λ a next written.
         let xs = arguments (map expr_code es) a next in
         let m = after next xs.code in
@@ -177,26 +229,43 @@ module _ (acts : Actions) where
         let resume = does r (Resume b) in
         let ends = append_code enter resume in
         let deeds = written_right xs.code ends written in
-        let counted : length es ≡ length xs.values = sym (count_values (map expr_code es) a next ∙ length-map es expr_code) in
-        code.call f es a xs.at r b xs.values (subst (callable f) counted may) (each a next (written_left xs.code ends written))
-        (written_deed xs.at (Call f xs.values r) (written_left enter resume deeds)) refl (written_deed r (Resume b) (written_right enter resume deeds)) (omega arith))
+        let counted : length es ≡ length xs.values =
+        sym (count_values (map expr_code es) a next ∙ length-map es expr_code) in
+        code.call f es a xs.at r b xs.values (subst (callable f) counted may)
+        (each a next (written_left xs.code ends written))
+        (written_deed xs.at (Call f xs.values r) (written_left enter resume deeds)) refl
+        (written_deed r (Resume b) (written_right enter resume deeds)) (omega arith))
 
     mutual
       -- what the table says of an expression in order is its code
       pub expr_coded : (e : Expr) → IsExpr callable n e → CodesExpr e (expr_code e)
-      expr_coded e (scope.literal k) = subst (CodesExpr e) (sym (code-Lit k)) (by_value (expr.Lit k) _ (λ a next written. code.literal k a))
-      expr_coded e (scope.variable_of v below) = subst (CodesExpr e) (sym (code-Var v)) (by_value (expr.Var v) _ (λ a next written. code.variable_of v a below))
-      expr_coded e (scope.one_operand op f inner) = subst (CodesExpr e) (sym (code-Unary op f)) (unary_coded op f (expr_code f) (expr_coded f inner))
-      expr_coded e (scope.two_operands op f g left right) = subst (CodesExpr e) (sym (code-Binary op f g)) (binary_coded op f g (expr_code f) (expr_code g) (expr_coded f left) (expr_coded g right))
+      expr_coded e (scope.literal k) =
+          subst (CodesExpr e) (sym (code-Lit k))
+          (by_value (expr.Lit k) _ (λ a next written. code.literal k a))
+      expr_coded e (scope.variable_of v below) =
+          subst (CodesExpr e) (sym (code-Var v))
+          (by_value (expr.Var v) _ (λ a next written. code.variable_of v a below))
+      expr_coded e (scope.one_operand op f inner) =
+          subst (CodesExpr e) (sym (code-Unary op f))
+          (unary_coded op f (expr_code f) (expr_coded f inner))
+      expr_coded e (scope.two_operands op f g left right) =
+          subst (CodesExpr e) (sym (code-Binary op f g))
+          (binary_coded op f g (expr_code f) (expr_code g) (expr_coded f left) (expr_coded g right))
       expr_coded e (scope.chosen c f g test left right) =
-          subst (CodesExpr e) (sym (code-Choose c f g)) (choice_coded c f g (expr_code c) (expr_code f) (expr_code g) (expr_coded c test) (expr_coded f left) (expr_coded g right))
-      expr_coded e (scope.applied f es may inner) = subst (CodesExpr e) (sym (code-Apply f es)) (call_coded f es may (exprs_coded es inner))
+          subst (CodesExpr e) (sym (code-Choose c f g))
+          (choice_coded c f g (expr_code c) (expr_code f) (expr_code g) (expr_coded c test)
+          (expr_coded f left) (expr_coded g right))
+      expr_coded e (scope.applied f es may inner) =
+          subst (CodesExpr e) (sym (code-Apply f es)) (call_coded f es may (exprs_coded es inner))
 
       exprs_coded : (es : List Expr) → AreExprs callable n es → (a : Point) (next : ℕ)
-          → let xs = arguments (map expr_code es) a next in Written xs.code → AreValues acts callable n es a xs.at xs.values
+          → let xs =
+          arguments (map expr_code es) a next in Written xs.code →
+          AreValues acts callable n es a xs.at xs.values
       exprs_coded es scope.no_expr a next written = code.no_value a
       exprs_coded es (scope.one_more e fs first rest) a next written =
           let x = (expr_code e).value a next in
           let xs = arguments (map expr_code fs) x.at (after next x.code) in
-          code.one_value e fs a x.at xs.at x.value xs.values ((expr_coded e first).value a next (written_left x.code xs.code written))
+          code.one_value e fs a x.at xs.at x.value xs.values
+          ((expr_coded e first).value a next (written_left x.code xs.code written))
           (exprs_coded fs rest x.at (after next x.code) (written_right x.code xs.code written))

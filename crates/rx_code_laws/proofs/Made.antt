@@ -47,39 +47,52 @@ use Rattle.std.proofs.lemmas.List.Elements.{All-cons, All-nil, All-contains}
 below-variable : (n v : ℕ) → v < n → uses_below n (variable v) ≡ true
 below-variable n v h = passes-variable (λ w. nat_lt w n) v (lt-ltb v n h)
 
-pub variables_below : (n from count : ℕ) → from + count ≤ n → polys_use_below n (variables_from from count) ≡ true
+pub variables_below : (n from count : ℕ) → from + count ≤ n →
+    polys_use_below n (variables_from from count) ≡ true
 variables_below n from zero h = refl
 variables_below n from (suc count) h =
-    and_from (uses_below n (variable from)) (polys_use_below n (variables_from (from + 1) count)) (below-variable n from (omega (arith, h)))
+    and_from (uses_below n (variable from)) (polys_use_below n (variables_from (from + 1) count))
+    (below-variable n from (omega (arith, h)))
     (variables_below n (from + 1) count (omega (arith, h)))
 
-all-take : {X : Type 0} (p : X → Bool) (k : ℕ) (xs : List X) → list_all p xs ≡ true → list_all p (take k xs) ≡ true
+all-take : {X : Type 0} (p : X → Bool) (k : ℕ) (xs : List X) → list_all p xs ≡ true →
+    list_all p (take k xs) ≡ true
 all-take p zero xs h = refl
 all-take p (suc k) [] h = refl
-all-take p (suc k) (x ∷ xs) h = let both = and_parts (p x) (list_all p xs) h in and_from (p x) (list_all p (take k xs)) both.0 (all-take p k xs both.1)
+all-take p (suc k) (x ∷ xs) h =
+    let both = and_parts (p x) (list_all p xs) h in
+    and_from (p x) (list_all p (take k xs)) both.0 (all-take p k xs both.1)
 
-all-drop : {X : Type 0} (p : X → Bool) (k : ℕ) (xs : List X) → list_all p xs ≡ true → list_all p (drop k xs) ≡ true
+all-drop : {X : Type 0} (p : X → Bool) (k : ℕ) (xs : List X) → list_all p xs ≡ true →
+    list_all p (drop k xs) ≡ true
 all-drop p zero xs h = h
 all-drop p (suc k) [] h = refl
 all-drop p (suc k) (x ∷ xs) h = all-drop p k xs (and_parts (p x) (list_all p xs) h).1
 
-all-append : {X : Type 0} (p : X → Bool) (xs ys : List X) → list_all p xs ≡ true → list_all p ys ≡ true → list_all p (xs ++ ys) ≡ true
+all-append : {X : Type 0} (p : X → Bool) (xs ys : List X) → list_all p xs ≡ true → list_all p ys ≡
+    true → list_all p (xs ++ ys) ≡ true
 all-append p xs ys h g = list_all-append p xs ys ∙ and_from (list_all p xs) (list_all p ys) h g
 
-all-push : {X : Type 0} (p : X → Bool) (xs : List X) (x : X) → list_all p xs ≡ true → p x ≡ true → list_all p (xs ++ x ∷ []) ≡ true
+all-push : {X : Type 0} (p : X → Bool) (xs : List X) (x : X) → list_all p xs ≡ true → p x ≡ true →
+    list_all p (xs ++ x ∷ []) ≡ true
 all-push p xs x h g = all-append p xs (x ∷ []) h (and_from (p x) true g refl)
 
-all-with_element : {X : Type 0} (p : X → Bool) (k : ℕ) (x : X) (xs : List X) → list_all p xs ≡ true → p x ≡ true → list_all p (with_element k x xs) ≡ true
+all-with_element : {X : Type 0} (p : X → Bool) (k : ℕ) (x : X) (xs : List X) → list_all p xs ≡
+    true → p x ≡ true → list_all p (with_element k x xs) ≡ true
 all-with_element p k x xs h g =
-    all-append p (take k xs) (x ∷ drop (suc k) xs) (all-take p k xs h) (and_from (p x) (list_all p (drop (suc k) xs)) g (all-drop p (suc k) xs h))
+    all-append p (take k xs) (x ∷ drop (suc k) xs) (all-take p k xs h)
+    (and_from (p x) (list_all p (drop (suc k) xs)) g (all-drop p (suc k) xs h))
 
-length-with_element : {X : Type 0} (k : ℕ) (x : X) (xs : List X) → k ≤ length xs → length (with_element k x xs) ≡ k + suc (length xs - suc k)
+length-with_element : {X : Type 0} (k : ℕ) (x : X) (xs : List X) → k ≤ length xs →
+    length (with_element k x xs) ≡ k + suc (length xs - suc k)
 length-with_element k x xs h =
-    let e = length-append (take k xs) (x ∷ drop (suc k) xs) in let f = length-take-le k xs h in let g = length-drop (suc k) xs in omega (arith, e, f, g)
+    let e = length-append (take k xs) (x ∷ drop (suc k) xs) in let f = length-take-le k xs h in
+    let g = length-drop (suc k) xs in omega (arith, e, f, g)
 
 -- ---- symbols
 
-numbered_at : {X : Type 0} (n : ℕ) (xs : List X) (k : ℕ) → slice_get (enumerate_from n xs) k ≡ option_map (λ (x : X). (n + k, x)) (slice_get xs k)
+numbered_at : {X : Type 0} (n : ℕ) (xs : List X) (k : ℕ) → slice_get (enumerate_from n xs) k ≡
+    option_map (λ (x : X). (n + k, x)) (slice_get xs k)
 numbered_at n [] k = refl
 numbered_at {X} n (x ∷ xs) zero = let e : n ≡ n + 0 = omega arith in ap (λ (m : ℕ). Some (m, x)) e
 numbered_at {X} n (x ∷ xs) (suc k) =
@@ -91,21 +104,27 @@ alike_itself true = refl
 alike_itself false = refl
 
 module _ (c : Code) where
-  pub symbol_at : (k : ℕ) → slice_get (parts_of c).symbols k ≡ option_map (λ (o : Opening). info_at c (k, o)) (slice_get c.opened k)
+  pub symbol_at : (k : ℕ) → slice_get (parts_of c).symbols k ≡
+      option_map (λ (o : Opening). info_at c (k, o)) (slice_get c.opened k)
   symbol_at k =
       slice_get-map (info_at c) (enumerate_from 0 c.opened) k
-      ∙ ap (option_map (info_at c)) (numbered_at 0 c.opened k ∙ ap (λ (m : ℕ). option_map (λ (o : Opening). (m, o)) (slice_get c.opened k)) (omega arith))
+      ∙ ap (option_map (info_at c)) (numbered_at 0 c.opened k ∙
+      ap (λ (m : ℕ). option_map (λ (o : Opening). (m, o)) (slice_get c.opened k)) (omega arith))
       ∙ twice (slice_get c.opened k)
     where
-      twice : (o : Option Opening) → option_map (info_at c) (option_map (λ (o : Opening). (k, o)) o) ≡ option_map (λ (o : Opening). info_at c (k, o)) o
+      twice : (o : Option Opening) → option_map (info_at c) (option_map (λ (o : Opening). (k, o)) o)
+          ≡ option_map (λ (o : Opening). info_at c (k, o)) o
       twice None = refl
       twice (Some o) = refl
 
   -- an opened symbol is declared so
-  pub declared : (k width : ℕ) (frame : Bool) → IsOpened c k width frame → is_declared (parts_of c).symbols (symbol k) frame width ≡ true
+  pub declared : (k width : ℕ) (frame : Bool) → IsOpened c k width frame →
+      is_declared (parts_of c).symbols (symbol k) frame width ≡ true
   declared k count frame opened =
-      ap (λ (o : Option SymInfo). declared_so o frame count) (symbol_at k ∙ ap (option_map (λ (o : Opening). info_at c (k, o))) opened)
-      ∙ and_from (is_alike frame frame) (nat_eq count count) (alike_itself frame) (eq-eqb count count refl)
+      ap (λ (o : Option SymInfo). declared_so o frame count)
+      (symbol_at k ∙ ap (option_map (λ (o : Opening). info_at c (k, o))) opened)
+      ∙ and_from (is_alike frame frame) (nat_eq count count) (alike_itself frame)
+      (eq-eqb count count refl)
 
   -- ---- sides
 
@@ -119,27 +138,35 @@ module _ (c : Code) where
   below_itself a = variables_below a.width 0 a.width (omega arith)
 
   width-call_of : (a : Point) → width (call_of a) ≡ a.width
-  width-call_of a = ap length (arguments-Call (symbol a.symbol) (variables_of a)) ∙ length-variables a
+  width-call_of a =
+      ap length (arguments-Call (symbol a.symbol) (variables_of a)) ∙ length-variables a
 
   fits-point : (a : Point) → IsOpened c a.symbol a.width false → term_fits set (call_of a) ≡ true
   fits-point a opened =
       fits-Call set (symbol a.symbol) (variables_of a)
-      ∙ ap (is_declared set.symbols (symbol a.symbol) false) (length-variables a) ∙ declared a.symbol a.width false opened
+      ∙ ap (is_declared set.symbols (symbol a.symbol) false) (length-variables a) ∙
+      declared a.symbol a.width false opened
 
-  fits-jump : (z : Point) (ps : List Body) (n : ℕ) → n ≤ length ps → IsTarget c n z → term_fits set (jump z ps) ≡ true
+  fits-jump : (z : Point) (ps : List Body) (n : ℕ) → n ≤ length ps → IsTarget c n z →
+      term_fits set (jump z ps) ≡ true
   fits-jump z ps n enough target =
       let e = target.enough in
       fits-Call set (symbol z.symbol) (take z.width ps)
-      ∙ ap (is_declared set.symbols (symbol z.symbol) false) (length-take-le z.width ps (omega (arith, enough, e)))
+      ∙ ap (is_declared set.symbols (symbol z.symbol) false)
+      (length-take-le z.width ps (omega (arith, enough, e)))
       ∙ declared z.symbol z.width false target.opened
 
-  below-jump : (n : ℕ) (z : Point) (ps : List Body) → polys_use_below n ps ≡ true → term_uses_below n (jump z ps) ≡ true
-  below-jump n z ps h = below-Call n (symbol z.symbol) (take z.width ps) ∙ all-take (uses_below n) z.width ps h
+  below-jump : (n : ℕ) (z : Point) (ps : List Body) → polys_use_below n ps ≡ true →
+      term_uses_below n (jump z ps) ≡ true
+  below-jump n z ps h =
+      below-Call n (symbol z.symbol) (take z.width ps) ∙ all-take (uses_below n) z.width ps h
 
   -- ---- rules of points
 
-  made_at : (a : Point) → IsOpened c a.symbol a.width false → a.width ≤ 128 → (right : Term) (rows : List Row)
-      → term_fits set right ≡ true → term_uses_below a.width right ≡ true → rows_use_below a.width rows ≡ true
+  made_at : (a : Point) → IsOpened c a.symbol a.width false → a.width ≤ 128 →
+      (right : Term) (rows : List Row)
+      → term_fits set right ≡ true → term_uses_below a.width right ≡ true →
+      rows_use_below a.width rows ≡ true
       → IsMade set (record { left = call_of a; right = right; rows = rows })
   made_at a opened narrow right rows fits below rows_below = record {
     form = OfPoint (symbol a.symbol) a.width;
@@ -150,21 +177,28 @@ module _ (c : Code) where
     row_variables = ap (λ n. rows_use_below n rows) (width-call_of a) ∙ rows_below;
   }
 
-  jumps : (a : Point) → IsOpened c a.symbol a.width false → a.width ≤ 128 → (rows : List Row) → rows_use_below a.width rows ≡ true
-      → (z : Point) (ps : List Body) (n : ℕ) → n ≤ length ps → IsTarget c n z → polys_use_below a.width ps ≡ true
+  jumps : (a : Point) → IsOpened c a.symbol a.width false → a.width ≤ 128 → (rows : List Row) →
+      rows_use_below a.width rows ≡ true
+      → (z : Point) (ps : List Body) (n : ℕ) → n ≤ length ps → IsTarget c n z →
+      polys_use_below a.width ps ≡ true
       → IsMade set (record { left = call_of a; right = jump z ps; rows = rows })
   jumps a opened narrow rows rows_below z ps n enough target below =
-      made_at a opened narrow (jump z ps) rows (fits-jump z ps n enough target) (below-jump a.width z ps below) rows_below
+      made_at a opened narrow (jump z ps) rows (fits-jump z ps n enough target)
+      (below-jump a.width z ps below) rows_below
 
-  below-negation : (n : ℕ) (row : Row) → rows_use_below n (row ∷ []) ≡ true → rows_use_below n (negation row ∷ []) ≡ true
+  below-negation : (n : ℕ) (row : Row) → rows_use_below n (row ∷ []) ≡ true →
+      rows_use_below n (negation row ∷ []) ≡ true
   below-negation n (Ge p) h =
       let p_below = (and_parts (uses_below n p) true h).0 in
       let test = λ (v : ℕ). nat_lt v n in
-      and_from (uses_below n (minus_one_more p)) true (passes-subtracted test (opposite p) (number (pos 1)) (passes-scaled_by test (negsuc 0) p p_below) (passes-number test (pos 1))) refl
+      and_from (uses_below n (minus_one_more p)) true
+      (passes-subtracted test (opposite p) (number (pos 1))
+      (passes-scaled_by test (negsuc 0) p p_below) (passes-number test (pos 1))) refl
   below-negation n (Eq p) h = h
   below-negation n (Ne p) h = h
 
-  below-divided : (n : ℕ) (d : Division) (p q : Body) → uses_below n p ≡ true → uses_below n q ≡ true → uses_below n (divided d p q) ≡ true
+  below-divided : (n : ℕ) (d : Division) (p q : Body) → uses_below n p ≡ true → uses_below n q ≡
+      true → uses_below n (divided d p q) ≡ true
   below-divided n Quotient p q h g = passes-quotient_of (λ v. nat_lt v n) p q h g
   below-divided n Remainder p q h g = passes-remainder_of (λ v. nat_lt v n) p q h g
 
@@ -176,73 +210,100 @@ module _ (c : Code) where
 
   -- ---- rules of frames
 
-  width-value : (a : Point) → width (term.Frame (symbol a.symbol) (variables_of a) (term.Return (variable a.width))) ≡ a.width + 1
+  width-value : (a : Point) → width (term.Frame (symbol a.symbol) (variables_of a)
+      (term.Return (variable a.width))) ≡ a.width + 1
   width-value a =
       let inner = term.Return (variable a.width) in
       let e = ap length (arguments-Frame (symbol a.symbol) (variables_of a) inner) in
       let f = ap (λ qs. length (variables_of a ++ qs)) (arguments-Return (variable a.width)) in
-      let g = length-append (variables_of a) (variable a.width ∷ []) in let h = length-variables a in
+      let g = length-append (variables_of a) (variable a.width ∷ []) in let h =
+      length-variables a in
       e ∙ f ∙ omega (arith, g, h)
 
-  width-failure : (a : Point) → width (term.Frame (symbol a.symbol) (variables_of a) (term.Fail 1)) ≡ a.width
+  width-failure : (a : Point) → width (term.Frame (symbol a.symbol) (variables_of a) (term.Fail 1))
+      ≡ a.width
   width-failure a =
       let e = ap length (arguments-Frame (symbol a.symbol) (variables_of a) (term.Fail 1)) in
       let f = ap (λ qs. length (variables_of a ++ qs)) (arguments-Fail 1) in
       let g = length-append (variables_of a) [] in let h = length-variables a in
       e ∙ f ∙ omega (arith, g, h)
 
-  fits-frame : (a : Point) (inner : Term) → IsOpened c a.symbol a.width true → term_fits set inner ≡ true → term_fits set (term.Frame (symbol a.symbol) (variables_of a) inner) ≡ true
+  fits-frame : (a : Point) (inner : Term) → IsOpened c a.symbol a.width true → term_fits set inner ≡
+      true → term_fits set (term.Frame (symbol a.symbol) (variables_of a) inner) ≡ true
   fits-frame a inner opened fits =
       fits-Frame set (symbol a.symbol) (variables_of a) inner
-      ∙ and_from (is_declared set.symbols (symbol a.symbol) true (length (variables_of a))) (term_fits set inner)
-      (ap (is_declared set.symbols (symbol a.symbol) true) (length-variables a) ∙ declared a.symbol a.width true opened) fits
+      ∙ and_from (is_declared set.symbols (symbol a.symbol) true (length (variables_of a)))
+      (term_fits set inner)
+      (ap (is_declared set.symbols (symbol a.symbol) true) (length-variables a) ∙
+      declared a.symbol a.width true opened) fits
 
   deed_made : (d : Deed) → FitsCode c d → All (IsMade set) (rules_of_deed (entry_of c.entries) d)
   deed_made d fits = go d.at d.action fits.opened fits.narrow fits.suits
     where
-      go : (a : Point) (x : Action) → IsOpened c a.symbol a.width (is_resume x) → a.width ≤ 128 → Suits c a.width x
+      go : (a : Point) (x : Action) → IsOpened c a.symbol a.width (is_resume x) → a.width ≤ 128 →
+          Suits c a.width x
           → All (IsMade set) (rules_of_action (entry_of c.entries) a x)
       go a (Go z) opened narrow target =
-          one_made _ (jumps a opened narrow [] refl z (variables_of a) a.width (let e = length-variables a in omega (arith, e)) target (below_itself a))
+          one_made _ (jumps a opened narrow [] refl z (variables_of a) a.width
+          (let e = length-variables a in omega (arith, e)) target (below_itself a))
       go a (Set k p z) opened narrow (below, (fits_z, (target, p_below))) =
           let ps = with_element k p (variables_of a) in
-          let e = length-with_element k p (variables_of a) (let g = length-variables a in omega (arith, g, below)) in
+          let e = length-with_element k p (variables_of a)
+          (let g = length-variables a in omega (arith, g, below)) in
           let g = length-variables a in
-          let lower : (z.width ≤ a.width) ⊎ (k ≡ a.width) → IsTarget c (length ps) z = λ is. record {
+          let lower : (z.width ≤ a.width) ⊎ (k ≡ a.width) → IsTarget c (length ps) z = λ is.
+          record {
             opened = target.opened;
-            enough = elim is [ inl h ↦ omega (arith, e, g, h, below) | inr h ↦ (let i = target.enough in omega (arith, e, g, h, i)) ];
+            enough =
+                elim is [
+                  | inl h ↦ omega (arith, e, g, h, below)
+                  | inr h ↦ (let i = target.enough in omega (arith, e, g, h, i))
+                ];
           } in
-          one_made _ (jumps a opened narrow [] refl z ps (length ps) (omega arith) (lower fits_z) (all-with_element (uses_below a.width) k p (variables_of a) (below_itself a) p_below))
+          one_made _ (jumps a opened narrow [] refl z ps (length ps) (omega arith) (lower fits_z)
+          (all-with_element (uses_below a.width) k p (variables_of a) (below_itself a) p_below))
       go a (Test row y w) opened narrow (to_y, (to_w, row_below)) =
-          let enough : a.width ≤ length (variables_of a) = let e = length-variables a in omega (arith, e) in
-          two_made _ _ (jumps a opened narrow (row ∷ []) row_below y (variables_of a) a.width enough to_y (below_itself a))
-          (jumps a opened narrow (negation row ∷ []) (below-negation a.width row row_below) w (variables_of a) a.width enough to_w (below_itself a))
+          let enough : a.width ≤ length (variables_of a) = let e = length-variables a in
+          omega (arith, e) in
+          two_made _ _ (jumps a opened narrow (row ∷ []) row_below y (variables_of a) a.width enough
+          to_y (below_itself a))
+          (jumps a opened narrow (negation row ∷ []) (below-negation a.width row row_below) w
+          (variables_of a) a.width enough to_w (below_itself a))
       go a (Divide d p q z) opened narrow (target, (p_below, q_below)) =
           let ps = variables_of a ++ divided d p q ∷ [] in
           let q_row = and_from (uses_below a.width q) true q_below refl in
           let long = length-append (variables_of a) (divided d p q ∷ []) in
-          let enough : suc a.width ≤ length ps = let e = length-variables a in omega (arith, e, long) in
-          two_made _ _ (made_at a opened narrow (term.Fail 1) (Eq q ∷ []) (fits-Fail set 1) (below-Fail a.width 1) q_row)
+          let enough : suc a.width ≤ length ps = let e = length-variables a in
+          omega (arith, e, long) in
+          two_made _ _ (made_at a opened narrow (term.Fail 1) (Eq q ∷ []) (fits-Fail set 1)
+          (below-Fail a.width 1) q_row)
           (jumps a opened narrow (Ne q ∷ []) q_row z ps (suc a.width) enough target
-          (all-push (uses_below a.width) (variables_of a) (divided d p q) (below_itself a) (below-divided a.width d p q p_below q_below)))
+          (all-push (uses_below a.width) (variables_of a) (divided d p q) (below_itself a)
+          (below-divided a.width d p q p_below q_below)))
       go a (Call f ps r) opened narrow (frame, (fits_r, (entry, ps_below))) =
           let inner = term.Call (symbol (entry_of c.entries f)) ps in
           let vs = take r.width (variables_of a) in
           let right = term.Frame (symbol r.symbol) vs inner in
-          let long : length vs ≡ r.width = length-take-le r.width (variables_of a) (let e = length-variables a in omega (arith, e, fits_r)) in
+          let long : length vs ≡ r.width = length-take-le r.width (variables_of a)
+          (let e = length-variables a in omega (arith, e, fits_r)) in
           one_made _ (made_at a opened narrow right []
           (fits-Frame set (symbol r.symbol) vs inner
-          ∙ and_from (is_declared set.symbols (symbol r.symbol) true (length vs)) (term_fits set inner)
-          (ap (is_declared set.symbols (symbol r.symbol) true) long ∙ declared r.symbol r.width true frame)
-          (fits-Call set (symbol (entry_of c.entries f)) ps ∙ declared (entry_of c.entries f) (length ps) false entry))
+          ∙ and_from (is_declared set.symbols (symbol r.symbol) true (length vs))
+          (term_fits set inner)
+          (ap (is_declared set.symbols (symbol r.symbol) true) long ∙
+          declared r.symbol r.width true frame)
+          (fits-Call set (symbol (entry_of c.entries f)) ps ∙
+          declared (entry_of c.entries f) (length ps) false entry))
           (below-Frame a.width (symbol r.symbol) vs inner
-          ∙ and_from (polys_use_below a.width vs) (term_uses_below a.width inner) (all-take (uses_below a.width) r.width (variables_of a) (below_itself a))
+          ∙ and_from (polys_use_below a.width vs) (term_uses_below a.width inner)
+          (all-take (uses_below a.width) r.width (variables_of a) (below_itself a))
           (below-Call a.width (symbol (entry_of c.entries f)) ps ∙ ps_below)) refl)
       go a (Resume z) opened narrow target =
           let value = term.Return (variable a.width) in
           let ps = variables_of a ++ variable a.width ∷ [] in
           let long = length-append (variables_of a) (variable a.width ∷ []) in
-          let enough : suc a.width ≤ length ps = let e = length-variables a in omega (arith, e, long) in
+          let enough : suc a.width ≤ length ps = let e = length-variables a in
+          omega (arith, e, long) in
           two_made _ _
           (record {
             form = OverReturn (symbol a.symbol) a.width;
@@ -250,8 +311,10 @@ module _ (c : Code) where
             left_fits = fits-frame a value opened (fits-Return set (variable a.width));
             right_fits = fits-jump z ps (suc a.width) enough target;
             right_variables = ap (λ n. term_uses_below n (jump z ps)) (width-value a)
-                ∙ below-jump (a.width + 1) z ps (all-push (uses_below (a.width + 1)) (variables_of a) (variable a.width)
-                (variables_below (a.width + 1) 0 a.width (omega arith)) (below-variable (a.width + 1) a.width (omega arith)));
+                ∙ below-jump (a.width + 1) z ps
+                (all-push (uses_below (a.width + 1)) (variables_of a) (variable a.width)
+                (variables_below (a.width + 1) 0 a.width (omega arith))
+                (below-variable (a.width + 1) a.width (omega arith)));
             row_variables = refl;
           })
           (record {
@@ -259,15 +322,21 @@ module _ (c : Code) where
             few = let e = width-failure a in omega (arith, e, narrow);
             left_fits = fits-frame a (term.Fail 1) opened (fits-Fail set 1);
             right_fits = fits-Fail set 1;
-            right_variables = below-Fail (width (term.Frame (symbol a.symbol) (variables_of a) (term.Fail 1))) 1;
+            right_variables =
+                below-Fail (width (term.Frame (symbol a.symbol) (variables_of a) (term.Fail 1))) 1;
             row_variables = refl;
           })
       go a (Return p) opened narrow p_below =
-          one_made _ (made_at a opened narrow (term.Return p) [] (fits-Return set p) (below-Return a.width p ∙ p_below) refl)
+          one_made _ (made_at a opened narrow (term.Return p) [] (fits-Return set p)
+          (below-Return a.width p ∙ p_below) refl)
 
   pub whole_made : IsWhole c → IsWellMade (parts_of c)
   whole_made whole = all_from (IsMade set) set.rules (λ r there.
-      let of_symbol = from_flat_map (λ (o : ℕ × Opening). rules_at c o.0) (enumerate_from 0 c.opened) r there in
-      let of_deed = from_flat_map (rules_of_deed (entry_of c.entries)) (filter (is_at of_symbol.from.0) c.deeds) r of_symbol.inside in
-      let among : Contains c.deeds of_deed.from = was_there (is_at of_symbol.from.0) c.deeds of_deed.from of_deed.among in
-      All-contains (IsMade set) (rules_of_deed (entry_of c.entries) of_deed.from) r (deed_made of_deed.from (whole.fits of_deed.from among)) of_deed.inside)
+      let of_symbol = from_flat_map (λ (o : ℕ × Opening). rules_at c o.0)
+      (enumerate_from 0 c.opened) r there in
+      let of_deed = from_flat_map (rules_of_deed (entry_of c.entries))
+      (filter (is_at of_symbol.from.0) c.deeds) r of_symbol.inside in
+      let among : Contains c.deeds of_deed.from =
+      was_there (is_at of_symbol.from.0) c.deeds of_deed.from of_deed.among in
+      All-contains (IsMade set) (rules_of_deed (entry_of c.entries) of_deed.from) r
+      (deed_made of_deed.from (whole.fits of_deed.from among)) of_deed.inside)

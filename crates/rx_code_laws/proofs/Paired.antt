@@ -31,36 +31,49 @@ use Rattle.rx_code_laws.proofs.Whole.{IsWhole, is_at, is_resume}
 
 -- ---- what a test keeps
 
-keeps_one : {X : Type 0} (p : X → Bool) (x : X) (b : Bool) → p x ≡ b → filter p (x ∷ []) ≡ cond b (x ∷ []) []
+keeps_one : {X : Type 0} (p : X → Bool) (x : X) (b : Bool) → p x ≡ b → filter p (x ∷ []) ≡
+    cond b (x ∷ []) []
 keeps_one p x b is = ap (λ t. cond t (x ∷ []) []) is
 
-keeps_two : {X : Type 0} (p : X → Bool) (x y : X) (b d : Bool) → p x ≡ b → p y ≡ d → filter p (x ∷ y ∷ []) ≡ cond b (x ∷ cond d (y ∷ []) []) (cond d (y ∷ []) [])
-keeps_two p x y b d is also = λ i. cond (is i) (x ∷ cond (also i) (y ∷ []) []) (cond (also i) (y ∷ []) [])
+keeps_two : {X : Type 0} (p : X → Bool) (x y : X) (b d : Bool) → p x ≡ b → p y ≡ d →
+    filter p (x ∷ y ∷ []) ≡ cond b (x ∷ cond d (y ∷ []) []) (cond d (y ∷ []) [])
+keeps_two p x y b d is also =
+    λ i. cond (is i) (x ∷ cond (also i) (y ∷ []) []) (cond (also i) (y ∷ []) [])
 
-keeps_both : {X : Type 0} (p : X → Bool) (x y : X) (b : Bool) → p x ≡ b → p y ≡ b → filter p (x ∷ y ∷ []) ≡ cond b (x ∷ y ∷ []) []
+keeps_both : {X : Type 0} (p : X → Bool) (x y : X) (b : Bool) → p x ≡ b → p y ≡ b →
+    filter p (x ∷ y ∷ []) ≡ cond b (x ∷ y ∷ []) []
 keeps_both p x y true is also = keeps_two p x y true true is also
 keeps_both p x y false is also = keeps_two p x y false false is also
 
-filter-flat_map : {X Y : Type 0} (p : Y → Bool) (f : X → List Y) (xs : List X) → filter p (flat_map f xs) ≡ flat_map (λ x. filter p (f x)) xs
+filter-flat_map : {X Y : Type 0} (p : Y → Bool) (f : X → List Y) (xs : List X) →
+    filter p (flat_map f xs) ≡ flat_map (λ x. filter p (f x)) xs
 filter-flat_map p f [] = refl
-filter-flat_map p f (x ∷ xs) = filter-append p (f x) (flat_map f xs) ∙ ap (λ ys. filter p (f x) ++ ys) (filter-flat_map p f xs)
+filter-flat_map p f (x ∷ xs) =
+    filter-append p (f x) (flat_map f xs) ∙ ap (λ ys. filter p (f x) ++ ys) (filter-flat_map p f xs)
 
 -- where the lists of all numbers but one are empty, that one's list is left
-nothing_from : {X Y : Type 0} (g : ℕ → List Y) (n : ℕ) (xs : List X) (k : ℕ) → k < n → ((j : ℕ) → j < n + length xs → j ≢ k → g j ≡ []) → flat_map (λ (o : ℕ × X). g o.0) (enumerate_from n xs) ≡ []
+nothing_from : {X Y : Type 0} (g : ℕ → List Y) (n : ℕ) (xs : List X) (k : ℕ) → k < n →
+    ((j : ℕ) → j < n + length xs → j ≢ k → g j ≡ []) →
+    flat_map (λ (o : ℕ × X). g o.0) (enumerate_from n xs) ≡ []
 nothing_from g n [] k before others = refl
 nothing_from g n (x ∷ xs) k before others =
     let here : g n ≡ [] = others n (omega arith) (λ e. omega (arith, e, before)) in
-    let rest = nothing_from g (n + 1) xs k (omega (arith, before)) (λ j below other. others j (omega (arith, below)) other) in
+    let rest = nothing_from g (n + 1) xs k (omega (arith, before))
+    (λ j below other. others j (omega (arith, below)) other) in
     (λ i. here i ++ rest i)
 
-only_from : {X Y : Type 0} (g : ℕ → List Y) (n : ℕ) (xs : List X) (k : ℕ) → k < length xs → ((j : ℕ) → j < n + length xs → j ≢ (n + k) → g j ≡ []) → flat_map (λ (o : ℕ × X). g o.0) (enumerate_from n xs) ≡ g (n + k)
+only_from : {X Y : Type 0} (g : ℕ → List Y) (n : ℕ) (xs : List X) (k : ℕ) → k < length xs →
+    ((j : ℕ) → j < n + length xs → j ≢ (n + k) → g j ≡ []) →
+    flat_map (λ (o : ℕ × X). g o.0) (enumerate_from n xs) ≡ g (n + k)
 only_from g n [] k below others = absurd (omega (arith, below))
 only_from g n (x ∷ xs) zero below others =
-    let rest = nothing_from g (n + 1) xs n (omega arith) (λ j under other. others j (omega (arith, under)) (λ e. other (omega (arith, e)))) in
+    let rest = nothing_from g (n + 1) xs n (omega arith)
+    (λ j under other. others j (omega (arith, under)) (λ e. other (omega (arith, e)))) in
     (λ i. g n ++ rest i) ∙ append-nil (g n) ∙ ap g (omega arith)
 only_from g n (x ∷ xs) (suc k) below others =
     let here : g n ≡ [] = others n (omega arith) (λ e. omega (arith, e)) in
-    let rest = only_from g (n + 1) xs k (omega (arith, below)) (λ j under other. others j (omega (arith, under)) (λ e. other (omega (arith, e)))) in
+    let rest = only_from g (n + 1) xs k (omega (arith, below))
+    (λ j under other. others j (omega (arith, under)) (λ e. other (omega (arith, e)))) in
     (λ i. here i ++ rest i) ∙ ap g (omega arith)
 
 -- ---- the rules of one action
@@ -71,7 +84,8 @@ shape-call_of a = shape-Call (symbol a.symbol) (variables_of a)
 module _ (entry : ℕ → ℕ) where
   -- at a point all rules have its shape
   pub point_rules : (shape : Shape) (a : Point) (x : Action) → is_resume x ≡ false
-      → rules_of_shape shape (rules_of_action entry a x) ≡ cond (same_shape (Called (symbol a.symbol)) shape) (rules_of_action entry a x) []
+      → rules_of_shape shape (rules_of_action entry a x) ≡
+      cond (same_shape (Called (symbol a.symbol)) shape) (rules_of_action entry a x) []
   point_rules shape a x not_resume = go x not_resume
     where
       test : Rule → Bool
@@ -80,7 +94,8 @@ module _ (entry : ℕ → ℕ) where
       same : same_shape (shape_of (call_of a)) shape ≡ same_shape (Called (symbol a.symbol)) shape
       same = ap (λ s. same_shape s shape) (shape-call_of a)
 
-      go : (x : Action) → is_resume x ≡ false → rules_of_shape shape (rules_of_action entry a x) ≡ cond (same_shape (Called (symbol a.symbol)) shape) (rules_of_action entry a x) []
+      go : (x : Action) → is_resume x ≡ false → rules_of_shape shape (rules_of_action entry a x) ≡
+          cond (same_shape (Called (symbol a.symbol)) shape) (rules_of_action entry a x) []
       go (Go z) h = keeps_one test _ _ same
       go (Set k p z) h = keeps_one test _ _ same
       go (Test row y w) h = keeps_both test _ _ _ same same
@@ -91,17 +106,28 @@ module _ (entry : ℕ → ℕ) where
 
   -- at a frame the one is over a value, and the other over a failure
   abbrev over_value : Point → Point → Rule
-  over_value a z = always (term.Frame (symbol a.symbol) (variables_of a) (term.Return (variable a.width))) (jump z (variables_of a ++ variable a.width ∷ []))
+  over_value a z =
+      always (term.Frame (symbol a.symbol) (variables_of a) (term.Return (variable a.width)))
+      (jump z (variables_of a ++ variable a.width ∷ []))
 
   abbrev over_failure : Point → Rule
-  over_failure a = always (term.Frame (symbol a.symbol) (variables_of a) (term.Fail 1)) (term.Fail 1)
+  over_failure a =
+      always (term.Frame (symbol a.symbol) (variables_of a) (term.Fail 1)) (term.Fail 1)
 
-  pub frame_rules : (shape : Shape) (a z : Point) (b d : Bool) → same_shape (Framed (symbol a.symbol) Value) shape ≡ b → same_shape (Framed (symbol a.symbol) (Failure 1)) shape ≡ d
-      → rules_of_shape shape (rules_of_action entry a (Resume z)) ≡ cond b (over_value a z ∷ cond d (over_failure a ∷ []) []) (cond d (over_failure a ∷ []) [])
+  pub frame_rules : (shape : Shape) (a z : Point) (b d : Bool) →
+      same_shape (Framed (symbol a.symbol) Value) shape ≡ b →
+      same_shape (Framed (symbol a.symbol) (Failure 1)) shape ≡ d
+      → rules_of_shape shape (rules_of_action entry a (Resume z)) ≡
+      cond b (over_value a z ∷ cond d (over_failure a ∷ []) [])
+      (cond d (over_failure a ∷ []) [])
   frame_rules shape a z b d is also =
-      keeps_two (λ (r : Rule). same_shape (shape_of r.left) shape) (over_value a z) (over_failure a) b d
-      (ap (λ s. same_shape s shape) (shape-Frame (symbol a.symbol) (variables_of a) (term.Return (variable a.width)) ∙ ap (Framed (symbol a.symbol)) (shape-Return (variable a.width))) ∙ is)
-      (ap (λ s. same_shape s shape) (shape-Frame (symbol a.symbol) (variables_of a) (term.Fail 1) ∙ ap (Framed (symbol a.symbol)) (shape-Fail 1)) ∙ also)
+      keeps_two (λ (r : Rule). same_shape (shape_of r.left) shape) (over_value a z) (over_failure a)
+      b d
+      (ap (λ s. same_shape s shape) (shape-Frame (symbol a.symbol) (variables_of a)
+      (term.Return (variable a.width)) ∙ ap (Framed (symbol a.symbol))
+      (shape-Return (variable a.width))) ∙ is)
+      (ap (λ s. same_shape s shape) (shape-Frame (symbol a.symbol) (variables_of a) (term.Fail 1) ∙
+      ap (Framed (symbol a.symbol)) (shape-Fail 1)) ∙ also)
 
   -- the symbol of a shape
   abbrev root : Shape → ℕ
@@ -110,36 +136,46 @@ module _ (entry : ℕ → ℕ) where
   root (Called f) = f.0
   root (Framed f s) = f.0
 
-  other_call : (j : ℕ) (shape : Shape) → j ≢ root shape → same_shape (Called (symbol j)) shape ≡ false
+  other_call : (j : ℕ) (shape : Shape) → j ≢ root shape → same_shape (Called (symbol j)) shape ≡
+      false
   other_call j Value other = refl
   other_call j (Failure c) other = refl
   other_call j (Called f) other = ne_eqb j f.0 other
   other_call j (Framed f s) other = refl
 
-  other_frame : (j : ℕ) (inner shape : Shape) → j ≢ root shape → same_shape (Framed (symbol j) inner) shape ≡ false
+  other_frame : (j : ℕ) (inner shape : Shape) → j ≢ root shape →
+      same_shape (Framed (symbol j) inner) shape ≡ false
   other_frame j inner Value other = refl
   other_frame j inner (Failure c) other = refl
   other_frame j inner (Called f) other = refl
   other_frame j inner (Framed f s) other = ap (λ b. b && same_shape inner s) (ne_eqb j f.0 other)
 
   -- the rules at another symbol have other shapes
-  pub rules_elsewhere : (shape : Shape) (d : Deed) → d.at.symbol ≢ root shape → rules_of_shape shape (rules_of_deed entry d) ≡ []
+  pub rules_elsewhere : (shape : Shape) (d : Deed) → d.at.symbol ≢ root shape →
+      rules_of_shape shape (rules_of_deed entry d) ≡ []
   rules_elsewhere shape d other = go d.at d.action other
     where
-      at_point : (a : Point) (x : Action) → is_resume x ≡ false → a.symbol ≢ root shape → rules_of_shape shape (rules_of_action entry a x) ≡ []
-      at_point a x h other = point_rules shape a x h ∙ ap (λ b. cond b (rules_of_action entry a x) []) (other_call a.symbol shape other)
+      at_point : (a : Point) (x : Action) → is_resume x ≡ false → a.symbol ≢ root shape →
+          rules_of_shape shape (rules_of_action entry a x) ≡ []
+      at_point a x h other =
+          point_rules shape a x h ∙ ap (λ b. cond b (rules_of_action entry a x) [])
+          (other_call a.symbol shape other)
 
-      go : (a : Point) (x : Action) → a.symbol ≢ root shape → rules_of_shape shape (rules_of_action entry a x) ≡ []
+      go : (a : Point) (x : Action) → a.symbol ≢ root shape →
+          rules_of_shape shape (rules_of_action entry a x) ≡ []
       go a (Go z) other = at_point a (Go z) refl other
       go a (Set k p z) other = at_point a (Set k p z) refl other
       go a (Test row y w) other = at_point a (Test row y w) refl other
       go a (Divide d p q z) other = at_point a (Divide d p q z) refl other
       go a (Call f ps r) other = at_point a (Call f ps r) refl other
-      go a (Resume z) other = frame_rules shape a z false false (other_frame a.symbol Value shape other) (other_frame a.symbol (Failure 1) shape other)
+      go a (Resume z) other =
+          frame_rules shape a z false false (other_frame a.symbol Value shape other)
+          (other_frame a.symbol (Failure 1) shape other)
       go a (Return p) other = at_point a (Return p) refl other
 
   -- the rules of a point are one, or two with a row and its negation
-  pub pair_at : (a : Point) (x : Action) → is_resume x ≡ false → action_within x ≡ true → IsPair (rules_of_action entry a x)
+  pub pair_at : (a : Point) (x : Action) → is_resume x ≡ false → action_within x ≡ true →
+      IsPair (rules_of_action entry a x)
   pair_at a (Go z) h within = One _ refl
   pair_at a (Set k p z) h within = One _ refl
   pair_at a (Test row y w) h within = Two _ _ row refl refl within
@@ -149,9 +185,12 @@ module _ (entry : ℕ → ℕ) where
   pair_at a (Return p) h within = One _ refl
 
   -- the rules of a point's shape
-  pub point_pair : (f : Sym) (d : Deed) → d.at.symbol ≡ f.0 → is_resume d.action ≡ false → action_within d.action ≡ true → IsPair (rules_of_shape (Called f) (rules_of_deed entry d))
+  pub point_pair : (f : Sym) (d : Deed) → d.at.symbol ≡ f.0 → is_resume d.action ≡ false →
+      action_within d.action ≡ true → IsPair (rules_of_shape (Called f) (rules_of_deed entry d))
   point_pair f d at h within =
-      subst IsPair (sym (point_rules (Called f) d.at d.action h ∙ ap (λ b. cond b (rules_of_action entry d.at d.action) []) (eq-eqb d.at.symbol f.0 at))) (pair_at d.at d.action h within)
+      subst IsPair (sym (point_rules (Called f) d.at d.action h ∙
+      ap (λ b. cond b (rules_of_action entry d.at d.action) []) (eq-eqb d.at.symbol f.0 at)))
+      (pair_at d.at d.action h within)
 
   -- and of a frame's
   frame_of : (x : Action) → is_resume x ≡ true → (z : Point) × (x ≡ Resume z)
@@ -163,20 +202,25 @@ module _ (entry : ℕ → ℕ) where
   frame_of (Resume z) h = (z, refl)
   frame_of (Return p) h = absurd (true≢false (sym h))
 
-  pub value_pair : (f : Sym) (d : Deed) → d.at.symbol ≡ f.0 → is_resume d.action ≡ true → IsPair (rules_of_shape (Framed f Value) (rules_of_deed entry d))
+  pub value_pair : (f : Sym) (d : Deed) → d.at.symbol ≡ f.0 → is_resume d.action ≡ true →
+      IsPair (rules_of_shape (Framed f Value) (rules_of_deed entry d))
   value_pair f d at h =
       let (z, is) = frame_of d.action h in
       let same : nat_eq d.at.symbol f.0 ≡ true = eq-eqb d.at.symbol f.0 at in
       subst (λ x. IsPair (rules_of_shape (Framed f Value) (rules_of_action entry d.at x))) (sym is)
-      (subst IsPair (sym (frame_rules (Framed f Value) d.at z true false (ap (λ b. b && true) same) (ap (λ b. b && false) same))) (One (over_value d.at z) refl))
+      (subst IsPair (sym (frame_rules (Framed f Value) d.at z true false (ap (λ b. b && true) same)
+      (ap (λ b. b && false) same))) (One (over_value d.at z) refl))
 
-  pub failure_pair : (f : Sym) (c : ℕ) (d : Deed) → c ≡ 1 → d.at.symbol ≡ f.0 → is_resume d.action ≡ true → IsPair (rules_of_shape (Framed f (Failure c)) (rules_of_deed entry d))
+  pub failure_pair : (f : Sym) (c : ℕ) (d : Deed) → c ≡ 1 → d.at.symbol ≡ f.0 → is_resume d.action ≡
+      true → IsPair (rules_of_shape (Framed f (Failure c)) (rules_of_deed entry d))
   failure_pair f c d one at h =
       let (z, is) = frame_of d.action h in
       let same : nat_eq d.at.symbol f.0 ≡ true = eq-eqb d.at.symbol f.0 at in
       let code : nat_eq 1 c ≡ true = eq-eqb 1 c (sym one) in
-      subst (λ x. IsPair (rules_of_shape (Framed f (Failure c)) (rules_of_action entry d.at x))) (sym is)
-      (subst IsPair (sym (frame_rules (Framed f (Failure c)) d.at z false true (ap (λ b. b && false) same) (λ i. same i && code i))) (One (over_failure d.at) refl))
+      subst (λ x. IsPair (rules_of_shape (Framed f (Failure c)) (rules_of_action entry d.at x)))
+      (sym is)
+      (subst IsPair (sym (frame_rules (Framed f (Failure c)) d.at z false true
+      (ap (λ b. b && false) same) (λ i. same i && code i))) (One (over_failure d.at) refl))
 
 -- ---- the rule set
 
@@ -188,7 +232,9 @@ one_code c h =
     omega (arith, low, high)
 
 passes_there : {X : Type 0} (p : X → Bool) (xs : List X) (x : X) → filter p xs ≡ x ∷ [] → p x ≡ true
-passes_there p xs x is = All-contains (λ y. p y ≡ true) (filter p xs) x (filter_passes p xs) (subst (λ ys. Contains ys x) (sym is) (first_one x []))
+passes_there p xs x is =
+    All-contains (λ y. p y ≡ true) (filter p xs) x (filter_passes p xs)
+    (subst (λ ys. Contains ys x) (sym is) (first_one x []))
 
 module _ (c : Code) (whole : IsWhole c) where
   -- the one deed at a declared symbol
@@ -200,19 +246,37 @@ module _ (c : Code) (whole : IsWhole c) where
     kind : is_resume deed.action ≡ frame
     within : action_within deed.action ≡ true
 
-  found : (f : Sym) (frame : Bool) (n : ℕ) → is_declared (parts_of c).symbols f frame n ≡ true → Found f frame
-  found f frame n h = go (slice_get c.opened f.0) refl (sym (ap (λ o. declared_so o frame n) (symbol_at c f.0)) ∙ h)
+  found : (f : Sym) (frame : Bool) (n : ℕ) → is_declared (parts_of c).symbols f frame n ≡ true →
+      Found f frame
+  found f frame n h =
+      go (slice_get c.opened f.0) refl (sym (ap (λ o. declared_so o frame n) (symbol_at c f.0)) ∙ h)
     where
-      go : (o : Option Opening) → slice_get c.opened f.0 ≡ o → declared_so (option_map (λ (o : Opening). info_at c (f.0, o)) (slice_get c.opened f.0)) frame n ≡ true → Found f frame
-      go None is h = let wrong : false ≡ true = sym (ap (λ o. declared_so (option_map (λ (o : Opening). info_at c (f.0, o)) o) frame n) is) ∙ h in absurd (true≢false (sym wrong))
+      go : (o : Option Opening) → slice_get c.opened f.0 ≡ o →
+          declared_so (option_map (λ (o : Opening). info_at c (f.0, o)) (slice_get c.opened f.0))
+          frame n ≡ true → Found f frame
+      go None is h =
+          let wrong : false ≡ true = sym (ap (λ o.
+          declared_so (option_map (λ (o : Opening). info_at c (f.0, o)) o) frame n) is) ∙ h in
+          absurd (true≢false (sym wrong))
       go (Some o) is h =
           let below = slice_get_within c.opened f.0 o is in
           let one = whole.one f.0 below in
-          let at : one.deed.at.symbol ≡ f.0 = eqb-true one.deed.at.symbol f.0 (passes_there (is_at f.0) c.deeds one.deed one.alone) in
-          let there : Contains c.deeds one.deed = was_there (is_at f.0) c.deeds one.deed (subst (λ ds. Contains ds one.deed) (sym one.alone) (first_one one.deed [])) in
+          let at : one.deed.at.symbol ≡ f.0 =
+          eqb-true one.deed.at.symbol f.0 (passes_there (is_at f.0) c.deeds one.deed one.alone)
+          in
+          let there : Contains c.deeds one.deed =
+          was_there (is_at f.0) c.deeds one.deed
+          (subst (λ ds. Contains ds one.deed) (sym one.alone) (first_one one.deed [])) in
           let fits = whole.fits one.deed there in
-          let opened : Some (record { width = one.deed.at.width; frame = is_resume one.deed.action }) ≡ Some o = sym fits.opened ∙ ap (slice_get c.opened) at ∙ is in
-          let declared : declared_so (Some (info_at c (f.0, o))) frame n ≡ true = sym (ap (λ o. declared_so (option_map (λ (o : Opening). info_at c (f.0, o)) o) frame n) is) ∙ h in
+          let opened : Some (record {
+            width = one.deed.at.width;
+            frame =
+                is_resume one.deed.action;
+          }) ≡ Some o = sym fits.opened ∙ ap (slice_get c.opened) at ∙
+          is in
+          let declared : declared_so (Some (info_at c (f.0, o))) frame n ≡ true =
+          sym (ap (λ o. declared_so (option_map (λ (o : Opening). info_at c (f.0, o)) o) frame
+          n) is) ∙ h in
           record {
             below = below;
             deed = one.deed;
@@ -226,12 +290,17 @@ module _ (c : Code) (whole : IsWhole c) where
           frame_in None = false
           frame_in (Some o) = o.frame
 
-  rules_at_one : (k : ℕ) (d : Deed) → filter (is_at k) c.deeds ≡ d ∷ [] → rules_at c k ≡ rules_of_deed (entry_of c.entries) d
-  rules_at_one k d alone = ap (flat_map (rules_of_deed (entry_of c.entries))) alone ∙ append-nil (rules_of_deed (entry_of c.entries) d)
+  rules_at_one : (k : ℕ) (d : Deed) → filter (is_at k) c.deeds ≡ d ∷ [] → rules_at c k ≡
+      rules_of_deed (entry_of c.entries) d
+  rules_at_one k d alone =
+      ap (flat_map (rules_of_deed (entry_of c.entries))) alone ∙
+      append-nil (rules_of_deed (entry_of c.entries) d)
 
   -- the rules of a shape are those of the deed at its symbol
-  picked : (shape : Shape) (d : Deed) → root (entry_of c.entries) shape < length c.opened → filter (is_at (root (entry_of c.entries) shape)) c.deeds ≡ d ∷ []
-      → rules_of_shape shape (parts_of c).rules ≡ rules_of_shape shape (rules_of_deed (entry_of c.entries) d)
+  picked : (shape : Shape) (d : Deed) → root (entry_of c.entries) shape < length c.opened →
+      filter (is_at (root (entry_of c.entries) shape)) c.deeds ≡ d ∷ []
+      → rules_of_shape shape (parts_of c).rules ≡
+      rules_of_shape shape (rules_of_deed (entry_of c.entries) d)
   picked shape d below alone =
       let k = root (entry_of c.entries) shape in
       let test : Rule → Bool = λ (r : Rule). same_shape (shape_of r.left) shape in
@@ -240,20 +309,26 @@ module _ (c : Code) (whole : IsWhole c) where
       ∙ ap (λ j. filter test (rules_at c j)) (omega arith)
       ∙ ap (filter test) (rules_at_one k d alone)
     where
-      others : (j : ℕ) → j < 0 + length c.opened → j ≢ (0 + root (entry_of c.entries) shape) → rules_of_shape shape (rules_at c j) ≡ []
+      others : (j : ℕ) → j < 0 + length c.opened → j ≢ (0 + root (entry_of c.entries) shape) →
+          rules_of_shape shape (rules_at c j) ≡ []
       others j below other =
           let one = whole.one j (omega (arith, below)) in
-          let at : one.deed.at.symbol ≡ j = eqb-true one.deed.at.symbol j (passes_there (is_at j) c.deeds one.deed one.alone) in
+          let at : one.deed.at.symbol ≡ j = eqb-true one.deed.at.symbol j
+          (passes_there (is_at j) c.deeds one.deed one.alone) in
           ap (rules_of_shape shape) (rules_at_one j one.deed one.alone)
           ∙ rules_elsewhere (entry_of c.entries) shape one.deed (λ e. other (omega (arith, e, at)))
 
   pub whole_paired : IsPaired (parts_of c)
   whole_paired _ (PointShape f n h) =
       let there = found f false n h in
-      subst IsPair (sym (picked (Called f) there.deed there.below there.alone)) (point_pair (entry_of c.entries) f there.deed there.at there.kind there.within)
+      subst IsPair (sym (picked (Called f) there.deed there.below there.alone))
+      (point_pair (entry_of c.entries) f there.deed there.at there.kind there.within)
   whole_paired _ (ReturnShape f n h) =
       let there = found f true n h in
-      subst IsPair (sym (picked (Framed f Value) there.deed there.below there.alone)) (value_pair (entry_of c.entries) f there.deed there.at there.kind)
+      subst IsPair (sym (picked (Framed f Value) there.deed there.below there.alone))
+      (value_pair (entry_of c.entries) f there.deed there.at there.kind)
   whole_paired _ (FailShape f n code h k) =
       let there = found f true n h in
-      subst IsPair (sym (picked (Framed f (Failure code)) there.deed there.below there.alone)) (failure_pair (entry_of c.entries) f code there.deed (one_code code k) there.at there.kind)
+      subst IsPair (sym (picked (Framed f (Failure code)) there.deed there.below there.alone))
+      (failure_pair (entry_of c.entries) f code there.deed (one_code code k) there.at
+      there.kind)

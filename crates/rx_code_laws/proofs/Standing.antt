@@ -1,4 +1,5 @@
--- The rules of a deed stand in the rule set of whole code, so that the set does what is done in the code.
+-- The rules of a deed stand in the rule set of whole code, so that the set does what is done in the
+-- code.
 use Rattle.std.proofs.Common.{subst, refl, ℕ, arith}
 use Rattle.std.specs.Prelude.{Contains, filter}
 use Rattle.std.specs.List.{enumerate_from}
@@ -17,15 +18,22 @@ use Rattle.rx_code_laws.proofs.Elements.{in_flat_map, in_numbered}
 use Rattle.rx_code_laws.proofs.Whole.{IsWhole, is_at, is_resume}
 
 module _ (c : Code) (whole : IsWhole c) where
-  rules_stand : (d : Deed) → Contains c.deeds d → Among (parts_of c).rules (rules_of_deed (entry_of c.entries) d)
+  rules_stand : (d : Deed) → Contains c.deeds d →
+      Among (parts_of c).rules (rules_of_deed (entry_of c.entries) d)
   rules_stand d there r inside =
       let k = d.at.symbol in
       let opening : Opening = record { width = d.at.width; frame = is_resume d.action } in
-      let at : Contains (filter (is_at k) c.deeds) d = kept (is_at k) c.deeds d there (eq-eqb k k refl) in
-      let here : Contains (rules_at c k) r = in_flat_map (rules_of_deed (entry_of c.entries)) (filter (is_at k) c.deeds) d r at inside in
+      let at : Contains (filter (is_at k) c.deeds) d =
+      kept (is_at k) c.deeds d there (eq-eqb k k refl) in
+      let here : Contains (rules_at c k) r = in_flat_map (rules_of_deed (entry_of c.entries))
+      (filter (is_at k) c.deeds) d r at inside in
       let numbered : Contains (enumerate_from 0 c.opened) (k, opening) =
-      subst (λ (n : ℕ). Contains (enumerate_from 0 c.opened) (n, opening)) (omega arith) (in_numbered 0 c.opened k opening (whole.fits d there).opened) in
-      in_flat_map (λ (o : ℕ × Opening). rules_at c o.0) (enumerate_from 0 c.opened) (k, opening) r numbered here
+      subst (λ (n : ℕ). Contains (enumerate_from 0 c.opened) (n, opening)) (omega arith)
+      (in_numbered 0 c.opened k opening (whole.fits d there).opened) in
+      in_flat_map (λ (o : ℕ × Opening). rules_at c o.0) (enumerate_from 0 c.opened) (k, opening) r
+      numbered here
 
   pub rules_do_all : DoAll (Instance (parts_of c).rules) (entry_of c.entries) (acts_in c)
-  rules_do_all a x there = rules_do (parts_of c).rules (entry_of c.entries) a x (rules_stand (record { at = a; action = x }) there)
+  rules_do_all a x there =
+      rules_do (parts_of c).rules (entry_of c.entries) a x
+      (rules_stand (record { at = a; action = x }) there)

@@ -36,19 +36,24 @@ use Rattle.rx_code_laws.proofs.ProgramCode.{entries_opened, entry_first, has_ent
 use Rattle.rx_code_laws.proofs.Standing.{rules_do_all}
 use Rattle.rx_code_laws.proofs.Whole.{IsWhole}
 
-module _ (program : Resolved) (scoped : is_scoped program ≡ true) (f g : ℕ) (parts : RuleParts) (first second : Sym) (t : IsTranslation program f g parts first second) where
+module _ (program : Resolved) (scoped : is_scoped program ≡ true) (f g : ℕ) (parts : RuleParts)
+    (first second : Sym) (t : IsTranslation program f g parts first second) where
   -- the code of the translation
   abbrev code : Code
   code = (program_code program t.functions).form
 
-  both_within : ((program_code program t.functions).within ≡ true) × (list_all deed_within code.deeds ≡ true)
-  both_within = and_parts (program_code program t.functions).within (list_all deed_within code.deeds) t.within
+  both_within : ((program_code program t.functions).within ≡ true) ×
+      (list_all deed_within code.deeds ≡ true)
+  both_within =
+      and_parts (program_code program t.functions).within (list_all deed_within code.deeds) t.within
 
   pub translation_whole : IsWhole code
-  translation_whole = program_whole program scoped f g t.functions t.reached both_within.0 both_within.1
+  translation_whole =
+      program_whole program scoped f g t.functions t.reached both_within.0 both_within.1
 
   pub translation_carries : CarriesProgram program code
-  translation_carries = program_carried program scoped f g t.functions t.reached both_within.0 both_within.1
+  translation_carries =
+      program_carried program scoped f g t.functions t.reached both_within.0 both_within.1
 
   pub translation_made : IsWellMade parts
   translation_made = subst IsWellMade (sym t.parts_are) (whole_made code translation_whole)
@@ -58,41 +63,69 @@ module _ (program : Resolved) (scoped : is_scoped program ≡ true) (f g : ℕ) 
 
   pub translation_does : DoAll (Instance parts.rules) (entry_of code.entries) (acts_in code)
   translation_does =
-      let P : RuleParts → Type 0 = λ ps. DoAll (Instance ps.rules) (entry_of code.entries) (acts_in code) in
+      let P : RuleParts → Type 0 = λ ps. DoAll (Instance ps.rules) (entry_of code.entries)
+      (acts_in code) in
       subst P (sym t.parts_are) (rules_do_all code translation_whole)
 
   -- a reached function that is there has its entry
-  pub reached_entry : (h count : ℕ) → Reached program f g h → slice_get (parameter_counts program.functions) h ≡ Some count → Contains code.entries (h, entry_of code.entries h)
+  pub reached_entry : (h count : ℕ) → Reached program f g h →
+      slice_get (parameter_counts program.functions) h ≡ Some count →
+      Contains code.entries (h, entry_of code.entries h)
   reached_entry h count reached is =
       let found = was_at (λ (k : Function). length k.params) program.functions h count is in
-      let entry = has_entry program.functions t.functions 0 h found.0 ((t.reached.members h).1 reached) found.1 in
-      subst (λ (s : ℕ). Contains code.entries (h, s)) (sym (entry_first program.functions t.functions 0 t.reached.in_order h entry.0 entry.1)) entry.1
+      let entry = has_entry program.functions t.functions 0 h found.0
+      ((t.reached.members h).1 reached) found.1 in
+      subst (λ (s : ℕ). Contains code.entries (h, s))
+      (sym (entry_first program.functions t.functions 0 t.reached.in_order h entry.0 entry.1))
+      entry.1
 
-  -- the entry of a reached function is declared as a point with as many arguments as the function has parameters
-  pub entry_declared : (h count : ℕ) → Reached program f g h → slice_get (parameter_counts program.functions) h ≡ Some count → Declares (signature parts) (entry_of code.entries h) false count
+  -- the entry of a reached function is declared as a point with as many arguments as the function
+  -- has parameters
+  pub entry_declared : (h count : ℕ) → Reached program f g h →
+      slice_get (parameter_counts program.functions) h ≡ Some count →
+      Declares (signature parts) (entry_of code.entries h) false count
   entry_declared h count reached is =
       let entry = entry_of code.entries h in
-      let opened = entries_opened program scoped f g t.functions t.reached both_within.0 both_within.1 h count (record { symbol = entry; begins = reached_entry h count reached is; parameters = is }) in
+      let opened = entries_opened program scoped f g t.functions t.reached both_within.0
+      both_within.1 h count (record {
+        symbol = entry;
+        begins = reached_entry h count reached is;
+        parameters = is;
+      }) in
       let P : RuleParts → Type 0 = λ ps. Declares (signature ps) entry false count in
       subst P (sym t.parts_are)
       (slice_get-map symbol_of (parts_of code).symbols entry
-      ∙ ap (option_map symbol_of) (symbol_at code entry ∙ ap (option_map (λ (o : Opening). info_at code (entry, o))) opened))
+      ∙ ap (option_map symbol_of) (symbol_at code entry ∙
+      ap (option_map (λ (o : Opening). info_at code (entry, o))) opened))
 
   -- the call of the entry on variables fits
-  pub entry_fits : (h count : ℕ) → Reached program f g h → slice_get (parameter_counts program.functions) h ≡ Some count → term_fits parts (Call (symbol (entry_of code.entries h)) (variables_from 0 count)) ≡ true
+  pub entry_fits : (h count : ℕ) → Reached program f g h →
+      slice_get (parameter_counts program.functions) h ≡ Some count →
+      term_fits parts (Call (symbol (entry_of code.entries h)) (variables_from 0 count)) ≡ true
   entry_fits h count reached is =
       let entry = entry_of code.entries h in
-      let opened = entries_opened program scoped f g t.functions t.reached both_within.0 both_within.1 h count (record { symbol = entry; begins = reached_entry h count reached is; parameters = is }) in
+      let opened = entries_opened program scoped f g t.functions t.reached both_within.0
+      both_within.1 h count (record {
+        symbol = entry;
+        begins = reached_entry h count reached is;
+        parameters = is;
+      }) in
       fits-Call parts (symbol entry) (variables_from 0 count)
       ∙ ap (is_declared parts.symbols (symbol entry) false) (length-variables_from 0 count)
       ∙ ap (λ (ps : RuleParts). is_declared ps.symbols (symbol entry) false count) t.parts_are
       ∙ declared code entry count false opened
 
-  pub left_fits : (n : ℕ) (rows : List Row) → slice_get (parameter_counts program.functions) f ≡ Some n → term_fits parts (goal_at first second n rows).left ≡ true
-  left_fits n rows is = ap (λ (a : Sym). term_fits parts (Call a (variables_from 0 n))) t.first_is ∙ entry_fits f n IsFirst is
+  pub left_fits : (n : ℕ) (rows : List Row) → slice_get (parameter_counts program.functions) f ≡
+      Some n → term_fits parts (goal_at first second n rows).left ≡ true
+  left_fits n rows is =
+      ap (λ (a : Sym). term_fits parts (Call a (variables_from 0 n))) t.first_is ∙
+      entry_fits f n IsFirst is
 
-  pub right_fits : (n : ℕ) (rows : List Row) → slice_get (parameter_counts program.functions) g ≡ Some n → term_fits parts (goal_at first second n rows).right ≡ true
-  right_fits n rows is = ap (λ (a : Sym). term_fits parts (Call a (variables_from 0 n))) t.second_is ∙ entry_fits g n IsSecond is
+  pub right_fits : (n : ℕ) (rows : List Row) → slice_get (parameter_counts program.functions) g ≡
+      Some n → term_fits parts (goal_at first second n rows).right ≡ true
+  right_fits n rows is =
+      ap (λ (a : Sym). term_fits parts (Call a (variables_from 0 n))) t.second_is ∙
+      entry_fits g n IsSecond is
 
   -- the first failure is the only one
   pub one_failure : parts.fails ≡ 1
@@ -101,54 +134,73 @@ module _ (program : Resolved) (scoped : is_scoped program ≡ true) (f g : ℕ) 
 -- ---- one translation
 
 -- two rising lists with the same members are one
-same_head : (n m : ℕ) (ns ms : List ℕ) → All (λ k. n < k) ns → All (λ k. m < k) ms → Contains (m ∷ ms) n → Contains (n ∷ ns) m → n ≡ m
+same_head : (n m : ℕ) (ns ms : List ℕ) → All (λ k. n < k) ns → All (λ k. m < k) ms →
+    Contains (m ∷ ms) n → Contains (n ∷ ns) m → n ≡ m
 same_head n m ns ms above_n above_m n_there m_there =
     elim (first_or_other m ms n n_there) [
       | inl same ↦ sym same
       | inr later ↦ elim (first_or_other n ns m m_there) [
         | inl same ↦ same
-        | inr later_too ↦ (let h = All-contains (λ k. m < k) ms n above_m later in let i = All-contains (λ k. n < k) ns m above_n later_too in absurd (omega (arith, h, i)))
+        | inr later_too ↦ (let h = All-contains (λ k. m < k) ms n above_m later in let i =
+            All-contains (λ k. n < k) ns m above_n later_too in absurd (omega (arith, h, i)))
       ]
     ]
 
-rest_within : (n m : ℕ) (ns ms : List ℕ) → n ≡ m → All (λ k. n < k) ns → ((k : ℕ) → Contains (n ∷ ns) k → Contains (m ∷ ms) k) → (k : ℕ) → Contains ns k → Contains ms k
+rest_within : (n m : ℕ) (ns ms : List ℕ) → n ≡ m → All (λ k. n < k) ns →
+    ((k : ℕ) → Contains (n ∷ ns) k → Contains (m ∷ ms) k) → (k : ℕ) → Contains ns k → Contains ms k
 rest_within n m ns ms same above inside k there =
     elim (first_or_other m ms k (inside k (other_one n ns k there))) [
-      | inl is ↦ (let h = All-contains (λ j. n < j) ns k above there in absurd (omega (arith, h, is, same)))
+      | inl is ↦ (let h = All-contains (λ j. n < j) ns k above there in
+          absurd (omega (arith, h, is, same)))
       | inr later ↦ later
     ]
 
-same_members : (ns ms : List ℕ) → IsRising ns → IsRising ms → ((k : ℕ) → Contains ns k → Contains ms k) → ((k : ℕ) → Contains ms k → Contains ns k) → ns ≡ ms
+same_members : (ns ms : List ℕ) → IsRising ns → IsRising ms →
+    ((k : ℕ) → Contains ns k → Contains ms k) → ((k : ℕ) → Contains ms k → Contains ns k) → ns ≡ ms
 same_members [] [] rising also inside back = refl
 same_members [] (m ∷ ms) rising also inside back = absurd (no_element m (back m (first_one m ms)))
 same_members (n ∷ ns) [] rising also inside back = absurd (no_element n (inside n (first_one n ns)))
-same_members (n ∷ ns) (m ∷ ms) (next_number _ _ above_n rising) (next_number _ _ above_m also) inside back =
-    let same = same_head n m ns ms above_n above_m (inside n (first_one n ns)) (back m (first_one m ms)) in
-    let rest = same_members ns ms rising also (rest_within n m ns ms same above_n inside) (rest_within m n ms ns (sym same) above_m back) in
+same_members (n ∷ ns) (m ∷ ms) (next_number _ _ above_n rising) (next_number _ _ above_m also)
+    inside back =
+    let same = same_head n m ns ms above_n above_m (inside n (first_one n ns))
+    (back m (first_one m ms)) in
+    let rest = same_members ns ms rising also (rest_within n m ns ms same above_n inside)
+    (rest_within m n ms ns (sym same) above_m back) in
     (λ i. same i ∷ rest i)
 
-pub same_functions : (program : Resolved) (f g : ℕ) (fs gs : List ℕ) → AreReached program f g fs → AreReached program f g gs → fs ≡ gs
+pub same_functions : (program : Resolved) (f g : ℕ) (fs gs : List ℕ) → AreReached program f g fs →
+    AreReached program f g gs → fs ≡ gs
 same_functions program f g fs gs one two =
-    same_members fs gs one.in_order two.in_order (λ k there. (two.members k).1 ((one.members k).0 there)) (λ k there. (one.members k).1 ((two.members k).0 there))
+    same_members fs gs one.in_order two.in_order
+    (λ k there. (two.members k).1 ((one.members k).0 there))
+    (λ k there. (one.members k).1 ((two.members k).0 there))
 
 -- the functions decide on the parts and on both symbols
-pub record SameTranslation (parts others : RuleParts) (first second third fourth : Sym) : Type 0 where
-  pub parts_same : parts ≡ others
-  pub first_same : first ≡ third
-  pub second_same : second ≡ fourth
+pub record SameTranslation (parts others : RuleParts) (first second third fourth : Sym) : Type 0
+  where
+    pub parts_same : parts ≡ others
+    pub first_same : first ≡ third
+    pub second_same : second ≡ fourth
 
-pub one_translation : (program : Resolved) (f g : ℕ) (parts others : RuleParts) (first second third fourth : Sym) → IsTranslation program f g parts first second → IsTranslation program f g others third fourth
+pub one_translation : (program : Resolved) (f g : ℕ) (parts others : RuleParts)
+    (first second third fourth : Sym) → IsTranslation program f g parts first second →
+    IsTranslation program f g others third fourth
     → SameTranslation parts others first second third fourth
 one_translation program f g parts others first second third fourth one two =
     let same = same_functions program f g one.functions two.functions one.reached two.reached in
     record {
       parts_same = one.parts_are ∙ ap (λ fs. (rules_of program fs).form) same ∙ sym two.parts_are;
-      first_same = one.first_is ∙ ap (λ fs. symbol (entry_of (program_code program fs).form.entries f)) same ∙ sym two.first_is;
-      second_same = one.second_is ∙ ap (λ fs. symbol (entry_of (program_code program fs).form.entries g)) same ∙ sym two.second_is;
+      first_same =
+          one.first_is ∙ ap (λ fs. symbol (entry_of (program_code program fs).form.entries f)) same
+          ∙ sym two.first_is;
+      second_same =
+          one.second_is ∙ ap (λ fs. symbol (entry_of (program_code program fs).form.entries g)) same
+          ∙ sym two.second_is;
     }
 
 -- what is within the limits isn't beyond them
-pub not_beyond : (program : Resolved) (f g : ℕ) (parts : RuleParts) (first second : Sym) → IsTranslation program f g parts first second → IsBeyond program f g → ⊥
+pub not_beyond : (program : Resolved) (f g : ℕ) (parts : RuleParts) (first second : Sym) →
+    IsTranslation program f g parts first second → IsBeyond program f g → ⊥
 not_beyond program f g parts first second t beyond =
     let same = same_functions program f g t.functions beyond.functions t.reached beyond.reached in
     true≢false (sym t.within ∙ ap (λ fs. (rules_of program fs).within) same ∙ beyond.beyond)

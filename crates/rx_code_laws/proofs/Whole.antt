@@ -29,7 +29,8 @@ is_at k d = d.at.symbol == k
 module _ (c : Code) where
   -- the symbol is opened as a point or a frame with so many variables
   abbrev pub IsOpened : ℕ → ℕ → Bool → Type 0
-  IsOpened symbol width frame = slice_get c.opened symbol ≡ Some (record { width = width; frame = frame })
+  IsOpened symbol width frame =
+      slice_get c.opened symbol ≡ Some (record { width = width; frame = frame })
 
   -- the point is opened, and so many integers are enough for its variables
   pub record IsTarget (count : ℕ) (z : Point) : Type 0 where
@@ -39,10 +40,14 @@ module _ (c : Code) where
   -- the action's points, frames and polynomials are in order at a point with n variables
   abbrev pub Suits : ℕ → Action → Type 0
   Suits n (Go z) = IsTarget n z
-  Suits n (Set k p z) = (k ≤ n) × (((z.width ≤ n) ⊎ (k ≡ n)) × (IsTarget (suc n) z × (uses_below n p ≡ true)))
+  Suits n (Set k p z) =
+      (k ≤ n) × (((z.width ≤ n) ⊎ (k ≡ n)) × (IsTarget (suc n) z × (uses_below n p ≡ true)))
   Suits n (Test row y w) = IsTarget n y × (IsTarget n w × (rows_use_below n (row ∷ []) ≡ true))
-  Suits n (Divide d p q z) = IsTarget (suc n) z × ((uses_below n p ≡ true) × (uses_below n q ≡ true))
-  Suits n (Call f ps r) = IsOpened r.symbol r.width true × ((r.width ≤ n) × (IsOpened (entry_of c.entries f) (length ps) false × (polys_use_below n ps ≡ true)))
+  Suits n (Divide d p q z) =
+      IsTarget (suc n) z × ((uses_below n p ≡ true) × (uses_below n q ≡ true))
+  Suits n (Call f ps r) =
+      IsOpened r.symbol r.width true × ((r.width ≤ n) ×
+      (IsOpened (entry_of c.entries f) (length ps) false × (polys_use_below n ps ≡ true)))
   Suits n (Resume z) = IsTarget (suc n) z
   Suits n (Return p) = uses_below n p ≡ true
 

@@ -1,4 +1,5 @@
--- Code that carries a program: for each function that has an entry, the entry carries the function's code.
+-- Code that carries a program: for each function that has an entry, the entry carries the
+-- function's code.
 use Rattle.std.specs.Prelude.{◌≡◌, ℕ, Some, Contains, slice_get}
 use Rattle.c_ast.specs.Scoped.{parameter_counts}
 use Rattle.c_ast.specs.declared.program.Function.{Function}
@@ -27,4 +28,5 @@ pub record CarriesFunction (program : Resolved) (code : Code) (f symbol : ℕ) :
 
 -- each function that has an entry is carried
 abbrev pub CarriesProgram : Resolved → Code → Type 0
-CarriesProgram program code = (f symbol : ℕ) → Contains code.entries (f, symbol) → CarriesFunction program code f symbol
+CarriesProgram program code =
+    (f symbol : ℕ) → Contains code.entries (f, symbol) → CarriesFunction program code f symbol

@@ -1,4 +1,5 @@
--- What rules do at points: from a point, or from a frame over a result, one step leads to where the action there leads.
+-- What rules do at points: from a point, or from a frame over a result, one step leads to where the
+-- action there leads.
 use Rattle.std.specs.Prelude.{◌≡◌, ◌≢◌, ℕ, List, [], ◌∷◌, ◌++◌, length, map, take, ℤ, pos}
 use Rattle.rx_poly.specs.Value.{value}
 use Rattle.rx_row.specs.Holds.{RowHolds}
@@ -33,14 +34,17 @@ module _ (R : Relation) (entry : ℕ → ℕ) where
   Does a (Divide d p q z) = (xs : List ℤ) → length xs ≡ a.width →
       (value (assigned xs) q ≡ pos 0 → StepsFrom a xs (stack.Fail 1))
       × (value (assigned xs) q ≢ pos 0 →
-      StepsFrom a xs (at_point z (xs ++ division_result d (value (assigned xs) p) (value (assigned xs) q) ∷ [])))
+      StepsFrom a xs (at_point z (xs ++ division_result d (value (assigned xs) p)
+      (value (assigned xs) q) ∷ [])))
   Does a (Call f ps r) = (xs : List ℤ) → length xs ≡ a.width →
-      StepsFrom a xs (stack.Frame r.symbol (take r.width xs) (stack.Call (entry f) (map (value (assigned xs)) ps)))
+      StepsFrom a xs (stack.Frame r.symbol (take r.width xs)
+      (stack.Call (entry f) (map (value (assigned xs)) ps)))
   -- a frame over a returned integer, and over a failure
   Does a (Resume z) = (xs : List ℤ) → length xs ≡ a.width →
       ((x : ℤ) → Step R (stack.Frame a.symbol xs (stack.Ret x)) (at_point z (xs ++ x ∷ [])))
       × Step R (stack.Frame a.symbol xs (stack.Fail 1)) (stack.Fail 1)
-  Does a (Return p) = (xs : List ℤ) → length xs ≡ a.width → StepsFrom a xs (stack.Ret (value (assigned xs) p))
+  Does a (Return p) =
+      (xs : List ℤ) → length xs ≡ a.width → StepsFrom a xs (stack.Ret (value (assigned xs) p))
 
   -- the rules do what is done at points
   abbrev pub DoAll : (Point → Action → Type 0) → Type 0

@@ -68,8 +68,8 @@ pub fn goals_fit_their_translation()
         term_fits parts (goal_at first second n rows).right ≡ true }
 {}
 
-/// Two functions have one translation: one rule set and one entry each (`parts`, `first`, `second`).
-/// Where they have one, nothing that is formed for them is beyond the limits (`apart`).
+/// Two functions have one translation: one rule set and one entry each (`parts`, `first`,
+/// `second`). Where they have one, nothing that is formed for them is beyond the limits (`apart`).
 pub fn there_is_one_translation()
     ensures parts { (program : Resolved) (f g : ℕ) (parts others : RuleParts)
         (first second third fourth : Sym) → IsTranslation program f g parts first second →

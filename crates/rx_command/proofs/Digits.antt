@@ -19,14 +19,17 @@ some_digit [] e = search rules
 some_digit (d ∷ ds) e = omega arith
 
 -- digits that can't be read are too large
-pub too_large : {E : Type 0} (text : List ℕ) (e : E) → ParsesUnsigned 32 10 text (Err e) → is_decimal text ≡ true
+pub too_large : {E : Type 0} (text : List ℕ) (e : E) → ParsesUnsigned 32 10 text (Err e) →
+    is_decimal text ≡ true
     → 2 ^ 32 ≤ digits_value 10 text
 too_large text e h is =
-    let p : ¬ ((0 < length text) × (digits_value 10 text < 2 ^ 32)) = parse_digits own 32 text (Err e) h (are_digits text is) in
+    let p : ¬ ((0 < length text) × (digits_value 10 text < 2 ^ 32)) =
+    parse_digits own 32 text (Err e) h (are_digits text is) in
     let q : digits_value 10 text < 2 ^ 32 → ⊥ = λ l. p (some_digit text is, l) in
     omega (arith, q)
 
-pub read_digits : {E : Type 0} (text : List ℕ) (r : Result ℕ E) → ParsesUnsigned 32 10 text r → is_decimal text ≡ true
+pub read_digits : {E : Type 0} (text : List ℕ) (r : Result ℕ E) → ParsesUnsigned 32 10 text r →
+    is_decimal text ≡ true
     → MatchResult r (λ n. n ≡ digits_value 10 text) (λ _. 2 ^ 32 ≤ digits_value 10 text)
 read_digits {E} text (Ok n) h e = (parse_digits own {E = E} 32 text (Ok n) h (are_digits text e)).1
 read_digits text (Err x) h e = too_large text x h e

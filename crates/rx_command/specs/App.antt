@@ -24,8 +24,8 @@ with_words app =
     (new_rule (codes "second")))
     (new_rule (codes "log"))
 
--- its options: a precondition, how deep the search goes, how many visits it makes, how large the arguments are, how
--- many rounds a run may take
+-- its options: a precondition, how deep the search goes, how many visits it makes, how large the
+-- arguments are, how many rounds a run may take
 abbrev pub with_options : App → App
 with_options app =
     with_rule

@@ -21,7 +21,8 @@ pub record Functions : Type 0 where
   pub second : List ℕ
   pub precondition : Option (List ℕ)
 
--- to search for a proof that both compute the same, to replay the proof in a log, or to run both on all small arguments
+-- to search for a proof that both compute the same, to replay the proof in a log, or to run both on
+-- all small arguments
 pub data Comparison : Type 0 where
   Prove : Functions → Effort → Comparison
   Check : Functions → List ℕ → Comparison
@@ -43,16 +44,24 @@ is_short None = true
 is_short (Some text) = nat_le (length text) longest_precondition
 
 -- two functions of a file, where all three words are there and the precondition isn't too long
-abbrev pub named : Option (List ℕ) → Option (List ℕ) → Option (List ℕ) → Option (List ℕ) → Option Functions
+abbrev pub named : Option (List ℕ) → Option (List ℕ) → Option (List ℕ) → Option (List ℕ) →
+    Option Functions
 named None first second pre = None
 named (Some file) None second pre = None
 named (Some file) (Some first) None pre = None
 named (Some file) (Some first) (Some second) pre =
-    if is_short pre then Some (record { file = file; first = first; second = second; precondition = pre }) else None
+    if is_short pre then Some (record {
+      file = file;
+      first = first;
+      second = second;
+      precondition =
+          pre;
+    }) else None
 
 abbrev pub functions_of : List Row → Option Functions
 functions_of rows =
-    named (first_of (codes "file") rows) (first_of (codes "first") rows) (first_of (codes "second") rows)
+    named (first_of (codes "file") rows) (first_of (codes "first") rows)
+    (first_of (codes "second") rows)
     (first_of (codes "pre") rows)
 
 -- a number between two, or the usual one where nothing is given
@@ -92,7 +101,8 @@ prove_of (Some functions) (Some effort) None = Some (Compare (Prove functions ef
 prove_of (Some functions) (Some effort) (Some log) = None
 
 -- `check` takes a log, and neither depth nor budget
-abbrev pub check_of : Option Functions → Option (List ℕ) → Option (List ℕ) → Option (List ℕ) → Option Command
+abbrev pub check_of : Option Functions → Option (List ℕ) → Option (List ℕ) → Option (List ℕ) →
+    Option Command
 check_of None log depth budget = None
 check_of (Some functions) None depth budget = None
 check_of (Some functions) (Some log) (Some depth) budget = None
@@ -118,7 +128,8 @@ is_absent id rows = is_none (first_of id rows)
 -- no word is after the number of examples
 abbrev pub has_no_more_words : List Row → Bool
 has_no_more_words rows =
-    is_absent (codes "first") rows && (is_absent (codes "second") rows && is_absent (codes "log") rows)
+    is_absent (codes "first") rows && (is_absent (codes "second") rows &&
+    is_absent (codes "log") rows)
 
 -- neither a depth nor a budget
 abbrev pub has_no_effort : List Row → Bool
@@ -138,7 +149,8 @@ in_mode (Some mode) rows =
     if bytes_eq mode (codes "prove") && has_no_extent rows
     then prove_of (functions_of rows) (effort_of rows) (first_of (codes "log") rows)
     else (if bytes_eq mode (codes "check") && has_no_extent rows
-    then check_of (functions_of rows) (first_of (codes "log") rows) (first_of (codes "depth") rows) (first_of (codes "budget") rows)
+    then check_of (functions_of rows) (first_of (codes "log") rows) (first_of (codes "depth") rows)
+    (first_of (codes "budget") rows)
     else (if bytes_eq mode (codes "refute") && has_no_effort rows
     then refute_of (functions_of rows) (extent_of rows) (first_of (codes "log") rows)
     else (if bytes_eq mode (codes "demo") && (has_no_more_words rows && has_no_options rows)
@@ -153,8 +165,8 @@ abbrev pub if_taken : Kinds → List Row → Option Command
 if_taken [] rows = command_in rows
 if_taken (kind ∷ kinds) rows = None
 
--- what the words ask for, the program's name first; none where `clap` doesn't take them or one is missing, too many or
--- out of range
+-- what the words ask for, the program's name first; none where `clap` doesn't take them or one is
+-- missing, too many or out of range
 abbrev pub command_of : List (List ℕ) → Option Command
 command_of words = if_taken (fault_of command_app words) (matches_of command_app words)
 

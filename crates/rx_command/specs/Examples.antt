@@ -10,22 +10,27 @@ abbrev pub prove_words : List (List ℕ)
 prove_words = codes "ctrl" ∷ codes "prove" ∷ codes "f.c" ∷ codes "up" ∷ codes "rec" ∷ []
 
 abbrev pub up_and_rec : Functions
-up_and_rec = record { file = codes "f.c"; first = codes "up"; second = codes "rec"; precondition = None }
+up_and_rec =
+    record { file = codes "f.c"; first = codes "up"; second = codes "rec"; precondition = None }
 
 abbrev pub prove_usual : Command
 prove_usual = Compare (Prove up_and_rec (record { depth = 5; budget = 100000 }))
 
 -- ctrl prove f.c up rec --depth 12 --pre n>=0 --budget=7
 abbrev pub given_words : List (List ℕ)
-given_words = prove_words ++ codes "--depth" ∷ codes "12" ∷ codes "--pre" ∷ codes "n>=0" ∷ codes "--budget=7" ∷ []
+given_words =
+    prove_words ++ codes "--depth" ∷ codes "12" ∷ codes "--pre" ∷ codes "n>=0" ∷
+    codes "--budget=7" ∷ []
 
 abbrev pub prove_given : Command
 prove_given =
-    Compare (Prove (record up_and_rec { precondition = Some (codes "n>=0") }) (record { depth = 12; budget = 7 }))
+    Compare (Prove (record up_and_rec { precondition = Some (codes "n>=0") })
+    (record { depth = 12; budget = 7 }))
 
 -- ctrl check f.c up rec f.log
 abbrev pub check_words : List (List ℕ)
-check_words = codes "ctrl" ∷ codes "check" ∷ codes "f.c" ∷ codes "up" ∷ codes "rec" ∷ codes "f.log" ∷ []
+check_words =
+    codes "ctrl" ∷ codes "check" ∷ codes "f.c" ∷ codes "up" ∷ codes "rec" ∷ codes "f.log" ∷ []
 
 abbrev pub check_log : Command
 check_log = Compare (Check up_and_rec (codes "f.log"))
@@ -55,11 +60,14 @@ refute_usual = Compare (Refute up_and_rec (record { side = 10; rounds = 10000 })
 
 -- ctrl refute f.c up rec --rounds 7 --pre n>=0 --box=0
 abbrev pub boxed_words : List (List ℕ)
-boxed_words = refute_words ++ codes "--rounds" ∷ codes "7" ∷ codes "--pre" ∷ codes "n>=0" ∷ codes "--box=0" ∷ []
+boxed_words =
+    refute_words ++ codes "--rounds" ∷ codes "7" ∷ codes "--pre" ∷ codes "n>=0" ∷ codes "--box=0" ∷
+    []
 
 abbrev pub refute_boxed : Command
 refute_boxed =
-    Compare (Refute (record up_and_rec { precondition = Some (codes "n>=0") }) (record { side = 0; rounds = 7 }))
+    Compare (Refute (record up_and_rec { precondition = Some (codes "n>=0") })
+    (record { side = 0; rounds = 7 }))
 
 -- ctrl refute f.c up rec --depth 5
 abbrev pub deep_refute_words : List (List ℕ)

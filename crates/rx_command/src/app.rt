@@ -23,7 +23,8 @@ fn with_option<'a>(
     command: Command<'a>,
     id: &'a str,
 ) -> Result<Command<'a>, AllocError>
-    ensures { IfOk result (λ c. app_of c ≡ with_rule (app_of command.entry) (spec.option_rule id.entry.now)) }
+    ensures { IfOk result (λ c. app_of c ≡ with_rule (app_of command.entry)
+        (spec.option_rule id.entry.now)) }
 {
     command.arg(Arg::new(alloc, id).long(id))
 }

@@ -102,7 +102,8 @@ fn named<'a>(
 
 /// The functions that are compared.
 fn functions_of<'a>(matches: &ArgMatches<'a>) -> Option<Functions<'a>>
-    ensures { option_map functions_view result ≡ spec.functions_of (rows_of (found_of matches.now)) }
+    ensures { option_map functions_view result ≡
+        spec.functions_of (rows_of (found_of matches.now)) }
 {
     let file = given(matches, "file");
     let first = given(matches, "first");
@@ -235,7 +236,8 @@ fn demo_of<'a>(count: Option<&str>) -> Option<Command<'a>>
 
 /// What is asked for in a mode.
 fn in_mode<'a>(mode: &str, matches: &ArgMatches<'a>) -> Option<Command<'a>>
-    ensures { option_map command_view result ≡ spec.in_mode (Some mode.now) (rows_of (found_of matches.now)) }
+    ensures { option_map command_view result ≡
+        spec.in_mode (Some mode.now) (rows_of (found_of matches.now)) }
 {
     if mode == "prove" && has_no_extent(matches) {
         let log = given(matches, "log");
@@ -265,9 +267,11 @@ fn command_in<'a>(matches: &ArgMatches<'a>) -> Option<Command<'a>>
 }
 
 /// What the words of a command line ask for, the program's name first; nothing where `clap` doesn't
-/// take the words, or one is missing, too many or out of range. It fails only where memory runs out.
+/// take the words, or one is missing, too many or out of range. It fails only where memory runs
+/// out.
 pub fn command_of<'a>(alloc: Global, words: &'a [String]) -> Result<Option<Command<'a>>, NoMemory>
-    ensures command { IfOk result (λ c. option_map command_view c ≡ spec.command_of (map string_bytes words.now)) }
+    ensures command { IfOk result (λ c. option_map command_view c ≡
+        spec.command_of (map string_bytes words.now)) }
 {
     let app = command_app(alloc)?;
     match app.try_get_matches_from(words) {

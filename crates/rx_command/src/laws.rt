@@ -4,13 +4,13 @@ ghost use Rattle.rx_command.specs.Commands.{Demo, command_of};
 ghost use Rattle.rx_command.specs.Examples as example;
 
 /// A proof is searched for with the usual depth and budget (`usual`) or with those that are given
-/// (`given`), also under a precondition; a log is replayed (`log`); both functions are run, with the
-/// usual box and rounds (`refute`) or with those that are given (`boxed`); examples are shown (`demo`).
-/// Nothing is asked for by words that name no log (`no_log`), by a depth of 13 (`too_deep`), by a number
-/// with a 0 in front (`zero`), by a depth beside a log (`beside`) or beside runs (`deep_runs`), by a box
-/// beside a log (`boxed_check`), by a box of 1,001 (`too_large`), by no rounds (`no_rounds`), by no
-/// examples (`no_examples`) or by 101 (`too_many`), by a depth beside them (`deep_demo`), or by no words
-/// at all (`nothing`).
+/// (`given`), also under a precondition; a log is replayed (`log`); both functions are run, with
+/// the usual box and rounds (`refute`) or with those that are given (`boxed`); examples are shown
+/// (`demo`). Nothing is asked for by words that name no log (`no_log`), by a depth of 13
+/// (`too_deep`), by a number with a 0 in front (`zero`), by a depth beside a log (`beside`) or
+/// beside runs (`deep_runs`), by a box beside a log (`boxed_check`), by a box of 1,001
+/// (`too_large`), by no rounds (`no_rounds`), by no examples (`no_examples`) or by 101
+/// (`too_many`), by a depth beside them (`deep_demo`), or by no words at all (`nothing`).
 pub fn command_lines_ask()
     ensures usual { command_of example.prove_words ≡ Some example.prove_usual }
     ensures given { command_of example.given_words ≡ Some example.prove_given }

@@ -31,7 +31,8 @@ fn is_decimal(text: &[u8]) -> bool
 #[tactic(auto, using(crate::proofs::Digits::read_digits))]
 fn value_of(text: &str) -> Option<u32>
     requires { spec.is_decimal text.now ≡ true }
-    ensures { MatchOption result (2 ^ 32 ≤ digits_value 10 text.now) (λ n. n ≡ digits_value 10 text.now) }
+    ensures { MatchOption result (2 ^ 32 ≤ digits_value 10 text.now)
+        (λ n. n ≡ digits_value 10 text.now) }
 {
     match text.parse::<u32>() {
         Ok(number) => Some(number),
@@ -39,8 +40,8 @@ fn value_of(text: &str) -> Option<u32>
     }
 }
 
-/// The number that the text is in decimal digits, with no 0 in front of others, where it lies between
-/// these two.
+/// The number that the text is in decimal digits, with no 0 in front of others, where it lies
+/// between these two.
 pub fn number_of(least: u32, most: u32, text: &str) -> Option<u32>
     ensures { result ≡ spec.number_of least most text.now }
 {

@@ -32,15 +32,18 @@ elsewhere : use_finding (Called f) (Some goes_on) (Ne (variable 0) ∷ []) [] �
 elsewhere = rw (shape-Call f (variable 0 ∷ [])) (shown (Ne (variable 0)))
 
 over_value : use_finding (Framed g Value) (Some adds) [] [] ≡ Yes
-over_value = rw (shape-Frame g (variable 0 ∷ []) (Return (variable 1)), shape-Return (variable 1)) refl
+over_value =
+    rw (shape-Frame g (variable 0 ∷ []) (Return (variable 1)), shape-Return (variable 1)) refl
 
 over_failure : use_finding (Framed g (Failure 1)) (Some fails) [] [] ≡ Yes
 over_failure = rw (shape-Frame g (variable 0 ∷ []) (Fail 1), shape-Fail 1) refl
 
-point_covered : tree_finding example.rules (Called f) (Split (Eq (variable 0)) (Use 0 []) (Use 1 [])) [] ≡ Yes
+point_covered : tree_finding example.rules (Called f)
+    (Split (Eq (variable 0)) (Use 0 []) (Use 1 [])) [] ≡ Yes
 point_covered =
     finding_split example.rules (Called f) (Eq (variable 0)) (Use 0 []) (Use 1 []) []
-    ∙ (λ i. both (finding_use example.rules (Called f) 0 [] (Eq (variable 0) ∷ []) i) (finding_use example.rules (Called f) 1 [] (Ne (variable 0) ∷ []) i))
+    ∙ (λ i. both (finding_use example.rules (Called f) 0 [] (Eq (variable 0) ∷ []) i)
+    (finding_use example.rules (Called f) 1 [] (Ne (variable 0) ∷ []) i))
     ∙ (λ i. both (at_zero i) (elsewhere i))
 
 value_covered : tree_finding example.rules (Framed g Value) (Use 2 []) [] ≡ Yes

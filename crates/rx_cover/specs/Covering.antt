@@ -1,4 +1,5 @@
--- Cover trees for a rule set: for each symbol a list, one tree for each shape that a redex with that symbol has.
+-- Cover trees for a rule set: for each symbol a list, one tree for each shape that a redex with
+-- that symbol has.
 use Rattle.std.specs.Prelude.{Bool, true, false, if◌then◌else◌, ℕ, zero, suc, ◌+◌, ◌==◌, Option, Some, None, List, [], ◌∷◌, length, slice_get}
 use Rattle.rx_cert.specs.Findings.{Said, Yes, No, Beyond, both}
 use Rattle.rx_term.specs.Shapes.{Shape, Value, Failure, Called, Framed}
@@ -18,7 +19,8 @@ abbrev pub over_failures : Sym → ℕ → ℕ → List Shape
 over_failures f from zero = []
 over_failures f from (suc n) = Framed f (Failure from) ∷ over_failures f (from + 1) n
 
--- the shapes of redexes with the symbol: a point's call; a frame over a returned value, and over each failure code
+-- the shapes of redexes with the symbol: a point's call; a frame over a returned value, and over
+-- each failure code
 abbrev pub redex_shapes : Sym → Bool → ℕ → List Shape
 redex_shapes f false fails = Called f ∷ []
 redex_shapes f true fails = Framed f Value ∷ over_failures f 1 fails
@@ -28,22 +30,26 @@ abbrev pub shape_count : Bool → ℕ → ℕ
 shape_count false fails = 1
 shape_count true fails = fails + 1
 
--- each tree shows its shape, the path's rows being none; trees after those of the shapes are not examined
+-- each tree shows its shape, the path's rows being none; trees after those of the shapes are not
+-- examined
 abbrev pub in_turn : List Rule → List Shape → List CoverTree → Said
 in_turn rules [] trees = Yes
 in_turn rules (shape ∷ shapes) [] = No
-in_turn rules (shape ∷ shapes) (tree ∷ trees) = both (tree_finding rules shape tree []) (in_turn rules shapes trees)
+in_turn rules (shape ∷ shapes) (tree ∷ trees) =
+    both (tree_finding rules shape tree []) (in_turn rules shapes trees)
 
--- whether the trees show the shapes of the symbol, a frame or a point; where there is another number of trees than of
--- shapes, nothing is examined
+-- whether the trees show the shapes of the symbol, a frame or a point; where there is another
+-- number of trees than of shapes, nothing is examined
 abbrev pub shapes_finding : List Rule → ℕ → Sym → Bool → List CoverTree → Said
 shapes_finding rules fails f frame trees =
-    if length trees == shape_count frame fails then in_turn rules (redex_shapes f frame fails) trees else No
+    if length trees == shape_count frame fails then
+    in_turn rules (redex_shapes f frame fails) trees else No
 
 -- no trees cover a symbol that isn't there
 abbrev pub symbol_finding : RuleParts → ℕ → Option SymInfo → List CoverTree → Said
 symbol_finding parts f None trees = No
-symbol_finding parts f (Some info) trees = shapes_finding parts.rules parts.fails (symbol f) info.frame trees
+symbol_finding parts f (Some info) trees =
+    shapes_finding parts.rules parts.fails (symbol f) info.frame trees
 
 abbrev pub one_covered : RuleParts → ℕ → List CoverTree → Said
 one_covered parts f trees = symbol_finding parts f (slice_get parts.symbols f) trees
@@ -59,8 +65,8 @@ goes_on f Beyond rest = PassesLimits f
 goes_on f Yes rest = rest
 goes_on f No rest = Fails f
 
--- the symbols in order, the first having that number; a symbol without a list fails, and so does the number of
--- symbols where there are more lists
+-- the symbols in order, the first having that number; a symbol without a list fails, and so does
+-- the number of symbols where there are more lists
 abbrev pub covering_from : RuleParts → ℕ → List SymInfo → List (List CoverTree) → Covering
 covering_from parts f [] [] = Covers
 covering_from parts f [] (trees ∷ lists) = Fails f

@@ -1,6 +1,7 @@
--- A cover tree shows that at all arguments some rule of one shape applies: it splits by rows, and at each of its leaves
--- a rule's rows follow from those on the path to it, or the path's rows can't all hold. Parts are examined from left
--- to right, and the first that fails or passes the limits decides.
+-- A cover tree shows that at all arguments some rule of one shape applies: it splits by rows, and
+-- at each of its leaves a rule's rows follow from those on the path to it, or the path's rows can't
+-- all hold. Parts are examined from left to right, and the first that fails or passes the limits
+-- decides.
 use Rattle.std.specs.Prelude.{if◌then◌else◌, Option, Some, None, List, [], ◌∷◌, ◌++◌, slice_get}
 use Rattle.rx_row.specs.Negation.{negation, negation_within}
 use Rattle.rx_row.specs.declared.row.Row.{Row}
@@ -18,14 +19,17 @@ use Rattle.rx_cover.specs.declared.cover_tree.CoverTree.TheFolds.{fold-CoverTree
 abbrev pub use_finding : Shape → Option Rule → List Row → List Cert → Said
 use_finding shape None path certs = No
 use_finding shape (Some rule) path certs =
-    if same_shape (shape_of rule.left) shape then is_shown (conditions path (Some rule.rows) certs) else No
+    if same_shape (shape_of rule.left) shape then
+    is_shown (conditions path (Some rule.rows) certs) else No
 
--- what a tree is found to show at a path, from what the trees inside are; the negation of a split's row is formed
--- when its branch is examined
+-- what a tree is found to show at a path, from what the trees inside are; the negation of a split's
+-- row is formed when its branch is examined
 abbrev pub tree_level : List Rule → Shape → CoverTree-F (List Row → Said) → List Row → Said
-tree_level rules shape (CoverTree-F.Use rule certs) path = use_finding shape (slice_get rules rule) path certs
+tree_level rules shape (CoverTree-F.Use rule certs) path =
+    use_finding shape (slice_get rules rule) path certs
 tree_level rules shape (CoverTree-F.Split row holds fails) path =
-    both (holds (path ++ row ∷ [])) (within (negation_within row) (fails (path ++ negation row ∷ [])))
+    both (holds (path ++ row ∷ [])) (within (negation_within row)
+    (fails (path ++ negation row ∷ [])))
 tree_level rules shape (CoverTree-F.Absurd cert) path = finding path cert
 
 -- whether the tree shows that at the path some rule of the shape applies

@@ -25,8 +25,10 @@ fn examine_alone(
     redex: Redex,
     tree: &CoverTree,
 ) -> Result<bool, PolyEnd>
-    ensures answer { IfOk result (λ b. tree_finding rules.now (shape_at (symbol sym) redex) tree.now [] ≡ said b) }
-    ensures large { IfErr result (λ e. e ≡ PolyEnd.Large → tree_finding rules.now (shape_at (symbol sym) redex) tree.now [] ≡ Beyond) }
+    ensures answer { IfOk result (λ b. tree_finding rules.now (shape_at (symbol sym) redex) tree.now
+        [] ≡ said b) }
+    ensures large { IfErr result (λ e. e ≡ PolyEnd.Large →
+        tree_finding rules.now (shape_at (symbol sym) redex) tree.now [] ≡ Beyond) }
 {
     let mut path = Constraint::from_rows(Vec::new(alloc));
     examine(alloc, rules, sym, redex, &mut path, tree)
@@ -40,8 +42,10 @@ fn examine_failures(
     trees: &[CoverTree],
 ) -> Result<bool, PolyEnd>
     requires { length trees.now < 256 }
-    ensures answer { IfOk result (λ b. in_turn rules.now (over_failures (symbol sym) 1 (length trees.now)) trees.now ≡ said b) }
-    ensures large { IfErr result (λ e. e ≡ PolyEnd.Large → in_turn rules.now (over_failures (symbol sym) 1 (length trees.now)) trees.now ≡ Beyond) }
+    ensures answer { IfOk result (λ b. in_turn rules.now
+        (over_failures (symbol sym) 1 (length trees.now)) trees.now ≡ said b) }
+    ensures large { IfErr result (λ e. e ≡ PolyEnd.Large →
+        in_turn rules.now (over_failures (symbol sym) 1 (length trees.now)) trees.now ≡ Beyond) }
 {
     for (at, tree) in trees.iter().enumerate() {
         let code = at as u8 + 1;
@@ -61,8 +65,10 @@ fn examine_frame(
     trees: &[CoverTree],
 ) -> Result<bool, PolyEnd>
     requires { length trees.now ≡ fails + 1 }
-    ensures answer { IfOk result (λ b. in_turn rules.now (redex_shapes (symbol sym) true fails) trees.now ≡ said b) }
-    ensures large { IfErr result (λ e. e ≡ PolyEnd.Large → in_turn rules.now (redex_shapes (symbol sym) true fails) trees.now ≡ Beyond) }
+    ensures answer { IfOk result (λ b. in_turn rules.now (redex_shapes (symbol sym) true fails)
+        trees.now ≡ said b) }
+    ensures large { IfErr result (λ e. e ≡ PolyEnd.Large →
+        in_turn rules.now (redex_shapes (symbol sym) true fails) trees.now ≡ Beyond) }
 {
     let Some((first, others)) = trees.split_first() else {
         return Ok(false);
@@ -81,8 +87,10 @@ fn examine_point(
     sym: usize,
     trees: &[CoverTree],
 ) -> Result<bool, PolyEnd>
-    ensures answer { IfOk result (λ b. in_turn rules.now (redex_shapes (symbol sym) false fails) trees.now ≡ said b) }
-    ensures large { IfErr result (λ e. e ≡ PolyEnd.Large → in_turn rules.now (redex_shapes (symbol sym) false fails) trees.now ≡ Beyond) }
+    ensures answer { IfOk result (λ b. in_turn rules.now (redex_shapes (symbol sym) false fails)
+        trees.now ≡ said b) }
+    ensures large { IfErr result (λ e. e ≡ PolyEnd.Large →
+        in_turn rules.now (redex_shapes (symbol sym) false fails) trees.now ≡ Beyond) }
 {
     let Some((tree, _)) = trees.split_first() else {
         return Ok(false);
@@ -99,8 +107,10 @@ fn examine_shapes(
     frame: bool,
     trees: &[CoverTree],
 ) -> Result<bool, PolyEnd>
-    ensures answer { IfOk result (λ b. shapes_finding rules.now fails (symbol sym) frame trees.now ≡ said b) }
-    ensures large { IfErr result (λ e. e ≡ PolyEnd.Large → shapes_finding rules.now fails (symbol sym) frame trees.now ≡ Beyond) }
+    ensures answer { IfOk result (λ b. shapes_finding rules.now fails (symbol sym) frame trees.now ≡
+        said b) }
+    ensures large { IfErr result (λ e. e ≡ PolyEnd.Large →
+        shapes_finding rules.now fails (symbol sym) frame trees.now ≡ Beyond) }
 {
     if frame {
         if trees.len() != fails as usize + 1 {
@@ -123,7 +133,8 @@ fn examine_symbol(
     trees: &[CoverTree],
 ) -> Result<bool, PolyEnd>
     ensures answer { IfOk result (λ b. one_covered rules.now sym trees.now ≡ said b) }
-    ensures large { IfErr result (λ e. e ≡ PolyEnd.Large → one_covered rules.now sym trees.now ≡ Beyond) }
+    ensures large { IfErr result (λ e. e ≡ PolyEnd.Large → one_covered rules.now sym trees.now ≡
+        Beyond) }
 {
     match rules.symbols().get(sym) {
         Some(info) => {
@@ -133,9 +144,10 @@ fn examine_symbol(
     }
 }
 
-/// Whether the trees cover the symbol with that number: one tree for a point, and for a frame one over a returned value
-/// and one over each failure code, in this order. NotCovered with the number exactly where there is no such symbol or
-/// its trees fail, Large exactly where they pass the limits first.
+/// Whether the trees cover the symbol with that number: one tree for a point, and for a frame one
+/// over a returned value and one over each failure code, in this order. NotCovered with the number
+/// exactly where there is no such symbol or its trees fail, Large exactly where they pass the
+/// limits first.
 pub fn cover_one(
     alloc: Global,
     rules: &RuleSet,
@@ -165,10 +177,11 @@ fn examine_lists(alloc: Global, rules: &RuleSet, lists: &[Items<CoverTree>]) -> 
     Ok(())
 }
 
-/// Whether the lists of trees, one for each symbol in order, cover the rule set: then at each redex, whatever its
-/// arguments are, some rule applies. NotCovered exactly at the first symbol whose trees fail or are missing, and at the
-/// number of symbols where there are more lists; Large exactly at the first symbol whose trees pass the limits before
-/// they fail, with none before it that fails. A tree is examined by recursion, as deep as it is.
+/// Whether the lists of trees, one for each symbol in order, cover the rule set: then at each
+/// redex, whatever its arguments are, some rule applies. NotCovered exactly at the first symbol
+/// whose trees fail or are missing, and at the number of symbols where there are more lists; Large
+/// exactly at the first symbol whose trees pass the limits before they fail, with none before it
+/// that fails. A tree is examined by recursion, as deep as it is.
 pub fn covers(alloc: Global, rules: &RuleSet, lists: &[Items<CoverTree>]) -> Result<(), CoverEnd>
     ensures exact { Tells (covering rules.now lists.now) result }
     ensures covered { OnOk result (IsCovered rules.now) }

@@ -1,5 +1,5 @@
-//! The examination of a cover tree at a path. The path's rows are borrowed: what a branch appends to them it takes
-//! off again.
+//! The examination of a cover tree at a path. The path's rows are borrowed: what a branch appends
+//! to them it takes off again.
 ghost use Rattle.std.specs.Prelude.{◌≡◌, ◌∷◌, ◌++◌, [], Some, None, slice_get, IfOk, IfErr, OnOk};
 ghost use Rattle.rx_cover.specs.Covering.{symbol};
 ghost use Rattle.rx_cert.specs.Findings.{Beyond, said};
@@ -26,8 +26,11 @@ fn examine_use(
     number: u32,
     certs: &[Cert],
 ) -> Result<bool, PolyEnd>
-    ensures answer { IfOk result (λ b. use_finding (shape_at (symbol sym) redex) (slice_get rules.now number) path.now certs.now ≡ said b) }
-    ensures large { IfErr result (λ e. e ≡ PolyEnd.Large → use_finding (shape_at (symbol sym) redex) (slice_get rules.now number) path.now certs.now ≡ Beyond) }
+    ensures answer { IfOk result (λ b. use_finding (shape_at (symbol sym) redex)
+        (slice_get rules.now number) path.now certs.now ≡ said b) }
+    ensures large { IfErr result (λ e. e ≡ PolyEnd.Large →
+        use_finding (shape_at (symbol sym) redex) (slice_get rules.now number) path.now certs.now ≡
+        Beyond) }
 {
     let Some(rule) = rules.get(number as usize) else {
         return Ok(false);
@@ -64,8 +67,11 @@ fn examine_with(
     row: Row,
     tree: &Boxed<CoverTree>,
 ) -> Result<bool, PolyEnd>
-    ensures answer { IfOk result (λ b. tree_finding rules.now (shape_at (symbol sym) redex) tree.now (path.old ++ row ∷ []) ≡ said b) }
-    ensures large { IfErr result (λ e. e ≡ PolyEnd.Large → tree_finding rules.now (shape_at (symbol sym) redex) tree.now (path.old ++ row ∷ []) ≡ Beyond) }
+    ensures answer { IfOk result (λ b. tree_finding rules.now (shape_at (symbol sym) redex) tree.now
+        (path.old ++ row ∷ []) ≡ said b) }
+    ensures large { IfErr result (λ e. e ≡ PolyEnd.Large →
+        tree_finding rules.now (shape_at (symbol sym) redex) tree.now (path.old ++ row ∷ []) ≡
+        Beyond) }
     ensures kept { OnOk result (path.new ≡ path.old) }
 {
     let count = path.rows().len();
@@ -75,7 +81,8 @@ fn examine_with(
     Ok(found)
 }
 
-/// Whether both trees show their shape, one at the path with the row, the other at the path with its negation.
+/// Whether both trees show their shape, one at the path with the row, the other at the path with
+/// its negation.
 #[cycle(examination)]
 fn examine_split(
     alloc: Global,
@@ -87,8 +94,13 @@ fn examine_split(
     yes: &Boxed<CoverTree>,
     no: &Boxed<CoverTree>,
 ) -> Result<bool, PolyEnd>
-    ensures answer { IfOk result (λ b. tree_level rules.now (shape_at (symbol sym) redex) (CoverTree-F.Split row.now (tree_finding rules.now (shape_at (symbol sym) redex) yes.now) (tree_finding rules.now (shape_at (symbol sym) redex) no.now)) path.old ≡ said b) }
-    ensures large { IfErr result (λ e. e ≡ PolyEnd.Large → tree_level rules.now (shape_at (symbol sym) redex) (CoverTree-F.Split row.now (tree_finding rules.now (shape_at (symbol sym) redex) yes.now) (tree_finding rules.now (shape_at (symbol sym) redex) no.now)) path.old ≡ Beyond) }
+    ensures answer { IfOk result (λ b. tree_level rules.now (shape_at (symbol sym) redex)
+        (CoverTree-F.Split row.now (tree_finding rules.now (shape_at (symbol sym) redex) yes.now)
+        (tree_finding rules.now (shape_at (symbol sym) redex) no.now)) path.old ≡ said b) }
+    ensures large { IfErr result (λ e. e ≡ PolyEnd.Large →
+        tree_level rules.now (shape_at (symbol sym) redex)
+        (CoverTree-F.Split row.now (tree_finding rules.now (shape_at (symbol sym) redex) yes.now)
+        (tree_finding rules.now (shape_at (symbol sym) redex) no.now)) path.old ≡ Beyond) }
     ensures kept { OnOk result (path.new ≡ path.old) }
 {
     let same = row.try_clone(alloc)?;
@@ -99,8 +111,8 @@ fn examine_split(
     examine_with(alloc, rules, sym, redex, path, negation, no)
 }
 
-/// Whether the tree shows that at the path some rule of the shape applies. Large exactly where a polynomial passes
-/// the limits before that is seen.
+/// Whether the tree shows that at the path some rule of the shape applies. Large exactly where a
+/// polynomial passes the limits before that is seen.
 #[cycle(examination)]
 #[tactic(auto, using(crate::proofs::Equations::finding_use, crate::proofs::Equations::finding_split, crate::proofs::Equations::finding_absurd, crate::proofs::Equations::depth_split))]
 pub(crate) fn examine(
@@ -111,8 +123,10 @@ pub(crate) fn examine(
     path: &mut Constraint,
     tree: &CoverTree,
 ) -> Result<bool, PolyEnd>
-    ensures answer { IfOk result (λ b. tree_finding rules.now (shape_at (symbol sym) redex) tree.now path.old ≡ said b) }
-    ensures large { IfErr result (λ e. e ≡ PolyEnd.Large → tree_finding rules.now (shape_at (symbol sym) redex) tree.now path.old ≡ Beyond) }
+    ensures answer { IfOk result (λ b. tree_finding rules.now (shape_at (symbol sym) redex) tree.now
+        path.old ≡ said b) }
+    ensures large { IfErr result (λ e. e ≡ PolyEnd.Large →
+        tree_finding rules.now (shape_at (symbol sym) redex) tree.now path.old ≡ Beyond) }
     ensures kept { OnOk result (path.new ≡ path.old) }
 {
     match tree {

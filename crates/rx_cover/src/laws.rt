@@ -13,8 +13,8 @@ ghost use Rattle.rx_term.specs.Shapes.{Shape};
 ghost use Rattle.rx_term.specs.declared.rule.Rule.{Rule};
 ghost use Rattle.rx_term.specs.declared.rule_set.RuleParts.{RuleParts};
 
-/// Where a tree shows its shape at a path, each assignment that meets the path's rows meets those of
-/// some rule of the shape.
+/// Where a tree shows its shape at a path, each assignment that meets the path's rows meets those
+/// of some rule of the shape.
 #[tactic(auto, using(crate::proofs::TreeLaws::tree_covers))]
 pub fn a_tree_covers_its_path()
     ensures { (rules : List Rule) (shape : Shape) (a : ℕ → ℤ) (tree : CoverTree) (path : List Row) →

@@ -1,5 +1,5 @@
-//! Cover trees: proofs that at each redex, whatever its arguments are, some rule applies. Anybody can
-//! check one, whoever wrote it.
+//! Cover trees: proofs that at each redex, whatever its arguments are, some rule applies. Anybody
+//! can check one, whoever wrote it.
 #![tactic(auto)]
 
 mod cover_end;

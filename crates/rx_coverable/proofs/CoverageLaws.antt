@@ -16,23 +16,33 @@ or_no false = refl
 
 -- what was noted twice
 noting_again : (a b : Bool) (later : Coverage) → noting (a || b) later ≡ noting a (noting b later)
-noting_again a b later = ap (λ n. record { covered = later.covered; noted = n }) (or_again a b later.noted)
+noting_again a b later =
+    ap (λ n. record { covered = later.covered; noted = n }) (or_again a b later.noted)
 
 -- nothing more was noted
-pub noted_alone : (covered noted : Bool) → noting noted (record { covered = covered; noted = false }) ≡ record { covered = covered; noted = noted }
+pub noted_alone : (covered noted : Bool) → noting noted
+    (record { covered = covered; noted = false }) ≡ record { covered = covered; noted = noted }
 noted_alone covered noted = ap (λ n. record { covered = covered; noted = n }) (or_no noted)
 
 module _ (noted : Bool) (first later whole : Coverage) where
-  pub or_more : noting noted (or_else first later) ≡ whole → first.covered ≡ false → noting (noted || first.noted) later ≡ whole
-  or_more e f = noting_again noted first.noted later ∙ ap (λ c. noting noted (cond c first (noting first.noted later))) (sym f) ∙ e
+  pub or_more : noting noted (or_else first later) ≡ whole → first.covered ≡ false →
+      noting (noted || first.noted) later ≡ whole
+  or_more e f =
+      noting_again noted first.noted later ∙ ap
+      (λ c. noting noted (cond c first (noting first.noted later))) (sym f) ∙ e
 
-  pub or_done : noting noted (or_else first later) ≡ whole → first.covered ≡ true → noting noted first ≡ whole
+  pub or_done : noting noted (or_else first later) ≡ whole → first.covered ≡ true →
+      noting noted first ≡ whole
   or_done e f = ap (λ c. noting noted (cond c first (noting first.noted later))) (sym f) ∙ e
 
-  pub and_more : noting noted (and_then first later) ≡ whole → first.covered ≡ true → noting (noted || first.noted) later ≡ whole
-  and_more e f = noting_again noted first.noted later ∙ ap (λ c. noting noted (cond c (noting first.noted later) first)) (sym f) ∙ e
+  pub and_more : noting noted (and_then first later) ≡ whole → first.covered ≡ true →
+      noting (noted || first.noted) later ≡ whole
+  and_more e f =
+      noting_again noted first.noted later ∙ ap
+      (λ c. noting noted (cond c (noting first.noted later) first)) (sym f) ∙ e
 
-  pub and_done : noting noted (and_then first later) ≡ whole → first.covered ≡ false → noting noted first ≡ whole
+  pub and_done : noting noted (and_then first later) ≡ whole → first.covered ≡ false →
+      noting noted first ≡ whole
   and_done e f = ap (λ c. noting noted (cond c (noting first.noted later) first)) (sym f) ∙ e
 
 -- a rule is used, or something else is found
@@ -41,8 +51,10 @@ unfolding covering_at
 used_or_not rules zero path = refl
 used_or_not rules (suc n) path = refl
 
-module _ (rules : List Rule) (n : ℕ) (path : List Row) (found : Coverage) (is : found ≡ using path rules) where
-  whole_is : (b : Bool) → found.covered ≡ b → cond b found (noting found.noted (unless_used rules n path)) ≡ covering_at rules n path
+module _ (rules : List Rule) (n : ℕ) (path : List Row) (found : Coverage)
+    (is : found ≡ using path rules) where
+  whole_is : (b : Bool) → found.covered ≡ b →
+      cond b found (noting found.noted (unless_used rules n path)) ≡ covering_at rules n path
   whole_is b e =
       ap (λ c. cond c found (noting found.noted (unless_used rules n path))) (sym e)
       ∙ ap (λ f. or_else f (unless_used rules n path)) is ∙ sym (used_or_not rules n path)
@@ -52,7 +64,8 @@ module _ (rules : List Rule) (n : ℕ) (path : List Row) (found : Coverage) (is 
   used_covers e = whole_is true e
 
   -- none is
-  pub not_used : found.covered ≡ false → (later : Coverage) → later ≡ unless_used rules n path → noting found.noted later ≡ covering_at rules n path
+  pub not_used : found.covered ≡ false → (later : Coverage) → later ≡ unless_used rules n path →
+      noting found.noted later ≡ covering_at rules n path
   not_used e later f = ap (noting found.noted) f ∙ whole_is false e
 
 -- something was noted before, or now

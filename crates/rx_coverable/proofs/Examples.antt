@@ -29,7 +29,8 @@ example_coverable = paired_coverable example example_paired
 
 -- no rows can't be refuted
 nothing_refuted : (s : Said) → refuted [] ≡ s → (as_said s).covered ≡ false
-nothing_refuted Yes is = absurd (refuted_is_met_by_none [] is (λ v. pos 0) (All-nil (RowHolds (λ v. pos 0))))
+nothing_refuted Yes is =
+    absurd (refuted_is_met_by_none [] is (λ v. pos 0) (All-nil (RowHolds (λ v. pos 0))))
 nothing_refuted No is = refl
 nothing_refuted Beyond is = refl
 
@@ -54,14 +55,18 @@ not_evident = by (is_evident (Eq (variable 0))) refl where
   by : (b : Bool) → is_evident (Eq (variable 0)) ≡ b → b ≡ false
   by false e = refl
   by true e =
-      let zero_there : value ones (variable 0) ≡ pos 0 = All-head (RowHolds ones) (Eq (variable 0)) [] (shown_hold [] (Eq (variable 0) ∷ []) (shown_so e) ones (All-nil (RowHolds ones))) in
+      let zero_there : value ones (variable 0) ≡ pos 0 =
+      All-head (RowHolds ones) (Eq (variable 0)) []
+      (shown_hold [] (Eq (variable 0) ∷ []) (shown_so e) ones (All-nil (RowHolds ones))) in
       let one_there : value ones (variable 0) ≡ pos 1 = value-variable ones 0 in
       let wrong : pos 1 ≡ pos 0 = sym one_there ∙ zero_there in
       cc
 
 -- the point of the example is split by its first rule's row
 pub splits_by_first : first_open [] (ends ∷ goes_on ∷ []) ≡ Some (Eq (variable 0))
-splits_by_first = ap (λ b. option_or (cond (not (b || false)) (Some (Eq (variable 0))) None) (first_open [] (goes_on ∷ []))) not_evident
+splits_by_first =
+    ap (λ b. option_or (cond (not (b || false)) (Some (Eq (variable 0))) None)
+    (first_open [] (goes_on ∷ []))) not_evident
 
 itself : (row : Row) → stands_among (row ∷ []) row ≡ true
 itself row = contains-stands (row ∷ []) row 0 (omega arith) refl
@@ -70,17 +75,22 @@ abbrev known : List Row
 known = Eq (variable 0) ∷ []
 
 closed_plain : is_open known (Eq (variable 0)) ≡ false
-closed_plain = ap (λ s. not ((s || is_evident (Eq (variable 0))) || stands_among (map negation known) (Eq (variable 0)))) (itself (Eq (variable 0)))
+closed_plain =
+    ap (λ s. not ((s || is_evident (Eq (variable 0))) ||
+    stands_among (map negation known) (Eq (variable 0)))) (itself (Eq (variable 0)))
 
 closed_negation : is_open known (Ne (variable 0)) ≡ false
-closed_negation = ap (λ s. not (is_plain_row known (Ne (variable 0)) || s)) (itself (Ne (variable 0))) ∙ by (is_plain_row known (Ne (variable 0))) where
-  by : (b : Bool) → not (b || true) ≡ false
-  by true = refl
-  by false = refl
+closed_negation =
+    ap (λ s. not (is_plain_row known (Ne (variable 0)) || s)) (itself (Ne (variable 0))) ∙
+    by (is_plain_row known (Ne (variable 0))) where
+      by : (b : Bool) → not (b || true) ≡ false
+      by true = refl
+      by false = refl
 
 -- where that row is known it is plain, and the other rule's row is its negation, so nothing is
 -- left to split by
 pub then_by_none : first_open known (ends ∷ goes_on ∷ []) ≡ None
 then_by_none =
-    ap (λ b. option_or (cond b (Some (Eq (variable 0))) None) (first_open known (goes_on ∷ []))) closed_plain
+    ap (λ b. option_or (cond b (Some (Eq (variable 0))) None) (first_open known (goes_on ∷ [])))
+    closed_plain
     ∙ ap (λ b. option_or (cond b (Some (Ne (variable 0))) None) None) closed_negation

@@ -25,10 +25,11 @@ abbrev pub AreSmall : RuleParts → List CoverTree → Type 0
 AreSmall parts trees = All (IsSmall parts.rules 33 []) trees
 
 -- trees that show the shapes, one each
-pub record AreTrees (rules : List Rule) (shapes : List Shape) (trees : List CoverTree) : Type 0 where
-  pub shows : in_turn rules shapes trees ≡ Yes
-  pub count : length trees ≡ length shapes
-  pub small : All (IsSmall rules 33 []) trees
+pub record AreTrees (rules : List Rule) (shapes : List Shape) (trees : List CoverTree) : Type 0
+  where
+    pub shows : in_turn rules shapes trees ≡ Yes
+    pub count : length trees ≡ length shapes
+    pub small : All (IsSmall rules 33 []) trees
 
 -- lists that cover the rule set
 pub record IsCover (parts : RuleParts) (lists : List (List CoverTree)) : Type 0 where

@@ -38,13 +38,15 @@ first_open path (rule ∷ rules) = option_or (find (is_open path) rule.rows) (fi
 abbrev pub splitting : Option Row → (List Row → Coverage) → List Row → Coverage
 splitting None branch path = as_said (refuted path)
 splitting (Some row) branch path =
-    and_then (branch (path ++ row ∷ [])) (formed_then (negation_within row) (branch (path ++ negation row ∷ [])))
+    and_then (branch (path ++ row ∷ [])) (formed_then (negation_within row)
+    (branch (path ++ negation row ∷ [])))
 
 -- whether a tree is found at the path by these rules, with at most so many splits on a way from
 -- here
 unfoldable pub covering_at : List Rule → ℕ → List Row → Coverage
 covering_at rules zero path = or_else (using path rules) (as_said (refuted path))
-covering_at rules (suc n) path = or_else (using path rules) (splitting (first_open path rules) (covering_at rules n) path)
+covering_at rules (suc n) path =
+    or_else (using path rules) (splitting (first_open path rules) (covering_at rules n) path)
 
 -- what is found at a path at which no rule is used
 abbrev pub unless_used : List Rule → ℕ → List Row → Coverage
@@ -59,13 +61,15 @@ most_splits = 32
 abbrev pub shapes_coverage : List Rule → List Shape → Coverage
 shapes_coverage rules [] = holds
 shapes_coverage rules (shape ∷ shapes) =
-    and_then (covering_at (rules_of_shape shape rules) most_splits []) (shapes_coverage rules shapes)
+    and_then (covering_at (rules_of_shape shape rules) most_splits [])
+    (shapes_coverage rules shapes)
 
 -- the symbols in order, the first having that number
 abbrev pub symbols_coverage : RuleParts → ℕ → List SymInfo → Coverage
 symbols_coverage parts f [] = holds
 symbols_coverage parts f (info ∷ infos) =
-    and_then (shapes_coverage parts.rules (redex_shapes (symbol f) info.frame parts.fails)) (symbols_coverage parts (f + 1) infos)
+    and_then (shapes_coverage parts.rules (redex_shapes (symbol f) info.frame parts.fails))
+    (symbols_coverage parts (f + 1) infos)
 
 abbrev pub coverage : RuleParts → Coverage
 coverage parts = symbols_coverage parts 0 parts.symbols

@@ -19,7 +19,8 @@ use Rattle.rx_solve.specs.Answers.{AreCertificates}
 -- all rows that a tree splits by pass the one test, and all its certificates the other
 abbrev pub passes_level : (Row → Bool) → (Cert → Bool) → CoverTree-F Bool → Bool
 passes_level row_test cert_test (CoverTree-F.Use rule certs) = list_all cert_test certs
-passes_level row_test cert_test (CoverTree-F.Split row holds fails) = row_test row && (holds && fails)
+passes_level row_test cert_test (CoverTree-F.Split row holds fails) =
+    row_test row && (holds && fails)
 passes_level row_test cert_test (CoverTree-F.Absurd cert) = cert_test cert
 
 abbrev pub tree_passes : (Row → Bool) → (Cert → Bool) → CoverTree → Bool
@@ -39,13 +40,16 @@ rules_pass test rules = list_all (λ (r : Rule). rows_pass test r.rows) rules
 
 -- it is at most so deep, its certificates at most 174; it has no variables but those of the path
 -- and of the rules
-pub record IsSmall (rules : List Rule) (most : ℕ) (path : List Row) (tree : CoverTree) : Type 0 where
-  pub deep : tree_depth tree ≤ most
-  pub certs_deep : tree_passes (λ row. true) is_cert_deep tree ≡ true
-  pub own_variables : (test : ℕ → Bool) → rows_pass test path ≡ true → rules_pass test rules ≡ true → tree_variables_pass test tree ≡ true
+pub record IsSmall (rules : List Rule) (most : ℕ) (path : List Row) (tree : CoverTree) : Type 0
+  where
+    pub deep : tree_depth tree ≤ most
+    pub certs_deep : tree_passes (λ row. true) is_cert_deep tree ≡ true
+    pub own_variables : (test : ℕ → Bool) → rows_pass test path ≡ true → rules_pass test rules ≡
+        true → tree_variables_pass test tree ≡ true
 
 -- and it shows its shape at the path
-pub record IsTree (rules : List Rule) (shape : Shape) (most : ℕ) (path : List Row) (tree : CoverTree) : Type 0 where
+pub record IsTree (rules : List Rule) (shape : Shape) (most : ℕ) (path : List Row)
+    (tree : CoverTree) : Type 0 where
   pub shows : tree_finding rules shape tree path ≡ Yes
   pub small : IsSmall rules most path tree
 

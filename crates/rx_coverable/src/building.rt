@@ -40,8 +40,11 @@ fn build_with<S: FnMut(&Constraint) -> Result<Option<Cert>, FmEnd>>(
 ) -> Result<Built<CoverTree>, NoMemory>
     requires solver { IsSolver S.FnMut solve.old }
     ensures solver { IsSolver S.FnMut solve.new }
-    ensures coverage { IfOk result (λ b. outcome b ≡ covering_at (rules_of_shape (shape_at (symbol sym) redex) rules.now) left (path.old ++ row ∷ [])) }
-    ensures tree { IfOk result (λ b. IfSome b.made (IsTree rules.now (shape_at (symbol sym) redex) (left + 1) (path.old ++ row ∷ []))) }
+    ensures coverage { IfOk result (λ b. outcome b ≡
+        covering_at (rules_of_shape (shape_at (symbol sym) redex) rules.now) left
+        (path.old ++ row ∷ [])) }
+    ensures tree { IfOk result (λ b. IfSome b.made
+        (IsTree rules.now (shape_at (symbol sym) redex) (left + 1) (path.old ++ row ∷ []))) }
     ensures kept { OnOk result (path.new ≡ path.old) }
 {
     let count = path.rows().len();
@@ -65,8 +68,13 @@ fn build_with_negation<S: FnMut(&Constraint) -> Result<Option<Cert>, FmEnd>>(
 ) -> Result<Built<CoverTree>, NoMemory>
     requires solver { IsSolver S.FnMut solve.old }
     ensures solver { IsSolver S.FnMut solve.new }
-    ensures coverage { IfOk result (λ b. outcome b ≡ formed_then (negation_within row.now) (covering_at (rules_of_shape (shape_at (symbol sym) redex) rules.now) left (path.old ++ negation row.now ∷ []))) }
-    ensures tree { IfOk result (λ b. IfSome b.made (IsTree rules.now (shape_at (symbol sym) redex) (left + 1) (path.old ++ negation row.now ∷ []))) }
+    ensures coverage { IfOk result (λ b. outcome b ≡
+        formed_then (negation_within row.now)
+        (covering_at (rules_of_shape (shape_at (symbol sym) redex) rules.now) left
+        (path.old ++ negation row.now ∷ []))) }
+    ensures tree { IfOk result (λ b. IfSome b.made
+        (IsTree rules.now (shape_at (symbol sym) redex) (left + 1)
+        (path.old ++ negation row.now ∷ []))) }
     ensures formed { IfOk result (λ b. IfSome b.made (λ t. negation_within row.now ≡ true)) }
     ensures kept { OnOk result (path.new ≡ path.old) }
 {
@@ -121,8 +129,11 @@ fn build_split<S: FnMut(&Constraint) -> Result<Option<Cert>, FmEnd>>(
     requires solver { IsSolver S.FnMut solve.old }
     requires own { IsOwnRow rules.now row.now }
     ensures solver { IsSolver S.FnMut solve.new }
-    ensures coverage { IfOk result (λ b. outcome b ≡ splitting (Some row.now) (covering_at (rules_of_shape (shape_at (symbol sym) redex) rules.now) left) path.old) }
-    ensures tree { IfOk result (λ b. IfSome b.made (IsTree rules.now (shape_at (symbol sym) redex) (left + 2) path.old)) }
+    ensures coverage { IfOk result (λ b. outcome b ≡
+        splitting (Some row.now) (covering_at
+        (rules_of_shape (shape_at (symbol sym) redex) rules.now) left) path.old) }
+    ensures tree { IfOk result (λ b. IfSome b.made
+        (IsTree rules.now (shape_at (symbol sym) redex) (left + 2) path.old)) }
     ensures kept { OnOk result (path.new ≡ path.old) }
 {
     let same = row.try_clone(alloc)?;
@@ -150,8 +161,10 @@ fn build_unless_used<S: FnMut(&Constraint) -> Result<Option<Cert>, FmEnd>>(
 ) -> Result<Built<CoverTree>, NoMemory>
     requires solver { IsSolver S.FnMut solve.old }
     ensures solver { IsSolver S.FnMut solve.new }
-    ensures coverage { IfOk result (λ b. outcome b ≡ unless_used (rules_of_shape (shape_at (symbol sym) redex) rules.now) left path.old) }
-    ensures tree { IfOk result (λ b. IfSome b.made (IsTree rules.now (shape_at (symbol sym) redex) (left + 1) path.old)) }
+    ensures coverage { IfOk result (λ b. outcome b ≡
+        unless_used (rules_of_shape (shape_at (symbol sym) redex) rules.now) left path.old) }
+    ensures tree { IfOk result (λ b. IfSome b.made
+        (IsTree rules.now (shape_at (symbol sym) redex) (left + 1) path.old)) }
     ensures kept { OnOk result (path.new ≡ path.old) }
 {
     if left == 0 {
@@ -177,8 +190,10 @@ pub(crate) fn build<S: FnMut(&Constraint) -> Result<Option<Cert>, FmEnd>>(
 ) -> Result<Built<CoverTree>, NoMemory>
     requires solver { IsSolver S.FnMut solve.old }
     ensures solver { IsSolver S.FnMut solve.new }
-    ensures coverage { IfOk result (λ b. outcome b ≡ covering_at (rules_of_shape (shape_at (symbol sym) redex) rules.now) left path.old) }
-    ensures tree { IfOk result (λ b. IfSome b.made (IsTree rules.now (shape_at (symbol sym) redex) (left + 1) path.old)) }
+    ensures coverage { IfOk result (λ b. outcome b ≡
+        covering_at (rules_of_shape (shape_at (symbol sym) redex) rules.now) left path.old) }
+    ensures tree { IfOk result (λ b. IfSome b.made
+        (IsTree rules.now (shape_at (symbol sym) redex) (left + 1) path.old)) }
     ensures kept { OnOk result (path.new ≡ path.old) }
 {
     let used = find_use(alloc, rules, sym, redex, path, solve)?;

@@ -26,8 +26,10 @@ fn build_lists<S: FnMut(&Constraint) -> Result<Option<Cert>, FmEnd>>(
 ) -> Result<Built<Items<Items<CoverTree>>>, NoMemory>
     requires solver { IsSolver S.FnMut solve.old }
     ensures solver { IsSolver S.FnMut solve.new }
-    ensures coverage { IfOk result (λ b. outcome b ≡ coverage (parts_of symbols.now rules.now fails)) }
-    ensures lists { IfOk result (λ b. IfSome b.made (IsCover (parts_of symbols.now rules.now fails))) }
+    ensures coverage { IfOk result (λ b. outcome b ≡
+        coverage (parts_of symbols.now rules.now fails)) }
+    ensures lists { IfOk result (λ b. IfSome b.made
+        (IsCover (parts_of symbols.now rules.now fails))) }
 {
     let mut lists = Items::new(alloc);
     let mut noted = false;
@@ -79,7 +81,8 @@ pub fn find_cover<S: FnMut(&Constraint) -> Result<Option<Cert>, FmEnd>>(
 ) -> Result<Option<Items<Items<CoverTree>>>, FmEnd>
     requires solver { IsSolver S.FnMut solve.old }
     ensures solver { IsSolver S.FnMut solve.new }
-    ensures found { IfOk result (λ a. MatchOption a (coverage rules.now ≡ fails) (λ lists. is_coverable rules.now ≡ true)) }
+    ensures found { IfOk result (λ a. MatchOption a (coverage rules.now ≡ fails)
+        (λ lists. is_coverable rules.now ≡ true)) }
     ensures large { IfErr result (λ e. e ≡ FmEnd.Large → coverage rules.now ≡ beyond) }
     ensures covers { IfOk result (λ a. IfSome a (λ lists. covering rules.now lists ≡ Covers)) }
     ensures small { IfOk result (λ a. IfSome a (λ lists. All (AreSmall rules.now) lists)) }

@@ -58,8 +58,10 @@ fn build_alone<S: FnMut(&Constraint) -> Result<Option<Cert>, FmEnd>>(
 ) -> Result<Built<CoverTree>, NoMemory>
     requires solver { IsSolver S.FnMut solve.old }
     ensures solver { IsSolver S.FnMut solve.new }
-    ensures coverage { IfOk result (λ b. outcome b ≡ covering_at (rules_of_shape (shape_at (symbol sym) redex) rules.now) most_splits []) }
-    ensures tree { IfOk result (λ b. IfSome b.made (IsTree rules.now (shape_at (symbol sym) redex) 33 [])) }
+    ensures coverage { IfOk result (λ b. outcome b ≡
+        covering_at (rules_of_shape (shape_at (symbol sym) redex) rules.now) most_splits []) }
+    ensures tree { IfOk result (λ b. IfSome b.made
+        (IsTree rules.now (shape_at (symbol sym) redex) 33 [])) }
 {
     let mut path = Constraint::from_rows(Vec::new(alloc));
     build(alloc, rules, sym, redex, &mut path, MOST_SPLITS, solve)
@@ -75,8 +77,10 @@ fn build_shapes<S: FnMut(&Constraint) -> Result<Option<Cert>, FmEnd>>(
 ) -> Result<Built<Items<CoverTree>>, NoMemory>
     requires solver { IsSolver S.FnMut solve.old }
     ensures solver { IsSolver S.FnMut solve.new }
-    ensures coverage { IfOk result (λ b. outcome b ≡ shapes_coverage rules.now (map (shape_at (symbol sym)) redexes.now)) }
-    ensures trees { IfOk result (λ b. IfSome b.made (AreTrees rules.now (map (shape_at (symbol sym)) redexes.now))) }
+    ensures coverage { IfOk result (λ b. outcome b ≡
+        shapes_coverage rules.now (map (shape_at (symbol sym)) redexes.now)) }
+    ensures trees { IfOk result (λ b. IfSome b.made
+        (AreTrees rules.now (map (shape_at (symbol sym)) redexes.now))) }
 {
     let mut trees = Items::new(alloc);
     let mut noted = false;
@@ -105,8 +109,10 @@ pub(crate) fn build_symbol<S: FnMut(&Constraint) -> Result<Option<Cert>, FmEnd>>
 ) -> Result<Built<Items<CoverTree>>, NoMemory>
     requires solver { IsSolver S.FnMut solve.old }
     ensures solver { IsSolver S.FnMut solve.new }
-    ensures coverage { IfOk result (λ b. outcome b ≡ shapes_coverage rules.now (redex_shapes (symbol sym) frame fails)) }
-    ensures trees { IfOk result (λ b. IfSome b.made (AreTrees rules.now (redex_shapes (symbol sym) frame fails))) }
+    ensures coverage { IfOk result (λ b. outcome b ≡
+        shapes_coverage rules.now (redex_shapes (symbol sym) frame fails)) }
+    ensures trees { IfOk result (λ b. IfSome b.made
+        (AreTrees rules.now (redex_shapes (symbol sym) frame fails))) }
 {
     let redexes = redexes_of(alloc, frame, fails)?;
     build_shapes(alloc, rules, sym, redexes.as_slice(), solve)

@@ -55,7 +55,8 @@ fn find_open_row<'a>(
     redex: Redex,
     path: &Constraint,
 ) -> Option<&'a Row>
-    ensures { option_map (λ r. r.now) result ≡ first_open path.now (rules_of_shape (shape_at (symbol sym) redex) rules.now) }
+    ensures { option_map (λ r. r.now) result ≡
+        first_open path.now (rules_of_shape (shape_at (symbol sym) redex) rules.now) }
 {
     for rule in rules {
         if is_redex_of(&rule.left, sym, redex) {
@@ -75,7 +76,8 @@ pub(crate) fn find_split_row<'a>(
     redex: Redex,
     path: &Constraint,
 ) -> Option<&'a Row>
-    ensures row { option_map (λ r. r.now) result ≡ first_open path.now (rules_of_shape (shape_at (symbol sym) redex) rules.now) }
+    ensures row { option_map (λ r. r.now) result ≡
+        first_open path.now (rules_of_shape (shape_at (symbol sym) redex) rules.now) }
     ensures own { IfSome result (λ r. IsOwnRow rules.now r.now) }
 {
     find_open_row(rules, sym, redex, path)

@@ -77,8 +77,10 @@ pub(crate) fn find_use<S: FnMut(&Constraint) -> Result<Option<Cert>, FmEnd>>(
 ) -> Result<Built<CoverTree>, NoMemory>
     requires solver { IsSolver S.FnMut solve.old }
     ensures solver { IsSolver S.FnMut solve.new }
-    ensures coverage { IfOk result (λ b. outcome b ≡ using path.now (rules_of_shape (shape_at (symbol sym) redex) rules.now)) }
-    ensures tree { IfOk result (λ b. IfSome b.made (IsTree rules.now (shape_at (symbol sym) redex) 1 path.now)) }
+    ensures coverage { IfOk result (λ b. outcome b ≡
+        using path.now (rules_of_shape (shape_at (symbol sym) redex) rules.now)) }
+    ensures tree { IfOk result (λ b. IfSome b.made
+        (IsTree rules.now (shape_at (symbol sym) redex) 1 path.now)) }
 {
     let mut noted = false;
     for (number, rule) in rules.iter().enumerate() {
@@ -105,7 +107,8 @@ pub(crate) fn refute_path<S: FnMut(&Constraint) -> Result<Option<Cert>, FmEnd>>(
     requires solver { IsSolver S.FnMut solve.old }
     ensures solver { IsSolver S.FnMut solve.new }
     ensures coverage { IfOk result (λ b. outcome b ≡ as_said (refuted path.now)) }
-    ensures tree { IfOk result (λ b. IfSome b.made (λ t. (rules : List Rule) (shape : Shape) → IsTree rules shape 1 path.now t)) }
+    ensures tree { IfOk result (λ b. IfSome b.made
+        (λ t. (rules : List Rule) (shape : Shape) → IsTree rules shape 1 path.now t)) }
 {
     match ask(path, solve) {
         Ok(Some(cert)) => Ok(Built {

@@ -21,18 +21,25 @@ use Rattle.rx_exprs.proofs.Operands.{after_code, append_code_assoc, both_true, o
 
 -- ---- a call
 
-pub call_compiled : (e : Expr) (f : ℕ) (es : List Expr) (old two new : Code) (a at : Point) (ps : List Body) (result : Result (Point × Body) PolyEnd)
+pub call_compiled : (e : Expr) (f : ℕ) (es : List Expr) (old two new : Code) (a at : Point)
+    (ps : List Body) (result : Result (Point × Body) PolyEnd)
     → e ≡ Apply f es → CompilesArguments old two (Ok (at, ps)) (arguments_at es a old)
-    → CompilesValue two new result (call_at f ps at (length two.opened)) → CompilesValue old new result (value_at e a old)
+    → CompilesValue two new result (call_at f ps at (length two.opened)) →
+    CompilesValue old new result (value_at e a old)
 call_compiled e f es old two new a at ps result is known called =
     let n = length old.opened in
     let xs = arguments (map expr_code es) a n in
     let d = call_at f xs.values xs.at (after n xs.code) in
-    let count : length two.opened ≡ after n xs.code = ap (λ (c : Code). length c.opened) known.0 ∙ opened-append old xs.code in
-    let piece : call_at f ps at (length two.opened) ≡ d = λ i. call_at f (known.2 i) (known.1 i) (count i) in
-    let same : value_at e a old ≡ after_code xs.code xs.within d = ap (λ (x : Expr). (expr_code x).value a n) is ∙ ap (λ (b : Asked). b.value a n) (code-Apply f es) in
+    let count : length two.opened ≡ after n xs.code = ap (λ (c : Code). length c.opened) known.0 ∙
+    opened-append old xs.code in
+    let piece : call_at f ps at (length two.opened) ≡ d = λ i.
+    call_at f (known.2 i) (known.1 i) (count i) in
+    let same : value_at e a old ≡ after_code xs.code xs.within d =
+    ap (λ (x : Expr). (expr_code x).value a n) is ∙
+    ap (λ (b : Asked). b.value a n) (code-Apply f es) in
     subst (λ (w : Valued). CompilesValue old new result w) (sym same)
-    (then_value old two new xs.code xs.within d result known.0 known.3 (subst (λ (w : Valued). CompilesValue two new result w) piece called))
+    (then_value old two new xs.code xs.within d result known.0 known.3
+    (subst (λ (w : Valued). CompilesValue two new result w) piece called))
 
 -- ---- a choice
 
@@ -44,58 +51,82 @@ pub record IsOpened (old new : Code) (p : Point) (width : ℕ) : Type 0 where
 
 -- three points are, where `n` symbols were
 pub record AreOpened (old new : Code) (y w b : Point) (width : ℕ) : Type 0 where
-  pub code : new ≡ append_code old (opens (a_point width ∷ a_point width ∷ a_point (width + 1) ∷ []))
+  pub code : new ≡ append_code old (opens (a_point width ∷ a_point width ∷ a_point (width + 1) ∷
+      []))
   pub first : y ≡ point (length old.opened) width
   pub second : w ≡ point (length old.opened + 1) width
   pub third : b ≡ point (length old.opened + 2) (width + 1)
-  pub room : (is_room (length old.opened) width && (is_room (length old.opened + 1) width && is_room (length old.opened + 2) (width + 1))) ≡ true
+  pub room : (is_room (length old.opened) width &&
+      (is_room (length old.opened + 1) width && is_room (length old.opened + 2) (width + 1))) ≡ true
   pub count : length new.opened ≡ length old.opened + 3
 
 -- how many symbols there are after one more
-one_more : (old new : Code) (p : Point) (width : ℕ) → IsOpened old new p width → length new.opened ≡ length old.opened + 1
-one_more old new p width o = ap (λ (c : Code). length c.opened) o.code ∙ opened-append old (opens (a_point width ∷ []))
+one_more : (old new : Code) (p : Point) (width : ℕ) → IsOpened old new p width → length new.opened ≡
+    length old.opened + 1
+one_more old new p width o =
+    ap (λ (c : Code). length c.opened) o.code ∙ opened-append old (opens (a_point width ∷ []))
 
-pub three_opened : (old one two new : Code) (y w b : Point) (width : ℕ) → IsOpened old one y width → IsOpened one two w width → IsOpened two new b (width + 1)
+pub three_opened : (old one two new : Code) (y w b : Point) (width : ℕ) → IsOpened old one y width →
+    IsOpened one two w width → IsOpened two new b (width + 1)
     → AreOpened old new y w b width
 three_opened old one two new y w b width o p q =
     let n = length old.opened in
     let first = one_more old one y width o in
-    let second : length two.opened ≡ n + 2 = let s = one_more one two w width p in omega (arith, first, s) in
-    let third : length new.opened ≡ n + 3 = let s = one_more two new b (width + 1) q in omega (arith, second, s) in
+    let second : length two.opened ≡ n + 2 = let s = one_more one two w width p in
+    omega (arith, first, s) in
+    let third : length new.opened ≡ n + 3 = let s = one_more two new b (width + 1) q in
+    omega (arith, second, s) in
     let y_code = opens (a_point width ∷ []) in
     let b_code = opens (a_point (width + 1) ∷ []) in
     record {
-      code = q.code ∙ ap (λ (c : Code). append_code c b_code) (p.code ∙ ap (λ (c : Code). append_code c y_code) o.code)
-          ∙ append_code_assoc (append_code old y_code) y_code b_code ∙ append_code_assoc old y_code (append_code y_code b_code);
+      code =
+          q.code ∙ ap (λ (c : Code). append_code c b_code)
+          (p.code ∙ ap (λ (c : Code). append_code c y_code) o.code)
+          ∙ append_code_assoc (append_code old y_code) y_code b_code ∙
+          append_code_assoc old y_code (append_code y_code b_code);
       first = o.is;
       second = p.is ∙ ap (λ k. point k width) first;
       third = q.is ∙ ap (λ k. point k (width + 1)) second;
-      room = both_true (is_room n width) (is_room (n + 1) width && is_room (n + 2) (width + 1)) o.room
-          (both_true (is_room (n + 1) width) (is_room (n + 2) (width + 1)) (sym (ap (λ k. is_room k width) first) ∙ p.room) (sym (ap (λ k. is_room k (width + 1)) second) ∙ q.room));
+      room =
+          both_true (is_room n width) (is_room (n + 1) width && is_room (n + 2) (width + 1)) o.room
+          (both_true (is_room (n + 1) width) (is_room (n + 2) (width + 1))
+          (sym (ap (λ k. is_room k width) first) ∙ p.room)
+          (sym (ap (λ k. is_room k (width + 1)) second) ∙ q.room));
       count = third;
     }
 
 -- a branch: an expression's value is set
-record Branch (e : Expr) (old new : Code) (from : Point) (slot : ℕ) (b : Point) (next : ℕ) : Type 0 where
-  code : new ≡ append_code old (append_code ((expr_code e).value from next).code (does ((expr_code e).value from next).at (Set slot ((expr_code e).value from next).value b)))
-  within : ((expr_code e).value from next).within ≡ true
-  count : length new.opened ≡ after next ((expr_code e).value from next).code
+record Branch (e : Expr) (old new : Code) (from : Point) (slot : ℕ) (b : Point) (next : ℕ) : Type 0
+  where
+    code : new ≡ append_code old (append_code ((expr_code e).value from next).code
+        (does ((expr_code e).value from next).at
+        (Set slot ((expr_code e).value from next).value b)))
+    within : ((expr_code e).value from next).within ≡ true
+    count : length new.opened ≡ after next ((expr_code e).value from next).code
 
-branch : (e : Expr) (old new : Code) (from start : Point) (slot : ℕ) (b to : Point) (next : ℕ) → CompilesCode old new (Ok tt) (set_at e slot b from old)
+branch : (e : Expr) (old new : Code) (from start : Point) (slot : ℕ) (b to : Point) (next : ℕ) →
+    CompilesCode old new (Ok tt) (set_at e slot b from old)
     → from ≡ start → b ≡ to → length old.opened ≡ next → Branch e old new start slot to next
 branch e old new from start slot b to next set is goes counted =
     let v = (expr_code e).value start next in
     let same : value_at e from old ≡ v = λ i. (expr_code e).value (is i) (counted i) in
-    let piece : Valued → Point → Code = λ x z. append_code x.code (does x.at (Set slot x.value z)) in
-    let made : new ≡ append_code old (piece v to) = set.0 ∙ (λ i. append_code old (piece (same i) (goes i))) in
+    let piece : Valued → Point → Code = λ x z.
+    append_code x.code (does x.at (Set slot x.value z)) in
+    let made : new ≡ append_code old (piece v to) = set.0 ∙
+    (λ i. append_code old (piece (same i) (goes i))) in
     record {
       code = made;
       within = sym (ap (λ (x : Valued). x.within) same) ∙ set.1;
-      count = ap (λ (c : Code). length c.opened) made ∙ opened-append old (piece v to) ∙ ap (λ k. k + length (piece v to).opened) counted ∙ ap (λ (os : List Opening). next + length os) (append-nil v.code.opened);
+      count =
+          ap (λ (c : Code). length c.opened) made ∙ opened-append old (piece v to) ∙
+          ap (λ k. k + length (piece v to).opened) counted ∙
+          ap (λ (os : List Opening). next + length os) (append-nil v.code.opened);
     }
 
-pub choice_compiled : (e c f g : Expr) (old three four five new : Code) (a y w b : Point) (p : Body) → e ≡ Choose c f g → AreOpened old three y w b a.width
-    → CompilesCode three four (Ok tt) (condition_at c a y w three) → CompilesCode four five (Ok tt) (set_at f a.width b y four)
+pub choice_compiled : (e c f g : Expr) (old three four five new : Code) (a y w b : Point) (p : Body)
+    → e ≡ Choose c f g → AreOpened old three y w b a.width
+    → CompilesCode three four (Ok tt) (condition_at c a y w three) →
+    CompilesCode four five (Ok tt) (set_at f a.width b y four)
     → CompilesCode five new (Ok tt) (set_at g a.width b w five) → p ≡ variable a.width
     → CompilesValue old new (Ok (b, p)) (value_at e a old)
 choice_compiled e c f g old three four five new a y w b p is o tested first second named =
@@ -104,39 +135,55 @@ choice_compiled e c f g old three four five new a y w b p is o tested first seco
     let w0 = point (n + 1) a.width in
     let b0 = point (n + 2) (a.width + 1) in
     let test = (expr_code c).condition a y0 w0 (n + 3) in
-    let t_same : condition_at c a y w three ≡ test = λ i. (expr_code c).condition a (o.first i) (o.second i) (o.count i) in
-    let t_code : four ≡ append_code three test.form = tested.0 ∙ ap (λ (x : Formed Code). append_code three x.form) t_same in
-    let t_count : length four.opened ≡ after (n + 3) test.form = ap (λ (x : Code). length x.opened) t_code ∙ opened-append three test.form ∙ ap (λ k. k + length test.form.opened) o.count in
-    let one = branch f four five y y0 a.width b b0 (after (n + 3) test.form) first o.first o.third t_count in
+    let t_same : condition_at c a y w three ≡ test = λ i.
+    (expr_code c).condition a (o.first i) (o.second i) (o.count i) in
+    let t_code : four ≡ append_code three test.form = tested.0 ∙
+    ap (λ (x : Formed Code). append_code three x.form) t_same in
+    let t_count : length four.opened ≡ after (n + 3) test.form =
+    ap (λ (x : Code). length x.opened) t_code ∙ opened-append three test.form ∙
+    ap (λ k. k + length test.form.opened) o.count in
+    let one = branch f four five y y0 a.width b b0 (after (n + 3) test.form) first o.first o.third
+    t_count in
     let x = (expr_code f).value y0 (after (n + 3) test.form) in
-    let two = branch g five new w w0 a.width b b0 (after (after (n + 3) test.form) x.code) second o.second o.third one.count in
+    let two = branch g five new w w0 a.width b b0 (after (after (n + 3) test.form) x.code) second
+    o.second o.third one.count in
     let z = (expr_code g).value w0 (after (after (n + 3) test.form) x.code) in
     let rooms = opens (a_point a.width ∷ a_point a.width ∷ a_point (a.width + 1) ∷ []) in
     let x_set = does x.at (Set a.width x.value b0) in
     let z_code = append_code z.code (does z.at (Set a.width z.value b0)) in
     let x_code = append_code x.code x_set in
     let whole = (table.choice (expr_code c) (expr_code f) (expr_code g)).value a n in
-    let same : value_at e a old ≡ whole = ap (λ (v : Expr). (expr_code v).value a n) is ∙ ap (λ (v : Asked). v.value a n) (code-Choose c f g) in
+    let same : value_at e a old ≡ whole = ap (λ (v : Expr). (expr_code v).value a n) is ∙
+    ap (λ (v : Asked). v.value a n) (code-Choose c f g) in
     subst (λ (v : Valued). CompilesValue old new (Ok (b, p)) v) (sym same) (
-      two.code ∙ ap (λ (d : Code). append_code d z_code) (one.code ∙ ap (λ (d : Code). append_code d x_code) (t_code ∙ ap (λ (d : Code). append_code d test.form) o.code))
+      two.code ∙ ap (λ (d : Code). append_code d z_code)
+          (one.code ∙ ap (λ (d : Code). append_code d x_code)
+          (t_code ∙ ap (λ (d : Code). append_code d test.form) o.code))
           ∙ pieces old rooms test.form x.code x_set z_code,
       o.third,
       named,
-      all_true (is_room n a.width) (is_room (n + 1) a.width) (is_room (n + 2) (a.width + 1)) test.within x.within z.within o.room (sym (ap (λ (v : Formed Code). v.within) t_same) ∙ tested.1) one.within two.within,
+      all_true (is_room n a.width) (is_room (n + 1) a.width) (is_room (n + 2) (a.width + 1))
+          test.within x.within z.within o.room
+          (sym (ap (λ (v : Formed Code). v.within) t_same) ∙ tested.1) one.within two.within,
     )
   where
-    pieces : (old o t x s z : Code) → append_code (append_code (append_code (append_code old o) t) (append_code x s)) z ≡ append_code old (append_code o (append_code t (append_code x (append_code s z))))
+    pieces : (old o t x s z : Code) → append_code
+        (append_code (append_code (append_code old o) t) (append_code x s)) z ≡
+        append_code old (append_code o (append_code t (append_code x (append_code s z))))
     pieces old o t x s z =
         append_code_assoc (append_code (append_code old o) t) (append_code x s) z
         ∙ append_code_assoc (append_code old o) t (append_code (append_code x s) z)
         ∙ append_code_assoc old o (append_code t (append_code (append_code x s) z))
-        ∙ ap (λ (d : Code). append_code old (append_code o (append_code t d))) (append_code_assoc x s z)
+        ∙ ap (λ (d : Code). append_code old (append_code o (append_code t d)))
+        (append_code_assoc x s z)
 
-    all_true : (p q r s t u : Bool) → (p && (q && r)) ≡ true → s ≡ true → t ≡ true → u ≡ true → (p && (q && (r && (s && (t && u))))) ≡ true
+    all_true : (p q r s t u : Bool) → (p && (q && r)) ≡ true → s ≡ true → t ≡ true → u ≡ true →
+        (p && (q && (r && (s && (t && u))))) ≡ true
     all_true p q r s t u rooms first second third =
         let l = and_parts p (q && r) rooms in
         let m = and_parts q r l.1 in
-        both_true p _ l.0 (both_true q _ m.0 (both_true r _ m.1 (both_true s _ first (both_true t u second third))))
+        both_true p _ l.0 (both_true q _ m.0 (both_true r _ m.1
+        (both_true s _ first (both_true t u second third))))
 
 -- a choice of equal parts
 pub same_choice : (c d f g h k : Expr) → c ≡ d → f ≡ g → h ≡ k → Choose c f h ≡ Choose d g k

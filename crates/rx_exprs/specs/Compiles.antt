@@ -1,5 +1,5 @@
--- A call compiles exactly what the table says: where it succeeds, the code has that piece more, the answer is the table's,
--- and all keeps the limits; where it answers Large, something doesn't.
+-- A call compiles exactly what the table says: where it succeeds, the code has that piece more, the
+-- answer is the table's, and all keeps the limits; where it answers Large, something doesn't.
 use Rattle.std.specs.Prelude.{◌≡◌, ℕ, ◌+◌, true, false, ◌&&◌, List, [], ◌∷◌, length, map, Result, Ok, Err}
 use Rattle.rx_plain.specs.Formed.{Formed}
 use Rattle.rx_poly.specs.Constants.{variable}
@@ -16,12 +16,14 @@ use Rattle.rx_code.specs.declared.point.Point.{Point}
 
 -- a value
 abbrev pub CompilesValue : Code → Code → Result (Point × Body) PolyEnd → Valued → Type 0
-CompilesValue old new (Ok r) v = (new ≡ append_code old v.code) × (r.0 ≡ v.at) × (r.1 ≡ v.value) × (v.within ≡ true)
+CompilesValue old new (Ok r) v =
+    (new ≡ append_code old v.code) × (r.0 ≡ v.at) × (r.1 ≡ v.value) × (v.within ≡ true)
 CompilesValue old new (Err e) v = e ≡ Large → v.within ≡ false
 
 -- arguments
 abbrev pub CompilesArguments : Code → Code → Result (Point × List Body) PolyEnd → Arguments → Type 0
-CompilesArguments old new (Ok r) v = (new ≡ append_code old v.code) × (r.0 ≡ v.at) × (r.1 ≡ v.values) × (v.within ≡ true)
+CompilesArguments old new (Ok r) v =
+    (new ≡ append_code old v.code) × (r.0 ≡ v.at) × (r.1 ≡ v.values) × (v.within ≡ true)
 CompilesArguments old new (Err e) v = e ≡ Large → v.within ≡ false
 
 -- what has no answer but the code
@@ -46,7 +48,9 @@ abbrev pub division_at : BinOp → Body → Body → Point → ℕ → Valued
 division_at op p q at next =
     let b = point next (at.width + 1) in
     record {
-      code = append_code (opens (a_point (at.width + 1) ∷ [])) (does at (Divide (division_of op) p q b));
+      code =
+          append_code (opens (a_point (at.width + 1) ∷ []))
+          (does at (Divide (division_of op) p q b));
       at = b;
       value = variable at.width;
       within = is_room next (at.width + 1);

@@ -42,7 +42,8 @@ fn divided(
     right: Poly,
     at: Point,
 ) -> Result<(Point, Poly), PolyEnd>
-    ensures value { CompilesValue code.old code.new result (division_at op left right at (length code.old.opened)) }
+    ensures value { CompilesValue code.old code.new result
+        (division_at op left right at (length code.old.opened)) }
 {
     let b = code.open_wider(at.width)?;
     code.act(at, Action::Divide(division_of(op), left, right, b))?;
@@ -58,7 +59,8 @@ fn called(
     values: Items<Poly>,
     at: Point,
 ) -> Result<(Point, Poly), PolyEnd>
-    ensures value { CompilesValue code.old code.new result (call_at f values at (length code.old.opened)) }
+    ensures value { CompilesValue code.old code.new result
+        (call_at f values at (length code.old.opened)) }
 {
     let r = code.open(at.width, true)?;
     let b = code.open_wider(at.width)?;

@@ -11,16 +11,21 @@ use Rattle.rx_fm.proofs.Exactness.{none}
 use Rattle.rx_fm.proofs.Tracking.{witness}
 
 -- where there are not too many at the beginning, all monomials are eliminated
-pub whole : (limit : ℕ) (ps : List Body) {ms : List Mono} {cs : List Combination} → length ps ≤ limit → ms ≡ monomials ps → cs ≡ given ps → eliminated limit ms cs ≡ elimination limit ps
+pub whole : (limit : ℕ) (ps : List Body) {ms : List Mono} {cs : List Combination} → length ps ≤
+    limit → ms ≡ monomials ps → cs ≡ given ps → eliminated limit ms cs ≡ elimination limit ps
 whole limit ps h e f =
     let few : nat_le (length ps) limit ≡ true = grind arith in
-    (λ i. eliminated limit (e i) (f i)) ∙ ap (λ b. cond b (eliminated limit (monomials ps) (given ps)) beyond) (sym few)
+    (λ i. eliminated limit (e i) (f i)) ∙ ap (λ b.
+    cond b (eliminated limit (monomials ps) (given ps)) beyond) (sym few)
 
-module _ {V : Type 0} (items : V → List ℤ) (limit : ℕ) (ps : List Body) (normal : list_all is_poly ps ≡ true) {o : Outcome} (is : o ≡ elimination limit ps) where
-  pub answered_witness : (a : Option V) → MatchOption a (o ≡ nothing) (λ v. o ≡ found (items v)) → IfSome a (λ v. IsWitness ps (items v))
+module _ {V : Type 0} (items : V → List ℤ) (limit : ℕ) (ps : List Body)
+    (normal : list_all is_poly ps ≡ true) {o : Outcome} (is : o ≡ elimination limit ps) where
+  pub answered_witness : (a : Option V) → MatchOption a (o ≡ nothing) (λ v. o ≡ found (items v)) →
+      IfSome a (λ v. IsWitness ps (items v))
   answered_witness None h = tt
   answered_witness (Some v) h = witness limit ps (items v) normal (sym is ∙ h)
 
-  pub answered_none : (a : Option V) → MatchOption a (o ≡ nothing) (λ v. o ≡ found (items v)) → IsNone a → (ms : List ℤ) → IsWitness ps ms → ⊥
+  pub answered_none : (a : Option V) → MatchOption a (o ≡ nothing) (λ v. o ≡ found (items v)) →
+      IsNone a → (ms : List ℤ) → IsWitness ps ms → ⊥
   answered_none None h n ms w = none limit ps normal (sym is ∙ h) ms w
   answered_none (Some v) h n ms w = cc

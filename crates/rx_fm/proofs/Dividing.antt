@@ -46,7 +46,9 @@ size_zero (pos a) e = ap pos e
 size_zero (negsuc a) e = absurd (omega arith)
 
 pub above_is : (d : ℕ) → is_zero (pos (suc d)) ≡ false
-above_is d = by_false (is_zero (pos (suc d))) (λ e. let k : pos (suc d) ≡ pos 0 = zero_is (pos (suc d)) e in omega (arith, ints))
+above_is d =
+    by_false (is_zero (pos (suc d))) (λ e. let k : pos (suc d) ≡ pos 0 = zero_is (pos (suc d)) e in
+    omega (arith, ints))
 
 pub quotient_is : (x : ℤ) (d : ℕ) → quotient x (pos (suc d)) ≡ int_div x (pos (suc d))
 quotient_is x d = ap (λ t. cond t (pos 0) (int_div x (pos (suc d)))) (above_is d)
@@ -54,7 +56,8 @@ quotient_is x d = ap (λ t. cond t (pos 0) (int_div x (pos (suc d)))) (above_is 
 -- by a divisor a number is a multiple of its quotient; by 0 only 0 is
 pub exact : (d : ℕ) (x : ℤ) → divides d x ≡ true → pos d *ℤ quotient x (pos d) ≡ x
 exact zero x h =
-    let none : unsigned_abs x ≡ 0 = sym (mul-div_cancel' 0 {m = unsigned_abs x} (divisor_of 0 x h)) ∙ omega arith in
+    let none : unsigned_abs x ≡ 0 = sym (mul-div_cancel' 0 {m = unsigned_abs x} (divisor_of 0 x h))
+    ∙ omega arith in
     mul-zero-int (pos 0) ∙ sym (size_zero x none)
 exact (suc d) x h =
     let rest : unsigned_abs x % suc d ≡ 0 = grind arith in
@@ -68,9 +71,11 @@ quotient_zero zero = refl
 quotient_zero (suc d) = quotient_is (pos 0) d ∙ ap pos (omega arith)
 
 -- a quotient by a divisor is 0 only where the number is
-pub quotient_nonzero : (d : ℕ) (x : ℤ) → divides d x ≡ true → is_zero x ≡ false → is_zero (quotient x (pos d)) ≡ false
+pub quotient_nonzero : (d : ℕ) (x : ℤ) → divides d x ≡ true → is_zero x ≡ false →
+    is_zero (quotient x (pos d)) ≡ false
 quotient_nonzero d x h n = by_false (is_zero (quotient x (pos d))) (λ e.
-    let none : x ≡ pos 0 = sym (exact d x h) ∙ ap (λ z. pos d *ℤ z) (zero_is (quotient x (pos d)) e) ∙ mul-zero-int (pos d) in
+    let none : x ≡ pos 0 = sym (exact d x h) ∙
+    ap (λ z. pos d *ℤ z) (zero_is (quotient x (pos d)) e) ∙ mul-zero-int (pos d) in
     let no : is_zero x ≡ true = ap is_zero none in cc)
 
 fits_is : (z : ℤ) → FitsSigned w128 z → fits_i128 z ≡ true
@@ -83,40 +88,52 @@ is_fit (negsuc n) f = record { sfits = grind arith }
 
 pub quotient_fits : (d : ℕ) (x : ℤ) → fits_i128 x ≡ true → fits_i128 (quotient x (pos d)) ≡ true
 quotient_fits zero x f = refl
-quotient_fits (suc d) x f = ap fits_i128 (quotient_is x d) ∙ fits_is (int_div x (pos (suc d))) (quot_fits w128 x (pos (suc d)) (is_fit x f) (omega (arith, ints)))
+quotient_fits (suc d) x f =
+    ap fits_i128 (quotient_is x d) ∙ fits_is (int_div x (pos (suc d)))
+    (quot_fits w128 x (pos (suc d)) (is_fit x f) (omega (arith, ints)))
 
 -- ---- lists of numbers
 
 pub with_divides_first : (g : ℕ) (xs : List ℤ) → gcd_with g xs ∣ g
 with_divides_first g [] = dvd_refl g
-with_divides_first g (x ∷ xs) = dvd_trans (gcd_with (gcd g (unsigned_abs x)) xs) (with_divides_first (gcd g (unsigned_abs x)) xs) (gcd_is g (unsigned_abs x)).0
+with_divides_first g (x ∷ xs) =
+    dvd_trans (gcd_with (gcd g (unsigned_abs x)) xs)
+    (with_divides_first (gcd g (unsigned_abs x)) xs) (gcd_is g (unsigned_abs x)).0
 
 pub with_divides : (g : ℕ) (xs : List ℤ) → divides_all (gcd_with g xs) xs ≡ true
 with_divides g [] = refl
 with_divides g (x ∷ xs) =
     let d = gcd_with (gcd g (unsigned_abs x)) xs in
     and_from (divides d x) (divides_all d xs)
-    (test_of d x (dvd_trans d (with_divides_first (gcd g (unsigned_abs x)) xs) (gcd_is g (unsigned_abs x)).1))
+    (test_of d x (dvd_trans d (with_divides_first (gcd g (unsigned_abs x)) xs)
+    (gcd_is g (unsigned_abs x)).1))
     (with_divides (gcd g (unsigned_abs x)) xs)
 
-pub divides_weaker : (d e : ℕ) (xs : List ℤ) → d ∣ e → divides_all e xs ≡ true → divides_all d xs ≡ true
+pub divides_weaker : (d e : ℕ) (xs : List ℤ) → d ∣ e → divides_all e xs ≡ true → divides_all d xs ≡
+    true
 divides_weaker d e [] h g = refl
 divides_weaker d e (x ∷ xs) h g =
     let p = and_parts (divides e x) (divides_all e xs) g in
-    and_from (divides d x) (divides_all d xs) (test_of d x (dvd_trans d h (divisor_of e x p.0))) (divides_weaker d e xs h p.1)
+    and_from (divides d x) (divides_all d xs) (test_of d x (dvd_trans d h (divisor_of e x p.0)))
+    (divides_weaker d e xs h p.1)
 
 -- the common divisor of a polynomial and multipliers divides all of both
-pub common_divides : (c : Combination) → (divides_all (common c) (coefficients c.poly) ≡ true) × (divides_all (common c) c.multipliers ≡ true)
+pub common_divides : (c : Combination) → (divides_all (common c) (coefficients c.poly) ≡ true) ×
+    (divides_all (common c) c.multipliers ≡ true)
 common_divides c =
-    let first = gcd_with 0 (coefficients c.poly) in
-    (divides_weaker (common c) first (coefficients c.poly) (with_divides_first first c.multipliers) (with_divides 0 (coefficients c.poly)), with_divides first c.multipliers)
+    let first = gcd_with 0 (coefficients c.poly) in (
+      divides_weaker (common c) first (coefficients c.poly) (with_divides_first first c.multipliers)
+          (with_divides 0 (coefficients c.poly)),
+      with_divides first c.multipliers,
+    )
 
 -- ---- polynomials
 
 abbrev pub each : ℕ → List (Mono × ℤ) → List (Mono × ℤ)
 each d ts = map (λ (t : Mono × ℤ). (t.0, quotient t.1 (pos d))) ts
 
-keys-each : (test : Mono → Bool) (d : ℕ) (ts : List (Mono × ℤ)) → all_keys test (each d ts) ≡ all_keys test ts
+keys-each : (test : Mono → Bool) (d : ℕ) (ts : List (Mono × ℤ)) → all_keys test (each d ts) ≡
+    all_keys test ts
 keys-each test d [] = refl
 keys-each test d (t ∷ ts) = ap (λ b. test t.0 && b) (keys-each test d ts)
 
@@ -124,9 +141,11 @@ fits-each : (d : ℕ) (ts : List (Mono × ℤ)) → all_fit ts ≡ true → all_
 fits-each d [] h = refl
 fits-each d (t ∷ ts) h =
     let p = and_parts (fits_i128 t.1) (all_fit ts) h in
-    and_from (fits_i128 (quotient t.1 (pos d))) (all_fit (each d ts)) (quotient_fits d t.1 p.0) (fits-each d ts p.1)
+    and_from (fits_i128 (quotient t.1 (pos d))) (all_fit (each d ts)) (quotient_fits d t.1 p.0)
+    (fits-each d ts p.1)
 
-listed-each : (d : ℕ) (ts : List (Mono × ℤ)) → is_listed mono_cmp ts ≡ true → divides_all d (map (λ (t : Mono × ℤ). t.1) ts) ≡ true → is_listed mono_cmp (each d ts) ≡ true
+listed-each : (d : ℕ) (ts : List (Mono × ℤ)) → is_listed mono_cmp ts ≡ true →
+    divides_all d (map (λ (t : Mono × ℤ). t.1) ts) ≡ true → is_listed mono_cmp (each d ts) ≡ true
 listed-each d [] h g = refl
 listed-each d (t ∷ ts) h g =
     let l = listed_parts mono_cmp mono_total same_mono t ts h in
@@ -137,31 +156,44 @@ listed-each d (t ∷ ts) h g =
       rest = listed-each d ts l.rest p.1;
     })
 
-sizes-from : (n d : ℕ) (ts : List (Mono × ℤ)) → fold (λ (a : ℕ) (t : Mono × ℤ). a + mono_size t.0) n (each d ts) ≡ fold (λ (a : ℕ) (t : Mono × ℤ). a + mono_size t.0) n ts
+sizes-from : (n d : ℕ) (ts : List (Mono × ℤ)) →
+    fold (λ (a : ℕ) (t : Mono × ℤ). a + mono_size t.0) n (each d ts) ≡
+    fold (λ (a : ℕ) (t : Mono × ℤ). a + mono_size t.0) n ts
 sizes-from n d [] = refl
 sizes-from n d (t ∷ ts) = sizes-from (n + mono_size t.0) d ts
 
-sizes-each : (d : ℕ) (ts : List (Mono × ℤ)) → sum_by (λ (t : Mono × ℤ). mono_size t.0) (each d ts) ≡ sum_by (λ (t : Mono × ℤ). mono_size t.0) ts
+sizes-each : (d : ℕ) (ts : List (Mono × ℤ)) → sum_by (λ (t : Mono × ℤ). mono_size t.0) (each d ts) ≡
+    sum_by (λ (t : Mono × ℤ). mono_size t.0) ts
 sizes-each d ts = sizes-from 0 d ts
 
-depths-each : (d : ℕ) (ts : List (Mono × ℤ)) → greatest (λ (t : Mono × ℤ). mono_depth t.0) (each d ts) ≡ greatest (λ (t : Mono × ℤ). mono_depth t.0) ts
+depths-each : (d : ℕ) (ts : List (Mono × ℤ)) →
+    greatest (λ (t : Mono × ℤ). mono_depth t.0) (each d ts) ≡
+    greatest (λ (t : Mono × ℤ). mono_depth t.0) ts
 depths-each d [] = refl
 depths-each d (t ∷ ts) = let e = depths-each d ts in omega arith
 
 small-each : (d : ℕ) (p : Body) → is_small (divided d p) ≡ is_small p
 small-each d p =
     let ts = (out-Body p).terms in
-    let size : body_size (divided d p) ≡ body_size p = size-of_terms (each d ts) ∙ sizes-each d ts ∙ sym (body_size_is p) in
-    let depth : body_depth (divided d p) ≡ body_depth p = depth-of_terms (each d ts) ∙ depths-each d ts ∙ sym (body_depth_is p) in
+    let size : body_size (divided d p) ≡ body_size p = size-of_terms (each d ts) ∙ sizes-each d ts ∙
+    sym (body_size_is p) in
+    let depth : body_depth (divided d p) ≡ body_depth p = depth-of_terms (each d ts) ∙
+    depths-each d ts ∙ sym (body_depth_is p) in
     λ i. nat_le (size i) 4096 && nat_le (depth i) 64
 
 -- divided by a number that divides each coefficient, a polynomial is one
-pub divided_poly : (d : ℕ) (p : Body) → is_poly p ≡ true → divides_all d (coefficients p) ≡ true → is_poly (divided d p) ≡ true
+pub divided_poly : (d : ℕ) (p : Body) → is_poly p ≡ true → divides_all d (coefficients p) ≡ true →
+    is_poly (divided d p) ≡ true
 divided_poly d p h g =
     let n = poly_terms p h in
     let ts = (out-Body p).terms in
     poly_of_terms (each d ts)
-    (record { keys = keys-each is_normal_mono d ts ∙ n.keys; fits = fits-each d ts n.fits; listed = listed-each d ts n.listed g })
+    (record {
+      keys = keys-each is_normal_mono d ts ∙ n.keys;
+      fits = fits-each d ts n.fits;
+      listed =
+          listed-each d ts n.listed g;
+    })
     (small-each d p ∙ (and_parts (is_normal p) (is_small p) h).1)
 
 -- ---- by 1
@@ -181,7 +213,8 @@ quotients_one [] = refl
 quotients_one (x ∷ xs) = λ i. one_quotient x i ∷ quotients_one xs i
 
 divided_one : (p : Body) → divided 1 p ≡ p
-divided_one p = (λ i. roll-Body (record { terms = each_one (out-Body p).terms i })) ∙ roll-out-Body p
+divided_one p =
+    (λ i. roll-Body (record { terms = each_one (out-Body p).terms i })) ∙ roll-out-Body p
 
 -- where the common divisor is 1, nothing changes
 pub reduced_one : (c : Combination) → common c ≡ 1 → reduced c ≡ c

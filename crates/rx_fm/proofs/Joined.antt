@@ -34,30 +34,40 @@ good c = is_poly c.poly
 
 -- ---- sums of multiples
 
-terms_of : (x : Mono) (ts : List (Mono × ℤ)) → coefficient x (out-Body (of_terms ts)).terms ≡ coefficient x ts
+terms_of : (x : Mono) (ts : List (Mono × ℤ)) → coefficient x (out-Body (of_terms ts)).terms ≡
+    coefficient x ts
 terms_of x ts = ap (coefficient x) (terms-of_terms ts)
 
 -- each coefficient of the weighed sum
-pub at-weighed : (x : Mono) (k l : ℤ) (p q : Combination) → good p ≡ true → good q ≡ true → at x (weighed k p l q) ≡ at x p *ℤ k +ℤ at x q *ℤ l
+pub at-weighed : (x : Mono) (k l : ℤ) (p q : Combination) → good p ≡ true → good q ≡ true →
+    at x (weighed k p l q) ≡ at x p *ℤ k +ℤ at x q *ℤ l
 at-weighed x k l p q h g =
     let ps = (out-Body p.poly).terms in
     let qs = (out-Body q.poly).terms in
     let left = poly_terms p.poly h in
     let right = poly_terms q.poly g in
-    terms_of x (add_terms mono_cmp (out-Body (scaled_by k p.poly)).terms (out-Body (scaled_by l q.poly)).terms)
-    ∙ (λ i. coefficient x (add_terms mono_cmp (terms-of_terms (times_number k ps) i) (terms-of_terms (times_number l qs) i)))
-    ∙ coefficient-add x (times_number k ps) (times_number l qs) (listed-times_number k ps left.listed) (listed-times_number l qs right.listed)
+    terms_of x (add_terms mono_cmp (out-Body (scaled_by k p.poly)).terms
+    (out-Body (scaled_by l q.poly)).terms)
+    ∙ (λ i. coefficient x (add_terms mono_cmp (terms-of_terms (times_number k ps) i)
+    (terms-of_terms (times_number l qs) i)))
+    ∙ coefficient-add x (times_number k ps) (times_number l qs)
+    (listed-times_number k ps left.listed) (listed-times_number l qs right.listed)
     ∙ (λ i. coefficient-times x k ps left.listed i +ℤ coefficient-times x l qs right.listed i)
 
-within_parts : (ts : List (Mono × ℤ)) → is_within (of_terms ts) ≡ true → (all_fit ts ≡ true) × (is_small (of_terms ts) ≡ true)
+within_parts : (ts : List (Mono × ℤ)) → is_within (of_terms ts) ≡ true → (all_fit ts ≡ true) ×
+    (is_small (of_terms ts) ≡ true)
 within_parts ts h = and_parts (all_fit ts) (is_small (of_terms ts)) (sym (within_terms ts) ∙ h)
 
-scaled_poly : (k : ℤ) (p : Body) → is_poly p ≡ true → is_within (scaled_by k p) ≡ true → is_poly (scaled_by k p) ≡ true
+scaled_poly : (k : ℤ) (p : Body) → is_poly p ≡ true → is_within (scaled_by k p) ≡ true →
+    is_poly (scaled_by k p) ≡ true
 scaled_poly k p h w =
     let parts = within_parts (times_number k (out-Body p).terms) w in
-    and_from (is_normal (scaled_by k p)) (is_small (scaled_by k p)) (multiple_normal k p {ls = (out-Body p).terms} {ts = times_number k (out-Body p).terms} refl refl h parts.0) parts.1
+    and_from (is_normal (scaled_by k p)) (is_small (scaled_by k p))
+    (multiple_normal k p {ls = (out-Body p).terms} {ts = times_number k (out-Body p).terms} refl
+    refl h parts.0) parts.1
 
-added_poly : (p q : Body) → is_poly p ≡ true → is_poly q ≡ true → is_within (added p q) ≡ true → is_poly (added p q) ≡ true
+added_poly : (p q : Body) → is_poly p ≡ true → is_poly q ≡ true → is_within (added p q) ≡ true →
+    is_poly (added p q) ≡ true
 added_poly p q h g w =
     let ps = (out-Body p).terms in
     let qs = (out-Body q).terms in
@@ -70,24 +80,31 @@ added_poly p q h g w =
       listed = listed-add mono_cmp mono_total same_mono ps qs right.listed;
     }) parts.1
 
-pub weighed_good : (k l : ℤ) (p q : Combination) → good p ≡ true → good q ≡ true → weighed_within k p l q ≡ true → good (weighed k p l q) ≡ true
+pub weighed_good : (k l : ℤ) (p q : Combination) → good p ≡ true → good q ≡ true →
+    weighed_within k p l q ≡ true → good (weighed k p l q) ≡ true
 weighed_good k l p q h g w =
     let sum = added (scaled_by k p.poly) (scaled_by l q.poly) in
     let multipliers = combined_within k p.multipliers l q.multipliers in
-    let a = and_parts (is_within (scaled_by k p.poly)) (is_within (scaled_by l q.poly) && (is_within sum && multipliers)) w in
+    let a = and_parts (is_within (scaled_by k p.poly))
+    (is_within (scaled_by l q.poly) && (is_within sum && multipliers)) w in
     let b = and_parts (is_within (scaled_by l q.poly)) (is_within sum && multipliers) a.1 in
     let c = and_parts (is_within sum) multipliers b.1 in
-    added_poly (scaled_by k p.poly) (scaled_by l q.poly) (scaled_poly k p.poly h a.0) (scaled_poly l q.poly g b.0) c.0
+    added_poly (scaled_by k p.poly) (scaled_by l q.poly) (scaled_poly k p.poly h a.0)
+    (scaled_poly l q.poly g b.0) c.0
 
 -- ---- division by the common divisor
 
-pub at-reduced : (x : Mono) (c : Combination) → at x (reduced c) ≡ quotient (at x c) (pos (common c))
-at-reduced x c = terms_of x (each (common c) (out-Body c.poly).terms) ∙ coefficient-each x (common c) (out-Body c.poly).terms
+pub at-reduced : (x : Mono) (c : Combination) → at x (reduced c) ≡
+    quotient (at x c) (pos (common c))
+at-reduced x c =
+    terms_of x (each (common c) (out-Body c.poly).terms) ∙
+    coefficient-each x (common c) (out-Body c.poly).terms
 
 pub back-reduced : (x : Mono) (c : Combination) → pos (common c) *ℤ at x (reduced c) ≡ at x c
 back-reduced x c =
     ap (λ z. pos (common c) *ℤ z) (at-reduced x c)
-    ∙ exact (common c) (at x c) (divides_coefficient x (common c) (out-Body c.poly).terms (common_divides c).0)
+    ∙ exact (common c) (at x c) (divides_coefficient x (common c) (out-Body c.poly).terms
+    (common_divides c).0)
 
 reduced_good : (c : Combination) → good c ≡ true → good (reduced c) ≡ true
 reduced_good c h = divided_poly (common c) c.poly h (common_divides c).0
@@ -100,7 +117,8 @@ crossed m p q = cancelled (unsigned_abs (at m p)) (unsigned_abs (at m q)) p q
 
 -- by how much the joint one was divided, in comparison with the two times each other's size
 abbrev pub factor : Mono → Combination → Combination → ℤ
-factor m p q = pos (gcd (unsigned_abs (at m p)) (unsigned_abs (at m q))) *ℤ pos (common (crossed m p q))
+factor m p q =
+    pos (gcd (unsigned_abs (at m p)) (unsigned_abs (at m q))) *ℤ pos (common (crossed m p q))
 
 pub factor_not_negative : (m : Mono) (p q : Combination) → pos 0 ≤ℤ factor m p q
 factor_not_negative m p q = omega (arith, ints)
@@ -125,18 +143,22 @@ module _ (m : Mono) (p q : Combination) (h : good p ≡ true) (k : good q ≡ tr
 
   pub joined_good : joined_within m p q ≡ true → good (joined m p q) ≡ true
   joined_good w =
-      let parts = and_parts (size_fits (at m q)) (cancelled_within a b p q && common_within (crossed m p q)) w in
+      let parts = and_parts (size_fits (at m q))
+      (cancelled_within a b p q && common_within (crossed m p q)) w in
       let inner = and_parts (cancelled_within a b p q) (common_within (crossed m p q)) parts.1 in
       reduced_good (crossed m p q) (weighed_good (pos (b / g)) (pos (a / g)) p q h k inner.0)
 
-  pub at-crossed : (x : Mono) → at x (crossed m p q) ≡ at x p *ℤ pos (b / g) +ℤ at x q *ℤ pos (a / g)
+  pub at-crossed : (x : Mono) → at x (crossed m p q) ≡
+      at x p *ℤ pos (b / g) +ℤ at x q *ℤ pos (a / g)
   at-crossed x = at-weighed x (pos (b / g)) (pos (a / g)) p q h k
 
   times_back : (z : ℤ) (n : ℕ) → g ∣ n → pos g *ℤ (z *ℤ pos (n / g)) ≡ pos n *ℤ z
-  times_back z n d = swap (pos g) z (pos (n / g)) ∙ ap (λ y. z *ℤ y) (cofactor_back g n d) ∙ *ℤ_comm z (pos n)
+  times_back z n d =
+      swap (pos g) z (pos (n / g)) ∙ ap (λ y. z *ℤ y) (cofactor_back g n d) ∙ *ℤ_comm z (pos n)
 
   -- each coefficient of the weighed sum, times the common divisor of the two sizes
-  crossed_times : (x : Mono) → pos 0 <ℤ at m p → pos 0 <ℤ neg_ℤ (at m q) → pos g *ℤ at x (crossed m p q) ≡ neg_ℤ (at m q) *ℤ at x p +ℤ at m p *ℤ at x q
+  crossed_times : (x : Mono) → pos 0 <ℤ at m p → pos 0 <ℤ neg_ℤ (at m q) →
+      pos g *ℤ at x (crossed m p q) ≡ neg_ℤ (at m q) *ℤ at x p +ℤ at m p *ℤ at x q
   crossed_times x up down =
       let first : pos b ≡ neg_ℤ (at m q) = size_of_below (at m q) down in
       let second : pos a ≡ at m p = sym (size_is (at m p) (omega (arith, ints))) in
@@ -146,15 +168,19 @@ module _ (m : Mono) (p q : Combination) (h : good p ≡ true) (k : good q ≡ tr
       ∙ (λ i. first i *ℤ at x p +ℤ second i *ℤ at x q)
 
   -- each coefficient of the joint one, times the factor
-  pub cross : (x : Mono) → pos 0 <ℤ at m p → pos 0 <ℤ neg_ℤ (at m q) → factor m p q *ℤ at x (joined m p q) ≡ neg_ℤ (at m q) *ℤ at x p +ℤ at m p *ℤ at x q
+  pub cross : (x : Mono) → pos 0 <ℤ at m p → pos 0 <ℤ neg_ℤ (at m q) →
+      factor m p q *ℤ at x (joined m p q) ≡ neg_ℤ (at m q) *ℤ at x p +ℤ at m p *ℤ at x q
   cross x up down =
       mul-assoc-int (pos g) (pos (common (crossed m p q))) (at x (joined m p q))
       ∙ ap (λ z. pos g *ℤ z) (back-reduced x (crossed m p q)) ∙ crossed_times x up down
 
   -- the monomial cancels
-  pub crossed_vanishes : pos 0 <ℤ at m p → pos 0 <ℤ neg_ℤ (at m q) → pos g *ℤ at m (crossed m p q) ≡ pos 0
+  pub crossed_vanishes : pos 0 <ℤ at m p → pos 0 <ℤ neg_ℤ (at m q) → pos g *ℤ at m (crossed m p q) ≡
+      pos 0
   crossed_vanishes up down =
-      let turned : neg_ℤ (at m q) *ℤ at m p ≡ at m p *ℤ neg_ℤ (at m q) = *ℤ_comm (neg_ℤ (at m q)) (at m p) in
+      let turned : neg_ℤ (at m q) *ℤ at m p ≡ at m p *ℤ neg_ℤ (at m q) =
+      *ℤ_comm (neg_ℤ (at m q)) (at m p) in
       let both = sym (mul-add-int (at m p) (neg_ℤ (at m q)) (at m q)) in
       let none : neg_ℤ (at m q) +ℤ at m q ≡ pos 0 = omega (arith, ints) in
-      crossed_times m up down ∙ (λ i. turned i +ℤ at m p *ℤ at m q) ∙ both ∙ ap (λ z. at m p *ℤ z) none ∙ mul-zero-int (at m p)
+      crossed_times m up down ∙ (λ i. turned i +ℤ at m p *ℤ at m q) ∙ both ∙
+      ap (λ z. at m p *ℤ z) none ∙ mul-zero-int (at m p)

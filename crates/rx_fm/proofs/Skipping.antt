@@ -1,5 +1,5 @@
--- A stage at a monomial that no polynomial has changes nothing: so the monomials that are gone need not be looked for, and
--- the first of the others that any polynomial has comes next.
+-- A stage at a monomial that no polynomial has changes nothing: so the monomials that are gone need
+-- not be looked for, and the first of the others that any polynomial has comes next.
 use Rattle.std.proofs.Common.{◌≡◌, ◌∙◌, ap, true, false, ◌&&◌, cond, refl, List, [], ◌∷◌, ◌++◌, length, ℕ, ◌≤◌, nat_le, Option, Some, None, ℤ, pos, int_lt, arith}
 use Rattle.std.proofs.lemmas.List.{append-nil}
 use Rattle.rx_poly.specs.Terms.{is_zero}
@@ -21,21 +21,29 @@ none_positive m (c ∷ cs) h =
     ap (λ b. cond b (c ∷ positive m cs) (positive m cs)) no ∙ none_positive m cs h.1
 
 pub unchanged : (m : Mono) (cs : List Combination) → Lacks m cs → next m cs ≡ cs
-unchanged m cs h = (λ i. without m cs ++ pairs m (none_positive m cs h i) (negative m cs)) ∙ append-nil (without m cs) ∙ all_kept m cs h
+unchanged m cs h =
+    (λ i. without m cs ++ pairs m (none_positive m cs h i) (negative m cs)) ∙
+    append-nil (without m cs) ∙ all_kept m cs h
 
 twice : (o : Option (List ℤ)) (x : Outcome) → found_or o (found_or o x) ≡ found_or o x
 twice None x = refl
 twice (Some ms) x = refl
 
-looked_once : (limit : ℕ) (ms : List Mono) (cs : List Combination) → found_or (first_negative cs) (eliminated limit ms cs) ≡ eliminated limit ms cs
+looked_once : (limit : ℕ) (ms : List Mono) (cs : List Combination) →
+    found_or (first_negative cs) (eliminated limit ms cs) ≡ eliminated limit ms cs
 looked_once limit [] cs = twice (first_negative cs) nothing
-looked_once limit (m ∷ ms) cs = twice (first_negative cs) (cond (next_within limit m cs) (eliminated limit ms (next m cs)) beyond)
+looked_once limit (m ∷ ms) cs =
+    twice (first_negative cs) (cond (next_within limit m cs) (eliminated limit ms (next m cs))
+    beyond)
 
-pub skipped : (limit : ℕ) (m : Mono) (ms : List Mono) (cs : List Combination) → Lacks m cs → length cs ≤ limit → eliminated limit (m ∷ ms) cs ≡ eliminated limit ms cs
+pub skipped : (limit : ℕ) (m : Mono) (ms : List Mono) (cs : List Combination) → Lacks m cs →
+    length cs ≤ limit → eliminated limit (m ∷ ms) cs ≡ eliminated limit ms cs
 skipped limit m ms cs h few =
     let same = unchanged m cs h in
     let count : nat_le (length cs) limit ≡ true = grind arith in
     let within : next_within limit m cs ≡ true =
-    (λ i. nat_le (length (same i)) limit && pairs_within m (none_positive m cs h i) (negative m cs)) ∙ (λ i. count i && true) in
+    (λ i. nat_le (length (same i)) limit && pairs_within m (none_positive m cs h i) (negative m cs))
+    ∙ (λ i. count i && true) in
     ap (λ b. found_or (first_negative cs) (cond b (eliminated limit ms (next m cs)) beyond)) within
-    ∙ ap (λ ds. found_or (first_negative cs) (eliminated limit ms ds)) same ∙ looked_once limit ms cs
+    ∙ ap (λ ds. found_or (first_negative cs) (eliminated limit ms ds)) same ∙
+    looked_once limit ms cs

@@ -1,6 +1,6 @@
--- Weighted sums: of elements with weights, each worth an integer. Nothing here knows what the elements are. The double
--- sum: where each of some elements is joined with each of others, and the joint one is worth what the two are, crosswise,
--- all together are worth what the sums are.
+-- Weighted sums: of elements with weights, each worth an integer. Nothing here knows what the
+-- elements are. The double sum: where each of some elements is joined with each of others, and the
+-- joint one is worth what the two are, crosswise, all together are worth what the sums are.
 use Rattle.std.proofs.Common.{◌≡◌, ◌∙◌, ap, Bool, true, false, cond, refl, sym, List, [], ◌∷◌, ◌++◌, map, filter, ℤ, pos, negsuc, zero, suc, ℕ, ◌*◌, ◌+ℤ◌, ◌*ℤ◌, ◌≤ℤ◌, ◌<ℤ◌, neg_ℤ, int_lt, arith}
 use Rattle.std.proofs.lemmas.Int.{ints}
 use lib.IntN.{*ℤ_comm}
@@ -26,7 +26,8 @@ no_product m n e = omega arith
 pub factor_zero : (a b : ℤ) → pos 0 ≤ℤ a → pos 0 <ℤ b → a *ℤ b ≡ pos 0 → a ≡ pos 0
 factor_zero (pos zero) b h g e = refl
 factor_zero (pos (suc a)) (pos zero) h g e = absurd (omega (arith, ints))
-factor_zero (pos (suc a)) (pos (suc b)) h g e = let k : suc a * suc b ≡ 0 = omega (arith, ints) in absurd (no_product a b k)
+factor_zero (pos (suc a)) (pos (suc b)) h g e =
+    let k : suc a * suc b ≡ 0 = omega (arith, ints) in absurd (no_product a b k)
 factor_zero (pos (suc a)) (negsuc b) h g e = absurd (omega (arith, ints))
 factor_zero (negsuc a) b h g e = absurd (omega (arith, ints))
 
@@ -39,8 +40,13 @@ pub data Told (z : ℤ) : Type 0 where
 
 pub told : (z : ℤ) → Told z
 told (pos zero) = told_zero refl refl refl
-told (pos (suc n)) = told_above (by_false (is_zero (pos (suc n))) (λ e. let k : pos (suc n) ≡ pos 0 = zero_is (pos (suc n)) e in omega (arith, ints))) (grind (arith, ints)) (grind (arith, ints))
-told (negsuc n) = told_below (by_false (is_zero (negsuc n)) (λ e. let k : negsuc n ≡ pos 0 = zero_is (negsuc n) e in cc)) refl refl
+told (pos (suc n)) =
+    told_above (by_false (is_zero (pos (suc n)))
+    (λ e. let k : pos (suc n) ≡ pos 0 = zero_is (pos (suc n)) e in omega (arith, ints)))
+    (grind (arith, ints)) (grind (arith, ints))
+told (negsuc n) =
+    told_below (by_false (is_zero (negsuc n))
+    (λ e. let k : negsuc n ≡ pos 0 = zero_is (negsuc n) e in cc)) refl refl
 
 pub above_of : (z : ℤ) → int_lt (pos 0) z ≡ true → pos 0 <ℤ z
 above_of z e = grind (arith, ints)
@@ -51,12 +57,14 @@ below_of z e = let h : z <ℤ pos 0 = grind (arith, ints) in omega (arith, ints)
 module _ {A : Type 0} where
   -- ---- sums
 
-  pub sum-append : (f : A → ℤ) (ts us : List (A × ℤ)) → sum_terms f (ts ++ us) ≡ sum_terms f ts +ℤ sum_terms f us
+  pub sum-append : (f : A → ℤ) (ts us : List (A × ℤ)) → sum_terms f (ts ++ us) ≡
+      sum_terms f ts +ℤ sum_terms f us
   sum-append f [] us = sym (zero-add-int (sum_terms f us))
   sum-append f (t ∷ ts) us = let e = sum-append f ts us in omega (arith, ints)
 
   -- the same elements with weights that are a multiple
-  pub sum-scaled : (k : ℤ) (f : A → ℤ) (ts : List (A × ℤ)) → sum_terms f (map (λ (t : A × ℤ). (t.0, k *ℤ t.1)) ts) ≡ k *ℤ sum_terms f ts
+  pub sum-scaled : (k : ℤ) (f : A → ℤ) (ts : List (A × ℤ)) →
+      sum_terms f (map (λ (t : A × ℤ). (t.0, k *ℤ t.1)) ts) ≡ k *ℤ sum_terms f ts
   sum-scaled k f [] = sym (mul-zero-int k)
   sum-scaled k f (t ∷ ts) =
       let rest = sum-scaled k f ts in
@@ -65,12 +73,14 @@ module _ {A : Type 0} where
       omega (arith, ints)
 
   -- with turned signs the sum has a turned sign
-  pub sum-turned : (f : A → ℤ) (ts : List (A × ℤ)) → sum_terms (λ x. neg_ℤ (f x)) ts +ℤ sum_terms f ts ≡ pos 0
+  pub sum-turned : (f : A → ℤ) (ts : List (A × ℤ)) →
+      sum_terms (λ x. neg_ℤ (f x)) ts +ℤ sum_terms f ts ≡ pos 0
   sum-turned f [] = refl
   sum-turned f (t ∷ ts) =
       let rest = sum-turned f ts in
       let one : t.1 *ℤ neg_ℤ (f t.0) +ℤ t.1 *ℤ f t.0 ≡ pos 0 =
-      sym (mul-add-int t.1 (neg_ℤ (f t.0)) (f t.0)) ∙ ap (λ z. t.1 *ℤ z) (omega (arith, ints)) ∙ mul-zero-int t.1 in
+      sym (mul-add-int t.1 (neg_ℤ (f t.0)) (f t.0)) ∙ ap (λ z. t.1 *ℤ z) (omega (arith, ints)) ∙
+      mul-zero-int t.1 in
       omega (arith, ints)
 
   -- ---- what holds of each weighted element
@@ -79,46 +89,59 @@ module _ {A : Type 0} where
   Every P [] = Unit {0}
   Every P (t ∷ ts) = P t × Every P ts
 
-  pub every-weaker : (P Q : A × ℤ → Type 0) (ts : List (A × ℤ)) → ((t : A × ℤ) → P t → Q t) → Every P ts → Every Q ts
+  pub every-weaker : (P Q : A × ℤ → Type 0) (ts : List (A × ℤ)) → ((t : A × ℤ) → P t → Q t) →
+      Every P ts → Every Q ts
   every-weaker P Q [] w h = tt
   every-weaker P Q (t ∷ ts) w h = (w t h.0, every-weaker P Q ts w h.1)
 
-  pub every-append : (P : A × ℤ → Type 0) (ts us : List (A × ℤ)) → Every P ts → Every P us → Every P (ts ++ us)
+  pub every-append : (P : A × ℤ → Type 0) (ts us : List (A × ℤ)) → Every P ts → Every P us →
+      Every P (ts ++ us)
   every-append P [] us h g = g
   every-append P (t ∷ ts) us h g = (h.0, every-append P ts us h.1 g)
 
-  by_filter : (P : A × ℤ → Type 0) (test : A → Bool) (t : A × ℤ) (ts : List (A × ℤ)) → P t → Every (λ u. P u × (test u.0 ≡ true)) ts → (b : Bool) → test t.0 ≡ b → Every (λ u. P u × (test u.0 ≡ true)) (cond b (t ∷ ts) ts)
+  by_filter : (P : A × ℤ → Type 0) (test : A → Bool) (t : A × ℤ) (ts : List (A × ℤ)) → P t →
+      Every (λ u. P u × (test u.0 ≡ true)) ts → (b : Bool) → test t.0 ≡ b →
+      Every (λ u. P u × (test u.0 ≡ true)) (cond b (t ∷ ts) ts)
   by_filter P test t ts p h true e = ((p, e), h)
   by_filter P test t ts p h false e = h
 
   -- those that pass a test pass it, and keep what held of them
-  pub every-filter : (P : A × ℤ → Type 0) (test : A → Bool) (ts : List (A × ℤ)) → Every P ts → Every (λ u. P u × (test u.0 ≡ true)) (filter (λ (u : A × ℤ). test u.0) ts)
+  pub every-filter : (P : A × ℤ → Type 0) (test : A → Bool) (ts : List (A × ℤ)) → Every P ts →
+      Every (λ u. P u × (test u.0 ≡ true)) (filter (λ (u : A × ℤ). test u.0) ts)
   every-filter P test [] h = tt
-  every-filter P test (t ∷ ts) h = by_filter P test t (filter (λ (u : A × ℤ). test u.0) ts) h.0 (every-filter P test ts h.1) (test t.0) refl
+  every-filter P test (t ∷ ts) h =
+      by_filter P test t (filter (λ (u : A × ℤ). test u.0) ts) h.0 (every-filter P test ts h.1)
+      (test t.0) refl
 
   abbrev pub NotNegative : A × ℤ → Type 0
   NotNegative t = pos 0 ≤ℤ t.1
 
-  pub sum_zero : (f : A → ℤ) (ts : List (A × ℤ)) → Every (λ t. f t.0 ≡ pos 0) ts → sum_terms f ts ≡ pos 0
+  pub sum_zero : (f : A → ℤ) (ts : List (A × ℤ)) → Every (λ t. f t.0 ≡ pos 0) ts → sum_terms f ts ≡
+      pos 0
   sum_zero f [] h = refl
   sum_zero f (t ∷ ts) h =
       let rest = sum_zero f ts h.1 in
       let one : t.1 *ℤ f t.0 ≡ pos 0 = ap (λ z. t.1 *ℤ z) h.0 ∙ mul-zero-int t.1 in
       omega (arith, ints)
 
-  pub sum_not_negative : (f : A → ℤ) (ts : List (A × ℤ)) → Every (λ t. NotNegative t × (pos 0 <ℤ f t.0)) ts → pos 0 ≤ℤ sum_terms f ts
+  pub sum_not_negative : (f : A → ℤ) (ts : List (A × ℤ)) →
+      Every (λ t. NotNegative t × (pos 0 <ℤ f t.0)) ts → pos 0 ≤ℤ sum_terms f ts
   sum_not_negative f [] h = omega (arith, ints)
   sum_not_negative f (t ∷ ts) h =
       let rest = sum_not_negative f ts h.1 in
-      let one = product_not_negative t.1 (f t.0) (h.0).0 (let up = (h.0).1 in omega (arith, ints)) in
+      let one = product_not_negative t.1 (f t.0) (h.0).0 (let up = (h.0).1 in omega (arith, ints))
+      in
       omega (arith, ints)
 
   -- where elements that are worth more than 0 sum up to 0, all weights are 0, so any worths do
-  pub all_vanish : (a f : A → ℤ) (ts : List (A × ℤ)) → Every (λ t. NotNegative t × (pos 0 <ℤ a t.0)) ts → sum_terms a ts ≡ pos 0 → sum_terms f ts ≡ pos 0
+  pub all_vanish : (a f : A → ℤ) (ts : List (A × ℤ)) →
+      Every (λ t. NotNegative t × (pos 0 <ℤ a t.0)) ts → sum_terms a ts ≡ pos 0 → sum_terms f ts ≡
+      pos 0
   all_vanish a f [] h e = refl
   all_vanish a f (t ∷ ts) h e =
       let rest = sum_not_negative a ts h.1 in
-      let one = product_not_negative t.1 (a t.0) (h.0).0 (let up = (h.0).1 in omega (arith, ints)) in
+      let one = product_not_negative t.1 (a t.0) (h.0).0 (let up = (h.0).1 in omega (arith, ints))
+      in
       let here : t.1 *ℤ a t.0 ≡ pos 0 = omega (arith, ints) in
       let more : sum_terms a ts ≡ pos 0 = omega (arith, ints) in
       let weight = factor_zero t.1 (a t.0) (h.0).0 (h.0).1 here in
@@ -137,13 +160,18 @@ module _ {A : Type 0} where
   abbrev pub below : (A → ℤ) → List (A × ℤ) → List (A × ℤ)
   below a ts = filter (λ (t : A × ℤ). int_lt (a t.0) (pos 0)) ts
 
-  with_it : (f : A → ℤ) (t : A × ℤ) (ts : List (A × ℤ)) {b : Bool} → b ≡ true → sum_terms f (cond b (t ∷ ts) ts) ≡ t.1 *ℤ f t.0 +ℤ sum_terms f ts
+  with_it : (f : A → ℤ) (t : A × ℤ) (ts : List (A × ℤ)) {b : Bool} → b ≡ true →
+      sum_terms f (cond b (t ∷ ts) ts) ≡ t.1 *ℤ f t.0 +ℤ sum_terms f ts
   with_it f t ts e = ap (λ b. sum_terms f (cond b (t ∷ ts) ts)) e
 
-  without_it : (f : A → ℤ) (t : A × ℤ) (ts : List (A × ℤ)) {b : Bool} → b ≡ false → sum_terms f (cond b (t ∷ ts) ts) ≡ sum_terms f ts
+  without_it : (f : A → ℤ) (t : A × ℤ) (ts : List (A × ℤ)) {b : Bool} → b ≡ false →
+      sum_terms f (cond b (t ∷ ts) ts) ≡ sum_terms f ts
   without_it f t ts e = ap (λ b. sum_terms f (cond b (t ∷ ts) ts)) e
 
-  by_told : (a f : A → ℤ) (t : A × ℤ) (ts : List (A × ℤ)) → Told (a t.0) → sum_terms f ts ≡ sum_terms f (kept a ts) +ℤ (sum_terms f (above a ts) +ℤ sum_terms f (below a ts)) → sum_terms f (t ∷ ts) ≡ sum_terms f (kept a (t ∷ ts)) +ℤ (sum_terms f (above a (t ∷ ts)) +ℤ sum_terms f (below a (t ∷ ts)))
+  by_told : (a f : A → ℤ) (t : A × ℤ) (ts : List (A × ℤ)) → Told (a t.0) → sum_terms f ts ≡
+      sum_terms f (kept a ts) +ℤ (sum_terms f (above a ts) +ℤ sum_terms f (below a ts)) →
+      sum_terms f (t ∷ ts) ≡ sum_terms f (kept a (t ∷ ts)) +ℤ
+      (sum_terms f (above a (t ∷ ts)) +ℤ sum_terms f (below a (t ∷ ts)))
   by_told a f t ts (told_zero z p n) e =
       let k = with_it f t (kept a ts) z in
       let u = without_it f t (above a ts) p in
@@ -161,14 +189,16 @@ module _ {A : Type 0} where
       omega (arith, ints)
 
   -- each element is in one of the three
-  pub sum_split : (a f : A → ℤ) (ts : List (A × ℤ)) → sum_terms f ts ≡ sum_terms f (kept a ts) +ℤ (sum_terms f (above a ts) +ℤ sum_terms f (below a ts))
+  pub sum_split : (a f : A → ℤ) (ts : List (A × ℤ)) → sum_terms f ts ≡
+      sum_terms f (kept a ts) +ℤ (sum_terms f (above a ts) +ℤ sum_terms f (below a ts))
   sum_split a f [] = refl
   sum_split a f (t ∷ ts) = by_told a f t ts (told (a t.0)) (sum_split a f ts)
 
   -- ---- the double sum
 
   module _ (join : A → A → A) (factor : A → A → ℤ) where
-    -- one element joined with each of others; the weights are multiplied, and by the factor of the two
+    -- one element joined with each of others; the weights are multiplied, and by the factor of the
+    -- two
     abbrev pub joined_with : A × ℤ → List (A × ℤ) → List (A × ℤ)
     joined_with p qs = map (λ (q : A × ℤ). (join p.0 q.0, (p.1 *ℤ q.1) *ℤ factor p.0 q.0)) qs
 
@@ -184,30 +214,43 @@ module _ {A : Type 0} where
       abbrev turned : List (A × ℤ) → ℤ
       turned qs = sum_terms (λ x. neg_ℤ (a x)) qs
 
-      with_sum : (p : A × ℤ) (qs : List (A × ℤ)) → Every (λ q. Crosswise p.0 q.0) qs → sum_terms f (joined_with p qs) ≡ p.1 *ℤ (turned qs *ℤ f p.0 +ℤ a p.0 *ℤ sum_terms f qs)
-      with_sum p [] h = sym (ap (λ z. p.1 *ℤ z) (λ i. zero-mul-int (f p.0) i +ℤ mul-zero-int (a p.0) i) ∙ mul-zero-int p.1)
+      with_sum : (p : A × ℤ) (qs : List (A × ℤ)) → Every (λ q. Crosswise p.0 q.0) qs →
+          sum_terms f (joined_with p qs) ≡ p.1 *ℤ (turned qs *ℤ f p.0 +ℤ a p.0 *ℤ sum_terms f qs)
+      with_sum p [] h =
+          sym (ap (λ z. p.1 *ℤ z) (λ i. zero-mul-int (f p.0) i +ℤ mul-zero-int (a p.0) i) ∙
+          mul-zero-int p.1)
       with_sum p (q ∷ qs) h =
           let rest = with_sum p qs h.1 in
           let cross = neg_ℤ (a q.0) *ℤ f p.0 +ℤ a p.0 *ℤ f q.0 in
           let here : ((p.1 *ℤ q.1) *ℤ factor p.0 q.0) *ℤ f (join p.0 q.0) ≡ p.1 *ℤ (q.1 *ℤ cross) =
-          mul-assoc-int (p.1 *ℤ q.1) (factor p.0 q.0) (f (join p.0 q.0)) ∙ ap (λ z. (p.1 *ℤ q.1) *ℤ z) h.0 ∙ mul-assoc-int p.1 q.1 cross in
+          mul-assoc-int (p.1 *ℤ q.1) (factor p.0 q.0) (f (join p.0 q.0)) ∙
+          ap (λ z. (p.1 *ℤ q.1) *ℤ z) h.0 ∙ mul-assoc-int p.1 q.1 cross in
           let apart : q.1 *ℤ cross ≡ (q.1 *ℤ neg_ℤ (a q.0)) *ℤ f p.0 +ℤ a p.0 *ℤ (q.1 *ℤ f q.0) =
-          mul-add-int q.1 (neg_ℤ (a q.0) *ℤ f p.0) (a p.0 *ℤ f q.0) ∙ (λ i. sym (mul-assoc-int q.1 (neg_ℤ (a q.0)) (f p.0)) i +ℤ swap q.1 (a p.0) (f q.0) i) in
+          mul-add-int q.1 (neg_ℤ (a q.0) *ℤ f p.0) (a p.0 *ℤ f q.0) ∙
+          (λ i. sym (mul-assoc-int q.1 (neg_ℤ (a q.0)) (f p.0)) i +ℤ swap q.1 (a p.0) (f q.0) i)
+          in
           let first = add-mul-int (q.1 *ℤ neg_ℤ (a q.0)) (turned qs) (f p.0) in
           let second = mul-add-int (a p.0) (q.1 *ℤ f q.0) (sum_terms f qs) in
-          let inner : q.1 *ℤ cross +ℤ (turned qs *ℤ f p.0 +ℤ a p.0 *ℤ sum_terms f qs) ≡ turned (q ∷ qs) *ℤ f p.0 +ℤ a p.0 *ℤ sum_terms f (q ∷ qs) = omega (arith, ints) in
-          let outer = sym (mul-add-int p.1 (q.1 *ℤ cross) (turned qs *ℤ f p.0 +ℤ a p.0 *ℤ sum_terms f qs)) ∙ ap (λ z. p.1 *ℤ z) inner in
+          let inner : q.1 *ℤ cross +ℤ (turned qs *ℤ f p.0 +ℤ a p.0 *ℤ sum_terms f qs) ≡
+          turned (q ∷ qs) *ℤ f p.0 +ℤ a p.0 *ℤ sum_terms f (q ∷ qs) = omega (arith, ints) in
+          let outer = sym (mul-add-int p.1 (q.1 *ℤ cross)
+          (turned qs *ℤ f p.0 +ℤ a p.0 *ℤ sum_terms f qs)) ∙ ap (λ z. p.1 *ℤ z) inner in
           (λ i. here i +ℤ rest i) ∙ outer
 
       -- all pairs together
-      pub pairs_sum : (ps qs : List (A × ℤ)) → Every (λ p. Every (λ q. Crosswise p.0 q.0) qs) ps → sum_terms f (joined_pairs ps qs) ≡ turned qs *ℤ sum_terms f ps +ℤ sum_terms a ps *ℤ sum_terms f qs
+      pub pairs_sum : (ps qs : List (A × ℤ)) → Every (λ p. Every (λ q. Crosswise p.0 q.0) qs) ps →
+          sum_terms f (joined_pairs ps qs) ≡ turned qs *ℤ sum_terms f ps +ℤ sum_terms a ps *ℤ
+          sum_terms f qs
       pairs_sum [] qs h = sym (λ i. mul-zero-int (turned qs) i +ℤ zero-mul-int (sum_terms f qs) i)
       pairs_sum (p ∷ ps) qs h =
           let rest = pairs_sum ps qs h.1 in
           let here = with_sum p qs h.0 in
           let both = sum-append f (joined_with p qs) (joined_pairs ps qs) in
-          let apart : p.1 *ℤ (turned qs *ℤ f p.0 +ℤ a p.0 *ℤ sum_terms f qs) ≡ turned qs *ℤ (p.1 *ℤ f p.0) +ℤ (p.1 *ℤ a p.0) *ℤ sum_terms f qs =
-          mul-add-int p.1 (turned qs *ℤ f p.0) (a p.0 *ℤ sum_terms f qs) ∙ (λ i. swap p.1 (turned qs) (f p.0) i +ℤ sym (mul-assoc-int p.1 (a p.0) (sum_terms f qs)) i) in
+          let apart : p.1 *ℤ (turned qs *ℤ f p.0 +ℤ a p.0 *ℤ sum_terms f qs) ≡
+          turned qs *ℤ (p.1 *ℤ f p.0) +ℤ (p.1 *ℤ a p.0) *ℤ sum_terms f qs =
+          mul-add-int p.1 (turned qs *ℤ f p.0) (a p.0 *ℤ sum_terms f qs) ∙
+          (λ i. swap p.1 (turned qs) (f p.0) i +ℤ sym
+          (mul-assoc-int p.1 (a p.0) (sum_terms f qs)) i) in
           let first = mul-add-int (turned qs) (p.1 *ℤ f p.0) (sum_terms f ps) in
           let second = add-mul-int (p.1 *ℤ a p.0) (sum_terms a ps) (sum_terms f qs) in
           omega (arith, ints)
@@ -217,7 +260,8 @@ module _ {A : Type 0} where
     module _ (a : A → ℤ) (ts : List (A × ℤ)) where
       -- the kept elements with a multiple of their weights, and the pairs
       abbrev pub stage_of : ℤ → List (A × ℤ)
-      stage_of k = map (λ (t : A × ℤ). (t.0, k *ℤ t.1)) (kept a ts) ++ joined_pairs (above a ts) (below a ts)
+      stage_of k =
+          map (λ (t : A × ℤ). (t.0, k *ℤ t.1)) (kept a ts) ++ joined_pairs (above a ts) (below a ts)
 
       -- what the elements with a number above 0 have of it, all together
       abbrev pub top : ℤ
@@ -236,7 +280,9 @@ module _ {A : Type 0} where
 
       kept_zero : sum_terms a (kept a ts) ≡ pos 0
       kept_zero = sum_zero a (kept a ts)
-          (every-weaker (λ t. Unit {0} × (is_zero (a t.0) ≡ true)) (λ t. a t.0 ≡ pos 0) (kept a ts) (λ t h. zero_is (a t.0) h.1) (every-filter (λ t. Unit {0}) (λ x. is_zero (a x)) ts (all_of ts)))
+          (every-weaker (λ t. Unit {0} × (is_zero (a t.0) ≡ true)) (λ t. a t.0 ≡ pos 0) (kept a ts)
+          (λ t h. zero_is (a t.0) h.1) (every-filter (λ t. Unit {0}) (λ x. is_zero (a x)) ts
+          (all_of ts)))
         where
           all_of : (us : List (A × ℤ)) → Every (λ t. Unit {0}) us
           all_of [] = tt
@@ -244,12 +290,18 @@ module _ {A : Type 0} where
 
       module _ (weights : Every NotNegative ts) (cancels : sum_terms a ts ≡ pos 0) where
         above_ones : Every (λ t. NotNegative t × (pos 0 <ℤ a t.0)) (above a ts)
-        above_ones = every-weaker (λ t. NotNegative t × (int_lt (pos 0) (a t.0) ≡ true)) (λ t. NotNegative t × (pos 0 <ℤ a t.0)) (above a ts)
-            (λ t h. (h.0, above_of (a t.0) h.1)) (every-filter NotNegative (λ x. int_lt (pos 0) (a x)) ts weights)
+        above_ones =
+            every-weaker (λ t. NotNegative t × (int_lt (pos 0) (a t.0) ≡ true))
+            (λ t. NotNegative t × (pos 0 <ℤ a t.0)) (above a ts)
+            (λ t h. (h.0, above_of (a t.0) h.1))
+            (every-filter NotNegative (λ x. int_lt (pos 0) (a x)) ts weights)
 
         below_ones : Every (λ t. NotNegative t × (pos 0 <ℤ neg_ℤ (a t.0))) (below a ts)
-        below_ones = every-weaker (λ t. NotNegative t × (int_lt (a t.0) (pos 0) ≡ true)) (λ t. NotNegative t × (pos 0 <ℤ neg_ℤ (a t.0))) (below a ts)
-            (λ t h. (h.0, below_of (a t.0) h.1)) (every-filter NotNegative (λ x. int_lt (a x) (pos 0)) ts weights)
+        below_ones =
+            every-weaker (λ t. NotNegative t × (int_lt (a t.0) (pos 0) ≡ true))
+            (λ t. NotNegative t × (pos 0 <ℤ neg_ℤ (a t.0))) (below a ts)
+            (λ t h. (h.0, below_of (a t.0) h.1))
+            (every-filter NotNegative (λ x. int_lt (a x) (pos 0)) ts weights)
 
         -- those below 0 have as much of it, as the number cancels
         both_same : sum_terms (λ x. neg_ℤ (a x)) (below a ts) ≡ top
@@ -259,14 +311,21 @@ module _ {A : Type 0} where
             let back = sum-turned a (below a ts) in
             omega (arith, ints)
 
-        module _ (f : A → ℤ) (cross : Every (λ p. Every (λ q. Crosswise a f p.0 q.0) (below a ts)) (above a ts)) where
-          whole : (k : ℤ) → sum_terms f (stage_of k) ≡ k *ℤ sum_terms f (kept a ts) +ℤ (top *ℤ sum_terms f (above a ts) +ℤ top *ℤ sum_terms f (below a ts))
+        module _ (f : A → ℤ) (cross : Every (λ p. Every (λ q. Crosswise a f p.0 q.0) (below a ts))
+            (above a ts)) where
+          whole : (k : ℤ) → sum_terms f (stage_of k) ≡
+              k *ℤ sum_terms f (kept a ts) +ℤ
+              (top *ℤ sum_terms f (above a ts) +ℤ top *ℤ sum_terms f (below a ts))
           whole k =
-              sum-append f (map (λ (t : A × ℤ). (t.0, k *ℤ t.1)) (kept a ts)) (joined_pairs (above a ts) (below a ts))
-              ∙ (λ i. sum-scaled k f (kept a ts) i +ℤ pairs_sum a f (above a ts) (below a ts) cross i)
-              ∙ ap (λ z. k *ℤ sum_terms f (kept a ts) +ℤ (z *ℤ sum_terms f (above a ts) +ℤ top *ℤ sum_terms f (below a ts))) both_same
+              sum-append f (map (λ (t : A × ℤ). (t.0, k *ℤ t.1)) (kept a ts))
+              (joined_pairs (above a ts) (below a ts))
+              ∙ (λ i. sum-scaled k f (kept a ts) i +ℤ pairs_sum a f (above a ts) (below a ts) cross
+              i)
+              ∙ ap (λ z. k *ℤ sum_terms f (kept a ts) +ℤ
+              (z *ℤ sum_terms f (above a ts) +ℤ top *ℤ sum_terms f (below a ts))) both_same
 
-          by_top : (z : ℤ) → top ≡ z → pos 0 ≤ℤ z → sum_terms f (stage_of (growth z)) ≡ growth z *ℤ sum_terms f ts
+          by_top : (z : ℤ) → top ≡ z → pos 0 ≤ℤ z → sum_terms f (stage_of (growth z)) ≡
+              growth z *ℤ sum_terms f ts
           by_top (pos zero) e h =
               let ups = all_vanish a f (above a ts) above_ones e in
               let downs = all_vanish (λ x. neg_ℤ (a x)) f (below a ts) below_ones (both_same ∙ e) in
@@ -280,9 +339,12 @@ module _ {A : Type 0} where
               let k = pos (suc n) in
               let split = sum_split a f ts in
               whole k
-              ∙ (λ i. k *ℤ sum_terms f (kept a ts) +ℤ (e i *ℤ sum_terms f (above a ts) +ℤ e i *ℤ sum_terms f (below a ts)))
-              ∙ ap (λ z. k *ℤ sum_terms f (kept a ts) +ℤ z) (sym (mul-add-int k (sum_terms f (above a ts)) (sum_terms f (below a ts))))
-              ∙ sym (mul-add-int k (sum_terms f (kept a ts)) (sum_terms f (above a ts) +ℤ sum_terms f (below a ts)))
+              ∙ (λ i. k *ℤ sum_terms f (kept a ts) +ℤ
+              (e i *ℤ sum_terms f (above a ts) +ℤ e i *ℤ sum_terms f (below a ts)))
+              ∙ ap (λ z. k *ℤ sum_terms f (kept a ts) +ℤ z)
+              (sym (mul-add-int k (sum_terms f (above a ts)) (sum_terms f (below a ts))))
+              ∙ sym (mul-add-int k (sum_terms f (kept a ts))
+              (sum_terms f (above a ts) +ℤ sum_terms f (below a ts)))
               ∙ ap (λ z. k *ℤ z) (sym split)
           by_top (negsuc n) e h = absurd (omega (arith, ints))
 

@@ -1,4 +1,5 @@
--- The content of a polynomial: the greatest common divisor of its coefficients, without the constant.
+-- The content of a polynomial: the greatest common divisor of its coefficients, without the
+-- constant.
 use Rattle.std.specs.Prelude.{ℕ, Bool, not, ◌||◌, if◌then◌else◌, unsigned_abs, List, filter, map, ℤ}
 use Rattle.rx_poly.specs.declared.body.Body.{Body, out-Body}
 use Rattle.rx_poly.specs.declared.body.Mono.{Mono}
@@ -15,7 +16,8 @@ term_fits t = is_one t.0 || size_fits t.1
 
 -- the coefficients of these terms, without that of 1
 abbrev pub coefficients_but_one : List (Mono × ℤ) → List ℤ
-coefficients_but_one ts = map (λ (t : Mono × ℤ). t.1) (filter (λ (t : Mono × ℤ). not (is_one t.0)) ts)
+coefficients_but_one ts =
+    map (λ (t : Mono × ℤ). t.1) (filter (λ (t : Mono × ℤ). not (is_one t.0)) ts)
 
 -- the coefficients of a polynomial, without the constant
 abbrev pub variable_coefficients : Body → List ℤ

@@ -1,4 +1,5 @@
--- The elimination, over exact integers: monomial by monomial the polynomials that have it are joined so that it cancels.
+-- The elimination, over exact integers: monomial by monomial the polynomials that have it are
+-- joined so that it cancels.
 use Rattle.std.specs.Prelude.{ℕ, suc, ◌/◌, nat_le, Bool, true, false, ◌&&◌, if◌then◌else◌, Option, Some, None, List, [], ◌∷◌, ◌++◌, length, map, filter, replicate, slice_set, ℤ, pos, int_lt, unsigned_abs}
 use Rattle.std.specs.List.{list_all}
 use Rattle.std.specs.declared.cmp.Ordering.{Ordering}
@@ -57,15 +58,23 @@ coefficients p = map (λ (t : Mono × ℤ). t.1) (out-Body p).terms
 
 -- k times the first plus l times the second, the multipliers likewise
 abbrev pub weighed : ℤ → Combination → ℤ → Combination → Combination
-weighed k p l q = record { poly = added (scaled_by k p.poly) (scaled_by l q.poly); multipliers = combined k p.multipliers l q.multipliers }
+weighed k p l q =
+    record {
+      poly = added (scaled_by k p.poly) (scaled_by l q.poly);
+      multipliers =
+          combined k p.multipliers l q.multipliers;
+    }
 
 -- whether the two multiples, their sum, and all that is formed for the multipliers keep the limits
 abbrev pub weighed_within : ℤ → Combination → ℤ → Combination → Bool
 weighed_within k p l q =
     is_within (scaled_by k p.poly)
-    && (is_within (scaled_by l q.poly) && (is_within (added (scaled_by k p.poly) (scaled_by l q.poly)) && combined_within k p.multipliers l q.multipliers))
+    && (is_within (scaled_by l q.poly) && (is_within
+    (added (scaled_by k p.poly) (scaled_by l q.poly)) &&
+    combined_within k p.multipliers l q.multipliers))
 
--- the two weighed so that coefficients of the sizes a and b and of opposite signs cancel, by the least such weights
+-- the two weighed so that coefficients of the sizes a and b and of opposite signs cancel, by the
+-- least such weights
 abbrev pub cancelled : ℕ → ℕ → Combination → Combination → Combination
 cancelled a b p q = weighed (pos (b / gcd a b)) p (pos (a / gcd a b)) q
 
@@ -86,13 +95,15 @@ divided d p = of_terms (map (λ (t : Mono × ℤ). (t.0, quotient t.1 (pos d))) 
 
 -- all coefficients and multipliers divided by their greatest common divisor
 abbrev pub reduced : Combination → Combination
-reduced c = record { poly = divided (common c) c.poly; multipliers = quotients (common c) c.multipliers }
+reduced c =
+    record { poly = divided (common c) c.poly; multipliers = quotients (common c) c.multipliers }
 
 -- the two joined so that the monomial cancels, where its coefficients have opposite signs
 abbrev pub joined : Mono → Combination → Combination → Combination
 joined m p q = reduced (cancelled (unsigned_abs (at m p)) (unsigned_abs (at m q)) p q)
 
--- whether all that is formed on the way to that keeps the limits; the coefficient of q is the negative one
+-- whether all that is formed on the way to that keeps the limits; the coefficient of q is the
+-- negative one
 abbrev pub joined_within : Mono → Combination → Combination → Bool
 joined_within m p q =
     size_fits (at m q)
@@ -126,7 +137,8 @@ next m cs = without m cs ++ pairs m (positive m cs) (negative m cs)
 
 -- whether all that is formed keeps the limits, and no more than `limit` stand there
 abbrev pub next_within : ℕ → Mono → List Combination → Bool
-next_within limit m cs = nat_le (length (next m cs)) limit && pairs_within m (positive m cs) (negative m cs)
+next_within limit m cs =
+    nat_le (length (next m cs)) limit && pairs_within m (positive m cs) (negative m cs)
 
 -- ---- the elimination
 
@@ -158,12 +170,13 @@ abbrev pub found_or : Option (List ℤ) → Outcome → Outcome
 found_or None further = further
 found_or (Some ms) further = found ms
 
--- the monomials are eliminated one after the other, and before each it is seen whether a negative number stands there;
--- where no polynomial has the monomial any more nothing changes
+-- the monomials are eliminated one after the other, and before each it is seen whether a negative
+-- number stands there; where no polynomial has the monomial any more nothing changes
 abbrev pub eliminated : ℕ → List Mono → List Combination → Outcome
 eliminated limit [] cs = found_or (first_negative cs) nothing
 eliminated limit (m ∷ ms) cs =
-    found_or (first_negative cs) (if next_within limit m cs then eliminated limit ms (next m cs) else beyond)
+    found_or (first_negative cs) (if next_within limit m cs then
+    eliminated limit ms (next m cs) else beyond)
 
 -- `count` multipliers that are 0, but 1 at that place
 abbrev pub unit : ℕ → ℕ → List ℤ
@@ -172,11 +185,14 @@ unit count place = slice_set (replicate count (pos 0)) place (pos 1)
 -- the polynomials as they are given, the first with that place
 abbrev pub given_from : ℕ → ℕ → List Body → List Combination
 given_from place count [] = []
-given_from place count (p ∷ ps) = record { poly = p; multipliers = unit count place } ∷ given_from (suc place) count ps
+given_from place count (p ∷ ps) =
+    record { poly = p; multipliers = unit count place } ∷ given_from (suc place) count ps
 
 abbrev pub given : List Body → List Combination
 given ps = given_from 0 (length ps) ps
 
--- the elimination of all monomials, with at most `limit` polynomials at the beginning and behind each stage
+-- the elimination of all monomials, with at most `limit` polynomials at the beginning and behind
+-- each stage
 abbrev pub elimination : ℕ → List Body → Outcome
-elimination limit ps = if nat_le (length ps) limit then eliminated limit (monomials ps) (given ps) else beyond
+elimination limit ps =
+    if nat_le (length ps) limit then eliminated limit (monomials ps) (given ps) else beyond

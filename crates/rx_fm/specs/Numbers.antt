@@ -4,7 +4,8 @@ use Rattle.std.specs.List.{list_all}
 use Rattle.rx_poly.specs.Limits.{fits_i128}
 use Rattle.rx_poly.specs.Value.{quotient}
 
--- Euclid's rule, used at most n times: it leads from two numbers to the second and the remainder of the first by it
+-- Euclid's rule, used at most n times: it leads from two numbers to the second and the remainder of
+-- the first by it
 unfoldable pub euclid : ℕ → ℕ → ℕ → ℕ
 euclid zero a b = a
 euclid (suc n) a b = if nat_eq b 0 then a else euclid n b (a % b)

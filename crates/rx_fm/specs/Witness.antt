@@ -16,7 +16,8 @@ total x (p ∷ ps) (m ∷ ms) = m *ℤ coefficient x (out-Body p).terms +ℤ tot
 abbrev pub one : Mono
 one = of_atoms []
 
--- one multiplier for each polynomial, none negative, and with them the sum of the polynomials is a negative number
+-- one multiplier for each polynomial, none negative, and with them the sum of the polynomials is a
+-- negative number
 pub record IsWitness (ps : List Body) (ms : List ℤ) : Type 0 where
   pub one_each : length ms ≡ length ps
   pub none_negative : All (λ m. pos 0 ≤ℤ m) ms

@@ -30,8 +30,8 @@ impl Combination {
     }
 }
 
-/// One multiple of the first plus one of the second. Large exactly where one of the multiples, their sum,
-/// or a product or sum of multipliers passes its limits.
+/// One multiple of the first plus one of the second. Large exactly where one of the multiples,
+/// their sum, or a product or sum of multipliers passes its limits.
 fn weighed(
     alloc: Global,
     k: &i128,
@@ -41,7 +41,8 @@ fn weighed(
 ) -> Result<Combination, FmEnd>
     ensures same { IfOk result (λ c. c ≡ weighed k.now first.now l.now second.now) }
     ensures within { OnOk result (weighed_within k.now first.now l.now second.now ≡ true) }
-    ensures large { IfErr result (λ e. e ≡ FmEnd.Large → weighed_within k.now first.now l.now second.now ≡ false) }
+    ensures large { IfErr result (λ e. e ≡ FmEnd.Large →
+        weighed_within k.now first.now l.now second.now ≡ false) }
 {
     let left = first.poly.scale(alloc, *k)?;
     let right = second.poly.scale(alloc, *l)?;
@@ -66,9 +67,13 @@ fn cancelled(
 ) -> Result<Combination, FmEnd>
     requires positive { pos 0 <ℤ positive.now }
     requires negative { pos 0 <ℤ negative.now }
-    ensures same { IfOk result (λ c. c ≡ cancelled (unsigned_abs positive.now) (unsigned_abs negative.now) first.now second.now) }
-    ensures within { OnOk result (cancelled_within (unsigned_abs positive.now) (unsigned_abs negative.now) first.now second.now ≡ true) }
-    ensures large { IfErr result (λ e. e ≡ FmEnd.Large → cancelled_within (unsigned_abs positive.now) (unsigned_abs negative.now) first.now second.now ≡ false) }
+    ensures same { IfOk result (λ c. c ≡ cancelled (unsigned_abs positive.now)
+        (unsigned_abs negative.now) first.now second.now) }
+    ensures within { OnOk result (cancelled_within (unsigned_abs positive.now)
+        (unsigned_abs negative.now) first.now second.now ≡ true) }
+    ensures large { IfErr result (λ e. e ≡ FmEnd.Large →
+        cancelled_within (unsigned_abs positive.now) (unsigned_abs negative.now) first.now
+        second.now ≡ false) }
 {
     let common = gcd(positive, negative);
     let k = divided(negative, &common);
@@ -76,11 +81,12 @@ fn cancelled(
     weighed(alloc, &k, first, &l, second)
 }
 
-/// The greatest common divisor of one number and the sizes of the coefficients; None where one of these
-/// leaves i128.
+/// The greatest common divisor of one number and the sizes of the coefficients; None where one of
+/// these leaves i128.
 fn gcd_of_terms(first: &i128, terms: &[(Mono, i128)]) -> Option<i128>
     requires { pos 0 ≤ℤ first.now }
-    ensures { SomeIff result (sizes_fit (map (λ (t : Mono × ℤ). t.1) terms.now) ≡ true) (pos (gcd_with (unsigned_abs first.now) (map (λ (t : Mono × ℤ). t.1) terms.now))) }
+    ensures { SomeIff result (sizes_fit (map (λ (t : Mono × ℤ). t.1) terms.now) ≡ true)
+        (pos (gcd_with (unsigned_abs first.now) (map (λ (t : Mono × ℤ). t.1) terms.now))) }
 {
     let mut common = *first;
     for term in terms {
@@ -89,8 +95,8 @@ fn gcd_of_terms(first: &i128, terms: &[(Mono, i128)]) -> Option<i128>
     Some(common)
 }
 
-/// The greatest common divisor of all coefficients and multipliers; None where the size of one of them
-/// leaves i128.
+/// The greatest common divisor of all coefficients and multipliers; None where the size of one of
+/// them leaves i128.
 fn common(combination: &Combination) -> Option<i128>
     ensures { SomeIff result (common_within combination.now ≡ true) (pos (common combination.now)) }
 {
@@ -127,8 +133,8 @@ fn divided_poly(alloc: Global, poly: &Poly, by: &i128) -> Result<Poly, AllocErro
     Ok(quotient.unwrap())
 }
 
-/// All coefficients and multipliers divided by their greatest common divisor. Large exactly where the size
-/// of one of them leaves i128.
+/// All coefficients and multipliers divided by their greatest common divisor. Large exactly where
+/// the size of one of them leaves i128.
 fn reduced(alloc: Global, combination: Combination) -> Result<Combination, FmEnd>
     ensures same { IfOk result (λ c. c ≡ reduced combination) }
     ensures within { OnOk result (common_within combination ≡ true) }
@@ -145,8 +151,8 @@ fn reduced(alloc: Global, combination: Combination) -> Result<Combination, FmEnd
     Ok(Combination { poly, multipliers })
 }
 
-/// The two joined so that the monomial cancels. Large exactly where something that is formed on the way
-/// passes its limits.
+/// The two joined so that the monomial cancels. Large exactly where something that is formed on the
+/// way passes its limits.
 pub(crate) fn joined(
     alloc: Global,
     mono: &Mono,
@@ -157,7 +163,8 @@ pub(crate) fn joined(
     requires negative { at mono.now second.now <ℤ pos 0 }
     ensures same { IfOk result (λ c. c ≡ joined mono.now first.now second.now) }
     ensures within { OnOk result (joined_within mono.now first.now second.now ≡ true) }
-    ensures large { IfErr result (λ e. e ≡ FmEnd.Large → joined_within mono.now first.now second.now ≡ false) }
+    ensures large { IfErr result (λ e. e ≡ FmEnd.Large →
+        joined_within mono.now first.now second.now ≡ false) }
 {
     let positive = first.coeff(mono);
     let Some(negative) = size(&second.coeff(mono)) else {

@@ -10,7 +10,8 @@ use rx_poly::{Mono, Poly};
 /// number alone where the term is the constant; None where the size leaves i128.
 fn with_term(number: &i128, term: &(Mono, i128)) -> Option<i128>
     requires { pos 0 ≤ℤ number.now }
-    ensures { SomeIff result (term_fits term.now ≡ true) (pos (gcd_with_term (unsigned_abs number.now) term.now)) }
+    ensures { SomeIff result (term_fits term.now ≡ true)
+        (pos (gcd_with_term (unsigned_abs number.now) term.now)) }
 {
     if term.0.atoms.is_empty() {
         return Some(*number);
@@ -21,7 +22,8 @@ fn with_term(number: &i128, term: &(Mono, i128)) -> Option<i128>
 /// The greatest common divisor of the sizes of the polynomial's coefficients, without the constant;
 /// None where one of these leaves i128. Takes no memory.
 pub fn content(poly: &Poly) -> Option<i128>
-    ensures { SomeIff result (sizes_fit (variable_coefficients poly.now) ≡ true) (pos (content poly.now)) }
+    ensures { SomeIff result (sizes_fit (variable_coefficients poly.now) ≡ true)
+        (pos (content poly.now)) }
 {
     let mut content = 0;
     for term in poly.body().terms.as_slice() {

@@ -46,7 +46,8 @@ fn is_negative(combination: &Combination) -> bool
 
 /// The multipliers of the first polynomial that is a negative number.
 fn first_negative(combinations: &[Combination]) -> Option<&[i128]>
-    ensures { MatchOption result (first_negative combinations.now ≡ None) (λ ms. first_negative combinations.now ≡ Some ms.now) }
+    ensures { MatchOption result (first_negative combinations.now ≡ None)
+        (λ ms. first_negative combinations.now ≡ Some ms.now) }
 {
     for combination in combinations {
         if is_negative(combination) {
@@ -63,7 +64,8 @@ fn eliminated(
     given: Items<Combination>,
     limit: u32,
 ) -> Result<Option<Vec<i128>>, FmEnd>
-    ensures exact { IfOk result (λ a. MatchOption a (eliminated limit monos.now given ≡ nothing) (λ ms. eliminated limit monos.now given ≡ found ms.items)) }
+    ensures exact { IfOk result (λ a. MatchOption a (eliminated limit monos.now given ≡ nothing)
+        (λ ms. eliminated limit monos.now given ≡ found ms.items)) }
     ensures large { IfErr result (λ e. e ≡ FmEnd.Large → eliminated limit monos.now given ≡ beyond) }
 {
     let mut standing = given;
@@ -83,12 +85,13 @@ fn eliminated(
     }
 }
 
-/// Multipliers, one for each polynomial and none negative, whose sum of the polynomials is a negative
-/// number: they show that the polynomials are not all at least 0. None where there are none. Large exactly
-/// where the elimination passes a limit: of polynomials, of i128, or more than `limit` polynomials at the
-/// beginning or behind a stage.
+/// Multipliers, one for each polynomial and none negative, whose sum of the polynomials is a
+/// negative number: they show that the polynomials are not all at least 0. None where there are
+/// none. Large exactly where the elimination passes a limit: of polynomials, of i128, or more than
+/// `limit` polynomials at the beginning or behind a stage.
 pub fn farkas(alloc: Global, polys: &[Poly], limit: u32) -> Result<Option<Vec<i128>>, FmEnd>
-    ensures exact { IfOk result (λ a. MatchOption a (elimination limit polys.now ≡ nothing) (λ ms. elimination limit polys.now ≡ found ms.items)) }
+    ensures exact { IfOk result (λ a. MatchOption a (elimination limit polys.now ≡ nothing)
+        (λ ms. elimination limit polys.now ≡ found ms.items)) }
     ensures witness { IfOk result (λ a. IfSome a (λ ms. IsWitness polys.now ms.items)) }
     ensures none { IfOk result (λ a. IsNone a → (ms : List ℤ) → ¬ (IsWitness polys.now ms)) }
     ensures large { IfErr result (λ e. e ≡ FmEnd.Large → elimination limit polys.now ≡ beyond) }

@@ -8,7 +8,8 @@ use thiserror::Error;
 /// Why an elimination gave no answer.
 #[derive(Clone, Copy, Debug, PartialEq, Eq, Error)]
 pub enum FmEnd {
-    /// A polynomial or a multiplier on the way passes its limits, or too many polynomials stand there.
+    /// A polynomial or a multiplier on the way passes its limits, or too many polynomials stand
+    /// there.
     #[error("an elimination is too large")]
     Large,
     /// There was no memory.

@@ -10,7 +10,9 @@ use std::cmp::Ordering;
 
 /// Where the monomial belongs among others that rise; None where it stands there.
 fn place_of(monos: &[Mono], mono: &Mono) -> Option<usize>
-    ensures { MatchOption result (with_mono mono.now monos.now ≡ monos.now) (λ at. (at ≤ length monos.now) × (with_mono mono.now monos.now ≡ insert monos.now at mono.now)) }
+    ensures { MatchOption result (with_mono mono.now monos.now ≡ monos.now)
+        (λ at. (at ≤ length monos.now) × (with_mono mono.now monos.now ≡
+        insert monos.now at mono.now)) }
 {
     for (at, standing) in monos.iter().enumerate() {
         match mono.cmp(standing) {

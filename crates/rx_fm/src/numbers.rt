@@ -49,7 +49,8 @@ pub(crate) fn gcd(left: &i128, right: &i128) -> i128
 /// leaves i128.
 pub fn gcd_with(first: &i128, others: &[i128]) -> Option<i128>
     requires { pos 0 ≤ℤ first.now }
-    ensures { SomeIff result (sizes_fit others.now ≡ true) (pos (gcd_with (unsigned_abs first.now) others.now)) }
+    ensures { SomeIff result (sizes_fit others.now ≡ true)
+        (pos (gcd_with (unsigned_abs first.now) others.now)) }
 {
     let mut common = *first;
     for number in others {
@@ -98,7 +99,8 @@ fn sum(left: &i128, right: &i128) -> Option<i128>
 
 /// The sum of two products; None where one of the three leaves i128.
 fn sum_of_products(k: &i128, x: &i128, l: &i128, y: &i128) -> Option<i128>
-    ensures { SomeIff result (sum_within k.now x.now l.now y.now ≡ true) (x.now *ℤ k.now +ℤ y.now *ℤ l.now) }
+    ensures { SomeIff result (sum_within k.now x.now l.now y.now ≡ true)
+        (x.now *ℤ k.now +ℤ y.now *ℤ l.now) }
 {
     let first = product(x, k)?;
     let second = product(y, l)?;
@@ -116,7 +118,8 @@ pub(crate) fn combined(
 ) -> Result<Items<i128>, FmEnd>
     ensures sums { IfOk result (λ zs. zs ≡ combined k.now left.now l.now right.now) }
     ensures within { OnOk result (combined_within k.now left.now l.now right.now ≡ true) }
-    ensures large { IfErr result (λ e. e ≡ FmEnd.Large → combined_within k.now left.now l.now right.now ≡ false) }
+    ensures large { IfErr result (λ e. e ≡ FmEnd.Large →
+        combined_within k.now left.now l.now right.now ≡ false) }
 {
     let mut made = Items::new(alloc);
     let mut xs = left;

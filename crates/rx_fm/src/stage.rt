@@ -20,9 +20,12 @@ struct BySign {
 impl BySign {
     /// Puts the combination behind those of its kind.
     fn push(&mut self, mono: &Mono, combination: Combination) -> Result<(), AllocError>
-        ensures without { OnOk result (self.new.without ≡ self.old.without ++ without mono.now (combination ∷ [])) }
-        ensures positive { OnOk result (self.new.positive ≡ self.old.positive ++ positive mono.now (combination ∷ [])) }
-        ensures negative { OnOk result (self.new.negative ≡ self.old.negative ++ negative mono.now (combination ∷ [])) }
+        ensures without { OnOk result (self.new.without ≡ self.old.without ++
+            without mono.now (combination ∷ [])) }
+        ensures positive { OnOk result (self.new.positive ≡ self.old.positive ++
+            positive mono.now (combination ∷ [])) }
+        ensures negative { OnOk result (self.new.negative ≡ self.old.negative ++
+            negative mono.now (combination ∷ [])) }
     {
         let coefficient = combination.coeff(mono);
         if coefficient == 0 {
@@ -52,7 +55,8 @@ fn split(alloc: Global, combinations: Items<Combination>, mono: &Mono) -> Result
     Ok(split)
 }
 
-/// Puts the one joined with each of the others behind `made`. Large exactly where one of these passes its limits.
+/// Puts the one joined with each of the others behind `made`. Large exactly where one of these
+/// passes its limits.
 fn push_joined(
     made: &mut Items<Combination>,
     alloc: Global,
@@ -64,7 +68,8 @@ fn push_joined(
     requires seconds { list_all (λ c. int_lt (at mono.now c) (pos 0)) seconds.now ≡ true }
     ensures ok { OnOk result (made.new ≡ made.old ++ map (joined mono.now first.now) seconds.now) }
     ensures within { OnOk result (list_all (joined_within mono.now first.now) seconds.now ≡ true) }
-    ensures large { IfErr result (λ e. e ≡ FmEnd.Large → list_all (joined_within mono.now first.now) seconds.now ≡ false) }
+    ensures large { IfErr result (λ e. e ≡ FmEnd.Large →
+        list_all (joined_within mono.now first.now) seconds.now ≡ false) }
 {
     for second in seconds {
         let both = joined(alloc, mono, first, second)?;
@@ -73,8 +78,8 @@ fn push_joined(
     Ok(())
 }
 
-/// Puts each of the first joined with each of the second behind `made`. Large exactly where one of these
-/// passes its limits.
+/// Puts each of the first joined with each of the second behind `made`. Large exactly where one of
+/// these passes its limits.
 fn push_pairs(
     made: &mut Items<Combination>,
     alloc: Global,
@@ -86,7 +91,8 @@ fn push_pairs(
     requires seconds { list_all (λ c. int_lt (at mono.now c) (pos 0)) seconds.now ≡ true }
     ensures ok { OnOk result (made.new ≡ made.old ++ pairs mono.now firsts.now seconds.now) }
     ensures within { OnOk result (pairs_within mono.now firsts.now seconds.now ≡ true) }
-    ensures large { IfErr result (λ e. e ≡ FmEnd.Large → pairs_within mono.now firsts.now seconds.now ≡ false) }
+    ensures large { IfErr result (λ e. e ≡ FmEnd.Large →
+        pairs_within mono.now firsts.now seconds.now ≡ false) }
 {
     for first in firsts {
         push_joined(made, alloc, mono, first, seconds)?;
@@ -96,14 +102,16 @@ fn push_pairs(
 
 /// Whether no more than `limit` combinations come of these.
 fn are_few(split: &BySign, limit: u32) -> bool
-    ensures { result ≡ nat_le (length split.now.without + length split.now.positive * length split.now.negative) limit }
+    ensures { result ≡ nat_le (length split.now.without +
+        length split.now.positive * length split.now.negative) limit }
 {
     let pairs = split.positive.len() as u128 * split.negative.len() as u128;
     split.without.len() as u128 + pairs <= u128::from(limit)
 }
 
-/// The combinations without the monomial, and each pair in which it has opposite signs joined so that it
-/// cancels. Large exactly where something that is formed passes its limits, or more than `limit` come of it.
+/// The combinations without the monomial, and each pair in which it has opposite signs joined so
+/// that it cancels. Large exactly where something that is formed passes its limits, or more than
+/// `limit` come of it.
 pub(crate) fn stage(
     alloc: Global,
     combinations: Items<Combination>,
@@ -112,7 +120,8 @@ pub(crate) fn stage(
 ) -> Result<Items<Combination>, FmEnd>
     ensures same { IfOk result (λ cs. cs ≡ next mono.now combinations) }
     ensures within { OnOk result (next_within limit mono.now combinations ≡ true) }
-    ensures large { IfErr result (λ e. e ≡ FmEnd.Large → next_within limit mono.now combinations ≡ false) }
+    ensures large { IfErr result (λ e. e ≡ FmEnd.Large → next_within limit mono.now combinations ≡
+        false) }
 {
     let split = split(alloc, combinations, mono)?;
     if !are_few(&split, limit) {

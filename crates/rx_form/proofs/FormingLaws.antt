@@ -20,7 +20,8 @@ use Rattle.rx_form.specs.declared.step.Step.{Step}
 use Rattle.rx_form.specs.declared.step.Step.TheVariants as step
 
 module _ (parts : RuleParts) (hypotheses : List Rule) where
-  so_bare : (goal : Equation) (s : Step) → formed_on parts goal hypotheses s ≡ formed_on parts goal hypotheses (bare s)
+  so_bare : (goal : Equation) (s : Step) → formed_on parts goal hypotheses s ≡
+      formed_on parts goal hypotheses (bare s)
   so_bare goal (step.Simplify side rule certs) = refl
   so_bare goal (step.Hyp side place hyp subst certs) = refl
   so_bare goal (step.Expand side keep) = refl
@@ -34,14 +35,18 @@ module _ (parts : RuleParts) (hypotheses : List Rule) where
   so_bare goal (step.Results left right certs) = refl
 
   -- a step without certificates is formed as with them
-  pub formed_bare : (goal : Option Equation) (s : Step) → formed parts goal hypotheses s ≡ formed parts goal hypotheses (bare s)
+  pub formed_bare : (goal : Option Equation) (s : Step) → formed parts goal hypotheses s ≡
+      formed parts goal hypotheses (bare s)
   formed_bare None s = refl
   formed_bare (Some goal) s = so_bare goal s
 
 -- a step that is formed and judged shown makes of the state what is taken
-pub shown_taken : (parts : RuleParts) (state : State) (s : Step) (f : FormedStep) → formed parts (slice_get state.goals 0) state.hypotheses s ≡ Ok f
-    → judged (first_rows state.goals) (first_rows f.goals) f.asked (certificates s) ≡ Shown → applied parts state s ≡ Ok (taken state f)
-shown_taken parts state s f e shown = ap (carried_out state (certificates s)) e ∙ ap (taken_if state f) shown
+pub shown_taken : (parts : RuleParts) (state : State) (s : Step) (f : FormedStep) →
+    formed parts (slice_get state.goals 0) state.hypotheses s ≡ Ok f
+    → judged (first_rows state.goals) (first_rows f.goals) f.asked (certificates s) ≡ Shown →
+    applied parts state s ≡ Ok (taken state f)
+shown_taken parts state s f e shown =
+    ap (carried_out state (certificates s)) e ∙ ap (taken_if state f) shown
 
 -- ---- no definition runs out of memory
 
@@ -57,7 +62,8 @@ no_rule e = cc
 found : {A : Type 0} (x : A) → Ends (Ok x)
 found x e = cc
 
-after : {A B : Type 0} (x : Forming A) (next : A → Forming B) → Ends x → ((y : A) → Ends (next y)) → Ends (x >>= next)
+after : {A B : Type 0} (x : Forming A) (next : A → Forming B) → Ends x → ((y : A) → Ends (next y)) →
+    Ends (x >>= next)
 after (Ok y) next here later h = later y h
 after (Err e) next here later h = here (let is : e ≡ NoMemory = cc in ap Err is)
 
@@ -83,20 +89,30 @@ kept f = by f.within
 module _ (parts : RuleParts) (hypotheses : List Rule) (goal : Equation) where
   never_on : (s : Step) → Ends (formed_on parts goal hypotheses s)
   never_on (step.Simplify side number certs) =
-      after (found_or WrongShape (redex_of (side_of side goal))) _ (part (redex_of (side_of side goal))) (λ redex.
-      after (found_or NoSuchRule (slice_get parts.rules number)) _ (numbered (slice_get parts.rules number)) (λ rule.
+      after (found_or WrongShape (redex_of (side_of side goal))) _
+      (part (redex_of (side_of side goal))) (λ redex.
+      after (found_or NoSuchRule (slice_get parts.rules number)) _
+      (numbered (slice_get parts.rules number)) (λ rule.
       tested (have_one_shape rule.left redex) _ (kept (simplified_by goal side redex rule))))
   never_on (step.Hyp side place number ws certs) =
-      after (found_or WrongShape (behind place (side_of side goal))) _ (part (behind place (side_of side goal))) (λ place.
-      after (provided (is_substitution ws) (found_or NoSuchRule (slice_get hypotheses number))) _ (tested (is_substitution ws) _ (numbered (slice_get hypotheses number))) (λ rule.
+      after (found_or WrongShape (behind place (side_of side goal))) _
+      (part (behind place (side_of side goal))) (λ place.
+      after (provided (is_substitution ws) (found_or NoSuchRule (slice_get hypotheses number))) _
+      (tested (is_substitution ws) _ (numbered (slice_get hypotheses number))) (λ rule.
       tested (have_one_shape place rule.left) _ (kept _)))
   never_on (step.Expand side keep) =
-      after (found_or WrongShape (redex_of (side_of side goal))) _ (part (redex_of (side_of side goal))) (λ redex. kept (expanded_by_all parts.rules goal side keep redex))
+      after (found_or WrongShape (redex_of (side_of side goal))) _
+      (part (redex_of (side_of side goal)))
+      (λ redex. kept (expanded_by_all parts.rules goal side keep redex))
   never_on (step.Delete (delete.Absurd cert)) = found _
-  never_on (step.Delete (delete.Equal certs)) = tested (have_one_shape goal.left goal.right) _ (kept (equal_by goal))
+  never_on (step.Delete (delete.Equal certs)) =
+      tested (have_one_shape goal.left goal.right) _ (kept (equal_by goal))
   never_on step.EqDelete = tested (have_one_shape goal.left goal.right) _ (kept (different_by goal))
-  never_on (step.Generalise left right rows ws certs) = tested _ _ (kept (generalised_by goal (record { left = left; right = right; rows = rows }) ws))
-  never_on (step.Postulate left right rows) = tested (is_equation parts (record { left = left; right = right; rows = rows })) _ (found _)
+  never_on (step.Generalise left right rows ws certs) =
+      tested _ _ (kept (generalised_by goal (record { left = left; right = right; rows = rows })
+      ws))
+  never_on (step.Postulate left right rows) =
+      tested (is_equation parts (record { left = left; right = right; rows = rows })) _ (found _)
   never_on (step.Split row) = tested _ _ (kept (split_by goal row))
   never_on (step.Decompose certs) =
       after (found_or WrongShape (top_frame goal.left)) _ (part (top_frame goal.left)) (λ one.
@@ -104,10 +120,12 @@ module _ (parts : RuleParts) (hypotheses : List Rule) (goal : Equation) where
       tested _ _ (kept (decomposed_by goal one.arguments other.arguments one.inner other.inner))))
   never_on (step.Results left right certs) =
       after (found_or WrongShape (behind left goal.left)) _ (part (behind left goal.left)) (λ one.
-      after (found_or WrongShape (behind right goal.right)) _ (part (behind right goal.right)) (λ other.
+      after (found_or WrongShape (behind right goal.right)) _ (part (behind right goal.right))
+      (λ other.
       tested _ _ (kept (resulting_by parts.fails goal left right one other))))
 
 -- forming ends in a step, or in one of the other four ways
-pub formed_ends : (parts : RuleParts) (goal : Option Equation) (hypotheses : List Rule) (s : Step) → formed parts goal hypotheses s ≡ Err NoMemory → ⊥
+pub formed_ends : (parts : RuleParts) (goal : Option Equation) (hypotheses : List Rule) (s : Step) →
+    formed parts goal hypotheses s ≡ Err NoMemory → ⊥
 formed_ends parts None hypotheses s e = cc
 formed_ends parts (Some goal) hypotheses s e = never_on parts hypotheses goal s e

@@ -29,8 +29,11 @@ last_of_all (Some (answer.NotShown i)) = refl
 
 -- the rows that are asked under those of the goal alone are a list of conditions
 pub one_group : (old new rows : List Row) (certs : List Cert) →
-    judged old new (Rows (record { under = Goal; rows = rows } ∷ [])) certs ≡ of_conditions (conditions old (Some rows) certs)
-one_group old new rows certs = ap of_conditions (ap (λ n. cond (length certs == n) (alone certs) (Some answer.WrongCount)) none_more ∙ by (length certs == asked) refl)
+    judged old new (Rows (record { under = Goal; rows = rows } ∷ [])) certs ≡
+    of_conditions (conditions old (Some rows) certs)
+one_group old new rows certs =
+    ap of_conditions (ap (λ n. cond (length certs == n) (alone certs) (Some answer.WrongCount))
+    none_more ∙ by (length certs == asked) refl)
   where
     asked : ℕ
     asked = asked_for old rows
@@ -44,13 +47,17 @@ one_group old new rows certs = ap of_conditions (ap (λ n. cond (length certs ==
     all_taken : length certs ≡ asked → take asked certs ≡ certs
     all_taken e = take_all asked certs (omega arith)
 
-    by : (b : Bool) → (length certs == asked) ≡ b → cond b (alone certs) (Some answer.WrongCount) ≡ cond b (in_order 0 old rows certs) (Some answer.WrongCount)
-    by true is = last_of_all (in_order 0 old rows (take asked certs)) ∙ ap (in_order 0 old rows) (all_taken (eqb-true (length certs) asked is))
+    by : (b : Bool) → (length certs == asked) ≡ b → cond b (alone certs) (Some answer.WrongCount) ≡
+        cond b (in_order 0 old rows certs) (Some answer.WrongCount)
+    by true is =
+        last_of_all (in_order 0 old rows (take asked certs)) ∙
+        ap (in_order 0 old rows) (all_taken (eqb-true (length certs) asked is))
     by false is = refl
 
 -- ---- what is shown holds
 
-shown_first : (o later : Option ConditionsAnswer) → then_later o later ≡ Some answer.Shown → (o ≡ Some answer.Shown) × (later ≡ Some answer.Shown)
+shown_first : (o later : Option ConditionsAnswer) → then_later o later ≡ Some answer.Shown →
+    (o ≡ Some answer.Shown) × (later ≡ Some answer.Shown)
 shown_first None later e = cc
 shown_first (Some answer.Shown) later e = (refl, e)
 shown_first (Some answer.WrongCount) later e = cc
@@ -61,13 +68,16 @@ module _ (old new : List Row) where
   abbrev pub Follows : Group → Type 0
   Follows g = (a : ℕ → ℤ) → AllHold a (given_to old new g.under) → AllHold a g.rows
 
-  groups_follow : (i : ℕ) (gs : List Group) (certs : List Cert) → groups_in_order old new i gs certs ≡ Some answer.Shown → All Follows gs
+  groups_follow : (i : ℕ) (gs : List Group) (certs : List Cert) →
+      groups_in_order old new i gs certs ≡ Some answer.Shown → All Follows gs
   groups_follow i [] certs e = All-nil Follows
   groups_follow i (g ∷ gs) certs e =
       let n = asked_by old new g in
       let given = given_to old new g.under in
-      let both = shown_first (in_order i given g.rows (take n certs)) (groups_in_order old new (i + length g.rows) gs (drop n certs)) e in
-      All-cons Follows g gs (λ a holds. in_order_holds a given holds g.rows i (take n certs) both.0) (groups_follow (i + length g.rows) gs (drop n certs) both.1)
+      let both = shown_first (in_order i given g.rows (take n certs))
+      (groups_in_order old new (i + length g.rows) gs (drop n certs)) e in
+      All-cons Follows g gs (λ a holds. in_order_holds a given holds g.rows i (take n certs) both.0)
+      (groups_follow (i + length g.rows) gs (drop n certs) both.1)
 
   shown_so : (o : Option ConditionsAnswer) → of_conditions o ≡ Shown → o ≡ Some answer.Shown
   shown_so None e = cc
@@ -75,10 +85,13 @@ module _ (old new : List Row) where
   shown_so (Some answer.WrongCount) e = cc
   shown_so (Some (answer.NotShown i)) e = cc
 
-  pub shown_follow : (gs : List Group) (certs : List Cert) → judged old new (Rows gs) certs ≡ Shown → All Follows gs
-  shown_follow gs certs e = by (length certs == asked_by_all old new gs) (shown_so (group_conditions old new gs certs) e)
+  pub shown_follow : (gs : List Group) (certs : List Cert) → judged old new (Rows gs) certs ≡
+      Shown → All Follows gs
+  shown_follow gs certs e =
+      by (length certs == asked_by_all old new gs) (shown_so (group_conditions old new gs certs) e)
     where
-      by : (b : Bool) → cond b (groups_in_order old new 0 gs certs) (Some answer.WrongCount) ≡ Some answer.Shown → All Follows gs
+      by : (b : Bool) → cond b (groups_in_order old new 0 gs certs) (Some answer.WrongCount) ≡
+          Some answer.Shown → All Follows gs
       by true h = groups_follow 0 gs certs h
       by false h = cc
 
@@ -88,7 +101,8 @@ module _ (old new : List Row) where
   said_so Beyond e = cc
 
   -- rows that are refuted hold nowhere
-  pub shown_refuted : (certs : List Cert) → judged old new Refuted certs ≡ Shown → (a : ℕ → ℤ) → AllHold a old → ⊥
+  pub shown_refuted : (certs : List Cert) → judged old new Refuted certs ≡ Shown → (a : ℕ → ℤ) →
+      AllHold a old → ⊥
   shown_refuted [] e = cc
   shown_refuted (cert ∷ []) e = refuted old cert (said_so (finding old cert) e)
   shown_refuted (cert ∷ other ∷ certs) e = cc

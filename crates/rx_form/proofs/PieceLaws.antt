@@ -16,6 +16,7 @@ same_test false s t h = by (same_shape s t) refl
     by false is = refl
 
 -- a row after others is added last
-pub pushed_after : (rows more : List Row) (row : Row) → all_pushed rows (more ++ row ∷ []) ≡ pushed (all_pushed rows more) row
+pub pushed_after : (rows more : List Row) (row : Row) → all_pushed rows (more ++ row ∷ []) ≡
+    pushed (all_pushed rows more) row
 pushed_after rows [] row = refl
 pushed_after rows (r ∷ rs) row = pushed_after (pushed rows r) rs row

@@ -1,4 +1,5 @@
--- How the certificates of a step are judged: by groups of rows, each under the rows that it is given.
+-- How the certificates of a step are judged: by groups of rows, each under the rows that it is
+-- given.
 use Rattle.std.specs.Prelude.{ℕ, ◌+◌, ◌==◌, if◌then◌else◌, Option, Some, None, List, [], ◌∷◌, length, take, drop}
 use Rattle.rx_cert.specs.Conditions.{asked_for, in_order}
 use Rattle.rx_cert.specs.Examination.{finding}
@@ -85,7 +86,9 @@ module _ (old new : List Row) where
 
   -- as many certificates as are asked for, and then row by row
   abbrev pub group_conditions : List Group → List Cert → Option ConditionsAnswer
-  group_conditions gs certs = if length certs == asked_by_all gs then groups_in_order 0 gs certs else Some conditions.WrongCount
+  group_conditions gs certs =
+      if length certs == asked_by_all gs then groups_in_order 0 gs certs else
+      Some conditions.WrongCount
 
 -- ---- steps
 

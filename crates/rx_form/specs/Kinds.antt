@@ -1,4 +1,5 @@
--- What each kind of step asks of the form of the goal, of rules and of hypotheses, in order, before anything is made of them.
+-- What each kind of step asks of the form of the goal, of rules and of hypotheses, in order, before
+-- anything is made of them.
 use Rattle.std.specs.Prelude.{ℕ, nat_eq, nat_le, nat_lt, Bool, not, ◌&&◌, Option, Some, None, Ok, Err, List, [], slice_get}
 use Rattle.rx_poly.specs.declared.body.Body.{Body}
 use Rattle.rx_row.specs.Variables.{row_bound}
@@ -31,12 +32,14 @@ simplified rules goal side number = do
   rule ← found_or NoSuchRule (slice_get rules number)
   provided (have_one_shape rule.left redex) (limited (simplified_by goal side redex rule))
 
--- Hyp: there is the part, the list is a substitution, there is the hypothesis, and its left side has the part's shape
+-- Hyp: there is the part, the list is a substitution, there is the hypothesis, and its left side
+-- has the part's shape
 abbrev pub used : List Rule → Equation → Side → ℕ → ℕ → List (ℕ × Body) → Forming FormedStep
 used hypotheses goal side place number ws = do
   part ← found_or WrongShape (behind place (side_of side goal))
   hypothesis ← provided (is_substitution ws) (found_or NoSuchRule (slice_get hypotheses number))
-  provided (have_one_shape part hypothesis.left) (limited (used_by goal side place (hypothesis_with ws part hypothesis)))
+  provided (have_one_shape part hypothesis.left)
+      (limited (used_by goal side place (hypothesis_with ws part hypothesis)))
 
 -- Expand: the side has a redex
 abbrev pub expanded : List Rule → Equation → Side → Bool → Forming FormedStep
@@ -61,10 +64,12 @@ different goal = provided (have_one_shape goal.left goal.right) (limited (differ
 
 -- ---- other goals
 
--- Generalise: the new goal is an equation, the list a substitution, and each new side has the shape of the old one
+-- Generalise: the new goal is an equation, the list a substitution, and each new side has the shape
+-- of the old one
 abbrev pub generalised : RuleParts → Equation → Equation → List (ℕ × Body) → Forming FormedStep
 generalised parts goal new ws =
-    provided (is_equation parts new && (is_substitution ws && (have_one_shape new.left goal.left && have_one_shape new.right goal.right)))
+    provided (is_equation parts new && (is_substitution ws &&
+    (have_one_shape new.left goal.left && have_one_shape new.right goal.right)))
     (limited (generalised_by goal new ws))
 
 -- Postulate: the new goal is an equation
@@ -82,13 +87,16 @@ abbrev pub decomposed : Equation → Forming FormedStep
 decomposed goal = do
   one ← found_or WrongShape (top_frame goal.left)
   other ← found_or WrongShape (top_frame goal.right)
-  provided (nat_eq one.symbol other.symbol) (limited (decomposed_by goal one.arguments other.arguments one.inner other.inner))
+  provided (nat_eq one.symbol other.symbol) (limited
+      (decomposed_by goal one.arguments other.arguments one.inner other.inner))
 
 -- two parts at these places have one shape, which ends in a call, and they aren't both whole sides
 abbrev pub are_common : Term → Term → ℕ → ℕ → Bool
-are_common one other left right = have_one_shape one other && (ends_in_call one && not (nat_eq left 0 && nat_eq right 0))
+are_common one other left right =
+    have_one_shape one other && (ends_in_call one && not (nat_eq left 0 && nat_eq right 0))
 
--- Results: both parts are there and are so, and the least number above all variables of the goal is below the limit
+-- Results: both parts are there and are so, and the least number above all variables of the goal is
+-- below the limit
 abbrev pub resulting : ℕ → Equation → ℕ → ℕ → Forming FormedStep
 resulting fails goal left right = do
   one ← found_or WrongShape (behind left goal.left)
@@ -100,8 +108,10 @@ resulting fails goal left right = do
 
 -- a step on a goal, by its kind
 abbrev pub formed_on : RuleParts → Equation → List Rule → Step → Forming FormedStep
-formed_on parts goal hypotheses (step.Simplify side rule certs) = simplified parts.rules goal side rule
-formed_on parts goal hypotheses (step.Hyp side place hyp subst certs) = used hypotheses goal side place hyp subst
+formed_on parts goal hypotheses (step.Simplify side rule certs) =
+    simplified parts.rules goal side rule
+formed_on parts goal hypotheses (step.Hyp side place hyp subst certs) =
+    used hypotheses goal side place hyp subst
 formed_on parts goal hypotheses (step.Expand side keep) = expanded parts.rules goal side keep
 formed_on parts goal hypotheses (step.Delete by) = deleted goal by
 formed_on parts goal hypotheses step.EqDelete = different goal
@@ -111,7 +121,8 @@ formed_on parts goal hypotheses (step.Postulate left right rows) =
     postulated parts goal (record { left = left; right = right; rows = rows })
 formed_on parts goal hypotheses (step.Split r) = split goal r
 formed_on parts goal hypotheses (step.Decompose certs) = decomposed goal
-formed_on parts goal hypotheses (step.Results left right certs) = resulting parts.fails goal left right
+formed_on parts goal hypotheses (step.Results left right certs) =
+    resulting parts.fails goal left right
 
 -- a step on the first goal, where there is one
 abbrev pub formed : RuleParts → Option Equation → List Rule → Step → Forming FormedStep

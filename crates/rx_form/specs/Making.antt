@@ -1,4 +1,5 @@
--- What each kind of step makes of the goal: the rows that are asked, the new goals, and the hypothesis that is kept.
+-- What each kind of step makes of the goal: the rows that are asked, the new goals, and the
+-- hypothesis that is kept.
 use Rattle.std.specs.Prelude.{ℕ, zero, suc, Bool, if◌then◌else◌, List, [], ◌∷◌, ◌++◌, map}
 use Rattle.rx_plain.specs.Formed.{Formed, map_formed, ◌>>=◌, ◌<$>◌}
 use Rattle.rx_poly.specs.Constants.{variable}
@@ -28,7 +29,8 @@ use Rattle.rx_form.specs.declared.step.Side.{Side}
 -- a rule: its rows, and its right side in place of the redex
 abbrev pub simplified_by : Equation → Side → Term → Rule → Formed FormedStep
 simplified_by goal side redex rule =
-    (λ (i : RuleInstance). asking i.rows (with_side side goal (replace_redex (side_of side goal) i.right) ∷ []))
+    (λ (i : RuleInstance). asking i.rows (with_side side goal
+    (replace_redex (side_of side goal) i.right) ∷ []))
     <$> rule_with (matched redex) rule
 
 -- a hypothesis: the polynomials of the part equal those of its left side, and its rows hold
@@ -36,22 +38,27 @@ abbrev pub hypothesis_with : List (ℕ × Body) → Term → Rule → Formed Rul
 hypothesis_with ws part hypothesis = do
   left ← term_with ws hypothesis.left
   equal ← equal_arguments part left
-  (λ (i : RuleInstance). record { rows = equal ++ i.rows; right = i.right }) <$> rule_with ws hypothesis
+  (λ (i : RuleInstance). record { rows = equal ++ i.rows; right = i.right }) <$> rule_with ws
+      hypothesis
 
 -- the hypothesis's right side in place of the part, under the rows that it asks
 abbrev pub used_by : Equation → Side → ℕ → Formed RuleInstance → Formed FormedStep
 used_by goal side place instance =
-    (λ (i : RuleInstance). asking i.rows (with_side side goal (replaced place (side_of side goal) i.right) ∷ [])) <$> instance
+    (λ (i : RuleInstance). asking i.rows (with_side side goal
+    (replaced place (side_of side goal) i.right) ∷ [])) <$> instance
 
--- one rule of the redex's shape: its rows added to the goal's, and its right side in place of the redex
+-- one rule of the redex's shape: its rows added to the goal's, and its right side in place of the
+-- redex
 abbrev pub expanded_by : Equation → Side → Term → Rule → Formed Equation
 expanded_by goal side redex rule =
-    (λ (i : RuleInstance). with_rows (with_side side goal (replace_redex (side_of side goal) i.right)) i.rows)
+    (λ (i : RuleInstance). with_rows (with_side side goal
+    (replace_redex (side_of side goal) i.right)) i.rows)
     <$> rule_with (matched redex) rule
 
 -- the goal as a rule, from this side to the other
 abbrev pub from_side : Side → Equation → Rule
-from_side side goal = record { left = side_of side goal; right = other_side side goal; rows = goal.rows }
+from_side side goal =
+    record { left = side_of side goal; right = other_side side goal; rows = goal.rows }
 
 -- the goal as a hypothesis, where it is kept
 abbrev pub kept_if : Bool → Side → Equation → List Rule
@@ -75,7 +82,8 @@ differing goal p = with_rows goal (row.Ne p ∷ [])
 
 -- one such goal for each pair of polynomials
 abbrev pub different_by : Equation → Formed FormedStep
-different_by goal = (λ ps. asking_nothing (map (differing goal) ps) []) <$> term_differences goal.left goal.right
+different_by goal =
+    (λ ps. asking_nothing (map (differing goal) ps) []) <$> term_differences goal.left goal.right
 
 -- ---- other goals
 
@@ -108,7 +116,8 @@ postulated_by goal new = asking_nothing (new ∷ goal ∷ []) []
 -- the goal with the row, and then with its negation
 abbrev pub split_by : Equation → Row → Formed FormedStep
 split_by goal r =
-    (λ negation. asking_nothing (with_rows goal (r ∷ []) ∷ with_rows goal (negation ∷ []) ∷ []) []) <$> negated r
+    (λ negation. asking_nothing (with_rows goal (r ∷ []) ∷ with_rows goal (negation ∷ []) ∷ []) [])
+    <$> negated r
 
 -- ---- frames and results
 
@@ -118,7 +127,8 @@ with_sides goal s t = record { left = s; right = t; rows = goal.rows }
 
 -- two frames have equal polynomials, and the terms that they are over make the new goal
 abbrev pub decomposed_by : Equation → List Body → List Body → Term → Term → Formed FormedStep
-decomposed_by goal ps qs one other = (λ rows. asking rows (with_sides goal one other ∷ [])) <$> equal_lists ps qs
+decomposed_by goal ps qs one other =
+    (λ rows. asking rows (with_sides goal one other ∷ [])) <$> equal_lists ps qs
 
 -- n failures, with codes from 1 on
 abbrev pub failures : ℕ → List Term
@@ -131,13 +141,16 @@ results_of fails fresh = Return (variable fresh) ∷ failures fails
 
 -- the goal with one of them in place of both parts
 abbrev pub with_result : Equation → ℕ → ℕ → Term → Equation
-with_result goal left right end = with_sides goal (replaced left goal.left end) (replaced right goal.right end)
+with_result goal left right end =
+    with_sides goal (replaced left goal.left end) (replaced right goal.right end)
 
 -- new goals, where rows that are formed are asked
 abbrev pub asking_formed : Formed (List Row) → List Equation → Formed FormedStep
 asking_formed rows goals = (λ rs. asking rs goals) <$> rows
 
--- the polynomials of both parts are equal; a goal for each result, with the least number above all variables of the goal as the new variable
+-- the polynomials of both parts are equal; a goal for each result, with the least number above all
+-- variables of the goal as the new variable
 abbrev pub resulting_by : ℕ → Equation → ℕ → ℕ → Term → Term → Formed FormedStep
 resulting_by fails goal left right one other =
-    asking_formed (equal_arguments one other) (map (with_result goal left right) (results_of fails (equation_bound goal)))
+    asking_formed (equal_arguments one other)
+    (map (with_result goal left right) (results_of fails (equation_bound goal)))

@@ -1,4 +1,5 @@
--- The parts of which steps are formed: sides, equal polynomials, rules over other polynomials, substitutions.
+-- The parts of which steps are formed: sides, equal polynomials, rules over other polynomials,
+-- substitutions.
 use Rattle.std.specs.Prelude.{ℕ, ◌+◌, ◌^◌, nat_le, nat_lt, Bool, true, ◌&&◌, Option, Some, None, List, [], ◌∷◌, map}
 use Rattle.std.specs.List.{list_all}
 use Rattle.rx_plain.specs.Formed.{Formed, ◌>>=◌, ◌<$>◌}
@@ -56,7 +57,8 @@ all_pushed rows (r ∷ rs) = all_pushed (pushed rows r) rs
 
 -- so of a goal
 abbrev pub with_rows : Equation → List Row → Equation
-with_rows goal rows = record { left = goal.left; right = goal.right; rows = all_pushed goal.rows rows }
+with_rows goal rows =
+    record { left = goal.left; right = goal.right; rows = all_pushed goal.rows rows }
 
 -- each polynomial is 0
 abbrev pub all_zero : List Body → List Row
@@ -89,7 +91,8 @@ abbrev pub top_frame_level : Term-F Term → Option TopFrame
 top_frame_level (Term-F.Return p) = None
 top_frame_level (Term-F.Fail c) = None
 top_frame_level (Term-F.Call f ps) = None
-top_frame_level (Term-F.Frame f ps inner) = Some (record { symbol = f.0; arguments = ps; inner = inner })
+top_frame_level (Term-F.Frame f ps inner) =
+    Some (record { symbol = f.0; arguments = ps; inner = inner })
 
 -- so of a term
 abbrev pub top_frame : Term → Option TopFrame
@@ -114,13 +117,19 @@ is_substitution ws = rises 0 ws && list_all is_replacement ws
 
 -- both sides fit the rules, and all variables of them and of the rows are below the limit
 abbrev pub is_equation : RuleParts → Equation → Bool
-is_equation parts e = (term_fits parts e.left && term_fits parts e.right) && nat_le (equation_bound e) variable_limit
+is_equation parts e =
+    (term_fits parts e.left && term_fits parts e.right) && nat_le (equation_bound e) variable_limit
 
 -- ---- what is formed
 
 -- rows asked under those of the goal, new goals, and no hypothesis
 abbrev pub asking : List Row → List Equation → FormedStep
-asking rows goals = record { asked = asked.Rows (record { under = under.Goal; rows = rows } ∷ []); goals = goals; kept = [] }
+asking rows goals =
+    record {
+      asked = asked.Rows (record { under = under.Goal; rows = rows } ∷ []);
+      goals = goals;
+      kept = [];
+    }
 
 -- new goals and hypotheses; nothing is asked
 abbrev pub asking_nothing : List Equation → List Rule → FormedStep

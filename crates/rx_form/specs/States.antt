@@ -19,9 +19,11 @@ pub record State : Type 0 where
 
 -- the new goals in place of the first one, and the new hypotheses after the others
 abbrev pub taken : State → FormedStep → State
-taken state f = record { goals = f.goals ++ drop 1 state.goals; hypotheses = state.hypotheses ++ f.kept }
+taken state f =
+    record { goals = f.goals ++ drop 1 state.goals; hypotheses = state.hypotheses ++ f.kept }
 
--- why a step isn't formed; that memory runs out is an answer of calls alone, and no definition comes to it
+-- why a step isn't formed; that memory runs out is an answer of calls alone, and no definition
+-- comes to it
 abbrev pub fault_of : FormEnd → StepFault
 fault_of form_end.NoGoal = NoGoal
 fault_of form_end.WrongShape = WrongShape
@@ -37,9 +39,11 @@ taken_if state f (Fault fault) = Err fault
 -- a formed step is judged, and then taken
 abbrev pub carried_out : State → List Cert → Forming FormedStep → Result State StepFault
 carried_out state certs (Err end) = Err (fault_of end)
-carried_out state certs (Ok f) = taken_if state f (judged (first_rows state.goals) (first_rows f.goals) f.asked certs)
+carried_out state certs (Ok f) =
+    taken_if state f (judged (first_rows state.goals) (first_rows f.goals) f.asked certs)
 
 -- a step on a state: it is formed, judged and taken, or it has the first fault
 abbrev pub applied : RuleParts → State → Step → Result State StepFault
 applied parts state step =
-    carried_out state (certificates step) (formed parts (slice_get state.goals 0) state.hypotheses step)
+    carried_out state (certificates step) (formed parts (slice_get state.goals 0) state.hypotheses
+    step)

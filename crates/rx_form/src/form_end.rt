@@ -11,7 +11,8 @@ pub enum FormEnd {
     /// There is no goal.
     #[error("no goal is left")]
     NoGoal,
-    /// The goal, a rule, a hypothesis, or what the step itself gives isn't of the form that is asked.
+    /// The goal, a rule, a hypothesis, or what the step itself gives isn't of the form that is
+    /// asked.
     #[error("a step of the wrong shape")]
     WrongShape,
     /// There is no rule, or no hypothesis, of that number.

@@ -43,7 +43,8 @@ fn generalise_to(
     rows: &Constraint,
     with: &[(u32, Poly)],
 ) -> Result<FormedStep, FormEnd>
-    ensures { Gives result (generalised rules.now goal.now (record { left = left.now; right = right.now; rows = rows.now }) with.now) }
+    ensures { Gives result (generalised rules.now goal.now
+        (record { left = left.now; right = right.now; rows = rows.now }) with.now) }
 {
     let new = equation(alloc, left, right, rows)?;
     generalise(alloc, rules, goal, new, with)
@@ -100,10 +101,10 @@ fn form_on(
     }
 }
 
-/// What a step makes of the first goal: the rows that it asks, the new goals, and the hypothesis that it
-/// keeps. Its certificates aren't looked at. NoGoal where there is none; WrongShape and NoSuchRule by
-/// what its kind asks for, in that order; and then Large exactly where a polynomial of a row that it
-/// asks, of a new goal or on the way to them passes the limits.
+/// What a step makes of the first goal: the rows that it asks, the new goals, and the hypothesis
+/// that it keeps. Its certificates aren't looked at. NoGoal where there is none; WrongShape and
+/// NoSuchRule by what its kind asks for, in that order; and then Large exactly where a polynomial
+/// of a row that it asks, of a new goal or on the way to them passes the limits.
 pub fn form(
     alloc: Global,
     rules: &RuleSet,

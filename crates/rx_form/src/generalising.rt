@@ -132,7 +132,8 @@ fn with_either(
     row: Row,
     other: Row,
 ) -> Result<Items<Equation>, AllocError>
-    ensures { IfOk result (λ goals. goals ≡ with_rows goal.now (row ∷ []) ∷ with_rows goal.now (other ∷ []) ∷ []) }
+    ensures { IfOk result (λ goals. goals ≡ with_rows goal.now (row ∷ []) ∷
+        with_rows goal.now (other ∷ []) ∷ []) }
 {
     let first = with_row(alloc, goal, row)?;
     let second = with_row(alloc, goal, other)?;

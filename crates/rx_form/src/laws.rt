@@ -29,8 +29,8 @@ pub fn forming_never_runs_out_of_memory()
         formed parts goal hypotheses step ≢ Err NoMemory }
 {}
 
-/// A step that is formed, and whose certificates show what it asks, makes the new goals of the first
-/// one and keeps the hypothesis.
+/// A step that is formed, and whose certificates show what it asks, makes the new goals of the
+/// first one and keeps the hypothesis.
 pub fn shown_steps_are_taken()
     ensures { (parts : RuleParts) (state : State) (step : Step) (f : FormedStep) →
         formed parts (slice_get state.goals 0) state.hypotheses step ≡ Ok f →
@@ -51,6 +51,7 @@ pub fn what_is_shown_follows()
     ensures rows { (old new : List Row) (groups : List Group) (certs : List Cert) →
         judged old new (Rows groups) certs ≡ Shown →
         All (λ g. (a : ℕ → ℤ) → AllHold a (given_to old new g.under) → AllHold a g.rows) groups }
-    ensures refuted { (old new : List Row) (certs : List Cert) → judged old new Refuted certs ≡ Shown →
+    ensures refuted { (old new : List Row) (certs : List Cert) → judged old new Refuted certs ≡
+        Shown →
         (a : ℕ → ℤ) → ¬ (AllHold a old) }
 {}

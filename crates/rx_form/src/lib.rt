@@ -1,5 +1,5 @@
-//! Steps of a proof as data, and what each makes of the first goal: the rows that it asks, the new goals, and
-//! the hypothesis that it keeps. The code here looks at no certificate.
+//! Steps of a proof as data, and what each makes of the first goal: the rows that it asks, the new
+//! goals, and the hypothesis that it keeps. The code here looks at no certificate.
 #![tactic(auto)]
 
 mod deleting;

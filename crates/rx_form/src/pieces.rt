@@ -132,8 +132,8 @@ fn all_zero(alloc: Global, polys: Items<Poly>) -> Result<Items<Row>, AllocError>
     Ok(rows)
 }
 
-/// The rows that say that the polynomials of the two lists are equal, one by one. Large exactly where
-/// a difference passes the limits.
+/// The rows that say that the polynomials of the two lists are equal, one by one. Large exactly
+/// where a difference passes the limits.
 pub(crate) fn equal_lists(
     alloc: Global,
     left: &[Poly],

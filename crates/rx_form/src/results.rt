@@ -43,7 +43,8 @@ fn decompose_by(
     left: &Term,
     right: &Term,
 ) -> Result<FormedStep, PolyEnd>
-    ensures forms { Forms PolyEnd.Large result (decomposed_by goal.now args.now others.now left.now right.now) }
+    ensures forms { Forms PolyEnd.Large result
+        (decomposed_by goal.now args.now others.now left.now right.now) }
 {
     let rows = equal_lists(alloc, args, others)?;
     let made = inner_goal(alloc, goal, left, right)?;
@@ -102,7 +103,8 @@ fn push_failures(
     right: u32,
     fails: u8,
 ) -> Result<(), AllocError>
-    ensures { OnOk result (goals.new ≡ goals.old ++ map (with_result goal.now left right) (failures fails)) }
+    ensures { OnOk result (goals.new ≡ goals.old ++
+        map (with_result goal.now left right) (failures fails)) }
 {
     for before in 0..fails {
         let made = with_result(alloc, goal, left, right, &Term::Fail(before + 1))?;
@@ -120,7 +122,8 @@ fn goals_by_result(
     fails: u8,
     fresh: u32,
 ) -> Result<Items<Equation>, AllocError>
-    ensures { IfOk result (λ goals. goals ≡ map (with_result goal.now left right) (results_of fails fresh)) }
+    ensures { IfOk result (λ goals. goals ≡ map (with_result goal.now left right)
+        (results_of fails fresh)) }
 {
     let returned = Term::Return(Poly::variable(alloc, fresh)?);
     let mut goals = Items::new(alloc);
@@ -129,8 +132,8 @@ fn goals_by_result(
     Ok(goals)
 }
 
-/// Whether the two parts at these places have one shape, which ends in a call, and aren't both whole
-/// sides.
+/// Whether the two parts at these places have one shape, which ends in a call, and aren't both
+/// whole sides.
 fn are_common(one: &Term, other: &Term, left: u32, right: u32) -> bool
     ensures { result ≡ are_common one.now other.now left right }
 {
@@ -143,7 +146,8 @@ fn result_by(
     rows: Result<Items<Row>, PolyEnd>,
     goals: Items<Equation>,
 ) -> Result<FormedStep, PolyEnd>
-    ensures forms { (f : Formed (List Row)) → Forms PolyEnd.Large rows f → Forms PolyEnd.Large result (asking_formed f goals) }
+    ensures forms { (f : Formed (List Row)) → Forms PolyEnd.Large rows f →
+        Forms PolyEnd.Large result (asking_formed f goals) }
 {
     Ok(asking(alloc, rows?, goals)?)
 }

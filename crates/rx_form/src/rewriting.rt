@@ -29,7 +29,8 @@ fn rewritten(
     side: Side,
     right: Term,
 ) -> Result<Equation, AllocError>
-    ensures { IfOk result (λ e. e ≡ with_side side goal.now (replace_redex (side_of side goal.now) right)) }
+    ensures { IfOk result (λ e. e ≡ with_side side goal.now
+        (replace_redex (side_of side goal.now) right)) }
 {
     let term = side_of(goal, side).try_clone(alloc)?.replace_redex(right);
     with_side(alloc, goal, side, term)
@@ -73,9 +74,9 @@ pub(crate) fn simplify(
 }
 
 /// The rows that a hypothesis asks for in place of the part, with those polynomials in place of its
-/// variables, and its right side: first that the polynomials of the part equal those of its left side,
-/// one by one, and then its own rows. Large exactly where a polynomial of these, or on the way to them,
-/// passes the limits.
+/// variables, and its right side: first that the polynomials of the part equal those of its left
+/// side, one by one, and then its own rows. Large exactly where a polynomial of these, or on the
+/// way to them, passes the limits.
 pub fn hypothesis_at(
     alloc: Global,
     part: &Term,
@@ -99,7 +100,8 @@ fn with_part(
     place: u32,
     right: Term,
 ) -> Result<Equation, AllocError>
-    ensures { IfOk result (λ e. e ≡ with_side side goal.now (replaced place (side_of side goal.now) right)) }
+    ensures { IfOk result (λ e. e ≡ with_side side goal.now
+        (replaced place (side_of side goal.now) right)) }
 {
     let term = side_of(goal, side).try_clone(alloc)?.replace(place, right);
     with_side(alloc, goal, side, term)
@@ -113,7 +115,8 @@ fn use_by(
     place: u32,
     instance: Result<RuleInstance, PolyEnd>,
 ) -> Result<FormedStep, PolyEnd>
-    ensures forms { (f : Formed RuleInstance) → Forms PolyEnd.Large instance f → Forms PolyEnd.Large result (used_by goal.now side place f) }
+    ensures forms { (f : Formed RuleInstance) → Forms PolyEnd.Large instance f →
+        Forms PolyEnd.Large result (used_by goal.now side place f) }
 {
     let RuleInstance { rows, right } = instance?;
     let made = with_part(alloc, goal, side, place, right)?;
@@ -171,7 +174,9 @@ fn expand_by_each(
     side: Side,
     redex: &Term,
 ) -> Result<Items<Equation>, PolyEnd>
-    ensures forms { Forms PolyEnd.Large result (map_formed (expanded_by goal.now side redex.now) (rules_of_shape (shape_of redex.now) rules.now)) }
+    ensures forms { Forms PolyEnd.Large result
+        (map_formed (expanded_by goal.now side redex.now)
+        (rules_of_shape (shape_of redex.now) rules.now)) }
 {
     let mut goals = Items::new(alloc);
     for rule in rules {
@@ -220,7 +225,8 @@ fn expand_by_all(
     keep: bool,
     redex: &Term,
 ) -> Result<FormedStep, PolyEnd>
-    ensures forms { Forms PolyEnd.Large result (expanded_by_all rules.now goal.now side keep redex.now) }
+    ensures forms { Forms PolyEnd.Large result
+        (expanded_by_all rules.now goal.now side keep redex.now) }
 {
     let goals = expand_by_each(alloc, rules, goal, side, redex)?;
     let kept = kept_if(alloc, goal, side, keep)?;

@@ -28,8 +28,8 @@ pub enum Delete {
     Equal(Items<Cert>),
 }
 
-/// A step on the first goal of a proof state. Certificates are listed for the rows that are asked and
-/// aren't plain, in their order.
+/// A step on the first goal of a proof state. Certificates are listed for the rows that are asked
+/// and aren't plain, in their order.
 #[derive(Drop)]
 pub enum Step {
     /// A rule replaces the redex of a side.
@@ -51,7 +51,8 @@ pub enum Step {
         hyp: u32,
         /// What its variables are replaced by, rising by their numbers.
         subst: Items<(u32, Poly)>,
-        /// For the equal polynomials of the part and of the left side, and then for the hypothesis's rows.
+        /// For the equal polynomials of the part and of the left side, and then for the
+        /// hypothesis's rows.
         certs: Items<Cert>,
     },
     /// Each rule of the shape of a side's redex replaces it, in a goal of its own.
@@ -63,7 +64,8 @@ pub enum Step {
     },
     /// The goal is left out.
     Delete(Delete),
-    /// Both sides have one shape: a goal remains for each pair of polynomials, in which they differ.
+    /// Both sides have one shape: a goal remains for each pair of polynomials, in which they
+    /// differ.
     EqDelete,
     /// The goal is an instance of a new one, which takes its place.
     Generalise {
@@ -92,7 +94,8 @@ pub enum Step {
         /// The row.
         row: Row,
     },
-    /// Both sides are frames of one symbol with equal polynomials: what they are over is to be equal.
+    /// Both sides are frames of one symbol with equal polynomials: what they are over is to be
+    /// equal.
     Decompose {
         /// For the equal polynomials of the two frames.
         certs: Items<Cert>,

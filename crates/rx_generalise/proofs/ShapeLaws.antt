@@ -34,11 +34,13 @@ call-Return p = fold_out-Term (Option Applied) call_level (Return p) ∙ rw (out
 call-Fail : (c : ℕ) → call_of (Fail c) ≡ None
 call-Fail c = fold_out-Term (Option Applied) call_level (Fail c) ∙ rw (outs-Fail c) refl
 
-call-Call : (f : Sym) (ps : List Body) → call_of (Call f ps) ≡ Some (record { symbol = f; arguments = ps })
+call-Call : (f : Sym) (ps : List Body) → call_of (Call f ps) ≡
+    Some (record { symbol = f; arguments = ps })
 call-Call f ps = fold_out-Term (Option Applied) call_level (Call f ps) ∙ rw (outs-Call f ps) refl
 
 call-Frame : (f : Sym) (ps : List Body) (t : Term) → call_of (Frame f ps t) ≡ call_of t
-call-Frame f ps t = fold_out-Term (Option Applied) call_level (Frame f ps t) ∙ rw (outs-Frame f ps t) refl
+call-Frame f ps t =
+    fold_out-Term (Option Applied) call_level (Frame f ps t) ∙ rw (outs-Frame f ps t) refl
 
 no_call : (c : Applied) → ◌≡◌ {A = Option Applied} None (Some c) → ⊥
 no_call c e = cc
@@ -58,7 +60,9 @@ module _ (c : Applied) (qs : List Body) where
       let same : f ≡ c.symbol = cc (call-Call f ps) in record {
         place = 0;
         there = redex-Call f ps;
-        shape = shape-Call c.symbol qs ∙ sym (ap (λ g. shape_of (Call g ps)) same ∙ shape-Call c.symbol ps);
+        shape =
+            shape-Call c.symbol qs ∙ sym (ap (λ g. shape_of (Call g ps)) same ∙
+            shape-Call c.symbol ps);
       }
 
   at_frame : (f : Sym) (ps : List Body) (t : Term) → Keeps t → Keeps (Frame f ps t)
@@ -66,19 +70,26 @@ module _ (c : Applied) (qs : List Body) where
       let k = inner (sym (call-Frame f ps t) ∙ e) in
       let next : 1 + k.place ≡ suc k.place = omega arith in record {
         place = suc k.place;
-        there = redex-Frame f ps t ∙ ap (λ (o : Option ℕ). Some (option_map_or (λ n. 1 + n) o 0)) k.there ∙ ap (λ (n : ℕ). Some n) next;
+        there =
+            redex-Frame f ps t ∙ ap (λ (o : Option ℕ). Some (option_map_or (λ n. 1 + n) o 0))
+            k.there ∙ ap (λ (n : ℕ). Some n) next;
         shape =
-            ap shape_of (replaced-Frame k.place f ps t (Call c.symbol qs)) ∙ shape-Frame f ps (replaced k.place t (Call c.symbol qs))
+            ap shape_of (replaced-Frame k.place f ps t (Call c.symbol qs)) ∙
+            shape-Frame f ps (replaced k.place t (Call c.symbol qs))
             ∙ ap (Framed f) k.shape ∙ sym (shape-Frame f ps t);
       }
 
   keeps : (t : Term) → Keeps t
-  keeps = induct Keeps (λ p e. absurd (no_call c (sym (call-Return p) ∙ e))) (λ n e. absurd (no_call c (sym (call-Fail n) ∙ e))) at_call at_frame
+  keeps =
+      induct Keeps (λ p e. absurd (no_call c (sym (call-Return p) ∙ e)))
+      (λ n e. absurd (no_call c (sym (call-Fail n) ∙ e))) at_call at_frame
 
-  replacing_keeps : (t : Term) → call_of t ≡ Some c → shape_of (replace_redex t (Call c.symbol qs)) ≡ shape_of t
+  replacing_keeps : (t : Term) → call_of t ≡ Some c →
+      shape_of (replace_redex t (Call c.symbol qs)) ≡ shape_of t
   replacing_keeps t e =
       let k = keeps t e in
-      ap (λ (o : Option ℕ). shape_of (option_map_or (λ n. replaced n t (Call c.symbol qs)) o t)) k.there ∙ k.shape
+      ap (λ (o : Option ℕ). shape_of (option_map_or (λ n. replaced n t (Call c.symbol qs)) o t))
+      k.there ∙ k.shape
 
 shape_with_variable : (place v : ℕ) (t : Term) → shape_of (with_variable place v t) ≡ shape_of t
 unfolding with_variable
@@ -89,14 +100,18 @@ shape_with_variable place v t = by (call_of t) refl where
 
 -- ---- naming
 
-goal_with_keeps : (side : Side) (place v : ℕ) (goal : Equation) → HasShapesOf goal (goal_with side place v goal)
-goal_with_keeps Left place v goal = record { left = shape_with_variable place v goal.left; right = refl }
-goal_with_keeps Right place v goal = record { left = refl; right = shape_with_variable place v goal.right }
+goal_with_keeps : (side : Side) (place v : ℕ) (goal : Equation) →
+    HasShapesOf goal (goal_with side place v goal)
+goal_with_keeps Left place v goal =
+    record { left = shape_with_variable place v goal.left; right = refl }
+goal_with_keeps Right place v goal =
+    record { left = refl; right = shape_with_variable place v goal.right }
 
 abbrev Kept : Naming → Tried Naming → Type 0
 Kept n t = IfSome t.made (λ (m : Naming). HasShapesOf n.goal m.goal)
 
-kept_if : (n : Naming) (b : Bool) (t u : Tried Naming) → Kept n t → Kept n u → Kept n (if b then t else u)
+kept_if : (n : Naming) (b : Bool) (t u : Tried Naming) → Kept n t → Kept n u →
+    Kept n (if b then t else u)
 kept_if n true t u k l = k
 kept_if n false t u k l = l
 
@@ -109,7 +124,8 @@ kept_new side place c n =
     kept_if n (nat_lt n.fresh variables_end) (if f.within then t else beyond) fails
     (kept_if n f.within t beyond (record { left = shapes.left; right = shapes.right }) tt) tt
 
-kept_by : (side : Side) (place : ℕ) (c : ℤ) (n : Naming) (o : Option ℕ) → Kept n (naming_by side place c n o)
+kept_by : (side : Side) (place : ℕ) (c : ℤ) (n : Naming) (o : Option ℕ) →
+    Kept n (naming_by side place c n o)
 kept_by side place c n None = kept_new side place c n
 kept_by side place c n (Some v) =
     let f = gives v c n.goal.rows in
@@ -118,11 +134,14 @@ kept_by side place c n (Some v) =
     kept_if n f.within (if f.form then t else u) beyond
     (kept_if n f.form t u (goal_with_keeps side place v n.goal) (kept_new side place c n)) tt
 
-kept_constant : (side : Side) (place : ℕ) (c : ℤ) (n : Naming) → Kept n (naming_constant side place c n)
+kept_constant : (side : Side) (place : ℕ) (c : ℤ) (n : Naming) →
+    Kept n (naming_constant side place c n)
 unfolding naming_constant
-kept_constant side place c n = kept_by side place c n (variable_at place (side_of side n.goal) (other_side side n.goal))
+kept_constant side place c n =
+    kept_by side place c n (variable_at place (side_of side n.goal) (other_side side n.goal))
 
-kept_where : (side : Side) (place : ℕ) (n : Naming) (o : Option ℤ) → Kept n (naming_if side place n o)
+kept_where : (side : Side) (place : ℕ) (n : Naming) (o : Option ℤ) →
+    Kept n (naming_if side place n o)
 kept_where side place n None = record { left = refl; right = refl }
 kept_where side place n (Some c) = kept_constant side place c n
 
@@ -134,15 +153,19 @@ further : (e f g : Equation) → HasShapesOf e f → HasShapesOf f g → HasShap
 further e f g k l = record { left = l.left ∙ k.left; right = l.right ∙ k.right }
 
 kept_after : (n : Naming) (o : Option Naming) (other : Tried Naming) (next : Naming → Tried Naming)
-    → IfSome o (λ (m : Naming). HasShapesOf n.goal m.goal) → Kept n other → ((m : Naming) → Kept m (next m)) → Kept n (option_map_or next o other)
+    → IfSome o (λ (m : Naming). HasShapesOf n.goal m.goal) → Kept n other →
+    ((m : Naming) → Kept m (next m)) → Kept n (option_map_or next o other)
 kept_after n None other next k l each = l
-kept_after n (Some m) other next k l each = IfSome_then (next m).made (each m) (λ r s. further n.goal m.goal r.goal k s)
+kept_after n (Some m) other next k l each =
+    IfSome_then (next m).made (each m) (λ r s. further n.goal m.goal r.goal k s)
 
 kept_from : (side : Side) (count place : ℕ) (n : Naming) → Kept n (naming_from side place count n)
 unfolding naming_from
 kept_from side zero place n = record { left = refl; right = refl }
 kept_from side (suc count) place n =
-    kept_after n (naming_at side place n).made (record { made = None; noted = (naming_at side place n).noted }) (naming_from side (place + 1) count)
+    kept_after n (naming_at side place n).made
+    (record { made = None; noted = (naming_at side place n).noted })
+    (naming_from side (place + 1) count)
     (kept_at side place n) tt (λ m. kept_from side count (place + 1) m)
 
 abbrev started : Equation → Naming
@@ -154,19 +177,22 @@ kept_both parts goal =
     let left = naming_from Left 0 (length (named_arguments parts Left goal)) n in
     let count = length (named_arguments parts Right goal) in
     kept_after n left.made (record { made = None; noted = left.noted }) (naming_from Right 0 count)
-    (kept_from Left (length (named_arguments parts Left goal)) 0 n) tt (λ m. kept_from Right count 0 m)
+    (kept_from Left (length (named_arguments parts Left goal)) 0 n) tt
+    (λ m. kept_from Right count 0 m)
 
 -- what is found has the shapes
 abbrev FoundKept : Equation → Tried Generalisation → Type 0
 FoundKept goal t = IfSome t.made (λ (found : Generalisation). HasShapesOf goal found.goal)
 
-found_after : (parts : RuleParts) (goal : Equation) (o : Option Naming) (other : Tried Generalisation)
+found_after : (parts : RuleParts) (goal : Equation) (o : Option Naming)
+    (other : Tried Generalisation)
     → IfSome o (λ (m : Naming). HasShapesOf goal m.goal) → FoundKept goal other
     → FoundKept goal (option_map_or (λ (n : Naming). applies (named_goal parts n)) o other)
 found_after parts goal None other k l = l
 found_after parts goal (Some m) other k l = k
 
-found_if : (goal : Equation) (b : Bool) (t : Tried Generalisation) → FoundKept goal t → FoundKept goal (if b then t else fails)
+found_if : (goal : Equation) (b : Bool) (t : Tried Generalisation) → FoundKept goal t →
+    FoundKept goal (if b then t else fails)
 found_if goal true t k = k
 found_if goal false t k = tt
 

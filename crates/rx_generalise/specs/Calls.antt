@@ -59,12 +59,14 @@ abbrev pub variable_in : ℕ → Option Applied → Option Applied → Option �
 variable_in place None other = None
 variable_in place (Some call) None = None
 variable_in place (Some call) (Some other) =
-    if other.symbol.0 == call.symbol.0 then option_and_then lone_variable (slice_get other.arguments place) else None
+    if other.symbol.0 == call.symbol.0 then option_and_then lone_variable
+    (slice_get other.arguments place) else None
 
 -- the term with the variable at the place of that call, which is its own
 abbrev pub with_variable_in : ℕ → ℕ → Option Applied → Term → Term
 with_variable_in place v None t = t
-with_variable_in place v (Some call) t = replace_redex t (made.Call call.symbol (slice_set call.arguments place (variable v)))
+with_variable_in place v (Some call) t =
+    replace_redex t (made.Call call.symbol (slice_set call.arguments place (variable v)))
 
 -- ---- of terms
 
@@ -81,4 +83,6 @@ with_variable place v t = with_variable_in place v (call_of t) t
 
 -- the head of a loop that reaches itself
 abbrev pub is_loop_head : RuleParts → ℕ → Bool
-is_loop_head parts f = is_loop_point parts f && option_map_or (λ (info : SymInfo). info.head) (slice_get parts.symbols f) false
+is_loop_head parts f =
+    is_loop_point parts f && option_map_or (λ (info : SymInfo). info.head)
+    (slice_get parts.symbols f) false

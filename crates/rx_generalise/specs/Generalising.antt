@@ -1,5 +1,6 @@
--- Two generalisations of a goal. Both drop the rows that only give a variable its value, and add the rows of the rules at
--- the calls of the new goal that the old rows show. The second puts new variables in place of polynomials that occur repeatedly.
+-- Two generalisations of a goal. Both drop the rows that only give a variable its value, and add
+-- the rows of the rules at the calls of the new goal that the old rows show. The second puts new
+-- variables in place of polynomials that occur repeatedly.
 use Rattle.std.specs.Prelude.{ℕ, ◌+◌, nat_le, if◌then◌else◌, Option, Some, None, List, [], ◌∷◌, ◌++◌, length}
 use Rattle.std.specs.List.{list_any}
 use Rattle.std.specs.Option.{option_map}
@@ -23,23 +24,34 @@ Found = Option (Option Generalisation)
 
 -- the equation with those rows
 abbrev pub over_rows : LemmaKind → Equation → List (ℕ × Body) → List Row → Generalisation
-over_rows kind new ws rows = record { kind = kind; goal = record { left = new.left; right = new.right; rows = rows }; subst = ws }
+over_rows kind new ws rows =
+    record {
+      kind = kind;
+      goal = record { left = new.left; right = new.right; rows = rows };
+      subst =
+          ws;
+    }
 
 -- the goal with the variables in place of their polynomials
 abbrev pub replacing : Equation → List (ℕ × Body) → Equation
-replacing goal ws = record { left = replaced_in ws goal.left; right = replaced_in ws goal.right; rows = goal.rows }
+replacing goal ws =
+    record { left = replaced_in ws goal.left; right = replaced_in ws goal.right; rows = goal.rows }
 
 module _ (rules : List Rule) (goal : Equation) where
-  -- the new equation, with the goal's rows that don't give a value, and those of rules that are shown
+  -- the new equation, with the goal's rows that don't give a value, and those of rules that are
+  -- shown
   unfoldable pub generalised : LemmaKind → Equation → List (ℕ × Body) → Option Generalisation
   generalised kind new ws =
-      option_map (over_rows kind new ws) (formed_added ws goal.rows (rule_rows rules new) (other_rows goal.rows))
+      option_map (over_rows kind new ws) (formed_added ws goal.rows (rule_rows rules new)
+      (other_rows goal.rows))
 
   -- ---- the first generalisation
 
   -- where a row gives a variable its value
   unfoldable pub without_values : Found
-  without_values = if list_any gives_value goal.rows then option_map Some (generalised DropValues goal []) else Some None
+  without_values =
+      if list_any gives_value goal.rows then option_map Some (generalised DropValues goal []) else
+      Some None
 
   -- ---- the second
 
@@ -71,4 +83,5 @@ both_found (Some first) (Some second) = Some (as_list first ++ as_list second)
 
 -- the lemmas in order, or that something that is tried for them passes the limits
 unfoldable pub generalisations : RuleParts → Equation → Option (List Generalisation)
-generalisations parts goal = both_found (without_values parts.rules goal) (replacing_repeated parts.rules goal)
+generalisations parts goal =
+    both_found (without_values parts.rules goal) (replacing_repeated parts.rules goal)

@@ -1,6 +1,6 @@
--- Naming: each constant in a call of a loop's head becomes a variable, which a row gives that value. It is the variable that is
--- alone at the same place of the other side's call, where that is of the same symbol and has the value by a row;
--- else it is a new one, with such a row.
+-- Naming: each constant in a call of a loop's head becomes a variable, which a row gives that
+-- value. It is the variable that is alone at the same place of the other side's call, where that is
+-- of the same symbol and has the value by a row; else it is a new one, with such a row.
 use Rattle.std.specs.Prelude.{◌≡◌, ℕ, zero, suc, ◌+◌, nat_lt, Bool, ◌||◌, if◌then◌else◌, Option, Some, None, Result, Ok, Err, List, [], ◌∷◌, ◌++◌, length, ℤ}
 use Rattle.std.specs.List.{list_any}
 use Rattle.std.specs.Option.{is_some, option_map_or}
@@ -36,7 +36,8 @@ where_formed f next = if f.within then next f.form else beyond
 
 -- first something is made, and then what is tried with it
 abbrev pub and_then : {A B : Type 0} → Tried A → (A → Tried B) → Tried B
-and_then {A} {B} first next = option_map_or next first.made (record { made = None; noted = first.noted })
+and_then {A} {B} first next =
+    option_map_or next first.made (record { made = None; noted = first.noted })
 
 -- an answer that says what comes of trying something; that memory runs out is free
 abbrev pub Answers : {A : Type 0} → Tried A → Result (Option A) PolyEnd → Type 0
@@ -74,17 +75,20 @@ module _ (side : Side) (place : ℕ) where
   -- it doesn't apply where there are no more variables
   unfoldable pub naming_new : ℤ → Naming → Tried Naming
   naming_new c n =
-      if nat_lt n.fresh variables_end then where_formed (named n.fresh c) (λ r. applies (named_new c r n)) else fails
+      if nat_lt n.fresh variables_end then where_formed (named n.fresh c)
+      (λ r. applies (named_new c r n)) else fails
 
   -- the variable where a row gives it the value, or a new one
   abbrev pub naming_by : ℤ → Naming → Option ℕ → Tried Naming
   naming_by c n None = naming_new c n
   naming_by c n (Some v) =
-      where_formed (gives v c n.goal.rows) (λ yes. if yes then applies (named_as v n) else naming_new c n)
+      where_formed (gives v c n.goal.rows) (λ yes. if yes then applies (named_as v n) else
+      naming_new c n)
 
   -- the other side's call is as it is by then
   unfoldable pub naming_constant : ℤ → Naming → Tried Naming
-  naming_constant c n = naming_by c n (variable_at place (side_of side n.goal) (other_side side n.goal))
+  naming_constant c n =
+      naming_by c n (variable_at place (side_of side n.goal) (other_side side n.goal))
 
   -- where there is no constant at the place the goal stays as it is
   abbrev pub naming_if : Naming → Option ℤ → Tried Naming
@@ -99,7 +103,8 @@ module _ (side : Side) (place : ℕ) where
 -- so many places of a side, from one on
 unfoldable pub naming_from : Side → ℕ → ℕ → Naming → Tried Naming
 naming_from side place zero n = applies n
-naming_from side place (suc count) n = and_then (naming_at side place n) (naming_from side (place + 1) count)
+naming_from side place (suc count) n =
+    and_then (naming_at side place n) (naming_from side (place + 1) count)
 
 module _ (parts : RuleParts) where
   -- the arguments of a call, where it is one of a loop's head
@@ -119,7 +124,8 @@ module _ (parts : RuleParts) where
   abbrev pub naming_both : Equation → Tried Naming
   naming_both goal =
       and_then
-      (naming_from Left 0 (length (named_arguments Left goal)) (record { goal = goal; subst = []; fresh = equation_bound goal }))
+      (naming_from Left 0 (length (named_arguments Left goal))
+      (record { goal = goal; subst = []; fresh = equation_bound goal }))
       (naming_from Right 0 (length (named_arguments Right goal)))
 
   -- what is found

@@ -12,7 +12,8 @@ use Rattle.rx_generalise.specs.declared.generalised.Generalised.{Generalised}
 abbrev pub AreVariablesFor : Equation → List Body → Option (List (ℕ × Body)) → Type 0
 AreVariablesFor goal ps None = nat_le (equation_bound goal + length ps) variables_end ≡ false
 AreVariablesFor goal ps (Some ws) =
-    (nat_le (equation_bound goal + length ps) variables_end ≡ true) × (ws ≡ new_variables (equation_bound goal) ps)
+    (nat_le (equation_bound goal + length ps) variables_end ≡ true) ×
+    (ws ≡ new_variables (equation_bound goal) ps)
 
 -- the first, if there is one, and then the second, if there is one
 abbrev pub AreListed : Option Generalised → Option Generalised → List Generalised → Type 0

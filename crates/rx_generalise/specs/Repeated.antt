@@ -16,7 +16,8 @@ use Rattle.rx_generalise.specs.declared.repeated.Occurrence.{Occurrence}
 -- the polynomials of a symbol, the first at that place
 abbrev pub occurrences_from : ℕ → ℕ → List Body → List Occurrence
 occurrences_from f place [] = []
-occurrences_from f place (p ∷ ps) = record { symbol = f; place = place; poly = p } ∷ occurrences_from f (place + 1) ps
+occurrences_from f place (p ∷ ps) =
+    record { symbol = f; place = place; poly = p } ∷ occurrences_from f (place + 1) ps
 
 -- those of the frames from outside in, and then of the call
 abbrev pub occurrences_level : Term-F (List Occurrence) → List Occurrence
@@ -43,7 +44,8 @@ is_same_occurrence s t = s.symbol == t.symbol && s.place == t.place && is_same_p
 
 -- no variable alone, and twice or more at one place of one symbol
 unfoldable pub is_repeated : List Occurrence → Occurrence → Bool
-is_repeated all s = is_none (lone_variable s.poly) && nat_le 2 (length (filter (is_same_occurrence s) all))
+is_repeated all s =
+    is_none (lone_variable s.poly) && nat_le 2 (length (filter (is_same_occurrence s) all))
 
 -- it is that polynomial, and it is so
 unfoldable pub is_taken_by : List Occurrence → Body → Occurrence → Bool
@@ -56,7 +58,8 @@ is_taken all p = list_any (is_taken_by all p) all
 -- one more that is so, unless it is there
 unfoldable pub with_taken : List Occurrence → List Body → Occurrence → List Body
 with_taken all done s =
-    if not (list_any (λ p. is_same_poly p s.poly) done) && is_taken all s.poly then done ++ s.poly ∷ [] else done
+    if not (list_any (λ p. is_same_poly p s.poly) done) && is_taken all s.poly then done ++ s.poly ∷
+    [] else done
 
 -- those that are so, each once, in order
 abbrev pub taken_of : List Occurrence → List Body
@@ -70,7 +73,9 @@ repeated goal = taken_of (occurrences goal)
 
 -- the variable in place of the polynomial, or the polynomial
 unfoldable pub replaced_by : List (ℕ × Body) → Body → Body
-replaced_by ws p = option_map_or (λ (w : ℕ × Body). variable w.0) (find (λ (w : ℕ × Body). is_same_poly w.1 p) ws) p
+replaced_by ws p =
+    option_map_or (λ (w : ℕ × Body). variable w.0) (find (λ (w : ℕ × Body). is_same_poly w.1 p) ws)
+    p
 
 -- as whole arguments of frames and of the call, not inside polynomials and not in results
 abbrev pub replaced_level : List (ℕ × Body) → Term-F Term → Term

@@ -71,7 +71,8 @@ SaysShown said (Ok true) = said ≡ Yes
 SaysShown said (Ok false) = said ≡ No
 SaysShown said (Err e) = e ≡ Large → said ≡ Beyond
 
--- an answer that has what was made, or says that something passes the limits; that memory runs out is free
+-- an answer that has what was made, or says that something passes the limits; that memory runs out
+-- is free
 abbrev pub Makes : {A : Type 0} → Option A → Result A FmEnd → Type 0
 Makes made (Ok x) = made ≡ Some x
 Makes made (Err e) = e ≡ Large → made ≡ None

@@ -14,8 +14,12 @@ pub record HasShapesOf (goal new : Equation) : Type 0 where
 
 -- so after naming
 abbrev pub NamingKeepsShapes : Type 0
-NamingKeepsShapes = (parts : RuleParts) (goal : Equation) → IfSome (naming_of parts goal).made (λ (found : Generalisation). HasShapesOf goal found.goal)
+NamingKeepsShapes =
+    (parts : RuleParts) (goal : Equation) → IfSome (naming_of parts goal).made
+    (λ (found : Generalisation). HasShapesOf goal found.goal)
 
 -- what its new variables are replaced by is a substitution, as a step asks
 abbrev pub NamingSubstitutes : Type 0
-NamingSubstitutes = (parts : RuleParts) (goal : Equation) → IfSome (naming_of parts goal).made (λ (found : Generalisation). is_substitution found.subst ≡ true)
+NamingSubstitutes =
+    (parts : RuleParts) (goal : Equation) → IfSome (naming_of parts goal).made
+    (λ (found : Generalisation). is_substitution found.subst ≡ true)

@@ -20,7 +20,8 @@ is_valued p = is_some (variable_of (filter is_no_number (out-Body p).terms))
 abbrev pub valued_from : Bool → List (Mono × ℤ) → Bool
 valued_from seen [] = seen
 valued_from seen (t ∷ ts) =
-    if is_no_number t then (not seen && is_some (variable_of (t ∷ []))) && valued_from true ts else valued_from seen ts
+    if is_no_number t then (not seen && is_some (variable_of (t ∷ []))) && valued_from true ts else
+    valued_from seen ts
 
 -- the row says that a variable is a number
 abbrev pub gives_value : Row → Bool

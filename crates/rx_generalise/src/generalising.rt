@@ -184,9 +184,9 @@ fn listed(
 ///
 /// The first applies where the goal has rows that say that a variable is a number. The second
 /// applies where a polynomial that is no variable alone is twice or more at one place of one symbol
-/// in the goal: each such polynomial becomes a new variable, above all variables of the goal, in the
-/// order of their first places, wherever it is a whole argument of a frame or a call. It doesn't
-/// apply where a new variable would have a number of 1,000,000 or above.
+/// in the goal: each such polynomial becomes a new variable, above all variables of the goal, in
+/// the order of their first places, wherever it is a whole argument of a frame or a call. It
+/// doesn't apply where a new variable would have a number of 1,000,000 or above.
 ///
 /// Large exactly where one of those rows or an instance of it passes the limits, or something does
 /// as it is shown. The solver is asked in place of the refuter.

@@ -98,9 +98,10 @@ fn name_both(
 
 /// The goal with the constants in its calls of loop heads named: each becomes a variable, which a
 /// row gives that value. The left side's are taken first, each side's by their places. It is the
-/// variable that is alone at the same place of the other side's call, as that is by then, where that
-/// call is of the same symbol and one of the rows says that the variable has the value; else it is a
-/// new one, above all variables of the goal so far, and that row is added, unless the goal has it.
+/// variable that is alone at the same place of the other side's call, as that is by then, where
+/// that call is of the same symbol and one of the rows says that the variable has the value; else
+/// it is a new one, above all variables of the goal so far, and that row is added, unless the goal
+/// has it.
 ///
 /// None where there is no such constant, and where a new variable would have a number of 1,000,000
 /// or above. Large exactly where a row that says that a variable is a constant passes the limits.

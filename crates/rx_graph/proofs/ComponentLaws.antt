@@ -11,11 +11,13 @@ use Rattle.rx_graph.proofs.RowLaws.{leads_back, leads_forth, leads_within}
 
 pub path_forth : (edges : List (ℕ × ℕ)) (a b : ℕ) → Path (reversed_edges edges) a b → Path edges b a
 path_forth edges _ _ (One a b is) = One b a (leads_forth edges b a is)
-path_forth edges _ _ (More a b c is rest) = one_behind edges c b a (path_forth edges b c rest) (leads_forth edges b a is)
+path_forth edges _ _ (More a b c is rest) =
+    one_behind edges c b a (path_forth edges b c rest) (leads_forth edges b a is)
 
 pub path_back : (edges : List (ℕ × ℕ)) (a b : ℕ) → Path edges a b → Path (reversed_edges edges) b a
 path_back edges _ _ (One a b is) = One b a (leads_back edges a b is)
-path_back edges _ _ (More a b c is rest) = one_behind (reversed_edges edges) c b a (path_back edges b c rest) (leads_back edges a b is)
+path_back edges _ _ (More a b c is rest) =
+    one_behind (reversed_edges edges) c b a (path_back edges b c rest) (leads_back edges a b is)
 
 -- ---- being in one component
 
@@ -27,47 +29,57 @@ pub joined_back : (edges : List (ℕ × ℕ)) (a b : ℕ) → Joined edges a b �
 joined_back edges a b (inl same) = inl (sym same)
 joined_back edges a b (inr paths) = inr (paths.1, paths.0)
 
-pub joined_on : (edges : List (ℕ × ℕ)) (a b c : ℕ) → Joined edges a b → Joined edges b c → Joined edges a c
+pub joined_on : (edges : List (ℕ × ℕ)) (a b c : ℕ) → Joined edges a b → Joined edges b c →
+    Joined edges a c
 joined_on edges a b c (inl same) also = subst (λ k. Joined edges k c) (sym same) also
 joined_on edges a b c (inr paths) (inl same) = subst (Joined edges a) same (inr paths)
-joined_on edges a b c (inr paths) (inr more) = inr (path_behind edges a b c paths.0 more.0, path_behind edges c b a more.1 paths.1)
+joined_on edges a b c (inr paths) (inr more) =
+    inr (path_behind edges a b c paths.0 more.0, path_behind edges c b a more.1 paths.1)
 
-module _ (n : ℕ) (edges : List (ℕ × ℕ)) (within : (a b : ℕ) → leads edges a b ≡ true → (a < n) × (b < n)) where
+module _ (n : ℕ) (edges : List (ℕ × ℕ)) (within : (a b : ℕ) → leads edges a b ≡ true → (a < n) ×
+    (b < n)) where
   -- being reached is having a path
   pub reached_path : (a b : ℕ) → (reaches edges (below n) a b ≡ true) ↔ Path edges a b
   reached_path a b = reaches_path edges (below n) (λ c d is. among_below n d (within c d is).1) a b
 
   pub together_joined : (a b : ℕ) → together edges (below n) a b ≡ true → Joined edges a b
-  together_joined a b is = elim (or_cases (a == b) (reaches edges (below n) a b && reaches edges (below n) b a) is) [
-    | inl same ↦ inl (eqb-true a b same)
-    | inr both ↦
-        let parts = and_parts (reaches edges (below n) a b) (reaches edges (below n) b a) both in
-        inr ((reached_path a b).0 parts.0, (reached_path b a).0 parts.1)
-  ]
+  together_joined a b is =
+      elim (or_cases (a == b) (reaches edges (below n) a b && reaches edges (below n) b a) is) [
+        | inl same ↦ inl (eqb-true a b same)
+        | inr both ↦
+            let parts = and_parts (reaches edges (below n) a b) (reaches edges (below n) b a) both
+            in
+            inr ((reached_path a b).0 parts.0, (reached_path b a).0 parts.1)
+      ]
 
   pub joined_together : (a b : ℕ) → Joined edges a b → together edges (below n) a b ≡ true
-  joined_together a b (inl same) = or_left (a == b) (reaches edges (below n) a b && reaches edges (below n) b a) (eq-eqb a b same)
+  joined_together a b (inl same) =
+      or_left (a == b) (reaches edges (below n) a b && reaches edges (below n) b a)
+      (eq-eqb a b same)
   joined_together a b (inr paths) =
       or_right (a == b) (reaches edges (below n) a b && reaches edges (below n) b a)
-      (and_from (reaches edges (below n) a b) (reaches edges (below n) b a) ((reached_path a b).1 paths.0) ((reached_path b a).1 paths.1))
+      (and_from (reaches edges (below n) a b) (reaches edges (below n) b a)
+      ((reached_path a b).1 paths.0) ((reached_path b a).1 paths.1))
 
 -- ---- the labels so far
 
--- each label is in the component; no vertex before `v` in the component is less than it; and it is one before `v`, or the
--- vertex itself
+-- each label is in the component; no vertex before `v` in the component is less than it; and it is
+-- one before `v`, or the vertex itself
 pub record LabelsTo (n : ℕ) (edges : List (ℕ × ℕ)) (v : ℕ) (labels : List ℕ) : Type 0 where
   pub inside : (a : ℕ) → a < n → Joined edges a (get_or labels a 0)
   pub least : (a b : ℕ) → a < n → b < v → Joined edges a b → get_or labels a 0 ≤ b
   pub own : (a : ℕ) → a < n → (get_or labels a 0 < v) ⊎ (get_or labels a 0 ≡ a)
 
-pub begin_labels : (n : ℕ) (edges : List (ℕ × ℕ)) (labels : List ℕ) → ((a : ℕ) → a < n → get_or labels a 0 ≡ a) → LabelsTo n edges 0 labels
+pub begin_labels : (n : ℕ) (edges : List (ℕ × ℕ)) (labels : List ℕ) →
+    ((a : ℕ) → a < n → get_or labels a 0 ≡ a) → LabelsTo n edges 0 labels
 begin_labels n edges labels own = record {
   inside = λ a less. inl (sym (own a less));
   least = λ a b less none also. absurd (omega (arith, none));
   own = λ a less. inr (own a less);
 }
 
-module _ (n : ℕ) (edges : List (ℕ × ℕ)) (v : ℕ) (labels after : List ℕ) (there : v < n) (before : LabelsTo n edges v labels) (named : Named edges v labels after) where
+module _ (n : ℕ) (edges : List (ℕ × ℕ)) (v : ℕ) (labels after : List ℕ) (there : v < n)
+    (before : LabelsTo n edges v labels) (named : Named edges v labels after) where
   -- a lesser vertex named the component
   label_known : get_or labels v 0 < v → LabelsTo n edges (v + 1) after
   label_known lesser =
@@ -79,10 +91,14 @@ module _ (n : ℕ) (edges : List (ℕ × ℕ)) (v : ℕ) (labels after : List �
           | inl old ↦ before.least a b less old also
           | inr last ↦
               let at : b ≡ v = omega (arith, upto, last) in
-              let low = before.least a (get_or labels v 0) less lesser (joined_on edges a v (get_or labels v 0) (subst (Joined edges a) at also) (before.inside v there)) in
+              let low = before.least a (get_or labels v 0) less lesser
+              (joined_on edges a v (get_or labels v 0) (subst (Joined edges a) at also)
+              (before.inside v there)) in
               omega (arith, low, lesser, at)
         ];
-        own = λ a less. elim (before.own a less) [ inl old ↦ inl (omega (arith, old)) | inr itself ↦ inr itself ];
+        own =
+            λ a less. elim (before.own a less)
+            [ inl old ↦ inl (omega (arith, old)) | inr itself ↦ inr itself ];
       })
 
   -- none did, so the vertex is the least of its component
@@ -96,7 +112,8 @@ module _ (n : ℕ) (edges : List (ℕ × ℕ)) (v : ℕ) (labels after : List �
       | inl old ↦ elim (named.only a) [
         | inl same ↦ let low = before.least a b less old also in omega (arith, low, same)
         | inr new ↦
-            let low = before.least v b there old (joined_on edges v a b (inr (new.0, new.1)) also) in
+            let low = before.least v b there old (joined_on edges v a b (inr (new.0, new.1)) also)
+            in
             absurd (omega (arith, low, own, old))
       ]
       | inr last ↦
@@ -112,27 +129,38 @@ module _ (n : ℕ) (edges : List (ℕ × ℕ)) (v : ℕ) (labels after : List �
           ]
     ];
     own = λ a less. elim (named.only a) [
-      | inl same ↦ elim (before.own a less) [ inl old ↦ inl (omega (arith, old, same)) | inr itself ↦ inr (same ∙ itself) ]
+      | inl same ↦ elim (before.own a less) [
+        | inl old ↦ inl (omega (arith, old, same))
+        | inr itself ↦ inr (same ∙ itself)
+      ]
       | inr new ↦ let is = new.2 in inl (omega (arith, is))
     ];
   }
 
   pub label_more : LabelsTo n edges (v + 1) after
-  label_more = elim (before.own v there) [ inl lesser ↦ label_known lesser | inr own ↦ label_new own ]
+  label_more =
+      elim (before.own v there) [ inl lesser ↦ label_known lesser | inr own ↦ label_new own ]
 
 -- when all vertices were taken, the labels are those of the components
-pub all_labels : (n : ℕ) (edges : List (ℕ × ℕ)) (rows : List (List ℕ)) → IsGraphOf n edges rows → IsClosed rows → (v : ℕ) (labels : List ℕ) → n ≤ v → LabelsTo n edges v labels
+pub all_labels : (n : ℕ) (edges : List (ℕ × ℕ)) (rows : List (List ℕ)) → IsGraphOf n edges rows →
+    IsClosed rows → (v : ℕ) (labels : List ℕ) → n ≤ v → LabelsTo n edges v labels
     → AreComponents n edges labels
 all_labels n edges rows graph closed v labels all to a less = record {
-  inside = joined_together n edges (leads_within n edges rows graph closed) a (get_or labels a 0) (to.inside a less);
-  least = λ b there also. to.least a b less (omega (arith, there, all)) (together_joined n edges (leads_within n edges rows graph closed) a b also);
+  inside =
+      joined_together n edges (leads_within n edges rows graph closed) a (get_or labels a 0)
+      (to.inside a less);
+  least =
+      λ b there also. to.least a b less (omega (arith, there, all))
+      (together_joined n edges (leads_within n edges rows graph closed) a b also);
 }
 
 -- ---- one component
 
 -- what is marked both ways
-pub label_marked : (edges : List (ℕ × ℕ)) (v : ℕ) (forwards backwards : List Bool) (labels after : List ℕ) → get_or labels v 0 ≡ v → MarksReached edges v forwards
-    → MarksReached (reversed_edges edges) v backwards → Labelled forwards backwards v labels after → Named edges v labels after
+pub label_marked : (edges : List (ℕ × ℕ)) (v : ℕ) (forwards backwards : List Bool)
+    (labels after : List ℕ) → get_or labels v 0 ≡ v → MarksReached edges v forwards
+    → MarksReached (reversed_edges edges) v backwards → Labelled forwards backwards v labels after →
+    Named edges v labels after
 label_marked edges v forwards backwards labels after own forth back made = record {
   count = made.count;
   known = λ differs. absurd (differs own);
@@ -144,7 +172,8 @@ label_marked edges v forwards backwards labels after own forth back made = recor
 }
 
 -- or nothing, where a lesser vertex named the component
-pub label_none : (edges : List (ℕ × ℕ)) (v : ℕ) (labels : List ℕ) → (get_or labels v 0 ≡ v → ⊥) → Named edges v labels labels
+pub label_none : (edges : List (ℕ × ℕ)) (v : ℕ) (labels : List ℕ) → (get_or labels v 0 ≡ v → ⊥) →
+    Named edges v labels labels
 label_none edges v labels differs = record {
   count = refl;
   known = λ _. refl;
@@ -154,27 +183,37 @@ label_none edges v labels differs = record {
 
 -- ---- one label is one component
 
-module _ (n : ℕ) (edges : List (ℕ × ℕ)) (within : (a b : ℕ) → leads edges a b ≡ true → (a < n) × (b < n)) (labels : List ℕ) (components : AreComponents n edges labels) where
+module _ (n : ℕ) (edges : List (ℕ × ℕ)) (within : (a b : ℕ) → leads edges a b ≡ true → (a < n) ×
+    (b < n)) (labels : List ℕ) (components : AreComponents n edges labels) where
   inside : (a : ℕ) → a < n → Joined edges a (get_or labels a 0)
   inside a there = together_joined n edges within a (get_or labels a 0) (components a there).inside
 
   least : (a b : ℕ) → a < n → b < n → Joined edges a b → get_or labels a 0 ≤ b
-  least a b there also joined = (components a there).least b also (joined_together n edges within a b joined)
+  least a b there also joined =
+      (components a there).least b also (joined_together n edges within a b joined)
 
   pub label_within : (a : ℕ) → a < n → get_or labels a 0 < n
   label_within a there = let low = least a a there there (inl refl) in omega (arith, low, there)
 
-  pub same_joined : (a b : ℕ) → a < n → b < n → get_or labels a 0 ≡ get_or labels b 0 → Joined edges a b
+  pub same_joined : (a b : ℕ) → a < n → b < n → get_or labels a 0 ≡ get_or labels b 0 →
+      Joined edges a b
   same_joined a b there also same =
-      joined_on edges a (get_or labels a 0) b (inside a there) (joined_back edges b (get_or labels a 0) (subst (Joined edges b) (sym same) (inside b also)))
+      joined_on edges a (get_or labels a 0) b (inside a there)
+      (joined_back edges b (get_or labels a 0)
+      (subst (Joined edges b) (sym same) (inside b also)))
 
-  pub joined_same : (a b : ℕ) → a < n → b < n → Joined edges a b → get_or labels a 0 ≡ get_or labels b 0
+  pub joined_same : (a b : ℕ) → a < n → b < n → Joined edges a b → get_or labels a 0 ≡
+      get_or labels b 0
   joined_same a b there also joined =
-      let low = least a (get_or labels b 0) there (label_within b also) (joined_on edges a b (get_or labels b 0) joined (inside b also)) in
-      let high = least b (get_or labels a 0) also (label_within a there) (joined_on edges b a (get_or labels a 0) (joined_back edges a b joined) (inside a there)) in
+      let low = least a (get_or labels b 0) there (label_within b also)
+      (joined_on edges a b (get_or labels b 0) joined (inside b also)) in
+      let high = least b (get_or labels a 0) also (label_within a there)
+      (joined_on edges b a (get_or labels a 0) (joined_back edges a b joined) (inside a there))
+      in
       omega (arith, low, high)
 
-  pub same_together : (a b : ℕ) → a < n → b < n → (get_or labels a 0 ≡ get_or labels b 0) ↔ (together edges (below n) a b ≡ true)
+  pub same_together : (a b : ℕ) → a < n → b < n →
+      (get_or labels a 0 ≡ get_or labels b 0) ↔ (together edges (below n) a b ≡ true)
   same_together a b there also = (
     λ same. joined_together n edges within a b (same_joined a b there also same),
     λ is. joined_same a b there also (together_joined n edges within a b is),

@@ -11,11 +11,14 @@ pub none_in : (xs : List ℕ) → xs ≡ [] → (b : ℕ) → Contains xs b → 
 none_in xs none b among = none_in_empty b (subst (λ ys. Contains ys b) none among)
 
 -- an element of a list is its first, or one of the others
-pub first_or_other : {X : Type 0} (y : X) (ys : List X) (x : X) → Contains (y ∷ ys) x → (y ≡ x) ⊎ Contains ys x
-first_or_other y ys x h = elim (Contains-append_cases (y ∷ []) ys x h) [ inl first ↦ alone (Contains-push_cases [] y x first) | inr other ↦ inr other ] where
-  alone : Contains [] x ⊎ (y ≡ x) → (y ≡ x) ⊎ Contains ys x
-  alone (inl none) = absurd (none_in_empty x none)
-  alone (inr same) = inl same
+pub first_or_other : {X : Type 0} (y : X) (ys : List X) (x : X) → Contains (y ∷ ys) x → (y ≡ x) ⊎
+    Contains ys x
+first_or_other y ys x h =
+    elim (Contains-append_cases (y ∷ []) ys x h)
+    [ inl first ↦ alone (Contains-push_cases [] y x first) | inr other ↦ inr other ] where
+      alone : Contains [] x ⊎ (y ≡ x) → (y ≡ x) ⊎ Contains ys x
+      alone (inl none) = absurd (none_in_empty x none)
+      alone (inr same) = inl same
 
 -- the first is one
 pub first_one : {X : Type 0} (y : X) (ys : List X) → Contains (y ∷ ys) y
@@ -26,7 +29,8 @@ pub other_one : {X : Type 0} (y : X) (ys : List X) (x : X) → Contains ys x →
 other_one y ys x h = Contains-append_right (y ∷ []) ys x h
 
 -- what is read at a place doesn't depend on what is read past the end
-pub same_at : {A : Type 0} (xs : List A) (i : ℕ) (d e : A) → i < length xs → get_or xs i d ≡ get_or xs i e
+pub same_at : {A : Type 0} (xs : List A) (i : ℕ) (d e : A) → i < length xs → get_or xs i d ≡
+    get_or xs i e
 same_at [] i d e there = absurd (omega (arith, there))
 same_at (x ∷ xs) zero d e there = refl
 same_at (x ∷ xs) (suc i) d e there = same_at xs i d e (omega (arith, there))
@@ -38,9 +42,12 @@ pub target_among : (xs : List ℕ) (i : ℕ) → i < length xs → Contains xs (
 target_among xs i there = Contains-get_or xs i 0 there
 
 pub number_there : (xs : List ℕ) (i v : ℕ) → i < length xs → v ≡ get_or xs i v → Contains xs v
-number_there xs i v there is = subst (Contains xs) (same_at xs i 0 v there ∙ sym is) (target_among xs i there)
+number_there xs i v there is =
+    subst (Contains xs) (same_at xs i 0 v there ∙ sym is) (target_among xs i there)
 
 -- a slice of all of a list that is written back is all of the list
-pub written_back : (items new : List ℕ) (n : ℕ) → length items ≡ n → length new ≡ length items → take n (new ++ drop (length new) items) ≡ new
+pub written_back : (items new : List ℕ) (n : ℕ) → length items ≡ n → length new ≡ length items →
+    take n (new ++ drop (length new) items) ≡ new
 written_back items new n count same =
-    ap (λ (rest : List ℕ). take n (new ++ rest)) (drop_of_length-le items (omega (arith, same))) ∙ ap (take n) (append-nil new) ∙ take_all n new (omega (arith, count, same))
+    ap (λ (rest : List ℕ). take n (new ++ rest)) (drop_of_length-le items (omega (arith, same))) ∙
+    ap (take n) (append-nil new) ∙ take_all n new (omega (arith, count, same))

@@ -13,7 +13,8 @@ pub record HasOneMore (rows : List (List ℕ)) (from to : ℕ) (after : List (Li
   pub only : (a b : ℕ) → HasEdge after a b → HasEdge rows a b ⊎ ((a ≡ from) × (b ≡ to))
 
 -- an edge more from each source, and nothing else
-pub record HasAllFrom (rows : List (List ℕ)) (sources : List ℕ) (to : ℕ) (after : List (List ℕ)) : Type 0 where
+pub record HasAllFrom (rows : List (List ℕ)) (sources : List ℕ) (to : ℕ) (after : List (List ℕ)) :
+    Type 0 where
   pub count : length after ≡ length rows
   pub stay : (a b : ℕ) → HasEdge rows a b → HasEdge after a b
   pub there : (a : ℕ) → Contains sources a → HasEdge after a to

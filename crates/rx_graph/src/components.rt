@@ -52,7 +52,8 @@ impl Graph {
         ensures count { length labels.new.items ≡ length labels.old.items }
         ensures named { OnOk result ((edges : List (ℕ × ℕ)) →
             IsGraphOf (length self.now.rows.items) edges (rows_of self.now.rows.items) →
-            IsGraphOf (length self.now.rows.items) (reversed_edges edges) (rows_of back.now.rows.items) →
+            IsGraphOf (length self.now.rows.items) (reversed_edges edges)
+            (rows_of back.now.rows.items) →
             Named edges vertex labels.old.items labels.new.items) }
     {
         if labels[vertex as usize] != vertex {

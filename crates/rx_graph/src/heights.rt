@@ -20,7 +20,8 @@ fn count_marked(marks: &[bool]) -> usize
 /// Raises the height of the label above the heights of the targets that have another label.
 fn raise(targets: &[u32], labels: &[u32], own: u32, heights: &mut [u32])
     requires targets { (t : ℕ) → Contains targets.now t → t < length labels.now }
-    requires names { (t : ℕ) → t < length labels.now → slice_index labels.now t < length heights.old }
+    requires names { (t : ℕ) → t < length labels.now → slice_index labels.now t <
+        length heights.old }
     requires own { own < length heights.old }
     requires room { (t : ℕ) → Contains targets.now t → (slice_index labels.now t ≡ own → ⊥) →
         slice_index heights.old (slice_index labels.now t) + 1 < 2 ^ 32 }
@@ -86,8 +87,10 @@ impl Graph {
         requires labels { length labels.now ≡ length self.now.rows.items }
         requires counts { length counts.now ≡ length self.now.rows.items }
         requires ranks { AreRanks (rows_of self.now.rows.items) labels.now counts.now }
-        requires before { HeightsTo (rows_of self.now.rows.items) labels.now counts.now count 0 heights.old }
-        ensures { HeightsTo (rows_of self.now.rows.items) labels.now counts.now (count + 1) 0 heights.new }
+        requires before { HeightsTo (rows_of self.now.rows.items) labels.now counts.now count 0
+            heights.old }
+        ensures { HeightsTo (rows_of self.now.rows.items) labels.now counts.now (count + 1) 0
+            heights.new }
     {
         for vertex in 0..self.rows.len() {
             if counts[vertex] == count {
@@ -108,7 +111,8 @@ impl Graph {
         requires labels { length labels.now ≡ length self.now.rows.items }
         requires counts { length counts.now ≡ length self.now.rows.items }
         requires ranks { AreRanks (rows_of self.now.rows.items) labels.now counts.now }
-        requires before { HeightsTo (rows_of self.now.rows.items) labels.now counts.now 0 0 heights.old }
+        requires before { HeightsTo (rows_of self.now.rows.items) labels.now counts.now 0 0
+            heights.old }
         ensures { HeightsTo (rows_of self.now.rows.items) labels.now counts.now
             (length self.now.rows.items + 1) 0 heights.new }
     {

@@ -13,14 +13,16 @@ pub fn reaching_is_having_a_path()
 
 /// Two vertices have one label exactly where they are in one component.
 pub fn one_label_is_one_component()
-    ensures { (n : ℕ) (edges : List (ℕ × ℕ)) → IsOver n edges → (labels : List ℕ) → AreComponents n edges labels →
+    ensures { (n : ℕ) (edges : List (ℕ × ℕ)) → IsOver n edges → (labels : List ℕ) →
+        AreComponents n edges labels →
         (a b : ℕ) → a < n → b < n →
         (slice_index labels a ≡ slice_index labels b) ↔ (together edges (below n) a b ≡ true) }
 {}
 
 /// A graph has one list of labels, which is what is computed.
 pub fn components_are_computed()
-    ensures { (n : ℕ) (edges : List (ℕ × ℕ)) → IsOver n edges → (labels : List ℕ) → length labels ≡ n →
+    ensures { (n : ℕ) (edges : List (ℕ × ℕ)) → IsOver n edges → (labels : List ℕ) → length labels ≡
+        n →
         AreComponents n edges labels → labels ≡ components_of n edges }
 {}
 

@@ -13,9 +13,13 @@ Entry = String Global × Vec ℕ Global
 
 -- what the names hold: of two equal names the first counts
 abbrev pub names_of : List Entry → Names
-names_of held name = option_map (λ (entry : Entry). entry.1.items) (find (λ (entry : Entry). bytes_eq (string_bytes entry.0) name) held)
+names_of held name =
+    option_map (λ (entry : Entry). entry.1.items)
+    (find (λ (entry : Entry). bytes_eq (string_bytes entry.0) name) held)
 
 -- what is left of the open file
 abbrev pub left_of : List Entry → Option Opened → List ℕ
 left_of held None = []
-left_of held (Some opened) = option_map_or (λ (entry : Entry). drop opened.taken entry.1.items) (slice_get held opened.entry) []
+left_of held (Some opened) =
+    option_map_or (λ (entry : Entry). drop opened.taken entry.1.items) (slice_get held opened.entry)
+    []

@@ -44,21 +44,29 @@ pub same_setup : (a : MemoryFiles) → IsSameSetup a a
 same_setup a = record { held = refl; piece = refl; fail = refl }
 
 pub same_setup_on : (a b c : MemoryFiles) → IsSameSetup a b → IsSameSetup b c → IsSameSetup a c
-same_setup_on a b c p q = record { held = q.held ∙ p.held; piece = q.piece ∙ p.piece; fail = q.fail ∙ p.fail }
+same_setup_on a b c p q =
+    record { held = q.held ∙ p.held; piece = q.piece ∙ p.piece; fail = q.fail ∙ p.fail }
 
--- an open: of a name that isn't held it fails and leaves the count of faults, at a listed call it fails and raises the count
-pub record Opens (old : MemoryFiles) (name : List ℕ) (answer : Result (Unit {0}) Failed) (new : MemoryFiles) : Type 0 where
+-- an open: of a name that isn't held it fails and leaves the count of faults, at a listed call it
+-- fails and raises the count
+pub record Opens (old : MemoryFiles) (name : List ℕ) (answer : Result (Unit {0}) Failed)
+    (new : MemoryFiles) : Type 0 where
   pub opens : IsTrue (is_some (names_in old name) && not (fails_next old)) ↔ IsOk answer
   pub whole : OnOk answer (names_in old name ≡ Some (left_in new))
   pub kept : OnErr answer (left_in new ≡ left_in old)
-  pub faults : faults_in new ≡ (if is_some (names_in old name) && fails_next old then counted (faults_in old) else faults_in old)
+  pub faults : faults_in new ≡ (if is_some (names_in old name) && fails_next old then
+      counted (faults_in old) else faults_in old)
   pub calls : calls_in new ≡ counted (calls_in old)
 
--- a take into these bytes: as many as the piece, the room and what is left allow, at a listed call none
-pub record Takes (old : MemoryFiles) (into : List ℕ) (answer : Result ℕ Failed) (filled : List ℕ) (new : MemoryFiles) : Type 0 where
+-- a take into these bytes: as many as the piece, the room and what is left allow, at a listed call
+-- none
+pub record Takes (old : MemoryFiles) (into : List ℕ) (answer : Result ℕ Failed) (filled : List ℕ)
+    (new : MemoryFiles) : Type 0 where
   pub takes : IsTrue (not (fails_next old)) ↔ IsOk answer
-  pub count : IfOk answer (λ count. count ≡ min (piece_in old) (min (length into) (length (left_in old))))
-  pub moved : IfOk answer (λ count. (filled ≡ take count (left_in old) ++ drop count into) × (left_in new ≡ drop count (left_in old)))
+  pub count : IfOk answer (λ count. count ≡ min (piece_in old)
+      (min (length into) (length (left_in old))))
+  pub moved : IfOk answer (λ count. (filled ≡ take count (left_in old) ++ drop count into) ×
+      (left_in new ≡ drop count (left_in old)))
   pub kept : OnErr answer ((filled ≡ into) × (left_in new ≡ left_in old))
   pub faults : faults_in new ≡ (if fails_next old then counted (faults_in old) else faults_in old)
   pub calls : calls_in new ≡ counted (calls_in old)

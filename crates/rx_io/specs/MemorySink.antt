@@ -48,7 +48,9 @@ is_full_for sink size = (room_left sink == 0) && nat_lt 0 size
 -- what the next put of so many bytes answers; none where it fails
 abbrev pub next_put : MemorySink → ℕ → Option ℕ
 next_put sink size =
-    if fails_next sink then None else (if gives_zero_next sink then Some 0 else (if is_full_for sink size then None else Some (min size (min (piece_in sink) (room_left sink)))))
+    if fails_next sink then None else (if gives_zero_next sink then Some 0 else
+    (if is_full_for sink size then None else
+    Some (min size (min (piece_in sink) (room_left sink)))))
 
 -- that put raises the count of faults
 abbrev pub is_fault : MemorySink → ℕ → Bool
@@ -65,12 +67,23 @@ pub same_setup : (a : MemorySink) → IsSameSetup a a
 same_setup a = record { piece = refl; room = refl; fail = refl; zero = refl }
 
 pub same_setup_on : (a b c : MemorySink) → IsSameSetup a b → IsSameSetup b c → IsSameSetup a c
-same_setup_on a b c p q = record { piece = q.piece ∙ p.piece; room = q.room ∙ p.room; fail = q.fail ∙ p.fail; zero = q.zero ∙ p.zero }
+same_setup_on a b c p q =
+    record {
+      piece = q.piece ∙ p.piece;
+      room = q.room ∙ p.room;
+      fail = q.fail ∙ p.fail;
+      zero =
+          q.zero ∙ p.zero;
+    }
 
 -- a put: its answer, the bytes that it appends, and the two counts
-pub record Puts (old : MemorySink) (piece : List ℕ) (answer : Result ℕ Failed) (new : MemorySink) : Type 0 where
-  pub answers : MatchResult answer (λ count. next_put old (length piece) ≡ Some count) (λ _. next_put old (length piece) ≡ None)
-  pub appends : MatchResult answer (λ count. put_in new ≡ put_in old ++ take count piece) (λ _. put_in new ≡ put_in old)
-  pub faults : faults_in new ≡ (if is_fault old (length piece) then counted (faults_in old) else faults_in old)
+pub record Puts (old : MemorySink) (piece : List ℕ) (answer : Result ℕ Failed) (new : MemorySink) :
+    Type 0 where
+  pub answers : MatchResult answer (λ count. next_put old (length piece) ≡ Some count)
+      (λ _. next_put old (length piece) ≡ None)
+  pub appends : MatchResult answer (λ count. put_in new ≡ put_in old ++ take count piece)
+      (λ _. put_in new ≡ put_in old)
+  pub faults : faults_in new ≡ (if is_fault old (length piece) then counted (faults_in old) else
+      faults_in old)
   pub calls : calls_in new ≡ counted (calls_in old)
   pub setup : IsSameSetup old new

@@ -27,7 +27,8 @@ HoldsMore held name limit = (bytes : List ℕ) × HoldsBytes held name bytes × 
 -- where the names are told, what is left is all that stands under the name
 abbrev pub IsOpenedAt : Option Names → List ℕ → Option (List ℕ) → Type 0
 IsOpenedAt None name left = ⊤
-IsOpenedAt (Some names) name left = (bytes : List ℕ) × (names name ≡ Some bytes) × (left ≡ Some bytes)
+IsOpenedAt (Some names) name left =
+    (bytes : List ℕ) × (names name ≡ Some bytes) × (left ≡ Some bytes)
 
 -- known bytes grew by a front of bs that isn't the whole
 abbrev pub AppendsPrefix : Option (List ℕ) → Option (List ℕ) → List ℕ → Type 0

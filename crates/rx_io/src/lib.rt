@@ -1,4 +1,5 @@
-//! The outside as a program sees it: files that are read by name, a sink that takes bytes, and memory in the place of both.
+//! The outside as a program sees it: files that are read by name, a sink that takes bytes, and
+//! memory in the place of both.
 #![tactic(auto)]
 
 mod calls;

@@ -34,8 +34,8 @@ impl MemoryFiles {
     ghost use Rattle.rx_io.specs.MemoryFiles.{names_in, left_in, calls_in, faults_in, piece_in, fail_in};
 
     /// Files with these names and contents, none of them open. Of two equal names the first counts.
-    /// One call takes at most `piece` bytes. The calls whose numbers stand in `fail` fail; they are counted together from 1.
-    /// It takes no memory.
+    /// One call takes at most `piece` bytes. The calls whose numbers stand in `fail` fail; they are
+    /// counted together from 1. It takes no memory.
     pub fn new(held: Vec<(String, Vec<u8>)>, piece: usize, fail: Vec<u64>) -> MemoryFiles
         requires { 1 ≤ piece }
         ensures names { names_in result ≡ names_of held.items }
@@ -58,7 +58,8 @@ impl MemoryFiles {
 
 // The first entry with this name.
 fn entry_of(held: &[(String, Vec<u8>)], name: &str) -> Option<usize>
-    ensures { result ≡ position (λ (entry : Entry). bytes_eq (string_bytes entry.0) name.now) held.now }
+    ensures { result ≡ position (λ (entry : Entry). bytes_eq (string_bytes entry.0) name.now)
+        held.now }
 {
     held.iter().position(|entry| entry.0.as_str() == name)
 }
@@ -66,7 +67,8 @@ fn entry_of(held: &[(String, Vec<u8>)], name: &str) -> Option<usize>
 // The first file with this name, from its beginning.
 #[tactic(auto, using(crate::proofs::HeldLemmas::named_entry))]
 fn opened_file(held: &[(String, Vec<u8>)], name: &str) -> Option<Opened>
-    ensures { names_of held.now name.now ≡ option_map (λ opened. left_of held.now (Some opened)) result }
+    ensures { names_of held.now name.now ≡ option_map (λ opened. left_of held.now (Some opened))
+        result }
 {
     let entry = entry_of(held, name)?;
     Some(Opened { entry, taken: 0 })
@@ -127,10 +129,13 @@ impl Files for MemoryFiles {
         ensures reach { IsSameSetup self.old self.new }
         ensures held { Some (names_in self.new) ≡ Some (names_in self.old) }
         ensures later { faults_in self.old ≤ faults_in self.new }
-        ensures ok { OnOk result (IsOpenedAt (Some (names_in self.old)) name.now (Some (left_in self.new))) }
+        ensures ok { OnOk result (IsOpenedAt (Some (names_in self.old)) name.now
+            (Some (left_in self.new))) }
         ensures err { OnErr result (Keeps (Some (left_in self.old)) (Some (left_in self.new))) }
-        ensures cause { OnErr result (Rose (faults_in self.old) (faults_in self.new) ⊎ IsMissing (Some (names_in self.old)) name.now) }
-        ensures missing { IsMissing (Some (names_in self.old)) name.now → IsErr result × (faults_in self.new ≡ faults_in self.old) }
+        ensures cause { OnErr result (Rose (faults_in self.old) (faults_in self.new) ⊎
+            IsMissing (Some (names_in self.old)) name.now) }
+        ensures missing { IsMissing (Some (names_in self.old)) name.now → IsErr result ×
+            (faults_in self.new ≡ faults_in self.old) }
         ensures does { Opens self.old name.now result self.new }
     {
         let fails = is_listed(&self.fail, self.calls);
@@ -151,7 +156,8 @@ impl Files for MemoryFiles {
         ensures held { Some (names_in self.new) ≡ Some (names_in self.old) }
         ensures later { faults_in self.old ≤ faults_in self.new }
         ensures bound { ReadsAtMost result into.new }
-        ensures bytes { ReadConsumes (Some (left_in self.old)) (Some (left_in self.new)) result into.new }
+        ensures bytes { ReadConsumes (Some (left_in self.old)) (Some (left_in self.new)) result
+            into.new }
         ensures cause { OnErr result (Rose (faults_in self.old) (faults_in self.new)) }
         ensures does { Takes self.old into.old result into.new self.new }
     {

@@ -24,9 +24,9 @@ pub struct MemorySink {
 impl MemorySink {
     ghost use Rattle.rx_io.specs.MemorySink.{put_in, calls_in, faults_in, piece_in, room_in, fail_in, zero_in};
 
-    /// A sink with nothing put and room for so many bytes, for which it takes the memory; a put takes none.
-    /// One call takes at most `piece` bytes. The calls whose numbers stand in `fail` fail, and those in `zero` alone answer 0;
-    /// they are counted together from 1.
+    /// A sink with nothing put and room for so many bytes, for which it takes the memory; a put
+    /// takes none. One call takes at most `piece` bytes. The calls whose numbers stand in `fail`
+    /// fail, and those in `zero` alone answer 0; they are counted together from 1.
     pub fn new(
         alloc: Global,
         piece: usize,

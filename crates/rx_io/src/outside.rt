@@ -25,15 +25,18 @@ pub trait Files {
     /// The second state can follow from the first by calls.
     ghost reaches: { Self → Self → Type 0 };
 
-    /// Makes the named file the open one, from its beginning. After `Failed` the open file is as it was.
+    /// Makes the named file the open one, from its beginning. After `Failed` the open file is as it
+    /// was.
     fn open(&mut self, name: &str) -> Result<(), Failed>
         ensures reach { reaches self.old self.new }
         ensures held { held self.new ≡ held self.old }
         ensures later { faults self.old ≤ faults self.new }
         ensures ok { OnOk result (IsOpenedAt (held self.old) name.now (left self.new)) }
         ensures err { OnErr result (Keeps (left self.old) (left self.new)) }
-        ensures cause { OnErr result (Rose (faults self.old) (faults self.new) ⊎ IsMissing (held self.old) name.now) }
-        ensures missing { IsMissing (held self.old) name.now → IsErr result × (faults self.new ≡ faults self.old) };
+        ensures cause { OnErr result (Rose (faults self.old) (faults self.new) ⊎
+            IsMissing (held self.old) name.now) }
+        ensures missing { IsMissing (held self.old) name.now → IsErr result ×
+            (faults self.new ≡ faults self.old) };
 
     /// Moves bytes from the front of what is left into the front of `into`, and answers how many.
     /// It answers 0 for a nonempty `into` only at the file's end, and where no file is open.
@@ -68,14 +71,16 @@ pub trait Sink {
     /// A put of these bytes, from the first state, may answer this and leave the second.
     ghost puts: { Self → List ℕ → Result ℕ Failed → Self → Type 0 };
 
-    /// Appends the first bytes of the piece, and answers how many. After `Failed` the bytes are as they were.
+    /// Appends the first bytes of the piece, and answers how many. After `Failed` the bytes are as
+    /// they were.
     fn put(&mut self, piece: &[u8]) -> Result<usize, Failed>
         ensures reach { reaches self.old self.new }
         ensures later { faults self.old ≤ faults self.new }
         ensures bound { WritesAtMost result piece.now }
         ensures bytes { WriteAppends (contents self.old) (contents self.new) result piece.now }
         ensures cause { OnErr result (Rose (faults self.old) (faults self.new)) }
-        ensures nothing { IfOk result (λ count. count ≡ 0 → 0 < length piece.now → Rose (faults self.old) (faults self.new)) }
+        ensures nothing { IfOk result (λ count. count ≡ 0 → 0 < length piece.now →
+            Rose (faults self.old) (faults self.new)) }
         ensures gives { puts self.old piece.now result self.new };
 
     /// A state reaches itself.

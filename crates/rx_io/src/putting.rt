@@ -20,8 +20,9 @@ pub enum PutEnd {
 
 /// Puts all bytes. It takes no memory.
 ///
-/// After an error a proper prefix of `bytes` was put. `Failed` comes exactly where a put failed, `Stuck` exactly where a put
-/// of a nonempty piece answered 0; either ends the run, so no put follows it.
+/// After an error a proper prefix of `bytes` was put. `Failed` comes exactly where a put failed,
+/// `Stuck` exactly where a put of a nonempty piece answered 0; either ends the run, so no put
+/// follows it.
 pub fn put_all<O: Sink>(out: &mut O, bytes: &[u8]) -> Result<(), PutEnd>
     ensures reach { O.reaches out.old out.new }
     ensures later { O.faults out.old ≤ O.faults out.new }

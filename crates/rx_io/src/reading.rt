@@ -38,7 +38,8 @@ pub fn read_all<F: Files>(
     ensures later { F.faults files.old ≤ F.faults files.new }
     ensures content { IfOk result (λ bytes. HoldsBytes (F.held files.old) name.now bytes.items) }
     ensures within { IfOk result (λ bytes. length bytes.items ≤ limit) }
-    ensures failed { IsErrOf result ReadEnd.Failed → Rose (F.faults files.old) (F.faults files.new) ⊎ IsMissing (F.held files.old) name.now }
+    ensures failed { IsErrOf result ReadEnd.Failed →
+        Rose (F.faults files.old) (F.faults files.new) ⊎ IsMissing (F.held files.old) name.now }
     ensures missing { IsMissing (F.held files.old) name.now → IsErrOf result ReadEnd.Failed }
     ensures long { IsErrOf result ReadEnd.TooLong → HoldsMore (F.held files.old) name.now limit }
 {

@@ -45,7 +45,8 @@ use Rattle.rx_joins.proofs.Making.{Follow, Makes, Simplified, Used, Expanded, Co
 
 -- ---- back from what is formed
 
-found_back : {A : Type 0} (end : FormEnd) (o : Option A) (x : A) → found_or end o ≡ Ok x → o ≡ Some x
+found_back : {A : Type 0} (end : FormEnd) (o : Option A) (x : A) → found_or end o ≡ Ok x → o ≡
+    Some x
 found_back end None x e = absurd cc
 found_back end (Some y) x e = let same : y ≡ x = cc in ap Some same
 
@@ -54,17 +55,23 @@ pub record First {A B : Type 0} (o : Forming A) (next : A → Forming B) (y : B)
   pub is : o ≡ Ok first
   pub rest : next first ≡ Ok y
 
-first_back : {A B : Type 0} (o : Forming A) (next : A → Forming B) (y : B) → (o >>= next) ≡ Ok y → First o next y
+first_back : {A B : Type 0} (o : Forming A) (next : A → Forming B) (y : B) → (o >>= next) ≡ Ok y →
+    First o next y
 first_back (Ok x) next y e = record { first = x; is = refl; rest = e }
 first_back (Err end) next y e = absurd cc
 
-provided_back : {A : Type 0} (b : Bool) (next : Forming A) (y : A) → provided b next ≡ Ok y → (b ≡ true) × (next ≡ Ok y)
+provided_back : {A : Type 0} (b : Bool) (next : Forming A) (y : A) → provided b next ≡ Ok y →
+    (b ≡ true) × (next ≡ Ok y)
 provided_back true next y e = (refl, e)
 provided_back false next y e = absurd cc
 
-limited_by : {A : Type 0} (f : Formed A) (y : A) (b : Bool) → f.within ≡ b → limited f ≡ Ok y → f.form ≡ y
-limited_by f y true is e = let same : Ok f.form ≡ Ok y = sym (ap (λ b. if b then Ok f.form else Err Large) is) ∙ e in cc
-limited_by f y false is e = let same : Err Large ≡ Ok y = sym (ap (λ b. if b then Ok f.form else Err Large) is) ∙ e in absurd cc
+limited_by : {A : Type 0} (f : Formed A) (y : A) (b : Bool) → f.within ≡ b → limited f ≡ Ok y →
+    f.form ≡ y
+limited_by f y true is e =
+    let same : Ok f.form ≡ Ok y = sym (ap (λ b. if b then Ok f.form else Err Large) is) ∙ e in cc
+limited_by f y false is e =
+    let same : Err Large ≡ Ok y = sym (ap (λ b. if b then Ok f.form else Err Large) is) ∙ e in
+    absurd cc
 
 limited_back : {A : Type 0} (f : Formed A) (y : A) → limited f ≡ Ok y → f.form ≡ y
 limited_back f y e = limited_by f y f.within refl e
@@ -76,11 +83,18 @@ pub record OnTop (t : Term) (top : TopFrame) : Type 0 where
   pub is : t ≡ Frame symbol top.arguments top.inner
 
 on_top_by : (t : Term) (top : TopFrame) → Form t → top_frame t ≡ Some top → OnTop t top
-on_top_by _ top (AReturn p) e = let no_ : ◌≡◌ {A = Option TopFrame} None (Some top) = sym (ap top_frame_level (outs-Return p)) ∙ e in absurd cc
-on_top_by _ top (AFail c) e = let no_ : ◌≡◌ {A = Option TopFrame} None (Some top) = sym (ap top_frame_level (outs-Fail c)) ∙ e in absurd cc
-on_top_by _ top (ACall f ps) e = let no_ : ◌≡◌ {A = Option TopFrame} None (Some top) = sym (ap top_frame_level (outs-Call f ps)) ∙ e in absurd cc
+on_top_by _ top (AReturn p) e =
+    let no_ : ◌≡◌ {A = Option TopFrame} None (Some top) = sym (ap top_frame_level (outs-Return p)) ∙
+    e in absurd cc
+on_top_by _ top (AFail c) e =
+    let no_ : ◌≡◌ {A = Option TopFrame} None (Some top) = sym (ap top_frame_level (outs-Fail c)) ∙
+    e in absurd cc
+on_top_by _ top (ACall f ps) e =
+    let no_ : ◌≡◌ {A = Option TopFrame} None (Some top) =
+    sym (ap top_frame_level (outs-Call f ps)) ∙ e in absurd cc
 on_top_by _ top (AFrame f ps t) e =
-    let both : Some (record { symbol = f.0; arguments = ps; inner = t }) ≡ Some top = sym (ap top_frame_level (outs-Frame f ps t)) ∙ e in
+    let both : Some (record { symbol = f.0; arguments = ps; inner = t }) ≡ Some top =
+    sym (ap top_frame_level (outs-Frame f ps t)) ∙ e in
     let same : record { symbol = f.0; arguments = ps; inner = t } ≡ top = cc in
     subst (OnTop (Frame f ps t)) same (record { symbol = f; number = refl; is = refl })
 
@@ -93,7 +107,8 @@ one_symbol f g e = (λ i. record { 0 = e i })
 
 equation_fits : (parts : RuleParts) (e : Equation) → is_equation parts e ≡ true → IsFitting parts e
 equation_fits parts e is =
-    let sides = and_parts (term_fits parts e.left && term_fits parts e.right) (nat_le (equation_bound e) variable_limit) is in
+    let sides = and_parts (term_fits parts e.left && term_fits parts e.right)
+    (nat_le (equation_bound e) variable_limit) is in
     let both = and_parts (term_fits parts e.left) (term_fits parts e.right) sides.0 in
     record { left = both.0; right = both.1 }
 
@@ -108,13 +123,18 @@ module _ (parts : RuleParts) (hypotheses : List Rule) (goal : Equation) (f : For
   ShownBy certs g = judged goal.rows (first_rows g.goals) g.asked certs ≡ Shown
 
   -- rows that are asked under those of the goal follow from them
-  asked_follow : (rows : List Row) (goals : List Equation) (certs : List Cert) → asking rows goals ≡ f → ShownBy certs f → Follow goal.rows rows
+  asked_follow : (rows : List Row) (goals : List Equation) (certs : List Cert) → asking rows goals ≡
+      f → ShownBy certs f → Follow goal.rows rows
   asked_follow rows goals certs is shown =
       let group : Group = record { under = under.Goal; rows = rows } in
-      All-head (λ (g : Group). (a : ℕ → ℤ) → AllHold a (given_to goal.rows (first_rows goals) g.under) → AllHold a g.rows) group []
-      (shown_follow goal.rows (first_rows goals) (group ∷ []) certs (subst (ShownBy certs) (sym is) shown))
+      All-head (λ (g : Group). (a : ℕ → ℤ) → AllHold a
+      (given_to goal.rows (first_rows goals) g.under) → AllHold a g.rows) group []
+      (shown_follow goal.rows (first_rows goals) (group ∷ []) certs
+      (subst (ShownBy certs) (sym is) shown))
 
-  simplified_makes : (side : Side) (number : ℕ) (certs : List Cert) → formed_on parts goal hypotheses (step.Simplify side number certs) ≡ Ok f → ShownBy certs f → MakesIt f
+  simplified_makes : (side : Side) (number : ℕ) (certs : List Cert) →
+      formed_on parts goal hypotheses (step.Simplify side number certs) ≡ Ok f → ShownBy certs f →
+      MakesIt f
   simplified_makes side number certs e shown =
       let one = first_back (found_or WrongShape (redex_of (side_of side goal))) _ f e in
       let two = first_back (found_or NoSuchRule (slice_get parts.rules number)) _ f one.rest in
@@ -122,56 +142,80 @@ module _ (parts : RuleParts) (hypotheses : List Rule) (goal : Equation) (f : For
       let rule = two.first in
       let (shape, limits) = provided_back (have_one_shape rule.left redex) _ f two.rest in
       let is = limited_back (simplified_by goal side redex rule) f limits in
-      subst MakesIt is (Simplified side rule redex (at_place parts.rules number rule (found_back NoSuchRule (slice_get parts.rules number) rule two.is))
-      (found_back WrongShape (redex_of (side_of side goal)) redex one.is) (one_shape rule.left redex shape) (asked_follow _ _ certs is shown))
+      subst MakesIt is (Simplified side rule redex
+      (at_place parts.rules number rule (found_back NoSuchRule (slice_get parts.rules number)
+      rule two.is))
+      (found_back WrongShape (redex_of (side_of side goal)) redex one.is)
+      (one_shape rule.left redex shape) (asked_follow _ _ certs is shown))
 
-  used_makes : (side : Side) (place number : ℕ) (ws : List (ℕ × Body)) (certs : List Cert) → formed_on parts goal hypotheses (step.Hyp side place number ws certs) ≡ Ok f → ShownBy certs f → MakesIt f
+  used_makes : (side : Side) (place number : ℕ) (ws : List (ℕ × Body)) (certs : List Cert) →
+      formed_on parts goal hypotheses (step.Hyp side place number ws certs) ≡ Ok f →
+      ShownBy certs f → MakesIt f
   used_makes side place number ws certs e shown =
       let one = first_back (found_or WrongShape (behind place (side_of side goal))) _ f e in
       let part = one.first in
-      let two = first_back (provided (is_substitution ws) (found_or NoSuchRule (slice_get hypotheses number))) _ f one.rest in
+      let two = first_back (provided (is_substitution ws)
+      (found_or NoSuchRule (slice_get hypotheses number))) _ f one.rest in
       let h = two.first in
-      let there = provided_back (is_substitution ws) (found_or NoSuchRule (slice_get hypotheses number)) h two.is in
+      let there = provided_back (is_substitution ws)
+      (found_or NoSuchRule (slice_get hypotheses number)) h two.is in
       let (shape, limits) = provided_back (have_one_shape part h.left) _ f two.rest in
       let is = limited_back (used_by goal side place (hypothesis_with ws part h)) f limits in
-      subst MakesIt is (Used side h ws place part (at_place hypotheses number h (found_back NoSuchRule (slice_get hypotheses number) h there.1))
-      (found_back WrongShape (behind place (side_of side goal)) part one.is) (one_shape part h.left shape) (asked_follow _ _ certs is shown))
+      subst MakesIt is (Used side h ws place part
+      (at_place hypotheses number h (found_back NoSuchRule (slice_get hypotheses number) h
+      there.1))
+      (found_back WrongShape (behind place (side_of side goal)) part one.is)
+      (one_shape part h.left shape) (asked_follow _ _ certs is shown))
 
-  expanded_makes : (side : Side) (keep : Bool) → formed_on parts goal hypotheses (step.Expand side keep) ≡ Ok f → MakesIt f
+  expanded_makes : (side : Side) (keep : Bool) →
+      formed_on parts goal hypotheses (step.Expand side keep) ≡ Ok f → MakesIt f
   expanded_makes side keep e =
       let one = first_back (found_or WrongShape (redex_of (side_of side goal))) _ f e in
       let redex = one.first in
       let is = limited_back (expanded_by_all parts.rules goal side keep redex) f one.rest in
-      subst MakesIt is (Expanded side keep redex (found_back WrongShape (redex_of (side_of side goal)) redex one.is))
+      subst MakesIt is (Expanded side keep redex
+      (found_back WrongShape (redex_of (side_of side goal)) redex one.is))
 
-  absurd_makes : (cert : Cert) → formed_on parts goal hypotheses (step.Delete (delete.Absurd cert)) ≡ Ok f → ShownBy (cert ∷ []) f → MakesIt f
+  absurd_makes : (cert : Cert) → formed_on parts goal hypotheses (step.Delete (delete.Absurd cert))
+      ≡ Ok f → ShownBy (cert ∷ []) f → MakesIt f
   absurd_makes cert e shown =
       let is : record { asked = asked.Refuted; goals = []; kept = [] } ≡ f = cc in
-      subst MakesIt is (Contradictory (shown_refuted goal.rows [] (cert ∷ []) (subst (ShownBy (cert ∷ [])) (sym is) shown)))
+      subst MakesIt is (Contradictory (shown_refuted goal.rows [] (cert ∷ [])
+      (subst (ShownBy (cert ∷ [])) (sym is) shown)))
 
-  equal_makes : (certs : List Cert) → formed_on parts goal hypotheses (step.Delete (delete.Equal certs)) ≡ Ok f → ShownBy certs f → MakesIt f
+  equal_makes : (certs : List Cert) → formed_on parts goal hypotheses
+      (step.Delete (delete.Equal certs)) ≡ Ok f → ShownBy certs f → MakesIt f
   equal_makes certs e shown =
       let (shape, limits) = provided_back (have_one_shape goal.left goal.right) _ f e in
       let is = limited_back (equal_by goal) f limits in
-      subst MakesIt is (Equal (one_shape goal.left goal.right shape) (asked_follow _ _ certs is shown))
+      subst MakesIt is (Equal (one_shape goal.left goal.right shape)
+      (asked_follow _ _ certs is shown))
 
   different_makes : formed_on parts goal hypotheses step.EqDelete ≡ Ok f → MakesIt f
   different_makes e =
       let (shape, limits) = provided_back (have_one_shape goal.left goal.right) _ f e in
-      subst MakesIt (limited_back (different_by goal) f limits) (Apart (one_shape goal.left goal.right shape))
+      subst MakesIt (limited_back (different_by goal) f limits)
+      (Apart (one_shape goal.left goal.right shape))
 
-  generalised_makes : (new : Equation) (ws : List (ℕ × Body)) (certs : List Cert) → formed_on parts goal hypotheses (step.Generalise new.left new.right new.rows ws certs) ≡ Ok f → ShownBy certs f → MakesIt f
+  generalised_makes : (new : Equation) (ws : List (ℕ × Body)) (certs : List Cert) →
+      formed_on parts goal hypotheses (step.Generalise new.left new.right new.rows ws certs) ≡
+      Ok f → ShownBy certs f → MakesIt f
   generalised_makes new ws certs e shown =
       let lefts = have_one_shape new.left goal.left in
       let rights = have_one_shape new.right goal.right in
-      let (tests, limits) = provided_back (is_equation parts new && (is_substitution ws && (lefts && rights))) _ f e in
-      let some_ = and_parts (is_equation parts new) (is_substitution ws && (lefts && rights)) tests in
+      let (tests, limits) = provided_back (is_equation parts new &&
+      (is_substitution ws && (lefts && rights))) _ f e in
+      let some_ = and_parts (is_equation parts new) (is_substitution ws && (lefts && rights)) tests
+      in
       let more = and_parts (is_substitution ws) (lefts && rights) some_.1 in
       let shapes = and_parts lefts rights more.1 in
       let is = limited_back (generalised_by goal new ws) f limits in
-      subst MakesIt is (Generalised new ws (equation_fits parts new some_.0) (one_shape new.left goal.left shapes.0) (one_shape new.right goal.right shapes.1) (asked_follow _ _ certs is shown))
+      subst MakesIt is (Generalised new ws (equation_fits parts new some_.0)
+      (one_shape new.left goal.left shapes.0) (one_shape new.right goal.right shapes.1)
+      (asked_follow _ _ certs is shown))
 
-  postulated_makes : (new : Equation) → formed_on parts goal hypotheses (step.Postulate new.left new.right new.rows) ≡ Ok f → MakesIt f
+  postulated_makes : (new : Equation) → formed_on parts goal hypotheses
+      (step.Postulate new.left new.right new.rows) ≡ Ok f → MakesIt f
   postulated_makes new e =
       let (test, rest) = provided_back (is_equation parts new) _ f e in
       let is : postulated_by goal new ≡ f = cc in
@@ -182,42 +226,59 @@ module _ (parts : RuleParts) (hypotheses : List Rule) (goal : Equation) (f : For
       let (test, limits) = provided_back (nat_le (row_bound row) variable_limit) _ f e in
       subst MakesIt (limited_back (split_by goal row) f limits) (SplitBy row)
 
-  decomposed_makes : (certs : List Cert) → formed_on parts goal hypotheses (step.Decompose certs) ≡ Ok f → ShownBy certs f → MakesIt f
+  decomposed_makes : (certs : List Cert) → formed_on parts goal hypotheses (step.Decompose certs) ≡
+      Ok f → ShownBy certs f → MakesIt f
   decomposed_makes certs e shown =
       let one = first_back (found_or WrongShape (top_frame goal.left)) _ f e in
       let two = first_back (found_or WrongShape (top_frame goal.right)) _ f one.rest in
       let left = one.first in
       let right = two.first in
       let (test, limits) = provided_back (nat_eq left.symbol right.symbol) _ f two.rest in
-      let is = limited_back (decomposed_by goal left.arguments right.arguments left.inner right.inner) f limits in
-      let on_left = on_top goal.left left (found_back WrongShape (top_frame goal.left) left one.is) in
-      let on_right = on_top goal.right right (found_back WrongShape (top_frame goal.right) right two.is) in
-      let same = one_symbol on_left.symbol on_right.symbol (on_left.number ∙ eqb-true left.symbol right.symbol test ∙ sym on_right.number) in
-      subst MakesIt is (Decomposed on_left.symbol on_right.symbol left.arguments right.arguments left.inner right.inner on_left.is on_right.is same (asked_follow _ _ certs is shown))
+      let is = limited_back (decomposed_by goal left.arguments right.arguments left.inner
+      right.inner) f limits in
+      let on_left = on_top goal.left left (found_back WrongShape (top_frame goal.left) left one.is)
+      in
+      let on_right = on_top goal.right right (found_back WrongShape (top_frame goal.right) right
+      two.is) in
+      let same = one_symbol on_left.symbol on_right.symbol
+      (on_left.number ∙ eqb-true left.symbol right.symbol test ∙ sym on_right.number) in
+      subst MakesIt is (Decomposed on_left.symbol on_right.symbol left.arguments right.arguments
+      left.inner right.inner on_left.is on_right.is same (asked_follow _ _ certs is shown))
 
-  results_make : (left right : ℕ) (certs : List Cert) → formed_on parts goal hypotheses (step.Results left right certs) ≡ Ok f → ShownBy certs f → MakesIt f
+  results_make : (left right : ℕ) (certs : List Cert) →
+      formed_on parts goal hypotheses (step.Results left right certs) ≡ Ok f → ShownBy certs f →
+      MakesIt f
   results_make left right certs e shown =
       let one = first_back (found_or WrongShape (behind left goal.left)) _ f e in
       let two = first_back (found_or WrongShape (behind right goal.right)) _ f one.rest in
       let s = one.first in
       let t = two.first in
-      let (tests, limits) = provided_back (are_common s t left right && nat_lt (equation_bound goal) variable_limit) _ f two.rest in
-      let common = and_parts (are_common s t left right) (nat_lt (equation_bound goal) variable_limit) tests in
-      let shape = and_parts (have_one_shape s t) (ends_in_call s && not (nat_eq left 0 && nat_eq right 0)) common.0 in
+      let (tests, limits) = provided_back (are_common s t left right &&
+      nat_lt (equation_bound goal) variable_limit) _ f two.rest in
+      let common = and_parts (are_common s t left right)
+      (nat_lt (equation_bound goal) variable_limit) tests in
+      let shape = and_parts (have_one_shape s t)
+      (ends_in_call s && not (nat_eq left 0 && nat_eq right 0)) common.0 in
       let is = limited_back (resulting_by parts.fails goal left right s t) f limits in
-      subst MakesIt is (WithResults left right s t (found_back WrongShape (behind left goal.left) s one.is) (found_back WrongShape (behind right goal.right) t two.is)
+      subst MakesIt is (WithResults left right s t
+      (found_back WrongShape (behind left goal.left) s one.is)
+      (found_back WrongShape (behind right goal.right) t two.is)
       (one_shape s t shape.0) (asked_follow _ _ certs is shown))
 
   -- what is formed and shown is made
-  pub formed_makes : (s : Step) → formed_on parts goal hypotheses s ≡ Ok f → ShownBy (certificates s) f → MakesIt f
+  pub formed_makes : (s : Step) → formed_on parts goal hypotheses s ≡ Ok f →
+      ShownBy (certificates s) f → MakesIt f
   formed_makes (step.Simplify side rule certs) e shown = simplified_makes side rule certs e shown
-  formed_makes (step.Hyp side place hyp ws certs) e shown = used_makes side place hyp ws certs e shown
+  formed_makes (step.Hyp side place hyp ws certs) e shown =
+      used_makes side place hyp ws certs e shown
   formed_makes (step.Expand side keep) e shown = expanded_makes side keep e
   formed_makes (step.Delete (delete.Absurd cert)) e shown = absurd_makes cert e shown
   formed_makes (step.Delete (delete.Equal certs)) e shown = equal_makes certs e shown
   formed_makes step.EqDelete e shown = different_makes e
-  formed_makes (step.Generalise left right rows ws certs) e shown = generalised_makes (record { left = left; right = right; rows = rows }) ws certs e shown
-  formed_makes (step.Postulate left right rows) e shown = postulated_makes (record { left = left; right = right; rows = rows }) e
+  formed_makes (step.Generalise left right rows ws certs) e shown =
+      generalised_makes (record { left = left; right = right; rows = rows }) ws certs e shown
+  formed_makes (step.Postulate left right rows) e shown =
+      postulated_makes (record { left = left; right = right; rows = rows }) e
   formed_makes (step.Split row) e shown = split_makes row e
   formed_makes (step.Decompose certs) e shown = decomposed_makes certs e shown
   formed_makes (step.Results left right certs) e shown = results_make left right certs e shown
@@ -235,17 +296,22 @@ pub record Made (parts : RuleParts) (state next : State) : Type 0 where
   pub goals : next.goals ≡ new ++ rest
   pub hypotheses : next.hypotheses ≡ state.hypotheses ++ kept
 
-taken_back : (state next : State) (f : FormedStep) (j : Judgement) → taken_if state f j ≡ Ok next → (j ≡ Shown) × (taken state f ≡ next)
+taken_back : (state next : State) (f : FormedStep) (j : Judgement) → taken_if state f j ≡ Ok next →
+    (j ≡ Shown) × (taken state f ≡ next)
 taken_back state next f Shown e = (refl, cc)
 taken_back state next f (Fault fault) e = absurd cc
 
-carried_makes : (parts : RuleParts) (goal : Equation) (rest : List Equation) (hypotheses : List Rule) (next : State) (s : Step) (o : Forming FormedStep)
-    → formed_on parts goal hypotheses s ≡ o → carried_out (record { goals = goal ∷ rest; hypotheses = hypotheses }) (certificates s) o ≡ Ok next
+carried_makes : (parts : RuleParts) (goal : Equation) (rest : List Equation)
+    (hypotheses : List Rule) (next : State) (s : Step) (o : Forming FormedStep)
+    → formed_on parts goal hypotheses s ≡ o →
+    carried_out (record { goals = goal ∷ rest; hypotheses = hypotheses }) (certificates s) o ≡
+    Ok next
     → Made parts (record { goals = goal ∷ rest; hypotheses = hypotheses }) next
 carried_makes parts goal rest hypotheses next s (Err end) is e = absurd cc
 carried_makes parts goal rest hypotheses next s (Ok f) is e =
     let state : State = record { goals = goal ∷ rest; hypotheses = hypotheses } in
-    let (shown, becomes) = taken_back state next f (judged goal.rows (first_rows f.goals) f.asked (certificates s)) e in
+    let (shown, becomes) = taken_back state next f
+    (judged goal.rows (first_rows f.goals) f.asked (certificates s)) e in
     record {
       goal = goal;
       rest = rest;
@@ -257,10 +323,13 @@ carried_makes parts goal rest hypotheses next s (Ok f) is e =
       hypotheses = ap (λ (n : State). n.hypotheses) (sym becomes);
     }
 
-by_goals : (parts : RuleParts) (goals : List Equation) (hypotheses : List Rule) (next : State) (s : Step) → applied parts (record { goals = goals; hypotheses = hypotheses }) s ≡ Ok next
+by_goals : (parts : RuleParts) (goals : List Equation) (hypotheses : List Rule) (next : State)
+    (s : Step) → applied parts (record { goals = goals; hypotheses = hypotheses }) s ≡ Ok next
     → Made parts (record { goals = goals; hypotheses = hypotheses }) next
 by_goals parts [] hypotheses next s e = absurd cc
-by_goals parts (goal ∷ rest) hypotheses next s e = carried_makes parts goal rest hypotheses next s (formed_on parts goal hypotheses s) refl e
+by_goals parts (goal ∷ rest) hypotheses next s e =
+    carried_makes parts goal rest hypotheses next s (formed_on parts goal hypotheses s) refl e
 
-pub applied_makes : (parts : RuleParts) (state next : State) (s : Step) → applied parts state s ≡ Ok next → Made parts state next
+pub applied_makes : (parts : RuleParts) (state next : State) (s : Step) → applied parts state s ≡
+    Ok next → Made parts state next
 applied_makes parts state next s e = by_goals parts state.goals state.hypotheses next s e

@@ -89,7 +89,8 @@ g_covered : tree_finding example.rules (Called g) (Use 1 []) [] ≡ Yes
 g_covered = finding_use example.rules (Called g) 1 [] [] ∙ rw (shape-Call g []) refl
 
 example_covered : covering example ((Use 0 [] ∷ []) ∷ (Use 1 [] ∷ []) ∷ []) ≡ Covers
-example_covered = (λ i. goes_on 0 (both (f_covered i) Yes) (goes_on 1 (both (g_covered i) Yes) Covers))
+example_covered =
+    (λ i. goes_on 0 (both (f_covered i) Yes) (goes_on 1 (both (g_covered i) Yes) Covers))
 
 -- ---- ranks
 
@@ -101,7 +102,9 @@ all_stay [] = All-nil (λ v. replaced [] v ≡ variable v)
 all_stay (v ∷ vs) = All-cons (λ v. replaced [] v ≡ variable v) v vs refl (all_stay vs)
 
 in_one : in_body [] (number (pos 1)) ≡ record { form = number (pos 1); within = true }
-in_one = unchanged [] (number (pos 1)) (number_poly (pos 1) refl refl) (all_stay (variables (number (pos 1))))
+in_one =
+    unchanged [] (number (pos 1)) (number_poly (pos 1) refl refl)
+    (all_stay (variables (number (pos 1))))
 
 in_zero : in_body [] (number (pos 0)) ≡ record { form = number (pos 0); within = true }
 in_zero = unchanged [] (number (pos 0)) zero_poly (all_stay (variables (number (pos 0))))
@@ -118,23 +121,29 @@ less_one = rw (terms-of_terms one_term, same_key) refl
 abbrev the_pair : Pair
 the_pair = pair_of hypothesis (part f []) (part g [])
 
-falls : falls_rows the_pair (number (pos 1)) (number (pos 0)) ≡ record { form = Ge (number (pos 1)) ∷ Ge (of_terms []) ∷ []; within = true }
+falls : falls_rows the_pair (number (pos 1)) (number (pos 0)) ≡
+    record { form = Ge (number (pos 1)) ∷ Ge (of_terms []) ∷ []; within = true }
 falls = rw (in_one, in_zero, less_zero, number_within (pos 1), less_one, zero_within) refl
 
 one_is : constant_of one_term ≡ Some (pos 1)
 one_is = ap (λ (xs : List Atom). if is_empty xs then Some (pos 1) else None) (atoms-of_atoms [])
 
 number_evident : is_evident (Ge (number (pos 1))) ≡ true
-number_evident = ap (is_number_with (λ k. not (int_lt k (pos 0)))) (ap constant_of (terms-of_terms one_term) ∙ one_is)
+number_evident =
+    ap (is_number_with (λ k. not (int_lt k (pos 0))))
+    (ap constant_of (terms-of_terms one_term) ∙ one_is)
 
 zero_evident : is_evident (Ge (of_terms [])) ≡ true
-zero_evident = ap (is_number_with (λ k. not (int_lt k (pos 0)))) (ap constant_of (terms-of_terms []))
+zero_evident =
+    ap (is_number_with (λ k. not (int_lt k (pos 0)))) (ap constant_of (terms-of_terms []))
 
 -- two evident rows take no certificates
-both_evident : (r q : Row) → is_evident r ≡ true → is_evident q ≡ true → conditions [] (Some (r ∷ q ∷ [])) [] ≡ Some conditions_answer.Shown
+both_evident : (r q : Row) → is_evident r ≡ true → is_evident q ≡ true →
+    conditions [] (Some (r ∷ q ∷ [])) [] ≡ Some conditions_answer.Shown
 both_evident r q one other = rw (one, other) refl
 
-evident : conditions [] (Some (Ge (number (pos 1)) ∷ Ge (of_terms []) ∷ [])) [] ≡ Some conditions_answer.Shown
+evident : conditions [] (Some (Ge (number (pos 1)) ∷ Ge (of_terms []) ∷ [])) [] ≡
+    Some conditions_answer.Shown
 evident = both_evident (Ge (number (pos 1))) (Ge (of_terms [])) number_evident zero_evident
 
 lower : lower_finding the_pair table (record { column = 1; certs = [] }) ≡ Yes
@@ -150,7 +159,9 @@ table_lawful : bad_rank example table ≡ None
 table_lawful = rw (over_nothing 0 (pos 1), over_nothing 0 (pos 0)) refl
 
 not_under : IsUnder (Call f []) (Call g []) → ⊥
-not_under (k, stands) = let no_ : ◌≡◌ {A = Option Term} None (Some (Call g [])) = sym (ap (λ (x : Term-F Term). under_frame x (behind k)) (outs-Call f [])) ∙ stands in absurd cc
+not_under (k, stands) =
+    let no_ : ◌≡◌ {A = Option Term} None (Some (Call g [])) =
+    sym (ap (λ (x : Term-F Term). under_frame x (behind k)) (outs-Call f [])) ∙ stands in absurd cc
 
 pairs_of_fails : (s : Sym) → ArePairs (fails s) []
 pairs_of_fails s = PairsOf (part s []) (OfCall s []) [] (AtFail 1)
@@ -159,46 +170,97 @@ all_pairs : AreAllPairs (fails f ∷ fails g ∷ hypothesis ∷ []) (the_pair �
 all_pairs =
     pairs.OneMore (fails f) (fails g ∷ hypothesis ∷ []) [] (the_pair ∷ []) (pairs_of_fails f)
     (pairs.OneMore (fails g) (hypothesis ∷ []) [] (the_pair ∷ []) (pairs_of_fails g)
-    (pairs.OneMore hypothesis [] (the_pair ∷ []) [] (PairsOf (part f []) (OfCall f []) (part g [] ∷ []) (AtCall g [] not_under)) pairs.NoRules))
+    (pairs.OneMore hypothesis [] (the_pair ∷ []) []
+    (PairsOf (part f []) (OfCall f []) (part g [] ∷ []) (AtCall g [] not_under)) pairs.NoRules))
 
 -- ---- the run
 
-postulates : formed_on example alike [] (Postulate (Call f []) (Call g []) []) ≡ Ok (asking_nothing (alike ∷ alike ∷ []) [])
+postulates : formed_on example alike [] (Postulate (Call f []) (Call g []) []) ≡
+    Ok (asking_nothing (alike ∷ alike ∷ []) [])
 postulates = rw (f_fits, g_fits, bound-Call f [], bound-Call g []) refl
 
-expands : formed_on example alike [] (Expand Left true) ≡ Ok (asking_nothing (equal (Fail 1) (Call g []) ∷ []) (hypothesis ∷ []))
-expands = rw (redex-Call f [], shape-Call f [], shape-Call g [], redex-Call f [], in_term-Fail, within-Fail) refl
+expands : formed_on example alike [] (Expand Left true) ≡
+    Ok (asking_nothing (equal (Fail 1) (Call g []) ∷ []) (hypothesis ∷ []))
+expands =
+    rw (
+      redex-Call f [],
+      shape-Call f [],
+      shape-Call g [],
+      redex-Call f [],
+      in_term-Fail,
+      within-Fail,
+    ) refl
 
-simplifies : formed_on example (equal (Fail 1) (Call g [])) (hypothesis ∷ []) (Simplify Right 1 []) ≡ Ok (asking [] (equal (Fail 1) (Fail 1) ∷ []))
+simplifies : formed_on example (equal (Fail 1) (Call g [])) (hypothesis ∷ []) (Simplify Right 1 [])
+    ≡ Ok (asking [] (equal (Fail 1) (Fail 1) ∷ []))
 simplifies = rw (redex-Call g [], shape-Call g [], in_term-Fail, within-Fail) refl
 
-deletes : formed_on example (equal (Fail 1) (Fail 1)) (hypothesis ∷ []) (Delete (Equal [])) ≡ Ok (asking [] [])
+deletes : formed_on example (equal (Fail 1) (Fail 1)) (hypothesis ∷ []) (Delete (Equal [])) ≡
+    Ok (asking [] [])
 deletes = rw (shape-Fail 1, arguments-Fail 1) refl
 
-uses : formed_on example alike (hypothesis ∷ []) by_hypothesis ≡ Ok (asking [] (equal (Call g []) (Call g []) ∷ []))
-uses = rw (shape-Call f [], in_term-Call [] f [], in_term-Call [] g [], within-Call [] f [], within-Call [] g [], arguments-Call f []) refl
+uses : formed_on example alike (hypothesis ∷ []) by_hypothesis ≡
+    Ok (asking [] (equal (Call g []) (Call g []) ∷ []))
+uses =
+    rw (
+      shape-Call f [],
+      in_term-Call [] f [],
+      in_term-Call [] g [],
+      within-Call [] f [],
+      within-Call [] g [],
+      arguments-Call f [],
+    ) refl
 
-deletes_too : formed_on example (equal (Call g []) (Call g [])) (hypothesis ∷ []) (Delete (Equal [])) ≡ Ok (asking [] [])
+deletes_too : formed_on example (equal (Call g []) (Call g [])) (hypothesis ∷ [])
+    (Delete (Equal [])) ≡ Ok (asking [] [])
 deletes_too = rw (shape-Call g [], arguments-Call g []) refl
 
 -- the hypothesis is used
-pub hypothesis_used : applied example (knowing alike) by_hypothesis ≡ Ok (knowing (equal (Call g []) (Call g [])))
-hypothesis_used = shown_taken example (knowing alike) by_hypothesis (asking [] (equal (Call g []) (Call g []) ∷ [])) uses refl
+pub hypothesis_used : applied example (knowing alike) by_hypothesis ≡
+    Ok (knowing (equal (Call g []) (Call g [])))
+hypothesis_used =
+    shown_taken example (knowing alike) by_hypothesis
+    (asking [] (equal (Call g []) (Call g []) ∷ [])) uses refl
 
 -- the example's steps: the goal is postulated, expanded and kept, shown, and then used for itself
 example_run : Run example (finished (hypothesis ∷ [])) (start alike)
 example_run =
-    OneMore (start alike) (record { goals = alike ∷ alike ∷ []; hypotheses = [] }) (Postulate (Call f []) (Call g []) [])
-    (shown_taken example (start alike) (Postulate (Call f []) (Call g []) []) (asking_nothing (alike ∷ alike ∷ []) []) postulates refl)
-    (OneMore (record { goals = alike ∷ alike ∷ []; hypotheses = [] }) (record { goals = equal (Fail 1) (Call g []) ∷ alike ∷ []; hypotheses = hypothesis ∷ [] }) (Expand Left true)
-    (shown_taken example (record { goals = alike ∷ alike ∷ []; hypotheses = [] }) (Expand Left true) (asking_nothing (equal (Fail 1) (Call g []) ∷ []) (hypothesis ∷ [])) expands refl)
-    (OneMore (record { goals = equal (Fail 1) (Call g []) ∷ alike ∷ []; hypotheses = hypothesis ∷ [] }) (record { goals = equal (Fail 1) (Fail 1) ∷ alike ∷ []; hypotheses = hypothesis ∷ [] }) (Simplify Right 1 [])
-    (shown_taken example (record { goals = equal (Fail 1) (Call g []) ∷ alike ∷ []; hypotheses = hypothesis ∷ [] }) (Simplify Right 1 []) (asking [] (equal (Fail 1) (Fail 1) ∷ [])) simplifies refl)
-    (OneMore (record { goals = equal (Fail 1) (Fail 1) ∷ alike ∷ []; hypotheses = hypothesis ∷ [] }) (knowing alike) (Delete (Equal []))
-    (shown_taken example (record { goals = equal (Fail 1) (Fail 1) ∷ alike ∷ []; hypotheses = hypothesis ∷ [] }) (Delete (Equal [])) (asking [] []) deletes refl)
+    OneMore (start alike) (record { goals = alike ∷ alike ∷ []; hypotheses = [] })
+    (Postulate (Call f []) (Call g []) [])
+    (shown_taken example (start alike) (Postulate (Call f []) (Call g []) [])
+    (asking_nothing (alike ∷ alike ∷ []) []) postulates refl)
+    (OneMore (record { goals = alike ∷ alike ∷ []; hypotheses = [] })
+    (record { goals = equal (Fail 1) (Call g []) ∷ alike ∷ []; hypotheses = hypothesis ∷ [] })
+    (Expand Left true)
+    (shown_taken example (record { goals = alike ∷ alike ∷ []; hypotheses = [] }) (Expand Left true)
+    (asking_nothing (equal (Fail 1) (Call g []) ∷ []) (hypothesis ∷ [])) expands refl)
+    (OneMore (record {
+      goals = equal (Fail 1) (Call g []) ∷ alike ∷ [];
+      hypotheses = hypothesis ∷
+          [];
+    }) (record {
+      goals = equal (Fail 1) (Fail 1) ∷ alike ∷ [];
+      hypotheses = hypothesis ∷
+          [];
+    }) (Simplify Right 1 [])
+    (shown_taken example (record {
+      goals = equal (Fail 1) (Call g []) ∷ alike ∷ [];
+      hypotheses =
+          hypothesis ∷ [];
+    }) (Simplify Right 1 []) (asking [] (equal (Fail 1) (Fail 1) ∷ []))
+    simplifies refl)
+    (OneMore (record { goals = equal (Fail 1) (Fail 1) ∷ alike ∷ []; hypotheses = hypothesis ∷ [] })
+    (knowing alike) (Delete (Equal []))
+    (shown_taken example (record {
+      goals = equal (Fail 1) (Fail 1) ∷ alike ∷ [];
+      hypotheses =
+          hypothesis ∷ [];
+    }) (Delete (Equal [])) (asking [] []) deletes refl)
     (OneMore (knowing alike) (knowing (equal (Call g []) (Call g []))) by_hypothesis hypothesis_used
-    (OneMore (knowing (equal (Call g []) (Call g []))) (finished (hypothesis ∷ [])) (Delete (Equal []))
-    (shown_taken example (knowing (equal (Call g []) (Call g []))) (Delete (Equal [])) (asking [] []) deletes_too refl)
+    (OneMore (knowing (equal (Call g []) (Call g []))) (finished (hypothesis ∷ []))
+    (Delete (Equal []))
+    (shown_taken example (knowing (equal (Call g []) (Call g []))) (Delete (Equal []))
+    (asking [] []) deletes_too refl)
     NoStep)))))
 
 pub example_proof : IsProof example alike (hypothesis ∷ []) table

@@ -29,25 +29,44 @@ abbrev pub Follow : List Row → List Row → Type 0
 Follow given rows = (a : ℕ → ℤ) → AllHold a given → AllHold a rows
 
 -- the new goals, and the hypotheses that are kept
-pub data Makes (parts : RuleParts) (hypotheses : List Rule) (goal : Equation) : List Equation → List Rule → Type 0 where
-  Simplified : (side : Side) (rule : Rule) (redex : Term) → Contains parts.rules rule → redex_of (side_of side goal) ≡ Some redex
+pub data Makes (parts : RuleParts) (hypotheses : List Rule) (goal : Equation) : List Equation →
+    List Rule → Type 0 where
+  Simplified : (side : Side) (rule : Rule) (redex : Term) → Contains parts.rules rule →
+      redex_of (side_of side goal) ≡ Some redex
       → shape_of rule.left ≡ shape_of redex → Follow goal.rows (in_rows (matched redex) rule.rows)
-      → Makes parts hypotheses goal (with_side side goal (replace_redex (side_of side goal) (in_term (matched redex) rule.right)) ∷ []) []
-  Used : (side : Side) (h : Rule) (ws : List (ℕ × Body)) (n : ℕ) (part : Term) → Contains hypotheses h → behind n (side_of side goal) ≡ Some part
-      → shape_of part ≡ shape_of h.left → Follow goal.rows ((equal_arguments part (in_term ws h.left)).form ++ in_rows ws h.rows)
-      → Makes parts hypotheses goal (with_side side goal (replaced n (side_of side goal) (in_term ws h.right)) ∷ []) []
+      → Makes parts hypotheses goal (with_side side goal
+      (replace_redex (side_of side goal) (in_term (matched redex) rule.right)) ∷ []) []
+  Used : (side : Side) (h : Rule) (ws : List (ℕ × Body)) (n : ℕ) (part : Term) →
+      Contains hypotheses h → behind n (side_of side goal) ≡ Some part
+      → shape_of part ≡ shape_of h.left → Follow goal.rows
+      ((equal_arguments part (in_term ws h.left)).form ++ in_rows ws h.rows)
+      → Makes parts hypotheses goal (with_side side goal
+      (replaced n (side_of side goal) (in_term ws h.right)) ∷ []) []
   Expanded : (side : Side) (keep : Bool) (redex : Term) → redex_of (side_of side goal) ≡ Some redex
-      → Makes parts hypotheses goal (map_formed (expanded_by goal side redex) (rules_of_shape (shape_of redex) parts.rules)).form (kept_if keep side goal)
+      → Makes parts hypotheses goal (map_formed (expanded_by goal side redex)
+      (rules_of_shape (shape_of redex) parts.rules)).form (kept_if keep side goal)
   Contradictory : ((a : ℕ → ℤ) → AllHold a goal.rows → ⊥) → Makes parts hypotheses goal [] []
-  Equal : shape_of goal.left ≡ shape_of goal.right → Follow goal.rows (equal_arguments goal.left goal.right).form → Makes parts hypotheses goal [] []
+  Equal : shape_of goal.left ≡ shape_of goal.right →
+      Follow goal.rows (equal_arguments goal.left goal.right).form →
+      Makes parts hypotheses goal [] []
   Apart : shape_of goal.left ≡ shape_of goal.right
-      → Makes parts hypotheses goal (map (differing goal) (term_differences goal.left goal.right).form) []
-  Generalised : (new : Equation) (ws : List (ℕ × Body)) → IsFitting parts new → shape_of new.left ≡ shape_of goal.left
-      → shape_of new.right ≡ shape_of goal.right → Follow goal.rows (instance_rows ws new goal).form → Makes parts hypotheses goal (new ∷ []) []
-  Postulated : (new : Equation) → IsFitting parts new → Makes parts hypotheses goal (new ∷ goal ∷ []) []
-  SplitBy : (row : Row) → Makes parts hypotheses goal (with_rows goal (row ∷ []) ∷ with_rows goal (negation row ∷ []) ∷ []) []
-  Decomposed : (f g : Sym) (ps qs : List Body) (s t : Term) → goal.left ≡ Frame f ps s → goal.right ≡ Frame g qs t → f ≡ g
-      → Follow goal.rows (equal_lists ps qs).form → Makes parts hypotheses goal (with_sides goal s t ∷ []) []
-  WithResults : (m n : ℕ) (s t : Term) → behind m goal.left ≡ Some s → behind n goal.right ≡ Some t → shape_of s ≡ shape_of t
+      → Makes parts hypotheses goal (map (differing goal)
+      (term_differences goal.left goal.right).form) []
+  Generalised : (new : Equation) (ws : List (ℕ × Body)) → IsFitting parts new → shape_of new.left ≡
+      shape_of goal.left
+      → shape_of new.right ≡ shape_of goal.right →
+      Follow goal.rows (instance_rows ws new goal).form →
+      Makes parts hypotheses goal (new ∷ []) []
+  Postulated : (new : Equation) → IsFitting parts new →
+      Makes parts hypotheses goal (new ∷ goal ∷ []) []
+  SplitBy : (row : Row) → Makes parts hypotheses goal
+      (with_rows goal (row ∷ []) ∷ with_rows goal (negation row ∷ []) ∷ []) []
+  Decomposed : (f g : Sym) (ps qs : List Body) (s t : Term) → goal.left ≡ Frame f ps s →
+      goal.right ≡ Frame g qs t → f ≡ g
+      → Follow goal.rows (equal_lists ps qs).form →
+      Makes parts hypotheses goal (with_sides goal s t ∷ []) []
+  WithResults : (m n : ℕ) (s t : Term) → behind m goal.left ≡ Some s → behind n goal.right ≡
+      Some t → shape_of s ≡ shape_of t
       → Follow goal.rows (equal_arguments s t).form
-      → Makes parts hypotheses goal (map (with_result goal m n) (results_of parts.fails (equation_bound goal))) []
+      → Makes parts hypotheses goal (map (with_result goal m n)
+      (results_of parts.fails (equation_bound goal))) []

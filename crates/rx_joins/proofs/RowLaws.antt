@@ -15,20 +15,26 @@ use Rattle.rx_term.specs.Meaning.{values}
 use Rattle.rx_form.specs.Pieces.{all_pushed, equal_lists}
 
 -- rows with more of them added hold where both do
-pub all_pushed-hold : (a : ℕ → ℤ) (rows more : List Row) → AllHold a rows → AllHold a more → AllHold a (all_pushed rows more)
+pub all_pushed-hold : (a : ℕ → ℤ) (rows more : List Row) → AllHold a rows → AllHold a more →
+    AllHold a (all_pushed rows more)
 all_pushed-hold a rows [] one two = one
 all_pushed-hold a rows (r ∷ rs) one two =
-    all_pushed-hold a (pushed rows r) rs ((all_hold_pushed a rows r).1 (one, All-head (RowHolds a) r rs two)) (All-tail (RowHolds a) r rs two)
+    all_pushed-hold a (pushed rows r) rs ((all_hold_pushed a rows r).1
+    (one, All-head (RowHolds a) r rs two)) (All-tail (RowHolds a) r rs two)
 
-zero_difference : (a : ℕ → ℤ) (p q : Body) → value a (subtracted p q) ≡ pos 0 → value a p ≡ value a q
+zero_difference : (a : ℕ → ℤ) (p q : Body) → value a (subtracted p q) ≡ pos 0 → value a p ≡
+    value a q
 zero_difference a p q is = let e = value-subtracted a p q in omega (arith, ints, e, is)
 
 -- where all differences are 0 the values are equal, one by one
-pub equal_values : (a : ℕ → ℤ) (ps qs : List Body) → length ps ≡ length qs → AllHold a (equal_lists ps qs).form → values a ps ≡ values a qs
+pub equal_values : (a : ℕ → ℤ) (ps qs : List Body) → length ps ≡ length qs →
+    AllHold a (equal_lists ps qs).form → values a ps ≡ values a qs
 equal_values a [] [] long holds = refl
 equal_values a [] (q ∷ qs) long holds = absurd (omega (arith, long))
 equal_values a (p ∷ ps) [] long holds = absurd (omega (arith, long))
 equal_values a (p ∷ ps) (q ∷ qs) long holds =
-    let first = zero_difference a p q (All-head (RowHolds a) (Eq (subtracted p q)) (equal_lists ps qs).form holds) in
-    let rest = equal_values a ps qs (omega (arith, long)) (All-tail (RowHolds a) (Eq (subtracted p q)) (equal_lists ps qs).form holds) in
+    let first = zero_difference a p q (All-head (RowHolds a) (Eq (subtracted p q))
+    (equal_lists ps qs).form holds) in
+    let rest = equal_values a ps qs (omega (arith, long))
+    (All-tail (RowHolds a) (Eq (subtracted p q)) (equal_lists ps qs).form holds) in
     (λ i. first i ∷ rest i)

@@ -17,16 +17,20 @@ Inside parts = Fits (signature parts)
 abbrev pub Both : RuleParts → List Rule → Ground → Ground → Type 0
 Both parts hypotheses = Either (Instance parts.rules) (Instance hypotheses)
 
--- the sides of the goal join by rules and hypotheses together, at each assignment that meets its rows
+-- the sides of the goal join by rules and hypotheses together, at each assignment that meets its
+-- rows
 abbrev pub IsGood : RuleParts → List Rule → Equation → Type 0
 IsGood parts hypotheses goal =
-    (a : ℕ → ℤ) → AllHold a goal.rows → Joins (Both parts hypotheses) (ground_at a goal.left) (ground_at a goal.right)
+    (a : ℕ → ℤ) → AllHold a goal.rows → Joins (Both parts hypotheses) (ground_at a goal.left)
+    (ground_at a goal.right)
 
--- a rule steps from the hypothesis's left side to a term that joins with its right side, at each assignment that meets its rows
+-- a rule steps from the hypothesis's left side to a term that joins with its right side, at each
+-- assignment that meets its rows
 abbrev pub IsBacked : RuleParts → List Rule → Rule → Type 0
 IsBacked parts hypotheses h =
     (a : ℕ → ℤ) → AllHold a h.rows
-    → (first : Ground) × Step (Instance parts.rules) (ground_at a h.left) first × Joins (Both parts hypotheses) first (ground_at a h.right)
+    → (first : Ground) × Step (Instance parts.rules) (ground_at a h.left) first ×
+    Joins (Both parts hypotheses) first (ground_at a h.right)
 
 -- both sides of the goal fit the symbols
 pub record IsFitting (parts : RuleParts) (goal : Equation) : Type 0 where

@@ -23,7 +23,8 @@ use Rattle.rx_joins.specs.Goals.{Inside, Both, IsFitting}
 -- steps one after the other, each of which applies, from a state to the end
 pub data Run (parts : RuleParts) (end : State) : State → Type 0 where
   NoStep : Run parts end end
-  OneMore : (state next : State) (step : Step) → applied parts state step ≡ Ok next → Run parts end next → Run parts end state
+  OneMore : (state next : State) (step : Step) → applied parts state step ≡ Ok next →
+      Run parts end next → Run parts end state
 
 -- the goal alone, and no hypotheses
 abbrev pub start : Equation → State
@@ -33,18 +34,20 @@ start goal = record { goals = goal ∷ []; hypotheses = [] }
 abbrev pub finished : List Rule → State
 finished hypotheses = record { goals = []; hypotheses = hypotheses }
 
--- a run from a goal that fits leaves no goals; the set is well made and covered, and each step by its rules and by the
--- hypotheses that are kept makes a weight smaller
-pub record Accepted (parts : RuleParts) (goal : Equation) (hypotheses : List Rule) (weight : Ground → Weight) : Type 0 where
+-- a run from a goal that fits leaves no goals; the set is well made and covered, and each step by
+-- its rules and by the hypotheses that are kept makes a weight smaller
+pub record Accepted (parts : RuleParts) (goal : Equation) (hypotheses : List Rule)
+    (weight : Ground → Weight) : Type 0 where
   pub made : IsWellMade parts
   pub covered : IsCovered parts
   pub fits : IsFitting parts goal
   pub run : Run parts (finished hypotheses) (start goal)
   pub lowers : Lowers weight (Inside parts) (Both parts hypotheses)
 
--- the same as it can be checked: cover trees show that the set is covered, and all pairs of rules and hypotheses are lower
--- by a lawful rank table
-pub record IsProof (parts : RuleParts) (goal : Equation) (hypotheses : List Rule) (table : RankTable) : Type 0 where
+-- the same as it can be checked: cover trees show that the set is covered, and all pairs of rules
+-- and hypotheses are lower by a lawful rank table
+pub record IsProof (parts : RuleParts) (goal : Equation) (hypotheses : List Rule)
+    (table : RankTable) : Type 0 where
   pub made : IsWellMade parts
   pub fits : IsFitting parts goal
   pub trees : List (List CoverTree)

@@ -25,9 +25,9 @@ ghost use Rattle.rx_term.specs.declared.rule.Rule.{Rule};
 ghost use Rattle.rx_term.specs.declared.rule_set.RuleParts.{RuleParts};
 ghost use Rattle.rx_term.specs.declared.term.Term.TheVariants.{Call};
 
-/// Over a well made set that is covered, and whose steps make a weight smaller, every term that fits
-/// reaches a result by its rules (`reach`). So it is where cover trees show that the set is covered,
-/// and all pairs of its rules are lower by a lawful rank table (`shown`).
+/// Over a well made set that is covered, and whose steps make a weight smaller, every term that
+/// fits reaches a result by its rules (`reach`). So it is where cover trees show that the set is
+/// covered, and all pairs of its rules are lower by a lawful rank table (`shown`).
 pub fn fitting_terms_reach_results()
     ensures reach { (parts : RuleParts) (weight : Ground → Weight) →
         IsWellMade parts → IsCovered parts →
@@ -93,8 +93,8 @@ pub fn proofs_are_accepted()
         (ground_at a goal.left) (ground_at a goal.right) }
 {}
 
-/// The premises can be met, by a proof that keeps a hypothesis (`proof`); a step that uses it applies
-/// to a state where it is known (`used`).
+/// The premises can be met, by a proof that keeps a hypothesis (`proof`); a step that uses it
+/// applies to a state where it is known (`used`).
 pub fn the_premises_can_be_met()
     ensures proof { IsProof example alike (hypothesis ∷ []) table }
     ensures used { applied example (knowing alike) by_hypothesis ≡

@@ -27,8 +27,8 @@ pub data Place : Type 0 where
   AtPair : ℕ → Place
 
 -- the first thing that is wrong: a symbol that isn't covered, a step and why it doesn't apply, how
--- many goals are left, a symbol without a lawful rank, a pair that isn't lower, or a place that passes
--- the limits
+-- many goals are left, a symbol without a lawful rank, a pair that isn't lower, or a place that
+-- passes the limits
 pub data LogFault : Type 0 where
   NotCovered : ℕ → LogFault
   Refused : ℕ → StepFault → LogFault
@@ -113,7 +113,8 @@ of_descent (lowering.NotLower i) = Fails (NotLower i)
 of_descent (lowering.PassesLimits i) = Fails (PassesLimits (AtPair i))
 
 -- the verdict on the pairs of rules
-pub record OnPairs (rules : List Rule) (table : RankTable) (certs : List PairCert) (verdict : Verdict)
+pub record OnPairs (rules : List Rule) (table : RankTable) (certs : List PairCert)
+    (verdict : Verdict)
     : Type 0 where
   pub pairs : List Pair
   pub all_pairs : AreAllPairs rules pairs

@@ -5,9 +5,11 @@ use Rattle.rx_log.specs.declared.line.Line.TheVariants as line
 use Rattle.rx_log.specs.declared.place.Place.{Place}
 use Rattle.rx_log.specs.declared.place.Place.TheVariants.{AtHeader, InCovers, InSteps, InRanks, InPairs, Finished}
 
--- the place behind a line, where such a line may come; the cover of the symbol with this number is next
+-- the place behind a line, where such a line may come; the cover of the symbol with this number is
+-- next
 abbrev pub after_covers : ℕ → Line → ℕ → Option Place
-after_covers next (line.Cover trees) symbol = if symbol == next then Some (InCovers (next + 1)) else None
+after_covers next (line.Cover trees) symbol =
+    if symbol == next then Some (InCovers (next + 1)) else None
 after_covers next (line.Step step) symbol = Some InSteps
 after_covers next (line.Ranks columns) symbol = Some (InRanks columns 0)
 after_covers next other symbol = None

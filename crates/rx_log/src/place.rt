@@ -36,7 +36,8 @@ fn after_header(line: &Line) -> Option<Place>
     }
 }
 
-/// The place behind a line that comes where the cover of the symbol with the number `next` may come.
+/// The place behind a line that comes where the cover of the symbol with the number `next` may
+/// come.
 fn after_covers(next: u64, line: &Line, symbol: u32) -> Option<Place>
     ensures { result ≡ spec.after_covers next line.now symbol }
 {
@@ -82,8 +83,8 @@ fn after_pairs(line: &Line) -> Option<Place>
     }
 }
 
-/// The place behind a line that comes where the rank of the symbol with the number `next` may come, in
-/// so many columns.
+/// The place behind a line that comes where the rank of the symbol with the number `next` may come,
+/// in so many columns.
 fn after_ranks(columns: u32, next: u64, line: &Line, symbol: u32) -> Option<Place>
     ensures { result ≡ spec.after_ranks columns next line.now symbol }
 {
@@ -103,8 +104,8 @@ fn after_ranks(columns: u32, next: u64, line: &Line, symbol: u32) -> Option<Plac
 }
 
 impl Place {
-    /// The place behind a line that comes here, with the number of the symbol in it; None where no such
-    /// line may come.
+    /// The place behind a line that comes here, with the number of the symbol in it; None where no
+    /// such line may come.
     pub fn after(self, line: &Line, symbol: u32) -> Option<Place>
         ensures { result ≡ spec.after self (line.now, symbol) }
     {

@@ -135,37 +135,38 @@ one_log text a b p q =
 
 -- ---- a log or a bad line
 
-module _ {text : List ℕ} {log : Log} {number : ℕ} (a : IsLog text log) (b : IsFirstBad text number) where
-  -- the log has more lines than those before the bad one, or just these
-  lines_behind : GoesOn b.before (texts_of log) b.left [] → ⊥
-  lines_behind g = by g.more g.whole g.one_by_one g.is
-    where
-      by : (more : List (List ℕ)) → texts_of log ≡ b.before ++ more
-          → list_all is_one_line more ≡ true → b.left ≡ ended more ++ [] → ⊥
-      by [] whole one is =
-          b.missing is log
-          (record { in_range = a.in_range; are = whole ∙ append-nil b.before })
-      by (next ∷ more) whole one is =
-          b.bad next (ended more ++ []) (is ∙ regroup next more [])
-          (and_parts (is_one_line next) (list_all is_one_line more) one).0
-          (record {
-            log = log;
-            in_range = a.in_range;
-            more = more;
-            are = whole ∙ sym (append_assoc b.before (next ∷ []) more);
-          })
+module _ {text : List ℕ} {log : Log} {number : ℕ} (a : IsLog text log) (b : IsFirstBad text number)
+  where
+    -- the log has more lines than those before the bad one, or just these
+    lines_behind : GoesOn b.before (texts_of log) b.left [] → ⊥
+    lines_behind g = by g.more g.whole g.one_by_one g.is
+      where
+        by : (more : List (List ℕ)) → texts_of log ≡ b.before ++ more
+            → list_all is_one_line more ≡ true → b.left ≡ ended more ++ [] → ⊥
+        by [] whole one is =
+            b.missing is log
+            (record { in_range = a.in_range; are = whole ∙ append-nil b.before })
+        by (next ∷ more) whole one is =
+            b.bad next (ended more ++ []) (is ∙ regroup next more [])
+            (and_parts (is_one_line next) (list_all is_one_line more) one).0
+            (record {
+              log = log;
+              in_range = a.in_range;
+              more = more;
+              are = whole ∙ sym (append_assoc b.before (next ∷ []) more);
+            })
 
-  -- the lines before the bad one are those of the log and more
-  lines_before : GoesOn (texts_of log) b.before [] b.left → ⊥
-  lines_before g = by g.more g.whole g.is
-    where
-      by : (more : List (List ℕ)) → b.before ≡ texts_of log ++ more
-          → [] ≡ ended more ++ b.left → ⊥
-      by [] whole is =
-          b.missing (sym is) log
-          (record { in_range = a.in_range; are = sym (whole ∙ append-nil (texts_of log)) })
-      by (next ∷ more) whole is =
-          nothing_ended next (ended more ++ b.left) (is ∙ regroup next more b.left)
+    -- the lines before the bad one are those of the log and more
+    lines_before : GoesOn (texts_of log) b.before [] b.left → ⊥
+    lines_before g = by g.more g.whole g.is
+      where
+        by : (more : List (List ℕ)) → b.before ≡ texts_of log ++ more
+            → [] ≡ ended more ++ b.left → ⊥
+        by [] whole is =
+            b.missing (sym is) log
+            (record { in_range = a.in_range; are = sym (whole ∙ append-nil (texts_of log)) })
+        by (next ∷ more) whole is =
+            nothing_ended next (ended more ++ b.left) (is ∙ regroup next more b.left)
 
 pub never_both : (text : List ℕ) (log : Log) (number : ℕ) → IsLog text log
     → ¬ (IsFirstBad text number)

@@ -20,36 +20,44 @@ use Rattle.rx_log.specs.declared.place.Place.{Place}
 use Rattle.rx_log.specs.declared.place.Place.TheVariants.{AtHeader, InCovers, InSteps, InRanks, InPairs, Finished}
 
 -- one thing more is one line more, with the next number
-pub by_symbol-push : {A : Type 0} (make : A → Line) (k : ℕ) (xs : List A) (x : A) (n : ℕ) → n ≡ k + length xs → by_symbol make k (xs ++ x ∷ []) ≡ by_symbol make k xs ++ (make x, n) ∷ []
+pub by_symbol-push : {A : Type 0} (make : A → Line) (k : ℕ) (xs : List A) (x : A) (n : ℕ) → n ≡ k +
+    length xs → by_symbol make k (xs ++ x ∷ []) ≡ by_symbol make k xs ++ (make x, n) ∷ []
 by_symbol-push make k [] x n e = let f : n ≡ k = omega arith in cc
 by_symbol-push make k (y ∷ ys) x n e =
     let f : n ≡ (k + 1) + length ys = omega arith in
     let h = by_symbol-push make (k + 1) ys x n f in cc
 
-pub plain-push : {A : Type 0} (make : A → Line) (xs : List A) (x : A) → plain make (xs ++ x ∷ []) ≡ plain make xs ++ (make x, 0) ∷ []
+pub plain-push : {A : Type 0} (make : A → Line) (xs : List A) (x : A) → plain make (xs ++ x ∷ []) ≡
+    plain make xs ++ (make x, 0) ∷ []
 plain-push make [] x = refl
 plain-push make (y ∷ ys) x = ap (λ (zs : List (Line × ℕ)). (make y, 0) ∷ zs) (plain-push make ys x)
 
-pub list_all-push : {A : Type 0} (test : A → Bool) (xs : List A) (x : A) → list_all test xs ≡ true → test x ≡ true → list_all test (xs ++ x ∷ []) ≡ true
+pub list_all-push : {A : Type 0} (test : A → Bool) (xs : List A) (x : A) → list_all test xs ≡ true →
+    test x ≡ true → list_all test (xs ++ x ∷ []) ≡ true
 list_all-push test xs x h e = grind (arith, common_steps)
 
 -- lines behind which none stands yet
-snoc_first : {A : Type 0} (c new s : List A) (x : A) → new ≡ c ++ x ∷ [] → s ≡ [] → new ++ s ≡ (c ++ s) ++ x ∷ []
+snoc_first : {A : Type 0} (c new s : List A) (x : A) → new ≡ c ++ x ∷ [] → s ≡ [] → new ++ s ≡
+    (c ++ s) ++ x ∷ []
 snoc_first c new s x e f = rw (e, f) (simp append-nil)
 
-snoc_behind : {A : Type 0} (b c new s : List A) (r x : A) → new ≡ c ++ x ∷ [] → s ≡ [] → b ++ r ∷ (new ++ s) ≡ (b ++ r ∷ (c ++ s)) ++ x ∷ []
+snoc_behind : {A : Type 0} (b c new s : List A) (r x : A) → new ≡ c ++ x ∷ [] → s ≡ [] → b ++ r ∷
+    (new ++ s) ≡ (b ++ r ∷ (c ++ s)) ++ x ∷ []
 snoc_behind b c new s r x e f = rw (e, f) (simp (append-nil, append_assoc))
 
-alone_behind : {A : Type 0} (b y c s : List A) (r : A) → y ≡ b → c ≡ [] → s ≡ [] → b ++ r ∷ (c ++ s) ≡ y ++ r ∷ []
+alone_behind : {A : Type 0} (b y c s : List A) (r : A) → y ≡ b → c ≡ [] → s ≡ [] → b ++ r ∷
+    (c ++ s) ≡ y ++ r ∷ []
 alone_behind b y c s r e f g = rw (e, f, g) refl
 
 -- ---- the lines up to the next place
 
--- what was read up to the place, the line, and the place behind it: the log with the line is read up to there
-pub record Moves (place : Place) (log : Log) (read : Line) (symbol : ℕ) (next : Place) : Type 0 where
-  pub at : IsAt next (pushed read log)
-  pub widths : has_widths (pushed read log) ≡ true
-  pub lines : lines_to next (pushed read log) ≡ lines_to place log ++ (read, symbol) ∷ []
+-- what was read up to the place, the line, and the place behind it: the log with the line is read
+-- up to there
+pub record Moves (place : Place) (log : Log) (read : Line) (symbol : ℕ) (next : Place) : Type 0
+  where
+    pub at : IsAt next (pushed read log)
+    pub widths : has_widths (pushed read log) ≡ true
+    pub lines : lines_to next (pushed read log) ≡ lines_to place log ++ (read, symbol) ∷ []
 
 some-injective : {A : Type 0} {x y : A} → Some x ≡ Some y → x ≡ y
 some-injective e = cc
@@ -60,57 +68,91 @@ chosen true x y e = (refl, some-injective e)
 chosen false x y e = absurd (cc)
 
 -- the same move to an equal place, with an equal symbol
-moved : (place : Place) (log : Log) (read : Line) (m n : ℕ) (x y : Place) → m ≡ n → x ≡ y → Moves place log read n x → Moves place log read m y
-moved place log read m n x y e f h = subst (λ k. Moves place log read k y) (sym e) (subst (λ next. Moves place log read n next) f h)
+moved : (place : Place) (log : Log) (read : Line) (m n : ℕ) (x y : Place) → m ≡ n → x ≡ y →
+    Moves place log read n x → Moves place log read m y
+moved place log read m n x y e f h =
+    subst (λ k. Moves place log read k y) (sym e) (subst (λ next. Moves place log read n next) f h)
 
 -- before the header nothing was read
 header : (log : Log) → IsAt AtHeader log → Moves AtHeader log line.Header 0 (InCovers 0)
-header log e = subst (λ l. Moves AtHeader l line.Header 0 (InCovers 0)) (sym e) (record { at = (refl, (refl, (refl, refl))); widths = refl; lines = refl })
+header log e =
+    subst (λ l. Moves AtHeader l line.Header 0 (InCovers 0)) (sym e)
+    (record { at = (refl, (refl, (refl, refl))); widths = refl; lines = refl })
 
-cover : (log : Log) (trees : List CoverTree) (n : ℕ) → IsAt (InCovers n) log → has_widths log ≡ true → Moves (InCovers n) log (line.Cover trees) n (InCovers (n + 1))
+cover : (log : Log) (trees : List CoverTree) (n : ℕ) → IsAt (InCovers n) log → has_widths log ≡
+    true → Moves (InCovers n) log (line.Cover trees) n (InCovers (n + 1))
 cover log trees n at w = record {
-  at = (let e : n + 1 ≡ length (log.covers ++ trees ∷ []) = omega (arith, at.0, length-append log.covers (trees ∷ [])) in e, at.1);
+  at = (
+    let e : n + 1 ≡ length (log.covers ++ trees ∷ []) =
+        omega (arith, at.0, length-append log.covers (trees ∷ [])) in e,
+    at.1,
+  );
   widths = w;
   lines =
       let k : n ≡ 0 + length log.covers = omega (arith, at.0) in
       ap (λ (its : List (Line × ℕ)). (line.Header, 0) ∷ its)
-      (snoc_first (by_symbol line.Cover 0 log.covers) _ (plain line.Step log.steps) (line.Cover trees, n)
+      (snoc_first (by_symbol line.Cover 0 log.covers) _ (plain line.Step log.steps)
+      (line.Cover trees, n)
       (by_symbol-push line.Cover 0 log.covers trees n k) (ap (plain line.Step) at.1.0));
 }
 
-step : (place : Place) (log : Log) (taken : Step) → IsBeforeRanks log → has_widths log ≡ true → lines_to place log ≡ before_ranks log → Moves place log (line.Step taken) 0 InSteps
+step : (place : Place) (log : Log) (taken : Step) → IsBeforeRanks log → has_widths log ≡ true →
+    lines_to place log ≡ before_ranks log → Moves place log (line.Step taken) 0 InSteps
 step place log taken at w e = record {
   at = at;
   widths = w;
   lines = rw e (simp (plain-push, append_assoc));
 }
 
-ranks : (place : Place) (log : Log) (columns : ℕ) → IsBeforeRanks log → lines_to place log ≡ before_ranks log → Moves place log (line.Ranks columns) 0 (InRanks columns 0)
+ranks : (place : Place) (log : Log) (columns : ℕ) → IsBeforeRanks log → lines_to place log ≡
+    before_ranks log → Moves place log (line.Ranks columns) 0 (InRanks columns 0)
 ranks place log columns at e = record {
   at = (refl, (rw at.0 refl, at.1));
   widths = rw at.0 refl;
   lines =
-      alone_behind (before_ranks log) _ (by_symbol line.Rank 0 log.table.ranks) (plain line.Pair log.pairs)
+      alone_behind (before_ranks log) _ (by_symbol line.Rank 0 log.table.ranks)
+      (plain line.Pair log.pairs)
       (line.Ranks columns, 0) e (ap (λ (table : RankTable). by_symbol line.Rank 0 table.ranks) at.0)
       (ap (plain line.Pair) at.1);
 }
 
-rank : (log : Log) (columns n : ℕ) (new : List Body) → IsAt (InRanks columns n) log → has_widths log ≡ true → length new ≡ columns → Moves (InRanks columns n) log (line.Rank new) n (InRanks columns (n + 1))
+rank : (log : Log) (columns n : ℕ) (new : List Body) → IsAt (InRanks columns n) log →
+    has_widths log ≡ true → length new ≡ columns →
+    Moves (InRanks columns n) log (line.Rank new) n (InRanks columns (n + 1))
 rank log columns n new at w e = record {
-  at = (at.0, (let k : n + 1 ≡ length (log.table.ranks ++ new ∷ []) = omega (arith, at.1.0, length-append log.table.ranks (new ∷ [])) in k, at.1.1));
-  widths = list_all-push (λ (it : List Body). eqb (length it) log.table.columns) log.table.ranks new w (eq-eqb _ _ (e ∙ at.0));
+  at = (
+    at.0,
+    (
+      let k : n + 1 ≡ length (log.table.ranks ++ new ∷ []) =
+          omega (arith, at.1.0, length-append log.table.ranks (new ∷ [])) in k,
+      at.1.1,
+    ),
+  );
+  widths =
+      list_all-push (λ (it : List Body). eqb (length it) log.table.columns) log.table.ranks new w
+      (eq-eqb _ _ (e ∙ at.0));
   lines =
       let k : n ≡ 0 + length log.table.ranks = omega (arith, at.1.0) in
-      snoc_behind (before_ranks log) (by_symbol line.Rank 0 log.table.ranks) _ (plain line.Pair log.pairs)
+      snoc_behind (before_ranks log) (by_symbol line.Rank 0 log.table.ranks) _
+      (plain line.Pair log.pairs)
       (line.Ranks log.table.columns, 0) (line.Rank new, n)
       (by_symbol-push line.Rank 0 log.table.ranks new n k) (ap (plain line.Pair) at.1.1);
 }
 
-pair : (place : Place) (log : Log) (new : PairCert) → has_widths log ≡ true → lines_to place log ≡ before_end log → Moves place log (line.Pair new) 0 InPairs
-pair place log new w e = record { at = tt; widths = w; lines = rw e (simp (plain-push, append_assoc)) }
+pair : (place : Place) (log : Log) (new : PairCert) → has_widths log ≡ true → lines_to place log ≡
+    before_end log → Moves place log (line.Pair new) 0 InPairs
+pair place log new w e =
+    record { at = tt; widths = w; lines = rw e (simp (plain-push, append_assoc)) }
 
-end : (place : Place) (log : Log) → has_widths log ≡ true → lines_to place log ≡ before_end log → Moves place log line.End 0 Finished
-end place log w e = record { at = tt; widths = w; lines = ap (λ (its : List (Line × ℕ)). its ++ (line.End, 0) ∷ []) (sym e) }
+end : (place : Place) (log : Log) → has_widths log ≡ true → lines_to place log ≡ before_end log →
+    Moves place log line.End 0 Finished
+end place log w e =
+    record {
+      at = tt;
+      widths = w;
+      lines = ap (λ (its : List (Line × ℕ)). its ++ (line.End, 0) ∷ [])
+          (sym e);
+    }
 
 -- ---- all of them
 
@@ -121,28 +163,40 @@ second : (a b : Bool) → (a && b) ≡ true → b ≡ true
 second true b e = e
 second false b e = absurd (cc)
 
-place_of : {place : Place} {log : Log} {read : Line} {m : ℕ} {x y : Place} → m ≡ 0 → Some x ≡ Some y → Moves place log read 0 x → Moves place log read m y
-place_of {place} {log} {read} {m} {x} {y} e f h = moved place log read m 0 x y e (some-injective f) h
+place_of : {place : Place} {log : Log} {read : Line} {m : ℕ} {x y : Place} → m ≡ 0 → Some x ≡
+    Some y → Moves place log read 0 x → Moves place log read m y
+place_of {place} {log} {read} {m} {x} {y} e f h =
+    moved place log read m 0 x y e (some-injective f) h
 
 -- a cover of the symbol that is next
-cover_next : (log : Log) (trees : List CoverTree) (n m : ℕ) (next : Place) → IsAt (InCovers n) log → has_widths log ≡ true → after (InCovers n) (line.Cover trees, m) ≡ Some next → Moves (InCovers n) log (line.Cover trees) m next
+cover_next : (log : Log) (trees : List CoverTree) (n m : ℕ) (next : Place) → IsAt (InCovers n) log →
+    has_widths log ≡ true → after (InCovers n) (line.Cover trees, m) ≡ Some next →
+    Moves (InCovers n) log (line.Cover trees) m next
 cover_next log trees n m next at w a =
     let c = chosen (eqb m n) (InCovers (n + 1)) next a in
-    moved (InCovers n) log (line.Cover trees) m n (InCovers (n + 1)) next (eqb-true m n c.0) c.1 (cover log trees n at w)
+    moved (InCovers n) log (line.Cover trees) m n (InCovers (n + 1)) next (eqb-true m n c.0) c.1
+    (cover log trees n at w)
 
-both_chosen : (b c : Bool) (x y : Place) → (if b then (if c then Some x else None) else None) ≡ Some y → (b ≡ true) × ((c ≡ true) × (x ≡ y))
+both_chosen : (b c : Bool) (x y : Place) → (if b then (if c then Some x else None) else None) ≡
+    Some y → (b ≡ true) × ((c ≡ true) × (x ≡ y))
 both_chosen true c x y e = (refl, chosen c x y e)
 both_chosen false c x y e = absurd (cc)
 
 -- a rank of the symbol that is next
-rank_next : (log : Log) (columns n m : ℕ) (new : List Body) (next : Place) → IsAt (InRanks columns n) log → has_widths log ≡ true → after (InRanks columns n) (line.Rank new, m) ≡ Some next → Moves (InRanks columns n) log (line.Rank new) m next
+rank_next : (log : Log) (columns n m : ℕ) (new : List Body) (next : Place) →
+    IsAt (InRanks columns n) log → has_widths log ≡ true →
+    after (InRanks columns n) (line.Rank new, m) ≡ Some next →
+    Moves (InRanks columns n) log (line.Rank new) m next
 rank_next log columns n m new next at w a =
     let c = both_chosen (eqb m n) (eqb (length new) columns) (InRanks columns (n + 1)) next a in
-    moved (InRanks columns n) log (line.Rank new) m n (InRanks columns (n + 1)) next (eqb-true m n c.0) c.1.1
+    moved (InRanks columns n) log (line.Rank new) m n (InRanks columns (n + 1)) next
+    (eqb-true m n c.0) c.1.1
     (rank log columns n new at w (eqb-true (length new) columns c.1.0))
 
 -- where a line in range may come, the log with it is read up to the place behind it
-pub moves : (place : Place) (log : Log) (read : Line) (m : ℕ) (next : Place) → IsAt place log → has_widths log ≡ true → is_readable_line read m ≡ true → after place (read, m) ≡ Some next → Moves place log read m next
+pub moves : (place : Place) (log : Log) (read : Line) (m : ℕ) (next : Place) → IsAt place log →
+    has_widths log ≡ true → is_readable_line read m ≡ true → after place (read, m) ≡ Some next →
+    Moves place log read m next
 moves AtHeader log line.Header m next at w r a = place_of (zero_symbol m r) a (header log at)
 moves AtHeader log read m next at w r a = absurd (cc)
 moves (InCovers n) log (line.Cover trees) m next at w r a = cover_next log trees n m next at w a
@@ -156,7 +210,8 @@ moves InSteps log (line.Step taken) m next at w r a =
 moves InSteps log (line.Ranks columns) m next at w r a =
     place_of (zero_symbol m (second _ _ r)) a (ranks InSteps log columns at refl)
 moves InSteps log read m next at w r a = absurd (cc)
-moves (InRanks columns n) log (line.Rank new) m next at w r a = rank_next log columns n m new next at w a
+moves (InRanks columns n) log (line.Rank new) m next at w r a =
+    rank_next log columns n m new next at w a
 moves (InRanks columns n) log (line.Pair new) m next at w r a =
     place_of (zero_symbol m (second _ _ r)) a (pair (InRanks columns n) log new w refl)
 moves (InRanks columns n) log line.End m next at w r a =

@@ -16,16 +16,22 @@ pub none_taken : HasTaken AtHeader blank []
 none_taken = record { at = refl; widths = refl; in_range = refl; are = refl; arrives = refl }
 
 -- a line that was read may not come
-pub never_comes : (place : Place) (bytes : List ℕ) (read : Line × ℕ) → IsText lines bytes read → after place read ≡ None → ReadsNext place bytes None
+pub never_comes : (place : Place) (bytes : List ℕ) (read : Line × ℕ) → IsText lines bytes read →
+    after place read ≡ None → ReadsNext place bytes None
 never_comes place bytes read is none m = only_it lines_one place bytes read is none m
 
 -- a line that may come was taken
-pub one_taken : (place next : Place) (log : Log) (texts : List (List ℕ)) (bytes : List ℕ) (read : Line) → ReadsNext place bytes (Some (read, next)) → HasTaken place log texts → HasTaken next (pushed read log) (texts ++ bytes ∷ [])
-one_taken place next log texts bytes read r h = takes place log texts bytes read r.0 next h r.1.0 r.1.1
+pub one_taken : (place next : Place) (log : Log) (texts : List (List ℕ)) (bytes : List ℕ)
+    (read : Line) → ReadsNext place bytes (Some (read, next)) → HasTaken place log texts →
+    HasTaken next (pushed read log) (texts ++ bytes ∷ [])
+one_taken place next log texts bytes read r h =
+    takes place log texts bytes read r.0 next h r.1.0 r.1.1
 
 -- a line that may not come is one with which no log begins
-pub none_begins : (place : Place) (log : Log) (texts : List (List ℕ)) (bytes : List ℕ) → ReadsNext place bytes None → HasTaken place log texts → ¬ (Begins (texts ++ bytes ∷ []))
+pub none_begins : (place : Place) (log : Log) (texts : List (List ℕ)) (bytes : List ℕ) →
+    ReadsNext place bytes None → HasTaken place log texts → ¬ (Begins (texts ++ bytes ∷ []))
 none_begins place log texts bytes none h b = none (may_come lines_one bytes h b)
 
-pub far_from_end : (place : Place) (log : Log) (texts : List (List ℕ)) → (place ≡ Finished → ⊥) → HasTaken place log texts → (other : Log) → ¬ (HasLines other texts)
+pub far_from_end : (place : Place) (log : Log) (texts : List (List ℕ)) → (place ≡ Finished → ⊥) →
+    HasTaken place log texts → (other : Log) → ¬ (HasLines other texts)
 far_from_end place log texts far h other w = not_whole lines_one h far other w

@@ -24,28 +24,40 @@ starts (byte ∷ bytes) [] = false
 starts (byte ∷ bytes) (first ∷ text) = eqb first byte && starts bytes text
 
 -- a kind of step: all that has lines with this beginning are made from parts of that format
-pub record IsKind {P : Type 0} (beginning : List ℕ) (format : Format P) (make : P → Step) : Type 0 where
-  pub text : (parts : P) → step_text (make parts) ≡ beginning ++ format.text parts
-  pub in_range : (parts : P) → is_readable_step (make parts) ≡ format.in_range parts
-  pub only : (rest : List ℕ) (x : Step) → beginning ++ rest ≡ step_text x → (parts : P) × ((x ≡ make parts) × (rest ≡ format.text parts))
+pub record IsKind {P : Type 0} (beginning : List ℕ) (format : Format P) (make : P → Step) : Type 0
+  where
+    pub text : (parts : P) → step_text (make parts) ≡ beginning ++ format.text parts
+    pub in_range : (parts : P) → is_readable_step (make parts) ≡ format.in_range parts
+    pub only : (rest : List ℕ) (x : Step) → beginning ++ rest ≡ step_text x → (parts : P) ×
+        ((x ≡ make parts) × (rest ≡ format.text parts))
 
 -- the line is read where what stands behind its beginning is
-pub kind_reads : {P : Type 0} {beginning : List ℕ} {format : Format P} {make : P → Step} → IsKind beginning format make → (line rest : List ℕ) → line ≡ beginning ++ rest → (found : Option P) → ReadsAll format rest found → ReadsAll steps line (option_map make found)
+pub kind_reads : {P : Type 0} {beginning : List ℕ} {format : Format P} {make : P → Step} →
+    IsKind beginning format make → (line rest : List ℕ) → line ≡ beginning ++ rest →
+    (found : Option P) → ReadsAll format rest found → ReadsAll steps line (option_map make found)
 kind_reads {P} {beginning} {format} {make} kind line rest e (Some parts) t = record {
   in_range = kind.in_range parts ∙ t.in_range;
   text = e ∙ ap (λ (r : List ℕ). beginning ++ r) t.text ∙ sym (kind.text parts);
 }
 kind_reads {P} {beginning} {format} {make} kind line rest e None never = λ x t.
     let o = kind.only rest x (sym e ∙ t.text) in
-    never o.0 (record { in_range = sym (kind.in_range o.0) ∙ ap is_readable_step (sym o.1.0) ∙ t.in_range; text = o.1.1 })
+    never o.0 (record {
+      in_range = sym (kind.in_range o.0) ∙ ap is_readable_step (sym o.1.0) ∙
+          t.in_range;
+      text = o.1.1;
+    })
 
 -- `simplify`
 abbrev pub simplify_of : Side × (ℕ × List Cert) → Step
 simplify_of p = step.Simplify p.0 p.1.0 p.1.1
 
-only_simplify : (rest : List ℕ) (x : Step) → codes "simplify " ++ rest ≡ step_text x → (parts : Side × (ℕ × List Cert)) × ((x ≡ simplify_of parts) × (rest ≡ (simplify_parts).text parts))
-only_simplify rest (step.Simplify side rule certs) e = ((side, (rule, certs)), (refl, ap (drop 9) e))
-only_simplify rest (step.Delete (Absurd cert)) e = absurd (let f : true ≡ false = ap (starts (codes "sim")) e in cc)
+only_simplify : (rest : List ℕ) (x : Step) → codes "simplify " ++ rest ≡ step_text x →
+    (parts : Side × (ℕ × List Cert)) × ((x ≡ simplify_of parts) ×
+    (rest ≡ (simplify_parts).text parts))
+only_simplify rest (step.Simplify side rule certs) e =
+    ((side, (rule, certs)), (refl, ap (drop 9) e))
+only_simplify rest (step.Delete (Absurd cert)) e =
+    absurd (let f : true ≡ false = ap (starts (codes "sim")) e in cc)
 only_simplify rest x e = absurd (let f : true ≡ false = ap (starts (codes "sim")) e in cc)
 
 pub simplify_kind : IsKind (codes "simplify ") (simplify_parts) simplify_of
@@ -55,9 +67,13 @@ simplify_kind = record { text = λ parts. refl; in_range = λ parts. refl; only 
 abbrev pub hyp_of : Side × (ℕ × (ℕ × (List (ℕ × Body) × List Cert))) → Step
 hyp_of p = step.Hyp p.0 p.1.0 p.1.1.0 p.1.1.1.0 p.1.1.1.1
 
-only_hyp : (rest : List ℕ) (x : Step) → codes "hyp " ++ rest ≡ step_text x → (parts : Side × (ℕ × (ℕ × (List (ℕ × Body) × List Cert)))) × ((x ≡ hyp_of parts) × (rest ≡ (hyp_parts).text parts))
-only_hyp rest (step.Hyp side place hyp subst certs) e = ((side, (place, (hyp, (subst, certs)))), (refl, ap (drop 4) e))
-only_hyp rest (step.Delete (Absurd cert)) e = absurd (let f : true ≡ false = ap (starts (codes "hyp")) e in cc)
+only_hyp : (rest : List ℕ) (x : Step) → codes "hyp " ++ rest ≡ step_text x →
+    (parts : Side × (ℕ × (ℕ × (List (ℕ × Body) × List Cert)))) ×
+    ((x ≡ hyp_of parts) × (rest ≡ (hyp_parts).text parts))
+only_hyp rest (step.Hyp side place hyp subst certs) e =
+    ((side, (place, (hyp, (subst, certs)))), (refl, ap (drop 4) e))
+only_hyp rest (step.Delete (Absurd cert)) e =
+    absurd (let f : true ≡ false = ap (starts (codes "hyp")) e in cc)
 only_hyp rest x e = absurd (let f : true ≡ false = ap (starts (codes "hyp")) e in cc)
 
 pub hyp_kind : IsKind (codes "hyp ") (hyp_parts) hyp_of
@@ -67,9 +83,11 @@ hyp_kind = record { text = λ parts. refl; in_range = λ parts. refl; only = onl
 abbrev pub expand_of : Side × Bool → Step
 expand_of p = step.Expand p.0 p.1
 
-only_expand : (rest : List ℕ) (x : Step) → codes "expand " ++ rest ≡ step_text x → (parts : Side × Bool) × ((x ≡ expand_of parts) × (rest ≡ (expand_parts).text parts))
+only_expand : (rest : List ℕ) (x : Step) → codes "expand " ++ rest ≡ step_text x →
+    (parts : Side × Bool) × ((x ≡ expand_of parts) × (rest ≡ (expand_parts).text parts))
 only_expand rest (step.Expand side keep) e = ((side, keep), (refl, ap (drop 7) e))
-only_expand rest (step.Delete (Absurd cert)) e = absurd (let f : true ≡ false = ap (starts (codes "exp")) e in cc)
+only_expand rest (step.Delete (Absurd cert)) e =
+    absurd (let f : true ≡ false = ap (starts (codes "exp")) e in cc)
 only_expand rest x e = absurd (let f : true ≡ false = ap (starts (codes "exp")) e in cc)
 
 pub expand_kind : IsKind (codes "expand ") (expand_parts) expand_of
@@ -79,7 +97,8 @@ expand_kind = record { text = λ parts. refl; in_range = λ parts. refl; only = 
 abbrev pub absurd_of : Cert → Step
 absurd_of p = step.Delete (Absurd p)
 
-only_absurd : (rest : List ℕ) (x : Step) → codes "absurd " ++ rest ≡ step_text x → (parts : Cert) × ((x ≡ absurd_of parts) × (rest ≡ (certificates).text parts))
+only_absurd : (rest : List ℕ) (x : Step) → codes "absurd " ++ rest ≡ step_text x → (parts : Cert) ×
+    ((x ≡ absurd_of parts) × (rest ≡ (certificates).text parts))
 only_absurd rest (step.Delete (Absurd cert)) e = (cert, (refl, ap (drop 7) e))
 only_absurd rest x e = absurd (let f : true ≡ false = ap (starts (codes "abs")) e in cc)
 
@@ -90,9 +109,11 @@ absurd_kind = record { text = λ parts. refl; in_range = λ parts. refl; only = 
 abbrev pub equal_of : List Cert → Step
 equal_of p = step.Delete (Equal p)
 
-only_equal : (rest : List ℕ) (x : Step) → codes "equal " ++ rest ≡ step_text x → (parts : List Cert) × ((x ≡ equal_of parts) × (rest ≡ (certificate_lists).text parts))
+only_equal : (rest : List ℕ) (x : Step) → codes "equal " ++ rest ≡ step_text x →
+    (parts : List Cert) × ((x ≡ equal_of parts) × (rest ≡ (certificate_lists).text parts))
 only_equal rest (step.Delete (Equal certs)) e = (certs, (refl, ap (drop 6) e))
-only_equal rest (step.Delete (Absurd cert)) e = absurd (let f : true ≡ false = ap (starts (codes "equ")) e in cc)
+only_equal rest (step.Delete (Absurd cert)) e =
+    absurd (let f : true ≡ false = ap (starts (codes "equ")) e in cc)
 only_equal rest x e = absurd (let f : true ≡ false = ap (starts (codes "equ")) e in cc)
 
 pub equal_kind : IsKind (codes "equal ") (certificate_lists) equal_of
@@ -102,9 +123,13 @@ equal_kind = record { text = λ parts. refl; in_range = λ parts. refl; only = o
 abbrev pub generalise_of : Equation × (List (ℕ × Body) × List Cert) → Step
 generalise_of p = step.Generalise p.0.left p.0.right p.0.rows p.1.0 p.1.1
 
-only_generalise : (rest : List ℕ) (x : Step) → codes "generalise " ++ rest ≡ step_text x → (parts : Equation × (List (ℕ × Body) × List Cert)) × ((x ≡ generalise_of parts) × (rest ≡ (generalise_parts).text parts))
-only_generalise rest (step.Generalise left right rows subst certs) e = ((record { left = left; right = right; rows = rows }, (subst, certs)), (refl, ap (drop 11) e))
-only_generalise rest (step.Delete (Absurd cert)) e = absurd (let f : true ≡ false = ap (starts (codes "gen")) e in cc)
+only_generalise : (rest : List ℕ) (x : Step) → codes "generalise " ++ rest ≡ step_text x →
+    (parts : Equation × (List (ℕ × Body) × List Cert)) ×
+    ((x ≡ generalise_of parts) × (rest ≡ (generalise_parts).text parts))
+only_generalise rest (step.Generalise left right rows subst certs) e =
+    ((record { left = left; right = right; rows = rows }, (subst, certs)), (refl, ap (drop 11) e))
+only_generalise rest (step.Delete (Absurd cert)) e =
+    absurd (let f : true ≡ false = ap (starts (codes "gen")) e in cc)
 only_generalise rest x e = absurd (let f : true ≡ false = ap (starts (codes "gen")) e in cc)
 
 pub generalise_kind : IsKind (codes "generalise ") (generalise_parts) generalise_of
@@ -114,9 +139,12 @@ generalise_kind = record { text = λ parts. refl; in_range = λ parts. refl; onl
 abbrev pub postulate_of : Equation → Step
 postulate_of p = step.Postulate p.left p.right p.rows
 
-only_postulate : (rest : List ℕ) (x : Step) → codes "postulate " ++ rest ≡ step_text x → (parts : Equation) × ((x ≡ postulate_of parts) × (rest ≡ (equations).text parts))
-only_postulate rest (step.Postulate left right rows) e = (record { left = left; right = right; rows = rows }, (refl, ap (drop 10) e))
-only_postulate rest (step.Delete (Absurd cert)) e = absurd (let f : true ≡ false = ap (starts (codes "pos")) e in cc)
+only_postulate : (rest : List ℕ) (x : Step) → codes "postulate " ++ rest ≡ step_text x →
+    (parts : Equation) × ((x ≡ postulate_of parts) × (rest ≡ (equations).text parts))
+only_postulate rest (step.Postulate left right rows) e =
+    (record { left = left; right = right; rows = rows }, (refl, ap (drop 10) e))
+only_postulate rest (step.Delete (Absurd cert)) e =
+    absurd (let f : true ≡ false = ap (starts (codes "pos")) e in cc)
 only_postulate rest x e = absurd (let f : true ≡ false = ap (starts (codes "pos")) e in cc)
 
 pub postulate_kind : IsKind (codes "postulate ") (equations) postulate_of
@@ -126,9 +154,11 @@ postulate_kind = record { text = λ parts. refl; in_range = λ parts. refl; only
 abbrev pub split_of : Row → Step
 split_of p = step.Split p
 
-only_split : (rest : List ℕ) (x : Step) → codes "split " ++ rest ≡ step_text x → (parts : Row) × ((x ≡ split_of parts) × (rest ≡ (word row_format).text parts))
+only_split : (rest : List ℕ) (x : Step) → codes "split " ++ rest ≡ step_text x → (parts : Row) ×
+    ((x ≡ split_of parts) × (rest ≡ (word row_format).text parts))
 only_split rest (step.Split row) e = (row, (refl, ap (drop 6) e))
-only_split rest (step.Delete (Absurd cert)) e = absurd (let f : true ≡ false = ap (starts (codes "spl")) e in cc)
+only_split rest (step.Delete (Absurd cert)) e =
+    absurd (let f : true ≡ false = ap (starts (codes "spl")) e in cc)
 only_split rest x e = absurd (let f : true ≡ false = ap (starts (codes "spl")) e in cc)
 
 pub split_kind : IsKind (codes "split ") (word row_format) split_of
@@ -138,9 +168,11 @@ split_kind = record { text = λ parts. refl; in_range = λ parts. refl; only = o
 abbrev pub decompose_of : List Cert → Step
 decompose_of p = step.Decompose p
 
-only_decompose : (rest : List ℕ) (x : Step) → codes "decompose " ++ rest ≡ step_text x → (parts : List Cert) × ((x ≡ decompose_of parts) × (rest ≡ (certificate_lists).text parts))
+only_decompose : (rest : List ℕ) (x : Step) → codes "decompose " ++ rest ≡ step_text x →
+    (parts : List Cert) × ((x ≡ decompose_of parts) × (rest ≡ (certificate_lists).text parts))
 only_decompose rest (step.Decompose certs) e = (certs, (refl, ap (drop 10) e))
-only_decompose rest (step.Delete (Absurd cert)) e = absurd (let f : true ≡ false = ap (starts (codes "dec")) e in cc)
+only_decompose rest (step.Delete (Absurd cert)) e =
+    absurd (let f : true ≡ false = ap (starts (codes "dec")) e in cc)
 only_decompose rest x e = absurd (let f : true ≡ false = ap (starts (codes "dec")) e in cc)
 
 pub decompose_kind : IsKind (codes "decompose ") (certificate_lists) decompose_of
@@ -150,9 +182,12 @@ decompose_kind = record { text = λ parts. refl; in_range = λ parts. refl; only
 abbrev pub results_of : ℕ × (ℕ × List Cert) → Step
 results_of p = step.Results p.0 p.1.0 p.1.1
 
-only_results : (rest : List ℕ) (x : Step) → codes "results " ++ rest ≡ step_text x → (parts : ℕ × (ℕ × List Cert)) × ((x ≡ results_of parts) × (rest ≡ (results_parts).text parts))
-only_results rest (step.Results left right certs) e = ((left, (right, certs)), (refl, ap (drop 8) e))
-only_results rest (step.Delete (Absurd cert)) e = absurd (let f : true ≡ false = ap (starts (codes "res")) e in cc)
+only_results : (rest : List ℕ) (x : Step) → codes "results " ++ rest ≡ step_text x →
+    (parts : ℕ × (ℕ × List Cert)) × ((x ≡ results_of parts) × (rest ≡ (results_parts).text parts))
+only_results rest (step.Results left right certs) e =
+    ((left, (right, certs)), (refl, ap (drop 8) e))
+only_results rest (step.Delete (Absurd cert)) e =
+    absurd (let f : true ≡ false = ap (starts (codes "res")) e in cc)
 only_results rest x e = absurd (let f : true ≡ false = ap (starts (codes "res")) e in cc)
 
 pub results_kind : IsKind (codes "results ") (results_parts) results_of

@@ -23,7 +23,8 @@ plain_in_range make test same (x ∷ xs) =
 
 -- what stands before the ranks
 begins_in_range : (log : Log) → list_all lines.in_range (before_ranks log)
-    ≡ (list_all lines.in_range (by_symbol line.Cover 0 log.covers) && list_all is_readable_step log.steps)
+    ≡ (list_all lines.in_range (by_symbol line.Cover 0 log.covers) &&
+    list_all is_readable_step log.steps)
 begins_in_range log =
     let covers = list_all lines.in_range (by_symbol line.Cover 0 log.covers) in
     list_all-append lines.in_range (by_symbol line.Cover 0 log.covers) (plain line.Step log.steps)
@@ -33,13 +34,16 @@ begins_in_range log =
 -- the ranks and the pairs
 ends_in_range : (log : Log) → list_all lines.in_range (behind_steps log)
     ≡ (is_width log.table.columns
-    && (list_all lines.in_range (by_symbol line.Rank 0 log.table.ranks) && list_all is_readable_pair log.pairs))
+    && (list_all lines.in_range (by_symbol line.Rank 0 log.table.ranks) &&
+    list_all is_readable_pair log.pairs))
 ends_in_range log =
     let ranks = list_all lines.in_range (by_symbol line.Rank 0 log.table.ranks) in
-    ap (λ b. b && list_all lines.in_range (by_symbol line.Rank 0 log.table.ranks ++ plain line.Pair log.pairs))
+    ap (λ b. b && list_all lines.in_range (by_symbol line.Rank 0 log.table.ranks ++
+    plain line.Pair log.pairs))
     (and-true (is_width log.table.columns))
     ∙ ap (λ b. is_width log.table.columns && b)
-    (list_all-append lines.in_range (by_symbol line.Rank 0 log.table.ranks) (plain line.Pair log.pairs)
+    (list_all-append lines.in_range (by_symbol line.Rank 0 log.table.ranks)
+    (plain line.Pair log.pairs)
     ∙ ap (λ b. ranks && b)
     (plain_in_range line.Pair is_readable_pair (λ x. and-true (is_readable_pair x)) log.pairs))
 
@@ -52,7 +56,8 @@ lines_in_range log =
     ∙ list_all-append lines.in_range (before_ranks log) (behind_steps log)
 
 -- tests one after the other, however they are grouped
-regroup : (a b c d e f : Bool) → (((a && b) && (c && (d && e))) && f) ≡ (a && (b && (c && (d && (e && f)))))
+regroup : (a b c d e f : Bool) → (((a && b) && (c && (d && e))) && f) ≡
+    (a && (b && (c && (d && (e && f)))))
 regroup true true true true e f = refl
 regroup true true true false e f = refl
 regroup true true false d e f = refl

@@ -11,14 +11,16 @@ use Rattle.rx_log.specs.declared.line.Line.{Line}
 use Rattle.rx_log.specs.declared.line.Line.TheVariants as line
 
 -- the text of two lists of lines
-pub lines_written : (xs ys : List (Line × ℕ)) → ended (line_texts (xs ++ ys)) ≡ ended (line_texts xs) ++ ended (line_texts ys)
+pub lines_written : (xs ys : List (Line × ℕ)) → ended (line_texts (xs ++ ys)) ≡
+    ended (line_texts xs) ++ ended (line_texts ys)
 lines_written xs ys =
     ap ended (map-append lines.text xs ys)
     ∙ flat_map-append (λ text. text ++ 10 ∷ []) (line_texts xs) (line_texts ys)
 
 -- the text of a log
 pub log_written : (out : List ℕ) (log : Log)
-    → ((out ++ ended (line_texts (before_ranks log))) ++ ended (line_texts (behind_steps log))) ++ codes "EQUIVALENT\n" ≡ out ++ log_text log
+    → ((out ++ ended (line_texts (before_ranks log))) ++ ended (line_texts (behind_steps log))) ++
+    codes "EQUIVALENT\n" ≡ out ++ log_text log
 log_written out log =
     let a = ended (line_texts (before_ranks log)) in
     let b = ended (line_texts (behind_steps log)) in

@@ -45,7 +45,8 @@ fn push_simplify(
     certs: &Items<Cert>,
     out: &mut Vec<u8>,
 ) -> Result<(), NoMemory>
-    ensures { OnOk result (out.new.items ≡ out.old.items ++ step_text (step.Simplify side rule certs.now)) }
+    ensures { OnOk result (out.new.items ≡ out.old.items ++
+        step_text (step.Simplify side rule certs.now)) }
 {
     push_word(out, b"simplify ")?;
     push_side(side, out)?;

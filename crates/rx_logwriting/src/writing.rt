@@ -89,7 +89,8 @@ fn push_pair(pair: &PairCert, out: &mut Vec<u8>) -> Result<(), NoMemory>
 
 /// How many columns the ranks have.
 fn push_width(columns: u32, out: &mut Vec<u8>) -> Result<(), NoMemory>
-    ensures { OnOk result (out.new.items ≡ out.old.items ++ (line_text (line.Ranks columns) 0 ++ 10 ∷ [])) }
+    ensures { OnOk result (out.new.items ≡ out.old.items ++
+        (line_text (line.Ranks columns) 0 ++ 10 ∷ [])) }
 {
     push_word(out, b"ranks ")?;
     push_natural(out, columns)?;
@@ -225,8 +226,8 @@ fn push_log(log: &Log, out: &mut Vec<u8>) -> Result<(), NoMemory>
 }
 
 /// The text of the log: the one that is read again as this log, and no other. TooDeep exactly where
-/// a certificate or a tree is deeper than 200; nothing deeper is walked. OutOfRange exactly where else
-/// something in the log has no text: a list of more than 4,294,967,295 things, a variable of
+/// a certificate or a tree is deeper than 200; nothing deeper is walked. OutOfRange exactly where
+/// else something in the log has no text: a list of more than 4,294,967,295 things, a variable of
 /// 1,000,000 or greater, no columns or more than 15, or a rank with more or fewer polynomials than
 /// that. Terms may have as many frames as memory holds.
 pub fn write_log(alloc: Global, log: &Log) -> Result<Vec<u8>, LogEnd>

@@ -1,4 +1,5 @@
--- A pass that sets a variable leaves a row more without unset variables; so as many passes as there are rows set all that passes can set.
+-- A pass that sets a variable leaves a row more without unset variables; so as many passes as there
+-- are rows set all that passes can set.
 use Rattle.std.proofs.Common.{◌≡◌, ◌∙◌, ap, subst, sym, refl, cond, inl, inr, ◌⊎◌, ℕ, zero, suc, ◌+◌, ◌<◌, ◌≤◌, ◌==◌, Bool, true, false, not, ◌||◌, Option, Some, None, List, [], ◌∷◌, length, arith}
 use Rattle.std.specs.Prelude.{filter, nat_le}
 use Rattle.std.specs.List.{list_all}
@@ -33,8 +34,10 @@ or_either true b c h k = refl
 or_either false b c h k = h k
 
 module _ (x : ℕ) (p : Body) where
-  own_by : (b : Bool) (w : ℕ × Body) (ws : Settings) → is_set (set_to x p ws) x ≡ true → is_set (cond b ((x, p) ∷ w ∷ ws) (w ∷ set_to x p ws)) x ≡ true
-  own_by true w ws h = let same : (x == x) ≡ true = eq-eqb x x refl in ap (λ b. b || is_set (w ∷ ws) x) same
+  own_by : (b : Bool) (w : ℕ × Body) (ws : Settings) → is_set (set_to x p ws) x ≡ true →
+      is_set (cond b ((x, p) ∷ w ∷ ws) (w ∷ set_to x p ws)) x ≡ true
+  own_by true w ws h =
+      let same : (x == x) ≡ true = eq-eqb x x refl in ap (λ b. b || is_set (w ∷ ws) x) same
   own_by false w ws h = or_right (w.0 == x) (is_set (set_to x p ws) x) h
 
   -- the variable is set then
@@ -42,7 +45,8 @@ module _ (x : ℕ) (p : Body) where
   set_own [] = let same : (x == x) ≡ true = eq-eqb x x refl in ap (λ b. b || false) same
   set_own (w ∷ ws) = own_by (nat_le x w.0) w ws (set_own ws)
 
-  more_by : (b : Bool) (w : ℕ × Body) (ws : Settings) (y : ℕ) → (is_set ws y ≡ true → is_set (set_to x p ws) y ≡ true) → is_set (w ∷ ws) y ≡ true
+  more_by : (b : Bool) (w : ℕ × Body) (ws : Settings) (y : ℕ) →
+      (is_set ws y ≡ true → is_set (set_to x p ws) y ≡ true) → is_set (w ∷ ws) y ≡ true
       → is_set (cond b ((x, p) ∷ w ∷ ws) (w ∷ set_to x p ws)) y ≡ true
   more_by true w ws y h k = or_right (x == y) (is_set (w ∷ ws) y) k
   more_by false w ws y h k = or_either (w.0 == y) (is_set ws y) (is_set (set_to x p ws) y) h k
@@ -54,13 +58,15 @@ module _ (x : ℕ) (p : Body) where
 
 -- ---- rows without unset variables
 
-all_still : (ws vs : Settings) → Grown ws vs → (xs : List ℕ) → list_all (is_set ws) xs ≡ true → list_all (is_set vs) xs ≡ true
+all_still : (ws vs : Settings) → Grown ws vs → (xs : List ℕ) → list_all (is_set ws) xs ≡ true →
+    list_all (is_set vs) xs ≡ true
 all_still ws vs g [] h = refl
 all_still ws vs g (x ∷ xs) h =
     let parts = and_parts (is_set ws x) (list_all (is_set ws) xs) h in
     and_from (is_set vs x) (list_all (is_set vs) xs) (g x parts.0) (all_still ws vs g xs parts.1)
 
-row_still : (ws vs : Settings) → Grown ws vs → (row : Row) → row_passes (is_set ws) row ≡ true → row_passes (is_set vs) row ≡ true
+row_still : (ws vs : Settings) → Grown ws vs → (row : Row) → row_passes (is_set ws) row ≡ true →
+    row_passes (is_set vs) row ≡ true
 row_still ws vs g (Ge p) h = all_still ws vs g (variables p) h
 row_still ws vs g (Eq p) h = all_still ws vs g (variables p) h
 row_still ws vs g (Ne p) h = all_still ws vs g (variables p) h
@@ -77,10 +83,12 @@ one_still : (a b : Bool) → (a ≡ true → b ≡ true) → bit a ≤ bit b
 one_still true b h = let is : bit b ≡ bit true = ap bit (h refl) in omega (arith, is)
 one_still false b h = omega arith
 
-closed_grows : (ws vs : Settings) → Grown ws vs → (rows : List Row) → closed ws rows ≤ closed vs rows
+closed_grows : (ws vs : Settings) → Grown ws vs → (rows : List Row) → closed ws rows ≤
+    closed vs rows
 closed_grows ws vs g [] = omega arith
 closed_grows ws vs g (row ∷ rows) =
-    let here = one_still (row_passes (is_set ws) row) (row_passes (is_set vs) row) (row_still ws vs g row) in
+    let here = one_still (row_passes (is_set ws) row) (row_passes (is_set vs) row)
+    (row_still ws vs g row) in
     let later = closed_grows ws vs g rows in
     omega (arith, here, later)
 
@@ -88,25 +96,31 @@ abbrev Among : Row → List Row → Type 0
 Among row [] = ⊥
 Among row (r ∷ rs) = (r ≡ row) ⊎ Among row rs
 
-closed_more : (ws vs : Settings) → Grown ws vs → (row : Row) (rows : List Row) → Among row rows → row_passes (is_set ws) row ≡ false → row_passes (is_set vs) row ≡ true
+closed_more : (ws vs : Settings) → Grown ws vs → (row : Row) (rows : List Row) → Among row rows →
+    row_passes (is_set ws) row ≡ false → row_passes (is_set vs) row ≡ true
     → closed ws rows < closed vs rows
 closed_more ws vs g row [] a h k = absurd a
 closed_more ws vs g row (r ∷ rs) (inl e) h k =
-    let old : bit (row_passes (is_set ws) r) ≡ bit false = ap (λ (q : Row). bit (row_passes (is_set ws) q)) e ∙ ap bit h in
-    let new : bit (row_passes (is_set vs) r) ≡ bit true = ap (λ (q : Row). bit (row_passes (is_set vs) q)) e ∙ ap bit k in
+    let old : bit (row_passes (is_set ws) r) ≡ bit false =
+    ap (λ (q : Row). bit (row_passes (is_set ws) q)) e ∙ ap bit h in
+    let new : bit (row_passes (is_set vs) r) ≡ bit true =
+    ap (λ (q : Row). bit (row_passes (is_set vs) q)) e ∙ ap bit k in
     let later = closed_grows ws vs g rs in
     omega (arith, old, new, later)
 closed_more ws vs g row (r ∷ rs) (inr a) h k =
-    let here = one_still (row_passes (is_set ws) r) (row_passes (is_set vs) r) (row_still ws vs g r) in
+    let here = one_still (row_passes (is_set ws) r) (row_passes (is_set vs) r) (row_still ws vs g r)
+    in
     let later = closed_more ws vs g row rs a h k in
     omega (arith, here, later)
 
 -- ---- the only unset variable
 
-one_by : (b : Bool) (u x : ℕ) (us : List ℕ) → list_all (λ y. y == u) us ≡ b → cond b (Some u) None ≡ Some x → list_all (λ y. y == x) (u ∷ us) ≡ true
+one_by : (b : Bool) (u x : ℕ) (us : List ℕ) → list_all (λ y. y == u) us ≡ b → cond b (Some u) None ≡
+    Some x → list_all (λ y. y == x) (u ∷ us) ≡ true
 one_by true u x us h e =
     let same : u ≡ x = cc in
-    subst (λ (v : ℕ). list_all (λ y. y == v) (u ∷ us) ≡ true) same (and_from (u == u) (list_all (λ y. y == u) us) (eq-eqb u u refl) h)
+    subst (λ (v : ℕ). list_all (λ y. y == v) (u ∷ us) ≡ true) same
+    (and_from (u == u) (list_all (λ y. y == u) us) (eq-eqb u u refl) h)
 one_by false u x us h e = cc
 
 only_these : (us : List ℕ) (x : ℕ) → only_one us ≡ Some x → list_all (λ y. y == x) us ≡ true
@@ -119,15 +133,22 @@ module _ (ws : Settings) where
 
   -- setting it leaves none unset
   module _ (x : ℕ) (p : Body) where
-    closes_by : (b : Bool) (v : ℕ) (xs : List ℕ) → is_set ws v ≡ b → (list_all (λ y. y == x) (unset xs) ≡ true → list_all (is_set (set_to x p ws)) xs ≡ true)
-        → list_all (λ y. y == x) (cond (not b) (v ∷ unset xs) (unset xs)) ≡ true → list_all (is_set (set_to x p ws)) (v ∷ xs) ≡ true
-    closes_by true v xs is rest h = and_from (is_set (set_to x p ws) v) (list_all (is_set (set_to x p ws)) xs) (set_more x p ws v is) (rest h)
+    closes_by : (b : Bool) (v : ℕ) (xs : List ℕ) → is_set ws v ≡ b →
+        (list_all (λ y. y == x) (unset xs) ≡ true → list_all (is_set (set_to x p ws)) xs ≡ true)
+        → list_all (λ y. y == x) (cond (not b) (v ∷ unset xs) (unset xs)) ≡ true →
+        list_all (is_set (set_to x p ws)) (v ∷ xs) ≡ true
+    closes_by true v xs is rest h =
+        and_from (is_set (set_to x p ws) v) (list_all (is_set (set_to x p ws)) xs)
+        (set_more x p ws v is) (rest h)
     closes_by false v xs is rest h =
         let parts = and_parts (v == x) (list_all (λ y. y == x) (unset xs)) h in
         let same : x ≡ v = sym (eqb-true v x parts.0) in
-        and_from (is_set (set_to x p ws) v) (list_all (is_set (set_to x p ws)) xs) (subst (λ (y : ℕ). is_set (set_to x p ws) y ≡ true) same (set_own x p ws)) (rest parts.1)
+        and_from (is_set (set_to x p ws) v) (list_all (is_set (set_to x p ws)) xs)
+        (subst (λ (y : ℕ). is_set (set_to x p ws) y ≡ true) same (set_own x p ws))
+        (rest parts.1)
 
-    closes : (xs : List ℕ) → list_all (λ y. y == x) (unset xs) ≡ true → list_all (is_set (set_to x p ws)) xs ≡ true
+    closes : (xs : List ℕ) → list_all (λ y. y == x) (unset xs) ≡ true →
+        list_all (is_set (set_to x p ws)) xs ≡ true
     closes [] h = refl
     closes (v ∷ xs) h = closes_by (is_set ws v) v xs refl (closes xs) h
 
@@ -138,23 +159,33 @@ module _ (ws : Settings) where
       let parts = and_parts (is_set ws x) (list_all (is_set ws) xs) h in
       ap (λ (b : Bool). cond (not b) (x ∷ unset xs) (unset xs)) parts.0 ∙ none_unset xs parts.1
 
-  still_open : (b : Bool) (p : Body) (x : ℕ) → passes (is_set ws) p ≡ b → only_one (unset_in ws p) ≡ Some x → b ≡ false
-  still_open true p x h e = let none : only_one (unset_in ws p) ≡ None = ap only_one (none_unset (variables p) h) in cc
+  still_open : (b : Bool) (p : Body) (x : ℕ) → passes (is_set ws) p ≡ b → only_one (unset_in ws p) ≡
+      Some x → b ≡ false
+  still_open true p x h e =
+      let none : only_one (unset_in ws p) ≡ None = ap only_one (none_unset (variables p) h) in cc
   still_open false p x h e = refl
 
   -- ---- a row
 
   -- nothing changes, or the row has no unset variable any more
   abbrev Closes : Settings → Row → Type 0
-  Closes vs row = (vs ≡ ws) ⊎ (Grown ws vs × (row_passes (is_set ws) row ≡ false) × (row_passes (is_set vs) row ≡ true))
+  Closes vs row =
+      (vs ≡ ws) ⊎ (Grown ws vs × (row_passes (is_set ws) row ≡ false) ×
+      (row_passes (is_set vs) row ≡ true))
 
-  value_closes : (p : Body) (x : ℕ) (o : Option Body) → only_one (unset_in ws p) ≡ Some x → Closes (set_to_value ws x o).form (Eq p)
+  value_closes : (p : Body) (x : ℕ) (o : Option Body) → only_one (unset_in ws p) ≡ Some x →
+      Closes (set_to_value ws x o).form (Eq p)
   value_closes p x None e = inl refl
   value_closes p x (Some v) e =
       let q = (in_body ws v).form in
-      inr (set_more x q ws, still_open (passes (is_set ws) p) p x refl e, closes x q (variables p) (only_these (unset_in ws p) x e))
+      inr (
+        set_more x q ws,
+        still_open (passes (is_set ws) p) p x refl e,
+        closes x q (variables p) (only_these (unset_in ws p) x e),
+      )
 
-  equation_closes : (p : Body) (o : Option ℕ) → only_one (unset_in ws p) ≡ o → Closes (set_by_equation ws p o).form (Eq p)
+  equation_closes : (p : Body) (o : Option ℕ) → only_one (unset_in ws p) ≡ o →
+      Closes (set_by_equation ws p o).form (Eq p)
   equation_closes p None e = inl refl
   equation_closes p (Some x) e = value_closes p x (solution x p) e
 
@@ -175,17 +206,22 @@ module _ (ws : Settings) where
 abbrev Closer : List Row → Settings → Settings → Type 0
 Closer whole ws vs = (vs ≡ ws) ⊎ (closed ws whole < closed vs whole)
 
-closer_then : (whole : List Row) (us vs ws : Settings) → Closer whole us vs → Closer whole vs ws → Closer whole us ws
+closer_then : (whole : List Row) (us vs ws : Settings) → Closer whole us vs → Closer whole vs ws →
+    Closer whole us ws
 closer_then whole us vs ws (inl e) (inl f) = inl (f ∙ e)
-closer_then whole us vs ws (inl e) (inr k) = inr (subst (λ (xs : Settings). closed xs whole < closed ws whole) e k)
-closer_then whole us vs ws (inr h) (inl f) = inr (subst (λ (xs : Settings). closed us whole < closed xs whole) (sym f) h)
+closer_then whole us vs ws (inl e) (inr k) =
+    inr (subst (λ (xs : Settings). closed xs whole < closed ws whole) e k)
+closer_then whole us vs ws (inr h) (inl f) =
+    inr (subst (λ (xs : Settings). closed us whole < closed xs whole) (sym f) h)
 closer_then whole us vs ws (inr h) (inr k) = inr (omega (arith, h, k))
 
-by_row : (whole : List Row) (row : Row) → Among row whole → (ws vs : Settings) → Closes ws vs row → Closer whole ws vs
+by_row : (whole : List Row) (row : Row) → Among row whole → (ws vs : Settings) → Closes ws vs row →
+    Closer whole ws vs
 by_row whole row a ws vs (inl e) = inl e
 by_row whole row a ws vs (inr c) = inr (closed_more ws vs c.0 row whole a c.1 c.2)
 
-pass_closes : (whole rows : List Row) → ((row : Row) → Among row rows → Among row whole) → (ws : Settings) → Closer whole ws (pass rows ws).form
+pass_closes : (whole rows : List Row) → ((row : Row) → Among row rows → Among row whole) →
+    (ws : Settings) → Closer whole ws (pass rows ws).form
 pass_closes whole [] inside ws = inl refl
 pass_closes whole (row ∷ rows) inside ws =
     let next = (set_by_row ws row).form in
@@ -209,38 +245,48 @@ one_is true h = refl
 one_is false h = absurd (omega (arith, h))
 
 -- where no row has an unset variable, a pass changes nothing
-closed_pass : (ws : Settings) (rows : List Row) → length rows ≤ closed ws rows → pass rows ws ≡ pure ws
+closed_pass : (ws : Settings) (rows : List Row) → length rows ≤ closed ws rows → pass rows ws ≡
+    pure ws
 closed_pass ws [] h = refl
 closed_pass ws (row ∷ rows) h =
     let later = closed-le ws rows in
     let here = at_most_one (row_passes (is_set ws) row) in
     let one : 1 ≤ bit (row_passes (is_set ws) row) = omega (arith, h, later) in
     let rest : length rows ≤ closed ws rows = omega (arith, h, here) in
-    ap (λ (f : Formed Settings). f >>= pass rows) (closed_row ws row (one_is (row_passes (is_set ws) row) one)) ∙ closed_pass ws rows rest
+    ap (λ (f : Formed Settings). f >>= pass rows)
+    (closed_row ws row (one_is (row_passes (is_set ws) row) one)) ∙ closed_pass ws rows rest
 
 -- ---- so many passes
 
 module _ (rows : List Row) where
   -- a pass more changes nothing, where that many passes keep the limits
   abbrev Ends : ℕ → Settings → Type 0
-  Ends n ws = (pass_times n rows ws).within ≡ true → pass rows (pass_times n rows ws).form ≡ pure (pass_times n rows ws).form
+  Ends n ws =
+      (pass_times n rows ws).within ≡ true → pass rows (pass_times n rows ws).form ≡
+      pure (pass_times n rows ws).form
 
-  after_pass : (n : ℕ) (ws : Settings) → length rows ≤ suc n + closed ws rows → ((vs : Settings) → length rows ≤ n + closed vs rows → Ends n vs)
+  after_pass : (n : ℕ) (ws : Settings) → length rows ≤ suc n + closed ws rows →
+      ((vs : Settings) → length rows ≤ n + closed vs rows → Ends n vs)
       → Closer rows ws (pass rows ws).form → Ends (suc n) ws
   after_pass n ws many further (inl e) within =
-      let parts = and_parts (pass rows ws).within (pass_times n rows (pass rows ws).form).within within in
+      let parts = and_parts (pass rows ws).within (pass_times n rows (pass rows ws).form).within
+      within in
       let nothing : pass rows ws ≡ pure ws = (λ i. record { form = e i; within = parts.0 i }) in
       let end : pass_times (suc n) rows ws ≡ pure ws = unchanging (suc n) rows ws nothing in
       subst (λ (f : Formed Settings). pass rows f.form ≡ pure f.form) (sym end) nothing
   after_pass n ws many further (inr more) within =
-      let parts = and_parts (pass rows ws).within (pass_times n rows (pass rows ws).form).within within in
+      let parts = and_parts (pass rows ws).within (pass_times n rows (pass rows ws).form).within
+      within in
       further (pass rows ws).form (omega (arith, many, more)) parts.1
 
   ends : (n : ℕ) (ws : Settings) → length rows ≤ n + closed ws rows → Ends n ws
   ends zero ws many within = closed_pass ws rows (omega (arith, many))
-  ends (suc n) ws many within = after_pass n ws many (ends n) (pass_closes rows rows (λ row a. a) ws) within
+  ends (suc n) ws many within =
+      after_pass n ws many (ends n) (pass_closes rows rows (λ row a. a) ws) within
 
 -- as many passes as there are rows are enough
-pub enough_passes : (rows : List Row) (ws : Settings) → (pass_times (length rows) rows ws).within ≡ true
-    → pass rows (pass_times (length rows) rows ws).form ≡ pure (pass_times (length rows) rows ws).form
+pub enough_passes : (rows : List Row) (ws : Settings) → (pass_times (length rows) rows ws).within ≡
+    true
+    → pass rows (pass_times (length rows) rows ws).form ≡
+    pure (pass_times (length rows) rows ws).form
 enough_passes rows ws within = ends rows (length rows) ws (omega arith) within

@@ -1,4 +1,5 @@
--- A hypothesis is used at one place of a side at most: the part there has as many frames as its left side.
+-- A hypothesis is used at one place of a side at most: the part there has as many frames as its
+-- left side.
 use Rattle.std.proofs.Common.{◌≡◌, ◌∙◌, ap, sym, refl, ℕ, ◌+◌, true, false, Option, Some, None}
 use Rattle.std.specs.Option.{option_map_or}
 use Rattle.rx_term.proofs.Equations.{induct, depth-Return, depth-Fail, depth-Call, depth-Frame, shape-Return, shape-Fail, shape-Call, shape-Frame}
@@ -25,24 +26,29 @@ frames_of = induct (λ t. depth_of t ≡ frames (shape_of t))
     (λ p. depth-Return p ∙ sym (ap frames (shape-Return p)))
     (λ c. depth-Fail c ∙ sym (ap frames (shape-Fail c)))
     (λ f ps. depth-Call f ps ∙ sym (ap frames (shape-Call f ps)))
-    (λ f ps t inner. depth-Frame f ps t ∙ ap (λ n. 1 + n) inner ∙ sym (ap frames (shape-Frame f ps t)))
+    (λ f ps t inner. depth-Frame f ps t ∙ ap (λ n. 1 + n) inner ∙
+    sym (ap frames (shape-Frame f ps t)))
 
 -- terms of one shape have equally many
 one_depth : (s t : Term) → have_one_shape s t ≡ true → depth_of s ≡ depth_of t
-one_depth s t h = frames_of s ∙ ap frames (told_shape (shape_of s) (shape_of t) h) ∙ sym (frames_of t)
+one_depth s t h =
+    frames_of s ∙ ap frames (told_shape (shape_of s) (shape_of t) h) ∙ sym (frames_of t)
 
 module _ (goal : Equation) (hypothesis : Rule) (side : Side) where
   by_part : (n : ℕ) (o : Option Term) → behind n (side_of side goal) ≡ o
       → option_map_or (λ part. have_one_shape part hypothesis.left) o false ≡ true
       → depth_of (side_of side goal) ≡ n + depth_of hypothesis.left
   by_part n None e h = cc
-  by_part n (Some part) e h = depth_behind n (side_of side goal) part e ∙ ap (λ d. n + d) (one_depth part hypothesis.left h)
+  by_part n (Some part) e h =
+      depth_behind n (side_of side goal) part e ∙ ap (λ d. n + d) (one_depth part hypothesis.left h)
 
   -- so many frames are over the part
-  pub place_is : (n : ℕ) → is_place goal hypothesis side n ≡ true → depth_of (side_of side goal) ≡ n + depth_of hypothesis.left
+  pub place_is : (n : ℕ) → is_place goal hypothesis side n ≡ true → depth_of (side_of side goal) ≡
+      n + depth_of hypothesis.left
   place_is n h = by_part n (behind n (side_of side goal)) refl h
 
   -- whether it is a place is whether the part there has the shape
   pub place_by : (n : ℕ) (part : Term) → behind n (side_of side goal) ≡ Some part
       → is_place goal hypothesis side n ≡ have_one_shape part hypothesis.left
-  place_by n part e = ap (λ (o : Option Term). option_map_or (λ u. have_one_shape u hypothesis.left) o false) e
+  place_by n part e =
+      ap (λ (o : Option Term). option_map_or (λ u. have_one_shape u hypothesis.left) o false) e

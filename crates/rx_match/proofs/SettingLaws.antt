@@ -16,17 +16,21 @@ module _ (x : ℕ) where
   place_for-le (w ∷ ws) = place_within (nat_le x w.0) (place_for x ws) (length ws) (place_for-le ws)
 
   -- the polynomial is put at that place
-  put_at : (b : Bool) (p : Body) (w : ℕ × Body) (ws : List (ℕ × Body)) → insert ws (place_for x ws) (x, p) ≡ set_to x p ws
-      → insert (w ∷ ws) (cond b 0 (suc (place_for x ws))) (x, p) ≡ cond b ((x, p) ∷ w ∷ ws) (w ∷ set_to x p ws)
+  put_at : (b : Bool) (p : Body) (w : ℕ × Body) (ws : List (ℕ × Body)) →
+      insert ws (place_for x ws) (x, p) ≡ set_to x p ws
+      → insert (w ∷ ws) (cond b 0 (suc (place_for x ws))) (x, p) ≡
+      cond b ((x, p) ∷ w ∷ ws) (w ∷ set_to x p ws)
   put_at true p w ws h = refl
   put_at false p w ws h = ap (λ vs. w ∷ vs) h
 
-  pub set_to-insert : (p : Body) (ws : List (ℕ × Body)) → insert ws (place_for x ws) (x, p) ≡ set_to x p ws
+  pub set_to-insert : (p : Body) (ws : List (ℕ × Body)) → insert ws (place_for x ws) (x, p) ≡
+      set_to x p ws
   set_to-insert p [] = refl
   set_to-insert p (w ∷ ws) = put_at (nat_le x w.0) p w ws (set_to-insert p ws)
 
   -- one more variable is set
-  one_more : (b : Bool) (p : Body) (w : ℕ × Body) (ws : List (ℕ × Body)) → length (set_to x p ws) ≡ suc (length ws)
+  one_more : (b : Bool) (p : Body) (w : ℕ × Body) (ws : List (ℕ × Body)) → length (set_to x p ws) ≡
+      suc (length ws)
       → length (cond b ((x, p) ∷ w ∷ ws) (w ∷ set_to x p ws)) ≡ suc (suc (length ws))
   one_more true p w ws h = refl
   one_more false p w ws h = ap suc h

@@ -29,10 +29,12 @@ use Rattle.rx_match.specs.declared.finding.Use.{Use}
 
 -- ---- what is formed first
 
-pub within_is : {A B : Type 0} (f : Formed A) (next : A → Tried B) → f.within ≡ true → where_within f next ≡ next f.form
+pub within_is : {A B : Type 0} (f : Formed A) (next : A → Tried B) → f.within ≡ true →
+    where_within f next ≡ next f.form
 within_is f next h = ap (λ b. cond b (next f.form) beyond) h
 
-pub within_beyond : {A B : Type 0} (f : Formed A) (next : A → Tried B) → f.within ≡ false → where_within f next ≡ beyond
+pub within_beyond : {A B : Type 0} (f : Formed A) (next : A → Tried B) → f.within ≡ false →
+    where_within f next ≡ beyond
 within_beyond f next h = ap (λ b. cond b (next f.form) beyond) h
 
 -- ---- a use with a substitution
@@ -44,13 +46,15 @@ module _ (goal : Equation) (hypothesis : Rule) (part : Term) (ws : List (ℕ × 
   abbrev shown_then : List Row → Tried (List (ℕ × Body))
   shown_then rows = where_shown (all_shown refuted goal.rows rows) ws
 
-  pub with_matched : is_matched hypothesis ws ≡ true → use_with goal hypothesis part ws ≡ where_within asked shown_then
+  pub with_matched : is_matched hypothesis ws ≡ true → use_with goal hypothesis part ws ≡
+      where_within asked shown_then
   with_matched h = ap (λ b. cond b (where_within asked shown_then) fails) h
 
   pub with_fails : is_matched hypothesis ws ≡ false → use_with goal hypothesis part ws ≡ fails
   with_fails h = ap (λ b. cond b (where_within asked shown_then) fails) h
 
-  pub with_beyond : is_matched hypothesis ws ≡ true → asked.within ≡ false → use_with goal hypothesis part ws ≡ beyond
+  pub with_beyond : is_matched hypothesis ws ≡ true → asked.within ≡ false →
+      use_with goal hypothesis part ws ≡ beyond
   with_beyond h k = with_matched h ∙ within_beyond asked shown_then k
 
   pub with_shown : is_matched hypothesis ws ≡ true → asked.within ≡ true
@@ -58,14 +62,19 @@ module _ (goal : Equation) (hypothesis : Rule) (part : Term) (ws : List (ℕ × 
   with_shown h k = with_matched h ∙ within_is asked shown_then k
 
   -- the answer of asking for the rows that are formed
-  pub answer_with : (rows : List Row) (r : Result (Option Use) FmEnd) → is_matched hypothesis ws ≡ true → asked.within ≡ true → rows ≡ asked.form
-      → UseAnswers (where_shown (all_shown refuted goal.rows rows) ws) r → UseAnswers (use_with goal hypothesis part ws) r
+  pub answer_with : (rows : List Row) (r : Result (Option Use) FmEnd) → is_matched hypothesis ws ≡
+      true → asked.within ≡ true → rows ≡ asked.form
+      → UseAnswers (where_shown (all_shown refuted goal.rows rows) ws) r →
+      UseAnswers (use_with goal hypothesis part ws) r
   answer_with rows r h k e a =
       subst (λ t. UseAnswers t r) (sym (with_shown h k))
-      (subst (λ (rs : List Row). UseAnswers (where_shown (all_shown refuted goal.rows rs) ws) r) e a)
+      (subst (λ (rs : List Row). UseAnswers (where_shown (all_shown refuted goal.rows rs) ws) r) e
+      a)
 
-  pub shown_with : (rows : List Row) (r : Result (Option Use) FmEnd) → is_matched hypothesis ws ≡ true → asked.within ≡ true → rows ≡ asked.form
-      → IfOk r (λ a. IfSome a (IsShown goal.rows rows ws)) → IfOk r (λ a. IfSome a (IsShownAt goal hypothesis part ws))
+  pub shown_with : (rows : List Row) (r : Result (Option Use) FmEnd) → is_matched hypothesis ws ≡
+      true → asked.within ≡ true → rows ≡ asked.form
+      → IfOk r (λ a. IfSome a (IsShown goal.rows rows ws)) →
+      IfOk r (λ a. IfSome a (IsShownAt goal hypothesis part ws))
   shown_with rows (Ok None) h k e a = tt
   shown_with rows (Ok (Some u)) h k e a = record {
     matched = h;
@@ -80,39 +89,49 @@ module _ (goal : Equation) (hypothesis : Rule) (part : Term) where
   abbrev matched_then : Tried (List (ℕ × Body))
   matched_then = where_within (matching hypothesis part) (use_with goal hypothesis part)
 
-  pub at_shape : have_one_shape part hypothesis.left ≡ true → use_at goal hypothesis part ≡ matched_then
+  pub at_shape : have_one_shape part hypothesis.left ≡ true → use_at goal hypothesis part ≡
+      matched_then
   at_shape h = ap (λ b. cond b matched_then fails) h
 
   pub at_fails : have_one_shape part hypothesis.left ≡ false → use_at goal hypothesis part ≡ fails
   at_fails h = ap (λ b. cond b matched_then fails) h
 
-  pub at_beyond : have_one_shape part hypothesis.left ≡ true → (matching hypothesis part).within ≡ false → use_at goal hypothesis part ≡ beyond
-  at_beyond h k = at_shape h ∙ within_beyond (matching hypothesis part) (use_with goal hypothesis part) k
+  pub at_beyond : have_one_shape part hypothesis.left ≡ true → (matching hypothesis part).within ≡
+      false → use_at goal hypothesis part ≡ beyond
+  at_beyond h k =
+      at_shape h ∙ within_beyond (matching hypothesis part) (use_with goal hypothesis part) k
 
-  pub at_matched : have_one_shape part hypothesis.left ≡ true → (matching hypothesis part).within ≡ true
+  pub at_matched : have_one_shape part hypothesis.left ≡ true → (matching hypothesis part).within ≡
+      true
       → use_at goal hypothesis part ≡ use_with goal hypothesis part (matching hypothesis part).form
-  at_matched h k = at_shape h ∙ within_is (matching hypothesis part) (use_with goal hypothesis part) k
+  at_matched h k =
+      at_shape h ∙ within_is (matching hypothesis part) (use_with goal hypothesis part) k
 
   -- the answer of the use with what is matched
-  pub answer_at : (ws : List (ℕ × Body)) (r : Result (Option Use) FmEnd) → have_one_shape part hypothesis.left ≡ true
+  pub answer_at : (ws : List (ℕ × Body)) (r : Result (Option Use) FmEnd) →
+      have_one_shape part hypothesis.left ≡ true
       → (matching hypothesis part).within ≡ true → ws ≡ (matching hypothesis part).form
       → UseAnswers (use_with goal hypothesis part ws) r → UseAnswers (use_at goal hypothesis part) r
   answer_at ws r h k e a =
-      subst (λ t. UseAnswers t r) (sym (at_matched h k)) (subst (λ (vs : List (ℕ × Body)). UseAnswers (use_with goal hypothesis part vs) r) e a)
+      subst (λ t. UseAnswers t r) (sym (at_matched h k))
+      (subst (λ (vs : List (ℕ × Body)). UseAnswers (use_with goal hypothesis part vs) r) e a)
 
 -- a fact of a use, wherever there is one
-pub if_use : (P : Use → Type 0) (r : Result (Option Use) FmEnd) → ((u : Use) → P u) → IfOk r (λ a. IfSome a P)
+pub if_use : (P : Use → Type 0) (r : Result (Option Use) FmEnd) → ((u : Use) → P u) →
+    IfOk r (λ a. IfSome a P)
 if_use P (Ok None) h = tt
 if_use P (Ok (Some u)) h = h u
 if_use P (Err end) h = tt
 
-pub if_use_then : (P Q : Use → Type 0) (r : Result (Option Use) FmEnd) → ((u : Use) → P u → Q u) → IfOk r (λ a. IfSome a P) → IfOk r (λ a. IfSome a Q)
+pub if_use_then : (P Q : Use → Type 0) (r : Result (Option Use) FmEnd) → ((u : Use) → P u → Q u) →
+    IfOk r (λ a. IfSome a P) → IfOk r (λ a. IfSome a Q)
 if_use_then P Q (Ok None) h a = tt
 if_use_then P Q (Ok (Some u)) h a = h u a
 if_use_then P Q (Err end) h a = tt
 
 -- two facts of it
-pub if_use_both : (P Q R : Use → Type 0) (r : Result (Option Use) FmEnd) → ((u : Use) → P u → Q u → R u)
+pub if_use_both : (P Q R : Use → Type 0) (r : Result (Option Use) FmEnd) →
+    ((u : Use) → P u → Q u → R u)
     → IfOk r (λ a. IfSome a P) → IfOk r (λ a. IfSome a Q) → IfOk r (λ a. IfSome a R)
 if_use_both P Q R (Ok None) h a b = tt
 if_use_both P Q R (Ok (Some u)) h a b = h u a b
@@ -120,33 +139,45 @@ if_use_both P Q R (Err end) h a b = tt
 
 -- ---- the step
 
-module _ (goal : Equation) (hypothesis : Rule) (side : Side) (place : ℕ) (part : Term) (ws : List (ℕ × Body)) where
+module _ (goal : Equation) (hypothesis : Rule) (side : Side) (place : ℕ) (part : Term)
+    (ws : List (ℕ × Body)) where
   abbrev made : Formed FormedStep
   made = used_by goal side place (hypothesis_with ws part hypothesis)
 
   abbrev with_hypothesis : Term → Rule → Forming FormedStep
-  with_hypothesis t h = provided (have_one_shape t h.left) (limited (used_by goal side place (hypothesis_with ws t h)))
+  with_hypothesis t h =
+      provided (have_one_shape t h.left) (limited
+      (used_by goal side place (hypothesis_with ws t h)))
 
   abbrev with_part : Term → Forming FormedStep
-  with_part t = provided (is_substitution ws) (found_or NoSuchRule (slice_get (hypothesis ∷ []) 0)) >>= with_hypothesis t
+  with_part t =
+      provided (is_substitution ws) (found_or NoSuchRule (slice_get (hypothesis ∷ []) 0)) >>=
+      with_hypothesis t
 
   -- the step is formed at the part
-  pub step_formed : behind place (side_of side goal) ≡ Some part → is_substitution ws ≡ true → have_one_shape part hypothesis.left ≡ true
-      → (hypothesis_with ws part hypothesis).within ≡ true → used (hypothesis ∷ []) goal side place 0 ws ≡ Ok made.form
+  pub step_formed : behind place (side_of side goal) ≡ Some part → is_substitution ws ≡ true →
+      have_one_shape part hypothesis.left ≡ true
+      → (hypothesis_with ws part hypothesis).within ≡ true →
+      used (hypothesis ∷ []) goal side place 0 ws ≡ Ok made.form
   step_formed at sub shape within =
       ap (λ (o : Option Term). found_or WrongShape o >>= with_part) at
-      ∙ ap (λ b. provided b (found_or NoSuchRule (slice_get (hypothesis ∷ []) 0)) >>= with_hypothesis part) sub
+      ∙ ap (λ b. provided b (found_or NoSuchRule (slice_get (hypothesis ∷ []) 0)) >>=
+      with_hypothesis part) sub
       ∙ ap (λ b. provided b (limited made)) shape
       ∙ ap (λ b. cond b (Ok made.form) (Err Large)) within
 
   -- a use that is shown there is lawful
-  pub lawful_at : behind place (side_of side goal) ≡ Some part → (u : Use) → IsShownAt goal hypothesis part ws u
+  pub lawful_at : behind place (side_of side goal) ≡ Some part → (u : Use) →
+      IsShownAt goal hypothesis part ws u
       → have_one_shape part hypothesis.left ≡ true → IsLawful goal hypothesis side place u
   lawful_at at u s shape = record {
     rows = (hypothesis_with ws part hypothesis).form.rows;
-    new = with_side side goal (replaced place (side_of side goal) (hypothesis_with ws part hypothesis).form.right);
+    new =
+        with_side side goal (replaced place (side_of side goal)
+        (hypothesis_with ws part hypothesis).form.right);
     formed = ap (used (hypothesis ∷ []) goal side place 0) s.shown.same
-        ∙ step_formed at (and_parts (rule_passes (is_set ws) hypothesis) (is_substitution ws) s.matched).1 shape s.within;
+        ∙ step_formed at (and_parts (rule_passes (is_set ws) hypothesis) (is_substitution ws)
+        s.matched).1 shape s.within;
     follows = s.shown.follows;
     shown = s.shown.shown;
   }

@@ -1,6 +1,6 @@
--- When a hypothesis is used at a part of a side of the goal. Its variables are set by the arguments of
--- the part, and then by its own equations; the step with them is formed, and all rows that it asks
--- are shown by the rows of the goal.
+-- When a hypothesis is used at a part of a side of the goal. Its variables are set by the arguments
+-- of the part, and then by its own equations; the step with them is formed, and all rows that it
+-- asks are shown by the rows of the goal.
 use Rattle.std.specs.Prelude.{ℕ, Bool, false, ◌&&◌, if◌then◌else◌, List, length}
 use Rattle.std.specs.Option.{option_map_or}
 use Rattle.rx_plain.specs.Formed.{Formed, ◌<$>◌}
@@ -26,7 +26,8 @@ use Rattle.rx_match.specs.Variables.{rule_passes}
 
 -- as many passes as there are rows: each that sets a variable sets the last one of some row
 abbrev pub matching : Rule → Term → Formed (List (ℕ × Body))
-matching hypothesis part = pass_times (length hypothesis.rows) hypothesis.rows (set_by_arguments hypothesis.left part)
+matching hypothesis part =
+    pass_times (length hypothesis.rows) hypothesis.rows (set_by_arguments hypothesis.left part)
 
 -- ---- the use
 
@@ -40,13 +41,15 @@ is_matched hypothesis ws = rule_passes (is_set ws) hypothesis && is_substitution
 
 -- the rows that the step asks: those of the equal polynomials, and the hypothesis's own
 abbrev pub asked_rows : List (ℕ × Body) → Term → Rule → Formed (List Row)
-asked_rows ws part hypothesis = (λ (i : RuleInstance). i.rows) <$> hypothesis_with ws part hypothesis
+asked_rows ws part hypothesis =
+    (λ (i : RuleInstance). i.rows) <$> hypothesis_with ws part hypothesis
 
 -- then these rows are shown
 abbrev pub use_with : Equation → Rule → Term → List (ℕ × Body) → Tried (List (ℕ × Body))
 use_with goal hypothesis part ws =
     if is_matched hypothesis ws
-    then where_within (asked_rows ws part hypothesis) (λ rows. where_shown (all_shown refuted goal.rows rows) ws)
+    then where_within (asked_rows ws part hypothesis)
+    (λ rows. where_shown (all_shown refuted goal.rows rows) ws)
     else fails
 
 -- at a part of the shape of the hypothesis's left side
@@ -58,11 +61,13 @@ use_at goal hypothesis part =
 
 -- at the part behind so many frames of a side, if there is one
 abbrev pub use_of : Equation → Rule → Side → ℕ → Tried (List (ℕ × Body))
-use_of goal hypothesis side place = option_map_or (use_at goal hypothesis) (behind place (side_of side goal)) fails
+use_of goal hypothesis side place =
+    option_map_or (use_at goal hypothesis) (behind place (side_of side goal)) fails
 
 -- ---- where
 
 -- the part behind so many frames of the side has the shape of the hypothesis's left side
 abbrev pub is_place : Equation → Rule → Side → ℕ → Bool
 is_place goal hypothesis side place =
-    option_map_or (λ part. have_one_shape part hypothesis.left) (behind place (side_of side goal)) false
+    option_map_or (λ part. have_one_shape part hypothesis.left) (behind place (side_of side goal))
+    false

@@ -27,18 +27,23 @@ UseAnswers tried (Ok None) = tried ≡ fails
 UseAnswers tried (Ok (Some u)) = tried ≡ applies u.subst
 UseAnswers tried (Err e) = e ≡ Large → tried ≡ beyond
 
--- the step is formed with the substitution, from a list of this hypothesis alone; the rows that it asks are shown by the refuter, and by the certificates
-pub record IsLawful (goal : Equation) (hypothesis : Rule) (side : Side) (place : ℕ) (u : Use) : Type 0 where
+-- the step is formed with the substitution, from a list of this hypothesis alone; the rows that it
+-- asks are shown by the refuter, and by the certificates
+pub record IsLawful (goal : Equation) (hypothesis : Rule) (side : Side) (place : ℕ) (u : Use) : Type
+    0 where
   pub rows : List Row
   pub new : Equation
   pub formed : used (hypothesis ∷ []) goal side place 0 u.subst ≡ Ok (asking rows (new ∷ []))
   pub follows : all_shown refuted goal.rows rows ≡ Yes
   pub shown : AreCertificates most_deep goal.rows rows u.certs
 
--- it has no variables but those of the goal and of the hypothesis: it passes each test that they pass
+-- it has no variables but those of the goal and of the hypothesis: it passes each test that they
+-- pass
 pub record HasOwnVariables (goal : Equation) (hypothesis : Rule) (u : Use) : Type 0 where
-  pub subst : (test : ℕ → Bool) → equation_passes test goal ≡ true → rule_passes test hypothesis ≡ true → substitution_passes test u.subst ≡ true
-  pub certs : (test : ℕ → Bool) → equation_passes test goal ≡ true → rule_passes test hypothesis ≡ true → All (λ cert. cert_passes test cert ≡ true) u.certs
+  pub subst : (test : ℕ → Bool) → equation_passes test goal ≡ true → rule_passes test hypothesis ≡
+      true → substitution_passes test u.subst ≡ true
+  pub certs : (test : ℕ → Bool) → equation_passes test goal ≡ true → rule_passes test hypothesis ≡
+      true → All (λ cert. cert_passes test cert ≡ true) u.certs
 
 -- ---- parts of a use that is found
 
@@ -48,8 +53,10 @@ pub record IsShown (given rows : List Row) (ws : List (ℕ × Body)) (u : Use) :
   pub follows : all_shown refuted given rows ≡ Yes
   pub shown : AreCertificates most_deep given rows u.certs
 
--- the variables are set, and the rows that the hypothesis asks for in place of the part are formed and shown
-pub record IsShownAt (goal : Equation) (hypothesis : Rule) (part : Term) (ws : List (ℕ × Body)) (u : Use) : Type 0 where
+-- the variables are set, and the rows that the hypothesis asks for in place of the part are formed
+-- and shown
+pub record IsShownAt (goal : Equation) (hypothesis : Rule) (part : Term) (ws : List (ℕ × Body))
+    (u : Use) : Type 0 where
   pub matched : is_matched hypothesis ws ≡ true
   pub within : (asked_rows ws part hypothesis).within ≡ true
   pub shown : IsShown goal.rows (asked_rows ws part hypothesis).form ws u

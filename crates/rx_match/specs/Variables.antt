@@ -19,7 +19,8 @@ term_passes test t = polys_pass test (arguments_of t)
 
 -- those of both sides and the rows of an equation
 abbrev pub equation_passes : (ℕ → Bool) → Equation → Bool
-equation_passes test e = term_passes test e.left && (term_passes test e.right && rows_pass test e.rows)
+equation_passes test e =
+    term_passes test e.left && (term_passes test e.right && rows_pass test e.rows)
 
 -- of a rule
 abbrev pub rule_passes : (ℕ → Bool) → Rule → Bool

@@ -18,7 +18,8 @@ fn set_lone(
     pattern: &Poly,
     poly: &Poly,
 ) -> Result<Items<(u32, Poly)>, AllocError>
-    ensures { IfOk result (λ ws. ws ≡ set_lone (variable_of (out-Body pattern.now).terms) poly.now settings) }
+    ensures { IfOk result (λ ws. ws ≡ set_lone (variable_of (out-Body pattern.now).terms) poly.now
+        settings) }
 {
     match pattern.as_variable() {
         Some(variable) if !is_set(settings.as_slice(), variable) => {

@@ -48,7 +48,8 @@ fn set_by_equation(
     settings: Items<(u32, Poly)>,
     poly: &Poly,
 ) -> Result<Items<(u32, Poly)>, PolyEnd>
-    ensures forms { Forms PolyEnd.Large result (set_by_equation settings poly.now (only_one (unset_in settings poly.now))) }
+    ensures forms { Forms PolyEnd.Large result
+        (set_by_equation settings poly.now (only_one (unset_in settings poly.now))) }
 {
     let unset = unset_in(alloc, settings.as_slice(), poly)?;
     match only_one(unset.as_slice()) {

@@ -110,8 +110,10 @@ fn use_at<S: FnMut(&Constraint) -> Result<Option<Cert>, FmEnd>>(
     requires solver { IsSolver S.FnMut solve.old }
     ensures solver { IsSolver S.FnMut solve.new }
     ensures answer { UseAnswers (use_at goal.now hypothesis.now part.now) result }
-    ensures shown { IfOk result (λ a. IfSome a (IsShownAt goal.now hypothesis.now part.now (matching hypothesis.now part.now).form)) }
-    ensures shape { IfOk result (λ a. IfSome a (λ u. have_one_shape part.now hypothesis.now.left ≡ true)) }
+    ensures shown { IfOk result (λ a. IfSome a
+        (IsShownAt goal.now hypothesis.now part.now (matching hypothesis.now part.now).form)) }
+    ensures shape { IfOk result (λ a. IfSome a
+        (λ u. have_one_shape part.now hypothesis.now.left ≡ true)) }
 {
     if !has_left_shape(part, hypothesis) {
         return Ok(None);

@@ -24,16 +24,19 @@ pub fn unchanging_passes_are_the_last()
         pass rows ws ≡ pure ws → pass_times n rows ws ≡ pure ws }
 {}
 
-/// As many passes as there are rows are enough: where they keep the limits, one more changes nothing.
+/// As many passes as there are rows are enough: where they keep the limits, one more changes
+/// nothing.
 pub fn as_many_passes_as_rows_are_enough()
     ensures { (rows : List Row) (ws : List (ℕ × Body)) →
         (pass_times (length rows) rows ws).within ≡ true →
-        pass rows (pass_times (length rows) rows ws).form ≡ pure (pass_times (length rows) rows ws).form }
+        pass rows (pass_times (length rows) rows ws).form ≡
+        pure (pass_times (length rows) rows ws).form }
 {}
 
 /// The use of a hypothesis is formed alike from each list that it is in.
 pub fn a_use_is_one_from_each_list()
-    ensures { (hypotheses : List Rule) (hypothesis : Rule) (goal : Equation) (side : Side) (place number : ℕ) (ws : List (ℕ × Body)) →
+    ensures { (hypotheses : List Rule) (hypothesis : Rule) (goal : Equation) (side : Side)
+        (place number : ℕ) (ws : List (ℕ × Body)) →
         slice_get hypotheses number ≡ Some hypothesis →
         used hypotheses goal side place number ws ≡ used (hypothesis ∷ []) goal side place 0 ws }
 {}

@@ -19,7 +19,8 @@ pub(crate) fn has_left_shape(part: &Term, hypothesis: &Rule) -> bool
 pub fn place_of(goal: &Equation, hypothesis: &Rule, side: Side) -> Option<u32>
     requires goal { depth_of (side_of side goal.now) < 2 ^ 32 }
     requires hypothesis { depth_of hypothesis.now.left < 2 ^ 32 }
-    ensures { (place : ℕ) → (result ≡ Some place) ↔ (is_place goal.now hypothesis.now side place ≡ true) }
+    ensures { (place : ℕ) → (result ≡ Some place) ↔
+        (is_place goal.now hypothesis.now side place ≡ true) }
 {
     let term = side_of(goal, side);
     let whole = term.depth();

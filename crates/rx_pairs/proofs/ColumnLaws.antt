@@ -1,4 +1,5 @@
--- What the rows of a column say of its values at a pair, and so what those of a pair say of its ranks.
+-- What the rows of a column say of its values at a pair, and so what those of a pair say of its
+-- ranks.
 use Rattle.std.proofs.Common.{◌≡◌, ◌∙◌, ap, subst, sym, refl, cond, arith, inl, inr, ◌<◌, ◌≤◌, ℕ, zero, suc, Bool, true, false, Option, Some, None, List, [], ◌∷◌, ◌++◌, length, map, ℤ, pos, negsuc, ◌≤ℤ◌, ◌-ℤ◌, int_lt, All}
 use Rattle.std.proofs.lemmas.Int.{ints}
 use Rattle.std.proofs.lemmas.List.Elements.{All-cons, All-head, All-nil, All-tail}
@@ -43,7 +44,8 @@ column_below (negsuc m) y low h = absurd (omega (arith, ints, low))
 
 -- an integer below 0 has the least
 below_zero_column : (y : ℤ) → int_lt y (pos 0) ≡ true → column y ≡ 0
-below_zero_column (pos n) h = let no : pos 0 ≤ℤ pos n = omega (arith, ints) in absurd (omega (arith, ints, h))
+below_zero_column (pos n) h =
+    let no : pos 0 ≤ℤ pos n = omega (arith, ints) in absurd (omega (arith, ints, h))
 below_zero_column (negsuc n) h = refl
 
 module _ (a : ℕ → ℤ) (pair : Pair) where
@@ -60,37 +62,48 @@ module _ (a : ℕ → ℤ) (pair : Pair) where
   right_value : (q : Body) → value a (at_right pair q).form ≡ on_right q
   right_value q = value-in_body a (numbered pair.right_args) q
 
-  difference : (p q : Body) → value a (subtracted (at_left pair p).form (at_right pair q).form) ≡ on_left p -ℤ on_right q
-  difference p q = value-subtracted a (at_left pair p).form (at_right pair q).form ∙ (λ i. left_value p i -ℤ right_value q i)
+  difference : (p q : Body) → value a (subtracted (at_left pair p).form (at_right pair q).form) ≡
+      on_left p -ℤ on_right q
+  difference p q =
+      value-subtracted a (at_left pair p).form (at_right pair q).form ∙
+      (λ i. left_value p i -ℤ right_value q i)
 
   -- a number below 0 on the right
   number_below : (q : Body) → is_below_zero (at_right pair q).form ≡ true → column (on_right q) ≡ 0
   number_below q h = by_number (constant_of (out-Body (at_right pair q).form).terms) refl h where
-    by_number : (o : Option ℤ) → constant_of (out-Body (at_right pair q).form).terms ≡ o → is_below o ≡ true → column (on_right q) ≡ 0
+    by_number : (o : Option ℤ) → constant_of (out-Body (at_right pair q).form).terms ≡ o →
+        is_below o ≡ true → column (on_right q) ≡ 0
     by_number None is h = cc
     by_number (Some k) is h =
         let same = sym (right_value q) ∙ constant_worth a (at_right pair q).form k is in
         ap column same ∙ below_zero_column k h
 
   -- where the rows of a column that is to hold do, its value doesn't rise
-  pub column_holds : (p q : Body) → AllHold a (holds_rows pair p q).form → column (on_right q) ≤ column (on_left p)
+  pub column_holds : (p q : Body) → AllHold a (holds_rows pair p q).form → column (on_right q) ≤
+      column (on_left p)
   column_holds p q rows = by_test (is_below_zero (at_right pair q).form) refl rows where
-    by_test : (b : Bool) → is_below_zero (at_right pair q).form ≡ b → AllHold a (cond b [] (not_greater pair p (at_right pair q).form).form)
+    by_test : (b : Bool) → is_below_zero (at_right pair q).form ≡ b →
+        AllHold a (cond b [] (not_greater pair p (at_right pair q).form).form)
         → column (on_right q) ≤ column (on_left p)
     by_test true is rows = let none = number_below q is in omega (arith, none)
     by_test false is rows =
-        let row = All-head (RowHolds a) (Ge (subtracted (at_left pair p).form (at_right pair q).form)) [] rows in
+        let row = All-head (RowHolds a) (Ge (subtracted (at_left pair p).form
+        (at_right pair q).form)) [] rows in
         column_at_most (on_left p) (on_right q) (subst (λ z. pos 0 ≤ℤ z) (difference p q) row)
 
   -- where those of a column that is to fall do, it falls
-  pub column_falls : (p q : Body) → AllHold a (falls_rows pair p q).form → column (on_right q) < column (on_left p)
+  pub column_falls : (p q : Body) → AllHold a (falls_rows pair p q).form → column (on_right q) <
+      column (on_left p)
   column_falls p q rows =
       let l = (at_left pair p).form in
       let d = subtracted l (at_right pair q).form in
       let low = All-head (RowHolds a) (Ge l) (Ge (subtracted d (number (pos 1))) ∷ []) rows in
-      let rest = All-head (RowHolds a) (Ge (subtracted d (number (pos 1)))) [] (All-tail (RowHolds a) (Ge l) (Ge (subtracted d (number (pos 1))) ∷ []) rows) in
-      let less = value-subtracted a d (number (pos 1)) ∙ (λ i. difference p q i -ℤ value-number a (pos 1) i) in
-      column_below (on_left p) (on_right q) (subst (λ z. pos 0 ≤ℤ z) (left_value p) low) (subst (λ z. pos 0 ≤ℤ z) less rest)
+      let rest = All-head (RowHolds a) (Ge (subtracted d (number (pos 1)))) []
+      (All-tail (RowHolds a) (Ge l) (Ge (subtracted d (number (pos 1))) ∷ []) rows) in
+      let less = value-subtracted a d (number (pos 1)) ∙
+      (λ i. difference p q i -ℤ value-number a (pos 1) i) in
+      column_below (on_left p) (on_right q) (subst (λ z. pos 0 ≤ℤ z) (left_value p) low)
+      (subst (λ z. pos 0 ≤ℤ z) less rest)
 
   -- the columns' values
   abbrev left_columns : List Body → List ℕ
@@ -106,13 +119,16 @@ module _ (a : ℕ → ℤ) (pair : Pair) where
   ]
 
   -- where the rows of a pair do, the rank on the right is below that on the left
-  pub rows_lower : (j : ℕ) (ps qs : List Body) → 0 < j → j ≤ length ps → j ≤ length qs → AllHold a (lower_rows pair j ps qs).form
+  pub rows_lower : (j : ℕ) (ps qs : List Body) → 0 < j → j ≤ length ps → j ≤ length qs →
+      AllHold a (lower_rows pair j ps qs).form
       → FirstLess (right_columns qs) (left_columns ps)
   rows_lower zero ps qs some left right holds = absurd (omega (arith, some))
   rows_lower (suc j) [] qs some left right holds = absurd (omega (arith, left))
   rows_lower (suc j) (p ∷ ps) [] some left right holds = absurd (omega (arith, right))
   rows_lower (suc zero) (p ∷ ps) (q ∷ qs) some left right holds = inl (column_falls p q holds)
   rows_lower (suc (suc j)) (p ∷ ps) (q ∷ qs) some left right holds =
-      let both = halves (RowHolds a) (holds_rows pair p q).form (lower_rows pair (suc j) ps qs).form holds in
+      let both = halves (RowHolds a) (holds_rows pair p q).form (lower_rows pair (suc j) ps qs).form
+      holds in
       first_less (column (on_right q)) (column (on_left p)) (right_columns qs) (left_columns ps)
-      (column_holds p q both.0) (rows_lower (suc j) ps qs (omega arith) (omega (arith, left)) (omega (arith, right)) both.1)
+      (column_holds p q both.0) (rows_lower (suc j) ps qs (omega arith) (omega (arith, left))
+      (omega (arith, right)) both.1)

@@ -25,9 +25,15 @@ abbrev Further : ℕ → Term → Type 0
 Further n t = (s u : Term) → behind n t ≡ Some s → IsPart s u → IsPart t u
 
 further : (n : ℕ) → ((u : Term) → Further n u) → (t : Term) → Form t → Further (suc n) t
-further n inner _ (AReturn p) s u h in_s = absurd (none-some s (sym (ap (λ (x : Term-F Term). under_frame x (behind n)) (outs-Return p)) ∙ h))
-further n inner _ (AFail c) s u h in_s = absurd (none-some s (sym (ap (λ (x : Term-F Term). under_frame x (behind n)) (outs-Fail c)) ∙ h))
-further n inner _ (ACall f ps) s u h in_s = absurd (none-some s (sym (ap (λ (x : Term-F Term). under_frame x (behind n)) (outs-Call f ps)) ∙ h))
+further n inner _ (AReturn p) s u h in_s =
+    absurd (none-some s (sym (ap (λ (x : Term-F Term). under_frame x (behind n)) (outs-Return p)) ∙
+    h))
+further n inner _ (AFail c) s u h in_s =
+    absurd (none-some s (sym (ap (λ (x : Term-F Term). under_frame x (behind n)) (outs-Fail c)) ∙
+    h))
+further n inner _ (ACall f ps) s u h in_s =
+    absurd (none-some s (sym (ap (λ (x : Term-F Term). under_frame x (behind n)) (outs-Call f ps)) ∙
+    h))
 further n inner _ (AFrame f ps t) s u h in_s =
     let (k, is) = inner t s u (sym (behind-Frame n f ps t) ∙ h) in_s in
     (suc k, behind-Frame k f ps t ∙ is)
@@ -54,15 +60,23 @@ one_part t s u (n, h) (m, g) same =
 
 -- behind fewer frames stands what more frames lead to
 abbrev Behind : ℕ → Term → Type 0
-Behind n t = (m : ℕ) (s u : Term) → behind n t ≡ Some s → behind (n + m) t ≡ Some u → behind m s ≡ Some u
+Behind n t =
+    (m : ℕ) (s u : Term) → behind n t ≡ Some s → behind (n + m) t ≡ Some u → behind m s ≡ Some u
 
 behind_one : (n : ℕ) → ((u : Term) → Behind n u) → (t : Term) → Form t → Behind (suc n) t
-behind_one n inner _ (AReturn p) m s u h g = absurd (none-some s (sym (ap (λ (x : Term-F Term). under_frame x (behind n)) (outs-Return p)) ∙ h))
-behind_one n inner _ (AFail c) m s u h g = absurd (none-some s (sym (ap (λ (x : Term-F Term). under_frame x (behind n)) (outs-Fail c)) ∙ h))
-behind_one n inner _ (ACall f ps) m s u h g = absurd (none-some s (sym (ap (λ (x : Term-F Term). under_frame x (behind n)) (outs-Call f ps)) ∙ h))
+behind_one n inner _ (AReturn p) m s u h g =
+    absurd (none-some s (sym (ap (λ (x : Term-F Term). under_frame x (behind n)) (outs-Return p)) ∙
+    h))
+behind_one n inner _ (AFail c) m s u h g =
+    absurd (none-some s (sym (ap (λ (x : Term-F Term). under_frame x (behind n)) (outs-Fail c)) ∙
+    h))
+behind_one n inner _ (ACall f ps) m s u h g =
+    absurd (none-some s (sym (ap (λ (x : Term-F Term). under_frame x (behind n)) (outs-Call f ps)) ∙
+    h))
 behind_one n inner _ (AFrame f ps t) m s u h g =
     let more : suc n + m ≡ suc (n + m) = omega arith in
-    inner t m s u (sym (behind-Frame n f ps t) ∙ h) (sym (behind-Frame (n + m) f ps t) ∙ ap (λ k. behind k (Frame f ps t)) (sym more) ∙ g)
+    inner t m s u (sym (behind-Frame n f ps t) ∙ h)
+    (sym (behind-Frame (n + m) f ps t) ∙ ap (λ k. behind k (Frame f ps t)) (sym more) ∙ g)
 
 behind_more : (n : ℕ) (t : Term) → Behind n t
 behind_more zero t = λ m s u h g.
@@ -95,19 +109,25 @@ module _ (f g : Sym) (ps qs : List Body) (t u : Term) (e : Frame f ps t ≡ Fram
   frame_inner = let o = opened in cc
 
 module _ (a b here there h t : Term) (f g : Sym) (ps qs : List Body) (inner further : Term)
-    (is : here ≡ Frame f ps inner) (other : there ≡ Frame g qs further) (at : h ≡ inner) (to : t ≡ further) where
+    (is : here ≡ Frame f ps inner) (other : there ≡ Frame g qs further) (at : h ≡ inner)
+    (to : t ≡ further) where
   -- one frame of both stepped over
-  pub step_over : (IsPart a here → IsPart a h) × (depth_of here - depth_of there ≡ depth_of a - depth_of b → depth_of h - depth_of t ≡ depth_of a - depth_of b)
+  pub step_over : (IsPart a here → IsPart a h) ×
+      (depth_of here - depth_of there ≡ depth_of a - depth_of b → depth_of h - depth_of t ≡
+      depth_of a - depth_of b)
   step_over =
-      let first : depth_of here ≡ 1 + depth_of h = ap depth_of is ∙ depth-Frame f ps inner ∙ ap (λ u. 1 + depth_of u) (sym at) in
-      let second : depth_of there ≡ 1 + depth_of t = ap depth_of other ∙ depth-Frame g qs further ∙ ap (λ u. 1 + depth_of u) (sym to) in
-      let under : IsPart here h = subst (λ x. IsPart x h) (sym is) (subst (IsPart (Frame f ps inner)) (sym at) (inner_part f ps inner)) in
+      let first : depth_of here ≡ 1 + depth_of h = ap depth_of is ∙ depth-Frame f ps inner ∙
+      ap (λ u. 1 + depth_of u) (sym at) in
+      let second : depth_of there ≡ 1 + depth_of t = ap depth_of other ∙ depth-Frame g qs further ∙
+      ap (λ u. 1 + depth_of u) (sym to) in
+      let under : IsPart here h = subst (λ x. IsPart x h) (sym is)
+      (subst (IsPart (Frame f ps inner)) (sym at) (inner_part f ps inner)) in
       (λ in_a. part_of_part a here h in_a under, λ level. omega (arith, first, second, level))
 
 -- ---- walks down two stacks of one depth
 
--- both are at one depth; where what is left is the same, all from the start on is common; and no part of both is larger
--- than the start, or as large as what is left where that differs
+-- both are at one depth; where what is left is the same, all from the start on is common; and no
+-- part of both is larger than the start, or as large as what is left where that differs
 pub record Walk (a b here there start : Term) : Type 0 where
   pub level : depth_of here ≡ depth_of there
   pub first : IsPart a here
@@ -133,7 +153,8 @@ begin a b level = record {
       here ∙ sym there;
 }
 
-module _ (a b : Term) (f g : Sym) (ps qs : List Body) (h t start : Term) (w : Walk a b (Frame f ps h) (Frame g qs t) start) where
+module _ (a b : Term) (f g : Sym) (ps qs : List Body) (h t start : Term)
+    (w : Walk a b (Frame f ps h) (Frame g qs t) start) where
   abbrev left_depth : depth_of (Frame f ps h) ≡ 1 + depth_of h
   left_depth = depth-Frame f ps h
 
@@ -187,38 +208,50 @@ module _ (a b : Term) (f g : Sym) (ps qs : List Body) (h t start : Term) (w : Wa
   }
 
 -- one turn of the walk, with what it reads
-module _ (a b here there h t start : Term) (f g : Sym) (ps qs : List Body) (inner further : Term) (w : Walk a b here there start)
-    (is : here ≡ Frame f ps inner) (other : there ≡ Frame g qs further) (at : h ≡ inner) (to : t ≡ further) where
+module _ (a b here there h t start : Term) (f g : Sym) (ps qs : List Body) (inner further : Term)
+    (w : Walk a b here there start)
+    (is : here ≡ Frame f ps inner) (other : there ≡ Frame g qs further) (at : h ≡ inner)
+    (to : t ≡ further) where
   read : Walk a b (Frame f ps inner) (Frame g qs further) start
-  read = subst (λ x. Walk a b x (Frame g qs further) start) is (subst (λ y. Walk a b here y start) other w)
+  read =
+      subst (λ x. Walk a b x (Frame g qs further) start) is
+      (subst (λ y. Walk a b here y start) other w)
 
   pub next_same : (f ≡ g) × (ps ≡ qs) → Walk a b h t start
   next_same same =
       subst (λ x. Walk a b x t start) (sym at)
-      (subst (λ y. Walk a b inner y start) (sym to) (behind_same a b f g ps qs inner further start read same.0 same.1))
+      (subst (λ y. Walk a b inner y start) (sym to)
+      (behind_same a b f g ps qs inner further start read same.0 same.1))
 
   pub next_different : ((f ≡ g) × (ps ≡ qs) → ⊥) → Walk a b h t t
   next_different differ =
       subst (λ x. Walk a b x t t) (sym at)
-      (subst (λ y. Walk a b inner y y) (sym to) (behind_different a b f g ps qs inner further start read differ))
+      (subst (λ y. Walk a b inner y y) (sym to)
+      (behind_different a b f g ps qs inner further start read differ))
 
 -- it ends where nothing is left of either
-module _ (a b here there start : Term) (w : Walk a b here there start) (none : depth_of here ≡ 0) where
-  pub found_common : here ≡ there → IsLargest a b start
-  found_common same = record { of_first = w.common same; of_second = w.begins; largest = w.largest }
+module _ (a b here there start : Term) (w : Walk a b here there start) (none : depth_of here ≡ 0)
+  where
+    pub found_common : here ≡ there → IsLargest a b start
+    found_common same =
+        record { of_first = w.common same; of_second = w.begins; largest = w.largest }
 
-  pub found_none : (here ≡ there → ⊥) → (u : Term) → IsPart a u → IsPart b u → ⊥
-  found_none differ u in_a in_b = differ (w.ends u in_a in_b (omega (arith, none)))
+    pub found_none : (here ≡ there → ⊥) → (u : Term) → IsPart a u → IsPart b u → ⊥
+    found_none differ u in_a in_b = differ (w.ends u in_a in_b (omega (arith, none)))
 
 -- ---- stacks of two depths
 
 -- a common part of two stacks is one of their parts that are as deep
-module _ (a b here there : Term) (in_a : IsPart a here) (in_b : IsPart b there) (level : depth_of here ≡ depth_of there)
+module _ (a b here there : Term) (in_a : IsPart a here) (in_b : IsPart b there)
+    (level : depth_of here ≡ depth_of there)
     (deep : (u : ℕ) → u ≤ depth_of a → u ≤ depth_of b → u ≤ depth_of here) where
   of_both : (u : Term) → IsPart a u → IsPart b u → IsPart here u × IsPart there u
   of_both u of_a of_b =
-      let most = deep (depth_of u) (part_depth a u of_a) (part_depth b u of_b) in
-      (part_below a here u in_a of_a most, part_below b there u in_b of_b (omega (arith, most, level)))
+      let most = deep (depth_of u) (part_depth a u of_a) (part_depth b u of_b) in (
+        part_below a here u in_a of_a most,
+        part_below b there u in_b of_b
+            (omega (arith, most, level)),
+      )
 
   pub at_level : (found : Option Term) → IsCommon here there found → IsCommon a b found
   at_level None none = λ u of_a of_b. let both = of_both u of_a of_b in none u both.0 both.1

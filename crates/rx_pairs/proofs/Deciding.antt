@@ -17,7 +17,8 @@ same_code (gnum m) gnil = inr (λ e. cc)
 same_code (gnum m) (gcons a b) = inr (λ e. cc)
 same_code (gnum m) (gnum n) = elim (cases_order m n) [
   | inl same ↦ inl (ap gnum same)
-  | inr apart ↦ inr (λ e. let same : m ≡ n = cc in elim apart [ inl less ↦ omega (arith, less, same) | inr more ↦ omega (arith, more, same) ])
+  | inr apart ↦ inr (λ e. let same : m ≡ n = cc in
+      elim apart [ inl less ↦ omega (arith, less, same) | inr more ↦ omega (arith, more, same) ])
 ]
 same_code (gcons a b) gnil = inr (λ e. cc)
 same_code (gcons a b) (gnum n) = inr (λ e. cc)

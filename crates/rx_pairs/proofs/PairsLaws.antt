@@ -69,14 +69,19 @@ module _ (left : Term) where
   result_none _ _ (AtReturn p) is = refl
   result_none _ _ (AtFail c) is = refl
   result_none _ _ (AtCall f ps differs) is = absurd (false≢true (sym (result_call f ps) ∙ is))
-  result_none _ _ (AtFrame f ps t rest differs inner) is = absurd (false≢true (sym (result_frame f ps t) ∙ is))
+  result_none _ _ (AtFrame f ps t rest differs inner) is =
+      absurd (false≢true (sym (result_frame f ps t) ∙ is))
 
-  call_alone : (f : Sym) (ps : List Body) (t : Term) (qs : List Part) → AreParts left t qs → t ≡ Call f ps → (IsUnder left t → ⊥) → qs ≡ part f ps ∷ []
+  call_alone : (f : Sym) (ps : List Body) (t : Term) (qs : List Part) → AreParts left t qs → t ≡
+      Call f ps → (IsUnder left t → ⊥) → qs ≡ part f ps ∷ []
   call_alone f ps _ _ (Common t under) is clear = absurd (clear under)
-  call_alone f ps _ _ (AtReturn p) is clear = absurd (no_result (Return p) (Call f ps) (result_return p) (result_call f ps) is)
-  call_alone f ps _ _ (AtFail c) is clear = absurd (no_result (Fail c) (Call f ps) (result_fail c) (result_call f ps) is)
+  call_alone f ps _ _ (AtReturn p) is clear =
+      absurd (no_result (Return p) (Call f ps) (result_return p) (result_call f ps) is)
+  call_alone f ps _ _ (AtFail c) is clear =
+      absurd (no_result (Fail c) (Call f ps) (result_fail c) (result_call f ps) is)
   call_alone f ps _ _ (AtCall g qs differs) is clear = ap (λ p. p ∷ []) (call_part g f qs ps is)
-  call_alone f ps _ _ (AtFrame g qs t rest differs inner) is clear = absurd (call_frame f g ps qs t (sym is))
+  call_alone f ps _ _ (AtFrame g qs t rest differs inner) is clear =
+      absurd (call_frame f g ps qs t (sym is))
 
   -- a frame's part, and those of what it is over
   record FrameFirst (f : Sym) (ps : List Body) (u : Term) (qs : List Part) : Type 0 where
@@ -84,10 +89,13 @@ module _ (left : Term) where
     pub inner : AreParts left u rest
     pub whole : qs ≡ part f ps ∷ rest
 
-  frame_first : (f : Sym) (ps : List Body) (u t : Term) (qs : List Part) → AreParts left t qs → t ≡ Frame f ps u → (IsUnder left t → ⊥) → FrameFirst f ps u qs
+  frame_first : (f : Sym) (ps : List Body) (u t : Term) (qs : List Part) → AreParts left t qs → t ≡
+      Frame f ps u → (IsUnder left t → ⊥) → FrameFirst f ps u qs
   frame_first f ps u _ _ (Common t under) is clear = absurd (clear under)
-  frame_first f ps u _ _ (AtReturn p) is clear = absurd (no_result (Return p) (Frame f ps u) (result_return p) (result_frame f ps u) is)
-  frame_first f ps u _ _ (AtFail c) is clear = absurd (no_result (Fail c) (Frame f ps u) (result_fail c) (result_frame f ps u) is)
+  frame_first f ps u _ _ (AtReturn p) is clear =
+      absurd (no_result (Return p) (Frame f ps u) (result_return p) (result_frame f ps u) is)
+  frame_first f ps u _ _ (AtFail c) is clear =
+      absurd (no_result (Fail c) (Frame f ps u) (result_fail c) (result_frame f ps u) is)
   frame_first f ps u _ _ (AtCall g qs differs) is clear = absurd (call_frame g f qs ps u is)
   frame_first f ps u _ _ (AtFrame g qs t rest differs inner) is clear = record {
     rest = rest;
@@ -99,14 +107,16 @@ module _ (left : Term) where
   one_list _ _ qs (Common t under) also = sym (under_none t qs also under)
   one_list _ _ qs (AtReturn p) also = sym (result_none (Return p) qs also (result_return p))
   one_list _ _ qs (AtFail c) also = sym (result_none (Fail c) qs also (result_fail c))
-  one_list _ _ qs (AtCall f ps differs) also = sym (call_alone f ps (Call f ps) qs also refl differs)
+  one_list _ _ qs (AtCall f ps differs) also =
+      sym (call_alone f ps (Call f ps) qs also refl differs)
   one_list _ _ qs (AtFrame f ps t rest differs inner) also =
       let first = frame_first f ps t (Frame f ps t) qs also refl differs in
       ap (λ r. part f ps ∷ r) (one_list t rest first.rest inner first.inner) ∙ sym first.whole
 
   -- ---- there is one
 
-  pub any_list : ((t : Term) → Either (IsUnder left t)) → (t : Term) → (ps : List Part) × AreParts left t ps
+  pub any_list : ((t : Term) → Either (IsUnder left t)) → (t : Term) → (ps : List Part) ×
+      AreParts left t ps
   any_list decide = induct (λ t. (ps : List Part) × AreParts left t ps)
       (λ p. ([], AtReturn p))
       (λ c. ([], AtFail c))
@@ -134,7 +144,8 @@ only_whole u ends t = elim (same_term u t) [
   | inr apart ↦ inr (λ part. not_deeper u t ends apart part.0 part.1)
 ]
 
-deeper : (f : Sym) (ps : List Body) (v t : Term) → (Frame f ps v ≡ t → ⊥) → (IsPart v t → ⊥) → (k : ℕ) → behind k (Frame f ps v) ≡ Some t → ⊥
+deeper : (f : Sym) (ps : List Body) (v t : Term) → (Frame f ps v ≡ t → ⊥) → (IsPart v t → ⊥) →
+    (k : ℕ) → behind k (Frame f ps v) ≡ Some t → ⊥
 deeper f ps v t apart clear zero is = apart (same_Some (Frame f ps v) t is)
 deeper f ps v t apart clear (suc k) is = clear (k, sym (behind-Frame k f ps v) ∙ is)
 
@@ -190,28 +201,33 @@ some_pairs rule has =
 -- and no others
 pub one_pairs : (rule : Rule) (ps qs : List Pair) → ArePairs rule ps → ArePairs rule qs → ps ≡ qs
 one_pairs rule _ _ (PairsOf root is parts are) (PairsOf other also others too) =
-    λ i. map (pair_of rule (one_root rule.left root other is also i)) (one_list rule.left rule.right parts others are too i)
+    λ i. map (pair_of rule (one_root rule.left root other is also i))
+    (one_list rule.left rule.right parts others are too i)
 
 -- so does a list of rules
-pub some_all : (rules : List Rule) → All HasRoot rules → (pairs : List Pair) × AreAllPairs rules pairs
+pub some_all : (rules : List Rule) → All HasRoot rules → (pairs : List Pair) ×
+    AreAllPairs rules pairs
 some_all [] all = ([], NoRules)
 some_all (rule ∷ rules) all =
     let (pairs, are) = some_pairs rule (All-head HasRoot rule rules all) in
     let (others, rest) = some_all rules (All-tail HasRoot rule rules all) in
     (pairs ++ others, OneMore rule rules pairs others are rest)
 
-pub one_all : (rules : List Rule) (ps qs : List Pair) → AreAllPairs rules ps → AreAllPairs rules qs → ps ≡ qs
+pub one_all : (rules : List Rule) (ps qs : List Pair) → AreAllPairs rules ps →
+    AreAllPairs rules qs → ps ≡ qs
 one_all _ _ _ NoRules NoRules = refl
 one_all _ _ _ (OneMore rule rules pairs others are rest) (OneMore _ _ pairs2 others2 are2 rest2) =
     λ i. one_pairs rule pairs pairs2 are are2 i ++ one_all rules others others2 rest rest2 i
 
 -- ---- two lists of rules, one after the other
 
-pub all_append : (rules others : List Rule) (ps qs : List Pair) → AreAllPairs rules ps → AreAllPairs others qs → AreAllPairs (rules ++ others) (ps ++ qs)
+pub all_append : (rules others : List Rule) (ps qs : List Pair) → AreAllPairs rules ps →
+    AreAllPairs others qs → AreAllPairs (rules ++ others) (ps ++ qs)
 all_append _ others _ qs NoRules after = after
 all_append _ others _ qs (OneMore rule rules pairs rest are more) after =
     subst (AreAllPairs (rule ∷ rules ++ others)) (sym (append_assoc pairs rest qs))
-    (OneMore rule (rules ++ others) pairs (rest ++ qs) are (all_append rules others rest qs more after))
+    (OneMore rule (rules ++ others) pairs (rest ++ qs) are
+    (all_append rules others rest qs more after))
 
 -- the pairs of the first list, and then those of the second
 pub record Parted (rules others : List Rule) (pairs : List Pair) : Type 0 where
@@ -221,8 +237,10 @@ pub record Parted (rules others : List Rule) (pairs : List Pair) : Type 0 where
   pub second : AreAllPairs others theirs
   pub whole : pairs ≡ ours ++ theirs
 
-pub part_pairs : (rules others : List Rule) (pairs : List Pair) → AreAllPairs (rules ++ others) pairs → Parted rules others pairs
-part_pairs [] others pairs are = record { ours = []; theirs = pairs; first = NoRules; second = are; whole = refl }
+pub part_pairs : (rules others : List Rule) (pairs : List Pair) →
+    AreAllPairs (rules ++ others) pairs → Parted rules others pairs
+part_pairs [] others pairs are =
+    record { ours = []; theirs = pairs; first = NoRules; second = are; whole = refl }
 part_pairs (rule ∷ rules) others _ (OneMore _ _ pairs rest are more) =
     let inner = part_pairs rules others rest more in
     record {
@@ -239,5 +257,7 @@ made_root _ (OfPoint f n) = result_call f (variables_from 0 n)
 made_root _ (OverReturn f n) = result_frame f (variables_from 0 n) (Return (variable n))
 made_root _ (OverFail f n c) = result_frame f (variables_from 0 n) (Fail c)
 
-pub made_roots : (parts : RuleParts) (rules : List Rule) → All (IsMade parts) rules → All HasRoot rules
-made_roots parts rules made = All-weaker (IsMade parts) HasRoot (λ rule m. made_root rule.left m.form) rules made
+pub made_roots : (parts : RuleParts) (rules : List Rule) → All (IsMade parts) rules →
+    All HasRoot rules
+made_roots parts rules made =
+    All-weaker (IsMade parts) HasRoot (λ rule m. made_root rule.left m.form) rules made

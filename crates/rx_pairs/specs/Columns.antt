@@ -33,10 +33,11 @@ not_greater pair p r = do
 
 -- the one or the other
 abbrev pub choose : {A : Type 0} → Bool → Formed A → Formed A → Formed A
-choose test f g = record { form = if test then f.form else g.form; within = if test then f.within else g.within }
+choose test f g =
+    record { form = if test then f.form else g.form; within = if test then f.within else g.within }
 
--- a column holds: its value on the right is at most that on the left. The right instance is formed first, and where it
--- is a number below 0 nothing is asked and nothing else is formed.
+-- a column holds: its value on the right is at most that on the left. The right instance is formed
+-- first, and where it is a number below 0 nothing is asked and nothing else is formed.
 abbrev pub holds_rows : Pair → Body → Body → Formed (List Row)
 holds_rows pair p q = do
   r ← at_right pair q

@@ -19,7 +19,8 @@ abbrev pub same_level : Term-F (Term → Bool) → Term-F Term → Bool
 same_level (Term-F.Return p) (Term-F.Return q) = (body_equal.ghosts).eq p q
 same_level (Term-F.Fail c) (Term-F.Fail d) = c == d
 same_level (Term-F.Call f ps) (Term-F.Call g qs) = f.0 == g.0 && same_arguments ps qs
-same_level (Term-F.Frame f ps same) (Term-F.Frame g qs other) = (f.0 == g.0 && same_arguments ps qs) && same other
+same_level (Term-F.Frame f ps same) (Term-F.Frame g qs other) =
+    (f.0 == g.0 && same_arguments ps qs) && same other
 same_level _ _ = false
 
 abbrev pub is_same_term : Term → Term → Bool
@@ -28,7 +29,9 @@ is_same_term = fold-Term (Term → Bool) (λ level other. same_level level (out-
 -- the term is what stands under at most so many frames of the left side, and under one at least
 abbrev pub is_under_most : ℕ → Term → Term → Bool
 is_under_most zero left t = false
-is_under_most (suc n) left t = option_map_or (λ under. is_same_term under t) (behind (suc n) left) false || is_under_most n left t
+is_under_most (suc n) left t =
+    option_map_or (λ under. is_same_term under t) (behind (suc n) left) false ||
+    is_under_most n left t
 
 -- it is a proper part of the left side
 abbrev pub is_under : Term → Term → Bool
@@ -44,7 +47,8 @@ root_part_level (Term-F.Frame f ps inner) = Some (part f ps)
 abbrev pub root_part_of : Term → Option Part
 root_part_of t = root_part_level (out-Term t)
 
--- the frames and the call, from outer to inner, down to the first part that is also under the left side; so many at most
+-- the frames and the call, from outer to inner, down to the first part that is also under the left
+-- side; so many at most
 abbrev pub parts_level : Term-F Term → (Term → List Part) → List Part
 parts_level (Term-F.Return p) inner_parts = []
 parts_level (Term-F.Fail c) inner_parts = []
@@ -53,12 +57,14 @@ parts_level (Term-F.Frame f ps inner) inner_parts = part f ps ∷ inner_parts in
 
 abbrev pub parts_by : ℕ → Term → Term → List Part
 parts_by zero left right = []
-parts_by (suc n) left right = if is_under left right then [] else parts_level (out-Term right) (parts_by n left)
+parts_by (suc n) left right =
+    if is_under left right then [] else parts_level (out-Term right) (parts_by n left)
 
 -- the pairs of a rule: a right side has one part more than it has frames, at most
 abbrev pub pairs_by : Rule → List Pair
 pairs_by rule =
-    option_map_or (λ root. map (pair_of rule root) (parts_by (suc (depth_of rule.right)) rule.left rule.right)) (root_part_of rule.left) []
+    option_map_or (λ root. map (pair_of rule root)
+    (parts_by (suc (depth_of rule.right)) rule.left rule.right)) (root_part_of rule.left) []
 
 -- the pairs of a list of rules, those of the first rule first
 abbrev pub pairs_by_all : List Rule → List Pair

@@ -1,4 +1,5 @@
--- The points of a rule set at which unfolding may go on for ever, and what lies on a loop with them.
+-- The points of a rule set at which unfolding may go on for ever, and what lies on a loop with
+-- them.
 use Rattle.std.specs.Prelude.{◌≡◌, ◌<◌, Bool, false, ◌&&◌, ℕ, List, length, slice_get, slice_index_or}
 use Rattle.std.specs.Option.{option_map_or}
 use Rattle.rx_term.specs.declared.rule_set.RuleParts.{RuleParts}
@@ -15,7 +16,8 @@ rule_edges parts = edges_of (pairs_by_all parts.rules)
 -- the entry of a function or the head of a loop, no frame, that reaches itself
 abbrev pub is_loop_point : RuleParts → ℕ → Bool
 is_loop_point parts f =
-    option_map_or may_loop (slice_get parts.symbols f) false && reaches (rule_edges parts) (below (length parts.symbols)) f f
+    option_map_or may_loop (slice_get parts.symbols f) false &&
+    reaches (rule_edges parts) (below (length parts.symbols)) f f
 
 -- two symbols are one, or reach each other
 abbrev pub in_one_component : RuleParts → ℕ → ℕ → Bool
@@ -25,6 +27,7 @@ in_one_component parts a b = together (rule_edges parts) (below (length parts.sy
 pub record AreLoopsOf (parts : RuleParts) (loops : Loops) : Type 0 where
   pub over : IsOver (length parts.symbols) (rule_edges parts)
   pub points_count : length loops.points.items ≡ length parts.symbols
-  pub points : (f : ℕ) → f < length parts.symbols → slice_index_or loops.points.items f false ≡ is_loop_point parts f
+  pub points : (f : ℕ) → f < length parts.symbols → slice_index_or loops.points.items f false ≡
+      is_loop_point parts f
   pub components_count : length loops.components.items ≡ length parts.symbols
   pub components : AreComponents (length parts.symbols) (rule_edges parts) loops.components.items

@@ -34,21 +34,25 @@ lower_rows pair (suc (suc j)) (p ∷ ps) (q ∷ qs) = do
 
 -- all rows are formed first, and then shown under the pair's
 abbrev pub rows_finding : Pair → Formed (List Row) → List Cert → Said
-rows_finding pair rows certs = within rows.within (is_shown (conditions pair.phi (Some rows.form) certs))
+rows_finding pair rows certs =
+    within rows.within (is_shown (conditions pair.phi (Some rows.form) certs))
 
 -- the pair is lower by a column of columns on the left and on the right
 abbrev pub column_finding : Pair → ℕ → List Body → List Body → List Cert → Said
-column_finding pair j ps qs certs = if has_column j ps qs then rows_finding pair (lower_rows pair j ps qs) certs else No
+column_finding pair j ps qs certs =
+    if has_column j ps qs then rows_finding pair (lower_rows pair j ps qs) certs else No
 
 -- and so by a column of the table
 abbrev pub lower_finding : Pair → RankTable → PairCert → Said
 lower_finding pair table cert =
-    column_finding pair cert.column (columns_of table pair.left.0) (columns_of table pair.right.0) cert.certs
+    column_finding pair cert.column (columns_of table pair.left.0) (columns_of table pair.right.0)
+    cert.certs
 
 -- at an assignment the rank on the right is below that on the left
 abbrev pub IsLower : RankTable → (ℕ → ℤ) → Pair → Type 0
 IsLower table a pair =
-    RankLess (rank_of table pair.right.0 (values a pair.right_args)) (rank_of table pair.left.0 (values a pair.left_args))
+    RankLess (rank_of table pair.right.0 (values a pair.right_args))
+    (rank_of table pair.left.0 (values a pair.left_args))
 
 -- ---- all pairs
 
@@ -63,8 +67,8 @@ goes_on i Beyond rest = PassesLimits i
 goes_on i Yes rest = rest
 goes_on i No rest = NotLower i
 
--- the pairs in order, the first having that number; a pair without a certificate is not lower, and neither is the number
--- of pairs where there are more certificates
+-- the pairs in order, the first having that number; a pair without a certificate is not lower, and
+-- neither is the number of pairs where there are more certificates
 abbrev pub descent_from : RankTable → ℕ → List Pair → List PairCert → Descent
 descent_from table i [] [] = Descends
 descent_from table i [] (cert ∷ certs) = NotLower i

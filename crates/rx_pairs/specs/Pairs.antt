@@ -1,5 +1,6 @@
--- The pairs of a rule or a hypothesis (Arts and Giesl 2000, for stacks): the root of its left side against each frame
--- and the call of its right side, from outer to inner, down to the first part that is also a proper part of the left side.
+-- The pairs of a rule or a hypothesis (Arts and Giesl 2000, for stacks): the root of its left side
+-- against each frame and the call of its right side, from outer to inner, down to the first part
+-- that is also a proper part of the left side.
 use Rattle.std.specs.Prelude.{◌≡◌, true, false, ℕ, suc, Some, List, [], ◌∷◌, ◌++◌, map}
 use Rattle.rx_poly.specs.declared.body.Body.{Body}
 use Rattle.rx_term.specs.Fitting.{term_fits}
@@ -28,13 +29,16 @@ pub data IsRoot : Term → Part → Type 0 where
 abbrev pub IsUnder : Term → Term → Type 0
 IsUnder left t = (k : ℕ) × (behind (suc k) left ≡ Some t)
 
--- the frames and the call of a right side, from outer to inner, down to the first part that is also under the left side
+-- the frames and the call of a right side, from outer to inner, down to the first part that is also
+-- under the left side
 pub data AreParts (left : Term) : Term → List Part → Type 0 where
   Common : (t : Term) → IsUnder left t → AreParts left t []
   AtReturn : (p : Body) → AreParts left (Return p) []
   AtFail : (c : ℕ) → AreParts left (Fail c) []
-  AtCall : (f : Sym) (ps : List Body) → (IsUnder left (Call f ps) → ⊥) → AreParts left (Call f ps) (part f ps ∷ [])
-  AtFrame : (f : Sym) (ps : List Body) (t : Term) (rest : List Part) → (IsUnder left (Frame f ps t) → ⊥)
+  AtCall : (f : Sym) (ps : List Body) → (IsUnder left (Call f ps) → ⊥) →
+      AreParts left (Call f ps) (part f ps ∷ [])
+  AtFrame : (f : Sym) (ps : List Body) (t : Term) (rest : List Part) →
+      (IsUnder left (Frame f ps t) → ⊥)
       → AreParts left t rest → AreParts left (Frame f ps t) (part f ps ∷ rest)
 
 -- the pair of a rule's left root and a part, under the rule's rows
@@ -48,13 +52,15 @@ pair_of rule root right = record {
 }
 
 pub data ArePairs (rule : Rule) : List Pair → Type 0 where
-  PairsOf : (root : Part) → IsRoot rule.left root → (parts : List Part) → AreParts rule.left rule.right parts
+  PairsOf : (root : Part) → IsRoot rule.left root → (parts : List Part) →
+      AreParts rule.left rule.right parts
       → ArePairs rule (map (pair_of rule root) parts)
 
 -- the pairs of a list of rules, those of the first rule first
 pub data AreAllPairs : List Rule → List Pair → Type 0 where
   NoRules : AreAllPairs [] []
-  OneMore : (rule : Rule) (rules : List Rule) (pairs others : List Pair) → ArePairs rule pairs → AreAllPairs rules others
+  OneMore : (rule : Rule) (rules : List Rule) (pairs others : List Pair) → ArePairs rule pairs →
+      AreAllPairs rules others
       → AreAllPairs (rule ∷ rules) (pairs ++ others)
 
 -- the left side of a rule is no bare result

@@ -27,8 +27,8 @@ rank_of table f xs = map (λ p. column (value (assigned xs) p)) (columns_of tabl
 abbrev pub is_rank : ℕ → ℕ → List Body → Bool
 is_rank width arity rank = length rank == width && list_all (uses_below arity) rank
 
--- the first symbol, the first having that number, without a lawful rank; where there are more ranks than symbols, the
--- number of symbols
+-- the first symbol, the first having that number, without a lawful rank; where there are more ranks
+-- than symbols, the number of symbols
 abbrev pub bad_from : ℕ → ℕ → List SymInfo → List (List Body) → Option ℕ
 bad_from width f [] [] = None
 bad_from width f [] (rank ∷ ranks) = Some f

@@ -39,7 +39,8 @@ pub fn well_made_rules_have_roots()
 /// The pairs of a rule and of a list of rules are the ones that are computed, and no others.
 pub fn pairs_are_listed()
     ensures rule { (rule : Rule) → HasRoot rule → ArePairs rule (pairs_by rule) }
-    ensures rules { (rules : List Rule) → All HasRoot rules → AreAllPairs rules (pairs_by_all rules) }
+    ensures rules { (rules : List Rule) → All HasRoot rules →
+        AreAllPairs rules (pairs_by_all rules) }
     ensures only { (rule : Rule) (pairs : List Pair) → ArePairs rule pairs → pairs ≡ pairs_by rule }
     ensures all_only { (rules : List Rule) (pairs : List Pair) →
         AreAllPairs rules pairs → pairs ≡ pairs_by_all rules }
@@ -55,15 +56,20 @@ pub fn loop_points_reach_themselves()
 {}
 
 /// Where the table is lawful for the symbols, and all pairs of rules that fit are lower, each
-/// instance of a rule has a smaller weight on its right than on its left. So for a well made set and
-/// hypotheses that fit, each step by both from a fitting term makes its weight smaller.
+/// instance of a rule has a smaller weight on its right than on its left. So for a well made set
+/// and hypotheses that fit, each step by both from a fitting term makes its weight smaller.
 pub fn lower_pairs_lower_weights()
-    ensures instances { (parts : RuleParts) (rules : List Rule) (table : RankTable) (pairs : List Pair) (certs : List PairCert) →
-        bad_rank parts table ≡ None → AreAllPairs rules pairs → descent_from table 0 pairs certs ≡ Descends →
+    ensures instances { (parts : RuleParts) (rules : List Rule) (table : RankTable)
+        (pairs : List Pair) (certs : List PairCert) →
+        bad_rank parts table ≡ None → AreAllPairs rules pairs → descent_from table 0 pairs certs ≡
+        Descends →
         All (SidesFit parts) rules → (s t : Ground) → Instance rules s t →
         Smaller (weight_of (rank_of table) t) (weight_of (rank_of table) s) }
-    ensures steps { (parts : RuleParts) (hypotheses : List Rule) (table : RankTable) (pairs : List Pair) (certs : List PairCert) →
+    ensures steps { (parts : RuleParts) (hypotheses : List Rule) (table : RankTable)
+        (pairs : List Pair) (certs : List PairCert) →
         IsWellMade parts → All (SidesFit parts) hypotheses → bad_rank parts table ≡ None →
-        AreAllPairs (parts.rules ++ hypotheses) pairs → descent_from table 0 pairs certs ≡ Descends →
-        Lowers (weight_of (rank_of table)) (Fits (signature parts)) (Either (Instance parts.rules) (Instance hypotheses)) }
+        AreAllPairs (parts.rules ++ hypotheses) pairs → descent_from table 0 pairs certs ≡
+        Descends →
+        Lowers (weight_of (rank_of table)) (Fits (signature parts))
+        (Either (Instance parts.rules) (Instance hypotheses)) }
 {}

@@ -24,7 +24,8 @@ fn push_hold(
     left: &Poly,
     right: &Poly,
 ) -> Result<(), PolyEnd>
-    ensures { FormsAs (λ _. rows.new.items) PolyEnd.Large result (prefixed rows.old.items (holds_rows pair.now left.now right.now)) }
+    ensures { FormsAs (λ _. rows.new.items) PolyEnd.Large result
+        (prefixed rows.old.items (holds_rows pair.now left.now right.now)) }
 {
     if let Some(row) = hold_row(alloc, pair, left, right)? {
         rows.push(row).map_err(AllocError::from)?;
@@ -40,7 +41,8 @@ fn push_falls(
     left: &Poly,
     right: &Poly,
 ) -> Result<(), PolyEnd>
-    ensures { FormsAs (λ _. rows.new.items) PolyEnd.Large result (prefixed rows.old.items (falls_rows pair.now left.now right.now)) }
+    ensures { FormsAs (λ _. rows.new.items) PolyEnd.Large result
+        (prefixed rows.old.items (falls_rows pair.now left.now right.now)) }
 {
     let (first, second) = fall_rows(alloc, pair, left, right)?;
     rows.push(first).map_err(AllocError::from)?;
@@ -56,7 +58,8 @@ fn asked_rows(
     left: &[Poly],
     right: &[Poly],
 ) -> Result<Vec<Row>, PolyEnd>
-    ensures { FormsAs (λ rows. rows.items) PolyEnd.Large result (lower_rows pair.now column left.now right.now) }
+    ensures { FormsAs (λ rows. rows.items) PolyEnd.Large result
+        (lower_rows pair.now column left.now right.now) }
 {
     let mut rows = Vec::new(alloc);
     let mut rest = left;
@@ -97,8 +100,10 @@ fn is_lower_by(
     right: &[Poly],
     certs: &[Cert],
 ) -> Result<bool, PolyEnd>
-    ensures answer { IfOk result (λ b. column_finding pair.now column left.now right.now certs.now ≡ said b) }
-    ensures large { IfErr result (λ e. e ≡ PolyEnd.Large → column_finding pair.now column left.now right.now certs.now ≡ Beyond) }
+    ensures answer { IfOk result (λ b. column_finding pair.now column left.now right.now certs.now ≡
+        said b) }
+    ensures large { IfErr result (λ e. e ≡ PolyEnd.Large →
+        column_finding pair.now column left.now right.now certs.now ≡ Beyond) }
 {
     if !is_column(column, left, right) {
         return Ok(false);
@@ -121,10 +126,10 @@ fn columns(table: &RankTable, sym: Sym) -> &[Poly]
     }
 }
 
-/// Whether the pair is lower by the certificate's column: all columns before it hold, and it falls, each row that this
-/// asks for being plain or shown by the next certificate under the pair's rows. False too where there is no such column.
-/// Large exactly where one of these rows, or the examination of a certificate before another answer is found, passes the
-/// limits.
+/// Whether the pair is lower by the certificate's column: all columns before it hold, and it falls,
+/// each row that this asks for being plain or shown by the next certificate under the pair's rows.
+/// False too where there is no such column. Large exactly where one of these rows, or the
+/// examination of a certificate before another answer is found, passes the limits.
 pub fn is_lower(
     alloc: Global,
     pair: &Pair,
@@ -132,7 +137,8 @@ pub fn is_lower(
     cert: &PairCert,
 ) -> Result<bool, PolyEnd>
     ensures answer { IfOk result (λ b. lower_finding pair.now table.now cert.now ≡ said b) }
-    ensures large { IfErr result (λ e. e ≡ PolyEnd.Large → lower_finding pair.now table.now cert.now ≡ Beyond) }
+    ensures large { IfErr result (λ e. e ≡ PolyEnd.Large →
+        lower_finding pair.now table.now cert.now ≡ Beyond) }
 {
     let left = columns(table, pair.left);
     let right = columns(table, pair.right);

@@ -36,8 +36,9 @@ fn is_lawful(rank: &[Poly], columns: u32, arity: u32) -> bool
     rank.len() == columns as usize && is_over(rank, arity)
 }
 
-/// The number of the first symbol without a rank of the table's width over its own arguments; where each
-/// has one and there are more ranks, the number of symbols. None exactly where there is none. Takes no memory.
+/// The number of the first symbol without a rank of the table's width over its own arguments; where
+/// each has one and there are more ranks, the number of symbols. None exactly where there is none.
+/// Takes no memory.
 pub fn bad_ranks(rules: &RuleSet, table: &RankTable) -> Option<usize>
     ensures { result ≡ bad_rank rules.now table.now }
 {

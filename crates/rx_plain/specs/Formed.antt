@@ -1,4 +1,5 @@
--- What is formed step by step within limits: its form, with whether everything on the way to it keeps the limits.
+-- What is formed step by step within limits: its form, with whether everything on the way to it
+-- keeps the limits.
 use Rattle.std.specs.Prelude.{◌≡◌, Bool, true, false, ◌&&◌, List, [], ◌∷◌, Result, Ok, Err}
 
 -- a form, with whether it and all that led to it keep the limits
@@ -6,7 +7,8 @@ pub record Formed (A : Type 0) : Type 0 where
   pub form : A
   pub within : Bool
 
--- a call forms exactly this: success has its form and everything kept the limits; the error `large` says that something did not
+-- a call forms exactly this: success has its form and everything kept the limits; the error `large`
+-- says that something did not
 abbrev pub Forms : {A E : Type 0} → E → Result A E → Formed A → Type 0
 Forms large (Ok x) f = (x ≡ f.form) × (f.within ≡ true)
 Forms large (Err e) f = e ≡ large → f.within ≡ false

@@ -1,4 +1,5 @@
--- What is formed within limits, the order of the graded list, and how the containers stand in a type that holds itself.
+-- What is formed within limits, the order of the graded list, and how the containers stand in a
+-- type that holds itself.
 pub mod Formed
 pub mod Graded
 pub mod formers

@@ -3,7 +3,8 @@
 use std::alloc::{AllocError, AllocFailed};
 use thiserror::Error;
 
-/// There was no memory for what was asked. It says nothing else, and any call that allocates may answer it.
+/// There was no memory for what was asked. It says nothing else, and any call that allocates may
+/// answer it.
 #[derive(Clone, Copy, Debug, PartialEq, Eq, Error)]
 #[error("out of memory")]
 pub struct NoMemory;

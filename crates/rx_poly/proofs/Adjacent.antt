@@ -27,13 +27,17 @@ both_same false true f g = g refl
 both_same false false f g = refl
 
 -- sorted where the first is in order with the next, and the others are sorted
-pub sorted_step : (x : Atom) (xs : List Atom) → is_sorted atom_cmp (x ∷ xs) ≡ (is_first atom_cmp x xs && is_sorted atom_cmp xs)
+pub sorted_step : (x : Atom) (xs : List Atom) → is_sorted atom_cmp (x ∷ xs) ≡
+    (is_first atom_cmp x xs && is_sorted atom_cmp xs)
 sorted_step x [] = refl
-sorted_step x (y ∷ ys) = same_before (list_all (λ z. is_le (atom_cmp x z)) (y ∷ ys)) (is_le (atom_cmp x y)) (is_sorted atom_cmp (y ∷ ys)) (λ s.
+sorted_step x (y ∷ ys) =
+    same_before (list_all (λ z. is_le (atom_cmp x z)) (y ∷ ys)) (is_le (atom_cmp x y))
+    (is_sorted atom_cmp (y ∷ ys)) (λ s.
     both_same (list_all (λ z. is_le (atom_cmp x z)) (y ∷ ys)) (is_le (atom_cmp x y))
     (λ h. (and_parts (is_le (atom_cmp x y)) (list_all (λ z. is_le (atom_cmp x z)) ys) h).0)
     (λ h. and_from (is_le (atom_cmp x y)) (list_all (λ z. is_le (atom_cmp x z)) ys) h
-    (all-weaker atom_cmp (λ z. is_le (atom_cmp y z)) (λ z. is_le (atom_cmp x z)) ys (λ z g. le_trans atom_cmp atom_total x y z h g)
+    (all-weaker atom_cmp (λ z. is_le (atom_cmp y z)) (λ z. is_le (atom_cmp x z)) ys
+    (λ z g. le_trans atom_cmp atom_total x y z h g)
     (and_parts (list_all (λ z. is_le (atom_cmp y z)) ys) (is_sorted atom_cmp ys) s).0)))
 
 and_assoc : (p q s : Bool) → (p && (q && s)) ≡ ((p && q) && s)
@@ -41,13 +45,17 @@ and_assoc true q s = refl
 and_assoc false q s = refl
 
 -- listed where the first leads the next, and the others are listed
-pub listed_step : (t : Mono × ℤ) (ts : List (Mono × ℤ)) → is_listed mono_cmp (t ∷ ts) ≡ (leads mono_cmp t ts && is_listed mono_cmp ts)
+pub listed_step : (t : Mono × ℤ) (ts : List (Mono × ℤ)) → is_listed mono_cmp (t ∷ ts) ≡
+    (leads mono_cmp t ts && is_listed mono_cmp ts)
 listed_step t [] = and_assoc (not (is_zero t.1)) true true
 listed_step t (u ∷ us) =
-    ap (λ b. not (is_zero t.1) && b) (same_before (is_before mono_cmp t.0 (u ∷ us)) (is_lt (mono_cmp t.0 u.0)) (is_listed mono_cmp (u ∷ us)) (λ s.
+    ap (λ b. not (is_zero t.1) && b) (same_before (is_before mono_cmp t.0 (u ∷ us))
+    (is_lt (mono_cmp t.0 u.0)) (is_listed mono_cmp (u ∷ us)) (λ s.
     both_same (is_before mono_cmp t.0 (u ∷ us)) (is_lt (mono_cmp t.0 u.0))
     (λ h. (and_parts (is_lt (mono_cmp t.0 u.0)) (is_before mono_cmp t.0 us) h).0)
     (λ h. and_from (is_lt (mono_cmp t.0 u.0)) (is_before mono_cmp t.0 us) h
     (before_trans mono_cmp mono_total same_mono t.0 u.0 us (lt_is (mono_cmp t.0 u.0) h)
-    (and_parts (is_before mono_cmp u.0 us) (is_listed mono_cmp us) (and_parts (not (is_zero u.1)) (is_before mono_cmp u.0 us && is_listed mono_cmp us) s).1).0))))
+    (and_parts (is_before mono_cmp u.0 us) (is_listed mono_cmp us)
+    (and_parts (not (is_zero u.1)) (is_before mono_cmp u.0 us && is_listed mono_cmp us)
+    s).1).0))))
     ∙ and_assoc (not (is_zero t.1)) (is_lt (mono_cmp t.0 u.0)) (is_listed mono_cmp (u ∷ us))

@@ -26,7 +26,9 @@ use Rattle.rx_poly.specs.declared.body.Mono.{Mono}
 
 var_normal : (n : ℕ) → is_normal_atom (Var n) ≡ true
 unfolding roll-Atom denote.Hole.Carrier.roll
-var_normal n = para-roll-Atom Bool Bool Bool atom_normal_level body_normal_level mono_normal_level (Atom-F.Var n)
+var_normal n =
+    para-roll-Atom Bool Bool Bool atom_normal_level body_normal_level mono_normal_level
+    (Atom-F.Var n)
 
 var_size : (n : ℕ) → atom_size (Var n) ≡ 1
 unfolding out-Atom denote.Hole.Carrier.out
@@ -41,18 +43,29 @@ abbrev alone : ℕ → Mono
 alone n = of_atoms (Var n ∷ [])
 
 alone_size : (n : ℕ) → mono_size (alone n) ≡ 2
-alone_size n = mono_size_is (alone n) ∙ ap (λ xs. 1 + sum_by atom_size xs) (atoms-of_atoms (Var n ∷ [])) ∙ ap (λ k. 1 + (0 + k)) (var_size n)
+alone_size n =
+    mono_size_is (alone n) ∙ ap (λ xs. 1 + sum_by atom_size xs) (atoms-of_atoms (Var n ∷ [])) ∙
+    ap (λ k. 1 + (0 + k)) (var_size n)
 
 alone_depth : (n : ℕ) → mono_depth (alone n) ≡ 0
-alone_depth n = mono_depth_is (alone n) ∙ ap (greatest atom_depth) (atoms-of_atoms (Var n ∷ [])) ∙ ap (λ k. max k 0) (var_depth n)
+alone_depth n =
+    mono_depth_is (alone n) ∙ ap (greatest atom_depth) (atoms-of_atoms (Var n ∷ [])) ∙
+    ap (λ k. max k 0) (var_depth n)
 
 -- one variable is a polynomial
 pub variable_poly : (n : ℕ) → is_poly (variable n) ≡ true
 variable_poly n = poly_of_terms ((alone n, pos 1) ∷ []) (record {
-  keys = and_from (is_normal_mono (alone n)) true (normal_of_atoms (Var n ∷ []) (record { atoms = and_from (is_normal_atom (Var n)) true (var_normal n) refl; sorted = refl })) refl;
+  keys =
+      and_from (is_normal_mono (alone n)) true
+      (normal_of_atoms (Var n ∷ []) (record {
+        atoms =
+            and_from (is_normal_atom (Var n)) true (var_normal n) refl;
+        sorted = refl;
+      })) refl;
   fits = refl;
   listed = refl;
-}) ((λ i. nat_le (size-of_terms ((alone n, pos 1) ∷ []) i) 4096 && nat_le (depth-of_terms ((alone n, pos 1) ∷ []) i) 64)
+}) ((λ i. nat_le (size-of_terms ((alone n, pos 1) ∷ []) i) 4096 &&
+    nat_le (depth-of_terms ((alone n, pos 1) ∷ []) i) 64)
     ∙ (λ i. nat_le (0 + alone_size n i) 4096 && nat_le (max (alone_depth n i) 0) 64))
 
 -- and worth what the variable is given
@@ -69,7 +82,13 @@ value-variable a n =
 -- one normal atom is a normal form
 pub alone_normal : (x : Atom) → is_normal_atom x ≡ true → is_normal (atom_alone x) ≡ true
 alone_normal x h = normal_of_terms ((of_atoms (x ∷ []), pos 1) ∷ []) (record {
-  keys = and_from (is_normal_mono (of_atoms (x ∷ []))) true (normal_of_atoms (x ∷ []) (record { atoms = and_from (is_normal_atom x) true h refl; sorted = refl })) refl;
+  keys =
+      and_from (is_normal_mono (of_atoms (x ∷ []))) true
+      (normal_of_atoms (x ∷ []) (record {
+        atoms = and_from (is_normal_atom x) true h refl;
+        sorted =
+            refl;
+      })) refl;
   fits = refl;
   listed = refl;
 })
@@ -98,12 +117,16 @@ pub number-nonzero : (k : ℤ) → is_zero k ≡ false → number k ≡ of_terms
 number-nonzero k z = ap of_terms (put-nonzero (of_atoms []) k [] z)
 
 -- one number that isn't 0 is a polynomial
-pub number_poly : (k : ℤ) → is_zero k ≡ false → fits_i128 k ≡ true → is_poly (of_terms ((of_atoms [], k) ∷ [])) ≡ true
+pub number_poly : (k : ℤ) → is_zero k ≡ false → fits_i128 k ≡ true →
+    is_poly (of_terms ((of_atoms [], k) ∷ [])) ≡ true
 number_poly k z f = poly_of_terms ((of_atoms [], k) ∷ []) (record {
-  keys = and_from (is_normal_mono (of_atoms [])) true (normal_of_atoms [] (record { atoms = refl; sorted = refl })) refl;
+  keys =
+      and_from (is_normal_mono (of_atoms [])) true
+      (normal_of_atoms [] (record { atoms = refl; sorted = refl })) refl;
   fits = and_from (fits_i128 k) true f refl;
   listed = (λ i. not (z i) && true);
-}) ((λ i. nat_le (size-of_terms ((of_atoms [], k) ∷ []) i) 4096 && nat_le (depth-of_terms ((of_atoms [], k) ∷ []) i) 64)
+}) ((λ i. nat_le (size-of_terms ((of_atoms [], k) ∷ []) i) 4096 &&
+    nat_le (depth-of_terms ((of_atoms [], k) ∷ []) i) 64)
     ∙ (λ i. nat_le (0 + one_size i) 4096 && nat_le (max (one_depth i) 0) 64))
 
 and_true : (b : Bool) → ((b && true) && true) ≡ b
@@ -112,19 +135,24 @@ and_true false = refl
 
 -- 0 is within the limits
 pub zero_within : is_within (of_terms []) ≡ true
-zero_within = within_terms [] ∙ (and_parts (is_normal (of_terms [])) (is_small (of_terms [])) zero_poly).1
+zero_within =
+    within_terms [] ∙ (and_parts (is_normal (of_terms [])) (is_small (of_terms [])) zero_poly).1
 
 -- a number is within the limits where it fits
 pub number_within : (k : ℤ) → is_within (number k) ≡ fits_i128 k
 number_within k = by (is_zero k) refl
   where
     by : (b : Bool) → is_zero k ≡ b → is_within (number k) ≡ fits_i128 k
-    by true e = ap (λ z. is_within (number z)) (zero_is k e) ∙ zero_within ∙ ap fits_i128 (sym (zero_is k e))
+    by true e =
+        ap (λ z. is_within (number z)) (zero_is k e) ∙ zero_within ∙
+        ap fits_i128 (sym (zero_is k e))
     by false e =
         let ts = (of_atoms [], k) ∷ [] in
         ap is_within (number-nonzero k e) ∙ within_terms ts
-        ∙ (λ i. (fits_i128 k && true) && (nat_le (size-of_terms ts i) 4096 && nat_le (depth-of_terms ts i) 64))
-        ∙ (λ i. (fits_i128 k && true) && (nat_le (0 + one_size i) 4096 && nat_le (max (one_depth i) 0) 64))
+        ∙ (λ i. (fits_i128 k && true) && (nat_le (size-of_terms ts i) 4096 &&
+        nat_le (depth-of_terms ts i) 64))
+        ∙ (λ i. (fits_i128 k && true) && (nat_le (0 + one_size i) 4096 &&
+        nat_le (max (one_depth i) 0) 64))
         ∙ and_true (fits_i128 k)
 
 -- and worth itself
@@ -135,7 +163,8 @@ value-number a k = by (is_zero k) refl
     by true e = ap (λ z. value a (number z)) (zero_is k e) ∙ value-of_terms a [] ∙ sym (zero_is k e)
     by false e =
         ap (value a) (number-nonzero k e) ∙ value-of_terms a ((of_atoms [], k) ∷ [])
-        ∙ add-zero-int (k *ℤ mono_value a (of_atoms [])) ∙ ap (λ v. k *ℤ v) (one_value a) ∙ mul-one-int k
+        ∙ add-zero-int (k *ℤ mono_value a (of_atoms [])) ∙ ap (λ v. k *ℤ v) (one_value a) ∙
+        mul-one-int k
 
 -- ---- a number that was read
 
@@ -146,5 +175,7 @@ fits_signed (negsuc n) f = let b = f.sfits in grind (arith, nat_tests)
 pub read_fits : (z : ℤ) → FitsSigned w128 z → fits_i128 (to_z w128 (of_z w128 z)) ≡ true
 read_fits z f = ap fits_i128 (to_z-of_z w128 z f) ∙ fits_signed z f
 
-pub read_nonzero : (z : ℤ) → FitsSigned w128 z → (of_z w128 z ≡ 0 → ⊥) → is_zero (to_z w128 (of_z w128 z)) ≡ false
-read_nonzero z f h = ap is_zero (to_z-of_z w128 z f) ∙ by_false (is_zero z) (λ e. h (ap (of_z w128) (zero_is z e)))
+pub read_nonzero : (z : ℤ) → FitsSigned w128 z → (of_z w128 z ≡ 0 → ⊥) →
+    is_zero (to_z w128 (of_z w128 z)) ≡ false
+read_nonzero z f h =
+    ap is_zero (to_z-of_z w128 z f) ∙ by_false (is_zero z) (λ e. h (ap (of_z w128) (zero_is z e)))

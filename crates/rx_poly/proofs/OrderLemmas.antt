@@ -25,7 +25,8 @@ pub body_total : IsTotalOrder body_cmp
 body_total = body_laws.total-law
 
 -- monomials compare by their atoms, the longer list first
-pub mono_cmp_is : (m n : Mono) → mono_cmp m n ≡ graded_cmp atom_cmp (out-Mono m).atoms (out-Mono n).atoms
+pub mono_cmp_is : (m n : Mono) → mono_cmp m n ≡
+    graded_cmp atom_cmp (out-Mono m).atoms (out-Mono n).atoms
 mono_cmp_is m n = mono_laws.is m n
 
 -- two terms compare by monomial, then by coefficient
@@ -33,7 +34,8 @@ abbrev pub term_cmp : Mono × ℤ → Mono × ℤ → Ordering
 term_cmp t u = ordering_then (mono_cmp t.0 u.0) (int_cmp t.1 u.1)
 
 -- sums compare term by term
-pub body_cmp_is : (p q : Body) → body_cmp p q ≡ slice_cmp term_cmp (out-Body p).terms (out-Body q).terms
+pub body_cmp_is : (p q : Body) → body_cmp p q ≡
+    slice_cmp term_cmp (out-Body p).terms (out-Body q).terms
 body_cmp_is p q = body_laws.is p q
 
 -- how two atoms compare, seen at their first level
@@ -60,4 +62,6 @@ rolled (Atom-F.Mod p q) (Atom-F.Div r s) = atom_laws.is _ _
 rolled (Atom-F.Mod p q) (Atom-F.Mod r s) = atom_laws.is _ _
 
 pub atom_cmp_is : (x y : Atom) → atom_cmp x y ≡ atom_cmp_level (out-Atom x) (out-Atom y)
-atom_cmp_is x y = (λ i. atom_cmp (sym (roll-out-Atom x) i) (sym (roll-out-Atom y) i)) ∙ rolled (out-Atom x) (out-Atom y)
+atom_cmp_is x y =
+    (λ i. atom_cmp (sym (roll-out-Atom x) i) (sym (roll-out-Atom y) i)) ∙
+    rolled (out-Atom x) (out-Atom y)

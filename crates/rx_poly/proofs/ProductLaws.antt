@@ -26,10 +26,12 @@ use Rattle.rx_poly.specs.declared.body.Body.{Body, out-Body}
 -- ---- two monomials
 
 -- a product is worth the product
-pub value-mono_times : (a : ℕ → ℤ) (m n : Mono) → mono_value a (mono_times m n) ≡ mono_value a m *ℤ mono_value a n
+pub value-mono_times : (a : ℕ → ℤ) (m n : Mono) → mono_value a (mono_times m n) ≡
+    mono_value a m *ℤ mono_value a n
 value-mono_times a m n =
     mono_value_is a (mono_times m n)
-    ∙ ap (product_of (atom_value a)) (atoms-of_atoms (join_sorted atom_cmp (out-Mono m).atoms (out-Mono n).atoms))
+    ∙ ap (product_of (atom_value a)) (atoms-of_atoms
+    (join_sorted atom_cmp (out-Mono m).atoms (out-Mono n).atoms))
     ∙ product-join atom_cmp (atom_value a) (out-Mono m).atoms (out-Mono n).atoms
     ∙ (λ i. sym (mono_value_is a m) i *ℤ sym (mono_value_is a n) i)
 
@@ -37,7 +39,9 @@ value-mono_times a m n =
 pub cmp-mono_times : (m x y : Mono) → mono_cmp (mono_times m x) (mono_times m y) ≡ mono_cmp x y
 cmp-mono_times m x y =
     mono_cmp_is (mono_times m x) (mono_times m y)
-    ∙ (λ i. graded_cmp atom_cmp (atoms-of_atoms (join_sorted atom_cmp (out-Mono m).atoms (out-Mono x).atoms) i) (atoms-of_atoms (join_sorted atom_cmp (out-Mono m).atoms (out-Mono y).atoms) i))
+    ∙ (λ i. graded_cmp atom_cmp (atoms-of_atoms
+    (join_sorted atom_cmp (out-Mono m).atoms (out-Mono x).atoms) i)
+    (atoms-of_atoms (join_sorted atom_cmp (out-Mono m).atoms (out-Mono y).atoms) i))
     ∙ graded-join atom_cmp atom_total (out-Mono m).atoms (out-Mono x).atoms (out-Mono y).atoms
     ∙ sym (mono_cmp_is x y)
 
@@ -47,31 +51,38 @@ pub record NormalAtoms (xs : List Atom) : Type 0 where
 
 pub normal_atoms : (m : Mono) → is_normal_mono m ≡ true → NormalAtoms (out-Mono m).atoms
 normal_atoms m h =
-    let p = and_parts (list_all is_normal_atom (out-Mono m).atoms) (is_sorted atom_cmp (out-Mono m).atoms) (sym (is_normal_mono_is m) ∙ h) in
+    let p = and_parts (list_all is_normal_atom (out-Mono m).atoms)
+    (is_sorted atom_cmp (out-Mono m).atoms) (sym (is_normal_mono_is m) ∙ h) in
     record { atoms = p.0; sorted = p.1 }
 
 pub normal_of_atoms : (xs : List Atom) → NormalAtoms xs → is_normal_mono (of_atoms xs) ≡ true
 normal_of_atoms xs n =
-    is_normal_mono_is (of_atoms xs) ∙ ap (λ ys. list_all is_normal_atom ys && is_sorted atom_cmp ys) (atoms-of_atoms xs)
+    is_normal_mono_is (of_atoms xs) ∙ ap (λ ys. list_all is_normal_atom ys && is_sorted atom_cmp ys)
+    (atoms-of_atoms xs)
     ∙ and_from (list_all is_normal_atom xs) (is_sorted atom_cmp xs) n.atoms n.sorted
 
 -- a product of normal monomials is normal
-pub normal-mono_times : (m n : Mono) → is_normal_mono m ≡ true → is_normal_mono n ≡ true → is_normal_mono (mono_times m n) ≡ true
+pub normal-mono_times : (m n : Mono) → is_normal_mono m ≡ true → is_normal_mono n ≡ true →
+    is_normal_mono (mono_times m n) ≡ true
 normal-mono_times m n h g =
     let x = normal_atoms m h in
     let y = normal_atoms n g in
     normal_of_atoms _ (record {
-      atoms = all-join atom_cmp is_normal_atom (out-Mono m).atoms (out-Mono n).atoms x.atoms y.atoms;
+      atoms =
+          all-join atom_cmp is_normal_atom (out-Mono m).atoms (out-Mono n).atoms x.atoms y.atoms;
       sorted = sorted-join atom_cmp atom_total (out-Mono m).atoms (out-Mono n).atoms y.sorted;
     })
 
 -- ---- one term times a sum
 
-before-scaled : (t : Mono × ℤ) (k : Mono) (us : List (Mono × ℤ)) → is_before mono_cmp k us ≡ true → is_before mono_cmp (mono_times t.0 k) (scaled t us) ≡ true
+before-scaled : (t : Mono × ℤ) (k : Mono) (us : List (Mono × ℤ)) → is_before mono_cmp k us ≡ true →
+    is_before mono_cmp (mono_times t.0 k) (scaled t us) ≡ true
 before-scaled t k [] h = refl
 before-scaled t k (u ∷ us) h =
     let p = and_parts (is_lt (mono_cmp k u.0)) (is_before mono_cmp k us) h in
-    and_from (is_lt (mono_cmp (mono_times t.0 k) (mono_times t.0 u.0))) (is_before mono_cmp (mono_times t.0 k) (scaled t us)) (ap is_lt (cmp-mono_times t.0 k u.0) ∙ p.0) (before-scaled t k us p.1)
+    and_from (is_lt (mono_cmp (mono_times t.0 k) (mono_times t.0 u.0)))
+    (is_before mono_cmp (mono_times t.0 k) (scaled t us))
+    (ap is_lt (cmp-mono_times t.0 k u.0) ∙ p.0) (before-scaled t k us p.1)
 
 nonzero : (c : ℤ) → is_zero c ≡ false → c ≡ pos 0 → ⊥
 nonzero c h e = let k : true ≡ false = ap is_zero (sym e) ∙ h in cc
@@ -87,51 +98,75 @@ no_zero (negsuc m) (negsuc n) h g e = omega (arith, ints)
 
 -- a product of two numbers that are not 0 is not 0
 nonzero-mul : (c d : ℤ) → is_zero c ≡ false → is_zero d ≡ false → is_zero (c *ℤ d) ≡ false
-nonzero-mul c d h g = by_false (is_zero (c *ℤ d)) (λ e. no_zero c d (nonzero c h) (nonzero d g) (zero_is (c *ℤ d) e))
+nonzero-mul c d h g =
+    by_false (is_zero (c *ℤ d)) (λ e. no_zero c d (nonzero c h) (nonzero d g) (zero_is (c *ℤ d) e))
 
-pub listed-scaled : (t : Mono × ℤ) (us : List (Mono × ℤ)) → is_zero t.1 ≡ false → is_listed mono_cmp us ≡ true → is_listed mono_cmp (scaled t us) ≡ true
+pub listed-scaled : (t : Mono × ℤ) (us : List (Mono × ℤ)) → is_zero t.1 ≡ false →
+    is_listed mono_cmp us ≡ true → is_listed mono_cmp (scaled t us) ≡ true
 listed-scaled t [] z h = refl
 listed-scaled t (u ∷ us) z h =
     let l = listed_parts mono_cmp mono_total same_mono u us h in
     listed_from mono_cmp mono_total same_mono (mono_times t.0 u.0, t.1 *ℤ u.1) (scaled t us)
-    (record { nonzero = nonzero-mul t.1 u.1 z l.nonzero; before = before-scaled t u.0 us l.before; rest = listed-scaled t us z l.rest })
+    (record {
+      nonzero = nonzero-mul t.1 u.1 z l.nonzero;
+      before = before-scaled t u.0 us l.before;
+      rest = listed-scaled t us z l.rest;
+    })
 
-pub keys-scaled : (t : Mono × ℤ) (us : List (Mono × ℤ)) → is_normal_mono t.0 ≡ true → all_keys is_normal_mono us ≡ true → all_keys is_normal_mono (scaled t us) ≡ true
+pub keys-scaled : (t : Mono × ℤ) (us : List (Mono × ℤ)) → is_normal_mono t.0 ≡ true →
+    all_keys is_normal_mono us ≡ true → all_keys is_normal_mono (scaled t us) ≡ true
 keys-scaled t [] h g = refl
 keys-scaled t (u ∷ us) h g =
     let p = and_parts (is_normal_mono u.0) (all_keys is_normal_mono us) g in
-    and_from (is_normal_mono (mono_times t.0 u.0)) (all_keys is_normal_mono (scaled t us)) (normal-mono_times t.0 u.0 h p.0) (keys-scaled t us h p.1)
+    and_from (is_normal_mono (mono_times t.0 u.0)) (all_keys is_normal_mono (scaled t us))
+    (normal-mono_times t.0 u.0 h p.0) (keys-scaled t us h p.1)
 
 -- the middle two of four factors change places
 cross_factors : (c d x y : ℤ) → (c *ℤ d) *ℤ (x *ℤ y) ≡ (c *ℤ x) *ℤ (d *ℤ y)
 cross_factors c d x y =
-    mul-assoc-int c d (x *ℤ y) ∙ ap (λ n. c *ℤ n) (sym (mul-assoc-int d x y) ∙ ap (λ n. n *ℤ y) (*ℤ_comm d x) ∙ mul-assoc-int x d y) ∙ sym (mul-assoc-int c x (d *ℤ y))
+    mul-assoc-int c d (x *ℤ y) ∙ ap (λ n. c *ℤ n)
+    (sym (mul-assoc-int d x y) ∙ ap (λ n. n *ℤ y) (*ℤ_comm d x) ∙ mul-assoc-int x d y) ∙
+    sym (mul-assoc-int c x (d *ℤ y))
 
 -- one term times a sum is worth the product
-pub sum-scaled : (a : ℕ → ℤ) (t : Mono × ℤ) (us : List (Mono × ℤ)) → sum_terms (mono_value a) (scaled t us) ≡ (t.1 *ℤ mono_value a t.0) *ℤ sum_terms (mono_value a) us
+pub sum-scaled : (a : ℕ → ℤ) (t : Mono × ℤ) (us : List (Mono × ℤ)) →
+    sum_terms (mono_value a) (scaled t us) ≡ (t.1 *ℤ mono_value a t.0) *ℤ sum_terms (mono_value a)
+    us
 sum-scaled a t [] = sym (mul-zero-int (t.1 *ℤ mono_value a t.0))
 sum-scaled a t (u ∷ us) =
     (λ i. (t.1 *ℤ u.1) *ℤ value-mono_times a t.0 u.0 i +ℤ sum-scaled a t us i)
-    ∙ ap (λ n. n +ℤ (t.1 *ℤ mono_value a t.0) *ℤ sum_terms (mono_value a) us) (cross_factors t.1 u.1 (mono_value a t.0) (mono_value a u.0))
-    ∙ sym (mul-add-int (t.1 *ℤ mono_value a t.0) (u.1 *ℤ mono_value a u.0) (sum_terms (mono_value a) us))
+    ∙ ap (λ n. n +ℤ (t.1 *ℤ mono_value a t.0) *ℤ sum_terms (mono_value a) us)
+    (cross_factors t.1 u.1 (mono_value a t.0) (mono_value a u.0))
+    ∙ sym (mul-add-int (t.1 *ℤ mono_value a t.0) (u.1 *ℤ mono_value a u.0)
+    (sum_terms (mono_value a) us))
 
 -- a term that isn't 0 times a polynomial is normal
-pub scaled_normal : (t : Mono × ℤ) (p : Body) {ts us : List (Mono × ℤ)} → is_normal_mono t.0 ≡ true → is_zero t.1 ≡ false → is_poly p ≡ true → ts ≡ (out-Body p).terms → us ≡ scaled t ts → all_fit (scaled t ts) ≡ true → is_normal (of_terms us) ≡ true
+pub scaled_normal : (t : Mono × ℤ) (p : Body) {ts us : List (Mono × ℤ)} → is_normal_mono t.0 ≡
+    true → is_zero t.1 ≡ false → is_poly p ≡ true → ts ≡ (out-Body p).terms → us ≡ scaled t ts →
+    all_fit (scaled t ts) ≡ true → is_normal (of_terms us) ≡ true
 scaled_normal t p {ts} {us} k z h is made f =
     let n = subst NormalTerms (sym is) (poly_terms p h) in
     ap (λ vs. is_normal (of_terms vs)) made
-    ∙ normal_of_terms (scaled t ts) (record { keys = keys-scaled t ts k n.keys; fits = f; listed = listed-scaled t ts z n.listed })
+    ∙ normal_of_terms (scaled t ts) (record {
+      keys = keys-scaled t ts k n.keys;
+      fits = f;
+      listed =
+          listed-scaled t ts z n.listed;
+    })
 
 -- ---- the running sum
 
-pub sum-running : (a : ℕ → ℤ) (sum ts us : List (Mono × ℤ)) → sum_terms (mono_value a) (running sum ts us) ≡ sum_terms (mono_value a) sum +ℤ sum_terms (mono_value a) ts *ℤ sum_terms (mono_value a) us
+pub sum-running : (a : ℕ → ℤ) (sum ts us : List (Mono × ℤ)) →
+    sum_terms (mono_value a) (running sum ts us) ≡
+    sum_terms (mono_value a) sum +ℤ sum_terms (mono_value a) ts *ℤ sum_terms (mono_value a) us
 sum-running a sum [] us =
     let f = sum_terms (mono_value a) in
     sym (ap (λ n. f sum +ℤ n) (zero-mul-int (f us)) ∙ add-zero-int (f sum))
 sum-running a sum (t ∷ ts) us =
     let f = sum_terms (mono_value a) in
     sum-running a (add_terms mono_cmp sum (scaled t us)) ts us
-    ∙ ap (λ n. n +ℤ f ts *ℤ f us) (sum-add (mono_value a) mono_cmp same_mono sum (scaled t us) ∙ ap (λ n. f sum +ℤ n) (sum-scaled a t us))
+    ∙ ap (λ n. n +ℤ f ts *ℤ f us) (sum-add (mono_value a) mono_cmp same_mono sum (scaled t us) ∙
+    ap (λ n. f sum +ℤ n) (sum-scaled a t us))
     ∙ +ℤ_assoc (f sum) ((t.1 *ℤ mono_value a t.0) *ℤ f us) (f ts *ℤ f us)
     ∙ ap (λ n. f sum +ℤ n) (sym (add-mul-int (t.1 *ℤ mono_value a t.0) (f ts) (f us)))
 
@@ -140,5 +175,6 @@ pub value-multiplied : (a : ℕ → ℤ) (p q : Body) → value a (multiplied p 
 value-multiplied a p q =
     value-of_terms a (running [] (out-Body p).terms (out-Body q).terms)
     ∙ sum-running a [] (out-Body p).terms (out-Body q).terms
-    ∙ zero-add-int (sum_terms (mono_value a) (out-Body p).terms *ℤ sum_terms (mono_value a) (out-Body q).terms)
+    ∙ zero-add-int (sum_terms (mono_value a) (out-Body p).terms *ℤ sum_terms (mono_value a)
+    (out-Body q).terms)
     ∙ (λ i. sym (value_is a p) i *ℤ sym (value_is a q) i)

@@ -1,4 +1,5 @@
--- A list that is being put together term by term: what stands, what the rest still adds, and that the rest decides whether all fits.
+-- A list that is being put together term by term: what stands, what the rest still adds, and that
+-- the rest decides whether all fits.
 use Rattle.std.proofs.Common.{◌≡◌, Bool, List, ◌++◌, ℤ}
 use Rattle.rx_poly.specs.Limits.{all_fit}
 use Rattle.rx_poly.specs.declared.body.Mono.{Mono}

@@ -22,10 +22,12 @@ pub record Running (sum : Body) (rest us whole : List (Mono × ℤ)) (within : B
   pub made : running (out-Body sum).terms rest us ≡ whole
   pub limits : running_within (out-Body sum).terms rest us ≡ within
 
-pub begin : (sum p : Body) (ts us : List (Mono × ℤ)) → ts ≡ (out-Body p).terms → sum ≡ of_terms [] → is_poly p ≡ true → Running sum (drop 0 ts) us (running [] ts us) (running_within [] ts us)
+pub begin : (sum p : Body) (ts us : List (Mono × ℤ)) → ts ≡ (out-Body p).terms → sum ≡ of_terms [] →
+    is_poly p ≡ true → Running sum (drop 0 ts) us (running [] ts us) (running_within [] ts us)
 begin sum p ts us is e h =
     let n = subst NormalTerms (sym is) (poly_terms p h) in
-    let none : (out-Body sum).terms ≡ [] = ap (λ (b : Body). (out-Body b).terms) e ∙ terms-of_terms [] in
+    let none : (out-Body sum).terms ≡ [] = ap (λ (b : Body). (out-Body b).terms) e ∙
+    terms-of_terms [] in
     record {
       keys = n.keys;
       listed = n.listed;
@@ -33,62 +35,89 @@ begin sum p ts us is e h =
       limits = ap (λ s. running_within s ts us) none;
     }
 
-module _ {sum : Body} {whole : List (Mono × ℤ)} {within : Bool} (ts us : List (Mono × ℤ)) (i : ℕ) {t : Mono × ℤ} (h : i < length ts) (is : t ≡ get_or ts i t) (r : Running sum (drop i ts) us whole within) where
+module _ {sum : Body} {whole : List (Mono × ℤ)} {within : Bool} (ts us : List (Mono × ℤ)) (i : ℕ)
+    {t : Mono × ℤ} (h : i < length ts) (is : t ≡ get_or ts i t)
+    (r : Running sum (drop i ts) us whole within) where
   opened : Running sum (t ∷ drop (suc i) ts) us whole within
-  opened = subst (λ rest. Running sum rest us whole within) (drop-cons ts i t h ∙ ap (λ v. v ∷ drop (suc i) ts) (sym is)) r
+  opened =
+      subst (λ rest. Running sum rest us whole within)
+      (drop-cons ts i t h ∙ ap (λ v. v ∷ drop (suc i) ts) (sym is)) r
 
   -- the next term has a normal monomial and isn't 0
   pub next_key : is_normal_mono t.0 ≡ true
-  next_key = (and_parts (is_normal_mono t.0) (all_keys is_normal_mono (drop (suc i) ts)) opened.keys).0
+  next_key =
+      (and_parts (is_normal_mono t.0) (all_keys is_normal_mono (drop (suc i) ts)) opened.keys).0
 
   pub next_nonzero : is_zero t.1 ≡ false
-  next_nonzero = (listed_parts mono_cmp mono_total same_mono t (drop (suc i) ts) opened.listed).nonzero
+  next_nonzero =
+      (listed_parts mono_cmp mono_total same_mono t (drop (suc i) ts) opened.listed).nonzero
 
   abbrev next_sum : List (Mono × ℤ)
   next_sum = add_terms mono_cmp (out-Body sum).terms (scaled t us)
 
-  limits_are : (is_within (of_terms (scaled t us)) && (is_within (of_terms next_sum) && running_within next_sum (drop (suc i) ts) us)) ≡ within
+  limits_are : (is_within (of_terms (scaled t us)) &&
+      (is_within (of_terms next_sum) && running_within next_sum (drop (suc i) ts) us)) ≡ within
   limits_are = opened.limits
 
   -- a product that passes the limits decides
   pub no_product : is_within (of_terms (scaled t us)) ≡ false → within ≡ false
-  no_product f = sym limits_are ∙ and_left (is_within (of_terms (scaled t us))) (is_within (of_terms next_sum) && running_within next_sum (drop (suc i) ts) us) f
+  no_product f =
+      sym limits_are ∙ and_left (is_within (of_terms (scaled t us)))
+      (is_within (of_terms next_sum) && running_within next_sum (drop (suc i) ts) us) f
 
   module _ {product : Body} (same : product ≡ of_terms (scaled t us)) where
     added_is : added sum product ≡ of_terms next_sum
-    added_is = ap (λ xs. of_terms (add_terms mono_cmp (out-Body sum).terms xs)) (ap (λ (b : Body). (out-Body b).terms) same ∙ terms-of_terms (scaled t us))
+    added_is =
+        ap (λ xs. of_terms (add_terms mono_cmp (out-Body sum).terms xs))
+        (ap (λ (b : Body). (out-Body b).terms) same ∙ terms-of_terms (scaled t us))
 
     -- so does a sum
     pub no_sum : is_within (added sum product) ≡ false → within ≡ false
-    no_sum f = sym limits_are ∙ and_right (is_within (of_terms (scaled t us))) (is_within (of_terms next_sum) && running_within next_sum (drop (suc i) ts) us)
-        (and_left (is_within (of_terms next_sum)) (running_within next_sum (drop (suc i) ts) us) (ap is_within (sym added_is) ∙ f))
+    no_sum f =
+        sym limits_are ∙ and_right (is_within (of_terms (scaled t us)))
+        (is_within (of_terms next_sum) && running_within next_sum (drop (suc i) ts) us)
+        (and_left (is_within (of_terms next_sum)) (running_within next_sum (drop (suc i) ts) us)
+        (ap is_within (sym added_is) ∙ f))
 
     -- both keep the limits: the rest decides
-    pub after_sum : {next : Body} → next ≡ added sum product → is_within (of_terms (scaled t us)) ≡ true → is_within (added sum product) ≡ true → Running next (drop (i + 1) ts) us whole within
+    pub after_sum : {next : Body} → next ≡ added sum product → is_within (of_terms (scaled t us)) ≡
+        true → is_within (added sum product) ≡ true → Running next (drop (i + 1) ts) us whole within
     after_sum {next} e f g =
-        let terms : (out-Body next).terms ≡ next_sum = ap (λ (b : Body). (out-Body b).terms) (e ∙ added_is) ∙ terms-of_terms next_sum in
+        let terms : (out-Body next).terms ≡ next_sum =
+        ap (λ (b : Body). (out-Body b).terms) (e ∙ added_is) ∙ terms-of_terms next_sum in
         let kept : is_within (of_terms next_sum) ≡ true = ap is_within (sym added_is) ∙ g in
         let rest : running_within next_sum (drop (suc i) ts) us ≡ within =
-        (λ j. sym f j && (sym kept j && running_within next_sum (drop (suc i) ts) us)) ∙ limits_are in
+        (λ j. sym f j && (sym kept j && running_within next_sum (drop (suc i) ts) us)) ∙
+        limits_are in
         subst (λ n. Running next (drop n ts) us whole within) (sym (add-one i)) (record {
-          keys = (and_parts (is_normal_mono t.0) (all_keys is_normal_mono (drop (suc i) ts)) opened.keys).1;
-          listed = (listed_parts mono_cmp mono_total same_mono t (drop (suc i) ts) opened.listed).rest;
+          keys =
+              (and_parts (is_normal_mono t.0) (all_keys is_normal_mono (drop (suc i) ts))
+              opened.keys).1;
+          listed =
+              (listed_parts mono_cmp mono_total same_mono t (drop (suc i) ts) opened.listed).rest;
           made = ap (λ s. running s (drop (suc i) ts) us) terms ∙ opened.made;
           limits = ap (λ s. running_within s (drop (suc i) ts) us) terms ∙ rest;
         })
 
 -- nothing is left
-pub done_is : (ts us whole : List (Mono × ℤ)) (within : Bool) (sum : Body) (i : ℕ) → length ts ≤ i → Running sum (drop i ts) us whole within → (sum ≡ of_terms whole) × (within ≡ true)
+pub done_is : (ts us whole : List (Mono × ℤ)) (within : Bool) (sum : Body) (i : ℕ) → length ts ≤ i →
+    Running sum (drop i ts) us whole within → (sum ≡ of_terms whole) × (within ≡ true)
 done_is ts us whole within sum i h r =
     let all = subst (λ rest. Running sum rest us whole within) (drop_of_length-le ts h) r in
     (sym (roll-out-Body sum) ∙ (λ j. of_terms (all.made j)), sym all.limits)
 
-pub finished : (p q sum : Body) {ts : List (Mono × ℤ)} (i : ℕ) → ts ≡ (out-Body p).terms → length ts ≤ i → Running sum (drop i ts) (out-Body q).terms (running [] ts (out-Body q).terms) (running_within [] ts (out-Body q).terms) → sum ≡ multiplied p q
+pub finished : (p q sum : Body) {ts : List (Mono × ℤ)} (i : ℕ) → ts ≡ (out-Body p).terms →
+    length ts ≤ i → Running sum (drop i ts) (out-Body q).terms (running [] ts (out-Body q).terms)
+    (running_within [] ts (out-Body q).terms) → sum ≡ multiplied p q
 finished p q sum {ts} i is h r =
-    (done_is ts (out-Body q).terms (running [] ts (out-Body q).terms) (running_within [] ts (out-Body q).terms) sum i h r).0
+    (done_is ts (out-Body q).terms (running [] ts (out-Body q).terms)
+    (running_within [] ts (out-Body q).terms) sum i h r).0
     ∙ ap (λ us. of_terms (running [] us (out-Body q).terms)) is
 
-pub within_finished : (p q sum : Body) {ts : List (Mono × ℤ)} (i : ℕ) → ts ≡ (out-Body p).terms → length ts ≤ i → Running sum (drop i ts) (out-Body q).terms (running [] ts (out-Body q).terms) (running_within [] ts (out-Body q).terms) → mul_within p q ≡ true
+pub within_finished : (p q sum : Body) {ts : List (Mono × ℤ)} (i : ℕ) → ts ≡ (out-Body p).terms →
+    length ts ≤ i → Running sum (drop i ts) (out-Body q).terms (running [] ts (out-Body q).terms)
+    (running_within [] ts (out-Body q).terms) → mul_within p q ≡ true
 within_finished p q sum {ts} i is h r =
     ap (λ us. running_within [] us (out-Body q).terms) (sym is)
-    ∙ (done_is ts (out-Body q).terms (running [] ts (out-Body q).terms) (running_within [] ts (out-Body q).terms) sum i h r).1
+    ∙ (done_is ts (out-Body q).terms (running [] ts (out-Body q).terms)
+    (running_within [] ts (out-Body q).terms) sum i h r).1

@@ -58,7 +58,8 @@ bare_body = map-Body PartAtom PartBody PartMono Atom Body Mono (λ p. p.0) (λ p
 abbrev bare_mono : Mono-F PartAtom PartBody PartMono → Mono-F Atom Body Mono
 bare_mono = map-Mono PartAtom PartBody PartMono Atom Body Mono (λ p. p.0) (λ p. p.0) (λ p. p.0)
 
-atoms_alike : (x : Atom-F PartAtom PartBody PartMono) (y : Atom-F Atom Body Mono) → atom_cmp_level (bare_atom x) y ≡ Equal → bare_atom x ≡ y
+atoms_alike : (x : Atom-F PartAtom PartBody PartMono) (y : Atom-F Atom Body Mono) →
+    atom_cmp_level (bare_atom x) y ≡ Equal → bare_atom x ≡ y
 atoms_alike (Atom-F.Var m) (Atom-F.Var n) e = ap Atom-F.Var (nat_same m n e)
 atoms_alike (Atom-F.Var m) (Atom-F.Div r s) e = cc
 atoms_alike (Atom-F.Var m) (Atom-F.Mod r s) e = cc
@@ -73,31 +74,40 @@ atoms_alike (Atom-F.Mod p q) (Atom-F.Mod r s) e =
     let b = then_equal (body_cmp p.0 r) (body_cmp q.0 s) e in
     λ i. Atom-F.Mod (p.1 r b.0 i) (q.1 s b.1 i)
 
-atom_step : (x : Atom-F Atom Body Mono) (y : Atom-F PartAtom PartBody PartMono) → bare_atom y ≡ x → SameAtom (roll-Atom x)
+atom_step : (x : Atom-F Atom Body Mono) (y : Atom-F PartAtom PartBody PartMono) → bare_atom y ≡ x →
+    SameAtom (roll-Atom x)
 atom_step x y is = subst (λ z. SameAtom (roll-Atom z)) is (λ w e.
     let level : atom_cmp_level (bare_atom y) (out-Atom w) ≡ Equal =
-    (λ i. atom_cmp_level (sym (out-roll-Atom (bare_atom y)) i) (out-Atom w)) ∙ sym (atom_cmp_is (roll-Atom (bare_atom y)) w) ∙ e in
+    (λ i. atom_cmp_level (sym (out-roll-Atom (bare_atom y)) i) (out-Atom w)) ∙
+    sym (atom_cmp_is (roll-Atom (bare_atom y)) w) ∙ e in
     ap roll-Atom (atoms_alike y (out-Atom w) level) ∙ roll-out-Atom w)
 
-lists_alike : (ps : List PartAtom) (ys : List Atom) → slice_cmp atom_cmp (map (λ (p : PartAtom). p.0) ps) ys ≡ Equal → map (λ (p : PartAtom). p.0) ps ≡ ys
+lists_alike : (ps : List PartAtom) (ys : List Atom) →
+    slice_cmp atom_cmp (map (λ (p : PartAtom). p.0) ps) ys ≡ Equal →
+    map (λ (p : PartAtom). p.0) ps ≡ ys
 lists_alike [] [] e = refl
 lists_alike [] (y ∷ ys) e = cc
 lists_alike (p ∷ ps) [] e = cc
 lists_alike (p ∷ ps) (y ∷ ys) e =
-    let b = then_equal (atom_cmp p.0 y) (slice_cmp atom_cmp (map (λ (p : PartAtom). p.0) ps) ys) e in
+    let b = then_equal (atom_cmp p.0 y) (slice_cmp atom_cmp (map (λ (p : PartAtom). p.0) ps) ys) e
+    in
     λ i. p.1 y b.0 i ∷ lists_alike ps ys b.1 i
 
-mono_step : (x : Mono-F Atom Body Mono) (y : Mono-F PartAtom PartBody PartMono) → bare_mono y ≡ x → SameMono (roll-Mono x)
+mono_step : (x : Mono-F Atom Body Mono) (y : Mono-F PartAtom PartBody PartMono) → bare_mono y ≡ x →
+    SameMono (roll-Mono x)
 mono_step x y is = subst (λ z. SameMono (roll-Mono z)) is (λ n e.
     let level : graded_cmp atom_cmp (bare_mono y).atoms (out-Mono n).atoms ≡ Equal =
-    (λ i. graded_cmp atom_cmp (sym (out-roll-Mono (bare_mono y)) i).atoms (out-Mono n).atoms) ∙ sym (mono_cmp_is (roll-Mono (bare_mono y)) n) ∙ e in
-    let atoms : (bare_mono y).atoms ≡ (out-Mono n).atoms = lists_alike y.atoms (out-Mono n).atoms (then_equal _ _ level).1 in
+    (λ i. graded_cmp atom_cmp (sym (out-roll-Mono (bare_mono y)) i).atoms (out-Mono n).atoms) ∙
+    sym (mono_cmp_is (roll-Mono (bare_mono y)) n) ∙ e in
+    let atoms : (bare_mono y).atoms ≡ (out-Mono n).atoms =
+    lists_alike y.atoms (out-Mono n).atoms (then_equal _ _ level).1 in
     (λ i. roll-Mono (record { atoms = atoms i })) ∙ roll-out-Mono n)
 
 abbrev bare_term : PartMono × ℤ → Mono × ℤ
 bare_term t = ((t.0).0, t.1)
 
-sums_alike : (ps : List (PartMono × ℤ)) (us : List (Mono × ℤ)) → slice_cmp term_cmp (map bare_term ps) us ≡ Equal → map bare_term ps ≡ us
+sums_alike : (ps : List (PartMono × ℤ)) (us : List (Mono × ℤ)) →
+    slice_cmp term_cmp (map bare_term ps) us ≡ Equal → map bare_term ps ≡ us
 sums_alike [] [] e = refl
 sums_alike [] (u ∷ us) e = cc
 sums_alike (p ∷ ps) [] e = cc
@@ -106,11 +116,14 @@ sums_alike (p ∷ ps) (u ∷ us) e =
     let t = then_equal (mono_cmp (p.0).0 u.0) (int_cmp p.1 u.1) b.0 in
     λ i. ((p.0).1 u.0 t.0 i, int_same p.1 u.1 t.1 i) ∷ sums_alike ps us b.1 i
 
-body_step : (x : Body-F Atom Body Mono) (y : Body-F PartAtom PartBody PartMono) → bare_body y ≡ x → SameBody (roll-Body x)
+body_step : (x : Body-F Atom Body Mono) (y : Body-F PartAtom PartBody PartMono) → bare_body y ≡ x →
+    SameBody (roll-Body x)
 body_step x y is = subst (λ z. SameBody (roll-Body z)) is (λ q e.
     let level : slice_cmp term_cmp (bare_body y).terms (out-Body q).terms ≡ Equal =
-    (λ i. slice_cmp term_cmp (sym (out-roll-Body (bare_body y)) i).terms (out-Body q).terms) ∙ sym (body_cmp_is (roll-Body (bare_body y)) q) ∙ e in
-    let terms : (bare_body y).terms ≡ (out-Body q).terms = sums_alike y.terms (out-Body q).terms level in
+    (λ i. slice_cmp term_cmp (sym (out-roll-Body (bare_body y)) i).terms (out-Body q).terms) ∙
+    sym (body_cmp_is (roll-Body (bare_body y)) q) ∙ e in
+    let terms : (bare_body y).terms ≡ (out-Body q).terms =
+    sums_alike y.terms (out-Body q).terms level in
     (λ i. roll-Body (record { terms = terms i })) ∙ roll-out-Body q)
 
 -- atoms that compare as equal are one
@@ -127,7 +140,9 @@ same_body = ind-Body SameAtom SameBody SameMono atom_step body_step mono_step
 
 -- `==` holds of sums that are one, and of no others
 pub told_same : (p q : Body) → body_eq p q ≡ true → p ≡ q
-told_same p q e = same_body p q ((Equal-is (body_cmp p q)).0 (sym (body_laws.matches_eq-law p q) ∙ e))
+told_same p q e =
+    same_body p q ((Equal-is (body_cmp p q)).0 (sym (body_laws.matches_eq-law p q) ∙ e))
 
 pub told_itself : (p q : Body) → p ≡ q → body_eq p q ≡ true
-told_itself p q e = ap (body_eq p) (sym e) ∙ body_laws.matches_eq-law p p ∙ ap is_eq (tied_itself body_total p)
+told_itself p q e =
+    ap (body_eq p) (sym e) ∙ body_laws.matches_eq-law p p ∙ ap is_eq (tied_itself body_total p)

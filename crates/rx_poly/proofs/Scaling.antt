@@ -20,36 +20,53 @@ pub record Scaling (t : Mono × ℤ) (done rest whole : List (Mono × ℤ)) : Ty
 abbrev pub product : Mono × ℤ → Mono × ℤ → Mono × ℤ
 product t u = (mono_times t.0 u.0, t.1 *ℤ u.1)
 
-module _ {t : Mono × ℤ} {done whole : List (Mono × ℤ)} (us : List (Mono × ℤ)) (i : ℕ) {u : Mono × ℤ} (h : i < length us) (is : u ≡ get_or us i u) (s : Scaling t done (drop i us) whole) where
+module _ {t : Mono × ℤ} {done whole : List (Mono × ℤ)} (us : List (Mono × ℤ)) (i : ℕ) {u : Mono × ℤ}
+    (h : i < length us) (is : u ≡ get_or us i u) (s : Scaling t done (drop i us) whole) where
   opened : Scaling t done (u ∷ drop (suc i) us) whole
-  opened = subst (λ rest. Scaling t done rest whole) (drop-cons us i u h ∙ ap (λ v. v ∷ drop (suc i) us) (sym is)) s
+  opened =
+      subst (λ rest. Scaling t done rest whole)
+      (drop-cons us i u h ∙ ap (λ v. v ∷ drop (suc i) us) (sym is)) s
 
   -- the next term has a normal monomial
   pub next_key : is_normal_mono u.0 ≡ true
-  next_key = (and_parts (is_normal_mono u.0) (all_keys is_normal_mono (drop (suc i) us)) opened.keys).0
+  next_key =
+      (and_parts (is_normal_mono u.0) (all_keys is_normal_mono (drop (suc i) us)) opened.keys).0
 
   apart : (done ++ product t u ∷ []) ++ scaled t (drop (suc i) us) ≡ whole
   apart = append_assoc done (product t u ∷ []) (scaled t (drop (suc i) us)) ∙ opened.made
 
   -- its product stands behind the others
-  pub after_product : {next : List (Mono × ℤ)} → next ≡ done ++ product t u ∷ [] → fits_i128 (t.1 *ℤ u.1) ≡ true → Scaling t next (drop (i + 1) us) whole
-  after_product e f = subst (λ xs. Scaling t xs (drop (i + 1) us) whole) (sym e) (subst (λ n. Scaling t (done ++ product t u ∷ []) (drop n us) whole) (sym (add-one i)) (record {
-    keys = (and_parts (is_normal_mono u.0) (all_keys is_normal_mono (drop (suc i) us)) opened.keys).1;
-    made = apart;
-    fits = list_all-append (λ (v : Mono × ℤ). fits_i128 v.1) done (product t u ∷ []) ∙ and_from (all_fit done) (all_fit (product t u ∷ [])) s.fits (and_from (fits_i128 (t.1 *ℤ u.1)) true f refl);
-  }))
+  pub after_product : {next : List (Mono × ℤ)} → next ≡ done ++ product t u ∷ [] →
+      fits_i128 (t.1 *ℤ u.1) ≡ true → Scaling t next (drop (i + 1) us) whole
+  after_product e f =
+      subst (λ xs. Scaling t xs (drop (i + 1) us) whole) (sym e)
+      (subst (λ n. Scaling t (done ++ product t u ∷ []) (drop n us) whole) (sym (add-one i))
+      (record {
+        keys =
+            (and_parts (is_normal_mono u.0) (all_keys is_normal_mono (drop (suc i) us))
+            opened.keys).1;
+        made = apart;
+        fits =
+            list_all-append (λ (v : Mono × ℤ). fits_i128 v.1) done (product t u ∷ []) ∙
+            and_from (all_fit done) (all_fit (product t u ∷ [])) s.fits
+            (and_from (fits_i128 (t.1 *ℤ u.1)) true f refl);
+      }))
 
   -- a product that leaves i128 is one of the whole
   pub no_product : fits_i128 (t.1 *ℤ u.1) ≡ false → all_fit whole ≡ false
   no_product f =
-      ap all_fit (sym opened.made) ∙ list_all-append (λ (v : Mono × ℤ). fits_i128 v.1) done (scaled t (u ∷ drop (suc i) us))
-      ∙ and_right (all_fit done) (all_fit (scaled t (u ∷ drop (suc i) us))) (and_left (fits_i128 (t.1 *ℤ u.1)) (all_fit (scaled t (drop (suc i) us))) f)
+      ap all_fit (sym opened.made) ∙ list_all-append (λ (v : Mono × ℤ). fits_i128 v.1) done
+      (scaled t (u ∷ drop (suc i) us))
+      ∙ and_right (all_fit done) (all_fit (scaled t (u ∷ drop (suc i) us)))
+      (and_left (fits_i128 (t.1 *ℤ u.1)) (all_fit (scaled t (drop (suc i) us))) f)
 
-pub begin : (t : Mono × ℤ) (us : List (Mono × ℤ)) → all_keys is_normal_mono us ≡ true → Scaling t [] (drop 0 us) (scaled t us)
+pub begin : (t : Mono × ℤ) (us : List (Mono × ℤ)) → all_keys is_normal_mono us ≡ true →
+    Scaling t [] (drop 0 us) (scaled t us)
 begin t us h = record { keys = h; made = refl; fits = refl }
 
 -- nothing is left
-pub done_is : (t : Mono × ℤ) (done us whole : List (Mono × ℤ)) (i : ℕ) → length us ≤ i → Scaling t done (drop i us) whole → (done ≡ whole) × (all_fit whole ≡ true)
+pub done_is : (t : Mono × ℤ) (done us whole : List (Mono × ℤ)) (i : ℕ) → length us ≤ i →
+    Scaling t done (drop i us) whole → (done ≡ whole) × (all_fit whole ≡ true)
 done_is t done us whole i h s =
     let all = subst (λ rest. Scaling t done rest whole) (drop_of_length-le us h) s in
     let same : done ≡ whole = sym (append-nil done) ∙ all.made in

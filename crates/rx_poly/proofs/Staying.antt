@@ -10,21 +10,31 @@ use Rattle.rx_poly.specs.Substitution.{replaced}
 use Rattle.rx_poly.specs.declared.body.Body.{Body}
 
 -- where the variables of the rest stay, those of all do
-pub record Staying {X : Type 0} (ws : List (ℕ × Body)) (f : X → List ℕ) (rest whole : List X) : Type 0 where
+pub record Staying {X : Type 0} (ws : List (ℕ × Body)) (f : X → List ℕ) (rest whole : List X) : Type
+    0 where
   pub all : stay ws (flat_map f rest) → stay ws (flat_map f whole)
 
-pub begin : {X : Type 0} (ws : List (ℕ × Body)) (f : X → List ℕ) (xs : List X) → Staying ws f (drop 0 xs) xs
+pub begin : {X : Type 0} (ws : List (ℕ × Body)) (f : X → List ℕ) (xs : List X) →
+    Staying ws f (drop 0 xs) xs
 begin ws f xs = record { all = λ h. h }
 
-pub after : {X : Type 0} (ws : List (ℕ × Body)) (f : X → List ℕ) (xs : List X) (i : ℕ) {x : X} → i < length xs → x ≡ get_or xs i x → stay ws (f x) → Staying ws f (drop i xs) xs → Staying ws f (drop (i + 1) xs) xs
+pub after : {X : Type 0} (ws : List (ℕ × Body)) (f : X → List ℕ) (xs : List X) (i : ℕ) {x : X} → i <
+    length xs → x ≡ get_or xs i x → stay ws (f x) → Staying ws f (drop i xs) xs →
+    Staying ws f (drop (i + 1) xs) xs
 after ws f xs i {x} h is st s =
-    let opened = subst (λ ys. Staying ws f ys xs) (drop-cons xs i x h ∙ ap (λ y. y ∷ drop (suc i) xs) (sym is)) s in
+    let opened = subst (λ ys. Staying ws f ys xs)
+    (drop-cons xs i x h ∙ ap (λ y. y ∷ drop (suc i) xs) (sym is)) s in
     subst (λ n. Staying ws f (drop n xs) xs) (sym (add-one i)) (record {
-      all = λ rest. opened.all (All-append (λ v. replaced ws v ≡ variable v) (f x) (flat_map f (drop (suc i) xs)) st rest);
+      all =
+          λ rest. opened.all (All-append (λ v. replaced ws v ≡ variable v) (f x)
+          (flat_map f (drop (suc i) xs)) st rest);
     })
 
-pub finished : {X : Type 0} (ws : List (ℕ × Body)) (f : X → List ℕ) (xs : List X) (i : ℕ) → length xs ≤ i → Staying ws f (drop i xs) xs → stay ws (flat_map f xs)
-finished ws f xs i h s = (subst (λ ys. Staying ws f ys xs) (drop_of_length-le xs h) s).all (All-nil (λ v. replaced ws v ≡ variable v))
+pub finished : {X : Type 0} (ws : List (ℕ × Body)) (f : X → List ℕ) (xs : List X) (i : ℕ) →
+    length xs ≤ i → Staying ws f (drop i xs) xs → stay ws (flat_map f xs)
+finished ws f xs i h s =
+    (subst (λ ys. Staying ws f ys xs) (drop_of_length-le xs h) s).all
+    (All-nil (λ v. replaced ws v ≡ variable v))
 
 -- what a test that passed tells
 pub passed : {P : Type 0} (b : Bool) → b ≡ true → OnTrue b P → P

@@ -1,4 +1,5 @@
--- What polynomials with replaced variables are worth: what the polynomial is worth where each variable is worth what stands in its place.
+-- What polynomials with replaced variables are worth: what the polynomial is worth where each
+-- variable is worth what stands in its place.
 use Rattle.std.proofs.Common.{◌≡◌, ◌∙◌, ap, subst, ℕ, sym, List, [], ◌∷◌, map, ◌&&◌, ℤ, ◌+ℤ◌, ◌*ℤ◌}
 use lib.IntN.{+ℤ_assoc}
 use Rattle.rx_plain.proofs.Integers.{mul-one-int, mul-assoc-int, zero-add-int, add-zero-int}
@@ -52,29 +53,46 @@ module _ (a : ℕ → ℤ) (ws : List (ℕ × Body)) where
   form_worth w = value a w.form
 
   atom_level : (y : Atom-F PartAtom PartBody PartMono) → WorthAtom (roll-Atom (bare_atom y))
-  atom_level (Atom-F.Var n) = subst WorthAtom (sym (rolls-Var n)) (ap form_worth (in_Var ws n) ∙ sym (var_value (worth a ws) n))
+  atom_level (Atom-F.Var n) =
+      subst WorthAtom (sym (rolls-Var n)) (ap form_worth (in_Var ws n) ∙
+      sym (var_value (worth a ws) n))
   atom_level (Atom-F.Div p q) = subst WorthAtom (sym (rolls-Div p.0 q.0))
-      (ap form_worth (in_Div ws p.0 q.0) ∙ value-quotient_of a (in_body ws p.0).form (in_body ws q.0).form ∙ (λ i. quotient (p.1 i) (q.1 i)) ∙ sym (value-Div (worth a ws) p.0 q.0))
+      (ap form_worth (in_Div ws p.0 q.0) ∙ value-quotient_of a (in_body ws p.0).form
+      (in_body ws q.0).form ∙ (λ i. quotient (p.1 i) (q.1 i)) ∙
+      sym (value-Div (worth a ws) p.0 q.0))
   atom_level (Atom-F.Mod p q) = subst WorthAtom (sym (rolls-Mod p.0 q.0))
-      (ap form_worth (in_Mod ws p.0 q.0) ∙ value-remainder_of a (in_body ws p.0).form (in_body ws q.0).form ∙ (λ i. remainder (p.1 i) (q.1 i)) ∙ sym (value-Mod (worth a ws) p.0 q.0))
+      (ap form_worth (in_Mod ws p.0 q.0) ∙ value-remainder_of a (in_body ws p.0).form
+      (in_body ws q.0).form ∙ (λ i. remainder (p.1 i) (q.1 i)) ∙
+      sym (value-Mod (worth a ws) p.0 q.0))
 
-  atom_step : (x : Atom-F Atom Body Mono) (y : Atom-F PartAtom PartBody PartMono) → bare_atom y ≡ x → WorthAtom (roll-Atom x)
+  atom_step : (x : Atom-F Atom Body Mono) (y : Atom-F PartAtom PartBody PartMono) → bare_atom y ≡
+      x → WorthAtom (roll-Atom x)
   atom_step x y is = subst (λ z. WorthAtom (roll-Atom z)) is (atom_level y)
 
-  times_worth : (ps : List PartAtom) (done : Formed Body) → form_worth (times_all done (map (in_atom ws) (map (λ (p : PartAtom). p.0) ps))) ≡ form_worth done *ℤ product_of (atom_value (worth a ws)) (map (λ (p : PartAtom). p.0) ps)
+  times_worth : (ps : List PartAtom) (done : Formed Body) →
+      form_worth (times_all done (map (in_atom ws) (map (λ (p : PartAtom). p.0) ps))) ≡
+      form_worth done *ℤ product_of (atom_value (worth a ws)) (map (λ (p : PartAtom). p.0) ps)
   times_worth [] done = sym (mul-one-int (form_worth done))
   times_worth (p ∷ ps) done =
       let x = in_atom ws p.0 in
       let rest = product_of (atom_value (worth a ws)) (map (λ (p : PartAtom). p.0) ps) in
-      times_worth ps (record { form = multiplied done.form x.form; within = done.within && (x.within && mul_within done.form x.form) })
-      ∙ ap (λ n. n *ℤ rest) (value-multiplied a done.form x.form ∙ ap (λ n. form_worth done *ℤ n) p.1)
+      times_worth ps (record {
+        form = multiplied done.form x.form;
+        within = done.within &&
+            (x.within && mul_within done.form x.form);
+      })
+      ∙ ap (λ n. n *ℤ rest) (value-multiplied a done.form x.form ∙
+      ap (λ n. form_worth done *ℤ n) p.1)
       ∙ mul-assoc-int (form_worth done) (atom_value (worth a ws) p.0) rest
 
-  mono_step : (x : Mono-F Atom Body Mono) (y : Mono-F PartAtom PartBody PartMono) → bare_mono y ≡ x → WorthMono (roll-Mono x)
+  mono_step : (x : Mono-F Atom Body Mono) (y : Mono-F PartAtom PartBody PartMono) → bare_mono y ≡
+      x → WorthMono (roll-Mono x)
   mono_step x y is = subst (λ z. WorthMono (roll-Mono z)) is (λ k.
       let m = roll-Mono (bare_mono y) in
-      let atoms : (out-Mono m).atoms ≡ (bare_mono y).atoms = ap (λ (z : Mono-F Atom Body Mono). z.atoms) (out-roll-Mono (bare_mono y)) in
-      ap form_worth (in_mono_is ws m k) ∙ (λ i. form_worth (times_all (well (number k)) (map (in_atom ws) (atoms i))))
+      let atoms : (out-Mono m).atoms ≡ (bare_mono y).atoms =
+      ap (λ (z : Mono-F Atom Body Mono). z.atoms) (out-roll-Mono (bare_mono y)) in
+      ap form_worth (in_mono_is ws m k) ∙ (λ i.
+      form_worth (times_all (well (number k)) (map (in_atom ws) (atoms i))))
       ∙ times_worth y.atoms (well (number k))
       ∙ (λ i. value-number a k i *ℤ product_of (atom_value (worth a ws)) (sym atoms i))
       ∙ ap (λ n. k *ℤ n) (sym (mono_value_is (worth a ws) m)))
@@ -82,25 +100,36 @@ module _ (a : ℕ → ℤ) (ws : List (ℕ × Body)) where
   abbrev bare_term : PartMono × ℤ → Mono × ℤ
   bare_term t = ((t.0).0, t.1)
 
-  plus_worth : (ps : List (PartMono × ℤ)) (done : Formed Body) → form_worth (plus_all done (map (term_in ws) (map bare_term ps))) ≡ form_worth done +ℤ sum_terms (mono_value (worth a ws)) (map bare_term ps)
+  plus_worth : (ps : List (PartMono × ℤ)) (done : Formed Body) →
+      form_worth (plus_all done (map (term_in ws) (map bare_term ps))) ≡
+      form_worth done +ℤ sum_terms (mono_value (worth a ws)) (map bare_term ps)
   plus_worth [] done = sym (add-zero-int (form_worth done))
   plus_worth (p ∷ ps) done =
       let x = in_mono ws (p.0).0 p.1 in
       let rest = sum_terms (mono_value (worth a ws)) (map bare_term ps) in
-      plus_worth ps (record { form = added done.form x.form; within = done.within && (x.within && is_within (added done.form x.form)) })
-      ∙ ap (λ n. n +ℤ rest) (value-added a done.form x.form ∙ ap (λ n. form_worth done +ℤ n) ((p.0).1 p.1))
+      plus_worth ps (record {
+        form = added done.form x.form;
+        within = done.within &&
+            (x.within && is_within (added done.form x.form));
+      })
+      ∙ ap (λ n. n +ℤ rest) (value-added a done.form x.form ∙
+      ap (λ n. form_worth done +ℤ n) ((p.0).1 p.1))
       ∙ +ℤ_assoc (form_worth done) (p.1 *ℤ mono_value (worth a ws) (p.0).0) rest
 
-  body_step : (x : Body-F Atom Body Mono) (y : Body-F PartAtom PartBody PartMono) → bare_body y ≡ x → WorthBody (roll-Body x)
+  body_step : (x : Body-F Atom Body Mono) (y : Body-F PartAtom PartBody PartMono) → bare_body y ≡
+      x → WorthBody (roll-Body x)
   body_step x y is = subst (λ z. WorthBody (roll-Body z)) is (
       let b = roll-Body (bare_body y) in
-      let terms : (out-Body b).terms ≡ (bare_body y).terms = ap (λ (z : Body-F Atom Body Mono). z.terms) (out-roll-Body (bare_body y)) in
-      ap form_worth (in_body_is ws b) ∙ (λ i. form_worth (plus_all (well (of_terms [])) (map (term_in ws) (terms i))))
+      let terms : (out-Body b).terms ≡ (bare_body y).terms =
+      ap (λ (z : Body-F Atom Body Mono). z.terms) (out-roll-Body (bare_body y)) in
+      ap form_worth (in_body_is ws b) ∙ (λ i.
+      form_worth (plus_all (well (of_terms [])) (map (term_in ws) (terms i))))
       ∙ plus_worth y.terms (well (of_terms []))
       ∙ (λ i. value-of_terms a [] i +ℤ sum_terms (mono_value (worth a ws)) (sym terms i))
       ∙ zero-add-int (sum_terms (mono_value (worth a ws)) (out-Body b).terms)
       ∙ sym (value_is (worth a ws) b))
 
-  -- a polynomial with replaced variables is worth what it was where these are worth their replacements
+  -- a polynomial with replaced variables is worth what it was where these are worth their
+  -- replacements
   pub value-in_body : (b : Body) → value a (in_body ws b).form ≡ value (worth a ws) b
   value-in_body = ind-Body WorthAtom WorthBody WorthMono atom_step body_step mono_step

@@ -1,4 +1,5 @@
--- Polynomials that are being put in place of variables: the product or sum so far, and what is left still makes the whole.
+-- Polynomials that are being put in place of variables: the product or sum so far, and what is left
+-- still makes the whole.
 use Rattle.std.proofs.Common.{◌≡◌, ◌∙◌, ap, subst, ℕ, suc, ◌+◌, ◌<◌, ◌≤◌, true, false, ◌&&◌, refl, sym, List, [], ◌∷◌, map, length, drop, get_or, drop_of_length-le, add-one, ℤ}
 use Rattle.std.proofs.Math.Seq.{drop-cons}
 use Rattle.std.proofs.lemmas.Bool.{and_left, and_right}
@@ -21,100 +22,197 @@ well b = record { form = b; within = true }
 
 module _ (ws : List (ℕ × Body)) where
   pub in_Var : (n : ℕ) → in_atom ws (Var n) ≡ well (replaced ws n)
-  in_Var n = fold_out-Atom (Formed Body) (Formed Body) (ℤ → Formed Body) (atom_substituted ws) (body_substituted ws) (mono_substituted ws) (Var n) ∙ rw (outs-Var n) refl
+  in_Var n =
+      fold_out-Atom (Formed Body) (Formed Body) (ℤ → Formed Body) (atom_substituted ws)
+      (body_substituted ws) (mono_substituted ws) (Var n) ∙ rw (outs-Var n) refl
 
-  pub in_Div : (p q : Body) → in_atom ws (Div p q) ≡ record { form = quotient_of (in_body ws p).form (in_body ws q).form; within = (in_body ws p).within && ((in_body ws q).within && is_within (quotient_of (in_body ws p).form (in_body ws q).form)) }
-  in_Div p q = fold_out-Atom (Formed Body) (Formed Body) (ℤ → Formed Body) (atom_substituted ws) (body_substituted ws) (mono_substituted ws) (Div p q) ∙ rw (outs-Div p q) refl
+  pub in_Div : (p q : Body) → in_atom ws (Div p q) ≡
+      record {
+        form = quotient_of (in_body ws p).form (in_body ws q).form;
+        within =
+            (in_body ws p).within && ((in_body ws q).within &&
+            is_within (quotient_of (in_body ws p).form (in_body ws q).form));
+      }
+  in_Div p q =
+      fold_out-Atom (Formed Body) (Formed Body) (ℤ → Formed Body) (atom_substituted ws)
+      (body_substituted ws) (mono_substituted ws) (Div p q) ∙ rw (outs-Div p q) refl
 
-  pub in_Mod : (p q : Body) → in_atom ws (Mod p q) ≡ record { form = remainder_of (in_body ws p).form (in_body ws q).form; within = (in_body ws p).within && ((in_body ws q).within && is_within (remainder_of (in_body ws p).form (in_body ws q).form)) }
-  in_Mod p q = fold_out-Atom (Formed Body) (Formed Body) (ℤ → Formed Body) (atom_substituted ws) (body_substituted ws) (mono_substituted ws) (Mod p q) ∙ rw (outs-Mod p q) refl
+  pub in_Mod : (p q : Body) → in_atom ws (Mod p q) ≡
+      record {
+        form = remainder_of (in_body ws p).form (in_body ws q).form;
+        within =
+            (in_body ws p).within && ((in_body ws q).within &&
+            is_within (remainder_of (in_body ws p).form (in_body ws q).form));
+      }
+  in_Mod p q =
+      fold_out-Atom (Formed Body) (Formed Body) (ℤ → Formed Body) (atom_substituted ws)
+      (body_substituted ws) (mono_substituted ws) (Mod p q) ∙ rw (outs-Mod p q) refl
 
-  pub in_mono_is : (m : Mono) (k : ℤ) → in_mono ws m k ≡ times_all (well (number k)) (map (in_atom ws) (out-Mono m).atoms)
-  in_mono_is m k = ap (λ (g : ℤ → Formed Body). g k) (fold_out-Mono (Formed Body) (Formed Body) (ℤ → Formed Body) (atom_substituted ws) (body_substituted ws) (mono_substituted ws) m)
+  pub in_mono_is : (m : Mono) (k : ℤ) → in_mono ws m k ≡
+      times_all (well (number k)) (map (in_atom ws) (out-Mono m).atoms)
+  in_mono_is m k =
+      ap (λ (g : ℤ → Formed Body). g k) (fold_out-Mono (Formed Body) (Formed Body) (ℤ → Formed Body)
+      (atom_substituted ws) (body_substituted ws) (mono_substituted ws) m)
 
   abbrev pub term_in : Mono × ℤ → (ℤ → Formed Body) × ℤ
   term_in t = (in_mono ws t.0, t.1)
 
-  pub in_body_is : (b : Body) → in_body ws b ≡ plus_all (well (of_terms [])) (map term_in (out-Body b).terms)
-  in_body_is b = fold_out-Body (Formed Body) (Formed Body) (ℤ → Formed Body) (atom_substituted ws) (body_substituted ws) (mono_substituted ws) b
+  pub in_body_is : (b : Body) → in_body ws b ≡
+      plus_all (well (of_terms [])) (map term_in (out-Body b).terms)
+  in_body_is b =
+      fold_out-Body (Formed Body) (Formed Body) (ℤ → Formed Body) (atom_substituted ws)
+      (body_substituted ws) (mono_substituted ws) b
 
 -- what has passed the limits stays so
-times_false : (xs : List (Formed Body)) (done : Formed Body) → done.within ≡ false → (times_all done xs).within ≡ false
+times_false : (xs : List (Formed Body)) (done : Formed Body) → done.within ≡ false →
+    (times_all done xs).within ≡ false
 times_false [] done h = h
 times_false (x ∷ xs) done h =
-    times_false xs (record { form = multiplied done.form x.form; within = done.within && (x.within && mul_within done.form x.form) })
+    times_false xs (record {
+      form = multiplied done.form x.form;
+      within = done.within &&
+          (x.within && mul_within done.form x.form);
+    })
     (and_left done.within (x.within && mul_within done.form x.form) h)
 
-plus_false : (ts : List ((ℤ → Formed Body) × ℤ)) (done : Formed Body) → done.within ≡ false → (plus_all done ts).within ≡ false
+plus_false : (ts : List ((ℤ → Formed Body) × ℤ)) (done : Formed Body) → done.within ≡ false →
+    (plus_all done ts).within ≡ false
 plus_false [] done h = h
 plus_false (t ∷ ts) done h =
-    plus_false ts (record { form = added done.form (t.0 t.1).form; within = done.within && ((t.0 t.1).within && is_within (added done.form (t.0 t.1).form)) })
+    plus_false ts (record {
+      form = added done.form (t.0 t.1).form;
+      within = done.within &&
+          ((t.0 t.1).within && is_within (added done.form (t.0 t.1).form));
+    })
     (and_left done.within ((t.0 t.1).within && is_within (added done.form (t.0 t.1).form)) h)
 
 -- ---- products
 
 -- the product so far, times the atoms that are left, is the whole
-pub record Multiplying (ws : List (ℕ × Body)) (product : Body) (rest : List Atom) (whole : Formed Body) : Type 0 where
+pub record Multiplying (ws : List (ℕ × Body)) (product : Body) (rest : List Atom)
+    (whole : Formed Body) : Type 0 where
   pub made : times_all (well product) (map (in_atom ws) rest) ≡ whole
 
-module _ (ws : List (ℕ × Body)) {product : Body} {whole : Formed Body} (xs : List Atom) (i : ℕ) {x : Atom} (h : i < length xs) (is : x ≡ get_or xs i x) (m : Multiplying ws product (drop i xs) whole) where
+module _ (ws : List (ℕ × Body)) {product : Body} {whole : Formed Body} (xs : List Atom) (i : ℕ)
+    {x : Atom} (h : i < length xs) (is : x ≡ get_or xs i x)
+    (m : Multiplying ws product (drop i xs) whole) where
   abbrev next_atom : Formed Body
   next_atom = in_atom ws x
 
   abbrev next_product : Formed Body
-  next_product = record { form = multiplied product next_atom.form; within = true && (next_atom.within && mul_within product next_atom.form) }
+  next_product =
+      record {
+        form = multiplied product next_atom.form;
+        within = true &&
+            (next_atom.within && mul_within product next_atom.form);
+      }
 
   opened_atom : times_all next_product (map (in_atom ws) (drop (suc i) xs)) ≡ whole
-  opened_atom = (subst (λ rest. Multiplying ws product rest whole) (drop-cons xs i x h ∙ ap (λ y. y ∷ drop (suc i) xs) (sym is)) m).made
+  opened_atom =
+      (subst (λ rest. Multiplying ws product rest whole)
+      (drop-cons xs i x h ∙ ap (λ y. y ∷ drop (suc i) xs) (sym is)) m).made
 
   pub no_factor : next_atom.within ≡ false → whole.within ≡ false
-  no_factor f = ap (λ (w : Formed Body). w.within) (sym opened_atom) ∙ times_false (map (in_atom ws) (drop (suc i) xs)) next_product (and_left next_atom.within (mul_within product next_atom.form) f)
+  no_factor f =
+      ap (λ (w : Formed Body). w.within) (sym opened_atom) ∙
+      times_false (map (in_atom ws) (drop (suc i) xs)) next_product
+      (and_left next_atom.within (mul_within product next_atom.form) f)
 
-  pub no_times : {factor : Body} → factor ≡ next_atom.form → mul_within product factor ≡ false → whole.within ≡ false
-  no_times e f = ap (λ (w : Formed Body). w.within) (sym opened_atom) ∙ times_false (map (in_atom ws) (drop (suc i) xs)) next_product
-      (and_right next_atom.within (mul_within product next_atom.form) (ap (mul_within product) (sym e) ∙ f))
+  pub no_times : {factor : Body} → factor ≡ next_atom.form → mul_within product factor ≡ false →
+      whole.within ≡ false
+  no_times e f =
+      ap (λ (w : Formed Body). w.within) (sym opened_atom) ∙
+      times_false (map (in_atom ws) (drop (suc i) xs)) next_product
+      (and_right next_atom.within (mul_within product next_atom.form)
+      (ap (mul_within product) (sym e) ∙ f))
 
-  pub after_times : {factor next : Body} → factor ≡ next_atom.form → next_atom.within ≡ true → next ≡ multiplied product factor → mul_within product factor ≡ true → Multiplying ws next (drop (i + 1) xs) whole
-  after_times {factor} {next} e f g k = subst (λ n. Multiplying ws next (drop n xs) whole) (sym (add-one i)) (record {
-    made = (λ j. times_all (record { form = (g ∙ ap (multiplied product) e) j; within = sym (λ l. f l && (ap (mul_within product) (sym e) ∙ k) l) j }) (map (in_atom ws) (drop (suc i) xs))) ∙ opened_atom;
-  })
+  pub after_times : {factor next : Body} → factor ≡ next_atom.form → next_atom.within ≡ true →
+      next ≡ multiplied product factor → mul_within product factor ≡ true →
+      Multiplying ws next (drop (i + 1) xs) whole
+  after_times {factor} {next} e f g k =
+      subst (λ n. Multiplying ws next (drop n xs) whole) (sym (add-one i)) (record {
+        made =
+            (λ j. times_all (record {
+              form = (g ∙ ap (multiplied product) e) j;
+              within =
+                  sym (λ l. f l && (ap (mul_within product) (sym e) ∙ k) l) j;
+            })
+            (map (in_atom ws) (drop (suc i) xs))) ∙ opened_atom;
+      })
 
-pub times_begin : (ws : List (ℕ × Body)) (m : Mono) (k : ℤ) {product : Body} {xs : List Atom} → xs ≡ (out-Mono m).atoms → product ≡ number k → Multiplying ws product (drop 0 xs) (in_mono ws m k)
-times_begin ws m k {product} {xs} is e = record { made = (λ j. times_all (well (e j)) (map (in_atom ws) (is j))) ∙ sym (in_mono_is ws m k) }
+pub times_begin : (ws : List (ℕ × Body)) (m : Mono) (k : ℤ) {product : Body} {xs : List Atom} → xs ≡
+    (out-Mono m).atoms → product ≡ number k → Multiplying ws product (drop 0 xs) (in_mono ws m k)
+times_begin ws m k {product} {xs} is e =
+    record {
+      made = (λ j. times_all (well (e j)) (map (in_atom ws) (is j))) ∙
+          sym (in_mono_is ws m k);
+    }
 
-pub times_end : (ws : List (ℕ × Body)) {product : Body} {whole : Formed Body} (xs : List Atom) (i : ℕ) → length xs ≤ i → Multiplying ws product (drop i xs) whole → well product ≡ whole
-times_end ws {product} {whole} xs i h m = (subst (λ rest. Multiplying ws product rest whole) (drop_of_length-le xs h) m).made
+pub times_end : (ws : List (ℕ × Body)) {product : Body} {whole : Formed Body} (xs : List Atom)
+    (i : ℕ) → length xs ≤ i → Multiplying ws product (drop i xs) whole → well product ≡ whole
+times_end ws {product} {whole} xs i h m =
+    (subst (λ rest. Multiplying ws product rest whole) (drop_of_length-le xs h) m).made
 
 -- ---- sums
 
 -- the sum so far, plus the terms that are left, is the whole
-pub record Adding (ws : List (ℕ × Body)) (sum : Body) (rest : List (Mono × ℤ)) (whole : Formed Body) : Type 0 where
+pub record Adding (ws : List (ℕ × Body)) (sum : Body) (rest : List (Mono × ℤ)) (whole : Formed Body)
+    : Type 0 where
   pub made : plus_all (well sum) (map (term_in ws) rest) ≡ whole
 
-module _ (ws : List (ℕ × Body)) {sum : Body} {whole : Formed Body} (ts : List (Mono × ℤ)) (i : ℕ) {t : Mono × ℤ} (h : i < length ts) (is : t ≡ get_or ts i t) (m : Adding ws sum (drop i ts) whole) where
+module _ (ws : List (ℕ × Body)) {sum : Body} {whole : Formed Body} (ts : List (Mono × ℤ)) (i : ℕ)
+    {t : Mono × ℤ} (h : i < length ts) (is : t ≡ get_or ts i t)
+    (m : Adding ws sum (drop i ts) whole) where
   abbrev next_term : Formed Body
   next_term = in_mono ws t.0 t.1
 
   abbrev next_sum : Formed Body
-  next_sum = record { form = added sum next_term.form; within = true && (next_term.within && is_within (added sum next_term.form)) }
+  next_sum =
+      record {
+        form = added sum next_term.form;
+        within = true &&
+            (next_term.within && is_within (added sum next_term.form));
+      }
 
   opened_term : plus_all next_sum (map (term_in ws) (drop (suc i) ts)) ≡ whole
-  opened_term = (subst (λ rest. Adding ws sum rest whole) (drop-cons ts i t h ∙ ap (λ u. u ∷ drop (suc i) ts) (sym is)) m).made
+  opened_term =
+      (subst (λ rest. Adding ws sum rest whole)
+      (drop-cons ts i t h ∙ ap (λ u. u ∷ drop (suc i) ts) (sym is)) m).made
 
   pub no_term : next_term.within ≡ false → whole.within ≡ false
-  no_term f = ap (λ (w : Formed Body). w.within) (sym opened_term) ∙ plus_false (map (term_in ws) (drop (suc i) ts)) next_sum (and_left next_term.within (is_within (added sum next_term.form)) f)
+  no_term f =
+      ap (λ (w : Formed Body). w.within) (sym opened_term) ∙
+      plus_false (map (term_in ws) (drop (suc i) ts)) next_sum
+      (and_left next_term.within (is_within (added sum next_term.form)) f)
 
-  pub no_plus : {product : Body} → product ≡ next_term.form → is_within (added sum product) ≡ false → whole.within ≡ false
-  no_plus e f = ap (λ (w : Formed Body). w.within) (sym opened_term) ∙ plus_false (map (term_in ws) (drop (suc i) ts)) next_sum
-      (and_right next_term.within (is_within (added sum next_term.form)) (ap (λ p. is_within (added sum p)) (sym e) ∙ f))
+  pub no_plus : {product : Body} → product ≡ next_term.form → is_within (added sum product) ≡
+      false → whole.within ≡ false
+  no_plus e f =
+      ap (λ (w : Formed Body). w.within) (sym opened_term) ∙
+      plus_false (map (term_in ws) (drop (suc i) ts)) next_sum
+      (and_right next_term.within (is_within (added sum next_term.form))
+      (ap (λ p. is_within (added sum p)) (sym e) ∙ f))
 
-  pub after_plus : {product next : Body} → product ≡ next_term.form → next_term.within ≡ true → next ≡ added sum product → is_within (added sum product) ≡ true → Adding ws next (drop (i + 1) ts) whole
-  after_plus {product} {next} e f g k = subst (λ n. Adding ws next (drop n ts) whole) (sym (add-one i)) (record {
-    made = (λ j. plus_all (record { form = (g ∙ ap (added sum) e) j; within = sym (λ l. f l && (ap (λ p. is_within (added sum p)) (sym e) ∙ k) l) j }) (map (term_in ws) (drop (suc i) ts))) ∙ opened_term;
-  })
+  pub after_plus : {product next : Body} → product ≡ next_term.form → next_term.within ≡ true →
+      next ≡ added sum product → is_within (added sum product) ≡ true →
+      Adding ws next (drop (i + 1) ts) whole
+  after_plus {product} {next} e f g k =
+      subst (λ n. Adding ws next (drop n ts) whole) (sym (add-one i)) (record {
+        made =
+            (λ j. plus_all (record {
+              form = (g ∙ ap (added sum) e) j;
+              within =
+                  sym (λ l. f l && (ap (λ p. is_within (added sum p)) (sym e) ∙ k) l) j;
+            })
+            (map (term_in ws) (drop (suc i) ts))) ∙ opened_term;
+      })
 
-pub plus_begin : (ws : List (ℕ × Body)) (b : Body) {sum : Body} {ts : List (Mono × ℤ)} → ts ≡ (out-Body b).terms → sum ≡ of_terms [] → Adding ws sum (drop 0 ts) (in_body ws b)
-plus_begin ws b is e = record { made = (λ j. plus_all (well (e j)) (map (term_in ws) (is j))) ∙ sym (in_body_is ws b) }
+pub plus_begin : (ws : List (ℕ × Body)) (b : Body) {sum : Body} {ts : List (Mono × ℤ)} → ts ≡
+    (out-Body b).terms → sum ≡ of_terms [] → Adding ws sum (drop 0 ts) (in_body ws b)
+plus_begin ws b is e =
+    record { made = (λ j. plus_all (well (e j)) (map (term_in ws) (is j))) ∙ sym (in_body_is ws b) }
 
-pub plus_end : (ws : List (ℕ × Body)) {sum : Body} {whole : Formed Body} (ts : List (Mono × ℤ)) (i : ℕ) → length ts ≤ i → Adding ws sum (drop i ts) whole → well sum ≡ whole
-plus_end ws {sum} {whole} ts i h m = (subst (λ rest. Adding ws sum rest whole) (drop_of_length-le ts h) m).made
+pub plus_end : (ws : List (ℕ × Body)) {sum : Body} {whole : Formed Body} (ts : List (Mono × ℤ))
+    (i : ℕ) → length ts ≤ i → Adding ws sum (drop i ts) whole → well sum ≡ whole
+plus_end ws {sum} {whole} ts i h m =
+    (subst (λ rest. Adding ws sum rest whole) (drop_of_length-le ts h) m).made

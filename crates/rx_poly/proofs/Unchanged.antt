@@ -1,4 +1,5 @@
--- A polynomial whose variables stay what they are is unchanged by a substitution, and nothing that is formed on the way passes the limits.
+-- A polynomial whose variables stay what they are is unchanged by a substitution, and nothing that
+-- is formed on the way passes the limits.
 use Rattle.std.proofs.Common.{◌≡◌, ◌∙◌, ap, subst, ℕ, ◌+◌, ◌≤◌, max, Bool, true, false, not, ◌&&◌, refl, sym, List, [], ◌∷◌, ◌++◌, map, append_assoc, Some, None, cond, ℤ, pos, arith}
 use Rattle.std.specs.Prelude.{sum_by, int_div, int_rem}
 use Rattle.std.specs.List.{All, flat_map, list_all}
@@ -37,7 +38,8 @@ use Rattle.rx_poly.proofs.VariableLaws.{variables_Var, variables_Div, variables_
 -- ---- a division that no rule computes stays an atom
 
 -- a first term that is listed isn't 0
-first_nonzero : (t : Mono × ℤ) (ts : List (Mono × ℤ)) → is_listed mono_cmp (t ∷ ts) ≡ true → is_zero t.1 ≡ false
+first_nonzero : (t : Mono × ℤ) (ts : List (Mono × ℤ)) → is_listed mono_cmp (t ∷ ts) ≡ true →
+    is_zero t.1 ≡ false
 first_nonzero t ts h = (listed_parts mono_cmp mono_total same_mono t ts h).nonzero
 
 not_false : (b : Bool) → not b ≡ true → b ≡ false
@@ -49,12 +51,15 @@ no_constant : (ts : List (Mono × ℤ)) → is_number ts ≡ false → constant_
 no_constant [] e = cc
 no_constant (t ∷ ts) e = ap (λ b. cond b (Some t.1) None) e
 
-by_divisor : (ps qs : List (Mono × ℤ)) → is_listed mono_cmp qs ≡ true → is_empty qs ≡ false → (b : Bool) → is_number qs ≡ b → (is_number ps && b) ≡ false → parts_of (constant_of ps) (constant_of qs) ≡ parts_of None None
+by_divisor : (ps qs : List (Mono × ℤ)) → is_listed mono_cmp qs ≡ true → is_empty qs ≡ false →
+    (b : Bool) → is_number qs ≡ b → (is_number ps && b) ≡ false →
+    parts_of (constant_of ps) (constant_of qs) ≡ parts_of None None
 by_divisor ps qs l e false n h = ap (parts_of (constant_of ps)) (no_constant qs n)
 by_divisor ps [] l e true n h = cc
 by_divisor ps (q ∷ qs) l e true n h =
     (λ i. parts_of (constant_of ps) (cond (n i) (Some q.1) None))
-    ∙ ap (λ b. cond b (parts_of None (Some (pos 0))) (by_number (constant_of ps) q.1)) (first_nonzero q qs l)
+    ∙ ap (λ b. cond b (parts_of None (Some (pos 0))) (by_number (constant_of ps) q.1))
+    (first_nonzero q qs l)
     ∙ ap (λ m. by_number m q.1) (no_constant ps (by (is_number ps) h))
   where
     by : (c : Bool) → (c && true) ≡ false → c ≡ false
@@ -62,14 +67,19 @@ by_divisor ps (q ∷ qs) l e true n h =
     by false f = refl
 
 -- a quotient or remainder that is normal is open
-pub stays_open : (p q : Body) → is_normal q ≡ true → is_open p q ≡ true → parts p q ≡ parts_of None None
+pub stays_open : (p q : Body) → is_normal q ≡ true → is_open p q ≡ true → parts p q ≡
+    parts_of None None
 stays_open p q n h =
-    let g = and_parts (not (is_empty (out-Body q).terms)) (not (is_number (out-Body p).terms && is_number (out-Body q).terms)) h in
-    by_divisor (out-Body p).terms (out-Body q).terms (normal_terms q n).listed (not_false (is_empty (out-Body q).terms) g.0)
-    (is_number (out-Body q).terms) refl (not_false (is_number (out-Body p).terms && is_number (out-Body q).terms) g.1)
+    let g = and_parts (not (is_empty (out-Body q).terms))
+    (not (is_number (out-Body p).terms && is_number (out-Body q).terms)) h in
+    by_divisor (out-Body p).terms (out-Body q).terms (normal_terms q n).listed
+    (not_false (is_empty (out-Body q).terms) g.0)
+    (is_number (out-Body q).terms) refl (not_false
+    (is_number (out-Body p).terms && is_number (out-Body q).terms) g.1)
 
 -- the last of small atoms is small
-last_small : (xs : List Atom) (x : Atom) → SmallAtoms (xs ++ x ∷ []) → (1 + atom_size x ≤ 4096) × (atom_depth x ≤ 64)
+last_small : (xs : List Atom) (x : Atom) → SmallAtoms (xs ++ x ∷ []) → (1 + atom_size x ≤ 4096) ×
+    (atom_depth x ≤ 64)
 last_small xs x s =
     let one : sum_by atom_size (x ∷ []) ≡ atom_size x + 0 = sum_by-cons atom_size x [] in
     let sizes = sum_by-append atom_size xs (x ∷ []) in
@@ -83,9 +93,11 @@ record Last (t : Mono × ℤ) : Type 0 where
   pub size : mono_size t.0 ≤ 4096
   pub depth : mono_depth t.0 ≤ 64
 
-last_nonzero : (ts : List (Mono × ℤ)) (t : Mono × ℤ) → is_listed mono_cmp (ts ++ t ∷ []) ≡ true → is_zero t.1 ≡ false
+last_nonzero : (ts : List (Mono × ℤ)) (t : Mono × ℤ) → is_listed mono_cmp (ts ++ t ∷ []) ≡ true →
+    is_zero t.1 ≡ false
 last_nonzero [] t h = first_nonzero t [] h
-last_nonzero (u ∷ us) t h = last_nonzero us t (listed_parts mono_cmp mono_total same_mono u (us ++ t ∷ []) h).rest
+last_nonzero (u ∷ us) t h =
+    last_nonzero us t (listed_parts mono_cmp mono_total same_mono u (us ++ t ∷ []) h).rest
 
 last_term : (ts : List (Mono × ℤ)) (t : Mono × ℤ) → SmallTerms (ts ++ t ∷ []) → Last t
 last_term ts t s =
@@ -93,7 +105,8 @@ last_term ts t s =
     let one : sum_by size_of (t ∷ []) ≡ mono_size t.0 + 0 = sum_by-cons size_of t [] in
     let sizes = sum_by-append size_of ts (t ∷ []) in
     let depths = greatest-last (λ (u : Mono × ℤ). mono_depth u.0) ts t in
-    let fit = and_parts (all_fit ts) (all_fit (t ∷ [])) (sym (list_all-append (λ u. fits_i128 u.1) ts (t ∷ [])) ∙ s.fits) in
+    let fit = and_parts (all_fit ts) (all_fit (t ∷ []))
+    (sym (list_all-append (λ u. fits_i128 u.1) ts (t ∷ [])) ∙ s.fits) in
     record {
       nonzero = last_nonzero ts t s.listed;
       fits = (and_parts (fits_i128 t.1) true fit.1).0;
@@ -102,15 +115,31 @@ last_term ts t s =
     }
 
 -- one atom keeps the limits
-alone_within : (x : Atom) → 1 + atom_size x ≤ 4096 → atom_depth x ≤ 64 → is_within (atom_alone x) ≡ true
+alone_within : (x : Atom) → 1 + atom_size x ≤ 4096 → atom_depth x ≤ 64 → is_within (atom_alone x) ≡
+    true
 alone_within x s d =
     let size : sum_by atom_size (x ∷ []) ≡ atom_size x + 0 = sum_by-cons atom_size x [] in
-    term_within (x ∷ []) (pos 1) (record { sorted = refl; size = omega (arith, size); depth = omega arith }) refl
+    term_within (x ∷ []) (pos 1) (record {
+      sorted = refl;
+      size = omega (arith, size);
+      depth =
+          omega arith;
+    }) refl
 
 -- what is formed of parts that are unchanged
-divided : (f : ℤ → ℤ → ℤ) (x : Atom) (p q : Body) (P Q : Formed Body) → P ≡ well p → Q ≡ well q → parts p q ≡ parts_of None None → is_within (atom_alone x) ≡ true → record { form = division f (atom_alone x) (parts p q); within = true && (true && is_within (division f (atom_alone x) (parts p q))) } ≡ well (atom_alone x)
+divided : (f : ℤ → ℤ → ℤ) (x : Atom) (p q : Body) (P Q : Formed Body) → P ≡ well p → Q ≡ well q →
+    parts p q ≡ parts_of None None → is_within (atom_alone x) ≡ true →
+    record {
+      form = division f (atom_alone x) (parts p q);
+      within = true &&
+          (true && is_within (division f (atom_alone x) (parts p q)));
+    } ≡ well (atom_alone x)
 divided f x p q P Q pe qe o w =
-    (λ i. record { form = division f (atom_alone x) (o i); within = true && (true && is_within (division f (atom_alone x) (o i))) })
+    (λ i. record {
+      form = division f (atom_alone x) (o i);
+      within = true &&
+          (true && is_within (division f (atom_alone x) (o i)));
+    })
     ∙ (λ i. record { form = atom_alone x; within = true && (true && w i) })
 
 module _ (ws : List (ℕ × Body)) where
@@ -119,13 +148,20 @@ module _ (ws : List (ℕ × Body)) where
   Stay vs = All (λ v. replaced ws v ≡ variable v) vs
 
   abbrev KeptAtom : Atom → Type 0
-  KeptAtom x = Stay (atom_variables x) → is_normal_atom x ≡ true → 1 + atom_size x ≤ 4096 → atom_depth x ≤ 64 → in_atom ws x ≡ well (atom_alone x)
+  KeptAtom x =
+      Stay (atom_variables x) → is_normal_atom x ≡ true → 1 + atom_size x ≤ 4096 → atom_depth x ≤
+      64 → in_atom ws x ≡ well (atom_alone x)
 
   abbrev KeptBody : Body → Type 0
-  KeptBody p = Stay (variables p) → is_normal p ≡ true → body_size p ≤ 4096 → body_depth p ≤ 64 → in_body ws p ≡ well p
+  KeptBody p =
+      Stay (variables p) → is_normal p ≡ true → body_size p ≤ 4096 → body_depth p ≤ 64 →
+      in_body ws p ≡ well p
 
   abbrev KeptMono : Mono → Type 0
-  KeptMono m = (k : ℤ) → Stay (mono_variables m) → is_normal_mono m ≡ true → is_zero k ≡ false → fits_i128 k ≡ true → mono_size m ≤ 4096 → mono_depth m ≤ 64 → in_mono ws m k ≡ well (of_terms ((m, k) ∷ []))
+  KeptMono m =
+      (k : ℤ) → Stay (mono_variables m) → is_normal_mono m ≡ true → is_zero k ≡ false →
+      fits_i128 k ≡ true → mono_size m ≤ 4096 → mono_depth m ≤ 64 → in_mono ws m k ≡
+      well (of_terms ((m, k) ∷ []))
 
   abbrev PartAtom : Type 0
   PartAtom = (x : Atom) × KeptAtom x
@@ -147,80 +183,130 @@ module _ (ws : List (ℕ × Body)) where
   bare_mono = map-Mono PartAtom PartBody PartMono Atom Body Mono (λ p. p.0) (λ p. p.0) (λ p. p.0)
 
   -- the two parts of a division
-  both : (p q : PartBody) → Stay (variables p.0 ++ variables q.0) → ((is_normal p.0 && is_normal q.0) && is_open p.0 q.0) ≡ true → body_size p.0 + body_size q.0 ≤ 4095 → max (body_depth p.0) (body_depth q.0) ≤ 63
-      → (in_body ws p.0 ≡ well p.0) × (in_body ws q.0 ≡ well q.0) × (parts p.0 q.0 ≡ parts_of None None)
+  both : (p q : PartBody) → Stay (variables p.0 ++ variables q.0) →
+      ((is_normal p.0 && is_normal q.0) && is_open p.0 q.0) ≡ true → body_size p.0 + body_size q.0 ≤
+      4095 → max (body_depth p.0) (body_depth q.0) ≤ 63
+      → (in_body ws p.0 ≡ well p.0) × (in_body ws q.0 ≡ well q.0) ×
+      (parts p.0 q.0 ≡ parts_of None None)
   both p q st n s d =
       let v = all_parts (λ v. replaced ws v ≡ variable v) (variables p.0) (variables q.0) st in
       let o = and_parts (is_normal p.0 && is_normal q.0) (is_open p.0 q.0) n in
-      let m = and_parts (is_normal p.0) (is_normal q.0) o.0 in
-      (p.1 v.0 m.0 (omega arith) (omega arith), q.1 v.1 m.1 (omega arith) (omega arith), stays_open p.0 q.0 m.1 o.1)
+      let m = and_parts (is_normal p.0) (is_normal q.0) o.0 in (
+        p.1 v.0 m.0 (omega arith) (omega arith),
+        q.1 v.1 m.1 (omega arith) (omega arith),
+        stays_open p.0 q.0 m.1 o.1,
+      )
 
   atom_level : (y : Atom-F PartAtom PartBody PartMono) → KeptAtom (roll-Atom (bare_atom y))
   atom_level (Atom-F.Var n) = subst KeptAtom (sym (rolls-Var n))
-      (λ st h s d. in_Var ws n ∙ ap well (All-head (λ v. replaced ws v ≡ variable v) n [] (subst Stay (variables_Var n) st)))
+      (λ st h s d. in_Var ws n ∙ ap well (All-head (λ v. replaced ws v ≡ variable v) n []
+      (subst Stay (variables_Var n) st)))
   atom_level (Atom-F.Div p q) = subst KeptAtom (sym (rolls-Div p.0 q.0)) (λ st h s d.
       let size = size_Div p.0 q.0 in
       let depth = depth_Div p.0 q.0 in
-      let e = both p q (subst Stay (variables_Div p.0 q.0) st) (sym (div_is_normal p.0 q.0) ∙ h) (omega (arith, size, s)) (omega (arith, depth, d)) in
+      let e = both p q (subst Stay (variables_Div p.0 q.0) st) (sym (div_is_normal p.0 q.0) ∙ h)
+      (omega (arith, size, s)) (omega (arith, depth, d)) in
       in_Div ws p.0 q.0
-      ∙ (λ i. record { form = quotient_of (e.0 i).form (e.1 i).form; within = (e.0 i).within && ((e.1 i).within && is_within (quotient_of (e.0 i).form (e.1 i).form)) })
-      ∙ divided int_div (Div p.0 q.0) p.0 q.0 (in_body ws p.0) (in_body ws q.0) e.0 e.1 e.2 (alone_within (Div p.0 q.0) s d))
+      ∙ (λ i. record {
+        form = quotient_of (e.0 i).form (e.1 i).form;
+        within = (e.0 i).within &&
+            ((e.1 i).within && is_within (quotient_of (e.0 i).form (e.1 i).form));
+      })
+      ∙ divided int_div (Div p.0 q.0) p.0 q.0 (in_body ws p.0) (in_body ws q.0) e.0 e.1 e.2
+      (alone_within (Div p.0 q.0) s d))
   atom_level (Atom-F.Mod p q) = subst KeptAtom (sym (rolls-Mod p.0 q.0)) (λ st h s d.
       let size = size_Mod p.0 q.0 in
       let depth = depth_Mod p.0 q.0 in
-      let e = both p q (subst Stay (variables_Mod p.0 q.0) st) (sym (mod_is_normal p.0 q.0) ∙ h) (omega (arith, size, s)) (omega (arith, depth, d)) in
+      let e = both p q (subst Stay (variables_Mod p.0 q.0) st) (sym (mod_is_normal p.0 q.0) ∙ h)
+      (omega (arith, size, s)) (omega (arith, depth, d)) in
       in_Mod ws p.0 q.0
-      ∙ (λ i. record { form = remainder_of (e.0 i).form (e.1 i).form; within = (e.0 i).within && ((e.1 i).within && is_within (remainder_of (e.0 i).form (e.1 i).form)) })
-      ∙ divided int_rem (Mod p.0 q.0) p.0 q.0 (in_body ws p.0) (in_body ws q.0) e.0 e.1 e.2 (alone_within (Mod p.0 q.0) s d))
+      ∙ (λ i. record {
+        form = remainder_of (e.0 i).form (e.1 i).form;
+        within = (e.0 i).within &&
+            ((e.1 i).within && is_within (remainder_of (e.0 i).form (e.1 i).form));
+      })
+      ∙ divided int_rem (Mod p.0 q.0) p.0 q.0 (in_body ws p.0) (in_body ws q.0) e.0 e.1 e.2
+      (alone_within (Mod p.0 q.0) s d))
 
-  atom_step : (x : Atom-F Atom Body Mono) (y : Atom-F PartAtom PartBody PartMono) → bare_atom y ≡ x → KeptAtom (roll-Atom x)
+  atom_step : (x : Atom-F Atom Body Mono) (y : Atom-F PartAtom PartBody PartMono) → bare_atom y ≡
+      x → KeptAtom (roll-Atom x)
   atom_step x y is = subst (λ z. KeptAtom (roll-Atom z)) is (atom_level y)
 
   -- ---- products
 
   -- a product of sorted atoms, times one behind them
-  times_one : (done : List Atom) (x : Atom) (k : ℤ) → SmallAtoms (done ++ x ∷ []) → fits_i128 k ≡ true
-      → record { form = multiplied (of_terms ((of_atoms done, k) ∷ [])) (atom_alone x); within = true && (true && mul_within (of_terms ((of_atoms done, k) ∷ [])) (atom_alone x)) } ≡ well (of_terms ((of_atoms (done ++ x ∷ []), k) ∷ []))
+  times_one : (done : List Atom) (x : Atom) (k : ℤ) → SmallAtoms (done ++ x ∷ []) → fits_i128 k ≡
+      true
+      → record {
+        form = multiplied (of_terms ((of_atoms done, k) ∷ [])) (atom_alone x);
+        within =
+            true && (true && mul_within (of_terms ((of_atoms done, k) ∷ [])) (atom_alone x));
+      } ≡
+      well (of_terms ((of_atoms (done ++ x ∷ []), k) ∷ []))
   times_one done x k s f =
       let left = (of_atoms done, k) ∷ [] in
       let right = (of_atoms (x ∷ []), pos 1) ∷ [] in
-      let made : join_sorted atom_cmp (out-Mono (of_atoms done)).atoms (out-Mono (of_atoms (x ∷ []))).atoms ≡ done ++ x ∷ [] =
-      (λ i. join_sorted atom_cmp (atoms-of_atoms done i) (atoms-of_atoms (x ∷ []) i)) ∙ join-last done x s.sorted in
+      let made : join_sorted atom_cmp (out-Mono (of_atoms done)).atoms
+      (out-Mono (of_atoms (x ∷ []))).atoms ≡ done ++ x ∷ [] =
+      (λ i. join_sorted atom_cmp (atoms-of_atoms done i) (atoms-of_atoms (x ∷ []) i)) ∙
+      join-last done x s.sorted in
       let w = term_within (done ++ x ∷ []) k s f in
-      (λ i. record { form = of_terms (running [] (terms-of_terms left i) (terms-of_terms right i)); within = running_within [] (terms-of_terms left i) (terms-of_terms right i) })
+      (λ i. record {
+        form = of_terms (running [] (terms-of_terms left i) (terms-of_terms right i));
+        within = running_within [] (terms-of_terms left i) (terms-of_terms right i);
+      })
       ∙ (λ i. record {
         form = of_terms ((of_atoms (made i), mul-one-int k i) ∷ []);
-        within = is_within (of_terms ((of_atoms (made i), mul-one-int k i) ∷ [])) && (is_within (of_terms ((of_atoms (made i), mul-one-int k i) ∷ [])) && true);
+        within =
+            is_within (of_terms ((of_atoms (made i), mul-one-int k i) ∷ [])) &&
+            (is_within (of_terms ((of_atoms (made i), mul-one-int k i) ∷ [])) && true);
       })
-      ∙ (λ i. record { form = of_terms ((of_atoms (done ++ x ∷ []), k) ∷ []); within = w i && (w i && true) })
+      ∙ (λ i. record {
+        form = of_terms ((of_atoms (done ++ x ∷ []), k) ∷ []);
+        within = w i &&
+            (w i && true);
+      })
 
   abbrev bare_atoms : List PartAtom → List Atom
   bare_atoms ps = map (λ (p : PartAtom). p.0) ps
 
-  times_kept : (ps : List PartAtom) (done : List Atom) (k : ℤ) → Stay (flat_map atom_variables (bare_atoms ps)) → list_all is_normal_atom (bare_atoms ps) ≡ true → SmallAtoms (done ++ bare_atoms ps) → fits_i128 k ≡ true
-      → times_all (well (of_terms ((of_atoms done, k) ∷ []))) (map (in_atom ws) (bare_atoms ps)) ≡ well (of_terms ((of_atoms (done ++ bare_atoms ps), k) ∷ []))
-  times_kept [] done k st n s f = ap (λ xs. well (of_terms ((of_atoms xs, k) ∷ []))) (sym (append-nil done))
+  times_kept : (ps : List PartAtom) (done : List Atom) (k : ℤ) →
+      Stay (flat_map atom_variables (bare_atoms ps)) → list_all is_normal_atom (bare_atoms ps) ≡
+      true → SmallAtoms (done ++ bare_atoms ps) → fits_i128 k ≡ true
+      → times_all (well (of_terms ((of_atoms done, k) ∷ []))) (map (in_atom ws) (bare_atoms ps)) ≡
+      well (of_terms ((of_atoms (done ++ bare_atoms ps), k) ∷ []))
+  times_kept [] done k st n s f =
+      ap (λ xs. well (of_terms ((of_atoms xs, k) ∷ []))) (sym (append-nil done))
   times_kept (p ∷ ps) done k st n s f =
-      let v = all_parts (λ v. replaced ws v ≡ variable v) (atom_variables p.0) (flat_map atom_variables (bare_atoms ps)) st in
+      let v = all_parts (λ v. replaced ws v ≡ variable v) (atom_variables p.0)
+      (flat_map atom_variables (bare_atoms ps)) st in
       let m = and_parts (is_normal_atom p.0) (list_all is_normal_atom (bare_atoms ps)) n in
-      let together : (done ++ p.0 ∷ []) ++ bare_atoms ps ≡ done ++ p.0 ∷ bare_atoms ps = append_assoc done (p.0 ∷ []) (bare_atoms ps) in
-      let whole : SmallAtoms ((done ++ p.0 ∷ []) ++ bare_atoms ps) = subst SmallAtoms (sym together) s in
-      let first : SmallAtoms (done ++ p.0 ∷ []) = atoms-prefix (done ++ p.0 ∷ []) (bare_atoms ps) whole in
+      let together : (done ++ p.0 ∷ []) ++ bare_atoms ps ≡ done ++ p.0 ∷ bare_atoms ps =
+      append_assoc done (p.0 ∷ []) (bare_atoms ps) in
+      let whole : SmallAtoms ((done ++ p.0 ∷ []) ++ bare_atoms ps) =
+      subst SmallAtoms (sym together) s in
+      let first : SmallAtoms (done ++ p.0 ∷ []) =
+      atoms-prefix (done ++ p.0 ∷ []) (bare_atoms ps) whole in
       let last = last_small done p.0 first in
       let factor = p.1 v.0 m.0 last.0 last.1 in
       (λ i. times_all (record {
         form = multiplied (of_terms ((of_atoms done, k) ∷ [])) (factor i).form;
-        within = true && ((factor i).within && mul_within (of_terms ((of_atoms done, k) ∷ [])) (factor i).form);
+        within =
+            true && ((factor i).within && mul_within (of_terms ((of_atoms done, k) ∷ []))
+            (factor i).form);
       }) (map (in_atom ws) (bare_atoms ps)))
       ∙ ap (λ w. times_all w (map (in_atom ws) (bare_atoms ps))) (times_one done p.0 k first f)
       ∙ times_kept ps (done ++ p.0 ∷ []) k v.1 m.1 whole f
       ∙ ap (λ xs. well (of_terms ((of_atoms xs, k) ∷ []))) together
 
-  mono_step : (x : Mono-F Atom Body Mono) (y : Mono-F PartAtom PartBody PartMono) → bare_mono y ≡ x → KeptMono (roll-Mono x)
+  mono_step : (x : Mono-F Atom Body Mono) (y : Mono-F PartAtom PartBody PartMono) → bare_mono y ≡
+      x → KeptMono (roll-Mono x)
   mono_step x y is = subst (λ z. KeptMono (roll-Mono z)) is (λ k st n z f s d.
       let m = roll-Mono (bare_mono y) in
-      let atoms : (out-Mono m).atoms ≡ bare_atoms y.atoms = ap (λ (z : Mono-F Atom Body Mono). z.atoms) (out-roll-Mono (bare_mono y)) in
-      let normal = and_parts (list_all is_normal_atom (out-Mono m).atoms) (is_sorted atom_cmp (out-Mono m).atoms) (sym (is_normal_mono_is m) ∙ n) in
+      let atoms : (out-Mono m).atoms ≡ bare_atoms y.atoms =
+      ap (λ (z : Mono-F Atom Body Mono). z.atoms) (out-roll-Mono (bare_mono y)) in
+      let normal = and_parts (list_all is_normal_atom (out-Mono m).atoms)
+      (is_sorted atom_cmp (out-Mono m).atoms) (sym (is_normal_mono_is m) ∙ n) in
       let small : SmallAtoms (out-Mono m).atoms = record {
         sorted = normal.1;
         size = subst (λ j. j ≤ 4096) (mono_size_is m) s;
@@ -228,8 +314,11 @@ module _ (ws : List (ℕ × Body)) where
       } in
       in_mono_is ws m k
       ∙ (λ i. times_all (well (number-nonzero k z i)) (map (in_atom ws) (atoms i)))
-      ∙ times_kept y.atoms [] k (subst Stay (mono_variables_is m ∙ ap (flat_map atom_variables) atoms) st) (sym (ap (list_all is_normal_atom) atoms) ∙ normal.0) (subst SmallAtoms atoms small) f
-      ∙ (λ i. well (of_terms ((of_atoms (sym atoms i), k) ∷ []))) ∙ ap (λ n. well (of_terms ((n, k) ∷ []))) (roll-out-Mono m))
+      ∙ times_kept y.atoms [] k (subst Stay (mono_variables_is m ∙
+      ap (flat_map atom_variables) atoms) st)
+      (sym (ap (list_all is_normal_atom) atoms) ∙ normal.0) (subst SmallAtoms atoms small) f
+      ∙ (λ i. well (of_terms ((of_atoms (sym atoms i), k) ∷ []))) ∙
+      ap (λ n. well (of_terms ((n, k) ∷ []))) (roll-out-Mono m))
 
   -- ---- sums
 
@@ -244,23 +333,41 @@ module _ (ws : List (ℕ × Body)) where
 
   -- a listed sum, plus one term behind it
   plus_one : (done : List (Mono × ℤ)) (t : Mono × ℤ) → SmallTerms (done ++ t ∷ [])
-      → record { form = added (of_terms done) (of_terms (t ∷ [])); within = true && (true && is_within (added (of_terms done) (of_terms (t ∷ [])))) } ≡ well (of_terms (done ++ t ∷ []))
+      → record {
+        form = added (of_terms done) (of_terms (t ∷ []));
+        within = true &&
+            (true && is_within (added (of_terms done) (of_terms (t ∷ []))));
+      } ≡
+      well (of_terms (done ++ t ∷ []))
   plus_one done t s =
-      let made : add_terms mono_cmp (out-Body (of_terms done)).terms (out-Body (of_terms (t ∷ []))).terms ≡ done ++ t ∷ [] =
-      (λ i. add_terms mono_cmp (terms-of_terms done i) (terms-of_terms (t ∷ []) i)) ∙ add-last done t s.listed in
+      let made : add_terms mono_cmp (out-Body (of_terms done)).terms
+      (out-Body (of_terms (t ∷ []))).terms ≡ done ++ t ∷ [] =
+      (λ i. add_terms mono_cmp (terms-of_terms done i) (terms-of_terms (t ∷ []) i)) ∙
+      add-last done t s.listed in
       (λ i. record { form = of_terms (made i); within = is_within (of_terms (made i)) })
-      ∙ (λ i. record { form = of_terms (done ++ t ∷ []); within = terms_within (done ++ t ∷ []) s i })
+      ∙ (λ i. record {
+        form = of_terms (done ++ t ∷ []);
+        within =
+            terms_within (done ++ t ∷ []) s i;
+      })
 
-  plus_kept : (ps : List (PartMono × ℤ)) (done : List (Mono × ℤ)) → Stay (flat_map of_term (bare_terms ps)) → all_keys is_normal_mono (bare_terms ps) ≡ true → SmallTerms (done ++ bare_terms ps)
-      → plus_all (well (of_terms done)) (map (term_in ws) (bare_terms ps)) ≡ well (of_terms (done ++ bare_terms ps))
+  plus_kept : (ps : List (PartMono × ℤ)) (done : List (Mono × ℤ)) →
+      Stay (flat_map of_term (bare_terms ps)) → all_keys is_normal_mono (bare_terms ps) ≡ true →
+      SmallTerms (done ++ bare_terms ps)
+      → plus_all (well (of_terms done)) (map (term_in ws) (bare_terms ps)) ≡
+      well (of_terms (done ++ bare_terms ps))
   plus_kept [] done st n s = ap (λ ts. well (of_terms ts)) (sym (append-nil done))
   plus_kept (p ∷ ps) done st n s =
       let t = bare_term p in
-      let v = all_parts (λ v. replaced ws v ≡ variable v) (mono_variables t.0) (flat_map of_term (bare_terms ps)) st in
+      let v = all_parts (λ v. replaced ws v ≡ variable v) (mono_variables t.0)
+      (flat_map of_term (bare_terms ps)) st in
       let m = and_parts (is_normal_mono t.0) (all_keys is_normal_mono (bare_terms ps)) n in
-      let together : (done ++ t ∷ []) ++ bare_terms ps ≡ done ++ t ∷ bare_terms ps = append_assoc done (t ∷ []) (bare_terms ps) in
-      let whole : SmallTerms ((done ++ t ∷ []) ++ bare_terms ps) = subst SmallTerms (sym together) s in
-      let first : SmallTerms (done ++ t ∷ []) = terms-prefix (done ++ t ∷ []) (bare_terms ps) whole in
+      let together : (done ++ t ∷ []) ++ bare_terms ps ≡ done ++ t ∷ bare_terms ps =
+      append_assoc done (t ∷ []) (bare_terms ps) in
+      let whole : SmallTerms ((done ++ t ∷ []) ++ bare_terms ps) =
+      subst SmallTerms (sym together) s in
+      let first : SmallTerms (done ++ t ∷ []) =
+      terms-prefix (done ++ t ∷ []) (bare_terms ps) whole in
       let last = last_term done t first in
       let product = (p.0).1 p.1 v.0 m.0 last.nonzero last.fits last.size last.depth in
       (λ i. plus_all (record {
@@ -271,10 +378,12 @@ module _ (ws : List (ℕ × Body)) where
       ∙ plus_kept ps (done ++ t ∷ []) v.1 m.1 whole
       ∙ ap (λ ts. well (of_terms ts)) together
 
-  body_step : (x : Body-F Atom Body Mono) (y : Body-F PartAtom PartBody PartMono) → bare_body y ≡ x → KeptBody (roll-Body x)
+  body_step : (x : Body-F Atom Body Mono) (y : Body-F PartAtom PartBody PartMono) → bare_body y ≡
+      x → KeptBody (roll-Body x)
   body_step x y is = subst (λ z. KeptBody (roll-Body z)) is (λ st n s d.
       let p = roll-Body (bare_body y) in
-      let terms : (out-Body p).terms ≡ bare_terms y.terms = ap (λ (z : Body-F Atom Body Mono). z.terms) (out-roll-Body (bare_body y)) in
+      let terms : (out-Body p).terms ≡ bare_terms y.terms =
+      ap (λ (z : Body-F Atom Body Mono). z.terms) (out-roll-Body (bare_body y)) in
       let normal = normal_terms p n in
       let small : SmallTerms (out-Body p).terms = record {
         listed = normal.listed;
@@ -284,21 +393,26 @@ module _ (ws : List (ℕ × Body)) where
       } in
       in_body_is ws p
       ∙ (λ i. plus_all (well (of_terms [])) (map (term_in ws) (terms i)))
-      ∙ plus_kept y.terms [] (subst Stay (variables_is p ∙ ap (flat_map of_term) terms) st) (sym (ap (all_keys is_normal_mono) terms) ∙ normal.keys) (subst SmallTerms terms small)
+      ∙ plus_kept y.terms [] (subst Stay (variables_is p ∙ ap (flat_map of_term) terms) st)
+      (sym (ap (all_keys is_normal_mono) terms) ∙ normal.keys) (subst SmallTerms terms small)
       ∙ (λ i. well (of_terms (sym terms i))) ∙ ap well (roll-out-Body p))
 
   kept : (p : Body) → KeptBody p
   kept = ind-Body KeptAtom KeptBody KeptMono atom_step body_step mono_step
 
-  -- where each variable of a polynomial stays what it is, so does the polynomial, and nothing passes the limits
-  pub unchanged : (p : Body) → is_poly p ≡ true → All (λ v. replaced ws v ≡ variable v) (variables p) → in_body ws p ≡ well p
+  -- where each variable of a polynomial stays what it is, so does the polynomial, and nothing
+  -- passes the limits
+  pub unchanged : (p : Body) → is_poly p ≡ true →
+      All (λ v. replaced ws v ≡ variable v) (variables p) → in_body ws p ≡ well p
   unchanged p h st =
       let n = and_parts (is_normal p) (is_small p) h in
       let s = small_parts p n.1 in
       kept p st n.0 s.0 s.1
 
-  pub same_form : (p : Body) → is_poly p ≡ true → All (λ v. replaced ws v ≡ variable v) (variables p) → (in_body ws p).form ≡ p
+  pub same_form : (p : Body) → is_poly p ≡ true →
+      All (λ v. replaced ws v ≡ variable v) (variables p) → (in_body ws p).form ≡ p
   same_form p h st = ap (λ (w : Formed Body). w.form) (unchanged p h st)
 
-  pub all_within : (p : Body) → is_poly p ≡ true → All (λ v. replaced ws v ≡ variable v) (variables p) → (in_body ws p).within ≡ true
+  pub all_within : (p : Body) → is_poly p ≡ true →
+      All (λ v. replaced ws v ≡ variable v) (variables p) → (in_body ws p).within ≡ true
   all_within p h st = ap (λ (w : Formed Body). w.within) (unchanged p h st)

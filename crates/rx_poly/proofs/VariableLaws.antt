@@ -15,27 +15,41 @@ use Rattle.rx_poly.specs.declared.body.Mono.{Mono, out-Mono, fold_out-Mono}
 use Rattle.rx_poly.specs.declared.body.Body.{Body, out-Body, fold_out-Body}
 
 pub variables_Var : (n : ℕ) → atom_variables (Var n) ≡ n ∷ []
-variables_Var n = fold_out-Atom (List ℕ) (List ℕ) (List ℕ) atom_variables_level body_variables_level mono_variables_level (Var n) ∙ rw (outs-Var n) refl
+variables_Var n =
+    fold_out-Atom (List ℕ) (List ℕ) (List ℕ) atom_variables_level body_variables_level
+    mono_variables_level (Var n) ∙ rw (outs-Var n) refl
 
 pub variables_Div : (p q : Body) → atom_variables (Div p q) ≡ variables p ++ variables q
-variables_Div p q = fold_out-Atom (List ℕ) (List ℕ) (List ℕ) atom_variables_level body_variables_level mono_variables_level (Div p q) ∙ rw (outs-Div p q) refl
+variables_Div p q =
+    fold_out-Atom (List ℕ) (List ℕ) (List ℕ) atom_variables_level body_variables_level
+    mono_variables_level (Div p q) ∙ rw (outs-Div p q) refl
 
 pub variables_Mod : (p q : Body) → atom_variables (Mod p q) ≡ variables p ++ variables q
-variables_Mod p q = fold_out-Atom (List ℕ) (List ℕ) (List ℕ) atom_variables_level body_variables_level mono_variables_level (Mod p q) ∙ rw (outs-Mod p q) refl
+variables_Mod p q =
+    fold_out-Atom (List ℕ) (List ℕ) (List ℕ) atom_variables_level body_variables_level
+    mono_variables_level (Mod p q) ∙ rw (outs-Mod p q) refl
 
 pub mono_variables_is : (m : Mono) → mono_variables m ≡ flat_map atom_variables (out-Mono m).atoms
 mono_variables_is m =
-    fold_out-Mono (List ℕ) (List ℕ) (List ℕ) atom_variables_level body_variables_level mono_variables_level m
+    fold_out-Mono (List ℕ) (List ℕ) (List ℕ) atom_variables_level body_variables_level
+    mono_variables_level m
     ∙ flat_map-map (λ vs. vs) atom_variables (out-Mono m).atoms
 
-pub variables_is : (b : Body) → variables b ≡ flat_map (λ (t : Mono × ℤ). mono_variables t.0) (out-Body b).terms
+pub variables_is : (b : Body) → variables b ≡
+    flat_map (λ (t : Mono × ℤ). mono_variables t.0) (out-Body b).terms
 variables_is b =
-    fold_out-Body (List ℕ) (List ℕ) (List ℕ) atom_variables_level body_variables_level mono_variables_level b
-    ∙ flat_map-map (λ (t : List ℕ × ℤ). t.0) (λ (t : Mono × ℤ). (mono_variables t.0, t.1)) (out-Body b).terms
+    fold_out-Body (List ℕ) (List ℕ) (List ℕ) atom_variables_level body_variables_level
+    mono_variables_level b
+    ∙ flat_map-map (λ (t : List ℕ × ℤ). t.0) (λ (t : Mono × ℤ). (mono_variables t.0, t.1))
+    (out-Body b).terms
 
 -- nothing is left of a list whose pieces are put after others
-pub listed_end : {X Y : Type 0} (f : X → List Y) (xs : List X) (i : ℕ) (so_far before : List Y) → length xs ≤ i → so_far ++ flat_map f (drop i xs) ≡ before ++ flat_map f xs → so_far ≡ before ++ flat_map f xs
-listed_end f xs i so_far before h all = sym (append-nil so_far) ∙ ap (λ ys. so_far ++ flat_map f ys) (sym (drop_of_length-le xs h)) ∙ all
+pub listed_end : {X Y : Type 0} (f : X → List Y) (xs : List X) (i : ℕ) (so_far before : List Y) →
+    length xs ≤ i → so_far ++ flat_map f (drop i xs) ≡ before ++ flat_map f xs → so_far ≡ before ++
+    flat_map f xs
+listed_end f xs i so_far before h all =
+    sym (append-nil so_far) ∙ ap (λ ys. so_far ++ flat_map f ys) (sym (drop_of_length-le xs h)) ∙
+    all
 
 -- ---- below a number
 
@@ -46,23 +60,38 @@ below_Var n v = ap (all_below n) (variables_Var v) ∙ by (nat_lt v n)
     by true = refl
     by false = refl
 
-pub below_Div : (n : ℕ) (p q : Body) → atom_uses_below n (Div p q) ≡ (uses_below n p && uses_below n q)
-below_Div n p q = ap (all_below n) (variables_Div p q) ∙ list_all-append (λ v. nat_lt v n) (variables p) (variables q)
+pub below_Div : (n : ℕ) (p q : Body) → atom_uses_below n (Div p q) ≡
+    (uses_below n p && uses_below n q)
+below_Div n p q =
+    ap (all_below n) (variables_Div p q) ∙ list_all-append (λ v. nat_lt v n) (variables p)
+    (variables q)
 
-pub below_Mod : (n : ℕ) (p q : Body) → atom_uses_below n (Mod p q) ≡ (uses_below n p && uses_below n q)
-below_Mod n p q = ap (all_below n) (variables_Mod p q) ∙ list_all-append (λ v. nat_lt v n) (variables p) (variables q)
+pub below_Mod : (n : ℕ) (p q : Body) → atom_uses_below n (Mod p q) ≡
+    (uses_below n p && uses_below n q)
+below_Mod n p q =
+    ap (all_below n) (variables_Mod p q) ∙ list_all-append (λ v. nat_lt v n) (variables p)
+    (variables q)
 
-pub mono_below_is : (n : ℕ) (m : Mono) → mono_uses_below n m ≡ list_all (atom_uses_below n) (out-Mono m).atoms
-mono_below_is n m = ap (all_below n) (mono_variables_is m) ∙ list_all-flat_map (λ v. nat_lt v n) atom_variables (out-Mono m).atoms
+pub mono_below_is : (n : ℕ) (m : Mono) → mono_uses_below n m ≡
+    list_all (atom_uses_below n) (out-Mono m).atoms
+mono_below_is n m =
+    ap (all_below n) (mono_variables_is m) ∙ list_all-flat_map (λ v. nat_lt v n) atom_variables
+    (out-Mono m).atoms
 
-pub below_is : (n : ℕ) (b : Body) → uses_below n b ≡ list_all (λ (t : Mono × ℤ). mono_uses_below n t.0) (out-Body b).terms
-below_is n b = ap (all_below n) (variables_is b) ∙ list_all-flat_map (λ v. nat_lt v n) (λ (t : Mono × ℤ). mono_variables t.0) (out-Body b).terms
+pub below_is : (n : ℕ) (b : Body) → uses_below n b ≡
+    list_all (λ (t : Mono × ℤ). mono_uses_below n t.0) (out-Body b).terms
+below_is n b =
+    ap (all_below n) (variables_is b) ∙ list_all-flat_map (λ v. nat_lt v n)
+    (λ (t : Mono × ℤ). mono_variables t.0) (out-Body b).terms
 
 -- ---- whether a variable is one of them
 
-list_any-flat_map : {X Y : Type 0} (p : Y → Bool) (f : X → List Y) (xs : List X) → list_any p (flat_map f xs) ≡ list_any (λ x. list_any p (f x)) xs
+list_any-flat_map : {X Y : Type 0} (p : Y → Bool) (f : X → List Y) (xs : List X) →
+    list_any p (flat_map f xs) ≡ list_any (λ x. list_any p (f x)) xs
 list_any-flat_map p f [] = refl
-list_any-flat_map p f (x ∷ xs) = list_any-append p (f x) (flat_map f xs) ∙ ap (λ b. list_any p (f x) || b) (list_any-flat_map p f xs)
+list_any-flat_map p f (x ∷ xs) =
+    list_any-append p (f x) (flat_map f xs) ∙
+    ap (λ b. list_any p (f x) || b) (list_any-flat_map p f xs)
 
 pub uses_Var : (x v : ℕ) → atom_uses x (Var v) ≡ (v == x)
 uses_Var x v = ap (is_one_of x) (variables_Var v) ∙ by (v == x)
@@ -72,29 +101,37 @@ uses_Var x v = ap (is_one_of x) (variables_Var v) ∙ by (v == x)
     by false = refl
 
 pub uses_Div : (x : ℕ) (p q : Body) → atom_uses x (Div p q) ≡ (uses x p || uses x q)
-uses_Div x p q = ap (is_one_of x) (variables_Div p q) ∙ list_any-append (λ v. v == x) (variables p) (variables q)
+uses_Div x p q =
+    ap (is_one_of x) (variables_Div p q) ∙ list_any-append (λ v. v == x) (variables p) (variables q)
 
 pub uses_Mod : (x : ℕ) (p q : Body) → atom_uses x (Mod p q) ≡ (uses x p || uses x q)
-uses_Mod x p q = ap (is_one_of x) (variables_Mod p q) ∙ list_any-append (λ v. v == x) (variables p) (variables q)
+uses_Mod x p q =
+    ap (is_one_of x) (variables_Mod p q) ∙ list_any-append (λ v. v == x) (variables p) (variables q)
 
 pub mono_uses_is : (x : ℕ) (m : Mono) → mono_uses x m ≡ list_any (atom_uses x) (out-Mono m).atoms
-mono_uses_is x m = ap (is_one_of x) (mono_variables_is m) ∙ list_any-flat_map (λ v. v == x) atom_variables (out-Mono m).atoms
+mono_uses_is x m =
+    ap (is_one_of x) (mono_variables_is m) ∙ list_any-flat_map (λ v. v == x) atom_variables
+    (out-Mono m).atoms
 
 pub uses_is : (x : ℕ) (b : Body) → uses x b ≡ list_any (λ (t : Mono × ℤ). mono_uses x t.0) (out-Body b).terms
-uses_is x b = ap (is_one_of x) (variables_is b) ∙ list_any-flat_map (λ v. v == x) (λ (t : Mono × ℤ). mono_variables t.0) (out-Body b).terms
+uses_is x b =
+    ap (is_one_of x) (variables_is b) ∙ list_any-flat_map (λ v. v == x)
+    (λ (t : Mono × ℤ). mono_variables t.0) (out-Body b).terms
 
 or_true : (b c : Bool) → b ≡ true → (b || c) ≡ true
 or_true true c e = refl
 or_true false c e = cc
 
 -- where the rest decides and its first element passes, some does
-pub one_passes : {X : Type 0} (p : X → Bool) (xs : List X) (i : ℕ) (x : X) → i < length xs → x ≡ get_or xs i x → p x ≡ true → list_any p (drop i xs) ≡ list_any p xs → list_any p xs ≡ true
+pub one_passes : {X : Type 0} (p : X → Bool) (xs : List X) (i : ℕ) (x : X) → i < length xs → x ≡
+    get_or xs i x → p x ≡ true → list_any p (drop i xs) ≡ list_any p xs → list_any p xs ≡ true
 one_passes p xs i x h is passes decides =
     sym decides ∙ ap (list_any p) (drop-cons xs i x h)
     ∙ or_true (p (get_or xs i x)) (list_any p (drop (suc i) xs)) (ap p (sym is) ∙ passes)
 
 -- where the rest decides and nothing is left, none does
-pub none_passes : {X : Type 0} (p : X → Bool) (xs : List X) (i : ℕ) → length xs ≤ i → list_any p (drop i xs) ≡ list_any p xs → list_any p xs ≡ false
+pub none_passes : {X : Type 0} (p : X → Bool) (xs : List X) (i : ℕ) → length xs ≤ i →
+    list_any p (drop i xs) ≡ list_any p xs → list_any p xs ≡ false
 none_passes p xs i h decides = sym decides ∙ ap (list_any p) (drop_of_length-le xs h)
 
 -- ---- the least number above all of them
@@ -105,39 +142,59 @@ max_assoc a b c = grind arith
 max_zero : (a : ℕ) → max a 0 ≡ a
 max_zero a = grind arith
 
-greatest-append : {X : Type 0} (f : X → ℕ) (xs ys : List X) → greatest f (xs ++ ys) ≡ max (greatest f xs) (greatest f ys)
+greatest-append : {X : Type 0} (f : X → ℕ) (xs ys : List X) → greatest f (xs ++ ys) ≡
+    max (greatest f xs) (greatest f ys)
 greatest-append f [] ys = sym (zero-max (greatest f ys))
-greatest-append f (x ∷ xs) ys = ap (max (f x)) (greatest-append f xs ys) ∙ sym (max_assoc (f x) (greatest f xs) (greatest f ys))
+greatest-append f (x ∷ xs) ys =
+    ap (max (f x)) (greatest-append f xs ys) ∙ sym (max_assoc (f x) (greatest f xs) (greatest f ys))
 
-greatest-flat_map : {X Y : Type 0} (f : Y → ℕ) (g : X → List Y) (xs : List X) → greatest f (flat_map g xs) ≡ greatest (λ x. greatest f (g x)) xs
+greatest-flat_map : {X Y : Type 0} (f : Y → ℕ) (g : X → List Y) (xs : List X) →
+    greatest f (flat_map g xs) ≡ greatest (λ x. greatest f (g x)) xs
 greatest-flat_map f g [] = refl
-greatest-flat_map f g (x ∷ xs) = greatest-append f (g x) (flat_map g xs) ∙ ap (max (greatest f (g x))) (greatest-flat_map f g xs)
+greatest-flat_map f g (x ∷ xs) =
+    greatest-append f (g x) (flat_map g xs) ∙ ap (max (greatest f (g x))) (greatest-flat_map f g xs)
 
 pub bound_Var : (v : ℕ) → atom_bound (Var v) ≡ v + 1
 bound_Var v = ap bound_of (variables_Var v) ∙ max_zero (v + 1)
 
 pub bound_Div : (p q : Body) → atom_bound (Div p q) ≡ max (variable_bound p) (variable_bound q)
-bound_Div p q = ap bound_of (variables_Div p q) ∙ greatest-append (λ v. v + 1) (variables p) (variables q)
+bound_Div p q =
+    ap bound_of (variables_Div p q) ∙ greatest-append (λ v. v + 1) (variables p) (variables q)
 
 pub bound_Mod : (p q : Body) → atom_bound (Mod p q) ≡ max (variable_bound p) (variable_bound q)
-bound_Mod p q = ap bound_of (variables_Mod p q) ∙ greatest-append (λ v. v + 1) (variables p) (variables q)
+bound_Mod p q =
+    ap bound_of (variables_Mod p q) ∙ greatest-append (λ v. v + 1) (variables p) (variables q)
 
 pub mono_bound_is : (m : Mono) → mono_bound m ≡ greatest atom_bound (out-Mono m).atoms
-mono_bound_is m = ap bound_of (mono_variables_is m) ∙ greatest-flat_map (λ v. v + 1) atom_variables (out-Mono m).atoms
+mono_bound_is m =
+    ap bound_of (mono_variables_is m) ∙ greatest-flat_map (λ v. v + 1) atom_variables
+    (out-Mono m).atoms
 
-pub variable_bound_is : (b : Body) → variable_bound b ≡ greatest (λ (t : Mono × ℤ). mono_bound t.0) (out-Body b).terms
-variable_bound_is b = ap bound_of (variables_is b) ∙ greatest-flat_map (λ v. v + 1) (λ (t : Mono × ℤ). mono_variables t.0) (out-Body b).terms
+pub variable_bound_is : (b : Body) → variable_bound b ≡
+    greatest (λ (t : Mono × ℤ). mono_bound t.0) (out-Body b).terms
+variable_bound_is b =
+    ap bound_of (variables_is b) ∙ greatest-flat_map (λ v. v + 1)
+    (λ (t : Mono × ℤ). mono_variables t.0) (out-Body b).terms
 
 -- the greatest so far, and of those that are left
-pub after_greater : {X : Type 0} (f : X → ℕ) (xs : List X) (i : ℕ) {x : X} (so_far : ℕ) {next whole : ℕ} → i < length xs → x ≡ get_or xs i x → max so_far (greatest f (drop i xs)) ≡ whole → next ≡ max (f x) so_far → max next (greatest f (drop (i + 1) xs)) ≡ whole
+pub after_greater : {X : Type 0} (f : X → ℕ) (xs : List X) (i : ℕ) {x : X} (so_far : ℕ)
+    {next whole : ℕ} → i < length xs → x ≡ get_or xs i x → max so_far (greatest f (drop i xs)) ≡
+    whole → next ≡ max (f x) so_far → max next (greatest f (drop (i + 1) xs)) ≡ whole
 after_greater f xs i {x} so_far {next} {whole} h is all e =
-    let opened : greatest f (drop i xs) ≡ max (f x) (greatest f (drop (suc i) xs)) = ap (greatest f) (drop-cons xs i x h) ∙ ap (λ y. max (f y) (greatest f (drop (suc i) xs))) (sym is) in
+    let opened : greatest f (drop i xs) ≡ max (f x) (greatest f (drop (suc i) xs)) =
+    ap (greatest f) (drop-cons xs i x h) ∙
+    ap (λ y. max (f y) (greatest f (drop (suc i) xs))) (sym is) in
     let there : drop (i + 1) xs ≡ drop (suc i) xs = ap (λ n. drop n xs) (add-one i) in
-    let same : max (max (f x) so_far) (greatest f (drop (suc i) xs)) ≡ max so_far (max (f x) (greatest f (drop (suc i) xs))) = turned (f x) so_far (greatest f (drop (suc i) xs)) in
+    let same : max (max (f x) so_far) (greatest f (drop (suc i) xs)) ≡
+    max so_far (max (f x) (greatest f (drop (suc i) xs))) =
+    turned (f x) so_far (greatest f (drop (suc i) xs)) in
     (λ j. max (e j) (greatest f (there j))) ∙ same ∙ ap (max so_far) (sym opened) ∙ all
   where
     turned : (a b c : ℕ) → max (max a b) c ≡ max b (max a c)
     turned a b c = grind arith
 
-pub greatest_end : {X : Type 0} (f : X → ℕ) (xs : List X) (i : ℕ) (so_far : ℕ) {whole : ℕ} → length xs ≤ i → max so_far (greatest f (drop i xs)) ≡ whole → so_far ≡ whole
-greatest_end f xs i so_far {whole} h all = sym (max_zero so_far) ∙ ap (λ ys. max so_far (greatest f ys)) (sym (drop_of_length-le xs h)) ∙ all
+pub greatest_end : {X : Type 0} (f : X → ℕ) (xs : List X) (i : ℕ) (so_far : ℕ) {whole : ℕ} →
+    length xs ≤ i → max so_far (greatest f (drop i xs)) ≡ whole → so_far ≡ whole
+greatest_end f xs i so_far {whole} h all =
+    sym (max_zero so_far) ∙ ap (λ ys. max so_far (greatest f ys)) (sym (drop_of_length-le xs h)) ∙
+    all

@@ -1,4 +1,5 @@
--- The normal form of a quotient or remainder of two polynomials: by the constant 0 it is 0, of two numbers it is their value, else an atom.
+-- The normal form of a quotient or remainder of two polynomials: by the constant 0 it is 0, of two
+-- numbers it is their value, else an atom.
 use Rattle.std.specs.Prelude.{Option, Some, None, if◌then◌else◌, [], ◌∷◌, ℤ, pos, int_div, int_rem}
 use Rattle.rx_poly.specs.Constants.{number}
 use Rattle.rx_poly.specs.Limits.{of_terms, of_atoms}

@@ -1,4 +1,5 @@
--- How large a polynomial is, and the limits that each one keeps: coefficients in i128, size up to 4,096, nesting up to 64.
+-- How large a polynomial is, and the limits that each one keeps: coefficients in i128, size up to
+-- 4,096, nesting up to 64.
 use Rattle.std.specs.Prelude.{ℕ, ◌+◌, ◌^◌, max, Bool, ◌&&◌, nat_lt, nat_le, List, [], ◌∷◌, sum_by, sum, ℤ, pos, negsuc}
 use Rattle.std.specs.List.{list_all}
 use Rattle.rx_poly.specs.Order.{mono_cmp}

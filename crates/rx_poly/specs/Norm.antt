@@ -1,4 +1,5 @@
--- Integer terms: what one is worth, its normal form, and whether all that is formed on the way keeps the limits.
+-- Integer terms: what one is worth, its normal form, and whether all that is formed on the way
+-- keeps the limits.
 use Rattle.std.specs.Prelude.{ℕ, Bool, ℤ, negsuc, ◌+ℤ◌, ◌*ℤ◌, neg_ℤ}
 use Rattle.rx_plain.specs.Formed.{Formed, pure, kept, ◌>>=◌}
 use Rattle.rx_poly.specs.Limits.{added, scaled_by, is_within}

@@ -1,4 +1,5 @@
--- Normal forms: at every level terms are listed, atoms are sorted, and a quotient or remainder is one that no rule computes.
+-- Normal forms: at every level terms are listed, atoms are sorted, and a quotient or remainder is
+-- one that no rule computes.
 use Rattle.std.specs.Prelude.{Bool, true, false, not, ◌&&◌, List, [], ◌∷◌, map, ℤ}
 use Rattle.std.specs.List.{list_all}
 use Rattle.std.specs.Ordering.{is_le, is_lt}
@@ -37,7 +38,9 @@ is_number (t ∷ ts) = is_empty ts && is_empty (out-Mono t.0).atoms
 
 -- a quotient or remainder stays an atom where the divisor is not 0 and not both parts are numbers
 abbrev pub is_open : Body → Body → Bool
-is_open p q = not (is_empty (out-Body q).terms) && not (is_number (out-Body p).terms && is_number (out-Body q).terms)
+is_open p q =
+    not (is_empty (out-Body q).terms) && not (is_number (out-Body p).terms &&
+    is_number (out-Body q).terms)
 
 -- each level sees its parts, and whether these are normal
 abbrev pub atom_normal_level : Atom-F (Atom × Bool) (Body × Bool) (Mono × Bool) → Bool
@@ -47,7 +50,9 @@ atom_normal_level (Atom-F.Mod p q) = (p.1 && q.1) && is_open p.0 q.0
 
 -- the atoms are normal, and sorted
 abbrev pub mono_normal_level : Mono-F (Atom × Bool) (Body × Bool) (Mono × Bool) → Bool
-mono_normal_level m = list_all (λ (x : Atom × Bool). x.1) m.atoms && is_sorted atom_cmp (map (λ (x : Atom × Bool). x.0) m.atoms)
+mono_normal_level m =
+    list_all (λ (x : Atom × Bool). x.1) m.atoms &&
+    is_sorted atom_cmp (map (λ (x : Atom × Bool). x.0) m.atoms)
 
 -- the monomials are normal and the coefficients fit, and the terms are listed
 abbrev pub body_normal_level : Body-F (Atom × Bool) (Body × Bool) (Mono × Bool) → Bool

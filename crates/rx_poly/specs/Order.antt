@@ -7,7 +7,8 @@ use Rattle.rx_poly.specs.contracts.body.AtomOrd.TheImpl as atom_order
 use Rattle.rx_poly.specs.contracts.body.MonoOrd.TheImpl as mono_order
 use Rattle.rx_poly.specs.contracts.body.BodyOrd.TheImpl as body_order
 
--- variables by number, then quotients, then remainders; two of one kind by first, then by second part
+-- variables by number, then quotients, then remainders; two of one kind by first, then by second
+-- part
 abbrev pub atom_cmp : Atom → Atom → Ordering
 atom_cmp = (atom_order.ghosts).cmp
 

@@ -1,4 +1,5 @@
--- The product of two polynomials, and which of the sums and products on the way to it must keep the limits.
+-- The product of two polynomials, and which of the sums and products on the way to it must keep the
+-- limits.
 use Rattle.std.specs.Prelude.{Bool, true, ◌&&◌, if◌then◌else◌, List, [], ◌∷◌, map, ℤ, ◌*ℤ◌}
 use Rattle.std.specs.Ordering.{is_gt}
 use Rattle.std.specs.declared.cmp.Ordering.{Ordering}
@@ -23,7 +24,8 @@ join_sorted R (x ∷ xs) ys = insert_sorted R x (join_sorted R xs ys)
 abbrev pub mono_times : Mono → Mono → Mono
 mono_times m n = of_atoms (join_sorted atom_cmp (out-Mono m).atoms (out-Mono n).atoms)
 
--- one term times each of the others; different monomials times one monomial stay different, so nothing is summed
+-- one term times each of the others; different monomials times one monomial stay different, so
+-- nothing is summed
 abbrev pub scaled : Mono × ℤ → List (Mono × ℤ) → List (Mono × ℤ)
 scaled t us = map (λ u. (mono_times t.0 u.0, t.1 *ℤ u.1)) us
 

@@ -1,4 +1,5 @@
--- What can be read from a polynomial: the number or the variable that it is, and the coefficient that a monomial has in it.
+-- What can be read from a polynomial: the number or the variable that it is, and the coefficient
+-- that a monomial has in it.
 use Rattle.std.specs.Prelude.{ℕ, Option, Some, None, ◌&&◌, if◌then◌else◌, List, [], ◌∷◌, ℤ, pos}
 use Rattle.std.specs.declared.cmp.Ordering.{Ordering}
 use Rattle.std.specs.declared.cmp.Ordering.TheVariants.{Less, Equal, Greater}
@@ -28,9 +29,11 @@ variable_of_atoms (x ∷ xs) = if is_empty xs then variable_of_atom (out-Atom x)
 -- the variable that a sum is, where it is one
 abbrev pub variable_of : List (Mono × ℤ) → Option ℕ
 variable_of [] = None
-variable_of (t ∷ ts) = if is_empty ts && int_eq t.1 (pos 1) then variable_of_atoms (out-Mono t.0).atoms else None
+variable_of (t ∷ ts) =
+    if is_empty ts && int_eq t.1 (pos 1) then variable_of_atoms (out-Mono t.0).atoms else None
 
--- the coefficient of a term, or what is found further on, by how the monomial stands to that of the term
+-- the coefficient of a term, or what is found further on, by how the monomial stands to that of the
+-- term
 abbrev pub found : Ordering → ℤ → ℤ → ℤ
 found Less c further = further
 found Equal c further = c

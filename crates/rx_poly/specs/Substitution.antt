@@ -1,4 +1,5 @@
--- Polynomials put in place of variables: the result, and whether all that is formed on the way keeps the limits.
+-- Polynomials put in place of variables: the result, and whether all that is formed on the way
+-- keeps the limits.
 use Rattle.std.specs.Prelude.{ℕ, ◌+◌, ◌==◌, if◌then◌else◌, List, [], ◌∷◌, ℤ}
 use Rattle.rx_poly.specs.Constants.{number, variable}
 use Rattle.rx_poly.specs.Division.{quotient_of, remainder_of}
@@ -58,7 +59,8 @@ module _ (ws : List (ℕ × Body)) where
     kept is_within (remainder_of p q)
 
   -- the coefficient, times the replaced atoms from left to right
-  abbrev pub mono_substituted : Mono-F (Formed Body) (Formed Body) (ℤ → Formed Body) → ℤ → Formed Body
+  abbrev pub mono_substituted : Mono-F (Formed Body) (Formed Body) (ℤ → Formed Body) → ℤ →
+      Formed Body
   mono_substituted m k = times_all (pure (number k)) m.atoms
 
   -- the monomials in order, each added to a running sum
@@ -67,12 +69,18 @@ module _ (ws : List (ℕ × Body)) where
 
   -- an atom with its variables replaced
   abbrev pub in_atom : Atom → Formed Body
-  in_atom = fold-Atom (Formed Body) (Formed Body) (ℤ → Formed Body) atom_substituted body_substituted mono_substituted
+  in_atom =
+      fold-Atom (Formed Body) (Formed Body) (ℤ → Formed Body) atom_substituted body_substituted
+      mono_substituted
 
   -- a number times a monomial with its variables replaced
   abbrev pub in_mono : Mono → ℤ → Formed Body
-  in_mono = fold-Mono (Formed Body) (Formed Body) (ℤ → Formed Body) atom_substituted body_substituted mono_substituted
+  in_mono =
+      fold-Mono (Formed Body) (Formed Body) (ℤ → Formed Body) atom_substituted body_substituted
+      mono_substituted
 
   -- a sum with its variables replaced
   abbrev pub in_body : Body → Formed Body
-  in_body = fold-Body (Formed Body) (Formed Body) (ℤ → Formed Body) atom_substituted body_substituted mono_substituted
+  in_body =
+      fold-Body (Formed Body) (Formed Body) (ℤ → Formed Body) atom_substituted body_substituted
+      mono_substituted

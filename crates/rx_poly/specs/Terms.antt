@@ -1,4 +1,5 @@
--- Sums as lists of terms. A term is a key with its coefficient; in a sum that is listed, keys rise and no coefficient is 0.
+-- Sums as lists of terms. A term is a key with its coefficient; in a sum that is listed, keys rise
+-- and no coefficient is 0.
 use Rattle.std.specs.Prelude.{Bool, true, not, ◌&&◌, if◌then◌else◌, Option, Some, None, List, [], ◌∷◌, map, ℤ, pos, ◌+ℤ◌, ◌*ℤ◌, neg_ℤ}
 use Rattle.std.specs.List.{list_all}
 use Rattle.std.specs.Ordering.{int_eq, is_lt}

@@ -22,15 +22,21 @@ body_variables_level b = flat_map (λ (t : List ℕ × ℤ). t.0) b.terms
 
 -- the variables of an atom
 abbrev pub atom_variables : Atom → List ℕ
-atom_variables = fold-Atom (List ℕ) (List ℕ) (List ℕ) atom_variables_level body_variables_level mono_variables_level
+atom_variables =
+    fold-Atom (List ℕ) (List ℕ) (List ℕ) atom_variables_level body_variables_level
+    mono_variables_level
 
 -- the variables of a monomial
 abbrev pub mono_variables : Mono → List ℕ
-mono_variables = fold-Mono (List ℕ) (List ℕ) (List ℕ) atom_variables_level body_variables_level mono_variables_level
+mono_variables =
+    fold-Mono (List ℕ) (List ℕ) (List ℕ) atom_variables_level body_variables_level
+    mono_variables_level
 
 -- the variables of a polynomial
 abbrev pub variables : Body → List ℕ
-variables = fold-Body (List ℕ) (List ℕ) (List ℕ) atom_variables_level body_variables_level mono_variables_level
+variables =
+    fold-Body (List ℕ) (List ℕ) (List ℕ) atom_variables_level body_variables_level
+    mono_variables_level
 
 -- all of these are below the number
 abbrev pub all_below : ℕ → List ℕ → Bool

@@ -15,7 +15,8 @@ pub enum ITerm {
     Mul(Boxed<ITerm>, Boxed<ITerm>),
     /// The term with its sign turned.
     Neg(Boxed<ITerm>),
-    /// The quotient of the first by the second, truncated toward zero (ISO C99 6.5.5); 0 at divisor 0.
+    /// The quotient of the first by the second, truncated toward zero (ISO C99 6.5.5); 0 at divisor
+    /// 0.
     Div(Boxed<ITerm>, Boxed<ITerm>),
     /// The remainder that belongs to that quotient; 0 at divisor 0.
     Mod(Boxed<ITerm>, Boxed<ITerm>),

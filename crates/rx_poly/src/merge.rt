@@ -33,7 +33,8 @@ fn push_signed(
 ) -> Result<(), PolyEnd>
     ensures ok { OnOk result (terms.new ≡ terms.old ++ (term.now.0, signed sign term.now.1) ∷ []) }
     ensures within { OnOk result (fits_i128 (signed sign term.now.1) ≡ true) }
-    ensures large { IfErr result (λ e. e ≡ PolyEnd.Large → fits_i128 (signed sign term.now.1) ≡ false) }
+    ensures large { IfErr result (λ e. e ≡ PolyEnd.Large → fits_i128 (signed sign term.now.1) ≡
+        false) }
 {
     let Some(number) = with_its_sign(&term.1, sign) else {
         return Err(PolyEnd::Large);
@@ -43,7 +44,8 @@ fn push_signed(
     Ok(())
 }
 
-/// Puts the one term plus or minus the other of the same monomial behind the others, unless that is 0.
+/// Puts the one term plus or minus the other of the same monomial behind the others, unless that is
+/// 0.
 fn push_sum(
     terms: &mut Items<(Mono, i128)>,
     alloc: Global,
@@ -51,9 +53,11 @@ fn push_sum(
     right: &(Mono, i128),
     sign: Sign,
 ) -> Result<(), PolyEnd>
-    ensures ok { OnOk result (terms.new ≡ terms.old ++ put left.now.0 (left.now.1 +ℤ signed sign right.now.1) []) }
+    ensures ok { OnOk result (terms.new ≡ terms.old ++
+        put left.now.0 (left.now.1 +ℤ signed sign right.now.1) []) }
     ensures within { OnOk result (fits_i128 (left.now.1 +ℤ signed sign right.now.1) ≡ true) }
-    ensures large { IfErr result (λ e. e ≡ PolyEnd.Large → fits_i128 (left.now.1 +ℤ signed sign right.now.1) ≡ false) }
+    ensures large { IfErr result (λ e. e ≡ PolyEnd.Large →
+        fits_i128 (left.now.1 +ℤ signed sign right.now.1) ≡ false) }
 {
     let Some(sum) = sum_of(&left.1, &right.1, sign) else {
         return Err(PolyEnd::Large);
@@ -75,7 +79,8 @@ fn push_all(
 ) -> Result<(), PolyEnd>
     ensures ok { OnOk result (terms.new ≡ terms.old ++ with_sign sign more.now) }
     ensures within { OnOk result (all_fit (with_sign sign more.now) ≡ true) }
-    ensures large { IfErr result (λ e. e ≡ PolyEnd.Large → all_fit (with_sign sign more.now) ≡ false) }
+    ensures large { IfErr result (λ e. e ≡ PolyEnd.Large → all_fit (with_sign sign more.now) ≡
+        false) }
 {
     for term in more {
         push_signed(terms, alloc, term, sign)?;
@@ -93,8 +98,10 @@ pub(crate) fn merge(
     requires left { is_sum left.now ≡ true }
     requires right { is_sum right.now ≡ true }
     ensures terms { IfOk result (λ ts. ts ≡ add_terms mono_cmp left.now (with_sign sign right.now)) }
-    ensures within { OnOk result (all_fit (add_terms mono_cmp left.now (with_sign sign right.now)) ≡ true) }
-    ensures large { IfErr result (λ e. e ≡ PolyEnd.Large → all_fit (add_terms mono_cmp left.now (with_sign sign right.now)) ≡ false) }
+    ensures within { OnOk result (all_fit (add_terms mono_cmp left.now (with_sign sign right.now)) ≡
+        true) }
+    ensures large { IfErr result (λ e. e ≡ PolyEnd.Large →
+        all_fit (add_terms mono_cmp left.now (with_sign sign right.now)) ≡ false) }
 {
     let mut sum = Items::new(alloc);
     let mut ts = left;

@@ -19,7 +19,12 @@ fn push_added(
     term: (Mono, i128),
     number: &i128,
 ) -> Result<(), PolyEnd>
-    ensures forms { FormsAs (λ _. terms.new) PolyEnd.Large result (record { form = terms.old ++ put term.0 (term.1 +ℤ number.now) []; within = fits_i128 (term.1 +ℤ number.now) }) }
+    ensures forms { FormsAs (λ _. terms.new) PolyEnd.Large result
+        (record {
+          form = terms.old ++ put term.0 (term.1 +ℤ number.now) [];
+          within =
+              fits_i128 (term.1 +ℤ number.now);
+        }) }
 {
     let (mono, coefficient) = term;
     let Some(sum) = coefficient.checked_add(*number) else {

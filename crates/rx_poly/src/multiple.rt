@@ -38,7 +38,8 @@ pub(crate) fn multiple(
 ) -> Result<Items<(Mono, i128)>, PolyEnd>
     ensures terms { IfOk result (λ us. us ≡ times_number by.now terms.now) }
     ensures within { OnOk result (all_fit (times_number by.now terms.now) ≡ true) }
-    ensures large { IfErr result (λ e. e ≡ PolyEnd.Large → all_fit (times_number by.now terms.now) ≡ false) }
+    ensures large { IfErr result (λ e. e ≡ PolyEnd.Large → all_fit (times_number by.now terms.now) ≡
+        false) }
 {
     let mut multiples = Items::new(alloc);
     for term in terms {

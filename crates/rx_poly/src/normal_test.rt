@@ -1,5 +1,5 @@
-//! Whether a sum is a normal form at every level. Neither size nor depth is looked at, so a caller tests
-//! these first: the walk goes as deep as quotients and remainders are nested.
+//! Whether a sum is a normal form at every level. Neither size nor depth is looked at, so a caller
+//! tests these first: the walk goes as deep as quotients and remainders are nested.
 ghost use Rattle.std.specs.Prelude.{◌≡◌, ◌&&◌, not, true, false};
 ghost use Rattle.rx_poly.specs.Normal.{is_sorted, is_number, is_open, is_normal_atom, is_normal_mono, is_normal};
 ghost use Rattle.rx_poly.specs.Order.{atom_cmp, mono_cmp};

@@ -162,7 +162,8 @@ impl Poly {
     /// The sum of the two; Large exactly where the sum passes the limits.
     pub fn add(&self, alloc: Global, other: &Poly) -> Result<Poly, PolyEnd>
         ensures forms { Forms PolyEnd.Large result (kept is_within (added self.now other.now)) }
-        ensures value { IfOk result (λ p. (a : ℕ → ℤ) → value a p ≡ value a self.now +ℤ value a other.now) }
+        ensures value { IfOk result (λ p. (a : ℕ → ℤ) → value a p ≡
+            value a self.now +ℤ value a other.now) }
     {
         combine(alloc, self, other, Sign::Plus)
     }
@@ -171,7 +172,8 @@ impl Poly {
     /// difference passes the limits. A polynomial minus itself is always 0.
     pub fn sub(&self, alloc: Global, other: &Poly) -> Result<Poly, PolyEnd>
         ensures forms { Forms PolyEnd.Large result (kept is_within (subtracted self.now other.now)) }
-        ensures value { IfOk result (λ p. (a : ℕ → ℤ) → value a p ≡ value a self.now -ℤ value a other.now) }
+        ensures value { IfOk result (λ p. (a : ℕ → ℤ) → value a p ≡
+            value a self.now -ℤ value a other.now) }
     {
         combine(alloc, self, other, Sign::Minus)
     }
@@ -188,7 +190,8 @@ impl Poly {
     /// the whole other one passes the limits, or the sum of the first such products does.
     pub fn mul(&self, alloc: Global, other: &Poly) -> Result<Poly, PolyEnd>
         ensures forms { Forms PolyEnd.Large result (product_formed self.now other.now) }
-        ensures value { IfOk result (λ p. (a : ℕ → ℤ) → value a p ≡ value a self.now *ℤ value a other.now) }
+        ensures value { IfOk result (λ p. (a : ℕ → ℤ) → value a p ≡
+            value a self.now *ℤ value a other.now) }
     {
         let mut sum = zero(alloc);
         for term in self.body.terms.as_slice() {
@@ -203,7 +206,8 @@ impl Poly {
     /// the limits.
     pub fn quotient(&self, alloc: Global, by: &Poly) -> Result<Poly, PolyEnd>
         ensures forms { Forms PolyEnd.Large result (kept is_within (quotient_of self.now by.now)) }
-        ensures value { IfOk result (λ p. (a : ℕ → ℤ) → value a p ≡ quotient (value a self.now) (value a by.now)) }
+        ensures value { IfOk result (λ p. (a : ℕ → ℤ) → value a p ≡
+            quotient (value a self.now) (value a by.now)) }
     {
         divide(alloc, self, by)
     }
@@ -212,7 +216,8 @@ impl Poly {
     /// exactly where it passes the limits.
     pub fn remainder(&self, alloc: Global, by: &Poly) -> Result<Poly, PolyEnd>
         ensures forms { Forms PolyEnd.Large result (kept is_within (remainder_of self.now by.now)) }
-        ensures value { IfOk result (λ p. (a : ℕ → ℤ) → value a p ≡ remainder (value a self.now) (value a by.now)) }
+        ensures value { IfOk result (λ p. (a : ℕ → ℤ) → value a p ≡
+            remainder (value a self.now) (value a by.now)) }
     {
         remainder(alloc, self, by)
     }
@@ -243,7 +248,8 @@ pub(crate) fn plus(alloc: Global, left: Poly, right: Poly) -> Result<Poly, PolyE
 fn times_term(alloc: Global, term: &(Mono, i128), factor: &Poly) -> Result<Poly, PolyEnd>
     requires normal { is_normal_mono term.now.0 ≡ true }
     requires nonzero { is_zero term.now.1 ≡ false }
-    ensures forms { Forms PolyEnd.Large result (kept is_within (of_terms (scaled term.now (out-Body factor.now).terms))) }
+    ensures forms { Forms PolyEnd.Large result
+        (kept is_within (of_terms (scaled term.now (out-Body factor.now).terms))) }
 {
     let terms = scale(alloc, term, factor.body.terms.as_slice())?;
     within_limits(Body { terms })

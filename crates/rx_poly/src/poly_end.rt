@@ -7,8 +7,8 @@ use thiserror::Error;
 /// Why a polynomial was not formed.
 #[derive(Clone, Copy, Debug, PartialEq, Eq, Error)]
 pub enum PolyEnd {
-    /// A coefficient leaves i128, or a polynomial on the way has a size above 4,096 or quotients and
-    /// remainders nested more than 64 deep.
+    /// A coefficient leaves i128, or a polynomial on the way has a size above 4,096 or quotients
+    /// and remainders nested more than 64 deep.
     #[error("a polynomial is too large")]
     Large,
     /// There was no memory.

@@ -75,9 +75,11 @@ fn push_product(
 ) -> Result<(), PolyEnd>
     requires left { is_normal_mono left.now.0 ≡ true }
     requires right { is_normal_mono right.now.0 ≡ true }
-    ensures ok { OnOk result (products.new ≡ products.old ++ (mono_times left.now.0 right.now.0, left.now.1 *ℤ right.now.1) ∷ []) }
+    ensures ok { OnOk result (products.new ≡ products.old ++
+        (mono_times left.now.0 right.now.0, left.now.1 *ℤ right.now.1) ∷ []) }
     ensures within { OnOk result (fits_i128 (left.now.1 *ℤ right.now.1) ≡ true) }
-    ensures large { IfErr result (λ e. e ≡ PolyEnd.Large → fits_i128 (left.now.1 *ℤ right.now.1) ≡ false) }
+    ensures large { IfErr result (λ e. e ≡ PolyEnd.Large → fits_i128 (left.now.1 *ℤ right.now.1) ≡
+        false) }
 {
     let Some(coefficient) = left.1.checked_mul(right.1) else {
         return Err(PolyEnd::Large);
@@ -97,7 +99,8 @@ pub(crate) fn scale(
     requires terms { all_keys is_normal_mono terms.now ≡ true }
     ensures terms { IfOk result (λ us. us ≡ scaled term.now terms.now) }
     ensures within { OnOk result (all_fit (scaled term.now terms.now) ≡ true) }
-    ensures large { IfErr result (λ e. e ≡ PolyEnd.Large → all_fit (scaled term.now terms.now) ≡ false) }
+    ensures large { IfErr result (λ e. e ≡ PolyEnd.Large → all_fit (scaled term.now terms.now) ≡
+        false) }
 {
     let mut products = Items::new(alloc);
     for other in terms {

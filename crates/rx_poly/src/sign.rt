@@ -24,7 +24,8 @@ pub(crate) fn with_its_sign(number: &i128, sign: Sign) -> Option<i128>
 
 /// The one number plus or minus the other; None where this leaves i128.
 pub(crate) fn sum_of(left: &i128, right: &i128, sign: Sign) -> Option<i128>
-    ensures { SomeIff result (fits_i128 (left.now +ℤ signed sign right.now) ≡ true) (left.now +ℤ signed sign right.now) }
+    ensures { SomeIff result (fits_i128 (left.now +ℤ signed sign right.now) ≡ true)
+        (left.now +ℤ signed sign right.now) }
 {
     match sign {
         Sign::Plus => left.checked_add(*right),

@@ -1,5 +1,5 @@
-//! Whether a sum keeps the limits on size and depth. Both walks stop as soon as the answer is known,
-//! so neither counts past its limit, whatever tree it is given.
+//! Whether a sum keeps the limits on size and depth. Both walks stop as soon as the answer is
+//! known, so neither counts past its limit, whatever tree it is given.
 ghost use Rattle.std.specs.Prelude.{◌≡◌, ◌+◌, ◌-◌, ◌≤◌, nat_le, SomeIff};
 ghost use Rattle.rx_poly.specs.Limits.{atom_size, mono_size, body_size, atom_depth, mono_depth, body_depth, is_small};
 

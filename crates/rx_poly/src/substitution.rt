@@ -26,7 +26,8 @@ enum Replacements<'a> {
 
 /// What is listed for the variable, borrowed; None where the variable stays.
 fn listed_for(at: u32, with: &[(u32, Poly)]) -> Option<&Poly>
-    ensures { MatchOption result (replaced with.now at ≡ variable at) (λ p. p.now ≡ replaced with.now at) }
+    ensures { MatchOption result (replaced with.now at ≡ variable at)
+        (λ p. p.now ≡ replaced with.now at) }
 {
     for pair in with {
         if pair.0 == at {
@@ -45,14 +46,16 @@ fn argument_at(args: &[Poly], at: u32) -> Option<&Poly>
 
 /// The argument with the variable's number, borrowed; None where the variable stays.
 fn argument_for(at: u32, args: &[Poly]) -> Option<&Poly>
-    ensures { MatchOption result (replaced (numbered args.now) at ≡ variable at) (λ p. p.now ≡ replaced (numbered args.now) at) }
+    ensures { MatchOption result (replaced (numbered args.now) at ≡ variable at)
+        (λ p. p.now ≡ replaced (numbered args.now) at) }
 {
     argument_at(args, at)
 }
 
 /// What is in place of the variable, borrowed; None where it stays.
 fn replacement<'a>(at: u32, with: Replacements<'a>) -> Option<&'a Poly>
-    ensures { MatchOption result (replaced (replacements with.entry) at ≡ variable at) (λ p. p.now ≡ replaced (replacements with.entry) at) }
+    ensures { MatchOption result (replaced (replacements with.entry) at ≡ variable at)
+        (λ p. p.now ≡ replaced (replacements with.entry) at) }
 {
     match with {
         Replacements::Listed(pairs) => listed_for(at, pairs),
@@ -172,7 +175,8 @@ impl Poly {
     /// results are summed.
     pub fn subst(&self, alloc: Global, with: &[(u32, Poly)]) -> Result<Poly, PolyEnd>
         ensures forms { Forms PolyEnd.Large result (in_body with.now self.now) }
-        ensures value { IfOk result (λ p. (a : ℕ → ℤ) → value a p ≡ value (worth a with.now) self.now) }
+        ensures value { IfOk result (λ p. (a : ℕ → ℤ) → value a p ≡
+            value (worth a with.now) self.now) }
     {
         poly_with(alloc, self, Replacements::Listed(with))
     }
@@ -181,7 +185,8 @@ impl Poly {
     /// v1, and so on; the other variables stay. Large exactly where `subst` is, for that list.
     pub fn at_args(&self, alloc: Global, args: &[Poly]) -> Result<Poly, PolyEnd>
         ensures forms { Forms PolyEnd.Large result (in_body (numbered args.now) self.now) }
-        ensures value { IfOk result (λ p. (a : ℕ → ℤ) → value a p ≡ value (worth a (numbered args.now)) self.now) }
+        ensures value { IfOk result (λ p. (a : ℕ → ℤ) → value a p ≡
+            value (worth a (numbered args.now)) self.now) }
     {
         poly_with(alloc, self, Replacements::InOrder(args))
     }

@@ -53,37 +53,55 @@ module _ (test : ℕ → Bool) (ws : List (ℕ × Body)) where
   abbrev form_passes : Formed Body → Bool
   form_passes f = passes test f.form
 
-  both_pass : (p q : PartBody) → Replacements (variables p.0 ++ variables q.0) → (form_passes (in_body ws p.0) ≡ true) × (form_passes (in_body ws q.0) ≡ true)
-  both_pass p q h = let g = all_parts (λ v. passes test (replaced ws v) ≡ true) (variables p.0) (variables q.0) h in (p.1 g.0, q.1 g.1)
+  both_pass : (p q : PartBody) → Replacements (variables p.0 ++ variables q.0) →
+      (form_passes (in_body ws p.0) ≡ true) × (form_passes (in_body ws q.0) ≡ true)
+  both_pass p q h =
+      let g = all_parts (λ v. passes test (replaced ws v) ≡ true) (variables p.0) (variables q.0) h
+      in (p.1 g.0, q.1 g.1)
 
   atom_level : (y : Atom-F PartAtom PartBody PartMono) → PassAtom (roll-Atom (bare_atom y))
   atom_level (Atom-F.Var n) = subst PassAtom (sym (rolls-Var n))
-      (λ h. ap form_passes (in_Var ws n) ∙ All-head (λ v. passes test (replaced ws v) ≡ true) n [] (subst Replacements (variables_Var n) h))
+      (λ h. ap form_passes (in_Var ws n) ∙ All-head (λ v. passes test (replaced ws v) ≡ true) n []
+      (subst Replacements (variables_Var n) h))
   atom_level (Atom-F.Div p q) = subst PassAtom (sym (rolls-Div p.0 q.0))
       (λ h. let e = both_pass p q (subst Replacements (variables_Div p.0 q.0) h) in
-      ap form_passes (in_Div ws p.0 q.0) ∙ passes-quotient_of test (in_body ws p.0).form (in_body ws q.0).form e.0 e.1)
+      ap form_passes (in_Div ws p.0 q.0) ∙ passes-quotient_of test (in_body ws p.0).form
+      (in_body ws q.0).form e.0 e.1)
   atom_level (Atom-F.Mod p q) = subst PassAtom (sym (rolls-Mod p.0 q.0))
       (λ h. let e = both_pass p q (subst Replacements (variables_Mod p.0 q.0) h) in
-      ap form_passes (in_Mod ws p.0 q.0) ∙ passes-remainder_of test (in_body ws p.0).form (in_body ws q.0).form e.0 e.1)
+      ap form_passes (in_Mod ws p.0 q.0) ∙ passes-remainder_of test (in_body ws p.0).form
+      (in_body ws q.0).form e.0 e.1)
 
-  atom_step : (x : Atom-F Atom Body Mono) (y : Atom-F PartAtom PartBody PartMono) → bare_atom y ≡ x → PassAtom (roll-Atom x)
+  atom_step : (x : Atom-F Atom Body Mono) (y : Atom-F PartAtom PartBody PartMono) → bare_atom y ≡
+      x → PassAtom (roll-Atom x)
   atom_step x y is = subst (λ z. PassAtom (roll-Atom z)) is (atom_level y)
 
-  times_pass : (ps : List PartAtom) (done : Formed Body) → Replacements (flat_map atom_variables (map (λ (p : PartAtom). p.0) ps)) → form_passes done ≡ true
+  times_pass : (ps : List PartAtom) (done : Formed Body) →
+      Replacements (flat_map atom_variables (map (λ (p : PartAtom). p.0) ps)) → form_passes done ≡
+      true
       → form_passes (times_all done (map (in_atom ws) (map (λ (p : PartAtom). p.0) ps))) ≡ true
   times_pass [] done h d = d
   times_pass (p ∷ ps) done h d =
-      let g = all_parts (λ v. passes test (replaced ws v) ≡ true) (atom_variables p.0) (flat_map atom_variables (map (λ (p : PartAtom). p.0) ps)) h in
+      let g = all_parts (λ v. passes test (replaced ws v) ≡ true) (atom_variables p.0)
+      (flat_map atom_variables (map (λ (p : PartAtom). p.0) ps)) h in
       let x = in_atom ws p.0 in
-      times_pass ps (record { form = multiplied done.form x.form; within = done.within && (x.within && mul_within done.form x.form) }) g.1
+      times_pass ps (record {
+        form = multiplied done.form x.form;
+        within = done.within &&
+            (x.within && mul_within done.form x.form);
+      }) g.1
       (passes-multiplied test done.form x.form d (p.1 g.0))
 
-  mono_step : (x : Mono-F Atom Body Mono) (y : Mono-F PartAtom PartBody PartMono) → bare_mono y ≡ x → PassMono (roll-Mono x)
+  mono_step : (x : Mono-F Atom Body Mono) (y : Mono-F PartAtom PartBody PartMono) → bare_mono y ≡
+      x → PassMono (roll-Mono x)
   mono_step x y is = subst (λ z. PassMono (roll-Mono z)) is (λ h k.
       let m = roll-Mono (bare_mono y) in
-      let atoms : (out-Mono m).atoms ≡ (bare_mono y).atoms = ap (λ (z : Mono-F Atom Body Mono). z.atoms) (out-roll-Mono (bare_mono y)) in
-      ap form_passes (in_mono_is ws m k) ∙ ap (λ xs. form_passes (times_all (well (number k)) (map (in_atom ws) xs))) atoms
-      ∙ times_pass y.atoms (well (number k)) (subst Replacements (mono_variables_is m ∙ ap (flat_map atom_variables) atoms) h) (passes-number test k))
+      let atoms : (out-Mono m).atoms ≡ (bare_mono y).atoms =
+      ap (λ (z : Mono-F Atom Body Mono). z.atoms) (out-roll-Mono (bare_mono y)) in
+      ap form_passes (in_mono_is ws m k) ∙ ap
+      (λ xs. form_passes (times_all (well (number k)) (map (in_atom ws) xs))) atoms
+      ∙ times_pass y.atoms (well (number k)) (subst Replacements
+      (mono_variables_is m ∙ ap (flat_map atom_variables) atoms) h) (passes-number test k))
 
   abbrev bare_term : PartMono × ℤ → Mono × ℤ
   bare_term t = ((t.0).0, t.1)
@@ -91,22 +109,34 @@ module _ (test : ℕ → Bool) (ws : List (ℕ × Body)) where
   abbrev of_term : Mono × ℤ → List ℕ
   of_term t = mono_variables t.0
 
-  plus_pass : (ps : List (PartMono × ℤ)) (done : Formed Body) → Replacements (flat_map of_term (map bare_term ps)) → form_passes done ≡ true
+  plus_pass : (ps : List (PartMono × ℤ)) (done : Formed Body) →
+      Replacements (flat_map of_term (map bare_term ps)) → form_passes done ≡ true
       → form_passes (plus_all done (map (term_in ws) (map bare_term ps))) ≡ true
   plus_pass [] done h d = d
   plus_pass (p ∷ ps) done h d =
-      let g = all_parts (λ v. passes test (replaced ws v) ≡ true) (mono_variables (p.0).0) (flat_map of_term (map bare_term ps)) h in
+      let g = all_parts (λ v. passes test (replaced ws v) ≡ true) (mono_variables (p.0).0)
+      (flat_map of_term (map bare_term ps)) h in
       let x = in_mono ws (p.0).0 p.1 in
-      plus_pass ps (record { form = added done.form x.form; within = done.within && (x.within && is_within (added done.form x.form)) }) g.1
+      plus_pass ps (record {
+        form = added done.form x.form;
+        within = done.within &&
+            (x.within && is_within (added done.form x.form));
+      }) g.1
       (passes-added test done.form x.form d ((p.0).1 g.0 p.1))
 
-  body_step : (x : Body-F Atom Body Mono) (y : Body-F PartAtom PartBody PartMono) → bare_body y ≡ x → PassBody (roll-Body x)
+  body_step : (x : Body-F Atom Body Mono) (y : Body-F PartAtom PartBody PartMono) → bare_body y ≡
+      x → PassBody (roll-Body x)
   body_step x y is = subst (λ z. PassBody (roll-Body z)) is (λ h.
       let b = roll-Body (bare_body y) in
-      let terms : (out-Body b).terms ≡ (bare_body y).terms = ap (λ (z : Body-F Atom Body Mono). z.terms) (out-roll-Body (bare_body y)) in
-      ap form_passes (in_body_is ws b) ∙ ap (λ ts. form_passes (plus_all (well (of_terms [])) (map (term_in ws) ts))) terms
-      ∙ plus_pass y.terms (well (of_terms [])) (subst Replacements (variables_is b ∙ ap (flat_map of_term) terms) h) (passes-of_terms test []))
+      let terms : (out-Body b).terms ≡ (bare_body y).terms =
+      ap (λ (z : Body-F Atom Body Mono). z.terms) (out-roll-Body (bare_body y)) in
+      ap form_passes (in_body_is ws b) ∙ ap (λ ts.
+      form_passes (plus_all (well (of_terms [])) (map (term_in ws) ts))) terms
+      ∙ plus_pass y.terms (well (of_terms []))
+      (subst Replacements (variables_is b ∙ ap (flat_map of_term) terms) h)
+      (passes-of_terms test []))
 
   -- where the replacement of each variable passes a test, the instance does
-  pub instance_passes : (p : Body) → All (λ v. passes test (replaced ws v) ≡ true) (variables p) → passes test (in_body ws p).form ≡ true
+  pub instance_passes : (p : Body) → All (λ v. passes test (replaced ws v) ≡ true) (variables p) →
+      passes test (in_body ws p).form ≡ true
   instance_passes = ind-Body PassAtom PassBody PassMono atom_step body_step mono_step

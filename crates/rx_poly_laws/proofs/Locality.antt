@@ -48,12 +48,15 @@ module _ (a b : ℕ → ℤ) where
   abbrev bare_mono : Mono-F PartAtom PartBody PartMono → Mono-F Atom Body Mono
   bare_mono = map-Mono PartAtom PartBody PartMono Atom Body Mono (λ p. p.0) (λ p. p.0) (λ p. p.0)
 
-  divided : (p q : PartBody) → Agree (variables p.0 ++ variables q.0) → (value a p.0 ≡ value b p.0) × (value a q.0 ≡ value b q.0)
-  divided p q h = let g = all_parts (λ v. a v ≡ b v) (variables p.0) (variables q.0) h in (p.1 g.0, q.1 g.1)
+  divided : (p q : PartBody) → Agree (variables p.0 ++ variables q.0) →
+      (value a p.0 ≡ value b p.0) × (value a q.0 ≡ value b q.0)
+  divided p q h =
+      let g = all_parts (λ v. a v ≡ b v) (variables p.0) (variables q.0) h in (p.1 g.0, q.1 g.1)
 
   atom_level : (y : Atom-F PartAtom PartBody PartMono) → AlikeAtom (roll-Atom (bare_atom y))
   atom_level (Atom-F.Var n) = subst AlikeAtom (sym (rolls-Var n))
-      (λ h. var_value a n ∙ All-head (λ v. a v ≡ b v) n [] (subst Agree (variables_Var n) h) ∙ sym (var_value b n))
+      (λ h. var_value a n ∙ All-head (λ v. a v ≡ b v) n [] (subst Agree (variables_Var n) h) ∙
+      sym (var_value b n))
   atom_level (Atom-F.Div p q) = subst AlikeAtom (sym (rolls-Div p.0 q.0))
       (λ h. let e = divided p q (subst Agree (variables_Div p.0 q.0) h) in
       value-Div a p.0 q.0 ∙ (λ i. quotient (e.0 i) (e.1 i)) ∙ sym (value-Div b p.0 q.0))
@@ -61,19 +64,25 @@ module _ (a b : ℕ → ℤ) where
       (λ h. let e = divided p q (subst Agree (variables_Mod p.0 q.0) h) in
       value-Mod a p.0 q.0 ∙ (λ i. remainder (e.0 i) (e.1 i)) ∙ sym (value-Mod b p.0 q.0))
 
-  atom_step : (x : Atom-F Atom Body Mono) (y : Atom-F PartAtom PartBody PartMono) → bare_atom y ≡ x → AlikeAtom (roll-Atom x)
+  atom_step : (x : Atom-F Atom Body Mono) (y : Atom-F PartAtom PartBody PartMono) → bare_atom y ≡
+      x → AlikeAtom (roll-Atom x)
   atom_step x y is = subst (λ z. AlikeAtom (roll-Atom z)) is (atom_level y)
 
-  products : (ps : List PartAtom) → Agree (flat_map atom_variables (map (λ (p : PartAtom). p.0) ps)) → product_of (atom_value a) (map (λ (p : PartAtom). p.0) ps) ≡ product_of (atom_value b) (map (λ (p : PartAtom). p.0) ps)
+  products : (ps : List PartAtom) → Agree (flat_map atom_variables (map (λ (p : PartAtom). p.0) ps))
+      → product_of (atom_value a) (map (λ (p : PartAtom). p.0) ps) ≡
+      product_of (atom_value b) (map (λ (p : PartAtom). p.0) ps)
   products [] h = refl
   products (p ∷ ps) h =
-      let g = all_parts (λ v. a v ≡ b v) (atom_variables p.0) (flat_map atom_variables (map (λ (p : PartAtom). p.0) ps)) h in
+      let g = all_parts (λ v. a v ≡ b v) (atom_variables p.0)
+      (flat_map atom_variables (map (λ (p : PartAtom). p.0) ps)) h in
       λ i. p.1 g.0 i *ℤ products ps g.1 i
 
-  mono_step : (x : Mono-F Atom Body Mono) (y : Mono-F PartAtom PartBody PartMono) → bare_mono y ≡ x → AlikeMono (roll-Mono x)
+  mono_step : (x : Mono-F Atom Body Mono) (y : Mono-F PartAtom PartBody PartMono) → bare_mono y ≡
+      x → AlikeMono (roll-Mono x)
   mono_step x y is = subst (λ z. AlikeMono (roll-Mono z)) is (λ h.
       let m = roll-Mono (bare_mono y) in
-      let atoms : (out-Mono m).atoms ≡ (bare_mono y).atoms = ap (λ (z : Mono-F Atom Body Mono). z.atoms) (out-roll-Mono (bare_mono y)) in
+      let atoms : (out-Mono m).atoms ≡ (bare_mono y).atoms =
+      ap (λ (z : Mono-F Atom Body Mono). z.atoms) (out-roll-Mono (bare_mono y)) in
       mono_value_is a m ∙ ap (product_of (atom_value a)) atoms
       ∙ products y.atoms (subst Agree (mono_variables_is m ∙ ap (flat_map atom_variables) atoms) h)
       ∙ ap (product_of (atom_value b)) (sym atoms) ∙ sym (mono_value_is b m))
@@ -84,16 +93,20 @@ module _ (a b : ℕ → ℤ) where
   abbrev of_term : Mono × ℤ → List ℕ
   of_term t = mono_variables t.0
 
-  sums : (ps : List (PartMono × ℤ)) → Agree (flat_map of_term (map bare_term ps)) → sum_terms (mono_value a) (map bare_term ps) ≡ sum_terms (mono_value b) (map bare_term ps)
+  sums : (ps : List (PartMono × ℤ)) → Agree (flat_map of_term (map bare_term ps)) →
+      sum_terms (mono_value a) (map bare_term ps) ≡ sum_terms (mono_value b) (map bare_term ps)
   sums [] h = refl
   sums (p ∷ ps) h =
-      let g = all_parts (λ v. a v ≡ b v) (mono_variables (p.0).0) (flat_map of_term (map bare_term ps)) h in
+      let g = all_parts (λ v. a v ≡ b v) (mono_variables (p.0).0)
+      (flat_map of_term (map bare_term ps)) h in
       λ i. p.1 *ℤ (p.0).1 g.0 i +ℤ sums ps g.1 i
 
-  body_step : (x : Body-F Atom Body Mono) (y : Body-F PartAtom PartBody PartMono) → bare_body y ≡ x → AlikeBody (roll-Body x)
+  body_step : (x : Body-F Atom Body Mono) (y : Body-F PartAtom PartBody PartMono) → bare_body y ≡
+      x → AlikeBody (roll-Body x)
   body_step x y is = subst (λ z. AlikeBody (roll-Body z)) is (λ h.
       let p = roll-Body (bare_body y) in
-      let terms : (out-Body p).terms ≡ (bare_body y).terms = ap (λ (z : Body-F Atom Body Mono). z.terms) (out-roll-Body (bare_body y)) in
+      let terms : (out-Body p).terms ≡ (bare_body y).terms =
+      ap (λ (z : Body-F Atom Body Mono). z.terms) (out-roll-Body (bare_body y)) in
       value_is a p ∙ ap (sum_terms (mono_value a)) terms
       ∙ sums y.terms (subst Agree (variables_is p ∙ ap (flat_map of_term) terms) h)
       ∙ ap (sum_terms (mono_value b)) (sym terms) ∙ sym (value_is b p))
@@ -103,7 +116,9 @@ module _ (a b : ℕ → ℤ) where
   same_value = ind-Body AlikeAtom AlikeBody AlikeMono atom_step body_step mono_step
 
   -- so do two that agree below a number that all of them are below
-  pub same_value_below : (n : ℕ) (p : Body) → ((v : ℕ) → v < n → a v ≡ b v) → uses_below n p ≡ true → value a p ≡ value b p
+  pub same_value_below : (n : ℕ) (p : Body) → ((v : ℕ) → v < n → a v ≡ b v) → uses_below n p ≡
+      true → value a p ≡ value b p
   same_value_below n p agree below =
-      same_value p (All-weaker (λ v. nat_lt v n ≡ true) (λ v. a v ≡ b v) (λ v e. agree v (ltb-true v n e)) (variables p)
+      same_value p (All-weaker (λ v. nat_lt v n ≡ true) (λ v. a v ≡ b v)
+      (λ v e. agree v (ltb-true v n e)) (variables p)
       (AllPass-from_list_all (λ v. nat_lt v n) (variables p) below))

@@ -19,7 +19,8 @@ module _ (test : ℕ → Bool) where
   bare = map-ITerm Such ITerm (λ (p : Such). p.0)
 
   -- by the parts of a term
-  level : (y : ITerm-F Such) → term_passes_level test (map-ITerm ITerm Bool (term_passes test) (bare y)) ≡ true
+  level : (y : ITerm-F Such) → term_passes_level test
+      (map-ITerm ITerm Bool (term_passes test) (bare y)) ≡ true
       → passes test (norm_level (map-ITerm ITerm (Formed Body) formed (bare y))).form ≡ true
   level (ITerm-F.Var n) h = passes-variable test n h
   level (ITerm-F.Lit k) h = passes-number test k
@@ -39,7 +40,8 @@ module _ (test : ℕ → Bool) where
 
   step : (x : ITerm-F ITerm) (y : ITerm-F Such) → bare y ≡ x → Passes (roll-ITerm x)
   step x y is = subst (λ z. Passes (roll-ITerm z)) is (λ h.
-      ap (λ (f : Formed Body). passes test f.form) (fold-roll-ITerm (Formed Body) norm_level (bare y))
+      ap (λ (f : Formed Body). passes test f.form)
+      (fold-roll-ITerm (Formed Body) norm_level (bare y))
       ∙ level y (sym (fold-roll-ITerm Bool (term_passes_level test) (bare y)) ∙ h))
 
   -- where all variables of a term pass a test, those of its normal form do

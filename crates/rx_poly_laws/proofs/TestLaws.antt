@@ -32,16 +32,21 @@ module _ (test : ℕ → Bool) where
   mono_passes m = list_all test (mono_variables m)
 
   pub mono_passes_is : (m : Mono) → mono_passes m ≡ list_all atom_passes (out-Mono m).atoms
-  mono_passes_is m = ap (list_all test) (mono_variables_is m) ∙ list_all-flat_map test atom_variables (out-Mono m).atoms
+  mono_passes_is m =
+      ap (list_all test) (mono_variables_is m) ∙
+      list_all-flat_map test atom_variables (out-Mono m).atoms
 
   pub passes_is : (p : Body) → passes test p ≡ all_keys mono_passes (out-Body p).terms
-  passes_is p = ap (list_all test) (variables_is p) ∙ list_all-flat_map test (λ (t : Mono × ℤ). mono_variables t.0) (out-Body p).terms
+  passes_is p =
+      ap (list_all test) (variables_is p) ∙ list_all-flat_map test
+      (λ (t : Mono × ℤ). mono_variables t.0) (out-Body p).terms
 
   pub passes-of_terms : (ts : List (Mono × ℤ)) → passes test (of_terms ts) ≡ all_keys mono_passes ts
   passes-of_terms ts = passes_is (of_terms ts) ∙ ap (all_keys mono_passes) (terms-of_terms ts)
 
   mono_passes-of_atoms : (xs : List Atom) → mono_passes (of_atoms xs) ≡ list_all atom_passes xs
-  mono_passes-of_atoms xs = mono_passes_is (of_atoms xs) ∙ ap (list_all atom_passes) (atoms-of_atoms xs)
+  mono_passes-of_atoms xs =
+      mono_passes_is (of_atoms xs) ∙ ap (list_all atom_passes) (atoms-of_atoms xs)
 
   -- the keys of a polynomial that passes
   keys_of : (p : Body) → passes test p ≡ true → all_keys mono_passes (out-Body p).terms ≡ true
@@ -50,63 +55,92 @@ module _ (test : ℕ → Bool) where
   -- ---- numbers, variables, atoms
 
   pub passes-number : (k : ℤ) → passes test (number k) ≡ true
-  passes-number k = passes-of_terms _ ∙ all_keys-put mono_passes (of_atoms []) k [] (mono_passes-of_atoms []) refl
+  passes-number k =
+      passes-of_terms _ ∙ all_keys-put mono_passes (of_atoms []) k [] (mono_passes-of_atoms []) refl
 
   atom_alone_passes : (x : Atom) → atom_passes x ≡ true → passes test (atom_alone x) ≡ true
   atom_alone_passes x h =
       passes-of_terms ((of_atoms (x ∷ []), pos 1) ∷ [])
-      ∙ and_from (mono_passes (of_atoms (x ∷ []))) true (mono_passes-of_atoms (x ∷ []) ∙ and_from (atom_passes x) true h refl) refl
+      ∙ and_from (mono_passes (of_atoms (x ∷ []))) true
+      (mono_passes-of_atoms (x ∷ []) ∙ and_from (atom_passes x) true h refl) refl
 
   pub passes-variable : (n : ℕ) → test n ≡ true → passes test (variable n) ≡ true
-  passes-variable n h = atom_alone_passes (Var n) (ap (list_all test) (variables_Var n) ∙ and_from (test n) true h refl)
+  passes-variable n h =
+      atom_alone_passes (Var n) (ap (list_all test) (variables_Var n) ∙
+      and_from (test n) true h refl)
 
   -- ---- sums
 
-  pub passes-added : (p q : Body) → passes test p ≡ true → passes test q ≡ true → passes test (added p q) ≡ true
-  passes-added p q h g = passes-of_terms _ ∙ all_keys-add mono_passes mono_cmp (out-Body p).terms (out-Body q).terms (keys_of p h) (keys_of q g)
+  pub passes-added : (p q : Body) → passes test p ≡ true → passes test q ≡ true →
+      passes test (added p q) ≡ true
+  passes-added p q h g =
+      passes-of_terms _ ∙ all_keys-add mono_passes mono_cmp (out-Body p).terms (out-Body q).terms
+      (keys_of p h) (keys_of q g)
 
-  keys-negated : (ts : List (Mono × ℤ)) → all_keys mono_passes (negated ts) ≡ all_keys mono_passes ts
+  keys-negated : (ts : List (Mono × ℤ)) → all_keys mono_passes (negated ts) ≡
+      all_keys mono_passes ts
   keys-negated [] = refl
   keys-negated (t ∷ ts) = ap (λ b. mono_passes t.0 && b) (keys-negated ts)
 
-  pub passes-subtracted : (p q : Body) → passes test p ≡ true → passes test q ≡ true → passes test (subtracted p q) ≡ true
+  pub passes-subtracted : (p q : Body) → passes test p ≡ true → passes test q ≡ true →
+      passes test (subtracted p q) ≡ true
   passes-subtracted p q h g =
       passes-of_terms _
-      ∙ all_keys-add mono_passes mono_cmp (out-Body p).terms (negated (out-Body q).terms) (keys_of p h) (keys-negated (out-Body q).terms ∙ keys_of q g)
+      ∙ all_keys-add mono_passes mono_cmp (out-Body p).terms (negated (out-Body q).terms)
+      (keys_of p h) (keys-negated (out-Body q).terms ∙ keys_of q g)
 
-  pub passes-scaled_by : (k : ℤ) (p : Body) → passes test p ≡ true → passes test (scaled_by k p) ≡ true
-  passes-scaled_by k p h = passes-of_terms _ ∙ keys-times_number mono_passes k (out-Body p).terms (keys_of p h)
+  pub passes-scaled_by : (k : ℤ) (p : Body) → passes test p ≡ true → passes test (scaled_by k p) ≡
+      true
+  passes-scaled_by k p h =
+      passes-of_terms _ ∙ keys-times_number mono_passes k (out-Body p).terms (keys_of p h)
 
   -- ---- products
 
-  mono_times_passes : (m n : Mono) → mono_passes m ≡ true → mono_passes n ≡ true → mono_passes (mono_times m n) ≡ true
+  mono_times_passes : (m n : Mono) → mono_passes m ≡ true → mono_passes n ≡ true →
+      mono_passes (mono_times m n) ≡ true
   mono_times_passes m n h g =
       mono_passes-of_atoms _
-      ∙ all-join atom_cmp atom_passes (out-Mono m).atoms (out-Mono n).atoms (sym (mono_passes_is m) ∙ h) (sym (mono_passes_is n) ∙ g)
+      ∙ all-join atom_cmp atom_passes (out-Mono m).atoms (out-Mono n).atoms
+      (sym (mono_passes_is m) ∙ h) (sym (mono_passes_is n) ∙ g)
 
-  keys-scaled : (t : Mono × ℤ) (us : List (Mono × ℤ)) → mono_passes t.0 ≡ true → all_keys mono_passes us ≡ true → all_keys mono_passes (scaled t us) ≡ true
+  keys-scaled : (t : Mono × ℤ) (us : List (Mono × ℤ)) → mono_passes t.0 ≡ true →
+      all_keys mono_passes us ≡ true → all_keys mono_passes (scaled t us) ≡ true
   keys-scaled t [] h g = refl
   keys-scaled t (u ∷ us) h g =
       let both = and_parts (mono_passes u.0) (all_keys mono_passes us) g in
-      and_from (mono_passes (mono_times t.0 u.0)) (all_keys mono_passes (scaled t us)) (mono_times_passes t.0 u.0 h both.0) (keys-scaled t us h both.1)
+      and_from (mono_passes (mono_times t.0 u.0)) (all_keys mono_passes (scaled t us))
+      (mono_times_passes t.0 u.0 h both.0) (keys-scaled t us h both.1)
 
-  keys-running : (sum ts us : List (Mono × ℤ)) → all_keys mono_passes sum ≡ true → all_keys mono_passes ts ≡ true → all_keys mono_passes us ≡ true → all_keys mono_passes (running sum ts us) ≡ true
+  keys-running : (sum ts us : List (Mono × ℤ)) → all_keys mono_passes sum ≡ true →
+      all_keys mono_passes ts ≡ true → all_keys mono_passes us ≡ true →
+      all_keys mono_passes (running sum ts us) ≡ true
   keys-running sum [] us s h g = s
   keys-running sum (t ∷ ts) us s h g =
       let both = and_parts (mono_passes t.0) (all_keys mono_passes ts) h in
-      keys-running (add_terms mono_cmp sum (scaled t us)) ts us (all_keys-add mono_passes mono_cmp sum (scaled t us) s (keys-scaled t us both.0 g)) both.1 g
+      keys-running (add_terms mono_cmp sum (scaled t us)) ts us
+      (all_keys-add mono_passes mono_cmp sum (scaled t us) s (keys-scaled t us both.0 g)) both.1
+      g
 
-  pub passes-multiplied : (p q : Body) → passes test p ≡ true → passes test q ≡ true → passes test (multiplied p q) ≡ true
-  passes-multiplied p q h g = passes-of_terms _ ∙ keys-running [] (out-Body p).terms (out-Body q).terms refl (keys_of p h) (keys_of q g)
+  pub passes-multiplied : (p q : Body) → passes test p ≡ true → passes test q ≡ true →
+      passes test (multiplied p q) ≡ true
+  passes-multiplied p q h g =
+      passes-of_terms _ ∙ keys-running [] (out-Body p).terms (out-Body q).terms refl (keys_of p h)
+      (keys_of q g)
 
   -- ---- quotients and remainders
 
-  pub passes-quotient_of : (p q : Body) → passes test p ≡ true → passes test q ≡ true → passes test (quotient_of p q) ≡ true
+  pub passes-quotient_of : (p q : Body) → passes test p ≡ true → passes test q ≡ true →
+      passes test (quotient_of p q) ≡ true
   passes-quotient_of p q h g =
       quotient_cases (λ r. passes test r ≡ true) p q passes-number
-      (atom_alone_passes (Div p q) (ap (list_all test) (variables_Div p q) ∙ list_all-append test (variables p) (variables q) ∙ and_from (passes test p) (passes test q) h g))
+      (atom_alone_passes (Div p q) (ap (list_all test) (variables_Div p q) ∙
+      list_all-append test (variables p) (variables q) ∙
+      and_from (passes test p) (passes test q) h g))
 
-  pub passes-remainder_of : (p q : Body) → passes test p ≡ true → passes test q ≡ true → passes test (remainder_of p q) ≡ true
+  pub passes-remainder_of : (p q : Body) → passes test p ≡ true → passes test q ≡ true →
+      passes test (remainder_of p q) ≡ true
   passes-remainder_of p q h g =
       remainder_cases (λ r. passes test r ≡ true) p q passes-number
-      (atom_alone_passes (Mod p q) (ap (list_all test) (variables_Mod p q) ∙ list_all-append test (variables p) (variables q) ∙ and_from (passes test p) (passes test q) h g))
+      (atom_alone_passes (Mod p q) (ap (list_all test) (variables_Mod p q) ∙
+      list_all-append test (variables p) (variables q) ∙
+      and_from (passes test p) (passes test q) h g))

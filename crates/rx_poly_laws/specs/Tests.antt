@@ -1,4 +1,5 @@
--- Polynomials all of whose variables pass a test: that all are below a number, say, or that all are a list's.
+-- Polynomials all of whose variables pass a test: that all are below a number, say, or that all are
+-- a list's.
 use Rattle.std.specs.Prelude.{ℕ, Bool}
 use Rattle.std.specs.List.{list_all}
 use Rattle.rx_poly.specs.declared.body.Body.{Body}

@@ -27,8 +27,10 @@ pub fn equal_coefficients_make_one_polynomial()
 /// Two assignments that agree on the variables of a sum, at every level, give it one value.
 #[tactic(auto, using(crate::proofs::Locality::same_value, crate::proofs::Locality::same_value_below))]
 pub fn variables_alone_decide_the_value()
-    ensures agree { (a b : ℕ → ℤ) (p : Body) → All (λ v. a v ≡ b v) (variables p) → value a p ≡ value b p }
-    ensures below { (a b : ℕ → ℤ) (n : ℕ) (p : Body) → ((v : ℕ) → v < n → a v ≡ b v) → uses_below n p ≡ true → value a p ≡ value b p }
+    ensures agree { (a b : ℕ → ℤ) (p : Body) → All (λ v. a v ≡ b v) (variables p) → value a p ≡
+        value b p }
+    ensures below { (a b : ℕ → ℤ) (n : ℕ) (p : Body) → ((v : ℕ) → v < n → a v ≡ b v) →
+        uses_below n p ≡ true → value a p ≡ value b p }
 {}
 
 /// The dividends and divisors in a polynomial are polynomials themselves: normal forms within the
@@ -48,22 +50,26 @@ pub fn unchanged_variables_keep_the_polynomial()
         All (λ v. replaced ws v ≡ variable v) (variables p) → (in_body ws p).within ≡ true }
 {}
 
-/// What is formed of polynomials has no variables but theirs: where the variables of the parts, at every level,
-/// all pass a test, those of a sum, difference, multiple, product, quotient or remainder do. A number has none.
+/// What is formed of polynomials has no variables but theirs: where the variables of the parts, at
+/// every level, all pass a test, those of a sum, difference, multiple, product, quotient or
+/// remainder do. A number has none.
 pub fn results_have_the_variables_of_their_parts()
     ensures number { (test : ℕ → Bool) (k : ℤ) → passes test (number k) ≡ true }
     ensures variable { (test : ℕ → Bool) (n : ℕ) → test n ≡ true → passes test (variable n) ≡ true }
     ensures sum { (test : ℕ → Bool) (p q : Body) → passes test p ≡ true → passes test q ≡ true →
         passes test (added p q) ≡ true }
-    ensures difference { (test : ℕ → Bool) (p q : Body) → passes test p ≡ true → passes test q ≡ true →
+    ensures difference { (test : ℕ → Bool) (p q : Body) → passes test p ≡ true → passes test q ≡
+        true →
         passes test (subtracted p q) ≡ true }
     ensures multiple { (test : ℕ → Bool) (k : ℤ) (p : Body) → passes test p ≡ true →
         passes test (scaled_by k p) ≡ true }
     ensures product { (test : ℕ → Bool) (p q : Body) → passes test p ≡ true → passes test q ≡ true →
         passes test (multiplied p q) ≡ true }
-    ensures quotient { (test : ℕ → Bool) (p q : Body) → passes test p ≡ true → passes test q ≡ true →
+    ensures quotient { (test : ℕ → Bool) (p q : Body) → passes test p ≡ true → passes test q ≡
+        true →
         passes test (quotient_of p q) ≡ true }
-    ensures remainder { (test : ℕ → Bool) (p q : Body) → passes test p ≡ true → passes test q ≡ true →
+    ensures remainder { (test : ℕ → Bool) (p q : Body) → passes test p ≡ true → passes test q ≡
+        true →
         passes test (remainder_of p q) ≡ true }
     ensures norm { (test : ℕ → Bool) (t : ITerm) → term_passes test t ≡ true →
         passes test (norm_of t) ≡ true }
@@ -72,11 +78,12 @@ pub fn results_have_the_variables_of_their_parts()
 /// An instance has no variables but those of the polynomials that its variables are replaced by.
 pub fn instances_have_the_variables_of_their_replacements()
     ensures { (test : ℕ → Bool) (ws : List (ℕ × Body)) (p : Body) →
-        All (λ v. passes test (replaced ws v) ≡ true) (variables p) → passes test (in_body ws p).form ≡ true }
+        All (λ v. passes test (replaced ws v) ≡ true) (variables p) →
+        passes test (in_body ws p).form ≡ true }
 {}
 
-/// What a polynomial becomes by a substitution depends only on what its own variables are replaced by; so does
-/// whether all that is formed on the way keeps the limits.
+/// What a polynomial becomes by a substitution depends only on what its own variables are replaced
+/// by; so does whether all that is formed on the way keeps the limits.
 pub fn an_instance_depends_on_what_its_variables_are_replaced_by()
     ensures { (ws us : List (ℕ × Body)) (p : Body) →
         All (λ v. replaced ws v ≡ replaced us v) (variables p) → in_body ws p ≡ in_body us p }
@@ -88,8 +95,8 @@ pub fn a_polynomial_minus_itself_is_zero()
     ensures within { (p : Body) → is_poly p ≡ true → is_within (subtracted p p) ≡ true }
 {}
 
-/// The coefficient of a monomial in a sum is the sum of its coefficients in both, in a difference their
-/// difference, and in a multiple the product with the number.
+/// The coefficient of a monomial in a sum is the sum of its coefficients in both, in a difference
+/// their difference, and in a multiple the product with the number.
 pub fn coefficients_are_combined_one_by_one()
     ensures sum { (m : Mono) (p q : Body) → is_poly p ≡ true → is_poly q ≡ true →
         coefficient m (out-Body (added p q)).terms ≡
@@ -101,7 +108,8 @@ pub fn coefficients_are_combined_one_by_one()
         coefficient m (out-Body (scaled_by k p)).terms ≡ coefficient m (out-Body p).terms *ℤ k }
 {}
 
-/// All variables of a polynomial are below a number exactly where it is at least the least number above them.
+/// All variables of a polynomial are below a number exactly where it is at least the least number
+/// above them.
 #[tactic(auto, using(crate::proofs::BoundLaws::below_the_bound))]
 pub fn the_variable_bound_is_the_least_above_all()
     ensures { (n : ℕ) (p : Body) → (uses_below n p ≡ true) ↔ (variable_bound p ≤ n) }

@@ -1,5 +1,6 @@
-//! One happy path, and a refusal or two, of the calls that compile trees, refute rows, apply steps, and
-//! check covers and ranks, with ample memory. It prints each case that differs, and how many hold.
+//! One happy path, and a refusal or two, of the calls that compile trees, refute rows, apply steps,
+//! and check covers and ranks, with ample memory. It prints each case that differs, and how many
+//! hold.
 #![tactic(auto)]
 
 mod code_cases;

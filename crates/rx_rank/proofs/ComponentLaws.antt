@@ -1,5 +1,5 @@
--- The polynomials of a fit choice are of the component's symbols, over their arguments, with no variables but those of
--- the rules' rows and of the pairs.
+-- The polynomials of a fit choice are of the component's symbols, over their arguments, with no
+-- variables but those of the rules' rows and of the pairs.
 use Rattle.std.proofs.Common.{◌≡◌, ◌∙◌, ap, sym, subst, refl, ℕ, zero, suc, ◌==◌, ◌+◌, Bool, true, false, ◌&&◌, not, cond, Option, Some, None, List, [], ◌∷◌, ◌++◌, length, map, take}
 use Rattle.std.proofs.lemmas.Bool.{and_parts}
 use Rattle.std.proofs.lemmas.List.Elements.{All-cons, All-contains, All-filter, All-head, All-nil, All-tail, All-take, All-weaker, filter_passes}
@@ -41,209 +41,304 @@ module _ (P : ℕ → Type 0) where
     by false is later = later is
 
   -- what is true of all symbols is true of those in order
-  pub order_has : (n : ℕ) (pairs : List Pair) (waiting order : List ℕ) → All P waiting → order_by n pairs waiting ≡ Some order → All P order
-  order_has zero pairs waiting order all e = let same : [] ≡ order = cc in subst (All P) same (All-nil P)
+  pub order_has : (n : ℕ) (pairs : List Pair) (waiting order : List ℕ) → All P waiting →
+      order_by n pairs waiting ≡ Some order → All P order
+  order_has zero pairs waiting order all e =
+      let same : [] ≡ order = cc in subst (All P) same (All-nil P)
   order_has (suc n) pairs waiting order all e =
       by (find (is_ready pairs waiting) waiting) refl e
-      (λ f gs is. order_has n pairs (without f waiting) gs (All-filter (λ g. not (g == f)) P waiting all) is)
+      (λ f gs is. order_has n pairs (without f waiting) gs
+      (All-filter (λ g. not (g == f)) P waiting all) is)
     where
-      with_rest : (f : ℕ) → P f → (o : Option (List ℕ)) → ((gs : List ℕ) → o ≡ Some gs → All P gs) → option_map (λ fs. f ∷ fs) o ≡ Some order → All P order
+      with_rest : (f : ℕ) → P f → (o : Option (List ℕ)) → ((gs : List ℕ) → o ≡ Some gs → All P gs) →
+          option_map (λ fs. f ∷ fs) o ≡ Some order → All P order
       with_rest f here None rest made = cc
-      with_rest f here (Some gs) rest made = let same : f ∷ gs ≡ order = cc in subst (All P) same (All-cons P f gs here (rest gs refl))
+      with_rest f here (Some gs) rest made =
+          let same : f ∷ gs ≡ order = cc in subst (All P) same (All-cons P f gs here (rest gs refl))
 
-      by : (o : Option ℕ) → find (is_ready pairs waiting) waiting ≡ o → next_first o (λ f. order_by n pairs (without f waiting)) ≡ Some order
-          → ((f : ℕ) (gs : List ℕ) → order_by n pairs (without f waiting) ≡ Some gs → All P gs) → All P order
+      by : (o : Option ℕ) → find (is_ready pairs waiting) waiting ≡ o →
+          next_first o (λ f. order_by n pairs (without f waiting)) ≡ Some order
+          → ((f : ℕ) (gs : List ℕ) → order_by n pairs (without f waiting) ≡ Some gs → All P gs) →
+          All P order
       by None is made rest = cc
-      by (Some f) is made rest = with_rest f (found_has (is_ready pairs waiting) waiting f all is) (order_by n pairs (without f waiting)) (rest f) made
+      by (Some f) is made rest =
+          with_rest f (found_has (is_ready pairs waiting) waiting f all is)
+          (order_by n pairs (without f waiting)) (rest f) made
 
 -- ---- instances
 
-replaced_passes : (test : ℕ → Bool) (n : ℕ) (ps : List Body) (v : ℕ) → list_all (passes test) ps ≡ true → test v ≡ true → passes test (replaced (numbered_from n ps) v) ≡ true
+replaced_passes : (test : ℕ → Bool) (n : ℕ) (ps : List Body) (v : ℕ) → list_all (passes test) ps ≡
+    true → test v ≡ true → passes test (replaced (numbered_from n ps) v) ≡ true
 replaced_passes test n [] v h t = passes-variable test v t
 replaced_passes test n (p ∷ ps) v h t =
-    let parts = and_parts (passes test p) (list_all (passes test) ps) h in by (n == v) parts.0 (replaced_passes test (n + 1) ps v parts.1 t)
+    let parts = and_parts (passes test p) (list_all (passes test) ps) h in
+    by (n == v) parts.0 (replaced_passes test (n + 1) ps v parts.1 t)
   where
-    by : (b : Bool) → passes test p ≡ true → passes test (replaced (numbered_from (n + 1) ps) v) ≡ true → passes test (cond b p (replaced (numbered_from (n + 1) ps) v)) ≡ true
+    by : (b : Bool) → passes test p ≡ true → passes test (replaced (numbered_from (n + 1) ps) v) ≡
+        true → passes test (cond b p (replaced (numbered_from (n + 1) ps) v)) ≡ true
     by true here later = here
     by false here later = later
 
-all_replaced : (test : ℕ → Bool) (ps : List Body) (vs : List ℕ) → list_all (passes test) ps ≡ true → list_all test vs ≡ true → All (λ v. passes test (replaced (numbered ps) v) ≡ true) vs
+all_replaced : (test : ℕ → Bool) (ps : List Body) (vs : List ℕ) → list_all (passes test) ps ≡ true →
+    list_all test vs ≡ true → All (λ v. passes test (replaced (numbered ps) v) ≡ true) vs
 all_replaced test ps [] h t = All-nil (λ v. passes test (replaced (numbered ps) v) ≡ true)
 all_replaced test ps (v ∷ vs) h t =
     let parts = and_parts (test v) (list_all test vs) t in
-    All-cons (λ v. passes test (replaced (numbered ps) v) ≡ true) v vs (replaced_passes test 0 ps v h parts.0) (all_replaced test ps vs h parts.1)
+    All-cons (λ v. passes test (replaced (numbered ps) v) ≡ true) v vs
+    (replaced_passes test 0 ps v h parts.0) (all_replaced test ps vs h parts.1)
 
 -- an instance has the variables of the arguments and of the polynomial
-pub instance_own : (test : ℕ → Bool) (ps : List Body) (q : Body) → list_all (passes test) ps ≡ true → passes test q ≡ true → passes test (in_body (numbered ps) q).form ≡ true
-instance_own test ps q h t = instance_passes test (numbered ps) q (all_replaced test ps (variables q) h t)
+pub instance_own : (test : ℕ → Bool) (ps : List Body) (q : Body) → list_all (passes test) ps ≡
+    true → passes test q ≡ true → passes test (in_body (numbered ps) q).form ≡ true
+instance_own test ps q h t =
+    instance_passes test (numbered ps) q (all_replaced test ps (variables q) h t)
 
 -- ---- polynomials that serve
 
-served_by : (arity : ℕ) (values : List (Option Body)) (mine : List Pair) (x p : Body) → (serving arity values mine x).made ≡ Some p → (uses_below arity x ≡ true) × (x ≡ p)
+served_by : (arity : ℕ) (values : List (Option Body)) (mine : List Pair) (x p : Body) →
+    (serving arity values mine x).made ≡ Some p → (uses_below arity x ≡ true) × (x ≡ p)
 served_by arity values mine x p e = by (uses_below arity x) refl (hold_with values x mine) e where
-  by : (b : Bool) → uses_below arity x ≡ b → (s : Said) → (cond b (where_shown s x) (record { made = None; noted = false })).made ≡ Some p → (uses_below arity x ≡ true) × (x ≡ p)
+  by : (b : Bool) → uses_below arity x ≡ b → (s : Said) →
+      (cond b (where_shown s x) (record { made = None; noted = false })).made ≡ Some p →
+      (uses_below arity x ≡ true) × (x ≡ p)
   by true is Yes f = (is, cc)
   by true is No f = cc
   by true is Beyond f = cc
   by false is s f = cc
 
-instance_made : (pair : Pair) (o : Option Body) (x : Body) → (instance_on pair o).made ≡ Some x → (q : Body) × (o ≡ Some q) × (x ≡ (at_right pair q).form)
+instance_made : (pair : Pair) (o : Option Body) (x : Body) → (instance_on pair o).made ≡ Some x →
+    (q : Body) × (o ≡ Some q) × (x ≡ (at_right pair q).form)
 instance_made pair None x e = cc
 instance_made pair (Some q) x e = (q, refl, by (at_right pair q).within e) where
   by : (b : Bool) → (kept_tried b (at_right pair q).form).made ≡ Some x → x ≡ (at_right pair q).form
   by true f = cc
   by false f = cc
 
-module _ (parts : RuleParts) (hypotheses : List Rule) (names : List ℕ) (c : ℕ) (pairs : List Pair) where
-  abbrev R : ℕ → Body → Type 0
-  R = IsOwn parts hypotheses names c pairs
+module _ (parts : RuleParts) (hypotheses : List Rule) (names : List ℕ) (c : ℕ) (pairs : List Pair)
+  where
+    abbrev R : ℕ → Body → Type 0
+    R = IsOwn parts hypotheses names c pairs
 
-  -- the pair's variables are those of the pairs
-  abbrev IsOwnPair : Pair → Type 0
-  IsOwnPair pair = (test : ℕ → Bool) → list_all (pair_passes test) pairs ≡ true → pair_passes test pair ≡ true
+    -- the pair's variables are those of the pairs
+    abbrev IsOwnPair : Pair → Type 0
+    IsOwnPair pair =
+        (test : ℕ → Bool) → list_all (pair_passes test) pairs ≡ true → pair_passes test pair ≡ true
 
-  pairs_own : (rest : List Pair) → ((test : ℕ → Bool) → list_all (pair_passes test) pairs ≡ true → list_all (pair_passes test) rest ≡ true) → All IsOwnPair rest
-  pairs_own [] own = All-nil IsOwnPair
-  pairs_own (pair ∷ rest) own =
-      All-cons IsOwnPair pair rest (λ test h. (and_parts (pair_passes test pair) (list_all (pair_passes test) rest) (own test h)).0)
-      (pairs_own rest (λ test h. (and_parts (pair_passes test pair) (list_all (pair_passes test) rest) (own test h)).1))
+    pairs_own : (rest : List Pair) → ((test : ℕ → Bool) → list_all (pair_passes test) pairs ≡ true →
+        list_all (pair_passes test) rest ≡ true) → All IsOwnPair rest
+    pairs_own [] own = All-nil IsOwnPair
+    pairs_own (pair ∷ rest) own =
+        All-cons IsOwnPair pair rest (λ test h.
+        (and_parts (pair_passes test pair) (list_all (pair_passes test) rest) (own test h)).0)
+        (pairs_own rest (λ test h. (and_parts (pair_passes test pair)
+        (list_all (pair_passes test) rest) (own test h)).1))
 
-  right_passes : (test : ℕ → Bool) (pair : Pair) → pair_passes test pair ≡ true → list_all (passes test) pair.right_args ≡ true
-  right_passes test pair h =
-      (and_parts (list_all (passes test) pair.left_args) (list_all (passes test) pair.right_args)
-      (and_parts (rows_pass test pair.phi) (list_all (passes test) pair.left_args && list_all (passes test) pair.right_args) h).1).1
+    right_passes : (test : ℕ → Bool) (pair : Pair) → pair_passes test pair ≡ true →
+        list_all (passes test) pair.right_args ≡ true
+    right_passes test pair h =
+        (and_parts (list_all (passes test) pair.left_args) (list_all (passes test) pair.right_args)
+        (and_parts (rows_pass test pair.phi) (list_all (passes test) pair.left_args &&
+        list_all (passes test) pair.right_args) h).1).1
 
-  from_target_own : (f : ℕ) → is_member names c f ≡ true → (values : List (Option Body)) → AreOwn R values → (mine : List Pair) (pair : Pair) → IsOwnPair pair → (p : Body)
-      → (from_target (arity_of parts.symbols f) values mine pair).made ≡ Some p → R f p
-  from_target_own f member values own mine pair own_pair p e =
-      let arity = arity_of parts.symbols f in
-      let first = instance_on pair (polynomial_of values pair.right.0) in
-      let two = made_of_both first.made first.noted (serving arity values mine) p e in
-      let served = served_by arity values mine two.0 p two.2 in
-      let made = instance_made pair (polynomial_of values pair.right.0) two.0 two.1 in
-      let target = own pair.right.0 made.0 made.1 in
-      let same : p ≡ (at_right pair made.0).form = sym served.1 ∙ made.2 in
-      record {
-        member = member;
-        over = subst (λ q. uses_below arity q ≡ true) served.1 served.0;
-        own_variables = λ test h g.
-            subst (λ q. passes test q ≡ true) (sym same)
-            (instance_own test pair.right_args made.0 (right_passes test pair (own_pair test g)) (target.own_variables test h g));
-      }
+    from_target_own : (f : ℕ) → is_member names c f ≡ true → (values : List (Option Body)) →
+        AreOwn R values → (mine : List Pair) (pair : Pair) → IsOwnPair pair → (p : Body)
+        → (from_target (arity_of parts.symbols f) values mine pair).made ≡ Some p → R f p
+    from_target_own f member values own mine pair own_pair p e =
+        let arity = arity_of parts.symbols f in
+        let first = instance_on pair (polynomial_of values pair.right.0) in
+        let two = made_of_both first.made first.noted (serving arity values mine) p e in
+        let served = served_by arity values mine two.0 p two.2 in
+        let made = instance_made pair (polynomial_of values pair.right.0) two.0 two.1 in
+        let target = own pair.right.0 made.0 made.1 in
+        let same : p ≡ (at_right pair made.0).form = sym served.1 ∙ made.2 in
+        record {
+          member = member;
+          over = subst (λ q. uses_below arity q ≡ true) served.1 served.0;
+          own_variables = λ test h g.
+              subst (λ q. passes test q ≡ true) (sym same)
+              (instance_own test pair.right_args made.0 (right_passes test pair (own_pair test g))
+              (target.own_variables test h g));
+        }
 
-  serving_own : (f : ℕ) → is_member names c f ≡ true → (values : List (Option Body)) (p : Body) → AreOwn R values
-      → (first_serving (arity_of parts.symbols f) values (pairs_from f pairs)).made ≡ Some p → R f p
-  serving_own f member values p own e =
-      let mine = pairs_from f pairs in
-      let arity = arity_of parts.symbols f in
-      made_by_one (R f) (from_target arity values mine) mine p
-      (All-weaker IsOwnPair (λ pair. (y : Body) → (from_target arity values mine pair).made ≡ Some y → R f y)
-      (λ pair own_pair. from_target_own f member values own mine pair own_pair) mine
-      (All-filter (λ (pair : Pair). pair.left.0 == f) IsOwnPair pairs (pairs_own pairs (λ test h. h)))) e
+    serving_own : (f : ℕ) → is_member names c f ≡ true → (values : List (Option Body)) (p : Body) →
+        AreOwn R values
+        → (first_serving (arity_of parts.symbols f) values (pairs_from f pairs)).made ≡ Some p →
+        R f p
+    serving_own f member values p own e =
+        let mine = pairs_from f pairs in
+        let arity = arity_of parts.symbols f in
+        made_by_one (R f) (from_target arity values mine) mine p
+        (All-weaker IsOwnPair (λ pair. (y : Body) → (from_target arity values mine pair).made ≡
+        Some y → R f y)
+        (λ pair own_pair. from_target_own f member values own mine pair own_pair) mine
+        (All-filter (λ (pair : Pair). pair.left.0 == f) IsOwnPair pairs
+        (pairs_own pairs (λ test h. h)))) e
 
-  -- ---- the component
+    -- ---- the component
 
-  abbrev IsMember : ℕ → Type 0
-  IsMember f = is_member names c f ≡ true
+    abbrev IsMember : ℕ → Type 0
+    IsMember f = is_member names c f ≡ true
 
-  all_members : All IsMember (members names c)
-  all_members = filter_passes (is_member names c) (symbols_of (length names))
+    all_members : All IsMember (members names c)
+    all_members = filter_passes (is_member names c) (symbols_of (length names))
 
-  own_candidates : (fs : List ℕ) → All IsMember fs → All (λ f. All (R f) (candidates names c (parts.rules ++ hypotheses) (arity_of parts.symbols f))) fs
-  own_candidates fs all =
-      All-weaker IsMember (λ f. All (R f) (candidates names c (parts.rules ++ hypotheses) (arity_of parts.symbols f)))
-      (λ f member. All-weaker (IsOwnCandidate (parts.rules ++ hypotheses) (arity_of parts.symbols f)) (R f)
-      (λ p own. record { member = member; over = own.over; own_variables = λ test h g. own.own_variables test h })
-      (candidates names c (parts.rules ++ hypotheses) (arity_of parts.symbols f)) (candidates_own names c (parts.rules ++ hypotheses) (arity_of parts.symbols f))) fs all
+    own_candidates : (fs : List ℕ) → All IsMember fs →
+        All (λ f. All (R f) (candidates names c (parts.rules ++ hypotheses)
+        (arity_of parts.symbols f))) fs
+    own_candidates fs all =
+        All-weaker IsMember (λ f. All (R f) (candidates names c (parts.rules ++ hypotheses)
+        (arity_of parts.symbols f)))
+        (λ f member. All-weaker (IsOwnCandidate (parts.rules ++ hypotheses)
+        (arity_of parts.symbols f)) (R f)
+        (λ p own. record {
+          member = member;
+          over = own.over;
+          own_variables = λ test h g.
+              own.own_variables test h;
+        })
+        (candidates names c (parts.rules ++ hypotheses) (arity_of parts.symbols f))
+        (candidates_own names c (parts.rules ++ hypotheses) (arity_of parts.symbols f))) fs all
 
-  mapped_twice : (fs : List ℕ) → candidate_lists names c (parts.rules ++ hypotheses) (map (arity_of parts.symbols) fs)
-      ≡ map (λ f. candidates names c (parts.rules ++ hypotheses) (arity_of parts.symbols f)) fs
-  mapped_twice [] = refl
-  mapped_twice (f ∷ fs) = ap (λ rest. candidates names c (parts.rules ++ hypotheses) (arity_of parts.symbols f) ∷ rest) (mapped_twice fs)
+    mapped_twice : (fs : List ℕ) → candidate_lists names c (parts.rules ++ hypotheses)
+        (map (arity_of parts.symbols) fs)
+        ≡ map (λ f. candidates names c (parts.rules ++ hypotheses) (arity_of parts.symbols f)) fs
+    mapped_twice [] = refl
+    mapped_twice (f ∷ fs) =
+        ap (λ rest. candidates names c (parts.rules ++ hypotheses) (arity_of parts.symbols f) ∷
+        rest)
+        (mapped_twice fs)
 
-  -- the first fit choice of the component
-  pub component_fit : (order : List ℕ) (fit : Fit) → order_of pairs (others parts hypotheses names c) ≡ Some order
-      → IsFirstFit parts.symbols pairs (anchors parts hypotheses names c) order (take most_choices (products (candidate_lists names c (parts.rules ++ hypotheses) (arities parts hypotheses names c)))) fit
-      → IsComponentFit parts hypotheses names c pairs fit
-  component_fit order fit ordered first =
-      let fs = anchors parts hypotheses names c in
-      let lists = λ (f : ℕ). candidates names c (parts.rules ++ hypotheses) (arity_of parts.symbols f) in
-      let all_choices : All (AllZip R fs) (products (map lists fs)) =
-      products_own R lists fs (own_candidates fs (All-filter _ IsMember (members names c) all_members)) in
-      let taken : All (AllZip R fs) (take most_choices (products (candidate_lists names c (parts.rules ++ hypotheses) (arities parts hypotheses names c)))) =
-      subst (λ ls. All (AllZip R fs) (take most_choices (products ls))) (sym (mapped_twice fs)) (All-take (AllZip R fs) most_choices (products (map lists fs)) all_choices) in
-      let zipped : AllZip R fs first.choice = All-contains (AllZip R fs) _ first.choice taken first.among in
-      let start = with_choice (without_polynomials (length parts.symbols)) fs first.choice in
-      let in_order : All IsMember order =
-      order_has IsMember (length (others parts hypotheses names c)) pairs (others parts hypotheses names c) order (All-filter _ IsMember (members names c) all_members) ordered in
-      let Serves : ℕ → Type 0 = λ f. (vs : List (Option Body)) (p : Body) → AreOwn R vs → (first_serving (arity_of parts.symbols f) vs (pairs_from f pairs)).made ≡ Some p → R f p in
-      record {
-        values = first.chosen.values;
-        fit_is = first.chosen.fit_is;
-        count =
-            length-filled parts.symbols pairs order start first.chosen.values first.chosen.filled_is
-            ∙ length-choice (without_polynomials (length parts.symbols)) fs first.choice ∙ length-without (length parts.symbols);
-        own =
-            filled_own R parts.symbols pairs order start first.chosen.values
-            (choice_own R (without_polynomials (length parts.symbols)) fs first.choice (none_own R (length parts.symbols)) zipped)
-            (All-weaker IsMember Serves (λ f member. serving_own f member) order in_order) first.chosen.filled_is;
-      }
+    -- the first fit choice of the component
+    pub component_fit : (order : List ℕ) (fit : Fit) →
+        order_of pairs (others parts hypotheses names c) ≡ Some order
+        → IsFirstFit parts.symbols pairs (anchors parts hypotheses names c) order
+        (take most_choices (products (candidate_lists names c (parts.rules ++ hypotheses)
+        (arities parts hypotheses names c)))) fit
+        → IsComponentFit parts hypotheses names c pairs fit
+    component_fit order fit ordered first =
+        let fs = anchors parts hypotheses names c in
+        let lists = λ (f : ℕ). candidates names c (parts.rules ++ hypotheses)
+        (arity_of parts.symbols f) in
+        let all_choices : All (AllZip R fs) (products (map lists fs)) =
+        products_own R lists fs (own_candidates fs
+        (All-filter _ IsMember (members names c) all_members)) in
+        let taken : All (AllZip R fs) (take most_choices
+        (products (candidate_lists names c (parts.rules ++ hypotheses)
+        (arities parts hypotheses names c)))) =
+        subst (λ ls. All (AllZip R fs) (take most_choices (products ls))) (sym (mapped_twice fs))
+        (All-take (AllZip R fs) most_choices (products (map lists fs)) all_choices) in
+        let zipped : AllZip R fs first.choice =
+        All-contains (AllZip R fs) _ first.choice taken first.among in
+        let start = with_choice (without_polynomials (length parts.symbols)) fs first.choice in
+        let in_order : All IsMember order =
+        order_has IsMember (length (others parts hypotheses names c)) pairs
+        (others parts hypotheses names c) order
+        (All-filter _ IsMember (members names c) all_members) ordered in
+        let Serves : ℕ → Type 0 = λ f. (vs : List (Option Body)) (p : Body) → AreOwn R vs →
+        (first_serving (arity_of parts.symbols f) vs (pairs_from f pairs)).made ≡ Some p →
+        R f p in
+        record {
+          values = first.chosen.values;
+          fit_is = first.chosen.fit_is;
+          count =
+              length-filled parts.symbols pairs order start first.chosen.values
+              first.chosen.filled_is
+              ∙ length-choice (without_polynomials (length parts.symbols)) fs first.choice ∙
+              length-without (length parts.symbols);
+          own =
+              filled_own R parts.symbols pairs order start first.chosen.values
+              (choice_own R (without_polynomials (length parts.symbols)) fs first.choice
+              (none_own R (length parts.symbols)) zipped)
+              (All-weaker IsMember Serves (λ f member. serving_own f member) order in_order)
+              first.chosen.filled_is;
+        }
 
-  -- what is handed on from call to call
-  pub record Handed (infos : List SymInfo) (rules : List Rule) (made_anchors made_others anchor_slice other_slice made_arities arity_slice : List ℕ)
-      (lists : List (List Body)) (noted : Bool) (order : Option (List ℕ)) : Type 0 where
-    pub infos_is : infos ≡ parts.symbols
-    pub rules_is : rules ≡ parts.rules
-    pub made_anchors_is : made_anchors ≡ filter (is_anchor infos hypotheses) (members names c)
-    pub made_others_is : made_others ≡ filter (λ f. not (is_anchor infos hypotheses f)) (members names c)
-    pub anchor_slice_is : anchor_slice ≡ made_anchors
-    pub other_slice_is : other_slice ≡ made_others
-    pub made_arities_is : made_arities ≡ map (arity_of infos) anchor_slice
-    pub arity_slice_is : arity_slice ≡ made_arities
-    pub made_lists_is : lists ≡ candidate_lists names c (rules ++ hypotheses) arity_slice
-    pub made_noted_is : noted ≡ are_noted names c (rules ++ hypotheses) arity_slice
-    pub made_order_is : order ≡ order_of pairs other_slice
+    -- what is handed on from call to call
+    pub record Handed (infos : List SymInfo) (rules : List Rule)
+        (made_anchors made_others anchor_slice other_slice made_arities arity_slice : List ℕ)
+        (lists : List (List Body)) (noted : Bool) (order : Option (List ℕ)) : Type 0 where
+      pub infos_is : infos ≡ parts.symbols
+      pub rules_is : rules ≡ parts.rules
+      pub made_anchors_is : made_anchors ≡ filter (is_anchor infos hypotheses) (members names c)
+      pub made_others_is : made_others ≡ filter (λ f. not (is_anchor infos hypotheses f))
+          (members names c)
+      pub anchor_slice_is : anchor_slice ≡ made_anchors
+      pub other_slice_is : other_slice ≡ made_others
+      pub made_arities_is : made_arities ≡ map (arity_of infos) anchor_slice
+      pub arity_slice_is : arity_slice ≡ made_arities
+      pub made_lists_is : lists ≡ candidate_lists names c (rules ++ hypotheses) arity_slice
+      pub made_noted_is : noted ≡ are_noted names c (rules ++ hypotheses) arity_slice
+      pub made_order_is : order ≡ order_of pairs other_slice
 
-  module _ {infos : List SymInfo} {rules : List Rule} {made_anchors made_others anchor_slice other_slice made_arities arity_slice : List ℕ}
-      {lists : List (List Body)} {noted : Bool} {order : Option (List ℕ)}
-      (h : Handed infos rules made_anchors made_others anchor_slice other_slice made_arities arity_slice lists noted order) where
-    pub anchors_are : anchor_slice ≡ anchors parts hypotheses names c
-    anchors_are = h.anchor_slice_is ∙ h.made_anchors_is ∙ ap (λ s. filter (is_anchor s hypotheses) (members names c)) h.infos_is
+    module _ {infos : List SymInfo} {rules : List Rule}
+        {made_anchors made_others anchor_slice other_slice made_arities arity_slice : List ℕ}
+        {lists : List (List Body)} {noted : Bool} {order : Option (List ℕ)}
+        (h : Handed infos rules made_anchors made_others anchor_slice other_slice made_arities
+        arity_slice lists noted order) where
+      pub anchors_are : anchor_slice ≡ anchors parts hypotheses names c
+      anchors_are =
+          h.anchor_slice_is ∙ h.made_anchors_is ∙
+          ap (λ s. filter (is_anchor s hypotheses) (members names c)) h.infos_is
 
-    others_are : other_slice ≡ others parts hypotheses names c
-    others_are = h.other_slice_is ∙ h.made_others_is ∙ ap (λ s. filter (λ f. not (is_anchor s hypotheses f)) (members names c)) h.infos_is
+      others_are : other_slice ≡ others parts hypotheses names c
+      others_are =
+          h.other_slice_is ∙ h.made_others_is ∙
+          ap (λ s. filter (λ f. not (is_anchor s hypotheses f)) (members names c)) h.infos_is
 
-    arities_are : arity_slice ≡ arities parts hypotheses names c
-    arities_are = h.arity_slice_is ∙ h.made_arities_is ∙ (λ j. map (arity_of (h.infos_is j)) (anchors_are j))
+      arities_are : arity_slice ≡ arities parts hypotheses names c
+      arities_are =
+          h.arity_slice_is ∙ h.made_arities_is ∙
+          (λ j. map (arity_of (h.infos_is j)) (anchors_are j))
 
-    pub lists_are : lists ≡ candidate_lists names c (parts.rules ++ hypotheses) (arities parts hypotheses names c)
-    lists_are = h.made_lists_is ∙ (λ j. candidate_lists names c (h.rules_is j ++ hypotheses) (arities_are j))
+      pub lists_are : lists ≡ candidate_lists names c (parts.rules ++ hypotheses)
+          (arities parts hypotheses names c)
+      lists_are =
+          h.made_lists_is ∙ (λ j. candidate_lists names c (h.rules_is j ++ hypotheses)
+          (arities_are j))
 
-    pub noted_are : noted ≡ are_noted names c (parts.rules ++ hypotheses) (arities parts hypotheses names c)
-    noted_are = h.made_noted_is ∙ (λ j. are_noted names c (h.rules_is j ++ hypotheses) (arities_are j))
+      pub noted_are : noted ≡ are_noted names c (parts.rules ++ hypotheses)
+          (arities parts hypotheses names c)
+      noted_are =
+          h.made_noted_is ∙ (λ j. are_noted names c (h.rules_is j ++ hypotheses) (arities_are j))
 
-    pub order_are : order ≡ order_of pairs (others parts hypotheses names c)
-    order_are = h.made_order_is ∙ ap (order_of pairs) others_are
+      pub order_are : order ≡ order_of pairs (others parts hypotheses names c)
+      order_are = h.made_order_is ∙ ap (order_of pairs) others_are
 
-    pub component_is : noting noted (first_fit infos pairs anchor_slice lists order) ≡ component parts hypotheses names c pairs
-    component_is = λ j. noting (noted_are j) (first_fit (h.infos_is j) pairs (anchors_are j) (lists_are j) (order_are j))
+      pub component_is : noting noted (first_fit infos pairs anchor_slice lists order) ≡
+          component parts hypotheses names c pairs
+      component_is =
+          λ j. noting (noted_are j) (first_fit (h.infos_is j) pairs (anchors_are j) (lists_are j)
+          (order_are j))
 
-    -- without an order nothing is made
-    pub no_order : order ≡ None → record { made = None; noted = noted } ≡ component parts hypotheses names c pairs
-    no_order none =
-        sym (ap (λ n. record { made = None; noted = n }) (or_no noted))
-        ∙ sym (ap (λ o. noting noted (first_fit infos pairs anchor_slice lists o)) none) ∙ component_is
+      -- without an order nothing is made
+      pub no_order : order ≡ None → record { made = None; noted = noted } ≡
+          component parts hypotheses names c pairs
+      no_order none =
+          sym (ap (λ n. record { made = None; noted = n }) (or_no noted))
+          ∙ sym (ap (λ o. noting noted (first_fit infos pairs anchor_slice lists o)) none) ∙
+          component_is
 
-    -- with one, what comes of the choices
-    pub with_order : (fs : List ℕ) → order ≡ Some fs → (t : Tried (List Pair)) → t ≡ first_fit infos pairs anchor_slice lists (Some fs) → noting noted t ≡ component parts hypotheses names c pairs
-    with_order fs some t is =
-        ap (noting noted) is ∙ sym (ap (λ o. noting noted (first_fit infos pairs anchor_slice lists o)) some) ∙ component_is
+      -- with one, what comes of the choices
+      pub with_order : (fs : List ℕ) → order ≡ Some fs → (t : Tried (List Pair)) → t ≡
+          first_fit infos pairs anchor_slice lists (Some fs) → noting noted t ≡
+          component parts hypotheses names c pairs
+      with_order fs some t is =
+          ap (noting noted) is ∙ sym (ap (λ o. noting noted
+          (first_fit infos pairs anchor_slice lists o)) some) ∙ component_is
 
-    pub fits_component : (fs : List ℕ) → order ≡ Some fs → (made : Option Fit)
-        → IfSome made (IsFirstFit infos pairs anchor_slice fs (take most_choices (products lists))) → IfSome made (IsComponentFit parts hypotheses names c pairs)
-    fits_component fs some None first = tt
-    fits_component fs some (Some fit) first =
-        component_fit fs fit (sym order_are ∙ some)
-        (subst (λ s. IsFirstFit s pairs (anchors parts hypotheses names c) fs (take most_choices (products (candidate_lists names c (parts.rules ++ hypotheses) (arities parts hypotheses names c)))) fit) h.infos_is
-        (subst (λ a. IsFirstFit infos pairs a fs (take most_choices (products (candidate_lists names c (parts.rules ++ hypotheses) (arities parts hypotheses names c)))) fit) anchors_are
-        (subst (λ ls. IsFirstFit infos pairs anchor_slice fs (take most_choices (products ls)) fit) lists_are first)))
+      pub fits_component : (fs : List ℕ) → order ≡ Some fs → (made : Option Fit)
+          → IfSome made (IsFirstFit infos pairs anchor_slice fs
+          (take most_choices (products lists)))
+          → IfSome made (IsComponentFit parts hypotheses names c pairs)
+      fits_component fs some None first = tt
+      fits_component fs some (Some fit) first =
+          component_fit fs fit (sym order_are ∙ some)
+          (subst (λ s. IsFirstFit s pairs (anchors parts hypotheses names c) fs
+          (take most_choices (products (candidate_lists names c (parts.rules ++ hypotheses)
+          (arities parts hypotheses names c)))) fit) h.infos_is
+          (subst (λ a. IsFirstFit infos pairs a fs
+          (take most_choices (products (candidate_lists names c (parts.rules ++ hypotheses)
+          (arities parts hypotheses names c)))) fit) anchors_are
+          (subst (λ ls. IsFirstFit infos pairs anchor_slice fs (take most_choices (products ls))
+          fit)
+          lists_are first)))

@@ -1,4 +1,5 @@
--- A candidate is over the arguments of its anchor, and has no variables but those of the rules' rows.
+-- A candidate is over the arguments of its anchor, and has no variables but those of the rules'
+-- rows.
 use Rattle.std.proofs.Common.{◌≡◌, subst, refl, ℕ, Bool, true, false, cond, Option, Some, None, List, [], ◌∷◌, ◌++◌}
 use Rattle.std.specs.List.{All, cons_option, flat_map, fold, list_any}
 use Rattle.std.specs.Prelude.{nat_lt, negsuc}
@@ -52,51 +53,75 @@ module _ (whole : List Rule) (arity : ℕ) where
 
   by_row_own : (row : Row) → IsOwnCandidate (poly_of row) → All MakesOwn (candidates_by row)
   by_row_own (Ge p) own = one_own (applies p) (same_own p own)
-  by_row_own (Eq p) own = All-cons MakesOwn (applies p) (opposite_tried p ∷ []) (same_own p own) (one_own (opposite_tried p) (opposite_own p own))
-  by_row_own (Ne p) own = All-cons MakesOwn (applies p) (opposite_tried p ∷ []) (same_own p own) (one_own (opposite_tried p) (opposite_own p own))
+  by_row_own (Eq p) own =
+      All-cons MakesOwn (applies p) (opposite_tried p ∷ []) (same_own p own)
+      (one_own (opposite_tried p) (opposite_own p own))
+  by_row_own (Ne p) own =
+      All-cons MakesOwn (applies p) (opposite_tried p ∷ []) (same_own p own)
+      (one_own (opposite_tried p) (opposite_own p own))
 
-  row_own : (row : Row) → ((test : ℕ → Bool) → rules_pass test whole ≡ true → row_passes test row ≡ true) → All MakesOwn (row_candidates arity row)
+  row_own : (row : Row) → ((test : ℕ → Bool) → rules_pass test whole ≡ true → row_passes test row ≡
+      true) → All MakesOwn (row_candidates arity row)
   row_own row own = by (uses_below arity (poly_of row)) refl where
-    by : (b : Bool) → uses_below arity (poly_of row) ≡ b → All MakesOwn (cond b (candidates_by row) [])
+    by : (b : Bool) → uses_below arity (poly_of row) ≡ b →
+        All MakesOwn (cond b (candidates_by row) [])
     by true is = by_row_own row (record { over = is; own_variables = own })
     by false is = All-nil MakesOwn
 
-  rows_own : (rows : List Row) → ((test : ℕ → Bool) → rules_pass test whole ≡ true → rows_pass test rows ≡ true) → All MakesOwn (flat_map (row_candidates arity) rows)
+  rows_own : (rows : List Row) → ((test : ℕ → Bool) → rules_pass test whole ≡ true →
+      rows_pass test rows ≡ true) → All MakesOwn (flat_map (row_candidates arity) rows)
   rows_own [] own = All-nil MakesOwn
   rows_own (row ∷ rows) own =
       All-append MakesOwn (row_candidates arity row) (flat_map (row_candidates arity) rows)
-      (row_own row (λ test h. (and_parts (row_passes test row) (rows_pass test rows) (own test h)).0))
-      (rows_own rows (λ test h. (and_parts (row_passes test row) (rows_pass test rows) (own test h)).1))
+      (row_own row (λ test h. (and_parts (row_passes test row) (rows_pass test rows)
+      (own test h)).0))
+      (rows_own rows (λ test h. (and_parts (row_passes test row) (rows_pass test rows)
+      (own test h)).1))
 
   module _ (names : List ℕ) (c : ℕ) where
-    rules_own : (rules : List Rule) → ((test : ℕ → Bool) → rules_pass test whole ≡ true → rules_pass test rules ≡ true) → All MakesOwn (all_candidates names c rules arity)
+    rules_own : (rules : List Rule) → ((test : ℕ → Bool) → rules_pass test whole ≡ true →
+        rules_pass test rules ≡ true) → All MakesOwn (all_candidates names c rules arity)
     rules_own [] own = All-nil MakesOwn
     rules_own (rule ∷ rules) own =
-        All-append MakesOwn (rule_candidates names c arity rule) (all_candidates names c rules arity)
+        All-append MakesOwn (rule_candidates names c arity rule)
+        (all_candidates names c rules arity)
         (by (is_rule_of names c rule))
-        (rules_own rules (λ test h. (and_parts (rows_pass test rule.rows) (rules_pass test rules) (own test h)).1))
+        (rules_own rules (λ test h. (and_parts (rows_pass test rule.rows) (rules_pass test rules)
+        (own test h)).1))
       where
         by : (b : Bool) → All MakesOwn (cond b (flat_map (row_candidates arity) rule.rows) [])
-        by true = rows_own rule.rows (λ test h. (and_parts (rows_pass test rule.rows) (rules_pass test rules) (own test h)).0)
+        by true =
+            rows_own rule.rows (λ test h. (and_parts (rows_pass test rule.rows)
+            (rules_pass test rules) (own test h)).0)
         by false = All-nil MakesOwn
 
   applying_own : (ts : List (Tried Body)) → All MakesOwn ts → All IsOwnCandidate (applying ts)
   applying_own [] all = All-nil IsOwnCandidate
-  applying_own (t ∷ ts) all = by t.made (All-head MakesOwn t ts all) (applying_own ts (All-tail MakesOwn t ts all)) where
-    by : (o : Option Body) → ((p : Body) → o ≡ Some p → IsOwnCandidate p) → All IsOwnCandidate (applying ts) → All IsOwnCandidate (cons_option o (applying ts))
-    by None own rest = rest
-    by (Some p) own rest = All-cons IsOwnCandidate p (applying ts) (own p refl) rest
+  applying_own (t ∷ ts) all =
+      by t.made (All-head MakesOwn t ts all) (applying_own ts (All-tail MakesOwn t ts all)) where
+        by : (o : Option Body) → ((p : Body) → o ≡ Some p → IsOwnCandidate p) →
+            All IsOwnCandidate (applying ts) → All IsOwnCandidate (cons_option o (applying ts))
+        by None own rest = rest
+        by (Some p) own rest = All-cons IsOwnCandidate p (applying ts) (own p refl) rest
 
-  once_own : (ps done : List Body) → All IsOwnCandidate done → All IsOwnCandidate ps → All IsOwnCandidate (fold with_candidate done ps)
+  once_own : (ps done : List Body) → All IsOwnCandidate done → All IsOwnCandidate ps →
+      All IsOwnCandidate (fold with_candidate done ps)
   once_own [] done own all = own
   once_own (p ∷ ps) done own all =
-      once_own ps (with_candidate done p) (by (list_any (λ q. (body_equal.ghosts).eq q p) done)) (All-tail IsOwnCandidate p ps all) where
+      once_own ps (with_candidate done p) (by (list_any (λ q. (body_equal.ghosts).eq q p) done))
+      (All-tail IsOwnCandidate p ps all) where
         by : (b : Bool) → All IsOwnCandidate (cond b done (done ++ p ∷ []))
         by true = own
-        by false = All-append IsOwnCandidate done (p ∷ []) own (All-cons IsOwnCandidate p [] (All-head IsOwnCandidate p ps all) (All-nil IsOwnCandidate))
+        by false =
+            All-append IsOwnCandidate done (p ∷ []) own
+            (All-cons IsOwnCandidate p [] (All-head IsOwnCandidate p ps all)
+            (All-nil IsOwnCandidate))
 
 -- all candidates are such
-pub candidates_own : (names : List ℕ) (c : ℕ) (rules : List Rule) (arity : ℕ) → All (IsOwnCandidate rules arity) (candidates names c rules arity)
+pub candidates_own : (names : List ℕ) (c : ℕ) (rules : List Rule) (arity : ℕ) →
+    All (IsOwnCandidate rules arity) (candidates names c rules arity)
 candidates_own names c rules arity =
-    once_own rules arity (applying (all_candidates names c rules arity)) [] (All-nil (IsOwnCandidate rules arity))
-    (applying_own rules arity (all_candidates names c rules arity) (rules_own rules arity names c rules (λ test h. h)))
+    once_own rules arity (applying (all_candidates names c rules arity)) []
+    (All-nil (IsOwnCandidate rules arity))
+    (applying_own rules arity (all_candidates names c rules arity)
+    (rules_own rules arity names c rules (λ test h. h)))

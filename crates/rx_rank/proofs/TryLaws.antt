@@ -12,30 +12,39 @@ or_no true = refl
 or_no false = refl
 
 -- what was noted twice
-pub noting_again : {A : Type 0} (a b : Bool) (later : Tried A) → noting (a || b) later ≡ noting a (noting b later)
-noting_again a b later = ap (λ n. record { made = later.made; noted = n }) (or_again a b later.noted)
+pub noting_again : {A : Type 0} (a b : Bool) (later : Tried A) → noting (a || b) later ≡
+    noting a (noting b later)
+noting_again a b later =
+    ap (λ n. record { made = later.made; noted = n }) (or_again a b later.noted)
 
 -- nothing more was noted
-pub noted_alone : {A : Type 0} (made : Option A) (noted : Bool) → noting noted (record { made = made; noted = false }) ≡ record { made = made; noted = noted }
+pub noted_alone : {A : Type 0} (made : Option A) (noted : Bool) →
+    noting noted (record { made = made; noted = false }) ≡ record { made = made; noted = noted }
 noted_alone made noted = ap (λ n. record { made = made; noted = n }) (or_no noted)
 
-module _ {A : Type 0} (noted : Bool) (made : Option A) (more : Bool) (later whole : Tried A) (is : noting noted (made_or made more later) ≡ whole) where
+module _ {A : Type 0} (noted : Bool) (made : Option A) (more : Bool) (later whole : Tried A)
+    (is : noting noted (made_or made more later) ≡ whole) where
   -- the first doesn't apply, and the later ones decide
   pub first_none : made ≡ None → noting (noted || more) later ≡ whole
-  first_none e = noting_again noted more later ∙ ap (λ m. noting noted (made_or m more later)) (sym e) ∙ is
+  first_none e =
+      noting_again noted more later ∙ ap (λ m. noting noted (made_or m more later)) (sym e) ∙ is
 
   -- it does
   pub first_some : (x : A) → made ≡ Some x → record { made = made; noted = noted || more } ≡ whole
-  first_some x e = ap (λ m. record { made = m; noted = noted || more }) e ∙ ap (λ m. noting noted (made_or m more later)) (sym e) ∙ is
+  first_some x e =
+      ap (λ m. record { made = m; noted = noted || more }) e ∙
+      ap (λ m. noting noted (made_or m more later)) (sym e) ∙ is
 
-module _ {A B : Type 0} (noted : Bool) (made : Option A) (more : Bool) (next : A → Tried B) (whole : Tried B) (is : noting noted (made_then made more next) ≡ whole) where
+module _ {A B : Type 0} (noted : Bool) (made : Option A) (more : Bool) (next : A → Tried B)
+    (whole : Tried B) (is : noting noted (made_then made more next) ≡ whole) where
   -- nothing was made, and nothing is tried next
   pub then_none : made ≡ None → record { made = None; noted = noted || more } ≡ whole
   then_none e = ap (λ m. noting noted (made_then m more next)) (sym e) ∙ is
 
   -- what was made leaves it to the next
   pub then_some : (x : A) → made ≡ Some x → noting (noted || more) (next x) ≡ whole
-  then_some x e = noting_again noted more (next x) ∙ ap (λ m. noting noted (made_then m more next)) (sym e) ∙ is
+  then_some x e =
+      noting_again noted more (next x) ∙ ap (λ m. noting noted (made_then m more next)) (sym e) ∙ is
 
 -- something was noted before, or now
 pub either_first : (a b n : Bool) → a ≡ true → n ≡ a → n ≡ (a || b)

@@ -19,29 +19,38 @@ use Rattle.rx_rank.specs.PairTests.{holds}
 use Rattle.rx_rank.specs.Components.{is_member}
 
 -- from a place on
-pub refs_from : {A : Type 0} (refs : List (Bor A)) (i : ℕ) (r : Bor A) → i < length refs → r ≡ get_or refs i r
-    → map (λ (s : Bor A). s.now) (drop i refs) ≡ r.now ∷ map (λ (s : Bor A). s.now) (drop (i + 1) refs)
-refs_from {A} refs i r h is = ap (map (λ (s : Bor A). s.now)) (from_place refs i r (at_some refs i r r h is))
+pub refs_from : {A : Type 0} (refs : List (Bor A)) (i : ℕ) (r : Bor A) → i < length refs → r ≡
+    get_or refs i r
+    → map (λ (s : Bor A). s.now) (drop i refs) ≡ r.now ∷
+    map (λ (s : Bor A). s.now) (drop (i + 1) refs)
+refs_from {A} refs i r h is =
+    ap (map (λ (s : Bor A). s.now)) (from_place refs i r (at_some refs i r r h is))
 
 -- two lists go together, and one more of each
-pub zip_more : {A B : Type 0} (R : A → B → Type 0) (xs : List A) (ys : List B) (x : A) (y : B) → AllZip R xs ys → R x y → AllZip R (xs ++ x ∷ []) (ys ++ y ∷ [])
+pub zip_more : {A B : Type 0} (R : A → B → Type 0) (xs : List A) (ys : List B) (x : A) (y : B) →
+    AllZip R xs ys → R x y → AllZip R (xs ++ x ∷ []) (ys ++ y ∷ [])
 zip_more R [] [] x y all r = (r, all)
 zip_more R [] (z ∷ zs) x y all r = absurd all
 zip_more R (w ∷ ws) [] x y all r = absurd all
 zip_more R (w ∷ ws) (z ∷ zs) x y all r = (all.0, zip_more R ws zs x y all.1 r)
 
 -- where no candidate is left, nothing is given
-pub no_more_choice : (values : List (Option Body)) (fs : List ℕ) (refs : List (Bor Body)) (i : ℕ) → length refs ≤ i
+pub no_more_choice : (values : List (Option Body)) (fs : List ℕ) (refs : List (Bor Body)) (i : ℕ) →
+    length refs ≤ i
     → with_choice values fs (map (λ (s : Bor Body). s.now) (drop i refs)) ≡ values
-no_more_choice values fs refs i h = ap (λ rs. with_choice values fs (map (λ (s : Bor Body). s.now) rs)) (drop_of_length-le refs h) ∙ by fs where
-  by : (gs : List ℕ) → with_choice values gs [] ≡ values
-  by [] = refl
-  by (g ∷ gs) = refl
+no_more_choice values fs refs i h =
+    ap (λ rs. with_choice values fs (map (λ (s : Bor Body). s.now) rs)) (drop_of_length-le refs h) ∙
+    by fs where
+      by : (gs : List ℕ) → with_choice values gs [] ≡ values
+      by [] = refl
+      by (g ∷ gs) = refl
 
 -- the next symbol is of the component, or isn't
 pub next_member : (names : List ℕ) (c i name : ℕ) → i < length names → slice_get names i ≡ Some name
     → filter (is_member names c) (range_with_len i (length names - i))
-    ≡ cond (name == c) (i ∷ filter (is_member names c) (range_with_len (i + 1) (length names - (i + 1)))) (filter (is_member names c) (range_with_len (i + 1) (length names - (i + 1))))
+    ≡ cond (name == c) (i ∷ filter (is_member names c)
+    (range_with_len (i + 1) (length names - (i + 1))))
+    (filter (is_member names c) (range_with_len (i + 1) (length names - (i + 1))))
 next_member names c i name h there =
     let one_more : length names - i ≡ suc (length names - (i + 1)) = omega (arith, h) in
     let rest = filter (is_member names c) (range_with_len (i + 1) (length names - (i + 1))) in
@@ -50,61 +59,80 @@ next_member names c i name h there =
 
 -- none for one symbol more
 pub without_more : (n : ℕ) → without_polynomials (n + 1) ≡ without_polynomials n ++ None ∷ []
-without_more n = let one_more : n + 1 ≡ suc n = omega arith in ap without_polynomials one_more ∙ by n where
-  by : (k : ℕ) → without_polynomials (suc k) ≡ without_polynomials k ++ None ∷ []
-  by zero = refl
-  by (suc k) = ap (λ vs. None ∷ vs) (by k)
+without_more n =
+    let one_more : n + 1 ≡ suc n = omega arith in ap without_polynomials one_more ∙ by n where
+      by : (k : ℕ) → without_polynomials (suc k) ≡ without_polynomials k ++ None ∷ []
+      by zero = refl
+      by (suc k) = ap (λ vs. None ∷ vs) (by k)
 
-module _ (names : List ℕ) (c i name : ℕ) (done whole : List ℕ) (h : i < length names) (there : slice_get names i ≡ Some name)
+module _ (names : List ℕ) (c i name : ℕ) (done whole : List ℕ) (h : i < length names)
+    (there : slice_get names i ≡ Some name)
     (is : done ++ filter (is_member names c) (range_with_len i (length names - i)) ≡ whole) where
   abbrev later_members : List ℕ
   later_members = filter (is_member names c) (range_with_len (i + 1) (length names - (i + 1)))
 
   -- one that isn't of the component is left out
   pub skip_member : (name ≡ c → ⊥) → done ++ later_members ≡ whole
-  skip_member other = sym (ap (λ fs. done ++ fs) (next_member names c i name h there ∙ ap (λ b. cond b (i ∷ later_members) later_members) (ne_eqb name c other))) ∙ is
+  skip_member other =
+      sym (ap (λ fs. done ++ fs) (next_member names c i name h there ∙
+      ap (λ b. cond b (i ∷ later_members) later_members) (ne_eqb name c other))) ∙ is
 
   -- and one that is comes next
-  pub take_member : name ≡ c → (more : List ℕ) (symbol : ℕ) → symbol ≡ i → more ≡ done ++ symbol ∷ [] → more ++ later_members ≡ whole
+  pub take_member : name ≡ c → (more : List ℕ) (symbol : ℕ) → symbol ≡ i → more ≡ done ++ symbol ∷
+      [] → more ++ later_members ≡ whole
   take_member same more symbol number made =
-      ap (λ fs. fs ++ later_members) (made ∙ ap (λ k. done ++ k ∷ []) number) ∙ append_assoc done (i ∷ []) later_members
-      ∙ sym (ap (λ fs. done ++ fs) (next_member names c i name h there ∙ ap (λ b. cond b (i ∷ later_members) later_members) (eq-eqb name c same))) ∙ is
+      ap (λ fs. fs ++ later_members) (made ∙ ap (λ k. done ++ k ∷ []) number) ∙
+      append_assoc done (i ∷ []) later_members
+      ∙ sym (ap (λ fs. done ++ fs) (next_member names c i name h there ∙
+      ap (λ b. cond b (i ∷ later_members) later_members) (eq-eqb name c same))) ∙ is
 
 -- ---- polynomials among others
 
 told_poly : (b : Bool) (p q : Body) → ((b ≡ true) ↔ (q ≡ p)) → body_eq q p ≡ b
 told_poly true p q tells = told_itself q p (tells.0 refl)
-told_poly false p q tells = by_false (body_eq q p) (λ e. let wrong : false ≡ true = tells.1 (told_same q p e) in cc)
+told_poly false p q tells =
+    by_false (body_eq q p) (λ e. let wrong : false ≡ true = tells.1 (told_same q p e) in cc)
 
-pub next_same : (b : Bool) (ps : List Body) (p q : Body) (i : ℕ) → slice_get ps i ≡ Some q → ((b ≡ true) ↔ (q ≡ p))
+pub next_same : (b : Bool) (ps : List Body) (p q : Body) (i : ℕ) → slice_get ps i ≡ Some q →
+    ((b ≡ true) ↔ (q ≡ p))
     → list_any (λ r. body_eq r p) (drop i ps) ≡ (b || list_any (λ r. body_eq r p) (drop (i + 1) ps))
 next_same b ps p q i there tells =
-    ap (list_any (λ r. body_eq r p)) (from_place ps i q there) ∙ ap (λ c. c || list_any (λ r. body_eq r p) (drop (i + 1) ps)) (told_poly b p q tells)
+    ap (list_any (λ r. body_eq r p)) (from_place ps i q there) ∙
+    ap (λ c. c || list_any (λ r. body_eq r p) (drop (i + 1) ps)) (told_poly b p q tells)
 
 -- ---- orders
 
-module _ (total turn : ℕ) (pairs : List Pair) (waiting done : List ℕ) (whole : Option (List ℕ)) (left : turn < total)
+module _ (total turn : ℕ) (pairs : List Pair) (waiting done : List ℕ) (whole : Option (List ℕ))
+    (left : turn < total)
     (is : option_map (λ fs. done ++ fs) (order_by (total - turn) pairs waiting) ≡ whole) where
-  opened_order : option_map (λ fs. done ++ fs) (next_first (find (is_ready pairs waiting) waiting) (λ f. order_by (total - (turn + 1)) pairs (without f waiting))) ≡ whole
+  opened_order : option_map (λ fs. done ++ fs)
+      (next_first (find (is_ready pairs waiting) waiting)
+      (λ f. order_by (total - (turn + 1)) pairs (without f waiting))) ≡ whole
   opened_order =
       let one_more : suc (total - (turn + 1)) ≡ total - turn = omega (arith, left) in
       ap (λ n. option_map (λ fs. done ++ fs) (order_by n pairs waiting)) one_more ∙ is
 
   -- none is ready
   pub order_none : find (is_ready pairs waiting) waiting ≡ None → None ≡ whole
-  order_none none = sym (ap (λ o. option_map (λ fs. done ++ fs) (next_first o (λ f. order_by (total - (turn + 1)) pairs (without f waiting)))) none) ∙ opened_order
+  order_none none =
+      sym (ap (λ o. option_map (λ fs. done ++ fs)
+      (next_first o (λ f. order_by (total - (turn + 1)) pairs (without f waiting)))) none) ∙
+      opened_order
 
   -- the first that is comes next
-  pub order_next : (f : ℕ) → find (is_ready pairs waiting) waiting ≡ Some f → (more later : List ℕ) → more ≡ done ++ f ∷ [] → later ≡ without f waiting
+  pub order_next : (f : ℕ) → find (is_ready pairs waiting) waiting ≡ Some f →
+      (more later : List ℕ) → more ≡ done ++ f ∷ [] → later ≡ without f waiting
       → option_map (λ fs. more ++ fs) (order_by (total - (turn + 1)) pairs later) ≡ whole
   order_next f ready more later made rest =
       let k = total - (turn + 1) in
       (λ j. option_map (λ fs. made j ++ fs) (order_by k pairs (rest j)))
       ∙ joined (order_by k pairs (without f waiting))
-      ∙ ap (λ o. option_map (λ fs. done ++ fs) (next_first o (λ g. order_by k pairs (without g waiting)))) (sym ready)
+      ∙ ap (λ o. option_map (λ fs. done ++ fs)
+      (next_first o (λ g. order_by k pairs (without g waiting)))) (sym ready)
       ∙ opened_order
     where
-      joined : (o : Option (List ℕ)) → option_map (λ fs. (done ++ f ∷ []) ++ fs) o ≡ option_map (λ fs. done ++ fs) (option_map (λ fs. f ∷ fs) o)
+      joined : (o : Option (List ℕ)) → option_map (λ fs. (done ++ f ∷ []) ++ fs) o ≡
+          option_map (λ fs. done ++ fs) (option_map (λ fs. f ∷ fs) o)
       joined None = refl
       joined (Some fs) = ap Some (append_assoc done (f ∷ []) fs)
 
@@ -121,76 +149,115 @@ goes_on No later e = cc
 goes_on Beyond later e = cc
 
 -- one pair more, with a polynomial for its symbol
-pub next_with : (values : List (Option Body)) (p : Body) (refs : List (Bor Pair)) (i : ℕ) (r : Bor Pair) → i < length refs → r ≡ get_or refs i r
+pub next_with : (values : List (Option Body)) (p : Body) (refs : List (Bor Pair)) (i : ℕ)
+    (r : Bor Pair) → i < length refs → r ≡ get_or refs i r
     → (s : Said) → s ≡ tested (holds r.now) (Some p) (polynomial_of values r.now.right.0)
-    → hold_with values p (pairs_at (drop i refs)) ≡ both s (hold_with values p (pairs_at (drop (i + 1) refs)))
+    → hold_with values p (pairs_at (drop i refs)) ≡
+    both s (hold_with values p (pairs_at (drop (i + 1) refs)))
 next_with values p refs i r h is s found =
-    ap (hold_with values p) (refs_from refs i r h is) ∙ ap (λ t. both t (hold_with values p (pairs_at (drop (i + 1) refs)))) (sym found)
+    ap (hold_with values p) (refs_from refs i r h is) ∙
+    ap (λ t. both t (hold_with values p (pairs_at (drop (i + 1) refs)))) (sym found)
 
 -- one pair more, with the polynomials of its symbols
-pub next_hold : (values : List (Option Body)) (refs : List (Bor Pair)) (i : ℕ) (r : Bor Pair) → i < length refs → r ≡ get_or refs i r
-    → (s : Said) → holds_by values r.now ≡ s → all_hold values (pairs_at (drop i refs)) ≡ both s (all_hold values (pairs_at (drop (i + 1) refs)))
+pub next_hold : (values : List (Option Body)) (refs : List (Bor Pair)) (i : ℕ) (r : Bor Pair) → i <
+    length refs → r ≡ get_or refs i r
+    → (s : Said) → holds_by values r.now ≡ s → all_hold values (pairs_at (drop i refs)) ≡
+    both s (all_hold values (pairs_at (drop (i + 1) refs)))
 next_hold values refs i r h is s found =
-    ap (all_hold values) (refs_from refs i r h is) ∙ ap (λ t. both t (all_hold values (pairs_at (drop (i + 1) refs)))) found
+    ap (all_hold values) (refs_from refs i r h is) ∙
+    ap (λ t. both t (all_hold values (pairs_at (drop (i + 1) refs)))) found
 
 -- ---- fits
 
-module _ {A : Type 0} (made : Option A) (noted : Bool) (s : Said) (is : record { made = option_map {U = Unit {0}} (λ x. tt) made; noted = noted } ≡ only_shown s) where
-  -- certificates are made where it is shown
-  pub made_yes : (x : A) → made ≡ Some x → s ≡ Yes
-  made_yes x e = by s is where
-    by : (t : Said) → record { made = option_map {U = Unit {0}} (λ x. tt) made; noted = noted } ≡ only_shown t → t ≡ Yes
-    by Yes f = refl
-    by No f = let none = ap (λ (t : Tried (Unit {0})). t.made) f in let some = ap (option_map {U = Unit {0}} (λ x. tt)) e in cc
-    by Beyond f = let none = ap (λ (t : Tried (Unit {0})). t.made) f in let some = ap (option_map {U = Unit {0}} (λ x. tt)) e in cc
+module _ {A : Type 0} (made : Option A) (noted : Bool) (s : Said)
+    (is : record { made = option_map {U = Unit {0}} (λ x. tt) made; noted = noted } ≡ only_shown s)
+  where
+    -- certificates are made where it is shown
+    pub made_yes : (x : A) → made ≡ Some x → s ≡ Yes
+    made_yes x e = by s is where
+      by : (t : Said) → record { made = option_map {U = Unit {0}} (λ x. tt) made; noted = noted } ≡
+          only_shown t → t ≡ Yes
+      by Yes f = refl
+      by No f =
+          let none = ap (λ (t : Tried (Unit {0})). t.made) f in let some =
+          ap (option_map {U = Unit {0}} (λ x. tt)) e in cc
+      by Beyond f =
+          let none = ap (λ (t : Tried (Unit {0})). t.made) f in let some =
+          ap (option_map {U = Unit {0}} (λ x. tt)) e in cc
 
-  -- where none are, the whole isn't shown either
-  pub made_not : (later : Said) → made ≡ None → record { made = None; noted = noted } ≡ only_shown (both s later)
-  made_not later e = by s is where
-    by : (t : Said) → record { made = option_map {U = Unit {0}} (λ x. tt) made; noted = noted } ≡ only_shown t → record { made = None; noted = noted } ≡ only_shown (both t later)
-    by Yes f = let none = ap (λ (t : Tried (Unit {0})). t.made) f in let some = ap (option_map {U = Unit {0}} (λ x. tt)) e in cc
-    by No f = ap (λ n. record { made = None; noted = n }) (ap (λ (t : Tried (Unit {0})). t.noted) f)
-    by Beyond f = ap (λ n. record { made = None; noted = n }) (ap (λ (t : Tried (Unit {0})). t.noted) f)
+    -- where none are, the whole isn't shown either
+    pub made_not : (later : Said) → made ≡ None → record { made = None; noted = noted } ≡
+        only_shown (both s later)
+    made_not later e = by s is where
+      by : (t : Said) → record { made = option_map {U = Unit {0}} (λ x. tt) made; noted = noted } ≡
+          only_shown t → record { made = None; noted = noted } ≡ only_shown (both t later)
+      by Yes f =
+          let none = ap (λ (t : Tried (Unit {0})). t.made) f in let some =
+          ap (option_map {U = Unit {0}} (λ x. tt)) e in cc
+      by No f =
+          ap (λ n. record { made = None; noted = n }) (ap (λ (t : Tried (Unit {0})). t.noted) f)
+      by Beyond f =
+          ap (λ n. record { made = None; noted = n }) (ap (λ (t : Tried (Unit {0})). t.noted) f)
 
 -- up to a place
-pub refs_until : {A : Type 0} (refs : List (Bor A)) (i : ℕ) (r : Bor A) → i < length refs → r ≡ get_or refs i r
-    → map (λ (s : Bor A). s.now) (take (i + 1) refs) ≡ map (λ (s : Bor A). s.now) (take i refs) ++ r.now ∷ []
+pub refs_until : {A : Type 0} (refs : List (Bor A)) (i : ℕ) (r : Bor A) → i < length refs → r ≡
+    get_or refs i r
+    → map (λ (s : Bor A). s.now) (take (i + 1) refs) ≡ map (λ (s : Bor A). s.now) (take i refs) ++
+    r.now ∷ []
 refs_until {A} refs i r h is =
-    ap (map (λ (s : Bor A). s.now)) (take_more refs i r h ∙ ap (λ x. take i refs ++ x ∷ []) (sym is)) ∙ map-append (λ (s : Bor A). s.now) (take i refs) (r ∷ [])
+    ap (map (λ (s : Bor A). s.now)) (take_more refs i r h ∙
+    ap (λ x. take i refs ++ x ∷ []) (sym is)) ∙
+    map-append (λ (s : Bor A). s.now) (take i refs) (r ∷ [])
 
 module _ (values : List (Option Body)) where
   -- the pairs without certificates are those that don't fall
-  pub still_is : (pairs : List Pair) (decided : List (Option (List Cert))) → AllZip (IsDecided values) pairs decided → still_open pairs decided ≡ not_falling values pairs
+  pub still_is : (pairs : List Pair) (decided : List (Option (List Cert))) →
+      AllZip (IsDecided values) pairs decided → still_open pairs decided ≡ not_falling values pairs
   still_is [] [] all = refl
   still_is [] (d ∷ ds) all = absurd all
   still_is (pair ∷ pairs) [] all = absurd all
   still_is (pair ∷ pairs) (None ∷ ds) all =
-      ap (λ ps. pair ∷ ps) (still_is pairs ds all.1) ∙ sym (ap (λ b. cond (not b) (pair ∷ not_falling values pairs) (not_falling values pairs)) all.0)
+      ap (λ ps. pair ∷ ps) (still_is pairs ds all.1) ∙
+      sym (ap (λ b. cond (not b) (pair ∷ not_falling values pairs) (not_falling values pairs))
+      all.0)
   still_is (pair ∷ pairs) (Some certs ∷ ds) all =
-      still_is pairs ds all.1 ∙ sym (ap (λ s. cond (not (is_yes s)) (pair ∷ not_falling values pairs) (not_falling values pairs)) all.0.0)
+      still_is pairs ds all.1 ∙ sym (ap (λ s.
+      cond (not (is_yes s)) (pair ∷ not_falling values pairs) (not_falling values pairs))
+      all.0.0)
 
   -- and there are some exactly where one falls
-  pub some_is : (pairs : List Pair) (decided : List (Option (List Cert))) → AllZip (IsDecided values) pairs decided
+  pub some_is : (pairs : List Pair) (decided : List (Option (List Cert))) →
+      AllZip (IsDecided values) pairs decided
       → list_any is_some decided ≡ list_any (λ pair. is_yes (falls_by values pair)) pairs
   some_is [] [] all = refl
   some_is [] (d ∷ ds) all = absurd all
   some_is (pair ∷ pairs) [] all = absurd all
-  some_is (pair ∷ pairs) (None ∷ ds) all = some_is pairs ds all.1 ∙ sym (ap (λ b. b || list_any (λ q. is_yes (falls_by values q)) pairs) all.0)
-  some_is (pair ∷ pairs) (Some certs ∷ ds) all = sym (ap (λ s. is_yes s || list_any (λ q. is_yes (falls_by values q)) pairs) all.0.0)
+  some_is (pair ∷ pairs) (None ∷ ds) all =
+      some_is pairs ds all.1 ∙ sym (ap (λ b. b || list_any (λ q. is_yes (falls_by values q)) pairs)
+      all.0)
+  some_is (pair ∷ pairs) (Some certs ∷ ds) all =
+      sym (ap (λ s. is_yes s || list_any (λ q. is_yes (falls_by values q)) pairs) all.0.0)
 
-  module _ (pairs : List Pair) (decided : List (Option (List Cert))) (noted : Bool) (all : AllZip (IsDecided values) pairs decided)
+  module _ (pairs : List Pair) (decided : List (Option (List Cert))) (noted : Bool)
+      (all : AllZip (IsDecided values) pairs decided)
       (same : noted ≡ list_any (λ pair. is_beyond (falls_by values pair)) pairs) where
     -- what comes of that where none falls, and where one does
-    pub none_falls : list_any is_some decided ≡ false → record { made = None; noted = noted } ≡ falling values pairs
+    pub none_falls : list_any is_some decided ≡ false → record { made = None; noted = noted } ≡
+        falling values pairs
     none_falls none = λ j. record {
-      made = cond (sym (sym (some_is pairs decided all) ∙ none) j) (Some (not_falling values pairs)) None;
+      made =
+          cond (sym (sym (some_is pairs decided all) ∙ none) j) (Some (not_falling values pairs))
+          None;
       noted = same j;
     }
 
-    pub one_falls : list_any is_some decided ≡ true → record { made = Some (still_open pairs decided); noted = noted } ≡ falling values pairs
+    pub one_falls : list_any is_some decided ≡ true →
+        record { made = Some (still_open pairs decided); noted = noted } ≡ falling values pairs
     one_falls some =
         (λ j. record { made = Some (still_is pairs decided all j); noted = same j })
         ∙ (λ j. record {
-          made = cond (sym (sym (some_is pairs decided all) ∙ some) j) (Some (not_falling values pairs)) None;
+          made =
+              cond (sym (sym (some_is pairs decided all) ∙ some) j)
+              (Some (not_falling values pairs)) None;
           noted = list_any (λ pair. is_beyond (falls_by values pair)) pairs;
         })

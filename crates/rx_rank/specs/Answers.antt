@@ -74,7 +74,8 @@ polys_at refs = map (λ (r : Bor Body). r.now) refs
 
 -- ---- candidates
 
--- the polynomials with those that are made, each unless it is one of them, and whether one passes the limits
+-- the polynomials with those that are made, each unless it is one of them, and whether one passes
+-- the limits
 pub record Gathers (tries : List (Tried Body)) (before after : List Body) (noted : Bool) : Type 0
   where
     pub polys : after ≡ fold with_candidate before (applying tries)
@@ -164,8 +165,8 @@ pair_passes test pair =
     rows_pass test pair.phi && (list_all (passes test) pair.left_args &&
     list_all (passes test) pair.right_args)
 
--- the polynomial is of a symbol of the component, over its arguments, with no variables but those of the rules' rows
--- and of the pairs
+-- the polynomial is of a symbol of the component, over its arguments, with no variables but those
+-- of the rules' rows and of the pairs
 pub record IsOwn (parts : RuleParts) (hypotheses : List Rule) (names : List ℕ) (c : ℕ)
     (pairs : List Pair) (f : ℕ) (p : Body) : Type 0 where
   pub member : is_member names c f ≡ true

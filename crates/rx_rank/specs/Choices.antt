@@ -1,5 +1,6 @@
--- What comes of a choice of candidates for the anchors of a component: the other symbols get their polynomials from
--- those that their pairs lead to. The choice is fit where all pairs hold and one falls; those that don't fall stay open.
+-- What comes of a choice of candidates for the anchors of a component: the other symbols get their
+-- polynomials from those that their pairs lead to. The choice is fit where all pairs hold and one
+-- falls; those that don't fall stay open.
 use Rattle.std.specs.Prelude.{ℕ, zero, suc, ◌==◌, Bool, true, false, not, if◌then◌else◌, Option, Some, None, List, [], ◌∷◌, length, map, slice_get, slice_set, option_and_then}
 use Rattle.std.specs.List.{filter, find, flat_map, list_all, list_any}
 use Rattle.std.specs.Option.{option_map}
@@ -65,7 +66,8 @@ is_ready pairs waiting f =
 abbrev pub without : ℕ → List ℕ → List ℕ
 without f fs = filter (λ g. not (g == f)) fs
 
--- each symbol after those that its pairs lead to, otherwise by number; there is no such order where one reaches itself
+-- each symbol after those that its pairs lead to, otherwise by number; there is no such order where
+-- one reaches itself
 abbrev pub next_first : Option ℕ → (ℕ → Option (List ℕ)) → Option (List ℕ)
 next_first None rest = None
 next_first (Some f) rest = option_map (λ fs. f ∷ fs) (rest f)

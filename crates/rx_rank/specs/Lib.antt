@@ -1,4 +1,5 @@
--- Which rank tables the ranking finds: for each component of the graph of pairs the first fit choice of polynomials.
+-- Which rank tables the ranking finds: for each component of the graph of pairs the first fit
+-- choice of polynomials.
 pub mod Answers
 pub mod Candidates
 pub mod Choices

@@ -1,5 +1,5 @@
--- Whether a column holds at a pair, or falls there, with its polynomials for the left and for the right symbol, as the
--- refuter shows it. Each instance is formed when it is asked for.
+-- Whether a column holds at a pair, or falls there, with its polynomials for the left and for the
+-- right symbol, as the refuter shows it. Each instance is formed when it is asked for.
 use Rattle.rx_plain.specs.Formed.{Formed, ◌>>=◌, ◌<$>◌}
 use Rattle.rx_poly.specs.declared.body.Body.{Body}
 use Rattle.rx_row.specs.declared.row.Row.{Row}
@@ -19,7 +19,8 @@ abbrev pub holds : Pair → Body → Body → Said
 holds pair p q =
     within (holds_rows pair p q).within (all_shown refuted pair.phi (holds_rows pair p q).form)
 
--- l >= 0 for the left instance l, and then l - r - 1 >= 0 for the right instance r, which is formed only then
+-- l >= 0 for the left instance l, and then l - r - 1 >= 0 for the right instance r, which is formed
+-- only then
 abbrev pub not_negative : Pair → Body → Formed Row
 not_negative pair p = Ge <$> at_left pair p
 

@@ -1,6 +1,7 @@
--- The ranking: up to seven rounds, each of a column of heights and a column of polynomials, and a last column of
--- heights. By heights the pairs between components of the graph of open pairs fall and are closed. For polynomials each
--- component with an open pair takes its first fit choice, and the pairs that fall are closed.
+-- The ranking: up to seven rounds, each of a column of heights and a column of polynomials, and a
+-- last column of heights. By heights the pairs between components of the graph of open pairs fall
+-- and are closed. For polynomials each component with an open pair takes its first fit choice, and
+-- the pairs that fall are closed.
 use Rattle.std.specs.Prelude.{ℕ, zero, suc, not, Option, Some, None, List, [], ◌∷◌, ◌++◌, length, map, take}
 use Rattle.std.specs.List.{filter}
 use Rattle.rx_poly.specs.declared.body.Body.{Body}
@@ -20,7 +21,8 @@ use Rattle.rx_rank.specs.Tries.{all_made, and_then, noting, tried_said}
 abbrev pub most_choices : ℕ
 most_choices = 4096
 
--- the first choice that is fit, in lexicographic order; none is tried where the other symbols have no order
+-- the first choice that is fit, in lexicographic order; none is tried where the other symbols have
+-- no order
 abbrev pub first_fit : List SymInfo → List Pair → List ℕ → List (List Body) → Option (List ℕ) →
     Tried (List Pair)
 first_fit infos pairs anchors lists None = fails
@@ -66,7 +68,8 @@ module _ (parts : RuleParts) (hypotheses : List Rule) where
   unless_closed [] next = applies tt
   unless_closed (pair ∷ pairs) next = next
 
-  -- a column of heights, where none is open then the end, and otherwise a column of polynomials; so many rounds are left
+  -- a column of heights, where none is open then the end, and otherwise a column of polynomials; so
+  -- many rounds are left
   unfoldable pub ranking_from : ℕ → List Pair → Tried (Unit {0})
   ranking_from zero pairs = unless_closed (inside (length parts.symbols) pairs) fails
   ranking_from (suc n) pairs =
@@ -77,6 +80,7 @@ module _ (parts : RuleParts) (hypotheses : List Rule) where
   abbrev pub ranking : Tried (Unit {0})
   ranking = ranking_from 7 (pairs_by_all (parts.rules ++ hypotheses))
 
-  -- there is one; or there is none and nothing passed the limits; or there is none and something did
+  -- there is one; or there is none and nothing passed the limits; or there is none and something
+  -- did
   abbrev pub ranked : Said
   ranked = tried_said ranking

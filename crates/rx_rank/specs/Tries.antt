@@ -9,7 +9,8 @@ use Rattle.rx_solve.specs.Attempts.{Tried, applies, beyond, fails}
 abbrev pub noting : {A : Type 0} → Bool → Tried A → Tried A
 noting before t = record { made = t.made; noted = before || t.noted }
 
--- what is tried next with what was made, and with what was noted before; nothing is where nothing was made
+-- what is tried next with what was made, and with what was noted before; nothing is where nothing
+-- was made
 abbrev pub made_then : {A B : Type 0} → Option A → Bool → (A → Tried B) → Tried B
 made_then None noted next = record { made = None; noted = noted }
 made_then (Some x) noted next = noting noted (next x)

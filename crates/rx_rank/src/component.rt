@@ -20,8 +20,8 @@ use rx_term::{Rule, RuleParts};
 use std::alloc::Global;
 
 /// The first fit choice of the component with that name, whose pairs these are: the polynomials of
-/// its symbols, with the certificates by which all pairs hold and some fall. All candidates are made
-/// first.
+/// its symbols, with the certificates by which all pairs hold and some fall. All candidates are
+/// made first.
 pub fn fit_component<S: FnMut(&Constraint) -> Result<Option<Cert>, FmEnd>>(
     alloc: Global,
     parts: &RuleParts,

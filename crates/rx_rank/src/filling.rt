@@ -1,4 +1,5 @@
-//! The polynomials of the symbols that are no anchors: each takes one from those that its pairs lead to.
+//! The polynomials of the symbols that are no anchors: each takes one from those that its pairs
+//! lead to.
 ghost use Rattle.std.specs.Prelude.{◌≡◌, IfOk, Some};
 ghost use Rattle.rx_rank.specs.Answers.{found, pairs_at, tried, tried_as};
 ghost use Rattle.rx_rank.specs.Candidates.{arity_of};
@@ -62,8 +63,8 @@ fn all_hold_with<S: FnMut(&Constraint) -> Result<Option<Cert>, FmEnd>>(
     Ok(Finding::Shown)
 }
 
-/// The polynomial for a symbol with that many arguments and these pairs, where it serves: it is over
-/// these arguments, and a column holds at all of them with it.
+/// The polynomial for a symbol with that many arguments and these pairs, where it serves: it is
+/// over these arguments, and a column holds at all of them with it.
 fn serving<S: FnMut(&Constraint) -> Result<Option<Cert>, FmEnd>>(
     alloc: Global,
     arity: u32,

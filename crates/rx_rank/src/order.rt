@@ -75,8 +75,8 @@ fn without(alloc: Global, symbols: &[u32], symbol: u32) -> Result<Vec<u32>, NoMe
     Ok(others)
 }
 
-/// The symbols, each after those that its pairs lead to, otherwise by number. None where there is no
-/// such order, as one reaches itself.
+/// The symbols, each after those that its pairs lead to, otherwise by number. None where there is
+/// no such order, as one reaches itself.
 pub(crate) fn order_of(
     alloc: Global,
     pairs: &[&Pair],

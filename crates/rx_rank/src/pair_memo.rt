@@ -1,6 +1,6 @@
 //! What was found out of pairs: a test of a pair by two polynomials is made once, and where it is
-//! asked for again its answer is copied. Each answer that is kept is right, whichever solver gave it,
-//! since what is said of a test doesn't depend on the solver.
+//! asked for again its answer is copied. Each answer that is kept is right, whichever solver gave
+//! it, since what is said of a test doesn't depend on the solver.
 ghost use Rattle.std.specs.Prelude.{◌≡◌, ◌↔◌, All, IfOk, IfSome, IsTrue, option_copied};
 ghost use Rattle.rx_rank.specs.Answers.{IsTold, found};
 ghost use Rattle.rx_rank.specs.Memo.{AreRight, AreRightPairs, HasPair, IsRight, Tells, said_of};

@@ -83,7 +83,8 @@ fn less_row(alloc: Global, pair: &Pair, here: &Poly, right: &Poly) -> Result<Row
     Ok(Row::Ge(less))
 }
 
-/// The rest of the test, where the left instance is shown to be at least 0, with those certificates.
+/// The rest of the test, where the left instance is shown to be at least 0, with those
+/// certificates.
 fn try_less<S: FnMut(&Constraint) -> Result<Option<Cert>, FmEnd>>(
     alloc: Global,
     pair: &Pair,

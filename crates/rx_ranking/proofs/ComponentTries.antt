@@ -20,76 +20,106 @@ use Rattle.rx_ranking.specs.declared.open_pair.OpenPair.{OpenPair}
 -- ---- one component more
 
 module _ {A : Type 0} (noted : Bool) (done : List A) (whole : Tried (List A)) where
-  after_twice : (xs : List A) (o : Option (List A)) → option_map (λ ys. (done ++ xs) ++ ys) o ≡ option_map (λ ys. done ++ ys) (option_map (λ ys. xs ++ ys) o)
+  after_twice : (xs : List A) (o : Option (List A)) → option_map (λ ys. (done ++ xs) ++ ys) o ≡
+      option_map (λ ys. done ++ ys) (option_map (λ ys. xs ++ ys) o)
   after_twice xs None = refl
   after_twice xs (Some ys) = ap Some (append_assoc done xs ys)
 
-  made_next : (m : Option (List A)) (k : Bool) (rest : Tried (List A)) → noting noted (after done (made_then m k (λ xs. after xs rest))) ≡ whole
-      → (more : List A) (n : Bool) → record { made = Some more; noted = n } ≡ after done (record { made = m; noted = k }) → noting (noted || n) (after more rest) ≡ whole
+  made_next : (m : Option (List A)) (k : Bool) (rest : Tried (List A)) →
+      noting noted (after done (made_then m k (λ xs. after xs rest))) ≡ whole
+      → (more : List A) (n : Bool) → record { made = Some more; noted = n } ≡
+      after done (record { made = m; noted = k }) → noting (noted || n) (after more rest) ≡
+      whole
   made_next None k rest is more n e = let wrong = ap (λ (t : Tried (List A)). t.made) e in cc
   made_next (Some xs) k rest is more n e =
       let made : Some more ≡ Some (done ++ xs) = ap (λ (t : Tried (List A)). t.made) e in
       let same : more ≡ done ++ xs = cc in
       let also : n ≡ k = ap (λ (t : Tried (List A)). t.noted) e in
-      (λ i. record { made = option_map (λ ys. same i ++ ys) rest.made; noted = (noted || also i) || rest.noted })
+      (λ i. record {
+        made = option_map (λ ys. same i ++ ys) rest.made;
+        noted = (noted || also i) ||
+            rest.noted;
+      })
       ∙ (λ i. record { made = after_twice xs rest.made i; noted = or_again noted k rest.noted i })
       ∙ is
 
-  none_next : (m : Option (List A)) (k : Bool) (rest : Tried (List A)) → noting noted (after done (made_then m k (λ xs. after xs rest))) ≡ whole
-      → (n : Bool) → record { made = None; noted = n } ≡ after done (record { made = m; noted = k }) → record { made = None; noted = noted || n } ≡ whole
-  none_next None k rest is n e = (λ i. record { made = None; noted = noted || ap (λ (t : Tried (List A)). t.noted) e i }) ∙ is
+  none_next : (m : Option (List A)) (k : Bool) (rest : Tried (List A)) →
+      noting noted (after done (made_then m k (λ xs. after xs rest))) ≡ whole
+      → (n : Bool) → record { made = None; noted = n } ≡
+      after done (record { made = m; noted = k }) → record { made = None; noted = noted || n } ≡
+      whole
+  none_next None k rest is n e =
+      (λ i. record { made = None; noted = noted || ap (λ (t : Tried (List A)). t.noted) e i }) ∙ is
   none_next (Some xs) k rest is n e = let wrong = ap (λ (t : Tried (List A)). t.made) e in cc
 
-  module _ (first : Tried (List A)) (tries : List (Tried (List A))) (is : noting noted (after done (all_made (first ∷ tries))) ≡ whole) where
+  module _ (first : Tried (List A)) (tries : List (Tried (List A)))
+      (is : noting noted (after done (all_made (first ∷ tries))) ≡ whole) where
     -- it makes something
-    pub component_made : (more : List A) (n : Bool) → record { made = Some more; noted = n } ≡ after done first → noting (noted || n) (after more (all_made tries)) ≡ whole
+    pub component_made : (more : List A) (n : Bool) → record { made = Some more; noted = n } ≡
+        after done first → noting (noted || n) (after more (all_made tries)) ≡ whole
     component_made = made_next first.made first.noted (all_made tries) is
 
     -- it doesn't
-    pub component_failed : (n : Bool) → record { made = None; noted = n } ≡ after done first → record { made = None; noted = noted || n } ≡ whole
+    pub component_failed : (n : Bool) → record { made = None; noted = n } ≡ after done first →
+        record { made = None; noted = noted || n } ≡ whole
     component_failed = none_next first.made first.noted (all_made tries) is
 
   -- no component is left
-  pub no_component : noting noted (after done (all_made [])) ≡ whole → record { made = Some done; noted = noted } ≡ whole
-  no_component is = (λ i. record { made = Some (sym (append-nil done) i); noted = sym (or_no noted) i }) ∙ is
+  pub no_component : noting noted (after done (all_made [])) ≡ whole →
+      record { made = Some done; noted = noted } ≡ whole
+  no_component is =
+      (λ i. record { made = Some (sym (append-nil done) i); noted = sym (or_no noted) i }) ∙ is
 
 -- ---- groups in memory
 
 abbrev pub items_of : Vec OpenPair Global → List OpenPair
 items_of v = v.items
 
-module _ (groups : List (Vec OpenPair Global)) (i : ℕ) (group : Vec OpenPair Global) (there : i < length groups) (is : group ≡ get_or groups i group) where
+module _ (groups : List (Vec OpenPair Global)) (i : ℕ) (group : Vec OpenPair Global)
+    (there : i < length groups) (is : group ≡ get_or groups i group) where
   -- the groups from a place on, and up to a place
   pub groups_after : groups_in (drop i groups) ≡ group.items ∷ groups_in (drop (i + 1) groups)
   groups_after = ap groups_in (from_place groups i group (at_some groups i group group there is))
 
-  pub pairs_until : pairs_open (ungrouped (groups_in (take (i + 1) groups))) ≡ pairs_open (ungrouped (groups_in (take i groups))) ++ pairs_open group.items
+  pub pairs_until : pairs_open (ungrouped (groups_in (take (i + 1) groups))) ≡
+      pairs_open (ungrouped (groups_in (take i groups))) ++ pairs_open group.items
   pairs_until =
       let past = take i groups in
-      ap (λ gs. pairs_open (ungrouped (groups_in gs))) (take_more groups i group there ∙ ap (λ g. past ++ g ∷ []) (sym is))
+      ap (λ gs. pairs_open (ungrouped (groups_in gs)))
+      (take_more groups i group there ∙ ap (λ g. past ++ g ∷ []) (sym is))
       ∙ ap (λ gs. pairs_open (ungrouped gs)) (map-append items_of past (group ∷ []))
-      ∙ ap pairs_open (flat_map-append (λ g. g) (groups_in past) (group.items ∷ []) ∙ ap (λ os. ungrouped (groups_in past) ++ os) (append-nil group.items))
+      ∙ ap pairs_open (flat_map-append (λ g. g) (groups_in past) (group.items ∷ []) ∙
+      ap (λ os. ungrouped (groups_in past) ++ os) (append-nil group.items))
       ∙ map-append (λ (o : OpenPair). o.pair) (ungrouped (groups_in past)) group.items
 
 -- ---- the components of the definition
 
-module _ (parts : RuleParts) (hypotheses : List Rule) (names : List ℕ) (entries : List OpenPair) where
-  pairs_one : (c : ℕ) (o : OpenPair) (os : List OpenPair) (b : Bool) → pairs_open (entries_in names os c) ≡ pairs_in names c (pairs_open os)
-      → pairs_open (cond b (o ∷ entries_in names os c) (entries_in names os c)) ≡ cond b (o.pair ∷ pairs_in names c (pairs_open os)) (pairs_in names c (pairs_open os))
-  pairs_one c o os true rest = ap (λ ps. o.pair ∷ ps) rest
-  pairs_one c o os false rest = rest
+module _ (parts : RuleParts) (hypotheses : List Rule) (names : List ℕ) (entries : List OpenPair)
+  where
+    pairs_one : (c : ℕ) (o : OpenPair) (os : List OpenPair) (b : Bool) →
+        pairs_open (entries_in names os c) ≡ pairs_in names c (pairs_open os)
+        → pairs_open (cond b (o ∷ entries_in names os c) (entries_in names os c)) ≡
+        cond b (o.pair ∷ pairs_in names c (pairs_open os)) (pairs_in names c (pairs_open os))
+    pairs_one c o os true rest = ap (λ ps. o.pair ∷ ps) rest
+    pairs_one c o os false rest = rest
 
-  pairs_same : (c : ℕ) (os : List OpenPair) → pairs_open (entries_in names os c) ≡ pairs_in names c (pairs_open os)
-  pairs_same c [] = refl
-  pairs_same c (o ∷ os) = pairs_one c o os (is_member names c o.pair.left.0) (pairs_same c os)
+    pairs_same : (c : ℕ) (os : List OpenPair) → pairs_open (entries_in names os c) ≡
+        pairs_in names c (pairs_open os)
+    pairs_same c [] = refl
+    pairs_same c (o ∷ os) = pairs_one c o os (is_member names c o.pair.left.0) (pairs_same c os)
 
-  tries_same : (a n : ℕ) → tries_from parts hypotheses names a (map (entries_in names entries) (range_with_len a n))
-      ≡ map (tried_in parts hypotheses names (pairs_open entries)) (range_with_len a n)
-  tries_same a zero = refl
-  tries_same a (suc n) = λ i. unless_empty parts hypotheses names a (pairs_same a entries i) ∷ tries_same (a + 1) n i
+    tries_same : (a n : ℕ) → tries_from parts hypotheses names a
+        (map (entries_in names entries) (range_with_len a n))
+        ≡ map (tried_in parts hypotheses names (pairs_open entries)) (range_with_len a n)
+    tries_same a zero = refl
+    tries_same a (suc n) =
+        λ i. unless_empty parts hypotheses names a (pairs_same a entries i) ∷ tries_same (a + 1) n i
 
-  pub all_tries : names ≡ names_of (length parts.symbols) (pairs_open entries) → length names ≡ length parts.symbols
-      → all_made (tries_from parts hypotheses names 0 (by_component names entries)) ≡ polynomials parts hypotheses (pairs_open entries)
-  all_tries found count =
-      ap all_made (tries_same 0 (length names))
-      ∙ (λ i. all_made (map (tried_in parts hypotheses (found i) (pairs_open entries)) (symbols_of (count i))))
+    pub all_tries : names ≡ names_of (length parts.symbols) (pairs_open entries) → length names ≡
+        length parts.symbols
+        → all_made (tries_from parts hypotheses names 0 (by_component names entries)) ≡
+        polynomials parts hypotheses (pairs_open entries)
+    all_tries found count =
+        ap all_made (tries_same 0 (length names))
+        ∙ (λ i. all_made (map (tried_in parts hypotheses (found i) (pairs_open entries))
+        (symbols_of (count i))))

@@ -20,14 +20,18 @@ use Rattle.rx_ranking.specs.Tables.{has_number, pairs_open}
 use Rattle.rx_ranking.specs.declared.open_pair.OpenPair.{OpenPair}
 
 -- there is a group for each name
-pub group_count : (names : List ℕ) (past : List OpenPair) (groups : List (Vec OpenPair Global)) → groups_in groups ≡ by_component names past → length groups ≡ length names
+pub group_count : (names : List ℕ) (past : List OpenPair) (groups : List (Vec OpenPair Global)) →
+    groups_in groups ≡ by_component names past → length groups ≡ length names
 group_count names past groups is =
     sym (length-map groups items_of) ∙ ap (λ (gs : List (List OpenPair)). length gs) is
     ∙ length-map-range_with_len (entries_in names past) 0 (length names)
 
 -- there is no place there
-pub past_end : (groups : List (Vec OpenPair Global)) (at : ℕ) (row : List OpenPair) → length groups ≤ at → set (groups_in groups) at row ≡ groups_in groups
-past_end groups at row past = let size = length-map groups items_of in set_past (groups_in groups) at row (omega (arith, past, size))
+pub past_end : (groups : List (Vec OpenPair Global)) (at : ℕ) (row : List OpenPair) →
+    length groups ≤ at → set (groups_in groups) at row ≡ groups_in groups
+past_end groups at row past =
+    let size = length-map groups items_of in set_past (groups_in groups) at row
+    (omega (arith, past, size))
 
 -- ---- one entry more
 
@@ -40,122 +44,165 @@ module _ (names : List ℕ) (past : List OpenPair) (entry : OpenPair) where
 
   -- the groups of other components stay
   same_groups : (a n : ℕ) → ((c : ℕ) → a ≤ c → c < a + n → is_member names c f ≡ false)
-      → map (entries_in names past) (range_with_len a n) ≡ map (entries_in names more) (range_with_len a n)
+      → map (entries_in names past) (range_with_len a n) ≡
+      map (entries_in names more) (range_with_len a n)
   same_groups a zero other = refl
   same_groups a (suc n) other =
-      let here = filter_skip (λ (o : OpenPair). is_member names a o.pair.left.0) past entry (other a (omega arith) (omega arith)) in
-      let rest = same_groups (a + 1) n (λ c from to. other c (omega (arith, from)) (omega (arith, to))) in
+      let here = filter_skip (λ (o : OpenPair). is_member names a o.pair.left.0) past entry
+      (other a (omega arith) (omega arith)) in
+      let rest = same_groups (a + 1) n (λ c from to.
+      other c (omega (arith, from)) (omega (arith, to))) in
       λ i. sym here i ∷ rest i
 
-  not_named : (name c : ℕ) → slice_get names f ≡ Some name → (name ≡ c → ⊥) → is_member names c f ≡ false
-  not_named name c there other = ap (λ o. option_map_or (λ k. k == c) o false) there ∙ ne_eqb name c other
+  not_named : (name c : ℕ) → slice_get names f ≡ Some name → (name ≡ c → ⊥) → is_member names c f ≡
+      false
+  not_named name c there other =
+      ap (λ o. option_map_or (λ k. k == c) o false) there ∙ ne_eqb name c other
 
   -- its component has it last
-  own_group : (name : ℕ) → slice_get names f ≡ Some name → entries_in names past name ++ entry ∷ [] ≡ entries_in names more name
+  own_group : (name : ℕ) → slice_get names f ≡ Some name → entries_in names past name ++ entry ∷
+      [] ≡ entries_in names more name
   own_group name there =
       sym (filter_one (λ (o : OpenPair). is_member names name o.pair.left.0) past entry
       (ap (λ o. option_map_or (λ k. k == name) o false) there ∙ eq-eqb name name refl))
 
   put_at : (a n k name : ℕ) → slice_get names f ≡ Some name → name ≡ a + k → k < n
-      → set (map (entries_in names past) (range_with_len a n)) k (entries_in names past name ++ entry ∷ []) ≡ map (entries_in names more) (range_with_len a n)
+      → set (map (entries_in names past) (range_with_len a n)) k
+      (entries_in names past name ++ entry ∷ []) ≡
+      map (entries_in names more) (range_with_len a n)
   put_at a zero k name there is less = absurd (omega (arith, less))
   put_at a (suc n) zero name there is less =
       let at : name ≡ a = omega (arith, is) in
       let here = own_group name there ∙ ap (entries_in names more) at in
-      let rest = same_groups (a + 1) n (λ c from to. not_named name c there (λ same. omega (arith, from, same, at))) in
+      let rest = same_groups (a + 1) n (λ c from to.
+      not_named name c there (λ same. omega (arith, from, same, at))) in
       λ i. here i ∷ rest i
   put_at a (suc n) (suc k) name there is less =
       let other : name ≡ a → ⊥ = λ same. omega (arith, same, is) in
-      let here = filter_skip (λ (o : OpenPair). is_member names a o.pair.left.0) past entry (not_named name a there other) in
+      let here = filter_skip (λ (o : OpenPair). is_member names a o.pair.left.0) past entry
+      (not_named name a there other) in
       let rest = put_at (a + 1) n k name there (omega (arith, is)) (omega (arith, less)) in
       λ i. sym here i ∷ rest i
 
-  module _ (groups : List (Vec OpenPair Global)) (is : groups_in groups ≡ by_component names past) where
-    -- it is put into the group of its component
-    put_in_group : (name : ℕ) (after : List (List OpenPair)) → slice_get names f ≡ Some name → name < length groups
-        → after ≡ set (groups_in groups) name (get_or (groups_in groups) name [] ++ entry ∷ []) → after ≡ by_component names more
-    put_in_group name after there inner put =
-        let h = group_count names past groups is in
-        let less : name < length names = omega (arith, inner, h) in
-        let old_is : get_or (groups_in groups) name [] ≡ entries_in names past name =
-        ap (λ gs. get_or gs name []) is ∙ get_or-map-range_with_len (entries_in names past) 0 (length names) name name [] less (omega arith) in
-        put
-        ∙ (λ i. set (is i) name (old_is i ++ entry ∷ []))
-        ∙ put_at 0 (length names) name name there (omega arith) less
+  module _ (groups : List (Vec OpenPair Global)) (is : groups_in groups ≡ by_component names past)
+    where
+      -- it is put into the group of its component
+      put_in_group : (name : ℕ) (after : List (List OpenPair)) → slice_get names f ≡ Some name →
+          name < length groups
+          → after ≡ set (groups_in groups) name (get_or (groups_in groups) name [] ++ entry ∷ []) →
+          after ≡ by_component names more
+      put_in_group name after there inner put =
+          let h = group_count names past groups is in
+          let less : name < length names = omega (arith, inner, h) in
+          let old_is : get_or (groups_in groups) name [] ≡ entries_in names past name =
+          ap (λ gs. get_or gs name []) is ∙ get_or-map-range_with_len (entries_in names past) 0
+          (length names) name name [] less (omega arith) in
+          put
+          ∙ (λ i. set (is i) name (old_is i ++ entry ∷ []))
+          ∙ put_at 0 (length names) name name there (omega arith) less
 
-    -- it has no component that is named by a symbol
-    put_nowhere : (name : ℕ) → slice_get names f ≡ Some name → length groups ≤ name → groups_in groups ≡ by_component names more
-    put_nowhere name there past_all =
-        let h = group_count names past groups is in
-        is ∙ same_groups 0 (length names) (λ c from to. not_named name c there (λ same. omega (arith, same, to, past_all, h)))
+      -- it has no component that is named by a symbol
+      put_nowhere : (name : ℕ) → slice_get names f ≡ Some name → length groups ≤ name →
+          groups_in groups ≡ by_component names more
+      put_nowhere name there past_all =
+          let h = group_count names past groups is in
+          is ∙ same_groups 0 (length names) (λ c from to.
+          not_named name c there (λ same. omega (arith, same, to, past_all, h)))
 
-    -- its symbol has no name
-    pub put_unnamed : slice_get names f ≡ None → groups_in groups ≡ by_component names more
-    put_unnamed none = is ∙ same_groups 0 (length names) (λ c from to. ap (λ o. option_map_or (λ k. k == c) o false) none)
+      -- its symbol has no name
+      pub put_unnamed : slice_get names f ≡ None → groups_in groups ≡ by_component names more
+      put_unnamed none =
+          is ∙ same_groups 0 (length names) (λ c from to.
+          ap (λ o. option_map_or (λ k. k == c) o false) none)
 
-    -- it is put where it belongs, if that is a place
-    pub put_by_name : (name : ℕ) (after : List (List OpenPair)) → Some name ≡ slice_get names f
-        → after ≡ set (groups_in groups) name (get_or (groups_in groups) name [] ++ entry ∷ []) → after ≡ by_component names more
-    put_by_name name after there put = elim (cases_lt name (length groups)) [
-      | inl less ↦ put_in_group name after (sym there) less put
-      | inr past_all ↦ put ∙ past_end groups name (get_or (groups_in groups) name [] ++ entry ∷ []) past_all ∙ put_nowhere name (sym there) past_all
-    ]
+      -- it is put where it belongs, if that is a place
+      pub put_by_name : (name : ℕ) (after : List (List OpenPair)) → Some name ≡ slice_get names f
+          → after ≡ set (groups_in groups) name (get_or (groups_in groups) name [] ++ entry ∷ []) →
+          after ≡ by_component names more
+      put_by_name name after there put = elim (cases_lt name (length groups)) [
+        | inl less ↦ put_in_group name after (sym there) less put
+        | inr past_all ↦ put ∙ past_end groups name
+            (get_or (groups_in groups) name [] ++ entry ∷ [])
+            past_all ∙ put_nowhere name (sym there) past_all
+      ]
 
 -- a row of a list that is longer by one
-pub pushed_row : (groups : List (Vec OpenPair Global)) (entry : OpenPair) (at : ℕ) (old row : Vec OpenPair Global) → at < length groups → old ≡ get_or groups at old
-    → row.items ≡ old.items ++ entry ∷ [] → groups_in (set groups at row) ≡ set (groups_in groups) at (get_or (groups_in groups) at [] ++ entry ∷ [])
+pub pushed_row : (groups : List (Vec OpenPair Global)) (entry : OpenPair) (at : ℕ)
+    (old row : Vec OpenPair Global) → at < length groups → old ≡ get_or groups at old
+    → row.items ≡ old.items ++ entry ∷ [] → groups_in (set groups at row) ≡
+    set (groups_in groups) at (get_or (groups_in groups) at [] ++ entry ∷ [])
 pushed_row groups entry at old row inner was pushed =
-    let old_is : old.items ≡ get_or (groups_in groups) at [] = ap items_of was ∙ sym (get_or-map items_of groups at old [] inner) in
-    map-set items_of groups at row ∙ ap (set (groups_in groups) at) (pushed ∙ ap (λ os. os ++ entry ∷ []) old_is)
+    let old_is : old.items ≡ get_or (groups_in groups) at [] = ap items_of was ∙
+    sym (get_or-map items_of groups at old [] inner) in
+    map-set items_of groups at row ∙ ap (set (groups_in groups) at)
+    (pushed ∙ ap (λ os. os ++ entry ∷ []) old_is)
 
 -- ---- the entries of all groups
 
 module _ (names : List ℕ) (entries : List OpenPair) where
-  all_among : (a n : ℕ) → All (Contains entries) (ungrouped (map (entries_in names entries) (range_with_len a n)))
+  all_among : (a n : ℕ) → All (Contains entries)
+      (ungrouped (map (entries_in names entries) (range_with_len a n)))
   all_among a zero = All-nil (Contains entries)
   all_among a (suc n) =
-      All-append (Contains entries) (entries_in names entries a) (ungrouped (map (entries_in names entries) (range_with_len (a + 1) n)))
-      (All-filter (λ (o : OpenPair). is_member names a o.pair.left.0) (Contains entries) entries (All-contains_itself entries))
+      All-append (Contains entries) (entries_in names entries a)
+      (ungrouped (map (entries_in names entries) (range_with_len (a + 1) n)))
+      (All-filter (λ (o : OpenPair). is_member names a o.pair.left.0) (Contains entries) entries
+      (All-contains_itself entries))
       (all_among (a + 1) n)
 
   -- they are entries that were grouped
-  pub grouped_among : (o : OpenPair) → Contains (ungrouped (by_component names entries)) o → Contains entries o
-  grouped_among o there = All-contains (Contains entries) (ungrouped (by_component names entries)) o (all_among 0 (length names)) there
+  pub grouped_among : (o : OpenPair) → Contains (ungrouped (by_component names entries)) o →
+      Contains entries o
+  grouped_among o there =
+      All-contains (Contains entries) (ungrouped (by_component names entries)) o
+      (all_among 0 (length names)) there
 
-one_passes : {A : Type 0} (test : A → Bool) (xs : List A) → list_any test xs ≡ true → (x : A) × Contains xs x × (test x ≡ true)
+one_passes : {A : Type 0} (test : A → Bool) (xs : List A) → list_any test xs ≡ true → (x : A) ×
+    Contains xs x × (test x ≡ true)
 one_passes test [] some = absurd (false≢true some)
 one_passes {A} test (x ∷ xs) some = by (test x) refl some (one_passes test xs) where
-  by : (b : Bool) → test x ≡ b → (b || list_any test xs) ≡ true → (list_any test xs ≡ true → (y : A) × Contains xs y × (test y ≡ true))
+  by : (b : Bool) → test x ≡ b → (b || list_any test xs) ≡ true →
+      (list_any test xs ≡ true → (y : A) × Contains xs y × (test y ≡ true))
       → (y : A) × Contains (x ∷ xs) y × (test y ≡ true)
   by true here any later = (x, first_one x xs, here)
-  by false here any later = let found = later any in (found.0, other_one x xs found.0 found.1, found.2)
+  by false here any later =
+      let found = later any in (found.0, other_one x xs found.0 found.1, found.2)
 
-kept_one : {A : Type 0} (test : A → Bool) (xs : List A) (x : A) → Contains xs x → test x ≡ true → Contains (filter test xs) x
+kept_one : {A : Type 0} (test : A → Bool) (xs : List A) (x : A) → Contains xs x → test x ≡ true →
+    Contains (filter test xs) x
 kept_one test [] x there passes = absurd (let h = there.1 in omega (arith, h))
-kept_one {A} test (y ∷ ys) x (k, less, is) passes = at k less is (test y) refl (λ there. kept_one test ys x there passes) where
-  at : (j : ℕ) → j < length (y ∷ ys) → get_or (y ∷ ys) j x ≡ x → (b : Bool) → test y ≡ b → (Contains ys x → Contains (filter test ys) x)
-      → Contains (cond b (y ∷ filter test ys) (filter test ys)) x
-  at zero less is true here later = subst (Contains (y ∷ filter test ys)) is (first_one y (filter test ys))
-  at zero less is false here later = absurd (false≢true (sym here ∙ ap test is ∙ passes))
-  at (suc j) less is true here later = other_one y (filter test ys) x (later (j, omega (arith, less), is))
-  at (suc j) less is false here later = later (j, omega (arith, less), is)
+kept_one {A} test (y ∷ ys) x (k, less, is) passes =
+    at k less is (test y) refl (λ there. kept_one test ys x there passes) where
+      at : (j : ℕ) → j < length (y ∷ ys) → get_or (y ∷ ys) j x ≡ x → (b : Bool) → test y ≡ b →
+          (Contains ys x → Contains (filter test ys) x)
+          → Contains (cond b (y ∷ filter test ys) (filter test ys)) x
+      at zero less is true here later =
+          subst (Contains (y ∷ filter test ys)) is (first_one y (filter test ys))
+      at zero less is false here later = absurd (false≢true (sym here ∙ ap test is ∙ passes))
+      at (suc j) less is true here later =
+          other_one y (filter test ys) x (later (j, omega (arith, less), is))
+      at (suc j) less is false here later = later (j, omega (arith, less), is)
 
-in_groups : (group : ℕ → List OpenPair) (o : OpenPair) (a n k : ℕ) → k < n → Contains (group (a + k)) o → Contains (ungrouped (map group (range_with_len a n))) o
+in_groups : (group : ℕ → List OpenPair) (o : OpenPair) (a n k : ℕ) → k < n →
+    Contains (group (a + k)) o → Contains (ungrouped (map group (range_with_len a n))) o
 in_groups group o a zero k less there = absurd (omega (arith, less))
 in_groups group o a (suc n) zero less there =
     let at : a + 0 ≡ a = omega arith in
-    Contains-append_left (group a) (ungrouped (map group (range_with_len (a + 1) n))) o (subst (λ c. Contains (group c) o) at there)
+    Contains-append_left (group a) (ungrouped (map group (range_with_len (a + 1) n))) o
+    (subst (λ c. Contains (group c) o) at there)
 in_groups group o a (suc n) (suc k) less there =
     let at : a + suc k ≡ (a + 1) + k = omega arith in
     Contains-append_right (group a) (ungrouped (map group (range_with_len (a + 1) n))) o
-    (in_groups group o (a + 1) n k (omega (arith, less)) (subst (λ c. Contains (group c) o) at there))
+    (in_groups group o (a + 1) n k (omega (arith, less))
+    (subst (λ c. Contains (group c) o) at there))
 
 -- ---- names are symbols
 
 found_below : (test : ℕ → Bool) (a n x : ℕ) → find test (range_with_len a n) ≡ Some x → x < a + n
 found_below test a zero x found = cc
 found_below test a (suc n) x found = by (test a) found (found_below test (a + 1) n x) where
-  by : (b : Bool) → cond b (Some a) (find test (range_with_len (a + 1) n)) ≡ Some x → (find test (range_with_len (a + 1) n) ≡ Some x → x < (a + 1) + n) → x < a + suc n
+  by : (b : Bool) → cond b (Some a) (find test (range_with_len (a + 1) n)) ≡ Some x →
+      (find test (range_with_len (a + 1) n) ≡ Some x → x < (a + 1) + n) → x < a + suc n
   by true is later = let same : a ≡ x = cc in omega (arith, same)
   by false is later = let h = later is in omega (arith, h)
 
@@ -164,13 +211,17 @@ module _ (n : ℕ) (edges : List (ℕ × ℕ)) where
   component_below f less = by (find (together edges (below n) f) (symbols_of n)) refl where
     by : (o : Option ℕ) → find (together edges (below n) f) (symbols_of n) ≡ o → unwrap_or o f < n
     by None none = less
-    by (Some x) some = let h = found_below (together edges (below n) f) 0 n x some in omega (arith, h)
+    by (Some x) some =
+        let h = found_below (together edges (below n) f) 0 n x some in omega (arith, h)
 
-  name_at : (f : ℕ) → f < n → slice_get (map (component_of n edges) (symbols_of n)) f ≡ Some (component_of n edges f)
+  name_at : (f : ℕ) → f < n → slice_get (map (component_of n edges) (symbols_of n)) f ≡
+      Some (component_of n edges f)
   name_at f less =
       let count = length-range_with_len 0 n in
       slice_get-map (component_of n edges) (symbols_of n) f
-      ∙ ap (option_map (component_of n edges)) (slice_get-get_or (symbols_of n) f 0 (omega (arith, count, less)) ∙ ap Some (get_or-range_with_len 0 n f 0 less ∙ (let e : 0 + f ≡ f = omega arith in e)))
+      ∙ ap (option_map (component_of n edges))
+      (slice_get-get_or (symbols_of n) f 0 (omega (arith, count, less)) ∙
+      ap Some (get_or-range_with_len 0 n f 0 less ∙ (let e : 0 + f ≡ f = omega arith in e)))
 
 module _ (n : ℕ) (entries : List OpenPair) (over : IsOver n (edges_of (pairs_open entries))) where
   abbrev edges : List (ℕ × ℕ)
@@ -179,26 +230,38 @@ module _ (n : ℕ) (entries : List OpenPair) (over : IsOver n (edges_of (pairs_o
   abbrev EdgeWithin : ℕ × ℕ → Type 0
   EdgeWithin e = (e.0 < n) × (e.1 < n)
 
-  lefts_below : (os : List OpenPair) → IsOver n (edges_of (pairs_open os)) → All (λ (o : OpenPair). o.pair.left.0 < n) os
+  lefts_below : (os : List OpenPair) → IsOver n (edges_of (pairs_open os)) →
+      All (λ (o : OpenPair). o.pair.left.0 < n) os
   lefts_below [] within = All-nil (λ (o : OpenPair). o.pair.left.0 < n)
   lefts_below (o ∷ os) within =
-      All-cons (λ (x : OpenPair). x.pair.left.0 < n) o os (All-head EdgeWithin (o.pair.left.0, o.pair.right.0) (edges_of (pairs_open os)) within).0
-      (lefts_below os (All-tail EdgeWithin (o.pair.left.0, o.pair.right.0) (edges_of (pairs_open os)) within))
+      All-cons (λ (x : OpenPair). x.pair.left.0 < n) o os
+      (All-head EdgeWithin (o.pair.left.0, o.pair.right.0) (edges_of (pairs_open os)) within).0
+      (lefts_below os (All-tail EdgeWithin (o.pair.left.0, o.pair.right.0)
+      (edges_of (pairs_open os)) within))
 
   -- each number of an entry is that of an entry in a group
-  pub numbers_grouped : (names : List ℕ) → names ≡ names_of n (pairs_open entries) → (k : ℕ) → has_number k entries ≡ true
+  pub numbers_grouped : (names : List ℕ) → names ≡ names_of n (pairs_open entries) → (k : ℕ) →
+      has_number k entries ≡ true
       → has_number k (ungrouped (by_component names entries)) ≡ true
   numbers_grouped names found k some =
       let one = one_passes (λ (o : OpenPair). o.number == k) entries some in
       let f = one.0.pair.left.0 in
-      let less = All-contains (λ (o : OpenPair). o.pair.left.0 < n) entries one.0 (lefts_below entries over) one.1 in
+      let less = All-contains (λ (o : OpenPair). o.pair.left.0 < n) entries one.0
+      (lefts_below entries over) one.1 in
       let name = component_of n edges f in
-      let there : slice_get names f ≡ Some name = ap (λ ns. slice_get ns f) found ∙ name_at n edges f less in
+      let there : slice_get names f ≡ Some name = ap (λ ns. slice_get ns f) found ∙
+      name_at n edges f less in
       let low = component_below n edges f less in
-      let size : length names ≡ n = ap (λ (ns : List ℕ). length ns) found ∙ length-map-range_with_len (component_of n edges) 0 n in
-      let member : is_member names name f ≡ true = ap (λ o. option_map_or (λ j. j == name) o false) there ∙ eq-eqb name name refl in
-      let inner = kept_one (λ (o : OpenPair). is_member names name o.pair.left.0) entries one.0 one.1 member in
+      let size : length names ≡ n = ap (λ (ns : List ℕ). length ns) found ∙
+      length-map-range_with_len (component_of n edges) 0 n in
+      let member : is_member names name f ≡ true =
+      ap (λ o. option_map_or (λ j. j == name) o false) there ∙ eq-eqb name name refl in
+      let inner = kept_one (λ (o : OpenPair). is_member names name o.pair.left.0) entries one.0
+      one.1 member in
       let at : name ≡ 0 + name = omega arith in
-      let all = in_groups (entries_in names entries) one.0 0 (length names) name (omega (arith, size, low)) (subst (λ c. Contains (entries_in names entries c) one.0) at inner) in
-      list_any_at (λ (o : OpenPair). o.number == k) (ungrouped (by_component names entries)) all.0 one.0 all.1
+      let all = in_groups (entries_in names entries) one.0 0 (length names) name
+      (omega (arith, size, low)) (subst (λ c. Contains (entries_in names entries c) one.0) at
+      inner) in
+      list_any_at (λ (o : OpenPair). o.number == k) (ungrouped (by_component names entries)) all.0
+      one.0 all.1
       (ap (λ (o : OpenPair). o.number == k) all.2 ∙ one.2)

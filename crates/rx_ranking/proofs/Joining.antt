@@ -36,7 +36,8 @@ overlaid_none [] = refl
 overlaid_none (p ∷ ps) = refl
 
 -- one more of the others is in its place
-pub overlaid_more : (ps qs : List (Option Body)) (q : Option Body) → overlaid ps (qs ++ q ∷ []) ≡ laid_at (overlaid ps qs) (length qs) q
+pub overlaid_more : (ps qs : List (Option Body)) (q : Option Body) → overlaid ps (qs ++ q ∷ []) ≡
+    laid_at (overlaid ps qs) (length qs) q
 overlaid_more [] [] None = refl
 overlaid_more [] [] (Some x) = refl
 overlaid_more [] (y ∷ qs) None = refl
@@ -46,20 +47,24 @@ overlaid_more (p ∷ ps) [] (Some x) = ap (λ rest. Some x ∷ rest) (overlaid_n
 overlaid_more (p ∷ ps) (None ∷ qs) None = ap (λ rest. p ∷ rest) (overlaid_more ps qs None)
 overlaid_more (p ∷ ps) (None ∷ qs) (Some x) = ap (λ rest. p ∷ rest) (overlaid_more ps qs (Some x))
 overlaid_more (p ∷ ps) (Some y ∷ qs) None = ap (λ rest. Some y ∷ rest) (overlaid_more ps qs None)
-overlaid_more (p ∷ ps) (Some y ∷ qs) (Some x) = ap (λ rest. Some y ∷ rest) (overlaid_more ps qs (Some x))
+overlaid_more (p ∷ ps) (Some y ∷ qs) (Some x) =
+    ap (λ rest. Some y ∷ rest) (overlaid_more ps qs (Some x))
 
 -- those that are laid over are there
-over_second : (ps qs : List (Option Body)) (f : ℕ) (q : Body) → length qs ≡ length ps → polynomial_of qs f ≡ Some q → polynomial_of (overlaid ps qs) f ≡ Some q
+over_second : (ps qs : List (Option Body)) (f : ℕ) (q : Body) → length qs ≡ length ps →
+    polynomial_of qs f ≡ Some q → polynomial_of (overlaid ps qs) f ≡ Some q
 over_second [] [] f q count e = e
 over_second [] (x ∷ qs) f q count e = absurd (omega (arith, count))
 over_second (p ∷ ps) [] f q count e = absurd (omega (arith, count))
 over_second (p ∷ ps) (None ∷ qs) zero q count e = cc
 over_second (p ∷ ps) (Some x ∷ qs) zero q count e = e
 over_second (p ∷ ps) (None ∷ qs) (suc f) q count e = over_second ps qs f q (omega (arith, count)) e
-over_second (p ∷ ps) (Some x ∷ qs) (suc f) q count e = over_second ps qs f q (omega (arith, count)) e
+over_second (p ∷ ps) (Some x ∷ qs) (suc f) q count e =
+    over_second ps qs f q (omega (arith, count)) e
 
 -- the others show where there is none
-over_first : (ps qs : List (Option Body)) (f : ℕ) → polynomial_of qs f ≡ None → polynomial_of (overlaid ps qs) f ≡ polynomial_of ps f
+over_first : (ps qs : List (Option Body)) (f : ℕ) → polynomial_of qs f ≡ None →
+    polynomial_of (overlaid ps qs) f ≡ polynomial_of ps f
 over_first [] qs f e = refl
 over_first (p ∷ ps) [] f e = refl
 over_first (p ∷ ps) (None ∷ qs) zero e = refl
@@ -67,7 +72,8 @@ over_first (p ∷ ps) (Some x ∷ qs) zero e = cc
 over_first (p ∷ ps) (None ∷ qs) (suc f) e = over_first ps qs f e
 over_first (p ∷ ps) (Some x ∷ qs) (suc f) e = over_first ps qs f e
 
-over_either : (ps qs : List (Option Body)) (f : ℕ) (r : Body) → polynomial_of (overlaid ps qs) f ≡ Some r → (polynomial_of ps f ≡ Some r) ⊎ (polynomial_of qs f ≡ Some r)
+over_either : (ps qs : List (Option Body)) (f : ℕ) (r : Body) → polynomial_of (overlaid ps qs) f ≡
+    Some r → (polynomial_of ps f ≡ Some r) ⊎ (polynomial_of qs f ≡ Some r)
 over_either [] qs f r e = inl e
 over_either (p ∷ ps) [] f r e = inl e
 over_either (p ∷ ps) (None ∷ qs) zero r e = inl e
@@ -77,7 +83,8 @@ over_either (p ∷ ps) (Some x ∷ qs) (suc f) r e = over_either ps qs f r e
 
 -- ---- what is said of pairs
 
-module _ (vs ws : List (Option Body)) (kept : (f : ℕ) (p : Body) → polynomial_of vs f ≡ Some p → polynomial_of ws f ≡ Some p) where
+module _ (vs ws : List (Option Body)) (kept : (f : ℕ) (p : Body) → polynomial_of vs f ≡ Some p →
+    polynomial_of ws f ≡ Some p) where
   held_kept : (pair : Pair) (certs : List Cert) → IsHeld vs pair certs → IsHeld ws pair certs
   held_kept pair certs h = record {
     left = h.left;
@@ -96,55 +103,76 @@ module _ (vs ws : List (Option Body)) (kept : (f : ℕ) (p : Body) → polynomia
     proved = h.proved;
   }
 
-  falls_kept : (pair : Pair) (certs : List Cert) → IsHeld vs pair certs → falls_by ws pair ≡ falls_by vs pair
+  falls_kept : (pair : Pair) (certs : List Cert) → IsHeld vs pair certs → falls_by ws pair ≡
+      falls_by vs pair
   falls_kept pair certs h =
-      (λ i. tested (falls pair) (kept pair.left.0 h.left h.left_is i) (kept pair.right.0 h.right h.right_is i))
+      (λ i. tested (falls pair) (kept pair.left.0 h.left h.left_is i)
+      (kept pair.right.0 h.right h.right_is i))
       ∙ sym (λ i. tested (falls pair) (h.left_is i) (h.right_is i))
 
-  decided_kept : (pair : Pair) (certs : List Cert) (found : Option (List Cert)) → IsHeld vs pair certs → IsDecided vs pair found → IsDecided ws pair found
+  decided_kept : (pair : Pair) (certs : List Cert) (found : Option (List Cert)) →
+      IsHeld vs pair certs → IsDecided vs pair found → IsDecided ws pair found
   decided_kept pair certs None h e = ap is_yes (falls_kept pair certs h) ∙ e
-  decided_kept pair certs (Some more) h e = (falls_kept pair certs h ∙ e.0, fallen_kept pair more e.1)
+  decided_kept pair certs (Some more) h e =
+      (falls_kept pair certs h ∙ e.0, fallen_kept pair more e.1)
 
-  all_held_kept : (pairs : List Pair) (certs : List (List Cert)) → AllZip (IsHeld vs) pairs certs → AllZip (IsHeld ws) pairs certs
+  all_held_kept : (pairs : List Pair) (certs : List (List Cert)) → AllZip (IsHeld vs) pairs certs →
+      AllZip (IsHeld ws) pairs certs
   all_held_kept [] [] all = all
   all_held_kept [] (c ∷ cs) all = absurd all
   all_held_kept (pair ∷ pairs) [] all = absurd all
   all_held_kept (pair ∷ pairs) (c ∷ cs) all = (held_kept pair c all.0, all_held_kept pairs cs all.1)
 
-  all_decided_kept : (pairs : List Pair) (certs : List (List Cert)) (found : List (Option (List Cert))) → AllZip (IsHeld vs) pairs certs
+  all_decided_kept : (pairs : List Pair) (certs : List (List Cert))
+      (found : List (Option (List Cert))) → AllZip (IsHeld vs) pairs certs
       → AllZip (IsDecided vs) pairs found → AllZip (IsDecided ws) pairs found
   all_decided_kept [] certs [] held all = all
   all_decided_kept [] certs (d ∷ ds) held all = absurd all
   all_decided_kept (pair ∷ pairs) [] found held all = absurd held
   all_decided_kept (pair ∷ pairs) (c ∷ cs) [] held all = absurd all
-  all_decided_kept (pair ∷ pairs) (c ∷ cs) (d ∷ ds) held all = (decided_kept pair c d held.0 all.0, all_decided_kept pairs cs ds held.1 all.1)
+  all_decided_kept (pair ∷ pairs) (c ∷ cs) (d ∷ ds) held all =
+      (decided_kept pair c d held.0 all.0, all_decided_kept pairs cs ds held.1 all.1)
 
 -- two lists go together, and two more
-zip_append : {A B : Type 0} (R : A → B → Type 0) (xs us : List A) (ys vs : List B) → AllZip R xs ys → AllZip R us vs → AllZip R (xs ++ us) (ys ++ vs)
+zip_append : {A B : Type 0} (R : A → B → Type 0) (xs us : List A) (ys vs : List B) →
+    AllZip R xs ys → AllZip R us vs → AllZip R (xs ++ us) (ys ++ vs)
 zip_append R [] us [] vs all more = more
 zip_append R [] us (y ∷ ys) vs all more = absurd all
 zip_append R (x ∷ xs) us [] vs all more = absurd all
 zip_append R (x ∷ xs) us (y ∷ ys) vs all more = (all.0, zip_append R xs us ys vs all.1 more)
 
-still_append : (values : List (Option Body)) (done pairs : List Pair) (ds es : List (Option (List Cert))) → AllZip (IsDecided values) done ds
+still_append : (values : List (Option Body)) (done pairs : List Pair)
+    (ds es : List (Option (List Cert))) → AllZip (IsDecided values) done ds
     → still_open (done ++ pairs) (ds ++ es) ≡ still_open done ds ++ still_open pairs es
 still_append values [] pairs [] es all = refl
 still_append values [] pairs (d ∷ ds) es all = absurd all
 still_append values (pair ∷ done) pairs [] es all = absurd all
-still_append values (pair ∷ done) pairs (None ∷ ds) es all = ap (λ ps. pair ∷ ps) (still_append values done pairs ds es all.1)
-still_append values (pair ∷ done) pairs (Some certs ∷ ds) es all = still_append values done pairs ds es all.1
+still_append values (pair ∷ done) pairs (None ∷ ds) es all =
+    ap (λ ps. pair ∷ ps) (still_append values done pairs ds es all.1)
+still_append values (pair ∷ done) pairs (Some certs ∷ ds) es all =
+    still_append values done pairs ds es all.1
 
 -- ---- components
 
-named : (o : Option ℕ) (c : ℕ) → option_map_or (λ name. name == c) o false ≡ true → (name : ℕ) × (o ≡ Some name) × (name ≡ c)
+named : (o : Option ℕ) (c : ℕ) → option_map_or (λ name. name == c) o false ≡ true → (name : ℕ) ×
+    (o ≡ Some name) × (name ≡ c)
 named None c e = cc
 named (Some name) c e = (name, refl, eqb-true name c e)
 
-own_later : (infos : List SymInfo) (names : List ℕ) (c f : ℕ) (p : Body) → IsOwnBelow infos names c f p → IsOwnBelow infos names (c + 1) f p
-own_later infos names c f p own = let less = own.less in record { name = own.name; is = own.is; less = omega (arith, less); over = own.over }
+own_later : (infos : List SymInfo) (names : List ℕ) (c f : ℕ) (p : Body) →
+    IsOwnBelow infos names c f p → IsOwnBelow infos names (c + 1) f p
+own_later infos names c f p own =
+    let less = own.less in record {
+      name = own.name;
+      is = own.is;
+      less = omega (arith, less);
+      over =
+          own.over;
+    }
 
 -- a symbol of an earlier component is none of this
-apart : (infos : List SymInfo) (names : List ℕ) (c f : ℕ) (p : Body) → IsOwnBelow infos names c f p → is_member names c f ≡ true → ⊥
+apart : (infos : List SymInfo) (names : List ℕ) (c f : ℕ) (p : Body) →
+    IsOwnBelow infos names c f p → is_member names c f ≡ true → ⊥
 apart infos names c f p own member =
     let here = named (slice_get names f) c member in
     let same : own.name ≡ here.0 = same_Some own.name here.0 (sym own.is ∙ here.1) in
@@ -153,7 +181,8 @@ apart infos names c f p own member =
     omega (arith, less, same, is)
 
 -- no component
-pub nothing_below : (infos : List SymInfo) (names : List ℕ) (fit : Fit) → fit.values.items ≡ without_polynomials (length infos) → fit.holds.items ≡ [] → fit.falls.items ≡ []
+pub nothing_below : (infos : List SymInfo) (names : List ℕ) (fit : Fit) → fit.values.items ≡
+    without_polynomials (length infos) → fit.holds.items ≡ [] → fit.falls.items ≡ []
     → IsFitBelow infos names 0 [] fit
 nothing_below infos names fit none holds falls = record {
   fit_is = record {
@@ -162,17 +191,22 @@ nothing_below infos names fit none holds falls = record {
     falls = subst (AllZip (IsDecided fit.values.items) []) (sym falls) tt;
   };
   count = ap (λ (values : List (Option Body)). length values) none ∙ length-without (length infos);
-  own = λ f p e. none_own (IsOwnBelow infos names 0) (length infos) f p (ap (λ values. polynomial_of values f) (sym none) ∙ e);
+  own =
+      λ f p e. none_own (IsOwnBelow infos names 0) (length infos) f p
+      (ap (λ values. polynomial_of values f) (sym none) ∙ e);
 }
 
-module _ (parts : RuleParts) (hypotheses : List Rule) (names : List ℕ) (c : ℕ) (pairs : List Pair) (before : Fit) where
-  own_here : (f : ℕ) (p : Body) → IsOwn parts hypotheses names c pairs f p → IsOwnBelow parts.symbols names (c + 1) f p
+module _ (parts : RuleParts) (hypotheses : List Rule) (names : List ℕ) (c : ℕ) (pairs : List Pair)
+    (before : Fit) where
+  own_here : (f : ℕ) (p : Body) → IsOwn parts hypotheses names c pairs f p →
+      IsOwnBelow parts.symbols names (c + 1) f p
   own_here f p own =
       let here = named (slice_get names f) c own.member in
       let is = here.2 in
       record { name = here.0; is = here.1; less = omega (arith, is); over = own.over }
 
-  module _ (fit whole : Fit) (is : AreJoined before fit whole) (own : IsComponentFit parts hypotheses names c pairs fit) (done : List Pair)
+  module _ (fit whole : Fit) (is : AreJoined before fit whole)
+      (own : IsComponentFit parts hypotheses names c pairs fit) (done : List Pair)
       (below : IsFitBelow parts.symbols names c done before) where
     abbrev vs : List (Option Body)
     vs = before.values.items
@@ -181,19 +215,25 @@ module _ (parts : RuleParts) (hypotheses : List Rule) (names : List ℕ) (c : �
     us = fit.values.items
 
     same_count : length us ≡ length vs
-    same_count = ap (λ (values : List (Option Body)). length values) own.fit_is.same ∙ own.count ∙ sym below.count
+    same_count =
+        ap (λ (values : List (Option Body)). length values) own.fit_is.same ∙ own.count ∙
+        sym below.count
 
-    own_one : (f : ℕ) (p : Body) → polynomial_of us f ≡ Some p → IsOwn parts hypotheses names c pairs f p
+    own_one : (f : ℕ) (p : Body) → polynomial_of us f ≡ Some p →
+        IsOwn parts hypotheses names c pairs f p
     own_one f p e = own.own f p (ap (λ values. polynomial_of values f) (sym own.fit_is.same) ∙ e)
 
-    second_kept : (f : ℕ) (p : Body) → polynomial_of us f ≡ Some p → polynomial_of (overlaid vs us) f ≡ Some p
+    second_kept : (f : ℕ) (p : Body) → polynomial_of us f ≡ Some p →
+        polynomial_of (overlaid vs us) f ≡ Some p
     second_kept f p e = over_second vs us f p same_count e
 
-    first_kept : (f : ℕ) (p : Body) → polynomial_of vs f ≡ Some p → polynomial_of (overlaid vs us) f ≡ Some p
+    first_kept : (f : ℕ) (p : Body) → polynomial_of vs f ≡ Some p →
+        polynomial_of (overlaid vs us) f ≡ Some p
     first_kept f p e = by (polynomial_of us f) refl where
       by : (o : Option Body) → polynomial_of us f ≡ o → polynomial_of (overlaid vs us) f ≡ Some p
       by None none = over_first vs us f none ∙ e
-      by (Some q) some = absurd (apart parts.symbols names c f p (below.own f p e) (own_one f q some).member)
+      by (Some q) some =
+          absurd (apart parts.symbols names c f p (below.own f p e) (own_one f q some).member)
 
     held_all : AllZip (IsHeld whole.values.items) (done ++ pairs) whole.holds.items
     held_all =
@@ -202,42 +242,59 @@ module _ (parts : RuleParts) (hypotheses : List Rule) (names : List ℕ) (c : �
         (zip_append (IsHeld (overlaid vs us)) done pairs before.holds.items fit.holds.items
         (all_held_kept vs (overlaid vs us) first_kept done before.holds.items below.fit_is.holds)
         (all_held_kept us (overlaid vs us) second_kept pairs fit.holds.items
-        (subst (λ values. AllZip (IsHeld values) pairs fit.holds.items) (sym own.fit_is.same) own.fit_is.holds))))
+        (subst (λ values. AllZip (IsHeld values) pairs fit.holds.items) (sym own.fit_is.same)
+        own.fit_is.holds))))
 
     decided_all : AllZip (IsDecided whole.values.items) (done ++ pairs) whole.falls.items
     decided_all =
-        subst (λ values. AllZip (IsDecided values) (done ++ pairs) whole.falls.items) (sym is.values)
+        subst (λ values. AllZip (IsDecided values) (done ++ pairs) whole.falls.items)
+        (sym is.values)
         (subst (AllZip (IsDecided (overlaid vs us)) (done ++ pairs)) (sym is.falls)
         (zip_append (IsDecided (overlaid vs us)) done pairs before.falls.items fit.falls.items
-        (all_decided_kept vs (overlaid vs us) first_kept done before.holds.items before.falls.items below.fit_is.holds below.fit_is.falls)
+        (all_decided_kept vs (overlaid vs us) first_kept done before.holds.items before.falls.items
+        below.fit_is.holds below.fit_is.falls)
         (all_decided_kept us (overlaid vs us) second_kept pairs fit.holds.items fit.falls.items
-        (subst (λ values. AllZip (IsHeld values) pairs fit.holds.items) (sym own.fit_is.same) own.fit_is.holds)
-        (subst (λ values. AllZip (IsDecided values) pairs fit.falls.items) (sym own.fit_is.same) own.fit_is.falls))))
+        (subst (λ values. AllZip (IsHeld values) pairs fit.holds.items) (sym own.fit_is.same)
+        own.fit_is.holds)
+        (subst (λ values. AllZip (IsDecided values) pairs fit.falls.items) (sym own.fit_is.same)
+        own.fit_is.falls))))
 
-    own_all : (f : ℕ) (p : Body) → polynomial_of whole.values.items f ≡ Some p → IsOwnBelow parts.symbols names (c + 1) f p
-    own_all f p e = elim (over_either vs us f p (ap (λ values. polynomial_of values f) (sym is.values) ∙ e)) [
-      | inl first ↦ own_later parts.symbols names c f p (below.own f p first)
-      | inr second ↦ own_here f p (own_one f p second)
-    ]
+    own_all : (f : ℕ) (p : Body) → polynomial_of whole.values.items f ≡ Some p →
+        IsOwnBelow parts.symbols names (c + 1) f p
+    own_all f p e =
+        elim (over_either vs us f p (ap (λ values. polynomial_of values f) (sym is.values) ∙ e)) [
+          | inl first ↦ own_later parts.symbols names c f p (below.own f p first)
+          | inr second ↦ own_here f p (own_one f p second)
+        ]
 
     joined_below : IsFitBelow parts.symbols names (c + 1) (done ++ pairs) whole
     joined_below = record {
       fit_is = record { same = refl; holds = held_all; falls = decided_all };
-      count = ap (λ (values : List (Option Body)). length values) is.values ∙ length-overlaid vs us ∙ below.count;
+      count =
+          ap (λ (values : List (Option Body)). length values) is.values ∙ length-overlaid vs us ∙
+          below.count;
       own = own_all;
     }
 
-    joined_open : still_open (done ++ pairs) whole.falls.items ≡ still_open done before.falls.items ++ still_open pairs fit.falls.items
-    joined_open = ap (still_open (done ++ pairs)) is.falls ∙ still_append vs done pairs before.falls.items fit.falls.items below.fit_is.falls
+    joined_open : still_open (done ++ pairs) whole.falls.items ≡
+        still_open done before.falls.items ++ still_open pairs fit.falls.items
+    joined_open =
+        ap (still_open (done ++ pairs)) is.falls ∙
+        still_append vs done pairs before.falls.items fit.falls.items below.fit_is.falls
 
   -- the component has pairs, so its first fit choice is tried
-  unless_some : (ps : List Pair) → (length ps ≡ 0 → ⊥) → component parts hypotheses names c ps ≡ unless_empty parts hypotheses names c ps
+  unless_some : (ps : List Pair) → (length ps ≡ 0 → ⊥) → component parts hypotheses names c ps ≡
+      unless_empty parts hypotheses names c ps
   unless_some [] some = absurd (some refl)
   unless_some (p ∷ ps) some = refl
 
   -- there is one
-  more_made : (fit whole : Fit) (noted : Bool) → (length pairs ≡ 0 → ⊥) → record { made = Some (still_open pairs fit.falls.items); noted = noted } ≡ component parts hypotheses names c pairs
-      → IsComponentFit parts hypotheses names c pairs fit → AreJoined before fit whole → IsOneMore parts hypotheses names c pairs before (record { made = Some whole; noted = noted })
+  more_made : (fit whole : Fit) (noted : Bool) → (length pairs ≡ 0 → ⊥) →
+      record { made = Some (still_open pairs fit.falls.items); noted = noted } ≡
+      component parts hypotheses names c pairs
+      → IsComponentFit parts hypotheses names c pairs fit → AreJoined before fit whole →
+      IsOneMore parts hypotheses names c pairs before
+      (record { made = Some whole; noted = noted })
   more_made fit whole noted some tried own is = record {
     tried = λ done below.
         (λ i. record { made = Some (joined_open fit whole is own done below i); noted = noted })
@@ -246,45 +303,65 @@ module _ (parts : RuleParts) (hypotheses : List Rule) (names : List ℕ) (c : �
   }
 
   -- there is none
-  more_failed : (noted : Bool) → (length pairs ≡ 0 → ⊥) → record { made = None; noted = noted } ≡ component parts hypotheses names c pairs
+  more_failed : (noted : Bool) → (length pairs ≡ 0 → ⊥) → record { made = None; noted = noted } ≡
+      component parts hypotheses names c pairs
       → IsOneMore parts hypotheses names c pairs before (record { made = None; noted = noted })
   more_failed noted some tried = record {
-    tried = λ done below. ap (after (still_open done before.falls.items)) (tried ∙ unless_some pairs some);
+    tried =
+        λ done below. ap (after (still_open done before.falls.items))
+        (tried ∙ unless_some pairs some);
     fits = λ done below. tt;
   }
 
   module _ (lent : List Pair) (same : lent ≡ pairs) (some : length pairs ≡ 0 → ⊥) (t : Attempt Fit)
-      (tried : tried_as (λ (fit : Fit). still_open lent fit.falls.items) t ≡ component parts hypotheses names c lent) where
+      (tried : tried_as (λ (fit : Fit). still_open lent fit.falls.items) t ≡
+      component parts hypotheses names c lent) where
     -- the same of an attempt at pairs that are lent
-    pub one_made : (fit whole : Fit) → t.made ≡ Some fit → IfSome t.made (IsComponentFit parts hypotheses names c lent) → AreJoined before fit whole
-        → IsOneMore parts hypotheses names c pairs before (record { made = Some whole; noted = t.noted })
+    pub one_made : (fit whole : Fit) → t.made ≡ Some fit →
+        IfSome t.made (IsComponentFit parts hypotheses names c lent) → AreJoined before fit whole
+        → IsOneMore parts hypotheses names c pairs before
+        (record { made = Some whole; noted = t.noted })
     one_made fit whole is fits joined = more_made fit whole t.noted some
         ((λ i. record { made = Some (still_open (sym same i) fit.falls.items); noted = t.noted })
-        ∙ (λ i. record { made = option_map (λ (f : Fit). still_open lent f.falls.items) (sym is i); noted = t.noted })
+        ∙ (λ i. record {
+          made = option_map (λ (f : Fit). still_open lent f.falls.items) (sym is i);
+          noted = t.noted;
+        })
         ∙ tried ∙ ap (component parts hypotheses names c) same)
-        (subst (λ ps. IsComponentFit parts hypotheses names c ps fit) same (subst (λ m. IfSome m (IsComponentFit parts hypotheses names c lent)) is fits))
+        (subst (λ ps. IsComponentFit parts hypotheses names c ps fit) same
+        (subst (λ m. IfSome m (IsComponentFit parts hypotheses names c lent)) is fits))
         joined
 
-    pub one_failed : t.made ≡ None → IsOneMore parts hypotheses names c pairs before (record { made = None; noted = t.noted })
+    pub one_failed : t.made ≡ None → IsOneMore parts hypotheses names c pairs before
+        (record { made = None; noted = t.noted })
     one_failed none = more_failed t.noted some
-        ((λ i. record { made = option_map (λ (f : Fit). still_open lent f.falls.items) (sym none i); noted = t.noted }) ∙ tried ∙ ap (component parts hypotheses names c) same)
+        ((λ i. record {
+          made = option_map (λ (f : Fit). still_open lent f.falls.items) (sym none i);
+          noted = t.noted;
+        }) ∙ tried ∙ ap (component parts hypotheses names c) same)
 
 -- the component has no pair
 nothing_more : (parts : RuleParts) (hypotheses : List Rule) (names : List ℕ) (c : ℕ) (before : Fit)
     → IsOneMore parts hypotheses names c [] before (record { made = Some before; noted = false })
 nothing_more parts hypotheses names c before = record {
   tried = λ done below. (λ i. record {
-    made = Some ((ap (λ ps. still_open ps before.falls.items) (append-nil done) ∙ sym (append-nil (still_open done before.falls.items))) i);
+    made =
+        Some ((ap (λ ps. still_open ps before.falls.items) (append-nil done) ∙
+        sym (append-nil (still_open done before.falls.items))) i);
     noted = false;
   });
-  fits = λ done below. subst (λ ps. IsFitBelow parts.symbols names (c + 1) ps before) (sym (append-nil done)) (record {
-    fit_is = below.fit_is;
-    count = below.count;
-    own = λ f p e. own_later parts.symbols names c f p (below.own f p e);
-  });
+  fits =
+      λ done below. subst (λ ps. IsFitBelow parts.symbols names (c + 1) ps before)
+      (sym (append-nil done)) (record {
+        fit_is = below.fit_is;
+        count = below.count;
+        own = λ f p e. own_later parts.symbols names c f p (below.own f p e);
+      });
 }
 
-pub more_empty : (parts : RuleParts) (hypotheses : List Rule) (names : List ℕ) (c : ℕ) (before : Fit) (entries : List OpenPair) → length entries ≡ 0
-    → IsOneMore parts hypotheses names c (pairs_open entries) before (record { made = Some before; noted = false })
+pub more_empty : (parts : RuleParts) (hypotheses : List Rule) (names : List ℕ) (c : ℕ)
+    (before : Fit) (entries : List OpenPair) → length entries ≡ 0
+    → IsOneMore parts hypotheses names c (pairs_open entries) before
+    (record { made = Some before; noted = false })
 more_empty parts hypotheses names c before [] none = nothing_more parts hypotheses names c before
 more_empty parts hypotheses names c before (o ∷ os) none = absurd (omega (arith, none))

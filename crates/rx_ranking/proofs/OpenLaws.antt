@@ -16,23 +16,29 @@ abbrev pub pair_in : OpenPair → Pair
 pair_in o = o.pair
 
 -- the pair of an entry
-pub entry_pair : (entries : List OpenPair) (i : ℕ) (entry : OpenPair) → i < length entries → entry ≡ get_or entries i entry
+pub entry_pair : (entries : List OpenPair) (i : ℕ) (entry : OpenPair) → i < length entries → entry ≡
+    get_or entries i entry
     → entry.pair ≡ get_or (pairs_open entries) i entry.pair
-entry_pair entries i entry there is = sym (get_or-map pair_in entries i entry (pair_in entry) there ∙ ap pair_in (sym is))
+entry_pair entries i entry there is =
+    sym (get_or-map pair_in entries i entry (pair_in entry) there ∙ ap pair_in (sym is))
 
 pub open_count : (entries : List OpenPair) → length (pairs_open entries) ≡ length entries
 open_count entries = length-map entries pair_in
 
-module _ (symbols : ℕ) (entries : List OpenPair) (rows : List (Vec ℕ Global)) (graph : IsGraphOf symbols (edges_of (pairs_open entries)) (rows_of rows)) where
+module _ (symbols : ℕ) (entries : List OpenPair) (rows : List (Vec ℕ Global))
+    (graph : IsGraphOf symbols (edges_of (pairs_open entries)) (rows_of rows)) where
   pub rows_count : length rows ≡ symbols
   rows_count = sym (length-map rows (λ (r : Vec ℕ Global). r.items)) ∙ graph.count
 
   pub graph_here : IsGraphOf (length rows) (edges_of (pairs_open entries)) (rows_of rows)
-  graph_here = subst (λ n. IsGraphOf n (edges_of (pairs_open entries)) (rows_of rows)) (sym rows_count) graph
+  graph_here =
+      subst (λ n. IsGraphOf n (edges_of (pairs_open entries)) (rows_of rows)) (sym rows_count) graph
 
   -- the labels of its components are the names
-  pub names_found : IsOver symbols (edges_of (pairs_open entries)) → (labels : List ℕ) → length labels ≡ length rows
-      → ((edges : List (ℕ × ℕ)) → IsGraphOf (length rows) edges (rows_of rows) → AreComponents (length rows) edges labels)
+  pub names_found : IsOver symbols (edges_of (pairs_open entries)) → (labels : List ℕ) →
+      length labels ≡ length rows
+      → ((edges : List (ℕ × ℕ)) → IsGraphOf (length rows) edges (rows_of rows) →
+      AreComponents (length rows) edges labels)
       → labels ≡ names_of symbols (pairs_open entries)
   names_found over labels count least =
       let edges = edges_of (pairs_open entries) in

@@ -21,35 +21,53 @@ module _ (parts : RuleParts) (hypotheses : List Rule) where
   n = length parts.symbols
 
   -- none is: the end
-  pub rounds_end : (k : ℕ) (pairs : List Pair) (ends : List OpenPair) → ends ≡ [] → pairs_open ends ≡ inside n pairs → applies tt ≡ ranking_from parts hypotheses k pairs
+  pub rounds_end : (k : ℕ) (pairs : List Pair) (ends : List OpenPair) → ends ≡ [] →
+      pairs_open ends ≡ inside n pairs → applies tt ≡ ranking_from parts hypotheses k pairs
   unfolding ranking_from
-  rounds_end zero pairs ends none is = ap (λ ps. unless_closed parts hypotheses ps fails) (sym (ap pairs_open none) ∙ is)
+  rounds_end zero pairs ends none is =
+      ap (λ ps. unless_closed parts hypotheses ps fails) (sym (ap pairs_open none) ∙ is)
   rounds_end (suc k) pairs ends none is =
-      ap (λ ps. unless_closed parts hypotheses ps (and_then (polynomials parts hypotheses ps) (ranking_from parts hypotheses k))) (sym (ap pairs_open none) ∙ is)
+      ap (λ ps. unless_closed parts hypotheses ps
+      (and_then (polynomials parts hypotheses ps) (ranking_from parts hypotheses k)))
+      (sym (ap pairs_open none) ∙ is)
 
-  goes_on : (next : List Pair → Tried (Unit {0})) (pairs : List Pair) (ends : List OpenPair) → (ends ≡ [] → ⊥) → pairs_open ends ≡ inside n pairs
-      → next (pairs_open ends) ≡ unless_closed parts hypotheses (inside n pairs) (next (inside n pairs))
+  goes_on : (next : List Pair → Tried (Unit {0})) (pairs : List Pair) (ends : List OpenPair) →
+      (ends ≡ [] → ⊥) → pairs_open ends ≡ inside n pairs
+      → next (pairs_open ends) ≡ unless_closed parts hypotheses (inside n pairs)
+      (next (inside n pairs))
   goes_on next pairs [] some is = absurd (some refl)
   goes_on next pairs (o ∷ os) some is = ap (λ ps. unless_closed parts hypotheses ps (next ps)) is
 
   -- one is, and no round is left
-  pub no_round : (pairs : List Pair) (ends : List OpenPair) → (ends ≡ [] → ⊥) → pairs_open ends ≡ inside n pairs → fails ≡ ranking_from parts hypotheses 0 pairs
+  pub no_round : (pairs : List Pair) (ends : List OpenPair) → (ends ≡ [] → ⊥) → pairs_open ends ≡
+      inside n pairs → fails ≡ ranking_from parts hypotheses 0 pairs
   unfolding ranking_from
   no_round pairs ends some is = goes_on (λ ps. fails) pairs ends some is
 
   -- one is, and a round is left
-  pub next_round : (k : ℕ) (pairs : List Pair) (ends : List OpenPair) → (ends ≡ [] → ⊥) → pairs_open ends ≡ inside n pairs
-      → and_then (polynomials parts hypotheses (pairs_open ends)) (ranking_from parts hypotheses k) ≡ ranking_from parts hypotheses (suc k) pairs
+  pub next_round : (k : ℕ) (pairs : List Pair) (ends : List OpenPair) → (ends ≡ [] → ⊥) →
+      pairs_open ends ≡ inside n pairs
+      → and_then (polynomials parts hypotheses (pairs_open ends)) (ranking_from parts hypotheses k)
+      ≡ ranking_from parts hypotheses (suc k) pairs
   unfolding ranking_from
-  next_round k pairs ends some is = goes_on (λ ps. and_then (polynomials parts hypotheses ps) (ranking_from parts hypotheses k)) pairs ends some is
+  next_round k pairs ends some is =
+      goes_on (λ ps. and_then (polynomials parts hypotheses ps) (ranking_from parts hypotheses k))
+      pairs ends some is
 
   -- where no pair is open before the heights either
-  pub nothing_open : (k : ℕ) (ends : List OpenPair) → ends ≡ [] → applies tt ≡ ranking_from parts hypotheses k (pairs_open ends)
-  nothing_open k ends none = rounds_end k (pairs_open ends) [] refl (sym (ap (inside n) (ap pairs_open none)))
+  pub nothing_open : (k : ℕ) (ends : List OpenPair) → ends ≡ [] → applies tt ≡
+      ranking_from parts hypotheses k (pairs_open ends)
+  nothing_open k ends none =
+      rounds_end k (pairs_open ends) [] refl (sym (ap (inside n) (ap pairs_open none)))
 
-  module _ (k left : ℕ) (pairs : List Pair) (grown : List OpenPair) (one_less : left ≡ suc k) (some : grown ≡ [] → ⊥) (is : pairs_open grown ≡ inside n pairs)
+  module _ (k left : ℕ) (pairs : List Pair) (grown : List OpenPair) (one_less : left ≡ suc k)
+      (some : grown ≡ [] → ⊥) (is : pairs_open grown ≡ inside n pairs)
       (made : Option Progress) (noted : Bool)
-      (tried : record { made = option_map (λ (after : Progress). pairs_open after.entries.items) made; noted = noted } ≡ polynomials parts hypotheses (pairs_open grown)) where
+      (tried : record {
+        made = option_map (λ (after : Progress). pairs_open after.entries.items)
+            made;
+        noted = noted;
+      } ≡ polynomials parts hypotheses (pairs_open grown)) where
     abbrev view : Progress → List Pair
     view after = pairs_open after.entries.items
 
@@ -63,11 +81,13 @@ module _ (parts : RuleParts) (hypotheses : List Rule) where
         ∙ ap (λ m. ranking_from parts hypotheses m pairs) (sym one_less)
 
     -- the polynomials aren't found
-    pub round_fails : made ≡ None → record { made = None; noted = noted } ≡ ranking_from parts hypotheses left pairs
+    pub round_fails : made ≡ None → record { made = None; noted = noted } ≡
+        ranking_from parts hypotheses left pairs
     round_fails none = sym (ap then none) ∙ round_is
 
     -- they are, and what comes of the rounds that are left
-    pub round_done : (next : Progress) → made ≡ Some next → (rest : Tried (Unit {0})) → rest ≡ ranking_from parts hypotheses k (view next)
+    pub round_done : (next : Progress) → made ≡ Some next → (rest : Tried (Unit {0})) → rest ≡
+        ranking_from parts hypotheses k (view next)
         → noting noted rest ≡ ranking_from parts hypotheses left pairs
     round_done next found rest later = ap (noting noted) later ∙ sym (ap then found) ∙ round_is
 
@@ -75,7 +95,8 @@ module _ (parts : RuleParts) (hypotheses : List Rule) where
 
 module _ (infos : List SymInfo) (before : Progress) where
   -- no column more
-  pub ranked_here : length before.columns.items ≤ 15 → before.entries.items ≡ [] → IsRanked infos before before
+  pub ranked_here : length before.columns.items ≤ 15 → before.entries.items ≡ [] →
+      IsRanked infos before before
   ranked_here few none = record {
     count = few;
     none = none;
@@ -84,7 +105,8 @@ module _ (infos : List SymInfo) (before : Progress) where
   }
 
   -- a column of heights, and no pair is open
-  pub ranked_grown : (after : Progress) → length before.columns.items ≤ 14 → IsGrown infos before after → after.entries.items ≡ [] → IsRanked infos before after
+  pub ranked_grown : (after : Progress) → length before.columns.items ≤ 14 →
+      IsGrown infos before after → after.entries.items ≡ [] → IsRanked infos before after
   ranked_grown after few grown none = record {
     count = let more = grown.count in omega (arith, few, more);
     none = none;
@@ -93,7 +115,8 @@ module _ (infos : List SymInfo) (before : Progress) where
   }
 
   -- a round, and what comes then
-  ranked_further : (grown next after : Progress) → IsGrown infos before grown → IsGrown infos grown next → IsRanked infos next after → IsRanked infos before after
+  ranked_further : (grown next after : Progress) → IsGrown infos before grown →
+      IsGrown infos grown next → IsRanked infos next after → IsRanked infos before after
   ranked_further grown next after first second rest = record {
     count = rest.count;
     none = rest.none;
@@ -101,7 +124,9 @@ module _ (infos : List SymInfo) (before : Progress) where
     lawful = λ all. rest.lawful (second.lawful (first.lawful all));
   }
 
-  pub ranked_rounds : (grown next : Progress) (made : Option Progress) → IsGrown infos before grown → IsGrown infos grown next → IfSome made (IsRanked infos next)
+  pub ranked_rounds : (grown next : Progress) (made : Option Progress) →
+      IsGrown infos before grown → IsGrown infos grown next → IfSome made (IsRanked infos next)
       → IfSome made (IsRanked infos before)
   ranked_rounds grown next None first second rest = rest
-  ranked_rounds grown next (Some after) first second rest = ranked_further grown next after first second rest
+  ranked_rounds grown next (Some after) first second rest =
+      ranked_further grown next after first second rest

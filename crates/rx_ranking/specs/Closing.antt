@@ -29,7 +29,8 @@ is_leaving names o = not (is_staying names o)
 
 -- ---- columns of polynomials
 
--- an open pair with the certificates by which a column holds there, and where it falls with those of that
+-- an open pair with the certificates by which a column holds there, and where it falls with those
+-- of that
 abbrev pub Fitted : Type 0
 Fitted = (OpenPair × List Cert) × Option (List Cert)
 

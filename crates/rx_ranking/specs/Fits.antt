@@ -7,8 +7,8 @@ use Rattle.rx_ranking.specs.declared.fits.Fits.{Fits}
 use Rattle.rx_ranking.specs.declared.open_pair.OpenPair.{OpenPair}
 use Rattle.rx_term.specs.declared.rule_set.SymInfo.{SymInfo}
 
--- they are over the arguments of their symbols; at the open pairs, which are those that were open before in some order,
--- their column holds, and it is said where it falls
+-- they are over the arguments of their symbols; at the open pairs, which are those that were open
+-- before in some order, their column holds, and it is said where it falls
 pub record AreFits (infos : List SymInfo) (before : List OpenPair) (fits : Fits) : Type 0 where
   pub lawful : IsLawful infos fits.column.items
   pub holds : AllZip (IsHeld fits.column.items) (pairs_open fits.entries.items) fits.holds.items

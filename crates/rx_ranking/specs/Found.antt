@@ -21,8 +21,8 @@ RanksAnswer said (Ok None) = said ≡ No
 RanksAnswer said (Ok (Some found)) = said ≡ Yes
 RanksAnswer said (Err e) = e ≡ Large → said ≡ Beyond
 
--- the ranks are lawful for the symbols, and all pairs of the rules and of the hypotheses are lower by them, by certificates
--- that are at most 174 deep
+-- the ranks are lawful for the symbols, and all pairs of the rules and of the hypotheses are lower
+-- by them, by certificates that are at most 174 deep
 pub record LowersAll (parts : RuleParts) (hypotheses : List Rule) (found : Ranking) : Type 0 where
   pub lawful : bad_rank parts found.table ≡ None
   pub lower : (pairs : List Pair) → AreAllPairs (parts.rules ++ hypotheses) pairs →

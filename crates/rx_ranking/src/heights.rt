@@ -34,7 +34,8 @@ fn is_inside(names: &[u32], pair: &Pair) -> bool
     }
 }
 
-/// The pairs that stay open after a column of heights with that number; the others are closed by it.
+/// The pairs that stay open after a column of heights with that number; the others are closed by
+/// it.
 pub(crate) fn close_between(
     alloc: Global,
     names: &[u32],

@@ -19,8 +19,8 @@ use rx_row::Constraint;
 use rx_term::{Rule, RuleParts};
 use std::alloc::Global;
 
-/// One column more, of polynomials: each component with an open pair takes its first fit choice, and
-/// the pairs that fall are closed.
+/// One column more, of polynomials: each component with an open pair takes its first fit choice,
+/// and the pairs that fall are closed.
 pub(crate) fn add_polynomials<S: FnMut(&Constraint) -> Result<Option<Cert>, FmEnd>>(
     alloc: Global,
     parts: &RuleParts,

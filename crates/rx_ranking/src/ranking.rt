@@ -69,9 +69,9 @@ fn rank_all<S: FnMut(&Constraint) -> Result<Option<Cert>, FmEnd>>(
 }
 
 /// Finds ranks by which all pairs of the rules and of the hypotheses are lower, as the solver shows
-/// it. None where there are none of the kind that is tried; Large where there are none and something
-/// on the way passed the limits. What is found out of pairs is kept in the memo, and what it has
-/// isn't asked again; it may come from other rules, hypotheses and solvers.
+/// it. None where there are none of the kind that is tried; Large where there are none and
+/// something on the way passed the limits. What is found out of pairs is kept in the memo, and what
+/// it has isn't asked again; it may come from other rules, hypotheses and solvers.
 pub fn find_ranks_with<S: FnMut(&Constraint) -> Result<Option<Cert>, FmEnd>>(
     alloc: Global,
     rules: &RuleSet,

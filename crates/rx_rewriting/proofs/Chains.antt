@@ -15,7 +15,8 @@ Reaches-step step = Go step Stop
 -- a chain has a number of steps
 pub Reaches-counted : {R : Relation} {s t : Ground} → Reaches R s t → (m : ℕ) × ReachesIn R m s t
 Reaches-counted Stop = (zero, NoStep)
-Reaches-counted (Go step rest) = let counted = Reaches-counted rest in (suc counted.0, OneMore step counted.1)
+Reaches-counted (Go step rest) =
+    let counted = Reaches-counted rest in (suc counted.0, OneMore step counted.1)
 
 -- a counted chain is a chain
 pub ReachesIn-reaches : {R : Relation} {m : ℕ} {s t : Ground} → ReachesIn R m s t → Reaches R s t
@@ -30,10 +31,12 @@ ReachesIn-trans {R = R} {n = n} {s = s} {u = u} NoStep later =
     let e : n ≡ 0 + n = omega arith in subst P e later
 ReachesIn-trans {R = R} {n = n} {s = s} {u = u} (OneMore {m = m} step rest) later =
     let P : ℕ → Type 0 = λ k. ReachesIn R k s u in
-    let e : suc (m + n) ≡ suc m + n = omega arith in subst P e (OneMore step (ReachesIn-trans rest later))
+    let e : suc (m + n) ≡ suc m + n = omega arith in
+    subst P e (OneMore step (ReachesIn-trans rest later))
 
 -- one conversion behind another
-pub Convertible-trans : {R : Relation} {s t u : Ground} → Convertible R s t → Convertible R t u → Convertible R s u
+pub Convertible-trans : {R : Relation} {s t u : Ground} → Convertible R s t → Convertible R t u →
+    Convertible R s u
 Convertible-trans Same later = later
 Convertible-trans (Forth step rest) later = Forth step (Convertible-trans rest later)
 Convertible-trans (Back step rest) later = Back step (Convertible-trans rest later)
@@ -66,7 +69,8 @@ pub Joins-before_right : (R : Relation) (r s t : Ground) → Reaches R r t → J
 Joins-before_right R r s t chain (u, left, right) = (u, left, Reaches-trans chain right)
 
 -- a step by a relation is one by any wider relation
-pub Step-wider : {R Q : Relation} → ((s t : Ground) → R s t → Q s t) → {s t : Ground} → Step R s t → Step Q s t
+pub Step-wider : {R Q : Relation} → ((s t : Ground) → R s t → Q s t) → {s t : Ground} → Step R s t →
+    Step Q s t
 Step-wider wider (Here {s = s} {t = t} one) = Here (wider s t one)
 Step-wider wider (Under f xs step) = Under f xs (Step-wider wider step)
 
@@ -90,7 +94,8 @@ Step-either (Under f xs step) = go f xs (Step-either step)
     go f xs (inr one) = inr (Under f xs one)
 
 -- what is reached by a relation is reached by any wider one
-pub Reaches-wider : {R Q : Relation} → ((s t : Ground) → R s t → Q s t) → {s t : Ground} → Reaches R s t → Reaches Q s t
+pub Reaches-wider : {R Q : Relation} → ((s t : Ground) → R s t → Q s t) → {s t : Ground} →
+    Reaches R s t → Reaches Q s t
 Reaches-wider wider Stop = Stop
 Reaches-wider wider (Go step rest) = Go (Step-wider wider step) (Reaches-wider wider rest)
 
@@ -99,5 +104,7 @@ pub Reaches-by_rule : (R H : Relation) {s t : Ground} → Reaches R s t → Reac
 Reaches-by_rule R H chain = Reaches-wider (λ s t one. inl one) chain
 
 -- terms that join by a relation join by any wider one
-pub Joins-wider : (R Q : Relation) → ((s t : Ground) → R s t → Q s t) → (s t : Ground) → Joins R s t → Joins Q s t
-Joins-wider R Q wider s t (u, left, right) = (u, Reaches-wider wider left, Reaches-wider wider right)
+pub Joins-wider : (R Q : Relation) → ((s t : Ground) → R s t → Q s t) → (s t : Ground) →
+    Joins R s t → Joins Q s t
+Joins-wider R Q wider s t (u, left, right) =
+    (u, Reaches-wider wider left, Reaches-wider wider right)

@@ -1,4 +1,5 @@
--- Inside a set of terms, hypotheses convert no more than the rules: the principle of Koike and Toyama.
+-- Inside a set of terms, hypotheses convert no more than the rules: the principle of Koike and
+-- Toyama.
 use Rattle.std.proofs.Common.{◌⊎◌, inl, inr}
 use Rattle.rx_rewriting.specs.Terms.{Ground, Relation, TermSet}
 use Rattle.rx_rewriting.specs.Steps.{Step, Reaches, Stop, Go, Convertible, Same, Forth, Back, Joins, Either}
@@ -7,23 +8,30 @@ use Rattle.rx_rewriting.specs.Premises.{Lowers, Stays, Moves, IsReplaceable, End
 use Rattle.rx_rewriting.proofs.Induction.{induction_on, ends_inside}
 use Rattle.rx_rewriting.proofs.Chains.{Step-by_rule, Step-by_hypothesis, Step-either, Convertible-trans, Convertible-sym, Reaches-convertible, Reaches-step}
 
--- what the induction says of an inside term: it is convertible by the rules with whatever it reaches
+-- what the induction says of an inside term: it is convertible by the rules with whatever it
+-- reaches
 abbrev pub IsConvertedFrom : TermSet → Relation → Relation → Ground → Type 0
-IsConvertedFrom inside R H s = inside s → (u : Ground) → Reaches (Either R H) s u → Convertible R s u
+IsConvertedFrom inside R H s =
+    inside s → (u : Ground) → Reaches (Either R H) s u → Convertible R s u
 
--- whatever is reached from an inside term by rules and hypotheses is convertible with it by the rules
+-- whatever is reached from an inside term by rules and hypotheses is convertible with it by the
+-- rules
 pub reached_convertible : (weight : Ground → Weight) (inside : TermSet) (R H : Relation)
     → Lowers weight inside (Either R H) → Stays inside (Either R H) → IsReplaceable inside R H
     → (s : Ground) → IsConvertedFrom inside R H s
 reached_convertible weight inside R H lowers stays replaceable =
-    induction_on weight (IsConvertedFrom inside R H) (λ s lesser in_s u chain. go s u lesser in_s chain)
+    induction_on weight (IsConvertedFrom inside R H)
+    (λ s lesser in_s u chain. go s u lesser in_s chain)
   where
     -- behind a first step all is smaller: the induction is used at what the step leads to
-    after : (s t : Ground) → ((v : Ground) → Smaller (weight v) (weight s) → IsConvertedFrom inside R H v)
-        → inside s → Step (Either R H) s t → (u : Ground) → Reaches (Either R H) t u → Convertible R t u
+    after : (s t : Ground) → ((v : Ground) → Smaller (weight v) (weight s) →
+        IsConvertedFrom inside R H v)
+        → inside s → Step (Either R H) s t → (u : Ground) → Reaches (Either R H) t u →
+        Convertible R t u
     after s t lesser in_s step = lesser t (lowers s t in_s step) (stays s t in_s step)
 
-    split : (s t u : Ground) → ((v : Ground) → Smaller (weight v) (weight s) → IsConvertedFrom inside R H v)
+    split : (s t u : Ground) → ((v : Ground) → Smaller (weight v) (weight s) →
+        IsConvertedFrom inside R H v)
         → inside s → Step R s t ⊎ Step H s t → Reaches (Either R H) t u → Convertible R s u
     split s t u lesser in_s (inl rule) rest =
         Forth rule (after s t lesser in_s (Step-by_rule R H rule) u rest)
@@ -35,7 +43,8 @@ reached_convertible weight inside R H lowers stays replaceable =
         (Convertible-trans (after s first lesser in_s (Step-by_rule R H leads) middle left)
         (Convertible-trans (Convertible-sym (by_t middle right)) (by_t u rest)))
 
-    go : (s u : Ground) → ((v : Ground) → Smaller (weight v) (weight s) → IsConvertedFrom inside R H v)
+    go : (s u : Ground) → ((v : Ground) → Smaller (weight v) (weight s) →
+        IsConvertedFrom inside R H v)
         → inside s → Reaches (Either R H) s u → Convertible R s u
     go s u lesser in_s Stop = Same
     go s u lesser in_s (Go {t = t} step rest) = split s t u lesser in_s (Step-either step) rest
@@ -48,9 +57,11 @@ joined_convertible weight inside R H lowers stays replaceable s t in_s in_t (u, 
     let converted = reached_convertible weight inside R H lowers stays replaceable in
     Convertible-trans (converted s in_s u left) (Convertible-sym (converted t in_t u right))
 
--- and where what is inside and no result has a rule step, they reach results that are convertible by the rules
+-- and where what is inside and no result has a rule step, they reach results that are convertible
+-- by the rules
 pub joined_end_alike : (weight : Ground → Weight) (inside : TermSet) (R H : Relation)
-    → Lowers weight inside (Either R H) → Stays inside (Either R H) → IsReplaceable inside R H → Moves inside R
+    → Lowers weight inside (Either R H) → Stays inside (Either R H) → IsReplaceable inside R H →
+    Moves inside R
     → (s t : Ground) → inside s → inside t → Joins (Either R H) s t → EndAlike inside R s t
 joined_end_alike weight inside R H lowers stays replaceable moves s t in_s in_t joined =
     let ends = ends_inside weight inside R
@@ -63,7 +74,8 @@ joined_end_alike weight inside R H lowers stays replaceable moves s t in_s in_t 
       right = at_t;
       convertible =
           Convertible-trans (Convertible-sym (Reaches-convertible at_s.reached))
-          (Convertible-trans (joined_convertible weight inside R H lowers stays replaceable s t in_s in_t joined)
+          (Convertible-trans (joined_convertible weight inside R H lowers stays replaceable s t in_s
+          in_t joined)
           (Reaches-convertible at_t.reached));
     }
 
@@ -75,9 +87,12 @@ pub conversion : (weight : Ground → Weight) (inside : TermSet) (R H : Relation
 conversion weight inside R H lowers stays replaceable all s t chain = go s t chain
   where
     one : (a b : Ground) → Step (Either R H) a b → Convertible R a b
-    one a b step = reached_convertible weight inside R H lowers stays replaceable a (all a) b (Reaches-step step)
+    one a b step =
+        reached_convertible weight inside R H lowers stays replaceable a (all a) b
+        (Reaches-step step)
 
     go : (a b : Ground) → Convertible (Either R H) a b → Convertible R a b
     go a b Same = Same
     go a b (Forth {t = c} step rest) = Convertible-trans (one a c step) (go c b rest)
-    go a b (Back {t = c} step rest) = Convertible-trans (Convertible-sym (one c a step)) (go c b rest)
+    go a b (Back {t = c} step rest) =
+        Convertible-trans (Convertible-sym (one c a step)) (go c b rest)

@@ -14,7 +14,17 @@ use Rattle.rx_rewriting.proofs.UniqueResults.{convertible_results_equal}
 
 -- one rank gives way to none
 to_none : (r : Rank) → Smaller [] (r ∷ [])
-to_none r = record { first = r; others = []; kept = []; put = []; old = λ q. refl; new = λ q. refl; below = tt }
+to_none r =
+    record {
+      first = r;
+      others = [];
+      kept = [];
+      put = [];
+      old = λ q. refl;
+      new = λ q. refl;
+      below =
+          tt;
+    }
 
 -- one rank gives way to two below it
 to_two : (r q p : Rank) → RankLess q r → RankLess p r → Smaller (q ∷ p ∷ []) (r ∷ [])
@@ -37,7 +47,8 @@ rules_lower s t (DownTurns k) =
     (refl, inr (refl, inl (omega arith))) (refl, inr (refl, inl (omega arith)))
 rules_lower s t (CopyEnds x low) = to_none (1 ∷ above x ∷ [])
 rules_lower s t (CopyTurns k) =
-    to_two (1 ∷ suc k ∷ []) (0 ∷ 0 ∷ []) (1 ∷ k ∷ []) (refl, inl (omega arith)) (refl, inr (refl, inl (omega arith)))
+    to_two (1 ∷ suc k ∷ []) (0 ∷ 0 ∷ []) (1 ∷ k ∷ []) (refl, inl (omega arith))
+    (refl, inr (refl, inl (omega arith)))
 rules_lower s t (Adds k) = to_none (0 ∷ 0 ∷ [])
 rules_lower s t (Passes c) = to_none (0 ∷ 0 ∷ [])
 
@@ -129,7 +140,8 @@ is_declared (Some symbol) = true
 is_declared None = false
 
 -- each fitting call has a step
-calls_step : (f : ℕ) (xs : List ℤ) → Fits symbols (Call f xs) → (t : Ground) × Step Rules (Call f xs) t
+calls_step : (f : ℕ) (xs : List ℤ) → Fits symbols (Call f xs) → (t : Ground) ×
+    Step Rules (Call f xs) t
 calls_step zero [] fits = absurd (omega (arith, ap arity_of fits))
 calls_step zero (x ∷ []) fits = down_steps x
 calls_step zero (x ∷ y ∷ xs) fits = absurd (omega (arith, ap arity_of fits))
@@ -154,15 +166,25 @@ frames_step (suc (suc (suc f))) xs s fits result = absurd (true≢false (sym (ap
 -- a rule step from copy leads to a term that joins with down at the same integer
 copy_joins_down : (x : ℤ)
     → (first : Ground) × Step Rules (copy x) first × Joins (Either Rules Hypothesis) first (down x)
-copy_joins_down (pos zero) =
-    (Ret (pos 0), Here (CopyEnds (pos zero) tt), (Ret (pos 0), Stop, Go (Here (inl (DownEnds (pos zero) tt))) Stop))
+copy_joins_down (pos zero) = (
+  Ret (pos 0),
+  Here (CopyEnds (pos zero) tt),
+  (Ret (pos 0), Stop, Go (Here (inl (DownEnds (pos zero) tt))) Stop),
+)
 copy_joins_down (pos (suc k)) = (
   one_more (copy (pos k)),
   Here (CopyTurns k),
-  (one_more (down (pos k)), Go (Under 2 [] (Here (inr (CopyIsDown (pos k))))) Stop, Go (Here (inl (DownTurns k))) Stop),
+  (
+    one_more (down (pos k)),
+    Go (Under 2 [] (Here (inr (CopyIsDown (pos k))))) Stop,
+    Go (Here (inl (DownTurns k))) Stop,
+  ),
 )
-copy_joins_down (negsuc k) =
-    (Ret (pos 0), Here (CopyEnds (negsuc k) tt), (Ret (pos 0), Stop, Go (Here (inl (DownEnds (negsuc k) tt))) Stop))
+copy_joins_down (negsuc k) = (
+  Ret (pos 0),
+  Here (CopyEnds (negsuc k) tt),
+  (Ret (pos 0), Stop, Go (Here (inl (DownEnds (negsuc k) tt))) Stop),
+)
 
 -- the hypothesis, with no frames over it, can be replaced
 replaceable_here : IsReplaceableHere IsInside Rules Hypothesis
@@ -172,7 +194,8 @@ replaceable_here s t in_s (CopyIsDown x) = copy_joins_down x
 inside_inner : KeepsInner IsInside
 inside_inner f xs s whole = (whole.0.1, whole.1)
 
-inside_exchange : (f : ℕ) (xs : List ℤ) (s t : Ground) → IsInside (Frame f xs s) → IsInside t → IsInside (Frame f xs t)
+inside_exchange : (f : ℕ) (xs : List ℤ) (s t : Ground) → IsInside (Frame f xs s) → IsInside t →
+    IsInside (Frame f xs t)
 inside_exchange f xs s t whole inner = ((whole.0.0, inner.0), inner.1)
 
 -- all premises of the laws hold of these rules and this hypothesis, inside these terms
@@ -181,8 +204,10 @@ premises_hold =
     record {
       inner = inside_inner;
       lowers = lowers_under_frames rank IsInside (Either Rules Hypothesis) inside_inner lower;
-      stays = stays_under_frames IsInside (Either Rules Hypothesis) inside_inner inside_exchange stay;
-      replaceable = replaceable_under_frames IsInside Rules Hypothesis inside_inner replaceable_here;
+      stays =
+          stays_under_frames IsInside (Either Rules Hypothesis) inside_inner inside_exchange stay;
+      replaceable =
+          replaceable_under_frames IsInside Rules Hypothesis inside_inner replaceable_here;
       moves = moves_under_frames IsInside Rules inside_inner (λ f xs in_s. calls_step f xs in_s.0)
           (λ f xs s in_s result. frames_step f xs s in_s.0 result);
       single = single_valued_under_frames Rules rules_once nothing_below;
@@ -197,15 +222,16 @@ premises_hold =
     stay s t in_s (inl rule) = (rules_fit s t in_s.0 rule, rules_count s t in_s.1 rule)
     stay s t in_s (inr (CopyIsDown x)) = (refl, in_s.1)
 
--- so, by the laws, copy and down reach one result at each integer from 0 on, although no rule leads from the one to
--- the other
+-- so, by the laws, copy and down reach one result at each integer from 0 on, although no rule leads
+-- from the one to the other
 pub copy_is_down : (x : ℕ)
     → (k : Ground) × Reaches Rules (copy (pos x)) k × Reaches Rules (down (pos x)) k × IsResult k
 copy_is_down x =
     let p = premises_hold in
     let count = All-cons AtLeastZero (pos x) [] tt (All-nil AtLeastZero) in
     let (first, leads, joined) = copy_joins_down (pos x) in
-    let ends = joined_end_alike (weight_of rank) IsInside Rules Hypothesis p.lowers p.stays p.replaceable p.moves
+    let ends = joined_end_alike (weight_of rank) IsInside Rules Hypothesis p.lowers p.stays
+    p.replaceable p.moves
     (copy (pos x)) (down (pos x)) (refl, count) (refl, count)
     (Joins-before_left (Either Rules Hypothesis) (copy (pos x)) first (down (pos x))
     (Reaches-step (Step-by_rule Rules Hypothesis leads)) joined) in

@@ -1,4 +1,5 @@
--- The order of weights is well-founded: nested induction over the rank taken out, the rest, and the ranks put in.
+-- The order of weights is well-founded: nested induction over the rank taken out, the rest, and the
+-- ranks put in.
 use Rattle.std.proofs.Common.{◌≡◌, ◌<◌, Bool, true, false, inl, inr, [], ◌∷◌, ◌++◌, refl, ap, arith}
 use mathlib.Core.WellFounded.{Acc}
 use mathlib.Core.WellFounded.Acc
@@ -33,7 +34,8 @@ same_accessible v w same (Acc.intro at smaller) =
     }))
 
 -- where any lower rank may be put on top of an accessible weight, finitely many may
-put_accessible : (a : Rank) → ((b : Rank) → RankLess b a → (w : Weight) → Acc OneOut w → Acc OneOut (b ∷ w))
+put_accessible : (a : Rank) → ((b : Rank) → RankLess b a → (w : Weight) → Acc OneOut w →
+    Acc OneOut (b ∷ w))
     → (put : Weight) → BelowThis a put → (w : Weight) → Acc OneOut w → Acc OneOut (put ++ w)
 put_accessible a lesser [] below w rest = rest
 put_accessible a lesser (b ∷ put) below w rest =
@@ -43,7 +45,8 @@ put_accessible a lesser (b ∷ put) below w rest =
 on_top : (a : Rank) → ((b : Rank) → RankLess b a → (w : Weight) → Acc OneOut w → Acc OneOut (b ∷ w))
     → (w : Weight) → Acc OneOut w → Acc OneOut (a ∷ w)
 on_top a lesser w (Acc.intro at smaller) =
-    Acc.intro (a ∷ at) (λ v one. go v one (same_rank one.out a) refl (λ u o. on_top a lesser u (smaller u o)))
+    Acc.intro (a ∷ at) (λ v one. go v one (same_rank one.out a) refl
+    (λ u o. on_top a lesser u (smaller u o)))
   where
     go : (v : Weight) (one : OneOut v (a ∷ at)) (b : Bool) → same_rank one.out a ≡ b
         → ((u : Weight) → OneOut u at → Acc OneOut (a ∷ u)) → Acc OneOut v
@@ -84,7 +87,8 @@ on_top a lesser w (Acc.intro at smaller) =
 
 -- any rank may be put on top of an accessible weight
 any_on_top : (a : Rank) → Acc RankLess a → (w : Weight) → Acc OneOut w → Acc OneOut (a ∷ w)
-any_on_top a (Acc.intro top smaller) w rest = on_top top (λ b less. any_on_top b (smaller b less)) w rest
+any_on_top a (Acc.intro top smaller) w rest =
+    on_top top (λ b less. any_on_top b (smaller b less)) w rest
 
 -- single exchanges end
 pub one_out_accessible : (w : Weight) → Acc OneOut w
@@ -101,11 +105,13 @@ exchanges_accessible : (w : Weight) → Acc OneOut w → Acc Exchanges w
 exchanges_accessible w (Acc.intro at smaller) =
     Acc.intro at (λ u row. go u at row (λ v one. exchanges_accessible v (smaller v one)))
   where
-    go : (u w : Weight) → Exchanges u w → ((v : Weight) → OneOut v w → Acc Exchanges v) → Acc Exchanges u
+    go : (u w : Weight) → Exchanges u w → ((v : Weight) → OneOut v w → Acc Exchanges v) →
+        Acc Exchanges u
     go u w (LastOne one) again = again u one
     go u w (OneBefore {v = v} row one) again = Acc.inv (again v one) row
 
--- ranks, each below the first or below one of the others, cut into those below the first and those below another
+-- ranks, each below the first or below one of the others, cut into those below the first and those
+-- below another
 pub record Split (first : Rank) (others put : Weight) : Type 0 where
   pub mine : Weight
   pub theirs : Weight
@@ -114,7 +120,8 @@ pub record Split (first : Rank) (others put : Weight) : Type 0 where
   pub below_others : AllBelow others theirs
 
 -- ranks below one of those taken out can be cut so
-split : (first : Rank) (others put : Weight) → AllBelow (first ∷ others) put → Split first others put
+split : (first : Rank) (others put : Weight) → AllBelow (first ∷ others) put →
+    Split first others put
 split first others [] below =
     record { mine = []; theirs = []; together = λ r. refl; below_first = tt; below_others = tt }
 split first others (r ∷ put) (inl less, below) =
@@ -147,7 +154,8 @@ none_below [] below = refl
 none_below (r ∷ put) below = absurd below.0
 
 -- taking out some ranks and putting in lower ones is a row of single exchanges
-row : (first : Rank) (others kept put v w : Weight) → Alike w ((first ∷ others) ++ kept) → Alike v (put ++ kept)
+row : (first : Rank) (others kept put v w : Weight) → Alike w ((first ∷ others) ++ kept) →
+    Alike v (put ++ kept)
     → AllBelow (first ∷ others) put → Exchanges v w
 row first [] kept put v w old new below =
     let s = split first [] put below in
@@ -200,7 +208,8 @@ row first (next ∷ others) kept put v w old new below =
 
 -- a smaller weight comes by a row of single exchanges
 pub Smaller-exchanges : (v w : Weight) → Smaller v w → Exchanges v w
-Smaller-exchanges v w less = row less.first less.others less.kept less.put v w less.old less.new less.below
+Smaller-exchanges v w less =
+    row less.first less.others less.kept less.put v w less.old less.new less.below
 
 -- what is accessible by rows of exchanges is so by the order of weights
 smaller_accessible : (w : Weight) → Acc Exchanges w → Acc Smaller w

@@ -12,7 +12,8 @@ below_bound (suc n) m less = Acc.intro m (λ k smaller. below_bound n k (omega a
 pub number_accessible : (m : ℕ) → Acc ◌<◌ m
 number_accessible m = below_bound (suc m) m (omega arith)
 
--- where all ranks with a lesser first column are accessible, so is a rank, by what follows its first column
+-- where all ranks with a lesser first column are accessible, so is a rank, by what follows its
+-- first column
 by_tails : (n x : ℕ) → ((y : ℕ) → y < x → (ys : Rank) → length ys ≡ n → Acc RankLess (y ∷ ys))
     → (xs : Rank) → Acc RankLess xs → length xs ≡ n → Acc RankLess (x ∷ xs)
 by_tails n x lesser xs (Acc.intro tail smaller) columns =
@@ -29,7 +30,8 @@ by_tails n x lesser xs (Acc.intro tail smaller) columns =
 by_heads : (n : ℕ) → ((xs : Rank) → length xs ≡ n → Acc RankLess xs)
     → (x : ℕ) → Acc ◌<◌ x → (xs : Rank) → length xs ≡ n → Acc RankLess (x ∷ xs)
 by_heads n tails x (Acc.intro head smaller) xs columns =
-    by_tails n head (λ y less ys e. by_heads n tails y (smaller y less) ys e) xs (tails xs columns) columns
+    by_tails n head (λ y less ys e. by_heads n tails y (smaller y less) ys e) xs (tails xs columns)
+    columns
 
 -- all ranks of n columns are accessible
 accessible_of_length : (n : ℕ) (r : Rank) → length r ≡ n → Acc RankLess r

@@ -1,4 +1,5 @@
--- Smaller weights: equal ranks added on both sides, weights under frames, and smaller weights along a chain.
+-- Smaller weights: equal ranks added on both sides, weights under frames, and smaller weights along
+-- a chain.
 use Rattle.std.proofs.Common.{◌≡◌, ℕ, zero, suc, ◌<◌, ◌≤◌, Bool, true, false, inl, inr, List, [], ◌∷◌, ◌++◌, ℤ, refl, ap, sym, ◌∙◌, arith}
 use Rattle.rx_rewriting.specs.Terms.{Ground, Frame, StackFrame, under, Relation, TermSet, Ret, Fail, Call, IsResult}
 use Rattle.rx_rewriting.specs.Steps.{Step, Here, Under, ReachesIn, NoStep, OneMore}
@@ -11,13 +12,15 @@ use Rattle.rx_rewriting.proofs.RankOrder.{RankLess-trans}
 pub weight_of-under : (rank : ℕ → List ℤ → Rank) (fs : List StackFrame) (s : Ground)
     → weight_of rank (under fs s) ≡ ranks_of rank fs ++ weight_of rank s
 weight_of-under rank [] s = refl
-weight_of-under rank (f ∷ fs) s = ap (λ w. rank f.symbol f.arguments ∷ w) (weight_of-under rank fs s)
+weight_of-under rank (f ∷ fs) s =
+    ap (λ w. rank f.symbol f.arguments ∷ w) (weight_of-under rank fs s)
 
 -- the ranks of one stack of frames over another
 pub ranks_of-append : (rank : ℕ → List ℤ → Rank) (fs gs : List StackFrame)
     → ranks_of rank (fs ++ gs) ≡ ranks_of rank fs ++ ranks_of rank gs
 ranks_of-append rank [] gs = refl
-ranks_of-append rank (f ∷ fs) gs = ap (λ w. rank f.symbol f.arguments ∷ w) (ranks_of-append rank fs gs)
+ranks_of-append rank (f ∷ fs) gs =
+    ap (λ w. rank f.symbol f.arguments ∷ w) (ranks_of-append rank fs gs)
 
 -- no weight is smaller than the empty one
 pub not_Smaller-nil : (v : Weight) → Smaller v [] → ⊥
@@ -50,7 +53,16 @@ Smaller-Alike v w v' w' left right less =
 pub Smaller-exchange : (first : Rank) (others put kept : Weight) → AllBelow (first ∷ others) put
     → Smaller (put ++ kept) ((first ∷ others) ++ kept)
 Smaller-exchange first others put kept below =
-    record { first = first; others = others; kept = kept; put = put; old = λ r. refl; new = λ r. refl; below = below }
+    record {
+      first = first;
+      others = others;
+      kept = kept;
+      put = put;
+      old = λ r. refl;
+      new = λ r.
+          refl;
+      below = below;
+    }
 
 -- the same ranks added in front on both sides keep smaller
 pub Smaller-add_left : (u v w : Weight) → Smaller v w → Smaller (u ++ v) (u ++ w)
@@ -111,7 +123,8 @@ below_some (x ∷ xs) r (inr below) =
     record { over = some.over; among = omega (arith, some.among); less = some.less }
 
 -- what is below a rank that the list has is below one of the list
-pub below_one : (taken : Weight) (r x : Rank) → 0 < times x taken → RankLess r x → IsBelowOne taken r
+pub below_one : (taken : Weight) (r x : Rank) → 0 < times x taken → RankLess r x →
+    IsBelowOne taken r
 below_one [] r x among less = absurd (omega arith)
 below_one (y ∷ ys) r x among less = go (same_rank x y) refl (λ later. below_one ys r x later less)
   where
@@ -120,21 +133,25 @@ below_one (y ∷ ys) r x among less = go (same_rank x y) refl (λ later. below_o
     go false e further = inr (further (omega (arith, rw e at among)))
 
 -- where all put in are below, each of them is
-pub each_below : (taken put : Weight) → AllBelow taken put → (r : Rank) → 0 < times r put → IsBelowOne taken r
+pub each_below : (taken put : Weight) → AllBelow taken put → (r : Rank) → 0 < times r put →
+    IsBelowOne taken r
 each_below taken [] below r among = absurd (omega arith)
 each_below taken (x ∷ put) below r among = go (same_rank r x) refl (each_below taken put below.1 r)
   where
-    go : (b : Bool) → same_rank r x ≡ b → (0 < times r put → IsBelowOne taken r) → IsBelowOne taken r
+    go : (b : Bool) → same_rank r x ≡ b → (0 < times r put → IsBelowOne taken r) →
+        IsBelowOne taken r
     go true e further = rw (same_rank-true r x e) below.0
     go false e further = further (omega (arith, rw e at among))
 
 -- where each rank put in is below, all are
-pub all_below : (taken put : Weight) → ((r : Rank) → 0 < times r put → IsBelowOne taken r) → AllBelow taken put
+pub all_below : (taken put : Weight) → ((r : Rank) → 0 < times r put → IsBelowOne taken r) →
+    AllBelow taken put
 all_below taken [] each = tt
 all_below taken (x ∷ put) each =
     (each x (times-first x put), all_below taken put (λ r among. each r (omega (arith, among))))
 
--- a multiset cut in two ways has four parts: in both first halves, in the one, in the other, in neither
+-- a multiset cut in two ways has four parts: in both first halves, in the one, in the other, in
+-- neither
 pub record Parts (one one_rest other other_rest : Weight) : Type 0 where
   pub shared : Weight
   pub only_one : Weight
@@ -167,7 +184,8 @@ parts (x ∷ one) one_rest other other_rest same =
         → Parts (x ∷ one) one_rest other other_rest
     go zero e again =
         let there : 0 < times x other_rest =
-        omega (arith, same x, e, times-append x other other_rest, times-first x (one ++ one_rest)) in
+        omega (arith, same x, e, times-append x other other_rest, times-first x (one ++ one_rest))
+        in
         let less = without x other_rest in
         let moved = Alike-without x other_rest there in
         let p = again other less (λ r. omega (
@@ -214,7 +232,8 @@ parts (x ∷ one) one_rest other other_rest same =
           other_rest_is = p.other_rest_is;
         }
 
--- where ranks are below one of the list's, that list being among another's, they are below one of the other's
+-- where ranks are below one of the list's, that list being among another's, they are below one of
+-- the other's
 pub below_wider : (taken wider : Weight) → ((r : Rank) → times r taken ≤ times r wider)
     → (r : Rank) → IsBelowOne taken r → IsBelowOne wider r
 below_wider taken wider among r below =
@@ -222,7 +241,8 @@ below_wider taken wider among r below =
     below_one wider r some.over (omega (arith, some.among, among some.over)) some.less
 
 -- a rank below a rank that is below one of the list's is below one of the list's
-pub below_further : (taken : Weight) (r x : Rank) → RankLess r x → IsBelowOne taken x → IsBelowOne taken r
+pub below_further : (taken : Weight) (r x : Rank) → RankLess r x → IsBelowOne taken x →
+    IsBelowOne taken r
 below_further taken r x less below =
     let some = below_some taken x below in
     below_one taken r some.over some.among (RankLess-trans r x some.over less some.less)
@@ -256,7 +276,9 @@ Smaller-trans u v w low high =
         times-append r low.put p.only_one,
         times-append r p.only_one p.neither,
       );
-      below = all_below taken (low.put ++ p.only_one) (λ r among. below p r (times r low.put) refl among);
+      below =
+          all_below taken (low.put ++ p.only_one)
+          (λ r among. below p r (times r low.put) refl among);
     }
   where
     top : Weight
@@ -282,7 +304,8 @@ Smaller-trans u v w low high =
           times-append some.over p.shared p.only_other,
           times-append some.over p.shared p.only_one,
         ) in
-        below_wider top (top ++ p.only_other) (λ q. omega (arith, times-append q top p.only_other)) r
+        below_wider top (top ++ p.only_other) (λ q. omega (arith, times-append q top p.only_other))
+        r
         (below_further top r some.over some.less (upper some.over put_in))
     over p r some (suc n) e =
         below_one (top ++ p.only_other) r some.over
@@ -292,7 +315,8 @@ Smaller-trans u v w low high =
     below : (p : Parts high.put high.kept out low.kept) (r : Rank) (n : ℕ) → times r low.put ≡ n
         → 0 < times r (low.put ++ p.only_one) → IsBelowOne (top ++ p.only_other) r
     below p r zero e among =
-        below_wider top (top ++ p.only_other) (λ q. omega (arith, times-append q top p.only_other)) r
+        below_wider top (top ++ p.only_other) (λ q. omega (arith, times-append q top p.only_other))
+        r
         (upper r (omega (
           arith,
           e,
@@ -305,14 +329,16 @@ Smaller-trans u v w low high =
         let some = below_some out r (each_below out low.put low.below r (omega (arith, e))) in
         over p r some (times some.over p.only_other) refl
 
--- where each step from inside lowers the weight and stays inside, so does each chain of at least one step
+-- where each step from inside lowers the weight and stays inside, so does each chain of at least
+-- one step
 pub chain_lowers : (weight : Ground → Weight) (inside : TermSet) (R : Relation)
     → Lowers weight inside R → Stays inside R
     → (m : ℕ) (s t : Ground) → inside s → ReachesIn R (suc m) s t → Smaller (weight t) (weight s)
 chain_lowers weight inside R lowers stays zero s t in_s (OneMore step NoStep) = lowers s t in_s step
 chain_lowers weight inside R lowers stays (suc m) s t in_s (OneMore {t = u} step rest) =
     Smaller-trans (weight t) (weight u) (weight s)
-    (chain_lowers weight inside R lowers stays m u t (stays s u in_s step) rest) (lowers s u in_s step)
+    (chain_lowers weight inside R lowers stays m u t (stays s u in_s step) rest)
+    (lowers s u in_s step)
 
 -- where each step from inside stays inside, so does each chain
 pub chain_stays : (inside : TermSet) (R : Relation) → Stays inside R

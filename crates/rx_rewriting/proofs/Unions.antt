@@ -12,17 +12,20 @@ module _ (R H : Relation) where
   Step-either s t (Here (inr hypothesis)) = inr (Here hypothesis)
   Step-either _ _ (Under {s = s} {t = t} f xs step) = under_one (Step-either s t step)
     where
-      under_one : Step R s t ⊎ Step H s t → Step R (Frame f xs s) (Frame f xs t) ⊎ Step H (Frame f xs s) (Frame f xs t)
+      under_one : Step R s t ⊎ Step H s t → Step R (Frame f xs s) (Frame f xs t) ⊎
+          Step H (Frame f xs s) (Frame f xs t)
       under_one (inl rule) = inl (Under f xs rule)
       under_one (inr hypothesis) = inr (Under f xs hypothesis)
 
-  pub lowers_either : (weight : Ground → Weight) (inside : TermSet) → Lowers weight inside R → Lowers weight inside H → Lowers weight inside (Either R H)
+  pub lowers_either : (weight : Ground → Weight) (inside : TermSet) → Lowers weight inside R →
+      Lowers weight inside H → Lowers weight inside (Either R H)
   lowers_either weight inside rules hypotheses s t in_s step = elim (Step-either s t step) [
     | inl rule ↦ rules s t in_s rule
     | inr hypothesis ↦ hypotheses s t in_s hypothesis
   ]
 
-  pub stays_either : (inside : TermSet) → Stays inside R → Stays inside H → Stays inside (Either R H)
+  pub stays_either : (inside : TermSet) → Stays inside R → Stays inside H →
+      Stays inside (Either R H)
   stays_either inside rules hypotheses s t in_s step = elim (Step-either s t step) [
     | inl rule ↦ rules s t in_s rule
     | inr hypothesis ↦ hypotheses s t in_s hypothesis

@@ -1,4 +1,5 @@
--- A system that meets all premises of the laws: a small rule list over three symbols, and a hypothesis beside it.
+-- A system that meets all premises of the laws: a small rule list over three symbols, and a
+-- hypothesis beside it.
 --
 --   down(x) -> 0 [x <= 0]      down(x) -> one_more(down(x - 1)) [x >= 1]
 --   copy(x) -> 0 [x <= 0]      copy(x) -> one_more(copy(x - 1)) [x >= 1]      copy(x) = down(x), the hypothesis
@@ -13,7 +14,8 @@ use Rattle.rx_rewriting.specs.Premises.{Lowers, Stays, Moves, IsReplaceable, Kee
 abbrev pub called : Symbol
 called = record { arity = 1; is_frame = false }
 
--- the signature: down and copy are called with one argument, one_more is a frame with none, and there is one failure
+-- the signature: down and copy are called with one argument, one_more is a frame with none, and
+-- there is one failure
 abbrev pub symbols : Symbols
 symbols = record {
   declared = called ∷ called ∷ record { arity = 0; is_frame = true } ∷ [];
@@ -83,11 +85,12 @@ abbrev pub negative_call : Ground
 negative_call = down (negsuc 0)
 
 -- all premises of the laws
-pub record PremisesHold (weight : Ground → Weight) (inside : TermSet) (R H : Relation) : Type 0 where
-  pub inner : KeepsInner inside
-  pub lowers : Lowers weight inside (Either R H)
-  pub stays : Stays inside (Either R H)
-  pub replaceable : IsReplaceable inside R H
-  pub moves : Moves inside R
-  pub single : IsSingleValued R
-  pub rest : ResultsRest R
+pub record PremisesHold (weight : Ground → Weight) (inside : TermSet) (R H : Relation) : Type 0
+  where
+    pub inner : KeepsInner inside
+    pub lowers : Lowers weight inside (Either R H)
+    pub stays : Stays inside (Either R H)
+    pub replaceable : IsReplaceable inside R H
+    pub moves : Moves inside R
+    pub single : IsSingleValued R
+    pub rest : ResultsRest R

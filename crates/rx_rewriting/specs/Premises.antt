@@ -1,4 +1,5 @@
--- What the laws ask of a weight, of the rules and hypotheses, and of the set of terms inside which they are to hold.
+-- What the laws ask of a weight, of the rules and hypotheses, and of the set of terms inside which
+-- they are to hold.
 use Rattle.std.specs.Prelude.{ℕ, ◌⊎◌, List, ℤ}
 use Rattle.rx_rewriting.specs.Terms.{Ground, Frame, IsResult, Relation, TermSet}
 use Rattle.rx_rewriting.specs.Steps.{Step, Reaches, Convertible, Joins, Either}
@@ -20,10 +21,12 @@ Stays inside R = (s t : Ground) → inside s → Step R s t → inside t
 abbrev pub Moves : TermSet → Relation → Type 0
 Moves inside R = (s : Ground) → inside s → IsResult s ⊎ ((t : Ground) × Step R s t)
 
--- where a hypothesis steps from an inside s to t, a rule steps from s to a term that joins with t by both together
+-- where a hypothesis steps from an inside s to t, a rule steps from s to a term that joins with t
+-- by both together
 abbrev pub IsReplaceable : TermSet → Relation → Relation → Type 0
 IsReplaceable inside R H =
-    (s t : Ground) → inside s → Step H s t → (first : Ground) × Step R s first × Joins (Either R H) first t
+    (s t : Ground) → inside s → Step H s t → (first : Ground) × Step R s first ×
+    Joins (Either R H) first t
 
 -- no step starts at a result
 abbrev pub ResultsRest : Relation → Type 0
@@ -53,4 +56,5 @@ LowersHere weight inside R = (s t : Ground) → inside s → R s t → Smaller (
 -- the same of hypotheses with no frames over them
 abbrev pub IsReplaceableHere : TermSet → Relation → Relation → Type 0
 IsReplaceableHere inside R H =
-    (s t : Ground) → inside s → H s t → (first : Ground) × Step R s first × Joins (Either R H) first t
+    (s t : Ground) → inside s → H s t → (first : Ground) × Step R s first ×
+    Joins (Either R H) first t

@@ -46,7 +46,8 @@ abbrev pub AllBelow : Weight → Weight → Type 0
 AllBelow taken [] = Unit {0}
 AllBelow taken (r ∷ put) = IsBelowOne taken r × AllBelow taken put
 
--- v is smaller than w: at least one rank is taken out, and finitely many are put in, each below one taken out
+-- v is smaller than w: at least one rank is taken out, and finitely many are put in, each below one
+-- taken out
 pub record Smaller (v w : Weight) : Type 0 where
   pub first : Rank
   pub others : Weight
@@ -56,7 +57,8 @@ pub record Smaller (v w : Weight) : Type 0 where
   pub new : Alike v (put ++ kept)
   pub below : AllBelow (first ∷ others) put
 
--- the weight of a ground term: the ranks of its frames and of its call, for a rank of each symbol at its arguments
+-- the weight of a ground term: the ranks of its frames and of its call, for a rank of each symbol
+-- at its arguments
 abbrev pub weight_of : (ℕ → List ℤ → Rank) → Ground → Weight
 weight_of rank (Ret k) = []
 weight_of rank (Fail c) = []

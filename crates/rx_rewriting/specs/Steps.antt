@@ -7,7 +7,8 @@ pub data Step (R : Relation) : Ground → Ground → Type 0 where
   Here : {s t : Ground} → R s t → Step R s t
   Under : {s t : Ground} (f : ℕ) (xs : List ℤ) → Step R s t → Step R (Frame f xs s) (Frame f xs t)
 
--- the same in other words: some frames are kept, and the relation leads from the part under them to what replaces it
+-- the same in other words: some frames are kept, and the relation leads from the part under them to
+-- what replaces it
 pub record ReplacesInner (R : Relation) (s t : Ground) : Type 0 where
   pub kept : List StackFrame
   pub before : Ground

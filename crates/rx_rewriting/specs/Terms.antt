@@ -1,7 +1,8 @@
 -- Ground terms: stacks of frames over a call or a result, and which of them fit a list of symbols.
 use Rattle.std.specs.Prelude.{◌≡◌, ℕ, ◌≤◌, Bool, true, false, List, [], ◌∷◌, length, ℤ, Some, slice_get}
 
--- a returned integer, a failure with its code, a call of a symbol with integers, or such a frame over a term
+-- a returned integer, a failure with its code, a call of a symbol with integers, or such a frame
+-- over a term
 pub data Ground : Type 0 where
   Ret : ℤ → Ground
   Fail : ℕ → Ground
@@ -33,7 +34,8 @@ abbrev pub under : List StackFrame → Ground → Ground
 under [] s = s
 under (f ∷ fs) s = Frame f.symbol f.arguments (under fs s)
 
--- what a symbol is declared as: the number of its arguments, and whether it stands as a frame or is called
+-- what a symbol is declared as: the number of its arguments, and whether it stands as a frame or is
+-- called
 pub record Symbol : Type 0 where
   pub arity : ℕ
   pub is_frame : Bool
@@ -45,9 +47,11 @@ pub record Symbols : Type 0 where
 
 -- the signature declares the symbol so
 abbrev pub Declares : Symbols → ℕ → Bool → ℕ → Type 0
-Declares symbols f is_frame arity = slice_get symbols.declared f ≡ Some (record { arity = arity; is_frame = is_frame })
+Declares symbols f is_frame arity =
+    slice_get symbols.declared f ≡ Some (record { arity = arity; is_frame = is_frame })
 
--- the term fits the signature: symbols and numbers of arguments as declared, failure codes from 1 to the greatest
+-- the term fits the signature: symbols and numbers of arguments as declared, failure codes from 1
+-- to the greatest
 abbrev pub Fits : Symbols → Ground → Type 0
 Fits symbols (Ret k) = Unit {0}
 Fits symbols (Fail c) = (1 ≤ c) × (c ≤ symbols.fails)

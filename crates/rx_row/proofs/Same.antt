@@ -37,4 +37,5 @@ told_same_rows (r ∷ rs) (s ∷ ss) e =
 
 pub told_themselves : (rs : List Row) → pointwise row_eq rs rs ≡ true
 told_themselves [] = refl
-told_themselves (r ∷ rs) = and_from (row_eq r r) (pointwise row_eq rs rs) (told_itself_row r) (told_themselves rs)
+told_themselves (r ∷ rs) =
+    and_from (row_eq r r) (pointwise row_eq rs rs) (told_itself_row r) (told_themselves rs)

@@ -1,4 +1,5 @@
--- A row with polynomials in place of its variables holds where the row holds of what these are worth.
+-- A row with polynomials in place of its variables holds where the row holds of what these are
+-- worth.
 use Rattle.std.proofs.Common.{◌≡◌, ◌↔◌, subst, sym, ℕ, ℤ, pos, ◌≤ℤ◌, List, [], ◌∷◌}
 use Rattle.std.proofs.lemmas.List.Elements.{All-cons, All-head, All-nil, All-tail}
 use Rattle.rx_poly.proofs.SubstitutedValue.{value-in_body}
@@ -14,17 +15,23 @@ same_number : (P : ℤ → Type 0) {y z : ℤ} → y ≡ z → P y ↔ P z
 same_number P e = (λ h. subst P e h, λ h. subst P (sym e) h)
 
 -- substitution and assignment commute: in a row
-pub in_row-holds : (a : ℕ → ℤ) (ws : List (ℕ × Body)) (row : Row) → RowHolds a (in_row ws row) ↔ RowHolds (worth a ws) row
+pub in_row-holds : (a : ℕ → ℤ) (ws : List (ℕ × Body)) (row : Row) →
+    RowHolds a (in_row ws row) ↔ RowHolds (worth a ws) row
 in_row-holds a ws (Ge p) = same_number (λ z. pos 0 ≤ℤ z) (value-in_body a ws p)
 in_row-holds a ws (Eq p) = same_number (λ z. z ≡ pos 0) (value-in_body a ws p)
 in_row-holds a ws (Ne p) = same_number (λ z. z ≡ pos 0 → ⊥) (value-in_body a ws p)
 
 -- and in all rows of a list
-pub in_rows-hold : (a : ℕ → ℤ) (ws : List (ℕ × Body)) (rows : List Row) → AllHold a (in_rows ws rows) ↔ AllHold (worth a ws) rows
+pub in_rows-hold : (a : ℕ → ℤ) (ws : List (ℕ × Body)) (rows : List Row) →
+    AllHold a (in_rows ws rows) ↔ AllHold (worth a ws) rows
 in_rows-hold a ws [] = (λ h. All-nil (RowHolds (worth a ws)), λ h. All-nil (RowHolds a))
 in_rows-hold a ws (r ∷ rs) =
     let here = in_row-holds a ws r in
     let more = in_rows-hold a ws rs in (
-      λ h. All-cons (RowHolds (worth a ws)) r rs (here.0 (All-head (RowHolds a) (in_row ws r) (in_rows ws rs) h)) (more.0 (All-tail (RowHolds a) (in_row ws r) (in_rows ws rs) h)),
-      λ h. All-cons (RowHolds a) (in_row ws r) (in_rows ws rs) (here.1 (All-head (RowHolds (worth a ws)) r rs h)) (more.1 (All-tail (RowHolds (worth a ws)) r rs h)),
+      λ h. All-cons (RowHolds (worth a ws)) r rs
+          (here.0 (All-head (RowHolds a) (in_row ws r) (in_rows ws rs) h))
+          (more.0 (All-tail (RowHolds a) (in_row ws r) (in_rows ws rs) h)),
+      λ h. All-cons (RowHolds a) (in_row ws r) (in_rows ws rs)
+          (here.1 (All-head (RowHolds (worth a ws)) r rs h))
+          (more.1 (All-tail (RowHolds (worth a ws)) r rs h)),
     )

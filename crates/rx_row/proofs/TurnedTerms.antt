@@ -38,14 +38,17 @@ no_atoms (x ∷ xs) e = cc
 
 -- only one monomial has no atom
 one_is : (m : Mono) → is_one m ≡ true → m ≡ one
-one_is m e = sym (roll-out-Mono m) ∙ (λ i. roll-Mono (record { atoms = no_atoms (out-Mono m).atoms e i }))
+one_is m e =
+    sym (roll-out-Mono m) ∙ (λ i. roll-Mono (record { atoms = no_atoms (out-Mono m).atoms e i }))
 
 shorter : (n : ℕ) → nat_cmp 0 (suc n) ≡ Less
 shorter n = let less : 0 < suc n = omega arith in sym (nat_cmp_is 0 (suc n) Less less)
 
 -- it comes after each other one
 before_one : (m : Mono) → is_one m ≡ false → mono_cmp m one ≡ Less
-before_one m e = mono_cmp_is m one ∙ ap (λ ys. graded_cmp atom_cmp (out-Mono m).atoms ys) (atoms-of_atoms []) ∙ by (out-Mono m).atoms e
+before_one m e =
+    mono_cmp_is m one ∙ ap (λ ys. graded_cmp atom_cmp (out-Mono m).atoms ys) (atoms-of_atoms []) ∙
+    by (out-Mono m).atoms e
   where
     by : (xs : List Atom) → is_empty xs ≡ false → graded_cmp atom_cmp xs [] ≡ Less
     by [] f = cc
@@ -55,12 +58,16 @@ before_one m e = mono_cmp_is m one ∙ ap (λ ys. graded_cmp atom_cmp (out-Mono 
 none_after_one : (ts : List (Mono × ℤ)) → is_before mono_cmp one ts ≡ true → ts ≡ []
 none_after_one [] h = refl
 none_after_one (t ∷ ts) h =
-    let first : is_lt (mono_cmp one t.0) ≡ true = (and_parts (is_lt (mono_cmp one t.0)) (is_before mono_cmp one ts) h).0 in
+    let first : is_lt (mono_cmp one t.0) ≡ true =
+    (and_parts (is_lt (mono_cmp one t.0)) (is_before mono_cmp one ts) h).0 in
     absurd (by (is_one t.0) refl (lt_is (mono_cmp one t.0) first))
   where
     by : (b : Bool) → is_one t.0 ≡ b → mono_cmp one t.0 ≡ Less → ⊥
-    by true e f = let same : Less ≡ Equal = sym f ∙ ap (mono_cmp one) (one_is t.0 e) ∙ itself one in cc
-    by false e f = let same : Less ≡ Greater = sym f ∙ mono_total.antisymm one t.0 ∙ ap ordering_reverse (before_one t.0 e) in cc
+    by true e f =
+        let same : Less ≡ Equal = sym f ∙ ap (mono_cmp one) (one_is t.0 e) ∙ itself one in cc
+    by false e f =
+        let same : Less ≡ Greater = sym f ∙ mono_total.antisymm one t.0 ∙
+        ap ordering_reverse (before_one t.0 e) in cc
 
 -- ---- the terms of -p - 1
 
@@ -74,10 +81,15 @@ nonzero_turned c h = by_false (is_zero (c *ℤ negsuc 0)) (λ e.
 abbrev last_one : List (Mono × ℤ)
 last_one = (one, negsuc 0) ∷ []
 
-first_term : (t : Mono × ℤ) (ts : List (Mono × ℤ)) → is_before mono_cmp t.0 ts ≡ true → Listed mono_cmp mono_total same_mono (turned t) (times_number (negsuc 0) ts) → add_terms mono_cmp (times_number (negsuc 0) ts) last_one ≡ one_less_turned ts → (b : Bool) → is_one t.0 ≡ b
-    → add_terms mono_cmp (turned t ∷ times_number (negsuc 0) ts) last_one ≡ (if is_one t.0 then number_terms (negsuc 0 -ℤ t.1) else turned t ∷ one_less_turned ts)
+first_term : (t : Mono × ℤ) (ts : List (Mono × ℤ)) → is_before mono_cmp t.0 ts ≡ true →
+    Listed mono_cmp mono_total same_mono (turned t) (times_number (negsuc 0) ts) →
+    add_terms mono_cmp (times_number (negsuc 0) ts) last_one ≡ one_less_turned ts → (b : Bool) →
+    is_one t.0 ≡ b
+    → add_terms mono_cmp (turned t ∷ times_number (negsuc 0) ts) last_one ≡
+    (if is_one t.0 then number_terms (negsuc 0 -ℤ t.1) else turned t ∷ one_less_turned ts)
 first_term t ts before listed rest true e =
-    let nothing : ts ≡ [] = none_after_one ts (subst (λ m. is_before mono_cmp m ts ≡ true) (one_is t.0 e) before) in
+    let nothing : ts ≡ [] = none_after_one ts
+    (subst (λ m. is_before mono_cmp m ts ≡ true) (one_is t.0 e) before) in
     let c = t.1 *ℤ negsuc 0 in
     let equal : mono_cmp t.0 one ≡ Equal = ap (λ m. mono_cmp m one) (one_is t.0 e) ∙ itself one in
     let sum : c +ℤ negsuc 0 ≡ negsuc 0 -ℤ t.1 = omega (arith, ints) in
@@ -86,30 +98,41 @@ first_term t ts before listed rest true e =
     ∙ (λ i. put (one_is t.0 e i) (sum i) [])
     ∙ ap (λ b. if b then number_terms (negsuc 0 -ℤ t.1) else turned t ∷ one_less_turned ts) (sym e)
 first_term t ts before listed rest false e =
-    let after : is_before mono_cmp t.0 last_one ≡ true = and_from (is_lt (mono_cmp t.0 one)) true (ap is_lt (before_one t.0 e)) refl in
-    add-left mono_cmp mono_total same_mono (turned t) (times_number (negsuc 0) ts) last_one listed after
+    let after : is_before mono_cmp t.0 last_one ≡ true =
+    and_from (is_lt (mono_cmp t.0 one)) true (ap is_lt (before_one t.0 e)) refl in
+    add-left mono_cmp mono_total same_mono (turned t) (times_number (negsuc 0) ts) last_one listed
+    after
     ∙ ap (λ us. turned t ∷ us) rest
     ∙ ap (λ b. if b then number_terms (negsuc 0 -ℤ t.1) else turned t ∷ one_less_turned ts) (sym e)
 
-sum_is : (ts : List (Mono × ℤ)) → is_listed mono_cmp ts ≡ true → add_terms mono_cmp (times_number (negsuc 0) ts) last_one ≡ one_less_turned ts
+sum_is : (ts : List (Mono × ℤ)) → is_listed mono_cmp ts ≡ true →
+    add_terms mono_cmp (times_number (negsuc 0) ts) last_one ≡ one_less_turned ts
 sum_is [] h = refl
 sum_is (t ∷ ts) h =
     let l = listed_parts mono_cmp mono_total same_mono t ts h in
     let c = t.1 *ℤ negsuc 0 in
-    let opened : times_number (negsuc 0) (t ∷ ts) ≡ (t.0, c) ∷ times_number (negsuc 0) ts = put-nonzero t.0 c (times_number (negsuc 0) ts) (nonzero_turned t.1 l.nonzero) in
+    let opened : times_number (negsuc 0) (t ∷ ts) ≡ (t.0, c) ∷ times_number (negsuc 0) ts =
+    put-nonzero t.0 c (times_number (negsuc 0) ts) (nonzero_turned t.1 l.nonzero) in
     let listed = ap (is_listed mono_cmp) (sym opened) ∙ listed-times_number (negsuc 0) (t ∷ ts) h in
-    ap (λ xs. add_terms mono_cmp xs last_one) opened ∙ first_term t ts l.before (listed_parts mono_cmp mono_total same_mono (t.0, c) (times_number (negsuc 0) ts) listed) (sum_is ts l.rest) (is_one t.0) refl
+    ap (λ xs. add_terms mono_cmp xs last_one) opened ∙
+    first_term t ts l.before (listed_parts mono_cmp mono_total same_mono (t.0, c)
+    (times_number (negsuc 0) ts) listed) (sum_is ts l.rest) (is_one t.0) refl
 
-minus_terms : (q : Body) → is_poly q ≡ true → (out-Body (minus_one_more q)).terms ≡ one_less_turned (out-Body q).terms
+minus_terms : (q : Body) → is_poly q ≡ true → (out-Body (minus_one_more q)).terms ≡
+    one_less_turned (out-Body q).terms
 minus_terms q h =
-    terms-of_terms (add_terms mono_cmp (out-Body (opposite q)).terms (negated (out-Body (number (pos 1))).terms))
-    ∙ (λ i. add_terms mono_cmp (terms-of_terms (times_number (negsuc 0) (out-Body q).terms) i) (negated (terms-of_terms ((one, pos 1) ∷ []) i)))
+    terms-of_terms (add_terms mono_cmp (out-Body (opposite q)).terms
+    (negated (out-Body (number (pos 1))).terms))
+    ∙ (λ i. add_terms mono_cmp (terms-of_terms (times_number (negsuc 0) (out-Body q).terms) i)
+    (negated (terms-of_terms ((one, pos 1) ∷ []) i)))
     ∙ sum_is (out-Body q).terms (poly_terms q h).listed
 
 -- a polynomial is -p - 1 exactly where its terms are these
-pub is_minus : (p q : Body) → is_poly q ≡ true → ((out-Body p).terms ≡ one_less_turned (out-Body q).terms) ↔ (p ≡ minus_one_more q)
+pub is_minus : (p q : Body) → is_poly q ≡ true →
+    ((out-Body p).terms ≡ one_less_turned (out-Body q).terms) ↔ (p ≡ minus_one_more q)
 is_minus p q h = (
-  λ e. sym (roll-out-Body p) ∙ (λ i. roll-Body (record { terms = (e ∙ sym (minus_terms q h)) i })) ∙ roll-out-Body (minus_one_more q),
+  λ e. sym (roll-out-Body p) ∙ (λ i. roll-Body (record { terms = (e ∙ sym (minus_terms q h)) i })) ∙
+      roll-out-Body (minus_one_more q),
   λ e. ap (λ (b : Body). (out-Body b).terms) e ∙ minus_terms q h,
 )
 
@@ -121,7 +144,8 @@ equal_is Equal e = refl
 equal_is Greater e = cc
 
 -- terms of one monomial
-pub turned_coefficient : (x y : Mono × ℤ) {b : Bool} → is_eq (mono_cmp x.0 y.0) ≡ true → b ≡ is_zero (x.1 +ℤ y.1) → IsTrue b ↔ (x ≡ turned y)
+pub turned_coefficient : (x y : Mono × ℤ) {b : Bool} → is_eq (mono_cmp x.0 y.0) ≡ true → b ≡
+    is_zero (x.1 +ℤ y.1) → IsTrue b ↔ (x ≡ turned y)
 turned_coefficient x y {b} same is = (
   λ e.
       let zero_sum : x.1 +ℤ y.1 ≡ pos 0 = zero_is (x.1 +ℤ y.1) (sym is ∙ e) in
@@ -134,11 +158,13 @@ turned_coefficient x y {b} same is = (
 )
 
 -- terms of two
-pub turned_other : (x y : Mono × ℤ) {b : Bool} → is_eq (mono_cmp x.0 y.0) ≡ false → b ≡ false → IsTrue b ↔ (x ≡ turned y)
+pub turned_other : (x y : Mono × ℤ) {b : Bool} → is_eq (mono_cmp x.0 y.0) ≡ false → b ≡ false →
+    IsTrue b ↔ (x ≡ turned y)
 turned_other x y {b} other fails = (
   λ e. let told : b ≡ true = e in cc,
   λ e.
-      let same : is_eq (mono_cmp x.0 y.0) ≡ true = ap (λ (u : Mono × ℤ). is_eq (mono_cmp u.0 y.0)) e ∙ ap is_eq (itself y.0) in
+      let same : is_eq (mono_cmp x.0 y.0) ≡ true =
+      ap (λ (u : Mono × ℤ). is_eq (mono_cmp u.0 y.0)) e ∙ ap is_eq (itself y.0) in
       cc,
 )
 
@@ -157,40 +183,59 @@ same_first {x} {y} {xs} {ys} e = (ap (first_or x) e, ap rest_of e)
     rest_of [] = []
     rest_of (t ∷ ts) = ts
 
-module _ {ls left : List (Mono × ℤ)} (right : List (Mono × ℤ)) (i : ℕ) {t : Mono × ℤ} (h : i < length right) (is : t ≡ get_or right i t) (c : Comparing ls (drop i right) left right) where
-  opened : Comparing ls (t ∷ drop (suc i) right) left right
-  opened = subst (λ rest. Comparing ls rest left right) (drop-cons right i t h ∙ ap (λ u. u ∷ drop (suc i) right) (sym is)) c
+module _ {ls left : List (Mono × ℤ)} (right : List (Mono × ℤ)) (i : ℕ) {t : Mono × ℤ}
+    (h : i < length right) (is : t ≡ get_or right i t) (c : Comparing ls (drop i right) left right)
+  where
+    opened : Comparing ls (t ∷ drop (suc i) right) left right
+    opened =
+        subst (λ rest. Comparing ls rest left right)
+        (drop-cons right i t h ∙ ap (λ u. u ∷ drop (suc i) right) (sym is)) c
 
-  -- the constant is the last
-  pub at_one : {b : Bool} → is_one t.0 ≡ true → (IsTrue b ↔ (ls ≡ number_terms (negsuc 0 -ℤ t.1))) → IsTrue b ↔ (left ≡ one_less_turned right)
-  at_one e f = (
-    λ g. opened.tells.0 (f.0 g ∙ ap (λ b. if b then number_terms (negsuc 0 -ℤ t.1) else turned t ∷ one_less_turned (drop (suc i) right)) (sym e)),
-    λ g. f.1 (opened.tells.1 g ∙ ap (λ b. if b then number_terms (negsuc 0 -ℤ t.1) else turned t ∷ one_less_turned (drop (suc i) right)) e),
-  )
+    -- the constant is the last
+    pub at_one : {b : Bool} → is_one t.0 ≡ true →
+        (IsTrue b ↔ (ls ≡ number_terms (negsuc 0 -ℤ t.1))) →
+        IsTrue b ↔ (left ≡ one_less_turned right)
+    at_one e f = (
+      λ g. opened.tells.0 (f.0 g ∙ ap (λ b. if b then number_terms (negsuc 0 -ℤ t.1) else turned t ∷
+          one_less_turned (drop (suc i) right)) (sym e)),
+      λ g. f.1 (opened.tells.1 g ∙ ap (λ b. if b then number_terms (negsuc 0 -ℤ t.1) else turned t ∷
+          one_less_turned (drop (suc i) right)) e),
+    )
 
-  other : is_one t.0 ≡ false → left ≡ one_less_turned right → ls ≡ turned t ∷ one_less_turned (drop (suc i) right)
-  other e g = opened.tells.1 g ∙ ap (λ b. if b then number_terms (negsuc 0 -ℤ t.1) else turned t ∷ one_less_turned (drop (suc i) right)) e
+    other : is_one t.0 ≡ false → left ≡ one_less_turned right → ls ≡ turned t ∷
+        one_less_turned (drop (suc i) right)
+    other e g =
+        opened.tells.1 g ∙ ap (λ b. if b then number_terms (negsuc 0 -ℤ t.1) else turned t ∷
+        one_less_turned (drop (suc i) right)) e
 
-  -- a term has none beside it
-  pub no_term : is_one t.0 ≡ false → ls ≡ [] → left ≡ one_less_turned right → ⊥
-  no_term e none g = let no : [] ≡ turned t ∷ one_less_turned (drop (suc i) right) = sym none ∙ other e g in cc
+    -- a term has none beside it
+    pub no_term : is_one t.0 ≡ false → ls ≡ [] → left ≡ one_less_turned right → ⊥
+    no_term e none g =
+        let no : [] ≡ turned t ∷ one_less_turned (drop (suc i) right) = sym none ∙ other e g in cc
 
-  module _ {x : Mono × ℤ} {more : List (Mono × ℤ)} (e : is_one t.0 ≡ false) (parts : ls ≡ x ∷ more) where
-    -- another term is beside it
-    pub no_match : (x ≡ turned t → ⊥) → left ≡ one_less_turned right → ⊥
-    no_match n g = n (same_first (sym parts ∙ other e g)).0
+    module _ {x : Mono × ℤ} {more : List (Mono × ℤ)} (e : is_one t.0 ≡ false)
+        (parts : ls ≡ x ∷ more)
+      where
+        -- another term is beside it
+        pub no_match : (x ≡ turned t → ⊥) → left ≡ one_less_turned right → ⊥
+        no_match n g = n (same_first (sym parts ∙ other e g)).0
 
-    -- the right one leaves it to the rest
-    pub after_match : x ≡ turned t → Comparing more (drop (i + 1) right) left right
-    after_match same = subst (λ n. Comparing more (drop n right) left right) (sym (add-one i)) (record {
-      tells = (
-        λ g. opened.tells.0 (parts ∙ (λ j. same j ∷ g j) ∙ ap (λ b. if b then number_terms (negsuc 0 -ℤ t.1) else turned t ∷ one_less_turned (drop (suc i) right)) (sym e)),
-        λ g. (same_first (sym parts ∙ other e g)).1,
-      );
-    })
+        -- the right one leaves it to the rest
+        pub after_match : x ≡ turned t → Comparing more (drop (i + 1) right) left right
+        after_match same =
+            subst (λ n. Comparing more (drop n right) left right) (sym (add-one i)) (record {
+              tells = (
+                λ g. opened.tells.0 (parts ∙ (λ j. same j ∷ g j) ∙
+                    ap (λ b. if b then number_terms (negsuc 0 -ℤ t.1) else turned t ∷
+                    one_less_turned (drop (suc i) right)) (sym e)),
+                λ g. (same_first (sym parts ∙ other e g)).1,
+              );
+            })
 
 -- nothing is left of the other
-pub last_number : {ls left right : List (Mono × ℤ)} (i : ℕ) {b : Bool} → length right ≤ i → Comparing ls (drop i right) left right → (IsTrue b ↔ (ls ≡ number_terms (negsuc 0))) → IsTrue b ↔ (left ≡ one_less_turned right)
+pub last_number : {ls left right : List (Mono × ℤ)} (i : ℕ) {b : Bool} → length right ≤ i →
+    Comparing ls (drop i right) left right → (IsTrue b ↔ (ls ≡ number_terms (negsuc 0))) →
+    IsTrue b ↔ (left ≡ one_less_turned right)
 last_number {ls} {left} {right} i h c f =
     let all = subst (λ rest. Comparing ls rest left right) (drop_of_length-le right h) c in
     (λ g. all.tells.0 (f.0 g), λ g. f.1 (all.tells.1 g))

@@ -25,10 +25,12 @@ abbrev pub is_taken : Option Row → ℤ → Bool
 is_taken None by = false
 is_taken (Some row) by = takes row by
 
--- the parts are lawful: each row is there and takes its multiplier, and the numbers rise, the first being at least `from`
+-- the parts are lawful: each row is there and takes its multiplier, and the numbers rise, the first
+-- being at least `from`
 abbrev pub lawful_from : ℕ → List Row → List (ℕ × ℤ) → Bool
 lawful_from from rows [] = true
-lawful_from from rows (p ∷ ps) = nat_le from p.0 && (is_taken (slice_get rows p.0) p.1 && lawful_from (p.0 + 1) rows ps)
+lawful_from from rows (p ∷ ps) =
+    nat_le from p.0 && (is_taken (slice_get rows p.0) p.1 && lawful_from (p.0 + 1) rows ps)
 
 abbrev pub are_lawful : List Row → List (ℕ × ℤ) → Bool
 are_lawful rows ps = lawful_from 0 rows ps
@@ -41,7 +43,8 @@ with_multiple sum (Some row) by = added sum (scaled_by by (poly_of row))
 -- the multiple, and the sum with it, keep the limits
 abbrev pub multiple_within : Body → Option Row → ℤ → Bool
 multiple_within sum None by = true
-multiple_within sum (Some row) by = is_within (scaled_by by (poly_of row)) && is_within (added sum (scaled_by by (poly_of row)))
+multiple_within sum (Some row) by =
+    is_within (scaled_by by (poly_of row)) && is_within (added sum (scaled_by by (poly_of row)))
 
 -- a sum to which each part adds its multiple, in order
 abbrev pub sum_from : Body → List Row → List (ℕ × ℤ) → Body
@@ -52,7 +55,8 @@ sum_from sum rows (p ∷ ps) = sum_from (with_multiple sum (slice_get rows p.0) 
 abbrev pub sum_within : Body → List Row → List (ℕ × ℤ) → Bool
 sum_within sum rows [] = true
 sum_within sum rows (p ∷ ps) =
-    multiple_within sum (slice_get rows p.0) p.1 && sum_within (with_multiple sum (slice_get rows p.0) p.1) rows ps
+    multiple_within sum (slice_get rows p.0) p.1 &&
+    sum_within (with_multiple sum (slice_get rows p.0) p.1) rows ps
 
 -- the sum of the parts, where all of them are lawful
 abbrev pub sum_of : List Row → List (ℕ × ℤ) → Option Body
@@ -64,7 +68,8 @@ parts_within rows ps = if are_lawful rows ps then sum_within (number (pos 0)) ro
 
 -- both at once: of one multiple
 abbrev pub multiple_formed : Body → Option Row → ℤ → Formed Body
-multiple_formed sum row by = record { form = with_multiple sum row by; within = multiple_within sum row by }
+multiple_formed sum row by =
+    record { form = with_multiple sum row by; within = multiple_within sum row by }
 
 -- of the sum
 abbrev pub sum_formed : Body → List Row → List (ℕ × ℤ) → Formed Body

@@ -40,7 +40,8 @@ fn push_substituted(
     row: &Row,
     with: &[(u32, Poly)],
 ) -> Result<(), PolyEnd>
-    ensures forms { FormsAs (λ _. rows.new.items) PolyEnd.Large result (pushed_with rows.old.items with.now row.now) }
+    ensures forms { FormsAs (λ _. rows.new.items) PolyEnd.Large result
+        (pushed_with rows.old.items with.now row.now) }
 {
     let changed = row.subst(alloc, with)?;
     rows.push(changed).map_err(AllocError::from)?;
@@ -61,7 +62,8 @@ pub fn subst_rows(alloc: Global, rows: &[Row], with: &[(u32, Poly)]) -> Result<V
 
 /// Puts the row after the others, with those polynomials in place of v0, v1, and so on.
 fn push_at_args(rows: &mut Vec<Row>, alloc: Global, row: &Row, args: &[Poly]) -> Result<(), PolyEnd>
-    ensures forms { FormsAs (λ _. rows.new.items) PolyEnd.Large result (pushed_with rows.old.items (numbered args.now) row.now) }
+    ensures forms { FormsAs (λ _. rows.new.items) PolyEnd.Large result
+        (pushed_with rows.old.items (numbered args.now) row.now) }
 {
     let instance = row.at_args(alloc, args)?;
     rows.push(instance).map_err(AllocError::from)?;
@@ -115,7 +117,8 @@ impl Constraint {
         ensures known { Contains self.old row → self.new ≡ self.old }
         ensures ready { Contains self.old row → IsOk result }
         ensures new { OnOk result (¬ (Contains self.old row) → self.new ≡ self.old ++ row ∷ []) }
-        ensures holds { OnOk result ((a : ℕ → ℤ) → AllHold a self.new ↔ (AllHold a self.old × RowHolds a row)) }
+        ensures holds { OnOk result ((a : ℕ → ℤ) →
+            AllHold a self.new ↔ (AllHold a self.old × RowHolds a row)) }
         ensures refused { OnErr result (self.new ≡ self.old) }
         ensures pushed { OnOk result (self.new ≡ pushed self.old row) }
     {
@@ -154,7 +157,8 @@ impl Constraint {
     /// Large exactly where a polynomial on the way to one of them passes the limits.
     pub fn subst(&self, alloc: Global, with: &[(u32, Poly)]) -> Result<Constraint, PolyEnd>
         ensures forms { Forms PolyEnd.Large result (rows_with with.now self.now) }
-        ensures holds { IfOk result (λ c. (a : ℕ → ℤ) → AllHold a c ↔ AllHold (worth a with.now) self.now) }
+        ensures holds { IfOk result (λ c. (a : ℕ → ℤ) →
+            AllHold a c ↔ AllHold (worth a with.now) self.now) }
     {
         let rows = subst_rows(alloc, self.rows.as_slice(), with)?;
         Ok(Constraint {
@@ -186,7 +190,8 @@ impl Constraint {
     /// second in place of v1, and so on. Large exactly where `subst` is, for that list.
     pub fn at_args(&self, alloc: Global, args: &[Poly]) -> Result<Constraint, PolyEnd>
         ensures forms { Forms PolyEnd.Large result (rows_with (numbered args.now) self.now) }
-        ensures holds { IfOk result (λ c. (a : ℕ → ℤ) → AllHold a c ↔ AllHold (worth a (numbered args.now)) self.now) }
+        ensures holds { IfOk result (λ c. (a : ℕ → ℤ) →
+            AllHold a c ↔ AllHold (worth a (numbered args.now)) self.now) }
     {
         let rows = rows_at_args(alloc, self.rows.as_slice(), args)?;
         Ok(Constraint {

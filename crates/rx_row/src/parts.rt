@@ -81,7 +81,8 @@ pub fn combine_rows(
     parts: &[(u32, i128)],
 ) -> Result<Option<Poly>, PolyEnd>
     ensures forms { Forms PolyEnd.Large result (parts_formed rows.now parts.now) }
-    ensures holds { IfOk result (λ s. IfSome s (λ p. (a : ℕ → ℤ) → AllHold a rows.now → pos 0 ≤ℤ value a p)) }
+    ensures holds { IfOk result (λ s. IfSome s
+        (λ p. (a : ℕ → ℤ) → AllHold a rows.now → pos 0 ≤ℤ value a p)) }
 {
     if !are_lawful_parts(rows, parts) {
         return Ok(None);
@@ -96,7 +97,8 @@ pub fn combine(
     parts: &[(u32, i128)],
 ) -> Result<Option<Poly>, PolyEnd>
     ensures forms { Forms PolyEnd.Large result (parts_formed rows.now parts.now) }
-    ensures holds { IfOk result (λ s. IfSome s (λ p. (a : ℕ → ℤ) → AllHold a rows.now → pos 0 ≤ℤ value a p)) }
+    ensures holds { IfOk result (λ s. IfSome s
+        (λ p. (a : ℕ → ℤ) → AllHold a rows.now → pos 0 ≤ℤ value a p)) }
 {
     combine_rows(alloc, rows.rows(), parts)
 }

@@ -61,7 +61,8 @@ impl Row {
     /// where a polynomial on the way to that passes the limits.
     pub fn subst(&self, alloc: Global, with: &[(u32, Poly)]) -> Result<Row, PolyEnd>
         ensures forms { Forms PolyEnd.Large result (row_with with.now self.now) }
-        ensures holds { IfOk result (λ r. (a : ℕ → ℤ) → RowHolds a r ↔ RowHolds (worth a with.now) self.now) }
+        ensures holds { IfOk result (λ r. (a : ℕ → ℤ) →
+            RowHolds a r ↔ RowHolds (worth a with.now) self.now) }
     {
         match self {
             Row::Ge(poly) => Ok(Row::Ge(poly.subst(alloc, with)?)),
@@ -74,7 +75,8 @@ impl Row {
     /// place of v1, and so on. Large exactly where `subst` is, for that list.
     pub fn at_args(&self, alloc: Global, args: &[Poly]) -> Result<Row, PolyEnd>
         ensures forms { Forms PolyEnd.Large result (row_with (numbered args.now) self.now) }
-        ensures holds { IfOk result (λ r. (a : ℕ → ℤ) → RowHolds a r ↔ RowHolds (worth a (numbered args.now)) self.now) }
+        ensures holds { IfOk result (λ r. (a : ℕ → ℤ) →
+            RowHolds a r ↔ RowHolds (worth a (numbered args.now)) self.now) }
     {
         match self {
             Row::Ge(poly) => Ok(Row::Ge(poly.at_args(alloc, args)?)),

@@ -30,7 +30,8 @@ module _ (from : Node) where
 
   one_choice : (number : ℕ) (node : Option Node) (noted : Bool) (made : Option Next)
       → option_map node_of node ≡ option_map (node_with (node_of from)) made
-      → seen (choice_of number node) ≡ applying (choice number (record { made = made; noted = noted }) ∷ [])
+      → seen (choice_of number node) ≡ applying
+      (choice number (record { made = made; noted = noted }) ∷ [])
   one_choice number None noted None same = refl
   one_choice number None noted (Some next) same = absurd cc
   one_choice number (Some node) noted None same = absurd cc
@@ -38,11 +39,15 @@ module _ (from : Node) where
       let one : node_of node ≡ node_with (node_of from) next = cc in
       λ i. record { number = number; node = one i } ∷ []
 
-  pub no_choices : (found : Choices) → found ≡ record { choices = []; noted = false } → AreChoices from [] found
-  no_choices found same = subst (AreChoices from []) (sym same) (record { choices = refl; noted = refl })
+  pub no_choices : (found : Choices) → found ≡ record { choices = []; noted = false } →
+      AreChoices from [] found
+  no_choices found same =
+      subst (AreChoices from []) (sym same) (record { choices = refl; noted = refl })
 
-  pub choices_grow : (cs : List Chosen) (found : Choices) (number : ℕ) (tried : Tried Next) (trial : Trial) → AreChoices from cs found
-      → IsTried from tried trial → AreChoices from (cs ++ choice number tried ∷ []) (with_choice found number trial)
+  pub choices_grow : (cs : List Chosen) (found : Choices) (number : ℕ) (tried : Tried Next)
+      (trial : Trial) → AreChoices from cs found
+      → IsTried from tried trial → AreChoices from (cs ++ choice number tried ∷ [])
+      (with_choice found number trial)
   choices_grow cs found number tried trial are is = record {
     choices =
         map-append (seen_choice node_of) found.choices (choice_of number trial.node)
@@ -54,47 +59,66 @@ module _ (from : Node) where
   }
 
   -- of a call
-  pub choices_grow_call : {A E : Type 0} (cs : List Chosen) (found new : Choices) (number : ℕ) (tried : Tried Next) (trial : Trial)
-      → IsTried from tried trial → (result : Result A E) → OnOk result (new ≡ with_choice found number trial) → AreChoices from cs found
+  pub choices_grow_call : {A E : Type 0} (cs : List Chosen) (found new : Choices) (number : ℕ)
+      (tried : Tried Next) (trial : Trial)
+      → IsTried from tried trial → (result : Result A E) →
+      OnOk result (new ≡ with_choice found number trial) → AreChoices from cs found
       → OnOk result (AreChoices from (cs ++ choice number tried ∷ []) new)
   choices_grow_call cs found new number tried trial is (Ok x) same are =
-      subst (AreChoices from (cs ++ choice number tried ∷ [])) (sym same) (choices_grow cs found number tried trial are is)
+      subst (AreChoices from (cs ++ choice number tried ∷ [])) (sym same)
+      (choices_grow cs found number tried trial are is)
   choices_grow_call cs found new number tried trial is (Err e) same are = tt
 
   -- lemmas that pass the limits, of a call
-  pub beyond_lemmas : {A E : Type 0} (parts : RuleParts) (cs : List Chosen) (found new : Choices) (made : Option (List Generalisation))
-      → made ≡ None → (result : Result A E) → OnOk result (new ≡ with_choice found 6 (record { node = None; noted = true }))
-      → AreChoices from cs found → OnOk result (AreChoices from (cs ++ by_lemmas parts from.state made) new)
+  pub beyond_lemmas : {A E : Type 0} (parts : RuleParts) (cs : List Chosen) (found new : Choices)
+      (made : Option (List Generalisation))
+      → made ≡ None → (result : Result A E) →
+      OnOk result (new ≡ with_choice found 6 (record { node = None; noted = true }))
+      → AreChoices from cs found → OnOk result
+      (AreChoices from (cs ++ by_lemmas parts from.state made) new)
   beyond_lemmas parts cs found new made none result same are =
-      subst (λ made. OnOk result (AreChoices from (cs ++ by_lemmas parts from.state made) new)) (sym none)
-      (choices_grow_call cs found new 6 beyond (record { node = None; noted = true }) (record { node = refl; noted = refl }) result same are)
+      subst (λ made. OnOk result (AreChoices from (cs ++ by_lemmas parts from.state made) new))
+      (sym none)
+      (choices_grow_call cs found new 6 beyond (record { node = None; noted = true })
+      (record { node = refl; noted = refl }) result same are)
 
 -- one more lemma
 pub mapped_more : {A B C : Type 0} (f : B → C) (g : A → B) (cs : List C) (ys : List A) (y : A)
     → (cs ++ map f (map g ys)) ++ f (g y) ∷ [] ≡ cs ++ map f (map g (ys ++ y ∷ []))
 mapped_more f g cs ys y =
     append_assoc cs (map f (map g ys)) (f (g y) ∷ [])
-    ∙ ap (λ xs. cs ++ xs) (sym (ap (map f) (map-append g ys (y ∷ [])) ∙ map-append f (map g ys) (g y ∷ [])))
+    ∙ ap (λ xs. cs ++ xs) (sym (ap (map f) (map-append g ys (y ∷ [])) ∙
+    map-append f (map g ys) (g y ∷ [])))
 
 module _ (P : Node → Type 0) where
   abbrev AtChoice : Choice Node → Type 0
   AtChoice c = P c.node
 
-  one_node : (number : ℕ) (node : Option Node) → IfSome node P → All AtChoice (choice_of number node)
+  one_node : (number : ℕ) (node : Option Node) → IfSome node P →
+      All AtChoice (choice_of number node)
   one_node number None is = All-nil AtChoice
-  one_node number (Some node) is = All-cons AtChoice (record { number = number; node = node }) [] is (All-nil AtChoice)
+  one_node number (Some node) is =
+      All-cons AtChoice (record { number = number; node = node }) [] is (All-nil AtChoice)
 
-  pub no_nodes : (found : Choices) → found ≡ record { choices = []; noted = false } → All AtChoice found.choices
-  no_nodes found same = subst (λ (f : Choices). All AtChoice f.choices) (sym same) (All-nil AtChoice)
+  pub no_nodes : (found : Choices) → found ≡ record { choices = []; noted = false } →
+      All AtChoice found.choices
+  no_nodes found same =
+      subst (λ (f : Choices). All AtChoice f.choices) (sym same) (All-nil AtChoice)
 
   -- what holds of the nodes so far, and of the new one
-  pub nodes_grow : (found : Choices) (number : ℕ) (trial : Trial) → All AtChoice found.choices → IfSome trial.node P
+  pub nodes_grow : (found : Choices) (number : ℕ) (trial : Trial) → All AtChoice found.choices →
+      IfSome trial.node P
       → All AtChoice (with_choice found number trial).choices
-  nodes_grow found number trial all is = All-append AtChoice found.choices (choice_of number trial.node) all (one_node number trial.node is)
+  nodes_grow found number trial all is =
+      All-append AtChoice found.choices (choice_of number trial.node) all
+      (one_node number trial.node is)
 
   -- of a call
-  pub nodes_grow_call : {A E : Type 0} (found new : Choices) (number : ℕ) (trial : Trial) → IfSome trial.node P → (result : Result A E)
-      → OnOk result (new ≡ with_choice found number trial) → All AtChoice found.choices → OnOk result (All AtChoice new.choices)
+  pub nodes_grow_call : {A E : Type 0} (found new : Choices) (number : ℕ) (trial : Trial) →
+      IfSome trial.node P → (result : Result A E)
+      → OnOk result (new ≡ with_choice found number trial) → All AtChoice found.choices →
+      OnOk result (All AtChoice new.choices)
   nodes_grow_call found new number trial is (Ok x) same all =
-      subst (λ (f : Choices). All AtChoice f.choices) (sym same) (nodes_grow found number trial all is)
+      subst (λ (f : Choices). All AtChoice f.choices) (sym same)
+      (nodes_grow found number trial all is)
   nodes_grow_call found new number trial is (Err e) same all = tt

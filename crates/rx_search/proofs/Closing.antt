@@ -42,102 +42,139 @@ Visited = Visit search.Node (List Row)
 abbrev IsTold : Visited → Type 0
 IsTold v = v.closed ≡ is_closed v.node.state.goals
 
-either_told : (b : Bool) (xs ys : List Visited) → All IsTold xs → All IsTold ys → All IsTold (if b then xs else ys)
+either_told : (b : Bool) (xs ys : List Visited) → All IsTold xs → All IsTold ys →
+    All IsTold (if b then xs else ys)
 either_told true xs ys all more = all
 either_told false xs ys all more = more
 
-all_told : (f : Choice search.Node → List Visited) (cs : List (Choice search.Node)) → ((c : Choice search.Node) → All IsTold (f c)) → All IsTold (flat_map f cs)
+all_told : (f : Choice search.Node → List Visited) (cs : List (Choice search.Node)) →
+    ((c : Choice search.Node) → All IsTold (f c)) → All IsTold (flat_map f cs)
 all_told f [] each = All-nil IsTold
 all_told f (c ∷ cs) each = All-append IsTold (f c) (flat_map f cs) (each c) (all_told f cs each)
 
 module _ (parts : RuleParts) where
-  visits_told : (more : ℕ) (path : List ℕ) (node : search.Node) → All IsTold (visits (settled parts) (menu parts) more path node)
+  visits_told : (more : ℕ) (path : List ℕ) (node : search.Node) →
+      All IsTold (visits (settled parts) (menu parts) more path node)
   unfolding visits
-  visits_told zero path node = All-cons IsTold (alone path (settled parts node)) [] refl (All-nil IsTold)
+  visits_told zero path node =
+      All-cons IsTold (alone path (settled parts node)) [] refl (All-nil IsTold)
   visits_told (suc more) path node =
       let s = settled parts node in
       let m = menu parts s.node in
       either_told s.closed _ _
       (All-cons IsTold (alone path s) [] refl (All-nil IsTold))
-      (All-cons IsTold (choosing path s m) (flat_map (λ (c : Choice search.Node). visits (settled parts) (menu parts) more (path ++ c.number ∷ []) c.node) m.choices) refl
-      (all_told (λ (c : Choice search.Node). visits (settled parts) (menu parts) more (path ++ c.number ∷ []) c.node) m.choices
+      (All-cons IsTold (choosing path s m) (flat_map
+      (λ (c : Choice search.Node). visits (settled parts) (menu parts) more
+      (path ++ c.number ∷ []) c.node) m.choices) refl
+      (all_told (λ (c : Choice search.Node). visits (settled parts) (menu parts) more
+      (path ++ c.number ∷ []) c.node) m.choices
       (λ c. visits_told more (path ++ c.number ∷ []) c.node)))
 
-  lists_told : (n more : ℕ) (node : search.Node) → All IsTold (lists (settled parts) (menu parts) n more node)
+  lists_told : (n more : ℕ) (node : search.Node) →
+      All IsTold (lists (settled parts) (menu parts) n more node)
   unfolding lists
   lists_told zero more node = All-nil IsTold
   lists_told (suc n) more node =
-      All-append IsTold (visits (settled parts) (menu parts) more [] node) (lists (settled parts) (menu parts) n (suc more) node)
+      All-append IsTold (visits (settled parts) (menu parts) more [] node)
+      (lists (settled parts) (menu parts) n (suc more) node)
       (visits_told more [] node) (lists_told n (suc more) node)
 
-found_by : (v w : Visited) (vs : List Visited) (b : Bool) → v.closed ≡ b → (find (λ (v : Visited). v.closed) vs ≡ Some w → (w.closed ≡ true) × IsTold w)
-    → IsTold v → cond b (Some v) (find (λ (v : Visited). v.closed) vs) ≡ Some w → (w.closed ≡ true) × IsTold w
+found_by : (v w : Visited) (vs : List Visited) (b : Bool) → v.closed ≡ b →
+    (find (λ (v : Visited). v.closed) vs ≡ Some w → (w.closed ≡ true) × IsTold w)
+    → IsTold v → cond b (Some v) (find (λ (v : Visited). v.closed) vs) ≡ Some w →
+    (w.closed ≡ true) × IsTold w
 found_by v w vs true closed later told e =
-    let same : v ≡ w = cc in subst (λ (w : Visited). (w.closed ≡ true) × IsTold w) same (closed, told)
+    let same : v ≡ w = cc in subst (λ (w : Visited). (w.closed ≡ true) × IsTold w) same
+    (closed, told)
 found_by v w vs false closed later told e = later e
 
-found : (vs : List Visited) (w : Visited) → All IsTold vs → find (λ (v : Visited). v.closed) vs ≡ Some w → (w.closed ≡ true) × IsTold w
+found : (vs : List Visited) (w : Visited) → All IsTold vs → find (λ (v : Visited). v.closed) vs ≡
+    Some w → (w.closed ≡ true) × IsTold w
 found [] w all e = absurd cc
-found (v ∷ vs) w all e = found_by v w vs v.closed refl (found vs w (All-tail IsTold v vs all)) (All-head IsTold v vs all) e
+found (v ∷ vs) w all e =
+    found_by v w vs v.closed refl (found vs w (All-tail IsTold v vs all)) (All-head IsTold v vs all)
+    e
 
 -- what doesn't decide by a closed node isn't closed
-spent_open : (b : Bool) (node : search.Node) → ◌≡◌ {A = Outcome search.Node (List Row)} (spent_if b) (outcomes.Closed node) → ⊥
+spent_open : (b : Bool) (node : search.Node) →
+    ◌≡◌ {A = Outcome search.Node (List Row)} (spent_if b) (outcomes.Closed node) → ⊥
 spent_open true node e = cc
 spent_open false node e = cc
 
-open_by : (note : Option (Note (List Row))) (b : Bool) (node : search.Node) → noted_or note (spent_if b) ≡ outcomes.Closed node → ⊥
+open_by : (note : Option (Note (List Row))) (b : Bool) (node : search.Node) →
+    noted_or note (spent_if b) ≡ outcomes.Closed node → ⊥
 open_by None b node e = spent_open b node e
 open_by (Some note) b node e = cc
 
-closed_by : (first : Option Visited) (later : Outcome search.Node (List Row)) (node : search.Node) → closed_or first later ≡ outcomes.Closed node
-    → (later ≡ outcomes.Closed node → ⊥) → ((v : Visited) → first ≡ Some v → (v.closed ≡ true) × IsTold v) → node.state.goals ≡ []
+closed_by : (first : Option Visited) (later : Outcome search.Node (List Row)) (node : search.Node) →
+    closed_or first later ≡ outcomes.Closed node
+    → (later ≡ outcomes.Closed node → ⊥) → ((v : Visited) → first ≡ Some v → (v.closed ≡ true) ×
+    IsTold v) → node.state.goals ≡ []
 closed_by None later node e none each = absurd (none e)
 closed_by (Some v) later node e none each =
     let same : v.node ≡ node = cc in
     let (closed, told) = each v refl in
-    ap (λ (n : search.Node). n.state.goals) (sym same) ∙ no_goal v.node.state.goals (sym told ∙ closed)
+    ap (λ (n : search.Node). n.state.goals) (sym same) ∙
+    no_goal v.node.state.goals (sym told ∙ closed)
 
 pub no_goal_left : (parts : RuleParts) (depth budget : ℕ) (first node : search.Node)
-    → outcome budget (all_visits (settled parts) (menu parts) depth first) ≡ outcomes.Closed node → node.state.goals ≡ []
+    → outcome budget (all_visits (settled parts) (menu parts) depth first) ≡ outcomes.Closed node →
+    node.state.goals ≡ []
 no_goal_left parts depth budget first node e =
     let vs = take budget (all_visits (settled parts) (menu parts) depth first) in
-    let told = All-take IsTold budget (all_visits (settled parts) (menu parts) depth first) (lists_told parts (suc depth) 0 first) in
-    closed_by (first_closed vs) _ node e (open_by (first_note vs) _ node) (λ v is. found vs v told is)
+    let told = All-take IsTold budget (all_visits (settled parts) (menu parts) depth first)
+    (lists_told parts (suc depth) 0 first) in
+    closed_by (first_closed vs) _ node e (open_by (first_note vs) _ node)
+    (λ v is. found vs v told is)
 
 -- ---- of calls
 
-pub closed_node : {R : Type 0} (P : Node → Type 0) (o : Outcome Node R) (node : Node) → o ≡ outcomes.Closed node → IfClosed P o → P node
+pub closed_node : {R : Type 0} (P : Node → Type 0) (o : Outcome Node R) (node : Node) → o ≡
+    outcomes.Closed node → IfClosed P o → P node
 closed_node P o node is holds = subst (IfClosed P) is holds
 
-pub closed_goals : (parts : RuleParts) (depth budget : ℕ) (first : search.Node) (o : Outcome Node (List Row)) (node : Node)
-    → seen_outcome node_of o ≡ outcome budget (all_visits (settled parts) (menu parts) depth first) → o ≡ outcomes.Closed node → node.state.goals ≡ []
+pub closed_goals : (parts : RuleParts) (depth budget : ℕ) (first : search.Node)
+    (o : Outcome Node (List Row)) (node : Node)
+    → seen_outcome node_of o ≡ outcome budget (all_visits (settled parts) (menu parts) depth first)
+    → o ≡ outcomes.Closed node → node.state.goals ≡ []
 closed_goals parts depth budget first o node seen is =
     no_goal_left parts depth budget first (node_of node) (sym seen ∙ ap (seen_outcome node_of) is)
 
-pub closed_steps : (parts : RuleParts) (depth budget : ℕ) (first : search.Node) (o : Outcome Node (List Row)) (node : Node) (steps : List Step)
-    → seen_outcome node_of o ≡ outcome budget (all_visits (settled parts) (menu parts) depth first) → o ≡ outcomes.Closed node → steps ≡ node.steps
-    → of_outcome (outcome budget (all_visits (settled parts) (menu parts) depth first)) ≡ search.Closed (map move_of steps)
+pub closed_steps : (parts : RuleParts) (depth budget : ℕ) (first : search.Node)
+    (o : Outcome Node (List Row)) (node : Node) (steps : List Step)
+    → seen_outcome node_of o ≡ outcome budget (all_visits (settled parts) (menu parts) depth first)
+    → o ≡ outcomes.Closed node → steps ≡ node.steps
+    → of_outcome (outcome budget (all_visits (settled parts) (menu parts) depth first)) ≡
+    search.Closed (map move_of steps)
 closed_steps parts depth budget first o node steps seen is same =
-    ap of_outcome (sym seen ∙ ap (seen_outcome node_of) is) ∙ ap (λ xs. search.Closed (map move_of xs)) (sym same)
+    ap of_outcome (sym seen ∙ ap (seen_outcome node_of) is) ∙
+    ap (λ xs. search.Closed (map move_of xs)) (sym same)
 
 -- ---- logs
 
-module _ (parts : RuleParts) (goal : Equation) (node : Node) (log : Log) (ranking : Ranking) (is : IsNode parts goal node)
-    (covers : covering parts log.covers ≡ Covers) (steps : log.steps ≡ node.steps) (table : log.table ≡ ranking.table)
-    (certs : log.pairs ≡ ranking.certs) (lowers : LowersAll parts node.state.hypotheses ranking) (closed : node.state.goals ≡ []) where
+module _ (parts : RuleParts) (goal : Equation) (node : Node) (log : Log) (ranking : Ranking)
+    (is : IsNode parts goal node)
+    (covers : covering parts log.covers ≡ Covers) (steps : log.steps ≡ node.steps)
+    (table : log.table ≡ ranking.table)
+    (certs : log.pairs ≡ ranking.certs) (lowers : LowersAll parts node.state.hypotheses ranking)
+    (closed : node.state.goals ≡ []) where
   keeps : kept parts goal log ≡ Ok node.state.hypotheses
   keeps =
-      ap (λ found. once_covered found (after_steps parts 0 (acceptance.start goal) log.steps >>= kept_by parts log.table)) covers
+      ap (λ found. once_covered found (after_steps parts 0 (acceptance.start goal) log.steps >>=
+      kept_by parts log.table)) covers
       ∙ ap (λ xs. after_steps parts 0 (acceptance.start goal) xs >>= kept_by parts log.table) steps
       ∙ ap (λ (check : Checked State). check >>= kept_by parts log.table)
       (logged parts node.state 0 (acceptance.start goal) node.steps is.reached.applies)
-      ∙ ap (λ goals. once_finished goals (once_ranked (bad_rank parts log.table) (Ok node.state.hypotheses))) closed
+      ∙ ap (λ goals. once_finished goals (once_ranked (bad_rank parts log.table)
+      (Ok node.state.hypotheses))) closed
       ∙ ap (λ t. once_ranked (bad_rank parts t) (Ok node.state.hypotheses)) table
       ∙ ap (λ bad. once_ranked bad (Ok node.state.hypotheses)) lowers.lawful
 
   descends : OnPairs (parts.rules ++ node.state.hypotheses) log.table log.pairs Accepted
   descends =
-      let roots = All-append HasRoot parts.rules node.state.hypotheses (made_roots parts parts.rules is.reached.made) (reached_rooted parts goal node is.reached) in
+      let roots = All-append HasRoot parts.rules node.state.hypotheses
+      (made_roots parts parts.rules is.reached.made) (reached_rooted parts goal node is.reached)
+      in
       let (pairs, are) = some_all (parts.rules ++ node.state.hypotheses) roots in
       record {
         pairs = pairs;

@@ -40,26 +40,36 @@ module _ (parts : RuleParts) (node : Node) where
   pub menu_over : open_goal node ≡ None → none ≡ menu parts (node_of node)
   menu_over over = none_by (node.left == 0) node.state.goals refl refl over
 
-  found_at : (first : Equation) (goals : List Equation) (found : Choices) (rows : Option (List Row)) → slice_get goals 0 ≡ Some first
+  found_at : (first : Equation) (goals : List Equation) (found : Choices) (rows : Option (List Row))
+      → slice_get goals 0 ≡ Some first
       → AreChoices node (chosen_at parts node.state first) found → rows ≡ rows_if found.noted goals
       → seen_menu node_of (record { choices = found.choices; note = rows }) ≡ by_goals goals
   found_at first [] found rows some are is = absurd cc
   found_at first (goal ∷ goals) found rows some are is =
       let same : first ≡ goal = cc in
-      let these = subst (λ goal. AreChoices node (chosen_at parts node.state goal) found) same are in
+      let these = subst (λ goal. AreChoices node (chosen_at parts node.state goal) found) same are
+      in
       let noted = is ∙ ap (λ b. rows_if b (goal ∷ goals)) these.noted in
       λ i. record { choices = these.choices i; note = noted i }
 
-  found_by : (b : Bool) (first : Equation) (found : Choices) (rows : Option (List Row)) → (node.left == 0) ≡ b
+  found_by : (b : Bool) (first : Equation) (found : Choices) (rows : Option (List Row)) →
+      (node.left == 0) ≡ b
       → (if b then None else slice_get node.state.goals 0) ≡ Some first
-      → AreChoices node (chosen_at parts node.state first) found → rows ≡ rows_if found.noted node.state.goals
-      → seen_menu node_of (record { choices = found.choices; note = rows }) ≡ menu parts (node_of node)
+      → AreChoices node (chosen_at parts node.state first) found → rows ≡
+      rows_if found.noted node.state.goals
+      → seen_menu node_of (record { choices = found.choices; note = rows }) ≡
+      menu parts (node_of node)
   found_by true first found rows left some are is = absurd cc
   found_by false first found rows left some are is =
-      found_at first node.state.goals found rows some are is ∙ ap (λ b. if b then none else by_goals node.state.goals) (sym left)
+      found_at first node.state.goals found rows some are is ∙
+      ap (λ b. if b then none else by_goals node.state.goals) (sym left)
 
   -- what was found
-  pub menu_found : (first : Equation) (found : Choices) (rows : Option (List Row)) → open_goal node ≡ Some first
-      → AreChoices node (chosen_at parts node.state first) found → rows ≡ rows_if found.noted node.state.goals
-      → seen_menu node_of (record { choices = found.choices; note = rows }) ≡ menu parts (node_of node)
-  menu_found first found rows some are is = found_by (node.left == 0) first found rows refl some are is
+  pub menu_found : (first : Equation) (found : Choices) (rows : Option (List Row)) →
+      open_goal node ≡ Some first
+      → AreChoices node (chosen_at parts node.state first) found → rows ≡
+      rows_if found.noted node.state.goals
+      → seen_menu node_of (record { choices = found.choices; note = rows }) ≡
+      menu parts (node_of node)
+  menu_found first found rows some are is =
+      found_by (node.left == 0) first found rows refl some are is

@@ -19,23 +19,33 @@ use Rattle.rx_search.specs.declared.node.Node.{Node}
 use Rattle.rx_search.proofs.Running.{after_append}
 use Rattle.rx_visits.specs.Views.{seen_settled}
 
-module _ (parts : RuleParts) (node : Node) (new : State) (found : Found) (is : IsSettled parts node.state new (settle parts most_moves node.state) found) where
+module _ (parts : RuleParts) (node : Node) (new : State) (found : Found)
+    (is : IsSettled parts node.state new (settle parts most_moves node.state) found) where
   -- the node that was found
   abbrev pub after : List Step → Node
   after steps = record { steps = steps; state = new; left = found.left }
 
   -- it is seen as the definition says
-  pub settled_seen : (steps : List Step) (closed : Bool) → steps ≡ node.steps ++ found.steps → closed ≡ is_closed new.goals
-      → seen_settled node_of (record { node = after steps; closed = closed; note = found.note }) ≡ settled parts (node_of node)
+  pub settled_seen : (steps : List Step) (closed : Bool) → steps ≡ node.steps ++ found.steps →
+      closed ≡ is_closed new.goals
+      → seen_settled node_of (record { node = after steps; closed = closed; note = found.note }) ≡
+      settled parts (node_of node)
   settled_seen steps closed same none =
       let s = settle parts most_moves node.state in
       let moves : map move_of steps ≡ map move_of node.steps ++ s.moves =
-      ap (map move_of) same ∙ map-append move_of node.steps found.steps ∙ ap (λ ms. map move_of node.steps ++ ms) is.moves in
-      let goals : closed ≡ is_closed s.state.goals = none ∙ ap (λ (state : State). is_closed state.goals) is.state in
-      λ i. record { node = record { moves = moves i; state = is.state i; left = is.left i }; closed = goals i; note = is.note i }
+      ap (map move_of) same ∙ map-append move_of node.steps found.steps ∙
+      ap (λ ms. map move_of node.steps ++ ms) is.moves in
+      let goals : closed ≡ is_closed s.state.goals = none ∙
+      ap (λ (state : State). is_closed state.goals) is.state in
+      λ i. record {
+        node = record { moves = moves i; state = is.state i; left = is.left i };
+        closed = goals i;
+        note = is.note i;
+      }
 
   -- and it is a node of the search
-  pub settled_node : (goal : Equation) (steps : List Step) → steps ≡ node.steps ++ found.steps → new.hypotheses ≡ node.state.hypotheses
+  pub settled_node : (goal : Equation) (steps : List Step) → steps ≡ node.steps ++ found.steps →
+      new.hypotheses ≡ node.state.hypotheses
       → IsNode parts goal node → IsNode parts goal (after steps)
   settled_node goal steps same hypotheses old = record {
     reached = record {
@@ -43,8 +53,11 @@ module _ (parts : RuleParts) (node : Node) (new : State) (found : Found) (is : I
       fits = old.reached.fits;
       applies =
           subst (λ (xs : List Step). after_all parts (runs.start goal) xs ≡ Ok new) (sym same)
-          (after_append parts (runs.start goal) node.state new node.steps found.steps old.reached.applies is.applies);
-      deep = subst AreDeep (sym same) (All-append IsDeep node.steps found.steps old.reached.deep is.deep);
+          (after_append parts (runs.start goal) node.state new node.steps found.steps
+          old.reached.applies is.applies);
+      deep =
+          subst AreDeep (sym same) (All-append IsDeep node.steps found.steps old.reached.deep
+          is.deep);
     };
     ranked = ap (ranked parts) hypotheses ∙ old.ranked;
   }

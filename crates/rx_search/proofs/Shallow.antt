@@ -28,12 +28,15 @@ IsDeep step = All (λ (cert : Cert). cert_depth cert ≤ most_deep) (certificate
 both_true : (a b : Bool) → a ≡ true → b ≡ true → (a && b) ≡ true
 both_true a b x y = grind arith
 
-all_pass : {A : Type 0} (P : A → Type 0) (test : A → Bool) → ((x : A) → P x → test x ≡ true) → (xs : List A) → All P xs → list_all test xs ≡ true
+all_pass : {A : Type 0} (P : A → Type 0) (test : A → Bool) → ((x : A) → P x → test x ≡ true) →
+    (xs : List A) → All P xs → list_all test xs ≡ true
 all_pass P test each [] all = refl
 all_pass P test each (x ∷ xs) all =
-    both_true (test x) (list_all test xs) (each x (All-head P x xs all)) (all_pass P test each xs (All-tail P x xs all))
+    both_true (test x) (list_all test xs) (each x (All-head P x xs all))
+    (all_pass P test each xs (All-tail P x xs all))
 
-all_weaker : {A : Type 0} (one other : A → Bool) → ((x : A) → one x ≡ true → other x ≡ true) → (xs : List A) → list_all one xs ≡ true → list_all other xs ≡ true
+all_weaker : {A : Type 0} (one other : A → Bool) → ((x : A) → one x ≡ true → other x ≡ true) →
+    (xs : List A) → list_all one xs ≡ true → list_all other xs ≡ true
 all_weaker one other each [] all = refl
 all_weaker one other each (x ∷ xs) all =
     let (first, later) = and_parts (one x) (list_all one xs) all in
@@ -47,8 +50,10 @@ cert_shallow cert h = grind arith
 deep_shallow : (cert : Cert) → is_cert_deep cert ≡ true → is_shallow cert ≡ true
 deep_shallow cert h = grind arith
 
-certs_shallow : (certs : List Cert) → All (λ (cert : Cert). cert_depth cert ≤ 174) certs → are_shallow certs ≡ true
-certs_shallow certs all = all_pass (λ (cert : Cert). cert_depth cert ≤ 174) is_shallow cert_shallow certs all
+certs_shallow : (certs : List Cert) → All (λ (cert : Cert). cert_depth cert ≤ 174) certs →
+    are_shallow certs ≡ true
+certs_shallow certs all =
+    all_pass (λ (cert : Cert). cert_depth cert ≤ 174) is_shallow cert_shallow certs all
 
 -- ---- trees
 
@@ -67,7 +72,8 @@ bare_tree = map-CoverTree PartTree CoverTree (λ (p : PartTree). p.0)
 abbrev tests : (CoverTree → Bool) → CoverTree-F PartTree → CoverTree-F Bool
 tests test y = map-CoverTree CoverTree Bool test (bare_tree y)
 
-tree_level : (y : CoverTree-F PartTree) → passes_level (λ row. true) is_cert_deep (tests passing y) ≡ true
+tree_level : (y : CoverTree-F PartTree) → passes_level (λ row. true) is_cert_deep (tests passing y)
+    ≡ true
     → certs_level (tests has_shallow_certs y) ≡ true
 tree_level (CoverTree-F.Use rule certs) h = all_weaker is_cert_deep is_shallow deep_shallow certs h
 tree_level (CoverTree-F.Split row holds fails) h =
@@ -75,11 +81,13 @@ tree_level (CoverTree-F.Split row holds fails) h =
     both_true (has_shallow_certs holds.0) (has_shallow_certs fails.0) (holds.1 one) (fails.1 other)
 tree_level (CoverTree-F.Absurd cert) h = deep_shallow cert h
 
-tree_step : (x : CoverTree-F CoverTree) (y : CoverTree-F PartTree) → bare_tree y ≡ x → IsShallowBy (roll-CoverTree x)
+tree_step : (x : CoverTree-F CoverTree) (y : CoverTree-F PartTree) → bare_tree y ≡ x →
+    IsShallowBy (roll-CoverTree x)
 tree_step x y is =
     subst (λ z. IsShallowBy (roll-CoverTree z)) is
     (λ h. fold-roll-CoverTree Bool certs_level (bare_tree y)
-    ∙ tree_level y (sym (fold-roll-CoverTree Bool (passes_level (λ row. true) is_cert_deep) (bare_tree y)) ∙ h))
+    ∙ tree_level y (sym (fold-roll-CoverTree Bool (passes_level (λ row. true) is_cert_deep)
+    (bare_tree y)) ∙ h))
 
 certs_in : (tree : CoverTree) → IsShallowBy tree
 certs_in = ind-CoverTree IsShallowBy tree_step
@@ -90,24 +98,35 @@ depth_shallow tree h = grind arith
 module _ (parts : RuleParts) where
   tree_shallow : (tree : CoverTree) → IsSmall parts.rules 33 [] tree → is_shallow_tree tree ≡ true
   tree_shallow tree small =
-      both_true (nat_le (tree_depth tree) deepest) (has_shallow_certs tree) (depth_shallow tree small.deep) (certs_in tree small.certs_deep)
+      both_true (nat_le (tree_depth tree) deepest) (has_shallow_certs tree)
+      (depth_shallow tree small.deep) (certs_in tree small.certs_deep)
 
-  trees_shallow : (trees : List CoverTree) → AreSmall parts trees → list_all is_shallow_tree trees ≡ true
-  trees_shallow trees all = all_pass (IsSmall parts.rules 33 []) is_shallow_tree tree_shallow trees all
+  trees_shallow : (trees : List CoverTree) → AreSmall parts trees → list_all is_shallow_tree trees ≡
+      true
+  trees_shallow trees all =
+      all_pass (IsSmall parts.rules 33 []) is_shallow_tree tree_shallow trees all
 
   -- ---- logs
 
-  pub log_shallow : (log : Log) (covers : List (List CoverTree)) (steps : List Step) (pairs : List PairCert)
-      → log.covers ≡ covers → log.steps ≡ steps → log.pairs ≡ pairs → All (AreSmall parts) covers → AreDeep steps
-      → All (λ (c : PairCert). All (λ (cert : Cert). cert_depth cert ≤ most_deep) c.certs) pairs → is_shallow_log log ≡ true
+  pub log_shallow : (log : Log) (covers : List (List CoverTree)) (steps : List Step)
+      (pairs : List PairCert)
+      → log.covers ≡ covers → log.steps ≡ steps → log.pairs ≡ pairs → All (AreSmall parts) covers →
+      AreDeep steps
+      → All (λ (c : PairCert). All (λ (cert : Cert). cert_depth cert ≤ most_deep) c.certs) pairs →
+      is_shallow_log log ≡ true
   log_shallow log covers steps pairs same_covers same_steps same_pairs small deep deep_pairs =
       both_true (list_all (λ trees. list_all is_shallow_tree trees) log.covers)
-      (list_all (λ (step : Step). are_shallow (certificates step)) log.steps && list_all (λ (pair : PairCert). are_shallow pair.certs) log.pairs)
+      (list_all (λ (step : Step). are_shallow (certificates step)) log.steps &&
+      list_all (λ (pair : PairCert). are_shallow pair.certs) log.pairs)
       (ap (list_all (λ trees. list_all is_shallow_tree trees)) same_covers
-      ∙ all_pass (AreSmall parts) (λ trees. list_all is_shallow_tree trees) trees_shallow covers small)
-      (both_true (list_all (λ (step : Step). are_shallow (certificates step)) log.steps) (list_all (λ (pair : PairCert). are_shallow pair.certs) log.pairs)
+      ∙ all_pass (AreSmall parts) (λ trees. list_all is_shallow_tree trees) trees_shallow covers
+      small)
+      (both_true (list_all (λ (step : Step). are_shallow (certificates step)) log.steps)
+      (list_all (λ (pair : PairCert). are_shallow pair.certs) log.pairs)
       (ap (list_all (λ (step : Step). are_shallow (certificates step))) same_steps
-      ∙ all_pass IsDeep (λ (step : Step). are_shallow (certificates step)) (λ step. certs_shallow (certificates step)) steps deep)
+      ∙ all_pass IsDeep (λ (step : Step). are_shallow (certificates step))
+      (λ step. certs_shallow (certificates step)) steps deep)
       (ap (list_all (λ (pair : PairCert). are_shallow pair.certs)) same_pairs
-      ∙ all_pass (λ (c : PairCert). All (λ (cert : Cert). cert_depth cert ≤ most_deep) c.certs) (λ (pair : PairCert). are_shallow pair.certs)
+      ∙ all_pass (λ (c : PairCert). All (λ (cert : Cert). cert_depth cert ≤ most_deep) c.certs)
+      (λ (pair : PairCert). are_shallow pair.certs)
       (λ pair. certs_shallow pair.certs) pairs deep_pairs))

@@ -43,11 +43,19 @@ use Rattle.rx_search.proofs.Shallow.{IsDeep}
 
 -- it is seen as the definition says
 seen_after : (from : Node) (step : Step) (state : State)
-    → node_of (with_step from step state) ≡ node_with (node_of from) (record { move = move_of step; state = state })
-seen_after from step state = λ i. record { moves = map-append move_of from.steps (step ∷ []) i; state = state; left = most_moves }
+    → node_of (with_step from step state) ≡ node_with (node_of from)
+    (record { move = move_of step; state = state })
+seen_after from step state =
+    λ i. record {
+      moves = map-append move_of from.steps (step ∷ []) i;
+      state = state;
+      left =
+          most_moves;
+    }
 
 module _ (parts : RuleParts) (from : Node) (state : State) (tried : Tried Next) where
-  led_by : (taken : Option Step) (noted : Bool) → noted ≡ tried.noted → Takes parts from.state state tried.made taken
+  led_by : (taken : Option Step) (noted : Bool) → noted ≡ tried.noted →
+      Takes parts from.state state tried.made taken
       → IsTried from tried (led from taken noted state)
   led_by None noted same takes =
       let (made, _) = takes in
@@ -55,17 +63,23 @@ module _ (parts : RuleParts) (from : Node) (state : State) (tried : Tried Next) 
   led_by (Some step) noted same takes =
       let (made, _) = takes in
       record {
-        node = ap Some (seen_after from step state) ∙ ap (option_map (node_with (node_of from))) (sym made);
+        node =
+            ap Some (seen_after from step state) ∙
+            ap (option_map (node_with (node_of from))) (sym made);
         noted = same;
       }
 
   -- what comes of a step is what was tried
-  pub led_tried : (trial : Taken) → IsTrial parts from.state state tried trial → (found : Result Trial NoMemory)
-      → IfOk found (λ t. t ≡ led from trial.taken trial.noted state) → IfOk found (IsTried from tried)
-  led_tried trial is (Ok found) same = subst (IsTried from tried) (sym same) (led_by trial.taken trial.noted is.noted is.taken)
+  pub led_tried : (trial : Taken) → IsTrial parts from.state state tried trial →
+      (found : Result Trial NoMemory)
+      → IfOk found (λ t. t ≡ led from trial.taken trial.noted state) →
+      IfOk found (IsTried from tried)
+  led_tried trial is (Ok found) same =
+      subst (IsTried from tried) (sym same) (led_by trial.taken trial.noted is.noted is.taken)
   led_tried trial is (Err e) same = tt
 
-  reached_by : (goal : Equation) (taken : Option Step) (noted : Bool) → Takes parts from.state state tried.made taken → IsReached parts goal from
+  reached_by : (goal : Equation) (taken : Option Step) (noted : Bool) →
+      Takes parts from.state state tried.made taken → IsReached parts goal from
       → IfSome (led from taken noted state).node (IsReached parts goal)
   reached_by goal None noted takes reached = tt
   reached_by goal (Some step) noted takes reached =
@@ -73,16 +87,23 @@ module _ (parts : RuleParts) (from : Node) (state : State) (tried : Tried Next) 
       record {
         made = reached.made;
         fits = reached.fits;
-        applies = after_one parts (runs.start goal) from.state state from.steps step reached.applies applies.applies;
-        deep = All-append IsDeep from.steps (step ∷ []) reached.deep (All-cons IsDeep step [] applies.deep (All-nil IsDeep));
+        applies =
+            after_one parts (runs.start goal) from.state state from.steps step reached.applies
+            applies.applies;
+        deep =
+            All-append IsDeep from.steps (step ∷ []) reached.deep
+            (All-cons IsDeep step [] applies.deep (All-nil IsDeep));
       }
 
   -- and the node is reached
-  pub led_reached : (goal : Equation) (trial : Taken) → IsTrial parts from.state state tried trial → IsReached parts goal from
-      → (found : Result Trial NoMemory) → IfOk found (λ t. t ≡ led from trial.taken trial.noted state)
+  pub led_reached : (goal : Equation) (trial : Taken) → IsTrial parts from.state state tried trial →
+      IsReached parts goal from
+      → (found : Result Trial NoMemory) → IfOk found
+      (λ t. t ≡ led from trial.taken trial.noted state)
       → IfOk found (λ t. IfSome t.node (IsReached parts goal))
   led_reached goal trial is reached (Ok found) same =
-      subst (λ (t : Trial). IfSome t.node (IsReached parts goal)) (sym same) (reached_by goal trial.taken trial.noted is.taken reached)
+      subst (λ (t : Trial). IfSome t.node (IsReached parts goal)) (sym same)
+      (reached_by goal trial.taken trial.noted is.taken reached)
   led_reached goal trial is reached (Err e) same = tt
 
 -- ---- where ranks are found
@@ -99,27 +120,36 @@ module _ (from : Node) (parts : RuleParts) where
   abbrev next_ranked : Next → Tried Next
   next_ranked next = where_shown (ranked parts next.state.hypotheses) next
 
-  ranked_by : (node : Node) (noted : Bool) (next : Next) (said : Said) → node_of node ≡ node_with (node_of from) next
+  ranked_by : (node : Node) (noted : Bool) (next : Next) (said : Said) → node_of node ≡
+      node_with (node_of from) next
       → IsTried from (noting noted (where_shown said next)) (if_ranked said node noted)
   ranked_by node noted next Yes same = record { node = ap Some same; noted = sym (or_false noted) }
   ranked_by node noted next No same = record { node = refl; noted = sym (or_false noted) }
   ranked_by node noted next Beyond same = record { node = refl; noted = sym (or_true noted) }
 
-  then_ranked : (node : Node) (noted : Bool) (made : Option Next) → Some (node_of node) ≡ option_map (node_with (node_of from)) made
-      → IsTried from (then_by made noted next_ranked) (if_ranked (ranked parts node.state.hypotheses) node noted)
+  then_ranked : (node : Node) (noted : Bool) (made : Option Next) → Some (node_of node) ≡
+      option_map (node_with (node_of from)) made
+      → IsTried from (then_by made noted next_ranked)
+      (if_ranked (ranked parts node.state.hypotheses) node noted)
   then_ranked node noted None same = absurd cc
   then_ranked node noted (Some next) same =
       let seen : node_of node ≡ node_with (node_of from) next = cc in
       let state : node.state ≡ next.state = ap (λ (n : search.Node). n.state) seen in
-      subst (λ (s : State). IsTried from (noting noted (where_shown (ranked parts s.hypotheses) next)) (if_ranked (ranked parts node.state.hypotheses) node noted))
+      subst (λ (s : State). IsTried from (noting noted
+      (where_shown (ranked parts s.hypotheses) next))
+      (if_ranked (ranked parts node.state.hypotheses) node noted))
       state (ranked_by node noted next (ranked parts node.state.hypotheses) seen)
 
   -- the node that the expansion leads to, where ranks are found
-  pub keeping_ranked : (tried : Tried Next) (found : Trial) (node : Node) → IsTried from tried found → found.node ≡ Some node
-      → IsTried from (then_try tried next_ranked) (if_ranked (ranked parts node.state.hypotheses) node found.noted)
+  pub keeping_ranked : (tried : Tried Next) (found : Trial) (node : Node) →
+      IsTried from tried found → found.node ≡ Some node
+      → IsTried from (then_try tried next_ranked)
+      (if_ranked (ranked parts node.state.hypotheses) node found.noted)
   keeping_ranked tried found node is leads =
-      let same : Some (node_of node) ≡ option_map (node_with (node_of from)) tried.made = ap (option_map node_of) (sym leads) ∙ is.node in
-      subst (λ noted. IsTried from (then_by tried.made noted next_ranked) (if_ranked (ranked parts node.state.hypotheses) node found.noted))
+      let same : Some (node_of node) ≡ option_map (node_with (node_of from)) tried.made =
+      ap (option_map node_of) (sym leads) ∙ is.node in
+      subst (λ noted. IsTried from (then_by tried.made noted next_ranked)
+      (if_ranked (ranked parts node.state.hypotheses) node found.noted))
       is.noted (then_ranked node found.noted tried.made same)
 
   none_by : (noted : Bool) (made : Option Next) → None ≡ option_map (node_with (node_of from)) made
@@ -127,79 +157,107 @@ module _ (from : Node) (parts : RuleParts) where
   none_by noted None same = record { node = refl; noted = refl }
   none_by noted (Some next) same = absurd cc
 
-  pub keeping_none : (tried : Tried Next) (found : Trial) → IsTried from tried found → found.node ≡ None
+  pub keeping_none : (tried : Tried Next) (found : Trial) → IsTried from tried found → found.node ≡
+      None
       → IsTried from (then_try tried next_ranked) (record { node = None; noted = found.noted })
   keeping_none tried found is leads =
-      let same : None ≡ option_map (node_with (node_of from)) tried.made = ap (option_map node_of) (sym leads) ∙ is.node in
-      subst (λ noted. IsTried from (then_by tried.made noted next_ranked) (record { node = None; noted = found.noted }))
+      let same : None ≡ option_map (node_with (node_of from)) tried.made =
+      ap (option_map node_of) (sym leads) ∙ is.node in
+      subst (λ noted. IsTried from (then_by tried.made noted next_ranked)
+      (record { node = None; noted = found.noted }))
       is.noted (none_by found.noted tried.made same)
 
 -- such a node is one of the search
-node_by : (parts : RuleParts) (goal : Equation) (node : Node) (noted : Bool) (said : Said) → ranked parts node.state.hypotheses ≡ said
+node_by : (parts : RuleParts) (goal : Equation) (node : Node) (noted : Bool) (said : Said) →
+    ranked parts node.state.hypotheses ≡ said
     → IsReached parts goal node → IfSome (if_ranked said node noted).node (IsNode parts goal)
 node_by parts goal node noted Yes is reached = record { reached = reached; ranked = is }
 node_by parts goal node noted No is reached = tt
 node_by parts goal node noted Beyond is reached = tt
 
-pub node_ranked : (parts : RuleParts) (goal : Equation) (node : Node) (noted : Bool) → IsReached parts goal node
+pub node_ranked : (parts : RuleParts) (goal : Equation) (node : Node) (noted : Bool) →
+    IsReached parts goal node
     → IfSome (if_ranked (ranked parts node.state.hypotheses) node noted).node (IsNode parts goal)
-node_ranked parts goal node noted reached = node_by parts goal node noted (ranked parts node.state.hypotheses) refl reached
+node_ranked parts goal node noted reached =
+    node_by parts goal node noted (ranked parts node.state.hypotheses) refl reached
 
 -- ---- of calls
 
-pub keeping_ranked_call : (from : Node) (parts : RuleParts) (tried : Tried Next) (found : Trial) (node : Node) → IsTried from tried found
+pub keeping_ranked_call : (from : Node) (parts : RuleParts) (tried : Tried Next) (found : Trial)
+    (node : Node) → IsTried from tried found
     → found.node ≡ Some node → (result : Result Trial NoMemory)
     → IfOk result (λ t. t ≡ if_ranked (ranked parts node.state.hypotheses) node found.noted)
-    → IfOk result (IsTried from (then_try tried (λ (next : Next). where_shown (ranked parts next.state.hypotheses) next)))
+    → IfOk result (IsTried from (then_try tried
+    (λ (next : Next). where_shown (ranked parts next.state.hypotheses) next)))
 keeping_ranked_call from parts tried found node is leads (Ok t) same =
-    subst (IsTried from (then_try tried (λ (next : Next). where_shown (ranked parts next.state.hypotheses) next))) (sym same)
+    subst (IsTried from (then_try tried (λ (next : Next).
+    where_shown (ranked parts next.state.hypotheses) next))) (sym same)
     (keeping_ranked from parts tried found node is leads)
 keeping_ranked_call from parts tried found node is leads (Err e) same = tt
 
-pub node_ranked_call : (parts : RuleParts) (goal : Equation) (node : Node) (noted : Bool) → IsReached parts goal node
-    → (result : Result Trial NoMemory) → IfOk result (λ t. t ≡ if_ranked (ranked parts node.state.hypotheses) node noted)
+pub node_ranked_call : (parts : RuleParts) (goal : Equation) (node : Node) (noted : Bool) →
+    IsReached parts goal node
+    → (result : Result Trial NoMemory) → IfOk result
+    (λ t. t ≡ if_ranked (ranked parts node.state.hypotheses) node noted)
     → IfOk result (λ t. IfSome t.node (IsNode parts goal))
 node_ranked_call parts goal node noted reached (Ok t) same =
-    subst (λ (t : Trial). IfSome t.node (IsNode parts goal)) (sym same) (node_ranked parts goal node noted reached)
+    subst (λ (t : Trial). IfSome t.node (IsNode parts goal)) (sym same)
+    (node_ranked parts goal node noted reached)
 node_ranked_call parts goal node noted reached (Err e) same = tt
 
 -- what holds of the node, if there is one, holds of it
-pub led_to : (found : Option Node) (node : Node) (P : Node → Type 0) → found ≡ Some node → IfSome found P → P node
+pub led_to : (found : Option Node) (node : Node) (P : Node → Type 0) → found ≡ Some node →
+    IfSome found P → P node
 led_to found node P is holds = subst (λ (found : Option Node). IfSome found P) is holds
 
 -- ---- steps that keep nothing
 
-limited_by : (f : Formed FormedStep) (y : FormedStep) (b : Bool) → f.within ≡ b → limited f ≡ Ok y → f.form ≡ y
-limited_by f y true is e = let same : Ok f.form ≡ Ok y = sym (ap (λ b. if b then Ok f.form else Err Large) is) ∙ e in cc
-limited_by f y false is e = let same : Err Large ≡ Ok y = sym (ap (λ b. if b then Ok f.form else Err Large) is) ∙ e in absurd cc
+limited_by : (f : Formed FormedStep) (y : FormedStep) (b : Bool) → f.within ≡ b → limited f ≡ Ok y →
+    f.form ≡ y
+limited_by f y true is e =
+    let same : Ok f.form ≡ Ok y = sym (ap (λ b. if b then Ok f.form else Err Large) is) ∙ e in cc
+limited_by f y false is e =
+    let same : Err Large ≡ Ok y = sym (ap (λ b. if b then Ok f.form else Err Large) is) ∙ e in
+    absurd cc
 
-keeps_limited : (f : Formed FormedStep) (y : FormedStep) → f.form.kept ≡ [] → limited f ≡ Ok y → y.kept ≡ []
-keeps_limited f y none e = ap (λ (s : FormedStep). s.kept) (sym (limited_by f y f.within refl e)) ∙ none
+keeps_limited : (f : Formed FormedStep) (y : FormedStep) → f.form.kept ≡ [] → limited f ≡ Ok y →
+    y.kept ≡ []
+keeps_limited f y none e =
+    ap (λ (s : FormedStep). s.kept) (sym (limited_by f y f.within refl e)) ∙ none
 
-keeps_provided : (b : Bool) (f : Formed FormedStep) (y : FormedStep) → f.form.kept ≡ [] → provided b (limited f) ≡ Ok y → y.kept ≡ []
+keeps_provided : (b : Bool) (f : Formed FormedStep) (y : FormedStep) → f.form.kept ≡ [] →
+    provided b (limited f) ≡ Ok y → y.kept ≡ []
 keeps_provided true f y none e = keeps_limited f y none e
 keeps_provided false f y none e = absurd cc
 
-expanded_keeps : (rules : List Rule) (goal : Equation) (side : Side) (f : FormedStep) (redex : Option Term)
-    → (found_or WrongShape redex >>= λ t. limited (expanded_by_all rules goal side false t)) ≡ Ok f → f.kept ≡ []
+expanded_keeps : (rules : List Rule) (goal : Equation) (side : Side) (f : FormedStep)
+    (redex : Option Term)
+    → (found_or WrongShape redex >>= λ t. limited (expanded_by_all rules goal side false t)) ≡
+    Ok f → f.kept ≡ []
 expanded_keeps rules goal side f None e = absurd cc
-expanded_keeps rules goal side f (Some t) e = keeps_limited (expanded_by_all rules goal side false t) f refl e
+expanded_keeps rules goal side f (Some t) e =
+    keeps_limited (expanded_by_all rules goal side false t) f refl e
 
 decomposed_keeps : (goal : Equation) (f : FormedStep) (one other : Option TopFrame)
-    → (found_or WrongShape one >>= λ a. (found_or WrongShape other >>= λ b. provided (nat_eq a.symbol b.symbol) (limited (decomposed_by goal a.arguments b.arguments a.inner b.inner)))) ≡ Ok f
+    → (found_or WrongShape one >>= λ a. (found_or WrongShape other >>= λ b.
+    provided (nat_eq a.symbol b.symbol) (limited
+    (decomposed_by goal a.arguments b.arguments a.inner b.inner)))) ≡ Ok f
     → f.kept ≡ []
 decomposed_keeps goal f None other e = absurd cc
 decomposed_keeps goal f (Some a) None e = absurd cc
 decomposed_keeps goal f (Some a) (Some b) e =
-    keeps_provided (nat_eq a.symbol b.symbol) (decomposed_by goal a.arguments b.arguments a.inner b.inner) f refl e
+    keeps_provided (nat_eq a.symbol b.symbol)
+    (decomposed_by goal a.arguments b.arguments a.inner b.inner) f refl e
 
 module _ (parts : RuleParts) (hypotheses : List Rule) where
   -- what is formed keeps nothing
   formed_keeps : (goal : Equation) (move : Move) (f : FormedStep) → KeepsNone move
       → formed_on parts goal hypotheses (step_of move) ≡ Ok f → f.kept ≡ []
   formed_keeps goal (Expand side true) f keeps e = absurd cc
-  formed_keeps goal (Expand side false) f keeps e = expanded_keeps parts.rules goal side f (redex_of (side_of side goal)) e
-  formed_keeps goal Decompose f keeps e = decomposed_keeps goal f (top_frame goal.left) (top_frame goal.right) e
+  formed_keeps goal (Expand side false) f keeps e =
+      expanded_keeps parts.rules goal side f (redex_of (side_of side goal)) e
+  formed_keeps goal Decompose f keeps e =
+      decomposed_keeps goal f (top_frame goal.left) (top_frame goal.right) e
   formed_keeps goal (Simplify side rule) f keeps e = absurd keeps
   formed_keeps goal (Hyp side place hyp subst) f keeps e = absurd keeps
   formed_keeps goal Absurd f keeps e = absurd keeps
@@ -207,7 +265,8 @@ module _ (parts : RuleParts) (hypotheses : List Rule) where
   formed_keeps goal EqDelete f keeps e = absurd keeps
   formed_keeps goal (Generalise next ws) f keeps e =
       keeps_provided
-      (is_equation parts next && (is_substitution ws && (have_one_shape next.left goal.left && have_one_shape next.right goal.right)))
+      (is_equation parts next && (is_substitution ws &&
+      (have_one_shape next.left goal.left && have_one_shape next.right goal.right)))
       (generalised_by goal next ws) f refl e
   formed_keeps goal (Postulate next) f keeps e = absurd keeps
   formed_keeps goal (Split row) f keeps e = absurd keeps
@@ -218,44 +277,55 @@ module _ (parts : RuleParts) (hypotheses : List Rule) where
   first_keeps None move f keeps e = absurd cc
   first_keeps (Some goal) move f keeps e = formed_keeps goal move f keeps e
 
-module _ (parts : RuleParts) (state : State) (move : Move) (keeps : KeepsNone move) (next : Next) where
-  shown_keeps : (f : FormedStep) (said : Said) → f.kept ≡ []
-      → (where_shown said (record { move = move; state = taken state f })).made ≡ Some next → next.state.hypotheses ≡ state.hypotheses
-  shown_keeps f Yes none e =
-      let same : record { move = move; state = taken state f } ≡ next = cc in
-      ap (λ (n : Next). n.state.hypotheses) (sym same) ∙ ap (λ kept. state.hypotheses ++ kept) none ∙ append-nil state.hypotheses
-  shown_keeps f No none e = absurd cc
-  shown_keeps f Beyond none e = absurd cc
+module _ (parts : RuleParts) (state : State) (move : Move) (keeps : KeepsNone move) (next : Next)
+  where
+    shown_keeps : (f : FormedStep) (said : Said) → f.kept ≡ []
+        → (where_shown said (record { move = move; state = taken state f })).made ≡ Some next →
+        next.state.hypotheses ≡ state.hypotheses
+    shown_keeps f Yes none e =
+        let same : record { move = move; state = taken state f } ≡ next = cc in
+        ap (λ (n : Next). n.state.hypotheses) (sym same) ∙
+        ap (λ kept. state.hypotheses ++ kept) none ∙ append-nil state.hypotheses
+    shown_keeps f No none e = absurd cc
+    shown_keeps f Beyond none e = absurd cc
 
-  attempt_by : (o : Forming FormedStep) → formed parts (slice_get state.goals 0) state.hypotheses (step_of move) ≡ o
-      → (next_if_formed state move o).made ≡ Some next → next.state.hypotheses ≡ state.hypotheses
-  attempt_by (Ok f) is e =
-      shown_keeps f (asked_shown (first_rows state.goals) (first_rows f.goals) f.asked)
-      (first_keeps parts state.hypotheses (slice_get state.goals 0) move f keeps is) e
-  attempt_by (Err Large) is e = absurd cc
-  attempt_by (Err NoGoal) is e = absurd cc
-  attempt_by (Err WrongShape) is e = absurd cc
-  attempt_by (Err NoSuchRule) is e = absurd cc
-  attempt_by (Err form_end.NoMemory) is e = absurd cc
+    attempt_by : (o : Forming FormedStep) → formed parts (slice_get state.goals 0) state.hypotheses
+        (step_of move) ≡ o
+        → (next_if_formed state move o).made ≡ Some next → next.state.hypotheses ≡ state.hypotheses
+    attempt_by (Ok f) is e =
+        shown_keeps f (asked_shown (first_rows state.goals) (first_rows f.goals) f.asked)
+        (first_keeps parts state.hypotheses (slice_get state.goals 0) move f keeps is) e
+    attempt_by (Err Large) is e = absurd cc
+    attempt_by (Err NoGoal) is e = absurd cc
+    attempt_by (Err WrongShape) is e = absurd cc
+    attempt_by (Err NoSuchRule) is e = absurd cc
+    attempt_by (Err form_end.NoMemory) is e = absurd cc
 
-  attempt_keeps : (attempt parts state move).made ≡ Some next → next.state.hypotheses ≡ state.hypotheses
-  unfolding attempt
-  attempt_keeps e = attempt_by (formed parts (slice_get state.goals 0) state.hypotheses (step_of move)) refl e
+    attempt_keeps : (attempt parts state move).made ≡ Some next → next.state.hypotheses ≡
+        state.hypotheses
+    unfolding attempt
+    attempt_keeps e =
+        attempt_by (formed parts (slice_get state.goals 0) state.hypotheses (step_of move)) refl e
 
-module _ (parts : RuleParts) (goal : Equation) (from : Node) (move : Move) (keeps : KeepsNone move) (node : IsNode parts goal from) where
+module _ (parts : RuleParts) (goal : Equation) (from : Node) (move : Move) (keeps : KeepsNone move)
+    (node : IsNode parts goal from) where
   still_node : (new : Node) (made : Option Next) → (attempt parts from.state move).made ≡ made
-      → Some (node_of new) ≡ option_map (node_with (node_of from)) made → IsReached parts goal new → IsNode parts goal new
+      → Some (node_of new) ≡ option_map (node_with (node_of from)) made → IsReached parts goal new →
+      IsNode parts goal new
   still_node new None is same reached = absurd cc
   still_node new (Some next) is same reached =
       let seen : node_of new ≡ node_with (node_of from) next = cc in
       let hypotheses : new.state.hypotheses ≡ from.state.hypotheses =
-      ap (λ (n : search.Node). n.state.hypotheses) seen ∙ attempt_keeps parts from.state move keeps next is in
+      ap (λ (n : search.Node). n.state.hypotheses) seen ∙
+      attempt_keeps parts from.state move keeps next is in
       record { reached = reached; ranked = ap (ranked parts) hypotheses ∙ node.ranked }
 
-  still_by : (found : Option Node) → option_map node_of found ≡ option_map (node_with (node_of from)) (attempt parts from.state move).made
+  still_by : (found : Option Node) → option_map node_of found ≡
+      option_map (node_with (node_of from)) (attempt parts from.state move).made
       → IfSome found (IsReached parts goal) → IfSome found (IsNode parts goal)
   still_by None same reached = tt
-  still_by (Some new) same reached = still_node new (attempt parts from.state move).made refl same reached
+  still_by (Some new) same reached =
+      still_node new (attempt parts from.state move).made refl same reached
 
   -- a step that keeps nothing leads to a node of the search
   pub unkept_node : (found : Trial) → IsTried from (attempt parts from.state move) found

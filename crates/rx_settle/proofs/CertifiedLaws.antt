@@ -28,7 +28,8 @@ use Rattle.rx_settle.specs.Moves.{move_of, step_of}
 -- ---- forming looks at the move alone
 
 module _ (parts : RuleParts) (hypotheses : List Rule) where
-  as_move_on : (goal : Equation) (s : Step) → formed_on parts goal hypotheses s ≡ formed_on parts goal hypotheses (step_of (move_of s))
+  as_move_on : (goal : Equation) (s : Step) → formed_on parts goal hypotheses s ≡
+      formed_on parts goal hypotheses (step_of (move_of s))
   as_move_on goal (step.Simplify side rule certs) = refl
   as_move_on goal (step.Hyp side place hyp subst certs) = refl
   as_move_on goal (step.Expand side keep) = refl
@@ -42,7 +43,8 @@ module _ (parts : RuleParts) (hypotheses : List Rule) where
   as_move_on goal (step.Results left right certs) = refl
 
   -- a step is formed as its move is
-  pub as_move : (goal : Option Equation) (s : Step) → formed parts goal hypotheses s ≡ formed parts goal hypotheses (step_of (move_of s))
+  pub as_move : (goal : Option Equation) (s : Step) → formed parts goal hypotheses s ≡
+      formed parts goal hypotheses (step_of (move_of s))
   as_move None s = refl
   as_move (Some goal) s = as_move_on goal s
 
@@ -61,7 +63,8 @@ certified_move (step.Decompose old) certs = refl
 certified_move (step.Results left right old) certs = refl
 
 -- so the step is formed as before
-pub certified_formed : (parts : RuleParts) (goal : Option Equation) (hypotheses : List Rule) (s : Step) (certs : List Cert) →
+pub certified_formed : (parts : RuleParts) (goal : Option Equation) (hypotheses : List Rule)
+    (s : Step) (certs : List Cert) →
     formed parts goal hypotheses (certified s certs) ≡ formed parts goal hypotheses s
 certified_formed parts goal hypotheses s certs =
     as_move parts hypotheses goal (certified s certs)
@@ -77,9 +80,11 @@ refused : (e : FormEnd) → AsksNothing (Err e)
 refused e f h = cc
 
 found : (f : FormedStep) → f.asked ≡ Rows [] → AsksNothing (Ok f)
-found f nothing g h = let is : f ≡ g = cc in subst (λ (x : FormedStep). x.asked ≡ Rows []) is nothing
+found f nothing g h =
+    let is : f ≡ g = cc in subst (λ (x : FormedStep). x.asked ≡ Rows []) is nothing
 
-after : {A : Type 0} (x : Forming A) (next : A → Forming FormedStep) → ((y : A) → AsksNothing (next y)) → AsksNothing (x >>= next)
+after : {A : Type 0} (x : Forming A) (next : A → Forming FormedStep) →
+    ((y : A) → AsksNothing (next y)) → AsksNothing (x >>= next)
 after (Ok y) next later = later y
 after (Err e) next later = refused e
 
@@ -96,16 +101,20 @@ kept made nothing = by made.within
 
 -- ---- certificates
 
-module _ (parts : RuleParts) (hypotheses : List Rule) (goal : Equation) (old new : List Row) (certs : List Cert) (f : FormedStep) where
+module _ (parts : RuleParts) (hypotheses : List Rule) (goal : Equation) (old new : List Row)
+    (certs : List Cert) (f : FormedStep) where
   -- where nothing is asked, no certificates show it
   by_none : f.asked ≡ Rows [] → judged old new f.asked [] ≡ Shown
   by_none e = ap (λ (a : Asked). judged old new a []) e
 
-  shown_on : (s : Step) → asks_rows s ≡ true → formed_on parts goal hypotheses s ≡ Ok f → judged old new f.asked certs ≡ Shown →
+  shown_on : (s : Step) → asks_rows s ≡ true → formed_on parts goal hypotheses s ≡ Ok f →
+      judged old new f.asked certs ≡ Shown →
       judged old new f.asked (certificates (certified s certs)) ≡ Shown
   shown_on (step.Simplify side rule before) rows is shows = shows
   shown_on (step.Hyp side place hyp subst before) rows is shows = shows
-  shown_on (step.Expand side keep) rows is shows = by_none (after (found_or WrongShape (redex_of (side_of side goal))) _ (λ redex. kept _ refl) f is)
+  shown_on (step.Expand side keep) rows is shows =
+      by_none (after (found_or WrongShape (redex_of (side_of side goal))) _ (λ redex. kept _ refl) f
+      is)
   shown_on (step.Delete (delete.Absurd cert)) rows is shows = cc
   shown_on (step.Delete (delete.Equal before)) rows is shows = shows
   shown_on step.EqDelete rows is shows = by_none (tested _ _ (kept _ refl) f is)
@@ -116,17 +125,21 @@ module _ (parts : RuleParts) (hypotheses : List Rule) (goal : Equation) (old new
   shown_on (step.Results left right before) rows is shows = shows
 
 -- the certificates that show what is asked are those that the step has then
-pub certified_shown : (parts : RuleParts) (goal : Option Equation) (hypotheses : List Rule) (old new : List Row) (certs : List Cert) (f : FormedStep) (s : Step) →
-    asks_rows s ≡ true → formed parts goal hypotheses s ≡ Ok f → judged old new f.asked certs ≡ Shown →
+pub certified_shown : (parts : RuleParts) (goal : Option Equation) (hypotheses : List Rule)
+    (old new : List Row) (certs : List Cert) (f : FormedStep) (s : Step) →
+    asks_rows s ≡ true → formed parts goal hypotheses s ≡ Ok f → judged old new f.asked certs ≡
+    Shown →
     judged old new f.asked (certificates (certified s certs)) ≡ Shown
 certified_shown parts None hypotheses old new certs f s rows is shows = cc
-certified_shown parts (Some goal) hypotheses old new certs f s rows is shows = shown_on parts hypotheses goal old new certs f s rows is shows
+certified_shown parts (Some goal) hypotheses old new certs f s rows is shows =
+    shown_on parts hypotheses goal old new certs f s rows is shows
 
 abbrev IsDeep : Cert → Type 0
 IsDeep cert = cert_depth cert ≤ 174
 
 -- nor is one deeper
-pub certified_deep : (s : Step) (certs : List Cert) → asks_rows s ≡ true → All IsDeep certs → All IsDeep (certificates (certified s certs))
+pub certified_deep : (s : Step) (certs : List Cert) → asks_rows s ≡ true → All IsDeep certs →
+    All IsDeep (certificates (certified s certs))
 certified_deep (step.Simplify side rule before) certs rows deep = deep
 certified_deep (step.Hyp side place hyp subst before) certs rows deep = deep
 certified_deep (step.Expand side keep) certs rows deep = All-nil IsDeep

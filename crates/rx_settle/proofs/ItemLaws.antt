@@ -24,39 +24,54 @@ no_goals : (goals : List Equation) → length goals ≡ 0 → slice_get goals 0 
 no_goals [] e = refl
 no_goals (goal ∷ goals) e = absurd (omega arith)
 
-a_goal : (goals : List Equation) → (length goals ≡ 0 → ⊥) → (goal : Equation) × (Some goal ≡ slice_get goals 0)
+a_goal : (goals : List Equation) → (length goals ≡ 0 → ⊥) → (goal : Equation) ×
+    (Some goal ≡ slice_get goals 0)
 a_goal [] some = absurd (some refl)
 a_goal (goal ∷ goals) some = (goal, refl)
 
 module _ (parts : RuleParts) (old : State) where
-  pub results_nowhere : (n : ℕ) (t : Trial) → n ≡ length old.goals → n ≡ 0 → t ≡ record { taken = None; noted = false } → IsTrial parts old old (at_first (by_results parts old) old.goals) t
-  results_nowhere n t count none is = no_goal (by_results parts old) parts old t (no_goals old.goals (sym count ∙ none)) is
+  pub results_nowhere : (n : ℕ) (t : Trial) → n ≡ length old.goals → n ≡ 0 → t ≡
+      record { taken = None; noted = false } →
+      IsTrial parts old old (at_first (by_results parts old) old.goals) t
+  results_nowhere n t count none is =
+      no_goal (by_results parts old) parts old t (no_goals old.goals (sym count ∙ none)) is
 
-  pub results_answer : {E : Type 0} (n : ℕ) (new : State) (r : Result Trial E) → n ≡ length old.goals → (n ≡ 0 → ⊥)
-      → IfOk r (λ t. (goal : Equation) → Some goal ≡ slice_get old.goals 0 → IsTrial parts old new (by_results parts old goal) t)
+  pub results_answer : {E : Type 0} (n : ℕ) (new : State) (r : Result Trial E) → n ≡
+      length old.goals → (n ≡ 0 → ⊥)
+      → IfOk r (λ t. (goal : Equation) → Some goal ≡ slice_get old.goals 0 →
+      IsTrial parts old new (by_results parts old goal) t)
       → IfOk r (IsTrial parts old new (at_first (by_results parts old) old.goals))
   results_answer n new (Ok t) count some of =
       let goal = a_goal old.goals (λ e. some (count ∙ e)) in
-      trial_of parts old new (by_results parts old goal.0) _ t (sym (at_goal (by_results parts old) old.goals goal.0 goal.1)) (of goal.0 goal.1)
+      trial_of parts old new (by_results parts old goal.0) _ t
+      (sym (at_goal (by_results parts old) old.goals goal.0 goal.1)) (of goal.0 goal.1)
   results_answer n new (Err e) count some of = tt
 
   -- ---- naming, and what comes after it
 
-  after_naming : (goals : List Equation) → at_first (λ goal. first_applying (named parts old goal ∷ from_uses parts old goal ∷ [])) goals ≡ at_first (from_naming parts old) goals
+  after_naming : (goals : List Equation) → at_first
+      (λ goal. first_applying (named parts old goal ∷ from_uses parts old goal ∷ [])) goals ≡
+      at_first (from_naming parts old) goals
   after_naming [] = refl
   after_naming (goal ∷ goals) =
       let names = named parts old goal in
       ap (made_or names.made names.noted) (one_tried (from_uses parts old goal))
 
-  module _ (mid : State) (t : Trial) (is : IsTrial parts old mid (at_first (named parts old) old.goals) t) where
-    pub name_first : (same : Trial) → IsUntaken t (Err same) → IsTrial parts old mid (at_first (from_naming parts old) old.goals) same
+  module _ (mid : State) (t : Trial) (is : IsTrial parts old mid
+      (at_first (named parts old) old.goals) t) where
+    pub name_first : (same : Trial) → IsUntaken t (Err same) →
+        IsTrial parts old mid (at_first (from_naming parts old) old.goals) same
     name_first same e =
-        trial_of parts old mid _ _ same (after_naming old.goals) (first_of_both parts old mid (named parts old) (λ s. from_uses parts s) t is same e)
+        trial_of parts old mid _ _ same (after_naming old.goals)
+        (first_of_both parts old mid (named parts old) (λ s. from_uses parts s) t is same e)
 
     pub uses_second : (u v : Trial) (new : State) (noted : Bool) → IsUntaken t (Ok noted) → IsTrial parts mid new (at_first (from_uses parts mid) mid.goals) u
-        → v ≡ record { taken = u.taken; noted = noted || u.noted } → IsTrial parts old new (at_first (from_naming parts old) old.goals) v
+        → v ≡ record { taken = u.taken; noted = noted || u.noted } →
+        IsTrial parts old new (at_first (from_naming parts old) old.goals) v
     uses_second u v new noted e more same =
-        trial_of parts old new _ _ v (after_naming old.goals) (second_of_both parts old mid (named parts old) (λ s. from_uses parts s) t is u v new noted e more same)
+        trial_of parts old new _ _ v (after_naming old.goals)
+        (second_of_both parts old mid (named parts old) (λ s. from_uses parts s) t is u v new
+        noted e more same)
 
   -- ---- all items
 
@@ -69,37 +84,54 @@ module _ (parts : RuleParts) (old : State) where
       ap
       (λ gs. first_applying (
       next_if_formed old Absurd (formed parts (slice_get gs 0) old.hypotheses (step_of Absurd))
-      ∷ next_if_formed old Equal (formed parts (slice_get gs 0) old.hypotheses (step_of Equal)) ∷ []))
+      ∷ next_if_formed old Equal (formed parts (slice_get gs 0) old.hypotheses (step_of Equal)) ∷
+      []))
       (same ∙ none)
 
-  all_items : (goals : List Equation) → old.goals ≡ goals → first_applying (deleting ∷ at_first (from_unfolding parts old) goals ∷ []) ≡ settling_first parts old goals
-  all_items [] same = ap (λ (t : Tried Next). first_applying (t ∷ fails ∷ [])) (nothing_to_delete [] same refl)
+  all_items : (goals : List Equation) → old.goals ≡ goals →
+      first_applying (deleting ∷ at_first (from_unfolding parts old) goals ∷ []) ≡
+      settling_first parts old goals
+  all_items [] same =
+      ap (λ (t : Tried Next). first_applying (t ∷ fails ∷ [])) (nothing_to_delete [] same refl)
   all_items (goal ∷ goals) same =
       let unfolds = unfolding_sides parts old goal in
       let leaves = leaving_sides parts old goal in
-      let leaving : from_leaving parts old goal ≡ made_or leaves.made leaves.noted (from_naming parts old goal) =
+      let leaving : from_leaving parts old goal ≡
+      made_or leaves.made leaves.noted (from_naming parts old goal) =
       ap (made_or leaves.made leaves.noted) (one_tried (from_naming parts old goal)) in
-      let unfolding_it : from_unfolding parts old goal ≡ made_or unfolds.made unfolds.noted (made_or leaves.made leaves.noted (from_naming parts old goal)) =
+      let unfolding_it : from_unfolding parts old goal ≡
+      made_or unfolds.made unfolds.noted (made_or leaves.made leaves.noted
+      (from_naming parts old goal)) =
       ap (made_or unfolds.made unfolds.noted) (one_tried (from_leaving parts old goal) ∙ leaving) in
-      ap (made_or deleting.made deleting.noted) (one_tried (from_unfolding parts old goal) ∙ unfolding_it)
+      ap (made_or deleting.made deleting.noted)
+      (one_tried (from_unfolding parts old goal) ∙ unfolding_it)
 
   module _ (mid : State) (t : Trial) (is : IsTrial parts old mid deleting t) where
-    pub delete_first : (same : Trial) → IsUntaken t (Err same) → IsTrial parts old mid (settling_move parts old) same
+    pub delete_first : (same : Trial) → IsUntaken t (Err same) →
+        IsTrial parts old mid (settling_move parts old) same
     delete_first same e =
-        trial_of parts old mid _ _ same (all_items old.goals refl) (taken_first parts old mid deleting t is (at_first (from_unfolding parts old) old.goals) same e)
+        trial_of parts old mid _ _ same (all_items old.goals refl)
+        (taken_first parts old mid deleting t is (at_first (from_unfolding parts old) old.goals)
+        same e)
 
-    pub items_second : (u v : Trial) (new : State) (noted : Bool) → IsUntaken t (Ok noted) → IsTrial parts mid new (at_first (from_unfolding parts mid) mid.goals) u
-        → v ≡ record { taken = u.taken; noted = noted || u.noted } → IsTrial parts old new (settling_move parts old) v
+    pub items_second : (u v : Trial) (new : State) (noted : Bool) → IsUntaken t (Ok noted) →
+        IsTrial parts mid new (at_first (from_unfolding parts mid) mid.goals) u
+        → v ≡ record { taken = u.taken; noted = noted || u.noted } →
+        IsTrial parts old new (settling_move parts old) v
     items_second u v new noted e more same =
         trial_of parts old new _ _ v (all_items old.goals refl)
-        (untaken_second parts old mid deleting t is (λ s. at_first (from_unfolding parts s) s.goals) u v new noted e more same)
+        (untaken_second parts old mid deleting t is (λ s. at_first (from_unfolding parts s) s.goals)
+        u v new noted e more same)
 
   -- ---- hypotheses
 
   -- a trial of settling leaves them
-  pub trial_keeps : (new : State) (t : Trial) → IsTrial parts old new (settling_move parts old) t → new.hypotheses ≡ old.hypotheses
+  pub trial_keeps : (new : State) (t : Trial) → IsTrial parts old new (settling_move parts old) t →
+      new.hypotheses ≡ old.hypotheses
   trial_keeps new t is = by t.taken is.taken
     where
-      by : (o : Option Step) → Takes parts old new (settling_move parts old).made o → new.hypotheses ≡ old.hypotheses
+      by : (o : Option Step) → Takes parts old new (settling_move parts old).made o →
+          new.hypotheses ≡ old.hypotheses
       by None same = ap (λ (s : State). s.hypotheses) same.1
-      by (Some step) made = move_keeps old parts (record { move = move_of step; state = new }) made.0
+      by (Some step) made =
+          move_keeps old parts (record { move = move_of step; state = new }) made.0

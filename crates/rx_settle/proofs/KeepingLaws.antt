@@ -44,7 +44,8 @@ refused e f h = cc
 found : (f : FormedStep) → f.kept ≡ [] → KeepsNothing (Ok f)
 found f nothing g h = let is : f ≡ g = cc in subst (λ (x : FormedStep). x.kept ≡ []) is nothing
 
-after : {A : Type 0} (x : Forming A) (next : A → Forming FormedStep) → ((y : A) → KeepsNothing (next y)) → KeepsNothing (x >>= next)
+after : {A : Type 0} (x : Forming A) (next : A → Forming FormedStep) →
+    ((y : A) → KeepsNothing (next y)) → KeepsNothing (x >>= next)
 after (Ok y) next later = later y
 after (Err e) next later = refused e
 
@@ -60,39 +61,50 @@ within made nothing = by made.within
     by false = refused form_end.Large
 
 module _ (parts : RuleParts) (hypotheses : List Rule) where
-  simplify_keeps : (goal : Option Equation) (side : Side) (number : ℕ) → KeepsNothing (formed parts goal hypotheses (step_of (Simplify side number)))
+  simplify_keeps : (goal : Option Equation) (side : Side) (number : ℕ) →
+      KeepsNothing (formed parts goal hypotheses (step_of (Simplify side number)))
   simplify_keeps None side number = refused form_end.NoGoal
   simplify_keeps (Some goal) side number =
       after (found_or form_end.WrongShape (redex_of (side_of side goal))) _ (λ redex.
-      after (found_or form_end.NoSuchRule (slice_get parts.rules number)) _ (λ rule. tested _ _ (within _ refl)))
+      after (found_or form_end.NoSuchRule (slice_get parts.rules number)) _
+      (λ rule. tested _ _ (within _ refl)))
 
-  hyp_keeps : (goal : Option Equation) (side : Side) (place number : ℕ) (ws : List (ℕ × Body)) → KeepsNothing (formed parts goal hypotheses (step_of (Hyp side place number ws)))
+  hyp_keeps : (goal : Option Equation) (side : Side) (place number : ℕ) (ws : List (ℕ × Body)) →
+      KeepsNothing (formed parts goal hypotheses (step_of (Hyp side place number ws)))
   hyp_keeps None side place number ws = refused form_end.NoGoal
   hyp_keeps (Some goal) side place number ws =
       after (found_or form_end.WrongShape (behind place (side_of side goal))) _ (λ part.
-      after (provided (is_substitution ws) (found_or form_end.NoSuchRule (slice_get hypotheses number))) _ (λ hypothesis. tested _ _ (within _ refl)))
+      after (provided (is_substitution ws) (found_or form_end.NoSuchRule
+      (slice_get hypotheses number))) _ (λ hypothesis. tested _ _ (within _ refl)))
 
-  expand_keeps : (goal : Option Equation) (side : Side) → KeepsNothing (formed parts goal hypotheses (step_of (Expand side false)))
+  expand_keeps : (goal : Option Equation) (side : Side) →
+      KeepsNothing (formed parts goal hypotheses (step_of (Expand side false)))
   expand_keeps None side = refused form_end.NoGoal
-  expand_keeps (Some goal) side = after (found_or form_end.WrongShape (redex_of (side_of side goal))) _ (λ redex. within _ refl)
+  expand_keeps (Some goal) side =
+      after (found_or form_end.WrongShape (redex_of (side_of side goal))) _ (λ redex. within _ refl)
 
-  absurd_keeps : (goal : Option Equation) → KeepsNothing (formed parts goal hypotheses (step_of Absurd))
+  absurd_keeps : (goal : Option Equation) → KeepsNothing
+      (formed parts goal hypotheses (step_of Absurd))
   absurd_keeps None = refused form_end.NoGoal
   absurd_keeps (Some goal) = found _ refl
 
-  equal_keeps : (goal : Option Equation) → KeepsNothing (formed parts goal hypotheses (step_of Equal))
+  equal_keeps : (goal : Option Equation) → KeepsNothing
+      (formed parts goal hypotheses (step_of Equal))
   equal_keeps None = refused form_end.NoGoal
   equal_keeps (Some goal) = tested _ _ (within _ refl)
 
-  generalise_keeps : (goal : Option Equation) (new : Equation) (ws : List (ℕ × Body)) → KeepsNothing (formed parts goal hypotheses (step_of (Generalise new ws)))
+  generalise_keeps : (goal : Option Equation) (new : Equation) (ws : List (ℕ × Body)) →
+      KeepsNothing (formed parts goal hypotheses (step_of (Generalise new ws)))
   generalise_keeps None new ws = refused form_end.NoGoal
   generalise_keeps (Some goal) new ws = tested _ _ (within _ refl)
 
-  results_keep : (goal : Option Equation) (left right : ℕ) → KeepsNothing (formed parts goal hypotheses (step_of (Results left right)))
+  results_keep : (goal : Option Equation) (left right : ℕ) →
+      KeepsNothing (formed parts goal hypotheses (step_of (Results left right)))
   results_keep None left right = refused form_end.NoGoal
   results_keep (Some goal) left right =
       after (found_or form_end.WrongShape (behind left goal.left)) _ (λ one.
-      after (found_or form_end.WrongShape (behind right goal.right)) _ (λ other. tested _ _ (within _ refl)))
+      after (found_or form_end.WrongShape (behind right goal.right)) _
+      (λ other. tested _ _ (within _ refl)))
 
 -- ---- moves that keep the hypotheses
 
@@ -108,23 +120,28 @@ module _ (state : State) where
   either_keeps true t u one other = one
   either_keeps false t u one other = other
 
-  first_keeps : (t : Tried Next) (later : Tried Next) → Keeps t → Keeps later → Keeps (made_or t.made t.noted later)
+  first_keeps : (t : Tried Next) (later : Tried Next) → Keeps t → Keeps later →
+      Keeps (made_or t.made t.noted later)
   first_keeps t later one other = by t.made one
     where
-      by : (m : Option Next) → Keeps (record { made = m; noted = t.noted }) → Keeps (made_or m t.noted later)
+      by : (m : Option Next) → Keeps (record { made = m; noted = t.noted }) →
+          Keeps (made_or m t.noted later)
       by None here = other
       by (Some x) here = here
 
   both_keep : (t u : Tried Next) → Keeps t → Keeps u → Keeps (first_applying (t ∷ u ∷ []))
   both_keep t u one other = first_keeps t _ one (first_keeps u _ other (none_keeps false))
 
-  formed_keeps : (move : Move) (x : Forming FormedStep) → KeepsNothing x → Keeps (next_if_formed state move x)
-  formed_keeps move (Ok f) nothing = by (asked_shown (first_rows state.goals) (first_rows f.goals) f.asked)
+  formed_keeps : (move : Move) (x : Forming FormedStep) → KeepsNothing x →
+      Keeps (next_if_formed state move x)
+  formed_keeps move (Ok f) nothing =
+      by (asked_shown (first_rows state.goals) (first_rows f.goals) f.asked)
     where
       by : (said : Said) → Keeps (where_shown said (record { move = move; state = taken state f }))
       by Yes next h =
           let made : record { move = move; state = taken state f } ≡ next = cc in
-          sym (ap (λ (n : Next). n.state.hypotheses) made) ∙ ap (λ ks. state.hypotheses ++ ks) (nothing f refl) ∙ append-nil state.hypotheses
+          sym (ap (λ (n : Next). n.state.hypotheses) made) ∙
+          ap (λ ks. state.hypotheses ++ ks) (nothing f refl) ∙ append-nil state.hypotheses
       by No next h = cc
       by Beyond next h = cc
   formed_keeps move (Err form_end.Large) nothing = none_keeps true
@@ -134,31 +151,44 @@ module _ (state : State) where
   formed_keeps move (Err form_end.NoMemory) nothing = none_keeps false
 
   module _ (parts : RuleParts) where
-    attempt_keeps : (move : Move) → KeepsNothing (formed parts (slice_get state.goals 0) state.hypotheses (step_of move)) → Keeps (attempt parts state move)
+    attempt_keeps : (move : Move) → KeepsNothing
+        (formed parts (slice_get state.goals 0) state.hypotheses (step_of move)) →
+        Keeps (attempt parts state move)
     unfolding attempt
     attempt_keeps move nothing = formed_keeps move _ nothing
 
     -- ---- rules
 
-    rules_keep : (side : Side) (from : Option Sym) (n : ℕ) (rules : List Rule) → Keeps (first_applying (by_rules parts state side from n rules))
+    rules_keep : (side : Side) (from : Option Sym) (n : ℕ) (rules : List Rule) →
+        Keeps (first_applying (by_rules parts state side from n rules))
     rules_keep side from n [] = none_keeps false
-    rules_keep side from n (rule ∷ rules) = by (is_tried parts from rule) (rules_keep side from (n + 1) rules)
+    rules_keep side from n (rule ∷ rules) =
+        by (is_tried parts from rule) (rules_keep side from (n + 1) rules)
       where
         by : (b : Bool) → Keeps (first_applying (by_rules parts state side from (n + 1) rules))
-            → Keeps (first_applying (if b then attempt parts state (Simplify side n) ∷ by_rules parts state side from (n + 1) rules else by_rules parts state side from (n + 1) rules))
+            → Keeps (first_applying (if b then attempt parts state (Simplify side n) ∷
+            by_rules parts state side from (n + 1) rules else
+            by_rules parts state side from (n + 1) rules))
         by true others =
-            first_keeps (attempt parts state (Simplify side n)) (first_applying (by_rules parts state side from (n + 1) rules))
-            (attempt_keeps (Simplify side n) (simplify_keeps parts state.hypotheses (slice_get state.goals 0) side n)) others
+            first_keeps (attempt parts state (Simplify side n))
+            (first_applying (by_rules parts state side from (n + 1) rules))
+            (attempt_keeps (Simplify side n) (simplify_keeps parts state.hypotheses
+            (slice_get state.goals 0) side n)) others
         by false others = others
 
-    unfolding_keeps : (side : Side) (redex : Option Sym) → Keeps (unfolding_at parts state side redex)
+    unfolding_keeps : (side : Side) (redex : Option Sym) →
+        Keeps (unfolding_at parts state side redex)
     unfolding_keeps side redex =
         either_keeps (is_at_loop_point parts redex) _ _ (none_keeps false)
-        (both_keep (simplifying parts state side None) (attempt parts state (Expand side false)) (rules_keep side None 0 parts.rules)
-        (attempt_keeps (Expand side false) (expand_keeps parts state.hypotheses (slice_get state.goals 0) side)))
+        (both_keep (simplifying parts state side None) (attempt parts state (Expand side false))
+        (rules_keep side None 0 parts.rules)
+        (attempt_keeps (Expand side false) (expand_keeps parts state.hypotheses
+        (slice_get state.goals 0) side)))
 
     leaving_keeps : (side : Side) (redex : Option Sym) → Keeps (leaving_at parts state side redex)
-    leaving_keeps side redex = either_keeps (is_at_loop_point parts redex) _ _ (rules_keep side redex 0 parts.rules) (none_keeps false)
+    leaving_keeps side redex =
+        either_keeps (is_at_loop_point parts redex) _ _ (rules_keep side redex 0 parts.rules)
+        (none_keeps false)
 
     module _ (goal : Equation) where
       -- ---- naming
@@ -166,54 +196,75 @@ module _ (state : State) where
       named_keeps : Keeps (named parts state goal)
       named_keeps = by (naming_of parts goal).made
         where
-          by : (o : Option Generalisation) → Keeps (then_by o (naming_of parts goal).noted (λ (lemma : Generalisation). attempt parts state (Generalise lemma.goal lemma.subst)))
+          by : (o : Option Generalisation) → Keeps
+              (then_by o (naming_of parts goal).noted
+              (λ (lemma : Generalisation). attempt parts state (Generalise lemma.goal lemma.subst)))
           by None = none_keeps (naming_of parts goal).noted
-          by (Some lemma) = attempt_keeps (Generalise lemma.goal lemma.subst) (generalise_keeps parts state.hypotheses (slice_get state.goals 0) lemma.goal lemma.subst)
+          by (Some lemma) =
+              attempt_keeps (Generalise lemma.goal lemma.subst)
+              (generalise_keeps parts state.hypotheses (slice_get state.goals 0) lemma.goal
+              lemma.subst)
 
       -- ---- hypotheses
 
-      place_keeps : (number : ℕ) (hypothesis : Rule) (side : Side) (place : ℕ) → Keeps (using_at parts state goal number hypothesis side place)
+      place_keeps : (number : ℕ) (hypothesis : Rule) (side : Side) (place : ℕ) →
+          Keeps (using_at parts state goal number hypothesis side place)
       place_keeps number hypothesis side place = by (use_of goal hypothesis side place).made
         where
-          by : (o : Option (List (ℕ × Body))) → Keeps (then_by o (use_of goal hypothesis side place).noted (λ subst. attempt parts state (Hyp side place number subst)))
+          by : (o : Option (List (ℕ × Body))) →
+              Keeps (then_by o (use_of goal hypothesis side place).noted
+              (λ subst. attempt parts state (Hyp side place number subst)))
           by None = none_keeps (use_of goal hypothesis side place).noted
-          by (Some ws) = attempt_keeps (Hyp side place number ws) (hyp_keeps parts state.hypotheses (slice_get state.goals 0) side place number ws)
+          by (Some ws) =
+              attempt_keeps (Hyp side place number ws)
+              (hyp_keeps parts state.hypotheses (slice_get state.goals 0) side place number ws)
 
-      places_keep : (number : ℕ) (hypothesis : Rule) (side : Side) (n from : ℕ) → Keeps (first_applying (map (using_at parts state goal number hypothesis side) (range_with_len from n)))
+      places_keep : (number : ℕ) (hypothesis : Rule) (side : Side) (n from : ℕ) →
+          Keeps (first_applying (map (using_at parts state goal number hypothesis side)
+          (range_with_len from n)))
       places_keep number hypothesis side zero from = none_keeps false
-      places_keep number hypothesis side (suc n) from = first_keeps _ _ (place_keeps number hypothesis side from) (places_keep number hypothesis side n (from + 1))
+      places_keep number hypothesis side (suc n) from =
+          first_keeps _ _ (place_keeps number hypothesis side from)
+          (places_keep number hypothesis side n (from + 1))
 
-      uses_keep : (n : ℕ) (hypotheses : List Rule) → Keeps (first_applying (using_each parts state goal n hypotheses))
+      uses_keep : (n : ℕ) (hypotheses : List Rule) →
+          Keeps (first_applying (using_each parts state goal n hypotheses))
       uses_keep n [] = none_keeps false
       uses_keep n (hypothesis ∷ hypotheses) =
           first_keeps _ _ (places_keep n hypothesis Left (1 + depth_of goal.left) 0)
-          (first_keeps _ _ (places_keep n hypothesis Right (1 + depth_of goal.right) 0) (uses_keep (n + 1) hypotheses))
+          (first_keeps _ _ (places_keep n hypothesis Right (1 + depth_of goal.right) 0)
+          (uses_keep (n + 1) hypotheses))
 
       -- ---- results
 
       results_at_keep : (left right : ℕ) → Keeps (resulting_at parts state left right)
       results_at_keep left right =
           either_keeps (left == 0 && right == 0) _ _ (none_keeps false)
-          (attempt_keeps (Results left right) (results_keep parts state.hypotheses (slice_get state.goals 0) left right))
+          (attempt_keeps (Results left right)
+          (results_keep parts state.hypotheses (slice_get state.goals 0) left right))
 
       resulting_keeps : (suffix : Common) → Keeps (resulting parts state goal suffix)
       resulting_keeps suffix =
           either_keeps (suffix.parts == 0) _ _ (none_keeps false)
-          (results_at_keep (1 + depth_of goal.left - suffix.parts) (1 + depth_of goal.right - suffix.parts))
+          (results_at_keep (1 + depth_of goal.left - suffix.parts)
+          (1 + depth_of goal.right - suffix.parts))
 
       by_results_keeps : Keeps (by_results parts state goal)
       by_results_keeps =
-          either_keeps (nat_lt (equation_bound goal) variables_end) _ _ (resulting_keeps (common_suffix goal.rows goal.left goal.right)) (none_keeps false)
+          either_keeps (nat_lt (equation_bound goal) variables_end) _ _
+          (resulting_keeps (common_suffix goal.rows goal.left goal.right)) (none_keeps false)
 
       -- ---- all items
 
       abbrev later_keep : List (Tried Next) → Type 0
       later_keep ts = Keeps (first_applying ts)
 
-      item_keeps : (t : Tried Next) (ts : List (Tried Next)) → Keeps t → later_keep ts → later_keep (t ∷ ts)
+      item_keeps : (t : Tried Next) (ts : List (Tried Next)) → Keeps t → later_keep ts →
+          later_keep (t ∷ ts)
       item_keeps t ts one others = first_keeps t (first_applying ts) one others
 
-      deleting_keeps : Keeps (first_applying (attempt parts state Absurd ∷ attempt parts state Equal ∷ []))
+      deleting_keeps : Keeps (first_applying (attempt parts state Absurd ∷
+          attempt parts state Equal ∷ []))
       deleting_keeps =
           both_keep (attempt parts state Absurd) (attempt parts state Equal)
           (attempt_keeps Absurd (absurd_keeps parts state.hypotheses (slice_get state.goals 0)))
@@ -234,22 +285,32 @@ module _ (state : State) where
           (item_keeps uses (by_results parts state goal ∷ []) (uses_keep 0 state.hypotheses)
           (item_keeps (by_results parts state goal) [] by_results_keeps (none_keeps false)))
 
-      from_leaving : later_keep (first_applying (leaves Left ∷ leaves Right ∷ []) ∷ named parts state goal ∷ uses ∷ by_results parts state goal ∷ [])
+      from_leaving : later_keep (first_applying (leaves Left ∷ leaves Right ∷ []) ∷
+          named parts state goal ∷ uses ∷ by_results parts state goal ∷ [])
       from_leaving =
-          item_keeps (first_applying (leaves Left ∷ leaves Right ∷ [])) (named parts state goal ∷ uses ∷ by_results parts state goal ∷ [])
-          (both_keep (leaves Left) (leaves Right) (leaving_keeps Left (redex_symbol Left goal)) (leaving_keeps Right (redex_symbol Right goal)))
+          item_keeps (first_applying (leaves Left ∷ leaves Right ∷ []))
+          (named parts state goal ∷ uses ∷ by_results parts state goal ∷ [])
+          (both_keep (leaves Left) (leaves Right) (leaving_keeps Left (redex_symbol Left goal))
+          (leaving_keeps Right (redex_symbol Right goal)))
           from_naming
 
-      from_unfolding : later_keep (first_applying (unfolds Left ∷ unfolds Right ∷ []) ∷ first_applying (leaves Left ∷ leaves Right ∷ []) ∷ named parts state goal ∷ uses ∷ by_results parts state goal ∷ [])
+      from_unfolding : later_keep (first_applying (unfolds Left ∷ unfolds Right ∷ []) ∷
+          first_applying (leaves Left ∷ leaves Right ∷ []) ∷ named parts state goal ∷ uses ∷
+          by_results parts state goal ∷ [])
       from_unfolding =
-          item_keeps (first_applying (unfolds Left ∷ unfolds Right ∷ [])) (first_applying (leaves Left ∷ leaves Right ∷ []) ∷ named parts state goal ∷ uses ∷ by_results parts state goal ∷ [])
-          (both_keep (unfolds Left) (unfolds Right) (unfolding_keeps Left (redex_symbol Left goal)) (unfolding_keeps Right (redex_symbol Right goal)))
+          item_keeps (first_applying (unfolds Left ∷ unfolds Right ∷ []))
+          (first_applying (leaves Left ∷ leaves Right ∷ []) ∷ named parts state goal ∷ uses ∷
+          by_results parts state goal ∷ [])
+          (both_keep (unfolds Left) (unfolds Right) (unfolding_keeps Left (redex_symbol Left goal))
+          (unfolding_keeps Right (redex_symbol Right goal)))
           from_leaving
 
       settling_keeps : Keeps (first_applying (settling parts state goal))
       settling_keeps =
           item_keeps (first_applying (attempt parts state Absurd ∷ attempt parts state Equal ∷ []))
-          (first_applying (unfolds Left ∷ unfolds Right ∷ []) ∷ first_applying (leaves Left ∷ leaves Right ∷ []) ∷ named parts state goal ∷ uses ∷ by_results parts state goal ∷ [])
+          (first_applying (unfolds Left ∷ unfolds Right ∷ []) ∷
+          first_applying (leaves Left ∷ leaves Right ∷ []) ∷ named parts state goal ∷ uses ∷
+          by_results parts state goal ∷ [])
           deleting_keeps from_unfolding
 
     goals_keep : (goals : List Equation) → Keeps (settling_first parts state goals)
@@ -257,5 +318,6 @@ module _ (state : State) where
     goals_keep (goal ∷ goals) = settling_keeps goal
 
     -- what settling makes has the same hypotheses
-    pub move_keeps : (next : Next) → (settling_move parts state).made ≡ Some next → next.state.hypotheses ≡ state.hypotheses
+    pub move_keeps : (next : Next) → (settling_move parts state).made ≡ Some next →
+        next.state.hypotheses ≡ state.hypotheses
     move_keeps = goals_keep state.goals

@@ -15,24 +15,45 @@ use Rattle.rx_settle.proofs.TrialLaws.{answer_of, failed_trial, trial_of}
 
 module _ (parts : RuleParts) (old : State) (side : Side) (redex : Option Sym) where
   unfolding_by : (b : Bool) → is_at_loop_point parts redex ≡ b →
-      cond b fails (first_applying (simplifying parts old side None ∷ attempt parts old (Expand side false) ∷ [])) ≡ unfolding_at parts old side redex
-  unfolding_by b e = ap (λ x. cond x fails (first_applying (simplifying parts old side None ∷ attempt parts old (Expand side false) ∷ []))) (sym e)
+      cond b fails (first_applying (simplifying parts old side None ∷
+      attempt parts old (Expand side false) ∷ [])) ≡ unfolding_at parts old side redex
+  unfolding_by b e =
+      ap (λ x. cond x fails (first_applying (simplifying parts old side None ∷
+      attempt parts old (Expand side false) ∷ []))) (sym e)
 
-  pub unfolds_not : (t : Trial) → is_at_loop_point parts redex ≡ true → t ≡ record { taken = None; noted = false } → IsTrial parts old old (unfolding_at parts old side redex) t
-  unfolds_not t e is = failed_trial parts old (unfolding_at parts old side redex) t (sym (unfolding_by true e)) is
+  pub unfolds_not : (t : Trial) → is_at_loop_point parts redex ≡ true → t ≡
+      record { taken = None; noted = false } →
+      IsTrial parts old old (unfolding_at parts old side redex) t
+  unfolds_not t e is =
+      failed_trial parts old (unfolding_at parts old side redex) t (sym (unfolding_by true e)) is
 
   pub unfolds : (new : State) (t : Trial) → is_at_loop_point parts redex ≡ false
-      → IsTrial parts old new (first_applying (simplifying parts old side None ∷ attempt parts old (Expand side false) ∷ [])) t → IsTrial parts old new (unfolding_at parts old side redex) t
-  unfolds new t e is = trial_of parts old new _ (unfolding_at parts old side redex) t (unfolding_by false e) is
+      → IsTrial parts old new (first_applying
+      (simplifying parts old side None ∷ attempt parts old (Expand side false) ∷ [])) t →
+      IsTrial parts old new (unfolding_at parts old side redex) t
+  unfolds new t e is =
+      trial_of parts old new _ (unfolding_at parts old side redex) t (unfolding_by false e) is
 
-  leaving_by : (b : Bool) → is_at_loop_point parts redex ≡ b → cond b (simplifying parts old side redex) fails ≡ leaving_at parts old side redex
+  leaving_by : (b : Bool) → is_at_loop_point parts redex ≡ b →
+      cond b (simplifying parts old side redex) fails ≡ leaving_at parts old side redex
   leaving_by b e = ap (λ x. cond x (simplifying parts old side redex) fails) (sym e)
 
-  pub leaves_not : (t : Trial) → is_at_loop_point parts redex ≡ false → t ≡ record { taken = None; noted = false } → IsTrial parts old old (leaving_at parts old side redex) t
-  leaves_not t e is = failed_trial parts old (leaving_at parts old side redex) t (sym (leaving_by false e)) is
+  pub leaves_not : (t : Trial) → is_at_loop_point parts redex ≡ false → t ≡
+      record { taken = None; noted = false } →
+      IsTrial parts old old (leaving_at parts old side redex) t
+  leaves_not t e is =
+      failed_trial parts old (leaving_at parts old side redex) t (sym (leaving_by false e)) is
 
-  pub leaves_by : (new : State) (t : Trial) → is_at_loop_point parts redex ≡ true → IsTrial parts old new (simplifying parts old side redex) t → IsTrial parts old new (leaving_at parts old side redex) t
-  leaves_by new t e is = trial_of parts old new _ (leaving_at parts old side redex) t (leaving_by true e) is
+  pub leaves_by : (new : State) (t : Trial) → is_at_loop_point parts redex ≡ true →
+      IsTrial parts old new (simplifying parts old side redex) t →
+      IsTrial parts old new (leaving_at parts old side redex) t
+  leaves_by new t e is =
+      trial_of parts old new _ (leaving_at parts old side redex) t (leaving_by true e) is
 
-  pub leaves_answer : {E : Type 0} (new : State) (r : Result Trial E) → is_at_loop_point parts redex ≡ true → IfOk r (IsTrial parts old new (simplifying parts old side redex)) → IfOk r (IsTrial parts old new (leaving_at parts old side redex))
-  leaves_answer new r e is = answer_of parts old new (simplifying parts old side redex) (leaving_at parts old side redex) r (leaving_by true e) is
+  pub leaves_answer : {E : Type 0} (new : State) (r : Result Trial E) →
+      is_at_loop_point parts redex ≡ true → IfOk r
+      (IsTrial parts old new (simplifying parts old side redex)) →
+      IfOk r (IsTrial parts old new (leaving_at parts old side redex))
+  leaves_answer new r e is =
+      answer_of parts old new (simplifying parts old side redex) (leaving_at parts old side redex) r
+      (leaving_by true e) is

@@ -32,18 +32,24 @@ under_goal Goal h = refl
 under_goal New h = cc
 
 module _ (old new : List Row) where
-  one_shown : (g : Group) → is_under_goal g.under ≡ true → groups_shown old new (g ∷ []) ≡ all_shown refuted old g.rows
-  one_shown g h = and_yes (all_shown refuted (given_to old new g.under) g.rows) ∙ ap (λ u. all_shown refuted (given_to old new u) g.rows) (under_goal g.under h)
+  one_shown : (g : Group) → is_under_goal g.under ≡ true → groups_shown old new (g ∷ []) ≡
+      all_shown refuted old g.rows
+  one_shown g h =
+      and_yes (all_shown refuted (given_to old new g.under) g.rows) ∙
+      ap (λ u. all_shown refuted (given_to old new u) g.rows) (under_goal g.under h)
 
   -- the first group is the only one
-  first_shown : (gs : List Group) (g : Group) → Some g ≡ slice_get gs 0 → is_one_group gs ≡ true → groups_shown old new gs ≡ all_shown refuted old g.rows
+  first_shown : (gs : List Group) (g : Group) → Some g ≡ slice_get gs 0 → is_one_group gs ≡ true →
+      groups_shown old new gs ≡ all_shown refuted old g.rows
   first_shown [] g is h = cc
   first_shown (g' ∷ []) g is h =
       let same : g' ≡ g = cc in
-      subst (λ x. groups_shown old new (x ∷ []) ≡ all_shown refuted old g.rows) (sym same) (one_shown g (subst (λ x. is_under_goal x.under ≡ true) same h))
+      subst (λ x. groups_shown old new (x ∷ []) ≡ all_shown refuted old g.rows) (sym same)
+      (one_shown g (subst (λ x. is_under_goal x.under ≡ true) same h))
   first_shown (g' ∷ h' ∷ gs) g is h = cc
 
-  pub group_asked : (gs : List Group) (g : Group) (a : AllShown) → Some g ≡ slice_get gs 0 → is_one_group gs ≡ true → IsAllShown old g.rows a → IsAskedShown old new (Rows gs) a
+  pub group_asked : (gs : List Group) (g : Group) (a : AllShown) → Some g ≡ slice_get gs 0 →
+      is_one_group gs ≡ true → IsAllShown old g.rows a → IsAskedShown old new (Rows gs) a
   unfolding asked_shown ShownBy
   group_asked gs g (all.Shown certs) is h found = record {
     said = first_shown gs g is h ∙ found.0;
@@ -56,10 +62,14 @@ module _ (old new : List Row) where
   -- nothing is asked
   pub none_asked : ShownBy old new (Rows []) []
   unfolding asked_shown ShownBy
-  none_asked = record { said = refl; shows = refl; deep = All-nil (λ (cert : Cert). cert_depth cert ≤ 174) }
+  none_asked =
+      record { said = refl; shows = refl; deep = All-nil (λ (cert : Cert). cert_depth cert ≤ 174) }
 
 -- so of an answer
-pub group_answer : {E : Type 0} (old : List Row) (gs : List Group) (g : Group) (rows : List Row) (r : Result AllShown E) → Some g ≡ slice_get gs 0 → is_one_group gs ≡ true → rows ≡ g.rows
-    → IfOk r (λ a. IsAllShown old rows a) → IfOk r (λ a. (new : List Row) → IsAskedShown old new (Rows gs) a)
-group_answer old gs g rows (Ok a) is one same found = λ new. group_asked old new gs g a is one (subst (λ rs. IsAllShown old rs a) same found)
+pub group_answer : {E : Type 0} (old : List Row) (gs : List Group) (g : Group) (rows : List Row)
+    (r : Result AllShown E) → Some g ≡ slice_get gs 0 → is_one_group gs ≡ true → rows ≡ g.rows
+    → IfOk r (λ a. IsAllShown old rows a) → IfOk r
+    (λ a. (new : List Row) → IsAskedShown old new (Rows gs) a)
+group_answer old gs g rows (Ok a) is one same found =
+    λ new. group_asked old new gs g a is one (subst (λ rs. IsAllShown old rs a) same found)
 group_answer old gs g rows (Err e) is one same found = tt

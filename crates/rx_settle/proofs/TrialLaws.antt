@@ -24,15 +24,19 @@ no_or false = refl
 
 -- nothing was noted before
 pub nothing_noted : (t : Tried Next) → noting false t ≡ t
-nothing_noted t = ap (λ n. let u : Tried Next = record { made = t.made; noted = n } in u) (no_or t.noted)
+nothing_noted t =
+    ap (λ n. let u : Tried Next = record { made = t.made; noted = n } in u) (no_or t.noted)
 
 -- what was noted twice
 pub noting_again : (a b : Bool) (t : Tried Next) → noting (a || b) t ≡ noting a (noting b t)
-noting_again a b t = ap (λ n. let u : Tried Next = record { made = t.made; noted = n } in u) (or_again a b t.noted)
+noting_again a b t =
+    ap (λ n. let u : Tried Next = record { made = t.made; noted = n } in u) (or_again a b t.noted)
 
 -- nothing follows
-pub last_alone : (made : Option Next) (noted : Bool) → made_or made noted fails ≡ record { made = made; noted = noted }
-last_alone None noted = ap (λ n. let u : Tried Next = record { made = None; noted = n } in u) (or_no noted)
+pub last_alone : (made : Option Next) (noted : Bool) → made_or made noted fails ≡
+    record { made = made; noted = noted }
+last_alone None noted =
+    ap (λ n. let u : Tried Next = record { made = None; noted = n } in u) (or_no noted)
 last_alone (Some x) noted = refl
 
 -- a step was taken, or none
@@ -49,17 +53,22 @@ pub one_tried : (t : Tried Next) → first_applying (t ∷ []) ≡ t
 one_tried t = last_alone t.made t.noted
 
 -- a list is tried after another
-pub tried_after : (first second rest : Tried Next) → made_or (made_or first.made first.noted second).made (made_or first.made first.noted second).noted rest
+pub tried_after : (first second rest : Tried Next) →
+    made_or (made_or first.made first.noted second).made
+    (made_or first.made first.noted second).noted rest
     ≡ made_or first.made first.noted (made_or second.made second.noted rest)
 tried_after first second rest = by first.made first.noted second.made second.noted
   where
     by : (m : Option Next) (n : Bool) (m' : Option Next) (n' : Bool) →
-        made_or (made_or m n (record { made = m'; noted = n' })).made (made_or m n (record { made = m'; noted = n' })).noted rest ≡ made_or m n (made_or m' n' rest)
+        made_or (made_or m n (record { made = m'; noted = n' })).made
+        (made_or m n (record { made = m'; noted = n' })).noted rest ≡
+        made_or m n (made_or m' n' rest)
     by (Some x) n m' n' = refl
     by None n (Some x) n' = refl
     by None n None n' = noting_again n n' rest
 
-module _ (parts : RuleParts) (old mid : State) (first : Tried Next) (t : Trial) (is : IsTrial parts old mid first t) where
+module _ (parts : RuleParts) (old mid : State) (first : Tried Next) (t : Trial)
+    (is : IsTrial parts old mid first t) where
   taken_by : (o : Option Step) → t.taken ≡ o → Takes parts old mid first.made o
   taken_by o e = subst (λ x. Takes parts old mid first.made x) e is.taken
 
@@ -71,79 +80,116 @@ module _ (parts : RuleParts) (old mid : State) (first : Tried Next) (t : Trial) 
   none_made e = (taken_by None e).0
 
   -- a step was taken: what comes later isn't tried
-  pub first_takes : (later : Tried Next) (step : Step) → t.taken ≡ Some step → IsTrial parts old mid (made_or first.made first.noted later) t
+  pub first_takes : (later : Tried Next) (step : Step) → t.taken ≡ Some step →
+      IsTrial parts old mid (made_or first.made first.noted later) t
   first_takes later step e =
       let made = (taken_by (Some step) e).0 in
       let whole : made_or first.made first.noted later ≡ first =
-      ap (λ m. made_or m first.noted later) made ∙ sym (ap (λ m. let u : Tried Next = record { made = m; noted = first.noted } in u) made) in
+      ap (λ m. made_or m first.noted later) made ∙
+      sym (ap (λ m. let u : Tried Next = record { made = m; noted = first.noted } in u) made) in
       subst (λ x. IsTrial parts old mid x t) (sym whole) is
 
   -- no step was: what comes later decides
-  pub later_takes : (later : Tried Next) (u : Trial) (new : State) → t.taken ≡ None → IsTrial parts old new later u
-      → IsTrial parts old new (made_or first.made first.noted later) (record { taken = u.taken; noted = t.noted || u.noted })
+  pub later_takes : (later : Tried Next) (u : Trial) (new : State) → t.taken ≡ None →
+      IsTrial parts old new later u
+      → IsTrial parts old new (made_or first.made first.noted later)
+      (record { taken = u.taken; noted = t.noted || u.noted })
   later_takes later u new e more =
       let whole : made_or first.made first.noted later ≡ noting t.noted later =
-      ap (λ m. made_or m first.noted later) (none_made e) ∙ ap (λ n. noting n later) (sym is.noted) in
-      subst (λ x. IsTrial parts old new x (record { taken = u.taken; noted = t.noted || u.noted })) (sym whole)
+      ap (λ m. made_or m first.noted later) (none_made e) ∙
+      ap (λ n. noting n later) (sym is.noted) in
+      subst (λ x. IsTrial parts old new x (record { taken = u.taken; noted = t.noted || u.noted }))
+      (sym whole)
       (record { noted = ap (λ n. t.noted || n) more.noted; taken = more.taken })
 
   -- the same of what is tried at the state then
-  pub then_takes : (later : State → Tried Next) (u : Trial) (new : State) → t.taken ≡ None → IsTrial parts mid new (later mid) u
-      → IsTrial parts old new (made_or first.made first.noted (later old)) (record { taken = u.taken; noted = t.noted || u.noted })
+  pub then_takes : (later : State → Tried Next) (u : Trial) (new : State) → t.taken ≡ None →
+      IsTrial parts mid new (later mid) u
+      → IsTrial parts old new (made_or first.made first.noted (later old))
+      (record { taken = u.taken; noted = t.noted || u.noted })
   then_takes later u new e more =
-      later_takes (later old) u new e (subst (λ s. IsTrial parts s new (later s) u) (same_state e) more)
+      later_takes (later old) u new e (subst (λ s. IsTrial parts s new (later s) u) (same_state e)
+      more)
 
 -- ---- two things
 
-module _ (parts : RuleParts) (old mid : State) (first : Tried Next) (t : Trial) (is : IsTrial parts old mid first t) where
+module _ (parts : RuleParts) (old mid : State) (first : Tried Next) (t : Trial)
+    (is : IsTrial parts old mid first t) where
   -- the first is taken
-  pub two_first : (second : Tried Next) → is_some t.taken ≡ true → IsTrial parts old mid (first_applying (first ∷ second ∷ [])) t
-  two_first second e = let some = some_by t.taken e in first_takes parts old mid first t is (first_applying (second ∷ [])) some.0 some.1
+  pub two_first : (second : Tried Next) → is_some t.taken ≡ true →
+      IsTrial parts old mid (first_applying (first ∷ second ∷ [])) t
+  two_first second e =
+      let some = some_by t.taken e in first_takes parts old mid first t is
+      (first_applying (second ∷ [])) some.0 some.1
 
   -- it isn't, and the second decides
-  pub two_second : (second : State → Tried Next) (u : Trial) (new : State) → is_some t.taken ≡ false → IsTrial parts mid new (second mid) u
-      → IsTrial parts old new (first_applying (first ∷ second old ∷ [])) (record { taken = u.taken; noted = t.noted || u.noted })
+  pub two_second : (second : State → Tried Next) (u : Trial) (new : State) → is_some t.taken ≡
+      false → IsTrial parts mid new (second mid) u
+      → IsTrial parts old new (first_applying (first ∷ second old ∷ []))
+      (record { taken = u.taken; noted = t.noted || u.noted })
   two_second second u new e more =
-      then_takes parts old mid first t is (λ s. first_applying (second s ∷ [])) u new (none_by t.taken e)
+      then_takes parts old mid first t is (λ s. first_applying (second s ∷ [])) u new
+      (none_by t.taken e)
       (subst (λ x. IsTrial parts mid new x u) (sym (one_tried (second mid))) more)
 
-module _ (parts : RuleParts) (old mid : State) (first : Tried Next) (t : Trial) (is : IsTrial parts old mid first t) where
+module _ (parts : RuleParts) (old mid : State) (first : Tried Next) (t : Trial)
+    (is : IsTrial parts old mid first t) where
   -- the same where it is told apart whether a step is taken
-  pub taken_first : (second : Tried Next) (same : Trial) → IsUntaken t (Err same) → IsTrial parts old mid (first_applying (first ∷ second ∷ [])) same
+  pub taken_first : (second : Tried Next) (same : Trial) → IsUntaken t (Err same) →
+      IsTrial parts old mid (first_applying (first ∷ second ∷ [])) same
   taken_first second same e =
       subst (λ x. IsTrial parts old mid (first_applying (first ∷ second ∷ [])) x) (sym e.0)
-      (two_first parts old mid first t is second (sym (ap (λ (x : Trial). is_some x.taken) e.0) ∙ e.1))
+      (two_first parts old mid first t is second
+      (sym (ap (λ (x : Trial). is_some x.taken) e.0) ∙ e.1))
 
   untaken_none : (noted : Bool) → IsUntaken t (Ok noted) → is_some t.taken ≡ false
   untaken_none noted e = ap (λ (x : Trial). is_some x.taken) e
 
-  pub untaken_second : (second : State → Tried Next) (u v : Trial) (new : State) (noted : Bool) → IsUntaken t (Ok noted) → IsTrial parts mid new (second mid) u → v ≡ record { taken = u.taken; noted = noted || u.noted }
+  pub untaken_second : (second : State → Tried Next) (u v : Trial) (new : State) (noted : Bool) →
+      IsUntaken t (Ok noted) → IsTrial parts mid new (second mid) u → v ≡
+      record { taken = u.taken; noted = noted || u.noted }
       → IsTrial parts old new (first_applying (first ∷ second old ∷ [])) v
   untaken_second second u v new noted e more same =
       let whole = two_second parts old mid first t is second u new (untaken_none noted e) more in
-      let equal : record { taken = u.taken; noted = t.noted || u.noted } ≡ v = ap (λ (x : Trial). let w : Trial = record { taken = u.taken; noted = x.noted || u.noted } in w) e ∙ sym same in
+      let equal : record { taken = u.taken; noted = t.noted || u.noted } ≡ v =
+      ap (λ (x : Trial). let w : Trial = record { taken = u.taken; noted = x.noted || u.noted }
+      in w) e ∙ sym same in
       subst (λ x. IsTrial parts old new (first_applying (first ∷ second old ∷ [])) x) equal whole
 
   pub untaken_same : (noted : Bool) → IsUntaken t (Ok noted) → mid ≡ old
-  untaken_same noted e = same_state parts old mid first t is (none_by t.taken (untaken_none noted e))
+  untaken_same noted e =
+      same_state parts old mid first t is (none_by t.taken (untaken_none noted e))
 
 -- the same trial of equal things
-pub trial_of : (parts : RuleParts) (old new : State) (tried other : Tried Next) (t : Trial) → tried ≡ other → IsTrial parts old new tried t → IsTrial parts old new other t
+pub trial_of : (parts : RuleParts) (old new : State) (tried other : Tried Next) (t : Trial) →
+    tried ≡ other → IsTrial parts old new tried t → IsTrial parts old new other t
 trial_of parts old new tried other t e is = subst (λ x. IsTrial parts old new x t) e is
 
 -- nothing applies
-pub failed_trial : (parts : RuleParts) (old : State) (tried : Tried Next) (t : Trial) → tried ≡ fails → t ≡ record { taken = None; noted = false } → IsTrial parts old old tried t
+pub failed_trial : (parts : RuleParts) (old : State) (tried : Tried Next) (t : Trial) → tried ≡
+    fails → t ≡ record { taken = None; noted = false } → IsTrial parts old old tried t
 failed_trial parts old tried t e is =
     subst (λ u. IsTrial parts old old tried u) (sym is)
-    (record { noted = sym (ap (λ (x : Tried Next). x.noted) e); taken = (ap (λ (x : Tried Next). x.made) e, refl) })
+    (record {
+      noted = sym (ap (λ (x : Tried Next). x.noted) e);
+      taken =
+          (ap (λ (x : Tried Next). x.made) e, refl);
+    })
 
 -- something passes the limits
-pub beyond_trial : (parts : RuleParts) (old : State) (tried : Tried Next) (t : Trial) → tried ≡ beyond → t ≡ record { taken = None; noted = true } → IsTrial parts old old tried t
+pub beyond_trial : (parts : RuleParts) (old : State) (tried : Tried Next) (t : Trial) → tried ≡
+    beyond → t ≡ record { taken = None; noted = true } → IsTrial parts old old tried t
 beyond_trial parts old tried t e is =
     subst (λ u. IsTrial parts old old tried u) (sym is)
-    (record { noted = sym (ap (λ (x : Tried Next). x.noted) e); taken = (ap (λ (x : Tried Next). x.made) e, refl) })
+    (record {
+      noted = sym (ap (λ (x : Tried Next). x.noted) e);
+      taken =
+          (ap (λ (x : Tried Next). x.made) e, refl);
+    })
 
 -- the same answer under a test
-pub answer_of : {E : Type 0} (parts : RuleParts) (old new : State) (tried other : Tried Next) (r : Result Trial E) → tried ≡ other → IfOk r (IsTrial parts old new tried) → IfOk r (IsTrial parts old new other)
+pub answer_of : {E : Type 0} (parts : RuleParts) (old new : State) (tried other : Tried Next)
+    (r : Result Trial E) → tried ≡ other → IfOk r (IsTrial parts old new tried) →
+    IfOk r (IsTrial parts old new other)
 answer_of parts old new tried other (Ok t) e is = trial_of parts old new tried other t e is
 answer_of parts old new tried other (Err x) e is = tt

@@ -33,7 +33,8 @@ use Rattle.rx_settle.specs.declared.trial.Trial.{Trial}
 use Rattle.rx_settle.proofs.CertifiedLaws.{as_move, certified_deep, certified_formed, certified_move, certified_shown}
 
 -- the rows of the first goal
-pub first_goal_rows : (goals : List Equation) (goal : Equation) → Some goal ≡ slice_get goals 0 → goal.rows ≡ first_rows goals
+pub first_goal_rows : (goals : List Equation) (goal : Equation) → Some goal ≡ slice_get goals 0 →
+    goal.rows ≡ first_rows goals
 first_goal_rows [] goal is = cc
 first_goal_rows (g ∷ gs) goal is = let same : goal ≡ g = cc in ap (λ (e : Equation). e.rows) same
 
@@ -44,14 +45,19 @@ outcome_for f all.NotShown = out.Fails
 outcome_for f all.TooLarge = out.TooLarge
 
 module _ (parts : RuleParts) (old : State) (s : Step) where
-  attempt_by : (x : Forming FormedStep) → formed_first parts old s ≡ x → attempt parts old (move_of s) ≡ next_if_formed old (move_of s) x
+  attempt_by : (x : Forming FormedStep) → formed_first parts old s ≡ x →
+      attempt parts old (move_of s) ≡ next_if_formed old (move_of s) x
   unfolding attempt formed_first
-  attempt_by x e = ap (next_if_formed old (move_of s)) (sym (as_move parts old.hypotheses (slice_get old.goals 0) s) ∙ e)
+  attempt_by x e =
+      ap (next_if_formed old (move_of s)) (sym
+      (as_move parts old.hypotheses (slice_get old.goals 0) s) ∙ e)
 
   -- ---- outcomes
 
   -- it isn't formed
-  pub refused_outcome : (x : Forming FormedStep) → formed_first parts old s ≡ x → ((state : State) (move : Move) → next_if_formed state move x ≡ fails) → IsOutcome parts old s out.Fails
+  pub refused_outcome : (x : Forming FormedStep) → formed_first parts old s ≡ x →
+      ((state : State) (move : Move) → next_if_formed state move x ≡ fails) →
+      IsOutcome parts old s out.Fails
   unfolding IsOutcome
   refused_outcome x e none = attempt_by x e ∙ none old (move_of s)
 
@@ -61,10 +67,14 @@ module _ (parts : RuleParts) (old : State) (s : Step) where
 
   module _ (f : FormedStep) (is : formed_first parts old s ≡ Ok f) where
     by_said : (said : Said) → asked_shown (first_rows old.goals) (first_rows f.goals) f.asked ≡ said
-        → attempt parts old (move_of s) ≡ where_shown said (record { move = move_of s; state = taken old f })
-    by_said said e = attempt_by (Ok f) is ∙ ap (λ (w : Said). where_shown w (record { move = move_of s; state = taken old f })) e
+        → attempt parts old (move_of s) ≡ where_shown said
+        (record { move = move_of s; state = taken old f })
+    by_said said e =
+        attempt_by (Ok f) is ∙ ap (λ (w : Said).
+        where_shown w (record { move = move_of s; state = taken old f })) e
 
-    outcome_of : (a : AllShown) → IsAskedShown (first_rows old.goals) (first_rows f.goals) f.asked a → IsOutcome parts old s (outcome_for f a)
+    outcome_of : (a : AllShown) → IsAskedShown (first_rows old.goals) (first_rows f.goals) f.asked a
+        → IsOutcome parts old s (outcome_for f a)
     unfolding IsOutcome
     outcome_of (all.Shown certs) shown = (is, shown)
     outcome_of all.NotShown shown = by_said No shown
@@ -73,19 +83,33 @@ module _ (parts : RuleParts) (old : State) (s : Step) where
     -- without a goal nothing is formed
     none_formed : slice_get old.goals 0 ≡ None → ⊥
     unfolding formed_first
-    none_formed none = let e : Err NoGoal ≡ Ok f = sym (ap (λ g. formed parts g old.hypotheses s) none) ∙ is in cc
+    none_formed none =
+        let e : Err NoGoal ≡ Ok f = sym (ap (λ g. formed parts g old.hypotheses s) none) ∙ is in cc
 
   -- ---- trials
 
-  pub failed_trial : IsOutcome parts old s out.Fails → IsTrial parts old old (attempt parts old (move_of s)) (record { taken = None; noted = false })
+  pub failed_trial : IsOutcome parts old s out.Fails →
+      IsTrial parts old old (attempt parts old (move_of s)) (record { taken = None; noted = false })
   unfolding IsOutcome
-  failed_trial e = record { noted = sym (ap (λ (t : Tried Next). t.noted) e); taken = (ap (λ (t : Tried Next). t.made) e, refl) }
+  failed_trial e =
+      record {
+        noted = sym (ap (λ (t : Tried Next). t.noted) e);
+        taken =
+            (ap (λ (t : Tried Next). t.made) e, refl);
+      }
 
-  pub large_trial : IsOutcome parts old s out.TooLarge → IsTrial parts old old (attempt parts old (move_of s)) (record { taken = None; noted = true })
+  pub large_trial : IsOutcome parts old s out.TooLarge →
+      IsTrial parts old old (attempt parts old (move_of s)) (record { taken = None; noted = true })
   unfolding IsOutcome
-  large_trial e = record { noted = sym (ap (λ (t : Tried Next). t.noted) e); taken = (ap (λ (t : Tried Next). t.made) e, refl) }
+  large_trial e =
+      record {
+        noted = sym (ap (λ (t : Tried Next). t.noted) e);
+        taken =
+            (ap (λ (t : Tried Next). t.made) e, refl);
+      }
 
-  module _ (f : FormedStep) (certs : List Cert) (rows : asks_rows s ≡ true) (outcome : IsOutcome parts old s (out.Shown f certs)) where
+  module _ (f : FormedStep) (certs : List Cert) (rows : asks_rows s ≡ true)
+      (outcome : IsOutcome parts old s (out.Shown f certs)) where
     formed_so : formed_first parts old s ≡ Ok f
     unfolding IsOutcome
     formed_so = outcome.0
@@ -104,12 +128,15 @@ module _ (parts : RuleParts) (old : State) (s : Step) where
     unfolding formed_first
     makes_so = shown_taken parts old (certified s certs) f
         (certified_formed parts (slice_get old.goals 0) old.hypotheses s certs ∙ formed_so)
-        (certified_shown parts (slice_get old.goals 0) old.hypotheses (first_rows old.goals) (first_rows f.goals) certs f s rows formed_so parts_of.shows)
+        (certified_shown parts (slice_get old.goals 0) old.hypotheses (first_rows old.goals)
+        (first_rows f.goals) certs f s rows formed_so parts_of.shows)
 
-    applies_so : attempt parts old (move_of s) ≡ applies (record { move = move_of s; state = taken old f })
+    applies_so : attempt parts old (move_of s) ≡
+        applies (record { move = move_of s; state = taken old f })
     applies_so = by_said f formed_so Yes parts_of.said
 
-    taken_at : IsTrial parts old (taken old f) (attempt parts old (move_of s)) (record { taken = Some (certified s certs); noted = false })
+    taken_at : IsTrial parts old (taken old f) (attempt parts old (move_of s))
+        (record { taken = Some (certified s certs); noted = false })
     taken_at = record {
       noted = sym (ap (λ (t : Tried Next). t.noted) applies_so);
       taken = (
@@ -119,22 +146,31 @@ module _ (parts : RuleParts) (old : State) (s : Step) where
     }
 
     -- the step is taken, with the certificates that were found
-    pub taken_trial : (new : State) (step : Step) (t : Trial) → new ≡ taken old f → step ≡ certified s certs → t ≡ record { taken = Some step; noted = false }
+    pub taken_trial : (new : State) (step : Step) (t : Trial) → new ≡ taken old f → step ≡
+        certified s certs → t ≡ record { taken = Some step; noted = false }
         → IsTrial parts old new (attempt parts old (move_of s)) t
     taken_trial new step t e same is =
-        subst (λ u. IsTrial parts old new (attempt parts old (move_of s)) u) (sym (is ∙ ap (λ x. let u : Trial = record { taken = Some x; noted = false } in u) same))
-        (subst (λ n. IsTrial parts old n (attempt parts old (move_of s)) (record { taken = Some (certified s certs); noted = false })) (sym e) taken_at)
+        subst (λ u. IsTrial parts old new (attempt parts old (move_of s)) u)
+        (sym (is ∙ ap (λ x. let u : Trial = record { taken = Some x; noted = false } in u)
+        same))
+        (subst (λ n. IsTrial parts old n (attempt parts old (move_of s))
+        (record { taken = Some (certified s certs); noted = false })) (sym e) taken_at)
 
 -- by what forming comes to
-module _ (parts : RuleParts) (old : State) (s : Step) (fm : Formation) (of : IsFormation (formed_first parts old s) fm) where
-  pub by_formed : (made : FormedStep) → fm ≡ formation.Formed made → formed_first parts old s ≡ Ok made
+module _ (parts : RuleParts) (old : State) (s : Step) (fm : Formation)
+    (of : IsFormation (formed_first parts old s) fm) where
+  pub by_formed : (made : FormedStep) → fm ≡ formation.Formed made → formed_first parts old s ≡
+      Ok made
   by_formed made is = subst (λ y. IsFormation (formed_first parts old s) y) is of
 
   pub by_refused : fm ≡ formation.Refused → IsOutcome parts old s out.Fails
-  by_refused is = refused_outcome parts old s (formed_first parts old s) refl (subst (λ y. IsFormation (formed_first parts old s) y) is of)
+  by_refused is =
+      refused_outcome parts old s (formed_first parts old s) refl
+      (subst (λ y. IsFormation (formed_first parts old s) y) is of)
 
   pub by_large : fm ≡ formation.TooLarge → IsOutcome parts old s out.TooLarge
-  by_large is = large_outcome parts old s (subst (λ y. IsFormation (formed_first parts old s) y) is of)
+  by_large is =
+      large_outcome parts old s (subst (λ y. IsFormation (formed_first parts old s) y) is of)
 
 -- what comes of a step that is formed so
 module _ (old : State) (f : FormedStep) where
@@ -142,36 +178,58 @@ module _ (old : State) (f : FormedStep) where
   unfolding Follows
   nothing_follows none parts s is = absurd (none_formed parts old s f is none)
 
-  pub shown_follows : (goal : Equation) (a x : AllShown) → Some goal ≡ slice_get old.goals 0 → ((new : List Row) → IsAskedShown goal.rows new f.asked a) → a ≡ x → Follows old f (outcome_for f x)
+  pub shown_follows : (goal : Equation) (a x : AllShown) → Some goal ≡ slice_get old.goals 0 →
+      ((new : List Row) → IsAskedShown goal.rows new f.asked a) → a ≡ x →
+      Follows old f (outcome_for f x)
   unfolding Follows
   shown_follows goal a x first shown is parts s formed =
-      let here = subst (λ g. IsAskedShown g (first_rows f.goals) f.asked a) (first_goal_rows old.goals goal first) (shown (first_rows f.goals)) in
-      outcome_of parts old s f formed x (subst (λ y. IsAskedShown (first_rows old.goals) (first_rows f.goals) f.asked y) is here)
+      let here = subst (λ g. IsAskedShown g (first_rows f.goals) f.asked a)
+      (first_goal_rows old.goals goal first) (shown (first_rows f.goals)) in
+      outcome_of parts old s f formed x (subst
+      (λ y. IsAskedShown (first_rows old.goals) (first_rows f.goals) f.asked y) is here)
 
   -- the step is formed so
-  pub step_follows : {E : Type 0} (parts : RuleParts) (s : Step) (r : Result Outcome E) → formed_first parts old s ≡ Ok f → IfOk r (λ o. Follows old f o) → IfOk r (λ o. IsOutcome parts old s o)
+  pub step_follows : {E : Type 0} (parts : RuleParts) (s : Step) (r : Result Outcome E) →
+      formed_first parts old s ≡ Ok f → IfOk r (λ o. Follows old f o) →
+      IfOk r (λ o. IsOutcome parts old s o)
   unfolding Follows
   step_follows parts s (Ok o) is follows = follows parts s is
   step_follows parts s (Err e) is follows = tt
 
   -- and asks rows under those of the goal alone
-  pub asks_alone : (parts : RuleParts) (s : Step) → formed_first parts old s ≡ Ok f → asks_goal_alone f.asked ≡ true
+  pub asks_alone : (parts : RuleParts) (s : Step) → formed_first parts old s ≡ Ok f →
+      asks_goal_alone f.asked ≡ true
   unfolding formed_first
   asks_alone parts s is = formed_alone parts (slice_get old.goals 0) old.hypotheses s f is
 
 -- ---- answers
 
-module _ (parts : RuleParts) (old : State) (s : Step) (o : Outcome) (of : IsOutcome parts old s o) where
-  at_outcome : (x : Outcome) → o ≡ x → IsOutcome parts old s x
-  at_outcome x is = subst (λ y. IsOutcome parts old s y) is of
+module _ (parts : RuleParts) (old : State) (s : Step) (o : Outcome) (of : IsOutcome parts old s o)
+  where
+    at_outcome : (x : Outcome) → o ≡ x → IsOutcome parts old s x
+    at_outcome x is = subst (λ y. IsOutcome parts old s y) is of
 
-  pub answer_taken : {E : Type 0} (f : FormedStep) (certs : List Cert) (new : State) (step : Step) (r : Result Trial E) → o ≡ out.Shown f certs → asks_rows s ≡ true → step ≡ certified s certs
-      → OnOk r (new ≡ taken old f) → IfOk r (λ t. t ≡ record { taken = Some step; noted = false }) → IfOk r (IsTrial parts old new (attempt parts old (move_of s)))
-  answer_taken f certs new step (Ok t) is rows same made trial = taken_trial parts old s f certs rows (at_outcome (out.Shown f certs) is) new step t made same trial
-  answer_taken f certs new step (Err e) is rows same made trial = tt
+    pub answer_taken : {E : Type 0} (f : FormedStep) (certs : List Cert) (new : State) (step : Step)
+        (r : Result Trial E) → o ≡ out.Shown f certs → asks_rows s ≡ true → step ≡ certified s certs
+        → OnOk r (new ≡ taken old f) → IfOk r (λ t. t ≡ record { taken = Some step; noted = false })
+        →
+        IfOk r (IsTrial parts old new (attempt parts old (move_of s)))
+    answer_taken f certs new step (Ok t) is rows same made trial =
+        taken_trial parts old s f certs rows (at_outcome (out.Shown f certs) is) new step t made
+        same
+        trial
+    answer_taken f certs new step (Err e) is rows same made trial = tt
 
-  pub answer_failed : (t u : Trial) → o ≡ out.Fails → t ≡ u → u ≡ record { taken = None; noted = false } → IsTrial parts old old (attempt parts old (move_of s)) t
-  answer_failed t u is same made = subst (λ x. IsTrial parts old old (attempt parts old (move_of s)) x) (sym (same ∙ made)) (failed_trial parts old s (at_outcome out.Fails is))
+    pub answer_failed : (t u : Trial) → o ≡ out.Fails → t ≡ u → u ≡
+        record { taken = None; noted = false } →
+        IsTrial parts old old (attempt parts old (move_of s)) t
+    answer_failed t u is same made =
+        subst (λ x. IsTrial parts old old (attempt parts old (move_of s)) x) (sym (same ∙ made))
+        (failed_trial parts old s (at_outcome out.Fails is))
 
-  pub answer_large : (t u : Trial) → o ≡ out.TooLarge → t ≡ u → u ≡ record { taken = None; noted = true } → IsTrial parts old old (attempt parts old (move_of s)) t
-  answer_large t u is same made = subst (λ x. IsTrial parts old old (attempt parts old (move_of s)) x) (sym (same ∙ made)) (large_trial parts old s (at_outcome out.TooLarge is))
+    pub answer_large : (t u : Trial) → o ≡ out.TooLarge → t ≡ u → u ≡
+        record { taken = None; noted = true } →
+        IsTrial parts old old (attempt parts old (move_of s)) t
+    answer_large t u is same made =
+        subst (λ x. IsTrial parts old old (attempt parts old (move_of s)) x) (sym (same ∙ made))
+        (large_trial parts old s (at_outcome out.TooLarge is))

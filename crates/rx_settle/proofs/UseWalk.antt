@@ -16,14 +16,19 @@ use Rattle.rx_settle.specs.declared.trial.Trial.{Trial}
 use Rattle.rx_settle.proofs.TrialLaws.{first_takes, none_by, none_made, noting_again, nothing_noted, one_tried, or_no, same_state, some_by, tried_after, trial_of}
 
 -- the hypotheses, counted in a list that is borrowed
-pub is_within : (list : List Rule) (state : State) (count n : ℕ) → list ≡ state.hypotheses → count ≡ length list → n < count → n < length state.hypotheses
-is_within list state count n same counted inside = let e = ap (λ (hs : List Rule). length hs) same in omega arith
+pub is_within : (list : List Rule) (state : State) (count n : ℕ) → list ≡ state.hypotheses → count ≡
+    length list → n < count → n < length state.hypotheses
+is_within list state count n same counted inside =
+    let e = ap (λ (hs : List Rule). length hs) same in omega arith
 
-pub is_past : (list : List Rule) (state : State) (count n : ℕ) → list ≡ state.hypotheses → count ≡ length list → count ≤ n → length state.hypotheses ≤ n
-is_past list state count n same counted over = let e = ap (λ (hs : List Rule). length hs) same in omega arith
+pub is_past : (list : List Rule) (state : State) (count n : ℕ) → list ≡ state.hypotheses → count ≡
+    length list → count ≤ n → length state.hypotheses ≤ n
+is_past list state count n same counted over =
+    let e = ap (λ (hs : List Rule). length hs) same in omega arith
 
 -- an element, and what comes from it on
-element_at : {A : Type 0} (xs : List A) (n : ℕ) → n < length xs → (x : A) × ((drop n xs ≡ x ∷ drop (suc n) xs) × (slice_get xs n ≡ Some x))
+element_at : {A : Type 0} (xs : List A) (n : ℕ) → n < length xs → (x : A) ×
+    ((drop n xs ≡ x ∷ drop (suc n) xs) × (slice_get xs n ≡ Some x))
 element_at [] n h = absurd (omega arith)
 element_at (x ∷ xs) zero h = (x, (refl, refl))
 element_at (x ∷ xs) (suc n) h = element_at xs n (omega arith)
@@ -52,68 +57,92 @@ module _ (parts : RuleParts) (state : State) where
   -- ---- one hypothesis
 
   -- its two sides, and then the others
-  pair_first : (left right later : Tried Next) → first_applying (left ∷ right ∷ []) ≡ made_or left.made left.noted right
+  pair_first : (left right later : Tried Next) → first_applying (left ∷ right ∷ []) ≡
+      made_or left.made left.noted right
   pair_first left right later = ap (made_or left.made left.noted) (one_tried right)
 
-  both_sides : (left right later : Tried Next) → made_or left.made left.noted (made_or right.made right.noted later)
-      ≡ made_or (first_applying (left ∷ right ∷ [])).made (first_applying (left ∷ right ∷ [])).noted later
+  both_sides : (left right later : Tried Next) →
+      made_or left.made left.noted (made_or right.made right.noted later)
+      ≡ made_or (first_applying (left ∷ right ∷ [])).made (first_applying (left ∷ right ∷ [])).noted
+      later
   both_sides left right later =
       sym (tried_after left right later)
       ∙ ap (λ (t : Tried Next). made_or t.made t.noted later) (sym (pair_first left right later))
 
   module _ (n : ℕ) (inside : n < length state.hypotheses) where
-    here : (h : Rule) × ((drop n state.hypotheses ≡ h ∷ drop (suc n) state.hypotheses) × (slice_get state.hypotheses n ≡ Some h))
+    here : (h : Rule) × ((drop n state.hypotheses ≡ h ∷ drop (suc n) state.hypotheses) ×
+        (slice_get state.hypotheses n ≡ Some h))
     here = element_at state.hypotheses n inside
 
     -- at a goal
-    step_at : (goal : Equation) → rest_at n goal ≡ made_or (using_sides parts state n goal).made (using_sides parts state n goal).noted (rest_at (n + 1) goal)
+    step_at : (goal : Equation) → rest_at n goal ≡
+        made_or (using_sides parts state n goal).made (using_sides parts state n goal).noted
+        (rest_at (n + 1) goal)
     step_at goal =
         let left = using_on parts state goal n here.0 Left in
         let right = using_on parts state goal n here.0 Right in
         let later = rest_at (n + 1) goal in
-        let from : drop n state.hypotheses ≡ here.0 ∷ drop (n + 1) state.hypotheses = here.1.0 ∙ ap (λ k. here.0 ∷ drop k state.hypotheses) (sym (add-one n)) in
+        let from : drop n state.hypotheses ≡ here.0 ∷ drop (n + 1) state.hypotheses = here.1.0 ∙
+        ap (λ k. here.0 ∷ drop k state.hypotheses) (sym (add-one n)) in
         let sides_are : first_applying (left ∷ right ∷ []) ≡ using_sides parts state n goal =
         ap
-        (λ (o : Option Rule). first_applying (option_map_or (λ (h : Rule). using_on parts state goal n h Left) o fails ∷ option_map_or (λ (h : Rule). using_on parts state goal n h Right) o fails ∷ []))
+        (λ (o : Option Rule). first_applying (option_map_or
+        (λ (h : Rule). using_on parts state goal n h Left) o fails ∷
+        option_map_or (λ (h : Rule). using_on parts state goal n h Right) o fails ∷ []))
         (sym here.1.1) in
         ap (λ hs. first_applying (using_each parts state goal n hs)) from
         ∙ both_sides left right later
         ∙ ap (λ (t : Tried Next). made_or t.made t.noted later) sides_are
 
     by_goals : (goals : List Equation) → at_first (rest_at n) goals
-        ≡ made_or (at_first (using_sides parts state n) goals).made (at_first (using_sides parts state n) goals).noted (at_first (rest_at (n + 1)) goals)
+        ≡ made_or (at_first (using_sides parts state n) goals).made
+        (at_first (using_sides parts state n) goals).noted (at_first (rest_at (n + 1)) goals)
     by_goals [] = refl
     by_goals (goal ∷ goals) = step_at goal
 
     step : rest n ≡ made_or (sides n).made (sides n).noted (rest (n + 1))
     step = by_goals state.goals
 
-    module _ (noted : Bool) (so_far : Using noted n) (t : Trial) (mid : State) (trial : IsTrial parts state mid (sides n) t) where
+    module _ (noted : Bool) (so_far : Using noted n) (t : Trial) (mid : State)
+        (trial : IsTrial parts state mid (sides n) t) where
       -- it isn't used
       pub next_failed : is_some t.taken ≡ false → Using (noted || t.noted) (n + 1)
       next_failed unset =
           let none = none_by t.taken unset in
           let later = rest (n + 1) in
           let so : made_or (sides n).made (sides n).noted later ≡ noting t.noted later =
-          ap (λ m. made_or m (sides n).noted later) (none_made parts state mid (sides n) t trial none)
+          ap (λ m. made_or m (sides n).noted later)
+          (none_made parts state mid (sides n) t trial none)
           ∙ ap (λ b. noting b later) (sym trial.noted) in
-          record { decides = noting_again noted t.noted later ∙ ap (noting noted) (sym so) ∙ ap (noting noted) (sym step) ∙ so_far.decides }
+          record {
+            decides = noting_again noted t.noted later ∙ ap (noting noted) (sym so) ∙
+                ap (noting noted) (sym step) ∙ so_far.decides;
+          }
 
       -- it is
-      pub this_applies : is_some t.taken ≡ true → IsTrial parts state mid whole (record { taken = t.taken; noted = noted || t.noted })
+      pub this_applies : is_some t.taken ≡ true →
+          IsTrial parts state mid whole (record { taken = t.taken; noted = noted || t.noted })
       this_applies set =
           let some = some_by t.taken set in
-          let first = trial_of parts state mid _ _ t (sym step) (first_takes parts state mid (sides n) t trial (rest (n + 1)) some.0 some.1) in
-          trial_of parts state mid (noting noted (rest n)) whole (record { taken = t.taken; noted = noted || t.noted }) so_far.decides
+          let first = trial_of parts state mid _ _ t (sym step)
+          (first_takes parts state mid (sides n) t trial (rest (n + 1)) some.0 some.1) in
+          trial_of parts state mid (noting noted (rest n)) whole
+          (record { taken = t.taken; noted = noted || t.noted }) so_far.decides
           (record { noted = ap (λ b. noted || b) first.noted; taken = first.taken })
 
   -- no hypothesis is left
-  none_left : (noted : Bool) (n : ℕ) → drop n state.hypotheses ≡ [] → Using noted n → IsTrial parts state state whole (record { taken = None; noted = noted })
+  none_left : (noted : Bool) (n : ℕ) → drop n state.hypotheses ≡ [] → Using noted n →
+      IsTrial parts state state whole (record { taken = None; noted = noted })
   none_left noted n none so_far =
-      let ended : noting noted fails ≡ whole = ap (noting noted) (sym (by_goals state.goals)) ∙ so_far.decides in
-      let same : record { taken = None; noted = noted || false } ≡ record { taken = None; noted = noted } = ap (λ b. let u : Trial = record { taken = None; noted = b } in u) (or_no noted) in
+      let ended : noting noted fails ≡ whole = ap (noting noted) (sym (by_goals state.goals)) ∙
+      so_far.decides in
+      let same : record { taken = None; noted = noted || false } ≡
+      record { taken = None; noted = noted } =
+      ap (λ b. let u : Trial = record { taken = None; noted = b } in u) (or_no noted) in
       subst (λ u. IsTrial parts state state whole u) same
-      (trial_of parts state state (noting noted fails) whole (record { taken = None; noted = noted || false }) ended (record { noted = refl; taken = (refl, refl) }))
+      (trial_of parts state state (noting noted fails) whole
+      (record { taken = None; noted = noted || false }) ended
+      (record { noted = refl; taken = (refl, refl) }))
     where
       by_goals : (goals : List Equation) → at_first (rest_at n) goals ≡ fails
       by_goals [] = refl
@@ -123,23 +152,30 @@ module _ (parts : RuleParts) (state : State) where
 
   module _ (at : State) (same : at ≡ state) (noted : Bool) (n : ℕ) (so_far : Using noted n) where
     module _ (inside : n < length state.hypotheses) (t u : Trial) (mid : State)
-        (trial : IsTrial parts at mid (at_first (using_sides parts at n) at.goals) t) (more : u ≡ record { taken = t.taken; noted = noted || t.noted }) where
+        (trial : IsTrial parts at mid (at_first (using_sides parts at n) at.goals) t)
+        (more : u ≡ record { taken = t.taken; noted = noted || t.noted }) where
       trial_here : IsTrial parts state mid (sides n) t
-      trial_here = subst (λ s. IsTrial parts s mid (at_first (using_sides parts s n) s.goals) t) same trial
+      trial_here =
+          subst (λ s. IsTrial parts s mid (at_first (using_sides parts s n) s.goals) t) same trial
 
       pub goes_on : is_some u.taken ≡ false → (mid ≡ state) × Using u.noted (n + 1)
       goes_on unset =
-          let none : is_some t.taken ≡ false = sym (ap (λ (x : Trial). is_some x.taken) more) ∙ unset in (
+          let none : is_some t.taken ≡ false = sym (ap (λ (x : Trial). is_some x.taken) more) ∙
+          unset in (
             same_state parts state mid (sides n) t trial_here (none_by t.taken none),
-            subst (λ (x : Trial). Using x.noted (n + 1)) (sym more) (next_failed n inside noted so_far t mid trial_here none),
+            subst (λ (x : Trial). Using x.noted (n + 1)) (sym more)
+                (next_failed n inside noted so_far t mid trial_here none),
           )
 
       pub ends : is_some u.taken ≡ true → IsTrial parts state mid whole u
       ends set =
-          let some : is_some t.taken ≡ true = sym (ap (λ (x : Trial). is_some x.taken) more) ∙ set in
-          subst (λ (x : Trial). IsTrial parts state mid whole x) (sym more) (this_applies n inside noted so_far t mid trial_here some)
+          let some : is_some t.taken ≡ true = sym (ap (λ (x : Trial). is_some x.taken) more) ∙
+          set in
+          subst (λ (x : Trial). IsTrial parts state mid whole x) (sym more)
+          (this_applies n inside noted so_far t mid trial_here some)
 
-    pub ended : length state.hypotheses ≤ n → IsTrial parts state at whole (record { taken = None; noted = noted })
+    pub ended : length state.hypotheses ≤ n →
+        IsTrial parts state at whole (record { taken = None; noted = noted })
     ended over =
         subst (λ s. IsTrial parts state s whole (record { taken = None; noted = noted })) (sym same)
         (none_left noted n (drop_of_length-le state.hypotheses over) so_far)

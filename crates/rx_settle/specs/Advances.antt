@@ -16,14 +16,16 @@ with_note settled rows = record settled { note = option_or settled.note rows }
 
 -- and a step is added, of those that are left
 abbrev pub with_step : Settled → Step → Settled
-with_step settled step = record settled { steps = settled.steps ++ step ∷ []; left = settled.left - 1 }
+with_step settled step =
+    record settled { steps = settled.steps ++ step ∷ []; left = settled.left - 1 }
 
 -- what is recorded where a step was taken, or none
 abbrev pub recorded : Settled → Option Step → Settled
 recorded settled None = settled
 recorded settled (Some step) = with_step settled step
 
--- the rows are noted where something was noted, and the step that was taken is added; whether there is one
+-- the rows are noted where something was noted, and the step that was taken is added; whether there
+-- is one
 abbrev pub rows_where : Bool → Option (List Row) → Option (List Row)
 rows_where false rows = None
 rows_where true rows = rows
@@ -33,7 +35,8 @@ IsThere None made = made ≡ false
 IsThere (Some step) made = made ≡ true
 
 -- the trial is recorded with those rows, and it is told whether it took a step
-pub record Records (before : Settled) (rows : Option (List Row)) (trial : Trial) (after : Settled) (made : Bool) : Type 0 where
+pub record Records (before : Settled) (rows : Option (List Row)) (trial : Trial) (after : Settled)
+    (made : Bool) : Type 0 where
   pub after_it : after ≡ recorded (with_note before (rows_where trial.noted rows)) trial.taken
   pub told : IsThere trial.taken made
 

@@ -15,7 +15,8 @@ use Rattle.rx_settle.specs.declared.trial.Trial.{Trial}
 
 -- ---- one step
 
--- the step makes the new state of the old one: its certificates show what it asks, each at most 174 deep
+-- the step makes the new state of the old one: its certificates show what it asks, each at most 174
+-- deep
 pub record IsTaken (parts : RuleParts) (old new : State) (step : Step) : Type 0 where
   pub applies : applied parts old step ≡ Ok new
   pub deep : All (λ cert. cert_depth cert ≤ most_deep) (certificates step)
@@ -23,31 +24,36 @@ pub record IsTaken (parts : RuleParts) (old new : State) (step : Step) : Type 0 
 -- no step is taken and the state is as before; or this step is, and it makes the new state
 abbrev pub Takes : RuleParts → State → State → Option Next → Option Step → Type 0
 Takes parts old new made None = (made ≡ None) × (new ≡ old)
-Takes parts old new made (Some step) = (made ≡ Some (record { move = move_of step; state = new })) × IsTaken parts old new step
+Takes parts old new made (Some step) =
+    (made ≡ Some (record { move = move_of step; state = new })) × IsTaken parts old new step
 
 -- the step that is taken, and the note, are those of what was tried
-pub record IsTrial (parts : RuleParts) (old new : State) (tried : Tried Next) (trial : Trial) : Type 0 where
+pub record IsTrial (parts : RuleParts) (old new : State) (tried : Tried Next) (trial : Trial) : Type
+    0 where
   pub noted : trial.noted ≡ tried.noted
   pub taken : Takes parts old new tried.made trial.taken
 
 -- ---- several steps
 
 -- the state after steps one after the other, or the fault of the first that doesn't apply
-abbrev pub after : Result State StepFault → (State → Result State StepFault) → Result State StepFault
+abbrev pub after : Result State StepFault → (State → Result State StepFault) →
+    Result State StepFault
 after (Ok state) next = next state
 after (Err fault) next = Err fault
 
 abbrev pub after_all : RuleParts → State → List Step → Result State StepFault
 after_all parts state [] = Ok state
-after_all parts state (step ∷ steps) = after (applied parts state step) (λ next. after_all parts next steps)
+after_all parts state (step ∷ steps) =
+    after (applied parts state step) (λ next. after_all parts next steps)
 
 -- each certificate of the steps is at most 174 deep
 abbrev pub AreDeep : List Step → Type 0
 AreDeep steps = All (λ step. All (λ cert. cert_depth cert ≤ most_deep) (certificates step)) steps
 
--- the steps have the moves that settle a state, and make the settled state of it; the moves left and the note are the
--- same
-pub record IsSettled (parts : RuleParts) (old new : State) (settled : settling.Settled) (found : Settled) : Type 0 where
+-- the steps have the moves that settle a state, and make the settled state of it; the moves left
+-- and the note are the same
+pub record IsSettled (parts : RuleParts) (old new : State) (settled : settling.Settled)
+    (found : Settled) : Type 0 where
   pub moves : map move_of found.steps ≡ settled.moves
   pub state : new ≡ settled.state
   pub left : found.left ≡ settled.left

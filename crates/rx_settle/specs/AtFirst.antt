@@ -40,11 +40,13 @@ module _ (parts : RuleParts) (state : State) where
   -- a hypothesis, if there is one of that number, on a side
   abbrev pub using_number : ℕ → Side → Equation → Tried Next
   using_number number side goal =
-      option_map_or (λ (hypothesis : Rule). using_on parts state goal number hypothesis side) (slice_get state.hypotheses number) fails
+      option_map_or (λ (hypothesis : Rule). using_on parts state goal number hypothesis side)
+      (slice_get state.hypotheses number) fails
 
   -- on the left side, and then on the right one
   abbrev pub using_sides : ℕ → Equation → Tried Next
-  using_sides number goal = first_applying (using_number number Left goal ∷ using_number number Right goal ∷ [])
+  using_sides number goal =
+      first_applying (using_number number Left goal ∷ using_number number Right goal ∷ [])
 
   -- all hypotheses
   abbrev pub using_all : Equation → Tried Next
@@ -58,7 +60,8 @@ module _ (parts : RuleParts) (state : State) where
 
   -- naming, hypotheses and results
   abbrev pub from_naming : Equation → Tried Next
-  from_naming goal = first_applying (named parts state goal ∷ using_all goal ∷ by_results parts state goal ∷ [])
+  from_naming goal =
+      first_applying (named parts state goal ∷ using_all goal ∷ by_results parts state goal ∷ [])
 
   -- loop points, and what comes after them
   abbrev pub from_leaving : Equation → Tried Next

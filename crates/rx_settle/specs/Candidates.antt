@@ -15,21 +15,26 @@ use Rattle.rx_settle.specs.declared.uses.Candidate.TheVariants.{Use, Fails, TooL
 
 -- what comes of it, where the hypothesis has that number
 abbrev pub candidate_tried : RuleParts → State → ℕ → Side → Candidate → Tried Next
-candidate_tried parts state number side (Use place subst) = attempt parts state (Hyp side place number subst)
+candidate_tried parts state number side (Use place subst) =
+    attempt parts state (Hyp side place number subst)
 candidate_tried parts state number side Fails = fails
 candidate_tried parts state number side TooLarge = beyond
 
 -- that comes of the hypothesis at the place
 abbrev pub IsCandidateAt : Equation → Rule → Side → ℕ → Candidate → Type 0
-IsCandidateAt goal hypothesis side place candidate = (parts : RuleParts) (state : State) (number : ℕ) →
-    using_at parts state goal number hypothesis side place ≡ candidate_tried parts state number side candidate
+IsCandidateAt goal hypothesis side place candidate =
+    (parts : RuleParts) (state : State) (number : ℕ) →
+    using_at parts state goal number hypothesis side place ≡
+    candidate_tried parts state number side candidate
 
 -- that comes of it on the side
 abbrev pub IsCandidate : Equation → Rule → Side → Candidate → Type 0
 IsCandidate goal hypothesis side candidate = (parts : RuleParts) (state : State) (number : ℕ) →
-    using_on parts state goal number hypothesis side ≡ candidate_tried parts state number side candidate
+    using_on parts state goal number hypothesis side ≡
+    candidate_tried parts state number side candidate
 
 -- that comes of the hypothesis of that number on a side of the first goal
 abbrev pub IsCandidateOf : State → ℕ → Side → Candidate → Type 0
 IsCandidateOf state number side candidate = (parts : RuleParts) →
-    at_first (using_number parts state number side) state.goals ≡ candidate_tried parts state number side candidate
+    at_first (using_number parts state number side) state.goals ≡
+    candidate_tried parts state number side candidate

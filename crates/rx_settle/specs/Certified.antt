@@ -19,7 +19,8 @@ asks_rows (step.Split row) = true
 asks_rows (step.Decompose certs) = true
 asks_rows (step.Results left right certs) = true
 
--- the step with these certificates for the rows that it asks; a step of a kind that asks none has none
+-- the step with these certificates for the rows that it asks; a step of a kind that asks none has
+-- none
 abbrev pub certified : Step → List Cert → Step
 certified (step.Simplify side rule old) certs = step.Simplify side rule certs
 certified (step.Hyp side place hyp subst old) certs = step.Hyp side place hyp subst certs
@@ -27,7 +28,8 @@ certified (step.Expand side keep) certs = step.Expand side keep
 certified (step.Delete (delete.Absurd cert)) certs = step.Delete (delete.Absurd cert)
 certified (step.Delete (delete.Equal old)) certs = step.Delete (delete.Equal certs)
 certified step.EqDelete certs = step.EqDelete
-certified (step.Generalise left right rows subst old) certs = step.Generalise left right rows subst certs
+certified (step.Generalise left right rows subst old) certs =
+    step.Generalise left right rows subst certs
 certified (step.Postulate left right rows) certs = step.Postulate left right rows
 certified (step.Split row) certs = step.Split row
 certified (step.Decompose old) certs = step.Decompose certs

@@ -31,13 +31,16 @@ move_of (step.Expand side keep) = Expand side keep
 move_of (step.Delete (delete.Absurd cert)) = Absurd
 move_of (step.Delete (delete.Equal certs)) = Equal
 move_of step.EqDelete = EqDelete
-move_of (step.Generalise left right rows subst certs) = Generalise (record { left = left; right = right; rows = rows }) subst
-move_of (step.Postulate left right rows) = Postulate (record { left = left; right = right; rows = rows })
+move_of (step.Generalise left right rows subst certs) =
+    Generalise (record { left = left; right = right; rows = rows }) subst
+move_of (step.Postulate left right rows) =
+    Postulate (record { left = left; right = right; rows = rows })
 move_of (step.Split row) = Split row
 move_of (step.Decompose certs) = Decompose
 move_of (step.Results left right certs) = Results left right
 
--- a step that does this, without certificates; where one is needed, with an empty sum, at which forming doesn't look
+-- a step that does this, without certificates; where one is needed, with an empty sum, at which
+-- forming doesn't look
 abbrev pub step_of : Move → Step
 step_of (Simplify side rule) = step.Simplify side rule []
 step_of (Hyp side place hyp subst) = step.Hyp side place hyp subst []

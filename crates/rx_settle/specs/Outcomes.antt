@@ -15,11 +15,13 @@ use Rattle.rx_settle.specs.declared.trying.Outcome.TheVariants.{Shown, Fails, To
 -- it is formed and shown so, or the move fails, or is beyond the limits
 unfoldable pub IsOutcome : RuleParts → State → Step → Outcome → Type 0
 IsOutcome parts state step (Shown made certs) =
-    (formed_first parts state step ≡ Ok made) × ShownBy (first_rows state.goals) (first_rows made.goals) made.asked certs
+    (formed_first parts state step ≡ Ok made) ×
+    ShownBy (first_rows state.goals) (first_rows made.goals) made.asked certs
 IsOutcome parts state step Fails = attempt parts state (move_of step) ≡ fails
 IsOutcome parts state step TooLarge = attempt parts state (move_of step) ≡ beyond
 
 -- so of each step that is formed so
 unfoldable pub Follows : State → FormedStep → Outcome → Type 0
 Follows state made outcome =
-    (parts : RuleParts) (step : Step) → formed_first parts state step ≡ Ok made → IsOutcome parts state step outcome
+    (parts : RuleParts) (step : Step) → formed_first parts state step ≡ Ok made →
+    IsOutcome parts state step outcome

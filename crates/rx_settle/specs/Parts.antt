@@ -29,7 +29,8 @@ formed_first parts state step = formed parts (slice_get state.goals 0) state.hyp
 -- what forming comes to: a formed step, a refusal, by which no move applies, or the limits
 abbrev pub IsFormation : Forming FormedStep → Formation → Type 0
 IsFormation forming (Formed f) = forming ≡ Ok f
-IsFormation forming Refused = (state : State) (move : Move) → next_if_formed state move forming ≡ fails
+IsFormation forming Refused =
+    (state : State) (move : Move) → next_if_formed state move forming ≡ fails
 IsFormation forming TooLarge = forming ≡ Err Large
 
 -- the certificates show what is asked, and none is deeper than the refuter's are

@@ -1,5 +1,5 @@
--- Settling: on the first goal again and again the first move that applies, of those listed here in order. It ends where
--- no goal is left or none applies, and after 200 moves.
+-- Settling: on the first goal again and again the first move that applies, of those listed here in
+-- order. It ends where no goal is left or none applies, and after 200 moves.
 use Rattle.std.specs.Prelude.{ℕ, zero, suc, ◌+◌, ◌-◌, ◌==◌, ◌&&◌, nat_lt, Bool, true, false, not, if◌then◌else◌, Option, Some, None, List, [], ◌∷◌, map, option_and_then}
 use Rattle.std.specs.List.{range_with_len}
 use Rattle.std.specs.Option.{option_map_or, option_or}
@@ -37,7 +37,8 @@ is_at_loop_point parts redex = option_map_or (λ (f : Sym). is_loop_point parts 
 
 -- the right side of the rule doesn't begin in the component of the symbol; a result begins in none
 abbrev pub leaves : RuleParts → Sym → Rule → Bool
-leaves parts f rule = option_map_or (λ (g : Sym). not (in_one_component parts f.0 g.0)) (root_of rule.right) true
+leaves parts f rule =
+    option_map_or (λ (g : Sym). not (in_one_component parts f.0 g.0)) (root_of rule.right) true
 
 -- the rules that are tried: all, or those that leave the component of a symbol
 abbrev pub is_tried : RuleParts → Option Sym → Rule → Bool
@@ -51,18 +52,20 @@ abbrev pub variables_end : ℕ
 variables_end = 1000000
 
 module _ (parts : RuleParts) (state : State) where
-  -- Simplify by each of the rules that are tried, the first having that number; a rule of another shape than the redex's
-  -- doesn't apply
+  -- Simplify by each of the rules that are tried, the first having that number; a rule of another
+  -- shape than the redex's doesn't apply
   abbrev pub by_rules : Side → Option Sym → ℕ → List Rule → List (Tried Next)
   by_rules side from n [] = []
   by_rules side from n (rule ∷ rules) =
-      if is_tried parts from rule then attempt parts state (Simplify side n) ∷ by_rules side from (n + 1) rules
+      if is_tried parts from rule then attempt parts state (Simplify side n) ∷
+      by_rules side from (n + 1) rules
       else by_rules side from (n + 1) rules
 
   abbrev pub simplifying : Side → Option Sym → Tried Next
   simplifying side from = first_applying (by_rules side from 0 parts.rules)
 
-  -- at a redex that is at no loop point: Simplify by the rules in order, and then Expand without keeping
+  -- at a redex that is at no loop point: Simplify by the rules in order, and then Expand without
+  -- keeping
   abbrev pub unfolding_at : Side → Option Sym → Tried Next
   unfolding_at side redex =
       if is_at_loop_point parts redex then fails
@@ -74,34 +77,42 @@ module _ (parts : RuleParts) (state : State) where
 
   -- constants of calls become variables
   abbrev pub named : Equation → Tried Next
-  named goal = then_try (naming_of parts goal) (λ (lemma : Generalisation). attempt parts state (Generalise lemma.goal lemma.subst))
+  named goal =
+      then_try (naming_of parts goal) (λ (lemma : Generalisation).
+      attempt parts state (Generalise lemma.goal lemma.subst))
 
   -- the hypothesis with that number, at a place of a side
   abbrev pub using_at : Equation → ℕ → Rule → Side → ℕ → Tried Next
   using_at goal number hypothesis side place =
-      then_try (use_of goal hypothesis side place) (λ subst. attempt parts state (Hyp side place number subst))
+      then_try (use_of goal hypothesis side place)
+      (λ subst. attempt parts state (Hyp side place number subst))
 
   -- at the places of a side, from outside in
   abbrev pub using_on : Equation → ℕ → Rule → Side → Tried Next
   using_on goal number hypothesis side =
-      first_applying (map (using_at goal number hypothesis side) (range_with_len 0 (1 + depth_of (side_of side goal))))
+      first_applying (map (using_at goal number hypothesis side)
+      (range_with_len 0 (1 + depth_of (side_of side goal))))
 
-  -- the hypotheses in order, the first having that number, each on the left side and then on the right one
+  -- the hypotheses in order, the first having that number, each on the left side and then on the
+  -- right one
   abbrev pub using_each : Equation → ℕ → List Rule → List (Tried Next)
   using_each goal n [] = []
   using_each goal n (hypothesis ∷ hypotheses) =
-      using_on goal n hypothesis Left ∷ using_on goal n hypothesis Right ∷ using_each goal (n + 1) hypotheses
+      using_on goal n hypothesis Left ∷ using_on goal n hypothesis Right ∷
+      using_each goal (n + 1) hypotheses
 
   -- Results at two places, unless both sides are taken whole
   abbrev pub resulting_at : ℕ → ℕ → Tried Next
-  resulting_at left right = if left == 0 && right == 0 then fails else attempt parts state (Results left right)
+  resulting_at left right =
+      if left == 0 && right == 0 then fails else attempt parts state (Results left right)
 
   -- at the longest common suffix, if there is one, with what was noted as it was found
   abbrev pub resulting : Equation → Common → Tried Next
   resulting goal suffix =
       noting suffix.noted
       (if suffix.parts == 0 then fails
-      else resulting_at (1 + depth_of goal.left - suffix.parts) (1 + depth_of goal.right - suffix.parts))
+      else resulting_at (1 + depth_of goal.left - suffix.parts)
+      (1 + depth_of goal.right - suffix.parts))
 
   -- the variable that stands for a result is to be below the end
   abbrev pub by_results : Equation → Tried Next
@@ -114,8 +125,10 @@ module _ (parts : RuleParts) (state : State) where
   abbrev pub settling : Equation → List (Tried Next)
   settling goal =
       first_applying (attempt parts state Absurd ∷ attempt parts state Equal ∷ [])
-      ∷ first_applying (unfolding_at Left (redex_symbol Left goal) ∷ unfolding_at Right (redex_symbol Right goal) ∷ [])
-      ∷ first_applying (leaving_at Left (redex_symbol Left goal) ∷ leaving_at Right (redex_symbol Right goal) ∷ [])
+      ∷ first_applying (unfolding_at Left (redex_symbol Left goal) ∷
+      unfolding_at Right (redex_symbol Right goal) ∷ [])
+      ∷ first_applying (leaving_at Left (redex_symbol Left goal) ∷
+      leaving_at Right (redex_symbol Right goal) ∷ [])
       ∷ named goal
       ∷ first_applying (using_each goal 0 state.hypotheses)
       ∷ by_results goal
@@ -131,8 +144,8 @@ settling_move parts state = settling_first parts state state.goals
 
 -- ---- settling
 
--- the moves, the state after them, how many more moves might be made, and the rows of the first goal at which something
--- was noted
+-- the moves, the state after them, how many more moves might be made, and the rows of the first
+-- goal at which something was noted
 pub record Settled : Type 0 where
   pub moves : List Move
   pub state : State
@@ -147,10 +160,17 @@ rows_if true (goal ∷ goals) = Some goal.rows
 
 -- a first move and what follows it, or no move
 abbrev pub moved : State → ℕ → Option (List Row) → Option Next → (State → Settled) → Settled
-moved state left note None later = record { moves = []; state = state; left = 1 + left; note = note }
+moved state left note None later =
+    record { moves = []; state = state; left = 1 + left; note = note }
 moved state left note (Some next) later =
     let settled = later next.state in
-    record { moves = next.move ∷ settled.moves; state = settled.state; left = settled.left; note = option_or note settled.note }
+    record {
+      moves = next.move ∷ settled.moves;
+      state = settled.state;
+      left = settled.left;
+      note =
+          option_or note settled.note;
+    }
 
 -- settled by so many moves at most
 unfoldable pub settle : RuleParts → ℕ → State → Settled

@@ -16,7 +16,8 @@ part_of part = record { symbol = part.symbol; arguments = part.arguments.now }
 -- the two parts have one symbol and their polynomials are shown equal
 abbrev pub part_said : List Row → suffixes.Part → suffixes.Part → Said
 part_said given part other =
-    if part.symbol == other.symbol then equals_shown given (zip part.arguments other.arguments) else No
+    if part.symbol == other.symbol then equals_shown given (zip part.arguments other.arguments) else
+    No
 
 -- the answer says this
 abbrev pub SaysEqual : Said → Equality → Type 0

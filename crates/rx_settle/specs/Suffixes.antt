@@ -1,4 +1,5 @@
--- The longest common suffix of two terms whose polynomials are shown equal, found from the innermost part outwards.
+-- The longest common suffix of two terms whose polynomials are shown equal, found from the
+-- innermost part outwards.
 use Rattle.std.specs.Prelude.{ℕ, ◌+◌, ◌==◌, ◌&&◌, true, false, if◌then◌else◌, List, [], ◌∷◌, reverse}
 use Rattle.std.specs.List.{zip}
 use Rattle.rx_cert.specs.Findings.{Said, Yes, No, Beyond, both, within}
@@ -29,7 +30,8 @@ inwards = fold-Term (List Part) inwards_level
 
 -- the two polynomials are shown equal
 abbrev pub equal_shown : List Row → Body × Body → Said
-equal_shown given pair = within (difference pair).within (shown refuted given (row.Eq (difference pair).form))
+equal_shown given pair =
+    within (difference pair).within (shown refuted given (row.Eq (difference pair).form))
 
 -- pair by pair, each difference being formed when it is asked
 abbrev pub equals_shown : List Row → List (Body × Body) → Said
@@ -52,10 +54,12 @@ common given [] others = ended
 common given (part ∷ parts) [] = ended
 common given (part ∷ parts) (other ∷ others) =
     if part.symbol == other.symbol
-    then common_if (equals_shown given (zip part.arguments other.arguments)) (common given parts others)
+    then common_if (equals_shown given (zip part.arguments other.arguments))
+    (common given parts others)
     else ended
 
 -- of two terms that end in calls, from the calls outwards; of others there is none
 abbrev pub common_suffix : List Row → Term → Term → Common
 common_suffix given s t =
-    if ends_in_call s && ends_in_call t then common given (reverse (inwards s)) (reverse (inwards t)) else ended
+    if ends_in_call s && ends_in_call t then common given (reverse (inwards s))
+    (reverse (inwards t)) else ended

@@ -1,5 +1,5 @@
--- What comes of trying a move: it applies where it is formed and the refuter shows what it asks. Where something passes
--- the limits it doesn't, and that is noted.
+-- What comes of trying a move: it applies where it is formed and the refuter shows what it asks.
+-- Where something passes the limits it doesn't, and that is noted.
 use Rattle.std.specs.Prelude.{◌||◌, Bool, Option, Some, None, Ok, Err, List, [], ◌∷◌, slice_get}
 use Rattle.rx_cert.specs.Findings.{Said, Yes, both}
 use Rattle.rx_cert.specs.Showing.{all_shown}
@@ -26,7 +26,8 @@ pub record Next : Type 0 where
 -- the rows of the groups are shown, group by group, each under the rows that it is given
 abbrev pub groups_shown : List Row → List Row → List Group → Said
 groups_shown old new [] = Yes
-groups_shown old new (g ∷ gs) = both (all_shown refuted (given_to old new g.under) g.rows) (groups_shown old new gs)
+groups_shown old new (g ∷ gs) =
+    both (all_shown refuted (given_to old new g.under) g.rows) (groups_shown old new gs)
 
 -- what a step asks is shown, under the rows of the goal and of the first new one
 unfoldable pub asked_shown : List Row → List Row → Asked → Said
@@ -36,7 +37,8 @@ asked_shown old new (Rows groups) = groups_shown old new groups
 -- the move, where what it asks is shown
 abbrev pub next_if_shown : State → Move → FormedStep → Tried Next
 next_if_shown state move f =
-    where_shown (asked_shown (first_rows state.goals) (first_rows f.goals) f.asked) (record { move = move; state = taken state f })
+    where_shown (asked_shown (first_rows state.goals) (first_rows f.goals) f.asked)
+    (record { move = move; state = taken state f })
 
 -- of what forming comes to
 abbrev pub next_if_formed : State → Move → Forming FormedStep → Tried Next
@@ -50,7 +52,8 @@ next_if_formed state move (Err form_end.NoMemory) = fails
 -- the move, tried on the first goal of a state
 unfoldable pub attempt : RuleParts → State → Move → Tried Next
 attempt parts state move =
-    next_if_formed state move (formed parts (slice_get state.goals 0) state.hypotheses (step_of move))
+    next_if_formed state move (formed parts (slice_get state.goals 0) state.hypotheses
+    (step_of move))
 
 -- ---- what is tried in two stages
 

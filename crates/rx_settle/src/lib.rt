@@ -1,5 +1,5 @@
-//! Settling: the steps that a search takes without a choice. A step is tried by what it asks alone; a
-//! solver shows that, and the step that is taken has its certificates.
+//! Settling: the steps that a search takes without a choice. A step is tried by what it asks alone;
+//! a solver shows that, and the step that is taken has its certificates.
 #![tactic(auto)]
 
 mod deleting;

@@ -20,8 +20,8 @@ pub struct LoopPoints {
 const MOST_SYMBOLS: usize = 1 << 32;
 
 impl LoopPoints {
-    /// Those of the rule set. Fails only where there is no memory; a set of more than 2^32 symbols fits
-    /// none.
+    /// Those of the rule set. Fails only where there is no memory; a set of more than 2^32 symbols
+    /// fits none.
     pub fn new(alloc: Global, rules: &RuleSet) -> Result<LoopPoints, NoMemory>
         ensures { IfOk result (AreLoopPoints rules.now) }
     {
@@ -43,7 +43,8 @@ impl LoopPoints {
 
     /// Whether the right side of the rule doesn't begin in the component of the symbol.
     fn leaves(&self, from: Sym, rule: &Rule) -> bool
-        ensures { (parts : RuleParts) → AreLoopPoints parts self.now → result ≡ leaves parts from rule.now }
+        ensures { (parts : RuleParts) → AreLoopPoints parts self.now → result ≡
+            leaves parts from rule.now }
     {
         match rule.right.root() {
             Some(root) => !self.loops.in_one_component(from.0, root.0),
@@ -53,7 +54,8 @@ impl LoopPoints {
 
     /// Whether there is a symbol and it is a loop point.
     pub(crate) fn is_at_loop_point(&self, redex: Option<Sym>) -> bool
-        ensures { (parts : RuleParts) → AreLoopPoints parts self.now → result ≡ is_at_loop_point parts redex }
+        ensures { (parts : RuleParts) → AreLoopPoints parts self.now → result ≡
+            is_at_loop_point parts redex }
     {
         match redex {
             Some(sym) => self.loops.is_loop_point(sym.0),
@@ -63,7 +65,8 @@ impl LoopPoints {
 
     /// Whether the rule is tried: all are, or those that leave the component of a symbol.
     pub(crate) fn is_tried(&self, from: Option<Sym>, rule: &Rule) -> bool
-        ensures { (parts : RuleParts) → AreLoopPoints parts self.now → result ≡ is_tried parts from rule.now }
+        ensures { (parts : RuleParts) → AreLoopPoints parts self.now → result ≡
+            is_tried parts from rule.now }
     {
         match from {
             Some(sym) => self.leaves(sym, rule),

@@ -31,7 +31,8 @@ fn try_rule<S: FnMut(&Constraint) -> Result<Option<Cert>, FmEnd>>(
 ) -> Result<Trial, NoMemory>
     requires solver { IsSolver S.FnMut solve.old }
     ensures solver { IsSolver S.FnMut solve.new }
-    ensures trial { IfOk result (IsTrial rules.now state.old state.new (attempt rules.now state.old (Simplify side number))) }
+    ensures trial { IfOk result (IsTrial rules.now state.old state.new
+        (attempt rules.now state.old (Simplify side number))) }
     ensures kept { OnErr result (state.new ≡ state.old) }
 {
     let step = Step::Simplify {
@@ -55,7 +56,8 @@ fn try_rules<S: FnMut(&Constraint) -> Result<Option<Cert>, FmEnd>>(
     requires points { AreLoopPoints rules.now points.now }
     requires solver { IsSolver S.FnMut solve.old }
     ensures solver { IsSolver S.FnMut solve.new }
-    ensures trial { IfOk result (IsTrial rules.now state.old state.new (simplifying rules.now state.old side from)) }
+    ensures trial { IfOk result (IsTrial rules.now state.old state.new
+        (simplifying rules.now state.old side from)) }
     ensures kept { OnErr result (state.new ≡ state.old) }
 {
     let list = rules.parts().rules.as_slice();
@@ -83,7 +85,8 @@ fn try_expansion<S: FnMut(&Constraint) -> Result<Option<Cert>, FmEnd>>(
 ) -> Result<Trial, NoMemory>
     requires solver { IsSolver S.FnMut solve.old }
     ensures solver { IsSolver S.FnMut solve.new }
-    ensures trial { IfOk result (IsTrial rules.now state.old state.new (attempt rules.now state.old (Expand side false))) }
+    ensures trial { IfOk result (IsTrial rules.now state.old state.new
+        (attempt rules.now state.old (Expand side false))) }
     ensures kept { OnErr result (state.new ≡ state.old) }
 {
     try_step(
@@ -109,7 +112,8 @@ pub(crate) fn try_unfolding<S: FnMut(&Constraint) -> Result<Option<Cert>, FmEnd>
     requires points { AreLoopPoints rules.now points.now }
     requires solver { IsSolver S.FnMut solve.old }
     ensures solver { IsSolver S.FnMut solve.new }
-    ensures trial { IfOk result (IsTrial rules.now state.old state.new (unfolding_at rules.now state.old side redex)) }
+    ensures trial { IfOk result (IsTrial rules.now state.old state.new
+        (unfolding_at rules.now state.old side redex)) }
     ensures kept { OnErr result (state.new ≡ state.old) }
 {
     if points.is_at_loop_point(redex) {
@@ -136,7 +140,8 @@ pub(crate) fn try_leaving<S: FnMut(&Constraint) -> Result<Option<Cert>, FmEnd>>(
     requires points { AreLoopPoints rules.now points.now }
     requires solver { IsSolver S.FnMut solve.old }
     ensures solver { IsSolver S.FnMut solve.new }
-    ensures trial { IfOk result (IsTrial rules.now state.old state.new (leaving_at rules.now state.old side redex)) }
+    ensures trial { IfOk result (IsTrial rules.now state.old state.new
+        (leaving_at rules.now state.old side redex)) }
     ensures kept { OnErr result (state.new ≡ state.old) }
 {
     if points.is_at_loop_point(redex) {

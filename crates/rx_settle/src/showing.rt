@@ -48,7 +48,8 @@ fn show_groups<S: FnMut(&Constraint) -> Result<Option<Cert>, FmEnd>>(
     requires one { is_one_group groups.now ≡ true }
     requires solver { IsSolver S.FnMut solve.old }
     ensures solver { IsSolver S.FnMut solve.new }
-    ensures answer { IfOk result (λ a. (new : List Row) → IsAskedShown given.now new (Rows groups.now) a) }
+    ensures answer { IfOk result (λ a. (new : List Row) →
+        IsAskedShown given.now new (Rows groups.now) a) }
 {
     match groups.first() {
         Some(group) => show_all(alloc, given, group.rows.as_slice(), solve),

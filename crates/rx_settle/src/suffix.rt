@@ -154,7 +154,8 @@ fn show_same<S: FnMut(&Constraint) -> Result<Option<Cert>, FmEnd>>(
 ) -> Result<Equality, NoMemory>
     requires solver { IsSolver S.FnMut solve.old }
     ensures solver { IsSolver S.FnMut solve.new }
-    ensures answer { IfOk result (SaysEqual (part_said given.now (part_of left.now) (part_of right.now))) }
+    ensures answer { IfOk result (SaysEqual (part_said given.now (part_of left.now)
+        (part_of right.now))) }
 {
     if left.symbol != right.symbol {
         return Ok(Equality::NotShown);

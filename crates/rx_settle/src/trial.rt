@@ -4,8 +4,8 @@ ghost use Rattle.rx_settle.specs.Untaken.{IsUntaken};
 
 use rx_form::Step;
 
-/// What comes of trying moves: the step that was taken, if one applied, and whether something on the
-/// way to it passed the limits.
+/// What comes of trying moves: the step that was taken, if one applied, and whether something on
+/// the way to it passed the limits.
 #[derive(Drop)]
 pub struct Trial {
     /// The step, with its certificates.

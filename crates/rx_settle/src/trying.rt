@@ -149,7 +149,8 @@ pub fn try_step<S: FnMut(&Constraint) -> Result<Option<Cert>, FmEnd>>(
     requires rows { asks_rows step ≡ true }
     requires solver { IsSolver S.FnMut solve.old }
     ensures solver { IsSolver S.FnMut solve.new }
-    ensures trial { IfOk result (IsTrial rules.now state.old state.new (attempt rules.now state.old (move_of step))) }
+    ensures trial { IfOk result (IsTrial rules.now state.old state.new
+        (attempt rules.now state.old (move_of step))) }
     ensures kept { OnErr result (state.new ≡ state.old) }
 {
     match show_step(alloc, rules, state, &step, solve) {

@@ -1,4 +1,5 @@
--- One step of a phase: a certificate for the rows that come next is one for the rows, and what is found of them is found.
+-- One step of a phase: a certificate for the rows that come next is one for the rows, and what is
+-- found of them is found.
 use Rattle.std.proofs.Common.{◌≡◌, ◌∙◌, ap, subst, sym, arith, cond, ℕ, suc, ◌+◌, ◌≤◌, true, false, ◌&&◌, Option, Some, None, Result, Ok, Err, IfOk, IfSome, List, [], ◌∷◌, ◌++◌, length, slice_get, ℤ}
 use Rattle.std.proofs.lemmas.Bool.{and_from, and_parts}
 use Rattle.std.specs.List.{list_all}
@@ -39,7 +40,9 @@ use Rattle.rx_solve.proofs.Certificates.{both_yes, cut_certificate, differ_certi
 use Rattle.rx_solve.proofs.Found.{few_taken, solving_next, solving_none, solving_without}
 
 -- an answer of a phase is one of a phase that finds the same, with room to spare
-pub same_answers : (says other : List Row → Said) (few many : ℕ) (rows : List Row) (r : Result (Option Cert) FmEnd) → says rows ≡ other rows → few ≤ many → AnswersFor says few rows r → AnswersFor other many rows r
+pub same_answers : (says other : List Row → Said) (few many : ℕ) (rows : List Row)
+    (r : Result (Option Cert) FmEnd) → says rows ≡ other rows → few ≤ many →
+    AnswersFor says few rows r → AnswersFor other many rows r
 same_answers says other few many rows (Ok None) e h a = sym e ∙ a
 same_answers says other few many rows (Ok (Some cert)) e h a = (sym e ∙ a.0, wider h a.1)
 same_answers says other few many rows (Err x) e h a = λ large. sym e ∙ a large
@@ -50,34 +53,54 @@ module _ (r : Rounding) (rest : List Rounding) (rows : List Row) (row : Row) whe
   abbrev part : List (ℕ × ℤ)
   part = (r.at, r.by) ∷ []
 
-  rounded_found : parts_within rows part ≡ true → rounding_row r.divisor (sum_of rows part) ≡ Some row → rounding_by (r ∷ rest) rows ≡ rounding_by rest (rows ++ row ∷ [])
+  rounded_found : parts_within rows part ≡ true → rounding_row r.divisor (sum_of rows part) ≡
+      Some row → rounding_by (r ∷ rest) rows ≡ rounding_by rest (rows ++ row ∷ [])
   rounded_found keeps made =
-      ap (λ b. within b (with_row rows (rounding_row r.divisor (sum_of rows part)) (rounding_by rest))) keeps
+      ap (λ b. within b (with_row rows (rounding_row r.divisor (sum_of rows part))
+      (rounding_by rest))) keeps
       ∙ ap (λ o. with_row rows o (rounding_by rest)) made
 
   -- after a rounding
-  pub rounding_step : (roundings : List Rounding) (ps : List (ℕ × ℤ)) (lent grown : List Row) (o : Option Row) (found : Option Cert) (cert whole : Cert) →
-      roundings ≡ r ∷ rest → ps ≡ part → lent ≡ rows → grown ≡ rows ++ row ∷ [] → (o ≡ rounding_row r.divisor (sum_of lent ps)) × (parts_within lent ps ≡ true) → o ≡ Some row → found ≡ Some cert →
-      AnswersFor (rounding_by rest) (length rest + 1) grown (Ok found) → whole ≡ Cut part r.divisor cert →
+  pub rounding_step : (roundings : List Rounding) (ps : List (ℕ × ℤ)) (lent grown : List Row)
+      (o : Option Row) (found : Option Cert) (cert whole : Cert) →
+      roundings ≡ r ∷ rest → ps ≡ part → lent ≡ rows → grown ≡ rows ++ row ∷ [] →
+      (o ≡ rounding_row r.divisor (sum_of lent ps)) × (parts_within lent ps ≡ true) → o ≡
+      Some row → found ≡ Some cert →
+      AnswersFor (rounding_by rest) (length rest + 1) grown (Ok found) → whole ≡
+      Cut part r.divisor cert →
       (rounding_by roundings rows ≡ Yes) × IsCertificate (length roundings + 1) rows whole
-  rounding_step roundings ps lent grown o found cert whole list parts same more forms some is answer made =
-      let keeps : parts_within rows part ≡ true = (λ i. parts_within (sym same i) (sym parts i)) ∙ forms.1 in
-      let row_is : rounding_row r.divisor (sum_of rows part) ≡ Some row = (λ i. rounding_row r.divisor (sum_of (sym same i) (sym parts i))) ∙ sym forms.0 ∙ some in
-      let inner : AnswersFor (rounding_by rest) (length rest + 1) (rows ++ row ∷ []) (Ok (Some cert)) =
-      subst (λ (rs : List Row). AnswersFor (rounding_by rest) (length rest + 1) rs (Ok (Some cert))) more (subst (λ (f : Option Cert). AnswersFor (rounding_by rest) (length rest + 1) grown (Ok f)) is answer) in
-      let all : (rounding_by (r ∷ rest) rows ≡ Yes) × IsCertificate (length (r ∷ rest) + 1) rows (Cut part r.divisor cert) =
-      (rounded_found keeps row_is ∙ inner.0, wider (omega arith) (cut_certificate (length rest + 1) rows part r.divisor row cert keeps row_is inner.1)) in
-      subst (λ (rs : List Rounding). (rounding_by rs rows ≡ Yes) × IsCertificate (length rs + 1) rows whole) (sym list)
-      (subst (λ (w : Cert). (rounding_by (r ∷ rest) rows ≡ Yes) × IsCertificate (length (r ∷ rest) + 1) rows w) (sym made) all)
+  rounding_step roundings ps lent grown o found cert whole list parts same more forms some is answer
+      made =
+      let keeps : parts_within rows part ≡ true = (λ i. parts_within (sym same i) (sym parts i)) ∙
+      forms.1 in
+      let row_is : rounding_row r.divisor (sum_of rows part) ≡ Some row =
+      (λ i. rounding_row r.divisor (sum_of (sym same i) (sym parts i))) ∙ sym forms.0 ∙ some in
+      let inner : AnswersFor (rounding_by rest) (length rest + 1) (rows ++ row ∷ [])
+      (Ok (Some cert)) =
+      subst (λ (rs : List Row). AnswersFor (rounding_by rest) (length rest + 1) rs (Ok (Some cert)))
+      more (subst (λ (f : Option Cert). AnswersFor (rounding_by rest) (length rest + 1) grown
+      (Ok f)) is answer) in
+      let all : (rounding_by (r ∷ rest) rows ≡ Yes) ×
+      IsCertificate (length (r ∷ rest) + 1) rows (Cut part r.divisor cert) = (
+        rounded_found keeps row_is ∙ inner.0,
+        wider (omega arith)
+            (cut_certificate (length rest + 1) rows part r.divisor row cert keeps row_is inner.1),
+      ) in
+      subst (λ (rs : List Rounding). (rounding_by rs rows ≡ Yes) ×
+      IsCertificate (length rs + 1) rows whole) (sym list)
+      (subst (λ (w : Cert). (rounding_by (r ∷ rest) rows ≡ Yes) ×
+      IsCertificate (length (r ∷ rest) + 1) rows w) (sym made) all)
 
 -- all roundings of the rows
-pub rounding_answers : (rows lent : List Row) (rs : List Rounding) (r : Result (Option Cert) FmEnd) → rs ≡ roundings rows → roundings_within rows ≡ true → lent ≡ rows →
+pub rounding_answers : (rows lent : List Row) (rs : List Rounding) (r : Result (Option Cert) FmEnd)
+    → rs ≡ roundings rows → roundings_within rows ≡ true → lent ≡ rows →
     AnswersFor (rounding_by rs) (length rs + 1) lent r → AnswersFor rounding 65 rows r
 rounding_answers rows lent rs r is keeps same a =
     let few = few_taken 64 (roundings_from 0 rows) in
     let count : length rs ≤ 64 = subst (λ (xs : List Rounding). length xs ≤ 64) (sym is) few in
     same_answers (rounding_by rs) rounding (length rs + 1) 65 rows r
-    (ap (λ xs. rounding_by xs rows) is ∙ ap (λ b. within b (rounding_by (roundings rows) rows)) (sym keeps)) (omega (arith, count))
+    (ap (λ xs. rounding_by xs rows) is ∙ ap (λ b. within b (rounding_by (roundings rows) rows))
+    (sym keeps)) (omega (arith, count))
     (subst (λ (xs : List Row). AnswersFor (rounding_by rs) (length rs + 1) xs r) same a)
 
 -- ---- ratios
@@ -97,36 +120,65 @@ module _ (num : Body) (d : ℤ) (rest : List Ratio) (rows : List Row) where
   Branch more o = BranchAnswers (dividing_by rest) (length rest + 65) rows more (Ok o)
 
   -- both sides are refuted, so the rows are
-  both_sides : (pos neg : Cert) → AreRatiosOf (ratio ∷ rest) rows → is_zero d ≡ false → division_within num d ≡ true → Branch (facts (division_formed num d).form) (Some pos) → Branch (facts_below (division_formed num d).form) (Some neg) →
-      (dividing_by (ratio ∷ rest) rows ≡ Yes) × IsCertificate (length rest + 66) rows (DivFacts num d pos neg)
+  both_sides : (pos neg : Cert) → AreRatiosOf (ratio ∷ rest) rows → is_zero d ≡ false →
+      division_within num d ≡ true → Branch (facts (division_formed num d).form) (Some pos) →
+      Branch (facts_below (division_formed num d).form) (Some neg) →
+      (dividing_by (ratio ∷ rest) rows ≡ Yes) ×
+      IsCertificate (length rest + 66) rows (DivFacts num d pos neg)
   both_sides pos neg own zero keeps a b =
       let above = is_within (subtracted (greatest_remainder d) (remainder_by num d)) in
-      let below = is_within (opposite (remainder_by num d)) && is_within (added (greatest_remainder d) (remainder_by num d)) in
+      let below = is_within (opposite (remainder_by num d)) &&
+      is_within (added (greatest_remainder d) (remainder_by num d)) in
       let first = within_parts above (dividing_by rest (rows ++ rows_at_least_zero num d)) a.0 in
-      let second = within_parts (negation_within (Ge num) && below) (dividing_by rest (rows ++ rows_below_zero num d)) b.0 in
+      let second = within_parts (negation_within (Ge num) && below)
+      (dividing_by rest (rows ++ rows_below_zero num d)) b.0 in
       let parts = and_parts (negation_within (Ge num)) below second.0 in
-      let first_keeps : at_least_zero_within num d ≡ true = and_from (division_within num d) above keeps first.0 in
-      let second_keeps : below_zero_within num d ≡ true = and_from (negation_within (Ge num)) (division_within num d && below) parts.0 (and_from (division_within num d) below keeps parts.1) in (
-        ap (λ c. cond c No (both (within (at_least_zero_within num d) (dividing_by rest (rows ++ rows_at_least_zero num d))) (within (below_zero_within num d) (dividing_by rest (rows ++ rows_below_zero num d))))) zero
+      let first_keeps : at_least_zero_within num d ≡ true =
+      and_from (division_within num d) above keeps first.0 in
+      let second_keeps : below_zero_within num d ≡ true =
+      and_from (negation_within (Ge num)) (division_within num d && below) parts.0
+      (and_from (division_within num d) below keeps parts.1) in (
+        ap (λ c. cond c No (both (within (at_least_zero_within num d)
+            (dividing_by rest (rows ++ rows_at_least_zero num d)))
+            (within (below_zero_within num d) (dividing_by rest (rows ++ rows_below_zero num d)))))
+            zero
             ∙ both_yes (within_yes first_keeps first.1) (within_yes second_keeps second.1),
-        wider (omega arith) (division_certificate (length rest + 65) rows num d pos neg zero first_keeps second_keeps
-            (λ test h. (and_parts (ratio_passes test ratio) (list_all (ratio_passes test) rest) (own.own test h)).0) a.1 b.1),
+        wider (omega arith) (division_certificate (length rest + 65) rows num d pos neg zero
+            first_keeps second_keeps
+            (λ test h. (and_parts (ratio_passes test ratio) (list_all (ratio_passes test) rest)
+            (own.own test h)).0) a.1 b.1),
       )
 
   -- the same of what was answered
-  pub division_step : (parts : Body × Body × Body) (lent : List Row) (first second : Option Cert) (pos neg whole : Cert) → AreRatiosOf (ratio ∷ rest) rows → is_zero d ≡ false →
-      parts ≡ (division_formed num d).form → division_within num d ≡ true → lent ≡ rows → first ≡ Some pos → second ≡ Some neg → whole ≡ DivFacts num d pos neg →
-      Branch (facts parts) first → BranchAnswers (dividing_by rest) (length rest + 65) lent (facts_below parts) (Ok second) →
+  pub division_step : (parts : Body × Body × Body) (lent : List Row) (first second : Option Cert)
+      (pos neg whole : Cert) → AreRatiosOf (ratio ∷ rest) rows → is_zero d ≡ false →
+      parts ≡ (division_formed num d).form → division_within num d ≡ true → lent ≡ rows → first ≡
+      Some pos → second ≡ Some neg → whole ≡ DivFacts num d pos neg →
+      Branch (facts parts) first → BranchAnswers (dividing_by rest) (length rest + 65) lent
+      (facts_below parts) (Ok second) →
       (dividing_by (ratio ∷ rest) rows ≡ Yes) × IsCertificate (length rest + 66) rows whole
-  division_step parts lent first second pos neg whole own zero is keeps same first_is second_is made a b =
-      let above : Branch (facts (division_formed num d).form) (Some pos) = subst (λ (t : Body × Body × Body). Branch (facts t) (Some pos)) is (subst (λ (o : Option Cert). Branch (facts parts) o) first_is a) in
-      let lent_below : Branch (facts_below parts) second = subst (λ (rs : List Row). BranchAnswers (dividing_by rest) (length rest + 65) rs (facts_below parts) (Ok second)) same b in
-      let below : Branch (facts_below (division_formed num d).form) (Some neg) = subst (λ (t : Body × Body × Body). Branch (facts_below t) (Some neg)) is (subst (λ (o : Option Cert). Branch (facts_below parts) o) second_is lent_below) in
-      subst (λ (w : Cert). (dividing_by (ratio ∷ rest) rows ≡ Yes) × IsCertificate (length rest + 66) rows w) (sym made) (both_sides pos neg own zero keeps above below)
+  division_step parts lent first second pos neg whole own zero is keeps same first_is second_is made
+      a b =
+      let above : Branch (facts (division_formed num d).form) (Some pos) =
+      subst (λ (t : Body × Body × Body). Branch (facts t) (Some pos)) is
+      (subst (λ (o : Option Cert). Branch (facts parts) o) first_is a) in
+      let lent_below : Branch (facts_below parts) second =
+      subst (λ (rs : List Row). BranchAnswers (dividing_by rest) (length rest + 65) rs
+      (facts_below parts) (Ok second)) same b in
+      let below : Branch (facts_below (division_formed num d).form) (Some neg) =
+      subst (λ (t : Body × Body × Body). Branch (facts_below t) (Some neg)) is
+      (subst (λ (o : Option Cert). Branch (facts_below parts) o) second_is lent_below) in
+      subst (λ (w : Cert). (dividing_by (ratio ∷ rest) rows ≡ Yes) ×
+      IsCertificate (length rest + 66) rows w) (sym made)
+      (both_sides pos neg own zero keeps above below)
 
   -- a dividend that is the same
-  pub same_dividend : (other : Body) (r : Result (Option Cert) FmEnd) → num ≡ other → AnswersFor (dividing_by (ratio ∷ rest)) (length rest + 66) rows r → AnswersFor (dividing_by (record { num = other; den = d } ∷ rest)) (length rest + 66) rows r
-  same_dividend other r is a = subst (λ (p : Body). AnswersFor (dividing_by (record { num = p; den = d } ∷ rest)) (length rest + 66) rows r) is a
+  pub same_dividend : (other : Body) (r : Result (Option Cert) FmEnd) → num ≡ other →
+      AnswersFor (dividing_by (ratio ∷ rest)) (length rest + 66) rows r →
+      AnswersFor (dividing_by (record { num = other; den = d } ∷ rest)) (length rest + 66) rows r
+  same_dividend other r is a =
+      subst (λ (p : Body). AnswersFor (dividing_by (record { num = p; den = d } ∷ rest))
+      (length rest + 66) rows r) is a
 
 -- ---- disequalities
 
@@ -135,78 +187,127 @@ module _ (i : ℕ) (rest : List ℕ) (rows : List Row) (p : Body) where
   Side row o = BranchAnswers (differing_at rest) (length rest + 68) rows (one_formed row) (Ok o)
 
   -- both sides are refuted, so the rows are
-  both_differ : (pos neg : Cert) → disequal (slice_get rows i) ≡ Some p → Side (above p) (Some pos) → Side (below p) (Some neg) →
-      (differing_at (i ∷ rest) rows ≡ Yes) × IsCertificate (length rest + 69) rows (Differ i pos neg)
+  both_differ : (pos neg : Cert) → disequal (slice_get rows i) ≡ Some p →
+      Side (above p) (Some pos) → Side (below p) (Some neg) →
+      (differing_at (i ∷ rest) rows ≡ Yes) × IsCertificate (length rest + 69) rows
+      (Differ i pos neg)
   both_differ pos neg is a b =
-      let first = within_parts (is_within (one_less p)) (differing_at rest (rows ++ Ge (one_less p) ∷ [])) a.0 in
-      let second = within_parts (negation_within (Ge p)) (differing_at rest (rows ++ negation (Ge p) ∷ [])) b.0 in (
+      let first = within_parts (is_within (one_less p))
+      (differing_at rest (rows ++ Ge (one_less p) ∷ [])) a.0 in
+      let second = within_parts (negation_within (Ge p))
+      (differing_at rest (rows ++ negation (Ge p) ∷ [])) b.0 in (
         ap (λ o. differ_finding o rows (differing_at rest) (differing_at rest)) is
             ∙ both_yes (within_yes first.0 first.1) (within_yes second.0 second.1),
-        wider (omega arith) (differ_certificate (length rest + 68) rows i p pos neg is first.0 second.0 a.1 b.1),
+        wider (omega arith) (differ_certificate (length rest + 68) rows i p pos neg is first.0
+            second.0 a.1 b.1),
       )
 
   -- the same of what was answered
-  pub difference_step : (lent : List Row) (first second : Option Cert) (pos neg whole : Cert) → disequal (slice_get rows i) ≡ Some p → lent ≡ rows → first ≡ Some pos → second ≡ Some neg → whole ≡ Differ i pos neg →
-      Side (above p) first → BranchAnswers (differing_at rest) (length rest + 68) lent (one_formed (below p)) (Ok second) →
+  pub difference_step : (lent : List Row) (first second : Option Cert) (pos neg whole : Cert) →
+      disequal (slice_get rows i) ≡ Some p → lent ≡ rows → first ≡ Some pos → second ≡ Some neg →
+      whole ≡ Differ i pos neg →
+      Side (above p) first → BranchAnswers (differing_at rest) (length rest + 68) lent
+      (one_formed (below p)) (Ok second) →
       (differing_at (i ∷ rest) rows ≡ Yes) × IsCertificate (length rest + 69) rows whole
   difference_step lent first second pos neg whole is same first_is second_is made a b =
-      let lent_below : Side (below p) second = subst (λ (rs : List Row). BranchAnswers (differing_at rest) (length rest + 68) rs (one_formed (below p)) (Ok second)) same b in
-      let one : Side (above p) (Some pos) = subst (λ (o : Option Cert). Side (above p) o) first_is a in
-      let other : Side (below p) (Some neg) = subst (λ (o : Option Cert). Side (below p) o) second_is lent_below in
-      subst (λ (w : Cert). (differing_at (i ∷ rest) rows ≡ Yes) × IsCertificate (length rest + 69) rows w) (sym made) (both_differ pos neg is one other)
+      let lent_below : Side (below p) second =
+      subst (λ (rs : List Row). BranchAnswers (differing_at rest) (length rest + 68) rs
+      (one_formed (below p)) (Ok second)) same b in
+      let one : Side (above p) (Some pos) = subst (λ (o : Option Cert). Side (above p) o) first_is a
+      in
+      let other : Side (below p) (Some neg) =
+      subst (λ (o : Option Cert). Side (below p) o) second_is lent_below in
+      subst (λ (w : Cert). (differing_at (i ∷ rest) rows ≡ Yes) ×
+      IsCertificate (length rest + 69) rows w) (sym made) (both_differ pos neg is one other)
 
 -- ---- variables that rows say the value of
 
 -- no variable is replaced any more
-pub no_more_solved : (n : ℕ) (rows lent : List Row) (r : Result (Option Cert) FmEnd) → n ≡ 0 → AnswersFor differing 74 rows r → AnswersFor (solving n) (n + 74) rows r
+pub no_more_solved : (n : ℕ) (rows lent : List Row) (r : Result (Option Cert) FmEnd) → n ≡ 0 →
+    AnswersFor differing 74 rows r → AnswersFor (solving n) (n + 74) rows r
 no_more_solved n rows lent r zero a =
-    same_answers differing (solving n) 74 (n + 74) rows r (sym (solving_none rows) ∙ ap (λ k. solving k rows) (sym zero)) (omega arith) a
+    same_answers differing (solving n) 74 (n + 74) rows r
+    (sym (solving_none rows) ∙ ap (λ k. solving k rows) (sym zero)) (omega arith) a
 
-solved_or_not : (n : ℕ) (rows : List Row) (o : Option Pivot) → first_pivot rows ≡ o → (m : ℕ) → n ≡ suc m → solving n rows ≡ solving_with o (solving m) rows
-solved_or_not n rows o is m count = ap (λ k. solving k rows) count ∙ solving_next m rows ∙ ap (λ q. solving_with q (solving m) rows) is
+solved_or_not : (n : ℕ) (rows : List Row) (o : Option Pivot) → first_pivot rows ≡ o → (m : ℕ) → n ≡
+    suc m → solving n rows ≡ solving_with o (solving m) rows
+solved_or_not n rows o is m count =
+    ap (λ k. solving k rows) count ∙ solving_next m rows ∙
+    ap (λ q. solving_with q (solving m) rows) is
 
 -- no row says the value of a variable
-pub none_solved : (n : ℕ) (rows lent : List Row) (o : Option Pivot) (r : Result (Option Cert) FmEnd) → lent ≡ rows → o ≡ first_pivot lent → o ≡ None → AnswersFor differing 74 rows r → AnswersFor (solving n) (n + 74) rows r
+pub none_solved : (n : ℕ) (rows lent : List Row) (o : Option Pivot) (r : Result (Option Cert) FmEnd)
+    → lent ≡ rows → o ≡ first_pivot lent → o ≡ None → AnswersFor differing 74 rows r →
+    AnswersFor (solving n) (n + 74) rows r
 none_solved n rows lent o r same found none a =
-    same_answers differing (solving n) 74 (n + 74) rows r (sym (solving_without n rows (sym (found ∙ ap first_pivot same) ∙ none))) (omega arith) a
+    same_answers differing (solving n) 74 (n + 74) rows r
+    (sym (solving_without n rows (sym (found ∙ ap first_pivot same) ∙ none))) (omega arith) a
 
 -- one does
-pub one_solved : (n m : ℕ) (rows lent other : List Row) (o : Option Pivot) (p : Pivot) (r : Result (Option Cert) FmEnd) → n ≡ suc m → lent ≡ rows → other ≡ rows → o ≡ first_pivot lent → o ≡ Some p →
-    AnswersFor (level (Cert-F.Solve p.first p.second p.variable (solving m))) (m + 75) other r → AnswersFor (solving n) (n + 74) rows r
+pub one_solved : (n m : ℕ) (rows lent other : List Row) (o : Option Pivot) (p : Pivot)
+    (r : Result (Option Cert) FmEnd) → n ≡ suc m → lent ≡ rows → other ≡ rows → o ≡
+    first_pivot lent → o ≡ Some p →
+    AnswersFor (level (Cert-F.Solve p.first p.second p.variable (solving m))) (m + 75) other r →
+    AnswersFor (solving n) (n + 74) rows r
 one_solved n m rows lent other o p r count same again found some a =
-    same_answers (level (Cert-F.Solve p.first p.second p.variable (solving m))) (solving n) (m + 75) (n + 74) rows r
-    (sym (solved_or_not n rows (Some p) (sym (found ∙ ap first_pivot same) ∙ some) m count)) (omega (arith, count))
-    (subst (λ (rs : List Row). AnswersFor (level (Cert-F.Solve p.first p.second p.variable (solving m))) (m + 75) rs r) again a)
+    same_answers (level (Cert-F.Solve p.first p.second p.variable (solving m))) (solving n) (m + 75)
+    (n + 74) rows r
+    (sym (solved_or_not n rows (Some p) (sym (found ∙ ap first_pivot same) ∙ some) m count))
+    (omega (arith, count))
+    (subst (λ (rs : List Row). AnswersFor (level
+    (Cert-F.Solve p.first p.second p.variable (solving m))) (m + 75) rs r) again a)
 
 -- what is found with the value in place of the variable
-module _ (i j x : ℕ) (says : List Row → Said) (most : ℕ) (rows : List Row) (p v : Body) (ws : List (ℕ × Body)) (changed : List Row) where
-  pub replaced_found : zero_polynomial rows i j ≡ Some p → solution x p ≡ Some v → solution_within x p ≡ true → ws ≡ (x, v) ∷ [] → rows_within ws rows ≡ true → changed ≡ in_rows ws rows → level (Cert-F.Solve i j x says) rows ≡ says changed
-  replaced_found is value keeps with_is made changed_is = solve_found x (zero_polynomial rows i j) p v ws rows changed says is value keeps with_is made changed_is
+module _ (i j x : ℕ) (says : List Row → Said) (most : ℕ) (rows : List Row) (p v : Body)
+    (ws : List (ℕ × Body)) (changed : List Row) where
+  pub replaced_found : zero_polynomial rows i j ≡ Some p → solution x p ≡ Some v →
+      solution_within x p ≡ true → ws ≡ (x, v) ∷ [] → rows_within ws rows ≡ true → changed ≡
+      in_rows ws rows → level (Cert-F.Solve i j x says) rows ≡ says changed
+  replaced_found is value keeps with_is made changed_is =
+      solve_found x (zero_polynomial rows i j) p v ws rows changed says is value keeps with_is made
+      changed_is
 
-  pub replaced_certificate : (many : ℕ) → most + 1 ≤ many → (found : Option Cert) (cert whole : Cert) → zero_polynomial rows i j ≡ Some p → solution x p ≡ Some v → solution_within x p ≡ true → ws ≡ (x, v) ∷ [] → rows_within ws rows ≡ true → changed ≡ in_rows ws rows →
-      found ≡ Some cert → whole ≡ Solve i j x cert → AnswersFor says most changed (Ok found) → (level (Cert-F.Solve i j x says) rows ≡ Yes) × IsCertificate many rows whole
-  replaced_certificate many spare found cert whole is value keeps with_is made changed_is found_is whole_is a =
-      let inner : AnswersFor says most changed (Ok (Some cert)) = subst (λ (f : Option Cert). AnswersFor says most changed (Ok f)) found_is a in
-      let made_too : rows_within ((x, v) ∷ []) rows ≡ true = ap (λ (us : List (ℕ × Body)). rows_within us rows) (sym with_is) ∙ made in
-      let list : changed ≡ in_rows ((x, v) ∷ []) rows = changed_is ∙ ap (λ (us : List (ℕ × Body)). in_rows us rows) with_is in
-      let c : IsCertificate most (in_rows ((x, v) ∷ []) rows) cert = subst (λ (rs : List Row). IsCertificate most rs cert) list inner.1 in (
+  pub replaced_certificate : (many : ℕ) → most + 1 ≤ many →
+      (found : Option Cert) (cert whole : Cert) → zero_polynomial rows i j ≡ Some p → solution x p ≡
+      Some v → solution_within x p ≡ true → ws ≡ (x, v) ∷ [] → rows_within ws rows ≡ true →
+      changed ≡ in_rows ws rows →
+      found ≡ Some cert → whole ≡ Solve i j x cert → AnswersFor says most changed (Ok found) →
+      (level (Cert-F.Solve i j x says) rows ≡ Yes) × IsCertificate many rows whole
+  replaced_certificate many spare found cert whole is value keeps with_is made changed_is found_is
+      whole_is a =
+      let inner : AnswersFor says most changed (Ok (Some cert)) =
+      subst (λ (f : Option Cert). AnswersFor says most changed (Ok f)) found_is a in
+      let made_too : rows_within ((x, v) ∷ []) rows ≡ true =
+      ap (λ (us : List (ℕ × Body)). rows_within us rows) (sym with_is) ∙ made in
+      let list : changed ≡ in_rows ((x, v) ∷ []) rows = changed_is ∙
+      ap (λ (us : List (ℕ × Body)). in_rows us rows) with_is in
+      let c : IsCertificate most (in_rows ((x, v) ∷ []) rows) cert =
+      subst (λ (rs : List Row). IsCertificate most rs cert) list inner.1 in (
         replaced_found is value keeps with_is made changed_is ∙ inner.0,
-        subst (λ (w : Cert). IsCertificate many rows w) (sym whole_is) (wider spare (solve_certificate most rows i j x p v cert is keeps value made_too c)),
+        subst (λ (w : Cert). IsCertificate many rows w) (sym whole_is)
+            (wider spare (solve_certificate most rows i j x p v cert is keeps value made_too c)),
       )
 
 -- no certificate
-pub none_found : (says : List Row → Said) (most : ℕ) (rows : List Row) (o : Option Cert) → o ≡ None → AnswersFor says most rows (Ok o) → says rows ≡ No
-none_found says most rows o is a = subst (λ (f : Option Cert). AnswersFor says most rows (Ok f)) is a
+pub none_found : (says : List Row → Said) (most : ℕ) (rows : List Row) (o : Option Cert) → o ≡
+    None → AnswersFor says most rows (Ok o) → says rows ≡ No
+none_found says most rows o is a =
+    subst (λ (f : Option Cert). AnswersFor says most rows (Ok f)) is a
 
 -- ---- what answers mean
 
-pub answer_unmet : (r : Result (Option Cert) FmEnd) (rows : List Row) → Answers rows r → IfOk r (λ o. IfSome o (λ c. (a : ℕ → ℤ) → AllHold a rows → ⊥))
+pub answer_unmet : (r : Result (Option Cert) FmEnd) (rows : List Row) → Answers rows r →
+    IfOk r (λ o. IfSome o (λ c. (a : ℕ → ℤ) → AllHold a rows → ⊥))
 answer_unmet (Ok None) rows h = tt
 answer_unmet (Ok (Some cert)) rows h = λ a holds. unmet rows cert h.1.refutes a holds
 answer_unmet (Err e) rows h = tt
 
-pub negation_shows : (rows : List Row) (row : Row) (o : Option Cert) (cert : Cert) → o ≡ Some cert → NegationAnswers rows row (Ok o) → (a : ℕ → ℤ) → AllHold a rows → RowHolds a row
+pub negation_shows : (rows : List Row) (row : Row) (o : Option Cert) (cert : Cert) → o ≡ Some cert →
+    NegationAnswers rows row (Ok o) → (a : ℕ → ℤ) → AllHold a rows → RowHolds a row
 negation_shows rows row o cert is h a holds =
-    let c : (negation_said refuted rows row ≡ Yes) × IsCertificate most_deep (rows ++ negation row ∷ []) cert = subst (λ (f : Option Cert). NegationAnswers rows row (Ok f)) is h in
+    let c : (negation_said refuted rows row ≡ Yes) ×
+    IsCertificate most_deep (rows ++ negation row ∷ []) cert =
+    subst (λ (f : Option Cert). NegationAnswers rows row (Ok f)) is h in
     let keeps = within_parts (negation_within row) (refuted (rows ++ negation row ∷ [])) c.0 in
-    shown_holds rows row cert (ap (λ b. within b (finding (rows ++ negation row ∷ []) cert)) keeps.0 ∙ c.1.refutes) a holds
+    shown_holds rows row cert (ap (λ b. within b (finding (rows ++ negation row ∷ []) cert)) keeps.0
+    ∙ c.1.refutes) a holds

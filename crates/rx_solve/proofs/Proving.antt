@@ -28,19 +28,30 @@ abbrev Passes : (ℕ → Bool) → Cert → Type 0
 Passes test cert = cert_passes test cert ≡ true
 
 module _ (given rows : List Row) where
-  -- the rest of the list, number i the first, decides, and with certificates for it the list is shown
+  -- the rest of the list, number i the first, decides, and with certificates for it the list is
+  -- shown
   pub record Proving (i : ℕ) (rest : List Row) (certs : List Cert) : Type 0 where
     pub decides : all_shown refuted given rest ≡ all_shown refuted given rows
     pub meeting : Meeting given rows i rest certs
     pub deep : All IsDeep certs
-    pub own : (test : ℕ → Bool) → rows_pass test given ≡ true → rows_pass test rows ≡ true → All (Passes test) certs × (rows_pass test rest ≡ true)
+    pub own : (test : ℕ → Bool) → rows_pass test given ≡ true → rows_pass test rows ≡ true →
+        All (Passes test) certs × (rows_pass test rest ≡ true)
 
   pub start : Proving 0 rows []
-  start = record { decides = refl; meeting = begin given rows; deep = All-nil IsDeep; own = λ test h g. (All-nil (Passes test), g) }
+  start =
+      record {
+        decides = refl;
+        meeting = begin given rows;
+        deep = All-nil IsDeep;
+        own = λ test h g.
+            (All-nil (Passes test), g);
+      }
 
-  module _ (i : ℕ) (row : Row) (rest : List Row) (certs : List Cert) (p : Proving i (row ∷ rest) certs) where
+  module _ (i : ℕ) (row : Row) (rest : List Row) (certs : List Cert)
+      (p : Proving i (row ∷ rest) certs) where
     -- what is found of the row, and then of the rest, is what is found of all
-    found_first : (s : Said) → shown refuted given row ≡ s → both s (all_shown refuted given rest) ≡ all_shown refuted given rows
+    found_first : (s : Said) → shown refuted given row ≡ s → both s (all_shown refuted given rest) ≡
+        all_shown refuted given rows
     found_first s e = ap (λ f. both f (all_shown refuted given rest)) (sym e) ∙ p.decides
 
     pub plain_next : is_plain_row given row ≡ true → Proving (i + 1) rest certs
@@ -48,53 +59,85 @@ module _ (given rows : List Row) where
       decides = found_first Yes (ap (λ b. cond b Yes (negation_said refuted given row)) e);
       meeting = after_plain given rows i row rest certs e p.meeting;
       deep = p.deep;
-      own = λ test h g. let o = p.own test h g in (o.0, (and_parts (row_passes test row) (rows_pass test rest) o.1).1);
+      own =
+          λ test h g. let o = p.own test h g in
+          (o.0, (and_parts (row_passes test row) (rows_pass test rest) o.1).1);
     }
 
     -- a row that isn't plain is shown where its negation is refuted
-    asked : is_plain_row given row ≡ false → (s : Said) → negation_said refuted given row ≡ s → shown refuted given row ≡ s
+    asked : is_plain_row given row ≡ false → (s : Said) → negation_said refuted given row ≡ s →
+        shown refuted given row ≡ s
     asked e s f = ap (λ b. cond b Yes (negation_said refuted given row)) e ∙ f
 
-    pub shown_next : is_plain_row given row ≡ false → (cert : Cert) → negation_said refuted given row ≡ Yes → IsCertificate 174 (given ++ negation row ∷ []) cert → Proving (i + 1) rest (certs ++ cert ∷ [])
+    pub shown_next : is_plain_row given row ≡ false → (cert : Cert) →
+        negation_said refuted given row ≡ Yes →
+        IsCertificate 174 (given ++ negation row ∷ []) cert →
+        Proving (i + 1) rest (certs ++ cert ∷ [])
     shown_next e cert f c =
         let keeps = within_parts (negation_within row) (refuted (given ++ negation row ∷ [])) f in
         record {
           decides = found_first Yes (asked e Yes f);
-          meeting = after_shown given rows i row rest certs cert e (ap (λ b. within b (finding (given ++ negation row ∷ []) cert)) keeps.0 ∙ c.refutes) p.meeting;
-          deep = All-append IsDeep certs (cert ∷ []) p.deep (All-cons IsDeep cert [] c.deep (All-nil IsDeep));
+          meeting =
+              after_shown given rows i row rest certs cert e
+              (ap (λ b. within b (finding (given ++ negation row ∷ []) cert)) keeps.0 ∙ c.refutes)
+              p.meeting;
+          deep =
+              All-append IsDeep certs (cert ∷ []) p.deep
+              (All-cons IsDeep cert [] c.deep (All-nil IsDeep));
           own = λ test h g.
               let o = p.own test h g in
               let q = and_parts (row_passes test row) (rows_pass test rest) o.1 in (
                 All-append (Passes test) certs (cert ∷ []) o.0
-                    (All-cons (Passes test) cert [] (c.own_variables test (with_row_passes test given (negation row) h (negation_passes test row q.0))) (All-nil (Passes test))),
+                    (All-cons (Passes test) cert []
+                    (c.own_variables test
+                    (with_row_passes test given (negation row) h
+                    (negation_passes test row q.0))) (All-nil (Passes test))),
                 q.1,
               );
         }
 
     -- a row that isn't shown decides
-    pub refused : is_plain_row given row ≡ false → negation_said refuted given row ≡ No → all_shown refuted given rows ≡ No
+    pub refused : is_plain_row given row ≡ false → negation_said refuted given row ≡ No →
+        all_shown refuted given rows ≡ No
     refused e f = sym (found_first No (asked e No f))
 
-    pub too_large : is_plain_row given row ≡ false → negation_said refuted given row ≡ Beyond → all_shown refuted given rows ≡ Beyond
+    pub too_large : is_plain_row given row ≡ false → negation_said refuted given row ≡ Beyond →
+        all_shown refuted given rows ≡ Beyond
     too_large e f = sym (found_first Beyond (asked e Beyond f))
 
-  pub all_done : (i : ℕ) (certs : List Cert) → Proving i [] certs → (all_shown refuted given rows ≡ Yes) × AreCertificates 174 given rows certs
+  pub all_done : (i : ℕ) (certs : List Cert) → Proving i [] certs →
+      (all_shown refuted given rows ≡ Yes) × AreCertificates 174 given rows certs
   all_done i certs p = (
     sym p.decides,
-    record { shows = finished given rows i certs p.meeting; deep = p.deep; own_variables = λ test h g. (p.own test h g).0 },
+    record {
+      shows = finished given rows i certs p.meeting;
+      deep = p.deep;
+      own_variables =
+          λ test h g. (p.own test h g).0;
+    },
   )
 
   -- ---- the same where the rest is what is left of the list
 
-  next_row : (i : ℕ) (row : Row) (certs : List Cert) → i < length rows → row ≡ get_or rows i row → Proving i (drop i rows) certs → Proving i (row ∷ drop (i + 1) rows) certs
+  next_row : (i : ℕ) (row : Row) (certs : List Cert) → i < length rows → row ≡ get_or rows i row →
+      Proving i (drop i rows) certs → Proving i (row ∷ drop (i + 1) rows) certs
   next_row i row certs h is p =
-      subst (λ rs. Proving i rs certs) (drop-cons rows i row h ∙ ap (λ r. r ∷ drop (suc i) rows) (sym is) ∙ ap (λ n. row ∷ drop n rows) (sym (add-one i))) p
+      subst (λ rs. Proving i rs certs) (drop-cons rows i row h ∙
+      ap (λ r. r ∷ drop (suc i) rows) (sym is) ∙ ap (λ n. row ∷ drop n rows) (sym (add-one i)))
+      p
 
-  certified : (row : Row) (asked : List Row) (o : Option Cert) (cert : Cert) → asked ≡ given → o ≡ Some cert → NegationAnswers asked row (Ok o) → (negation_said refuted given row ≡ Yes) × IsCertificate 174 (given ++ negation row ∷ []) cert
-  certified row asked o cert same is a = subst (λ rs. NegationAnswers rs row (Ok (Some cert))) same (subst (λ o. NegationAnswers asked row (Ok o)) is a)
+  certified : (row : Row) (asked : List Row) (o : Option Cert) (cert : Cert) → asked ≡ given → o ≡
+      Some cert → NegationAnswers asked row (Ok o) → (negation_said refuted given row ≡ Yes) ×
+      IsCertificate 174 (given ++ negation row ∷ []) cert
+  certified row asked o cert same is a =
+      subst (λ rs. NegationAnswers rs row (Ok (Some cert))) same
+      (subst (λ o. NegationAnswers asked row (Ok o)) is a)
 
-  pub after_certificate : (i : ℕ) (row : Row) (certs : List Cert) → i < length rows → row ≡ get_or rows i row → Proving i (drop i rows) certs → is_plain_row given row ≡ false →
-      (asked : List Row) (o : Option Cert) (cert : Cert) → asked ≡ given → o ≡ Some cert → NegationAnswers asked row (Ok o) → Proving (i + 1) (drop (i + 1) rows) (certs ++ cert ∷ [])
+  pub after_certificate : (i : ℕ) (row : Row) (certs : List Cert) → i < length rows → row ≡
+      get_or rows i row → Proving i (drop i rows) certs → is_plain_row given row ≡ false →
+      (asked : List Row) (o : Option Cert) (cert : Cert) → asked ≡ given → o ≡ Some cert →
+      NegationAnswers asked row (Ok o) → Proving (i + 1) (drop (i + 1) rows)
+      (certs ++ cert ∷ [])
   after_certificate i row certs h is p plain asked o cert same made a =
       let c = certified row asked o cert same made a in
       shown_next i row (drop (i + 1) rows) certs (next_row i row certs h is p) plain cert c.0 c.1

@@ -18,17 +18,20 @@ use Rattle.rx_solve.specs.Refuter.{refuted}
 
 -- ---- certificates
 
--- it refutes the rows, is at most that deep, and has no variables but theirs: it passes each test that they pass
+-- it refutes the rows, is at most that deep, and has no variables but theirs: it passes each test
+-- that they pass
 pub record IsCertificate (most : ℕ) (rows : List Row) (cert : Cert) : Type 0 where
   pub refutes : finding rows cert ≡ Yes
   pub deep : cert_depth cert ≤ most
   pub own_variables : (test : ℕ → Bool) → rows_pass test rows ≡ true → cert_passes test cert ≡ true
 
--- with them the rows follow from the given ones; each is at most that deep, and has no variables but those of both lists
+-- with them the rows follow from the given ones; each is at most that deep, and has no variables
+-- but those of both lists
 pub record AreCertificates (most : ℕ) (given rows : List Row) (certs : List Cert) : Type 0 where
   pub shows : conditions given (Some rows) certs ≡ Some Shown
   pub deep : All (λ cert. cert_depth cert ≤ most) certs
-  pub own_variables : (test : ℕ → Bool) → rows_pass test given ≡ true → rows_pass test rows ≡ true → All (λ cert. cert_passes test cert ≡ true) certs
+  pub own_variables : (test : ℕ → Bool) → rows_pass test given ≡ true → rows_pass test rows ≡ true →
+      All (λ cert. cert_passes test cert ≡ true) certs
 
 -- ---- answers
 
@@ -47,9 +50,11 @@ abbrev pub formed_said : (List Row → Said) → List Row → Formed (List Row) 
 formed_said says rows more = within more.within (says (rows ++ more.form))
 
 -- an answer that says so
-abbrev pub BranchAnswers : (List Row → Said) → ℕ → List Row → Formed (List Row) → Result (Option Cert) FmEnd → Type 0
+abbrev pub BranchAnswers : (List Row → Said) → ℕ → List Row → Formed (List Row) →
+    Result (Option Cert) FmEnd → Type 0
 BranchAnswers says most rows more (Ok None) = formed_said says rows more ≡ No
-BranchAnswers says most rows more (Ok (Some cert)) = (formed_said says rows more ≡ Yes) × IsCertificate most (rows ++ more.form) cert
+BranchAnswers says most rows more (Ok (Some cert)) =
+    (formed_said says rows more ≡ Yes) × IsCertificate most (rows ++ more.form) cert
 BranchAnswers says most rows more (Err e) = e ≡ Large → formed_said says rows more ≡ Beyond
 
 -- an answer of the refuter
@@ -61,6 +66,7 @@ abbrev pub AnswersCall : Bor (List Row) × Unit {0} → Result (Option Cert) FmE
 AnswersCall a result = Answers a.0.now result
 
 -- a closure that may be called again and again, and whose answers are right each time
-pub record IsSolver {F : Type 0} (g : Mut F (Bor (List Row) × Unit {0}) (Result (Option Cert) FmEnd)) (f : F) : Type 0 where
+pub record IsSolver {F : Type 0} (g : Mut F (Bor (List Row) × Unit {0})
+    (Result (Option Cert) FmEnd)) (f : F) : Type 0 where
   pub callable : always_mut g f
   pub answers : AlwaysReturns g AnswersCall f

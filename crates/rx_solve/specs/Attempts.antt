@@ -3,7 +3,8 @@ use Rattle.std.specs.Prelude.{Bool, true, false, ◌||◌, Option, Some, None, L
 use Rattle.std.specs.List.{filter_map, list_any}
 use Rattle.rx_cert.specs.Findings.{Said, Yes, No, Beyond}
 
--- what it makes, where it applies, and whether something that passes the limits was noted on the way
+-- what it makes, where it applies, and whether something that passes the limits was noted on the
+-- way
 pub record Tried (A : Type 0) : Type 0 where
   pub made : Option A
   pub noted : Bool

@@ -1,4 +1,5 @@
--- How far the refuter goes: 100 variables, 6 disequalities, 3 ratios, 64 roundings and 1 sum make certificates at most 174 deep.
+-- How far the refuter goes: 100 variables, 6 disequalities, 3 ratios, 64 roundings and 1 sum make
+-- certificates at most 174 deep.
 use Rattle.std.specs.Prelude.{ℕ}
 
 -- how many variables are replaced

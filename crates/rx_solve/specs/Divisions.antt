@@ -1,4 +1,5 @@
--- The ratios in rows, each a dividend and the number that it is divided by: by row, monomial and atom, an atom before what is inside it, the dividend before the divisor, each once.
+-- The ratios in rows, each a dividend and the number that it is divided by: by row, monomial and
+-- atom, an atom before what is inside it, the dividend before the divisor, each once.
 use Rattle.std.specs.Prelude.{◌≡◌, ◌&&◌, ℕ, Bool, true, if◌then◌else◌, Option, Some, None, List, [], ◌∷◌, ◌++◌, ℤ}
 use Rattle.std.specs.List.{flat_map, fold, list_all, list_any}
 use Rattle.std.specs.Ordering.{int_eq}
@@ -27,28 +28,37 @@ abbrev pub own_ratio : Body → Body → List Ratio
 own_ratio p q = by_number p (constant_of (out-Body q).terms)
 
 -- each level sees its parts, and the ratios in them
-abbrev pub atom_ratios_level : Atom-F (Atom × List Ratio) (Body × List Ratio) (Mono × List Ratio) → List Ratio
+abbrev pub atom_ratios_level : Atom-F (Atom × List Ratio) (Body × List Ratio) (Mono × List Ratio) →
+    List Ratio
 atom_ratios_level (Atom-F.Var n) = []
 atom_ratios_level (Atom-F.Div p q) = own_ratio p.0 q.0 ++ (p.1 ++ q.1)
 atom_ratios_level (Atom-F.Mod p q) = own_ratio p.0 q.0 ++ (p.1 ++ q.1)
 
-abbrev pub mono_ratios_level : Mono-F (Atom × List Ratio) (Body × List Ratio) (Mono × List Ratio) → List Ratio
+abbrev pub mono_ratios_level : Mono-F (Atom × List Ratio) (Body × List Ratio) (Mono × List Ratio) →
+    List Ratio
 mono_ratios_level m = flat_map (λ (x : Atom × List Ratio). x.1) m.atoms
 
-abbrev pub body_ratios_level : Body-F (Atom × List Ratio) (Body × List Ratio) (Mono × List Ratio) → List Ratio
+abbrev pub body_ratios_level : Body-F (Atom × List Ratio) (Body × List Ratio) (Mono × List Ratio) →
+    List Ratio
 body_ratios_level b = flat_map (λ (t : (Mono × List Ratio) × ℤ). (t.0).1) b.terms
 
 -- the ratios in an atom
 abbrev pub atom_ratios : Atom → List Ratio
-atom_ratios = para-Atom (List Ratio) (List Ratio) (List Ratio) atom_ratios_level body_ratios_level mono_ratios_level
+atom_ratios =
+    para-Atom (List Ratio) (List Ratio) (List Ratio) atom_ratios_level body_ratios_level
+    mono_ratios_level
 
 -- in a monomial
 abbrev pub mono_ratios : Mono → List Ratio
-mono_ratios = para-Mono (List Ratio) (List Ratio) (List Ratio) atom_ratios_level body_ratios_level mono_ratios_level
+mono_ratios =
+    para-Mono (List Ratio) (List Ratio) (List Ratio) atom_ratios_level body_ratios_level
+    mono_ratios_level
 
 -- in a polynomial
 abbrev pub ratios : Body → List Ratio
-ratios = para-Body (List Ratio) (List Ratio) (List Ratio) atom_ratios_level body_ratios_level mono_ratios_level
+ratios =
+    para-Body (List Ratio) (List Ratio) (List Ratio) atom_ratios_level body_ratios_level
+    mono_ratios_level
 
 -- ---- in rows
 

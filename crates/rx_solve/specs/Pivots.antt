@@ -14,7 +14,8 @@ use Rattle.rx_solve.specs.declared.pivots.Pivot.{Pivot}
 
 -- the variables that are monomials of p, in order; in a normal form they rise
 abbrev pub lone_variables : Body → List ℕ
-lone_variables p = filter_map (λ (t : Mono × ℤ). variable_of_atoms (out-Mono t.0).atoms) (out-Body p).terms
+lone_variables p =
+    filter_map (λ (t : Mono × ℤ). variable_of_atoms (out-Mono t.0).atoms) (out-Body p).terms
 
 -- the first of them that p = 0 says the value of: so the least
 abbrev pub least_solvable : Body → Option ℕ
@@ -27,7 +28,9 @@ value_said p (Some x) = if is_some (solution x p) then Some x else None
 
 -- the least of these terms' variables that p = 0 says the value of
 abbrev pub least_of : Body → List (Mono × ℤ) → Option ℕ
-least_of p ts = find (λ x. is_some (solution x p)) (filter_map (λ (t : Mono × ℤ). variable_of_atoms (out-Mono t.0).atoms) ts)
+least_of p ts =
+    find (λ x. is_some (solution x p)) (filter_map
+    (λ (t : Mono × ℤ). variable_of_atoms (out-Mono t.0).atoms) ts)
 
 -- ---- which rows
 
@@ -39,7 +42,8 @@ is_opposite_row p (Ne q) = false
 
 -- whether the row says that -p is at least 0: then its number, else that of a later one
 abbrev pub number_if_opposite : Body → Row → Option ℕ → Option ℕ → Option ℕ
-number_if_opposite p (Ge q) here later = if are_opposite (out-Body p).terms (out-Body q).terms then here else later
+number_if_opposite p (Ge q) here later =
+    if are_opposite (out-Body p).terms (out-Body q).terms then here else later
 number_if_opposite p (Eq q) here later = later
 number_if_opposite p (Ne q) here later = later
 
@@ -50,8 +54,11 @@ opposite_from i p (row ∷ rows) = number_if_opposite p row (Some i) (opposite_f
 
 -- the row, number i: an equation alone, an inequality with its opposite among the later rows
 abbrev pub pivot_at : ℕ → Row → List Row → Option Pivot
-pivot_at i (Ge p) later = option_and_then (λ x. option_map (λ j. record { first = i; second = j; variable = x }) (opposite_from (suc i) p later)) (least_solvable p)
-pivot_at i (Eq p) later = option_map (λ x. record { first = i; second = i; variable = x }) (least_solvable p)
+pivot_at i (Ge p) later =
+    option_and_then (λ x. option_map (λ j. record { first = i; second = j; variable = x })
+    (opposite_from (suc i) p later)) (least_solvable p)
+pivot_at i (Eq p) later =
+    option_map (λ x. record { first = i; second = i; variable = x }) (least_solvable p)
 pivot_at i (Ne p) later = None
 
 -- the first row that says the value of a variable

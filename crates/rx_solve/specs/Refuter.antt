@@ -1,4 +1,7 @@
--- What the refuter finds of rows: which certificate it tries next. What is found with it is what `level` says of that kind, with the next phase in place of the certificates inside. So the first place that passes the limits makes it `Beyond`, and the first leaf without multipliers `No`; that no other place makes it `No` is not proved.
+-- What the refuter finds of rows: which certificate it tries next. What is found with it is what
+-- `level` says of that kind, with the next phase in place of the certificates inside. So the first
+-- place that passes the limits makes it `Beyond`, and the first leaf without multipliers `No`; that
+-- no other place makes it `No` is not proved.
 use Rattle.std.specs.Prelude.{ℕ, zero, suc, Option, Some, None, List, [], ◌∷◌, take}
 use Rattle.rx_row.specs.declared.row.Row.{Row}
 use Rattle.rx_cert.specs.Examination.{level}
@@ -30,7 +33,8 @@ rounding rows = within (roundings_within rows) (rounding_by (roundings rows) row
 -- both signs of each dividend
 abbrev pub dividing_by : List Ratio → List Row → Said
 dividing_by [] rows = rounding rows
-dividing_by (r ∷ rs) rows = level (Cert-F.DivFacts r.num r.den (dividing_by rs) (dividing_by rs)) rows
+dividing_by (r ∷ rs) rows =
+    level (Cert-F.DivFacts r.num r.den (dividing_by rs) (dividing_by rs)) rows
 
 -- the first three ratios in the rows
 abbrev pub dividing : List Row → Said

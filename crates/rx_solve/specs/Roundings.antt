@@ -1,4 +1,5 @@
--- Which rows are rounded, and by what: by the content, the greatest common divisor of the coefficients without the constant, where it is above 1.
+-- Which rows are rounded, and by what: by the content, the greatest common divisor of the
+-- coefficients without the constant, where it is above 1.
 use Rattle.std.specs.Prelude.{ℕ, zero, suc, ◌-◌, nat_lt, Bool, true, if◌then◌else◌, List, [], ◌∷◌, ◌++◌, length, take, ℤ, pos, negsuc}
 use Rattle.std.specs.List.{list_all}
 use Rattle.rx_plain.specs.Formed.{Formed}
@@ -12,15 +13,19 @@ use Rattle.rx_solve.specs.declared.roundings.Rounding.{Rounding}
 
 -- ---- the roundings
 
--- with a divisor those of a row, number i: one of an inequality, two of an equation, none of a disequality
+-- with a divisor those of a row, number i: one of an inequality, two of an equation, none of a
+-- disequality
 abbrev pub roundings_with : ℤ → ℕ → Row → List Rounding
 roundings_with d i (Ge p) = record { at = i; by = pos 1; divisor = d } ∷ []
-roundings_with d i (Eq p) = record { at = i; by = pos 1; divisor = d } ∷ record { at = i; by = negsuc 0; divisor = d } ∷ []
+roundings_with d i (Eq p) =
+    record { at = i; by = pos 1; divisor = d } ∷ record { at = i; by = negsuc 0; divisor = d } ∷ []
 roundings_with d i (Ne p) = []
 
 -- those of a row, where its content is above 1
 abbrev pub roundings_of : ℕ → Row → List Rounding
-roundings_of i row = if nat_lt 1 (content (poly_of row)) then roundings_with (pos (content (poly_of row))) i row else []
+roundings_of i row =
+    if nat_lt 1 (content (poly_of row)) then roundings_with (pos (content (poly_of row))) i row else
+    []
 
 -- those of the rows, the first being number i
 abbrev pub roundings_from : ℕ → List Row → List Rounding
@@ -39,7 +44,8 @@ looked_at zero rows = []
 looked_at (suc n) [] = []
 looked_at (suc n) (row ∷ rows) = row ∷ looked_at (suc n - length (roundings_of 0 row)) rows
 
--- the sizes of the coefficients without the constant are numbers of i128; of a disequality nothing is asked
+-- the sizes of the coefficients without the constant are numbers of i128; of a disequality nothing
+-- is asked
 abbrev pub has_sizes : Row → Bool
 has_sizes (Ge p) = sizes_fit (variable_coefficients p)
 has_sizes (Eq p) = sizes_fit (variable_coefficients p)

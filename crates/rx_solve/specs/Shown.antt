@@ -17,18 +17,23 @@ use Rattle.rx_solve.specs.declared.showing.AllShown.TheVariants.{Shown, NotShown
 -- an answer that says whether the given rows are refuted with the negation of the row after them
 abbrev pub NegationAnswers : List Row → Row → Result (Option Cert) FmEnd → Type 0
 NegationAnswers given row (Ok None) = negation_said refuted given row ≡ No
-NegationAnswers given row (Ok (Some cert)) = (negation_said refuted given row ≡ Yes) × IsCertificate most_deep (given ++ negation row ∷ []) cert
+NegationAnswers given row (Ok (Some cert)) =
+    (negation_said refuted given row ≡ Yes) ×
+    IsCertificate most_deep (given ++ negation row ∷ []) cert
 NegationAnswers given row (Err e) = e ≡ Large → negation_said refuted given row ≡ Beyond
 
--- an answer that says whether the row is shown: not, without a certificate where it is plain, or by one
+-- an answer that says whether the row is shown: not, without a certificate where it is plain, or by
+-- one
 abbrev pub ShownAnswers : List Row → Row → Result (Option (Option Cert)) FmEnd → Type 0
 ShownAnswers given row (Ok None) = shown refuted given row ≡ No
 ShownAnswers given row (Ok (Some None)) = is_plain_row given row ≡ true
-ShownAnswers given row (Ok (Some (Some cert))) = (is_plain_row given row ≡ false) × NegationAnswers given row (Ok (Some cert))
+ShownAnswers given row (Ok (Some (Some cert))) =
+    (is_plain_row given row ≡ false) × NegationAnswers given row (Ok (Some cert))
 ShownAnswers given row (Err e) = e ≡ Large → shown refuted given row ≡ Beyond
 
 -- the rows are all shown by the refuter, with those certificates, or the first that isn't decides
 abbrev pub IsAllShown : List Row → List Row → AllShown → Type 0
-IsAllShown given rows (Shown certs) = (all_shown refuted given rows ≡ Yes) × AreCertificates most_deep given rows certs
+IsAllShown given rows (Shown certs) =
+    (all_shown refuted given rows ≡ Yes) × AreCertificates most_deep given rows certs
 IsAllShown given rows NotShown = all_shown refuted given rows ≡ No
 IsAllShown given rows TooLarge = all_shown refuted given rows ≡ Beyond

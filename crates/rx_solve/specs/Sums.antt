@@ -1,4 +1,5 @@
--- The last phase: multipliers from the elimination of all monomials, and the sum of rows that they make.
+-- The last phase: multipliers from the elimination of all monomials, and the sum of rows that they
+-- make.
 use Rattle.std.specs.Prelude.{ℕ, suc, Bool, true, if◌then◌else◌, Option, Some, None, List, [], ◌∷◌, ◌++◌, ℤ, pos, ◌-ℤ◌}
 use Rattle.std.specs.List.{flat_map, list_all}
 use Rattle.rx_plain.specs.Formed.{Formed}
@@ -36,11 +37,13 @@ abbrev pub nonnegative_after : List Body → Row → Formed (List Body)
 nonnegative_after done row = record { form = done ++ nonnegative row; within = opposite_within row }
 
 abbrev pub nonnegative_formed : List Row → Formed (List Body)
-nonnegative_formed rows = record { form = all_nonnegative rows; within = list_all opposite_within rows }
+nonnegative_formed rows =
+    record { form = all_nonnegative rows; within = list_all opposite_within rows }
 
 -- ---- the sum
 
--- the multiplier of the row, by those that are left, and what is left then: an equation has the difference of its two, a disequality 0
+-- the multiplier of the row, by those that are left, and what is left then: an equation has the
+-- difference of its two, a disequality 0
 abbrev pub next_multiplier : Row → List ℤ → Option (ℤ × List ℤ)
 next_multiplier (Ge p) [] = None
 next_multiplier (Ge p) (m ∷ ms) = Some (m, ms)
@@ -71,4 +74,6 @@ sum_found rows (found ms) = level (Cert-F.Sum (parts_from 0 rows ms)) rows
 
 -- what is found of the rows by a sum; the elimination holds at most 4,096 polynomials
 abbrev pub summing : List Row → Said
-summing rows = within (list_all opposite_within rows) (sum_found rows (elimination most_polynomials (all_nonnegative rows)))
+summing rows =
+    within (list_all opposite_within rows) (sum_found rows
+    (elimination most_polynomials (all_nonnegative rows)))

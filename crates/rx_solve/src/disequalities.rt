@@ -71,7 +71,8 @@ fn differ_with(
     row: Row,
     places: &[u32],
 ) -> Result<Option<Cert>, FmEnd>
-    ensures answer { AnswersFor (differing_at places.now) (length places.now + 68) (rows.old.items ++ row ∷ []) result }
+    ensures answer { AnswersFor (differing_at places.now) (length places.now + 68)
+        (rows.old.items ++ row ∷ []) result }
     ensures kept { OnOk result (rows.new.items ≡ rows.old.items) }
 {
     let count = rows.len();
@@ -89,7 +90,8 @@ fn differ_above(
     poly: &Poly,
     places: &[u32],
 ) -> Result<Option<Cert>, FmEnd>
-    ensures answer { BranchAnswers (differing_at places.now) (length places.now + 68) rows.old.items (one_formed (above poly.now)) result }
+    ensures answer { BranchAnswers (differing_at places.now) (length places.now + 68) rows.old.items
+        (one_formed (above poly.now)) result }
     ensures kept { OnOk result (rows.new.items ≡ rows.old.items) }
 {
     let row = row_above(alloc, poly)?;
@@ -104,7 +106,8 @@ fn differ_below(
     poly: &Poly,
     places: &[u32],
 ) -> Result<Option<Cert>, FmEnd>
-    ensures answer { BranchAnswers (differing_at places.now) (length places.now + 68) rows.old.items (one_formed (below poly.now)) result }
+    ensures answer { BranchAnswers (differing_at places.now) (length places.now + 68) rows.old.items
+        (one_formed (below poly.now)) result }
     ensures kept { OnOk result (rows.new.items ≡ rows.old.items) }
 {
     let row = row_below(alloc, poly)?;
@@ -121,7 +124,8 @@ fn differ_both(
     rest: &[u32],
 ) -> Result<Option<Cert>, FmEnd>
     requires { disequal (slice_get rows.old.items at) ≡ Some poly.now }
-    ensures answer { AnswersFor (differing_at (at ∷ rest.now)) (length rest.now + 69) rows.old.items result }
+    ensures answer { AnswersFor (differing_at (at ∷ rest.now)) (length rest.now + 69) rows.old.items
+        result }
     ensures kept { OnOk result (rows.new.items ≡ rows.old.items) }
 {
     let Some(pos) = differ_above(alloc, rows, poly, rest)? else {
@@ -141,7 +145,8 @@ fn differ_at(
     at: u32,
     rest: &[u32],
 ) -> Result<Option<Cert>, FmEnd>
-    ensures answer { AnswersFor (differing_at (at ∷ rest.now)) (length rest.now + 69) rows.old.items result }
+    ensures answer { AnswersFor (differing_at (at ∷ rest.now)) (length rest.now + 69) rows.old.items
+        result }
     ensures kept { OnOk result (rows.new.items ≡ rows.old.items) }
 {
     let Some(poly) = disequal_at(alloc, rows.as_slice(), at)? else {
@@ -158,7 +163,8 @@ fn differ_in_order(
     rows: &mut Vec<Row>,
     places: &[u32],
 ) -> Result<Option<Cert>, FmEnd>
-    ensures answer { AnswersFor (differing_at places.now) (length places.now + 68) rows.old.items result }
+    ensures answer { AnswersFor (differing_at places.now) (length places.now + 68) rows.old.items
+        result }
     ensures kept { OnOk result (rows.new.items ≡ rows.old.items) }
 {
     let Some((at, rest)) = places.split_first() else {

@@ -212,7 +212,8 @@ fn divide_with(
     ratios: &[Ratio],
 ) -> Result<Option<Cert>, FmEnd>
     requires { AreRatiosOf ratios.now rows.old.items }
-    ensures answer { AnswersFor (dividing_by ratios.now) (length ratios.now + 65) (rows.old.items ++ more.items) result }
+    ensures answer { AnswersFor (dividing_by ratios.now) (length ratios.now + 65)
+        (rows.old.items ++ more.items) result }
     ensures kept { OnOk result (rows.new.items ≡ rows.old.items) }
 {
     let count = rows.len();
@@ -232,7 +233,8 @@ fn divide_above(
     ratios: &[Ratio],
 ) -> Result<Option<Cert>, FmEnd>
     requires { AreRatiosOf ratios.now rows.old.items }
-    ensures answer { BranchAnswers (dividing_by ratios.now) (length ratios.now + 65) rows.old.items (facts_at_least_zero num.now known.now.equation known.now.rest known.now.bound) result }
+    ensures answer { BranchAnswers (dividing_by ratios.now) (length ratios.now + 65) rows.old.items
+        (facts_at_least_zero num.now known.now.equation known.now.rest known.now.bound) result }
     ensures kept { OnOk result (rows.new.items ≡ rows.old.items) }
 {
     let facts = facts_at_least_zero(alloc, num, known)?;
@@ -249,7 +251,8 @@ fn divide_below(
     ratios: &[Ratio],
 ) -> Result<Option<Cert>, FmEnd>
     requires { AreRatiosOf ratios.now rows.old.items }
-    ensures answer { BranchAnswers (dividing_by ratios.now) (length ratios.now + 65) rows.old.items (facts_below_zero num.now known.now.equation known.now.rest known.now.bound) result }
+    ensures answer { BranchAnswers (dividing_by ratios.now) (length ratios.now + 65) rows.old.items
+        (facts_below_zero num.now known.now.equation known.now.rest known.now.bound) result }
     ensures kept { OnOk result (rows.new.items ≡ rows.old.items) }
 {
     let facts = facts_below_zero(alloc, num, known)?;
@@ -268,9 +271,11 @@ fn divide_both(
 ) -> Result<Option<Cert>, FmEnd>
     requires ratios { AreRatiosOf (record { num = num; den = den.now } ∷ rest.now) rows.old.items }
     requires divisor { is_zero den.now ≡ false }
-    requires known { (known.now.equation, known.now.rest, known.now.bound) ≡ (division_formed num den.now).form }
+    requires known { (known.now.equation, known.now.rest, known.now.bound) ≡
+        (division_formed num den.now).form }
     requires within { (division_formed num den.now).within ≡ true }
-    ensures answer { AnswersFor (dividing_by (record { num = num; den = den.now } ∷ rest.now)) (length rest.now + 66) rows.old.items result }
+    ensures answer { AnswersFor (dividing_by (record { num = num; den = den.now } ∷ rest.now))
+        (length rest.now + 66) rows.old.items result }
     ensures kept { OnOk result (rows.new.items ≡ rows.old.items) }
 {
     let Some(pos) = divide_above(alloc, rows, &num, known, rest)? else {
@@ -291,7 +296,8 @@ fn divide_by(
     rest: &[Ratio],
 ) -> Result<Option<Cert>, FmEnd>
     requires { AreRatiosOf (ratio.now ∷ rest.now) rows.old.items }
-    ensures answer { AnswersFor (dividing_by (ratio.now ∷ rest.now)) (length rest.now + 66) rows.old.items result }
+    ensures answer { AnswersFor (dividing_by (ratio.now ∷ rest.now)) (length rest.now + 66)
+        rows.old.items result }
     ensures kept { OnOk result (rows.new.items ≡ rows.old.items) }
 {
     if ratio.den == 0 {
@@ -311,7 +317,8 @@ fn divide_in_order(
     ratios: &[Ratio],
 ) -> Result<Option<Cert>, FmEnd>
     requires { AreRatiosOf ratios.now rows.old.items }
-    ensures answer { AnswersFor (dividing_by ratios.now) (length ratios.now + 65) rows.old.items result }
+    ensures answer { AnswersFor (dividing_by ratios.now) (length ratios.now + 65) rows.old.items
+        result }
     ensures kept { OnOk result (rows.new.items ≡ rows.old.items) }
 {
     let Some((ratio, rest)) = ratios.split_first() else {

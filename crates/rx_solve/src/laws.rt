@@ -11,11 +11,13 @@ ghost use Rattle.rx_solve.specs.Refuter.{refuted};
 /// Rows that are refuted have a certificate, at most 174 deep and with no variables but theirs; so
 /// no integers meet them.
 pub fn refuted_rows_have_a_certificate()
-    ensures certificate { (rows : List Row) → refuted rows ≡ Yes → (cert : Cert) × IsCertificate 174 rows cert }
+    ensures certificate { (rows : List Row) → refuted rows ≡ Yes → (cert : Cert) ×
+        IsCertificate 174 rows cert }
     ensures unmet { (rows : List Row) → refuted rows ≡ Yes → (a : ℕ → ℤ) → ¬ (AllHold a rows) }
 {}
 
 /// Rows that the refuter shows hold wherever the given ones do.
 pub fn shown_rows_hold()
-    ensures { (given rows : List Row) → all_shown refuted given rows ≡ Yes → (a : ℕ → ℤ) → AllHold a given → AllHold a rows }
+    ensures { (given rows : List Row) → all_shown refuted given rows ≡ Yes → (a : ℕ → ℤ) →
+        AllHold a given → AllHold a rows }
 {}

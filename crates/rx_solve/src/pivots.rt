@@ -88,7 +88,8 @@ fn says_value(alloc: Global, poly: &Poly, var: u32) -> Result<bool, AllocError>
 /// The variable that the monomial is, where the polynomial says its value.
 fn value_said(alloc: Global, poly: &Poly, mono: &Mono) -> Result<Option<u32>, AllocError>
     requires { is_poly poly.now ≡ true }
-    ensures { IfOk result (λ o. o ≡ value_said poly.now (variable_of_atoms (out-Mono mono.now).atoms)) }
+    ensures { IfOk result (λ o. o ≡ value_said poly.now
+        (variable_of_atoms (out-Mono mono.now).atoms)) }
 {
     let Some(var) = lone_variable(mono) else {
         return Ok(None);

@@ -35,7 +35,8 @@ fn replaced(alloc: Global, pivot: &Pivot, rest: Cert) -> Result<Cert, AllocError
 /// What is found of the rows with its value in place of the variable.
 #[cycle(solving)]
 fn replace(alloc: Global, rows: &[Row], pivot: &Pivot, left: u32) -> Result<Option<Cert>, FmEnd>
-    ensures { AnswersFor (level (Cert-F.Solve pivot.now.first pivot.now.second pivot.now.variable (solving left))) (left + 75) rows.now result }
+    ensures { AnswersFor (level (Cert-F.Solve pivot.now.first pivot.now.second pivot.now.variable
+        (solving left))) (left + 75) rows.now result }
 {
     let Some(poly) = polynomial_at_zero(rows, pivot.first, pivot.second) else {
         return Ok(None);
@@ -103,7 +104,8 @@ fn refutes_negation(alloc: Global, rows: &Constraint, row: &Row) -> Result<Optio
 /// these, Large exactly where the negation or the refuter passes the limits.
 pub fn entails(alloc: Global, rows: &Constraint, row: &Row) -> Result<Option<Option<Cert>>, FmEnd>
     ensures answer { ShownAnswers rows.now row.now result }
-    ensures holds { IfOk result (λ o. IsSome o → (a : ℕ → ℤ) → AllHold a rows.now → RowHolds a row.now) }
+    ensures holds { IfOk result (λ o. IsSome o → (a : ℕ → ℤ) → AllHold a rows.now →
+        RowHolds a row.now) }
 {
     if is_plain(rows, row) {
         return Ok(Some(None));

@@ -48,7 +48,8 @@ fn push_with(found: &mut Vec<Rounding>, at: u32, row: &Row, divisor: i128) -> Re
 /// Puts the roundings of the row after the others. Large exactly where a coefficient's size leaves
 /// i128.
 fn push_roundings(found: &mut Vec<Rounding>, at: usize, row: &Row) -> Result<(), FmEnd>
-    ensures { FormsAs (λ _. found.new.items) FmEnd.Large result (roundings_after found.old.items at row.now) }
+    ensures { FormsAs (λ _. found.new.items) FmEnd.Large result
+        (roundings_after found.old.items at row.now) }
 {
     if let Row::Ne(_) = row {
         return Ok(());
@@ -68,7 +69,8 @@ fn push_roundings(found: &mut Vec<Rounding>, at: usize, row: &Row) -> Result<(),
 
 /// The roundings of the rows, up to the row that makes 64 of them.
 fn enough_roundings(alloc: Global, rows: &[Row]) -> Result<Vec<Rounding>, FmEnd>
-    ensures { FormsAs (λ v. take most_roundings v.items) FmEnd.Large result (roundings_formed rows.now) }
+    ensures { FormsAs (λ v. take most_roundings v.items) FmEnd.Large result
+        (roundings_formed rows.now) }
 {
     let mut found = Vec::new(alloc);
     for (at, row) in rows.iter().enumerate() {
@@ -92,7 +94,8 @@ fn roundings(alloc: Global, rows: &[Row]) -> Result<Vec<Rounding>, FmEnd>
 
 /// The certificate that a row is rounded, and then what refutes the rows with the rounded one.
 fn cut(alloc: Global, rounding: &Rounding, rest: Cert) -> Result<Cert, AllocError>
-    ensures { IfOk result (λ c. c ≡ Cut ((rounding.now.at, rounding.now.by) ∷ []) rounding.now.divisor rest) }
+    ensures { IfOk result (λ c. c ≡ Cut ((rounding.now.at, rounding.now.by) ∷ [])
+        rounding.now.divisor rest) }
 {
     let mut parts = Items::new(alloc);
     parts.push((rounding.at, rounding.by))?;
@@ -111,7 +114,8 @@ fn round_in_order(
     rows: &mut Vec<Row>,
     roundings: &[Rounding],
 ) -> Result<Option<Cert>, FmEnd>
-    ensures answer { AnswersFor (rounding_by roundings.now) (length roundings.now + 1) rows.old.items result }
+    ensures answer { AnswersFor (rounding_by roundings.now) (length roundings.now + 1)
+        rows.old.items result }
     ensures kept { OnOk result (rows.new.items ≡ rows.old.items) }
 {
     let Some((rounding, rest)) = roundings.split_first() else {

@@ -17,7 +17,8 @@ const MOST_POLYNOMIALS: u32 = 4096;
 
 /// Puts what the row says to be at least 0 after the others.
 fn push_nonnegative(polys: &mut Vec<Poly>, alloc: Global, row: &Row) -> Result<(), PolyEnd>
-    ensures { FormsAs (λ _. polys.new.items) PolyEnd.Large result (nonnegative_after polys.old.items row.now) }
+    ensures { FormsAs (λ _. polys.new.items) PolyEnd.Large result
+        (nonnegative_after polys.old.items row.now) }
 {
     let (Row::Ge(poly) | Row::Eq(poly) | Row::Ne(poly)) = row;
     if let Row::Ne(_) = row {
@@ -68,7 +69,8 @@ fn difference(first: i128, second: i128) -> i128
 /// The multiplier of the row, by those that are left, and what is left then.
 fn next_multiplier<'a>(row: &Row, left: &'a [i128]) -> Option<(i128, &'a [i128])>
     requires { All (λ m. pos 0 ≤ℤ m) left.now }
-    ensures next { MatchOption result (next_multiplier row.now left.now ≡ None) (λ x. next_multiplier row.now left.now ≡ Some (x.0, x.1.now)) }
+    ensures next { MatchOption result (next_multiplier row.now left.now ≡ None)
+        (λ x. next_multiplier row.now left.now ≡ Some (x.0, x.1.now)) }
     ensures rest { IfSome result (λ x. All (λ m. pos 0 ≤ℤ m) x.1.now) }
 {
     match row {

@@ -80,10 +80,12 @@ b_calls : calls_of b ≡ []
 b_calls = simp (calls_in-Return, calls-Lit) refl
 
 -- nothing is called
-none_called : (h k : ℕ) (f : Function) → Contains both h → slice_get example.functions h ≡ Some f → Contains (calls_of f) k → ⊥
+none_called : (h k : ℕ) (f : Function) → Contains both h → slice_get example.functions h ≡ Some f →
+    Contains (calls_of f) k → ⊥
 none_called h k f among stands calls_it = by (first_or_other 0 (1 ∷ []) h among) where
   there : (n : ℕ) (g : Function) → n ≡ h → slice_get example.functions n ≡ Some g → g ≡ f
-  there n g same is = let e : Some g ≡ Some f = sym is ∙ ap (slice_get example.functions) same ∙ stands in cc
+  there n g same is =
+      let e : Some g ≡ Some f = sym is ∙ ap (slice_get example.functions) same ∙ stands in cc
 
   none : calls_of f ≡ [] → ⊥
   none is = no_number_in k (subst (λ (ns : List ℕ). Contains ns k) is calls_it)
@@ -99,7 +101,8 @@ none_called h k f among stands calls_it = by (first_or_other 0 (1 ∷ []) h amon
 one_of_both : (h : ℕ) → Reached example 0 1 h → Contains both h
 one_of_both h IsFirst = first_one 0 (1 ∷ [])
 one_of_both h IsSecond = other_one 0 (1 ∷ []) 1 (first_one 1 [])
-one_of_both h (ByCall g k f reached stands among) = absurd (none_called g k f (one_of_both g reached) stands among)
+one_of_both h (ByCall g k f reached stands among) =
+    absurd (none_called g k f (one_of_both g reached) stands among)
 
 reached_both : (h : ℕ) → Contains both h → Reached example 0 1 h
 reached_both h among = by (first_or_other 0 (1 ∷ []) h among) where
@@ -113,7 +116,9 @@ reached_both h among = by (first_or_other 0 (1 ∷ []) h among) where
 
 are_reached : AreReached example 0 1 both
 are_reached = record {
-  in_order = next_number 0 (1 ∷ []) (All-cons (λ k. 0 < k) 1 [] (omega arith) (All-nil (λ k. 0 < k))) (next_number 1 [] (All-nil (λ k. 1 < k)) no_number);
+  in_order =
+      next_number 0 (1 ∷ []) (All-cons (λ k. 0 < k) 1 [] (omega arith) (All-nil (λ k. 0 < k)))
+      (next_number 1 [] (All-nil (λ k. 1 < k)) no_number);
   members = λ h. (reached_both h, one_of_both h);
 }
 
@@ -122,21 +127,30 @@ abbrev pair : ℕ → List Compiled → ℕ → List Compiled → Formed Code
 pair n ts m us =
     let c = body_code 0 n ts 0 in
     let d = body_code 1 m us (after 0 c.form) in
-    record { form = append_code c.form (append_code d.form no_code); within = c.within && (d.within && true) }
+    record {
+      form = append_code c.form (append_code d.form no_code);
+      within = c.within &&
+          (d.within && true);
+    }
 
-both_code : (f g : Function) {ts us : List Compiled} → StmtsAre f.body ts → StmtsAre g.body us → places_code (f ∷ g ∷ []) both 0 ≡ pair (length f.params) ts (length g.params) us
+both_code : (f g : Function) {ts us : List Compiled} → StmtsAre f.body ts → StmtsAre g.body us →
+    places_code (f ∷ g ∷ []) both 0 ≡ pair (length f.params) ts (length g.params) us
 both_code f g p q i = pair (length f.params) (p.are i) (length g.params) (q.are i)
 
 -- what code is translated to
 abbrev of_code : Formed Code → Formed RuleParts
-of_code c = record { form = parts_of c.form; within = c.within && list_all deed_within c.form.deeds }
+of_code c =
+    record { form = parts_of c.form; within = c.within && list_all deed_within c.form.deeds }
 
 translated : rules_of example both ≡ record { form = parts; within = true }
-translated = ap of_code (both_code a b (statement (returning (lit (pos 0))) no_statement) (statement (returning (lit (pos 0))) no_statement))
+translated =
+    ap of_code (both_code a b (statement (returning (lit (pos 0))) no_statement)
+    (statement (returning (lit (pos 0))) no_statement))
 
 pub example_translated : IsTranslation example 0 1 parts first second
 example_translated =
-    let whole = both_code a b (statement (returning (lit (pos 0))) no_statement) (statement (returning (lit (pos 0))) no_statement) in
+    let whole = both_code a b (statement (returning (lit (pos 0))) no_statement)
+    (statement (returning (lit (pos 0))) no_statement) in
     record {
       first_there = omega arith;
       second_there = omega arith;
@@ -162,7 +176,9 @@ returns_made s fits = record {
   few = let e = no_width s in omega (arith, e);
   left_fits = fits;
   right_fits = fits-Return parts (number (pos 0));
-  right_variables = below-Return (width (Call s [])) (number (pos 0)) ∙ passes-number (λ v. nat_lt v (width (Call s []))) (pos 0);
+  right_variables =
+      below-Return (width (Call s [])) (number (pos 0)) ∙
+      passes-number (λ v. nat_lt v (width (Call s []))) (pos 0);
   row_variables = refl;
 }
 
@@ -174,10 +190,14 @@ second_fits = fits-Call parts second []
 
 example_made : IsWellMade parts
 example_made =
-    All-cons (IsMade parts) (returns first) (returns (symbol 1) ∷ returns second ∷ returns (symbol 3) ∷ []) (returns_made first first_fits)
-    (All-cons (IsMade parts) (returns (symbol 1)) (returns second ∷ returns (symbol 3) ∷ []) (returns_made (symbol 1) (fits-Call parts (symbol 1) []))
-    (All-cons (IsMade parts) (returns second) (returns (symbol 3) ∷ []) (returns_made second second_fits)
-    (All-cons (IsMade parts) (returns (symbol 3)) [] (returns_made (symbol 3) (fits-Call parts (symbol 3) [])) (All-nil (IsMade parts)))))
+    All-cons (IsMade parts) (returns first) (returns (symbol 1) ∷ returns second ∷
+    returns (symbol 3) ∷ []) (returns_made first first_fits)
+    (All-cons (IsMade parts) (returns (symbol 1)) (returns second ∷ returns (symbol 3) ∷ [])
+    (returns_made (symbol 1) (fits-Call parts (symbol 1) []))
+    (All-cons (IsMade parts) (returns second) (returns (symbol 3) ∷ [])
+    (returns_made second second_fits)
+    (All-cons (IsMade parts) (returns (symbol 3)) []
+    (returns_made (symbol 3) (fits-Call parts (symbol 3) [])) (All-nil (IsMade parts)))))
 
 covered_0 : tree_finding parts.rules (Called (symbol 0)) (Use 0 []) [] ≡ Yes
 covered_0 = finding_use parts.rules (Called (symbol 0)) 0 [] [] ∙ rw (shape-Call (symbol 0) []) refl
@@ -204,7 +224,8 @@ example_covered = (λ i.
 -- ---- descent: no rule makes a call
 
 over_nothing : list_all (uses_below 0) (number (pos 0) ∷ []) ≡ true
-over_nothing = and_from (uses_below 0 (number (pos 0))) true (passes-number (λ v. nat_lt v 0) (pos 0)) refl
+over_nothing =
+    and_from (uses_below 0 (number (pos 0))) true (passes-number (λ v. nat_lt v 0) (pos 0)) refl
 
 table_lawful : bad_rank parts table ≡ None
 table_lawful = rw over_nothing refl
@@ -214,8 +235,10 @@ pairs_of s = PairsOf (part s []) (OfCall s []) [] (AtReturn (number (pos 0)))
 
 all_pairs : AreAllPairs parts.rules []
 all_pairs =
-    pairs.OneMore (returns first) (returns (symbol 1) ∷ returns second ∷ returns (symbol 3) ∷ []) [] [] (pairs_of first)
-    (pairs.OneMore (returns (symbol 1)) (returns second ∷ returns (symbol 3) ∷ []) [] [] (pairs_of (symbol 1))
+    pairs.OneMore (returns first) (returns (symbol 1) ∷ returns second ∷ returns (symbol 3) ∷ []) []
+    [] (pairs_of first)
+    (pairs.OneMore (returns (symbol 1)) (returns second ∷ returns (symbol 3) ∷ []) [] []
+    (pairs_of (symbol 1))
     (pairs.OneMore (returns second) (returns (symbol 3) ∷ []) [] [] (pairs_of second)
     (pairs.OneMore (returns (symbol 3)) [] [] [] (pairs_of (symbol 3)) pairs.NoRules)))
 
@@ -235,7 +258,8 @@ zero_evident : is_evident (Eq (of_terms [])) ≡ true
 zero_evident = ap (is_number_with is_zero) (ap constant_of (terms-of_terms []))
 
 -- one evident row takes no certificate
-judged_evident : (r : Row) → is_evident r ≡ true → judged [] [] (asking (r ∷ []) []).asked [] ≡ Shown
+judged_evident : (r : Row) → is_evident r ≡ true → judged [] [] (asking (r ∷ []) []).asked [] ≡
+    Shown
 judged_evident r is = rw (is, is) refl
 
 abbrev equal : Term → Term → Equation
@@ -247,23 +271,48 @@ state goal = record { goals = goal ∷ []; hypotheses = [] }
 abbrev goal : Equation
 goal = goal_at first second 0 []
 
-simplifies_left : formed_on parts goal [] (Simplify Left 0 []) ≡ Ok (asking [] (equal zero (Call second []) ∷ []))
-simplifies_left = rw (redex-Call first [], shape-Call first [], arguments-Call first [], in_term-Return [] (number (pos 0)), within-Return [] (number (pos 0)), in_zero) refl
+simplifies_left : formed_on parts goal [] (Simplify Left 0 []) ≡
+    Ok (asking [] (equal zero (Call second []) ∷ []))
+simplifies_left =
+    rw (
+      redex-Call first [],
+      shape-Call first [],
+      arguments-Call first [],
+      in_term-Return [] (number (pos 0)),
+      within-Return [] (number (pos 0)),
+      in_zero,
+    ) refl
 
-simplifies_right : formed_on parts (equal zero (Call second [])) [] (Simplify Right 2 []) ≡ Ok (asking [] (equal zero zero ∷ []))
-simplifies_right = rw (redex-Call second [], shape-Call second [], arguments-Call second [], in_term-Return [] (number (pos 0)), within-Return [] (number (pos 0)), in_zero) refl
+simplifies_right : formed_on parts (equal zero (Call second [])) [] (Simplify Right 2 []) ≡
+    Ok (asking [] (equal zero zero ∷ []))
+simplifies_right =
+    rw (
+      redex-Call second [],
+      shape-Call second [],
+      arguments-Call second [],
+      in_term-Return [] (number (pos 0)),
+      within-Return [] (number (pos 0)),
+      in_zero,
+    ) refl
 
-deletes : formed_on parts (equal zero zero) [] (Delete (Equal [])) ≡ Ok (asking (Eq (of_terms []) ∷ []) [])
-deletes = rw (shape-Return (number (pos 0)), arguments-Return (number (pos 0)), less_zero, zero_within) refl
+deletes : formed_on parts (equal zero zero) [] (Delete (Equal [])) ≡
+    Ok (asking (Eq (of_terms []) ∷ []) [])
+deletes =
+    rw (shape-Return (number (pos 0)), arguments-Return (number (pos 0)), less_zero, zero_within)
+    refl
 
 example_run : Run parts (finished []) (start goal)
 example_run =
     OneMore (start goal) (state (equal zero (Call second []))) (Simplify Left 0 [])
-    (shown_taken parts (start goal) (Simplify Left 0 []) (asking [] (equal zero (Call second []) ∷ [])) simplifies_left refl)
+    (shown_taken parts (start goal) (Simplify Left 0 [])
+    (asking [] (equal zero (Call second []) ∷ [])) simplifies_left refl)
     (OneMore (state (equal zero (Call second []))) (state (equal zero zero)) (Simplify Right 2 [])
-    (shown_taken parts (state (equal zero (Call second []))) (Simplify Right 2 []) (asking [] (equal zero zero ∷ [])) simplifies_right refl)
+    (shown_taken parts (state (equal zero (Call second []))) (Simplify Right 2 [])
+    (asking [] (equal zero zero ∷ [])) simplifies_right refl)
     (OneMore (state (equal zero zero)) (finished []) (Delete (Equal []))
-    (shown_taken parts (state (equal zero zero)) (Delete (Equal [])) (asking (Eq (of_terms []) ∷ []) []) deletes (judged_evident (Eq (of_terms [])) zero_evident))
+    (shown_taken parts (state (equal zero zero)) (Delete (Equal []))
+    (asking (Eq (of_terms []) ∷ []) []) deletes
+    (judged_evident (Eq (of_terms [])) zero_evident))
     NoStep))
 
 pub example_proof : IsProof parts (goal_at first second 0 []) [] table

@@ -27,27 +27,41 @@ use Rattle.rx_joins.specs.Runs.{IsProof}
 use Rattle.rx_joins.proofs.Runs.{proof_ends_alike}
 
 -- a call of a symbol on the first variables is, at integers, its call on these
-entry_at : (f : Sym) (xs : List ℤ) → ground_at (assigned xs) (Call f (variables_from 0 (length xs))) ≡ stack.Call f.0 xs
-entry_at f xs = ground-Call (assigned xs) f (variables_from 0 (length xs)) ∙ ap (stack.Call f.0) (values-assigned xs)
+entry_at : (f : Sym) (xs : List ℤ) → ground_at (assigned xs) (Call f (variables_from 0 (length xs)))
+    ≡ stack.Call f.0 xs
+entry_at f xs =
+    ground-Call (assigned xs) f (variables_from 0 (length xs)) ∙
+    ap (stack.Call f.0) (values-assigned xs)
 
 -- results that are convertible, reached from what two terms are equal to
-reached_from : (parts : RuleParts) (s t u v : Ground) → s ≡ u → t ≡ v → EndAlike (Inside parts) (Instance parts.rules) s t → ReachConvertible parts.rules u v
+reached_from : (parts : RuleParts) (s t u v : Ground) → s ≡ u → t ≡ v →
+    EndAlike (Inside parts) (Instance parts.rules) s t → ReachConvertible parts.rules u v
 reached_from parts s t u v is_u is_v ends = record {
   left = ends.left.end;
   right = ends.right.end;
   left_result = ends.left.is_result;
   right_result = ends.right.is_result;
   left_reached = subst (λ g. Reaches (Instance parts.rules) g ends.left.end) is_u ends.left.reached;
-  right_reached = subst (λ g. Reaches (Instance parts.rules) g ends.right.end) is_v ends.right.reached;
+  right_reached =
+      subst (λ g. Reaches (Instance parts.rules) g ends.right.end) is_v ends.right.reached;
   convertible = ends.convertible;
 }
 
-pub proof_returns_alike : (program : Resolved) → is_scoped program ≡ true → (f g : ℕ) (parts : RuleParts) (first second : Sym) → IsTranslation program f g parts first second
-    → (arguments : List ℤ) (rows : List Row) → slice_get (parameter_counts program.functions) f ≡ Some (length arguments) → slice_get (parameter_counts program.functions) g ≡ Some (length arguments)
-    → AllHold (assigned arguments) rows → (hypotheses : List Rule) (table : RankTable) → IsProof parts (goal_at first second (length arguments) rows) hypotheses table → ReturnAlike program f g arguments
-proof_returns_alike program scoped f g parts first second t arguments rows count also holds hypotheses table proof =
+pub proof_returns_alike : (program : Resolved) → is_scoped program ≡ true →
+    (f g : ℕ) (parts : RuleParts) (first second : Sym) →
+    IsTranslation program f g parts first second
+    → (arguments : List ℤ) (rows : List Row) → slice_get (parameter_counts program.functions) f ≡
+    Some (length arguments) → slice_get (parameter_counts program.functions) g ≡
+    Some (length arguments)
+    → AllHold (assigned arguments) rows → (hypotheses : List Rule) (table : RankTable) →
+    IsProof parts (goal_at first second (length arguments) rows) hypotheses table →
+    ReturnAlike program f g arguments
+proof_returns_alike program scoped f g parts first second t arguments rows count also holds
+    hypotheses table proof =
     let goal = goal_at first second (length arguments) rows in
     let a = assigned arguments in
     return_alike program scoped f g parts first second t arguments count also
-    (reached_from parts (ground_at a goal.left) (ground_at a goal.right) (stack.Call first.0 arguments) (stack.Call second.0 arguments)
-    (entry_at first arguments) (entry_at second arguments) (proof_ends_alike parts goal hypotheses table proof a holds))
+    (reached_from parts (ground_at a goal.left) (ground_at a goal.right)
+    (stack.Call first.0 arguments) (stack.Call second.0 arguments)
+    (entry_at first arguments) (entry_at second arguments)
+    (proof_ends_alike parts goal hypotheses table proof a holds))

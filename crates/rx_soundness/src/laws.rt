@@ -15,9 +15,9 @@ ghost use Rattle.rx_term.specs.declared.rule.Rule.{Rule};
 ghost use Rattle.rx_term.specs.declared.rule_set.RuleParts.{RuleParts};
 ghost use Rattle.rx_term.specs.declared.term.Sym.{Sym};
 
-/// Let there be a translation of two functions of a program, and a proof that their entries are equal
-/// under some rows. Then on all integers that meet the rows, as many as both functions have parameters,
-/// both return, with one outcome, by the meaning of C.
+/// Let there be a translation of two functions of a program, and a proof that their entries are
+/// equal under some rows. Then on all integers that meet the rows, as many as both functions have
+/// parameters, both return, with one outcome, by the meaning of C.
 pub fn proofs_show_equal_functions()
     ensures { (program : Resolved) → is_scoped program ≡ true →
         (f g : ℕ) (parts : RuleParts) (first second : Sym) →
@@ -31,9 +31,9 @@ pub fn proofs_show_equal_functions()
         ReturnAlike program f g arguments }
 {}
 
-/// The premises can be met: by two functions that return 0 (`scoped`), their rule set (`translated`),
-/// and a proof of three steps that their entries are equal, under no rows (`proof`). So both return
-/// alike (`alike`).
+/// The premises can be met: by two functions that return 0 (`scoped`), their rule set
+/// (`translated`), and a proof of three steps that their entries are equal, under no rows
+/// (`proof`). So both return alike (`alike`).
 pub fn the_premises_can_be_met()
     ensures scoped { is_scoped example ≡ true }
     ensures translated { IsTranslation example 0 1 parts first second }

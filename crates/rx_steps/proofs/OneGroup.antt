@@ -38,7 +38,8 @@ refused e f h = cc
 found : (f : FormedStep) → asks_goal_alone f.asked ≡ true → Alone (Ok f)
 found f alone g h = let is : f ≡ g = cc in subst (λ x. asks_goal_alone x.asked ≡ true) is alone
 
-after : {A : Type 0} (x : Forming A) (next : A → Forming FormedStep) → ((y : A) → Alone (next y)) → Alone (x >>= next)
+after : {A : Type 0} (x : Forming A) (next : A → Forming FormedStep) → ((y : A) → Alone (next y)) →
+    Alone (x >>= next)
 after (Ok y) next later = later y
 after (Err e) next later = refused e
 
@@ -57,11 +58,14 @@ module _ (parts : RuleParts) (hypotheses : List Rule) (goal : Equation) where
   alone_on : (s : Step) → Alone (formed_on parts goal hypotheses s)
   alone_on (step.Simplify side number certs) =
       after (found_or WrongShape (redex_of (side_of side goal))) _ (λ redex.
-      after (found_or NoSuchRule (slice_get parts.rules number)) _ (λ rule. tested _ _ (kept _ refl)))
+      after (found_or NoSuchRule (slice_get parts.rules number)) _
+      (λ rule. tested _ _ (kept _ refl)))
   alone_on (step.Hyp side place number ws certs) =
       after (found_or WrongShape (behind place (side_of side goal))) _ (λ place.
-      after (provided (is_substitution ws) (found_or NoSuchRule (slice_get hypotheses number))) _ (λ rule. tested _ _ (kept _ refl)))
-  alone_on (step.Expand side keep) = after (found_or WrongShape (redex_of (side_of side goal))) _ (λ redex. kept _ refl)
+      after (provided (is_substitution ws) (found_or NoSuchRule (slice_get hypotheses number))) _
+      (λ rule. tested _ _ (kept _ refl)))
+  alone_on (step.Expand side keep) =
+      after (found_or WrongShape (redex_of (side_of side goal))) _ (λ redex. kept _ refl)
   alone_on (step.Delete (delete.Absurd cert)) = found _ refl
   alone_on (step.Delete (delete.Equal certs)) = tested _ _ (kept _ refl)
   alone_on step.EqDelete = tested _ _ (kept _ refl)
@@ -76,7 +80,8 @@ module _ (parts : RuleParts) (hypotheses : List Rule) (goal : Equation) where
       after (found_or WrongShape (behind right goal.right)) _ (λ other. tested _ _ (kept _ refl)))
 
 -- a formed step asks rows under those of the goal alone, or that the goal is refuted
-pub formed_alone : (parts : RuleParts) (goal : Option Equation) (hypotheses : List Rule) (s : Step) (f : FormedStep) → formed parts goal hypotheses s ≡ Ok f → asks_goal_alone f.asked ≡ true
+pub formed_alone : (parts : RuleParts) (goal : Option Equation) (hypotheses : List Rule) (s : Step)
+    (f : FormedStep) → formed parts goal hypotheses s ≡ Ok f → asks_goal_alone f.asked ≡ true
 formed_alone parts None hypotheses s f h = cc
 formed_alone parts (Some goal) hypotheses s f h = alone_on parts hypotheses goal s f h
 
@@ -87,11 +92,19 @@ under_goal Goal h = refl
 under_goal New h = cc
 
 module _ (old new : List Row) (certs : List Cert) where
-  one : (g : Group) → is_under_goal g.under ≡ true → judged old new (Rows (g ∷ [])) certs ≡ of_conditions (conditions old (Some g.rows) certs)
-  one g h = subst (λ u. judged old new (Rows (record { under = u; rows = g.rows } ∷ [])) certs ≡ of_conditions (conditions old (Some g.rows) certs)) (sym (under_goal g.under h)) (one_group old new g.rows certs)
+  one : (g : Group) → is_under_goal g.under ≡ true → judged old new (Rows (g ∷ [])) certs ≡
+      of_conditions (conditions old (Some g.rows) certs)
+  one g h =
+      subst (λ u. judged old new (Rows (record { under = u; rows = g.rows } ∷ [])) certs ≡
+      of_conditions (conditions old (Some g.rows) certs)) (sym (under_goal g.under h))
+      (one_group old new g.rows certs)
 
   -- the first group is the only one
-  pub first_group : (gs : List Group) (g : Group) → Some g ≡ slice_get gs 0 → is_one_group gs ≡ true → judged old new (Rows gs) certs ≡ of_conditions (conditions old (Some g.rows) certs)
+  pub first_group : (gs : List Group) (g : Group) → Some g ≡ slice_get gs 0 → is_one_group gs ≡
+      true → judged old new (Rows gs) certs ≡ of_conditions (conditions old (Some g.rows) certs)
   first_group [] g is h = cc
-  first_group (g' ∷ []) g is h = let same : g' ≡ g = cc in subst (λ x. judged old new (Rows (x ∷ [])) certs ≡ of_conditions (conditions old (Some g.rows) certs)) (sym same) (one g (subst (λ x. is_under_goal x.under ≡ true) same h))
+  first_group (g' ∷ []) g is h =
+      let same : g' ≡ g = cc in subst (λ x. judged old new (Rows (x ∷ [])) certs ≡
+      of_conditions (conditions old (Some g.rows) certs)) (sym same)
+      (one g (subst (λ x. is_under_goal x.under ≡ true) same h))
   first_group (g' ∷ h' ∷ gs) g is h = cc

@@ -5,28 +5,37 @@ use Rattle.std.proofs.lemmas.List.{get_or-reverse, length-reverse, reverse-appen
 use Rattle.std.proofs.lemmas.Option.{slice_get-get_or, slice_get_past}
 
 -- without the last, the rest of what is read from the end
-pub popped : {A : Type 0} (r : Option A) (old new : List A) → MatchOption r ((old ≡ []) × (new ≡ [])) (λ last. old ≡ new ++ last ∷ []) → reverse new ≡ drop 1 (reverse old)
+pub popped : {A : Type 0} (r : Option A) (old new : List A) →
+    MatchOption r ((old ≡ []) × (new ≡ [])) (λ last. old ≡ new ++ last ∷ []) → reverse new ≡
+    drop 1 (reverse old)
 popped None old new h = ap reverse h.1 ∙ sym (ap (λ xs. drop 1 (reverse xs)) h.0)
-popped (Some last) old new h = sym (ap (λ xs. drop 1 (reverse xs)) h ∙ ap (drop 1) (reverse-append new (last ∷ [])))
+popped (Some last) old new h =
+    sym (ap (λ xs. drop 1 (reverse xs)) h ∙ ap (drop 1) (reverse-append new (last ∷ [])))
 
 at_end : {A : Type 0} (xs : List A) (y : A) → slice_get (xs ++ y ∷ []) (length xs) ≡ Some y
 at_end [] y = refl
 at_end (x ∷ xs) y = at_end xs y
 
-first_at_end : {A : Type 0} (ys : List A) → slice_get (reverse ys) (length (reverse ys) - 1) ≡ slice_get ys 0
+first_at_end : {A : Type 0} (ys : List A) → slice_get (reverse ys) (length (reverse ys) - 1) ≡
+    slice_get ys 0
 first_at_end [] = refl
 first_at_end (y ∷ ys) =
     let whole = length-reverse (y ∷ ys) in
     let inner = length-reverse ys in
     let place : length (reverse (y ∷ ys)) - 1 ≡ length (reverse ys) = omega arith in
-    ap (slice_get (reverse (y ∷ ys))) place ∙ ap (λ zs. slice_get zs (length (reverse ys))) (reverse-append (y ∷ []) ys) ∙ at_end (reverse ys) y
+    ap (slice_get (reverse (y ∷ ys))) place ∙
+    ap (λ zs. slice_get zs (length (reverse ys))) (reverse-append (y ∷ []) ys) ∙
+    at_end (reverse ys) y
 
 -- the last is the first of what is read from the end
-pub last_is_first : {A : Type 0} (xs : List A) → slice_get xs (length xs - 1) ≡ slice_get (reverse xs) 0
-last_is_first xs = sym (ap (λ zs. slice_get zs (length zs - 1)) (reverse-reverse xs)) ∙ first_at_end (reverse xs)
+pub last_is_first : {A : Type 0} (xs : List A) → slice_get xs (length xs - 1) ≡
+    slice_get (reverse xs) 0
+last_is_first xs =
+    sym (ap (λ zs. slice_get zs (length zs - 1)) (reverse-reverse xs)) ∙ first_at_end (reverse xs)
 
 -- an element from the end is one of what is read from the end
-pub from_the_end : {A : Type 0} (xs : List A) (k : ℕ) → k < length xs → slice_get xs (length xs - 1 - k) ≡ slice_get (reverse xs) k
+pub from_the_end : {A : Type 0} (xs : List A) (k : ℕ) → k < length xs →
+    slice_get xs (length xs - 1 - k) ≡ slice_get (reverse xs) k
 from_the_end [] k h = cc
 from_the_end (x ∷ xs) k h =
     let count = length-reverse (x ∷ xs) in
@@ -37,5 +46,6 @@ from_the_end (x ∷ xs) k h =
     ∙ sym (slice_get-get_or (reverse (x ∷ xs)) k x here)
 
 -- and there are no more
-pub past_the_end : {A : Type 0} (xs : List A) (k : ℕ) → length xs ≤ k → slice_get (reverse xs) k ≡ None
+pub past_the_end : {A : Type 0} (xs : List A) (k : ℕ) → length xs ≤ k → slice_get (reverse xs) k ≡
+    None
 past_the_end xs k h = let count = length-reverse xs in slice_get_past (reverse xs) k (omega arith)

@@ -26,8 +26,9 @@ fn shown(alloc: Global, state: &State, rules: &RuleSet, step: &Step) -> Result<F
     }
 }
 
-/// A step on the first goal of a state. It is formed first, then its certificates are judged in order,
-/// and then its goals and its hypothesis are taken. A refused step leaves the state as it was.
+/// A step on the first goal of a state. It is formed first, then its certificates are judged in
+/// order, and then its goals and its hypothesis are taken. A refused step leaves the state as it
+/// was.
 pub fn apply(alloc: Global, state: &mut State, rules: &RuleSet, step: &Step) -> Result<(), StepEnd>
     ensures answer { Applies result state.new (applied rules.now state.old step.now) }
     ensures kept { OnErr result (state.new ≡ state.old) }

@@ -26,11 +26,16 @@ impl Model for State {
 
     ghost Value = { states.State };
 
-    ghost coded = { Prim.hlevel (codes, coded_list equation_row.the_row.coded, coded_list rule_row.the_row.coded) };
+    ghost coded = { Prim.hlevel (
+      codes,
+      coded_list equation_row.the_row.coded,
+      coded_list rule_row.the_row.coded,
+    ) };
 
     ghost view = { λ s. record { goals = reverse s.goals.items; hypotheses = s.hypotheses.items } };
 
-    ghost invariant = { λ s. (length s.goals.items < 2 ^ 32) × (length s.hypotheses.items < 2 ^ 32) };
+    ghost invariant = { λ s. (length s.goals.items < 2 ^ 32) ×
+        (length s.hypotheses.items < 2 ^ 32) };
 }
 
 /// There are fewer goals than this, and fewer hypotheses.
@@ -161,9 +166,9 @@ impl State {
         self.goals.len() as u32
     }
 
-    /// Puts what a formed step makes in place of the first goal, and its hypothesis after the others;
-    /// whether it is shown isn't looked at. Where there is no memory, or there would be too many of either, the
-    /// state stays as it was.
+    /// Puts what a formed step makes in place of the first goal, and its hypothesis after the
+    /// others; whether it is shown isn't looked at. Where there is no memory, or there would be too
+    /// many of either, the state stays as it was.
     #[tactic(auto, using(crate::proofs::Reversed::popped))]
     pub fn take(&mut self, formed: FormedStep) -> Result<(), NoMemory>
         ensures ok { OnOk result (self.new ≡ taken self.old formed) }

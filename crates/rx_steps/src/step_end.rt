@@ -11,8 +11,8 @@ pub enum StepEnd {
     /// There is no goal.
     #[error("no goal is left")]
     NoGoal,
-    /// The goal, a rule, a hypothesis, or what the step itself gives isn't of the form that is asked; or
-    /// there aren't as many certificates as rows that are asked and aren't plain.
+    /// The goal, a rule, a hypothesis, or what the step itself gives isn't of the form that is
+    /// asked; or there aren't as many certificates as rows that are asked and aren't plain.
     #[error("a step of the wrong shape")]
     WrongShape,
     /// There is no rule, or no hypothesis, of that number.

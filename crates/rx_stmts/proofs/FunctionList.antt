@@ -1,4 +1,5 @@
--- Functions that are being compiled one by one: what stands, and what those that are left still decide.
+-- Functions that are being compiled one by one: what stands, and what those that are left still
+-- decide.
 use Rattle.std.proofs.Common.{◌≡◌, ◌∙◌, refl, sym, ap, subst, Bool, true, false, ◌&&◌, ℕ, suc, ◌+◌, ◌<◌, ◌≤◌, Result, List, ◌∷◌, length, drop, get_or, drop_of_length-le, add-one}
 use Rattle.std.specs.Prelude.{IsErrAnd, Ok, Err, slice_get}
 use Rattle.std.proofs.Math.Seq.{drop-cons}
@@ -18,54 +19,87 @@ abbrev pub after_code : List Function → List ℕ → Code → Formed Code
 after_code functions places now = places_code functions places (length now.opened)
 
 pub record Placing (functions : List Function) (now : Code) (rest whole : List ℕ) : Type 0 where
-  pub code : append_code now (after_code functions rest now).form ≡ (places_code functions whole 0).form
+  pub code : append_code now (after_code functions rest now).form ≡
+      (places_code functions whole 0).form
   pub within : (after_code functions rest now).within ≡ (places_code functions whole 0).within
 
 no_code_left : (c : Code) → append_code no_code c ≡ c
 no_code_left c = refl
 
 pub no_code_right : (c : Code) → append_code c no_code ≡ c
-no_code_right c = λ i. record { opened = append-nil c.opened i; deeds = append-nil c.deeds i; heads = append-nil c.heads i; entries = append-nil c.entries i }
+no_code_right c =
+    λ i. record {
+      opened = append-nil c.opened i;
+      deeds = append-nil c.deeds i;
+      heads =
+          append-nil c.heads i;
+      entries = append-nil c.entries i;
+    }
 
-pub begin : (functions : List Function) (places : List ℕ) → Placing functions no_code (drop 0 places) places
-begin functions places = record { code = no_code_left (places_code functions places 0).form; within = refl }
+pub begin : (functions : List Function) (places : List ℕ) →
+    Placing functions no_code (drop 0 places) places
+begin functions places =
+    record { code = no_code_left (places_code functions places 0).form; within = refl }
 
-module _ {functions : List Function} {now : Code} (places : List ℕ) (k : ℕ) {place : ℕ} (h : k < length places) (is : place ≡ get_or places k place) (s : Placing functions now (drop k places) places) where
+module _ {functions : List Function} {now : Code} (places : List ℕ) (k : ℕ) {place : ℕ}
+    (h : k < length places) (is : place ≡ get_or places k place)
+    (s : Placing functions now (drop k places) places) where
   opened : Placing functions now (place ∷ drop (suc k) places) places
-  opened = subst (λ rest. Placing functions now rest places) (drop-cons places k place h ∙ ap (λ x. x ∷ drop (suc k) places) (sym is)) s
+  opened =
+      subst (λ rest. Placing functions now rest places)
+      (drop-cons places k place h ∙ ap (λ x. x ∷ drop (suc k) places) (sym is)) s
 
   abbrev piece : Formed Code
   piece = place_code place (slice_get functions place) (length now.opened)
 
   pub none : piece.within ≡ false → (places_code functions places 0).within ≡ false
-  none large = sym opened.within ∙ and_left piece.within (places_code functions (drop (suc k) places) (length now.opened + length piece.form.opened)).within large
+  none large =
+      sym opened.within ∙ and_left piece.within
+      (places_code functions (drop (suc k) places)
+      (length now.opened + length piece.form.opened)).within large
 
-  pub next : (new : Code) → new ≡ append_code now piece.form → piece.within ≡ true → Placing functions new (drop (k + 1) places) places
+  pub next : (new : Code) → new ≡ append_code now piece.form → piece.within ≡ true →
+      Placing functions new (drop (k + 1) places) places
   next new is_new kept =
       let rest = drop (suc k) places in
-      let count : length (append_code now piece.form).opened ≡ length now.opened + length piece.form.opened = opened-append now piece.form in
-      let after : places_code functions rest (length (append_code now piece.form).opened) ≡ places_code functions rest (length now.opened + length piece.form.opened) = ap (places_code functions rest) count in
+      let count : length (append_code now piece.form).opened ≡ length now.opened +
+      length piece.form.opened = opened-append now piece.form in
+      let after : places_code functions rest (length (append_code now piece.form).opened) ≡
+      places_code functions rest (length now.opened + length piece.form.opened) =
+      ap (places_code functions rest) count in
       let made : Placing functions (append_code now piece.form) rest places =
       record {
         code = ap (λ (c : Formed Code). append_code (append_code now piece.form) c.form) after
-            ∙ append_code_assoc now piece.form (places_code functions rest (length now.opened + length piece.form.opened)).form ∙ opened.code;
+            ∙ append_code_assoc now piece.form
+            (places_code functions rest (length now.opened + length piece.form.opened)).form ∙
+            opened.code;
         within = ap (λ (c : Formed Code). c.within) after
-            ∙ sym (ap (λ b. b && (places_code functions rest (length now.opened + length piece.form.opened)).within) kept) ∙ opened.within;
+            ∙ sym (ap (λ b. b && (places_code functions rest
+            (length now.opened + length piece.form.opened)).within) kept) ∙ opened.within;
       }
       in
-      subst (λ j. Placing functions new (drop j places) places) (sym (add-one k)) (subst (λ (c : Code). Placing functions c rest places) (sym is_new) made)
+      subst (λ j. Placing functions new (drop j places) places) (sym (add-one k))
+      (subst (λ (c : Code). Placing functions c rest places) (sym is_new) made)
 
-pub finished : (functions : List Function) (now : Code) (places : List ℕ) (k : ℕ) → length places ≤ k → Placing functions now (drop k places) places
-    → (now ≡ (places_code functions places 0).form) × ((places_code functions places 0).within ≡ true)
+pub finished : (functions : List Function) (now : Code) (places : List ℕ) (k : ℕ) → length places ≤
+    k → Placing functions now (drop k places) places
+    → (now ≡ (places_code functions places 0).form) ×
+    ((places_code functions places 0).within ≡ true)
 finished functions now places k h s =
     let all = subst (λ rest. Placing functions now rest places) (drop_of_length-le places h) s in
     (sym (no_code_right now) ∙ all.code, sym all.within)
 
 -- a call that fails where a part of the whole is too large
-pub fails_forms : {A : Type 0} (r : Result A PolyEnd) (part : Bool) (whole : Formed A) → IsErrAnd r (λ e. e ≡ Large → part ≡ false) → (part ≡ false → whole.within ≡ false) → Forms Large r whole
+pub fails_forms : {A : Type 0} (r : Result A PolyEnd) (part : Bool) (whole : Formed A) →
+    IsErrAnd r (λ e. e ≡ Large → part ≡ false) → (part ≡ false → whole.within ≡ false) →
+    Forms Large r whole
 fails_forms (Ok x) part whole f beyond = absurd f
 fails_forms (Err e) part whole f beyond = λ large. beyond (f large)
 
-pub none_read : (functions : List Function) (now : Code) (places : List ℕ) (k : ℕ) → k < length places → Placing functions now (drop k places) places
-    → (place_code (get_or places k 0) (slice_get functions (get_or places k 0)) (length now.opened)).within ≡ false → (places_code functions places 0).within ≡ false
-none_read functions now places k h s large = none places k {place = get_or places k 0} h (get_or_default places k 0 (get_or places k 0) h) s large
+pub none_read : (functions : List Function) (now : Code) (places : List ℕ) (k : ℕ) → k <
+    length places → Placing functions now (drop k places) places
+    → (place_code (get_or places k 0) (slice_get functions (get_or places k 0))
+    (length now.opened)).within ≡ false → (places_code functions places 0).within ≡ false
+none_read functions now places k h s large =
+    none places k {place = get_or places k 0} h (get_or_default places k 0 (get_or places k 0) h) s
+    large

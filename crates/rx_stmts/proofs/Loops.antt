@@ -26,27 +26,38 @@ use Rattle.rx_stmts.specs.declared.places.Places.{Places}
 abbrev pub followed : Formed Code → Formed Code → Formed Code
 followed c d = record { form = append_code c.form d.form; within = c.within && d.within }
 
-pub then : (old one new : Code) (c d : Formed Code) (result : Result (Unit {0}) PolyEnd) → CompilesCode old one (Ok tt) c → CompilesCode one new result d
+pub then : (old one new : Code) (c d : Formed Code) (result : Result (Unit {0}) PolyEnd) →
+    CompilesCode old one (Ok tt) c → CompilesCode one new result d
     → CompilesCode old new result (followed c d)
-then old one new c d (Ok r) first second =
-    (second.0 ∙ ap (λ (x : Code). append_code x d.form) first.0 ∙ append_code_assoc old c.form d.form, both_true c.within d.within first.1 second.1)
-then old one new c d (Err e) first second = λ large. second_false c.within d.within first.1 (second large)
+then old one new c d (Ok r) first second = (
+  second.0 ∙ ap (λ (x : Code). append_code x d.form) first.0 ∙
+      append_code_assoc old c.form d.form,
+  both_true c.within d.within first.1 second.1,
+)
+then old one new c d (Err e) first second =
+    λ large. second_false c.within d.within first.1 (second large)
 
 -- the first of them fails
-pub failed : (old new : Code) (c d : Formed Code) (e : PolyEnd) → (e ≡ Large → c.within ≡ false) → CompilesCode old new (Err e) (followed c d)
+pub failed : (old new : Code) (c d : Formed Code) (e : PolyEnd) → (e ≡ Large → c.within ≡ false) →
+    CompilesCode old new (Err e) (followed c d)
 failed old new c d e f = λ large. and_left c.within d.within (f large)
 
 -- the call fails, and Large only where something is beyond the limits
 abbrev pub Fails : Result (Unit {0}) PolyEnd → Bool → Type 0
 Fails r within = IsErrAnd r (λ e. e ≡ Large → within ≡ false)
 
-pub fails_code : (old new : Code) (r : Result (Unit {0}) PolyEnd) (part : Bool) (whole : Formed Code) → Fails r part → (part ≡ false → whole.within ≡ false) → CompilesCode old new r whole
+pub fails_code : (old new : Code) (r : Result (Unit {0}) PolyEnd) (part : Bool)
+    (whole : Formed Code) → Fails r part → (part ≡ false → whole.within ≡ false) →
+    CompilesCode old new r whole
 fails_code old new (Ok x) part whole f beyond = absurd f
 fails_code old new (Err e) part whole f beyond = λ large. beyond (f large)
 
 -- how many symbols there are after a piece
-pub symbols_after : (old one : Code) (c : Formed Code) (next : ℕ) → CompilesCode old one (Ok tt) c → length old.opened ≡ next → length one.opened ≡ after next c.form
-symbols_after old one c next is count = ap (λ (x : Code). length x.opened) is.0 ∙ opened-append old c.form ∙ ap (λ k. k + length c.form.opened) count
+pub symbols_after : (old one : Code) (c : Formed Code) (next : ℕ) → CompilesCode old one (Ok tt) c →
+    length old.opened ≡ next → length one.opened ≡ after next c.form
+symbols_after old one c next is count =
+    ap (λ (x : Code). length x.opened) is.0 ∙ opened-append old c.form ∙
+    ap (λ k. k + length c.form.opened) count
 
 and_assoc : (x y z : Bool) → ((x && y) && z) ≡ (x && (y && z))
 and_assoc true y z = refl
@@ -63,8 +74,10 @@ add_none n = omega arith
 moved : (n m : ℕ) → (n + 1) + m ≡ n + suc m
 moved n m = omega arith
 
-for_is : (ss : List Compiled) (e : Asked) (u : Option Compiled) (t : Compiled) (at : table.Places) (next : ℕ)
-    → for_code ss e u t at next ≡ followed (headed (head_code ss at next)) (loop_code e u t (head_code ss at next).at at (after next (head_code ss at next).code))
+for_is : (ss : List Compiled) (e : Asked) (u : Option Compiled) (t : Compiled) (at : table.Places)
+    (next : ℕ)
+    → for_code ss e u t at next ≡ followed (headed (head_code ss at next))
+    (loop_code e u t (head_code ss at next).at at (after next (head_code ss at next).code))
 for_is [] e u t at next = ap (loop_code e u t at.at at) (sym (add_none next))
 for_is (s ∷ ss) e u t at next =
     let n = slots_after_all (s ∷ ss) at.at.width in
@@ -74,13 +87,21 @@ for_is (s ∷ ss) e u t at next =
     let d = loop_code e u t h at (after (next + 1) c.form) in
     let d0 = loop_code e u t h at (after next (append_code o c.form)) in
     let same : d ≡ d0 = ap (loop_code e u t h at) (moved next (length c.form.opened)) in
-    (λ i. record { form = sym (append_code_assoc o c.form d.form) i; within = sym (and_assoc (is_room next n) c.within d.within) i })
-    ∙ ap (followed (record { form = append_code o c.form; within = is_room next n && c.within })) same
+    (λ i. record {
+      form = sym (append_code_assoc o c.form d.form) i;
+      within =
+          sym (and_assoc (is_room next n) c.within d.within) i;
+    })
+    ∙ ap (followed (record { form = append_code o c.form; within = is_room next n && c.within }))
+    same
 
 -- the loop after the first part
-pub for_compiled : (s : Stmt) (first : List Stmt) (test : Option Expr) (change : Option Stmt) (inner : Stmt) (old one new : Code) (p : Places) (h : Point) (result : Result (Unit {0}) PolyEnd)
+pub for_compiled : (s : Stmt) (first : List Stmt) (test : Option Expr) (change : Option Stmt)
+    (inner : Stmt) (old one new : Code) (p : Places) (h : Point)
+    (result : Result (Unit {0}) PolyEnd)
     → s ≡ For first test change inner → CompilesHead old one (Ok h) (head_at first p old)
-    → CompilesCode one new result (loop_code (expr_code (test_or_one test)) (option_map stmt_code change) (stmt_code inner) h (as_places p) (length one.opened))
+    → CompilesCode one new result (loop_code (expr_code (test_or_one test))
+    (option_map stmt_code change) (stmt_code inner) h (as_places p) (length one.opened))
     → CompilesCode old new result (stmt_at s p old)
 for_compiled s first test change inner old one new p h result is begun compiled =
     let n = length old.opened in
@@ -89,13 +110,17 @@ for_compiled s first test change inner old one new p h result is begun compiled 
     let t = stmt_code inner in
     let x = head_at first p old in
     let rest = loop_code e u t x.at (as_places p) (after n x.code) in
-    let count : length one.opened ≡ after n x.code = ap (λ (c : Code). length c.opened) begun.0 ∙ opened-append old x.code in
-    let moves : loop_code e u t h (as_places p) (length one.opened) ≡ rest = λ i. loop_code e u t (begun.1 i) (as_places p) (count i) in
+    let count : length one.opened ≡ after n x.code = ap (λ (c : Code). length c.opened) begun.0 ∙
+    opened-append old x.code in
+    let moves : loop_code e u t h (as_places p) (length one.opened) ≡ rest = λ i.
+    loop_code e u t (begun.1 i) (as_places p) (count i) in
     let whole : stmt_at s p old ≡ followed (headed x) rest =
-    ap (λ (v : Stmt). stmt_at v p old) is ∙ ap (λ (c : Compiled). c.code (as_places p) n) (code-For first test change inner)
+    ap (λ (v : Stmt). stmt_at v p old) is ∙ ap (λ (c : Compiled). c.code (as_places p) n)
+    (code-For first test change inner)
     ∙ for_is (map stmt_code first) e u t (as_places p) n in
     subst (λ (c : Formed Code). CompilesCode old new result c) (sym whole)
-    (then old one new (headed x) rest result (begun.0, begun.2) (subst (λ (c : Formed Code). CompilesCode one new result c) moves compiled))
+    (then old one new (headed x) rest result (begun.0, begun.2)
+    (subst (λ (c : Formed Code). CompilesCode one new result c) moves compiled))
 
 -- ---- a turn with a change
 
@@ -108,25 +133,41 @@ module _ (e : Asked) (u t : Compiled) (h : Point) (at : table.Places) (next : �
   k = point (next + 1) h.width
 
   abbrev pub points : Formed Code
-  points = record { form = append_code (marks_head h.symbol) (opens (a_point h.width ∷ a_point h.width ∷ [])); within = is_room next h.width && is_room (next + 1) h.width }
+  points =
+      record {
+        form = append_code (marks_head h.symbol)
+            (opens (a_point h.width ∷ a_point h.width ∷ []));
+        within = is_room next h.width &&
+            is_room (next + 1) h.width;
+      }
 
   abbrev pub tests : Formed Code
   tests = e.condition h y at.to (next + 2)
 
   abbrev pub body : Formed Code
-  body = t.code (record { at = y; to = k; break_to = at.to; continue_to = k }) (after (next + 2) tests.form)
+  body =
+      t.code (record { at = y; to = k; break_to = at.to; continue_to = k })
+      (after (next + 2) tests.form)
 
   abbrev pub changes : Formed Code
   changes = u.code (record at { at = k; to = h }) (after (after (next + 2) tests.form) body.form)
 
-  pub turn_is : change_turn_code e u t h at next ≡ followed points (followed tests (followed body changes))
+  pub turn_is : change_turn_code e u t h at next ≡
+      followed points (followed tests (followed body changes))
   turn_is i = record {
-    form = sym (append_code_assoc (marks_head h.symbol) (opens (a_point h.width ∷ a_point h.width ∷ [])) (followed tests (followed body changes)).form) i;
-    within = sym (and_assoc (is_room next h.width) (is_room (next + 1) h.width) (followed tests (followed body changes)).within) i;
+    form =
+        sym (append_code_assoc (marks_head h.symbol)
+        (opens (a_point h.width ∷ a_point h.width ∷ []))
+        (followed tests (followed body changes)).form) i;
+    within =
+        sym (and_assoc (is_room next h.width) (is_room (next + 1) h.width)
+        (followed tests (followed body changes)).within) i;
   }
 
--- what is known after the points of a turn: the test, and after it the body, and after that the change are those of the turn
-module _ (test : Option Expr) (change inner : Stmt) (one two : Code) (p : Places) (h y1 k1 : Point) (marked : CompilesTurn one two (Ok (y1, k1)) h) where
+-- what is known after the points of a turn: the test, and after it the body, and after that the
+-- change are those of the turn
+module _ (test : Option Expr) (change inner : Stmt) (one two : Code) (p : Places) (h y1 k1 : Point)
+    (marked : CompilesTurn one two (Ok (y1, k1)) h) where
   abbrev e : Asked
   e = expr_code (test_or_one test)
 
@@ -158,18 +199,26 @@ module _ (test : Option Expr) (change inner : Stmt) (one two : Code) (p : Places
   tests_are i = e.condition h (marked.1 i) p.to (counted i)
 
   -- from there on
-  from_points : (new : Code) (result : Result (Unit {0}) PolyEnd) → CompilesCode two new result (followed the_tests (followed the_body the_changes))
-      → CompilesCode one new result (change_turn_code e (stmt_code change) (stmt_code inner) h (as_places p) n)
+  from_points : (new : Code) (result : Result (Unit {0}) PolyEnd) →
+      CompilesCode two new result (followed the_tests (followed the_body the_changes))
+      → CompilesCode one new result (change_turn_code e (stmt_code change) (stmt_code inner) h
+      (as_places p) n)
   from_points new result compiled =
-      subst (λ (c : Formed Code). CompilesCode one new result c) (sym (turn_is e (stmt_code change) (stmt_code inner) h (as_places p) n))
-      (then one two new the_points (followed the_tests (followed the_body the_changes)) result (marked.0, marked.3) compiled)
+      subst (λ (c : Formed Code). CompilesCode one new result c)
+      (sym (turn_is e (stmt_code change) (stmt_code inner) h (as_places p) n))
+      (then one two new the_points (followed the_tests (followed the_body the_changes)) result
+      (marked.0, marked.3) compiled)
 
-  pub test_fails : (new : Code) (r : PolyEnd) → CompilesCode two new (Err r) (condition_at (test_or_one test) h y1 p.to two)
-      → CompilesCode one new (Err r) (change_turn_code e (stmt_code change) (stmt_code inner) h (as_places p) n)
+  pub test_fails : (new : Code) (r : PolyEnd) →
+      CompilesCode two new (Err r) (condition_at (test_or_one test) h y1 p.to two)
+      → CompilesCode one new (Err r) (change_turn_code e (stmt_code change) (stmt_code inner) h
+      (as_places p) n)
   test_fails new r compiled =
-      from_points new (Err r) (failed two new the_tests (followed the_body the_changes) r (λ large. sym (ap (λ (c : Formed Code). c.within) tests_are) ∙ compiled large))
+      from_points new (Err r) (failed two new the_tests (followed the_body the_changes) r
+      (λ large. sym (ap (λ (c : Formed Code). c.within) tests_are) ∙ compiled large))
 
-  module _ (three : Code) (tested : CompilesCode two three (Ok tt) (condition_at (test_or_one test) h y1 p.to two)) where
+  module _ (three : Code) (tested : CompilesCode two three (Ok tt)
+      (condition_at (test_or_one test) h y1 p.to two)) where
     tested_so : CompilesCode two three (Ok tt) the_tests
     tested_so = subst (λ (c : Formed Code). CompilesCode two three (Ok tt) c) tests_are tested
 
@@ -180,75 +229,157 @@ module _ (test : Option Expr) (change inner : Stmt) (one two : Code) (p : Places
     counted_three = symbols_after two three the_tests (n + 2) tested_so counted
 
     body_is : stmt_at inner in_turn three ≡ the_body
-    body_is i = (stmt_code inner).code (record { at = marked.1 i; to = marked.2 i; break_to = p.to; continue_to = marked.2 i }) (counted_three i)
+    body_is i =
+        (stmt_code inner).code (record {
+          at = marked.1 i;
+          to = marked.2 i;
+          break_to = p.to;
+          continue_to = marked.2 i;
+        }) (counted_three i)
 
-    pub body_fails : (new : Code) (r : PolyEnd) → CompilesCode three new (Err r) (stmt_at inner in_turn three)
-        → CompilesCode one new (Err r) (change_turn_code e (stmt_code change) (stmt_code inner) h (as_places p) n)
+    pub body_fails : (new : Code) (r : PolyEnd) →
+        CompilesCode three new (Err r) (stmt_at inner in_turn three)
+        → CompilesCode one new (Err r) (change_turn_code e (stmt_code change) (stmt_code inner) h
+        (as_places p) n)
     body_fails new r compiled =
-        from_points new (Err r) (then two three new the_tests (followed the_body the_changes) (Err r) tested_so
-        (failed three new the_body the_changes r (λ large. sym (ap (λ (c : Formed Code). c.within) body_is) ∙ compiled large)))
+        from_points new (Err r) (then two three new the_tests (followed the_body the_changes)
+        (Err r) tested_so
+        (failed three new the_body the_changes r
+        (λ large. sym (ap (λ (c : Formed Code). c.within) body_is) ∙ compiled large)))
 
-    pub turned : (four new : Code) (result : Result (Unit {0}) PolyEnd) → CompilesCode three four (Ok tt) (stmt_at inner in_turn three)
-        → CompilesCode four new result (stmt_at change (record { at = k1; to = h; break_to = p.break_to; continue_to = p.continue_to }) four)
-        → CompilesCode one new result (change_turn_code e (stmt_code change) (stmt_code inner) h (as_places p) n)
+    pub turned : (four new : Code) (result : Result (Unit {0}) PolyEnd) →
+        CompilesCode three four (Ok tt) (stmt_at inner in_turn three)
+        → CompilesCode four new result (stmt_at change
+        (record { at = k1; to = h; break_to = p.break_to; continue_to = p.continue_to }) four)
+        → CompilesCode one new result (change_turn_code e (stmt_code change) (stmt_code inner) h
+        (as_places p) n)
     turned four new result bodied compiled =
-        let bodied_so : CompilesCode three four (Ok tt) the_body = subst (λ (c : Formed Code). CompilesCode three four (Ok tt) c) body_is bodied in
-        let count : length four.opened ≡ after (after (n + 2) the_tests.form) the_body.form = symbols_after three four the_body (after (n + 2) the_tests.form) bodied_so counted_three in
-        let changes_are : stmt_at change (record { at = k1; to = h; break_to = p.break_to; continue_to = p.continue_to }) four ≡ the_changes =
-        λ i. (stmt_code change).code (record { at = marked.2 i; to = h; break_to = p.break_to; continue_to = p.continue_to }) (count i) in
-        from_points new result (then two three new the_tests (followed the_body the_changes) result tested_so
-        (then three four new the_body the_changes result bodied_so (subst (λ (c : Formed Code). CompilesCode four new result c) changes_are compiled)))
+        let bodied_so : CompilesCode three four (Ok tt) the_body =
+        subst (λ (c : Formed Code). CompilesCode three four (Ok tt) c) body_is bodied in
+        let count : length four.opened ≡ after (after (n + 2) the_tests.form) the_body.form =
+        symbols_after three four the_body (after (n + 2) the_tests.form) bodied_so counted_three
+        in
+        let changes_are : stmt_at change (record
+        { at = k1; to = h; break_to = p.break_to; continue_to = p.continue_to }) four ≡
+        the_changes =
+        λ i. (stmt_code change).code (record {
+          at = marked.2 i;
+          to = h;
+          break_to = p.break_to;
+          continue_to = p.continue_to;
+        }) (count i) in
+        from_points new result (then two three new the_tests (followed the_body the_changes) result
+        tested_so
+        (then three four new the_body the_changes result bodied_so
+        (subst (λ (c : Formed Code). CompilesCode four new result c) changes_are compiled)))
 
 -- ---- `if` with `else`
 
 -- how many symbols there are after one more
-one_more : (old new : Code) (p : Point) (width : ℕ) → IsOpened old new p width → length new.opened ≡ length old.opened + 1
-one_more old new p width o = ap (λ (c : Code). length c.opened) o.code ∙ opened-append old (opens (a_point width ∷ []))
+one_more : (old new : Code) (p : Point) (width : ℕ) → IsOpened old new p width → length new.opened ≡
+    length old.opened + 1
+one_more old new p width o =
+    ap (λ (c : Code). length c.opened) o.code ∙ opened-append old (opens (a_point width ∷ []))
 
-pub if_else_compiled : (s : Stmt) (test : Expr) (inner other : Stmt) (old one two three four new : Code) (p : Places) (y1 w1 : Point) (result : Result (Unit {0}) PolyEnd)
-    → s ≡ If test inner (Some other) → IsOpened old one y1 p.at.width → IsOpened one two w1 p.at.width
+pub if_else_compiled : (s : Stmt) (test : Expr) (inner other : Stmt)
+    (old one two three four new : Code) (p : Places) (y1 w1 : Point)
+    (result : Result (Unit {0}) PolyEnd)
+    → s ≡ If test inner (Some other) → IsOpened old one y1 p.at.width →
+    IsOpened one two w1 p.at.width
     → CompilesCode two three (Ok tt) (condition_at test p.at y1 w1 two)
-    → CompilesCode three four (Ok tt) (stmt_at inner (record { at = y1; to = p.to; break_to = p.break_to; continue_to = p.continue_to }) three)
-    → CompilesCode four new result (stmt_at other (record { at = w1; to = p.to; break_to = p.break_to; continue_to = p.continue_to }) four)
+    → CompilesCode three four (Ok tt) (stmt_at inner
+    (record { at = y1; to = p.to; break_to = p.break_to; continue_to = p.continue_to }) three)
+    → CompilesCode four new result (stmt_at other
+    (record { at = w1; to = p.to; break_to = p.break_to; continue_to = p.continue_to }) four)
     → CompilesCode old new result (stmt_at s p old)
-if_else_compiled s test inner other old one two three four new p y1 w1 result is opened_y opened_w tested first second =
+if_else_compiled s test inner other old one two three four new p y1 w1 result is opened_y opened_w
+    tested first second =
     let n = length old.opened in
     let width = p.at.width in
     let o = opens (a_point width ∷ []) in
     let y0 = point n width in
     let w0 = point (n + 1) width in
-    let rooms : Formed Code = record { form = opens (a_point width ∷ a_point width ∷ []); within = is_room n width && is_room (n + 1) width } in
+    let rooms : Formed Code = record {
+      form = opens (a_point width ∷ a_point width ∷ []);
+      within =
+          is_room n width && is_room (n + 1) width;
+    } in
     let c = (expr_code test).condition p.at y0 w0 (n + 2) in
-    let d = (stmt_code inner).code (record { at = y0; to = p.to; break_to = p.break_to; continue_to = p.continue_to }) (after (n + 2) c.form) in
-    let f = (stmt_code other).code (record { at = w0; to = p.to; break_to = p.break_to; continue_to = p.continue_to }) (after (after (n + 2) c.form) d.form) in
+    let d = (stmt_code inner).code (record {
+      at = y0;
+      to = p.to;
+      break_to = p.break_to;
+      continue_to = p.continue_to;
+    }) (after (n + 2) c.form) in
+    let f = (stmt_code other).code (record {
+      at = w0;
+      to = p.to;
+      break_to = p.break_to;
+      continue_to = p.continue_to;
+    }) (after (after (n + 2) c.form) d.form) in
     let count_one = one_more old one y1 width opened_y in
-    let count_two : length two.opened ≡ n + 2 = let m = one_more one two w1 width opened_w in omega (arith, count_one, m) in
+    let count_two : length two.opened ≡ n + 2 = let m = one_more one two w1 width opened_w in
+    omega (arith, count_one, m) in
     let w_is : w1 ≡ w0 = opened_w.is ∙ ap (λ k. point k width) count_one in
     let rooms_made : CompilesCode old two (Ok tt) rooms = (
       opened_w.code ∙ ap (λ (x : Code). append_code x o) opened_y.code ∙ append_code_assoc old o o,
-      both_true (is_room n width) (is_room (n + 1) width) opened_y.room (sym (ap (λ k. is_room k width) count_one) ∙ opened_w.room),
+      both_true (is_room n width) (is_room (n + 1) width) opened_y.room
+          (sym (ap (λ k. is_room k width) count_one) ∙ opened_w.room),
     ) in
-    let c_same : condition_at test p.at y1 w1 two ≡ c = λ i. (expr_code test).condition p.at (opened_y.is i) (w_is i) (count_two i) in
-    let tested_so : CompilesCode two three (Ok tt) c = subst (λ (x : Formed Code). CompilesCode two three (Ok tt) x) c_same tested in
+    let c_same : condition_at test p.at y1 w1 two ≡ c = λ i.
+    (expr_code test).condition p.at (opened_y.is i) (w_is i) (count_two i) in
+    let tested_so : CompilesCode two three (Ok tt) c =
+    subst (λ (x : Formed Code). CompilesCode two three (Ok tt) x) c_same tested in
     let count_three = symbols_after two three c (n + 2) tested_so count_two in
-    let d_same : stmt_at inner (record { at = y1; to = p.to; break_to = p.break_to; continue_to = p.continue_to }) three ≡ d =
-    λ i. (stmt_code inner).code (record { at = opened_y.is i; to = p.to; break_to = p.break_to; continue_to = p.continue_to }) (count_three i) in
-    let first_so : CompilesCode three four (Ok tt) d = subst (λ (x : Formed Code). CompilesCode three four (Ok tt) x) d_same first in
+    let d_same : stmt_at inner (record {
+      at = y1;
+      to = p.to;
+      break_to = p.break_to;
+      continue_to =
+          p.continue_to;
+    }) three ≡ d =
+    λ i. (stmt_code inner).code (record {
+      at = opened_y.is i;
+      to = p.to;
+      break_to = p.break_to;
+      continue_to = p.continue_to;
+    }) (count_three i) in
+    let first_so : CompilesCode three four (Ok tt) d =
+    subst (λ (x : Formed Code). CompilesCode three four (Ok tt) x) d_same first in
     let count_four = symbols_after three four d (after (n + 2) c.form) first_so count_three in
-    let f_same : stmt_at other (record { at = w1; to = p.to; break_to = p.break_to; continue_to = p.continue_to }) four ≡ f =
-    λ i. (stmt_code other).code (record { at = w_is i; to = p.to; break_to = p.break_to; continue_to = p.continue_to }) (count_four i) in
+    let f_same : stmt_at other (record {
+      at = w1;
+      to = p.to;
+      break_to = p.break_to;
+      continue_to =
+          p.continue_to;
+    }) four ≡ f =
+    λ i. (stmt_code other).code (record {
+      at = w_is i;
+      to = p.to;
+      break_to = p.break_to;
+      continue_to = p.continue_to;
+    }) (count_four i) in
     let whole : stmt_at s p old ≡ followed rooms (followed c (followed d f)) =
-    ap (λ (v : Stmt). stmt_at v p old) is ∙ ap (λ (v : Compiled). v.code (as_places p) n) (code-If test inner (Some other))
-    ∙ (λ i. record { form = append_code rooms.form (append_code c.form (append_code d.form f.form)); within = sym (and_assoc (is_room n width) (is_room (n + 1) width) (c.within && (d.within && f.within))) i }) in
+    ap (λ (v : Stmt). stmt_at v p old) is ∙ ap (λ (v : Compiled). v.code (as_places p) n)
+    (code-If test inner (Some other))
+    ∙ (λ i. record {
+      form = append_code rooms.form (append_code c.form (append_code d.form f.form));
+      within = sym (and_assoc (is_room n width) (is_room (n + 1) width)
+          (c.within && (d.within && f.within))) i;
+    }) in
     subst (λ (x : Formed Code). CompilesCode old new result x) (sym whole)
     (then old two new rooms (followed c (followed d f)) result rooms_made
     (then two three new c (followed d f) result tested_so
-    (then three four new d f result first_so (subst (λ (x : Formed Code). CompilesCode four new result x) f_same second))))
+    (then three four new d f result first_so (subst
+    (λ (x : Formed Code). CompilesCode four new result x) f_same second))))
 
 -- an `if` and a `for` of equal parts
-pub same_if : (e : Expr) (s t u v : Stmt) (o : Option Stmt) → o ≡ Some u → s ≡ t → u ≡ v → If e s o ≡ If e t (Some v)
+pub same_if : (e : Expr) (s t u v : Stmt) (o : Option Stmt) → o ≡ Some u → s ≡ t → u ≡ v →
+    If e s o ≡ If e t (Some v)
 same_if e s t u v o is first second = ap (If e s) is ∙ (λ i. If e (first i) (Some (second i)))
 
-pub same_for : (first other : List Stmt) (test : Option Expr) (change more : Option Stmt) (inner next : Stmt) → first ≡ other → change ≡ more → inner ≡ next
+pub same_for : (first other : List Stmt) (test : Option Expr) (change more : Option Stmt)
+    (inner next : Stmt) → first ≡ other → change ≡ more → inner ≡ next
     → For first test change inner ≡ For other test more next
 same_for first other test change more inner next p q r i = For (p i) test (q i) (r i)

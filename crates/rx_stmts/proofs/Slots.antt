@@ -12,7 +12,8 @@ use Rattle.rx_code.specs.Statements.{Compiled, stmt_code, stmt_level}
 use Rattle.rx_stmts.specs.Statements.{slots_after, slots_after_list}
 
 -- a form of statement doesn't take slots away
-form_grows : (x : Stmt-F Stmt) (n : ℕ) → n ≤ (stmt_level (map-Stmt Stmt Compiled stmt_code x)).slots_after n
+form_grows : (x : Stmt-F Stmt) (n : ℕ) → n ≤ (stmt_level
+    (map-Stmt Stmt Compiled stmt_code x)).slots_after n
 form_grows Stmt-F.Empty n = omega arith
 form_grows (Stmt-F.Declare slot value) n = omega arith
 form_grows (Stmt-F.Assign slot value) n = omega arith
@@ -26,18 +27,23 @@ form_grows (Stmt-F.Return value) n = omega arith
 form_grows (Stmt-F.Block inner) n = omega arith
 
 grows : (t : Stmt) (n : ℕ) → n ≤ slots_after t n
-grows t n = subst (λ (c : Compiled). n ≤ c.slots_after n) (sym (fold_out-Stmt Compiled stmt_level t)) (form_grows (out-Stmt t) n)
+grows t n =
+    subst (λ (c : Compiled). n ≤ c.slots_after n) (sym (fold_out-Stmt Compiled stmt_level t))
+    (form_grows (out-Stmt t) n)
 
 list_grows : (ts : List Stmt) (n : ℕ) → n ≤ slots_after_list ts n
 list_grows [] n = omega arith
-list_grows (t ∷ ts) n = let first = grows t n in let rest = list_grows ts (slots_after t n) in omega (arith, first, rest)
+list_grows (t ∷ ts) n =
+    let first = grows t n in let rest = list_grows ts (slots_after t n) in
+    omega (arith, first, rest)
 
 -- more variables than a symbol may have leave no room
 not_few : (n : ℕ) → most_variables < n → nat_le n most_variables ≡ false
 not_few n above = lt-leb n most_variables above
 
 too_many : (count n : ℕ) → most_variables < n → is_room count n ≡ false
-too_many count n above = and_right (nat_lt count most_symbols) (nat_le n most_variables) (not_few n above)
+too_many count n above =
+    and_right (nat_lt count most_symbols) (nat_le n most_variables) (not_few n above)
 
 -- the slots so far, and the statements that are left
 pub record Counting (width slots : ℕ) (rest whole : List Stmt) : Type 0 where
@@ -46,21 +52,29 @@ pub record Counting (width slots : ℕ) (rest whole : List Stmt) : Type 0 where
 pub begin : (width : ℕ) (ts : List Stmt) → Counting width width (drop 0 ts) ts
 begin width ts = record { counted = refl }
 
-module _ {width slots : ℕ} (ts : List Stmt) (k : ℕ) {t : Stmt} (h : k < length ts) (is : t ≡ get_or ts k t) (s : Counting width slots (drop k ts) ts) where
+module _ {width slots : ℕ} (ts : List Stmt) (k : ℕ) {t : Stmt} (h : k < length ts)
+    (is : t ≡ get_or ts k t) (s : Counting width slots (drop k ts) ts) where
   opened : Counting width slots (t ∷ drop (suc k) ts) ts
-  opened = subst (λ rest. Counting width slots rest ts) (drop-cons ts k t h ∙ ap (λ x. x ∷ drop (suc k) ts) (sym is)) s
+  opened =
+      subst (λ rest. Counting width slots rest ts)
+      (drop-cons ts k t h ∙ ap (λ x. x ∷ drop (suc k) ts) (sym is)) s
 
   -- after the next one
   pub next : (n : ℕ) → slots_after t slots ≡ n → Counting width n (drop (k + 1) ts) ts
-  next n after = subst (λ j. Counting width n (drop j ts) ts) (sym (add-one k)) (record { counted = ap (slots_after_list (drop (suc k) ts)) (sym after) ∙ opened.counted })
+  next n after =
+      subst (λ j. Counting width n (drop j ts) ts) (sym (add-one k))
+      (record { counted = ap (slots_after_list (drop (suc k) ts)) (sym after) ∙ opened.counted })
 
   -- where one has too many, there is no room
-  pub no_room : (count : ℕ) → most_variables < slots_after t slots → is_room count (slots_after_list ts width) ≡ false
+  pub no_room : (count : ℕ) → most_variables < slots_after t slots →
+      is_room count (slots_after_list ts width) ≡ false
   no_room count many =
       let more = list_grows (drop (suc k) ts) (slots_after t slots) in
       let whole = opened.counted in
       too_many count (slots_after_list ts width) (omega (arith, more, whole, many))
 
 -- nothing is left
-pub finished : (width slots : ℕ) (ts : List Stmt) (k : ℕ) → length ts ≤ k → Counting width slots (drop k ts) ts → slots ≡ slots_after_list ts width
-finished width slots ts k h s = (subst (λ rest. Counting width slots rest ts) (drop_of_length-le ts h) s).counted
+pub finished : (width slots : ℕ) (ts : List Stmt) (k : ℕ) → length ts ≤ k →
+    Counting width slots (drop k ts) ts → slots ≡ slots_after_list ts width
+finished width slots ts k h s =
+    (subst (λ rest. Counting width slots rest ts) (drop_of_length-le ts h) s).counted

@@ -32,17 +32,21 @@ slots_after_list ts n = table.slots_after_all (map stmt_code ts) n
 
 -- a call opens exactly one point more, with so many variables
 abbrev pub CompilesPoint : Code → Code → Result Point PolyEnd → ℕ → Type 0
-CompilesPoint old new (Ok z) n = (new ≡ append_code old (opens (a_point n ∷ []))) × (z ≡ point (length old.opened) n) × (is_room (length old.opened) n ≡ true)
+CompilesPoint old new (Ok z) n =
+    (new ≡ append_code old (opens (a_point n ∷ []))) × (z ≡ point (length old.opened) n) ×
+    (is_room (length old.opened) n ≡ true)
 CompilesPoint old new (Err e) n = e ≡ Large → is_room (length old.opened) n ≡ false
 
 -- a call marks the head of a loop and opens the points of its body and of its change
 abbrev pub CompilesTurn : Code → Code → Result (Point × Point) PolyEnd → Point → Type 0
 CompilesTurn old new (Ok r) h =
-    (new ≡ append_code old (append_code (marks_head h.symbol) (opens (a_point h.width ∷ a_point h.width ∷ []))))
+    (new ≡ append_code old (append_code (marks_head h.symbol)
+    (opens (a_point h.width ∷ a_point h.width ∷ []))))
     × (r.0 ≡ point (length old.opened) h.width) × (r.1 ≡ point (length old.opened + 1) h.width)
     × ((is_room (length old.opened) h.width && is_room (length old.opened + 1) h.width) ≡ true)
 CompilesTurn old new (Err e) h =
-    e ≡ Large → (is_room (length old.opened) h.width && is_room (length old.opened + 1) h.width) ≡ false
+    e ≡ Large → (is_room (length old.opened) h.width && is_room (length old.opened + 1) h.width) ≡
+    false
 
 -- the first part of a `for`: its code, the head of the loop, and whether all keeps the limits
 pub record Headed : Type 0 where
@@ -56,7 +60,12 @@ head_code (s ∷ ss) at next =
     let n = table.slots_after_all (s ∷ ss) at.at.width in
     let h = point next n in
     let c = list_code (s ∷ ss) (record at { to = h }) (next + 1) in
-    record { code = append_code (opens (a_point n ∷ [])) c.form; at = h; within = is_room next n && c.within }
+    record {
+      code = append_code (opens (a_point n ∷ [])) c.form;
+      at = h;
+      within = is_room next n &&
+          c.within;
+    }
 
 abbrev pub head_at : List Stmt → Places → Code → Headed
 head_at ts p code = head_code (map stmt_code ts) (as_places p) (length code.opened)

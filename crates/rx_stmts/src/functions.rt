@@ -26,7 +26,8 @@ fn open_entry(code: &mut Code, parameters: usize) -> Result<Point, PolyEnd>
 /// other. A `break` or `continue` outside loops, which no well-formed function has, leads to the
 /// end.
 pub fn function(alloc: Global, code: &mut Code, place: u32, f: &Function) -> Result<(), PolyEnd>
-    ensures code { CompilesCode code.old code.new result (function_code place f.now (length code.old.opened)) }
+    ensures code { CompilesCode code.old code.new result
+        (function_code place f.now (length code.old.opened)) }
 {
     let entry = open_entry(code, f.params.len())?;
     let end = code.open(0, false)?;

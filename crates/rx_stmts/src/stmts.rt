@@ -34,7 +34,9 @@ fn declare(
     initial: &Option<Expr>,
     p: Places,
 ) -> Result<(), PolyEnd>
-    ensures code { CompilesCode code.old code.new result (with_value (value_or_zero initial.now) (λ v. Action.Set slot v p.to) p.at (length code.old.opened)) }
+    ensures code { CompilesCode code.old code.new result
+        (with_value (value_or_zero initial.now) (λ v. Action.Set slot v p.to) p.at
+        (length code.old.opened)) }
 {
     match initial {
         None => set_value(alloc, code, &Expr::Lit(0), p.at, slot, p.to),
@@ -44,7 +46,8 @@ fn declare(
 
 /// The value of an expression is returned.
 fn return_value(alloc: Global, code: &mut Code, e: &Expr, at: Point) -> Result<(), PolyEnd>
-    ensures code { CompilesCode code.old code.new result (with_value (expr_code e.now) Action.Return at (length code.old.opened)) }
+    ensures code { CompilesCode code.old code.new result
+        (with_value (expr_code e.now) Action.Return at (length code.old.opened)) }
 {
     let (at, returned) = value(alloc, code, e, at)?;
     code.act(at, Action::Return(returned))?;
@@ -60,7 +63,8 @@ fn for_test(
     y: Point,
     to: Point,
 ) -> Result<(), PolyEnd>
-    ensures code { CompilesCode code.old code.new result (condition_at (test_or_one test.now) h y to code.old) }
+    ensures code { CompilesCode code.old code.new result
+        (condition_at (test_or_one test.now) h y to code.old) }
 {
     match test {
         None => condition(alloc, code, &Expr::Lit(1), h, y, to),
@@ -68,7 +72,8 @@ fn for_test(
     }
 }
 
-/// The places of a loop's body: its end and a `continue` lead on in the loop, and a `break` out of it.
+/// The places of a loop's body: its end and a `continue` lead on in the loop, and a `break` out of
+/// it.
 fn inside_loop(at: Point, to: Point, out: Point) -> Places
     ensures { result ≡ (record { at = at; to = to; break_to = out; continue_to = to }) }
 {
@@ -181,7 +186,8 @@ fn if_alone(
     test: &Expr,
     p: Places,
 ) -> Result<(), PolyEnd>
-    ensures code { CompilesCode code.old code.new result (if_code (expr_code test.now) (stmt_code inner.now) (as_places p) (length code.old.opened)) }
+    ensures code { CompilesCode code.old code.new result
+        (if_code (expr_code test.now) (stmt_code inner.now) (as_places p) (length code.old.opened)) }
 {
     let y = code.open(p.at.width, false)?;
     condition(alloc, code, test, p.at, y, p.to)?;
@@ -197,7 +203,9 @@ fn while_loop(
     test: &Expr,
     p: Places,
 ) -> Result<(), PolyEnd>
-    ensures code { CompilesCode code.old code.new result (while_code (expr_code test.now) (stmt_code inner.now) (as_places p) (length code.old.opened)) }
+    ensures code { CompilesCode code.old code.new result
+        (while_code (expr_code test.now) (stmt_code inner.now) (as_places p)
+        (length code.old.opened)) }
 {
     code.mark_head(p.at.symbol)?;
     let y = code.open(p.at.width, false)?;
@@ -214,7 +222,8 @@ fn do_loop(
     test: &Expr,
     p: Places,
 ) -> Result<(), PolyEnd>
-    ensures code { CompilesCode code.old code.new result (do_code (stmt_code inner.now) (expr_code test.now) (as_places p) (length code.old.opened)) }
+    ensures code { CompilesCode code.old code.new result
+        (do_code (stmt_code inner.now) (expr_code test.now) (as_places p) (length code.old.opened)) }
 {
     code.mark_head(p.at.symbol)?;
     let k = code.open(p.at.width, false)?;
@@ -232,7 +241,9 @@ fn turn(
     h: Point,
     to: Point,
 ) -> Result<(), PolyEnd>
-    ensures code { CompilesCode code.old code.new result (turn_code (expr_code (test_or_one test.now)) (stmt_code inner.now) h to (length code.old.opened)) }
+    ensures code { CompilesCode code.old code.new result
+        (turn_code (expr_code (test_or_one test.now)) (stmt_code inner.now) h to
+        (length code.old.opened)) }
 {
     code.mark_head(h.symbol)?;
     let y = code.open(h.width, false)?;

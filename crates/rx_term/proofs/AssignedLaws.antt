@@ -12,7 +12,8 @@ use Rattle.rx_term.specs.Meaning.{values}
 use Rattle.rx_term.specs.WellMade.{variables_from}
 
 -- the first variables have the integers of the list as their values
-values_from : (a : ℕ → ℤ) (k : ℕ) (xs : List ℤ) → ((i : ℕ) → a (k + i) ≡ assigned xs i) → values a (variables_from k (length xs)) ≡ xs
+values_from : (a : ℕ → ℤ) (k : ℕ) (xs : List ℤ) → ((i : ℕ) → a (k + i) ≡ assigned xs i) →
+    values a (variables_from k (length xs)) ≡ xs
 values_from a k [] is = refl
 values_from a k (x ∷ xs) is =
     let here : value a (variable k) ≡ x = value-variable a k ∙ ap a (omega arith) ∙ is 0 in
@@ -23,16 +24,20 @@ pub values-assigned : (xs : List ℤ) → values (assigned xs) (variables_from 0
 values-assigned xs = values_from (assigned xs) 0 xs (λ i. ap (assigned xs) (omega arith))
 
 -- a variable that is replaced by an argument has that argument's value
-worth_from : (a : ℕ → ℤ) (k : ℕ) (ps : List Body) (i : ℕ) → i < length ps → worth a (enumerate_from k ps) (k + i) ≡ assigned (values a ps) i
+worth_from : (a : ℕ → ℤ) (k : ℕ) (ps : List Body) (i : ℕ) → i < length ps →
+    worth a (enumerate_from k ps) (k + i) ≡ assigned (values a ps) i
 worth_from a k [] i h = absurd (omega (arith, h))
 worth_from a k (p ∷ ps) zero h =
     let same : k ≡ k + 0 = omega arith in
-    ap (λ (t : Bool). value a (cond t p (replaced (enumerate_from (k + 1) ps) (k + 0)))) (eq-eqb k (k + 0) same)
+    ap (λ (t : Bool). value a (cond t p (replaced (enumerate_from (k + 1) ps) (k + 0))))
+    (eq-eqb k (k + 0) same)
 worth_from a k (p ∷ ps) (suc i) h =
     let other : (k ≡ k + suc i) → ⊥ = λ e. omega (arith, e) in
-    ap (λ (t : Bool). value a (cond t p (replaced (enumerate_from (k + 1) ps) (k + suc i)))) (ne_eqb k (k + suc i) other)
+    ap (λ (t : Bool). value a (cond t p (replaced (enumerate_from (k + 1) ps) (k + suc i))))
+    (ne_eqb k (k + suc i) other)
     ∙ ap (λ v. worth a (enumerate_from (k + 1) ps) v) (omega arith)
     ∙ worth_from a (k + 1) ps i (omega (arith, h))
 
-pub worth-arguments : (a : ℕ → ℤ) (ps : List Body) (v : ℕ) → v < length ps → worth a (enumerate_from 0 ps) v ≡ assigned (values a ps) v
+pub worth-arguments : (a : ℕ → ℤ) (ps : List Body) (v : ℕ) → v < length ps →
+    worth a (enumerate_from 0 ps) v ≡ assigned (values a ps) v
 worth-arguments a ps v h = ap (worth a (enumerate_from 0 ps)) (omega arith) ∙ worth_from a 0 ps v h

@@ -1,4 +1,5 @@
--- Polynomials that are being changed one by one: those that stand, and what those that are left still decide.
+-- Polynomials that are being changed one by one: those that stand, and what those that are left
+-- still decide.
 use Rattle.std.proofs.Common.{◌≡◌, ◌∙◌, ap, subst, true, false, ◌&&◌, refl, sym, ℕ, suc, ◌+◌, ◌<◌, ◌≤◌, List, [], ◌∷◌, ◌++◌, length, drop, get_or, drop_of_length-le, append_assoc, add-one}
 use Rattle.std.proofs.Math.Seq.{drop-cons}
 use Rattle.std.proofs.lemmas.Bool.{and_left}
@@ -15,24 +16,33 @@ pub record Changing (ws : List (ℕ × Body)) (done rest whole : List Body) : Ty
 pub begin : (ws : List (ℕ × Body)) (ps : List Body) → Changing ws [] (drop 0 ps) ps
 begin ws ps = record { made = refl; limits = refl }
 
-module _ {ws : List (ℕ × Body)} {done : List Body} (ps : List Body) (i : ℕ) {p : Body} (h : i < length ps) (is : p ≡ get_or ps i p) (s : Changing ws done (drop i ps) ps) where
+module _ {ws : List (ℕ × Body)} {done : List Body} (ps : List Body) (i : ℕ) {p : Body}
+    (h : i < length ps) (is : p ≡ get_or ps i p) (s : Changing ws done (drop i ps) ps) where
   opened : Changing ws done (p ∷ drop (suc i) ps) ps
-  opened = subst (λ rest. Changing ws done rest ps) (drop-cons ps i p h ∙ ap (λ r. r ∷ drop (suc i) ps) (sym is)) s
+  opened =
+      subst (λ rest. Changing ws done rest ps)
+      (drop-cons ps i p h ∙ ap (λ r. r ∷ drop (suc i) ps) (sym is)) s
 
   -- one beyond the limits is one of all
   pub no_poly : (in_body ws p).within ≡ false → polys_within ws ps ≡ false
-  no_poly f = sym opened.limits ∙ and_left (in_body ws p).within (polys_within ws (drop (suc i) ps)) f
+  no_poly f =
+      sym opened.limits ∙ and_left (in_body ws p).within (polys_within ws (drop (suc i) ps)) f
 
   -- one within them leaves it to the rest
-  pub after_poly : {next : List Body} → next ≡ done ++ (in_body ws p).form ∷ [] → (in_body ws p).within ≡ true → Changing ws next (drop (i + 1) ps) ps
+  pub after_poly : {next : List Body} → next ≡ done ++ (in_body ws p).form ∷ [] →
+      (in_body ws p).within ≡ true → Changing ws next (drop (i + 1) ps) ps
   after_poly {next} e f =
-      subst (λ n. Changing ws next (drop n ps) ps) (sym (add-one i)) (subst (λ qs. Changing ws qs (drop (suc i) ps) ps) (sym e) (record {
-        made = append_assoc done ((in_body ws p).form ∷ []) (in_polys ws (drop (suc i) ps)) ∙ opened.made;
+      subst (λ n. Changing ws next (drop n ps) ps) (sym (add-one i))
+      (subst (λ qs. Changing ws qs (drop (suc i) ps) ps) (sym e) (record {
+        made =
+            append_assoc done ((in_body ws p).form ∷ []) (in_polys ws (drop (suc i) ps)) ∙
+            opened.made;
         limits = ap (λ b. b && polys_within ws (drop (suc i) ps)) (sym f) ∙ opened.limits;
       }))
 
 -- nothing is left
-pub finished : (ws : List (ℕ × Body)) (done ps : List Body) (i : ℕ) → length ps ≤ i → Changing ws done (drop i ps) ps → (done ≡ in_polys ws ps) × (polys_within ws ps ≡ true)
+pub finished : (ws : List (ℕ × Body)) (done ps : List Body) (i : ℕ) → length ps ≤ i →
+    Changing ws done (drop i ps) ps → (done ≡ in_polys ws ps) × (polys_within ws ps ≡ true)
 finished ws done ps i h s =
     let all = subst (λ rest. Changing ws done rest ps) (drop_of_length-le ps h) s in
     (sym (append-nil done) ∙ all.made, sym all.limits)

@@ -1,4 +1,5 @@
--- Covered sets: each redex inside has a rule that steps it, so each inside term that is no result has a step.
+-- Covered sets: each redex inside has a rule that steps it, so each inside term that is no result
+-- has a step.
 use Rattle.std.proofs.Common.{◌≡◌, sym, subst, true, ℕ, List, map, ℤ, pos}
 use Rattle.std.proofs.lemmas.List.Elements.{All-contains, filter_passes}
 use Rattle.rx_poly.specs.Constants.{number}
@@ -24,10 +25,12 @@ use Rattle.rx_term.proofs.RuleLaws.{redex_shape, rule_steps, told_shape}
 use Rattle.rx_term.proofs.Written.{symbol, written, ground-written, written_fits, written_over_result}
 
 -- a rule of the redex's shape that holds at the redex's arguments is one that steps it
-pub rule_for : (rules : List Rule) (t : Term) (a : ℕ → ℤ) → HasRule rules (shape_of t) (worth a (matched t)) → CanStep rules t a
+pub rule_for : (rules : List Rule) (t : Term) (a : ℕ → ℤ) →
+    HasRule rules (shape_of t) (worth a (matched t)) → CanStep rules t a
 rule_for rules t a has =
     let test = λ (r : Rule). same_shape (shape_of r.left) (shape_of t) in
-    let passes = All-contains (λ (x : Rule). test x ≡ true) (rules_of_shape (shape_of t) rules) has.rule (filter_passes test rules) has.among in record {
+    let passes = All-contains (λ (x : Rule). test x ≡ true) (rules_of_shape (shape_of t) rules)
+    has.rule (filter_passes test rules) has.among in record {
       rule = has.rule;
       among = was_there test rules has.rule has.among;
       shape = told_shape (shape_of has.rule.left) (shape_of t) passes;
@@ -36,10 +39,15 @@ rule_for rules t a has =
 
 module _ (parts : RuleParts) (domains : Domains) (covered : IsCoveredOver domains parts) where
   -- a fitting redex whose arguments are of its domain has one
-  pub can_step : (t : Term) (a : ℕ → ℤ) → IsRedex t → term_fits parts t ≡ true → domains (shape_of t) (worth a (matched t)) → CanStep parts.rules t a
-  can_step t a is fits domain = rule_for parts.rules t a (covered (shape_of t) (redex_shape parts t is fits) (worth a (matched t)) domain)
+  pub can_step : (t : Term) (a : ℕ → ℤ) → IsRedex t → term_fits parts t ≡ true →
+      domains (shape_of t) (worth a (matched t)) → CanStep parts.rules t a
+  can_step t a is fits domain =
+      rule_for parts.rules t a (covered (shape_of t) (redex_shape parts t is fits)
+      (worth a (matched t)) domain)
 
-  module _ (made : IsWellMade parts) (inside : TermSet) (fitting : (s : Ground) → inside s → Fits (signature parts) s) (keeps : KeepsDomains inside domains) where
+  module _ (made : IsWellMade parts) (inside : TermSet)
+      (fitting : (s : Ground) → inside s → Fits (signature parts) s)
+      (keeps : KeepsDomains inside domains) where
     abbrev Goes : Ground → Type 0
     Goes s = (u : Ground) × Step (Instance parts.rules) s u
 
@@ -50,17 +58,25 @@ module _ (parts : RuleParts) (domains : Domains) (covered : IsCoveredOver domain
     written_goes s in_s is =
         let fits = written_fits parts s (fitting s in_s) in
         let means = ground-written at_zero s in
-        let one = can_step (written s) at_zero is fits (keeps (written s) is at_zero (subst inside (sym means) in_s)) in
-        let step = rule_steps parts made at_zero one.rule (written s) one.among fits one.shape one.holds in
-        (ground_at at_zero (in_term (matched (written s)) one.rule.right), Here (subst (λ x. Instance parts.rules x (ground_at at_zero (in_term (matched (written s)) one.rule.right))) means step))
+        let one = can_step (written s) at_zero is fits
+        (keeps (written s) is at_zero (subst inside (sym means) in_s)) in
+        let step = rule_steps parts made at_zero one.rule (written s) one.among fits one.shape
+        one.holds in (
+          ground_at at_zero (in_term (matched (written s)) one.rule.right),
+          Here (subst (λ x. Instance parts.rules x
+              (ground_at at_zero (in_term (matched (written s)) one.rule.right))) means step),
+        )
 
     -- each inside term that is no result has a step
     pub covered_moves : KeepsInner inside → Moves inside (Instance parts.rules)
     covered_moves inner = moves_under_frames inside (Instance parts.rules) inner
         (λ f xs in_s. written_goes (stack.Call f xs) in_s (CallRedex (symbol f) (map number xs)))
-        (λ f xs s in_s result. written_goes (stack.Frame f xs s) in_s (written_over_result f xs s result))
+        (λ f xs s in_s result. written_goes (stack.Frame f xs s) in_s
+        (written_over_result f xs s result))
 
 -- where all arguments are allowed, each fitting term that is no result has a step
-pub covered_moves_everywhere : (parts : RuleParts) → IsWellMade parts → IsCovered parts → Moves (Fits (signature parts)) (Instance parts.rules)
+pub covered_moves_everywhere : (parts : RuleParts) → IsWellMade parts → IsCovered parts →
+    Moves (Fits (signature parts)) (Instance parts.rules)
 covered_moves_everywhere parts made covered =
-    covered_moves parts everywhere covered made (Fits (signature parts)) (λ s fits. fits) (λ t is a fits. tt) (Fits-inner (signature parts))
+    covered_moves parts everywhere covered made (Fits (signature parts)) (λ s fits. fits)
+    (λ t is a fits. tt) (Fits-inner (signature parts))

@@ -20,7 +20,8 @@ use Rattle.rx_term.specs.Variables.{arguments_level, arguments_of, polys_use_bel
 use Rattle.rx_term.specs.declared.rule_set.RuleParts.{RuleParts}
 use Rattle.rx_term.specs.Substitution.{in_polys, polys_within, in_term, in_term_level, term_within, term_within_level}
 
--- what holds of each result and call, and of a frame where it holds of the part under it, holds of each term
+-- what holds of each result and call, and of a frame where it holds of the part under it, holds of
+-- each term
 module _ (P : Term → Type 0)
     (at_return : (p : Body) → P (Return p))
     (at_fail : (c : ℕ) → P (Fail c))
@@ -53,36 +54,50 @@ depth-Frame f ps t = fold_out-Term ℕ depth_level (Frame f ps t) ∙ rw (outs-F
 
 -- one stack over another
 pub onto-Return : (p : Body) (inner : Term) → onto (Return p) inner ≡ inner
-onto-Return p inner = ap (λ (g : Term → Term). g inner) (fold_out-Term (Term → Term) onto_level (Return p)) ∙ rw (outs-Return p) refl
+onto-Return p inner =
+    ap (λ (g : Term → Term). g inner) (fold_out-Term (Term → Term) onto_level (Return p)) ∙
+    rw (outs-Return p) refl
 
-pub onto-Frame : (f : Sym) (ps : List Body) (t inner : Term) → onto (Frame f ps t) inner ≡ onto t (Frame f ps inner)
-onto-Frame f ps t inner = ap (λ (g : Term → Term). g inner) (fold_out-Term (Term → Term) onto_level (Frame f ps t)) ∙ rw (outs-Frame f ps t) refl
+pub onto-Frame : (f : Sym) (ps : List Body) (t inner : Term) → onto (Frame f ps t) inner ≡
+    onto t (Frame f ps inner)
+onto-Frame f ps t inner =
+    ap (λ (g : Term → Term). g inner) (fold_out-Term (Term → Term) onto_level (Frame f ps t)) ∙
+    rw (outs-Frame f ps t) refl
 
 -- polynomials in place of variables
-pub in_term-Return : (ws : List (ℕ × Body)) (p : Body) → in_term ws (Return p) ≡ Return (in_body ws p).form
+pub in_term-Return : (ws : List (ℕ × Body)) (p : Body) → in_term ws (Return p) ≡
+    Return (in_body ws p).form
 in_term-Return ws p = fold_out-Term Term (in_term_level ws) (Return p) ∙ rw (outs-Return p) refl
 
 pub in_term-Fail : (ws : List (ℕ × Body)) (c : ℕ) → in_term ws (Fail c) ≡ Fail c
 in_term-Fail ws c = fold_out-Term Term (in_term_level ws) (Fail c) ∙ rw (outs-Fail c) refl
 
-pub in_term-Call : (ws : List (ℕ × Body)) (f : Sym) (ps : List Body) → in_term ws (Call f ps) ≡ Call f (in_polys ws ps)
+pub in_term-Call : (ws : List (ℕ × Body)) (f : Sym) (ps : List Body) → in_term ws (Call f ps) ≡
+    Call f (in_polys ws ps)
 in_term-Call ws f ps = fold_out-Term Term (in_term_level ws) (Call f ps) ∙ rw (outs-Call f ps) refl
 
-pub in_term-Frame : (ws : List (ℕ × Body)) (f : Sym) (ps : List Body) (t : Term) → in_term ws (Frame f ps t) ≡ Frame f (in_polys ws ps) (in_term ws t)
-in_term-Frame ws f ps t = fold_out-Term Term (in_term_level ws) (Frame f ps t) ∙ rw (outs-Frame f ps t) refl
+pub in_term-Frame : (ws : List (ℕ × Body)) (f : Sym) (ps : List Body) (t : Term) →
+    in_term ws (Frame f ps t) ≡ Frame f (in_polys ws ps) (in_term ws t)
+in_term-Frame ws f ps t =
+    fold_out-Term Term (in_term_level ws) (Frame f ps t) ∙ rw (outs-Frame f ps t) refl
 
 -- whether they keep the limits
-pub within-Return : (ws : List (ℕ × Body)) (p : Body) → term_within ws (Return p) ≡ (in_body ws p).within
+pub within-Return : (ws : List (ℕ × Body)) (p : Body) → term_within ws (Return p) ≡
+    (in_body ws p).within
 within-Return ws p = fold_out-Term Bool (term_within_level ws) (Return p) ∙ rw (outs-Return p) refl
 
 pub within-Fail : (ws : List (ℕ × Body)) (c : ℕ) → term_within ws (Fail c) ≡ true
 within-Fail ws c = fold_out-Term Bool (term_within_level ws) (Fail c) ∙ rw (outs-Fail c) refl
 
-pub within-Call : (ws : List (ℕ × Body)) (f : Sym) (ps : List Body) → term_within ws (Call f ps) ≡ polys_within ws ps
-within-Call ws f ps = fold_out-Term Bool (term_within_level ws) (Call f ps) ∙ rw (outs-Call f ps) refl
+pub within-Call : (ws : List (ℕ × Body)) (f : Sym) (ps : List Body) → term_within ws (Call f ps) ≡
+    polys_within ws ps
+within-Call ws f ps =
+    fold_out-Term Bool (term_within_level ws) (Call f ps) ∙ rw (outs-Call f ps) refl
 
-pub within-Frame : (ws : List (ℕ × Body)) (f : Sym) (ps : List Body) (t : Term) → term_within ws (Frame f ps t) ≡ polys_within ws ps && term_within ws t
-within-Frame ws f ps t = fold_out-Term Bool (term_within_level ws) (Frame f ps t) ∙ rw (outs-Frame f ps t) refl
+pub within-Frame : (ws : List (ℕ × Body)) (f : Sym) (ps : List Body) (t : Term) →
+    term_within ws (Frame f ps t) ≡ polys_within ws ps && term_within ws t
+within-Frame ws f ps t =
+    fold_out-Term Bool (term_within_level ws) (Frame f ps t) ∙ rw (outs-Frame f ps t) refl
 
 -- the ground term
 pub ground-Return : (a : ℕ → ℤ) (p : Body) → ground_at a (Return p) ≡ stack.Ret (value a p)
@@ -91,11 +106,14 @@ ground-Return a p = fold_out-Term Ground (ground_level a) (Return p) ∙ rw (out
 pub ground-Fail : (a : ℕ → ℤ) (c : ℕ) → ground_at a (Fail c) ≡ stack.Fail c
 ground-Fail a c = fold_out-Term Ground (ground_level a) (Fail c) ∙ rw (outs-Fail c) refl
 
-pub ground-Call : (a : ℕ → ℤ) (f : Sym) (ps : List Body) → ground_at a (Call f ps) ≡ stack.Call f.0 (values a ps)
+pub ground-Call : (a : ℕ → ℤ) (f : Sym) (ps : List Body) → ground_at a (Call f ps) ≡
+    stack.Call f.0 (values a ps)
 ground-Call a f ps = fold_out-Term Ground (ground_level a) (Call f ps) ∙ rw (outs-Call f ps) refl
 
-pub ground-Frame : (a : ℕ → ℤ) (f : Sym) (ps : List Body) (t : Term) → ground_at a (Frame f ps t) ≡ stack.Frame f.0 (values a ps) (ground_at a t)
-ground-Frame a f ps t = fold_out-Term Ground (ground_level a) (Frame f ps t) ∙ rw (outs-Frame f ps t) refl
+pub ground-Frame : (a : ℕ → ℤ) (f : Sym) (ps : List Body) (t : Term) → ground_at a (Frame f ps t) ≡
+    stack.Frame f.0 (values a ps) (ground_at a t)
+ground-Frame a f ps t =
+    fold_out-Term Ground (ground_level a) (Frame f ps t) ∙ rw (outs-Frame f ps t) refl
 
 -- how many frames stand over the redex
 pub redex-Return : (p : Body) → redex_place (Return p) ≡ None
@@ -107,17 +125,23 @@ redex-Fail c = fold_out-Term (Option ℕ) redex_place_level (Fail c) ∙ rw (out
 pub redex-Call : (f : Sym) (ps : List Body) → redex_place (Call f ps) ≡ Some 0
 redex-Call f ps = fold_out-Term (Option ℕ) redex_place_level (Call f ps) ∙ rw (outs-Call f ps) refl
 
-pub redex-Frame : (f : Sym) (ps : List Body) (t : Term) → redex_place (Frame f ps t) ≡ Some (option_map_or (λ n. 1 + n) (redex_place t) 0)
-redex-Frame f ps t = fold_out-Term (Option ℕ) redex_place_level (Frame f ps t) ∙ rw (outs-Frame f ps t) refl
+pub redex-Frame : (f : Sym) (ps : List Body) (t : Term) → redex_place (Frame f ps t) ≡
+    Some (option_map_or (λ n. 1 + n) (redex_place t) 0)
+redex-Frame f ps t =
+    fold_out-Term (Option ℕ) redex_place_level (Frame f ps t) ∙ rw (outs-Frame f ps t) refl
 
 -- one step of the walks by number
-pub behind-Frame : (n : ℕ) (f : Sym) (ps : List Body) (t : Term) → behind (suc n) (Frame f ps t) ≡ behind n t
+pub behind-Frame : (n : ℕ) (f : Sym) (ps : List Body) (t : Term) → behind (suc n) (Frame f ps t) ≡
+    behind n t
 behind-Frame n f ps t = ap (λ (x : Term-F Term). under_frame x (behind n)) (outs-Frame f ps t)
 
-pub replaced-Frame : (n : ℕ) (f : Sym) (ps : List Body) (t inner : Term) → replaced (suc n) (Frame f ps t) inner ≡ Frame f ps (replaced n t inner)
-replaced-Frame n f ps t inner = ap (λ (x : Term-F Term). over_frame x inner (λ rest. replaced n rest inner)) (outs-Frame f ps t)
+pub replaced-Frame : (n : ℕ) (f : Sym) (ps : List Body) (t inner : Term) →
+    replaced (suc n) (Frame f ps t) inner ≡ Frame f ps (replaced n t inner)
+replaced-Frame n f ps t inner =
+    ap (λ (x : Term-F Term). over_frame x inner (λ rest. replaced n rest inner)) (outs-Frame f ps t)
 
-pub turned-Frame : (f : Sym) (ps : List Body) (t upper : Term) → turned (Frame f ps t) upper ≡ (Frame f ps upper, Some t)
+pub turned-Frame : (f : Sym) (ps : List Body) (t upper : Term) → turned (Frame f ps t) upper ≡
+    (Frame f ps upper, Some t)
 turned-Frame f ps t upper = ap (λ (x : Term-F Term). turned_level x upper) (outs-Frame f ps t)
 
 -- the polynomials
@@ -128,10 +152,13 @@ pub arguments-Fail : (c : ℕ) → arguments_of (Fail c) ≡ []
 arguments-Fail c = fold_out-Term (List Body) arguments_level (Fail c) ∙ rw (outs-Fail c) refl
 
 pub arguments-Call : (f : Sym) (ps : List Body) → arguments_of (Call f ps) ≡ ps
-arguments-Call f ps = fold_out-Term (List Body) arguments_level (Call f ps) ∙ rw (outs-Call f ps) refl
+arguments-Call f ps =
+    fold_out-Term (List Body) arguments_level (Call f ps) ∙ rw (outs-Call f ps) refl
 
-pub arguments-Frame : (f : Sym) (ps : List Body) (t : Term) → arguments_of (Frame f ps t) ≡ ps ++ arguments_of t
-arguments-Frame f ps t = fold_out-Term (List Body) arguments_level (Frame f ps t) ∙ rw (outs-Frame f ps t) refl
+pub arguments-Frame : (f : Sym) (ps : List Body) (t : Term) → arguments_of (Frame f ps t) ≡ ps ++
+    arguments_of t
+arguments-Frame f ps t =
+    fold_out-Term (List Body) arguments_level (Frame f ps t) ∙ rw (outs-Frame f ps t) refl
 
 -- whether only the first variables stand in it
 pub below-Return : (n : ℕ) (p : Body) → term_uses_below n (Return p) ≡ uses_below n p
@@ -140,11 +167,14 @@ below-Return n p = fold_out-Term Bool (term_below_level n) (Return p) ∙ rw (ou
 pub below-Fail : (n : ℕ) (c : ℕ) → term_uses_below n (Fail c) ≡ true
 below-Fail n c = fold_out-Term Bool (term_below_level n) (Fail c) ∙ rw (outs-Fail c) refl
 
-pub below-Call : (n : ℕ) (f : Sym) (ps : List Body) → term_uses_below n (Call f ps) ≡ polys_use_below n ps
+pub below-Call : (n : ℕ) (f : Sym) (ps : List Body) → term_uses_below n (Call f ps) ≡
+    polys_use_below n ps
 below-Call n f ps = fold_out-Term Bool (term_below_level n) (Call f ps) ∙ rw (outs-Call f ps) refl
 
-pub below-Frame : (n : ℕ) (f : Sym) (ps : List Body) (t : Term) → term_uses_below n (Frame f ps t) ≡ polys_use_below n ps && term_uses_below n t
-below-Frame n f ps t = fold_out-Term Bool (term_below_level n) (Frame f ps t) ∙ rw (outs-Frame f ps t) refl
+pub below-Frame : (n : ℕ) (f : Sym) (ps : List Body) (t : Term) → term_uses_below n (Frame f ps t) ≡
+    polys_use_below n ps && term_uses_below n t
+below-Frame n f ps t =
+    fold_out-Term Bool (term_below_level n) (Frame f ps t) ∙ rw (outs-Frame f ps t) refl
 
 -- whether it fits
 pub fits-Return : (parts : RuleParts) (p : Body) → term_fits parts (Return p) ≡ true
@@ -153,11 +183,15 @@ fits-Return parts p = fold_out-Term Bool (fits_level parts) (Return p) ∙ rw (o
 pub fits-Fail : (parts : RuleParts) (c : ℕ) → term_fits parts (Fail c) ≡ code_fits parts.fails c
 fits-Fail parts c = fold_out-Term Bool (fits_level parts) (Fail c) ∙ rw (outs-Fail c) refl
 
-pub fits-Call : (parts : RuleParts) (f : Sym) (ps : List Body) → term_fits parts (Call f ps) ≡ is_declared parts.symbols f false (length ps)
+pub fits-Call : (parts : RuleParts) (f : Sym) (ps : List Body) → term_fits parts (Call f ps) ≡
+    is_declared parts.symbols f false (length ps)
 fits-Call parts f ps = fold_out-Term Bool (fits_level parts) (Call f ps) ∙ rw (outs-Call f ps) refl
 
-pub fits-Frame : (parts : RuleParts) (f : Sym) (ps : List Body) (t : Term) → term_fits parts (Frame f ps t) ≡ is_declared parts.symbols f true (length ps) && term_fits parts t
-fits-Frame parts f ps t = fold_out-Term Bool (fits_level parts) (Frame f ps t) ∙ rw (outs-Frame f ps t) refl
+pub fits-Frame : (parts : RuleParts) (f : Sym) (ps : List Body) (t : Term) →
+    term_fits parts (Frame f ps t) ≡ is_declared parts.symbols f true (length ps) &&
+    term_fits parts t
+fits-Frame parts f ps t =
+    fold_out-Term Bool (fits_level parts) (Frame f ps t) ∙ rw (outs-Frame f ps t) refl
 
 -- the shape
 pub shape-Return : (p : Body) → shape_of (Return p) ≡ Value
@@ -169,12 +203,16 @@ shape-Fail c = fold_out-Term Shape shape_level (Fail c) ∙ rw (outs-Fail c) ref
 pub shape-Call : (f : Sym) (ps : List Body) → shape_of (Call f ps) ≡ Called f
 shape-Call f ps = fold_out-Term Shape shape_level (Call f ps) ∙ rw (outs-Call f ps) refl
 
-pub shape-Frame : (f : Sym) (ps : List Body) (t : Term) → shape_of (Frame f ps t) ≡ Framed f (shape_of t)
+pub shape-Frame : (f : Sym) (ps : List Body) (t : Term) → shape_of (Frame f ps t) ≡
+    Framed f (shape_of t)
 shape-Frame f ps t = fold_out-Term Shape shape_level (Frame f ps t) ∙ rw (outs-Frame f ps t) refl
 
 -- the outer frames
-pub outer-Frame : (a : ℕ → ℤ) (n : ℕ) (f : Sym) (ps : List Body) (t : Term) → outer_frames a (suc n) (Frame f ps t) ≡ record { symbol = f.0; arguments = values a ps } ∷ outer_frames a n t
-outer-Frame a n f ps t = ap (λ (x : Term-F Term). outer_level a x (outer_frames a n)) (outs-Frame f ps t)
+pub outer-Frame : (a : ℕ → ℤ) (n : ℕ) (f : Sym) (ps : List Body) (t : Term) →
+    outer_frames a (suc n) (Frame f ps t) ≡ record { symbol = f.0; arguments = values a ps } ∷
+    outer_frames a n t
+outer-Frame a n f ps t =
+    ap (λ (x : Term-F Term). outer_level a x (outer_frames a n)) (outs-Frame f ps t)
 
 -- the four forms of a term
 pub data Form : Term → Type 0 where

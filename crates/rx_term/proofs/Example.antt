@@ -41,10 +41,14 @@ point_width : width (Call f x0) ≡ 1
 point_width = ap length (arguments-Call f x0)
 
 value_width : width (Frame g x0 (Return (variable 1))) ≡ 2
-value_width = ap length (arguments-Frame g x0 (Return (variable 1))) ∙ ap (λ qs. length (variable 0 ∷ qs)) (arguments-Return (variable 1))
+value_width =
+    ap length (arguments-Frame g x0 (Return (variable 1))) ∙
+    ap (λ qs. length (variable 0 ∷ qs)) (arguments-Return (variable 1))
 
 failure_width : width (Frame g x0 (Fail 1)) ≡ 1
-failure_width = ap length (arguments-Frame g x0 (Fail 1)) ∙ ap (λ qs. length (variable 0 ∷ qs)) (arguments-Fail 1)
+failure_width =
+    ap length (arguments-Frame g x0 (Fail 1)) ∙
+    ap (λ qs. length (variable 0 ∷ qs)) (arguments-Fail 1)
 
 -- a variable below the number is one of those that may be used
 below-variable : (n v : ℕ) → nat_lt v n ≡ true → uses_below n (variable v) ≡ true
@@ -59,20 +63,26 @@ ends_made = record {
   few = omega (arith, point_width);
   left_fits = fits-Call example f x0;
   right_fits = fits-Return example (number (pos 0));
-  right_variables = below-Return (width ends.left) (number (pos 0)) ∙ passes-number (λ w. nat_lt w (width ends.left)) (pos 0);
+  right_variables =
+      below-Return (width ends.left) (number (pos 0)) ∙
+      passes-number (λ w. nat_lt w (width ends.left)) (pos 0);
   row_variables = ap (λ n. rows_use_below n ends.rows) point_width ∙ below-x0 1 refl;
 }
 
 goes_on_fits : term_fits example goes_on.right ≡ true
-goes_on_fits = fits-Frame example g x0 (Call f (number (pos 0) ∷ [])) ∙ fits-Call example f (number (pos 0) ∷ [])
+goes_on_fits =
+    fits-Frame example g x0 (Call f (number (pos 0) ∷ [])) ∙
+    fits-Call example f (number (pos 0) ∷ [])
 
 below-zero : (n : ℕ) → polys_use_below n (number (pos 0) ∷ []) ≡ true
-below-zero n = and_from (uses_below n (number (pos 0))) true (passes-number (λ w. nat_lt w n) (pos 0)) refl
+below-zero n =
+    and_from (uses_below n (number (pos 0))) true (passes-number (λ w. nat_lt w n) (pos 0)) refl
 
 goes_on_below : (n : ℕ) → nat_lt 0 n ≡ true → term_uses_below n goes_on.right ≡ true
 goes_on_below n h =
     below-Frame n g x0 (Call f (number (pos 0) ∷ []))
-    ∙ and_from (polys_use_below n x0) (term_uses_below n (Call f (number (pos 0) ∷ []))) (below-x0 n h)
+    ∙ and_from (polys_use_below n x0) (term_uses_below n (Call f (number (pos 0) ∷ [])))
+    (below-x0 n h)
     (below-Call n f (number (pos 0) ∷ []) ∙ below-zero n)
 
 goes_on_made : IsMade example goes_on
@@ -92,8 +102,10 @@ adds_made = record {
   left_fits = fits-Frame example g x0 (Return (variable 1)) ∙ fits-Return example (variable 1);
   right_fits = fits-Return example (added (variable 0) (variable 1));
   right_variables =
-      ap (λ n. term_uses_below n adds.right) value_width ∙ below-Return 2 (added (variable 0) (variable 1))
-      ∙ passes-added (λ w. nat_lt w 2) (variable 0) (variable 1) (below-variable 2 0 refl) (below-variable 2 1 refl);
+      ap (λ n. term_uses_below n adds.right) value_width ∙
+      below-Return 2 (added (variable 0) (variable 1))
+      ∙ passes-added (λ w. nat_lt w 2) (variable 0) (variable 1) (below-variable 2 0 refl)
+      (below-variable 2 1 refl);
   row_variables = refl;
 }
 
@@ -142,9 +154,11 @@ abbrev Picked : Bool → Bool → Bool → Bool → Type 0
 Picked a b c d = IsPair (kept_if a ends (kept_if b goes_on (kept_if c adds (kept_if d fails []))))
 
 -- the rules of a shape by the four tests
-picked : {a b c d : Bool} (a' b' c' d' : Bool) → a ≡ a' → b ≡ b' → c ≡ c' → d ≡ d' → Picked a' b' c' d' → Picked a b c d
+picked : {a b c d : Bool} (a' b' c' d' : Bool) → a ≡ a' → b ≡ b' → c ≡ c' → d ≡ d' →
+    Picked a' b' c' d' → Picked a b c d
 picked {a} {b} {c} {d} a' b' c' d' ea eb ec ed pair =
-    subst (λ x. Picked x b c d) (sym ea) (subst (λ x. Picked a' x c d) (sym eb) (subst (λ x. Picked a' b' x d) (sym ec) (subst (Picked a' b' c') (sym ed) pair)))
+    subst (λ x. Picked x b c d) (sym ea) (subst (λ x. Picked a' x c d) (sym eb)
+    (subst (λ x. Picked a' b' x d) (sym ec) (subst (Picked a' b' c') (sym ed) pair)))
 
 shape-value : shape_of adds.left ≡ Framed g Value
 shape-value = shape-Frame g x0 (Return (variable 1)) ∙ ap (Framed g) (shape-Return (variable 1))
@@ -154,10 +168,12 @@ shape-failure = shape-Frame g x0 (Fail 1) ∙ ap (Framed g) (shape-Fail 1)
 
 pub example_paired : IsPaired example
 example_paired _ (PointShape s n h) =
-    let point : same_shape (shape_of (Call f x0)) (Called s) ≡ true = ap (λ z. same_shape z (Called s)) (shape-Call f x0) ∙ eq-eqb 0 s.0 (one_point s.0 n h) in
+    let point : same_shape (shape_of (Call f x0)) (Called s) ≡ true =
+    ap (λ z. same_shape z (Called s)) (shape-Call f x0) ∙ eq-eqb 0 s.0 (one_point s.0 n h) in
     let value = ap (λ z. same_shape z (Called s)) shape-value in
     let failure = ap (λ z. same_shape z (Called s)) shape-failure in
-    picked true true false false point point value failure (Two ends goes_on (Eq (variable 0)) refl refl refl)
+    picked true true false false point point value failure
+    (Two ends goes_on (Eq (variable 0)) refl refl refl)
 example_paired _ (ReturnShape s n h) =
     let shape = Framed s Value in
     let point = ap (λ z. same_shape z shape) (shape-Call f x0) in
@@ -201,16 +217,22 @@ no_argument zero fits = let wrong : 1 ≡ 0 = ap arity_of fits in omega (arith, 
 no_argument (suc zero) fits = true≢false (ap stands_as_frame fits)
 no_argument (suc (suc k)) fits = true≢false (sym (ap is_there fits))
 
-call_counts : (a : ℕ → ℤ) (s : Sym) (ps : List Body) → IsInside (stack.Call s.0 (values a ps)) → AtLeastZero (worth a (enumerate_from 0 ps) 0)
+call_counts : (a : ℕ → ℤ) (s : Sym) (ps : List Body) → IsInside (stack.Call s.0 (values a ps)) →
+    AtLeastZero (worth a (enumerate_from 0 ps) 0)
 call_counts a s [] in_s = absurd (no_argument s.0 in_s.0)
 call_counts a s (p ∷ ps) in_s = All-head AtLeastZero (value a p) (values a ps) in_s.1
 
 pub inside_domains : KeepsDomains IsInside counting
 inside_domains _ (CallRedex s ps) a in_s =
     subst (λ z. counting z (worth a (matched (Call s ps)))) (sym (shape-Call s ps))
-    (subst (λ qs. AtLeastZero (worth a (enumerate_from 0 qs) 0)) (sym (arguments-Call s ps)) (call_counts a s ps (subst IsInside (ground-Call a s ps) in_s)))
-inside_domains _ (ReturnRedex s ps p) a in_s = subst (λ z. counting z (worth a (matched (Frame s ps (Return p))))) (sym (shape-Frame s ps (Return p))) tt
-inside_domains _ (FailRedex s ps c) a in_s = subst (λ z. counting z (worth a (matched (Frame s ps (Fail c))))) (sym (shape-Frame s ps (Fail c))) tt
+    (subst (λ qs. AtLeastZero (worth a (enumerate_from 0 qs) 0)) (sym (arguments-Call s ps))
+    (call_counts a s ps (subst IsInside (ground-Call a s ps) in_s)))
+inside_domains _ (ReturnRedex s ps p) a in_s =
+    subst (λ z. counting z (worth a (matched (Frame s ps (Return p)))))
+    (sym (shape-Frame s ps (Return p))) tt
+inside_domains _ (FailRedex s ps c) a in_s =
+    subst (λ z. counting z (worth a (matched (Frame s ps (Fail c)))))
+    (sym (shape-Frame s ps (Fail c))) tt
 
 -- ---- what the laws then say
 
@@ -221,4 +243,6 @@ pub negative_outside : Fits (signature example) negative_call × (IsInside negat
 negative_outside = (refl, λ in_s. All-head AtLeastZero (negsuc 0) [] in_s.1)
 
 pub inside_moves : Moves IsInside (Instance example.rules)
-inside_moves = covered_moves example counting example_covered example_made IsInside inside_fits inside_domains inside_inner
+inside_moves =
+    covered_moves example counting example_covered example_made IsInside inside_fits inside_domains
+    inside_inner

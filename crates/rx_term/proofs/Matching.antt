@@ -1,4 +1,5 @@
--- A rule's left side, where its variables are worth the polynomials of a term of its shape, means what the term does.
+-- A rule's left side, where its variables are worth the polynomials of a term of its shape, means
+-- what the term does.
 use Rattle.std.proofs.Common.{◌≡◌, ◌∙◌, ap, sym, refl, Bool, true, ℕ, zero, suc, ◌+◌, ◌≤◌, if◌then◌else◌, List, [], ◌∷◌, ◌++◌, length, ℤ, arith}
 use Rattle.std.specs.List.{enumerate_from}
 use Rattle.std.proofs.lemmas.Bool.{eq-eqb, ne_eqb}
@@ -21,7 +22,8 @@ use Rattle.rx_term.proofs.ShapeLaws.{aligned, same_count, same_ground}
 use Rattle.rx_term.proofs.VariableTests.{length-variables_from}
 
 -- one variable more at the end
-pub variables-last : (k n : ℕ) → variables_from k n ++ variable (k + n) ∷ [] ≡ variables_from k (n + 1)
+pub variables-last : (k n : ℕ) → variables_from k n ++ variable (k + n) ∷ [] ≡
+    variables_from k (n + 1)
 variables-last k zero = let q : k + 0 ≡ k = omega arith in ap (λ (m : ℕ). variable m ∷ []) q
 variables-last k (suc n) =
     let q : k + suc n ≡ (k + 1) + n = omega arith in
@@ -36,26 +38,36 @@ left_arguments _ (OfPoint f n) =
     first ∙ ap (variables_from 0) (sym (ap length first ∙ length-variables_from 0 n))
 left_arguments _ (OverReturn f n) =
     let q : 0 + n ≡ n = omega arith in
-    let first = arguments-Frame f (variables_from 0 n) (Return (variable n)) ∙ ap (λ qs. variables_from 0 n ++ qs) (arguments-Return (variable n))
+    let first = arguments-Frame f (variables_from 0 n) (Return (variable n)) ∙
+    ap (λ qs. variables_from 0 n ++ qs) (arguments-Return (variable n))
     ∙ ap (λ (m : ℕ). variables_from 0 n ++ variable m ∷ []) (sym q) ∙ variables-last 0 n in
     first ∙ ap (variables_from 0) (sym (ap length first ∙ length-variables_from 0 (n + 1)))
 left_arguments _ (OverFail f n c) =
-    let first = arguments-Frame f (variables_from 0 n) (Fail c) ∙ ap (λ qs. variables_from 0 n ++ qs) (arguments-Fail c) ∙ append-nil (variables_from 0 n) in
+    let first = arguments-Frame f (variables_from 0 n) (Fail c) ∙
+    ap (λ qs. variables_from 0 n ++ qs) (arguments-Fail c) ∙ append-nil (variables_from 0 n) in
     first ∙ ap (variables_from 0) (sym (ap length first ∙ length-variables_from 0 n))
 
 -- the variables from a number on have the values of the polynomials that are listed for them
-pub listed_values : (a b : ℕ → ℤ) (k : ℕ) (ps : List Body) → ((v : ℕ) → k ≤ v → b v ≡ worth a (enumerate_from k ps) v) → values b (variables_from k (length ps)) ≡ values a ps
+pub listed_values : (a b : ℕ → ℤ) (k : ℕ) (ps : List Body) →
+    ((v : ℕ) → k ≤ v → b v ≡ worth a (enumerate_from k ps) v) →
+    values b (variables_from k (length ps)) ≡ values a ps
 listed_values a b k [] is = refl
 listed_values a b k (p ∷ ps) is =
     let here : value b (variable k) ≡ value a p =
-    value-variable b k ∙ is k (omega arith) ∙ ap (λ (t : Bool). value a (if t then p else replaced (enumerate_from (k + 1) ps) k)) (eq-eqb k k refl) in
+    value-variable b k ∙ is k (omega arith) ∙
+    ap (λ (t : Bool). value a (if t then p else replaced (enumerate_from (k + 1) ps) k))
+    (eq-eqb k k refl) in
     let further : (v : ℕ) → k + 1 ≤ v → b v ≡ worth a (enumerate_from (k + 1) ps) v =
-    λ v h. is v (omega arith) ∙ ap (λ (t : Bool). value a (if t then p else replaced (enumerate_from (k + 1) ps) v)) (ne_eqb k v (λ e. omega (arith, e))) in
+    λ v h. is v (omega arith) ∙ ap (λ (t : Bool).
+    value a (if t then p else replaced (enumerate_from (k + 1) ps) v))
+    (ne_eqb k v (λ e. omega (arith, e))) in
     let rest = listed_values a b (k + 1) ps further in
     (λ i. here i ∷ rest i)
 
 -- a rule's left side of the shape of a term, both fitting, at what the term's polynomials are worth
-pub left_matches : (parts : RuleParts) (a : ℕ → ℤ) (left t : Term) → IsLeft left → term_fits parts left ≡ true → term_fits parts t ≡ true → shape_of left ≡ shape_of t → ground_at (worth a (matched t)) left ≡ ground_at a t
+pub left_matches : (parts : RuleParts) (a : ℕ → ℤ) (left t : Term) → IsLeft left →
+    term_fits parts left ≡ true → term_fits parts t ≡ true → shape_of left ≡ shape_of t →
+    ground_at (worth a (matched t)) left ≡ ground_at a t
 left_matches parts a left t form fits also shape =
     let same = aligned parts left t fits also shape in
     let b = worth a (matched t) in

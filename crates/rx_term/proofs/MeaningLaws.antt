@@ -14,22 +14,30 @@ use Rattle.rx_term.specs.Substitution.{in_polys, in_term}
 use Rattle.rx_term.proofs.Equations.{induct, ground-Return, ground-Fail, ground-Call, ground-Frame, in_term-Return, in_term-Fail, in_term-Call, in_term-Frame}
 
 -- substitution and assignment commute: in a list of polynomials
-pub values-in_polys : (a : ℕ → ℤ) (ws : List (ℕ × Body)) (ps : List Body) → values a (in_polys ws ps) ≡ values (worth a ws) ps
+pub values-in_polys : (a : ℕ → ℤ) (ws : List (ℕ × Body)) (ps : List Body) →
+    values a (in_polys ws ps) ≡ values (worth a ws) ps
 values-in_polys a ws [] = refl
-values-in_polys a ws (p ∷ ps) = ap (λ z. z ∷ values a (in_polys ws ps)) (value-in_body a ws p) ∙ ap (λ zs. value (worth a ws) p ∷ zs) (values-in_polys a ws ps)
+values-in_polys a ws (p ∷ ps) =
+    ap (λ z. z ∷ values a (in_polys ws ps)) (value-in_body a ws p) ∙
+    ap (λ zs. value (worth a ws) p ∷ zs) (values-in_polys a ws ps)
 
 module _ (a : ℕ → ℤ) (ws : List (ℕ × Body)) where
   abbrev Commutes : Term → Type 0
   Commutes t = ground_at a (in_term ws t) ≡ ground_at (worth a ws) t
 
   at_return : (p : Body) → Commutes (Return p)
-  at_return p = ap (ground_at a) (in_term-Return ws p) ∙ ground-Return a (in_body ws p).form ∙ ap stack.Ret (value-in_body a ws p) ∙ sym (ground-Return (worth a ws) p)
+  at_return p =
+      ap (ground_at a) (in_term-Return ws p) ∙ ground-Return a (in_body ws p).form ∙
+      ap stack.Ret (value-in_body a ws p) ∙ sym (ground-Return (worth a ws) p)
 
   at_fail : (c : ℕ) → Commutes (Fail c)
-  at_fail c = ap (ground_at a) (in_term-Fail ws c) ∙ ground-Fail a c ∙ sym (ground-Fail (worth a ws) c)
+  at_fail c =
+      ap (ground_at a) (in_term-Fail ws c) ∙ ground-Fail a c ∙ sym (ground-Fail (worth a ws) c)
 
   at_call : (f : Sym) (ps : List Body) → Commutes (Call f ps)
-  at_call f ps = ap (ground_at a) (in_term-Call ws f ps) ∙ ground-Call a f (in_polys ws ps) ∙ ap (stack.Call f.0) (values-in_polys a ws ps) ∙ sym (ground-Call (worth a ws) f ps)
+  at_call f ps =
+      ap (ground_at a) (in_term-Call ws f ps) ∙ ground-Call a f (in_polys ws ps) ∙
+      ap (stack.Call f.0) (values-in_polys a ws ps) ∙ sym (ground-Call (worth a ws) f ps)
 
   at_frame : (f : Sym) (ps : List Body) (t : Term) → Commutes t → Commutes (Frame f ps t)
   at_frame f ps t inner =

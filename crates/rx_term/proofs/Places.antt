@@ -9,13 +9,15 @@ at_place [] i x there = absurd (none-some x there)
 at_place (y ∷ ys) zero x there = subst (Contains (y ∷ ys)) (same_Some y x there) (first_one y ys)
 at_place (y ∷ ys) (suc i) x there = other_one y ys x (at_place ys i x there)
 
-from_place_suc : {A : Type 0} (xs : List A) (i : ℕ) (x : A) → slice_get xs i ≡ Some x → drop i xs ≡ x ∷ drop (suc i) xs
+from_place_suc : {A : Type 0} (xs : List A) (i : ℕ) (x : A) → slice_get xs i ≡ Some x → drop i xs ≡
+    x ∷ drop (suc i) xs
 from_place_suc [] i x there = absurd (none-some x there)
 from_place_suc (y ∷ ys) zero x there = ap (λ z. z ∷ ys) (same_Some y x there)
 from_place_suc (y ∷ ys) (suc i) x there = from_place_suc ys i x there
 
 -- from its place on, the list begins with it
-pub from_place : {A : Type 0} (xs : List A) (i : ℕ) (x : A) → slice_get xs i ≡ Some x → drop i xs ≡ x ∷ drop (i + 1) xs
+pub from_place : {A : Type 0} (xs : List A) (i : ℕ) (x : A) → slice_get xs i ≡ Some x → drop i xs ≡
+    x ∷ drop (i + 1) xs
 from_place xs i x there =
     let next : suc i ≡ i + 1 = omega arith in
     from_place_suc xs i x there ∙ ap (λ k. x ∷ drop k xs) next
@@ -34,5 +36,6 @@ from_end (y ∷ ys) zero none = absurd (none-some y (sym none))
 from_end (y ∷ ys) (suc i) none = let h = from_end ys i none in omega (arith, h)
 
 -- what is read at a place of the list is the element there
-pub at_some : {A : Type 0} (xs : List A) (i : ℕ) (x d : A) → i < length xs → x ≡ get_or xs i d → slice_get xs i ≡ Some x
+pub at_some : {A : Type 0} (xs : List A) (i : ℕ) (x d : A) → i < length xs → x ≡ get_or xs i d →
+    slice_get xs i ≡ Some x
 at_some xs i x d there is = slice_get-get_or xs i d there ∙ ap Some (sym is)

@@ -16,25 +16,34 @@ use Rattle.rx_term.proofs.Equations.{induct, Form, AReturn, AFail, ACall, AFrame
 
 module _ (a : ℕ → ℤ) (n : ℕ) (inner : Term) where
   abbrev Stands : Term → Type 0
-  Stands u = ground_at a (replaced (suc n) u inner) ≡ under (outer_frames a (suc n) u) (ground_at a inner)
+  Stands u =
+      ground_at a (replaced (suc n) u inner) ≡ under (outer_frames a (suc n) u) (ground_at a inner)
 
-  stands : ((u : Term) → ground_at a (replaced n u inner) ≡ under (outer_frames a n u) (ground_at a inner)) → (t : Term) → Form t → Stands t
+  stands : ((u : Term) → ground_at a (replaced n u inner) ≡
+      under (outer_frames a n u) (ground_at a inner)) → (t : Term) → Form t → Stands t
   stands further _ (AReturn p) =
-      ap (λ (x : Term-F Term). ground_at a (over_frame x inner (λ rest. replaced n rest inner))) (outs-Return p)
-      ∙ sym (ap (λ (x : Term-F Term). under (outer_level a x (outer_frames a n)) (ground_at a inner)) (outs-Return p))
+      ap (λ (x : Term-F Term). ground_at a (over_frame x inner (λ rest. replaced n rest inner)))
+      (outs-Return p)
+      ∙ sym (ap (λ (x : Term-F Term). under (outer_level a x (outer_frames a n))
+      (ground_at a inner)) (outs-Return p))
   stands further _ (AFail c) =
-      ap (λ (x : Term-F Term). ground_at a (over_frame x inner (λ rest. replaced n rest inner))) (outs-Fail c)
-      ∙ sym (ap (λ (x : Term-F Term). under (outer_level a x (outer_frames a n)) (ground_at a inner)) (outs-Fail c))
+      ap (λ (x : Term-F Term). ground_at a (over_frame x inner (λ rest. replaced n rest inner)))
+      (outs-Fail c)
+      ∙ sym (ap (λ (x : Term-F Term). under (outer_level a x (outer_frames a n))
+      (ground_at a inner)) (outs-Fail c))
   stands further _ (ACall f ps) =
-      ap (λ (x : Term-F Term). ground_at a (over_frame x inner (λ rest. replaced n rest inner))) (outs-Call f ps)
-      ∙ sym (ap (λ (x : Term-F Term). under (outer_level a x (outer_frames a n)) (ground_at a inner)) (outs-Call f ps))
+      ap (λ (x : Term-F Term). ground_at a (over_frame x inner (λ rest. replaced n rest inner)))
+      (outs-Call f ps)
+      ∙ sym (ap (λ (x : Term-F Term). under (outer_level a x (outer_frames a n))
+      (ground_at a inner)) (outs-Call f ps))
   stands further _ (AFrame f ps u) =
       ap (ground_at a) (replaced-Frame n f ps u inner) ∙ ground-Frame a f ps (replaced n u inner)
       ∙ ap (stack.Frame f.0 (values a ps)) (further u)
       ∙ sym (ap (λ fs. under fs (ground_at a inner)) (outer-Frame a n f ps u))
 
 -- what replaces the part behind outer frames stands under the same frames
-pub ground_replaced : (a : ℕ → ℤ) (n : ℕ) (t inner : Term) → ground_at a (replaced n t inner) ≡ under (outer_frames a n t) (ground_at a inner)
+pub ground_replaced : (a : ℕ → ℤ) (n : ℕ) (t inner : Term) → ground_at a (replaced n t inner) ≡
+    under (outer_frames a n t) (ground_at a inner)
 ground_replaced a zero t inner = refl
 ground_replaced a (suc n) t inner = stands a n inner (λ u. ground_replaced a n u inner) t (form t)
 
@@ -42,16 +51,26 @@ no_part : (s : Term) → ◌≡◌ {A = Option Term} None (Some s) → ⊥
 no_part s e = cc
 
 module _ (a : ℕ → ℤ) (n : ℕ) (s : Term) where
-  stands_behind : ((u : Term) → behind n u ≡ Some s → ground_at a u ≡ under (outer_frames a n u) (ground_at a s)) → (t : Term) → Form t → behind (suc n) t ≡ Some s → ground_at a t ≡ under (outer_frames a (suc n) t) (ground_at a s)
-  stands_behind further _ (AReturn p) h = absurd (no_part s (sym (ap (λ (x : Term-F Term). under_frame x (behind n)) (outs-Return p)) ∙ h))
-  stands_behind further _ (AFail c) h = absurd (no_part s (sym (ap (λ (x : Term-F Term). under_frame x (behind n)) (outs-Fail c)) ∙ h))
-  stands_behind further _ (ACall f ps) h = absurd (no_part s (sym (ap (λ (x : Term-F Term). under_frame x (behind n)) (outs-Call f ps)) ∙ h))
+  stands_behind : ((u : Term) → behind n u ≡ Some s → ground_at a u ≡
+      under (outer_frames a n u) (ground_at a s)) → (t : Term) → Form t → behind (suc n) t ≡
+      Some s → ground_at a t ≡ under (outer_frames a (suc n) t) (ground_at a s)
+  stands_behind further _ (AReturn p) h =
+      absurd (no_part s (sym (ap (λ (x : Term-F Term). under_frame x (behind n)) (outs-Return p)) ∙
+      h))
+  stands_behind further _ (AFail c) h =
+      absurd (no_part s (sym (ap (λ (x : Term-F Term). under_frame x (behind n)) (outs-Fail c)) ∙
+      h))
+  stands_behind further _ (ACall f ps) h =
+      absurd (no_part s (sym (ap (λ (x : Term-F Term). under_frame x (behind n)) (outs-Call f ps)) ∙
+      h))
   stands_behind further _ (AFrame f ps u) h =
-      ground-Frame a f ps u ∙ ap (stack.Frame f.0 (values a ps)) (further u (sym (behind-Frame n f ps u) ∙ h))
+      ground-Frame a f ps u ∙ ap (stack.Frame f.0 (values a ps))
+      (further u (sym (behind-Frame n f ps u) ∙ h))
       ∙ sym (ap (λ fs. under fs (ground_at a s)) (outer-Frame a n f ps u))
 
 -- the part behind outer frames stands under them
-pub ground_behind : (a : ℕ → ℤ) (n : ℕ) (t s : Term) → behind n t ≡ Some s → ground_at a t ≡ under (outer_frames a n t) (ground_at a s)
+pub ground_behind : (a : ℕ → ℤ) (n : ℕ) (t s : Term) → behind n t ≡ Some s → ground_at a t ≡
+    under (outer_frames a n t) (ground_at a s)
 ground_behind a zero t s h = let same : t ≡ s = cc in ap (ground_at a) same
 ground_behind a (suc n) t s h = stands_behind a n s (λ u. ground_behind a n u s) t (form t) h
 
@@ -97,19 +116,29 @@ found_frame : (f : Sym) (ps : List Body) (t : Term) → IsEnd t ⊎ Found t → 
 found_frame f ps t (inl end) = record {
   place = 0;
   part = Frame f ps t;
-  at = redex-Frame f ps t ∙ ap (λ (o : Option ℕ). Some (option_map_or (λ n. 1 + n) o 0)) (end_place t end);
+  at =
+      redex-Frame f ps t ∙ ap (λ (o : Option ℕ). Some (option_map_or (λ n. 1 + n) o 0))
+      (end_place t end);
   stands = refl;
   is = over_end f ps t end;
-  means = λ a. ap ground_redex (ground-Frame a f ps t) ∙ ap (λ (o : Option Ground). Some (unwrap_or o (stack.Frame f.0 (values a ps) (ground_at a t)))) (end_means a t end) ∙ ap Some (sym (ground-Frame a f ps t));
+  means =
+      λ a. ap ground_redex (ground-Frame a f ps t) ∙
+      ap (λ (o : Option Ground). Some (unwrap_or o (stack.Frame f.0 (values a ps) (ground_at a t))))
+      (end_means a t end) ∙ ap Some (sym (ground-Frame a f ps t));
 }
 found_frame f ps t (inr found) =
     let q : 1 + found.place ≡ suc found.place = omega arith in record {
       place = suc found.place;
       part = found.part;
-      at = redex-Frame f ps t ∙ ap (λ (o : Option ℕ). Some (option_map_or (λ n. 1 + n) o 0)) found.at ∙ ap Some q;
+      at =
+          redex-Frame f ps t ∙ ap (λ (o : Option ℕ). Some (option_map_or (λ n. 1 + n) o 0)) found.at
+          ∙ ap Some q;
       stands = behind-Frame found.place f ps t ∙ found.stands;
       is = found.is;
-      means = λ a. ap ground_redex (ground-Frame a f ps t) ∙ ap (λ (o : Option Ground). Some (unwrap_or o (stack.Frame f.0 (values a ps) (ground_at a t)))) (found.means a);
+      means =
+          λ a. ap ground_redex (ground-Frame a f ps t) ∙
+          ap (λ (o : Option Ground). Some (unwrap_or o
+          (stack.Frame f.0 (values a ps) (ground_at a t)))) (found.means a);
     }
 
 -- each term is a result, or has a redex
@@ -120,20 +149,26 @@ find_redex = induct (λ t. IsEnd t ⊎ Found t)
     (λ f ps. inr (found_call f ps))
     (λ f ps t more. inr (found_frame f ps t more))
 
-by_cases : (a : ℕ → ℤ) (t : Term) → IsEnd t ⊎ Found t → option_map (ground_at a) (redex_of t) ≡ ground_redex (ground_at a t)
-by_cases a t (inl end) = ap (λ (o : Option ℕ). option_map (ground_at a) (option_and_then (λ n. behind n t) o)) (end_place t end) ∙ sym (end_means a t end)
+by_cases : (a : ℕ → ℤ) (t : Term) → IsEnd t ⊎ Found t → option_map (ground_at a) (redex_of t) ≡
+    ground_redex (ground_at a t)
+by_cases a t (inl end) =
+    ap (λ (o : Option ℕ). option_map (ground_at a) (option_and_then (λ n. behind n t) o))
+    (end_place t end) ∙ sym (end_means a t end)
 by_cases a t (inr found) =
     ap (λ (o : Option ℕ). option_map (ground_at a) (option_and_then (λ n. behind n t) o)) found.at
     ∙ ap (option_map (ground_at a)) found.stands ∙ sym (found.means a)
 
 -- the redex of the ground term is the ground term of the redex
-pub redex_ground : (a : ℕ → ℤ) (t : Term) → option_map (ground_at a) (redex_of t) ≡ ground_redex (ground_at a t)
+pub redex_ground : (a : ℕ → ℤ) (t : Term) → option_map (ground_at a) (redex_of t) ≡
+    ground_redex (ground_at a t)
 redex_ground a t = by_cases a t (find_redex t)
 
 chosen : (t s : Term) → IsEnd t ⊎ Found t → redex_of t ≡ Some s → IsRedex s
-chosen t s (inl end) h = absurd (no_part s (sym (ap (option_and_then (λ n. behind n t)) (end_place t end)) ∙ h))
+chosen t s (inl end) h =
+    absurd (no_part s (sym (ap (option_and_then (λ n. behind n t)) (end_place t end)) ∙ h))
 chosen t s (inr found) h =
-    let both : Some found.part ≡ Some s = sym found.stands ∙ sym (ap (option_and_then (λ n. behind n t)) found.at) ∙ h in
+    let both : Some found.part ≡ Some s = sym found.stands ∙
+    sym (ap (option_and_then (λ n. behind n t)) found.at) ∙ h in
     let same : found.part ≡ s = cc in
     subst IsRedex same found.is
 

@@ -36,11 +36,15 @@ going_place _ (ACall f ps) h = (0, redex-Call f ps)
 going_place _ (AFrame f ps t) h = (option_map_or (λ n. 1 + n) (redex_place t) 0, redex-Frame f ps t)
 
 -- over a result the frame is the redex
-frame_place : (f : Sym) (ps : List Body) (t : Term) → is_result t ≡ true → redex_place (Frame f ps t) ≡ Some 0
-frame_place f ps t h = redex-Frame f ps t ∙ ap (λ (o : Option ℕ). Some (option_map_or (λ n. 1 + n) o 0)) (result_place t (form t) h)
+frame_place : (f : Sym) (ps : List Body) (t : Term) → is_result t ≡ true →
+    redex_place (Frame f ps t) ≡ Some 0
+frame_place f ps t h =
+    redex-Frame f ps t ∙ ap (λ (o : Option ℕ). Some (option_map_or (λ n. 1 + n) o 0))
+    (result_place t (form t) h)
 
 -- over another term the redex is one frame further in
-inner_place : (f : Sym) (ps : List Body) (t : Term) (n : ℕ) → redex_place t ≡ Some n → redex_place (Frame f ps t) ≡ Some (suc n)
+inner_place : (f : Sym) (ps : List Body) (t : Term) (n : ℕ) → redex_place t ≡ Some n →
+    redex_place (Frame f ps t) ≡ Some (suc n)
 inner_place f ps t n e =
     let q : 1 + n ≡ suc n = omega arith in
     redex-Frame f ps t ∙ ap (λ (o : Option ℕ). Some (option_map_or (λ n. 1 + n) o 0)) e ∙ ap Some q
@@ -64,20 +68,24 @@ pub redex_of_redex : (t : Term) → is_redex t ≡ true → redex_of t ≡ Some 
 redex_of_redex t h = at_start t (redex_place_here t (form t) h)
 
 -- a frame over a result is one
-pub redex_over_result : (f : Sym) (ps : List Body) (t : Term) → is_result t ≡ true → redex_of (Frame f ps t) ≡ Some (Frame f ps t)
+pub redex_over_result : (f : Sym) (ps : List Body) (t : Term) → is_result t ≡ true →
+    redex_of (Frame f ps t) ≡ Some (Frame f ps t)
 redex_over_result f ps t h = at_start (Frame f ps t) (frame_place f ps t h)
 
 -- over another term it is that term's
-pub redex_further : (f : Sym) (ps : List Body) (t : Term) → is_result t ≡ false → redex_of (Frame f ps t) ≡ redex_of t
+pub redex_further : (f : Sym) (ps : List Body) (t : Term) → is_result t ≡ false →
+    redex_of (Frame f ps t) ≡ redex_of t
 redex_further f ps t h =
     let (n, e) = going_place t (form t) h in
     ap (option_and_then (λ n. behind n (Frame f ps t))) (inner_place f ps t n e)
     ∙ behind-Frame n f ps t ∙ sym (ap (option_and_then (λ n. behind n t)) e)
 
 -- a call is one, and a term that is no frame and no result is a call
-pub redex_of_call : (t : Term) → ((f : Sym) (ps : List Body) (u : Term) → t ≡ Frame f ps u → ⊥) → is_result t ≡ false → redex_of t ≡ Some t
+pub redex_of_call : (t : Term) → ((f : Sym) (ps : List Body) (u : Term) → t ≡ Frame f ps u → ⊥) →
+    is_result t ≡ false → redex_of t ≡ Some t
 redex_of_call t none h = by (form t) none h where
-  by : {t : Term} → Form t → ((f : Sym) (ps : List Body) (u : Term) → t ≡ Frame f ps u → ⊥) → is_result t ≡ false → redex_of t ≡ Some t
+  by : {t : Term} → Form t → ((f : Sym) (ps : List Body) (u : Term) → t ≡ Frame f ps u → ⊥) →
+      is_result t ≡ false → redex_of t ≡ Some t
   by (AReturn p) none h = clash (sym (ap is_result_level (outs-Return p)) ∙ h)
   by (AFail c) none h = clash (sym (ap is_result_level (outs-Fail c)) ∙ h)
   by (ACall f ps) none h = at_start (Call f ps) (redex-Call f ps)
@@ -89,7 +97,8 @@ pub record Finding (here whole : Term) : Type 0 where
   pub result : is_result here ≡ is_result whole
 
 -- one frame further in
-pub found_further : (f : Sym) (ps : List Body) (here t whole : Term) → here ≡ Frame f ps t → is_result t ≡ false → Finding here whole → Finding t whole
+pub found_further : (f : Sym) (ps : List Body) (here t whole : Term) → here ≡ Frame f ps t →
+    is_result t ≡ false → Finding here whole → Finding t whole
 found_further f ps here t whole is h s = record {
   redex = sym (redex_further f ps t h) ∙ ap redex_of (sym is) ∙ s.redex;
   result = h ∙ sym (result-Frame f ps t) ∙ ap is_result (sym is) ∙ s.result;
@@ -98,21 +107,27 @@ found_further f ps here t whole is h s = record {
 -- ---- another term in its place
 
 pub replace_redex_result : (t inner : Term) → is_result t ≡ true → replace_redex t inner ≡ t
-replace_redex_result t inner h = ap (λ (o : Option ℕ). option_map_or (λ n. replaced n t inner) o t) (result_place t (form t) h)
+replace_redex_result t inner h =
+    ap (λ (o : Option ℕ). option_map_or (λ n. replaced n t inner) o t) (result_place t (form t) h)
 
 pub replace_redex_here : (t inner : Term) → is_redex t ≡ true → replace_redex t inner ≡ inner
-replace_redex_here t inner h = ap (λ (o : Option ℕ). option_map_or (λ n. replaced n t inner) o t) (redex_place_here t (form t) h)
+replace_redex_here t inner h =
+    ap (λ (o : Option ℕ). option_map_or (λ n. replaced n t inner) o t)
+    (redex_place_here t (form t) h)
 
-pub replace_redex_further : (f : Sym) (ps : List Body) (t inner : Term) → is_result t ≡ false → replace_redex (Frame f ps t) inner ≡ Frame f ps (replace_redex t inner)
+pub replace_redex_further : (f : Sym) (ps : List Body) (t inner : Term) → is_result t ≡ false →
+    replace_redex (Frame f ps t) inner ≡ Frame f ps (replace_redex t inner)
 replace_redex_further f ps t inner h =
     let (n, e) = going_place t (form t) h in
-    ap (λ (o : Option ℕ). option_map_or (λ n. replaced n (Frame f ps t) inner) o (Frame f ps t)) (inner_place f ps t n e)
+    ap (λ (o : Option ℕ). option_map_or (λ n. replaced n (Frame f ps t) inner) o (Frame f ps t))
+    (inner_place f ps t n e)
     ∙ replaced-Frame n f ps t inner
     ∙ sym (ap (λ (o : Option ℕ). Frame f ps (option_map_or (λ n. replaced n t inner) o t)) e)
 
 -- ---- frames that are taken over one by one
 
--- what is left to be done: the frames that were taken, over the rest with its redex replaced, are the whole
+-- what is left to be done: the frames that were taken, over the rest with its redex replaced, are
+-- the whole
 pub record Replacing (upper rest inner whole : Term) : Type 0 where
   pub makes : onto upper (replace_redex rest inner) ≡ whole
   pub going : is_result rest ≡ false
@@ -128,10 +143,17 @@ pub record Taken (rest upper inner whole below : Term) (next : Term) : Type 0 wh
   pub less : depth_of below < depth_of rest
 
 module _ (inner whole upper below : Term) (r : Term × Option Term) where
-  take : (rest : Term) → Form rest → r ≡ turned rest upper → r.1 ≡ Some below → is_redex rest ≡ false → Replacing upper rest inner whole → Taken rest upper inner whole below r.0
-  take _ (AReturn p) is some h s = no_part below (sym (ap (λ (x : Term × Option Term). x.1) (is ∙ ap (λ (x : Term-F Term). turned_level x upper) (outs-Return p))) ∙ some)
-  take _ (AFail c) is some h s = no_part below (sym (ap (λ (x : Term × Option Term). x.1) (is ∙ ap (λ (x : Term-F Term). turned_level x upper) (outs-Fail c))) ∙ some)
-  take _ (ACall f ps) is some h s = no_part below (sym (ap (λ (x : Term × Option Term). x.1) (is ∙ ap (λ (x : Term-F Term). turned_level x upper) (outs-Call f ps))) ∙ some)
+  take : (rest : Term) → Form rest → r ≡ turned rest upper → r.1 ≡ Some below → is_redex rest ≡
+      false → Replacing upper rest inner whole → Taken rest upper inner whole below r.0
+  take _ (AReturn p) is some h s =
+      no_part below (sym (ap (λ (x : Term × Option Term). x.1)
+      (is ∙ ap (λ (x : Term-F Term). turned_level x upper) (outs-Return p))) ∙ some)
+  take _ (AFail c) is some h s =
+      no_part below (sym (ap (λ (x : Term × Option Term). x.1)
+      (is ∙ ap (λ (x : Term-F Term). turned_level x upper) (outs-Fail c))) ∙ some)
+  take _ (ACall f ps) is some h s =
+      no_part below (sym (ap (λ (x : Term × Option Term). x.1)
+      (is ∙ ap (λ (x : Term-F Term). turned_level x upper) (outs-Call f ps))) ∙ some)
   take _ (AFrame f ps t) is some h s =
       let e : r ≡ (Frame f ps upper, Some t) = is ∙ turned-Frame f ps t upper in
       let first : r.0 ≡ Frame f ps upper = ap (λ (p : Term × Option Term). p.0) e in
@@ -151,17 +173,22 @@ module _ (inner whole upper below : Term) (r : Term × Option Term) where
         less = omega (arith, deeper, level);
       }
 
-  pub frame_taken : (rest : Term) → r ≡ turned rest upper → r.1 ≡ Some below → is_redex rest ≡ false → Replacing upper rest inner whole → Taken rest upper inner whole below r.0
+  pub frame_taken : (rest : Term) → r ≡ turned rest upper → r.1 ≡ Some below → is_redex rest ≡
+      false → Replacing upper rest inner whole → Taken rest upper inner whole below r.0
   frame_taken rest = take rest (form rest)
 
 -- a term that is no result and no redex has a frame to be taken
-pub no_frame_taken : (upper rest inner whole : Term) (r : Term × Option Term) → r ≡ turned rest upper → r.1 ≡ None → is_redex rest ≡ false → Replacing upper rest inner whole → ⊥
+pub no_frame_taken : (upper rest inner whole : Term) (r : Term × Option Term) → r ≡
+    turned rest upper → r.1 ≡ None → is_redex rest ≡ false → Replacing upper rest inner whole → ⊥
 no_frame_taken upper rest inner whole r is none h s = by (form rest) is h s.going where
   some_none : (b : Term) → ◌≡◌ {A = Option Term} (Some b) None → ⊥
   some_none b e = cc
 
-  by : {rest : Term} → Form rest → r ≡ turned rest upper → is_redex rest ≡ false → is_result rest ≡ false → ⊥
+  by : {rest : Term} → Form rest → r ≡ turned rest upper → is_redex rest ≡ false → is_result rest ≡
+      false → ⊥
   by (AReturn p) is h g = clash (sym (ap is_result_level (outs-Return p)) ∙ g)
   by (AFail c) is h g = clash (sym (ap is_result_level (outs-Fail c)) ∙ g)
   by (ACall f ps) is h g = clash (sym (ap is_redex_level (outs-Call f ps)) ∙ h)
-  by (AFrame f ps t) is h g = some_none t (sym (ap (λ (x : Term × Option Term). x.1) (is ∙ turned-Frame f ps t upper)) ∙ none)
+  by (AFrame f ps t) is h g =
+      some_none t (sym (ap (λ (x : Term × Option Term). x.1) (is ∙ turned-Frame f ps t upper)) ∙
+      none)

@@ -39,15 +39,21 @@ left_redex _ (OverReturn f n) = ReturnRedex f (variables_from 0 n) (variable n)
 left_redex _ (OverFail f n c) = FailRedex f (variables_from 0 n) c
 
 -- the shape of a redex that fits is one of the set's
-pub redex_shape : (parts : RuleParts) (t : Term) → IsRedex t → term_fits parts t ≡ true → IsRedexShape parts (shape_of t)
+pub redex_shape : (parts : RuleParts) (t : Term) → IsRedex t → term_fits parts t ≡ true →
+    IsRedexShape parts (shape_of t)
 redex_shape parts _ (CallRedex f ps) fits =
-    subst (IsRedexShape parts) (sym (shape-Call f ps)) (PointShape f (length ps) (sym (fits-Call parts f ps) ∙ fits))
+    subst (IsRedexShape parts) (sym (shape-Call f ps))
+    (PointShape f (length ps) (sym (fits-Call parts f ps) ∙ fits))
 redex_shape parts _ (ReturnRedex f ps p) fits =
-    let both = and_parts (is_declared parts.symbols f true (length ps)) (term_fits parts (Return p)) (sym (fits-Frame parts f ps (Return p)) ∙ fits) in
-    subst (IsRedexShape parts) (sym (shape-Frame f ps (Return p) ∙ ap (Framed f) (shape-Return p))) (ReturnShape f (length ps) both.0)
+    let both = and_parts (is_declared parts.symbols f true (length ps)) (term_fits parts (Return p))
+    (sym (fits-Frame parts f ps (Return p)) ∙ fits) in
+    subst (IsRedexShape parts) (sym (shape-Frame f ps (Return p) ∙ ap (Framed f) (shape-Return p)))
+    (ReturnShape f (length ps) both.0)
 redex_shape parts _ (FailRedex f ps c) fits =
-    let both = and_parts (is_declared parts.symbols f true (length ps)) (term_fits parts (Fail c)) (sym (fits-Frame parts f ps (Fail c)) ∙ fits) in
-    subst (IsRedexShape parts) (sym (shape-Frame f ps (Fail c) ∙ ap (Framed f) (shape-Fail c))) (FailShape f (length ps) c both.0 (sym (fits-Fail parts c) ∙ both.1))
+    let both = and_parts (is_declared parts.symbols f true (length ps)) (term_fits parts (Fail c))
+    (sym (fits-Frame parts f ps (Fail c)) ∙ fits) in
+    subst (IsRedexShape parts) (sym (shape-Frame f ps (Fail c) ∙ ap (Framed f) (shape-Fail c)))
+    (FailShape f (length ps) c both.0 (sym (fits-Fail parts c) ∙ both.1))
 
 -- the test tells whether two shapes are one
 pub told_shape : (s t : Shape) → same_shape s t ≡ true → s ≡ t
@@ -61,7 +67,8 @@ told_shape (Failure c) (Called g) h = cc
 told_shape (Failure c) (Framed g t) h = cc
 told_shape (Called f) Value h = cc
 told_shape (Called f) (Failure d) h = cc
-told_shape (Called f) (Called g) h = let e = eqb-true f.0 g.0 h in (λ i. Called (record { 0 = e i }))
+told_shape (Called f) (Called g) h =
+    let e = eqb-true f.0 g.0 h in (λ i. Called (record { 0 = e i }))
 told_shape (Called f) (Framed g t) h = cc
 told_shape (Framed f s) Value h = cc
 told_shape (Framed f s) (Failure d) h = cc
@@ -76,13 +83,17 @@ pub shape_itself : (s : Shape) → same_shape s s ≡ true
 shape_itself Value = refl
 shape_itself (Failure c) = eq-eqb c c refl
 shape_itself (Called f) = eq-eqb f.0 f.0 refl
-shape_itself (Framed f s) = and_from (nat_eq f.0 f.0) (same_shape s s) (eq-eqb f.0 f.0 refl) (shape_itself s)
+shape_itself (Framed f s) =
+    and_from (nat_eq f.0 f.0) (same_shape s s) (eq-eqb f.0 f.0 refl) (shape_itself s)
 
 -- ---- steps
 
-module _ (rules : List Rule) (a : ℕ → ℤ) (rule : Rule) (ws : List (ℕ × Body)) (t : Term) (among : Contains rules rule)
-    (left : ground_at a (in_term ws rule.left) ≡ ground_at a t) (holds : AllHold a (in_rows ws rule.rows)) where
-  -- a rule steps a term that means what its left side does, with polynomials in place of variables, where its rows hold so
+module _ (rules : List Rule) (a : ℕ → ℤ) (rule : Rule) (ws : List (ℕ × Body)) (t : Term)
+    (among : Contains rules rule)
+    (left : ground_at a (in_term ws rule.left) ≡ ground_at a t)
+    (holds : AllHold a (in_rows ws rule.rows)) where
+  -- a rule steps a term that means what its left side does, with polynomials in place of variables,
+  -- where its rows hold so
   pub instance_steps : Instance rules (ground_at a t) (ground_at a (in_term ws rule.right))
   instance_steps = record {
     rule = rule;
@@ -95,7 +106,8 @@ module _ (rules : List Rule) (a : ℕ → ℤ) (rule : Rule) (ws : List (ℕ × 
 
   -- so it does under frames
   pub instance_steps_inside : (n : ℕ) (whole : Term) → behind n whole ≡ Some t
-      → Step (Instance rules) (ground_at a whole) (ground_at a (replaced n whole (in_term ws rule.right)))
+      → Step (Instance rules) (ground_at a whole)
+      (ground_at a (replaced n whole (in_term ws rule.right)))
   instance_steps_inside n whole stands =
       let step = Step-under (outer_frames a n whole) (Here instance_steps) in
       rw (ground_behind a n whole t stands, ground_replaced a n whole (in_term ws rule.right)) step
@@ -105,9 +117,12 @@ module _ (parts : RuleParts) (made : IsWellMade parts) where
   pub rule_made : (rule : Rule) → Contains parts.rules rule → IsMade parts rule
   rule_made rule among = All-contains (IsMade parts) parts.rules rule made among
 
-  -- a rule whose shape a fitting term has, and whose rows hold where the rule's variables are the term's polynomials, steps it
-  pub rule_steps : (a : ℕ → ℤ) (rule : Rule) (t : Term) → Contains parts.rules rule → term_fits parts t ≡ true → shape_of rule.left ≡ shape_of t
-      → AllHold a (in_rows (matched t) rule.rows) → Instance parts.rules (ground_at a t) (ground_at a (in_term (matched t) rule.right))
+  -- a rule whose shape a fitting term has, and whose rows hold where the rule's variables are the
+  -- term's polynomials, steps it
+  pub rule_steps : (a : ℕ → ℤ) (rule : Rule) (t : Term) → Contains parts.rules rule →
+      term_fits parts t ≡ true → shape_of rule.left ≡ shape_of t
+      → AllHold a (in_rows (matched t) rule.rows) →
+      Instance parts.rules (ground_at a t) (ground_at a (in_term (matched t) rule.right))
   rule_steps a rule t among fits shape holds =
       let is = rule_made rule among in record {
         rule = rule;
@@ -119,28 +134,42 @@ module _ (parts : RuleParts) (made : IsWellMade parts) where
       }
 
   -- so it does under frames
-  pub rule_steps_inside : (a : ℕ → ℤ) (rule : Rule) (n : ℕ) (t part : Term) → Contains parts.rules rule → behind n t ≡ Some part → term_fits parts part ≡ true
+  pub rule_steps_inside : (a : ℕ → ℤ) (rule : Rule) (n : ℕ) (t part : Term) →
+      Contains parts.rules rule → behind n t ≡ Some part → term_fits parts part ≡ true
       → shape_of rule.left ≡ shape_of part → AllHold a (in_rows (matched part) rule.rows)
-      → Step (Instance parts.rules) (ground_at a t) (ground_at a (replaced n t (in_term (matched part) rule.right)))
+      → Step (Instance parts.rules) (ground_at a t)
+      (ground_at a (replaced n t (in_term (matched part) rule.right)))
   rule_steps_inside a rule n t part among stands fits shape holds =
-      let step = Step-under (outer_frames a n t) (Here (rule_steps a rule part among fits shape holds)) in
-      rw (ground_behind a n t part stands, ground_replaced a n t (in_term (matched part) rule.right)) step
+      let step = Step-under (outer_frames a n t)
+      (Here (rule_steps a rule part among fits shape holds)) in
+      rw (
+        ground_behind a n t part stands,
+        ground_replaced a n t
+            (in_term (matched part) rule.right),
+      ) step
 
-  pub instance_fits : (s t : Ground) → Fits (signature parts) s → Instance parts.rules s t → Fits (signature parts) t
-  instance_fits s t fits one = subst (Fits (signature parts)) (sym one.right) (ground_fits parts one.at one.rule.right (rule_made one.rule one.among).right_fits)
+  pub instance_fits : (s t : Ground) → Fits (signature parts) s → Instance parts.rules s t →
+      Fits (signature parts) t
+  instance_fits s t fits one =
+      subst (Fits (signature parts)) (sym one.right)
+      (ground_fits parts one.at one.rule.right (rule_made one.rule one.among).right_fits)
 
   -- steps lead from fitting terms to fitting terms
   pub steps_fit : Stays (Fits (signature parts)) (Instance parts.rules)
-  steps_fit = stays_under_frames (Fits (signature parts)) (Instance parts.rules) (Fits-inner (signature parts)) (Fits-exchange (signature parts)) instance_fits
+  steps_fit =
+      stays_under_frames (Fits (signature parts)) (Instance parts.rules)
+      (Fits-inner (signature parts)) (Fits-exchange (signature parts)) instance_fits
 
   result_rests : (left : Term) → IsRedex left → (a : ℕ → ℤ) → IsResult (ground_at a left) → ⊥
   result_rests _ (CallRedex f ps) a result = subst IsResult (ground-Call a f ps) result
-  result_rests _ (ReturnRedex f ps p) a result = subst IsResult (ground-Frame a f ps (Return p)) result
+  result_rests _ (ReturnRedex f ps p) a result =
+      subst IsResult (ground-Frame a f ps (Return p)) result
   result_rests _ (FailRedex f ps c) a result = subst IsResult (ground-Frame a f ps (Fail c)) result
 
   no_instance : (s t : Ground) → IsResult s → Instance parts.rules s t → ⊥
   no_instance s t result one =
-      result_rests one.rule.left (left_redex one.rule.left (rule_made one.rule one.among).form) one.at (subst IsResult one.left result)
+      result_rests one.rule.left (left_redex one.rule.left (rule_made one.rule one.among).form)
+      one.at (subst IsResult one.left result)
 
   -- no step starts at a result
   pub results_rest : ResultsRest (Instance parts.rules)

@@ -1,4 +1,5 @@
--- A stack that is being rewritten frame by frame: what stands, turned over, and what the part that is left still decides.
+-- A stack that is being rewritten frame by frame: what stands, turned over, and what the part that
+-- is left still decides.
 use Rattle.std.proofs.Common.{◌≡◌, ◌∙◌, ap, sym, true, false, ◌&&◌, ℕ, List}
 use Rattle.std.proofs.lemmas.Bool.{and_left}
 use Rattle.rx_poly.specs.declared.body.Body.{Body}
@@ -13,14 +14,21 @@ pub record Substituting (ws : List (ℕ × Body)) (upper here whole : Term) : Ty
   pub made : onto upper (in_term ws here) ≡ in_term ws whole
   pub limits : term_within ws here ≡ term_within ws whole
 
-module _ {ws : List (ℕ × Body)} {upper whole : Term} (f : Sym) (ps : List Body) (inner : Term) (s : Substituting ws upper (Frame f ps inner) whole) where
+module _ {ws : List (ℕ × Body)} {upper whole : Term} (f : Sym) (ps : List Body) (inner : Term)
+    (s : Substituting ws upper (Frame f ps inner) whole) where
   -- a frame beyond the limits is one of all
   pub no_frame : polys_within ws ps ≡ false → term_within ws whole ≡ false
-  no_frame e = sym s.limits ∙ within-Frame ws f ps inner ∙ and_left (polys_within ws ps) (term_within ws inner) e
+  no_frame e =
+      sym s.limits ∙ within-Frame ws f ps inner ∙
+      and_left (polys_within ws ps) (term_within ws inner) e
 
   -- one within them leaves it to the part under it
-  pub after_frame : polys_within ws ps ≡ true → Substituting ws (Frame f (in_polys ws ps) upper) inner whole
+  pub after_frame : polys_within ws ps ≡ true →
+      Substituting ws (Frame f (in_polys ws ps) upper) inner whole
   after_frame e = record {
-    made = onto-Frame f (in_polys ws ps) upper (in_term ws inner) ∙ ap (onto upper) (sym (in_term-Frame ws f ps inner)) ∙ s.made;
-    limits = ap (λ b. b && term_within ws inner) (sym e) ∙ sym (within-Frame ws f ps inner) ∙ s.limits;
+    made =
+        onto-Frame f (in_polys ws ps) upper (in_term ws inner) ∙
+        ap (onto upper) (sym (in_term-Frame ws f ps inner)) ∙ s.made;
+    limits =
+        ap (λ b. b && term_within ws inner) (sym e) ∙ sym (within-Frame ws f ps inner) ∙ s.limits;
   }

@@ -26,32 +26,76 @@ pub numbered_in_order : (ps : List Body) → numbered ps ≡ enumerate_from 0 ps
 numbered_in_order ps = numbered_so 0 ps
 
 module _ (rules others : List Rule) (s t : Ground) where
-  part : (one : Instance (rules ++ others) s t) → Contains rules one.rule ⊎ Contains others one.rule → Instance rules s t ⊎ Instance others s t
-  part one (inl among) = inl (record { rule = one.rule; among = among; at = one.at; holds = one.holds; left = one.left; right = one.right })
-  part one (inr among) = inr (record { rule = one.rule; among = among; at = one.at; holds = one.holds; left = one.left; right = one.right })
+  part : (one : Instance (rules ++ others) s t) → Contains rules one.rule ⊎
+      Contains others one.rule → Instance rules s t ⊎ Instance others s t
+  part one (inl among) =
+      inl (record {
+        rule = one.rule;
+        among = among;
+        at = one.at;
+        holds = one.holds;
+        left = one.left;
+        right = one.right;
+      })
+  part one (inr among) =
+      inr (record {
+        rule = one.rule;
+        among = among;
+        at = one.at;
+        holds = one.holds;
+        left = one.left;
+        right = one.right;
+      })
 
   whole : Instance rules s t ⊎ Instance others s t → Instance (rules ++ others) s t
-  whole (inl one) = record { rule = one.rule; among = Contains-append_left rules others one.rule one.among; at = one.at; holds = one.holds; left = one.left; right = one.right }
-  whole (inr one) = record { rule = one.rule; among = Contains-append_right rules others one.rule one.among; at = one.at; holds = one.holds; left = one.left; right = one.right }
+  whole (inl one) =
+      record {
+        rule = one.rule;
+        among = Contains-append_left rules others one.rule one.among;
+        at =
+            one.at;
+        holds = one.holds;
+        left = one.left;
+        right = one.right;
+      }
+  whole (inr one) =
+      record {
+        rule = one.rule;
+        among = Contains-append_right rules others one.rule one.among;
+        at =
+            one.at;
+        holds = one.holds;
+        left = one.left;
+        right = one.right;
+      }
 
   -- an instance of a rule of either list is one of both together
   pub of_either_list : Instance (rules ++ others) s t ↔ (Instance rules s t ⊎ Instance others s t)
   of_either_list = (λ one. part one (Contains-append_cases rules others one.rule one.among), whole)
 
-module _ (parts : RuleParts) (rules : List Rule) (fit : All (λ rule. term_fits parts rule.right ≡ true) rules) where
-  step_fits : (s t : Ground) → Fits (signature parts) s → Instance rules s t → Fits (signature parts) t
+module _ (parts : RuleParts) (rules : List Rule)
+    (fit : All (λ rule. term_fits parts rule.right ≡ true) rules) where
+  step_fits : (s t : Ground) → Fits (signature parts) s → Instance rules s t →
+      Fits (signature parts) t
   step_fits s t fits one =
-      subst (Fits (signature parts)) (sym one.right) (ground_fits parts one.at one.rule.right (All-contains (λ rule. term_fits parts rule.right ≡ true) rules one.rule fit one.among))
+      subst (Fits (signature parts)) (sym one.right)
+      (ground_fits parts one.at one.rule.right
+      (All-contains (λ rule. term_fits parts rule.right ≡ true) rules one.rule fit one.among))
 
   -- rules whose right sides fit lead from fitting terms to fitting terms
   pub right_sides_fit : Stays (Fits (signature parts)) (Instance rules)
-  right_sides_fit = stays_under_frames (Fits (signature parts)) (Instance rules) (Fits-inner (signature parts)) (Fits-exchange (signature parts)) step_fits
+  right_sides_fit =
+      stays_under_frames (Fits (signature parts)) (Instance rules) (Fits-inner (signature parts))
+      (Fits-exchange (signature parts)) step_fits
 
-  either_fits : IsWellMade parts → (s t : Ground) → Fits (signature parts) s → Either (Instance parts.rules) (Instance rules) s t → Fits (signature parts) t
+  either_fits : IsWellMade parts → (s t : Ground) → Fits (signature parts) s →
+      Either (Instance parts.rules) (Instance rules) s t → Fits (signature parts) t
   either_fits made s t fits (inl one) = instance_fits parts made s t fits one
   either_fits made s t fits (inr one) = step_fits s t fits one
 
   -- and so together with those of a well made set
-  pub right_sides_fit_too : IsWellMade parts → Stays (Fits (signature parts)) (Either (Instance parts.rules) (Instance rules))
+  pub right_sides_fit_too : IsWellMade parts →
+      Stays (Fits (signature parts)) (Either (Instance parts.rules) (Instance rules))
   right_sides_fit_too made =
-      stays_under_frames (Fits (signature parts)) (Either (Instance parts.rules) (Instance rules)) (Fits-inner (signature parts)) (Fits-exchange (signature parts)) (either_fits made)
+      stays_under_frames (Fits (signature parts)) (Either (Instance parts.rules) (Instance rules))
+      (Fits-inner (signature parts)) (Fits-exchange (signature parts)) (either_fits made)

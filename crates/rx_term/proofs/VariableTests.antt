@@ -19,14 +19,17 @@ is_atom n (Atom-F.Div p q) h = cc
 is_atom n (Atom-F.Mod p q) h = cc
 
 is_product : (n : ℕ) (xs : List Atom) → is_variable_product n xs ≡ true → xs ≡ Var n ∷ []
-is_product n (x ∷ []) h = ap (λ (y : Atom). y ∷ []) (sym (roll-out-Atom x) ∙ is_atom n (out-Atom x) h)
+is_product n (x ∷ []) h =
+    ap (λ (y : Atom). y ∷ []) (sym (roll-out-Atom x) ∙ is_atom n (out-Atom x) h)
 is_product n [] h = cc
 is_product n (x ∷ (y ∷ ys)) h = cc
 
-is_sum : (n : ℕ) (ts : List (Mono × ℤ)) → is_variable_sum n ts ≡ true → ts ≡ (of_atoms (Var n ∷ []), pos 1) ∷ []
+is_sum : (n : ℕ) (ts : List (Mono × ℤ)) → is_variable_sum n ts ≡ true → ts ≡
+    (of_atoms (Var n ∷ []), pos 1) ∷ []
 is_sum n ((m, k) ∷ []) h =
     let both = and_parts (int_eq k (pos 1)) (is_variable_product n (out-Mono m).atoms) h in
-    let mono : m ≡ of_atoms (Var n ∷ []) = sym (roll-out-Mono m) ∙ ap of_atoms (is_product n (out-Mono m).atoms both.1) in
+    let mono : m ≡ of_atoms (Var n ∷ []) = sym (roll-out-Mono m) ∙
+    ap of_atoms (is_product n (out-Mono m).atoms both.1) in
     let one : k ≡ pos 1 = (Decides-int_eq k (pos 1)).0 both.0 in
     (λ i. (mono i, one i) ∷ [])
 is_sum n [] h = cc
@@ -44,7 +47,8 @@ is-variable n =
     ∙ ap (is_variable_atom n) (outs-Var n) ∙ eq-eqb n n refl
 
 -- polynomials that pass are the variables from that number on
-pub variables-are : (n : ℕ) (ps : List Body) → are_variables n ps ≡ true → ps ≡ variables_from n (length ps)
+pub variables-are : (n : ℕ) (ps : List Body) → are_variables n ps ≡ true → ps ≡
+    variables_from n (length ps)
 variables-are n [] h = refl
 variables-are n (p ∷ ps) h =
     let both = and_parts (is_variable n p) (are_variables (n + 1) ps) h in
@@ -55,7 +59,9 @@ variables-are n (p ∷ ps) h =
 -- these pass
 pub are-variables : (n k : ℕ) → are_variables n (variables_from n k) ≡ true
 are-variables n zero = refl
-are-variables n (suc k) = and_from (is_variable n (variable n)) (are_variables (n + 1) (variables_from (n + 1) k)) (is-variable n) (are-variables (n + 1) k)
+are-variables n (suc k) =
+    and_from (is_variable n (variable n)) (are_variables (n + 1) (variables_from (n + 1) k))
+    (is-variable n) (are-variables (n + 1) k)
 
 -- there are as many as were asked for
 pub length-variables_from : (n k : ℕ) → length (variables_from n k) ≡ k

@@ -9,14 +9,16 @@ use Rattle.rx_term.specs.Stacks.{behind, onto, redex_place, replaced, turned, tu
 use Rattle.rx_term.proofs.Equations.{induct, behind-Frame, onto-Frame, replaced-Frame, turned-Frame, redex-Frame}
 
 -- behind one frame more is behind one less under the frame
-pub behind-frame : (n : ℕ) (f : Sym) (ps : List Body) (t : Term) → 0 < n → behind n (Frame f ps t) ≡ behind (n - 1) t
+pub behind-frame : (n : ℕ) (f : Sym) (ps : List Body) (t : Term) → 0 < n → behind n (Frame f ps t) ≡
+    behind (n - 1) t
 behind-frame zero f ps t h = absurd (omega arith)
 behind-frame (suc n) f ps t h =
     let q : n ≡ suc n - 1 = omega arith in
     behind-Frame n f ps t ∙ ap (λ (k : ℕ). behind k t) q
 
 -- one frame more kept is the frame over one less kept
-pub replaced-frame : (n : ℕ) (f : Sym) (ps : List Body) (t inner : Term) → 0 < n → replaced n (Frame f ps t) inner ≡ Frame f ps (replaced (n - 1) t inner)
+pub replaced-frame : (n : ℕ) (f : Sym) (ps : List Body) (t inner : Term) → 0 < n →
+    replaced n (Frame f ps t) inner ≡ Frame f ps (replaced (n - 1) t inner)
 replaced-frame zero f ps t inner h = absurd (omega arith)
 replaced-frame (suc n) f ps t inner h =
     let q : n ≡ suc n - 1 = omega arith in
@@ -24,7 +26,8 @@ replaced-frame (suc n) f ps t inner h =
 
 -- a term that turns has a frame
 abbrev Turns : Term → Type 0
-Turns t = (n : ℕ) (u b inner : Term) (r : Term × Option Term) → 0 < n → r ≡ turned t u → r.1 ≡ Some b
+Turns t =
+    (n : ℕ) (u b inner : Term) (r : Term × Option Term) → 0 < n → r ≡ turned t u → r.1 ≡ Some b
     → onto r.0 (replaced (n - 1) b inner) ≡ onto u (replaced n t inner)
 
 no_part : (b : Term) → ◌≡◌ {A = Option Term} None (Some b) → ⊥
@@ -38,14 +41,22 @@ turns-Frame f ps t further n u b inner r h is some =
     let same : b ≡ t = cc in
     let left = onto-Frame f ps u (replaced (n - 1) t inner) in
     let right = replaced-frame n f ps t inner h in
-    ap (λ (x : Term). onto x (replaced (n - 1) b inner)) first ∙ ap (λ (x : Term). onto (Frame f ps u) (replaced (n - 1) x inner)) same ∙ left ∙ ap (onto u) (sym right)
+    ap (λ (x : Term). onto x (replaced (n - 1) b inner)) first ∙
+    ap (λ (x : Term). onto (Frame f ps u) (replaced (n - 1) x inner)) same ∙ left ∙
+    ap (onto u) (sym right)
 
 -- what was turned over stands over the rest as it did before
 pub turned-on : (t : Term) → Turns t
 turned-on = induct Turns
-    (λ p n u b inner r h is some. absurd (no_part b (sym (ap (λ (x : Term × Option Term). x.1) (is ∙ ap (λ (x : Term-F Term). turned_level x u) (outs-Return p))) ∙ some)))
-    (λ c n u b inner r h is some. absurd (no_part b (sym (ap (λ (x : Term × Option Term). x.1) (is ∙ ap (λ (x : Term-F Term). turned_level x u) (outs-Fail c))) ∙ some)))
-    (λ f ps n u b inner r h is some. absurd (no_part b (sym (ap (λ (x : Term × Option Term). x.1) (is ∙ ap (λ (x : Term-F Term). turned_level x u) (outs-Call f ps))) ∙ some)))
+    (λ p n u b inner r h is some. absurd (no_part b
+    (sym (ap (λ (x : Term × Option Term). x.1)
+    (is ∙ ap (λ (x : Term-F Term). turned_level x u) (outs-Return p))) ∙ some)))
+    (λ c n u b inner r h is some. absurd (no_part b
+    (sym (ap (λ (x : Term × Option Term). x.1)
+    (is ∙ ap (λ (x : Term-F Term). turned_level x u) (outs-Fail c))) ∙ some)))
+    (λ f ps n u b inner r h is some. absurd (no_part b
+    (sym (ap (λ (x : Term × Option Term). x.1)
+    (is ∙ ap (λ (x : Term-F Term). turned_level x u) (outs-Call f ps))) ∙ some)))
     turns-Frame
 
 -- the redex's place, where so many frames stand over the term
@@ -62,14 +73,17 @@ pub further-here : (n : ℕ) → further_in n (Some 0) ≡ Some n
 further-here zero = refl
 further-here (suc n) = let q : suc n + 0 ≡ suc n = omega arith in ap Some q
 
-further-more : (n : ℕ) (r : Option ℕ) → further_in n (Some (option_map_or (λ k. 1 + k) r 0)) ≡ further_in (suc n) r
+further-more : (n : ℕ) (r : Option ℕ) → further_in n (Some (option_map_or (λ k. 1 + k) r 0)) ≡
+    further_in (suc n) r
 further-more zero None = refl
 further-more zero (Some k) = refl
 further-more (suc n) None = let q : suc n + 0 ≡ suc n = omega arith in ap Some q
 further-more (suc n) (Some k) = let q : suc n + (1 + k) ≡ suc (suc n) + k = omega arith in ap Some q
 
 -- one frame further in
-pub further-frame : (n : ℕ) (f : Sym) (ps : List Body) (t : Term) → further_in n (redex_place (Frame f ps t)) ≡ further_in (n + 1) (redex_place t)
+pub further-frame : (n : ℕ) (f : Sym) (ps : List Body) (t : Term) →
+    further_in n (redex_place (Frame f ps t)) ≡ further_in (n + 1) (redex_place t)
 further-frame n f ps t =
     let q : suc n ≡ n + 1 = omega arith in
-    ap (further_in n) (redex-Frame f ps t) ∙ further-more n (redex_place t) ∙ ap (λ (k : ℕ). further_in k (redex_place t)) q
+    ap (further_in n) (redex-Frame f ps t) ∙ further-more n (redex_place t) ∙
+    ap (λ (k : ℕ). further_in k (redex_place t)) q

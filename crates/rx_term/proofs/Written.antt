@@ -38,39 +38,53 @@ values-numbers a (x ∷ xs) = (λ i. value-number a x i ∷ values-numbers a xs 
 pub ground-written : (a : ℕ → ℤ) (s : Ground) → ground_at a (written s) ≡ s
 ground-written a (stack.Ret k) = ground-Return a (number k) ∙ ap stack.Ret (value-number a k)
 ground-written a (stack.Fail c) = ground-Fail a c
-ground-written a (stack.Call f xs) = ground-Call a (symbol f) (map number xs) ∙ ap (stack.Call f) (values-numbers a xs)
+ground-written a (stack.Call f xs) =
+    ground-Call a (symbol f) (map number xs) ∙ ap (stack.Call f) (values-numbers a xs)
 ground-written a (stack.Frame f xs s) =
-    ground-Frame a (symbol f) (map number xs) (written s) ∙ ap (λ zs. stack.Frame f zs (ground_at a (written s))) (values-numbers a xs)
+    ground-Frame a (symbol f) (map number xs) (written s) ∙
+    ap (λ zs. stack.Frame f zs (ground_at a (written s))) (values-numbers a xs)
     ∙ ap (stack.Frame f xs) (ground-written a s)
 
 alike_itself : (b : Bool) → is_alike b b ≡ true
 alike_itself true = refl
 alike_itself false = refl
 
-told_back : (o : Option SymInfo) (b : Bool) (n : ℕ) → option_map symbol_of o ≡ Some (record { arity = n; is_frame = b }) → declared_so o b n ≡ true
+told_back : (o : Option SymInfo) (b : Bool) (n : ℕ) → option_map symbol_of o ≡
+    Some (record { arity = n; is_frame = b }) → declared_so o b n ≡ true
 told_back None b n h = cc
 told_back (Some s) b n h =
     let whole : symbol_of s ≡ record { arity = n; is_frame = b } = cc in
     let arity : s.arity ≡ n = ap (λ (x : Symbol). x.arity) whole in
     let frame : s.frame ≡ b = ap (λ (x : Symbol). x.is_frame) whole in
-    and_from (is_alike s.frame b) (nat_eq s.arity n) (ap (is_alike s.frame) (sym frame) ∙ alike_itself s.frame) (eq-eqb s.arity n arity)
+    and_from (is_alike s.frame b) (nat_eq s.arity n)
+    (ap (is_alike s.frame) (sym frame) ∙ alike_itself s.frame) (eq-eqb s.arity n arity)
 
-declared_back : (parts : RuleParts) (f : ℕ) (b : Bool) (xs : List ℤ) → Declares (signature parts) f b (length xs) → is_declared parts.symbols (symbol f) b (length (map number xs)) ≡ true
+declared_back : (parts : RuleParts) (f : ℕ) (b : Bool) (xs : List ℤ) →
+    Declares (signature parts) f b (length xs) →
+    is_declared parts.symbols (symbol f) b (length (map number xs)) ≡ true
 declared_back parts f b xs h =
     ap (is_declared parts.symbols (symbol f) b) (length-map xs number)
-    ∙ told_back (slice_get parts.symbols f) b (length xs) (sym (slice_get-map symbol_of parts.symbols f) ∙ h)
+    ∙ told_back (slice_get parts.symbols f) b (length xs)
+    (sym (slice_get-map symbol_of parts.symbols f) ∙ h)
 
 -- and fit where it does
-pub written_fits : (parts : RuleParts) (s : Ground) → Fits (signature parts) s → term_fits parts (written s) ≡ true
+pub written_fits : (parts : RuleParts) (s : Ground) → Fits (signature parts) s →
+    term_fits parts (written s) ≡ true
 written_fits parts (stack.Ret k) fits = fits-Return parts (number k)
-written_fits parts (stack.Fail c) fits = fits-Fail parts c ∙ and_from (nat_le 1 c) (nat_le c parts.fails) (le-leb 1 c fits.0) (le-leb c parts.fails fits.1)
-written_fits parts (stack.Call f xs) fits = fits-Call parts (symbol f) (map number xs) ∙ declared_back parts f false xs fits
+written_fits parts (stack.Fail c) fits =
+    fits-Fail parts c ∙ and_from (nat_le 1 c) (nat_le c parts.fails) (le-leb 1 c fits.0)
+    (le-leb c parts.fails fits.1)
+written_fits parts (stack.Call f xs) fits =
+    fits-Call parts (symbol f) (map number xs) ∙ declared_back parts f false xs fits
 written_fits parts (stack.Frame f xs s) fits =
     fits-Frame parts (symbol f) (map number xs) (written s)
-    ∙ and_from (is_declared parts.symbols (symbol f) true (length (map number xs))) (term_fits parts (written s)) (declared_back parts f true xs fits.0) (written_fits parts s fits.1)
+    ∙ and_from (is_declared parts.symbols (symbol f) true (length (map number xs)))
+    (term_fits parts (written s)) (declared_back parts f true xs fits.0)
+    (written_fits parts s fits.1)
 
 -- over a result it is a redex
-pub written_over_result : (f : ℕ) (xs : List ℤ) (s : Ground) → IsResult s → IsRedex (written (stack.Frame f xs s))
+pub written_over_result : (f : ℕ) (xs : List ℤ) (s : Ground) → IsResult s →
+    IsRedex (written (stack.Frame f xs s))
 written_over_result f xs (stack.Ret k) result = ReturnRedex (symbol f) (map number xs) (number k)
 written_over_result f xs (stack.Fail c) result = FailRedex (symbol f) (map number xs) c
 written_over_result f xs (stack.Call g ys) result = absurd result

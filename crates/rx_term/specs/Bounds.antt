@@ -1,4 +1,5 @@
--- The least number above all variables of terms and equations, at every level; 0 where there is none.
+-- The least number above all variables of terms and equations, at every level; 0 where there is
+-- none.
 use Rattle.std.specs.Prelude.{ℕ, max, List}
 use Rattle.rx_poly.specs.Limits.{greatest}
 use Rattle.rx_poly.specs.Variables.{variable_bound}

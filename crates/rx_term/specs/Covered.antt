@@ -41,8 +41,8 @@ KeepsDomains inside domains =
     (t : Term) → IsRedex t → (a : ℕ → ℤ) → inside (ground_at a t)
     → domains (shape_of t) (worth a (matched t))
 
--- a rule of the redex's shape whose rows hold, with the redex's arguments in place of its variables;
--- in a well made set such a rule steps the redex
+-- a rule of the redex's shape whose rows hold, with the redex's arguments in place of its
+-- variables; in a well made set such a rule steps the redex
 pub record CanStep (rules : List Rule) (t : Term) (a : ℕ → ℤ) : Type 0 where
   pub rule : Rule
   pub among : Contains rules rule

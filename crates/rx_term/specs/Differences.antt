@@ -1,4 +1,5 @@
--- Differences of polynomials, one by one: two lists have equal values, one by one, where all these are 0.
+-- Differences of polynomials, one by one: two lists have equal values, one by one, where all these
+-- are 0.
 use Rattle.std.specs.Prelude.{List}
 use Rattle.std.specs.List.{zip}
 use Rattle.rx_plain.specs.Formed.{Formed, kept, map_formed}

@@ -1,4 +1,5 @@
--- A rule set that meets the premises of all laws: a point and a frame, rules with rows, and a failure.
+-- A rule set that meets the premises of all laws: a point and a frame, rules with rows, and a
+-- failure.
 --
 --   0  f(v0) -> ret(0)       [v0 = 0]
 --   1  f(v0) -> g(v0; f(0))  [v0 != 0]
@@ -26,7 +27,13 @@ abbrev pub g : Sym
 g = record { 0 = 1 }
 
 abbrev pub ends : Rule
-ends = record { left = Call f (variable 0 ∷ []); right = Return (number (pos 0)); rows = Eq (variable 0) ∷ [] }
+ends =
+    record {
+      left = Call f (variable 0 ∷ []);
+      right = Return (number (pos 0));
+      rows =
+          Eq (variable 0) ∷ [];
+    }
 
 abbrev pub goes_on : Rule
 goes_on = record {

@@ -15,7 +15,8 @@ is_alike false false = true
 -- the symbol is declared, as a frame or as a point, with so many arguments
 abbrev pub is_declared : List SymInfo → Sym → Bool → ℕ → Bool
 is_declared symbols f frame count =
-    option_map_or (λ (s : SymInfo). is_alike s.frame frame && nat_eq s.arity count) (slice_get symbols f.0) false
+    option_map_or (λ (s : SymInfo). is_alike s.frame frame && nat_eq s.arity count)
+    (slice_get symbols f.0) false
 
 -- the failure code is one from 1 to the greatest
 abbrev pub code_fits : ℕ → ℕ → Bool

@@ -28,7 +28,8 @@ is_variable_product n (x ∷ xs) = is_empty xs && is_variable_atom n (out-Atom x
 -- the sum is that variable alone, once
 abbrev pub is_variable_sum : ℕ → List (Mono × ℤ) → Bool
 is_variable_sum n [] = false
-is_variable_sum n (t ∷ ts) = is_empty ts && (int_eq t.1 (pos 1) && is_variable_product n (out-Mono t.0).atoms)
+is_variable_sum n (t ∷ ts) =
+    is_empty ts && (int_eq t.1 (pos 1) && is_variable_product n (out-Mono t.0).atoms)
 
 -- the polynomial is that variable
 abbrev pub is_variable : ℕ → Body → Bool
@@ -39,9 +40,11 @@ abbrev pub are_variables : ℕ → List Body → Bool
 are_variables n [] = true
 are_variables n (p ∷ ps) = is_variable n p && are_variables (n + 1) ps
 
--- how many variables these are, where they are the first in order and no more than there are variables
+-- how many variables these are, where they are the first in order and no more than there are
+-- variables
 abbrev pub variable_count : List Body → Option ℕ
-variable_count ps = if are_variables 0 ps && nat_le (length ps) (2 ^ 31) then Some (length ps) else None
+variable_count ps =
+    if are_variables 0 ps && nat_le (length ps) (2 ^ 31) then Some (length ps) else None
 
 -- with what stands under a frame of so many variables
 abbrev pub width_over : ℕ → Term-F Term → Option ℕ
@@ -55,7 +58,8 @@ abbrev pub left_width_level : Term-F Term → Option ℕ
 left_width_level (Term-F.Return p) = None
 left_width_level (Term-F.Fail c) = None
 left_width_level (Term-F.Call f ps) = variable_count ps
-left_width_level (Term-F.Frame f ps inner) = option_and_then (λ n. width_over n (out-Term inner)) (variable_count ps)
+left_width_level (Term-F.Frame f ps inner) =
+    option_and_then (λ n. width_over n (out-Term inner)) (variable_count ps)
 
 abbrev pub left_width : Term → Option ℕ
 left_width t = left_width_level (out-Term t)
@@ -63,7 +67,8 @@ left_width t = left_width_level (out-Term t)
 -- the sides fit, and the right side and the rows use only so many variables
 abbrev pub is_made_over : RuleParts → Rule → ℕ → Bool
 is_made_over parts rule n =
-    term_fits parts rule.left && (term_fits parts rule.right && (term_uses_below n rule.right && rows_use_below n rule.rows))
+    term_fits parts rule.left && (term_fits parts rule.right &&
+    (term_uses_below n rule.right && rows_use_below n rule.rows))
 
 abbrev pub is_made : RuleParts → Rule → Bool
 is_made parts rule = option_map_or (λ n. is_made_over parts rule n) (left_width rule.left) false

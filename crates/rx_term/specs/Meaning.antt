@@ -29,7 +29,8 @@ ground_level a (Term-F.Frame f ps inner) = stack.Frame f.0 (values a ps) inner
 abbrev pub ground_at : (ℕ → ℤ) → Term → Ground
 ground_at a = fold-Term Ground (ground_level a)
 
--- a rule of the list takes s to t: at some assignment its rows hold, and s and t are the ground terms of its sides
+-- a rule of the list takes s to t: at some assignment its rows hold, and s and t are the ground
+-- terms of its sides
 pub record Instance (rules : List Rule) (s t : Ground) : Type 0 where
   pub rule : Rule
   pub among : Contains rules rule
@@ -50,7 +51,8 @@ abbrev pub outer_level : (ℕ → ℤ) → Term-F Term → (Term → List StackF
 outer_level a (Term-F.Return p) further = []
 outer_level a (Term-F.Fail c) further = []
 outer_level a (Term-F.Call f ps) further = []
-outer_level a (Term-F.Frame f ps inner) further = record { symbol = f.0; arguments = values a ps } ∷ further inner
+outer_level a (Term-F.Frame f ps inner) further =
+    record { symbol = f.0; arguments = values a ps } ∷ further inner
 
 abbrev pub outer_frames : (ℕ → ℤ) → ℕ → Term → List StackFrame
 outer_frames a zero t = []
@@ -66,13 +68,15 @@ pub data IsRedex : Term → Type 0 where
   ReturnRedex : (f : Sym) (ps : List Body) (p : Body) → IsRedex (Frame f ps (Return p))
   FailRedex : (f : Sym) (ps : List Body) (c : ℕ) → IsRedex (Frame f ps (Fail c))
 
--- the redex of a ground term: its call, or its innermost frame where that stands over a result; a result has none
+-- the redex of a ground term: its call, or its innermost frame where that stands over a result; a
+-- result has none
 abbrev pub ground_redex : Ground → Option Ground
 ground_redex (stack.Ret k) = None
 ground_redex (stack.Fail c) = None
 ground_redex (stack.Call f xs) = Some (stack.Call f xs)
 ground_redex (stack.Frame f xs s) = Some (unwrap_or (ground_redex s) (stack.Frame f xs s))
 
--- v0, v1, .. as the polynomials of a term: what makes the left side of a rule of its shape into the term
+-- v0, v1, .. as the polynomials of a term: what makes the left side of a rule of its shape into the
+-- term
 abbrev pub matched : Term → List (ℕ × Body)
 matched t = enumerate_from 0 (arguments_of t)

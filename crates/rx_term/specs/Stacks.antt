@@ -1,4 +1,5 @@
--- Terms as stacks: their frames, the part behind some of them, and what stands in place of that part.
+-- Terms as stacks: their frames, the part behind some of them, and what stands in place of that
+-- part.
 use Rattle.std.specs.Prelude.{ℕ, zero, suc, ◌+◌, Bool, true, false, Option, Some, None}
 use Rattle.std.specs.Option.{option_map_or}
 use Rattle.rx_term.specs.declared.term.Sym.{Sym}
@@ -15,7 +16,8 @@ depth_level (Term-F.Frame f ps inner) = 1 + inner
 abbrev pub depth_of : Term → ℕ
 depth_of = fold-Term ℕ depth_level
 
--- how many frames stand over the redex: none over a call, all but the innermost over a result; a result has none
+-- how many frames stand over the redex: none over a call, all but the innermost over a result; a
+-- result has none
 abbrev pub redex_place_level : Term-F (Option ℕ) → Option ℕ
 redex_place_level (Term-F.Return p) = None
 redex_place_level (Term-F.Fail c) = None
@@ -103,7 +105,8 @@ replaced (suc n) t inner = over_frame (out-Term t) inner (λ rest. replaced n re
 abbrev pub replace_redex : Term → Term → Term
 replace_redex t inner = option_map_or (λ n. replaced n t inner) (redex_place t) t
 
--- the outermost frame over the other term, and what that frame was over; without a frame, the other term
+-- the outermost frame over the other term, and what that frame was over; without a frame, the other
+-- term
 abbrev pub turned_level : Term-F Term → Term → Term × Option Term
 turned_level (Term-F.Return p) upper = (upper, None)
 turned_level (Term-F.Fail c) upper = (upper, None)

@@ -1,4 +1,5 @@
--- Polynomials put in place of variables in terms: the term, and whether all that is formed on the way keeps the limits.
+-- Polynomials put in place of variables in terms: the term, and whether all that is formed on the
+-- way keeps the limits.
 use Rattle.std.specs.Prelude.{ℕ, Bool, true, ◌&&◌, List, map}
 use Rattle.std.specs.List.{list_all}
 use Rattle.rx_plain.specs.Formed.{Formed}

@@ -16,7 +16,8 @@ abbrev pub variables_from : ℕ → ℕ → List Body
 variables_from from zero = []
 variables_from from (suc n) = variable from ∷ variables_from (from + 1) n
 
--- a left side: a point over v0, v1, .., or a frame over these and over the next variable or a failure code
+-- a left side: a point over v0, v1, .., or a frame over these and over the next variable or a
+-- failure code
 pub data IsLeft : Term → Type 0 where
   OfPoint : (f : Sym) (n : ℕ) → IsLeft (Call f (variables_from 0 n))
   OverReturn : (f : Sym) (n : ℕ) → IsLeft (Frame f (variables_from 0 n) (Return (variable n)))
@@ -26,8 +27,8 @@ pub data IsLeft : Term → Type 0 where
 abbrev pub width : Term → ℕ
 width left = length (arguments_of left)
 
--- a rule that is well made: its left side is one, its terms fit, and no variable stands in it but those of the left
--- side, of which there are at most as many as there are variables
+-- a rule that is well made: its left side is one, its terms fit, and no variable stands in it but
+-- those of the left side, of which there are at most as many as there are variables
 pub record IsMade (parts : RuleParts) (rule : Rule) : Type 0 where
   pub form : IsLeft rule.left
   pub few : width rule.left ≤ 2 ^ 31

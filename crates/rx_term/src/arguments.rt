@@ -90,8 +90,8 @@ pub(crate) fn are_below(args: &[Poly], bound: u32) -> bool
     true
 }
 
-/// The polynomials of the first list minus those of the second, one by one, as far as both go. Large
-/// exactly where one of these differences passes the limits.
+/// The polynomials of the first list minus those of the second, one by one, as far as both go.
+/// Large exactly where one of these differences passes the limits.
 pub fn differences(alloc: Global, left: &[Poly], right: &[Poly]) -> Result<Items<Poly>, PolyEnd>
     ensures forms { Forms PolyEnd.Large result (differences left.now right.now) }
 {

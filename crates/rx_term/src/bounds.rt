@@ -18,8 +18,8 @@ fn polys_bound(polys: &[Poly]) -> u64
 }
 
 impl Term {
-    /// The least number above all variables of the term, at every level of its polynomials; 0 where it has
-    /// none. Takes no memory.
+    /// The least number above all variables of the term, at every level of its polynomials; 0 where
+    /// it has none. Takes no memory.
     pub fn variable_bound(&self) -> u64
         ensures { result ≡ term_bound self.now }
     {
@@ -40,8 +40,8 @@ impl Term {
 }
 
 impl Equation {
-    /// The least number above all variables of both sides and of the rows; 0 where there is none. Takes no
-    /// memory.
+    /// The least number above all variables of both sides and of the rows; 0 where there is none.
+    /// Takes no memory.
     pub fn variable_bound(&self) -> u64
         ensures { result ≡ equation_bound self.now }
     {

@@ -30,15 +30,15 @@ ghost use Rattle.rx_term.specs.declared.rule.Rule.{Rule};
 ghost use Rattle.rx_term.specs.declared.rule_set.RuleParts.{RuleParts};
 ghost use Rattle.rx_term.specs.declared.term.Term.{Term};
 
-/// A term with polynomials in place of its variables means what the term does where each variable is worth its
-/// polynomial.
+/// A term with polynomials in place of its variables means what the term does where each variable
+/// is worth its polynomial.
 pub fn substitution_and_values_commute()
     ensures { (a : ℕ → ℤ) (ws : List (ℕ × Body)) (t : Term) →
         ground_at a (in_term ws t) ≡ ground_at (worth a ws) t }
 {}
 
-/// With polynomials in place of its variables a term keeps its shape, its polynomials in order, each changed, and
-/// whether it fits.
+/// With polynomials in place of its variables a term keeps its shape, its polynomials in order,
+/// each changed, and whether it fits.
 #[tactic(auto, using(crate::proofs::KeepingLaws::arguments_in_term))]
 pub fn substitution_keeps_the_stack()
     ensures shape { (ws : List (ℕ × Body)) (t : Term) → shape_of (in_term ws t) ≡ shape_of t }
@@ -53,17 +53,20 @@ pub fn replacing_keeps_fitting()
     ensures behind { (parts : RuleParts) (n : ℕ) (t s : Term) →
         term_fits parts t ≡ true → behind n t ≡ Some s → term_fits parts s ≡ true }
     ensures replaced { (parts : RuleParts) (inner : Term) → term_fits parts inner ≡ true →
-        (n : ℕ) (t : Term) → term_fits parts t ≡ true → term_fits parts (replaced n t inner) ≡ true }
+        (n : ℕ) (t : Term) → term_fits parts t ≡ true → term_fits parts (replaced n t inner) ≡
+        true }
 {}
 
-/// Two fitting terms of one shape whose polynomials have equal values, one by one, mean one ground term.
+/// Two fitting terms of one shape whose polynomials have equal values, one by one, mean one ground
+/// term.
 pub fn equal_values_make_one_ground_term()
     ensures { (parts : RuleParts) (a b : ℕ → ℤ) (s t : Term) →
         term_fits parts s ≡ true → term_fits parts t ≡ true → shape_of s ≡ shape_of t →
         values a (arguments_of s) ≡ values b (arguments_of t) → ground_at a s ≡ ground_at b t }
 {}
 
-/// The part behind outer frames means what stands under the same ground frames, and so does what replaces it.
+/// The part behind outer frames means what stands under the same ground frames, and so does what
+/// replaces it.
 #[tactic(auto, using(crate::proofs::RedexLaws::ground_behind, crate::proofs::RedexLaws::ground_replaced))]
 pub fn parts_stand_under_ground_frames()
     ensures behind { (a : ℕ → ℤ) (n : ℕ) (t s : Term) → behind n t ≡ Some s →
@@ -72,8 +75,8 @@ pub fn parts_stand_under_ground_frames()
         ground_at a (replaced n t inner) ≡ under (outer_frames a n t) (ground_at a inner) }
 {}
 
-/// The redex of a term is a call, or a frame over a result, and means the redex of the ground term; the one has
-/// none exactly where the other has none.
+/// The redex of a term is a call, or a frame over a result, and means the redex of the ground term;
+/// the one has none exactly where the other has none.
 #[tactic(auto, using(crate::proofs::RedexLaws::redex_is))]
 pub fn redexes_mean_redexes()
     ensures form { (t s : Term) → redex_of t ≡ Some s → IsRedex s }
@@ -87,30 +90,37 @@ pub fn fitting_terms_have_fitting_ground_terms()
         term_fits parts t ≡ true → Fits (signature parts) (ground_at a t) }
 {}
 
-/// A rule steps each term that means what its left side does, with polynomials in place of its variables, where
-/// its rows hold so; and so it does where the term stands behind outer frames. This is said of any list of rules,
-/// and so of hypotheses too.
+/// A rule steps each term that means what its left side does, with polynomials in place of its
+/// variables, where its rows hold so; and so it does where the term stands behind outer frames.
+/// This is said of any list of rules, and so of hypotheses too.
 pub fn rules_step_their_instances()
     ensures here { (rules : List Rule) (a : ℕ → ℤ) (rule : Rule) (ws : List (ℕ × Body)) (t : Term) →
-        Contains rules rule → ground_at a (in_term ws rule.left) ≡ ground_at a t → AllHold a (in_rows ws rule.rows) →
+        Contains rules rule → ground_at a (in_term ws rule.left) ≡ ground_at a t →
+        AllHold a (in_rows ws rule.rows) →
         Instance rules (ground_at a t) (ground_at a (in_term ws rule.right)) }
-    ensures inside { (rules : List Rule) (a : ℕ → ℤ) (rule : Rule) (ws : List (ℕ × Body)) (t : Term) →
-        Contains rules rule → ground_at a (in_term ws rule.left) ≡ ground_at a t → AllHold a (in_rows ws rule.rows) →
+    ensures inside { (rules : List Rule) (a : ℕ → ℤ) (rule : Rule) (ws : List (ℕ × Body)) (t : Term)
+        →
+        Contains rules rule → ground_at a (in_term ws rule.left) ≡ ground_at a t →
+        AllHold a (in_rows ws rule.rows) →
         (n : ℕ) (whole : Term) → behind n whole ≡ Some t →
-        Step (Instance rules) (ground_at a whole) (ground_at a (replaced n whole (in_term ws rule.right))) }
+        Step (Instance rules) (ground_at a whole)
+        (ground_at a (replaced n whole (in_term ws rule.right))) }
 {}
 
-/// A rule of a well made set steps each fitting term of its shape at which its rows hold, with the term's
-/// polynomials in place of its variables; so it does where that term stands behind outer frames.
+/// A rule of a well made set steps each fitting term of its shape at which its rows hold, with the
+/// term's polynomials in place of its variables; so it does where that term stands behind outer
+/// frames.
 pub fn rules_step_terms_of_their_shape()
     ensures here { (parts : RuleParts) → IsWellMade parts → (a : ℕ → ℤ) (rule : Rule) (t : Term) →
         Contains parts.rules rule → term_fits parts t ≡ true → shape_of rule.left ≡ shape_of t →
         AllHold a (in_rows (matched t) rule.rows) →
         Instance parts.rules (ground_at a t) (ground_at a (in_term (matched t) rule.right)) }
-    ensures inside { (parts : RuleParts) → IsWellMade parts → (a : ℕ → ℤ) (rule : Rule) (n : ℕ) (t part : Term) →
+    ensures inside { (parts : RuleParts) → IsWellMade parts →
+        (a : ℕ → ℤ) (rule : Rule) (n : ℕ) (t part : Term) →
         Contains parts.rules rule → behind n t ≡ Some part → term_fits parts part ≡ true →
         shape_of rule.left ≡ shape_of part → AllHold a (in_rows (matched part) rule.rows) →
-        Step (Instance parts.rules) (ground_at a t) (ground_at a (replaced n t (in_term (matched part) rule.right))) }
+        Step (Instance parts.rules) (ground_at a t)
+        (ground_at a (replaced n t (in_term (matched part) rule.right))) }
 {}
 
 /// Steps by a well made set lead from fitting terms to fitting terms, and none starts at a result.
@@ -121,7 +131,8 @@ pub fn well_made_sets_keep_fitting()
     ensures rest { (parts : RuleParts) → IsWellMade parts → ResultsRest (Instance parts.rules) }
 {}
 
-/// A paired set is single-valued and covered, and has a step at every fitting term that is no result.
+/// A paired set is single-valued and covered, and has a step at every fitting term that is no
+/// result.
 #[tactic(auto, using(crate::proofs::PairedLaws::single_valued, crate::proofs::PairedLaws::paired_covers))]
 pub fn paired_sets_step_once()
     ensures once { (parts : RuleParts) → IsWellMade parts → IsPaired parts →
@@ -131,8 +142,9 @@ pub fn paired_sets_step_once()
         Moves (Fits (signature parts)) (Instance parts.rules) }
 {}
 
-/// In a covered set each fitting redex has, at all values of its arguments, a rule of its shape whose
-/// rows hold there. So in one that is well made each fitting term that is no result has a step.
+/// In a covered set each fitting redex has, at all values of its arguments, a rule of its shape
+/// whose rows hold there. So in one that is well made each fitting term that is no result has a
+/// step.
 pub fn covered_sets_step()
     ensures rule { (parts : RuleParts) → IsCovered parts → (t : Term) (a : ℕ → ℤ) →
         IsRedex t → term_fits parts t ≡ true → CanStep parts.rules t a }
@@ -158,7 +170,8 @@ pub fn covered_sets_step_inside<I: Inside>()
 {}
 
 /// Two assignments that agree below a number give a term all of whose variables are below it one
-/// ground term, and the same outer frames; rows all of whose variables are below it hold at both or at neither.
+/// ground term, and the same outer frames; rows all of whose variables are below it hold at both or
+/// at neither.
 pub fn variables_alone_decide_the_ground_term()
     ensures term { (a b : ℕ → ℤ) (n : ℕ) → ((v : ℕ) → v < n → a v ≡ b v) → (t : Term) →
         term_uses_below n t ≡ true → ground_at a t ≡ ground_at b t }
@@ -169,19 +182,20 @@ pub fn variables_alone_decide_the_ground_term()
 {}
 
 /// At the assignment that a list of integers is, the first variables have these integers as their
-/// values. Where arguments replace the first variables, each polynomial and all rows over these have the value,
-/// or hold, as at the list of the arguments' values.
+/// values. Where arguments replace the first variables, each polynomial and all rows over these
+/// have the value, or hold, as at the list of the arguments' values.
 pub fn arguments_are_assignments()
     ensures variables { (xs : List ℤ) → values (assigned xs) (variables_from 0 (length xs)) ≡ xs }
     ensures value { (a : ℕ → ℤ) (ps : List Body) (p : Body) → uses_below (length ps) p ≡ true →
         value (worth a (enumerate_from 0 ps)) p ≡ value (assigned (values a ps)) p }
-    ensures rows { (a : ℕ → ℤ) (ps : List Body) (rows : List Row) → rows_use_below (length ps) rows ≡ true →
+    ensures rows { (a : ℕ → ℤ) (ps : List Body) (rows : List Row) →
+        rows_use_below (length ps) rows ≡ true →
         AllHold (worth a (enumerate_from 0 ps)) rows ↔ AllHold (assigned (values a ps)) rows }
 {}
 
-/// The premises of these laws can be met at once: by a rule set with rows, a frame and a failure, and
-/// inside a set of fitting terms that leaves some out (`outside`). There each term that is no result
-/// has a step (`moves`).
+/// The premises of these laws can be met at once: by a rule set with rows, a frame and a failure,
+/// and inside a set of fitting terms that leaves some out (`outside`). There each term that is no
+/// result has a step (`moves`).
 pub fn the_premises_can_be_met()
     ensures made { IsWellMade example }
     ensures paired { IsPaired example }
@@ -193,18 +207,21 @@ pub fn the_premises_can_be_met()
     ensures moves { Moves IsInside (Instance example.rules) }
 {}
 
-/// All variables of a term, of rows, or of both sides and the rows of an equation are below a number
-/// exactly where it is at least the least number above them.
+/// All variables of a term, of rows, or of both sides and the rows of an equation are below a
+/// number exactly where it is at least the least number above them.
 pub fn bounds_are_the_least_above_all()
     ensures term { (n : ℕ) (t : Term) → (term_uses_below n t ≡ true) ↔ (term_bound t ≤ n) }
-    ensures rows { (n : ℕ) (rows : List Row) → (rows_use_below n rows ≡ true) ↔ (rows_bound rows ≤ n) }
+    ensures rows { (n : ℕ) (rows : List Row) →
+        (rows_use_below n rows ≡ true) ↔ (rows_bound rows ≤ n) }
     ensures equation { (n : ℕ) (e : Equation) →
-        (((term_uses_below n e.left && term_uses_below n e.right) && rows_use_below n e.rows) ≡ true)
+        (((term_uses_below n e.left && term_uses_below n e.right) && rows_use_below n e.rows) ≡
+        true)
         ↔ (equation_bound e ≤ n) }
 {}
 
-/// Polynomials in place of the first variables, as `at_args` puts them, are the polynomials by number:
-/// with the polynomials of a term these make the left side of a rule of its shape into the term.
+/// Polynomials in place of the first variables, as `at_args` puts them, are the polynomials by
+/// number: with the polynomials of a term these make the left side of a rule of its shape into the
+/// term.
 #[tactic(auto, using(crate::proofs::TogetherLaws::numbered_in_order))]
 pub fn arguments_are_numbered_in_order()
     ensures { (ps : List Body) → numbered ps ≡ enumerate_from 0 ps }

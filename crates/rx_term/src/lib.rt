@@ -1,5 +1,6 @@
-//! Terms that rewriting is done on, rules, and sets of rules. A term is a stack: frames outside, then a call
-//! or a result. All walks down a stack are loops, so a term may have as many frames as memory holds.
+//! Terms that rewriting is done on, rules, and sets of rules. A term is a stack: frames outside,
+//! then a call or a result. All walks down a stack are loops, so a term may have as many frames as
+//! memory holds.
 #![tactic(auto)]
 
 mod arguments;

@@ -120,7 +120,8 @@ impl Term {
         }
     }
 
-    /// The symbol of the outermost frame, or of the call where there is no frame; a result has none.
+    /// The symbol of the outermost frame, or of the call where there is no frame; a result has
+    /// none.
     pub fn root(&self) -> Option<Sym>
         ensures { result ≡ root_of self.now }
     {
@@ -143,8 +144,8 @@ impl Term {
         !here.is_result()
     }
 
-    /// The redex, borrowed: the innermost call, or the innermost frame where that is over a result. None
-    /// exactly where the term is a result. Takes no memory.
+    /// The redex, borrowed: the innermost call, or the innermost frame where that is over a result.
+    /// None exactly where the term is a result. Takes no memory.
     pub fn redex(&self) -> Option<&Term>
         ensures redex { option_copied result ≡ redex_of self.now }
         ensures none { IsNone result ↔ (is_result self.now ≡ true) }
@@ -297,8 +298,8 @@ impl Term {
         }
     }
 
-    /// Its polynomials, copied: those of outer frames first, from left to right, a result's last. Fails only
-    /// where there is no memory.
+    /// Its polynomials, copied: those of outer frames first, from left to right, a result's last.
+    /// Fails only where there is no memory.
     pub fn arguments(&self, alloc: Global) -> Result<Items<Poly>, AllocError>
         ensures { IfOk result (λ ps. ps ≡ arguments_of self.now) }
     {
@@ -378,7 +379,8 @@ impl Term {
     /// Large exactly where a polynomial on the way to them passes the limits.
     pub fn subst(&self, alloc: Global, with: &[(u32, Poly)]) -> Result<Term, PolyEnd>
         ensures forms { Forms PolyEnd.Large result (term_with with.now self.now) }
-        ensures value { IfOk result (λ t. (a : ℕ → ℤ) → ground_at a t ≡ ground_at (worth a with.now) self.now) }
+        ensures value { IfOk result (λ t. (a : ℕ → ℤ) → ground_at a t ≡
+            ground_at (worth a with.now) self.now) }
     {
         self.instance(alloc, Replacements::Listed(with))
     }
@@ -387,7 +389,8 @@ impl Term {
     /// v1, and so on; the other variables stay. Large exactly where `subst` is, for that list.
     pub fn at_args(&self, alloc: Global, args: &[Poly]) -> Result<Term, PolyEnd>
         ensures forms { Forms PolyEnd.Large result (term_with (numbered args.now) self.now) }
-        ensures value { IfOk result (λ t. (a : ℕ → ℤ) → ground_at a t ≡ ground_at (worth a (numbered args.now)) self.now) }
+        ensures value { IfOk result (λ t. (a : ℕ → ℤ) → ground_at a t ≡
+            ground_at (worth a (numbered args.now)) self.now) }
     {
         self.instance(alloc, Replacements::InOrder(args))
     }

@@ -7,18 +7,21 @@ use Rattle.rx_term_words.specs.Layers.{bracketed}
 
 module _ {A : Type 0} (before : List ℕ) (format : Format A) (behind : List ℕ)
     (stops : (left : List ℕ) → is_over format.goes_on (behind ++ left) ≡ true) where
-  whole_text : {bytes left : List ℕ} {x : A} → BeginsWith (bracketed before format behind) bytes x left
+  whole_text : {bytes left : List ℕ} {x : A} →
+      BeginsWith (bracketed before format behind) bytes x left
       → bytes ≡ before ++ (format.text x ++ (behind ++ left))
   whole_text {bytes} {left} {x} b =
       b.text ∙ append_assoc before (format.text x ++ behind) left
       ∙ (λ i. before ++ append_assoc (format.text x) behind left i)
 
   -- the thing itself stands behind the first word
-  pub between : {bytes rest left : List ℕ} {x : A} → BeginsWith (bracketed before format behind) bytes x left
+  pub between : {bytes rest left : List ℕ} {x : A} →
+      BeginsWith (bracketed before format behind) bytes x left
       → bytes ≡ before ++ rest → BeginsWith format rest x (behind ++ left)
   between {bytes} {rest} {left} {x} b e = record {
     in_range = b.in_range;
-    text = append_cancel_left before rest (format.text x ++ (behind ++ left)) (sym e ∙ whole_text b);
+    text =
+        append_cancel_left before rest (format.text x ++ (behind ++ left)) (sym e ∙ whole_text b);
     over = stops left;
   }
 

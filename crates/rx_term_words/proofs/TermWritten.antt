@@ -15,40 +15,52 @@ use Rattle.rx_term_words.proofs.TermLaws.{frame_text}
 -- ---- the equations of the three parts
 
 opening_Return : (p : Body) → opening_text (made.Return p) ≡ []
-opening_Return p = fold_out-Term (List ℕ) opening_level (made.Return p) ∙ rw (made.outs-Return p) refl
+opening_Return p =
+    fold_out-Term (List ℕ) opening_level (made.Return p) ∙ rw (made.outs-Return p) refl
 
 opening_Fail : (c : ℕ) → opening_text (made.Fail c) ≡ []
 opening_Fail c = fold_out-Term (List ℕ) opening_level (made.Fail c) ∙ rw (made.outs-Fail c) refl
 
 opening_Call : (f : Sym) (ps : List Body) → opening_text (made.Call f ps) ≡ []
-opening_Call f ps = fold_out-Term (List ℕ) opening_level (made.Call f ps) ∙ rw (made.outs-Call f ps) refl
+opening_Call f ps =
+    fold_out-Term (List ℕ) opening_level (made.Call f ps) ∙ rw (made.outs-Call f ps) refl
 
-pub opening_Frame : (f : Sym) (ps : List Body) (t : Term) → opening_text (made.Frame f ps t) ≡ applied_text f ps ++ (59 ∷ opening_text t)
-opening_Frame f ps t = fold_out-Term (List ℕ) opening_level (made.Frame f ps t) ∙ rw (made.outs-Frame f ps t) refl
+pub opening_Frame : (f : Sym) (ps : List Body) (t : Term) → opening_text (made.Frame f ps t) ≡
+    applied_text f ps ++ (59 ∷ opening_text t)
+opening_Frame f ps t =
+    fold_out-Term (List ℕ) opening_level (made.Frame f ps t) ∙ rw (made.outs-Frame f ps t) refl
 
 closing_Return : (p : Body) → closing_text (made.Return p) ≡ []
-closing_Return p = fold_out-Term (List ℕ) closing_level (made.Return p) ∙ rw (made.outs-Return p) refl
+closing_Return p =
+    fold_out-Term (List ℕ) closing_level (made.Return p) ∙ rw (made.outs-Return p) refl
 
 closing_Fail : (c : ℕ) → closing_text (made.Fail c) ≡ []
 closing_Fail c = fold_out-Term (List ℕ) closing_level (made.Fail c) ∙ rw (made.outs-Fail c) refl
 
 closing_Call : (f : Sym) (ps : List Body) → closing_text (made.Call f ps) ≡ []
-closing_Call f ps = fold_out-Term (List ℕ) closing_level (made.Call f ps) ∙ rw (made.outs-Call f ps) refl
+closing_Call f ps =
+    fold_out-Term (List ℕ) closing_level (made.Call f ps) ∙ rw (made.outs-Call f ps) refl
 
-pub closing_Frame : (f : Sym) (ps : List Body) (t : Term) → closing_text (made.Frame f ps t) ≡ 41 ∷ closing_text t
-closing_Frame f ps t = fold_out-Term (List ℕ) closing_level (made.Frame f ps t) ∙ rw (made.outs-Frame f ps t) refl
+pub closing_Frame : (f : Sym) (ps : List Body) (t : Term) → closing_text (made.Frame f ps t) ≡ 41 ∷
+    closing_text t
+closing_Frame f ps t =
+    fold_out-Term (List ℕ) closing_level (made.Frame f ps t) ∙ rw (made.outs-Frame f ps t) refl
 
 innermost_Return : (p : Body) → innermost_of (made.Return p) ≡ made.Return p
-innermost_Return p = fold_out-Term Term innermost_level (made.Return p) ∙ rw (made.outs-Return p) refl
+innermost_Return p =
+    fold_out-Term Term innermost_level (made.Return p) ∙ rw (made.outs-Return p) refl
 
 innermost_Fail : (c : ℕ) → innermost_of (made.Fail c) ≡ made.Fail c
 innermost_Fail c = fold_out-Term Term innermost_level (made.Fail c) ∙ rw (made.outs-Fail c) refl
 
 innermost_Call : (f : Sym) (ps : List Body) → innermost_of (made.Call f ps) ≡ made.Call f ps
-innermost_Call f ps = fold_out-Term Term innermost_level (made.Call f ps) ∙ rw (made.outs-Call f ps) refl
+innermost_Call f ps =
+    fold_out-Term Term innermost_level (made.Call f ps) ∙ rw (made.outs-Call f ps) refl
 
-pub innermost_Frame : (f : Sym) (ps : List Body) (t : Term) → innermost_of (made.Frame f ps t) ≡ innermost_of t
-innermost_Frame f ps t = fold_out-Term Term innermost_level (made.Frame f ps t) ∙ rw (made.outs-Frame f ps t) refl
+pub innermost_Frame : (f : Sym) (ps : List Body) (t : Term) → innermost_of (made.Frame f ps t) ≡
+    innermost_of t
+innermost_Frame f ps t =
+    fold_out-Term Term innermost_level (made.Frame f ps t) ∙ rw (made.outs-Frame f ps t) refl
 
 -- ---- the whole
 
@@ -99,7 +111,8 @@ innermost_again = induct (λ t. innermost_of (innermost_of t) ≡ innermost_of t
     (λ f ps t inner. rw (innermost_Frame f ps t) inner)
 
 -- and so written one behind the other
-pub written_in_three : (out : List ℕ) (t : Term) → ((out ++ opening_text t) ++ term_text (innermost_of t)) ++ closing_text t ≡ out ++ term_text t
+pub written_in_three : (out : List ℕ) (t : Term) →
+    ((out ++ opening_text t) ++ term_text (innermost_of t)) ++ closing_text t ≡ out ++ term_text t
 written_in_three out t =
     append_assoc (out ++ opening_text t) (term_text (innermost_of t)) (closing_text t)
     ∙ append_assoc out (opening_text t) (term_text (innermost_of t) ++ closing_text t)
@@ -113,7 +126,8 @@ flat_under = induct (λ t. depth_of (innermost_of t) ≡ 0)
     (λ f ps. rw (innermost_Call f ps) (depth-Call f ps))
     (λ f ps t inner. rw (innermost_Frame f ps t) inner)
 
-pub no_frame : (u : Term) (f : Sym) (ps : List Body) (t : Term) → u ≡ made.Frame f ps t → innermost_of u ≡ u → ⊥
+pub no_frame : (u : Term) (f : Sym) (ps : List Body) (t : Term) → u ≡ made.Frame f ps t →
+    innermost_of u ≡ u → ⊥
 no_frame u f ps t is same =
     let none = flat_under u in
     let some_ : depth_of u ≡ 1 + depth_of t = ap depth_of is ∙ depth-Frame f ps t in

@@ -1,4 +1,5 @@
--- What stands first in the text of a term: a frame, or a call or result; and terms up to their innermost call or result.
+-- What stands first in the text of a term: a frame, or a call or result; and terms up to their
+-- innermost call or result.
 use Rattle.std.specs.Prelude.{◌≡◌, ℕ, ◌≤◌, ◌-◌, ◌^◌, ◌||◌, ◌==◌, Bool, true, false, ◌&&◌, Option, Some, None, List, [], ◌∷◌, ◌++◌, length, drop, flat_map, codes}
 use Rattle.std.specs.List.{list_all}
 use Rattle.rx_poly.specs.declared.body.Body.{Body}
@@ -128,9 +129,11 @@ abbrev pub around : List (Sym × List Body) → Term → Term
 around [] inner = inner
 around (frame ∷ frames) inner = made.Frame frame.0 frame.1 (around frames inner)
 
--- the term with those frames, and the place behind what closes them; None exactly where they aren't closed
+-- the term with those frames, and the place behind what closes them; None exactly where they aren't
+-- closed
 abbrev pub Closes : List (Sym × List Body) → Term → List ℕ → ℕ → Option (Term × ℕ) → Type 0
 Closes frames inner bytes at (Some read) =
     (read.0 ≡ around frames inner)
-    × ((at ≤ read.1) × ((read.1 ≤ length bytes) × (drop at bytes ≡ closings frames ++ drop read.1 bytes)))
+    × ((at ≤ read.1) × ((read.1 ≤ length bytes) ×
+    (drop at bytes ≡ closings frames ++ drop read.1 bytes)))
 Closes frames inner bytes at None = (left : List ℕ) → ¬ (drop at bytes ≡ closings frames ++ left)

@@ -39,7 +39,8 @@ fn push_applied(sym: Sym, polys: &[Poly], out: &mut Vec<u8>) -> Result<(), NoMem
 
 /// A call.
 fn push_call(sym: Sym, polys: &[Poly], out: &mut Vec<u8>) -> Result<(), NoMemory>
-    ensures { OnOk result (out.new.items ≡ out.old.items ++ (applied_text sym polys.now ++ codes ")")) }
+    ensures { OnOk result (out.new.items ≡ out.old.items ++
+        (applied_text sym polys.now ++ codes ")")) }
 {
     push_applied(sym, polys, out)?;
     push_word(out, b")")

@@ -90,7 +90,8 @@ fn read_closed_term(
     }
 }
 
-/// The term whose text is the word at the place, and the place after it: `ret(P)`, `fail(N)`, a call
+/// The term whose text is the word at the place, and the place after it: `ret(P)`, `fail(N)`, a
+/// call
 /// `sN(P,..,P)`, or a frame `sN(P,..,P;T)`. None exactly where no such text stands there; its
 /// variables are below 1,000,000. It may have as many frames as memory holds.
 pub fn read_term(alloc: Global, bytes: &[u8], at: usize) -> Result<Option<(Term, usize)>, NoMemory>

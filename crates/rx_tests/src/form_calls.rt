@@ -1,5 +1,5 @@
-//! What a step makes of a goal. A list of rules is the rule set, but for the use of a hypothesis: there
-//! it is the list of hypotheses.
+//! What a step makes of a goal. A list of rules is the rule set, but for the use of a hypothesis:
+//! there it is the list of hypotheses.
 use crate::answer::Answer;
 use crate::reading::rules::{equation, rules};
 use crate::reading::steps::step;

@@ -15,7 +15,8 @@ use Rattle.rx_text.proofs.PolyTexts.{text_Var, text_Div, text_Mod}
 
 -- ---- pairs
 
-module _ {A : Type 0} (format : Format A) (comma : format.goes_on 44 ≡ false) (close : format.goes_on 41 ≡ false) where
+module _ {A : Type 0} (format : Format A) (comma : format.goes_on 44 ≡ false)
+    (close : format.goes_on 41 ≡ false) where
   pair_whole : (x y : A) (left : List ℕ)
       → (pairs format).text (x, y) ++ left ≡ format.text x ++ (44 ∷ (format.text y ++ (41 ∷ left)))
   pair_whole x y left =
@@ -66,7 +67,9 @@ module _ {A : Type 0} (format : Format A) (comma : format.goes_on 44 ≡ false) 
       → (bytes : List ℕ) (at : ℕ) {end : ℕ} {x : A} {pair : A × A} {left : List ℕ}
       → StandsAt format bytes at x end → BeginsWith (pairs format) (drop at bytes) pair left
       → drop end bytes ≡ 44 ∷ (format.text pair.1 ++ (41 ∷ left))
-  rest_is one bytes at {end} {x} {pair} {left} s b = (one (drop at bytes) x pair.0 (drop end bytes) (44 ∷ (format.text pair.1 ++ (41 ∷ left))) s.begins (pair_first b)).1
+  rest_is one bytes at {end} {x} {pair} {left} s b =
+      (one (drop at bytes) x pair.0 (drop end bytes) (44 ∷ (format.text pair.1 ++ (41 ∷ left)))
+      s.begins (pair_first b)).1
 
   pub no_comma : IsUnambiguous format → (bytes : List ℕ) (at : ℕ) {end : ℕ} {x : A}
       → StandsAt format bytes at x end → Skips (44 ∷ []) bytes end None
@@ -96,7 +99,8 @@ module _ {A : Type 0} (format : Format A) (comma : format.goes_on 44 ≡ false) 
       → Reads (pairs format) bytes at None
   no_close one bytes at {end} {after} {last} {x} {y} s k t never = λ pair left b.
       never left
-      (one (drop after bytes) y pair.1 (drop last bytes) (41 ∷ left) t.begins (second_is one bytes at s k b)).1
+      (one (drop after bytes) y pair.1 (drop last bytes) (41 ∷ left) t.begins
+      (second_is one bytes at s k b)).1
 
   pub digit_after : IsUnambiguous format
       → (bytes : List ℕ) (at : ℕ) {end after last behind : ℕ} {x y : A}
@@ -106,7 +110,8 @@ module _ {A : Type 0} (format : Format A) (comma : format.goes_on 44 ≡ false) 
   digit_after one bytes at {end} {after} {last} {behind} {x} {y} s k t m digit = λ pair left b.
       let close : 41 ∷ drop behind bytes ≡ 41 ∷ left =
       sym m.1.1
-      ∙ (one (drop after bytes) y pair.1 (drop last bytes) (41 ∷ left) t.begins (second_is one bytes at s k b)).1 in
+      ∙ (one (drop after bytes) y pair.1 (drop last bytes) (41 ∷ left) t.begins
+      (second_is one bytes at s k b)).1 in
       let same : drop behind bytes ≡ left = cc in
       both_ways (is_over is_digit left) (ap (is_over is_digit) (sym same) ∙ digit) b.over
 
@@ -155,12 +160,22 @@ module _ (inner : Body → Bool) where
       let is : x ≡ Div p q = sym (roll-out-Atom x) ∙ ap roll-Atom e ∙ rolls-Div p q in
       IsDiv p q ((pairs (sums inner)).text (p, q) ++ left) is
       (b.text ∙ ap (λ s. s ++ left) (ap atom_text is ∙ text_Div p q))
-      (record { in_range = ap (is_plain_level inner) (sym e) ∙ b.in_range; text = refl; over = b.over })
+      (record {
+        in_range = ap (is_plain_level inner) (sym e) ∙ b.in_range;
+        text = refl;
+        over =
+            b.over;
+      })
   kind_by {bytes} {left} {x} (Atom-F.Mod p q) e b =
       let is : x ≡ Mod p q = sym (roll-out-Atom x) ∙ ap roll-Atom e ∙ rolls-Mod p q in
       IsMod p q ((pairs (sums inner)).text (p, q) ++ left) is
       (b.text ∙ ap (λ s. s ++ left) (ap atom_text is ∙ text_Mod p q))
-      (record { in_range = ap (is_plain_level inner) (sym e) ∙ b.in_range; text = refl; over = b.over })
+      (record {
+        in_range = ap (is_plain_level inner) (sym e) ∙ b.in_range;
+        text = refl;
+        over =
+            b.over;
+      })
 
   pub kind_of : {bytes left : List ℕ} {x : Atom} → BeginsWith (atoms inner) bytes x left
       → Kind bytes x left

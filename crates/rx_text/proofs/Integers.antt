@@ -114,10 +114,12 @@ pub integers_unambiguous : IsUnambiguous integers
 integers_unambiguous bytes (pos m) (pos n) left right b c =
     let first =
     from_zero
-    (without_sign {z = pos m} (λ rest e. no_sign m left (ltb-true m (2 ^ 127) b.in_range) (sym b.text ∙ e)) b) in
+    (without_sign {z = pos m} (λ rest e. no_sign m left (ltb-true m (2 ^ 127) b.in_range)
+    (sym b.text ∙ e)) b) in
     let second =
     from_zero
-    (without_sign {z = pos n} (λ rest e. no_sign n right (ltb-true n (2 ^ 127) c.in_range) (sym c.text ∙ e)) c) in
+    (without_sign {z = pos n} (λ rest e. no_sign n right (ltb-true n (2 ^ 127) c.in_range)
+    (sym c.text ∙ e)) c) in
     let same = wide_one bytes first.0 second.0 left right first.3 second.3 in
     (first.1 ∙ ap pos same.0 ∙ sym second.1, same.1)
 integers_unambiguous bytes (pos m) (negsuc n) left right b c =
@@ -128,7 +130,8 @@ integers_unambiguous bytes (negsuc m) (negsuc n) left right b c =
     let first = under_zero (with_sign (natural_text (suc m) ++ left) {z = negsuc m} b.text b) in
     let second = under_zero (with_sign (natural_text (suc m) ++ left) {z = negsuc n} b.text c) in
     let same =
-    wide_one (natural_text (suc m) ++ left) (suc first.0) (suc second.0) left right first.3 second.3 in
+    wide_one (natural_text (suc m) ++ left) (suc first.0) (suc second.0) left right first.3 second.3
+    in
     let number : first.0 ≡ second.0 = omega (arith, same.0) in
     (first.1 ∙ ap negsuc number ∙ sym second.1, same.1)
 

@@ -67,16 +67,23 @@ module _ {A : Type 0} (byte : ℕ) (format : Format A) where
   cancel one stops [] xs bytes left a b o p e = (xs, refl, e, b)
   cancel one stops (t ∷ ts) [] bytes left a b o p e =
       absurd
-      (no_more (repeated byte format).goes_on byte (format.text t ++ row ts ++ bytes) p (sym e) (or_right (format.goes_on byte) (byte == byte) (eq-eqb byte byte refl)))
+      (no_more (repeated byte format).goes_on byte (format.text t ++ row ts ++ bytes) p (sym e)
+      (or_right (format.goes_on byte) (byte == byte) (eq-eqb byte byte refl)))
   cancel one stops (t ∷ ts) (x ∷ xs) bytes left a b o p e =
-      let whole : byte ∷ (format.text t ++ (row ts ++ bytes)) ≡ byte ∷ (format.text x ++ (row xs ++ left)) =
+      let whole : byte ∷ (format.text t ++ (row ts ++ bytes)) ≡ byte ∷
+      (format.text x ++ (row xs ++ left)) =
       sym (regroup t ts bytes) ∙ e ∙ regroup x xs left in
       let inside : format.text t ++ (row ts ++ bytes) ≡ format.text x ++ (row xs ++ left) = cc in
       let first = and_parts (format.in_range t) (list_all format.in_range ts) a in
       let second = and_parts (format.in_range x) (list_all format.in_range xs) b in
       let same = one (format.text t ++ (row ts ++ bytes)) t x (row ts ++ bytes) (row xs ++ left)
       (record { in_range = first.0; text = refl; over = row_over stops ts bytes o })
-      (record { in_range = second.0; text = inside; over = row_over stops xs left (over_first format.goes_on (λ next. next == byte) left p) }) in
+      (record {
+        in_range = second.0;
+        text = inside;
+        over =
+            row_over stops xs left (over_first format.goes_on (λ next. next == byte) left p);
+      }) in
       let rest = cancel one stops ts xs bytes left first.1 second.1 o p same.1 in
       (rest.0, (λ i. sym same.0 i ∷ rest.1 i), rest.2, rest.3)
 
@@ -94,7 +101,8 @@ module _ {A : Type 0} (byte : ℕ) (format : Format A) where
       ended [] e f = (sym (append-nil xs) ∙ sym e, f)
       ended (z ∷ zs) e f =
           absurd
-          (no_more (repeated byte format).goes_on byte (format.text z ++ row zs ++ right) b.over f (or_right (format.goes_on byte) (byte == byte) (eq-eqb byte byte refl)))
+          (no_more (repeated byte format).goes_on byte (format.text z ++ row zs ++ right) b.over f
+          (or_right (format.goes_on byte) (byte == byte) (eq-eqb byte byte refl)))
 
   -- what has been read from `start` up to `at`
   pub record ReadSoFar (bytes : List ℕ) (start : ℕ) (things : List A) (at : ℕ) : Type 0 where

@@ -43,7 +43,8 @@ text_of_terms [] = 48 ∷ []
 text_of_terms (t ∷ ts) = text_of_term t ++ flat_map (λ u. 43 ∷ text_of_term u) ts
 
 by_terms : (ts : List (Mono × ℤ))
-    → body_text_level (record { terms = map (λ (t : Mono × ℤ). (mono_text t.0, t.1)) ts }) ≡ text_of_terms ts
+    → body_text_level (record { terms = map (λ (t : Mono × ℤ). (mono_text t.0, t.1)) ts }) ≡
+    text_of_terms ts
 by_terms [] = refl
 by_terms (t ∷ ts) =
     ap (λ zs. text_of_term t ++ zs)

@@ -29,35 +29,36 @@ weaker p q (x ∷ xs) h a =
 
 -- ---- the variables of what is read
 
-module _ (inner : Body → Bool) (ih : (q : Body) → inner q ≡ true → uses_below 1000000 q ≡ true) where
-  atom_below_by : (x : Atom) (y : Atom-F Atom Body Mono) → out-Atom x ≡ y
-      → is_plain_level inner y ≡ true → atom_uses_below 1000000 x ≡ true
-  atom_below_by x (Atom-F.Var n) e h =
-      ap (atom_uses_below 1000000) (sym (roll-out-Atom x) ∙ ap roll-Atom e ∙ rolls-Var n)
-      ∙ below_Var 1000000 n ∙ h
-  atom_below_by x (Atom-F.Div p q) e h =
-      let b = and_parts (inner p) (inner q) h in
-      ap (atom_uses_below 1000000) (sym (roll-out-Atom x) ∙ ap roll-Atom e ∙ rolls-Div p q)
-      ∙ below_Div 1000000 p q
-      ∙ and_from (uses_below 1000000 p) (uses_below 1000000 q) (ih p b.0) (ih q b.1)
-  atom_below_by x (Atom-F.Mod p q) e h =
-      let b = and_parts (inner p) (inner q) h in
-      ap (atom_uses_below 1000000) (sym (roll-out-Atom x) ∙ ap roll-Atom e ∙ rolls-Mod p q)
-      ∙ below_Mod 1000000 p q
-      ∙ and_from (uses_below 1000000 p) (uses_below 1000000 q) (ih p b.0) (ih q b.1)
+module _ (inner : Body → Bool) (ih : (q : Body) → inner q ≡ true → uses_below 1000000 q ≡ true)
+  where
+    atom_below_by : (x : Atom) (y : Atom-F Atom Body Mono) → out-Atom x ≡ y
+        → is_plain_level inner y ≡ true → atom_uses_below 1000000 x ≡ true
+    atom_below_by x (Atom-F.Var n) e h =
+        ap (atom_uses_below 1000000) (sym (roll-out-Atom x) ∙ ap roll-Atom e ∙ rolls-Var n)
+        ∙ below_Var 1000000 n ∙ h
+    atom_below_by x (Atom-F.Div p q) e h =
+        let b = and_parts (inner p) (inner q) h in
+        ap (atom_uses_below 1000000) (sym (roll-out-Atom x) ∙ ap roll-Atom e ∙ rolls-Div p q)
+        ∙ below_Div 1000000 p q
+        ∙ and_from (uses_below 1000000 p) (uses_below 1000000 q) (ih p b.0) (ih q b.1)
+    atom_below_by x (Atom-F.Mod p q) e h =
+        let b = and_parts (inner p) (inner q) h in
+        ap (atom_uses_below 1000000) (sym (roll-out-Atom x) ∙ ap roll-Atom e ∙ rolls-Mod p q)
+        ∙ below_Mod 1000000 p q
+        ∙ and_from (uses_below 1000000 p) (uses_below 1000000 q) (ih p b.0) (ih q b.1)
 
-  term_below : (t : Mono × ℤ) → is_plain_term inner t ≡ true → mono_uses_below 1000000 t.0 ≡ true
-  term_below t h =
-      mono_below_is 1000000 t.0
-      ∙ weaker (is_plain_atom inner) (atom_uses_below 1000000) (out-Mono t.0).atoms
-      (λ x e. atom_below_by x (out-Atom x) refl e)
-      (and_parts (is_coefficient t.1) (list_all (is_plain_atom inner) (out-Mono t.0).atoms) h).1
+    term_below : (t : Mono × ℤ) → is_plain_term inner t ≡ true → mono_uses_below 1000000 t.0 ≡ true
+    term_below t h =
+        mono_below_is 1000000 t.0
+        ∙ weaker (is_plain_atom inner) (atom_uses_below 1000000) (out-Mono t.0).atoms
+        (λ x e. atom_below_by x (out-Atom x) refl e)
+        (and_parts (is_coefficient t.1) (list_all (is_plain_atom inner) (out-Mono t.0).atoms) h).1
 
-  plain_below : (p : Body) → is_plain inner p ≡ true → uses_below 1000000 p ≡ true
-  plain_below p h =
-      below_is 1000000 p
-      ∙ weaker (is_plain_term inner) (λ (t : Mono × ℤ). mono_uses_below 1000000 t.0)
-      (out-Body p).terms term_below h
+    plain_below : (p : Body) → is_plain inner p ≡ true → uses_below 1000000 p ≡ true
+    plain_below p h =
+        below_is 1000000 p
+        ∙ weaker (is_plain_term inner) (λ (t : Mono × ℤ). mono_uses_below 1000000 t.0)
+        (out-Body p).terms term_below h
 
 inside_below : (n : ℕ) (p : Body) → is_plain_inside n p ≡ true → uses_below 1000000 p ≡ true
 unfolding is_plain_inside
@@ -77,7 +78,8 @@ module _ (inner : Body → Bool) (n : ℕ) (ih : Parts inner n) where
       → atom_uses_below 1000000 x ≡ true → atom_depth x ≤ n → is_plain_level inner y ≡ true
   atom_plain_by x (Atom-F.Var v) e a b d =
       sym
-      (ap (atom_uses_below 1000000) (sym (roll-out-Atom x) ∙ ap roll-Atom e ∙ rolls-Var v) ∙ below_Var 1000000 v)
+      (ap (atom_uses_below 1000000) (sym (roll-out-Atom x) ∙ ap roll-Atom e ∙ rolls-Var v) ∙
+      below_Var 1000000 v)
       ∙ b
   atom_plain_by x (Atom-F.Div p q) e a b d =
       let is : x ≡ Div p q = sym (roll-out-Atom x) ∙ ap roll-Atom e ∙ rolls-Div p q in

@@ -47,8 +47,10 @@ row_poly {bytes} {left} {r} rest b e = record { in_range = b.in_range; text = e;
 pub rows_unambiguous : IsUnambiguous row_format
 rows_unambiguous bytes r s left right b c =
     let kind = same_kind r s (sym (b.text ∙ row_whole r left) ∙ (c.text ∙ row_whole s right)) in
-    let poly = polynomials_unambiguous (poly_text (poly_of r) ++ left) (poly_of r) (poly_of s) left right
-    (row_poly (poly_text (poly_of r) ++ left) b refl) (row_poly (poly_text (poly_of r) ++ left) c kind.0) in
+    let poly = polynomials_unambiguous (poly_text (poly_of r) ++ left) (poly_of r) (poly_of s) left
+    right
+    (row_poly (poly_text (poly_of r) ++ left) b refl)
+    (row_poly (poly_text (poly_of r) ++ left) c kind.0) in
     (kind.1 poly.0, poly.1)
 
 -- ---- what reading after a word tells

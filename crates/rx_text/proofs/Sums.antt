@@ -53,7 +53,9 @@ module _ (inner : Body → Bool) (one : IsUnambiguous (sums inner)) where
       → BeginsWith (terms inner) bytes t left → rest ≡ factors t.0 ++ left
       → BeginsWith (repeated 42 (atoms inner)) rest (out-Mono t.0).atoms left
   term_factors {bytes} {left} {t} rest b e = record {
-    in_range = (and_parts (is_coefficient t.1) (list_all (is_plain_atom inner) (out-Mono t.0).atoms) b.in_range).1;
+    in_range =
+        (and_parts (is_coefficient t.1) (list_all (is_plain_atom inner) (out-Mono t.0).atoms)
+        b.in_range).1;
     text = e;
     over = b.over;
   }
@@ -63,10 +65,12 @@ module _ (inner : Body → Bool) (one : IsUnambiguous (sums inner)) where
       let number =
       integers_unambiguous bytes t.1 u.1 (factors t.0 ++ left) (factors u.0 ++ right)
       (term_coefficient b) (term_coefficient c) in
-      let behind = factors_one (factors t.0 ++ left) (out-Mono t.0).atoms (out-Mono u.0).atoms left right
+      let behind = factors_one (factors t.0 ++ left) (out-Mono t.0).atoms (out-Mono u.0).atoms left
+      right
       (term_factors (factors t.0 ++ left) b refl) (term_factors (factors t.0 ++ left) c number.1) in
       let mono : t.0 ≡ u.0 =
-      sym (roll-out-Mono t.0) ∙ (λ i. roll-Mono (record { atoms = behind.0 i })) ∙ roll-out-Mono u.0 in
+      sym (roll-out-Mono t.0) ∙ (λ i. roll-Mono (record { atoms = behind.0 i })) ∙
+      roll-out-Mono u.0 in
       ((λ i. (mono i, number.0 i)), behind.1)
 
   -- where there is no coefficient, there is no term
@@ -100,7 +104,8 @@ module _ (inner : Body → Bool) (one : IsUnambiguous (sums inner)) where
       stuck 42 (atoms inner) (atoms_unambiguous inner one) refl bytes end r k never
       (term_factors (drop end bytes) b number.1)
 
-  pub term_stands : (bytes : List ℕ) (at : ℕ) {end place : ℕ} {c : ℤ} {things : List Atom} {t : Mono × ℤ}
+  pub term_stands : (bytes : List ℕ) (at : ℕ) {end place : ℕ} {c : ℤ} {things : List Atom}
+      {t : Mono × ℤ}
       → StandsAt integers bytes at c end → is_zero c ≡ false
       → ReadSoFar 42 (atoms inner) bytes end things place → Skips (42 ∷ []) bytes place None
       → t ≡ (of_atoms things, c) → StandsAt (terms inner) bytes at t place
@@ -118,7 +123,8 @@ module _ (inner : Body → Bool) (one : IsUnambiguous (sums inner)) where
           text =
               s.begins.text
               ∙ ap (λ b. integer_text c ++ b)
-              (read.text ∙ ap (λ xs. row 42 (atoms inner) xs ++ drop place bytes) (sym (atoms-of_atoms things)))
+              (read.text ∙ ap (λ xs. row 42 (atoms inner) xs ++ drop place bytes)
+              (sym (atoms-of_atoms things)))
               ∙ sym (term_whole (of_atoms things, c) (drop place bytes));
           over = read.over;
         };
@@ -167,7 +173,12 @@ module _ (inner : Body → Bool) (one : IsUnambiguous (sums inner)) where
       (over_first goes_on_with_term (λ next. next == 43) left o) in
       let number =
       integers_unambiguous bytes (pos 0) t.1 left (factors t.0 ++ rest)
-      (record { in_range = refl; text = e ∙ ap (λ s. s ++ left) (sym (decimal_digit 0 (omega arith))); over = digits })
+      (record {
+        in_range = refl;
+        text = e ∙ ap (λ s. s ++ left)
+            (sym (decimal_digit 0 (omega arith)));
+        over = digits;
+      })
       (term_coefficient b) in
       let parts =
       and_parts (is_coefficient t.1) (list_all (is_plain_atom inner) (out-Mono t.0).atoms)
@@ -224,7 +235,8 @@ module _ (inner : Body → Bool) (one : IsUnambiguous (sums inner)) where
       by {p} {left} (IsZero e t o) = zero left t o
       by (HasTerms x xs r e b c) = never x r b
 
-  pub no_term : (bytes : List ℕ) (at : ℕ) {end place after : ℕ} {t : Mono × ℤ} {things : List (Mono × ℤ)}
+  pub no_term : (bytes : List ℕ) (at : ℕ) {end place after : ℕ} {t : Mono × ℤ}
+      {things : List (Mono × ℤ)}
       → StandsAt (terms inner) bytes at t end → ReadSoFar 43 (terms inner) bytes end things place
       → Skips (43 ∷ []) bytes place (Some after) → Reads (terms inner) bytes after None
       → Reads (sums (is_plain inner)) bytes at None
@@ -237,7 +249,8 @@ module _ (inner : Body → Bool) (one : IsUnambiguous (sums inner)) where
           stuck 43 (terms inner) terms_unambiguous refl bytes end r k never
           (subst (λ l. BeginsWith (repeated 43 (terms inner)) l xs left) (sym first.1) c)
 
-  pub sum_stands : (bytes : List ℕ) (at : ℕ) {end place : ℕ} {t : Mono × ℤ} {things whole : List (Mono × ℤ)}
+  pub sum_stands : (bytes : List ℕ) (at : ℕ) {end place : ℕ} {t : Mono × ℤ}
+      {things whole : List (Mono × ℤ)}
       → StandsAt (terms inner) bytes at t end → ReadSoFar 43 (terms inner) bytes end things place
       → Skips (43 ∷ []) bytes place None → whole ≡ t ∷ things
       → StandsAt (sums (is_plain inner)) bytes at (of_terms whole) place

@@ -17,8 +17,10 @@ divided_formed d p q = kept is_within (divided d p q)
 
 -- the rules of a deed after others
 abbrev pub rules_after : List (ℕ × ℕ) → List Rule → Deed → Formed (List Rule)
-rules_after entries rules d = record { form = rules ++ rules_of_deed (entry_of entries) d; within = deed_within d }
+rules_after entries rules d =
+    record { form = rules ++ rules_of_deed (entry_of entries) d; within = deed_within d }
 
 -- the rules of an action after others
 abbrev pub action_after : List Rule → (ℕ → ℕ) → Point → Action → Formed (List Rule)
-action_after rules entry a action = record { form = rules ++ rules_of_action entry a action; within = action_within action }
+action_after rules entry a action =
+    record { form = rules ++ rules_of_action entry a action; within = action_within action }

@@ -56,8 +56,8 @@ fn push_rows(alloc: Global, rows: &mut Items<Row>, pre: &Expr) -> Result<(), Pol
     }
 }
 
-/// The rows of a precondition, from left to right, equal ones kept. Large exactly where a polynomial
-/// on the way to one of them passes the limits.
+/// The rows of a precondition, from left to right, equal ones kept. Large exactly where a
+/// polynomial on the way to one of them passes the limits.
 pub fn rows_of_pre(alloc: Global, pre: &Expr) -> Result<Constraint, PolyEnd>
     requires row_form { is_row_form pre.now ≡ true }
     ensures forms { Forms PolyEnd.Large result (pre_rows pre.now) }

@@ -97,7 +97,8 @@ fn push_jump(
     args: Items<Poly>,
     z: Point,
 ) -> Result<(), AllocError>
-    ensures { OnOk result (rules.new ≡ rules.old ++ spec.always (spec.call_of a) (spec.jump z args) ∷ []) }
+    ensures { OnOk result (rules.new ≡ rules.old ++
+        spec.always (spec.call_of a) (spec.jump z args) ∷ []) }
 {
     let left = call_of(alloc, a)?;
     rules.push(always(alloc, left, jump(z, args)))
@@ -112,7 +113,8 @@ fn push_test(
     y: Point,
     w: Point,
 ) -> Result<(), PolyEnd>
-    ensures forms { FormsAs (λ _. rules.new) PolyEnd.Large result (action_after rules.old (λ f. f) a (Action.Test row.now y w)) }
+    ensures forms { FormsAs (λ _. rules.new) PolyEnd.Large result
+        (action_after rules.old (λ f. f) a (Action.Test row.now y w)) }
 {
     let negated = row.negate(alloc)?;
     let yes = jump(y, first_variables(alloc, a.width)?);
@@ -132,7 +134,8 @@ fn push_division(
     right: &Poly,
     b: Point,
 ) -> Result<(), PolyEnd>
-    ensures forms { FormsAs (λ _. rules.new) PolyEnd.Large result (action_after rules.old (λ f. f) a (Action.Divide way left.now right.now b)) }
+    ensures forms { FormsAs (λ _. rules.new) PolyEnd.Large result
+        (action_after rules.old (λ f. f) a (Action.Divide way left.now right.now b)) }
 {
     let mut args = first_variables(alloc, a.width)?;
     args.push(divided(alloc, way, left, right)?)?;
@@ -152,7 +155,8 @@ fn push_call(
     args: &Items<Poly>,
     r: Point,
 ) -> Result<(), AllocError>
-    ensures { OnOk result (rules.new ≡ rules.old ++ spec.rules_of_action (λ f. entry) a (Action.Call 0 args.now r)) }
+    ensures { OnOk result (rules.new ≡ rules.old ++
+        spec.rules_of_action (λ f. entry) a (Action.Call 0 args.now r)) }
 {
     let mut copies = Items::new(alloc);
     for arg in args.as_slice() {
@@ -167,7 +171,8 @@ fn push_call(
 
 /// At a frame: what is returned is one variable more of a point, and a failure stays one.
 fn push_resume(alloc: Global, rules: &mut Items<Rule>, a: Point, b: Point) -> Result<(), AllocError>
-    ensures { OnOk result (rules.new ≡ rules.old ++ spec.rules_of_action (λ f. f) a (Action.Resume b)) }
+    ensures { OnOk result (rules.new ≡ rules.old ++
+        spec.rules_of_action (λ f. f) a (Action.Resume b)) }
 {
     let returned = Boxed::new(alloc, Term::Return(Poly::variable(alloc, a.width)?))?;
     let over_value = Term::Frame(Sym(a.symbol), first_variables(alloc, a.width)?, returned);
@@ -187,7 +192,8 @@ pub fn push_rules(
     entries: &[(u32, u32)],
     d: &Deed,
 ) -> Result<(), PolyEnd>
-    ensures forms { FormsAs (λ _. rules.new) PolyEnd.Large result (rules_after entries.now rules.old d.now) }
+    ensures forms { FormsAs (λ _. rules.new) PolyEnd.Large result
+        (rules_after entries.now rules.old d.now) }
 {
     let a = d.at;
     match &d.action {

@@ -47,11 +47,13 @@ abbrev pub contents : ℕ → (kind : TreeKind) → Format (Contents kind)
 contents n kind = words (contents_text kind) (are_readable n kind)
 
 text_of : (tree : CoverTree) →
-    tree_text tree ≡ tree_text_level (map-CoverTree CoverTree (List ℕ) tree_text (out-CoverTree tree))
+    tree_text tree ≡ tree_text_level (map-CoverTree CoverTree (List ℕ) tree_text
+    (out-CoverTree tree))
 text_of tree = fold_out-CoverTree (List ℕ) tree_text_level tree
 
 readable : (tree : CoverTree) →
-    is_readable_tree tree ≡ is_readable_level (map-CoverTree CoverTree Bool is_readable_tree (out-CoverTree tree))
+    is_readable_tree tree ≡ is_readable_level
+    (map-CoverTree CoverTree Bool is_readable_tree (out-CoverTree tree))
 readable tree = fold_out-CoverTree Bool is_readable_level tree
 
 depth_of : (tree : CoverTree) →
@@ -103,11 +105,14 @@ in_range_of n TreeKind.Split x =
     let r = x.1.1 in
     let deep : tree_depth tree ≡ 1 + max (tree_depth l) (tree_depth r) =
     depth_of tree ∙ rw (made.outs-Split x.0 l r) refl in
-    let read : is_readable_tree tree ≡ (is_readable_row x.0 && (is_readable_tree l && is_readable_tree r)) =
+    let read : is_readable_tree tree ≡ (is_readable_row x.0 &&
+    (is_readable_tree l && is_readable_tree r)) =
     readable tree ∙ rw (made.outs-Split x.0 l r) refl in
     (λ i. nat_le (deep i) (n + 1) && read i)
-    ∙ ap (λ t. t && (is_readable_row x.0 && (is_readable_tree l && is_readable_tree r))) (two_deeper (tree_depth l) (tree_depth r) n)
-    ∙ regroup (nat_le (tree_depth l) n) (nat_le (tree_depth r) n) (is_readable_row x.0) (is_readable_tree l) (is_readable_tree r)
+    ∙ ap (λ t. t && (is_readable_row x.0 && (is_readable_tree l && is_readable_tree r)))
+    (two_deeper (tree_depth l) (tree_depth r) n)
+    ∙ regroup (nat_le (tree_depth l) n) (nat_le (tree_depth r) n) (is_readable_row x.0)
+    (is_readable_tree l) (is_readable_tree r)
 in_range_of n TreeKind.Absurd x =
     let tree = made.Absurd x in
     let deep : tree_depth tree ≡ 1 = depth_of tree ∙ rw (made.outs-Absurd x) refl in
@@ -166,7 +171,8 @@ module _ (n : ℕ) where
   behind_word {bytes} {left} {rest} kind x b e = record {
     in_range = sym (in_range_of n kind x) ∙ b.in_range;
     text = append_cancel_left (tree_word kind) rest (contents_text kind x ++ left)
-        (sym e ∙ b.text ∙ ap (λ s. s ++ left) (text_behind kind x) ∙ append_assoc (tree_word kind) (contents_text kind x) left);
+        (sym e ∙ b.text ∙ ap (λ s. s ++ left) (text_behind kind x) ∙
+        append_assoc (tree_word kind) (contents_text kind x) left);
     over = b.over;
   }
 
@@ -185,17 +191,22 @@ module _ (n : ℕ) where
       Reads (trees_within (n + 1)) bytes at None
   no_kind bytes at never tree left b =
       let k = each_has_kind tree in
-      never k.0 (contents_text k.0 k.1 ++ left) (whole_text k.0 k.1 (subst (Begins (drop at bytes) left) (sym k.2) b))
+      never k.0 (contents_text k.0 k.1 ++ left)
+      (whole_text k.0 k.1 (subst (Begins (drop at bytes) left) (sym k.2) b))
 
   -- what was read behind the word of a kind is what was read from its beginning
-  pub reads_tree : (kind : TreeKind) (bytes : List ℕ) (at next : ℕ) (r : Option (Contents kind × ℕ)) → ReadsTreeKind bytes at (Some (kind, next)) →
-      Reads (contents n kind) bytes next r → Reads (trees_within (n + 1)) bytes at (option_map (λ read. (tree_of kind read.0, read.1)) r)
+  pub reads_tree : (kind : TreeKind) (bytes : List ℕ) (at next : ℕ) (r : Option (Contents kind × ℕ))
+      → ReadsTreeKind bytes at (Some (kind, next)) →
+      Reads (contents n kind) bytes next r → Reads (trees_within (n + 1)) bytes at
+      (option_map (λ read. (tree_of kind read.0, read.1)) r)
   reads_tree kind bytes at next None k h = λ tree left b.
       let t = each_has_kind tree in
       let c = subst (Begins (drop at bytes) left) (sym t.2) b in
       let same =
-      same_kind t.0 kind (contents_text t.0 t.1 ++ left) (drop next bytes) (sym (whole_text t.0 t.1 c) ∙ k.1.1) in
-      subst (λ (j : TreeKind). (y : Contents j) → Begins (drop at bytes) left (tree_of j y) → ⊥) (sym same)
+      same_kind t.0 kind (contents_text t.0 t.1 ++ left) (drop next bytes)
+      (sym (whole_text t.0 t.1 c) ∙ k.1.1) in
+      subst (λ (j : TreeKind). (y : Contents j) → Begins (drop at bytes) left (tree_of j y) → ⊥)
+      (sym same)
       (λ y d. h y left (behind_word kind y d k.1.1)) t.1 c
   reads_tree kind bytes at next (Some r) k h = record {
     forward = omega (arith, h.forward, k.0);
@@ -213,15 +224,18 @@ module _ (n : ℕ) where
   contents_once : IsUnambiguous (trees_within n) → (kind : TreeKind) →
       IsUnambiguous (contents n kind)
   contents_once once TreeKind.Use =
-      pairs_once numbers.text numbers.in_range certificate_lists.text certificate_lists.in_range numbers_once certificate_lists_once
+      pairs_once numbers.text numbers.in_range certificate_lists.text certificate_lists.in_range
+      numbers_once certificate_lists_once
   contents_once once TreeKind.Split =
-      pairs_once row_format.text row_format.in_range (branches_within n).text (branches_within n).in_range rows_once
+      pairs_once row_format.text row_format.in_range (branches_within n).text
+      (branches_within n).in_range rows_once
       (pairs_once tree_text (trees_within n).in_range tree_text (trees_within n).in_range once once)
   contents_once once TreeKind.Absurd = certificates_once 200
 
   abbrev Alone : List ℕ → List ℕ → List ℕ → CoverTree → TreeKind → Type 0
   Alone bytes left right tree kind =
-      (y : Contents kind) → Begins bytes right (tree_of kind y) → (tree ≡ tree_of kind y) × (left ≡ right)
+      (y : Contents kind) → Begins bytes right (tree_of kind y) → (tree ≡ tree_of kind y) ×
+      (left ≡ right)
 
   deeper_once : IsUnambiguous (trees_within n) → IsUnambiguous (trees_within (n + 1))
   deeper_once once bytes x y left right b c =
@@ -234,7 +248,8 @@ module _ (n : ℕ) where
       let same =
       same_kind j.0 k.0 rest (contents_text k.0 k.1 ++ right) (sym w ∙ whole_text k.0 k.1 e) in
       let alone : Alone bytes left right (tree_of j.0 j.1) j.0 =
-      (λ z f. let s = contents_once once j.0 rest j.1 z left right (behind_word j.0 j.1 d w) (behind_word j.0 z f w) in (ap (tree_of j.0) s.0, s.1)) in
+      (λ z f. let s = contents_once once j.0 rest j.1 z left right (behind_word j.0 j.1 d w)
+      (behind_word j.0 z f w) in (ap (tree_of j.0) s.0, s.1)) in
       let t = subst (Alone bytes left right (tree_of j.0 j.1)) same alone k.1 e in
       (sym j.2 ∙ t.0 ∙ k.2, t.1)
 

@@ -13,15 +13,20 @@ use Rattle.rx_tree_words.proofs.TreeWords.{text_behind}
 
 module _ (out : List ℕ) where
   pub use_written : (rule : ℕ) (certs : List Cert) →
-      out ++ (tree_word TreeKind.Use ++ uses.text (rule, certs)) ≡ out ++ tree_text (made.Use rule certs)
+      out ++ (tree_word TreeKind.Use ++ uses.text (rule, certs)) ≡ out ++
+      tree_text (made.Use rule certs)
   use_written rule certs = ap (λ s. out ++ s) (sym (text_behind TreeKind.Use (rule, certs)))
 
   pub split_written : (row : Row) (x y : CoverTree) →
-      ((out ++ (tree_word TreeKind.Split ++ row_text row)) ++ (32 ∷ tree_text x)) ++ (32 ∷ tree_text y) ≡ out ++ tree_text (made.Split row x y)
+      ((out ++ (tree_word TreeKind.Split ++ row_text row)) ++ (32 ∷ tree_text x)) ++
+      (32 ∷ tree_text y) ≡ out ++ tree_text (made.Split row x y)
   split_written row x y =
-      append_assoc (out ++ (tree_word TreeKind.Split ++ row_text row)) (32 ∷ tree_text x) (32 ∷ tree_text y)
-      ∙ append_assoc out (tree_word TreeKind.Split ++ row_text row) (32 ∷ (tree_text x ++ (32 ∷ tree_text y)))
-      ∙ ap (λ s. out ++ s) (append_assoc (tree_word TreeKind.Split) (row_text row) (32 ∷ (tree_text x ++ (32 ∷ tree_text y))))
+      append_assoc (out ++ (tree_word TreeKind.Split ++ row_text row)) (32 ∷ tree_text x)
+      (32 ∷ tree_text y)
+      ∙ append_assoc out (tree_word TreeKind.Split ++ row_text row)
+      (32 ∷ (tree_text x ++ (32 ∷ tree_text y)))
+      ∙ ap (λ s. out ++ s) (append_assoc (tree_word TreeKind.Split) (row_text row)
+      (32 ∷ (tree_text x ++ (32 ∷ tree_text y))))
       ∙ ap (λ s. out ++ s) (sym (text_behind TreeKind.Split (row, (x, y))))
 
   pub absurd_written : (cert : Cert) →

@@ -14,7 +14,8 @@ use Rattle.rx_words.specs.Words.{numbers, spaced, words}
 abbrev pub tree_text_level : CoverTree-F (List ℕ) → List ℕ
 tree_text_level (CoverTree-F.Use rule certs) =
     spaced (codes "use" ∷ natural_text rule ∷ certificate_lists.text certs ∷ [])
-tree_text_level (CoverTree-F.Split row holds fails) = spaced (codes "split" ∷ row_text row ∷ holds ∷ fails ∷ [])
+tree_text_level (CoverTree-F.Split row holds fails) =
+    spaced (codes "split" ∷ row_text row ∷ holds ∷ fails ∷ [])
 tree_text_level (CoverTree-F.Absurd cert) = spaced (codes "absurd" ∷ certificates.text cert ∷ [])
 
 -- the text of a tree
@@ -23,7 +24,8 @@ tree_text = fold-CoverTree (List ℕ) tree_text_level
 
 -- all in it has a text; the depth of its certificates counts for each of them alone
 abbrev pub is_readable_level : CoverTree-F Bool → Bool
-is_readable_level (CoverTree-F.Use rule certs) = numbers.in_range rule && certificate_lists.in_range certs
+is_readable_level (CoverTree-F.Use rule certs) =
+    numbers.in_range rule && certificate_lists.in_range certs
 is_readable_level (CoverTree-F.Split row holds fails) = is_readable_row row && (holds && fails)
 is_readable_level (CoverTree-F.Absurd cert) = certificates.in_range cert
 

@@ -15,7 +15,8 @@ use rx_words::{push_cert, push_certs};
 
 /// A rule that applies, with its certificates.
 fn push_use(rule: u32, certs: &Items<Cert>, out: &mut Vec<u8>) -> Result<(), NoMemory>
-    ensures { OnOk result (out.new.items ≡ out.old.items ++ (tree_word TreeKind.Use ++ uses.text (rule, certs.now))) }
+    ensures { OnOk result (out.new.items ≡ out.old.items ++
+        (tree_word TreeKind.Use ++ uses.text (rule, certs.now))) }
 {
     push_word(out, b"use ")?;
     push_natural(out, rule)?;
@@ -25,7 +26,8 @@ fn push_use(rule: u32, certs: &Items<Cert>, out: &mut Vec<u8>) -> Result<(), NoM
 
 /// The first words of a row or its negation.
 fn push_row_split(row: &Row, out: &mut Vec<u8>) -> Result<(), NoMemory>
-    ensures { OnOk result (out.new.items ≡ out.old.items ++ (tree_word TreeKind.Split ++ row_text row.now)) }
+    ensures { OnOk result (out.new.items ≡ out.old.items ++
+        (tree_word TreeKind.Split ++ row_text row.now)) }
 {
     push_word(out, b"split ")?;
     push_row(out, row)
@@ -33,7 +35,8 @@ fn push_row_split(row: &Row, out: &mut Vec<u8>) -> Result<(), NoMemory>
 
 /// A certificate that no arguments meet the rows.
 fn push_absurd(cert: &Cert, out: &mut Vec<u8>) -> Result<(), NoMemory>
-    ensures { OnOk result (out.new.items ≡ out.old.items ++ (tree_word TreeKind.Absurd ++ cert_text cert.now)) }
+    ensures { OnOk result (out.new.items ≡ out.old.items ++
+        (tree_word TreeKind.Absurd ++ cert_text cert.now)) }
 {
     push_word(out, b"absurd ")?;
     push_cert(cert, out)

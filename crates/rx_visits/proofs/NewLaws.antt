@@ -25,9 +25,11 @@ module _ {N V R : Type 0} (view : N → V) (settled : V → Settled V R) (menu :
   abbrev closed_visit : List ℕ → Settled N R → Bool → Visit N R
   closed_visit path s closed = record { path = path; node = s.node; closed = closed; note = s.note }
 
-  pub closed_new : (a b : Progress N R) (path : List ℕ) (v : V) (s : Settled N R) → seen_settled view s ≡ settled v → s.closed ≡ true
+  pub closed_new : (a b : Progress N R) (path : List ℕ) (v : V) (s : Settled N R) →
+      seen_settled view s ≡ settled v → s.closed ≡ true
       → a.tally.ended ≡ Going → 0 < a.tally.left
-      → b.tally ≡ visited (a.tally.left - 1) a.tally (record { path = path; node = s.node; closed = true; note = s.note })
+      → b.tally ≡ visited (a.tally.left - 1) a.tally
+      (record { path = path; node = s.node; closed = true; note = s.note })
       → IsVisited view settled menu a (λ n. visits settled menu n path v) b
   closed_new a b path v s is closed going some tally =
       let t = seen_tally view a.tally in
@@ -38,12 +40,15 @@ module _ {N V R : Type 0} (view : N → V) (settled : V → Settled V R) (menu :
       ∙ visited_seen view left a.tally (closed_visit path s true)
       ∙ ap (λ (b : Bool). visited left t (seen_visit view (closed_visit path s b))) (sym closed)
       ∙ ap (λ (r : Settled V R). visited left t (alone path r)) is
-      ∙ sym (last-counts settled menu t 0 path v (going_seen view a.tally.ended going) some (inl refl)) in
+      ∙ sym (last-counts settled menu t 0 path v (going_seen view a.tally.ended going) some
+      (inl refl)) in
       visited_ending view settled menu a b (λ n. visits settled menu n path v) counts
-      (λ goes. let no : Found s.node ≡ Going = ap (λ (t : Tally N R). t.ended) (sym tally) ∙ goes in cc)
+      (λ goes. let no : Found s.node ≡ Going = ap (λ (t : Tally N R). t.ended) (sym tally) ∙ goes in
+      cc)
 
   -- the visit of one that isn't closed
-  pub open_new : (a b : Progress N R) (path : List ℕ) (v : V) (s : Settled N R) → seen_settled view s ≡ settled v → s.closed ≡ false
+  pub open_new : (a b : Progress N R) (path : List ℕ) (v : V) (s : Settled N R) →
+      seen_settled view s ≡ settled v → s.closed ≡ false
       → a.tally.ended ≡ Going → 0 < a.tally.left
       → b.tally ≡ visited_open (a.tally.left - 1) a.tally path s.note
       → b.kept ≡ a.kept ++ Frontier (record { path = path; node = s.node; below = 0 }) ∷ []
@@ -52,47 +57,63 @@ module _ {N V R : Type 0} (view : N → V) (settled : V → Settled V R) (menu :
       let t = seen_tally view a.tally in
       let left = a.tally.left - 1 in
       let r = seen_settled view s in
-      let ends : (settled v).closed ≡ false = ap (λ (r : Settled V R). r.closed) (sym is) ∙ unclosed in
+      let ends : (settled v).closed ≡ false = ap (λ (r : Settled V R). r.closed) (sym is) ∙
+      unclosed in
       let counts : seen_tally view b.tally ≡ counted t (visits settled menu 0 path v) =
       ap (seen_tally view) tally
       ∙ open_visit left t path s.note (alone path r) unclosed refl
       ∙ ap (λ (r : Settled V R). visited left t (alone path r)) is
-      ∙ sym (last-counts settled menu t 0 path v (going_seen view a.tally.ended going) some (inl refl)) in
+      ∙ sym (last-counts settled menu t 0 path v (going_seen view a.tally.ended going) some
+      (inl refl)) in
       let noted : IsAfterNote b.tally.note (alone path r) =
-      subst (λ (u : Tally N R). IsAfterNote u.note (alone path r)) (sym tally) (note_counts a.tally.note (note_of (alone path r))) in
-      let from : (n : ℕ) → visits settled menu (n + 1) path v ≡ visits_from settled menu (n + 0) path r = λ n.
+      subst (λ (u : Tally N R). IsAfterNote u.note (alone path r)) (sym tally)
+      (note_counts a.tally.note (note_of (alone path r))) in
+      let from : (n : ℕ) → visits settled menu (n + 1) path v ≡
+      visits_from settled menu (n + 0) path r = λ n.
       let less : (n + 1) - 1 ≡ n + 0 = omega arith in
       let more : 0 < n + 1 = omega arith in
       visits-more settled menu (n + 1) path v more ends
       ∙ ap (λ k. visits_from settled menu k path (settled v)) less
       ∙ ap (visits_from settled menu (n + 0) path) (sym is) in
-      visited_push view settled menu a b (Frontier (record { path = path; node = s.node; below = 0 })) (λ n. visits settled menu n path v)
+      visited_push view settled menu a b (Frontier
+      (record { path = path; node = s.node; below = 0 })) (λ n. visits settled menu n path v)
       going counts kept
       (r, record { seen = refl; unclosed = unclosed; noted = noted }, from)
 
   -- so where there was memory
-  pub open_new_made : {E : Type 0} (a : Progress N R) (r : Result (Progress N R) E) (path : List ℕ) (v : V) (s : Settled N R)
-      → seen_settled view s ≡ settled v → s.closed ≡ false → a.tally.ended ≡ Going → 0 < a.tally.left
+  pub open_new_made : {E : Type 0} (a : Progress N R) (r : Result (Progress N R) E) (path : List ℕ)
+      (v : V) (s : Settled N R)
+      → seen_settled view s ≡ settled v → s.closed ≡ false → a.tally.ended ≡ Going → 0 <
+      a.tally.left
       → IfOk r (λ b. b.tally ≡ visited_open (a.tally.left - 1) a.tally path s.note)
-      → IfOk r (λ b. b.kept ≡ a.kept ++ Frontier (record { path = path; node = s.node; below = 0 }) ∷ [])
+      → IfOk r (λ b. b.kept ≡ a.kept ++ Frontier (record { path = path; node = s.node; below = 0 })
+      ∷ [])
       → IfOk r (IsVisited view settled menu a (λ n. visits settled menu n path v))
-  open_new_made a (Ok b) path v s is unclosed going some tally kept = open_new a b path v s is unclosed going some tally kept
+  open_new_made a (Ok b) path v s is unclosed going some tally kept =
+      open_new a b path v s is unclosed going some tally kept
   open_new_made a (Err e) path v s is unclosed going some tally kept = tt
 
 module _ {N V R : Type 0} (view : N → V) (settled : V → Settled V R) (menu : V → Menu V R) where
   -- the node of one choice more
   choice_more : (n : ℕ) (path : List ℕ) (cs : List (Choice V)) (c : Choice V)
-      → visits_of settled menu n path cs ++ visits settled menu n (path ++ c.number ∷ []) c.node ≡ visits_of settled menu n path (cs ++ c ∷ [])
+      → visits_of settled menu n path cs ++ visits settled menu n (path ++ c.number ∷ []) c.node ≡
+      visits_of settled menu n path (cs ++ c ∷ [])
   choice_more n path cs c =
-      ap (λ (vs : List (Visit V R)). visits_of settled menu n path cs ++ vs) (sym (append-nil (visits settled menu n (path ++ c.number ∷ []) c.node)))
-      ∙ sym (flat_map-append (λ (c : Choice V). visits settled menu n (path ++ c.number ∷ []) c.node) cs (c ∷ []))
+      ap (λ (vs : List (Visit V R)). visits_of settled menu n path cs ++ vs)
+      (sym (append-nil (visits settled menu n (path ++ c.number ∷ []) c.node)))
+      ∙ sym (flat_map-append (λ (c : Choice V).
+      visits settled menu n (path ++ c.number ∷ []) c.node) cs (c ∷ []))
 
-  pub each_more : (n : ℕ) (path at : List ℕ) (cs : List (Choice N)) (c : Choice N) (i : ℕ) → at ≡ path ++ c.number ∷ [] → i < length cs → c ≡ get_or cs i c
-      → visits_of settled menu n path (map (seen_choice view) (take i cs)) ++ visits settled menu n at (view c.node)
+  pub each_more : (n : ℕ) (path at : List ℕ) (cs : List (Choice N)) (c : Choice N) (i : ℕ) → at ≡
+      path ++ c.number ∷ [] → i < length cs → c ≡ get_or cs i c
+      → visits_of settled menu n path (map (seen_choice view) (take i cs)) ++
+      visits settled menu n at (view c.node)
       ≡ visits_of settled menu n path (map (seen_choice view) (take (i + 1) cs))
   each_more n path at cs c i longer below is =
-      ap (λ p. visits_of settled menu n path (map (seen_choice view) (take i cs)) ++ visits settled menu n p (view c.node)) longer
+      ap (λ p. visits_of settled menu n path (map (seen_choice view) (take i cs)) ++
+      visits settled menu n p (view c.node)) longer
       ∙ choice_more n path (map (seen_choice view) (take i cs)) (seen_choice view c)
       ∙ ap (visits_of settled menu n path)
       (sym (map-append (seen_choice view) (take i cs) (c ∷ []))
-      ∙ ap (map (seen_choice view)) (ap (λ (x : Choice N). take i cs ++ x ∷ []) is ∙ sym (take_more cs i c below)))
+      ∙ ap (map (seen_choice view)) (ap (λ (x : Choice N). take i cs ++ x ∷ []) is ∙
+      sym (take_more cs i c below)))

@@ -1,4 +1,5 @@
--- What a tally of visits comes to, in the order of closed nodes, notes, and whether there are more visits.
+-- What a tally of visits comes to, in the order of closed nodes, notes, and whether there are more
+-- visits.
 use Rattle.std.proofs.Common.{◌≡◌, ◌∙◌, ap, refl, sym, cond, ℕ, zero, suc, Bool, true, false, Option, Some, None, List, [], ◌∷◌, length, take}
 use Rattle.std.proofs.Math.Dec.{leb-suc-suc, leb-suc-zero, leb-zero}
 use Rattle.std.specs.Prelude.{nat_lt}
@@ -42,35 +43,51 @@ module _ {N R : Type 0} where
   -- what the visits come to, with a note from before
   abbrev outcome_after : ℕ → Option (Note R) → List (Visit N R) → Outcome N R
   outcome_after left note vs =
-      closed_or (first_closed (take left vs)) (noted_or (option_or note (first_note (take left vs))) (spent_if (nat_lt left (length vs))))
+      closed_or (first_closed (take left vs))
+      (noted_or (option_or note (first_note (take left vs)))
+      (spent_if (nat_lt left (length vs))))
 
   -- after the visit, which is closed or not
-  after_visit : (b : Bool) (left : ℕ) (first : Option (Note R)) (v : Visit N R) (vs : List (Visit N R)) (rest : Option (Visit N R)) (later : Outcome N R)
+  after_visit : (b : Bool) (left : ℕ) (first : Option (Note R)) (v : Visit N R)
+      (vs : List (Visit N R)) (rest : Option (Visit N R)) (later : Outcome N R)
       → tally_of (counted (going left first) vs) ≡ closed_or rest later
-      → tally_of (counted (record { left = left; note = first; ended = cond b (Found v.node) Going }) vs) ≡ closed_or (cond b (Some v) rest) later
+      → tally_of (counted (record {
+        left = left;
+        note = first;
+        ended =
+            cond b (Found v.node) Going;
+      }) vs) ≡ closed_or (cond b (Some v) rest) later
   after_visit true left first v vs rest later h =
-      ap tally_of (ended-stays (record { left = left; note = first; ended = Found v.node }) vs (λ e. cc))
+      ap tally_of (ended-stays (record { left = left; note = first; ended = Found v.node }) vs
+      (λ e. cc))
   after_visit false left first v vs rest later h = h
 
   -- the outcome by whether there are more visits
   abbrev outcome_with : Option (Visit N R) → Option (Note R) → Bool → Outcome N R
   outcome_with closed note more = closed_or closed (noted_or note (spent_if more))
 
-  without : (note : Option (Note R)) (more : Bool) {b : Bool} → more ≡ b → noted_or {N = N} note (spent_if more) ≡ outcome_with None (option_or note None) b
+  without : (note : Option (Note R)) (more : Bool) {b : Bool} → more ≡ b →
+      noted_or {N = N} note (spent_if more) ≡ outcome_with None (option_or note None) b
   without note more e = let same = sym (or_none note) in λ i. outcome_with None (same i) (e i)
 
-  tally_comes : (vs : List (Visit N R)) (left : ℕ) (note : Option (Note R)) → tally_of (counted (going left note) vs) ≡ outcome_after left note vs
+  tally_comes : (vs : List (Visit N R)) (left : ℕ) (note : Option (Note R)) →
+      tally_of (counted (going left note) vs) ≡ outcome_after left note vs
   tally_comes [] zero note = without note false (sym (none_less 0))
   tally_comes [] (suc left) note = without note false (sym (none_less (suc left)))
   tally_comes (v ∷ vs) zero note =
-      ap tally_of (ended-stays (over (going 0 note)) vs (λ e. cc)) ∙ without note true (sym (some_less (length vs)))
+      ap tally_of (ended-stays (over (going 0 note)) vs (λ e. cc)) ∙
+      without note true (sym (some_less (length vs)))
   tally_comes (v ∷ vs) (suc left) note =
       after_visit v.closed left (option_or note (note_of v)) v vs (first_closed (take left vs))
-      (noted_or (option_or note (option_or (note_of v) (first_note (take left vs)))) (spent_if (nat_lt (suc left) (suc (length vs)))))
+      (noted_or (option_or note (option_or (note_of v) (first_note (take left vs))))
+      (spent_if (nat_lt (suc left) (suc (length vs)))))
       (tally_comes vs left (option_or note (note_of v))
       ∙ (let fewer = sym (less_suc left (length vs)) in
-      λ i. outcome_with (first_closed (take left vs)) (or_or note (note_of v) (first_note (take left vs)) i) (fewer i)))
+      λ i. outcome_with (first_closed (take left vs))
+      (or_or note (note_of v) (first_note (take left vs)) i) (fewer i)))
 
   -- the tally of all visits comes to their outcome
-  pub counted-outcome : (budget : ℕ) (vs : List (Visit N R)) → outcome_by (counted (begin budget) vs).ended (counted (begin budget) vs).note ≡ outcome budget vs
+  pub counted-outcome : (budget : ℕ) (vs : List (Visit N R)) →
+      outcome_by (counted (begin budget) vs).ended (counted (begin budget) vs).note ≡
+      outcome budget vs
   counted-outcome budget vs = tally_comes vs budget None

@@ -18,13 +18,15 @@ use Rattle.rx_words.proofs.Joined.{pairs_once}
 -- the kind whose word the first three bytes begin, and what stands behind the word
 abbrev told_s : ℕ → List ℕ → Kind × List ℕ
 told_s b rest =
-    cond (b == 117) (Kind.Sum, drop 1 rest) (cond (b == 112) (Kind.Split, drop 3 rest) (Kind.Solve, drop 3 rest))
+    cond (b == 117) (Kind.Sum, drop 1 rest) (cond (b == 112) (Kind.Split, drop 3 rest)
+    (Kind.Solve, drop 3 rest))
 
 abbrev told_d : ℕ → List ℕ → Kind × List ℕ
 told_d c rest = cond (c == 102) (Kind.Differ, drop 4 rest) (Kind.DivFacts, drop 1 rest)
 
 abbrev told : ℕ → ℕ → ℕ → List ℕ → Kind × List ℕ
-told a b c rest = cond (a == 99) (Kind.Cut, drop 1 rest) (cond (a == 100) (told_d c rest) (told_s b rest))
+told a b c rest =
+    cond (a == 99) (Kind.Cut, drop 1 rest) (cond (a == 100) (told_d c rest) (told_s b rest))
 
 abbrev told_from : List ℕ → Kind × List ℕ
 told_from [] = (Kind.Sum, [])
@@ -56,16 +58,21 @@ of_its_kind (Head.DivFacts num den) = refl
 
 -- one kind's fields are those of a plain format
 module _ {A : Type 0} (text : A → List ℕ) (in_range : A → Bool) (kind : Kind) (make : A → Head)
-    (same : (x : A) → fields_text (make x) ≡ text x) (ranged : (x : A) → is_readable_head (make x) ≡ in_range x)
+    (same : (x : A) → fields_text (make x) ≡ text x)
+    (ranged : (x : A) → is_readable_head (make x) ≡ in_range x)
     (only : (head : Head) → is_of kind head ≡ true → (x : A) × (head ≡ make x)) where
-  plain : {bytes left : List ℕ} {head : Head} (x : A) → head ≡ make x → BeginsWith (fields kind) bytes head left → BeginsWith (words text in_range) bytes x left
+  plain : {bytes left : List ℕ} {head : Head} (x : A) → head ≡ make x →
+      BeginsWith (fields kind) bytes head left → BeginsWith (words text in_range) bytes x left
   plain {bytes} {left} {head} x e b = record {
-    in_range = sym (ranged x) ∙ ap is_readable_head (sym e) ∙ (and_parts (is_of kind head) (is_readable_head head) b.in_range).1;
+    in_range =
+        sym (ranged x) ∙ ap is_readable_head (sym e) ∙
+        (and_parts (is_of kind head) (is_readable_head head) b.in_range).1;
     text = b.text ∙ ap (λ s. s ++ left) (ap fields_text e ∙ same x);
     over = b.over;
   }
 
-  pub fields_none : (bytes : List ℕ) (at : ℕ) → Reads (words text in_range) bytes at None → Reads (fields kind) bytes at None
+  pub fields_none : (bytes : List ℕ) (at : ℕ) → Reads (words text in_range) bytes at None →
+      Reads (fields kind) bytes at None
   fields_none bytes at never head left b =
       let x = only head (and_parts (is_of kind head) (is_readable_head head) b.in_range).0 in
       never x.0 left (plain x.0 x.1 b)
@@ -99,26 +106,36 @@ only_differ head e = absurd (let f : false ≡ true = e in cc)
 abbrev a_solution : ℕ × (ℕ × ℕ) → Head
 a_solution x = Head.Solve x.0 x.1.0 x.1.1
 
-only_solve : (head : Head) → is_of Kind.Solve head ≡ true → (x : ℕ × (ℕ × ℕ)) × (head ≡ a_solution x)
+only_solve : (head : Head) → is_of Kind.Solve head ≡ true → (x : ℕ × (ℕ × ℕ)) ×
+    (head ≡ a_solution x)
 only_solve (Head.Solve first second var) e = ((first, (second, var)), refl)
 only_solve head e = absurd (let f : false ≡ true = e in cc)
 
 abbrev a_division : Body × ℤ → Head
 a_division x = Head.DivFacts x.0 x.1
 
-only_division : (head : Head) → is_of Kind.DivFacts head ≡ true → (x : Body × ℤ) × (head ≡ a_division x)
+only_division : (head : Head) → is_of Kind.DivFacts head ≡ true → (x : Body × ℤ) ×
+    (head ≡ a_division x)
 only_division (Head.DivFacts num den) e = ((num, den), refl)
 only_division head e = absurd (let f : false ≡ true = e in cc)
 
-pub no_cut : (bytes : List ℕ) (at : ℕ) → Reads (pairs part_lists (word integers)) bytes at None → Reads (fields Kind.Cut) bytes at None
+pub no_cut : (bytes : List ℕ) (at : ℕ) → Reads (pairs part_lists (word integers)) bytes at None →
+    Reads (fields Kind.Cut) bytes at None
 no_cut =
-    fields_none (pairs part_lists (word integers)).text (pairs part_lists (word integers)).in_range Kind.Cut a_cut (λ x. refl) (λ x. refl) only_cut
+    fields_none (pairs part_lists (word integers)).text (pairs part_lists (word integers)).in_range
+    Kind.Cut a_cut (λ x. refl) (λ x. refl) only_cut
 
-pub no_solution : (bytes : List ℕ) (at : ℕ) → Reads (pairs numbers (pairs numbers variables)) bytes at None → Reads (fields Kind.Solve) bytes at None
+pub no_solution : (bytes : List ℕ) (at : ℕ) →
+    Reads (pairs numbers (pairs numbers variables)) bytes at None →
+    Reads (fields Kind.Solve) bytes at None
 no_solution =
-    fields_none (pairs numbers (pairs numbers variables)).text (pairs numbers (pairs numbers variables)).in_range Kind.Solve a_solution (λ x. refl) (λ x. refl) only_solve
+    fields_none (pairs numbers (pairs numbers variables)).text
+    (pairs numbers (pairs numbers variables)).in_range Kind.Solve a_solution (λ x. refl)
+    (λ x. refl) only_solve
 
-pub reads_solution : (bytes : List ℕ) (at : ℕ) (r : Option ((ℕ × (ℕ × ℕ)) × ℕ)) → Reads (pairs numbers (pairs numbers variables)) bytes at r → Reads (fields Kind.Solve) bytes at (solution r)
+pub reads_solution : (bytes : List ℕ) (at : ℕ) (r : Option ((ℕ × (ℕ × ℕ)) × ℕ)) →
+    Reads (pairs numbers (pairs numbers variables)) bytes at r →
+    Reads (fields Kind.Solve) bytes at (solution r)
 reads_solution bytes at None h = no_solution bytes at h
 reads_solution bytes at (Some r) h = record {
   forward = h.forward;
@@ -126,37 +143,62 @@ reads_solution bytes at (Some r) h = record {
   begins = record { in_range = h.begins.in_range; text = h.begins.text; over = h.begins.over };
 }
 
-pub no_division : (bytes : List ℕ) (at : ℕ) → Reads (pairs (word polynomials) (word integers)) bytes at None → Reads (fields Kind.DivFacts) bytes at None
+pub no_division : (bytes : List ℕ) (at : ℕ) →
+    Reads (pairs (word polynomials) (word integers)) bytes at None →
+    Reads (fields Kind.DivFacts) bytes at None
 no_division =
-    fields_none (pairs (word polynomials) (word integers)).text (pairs (word polynomials) (word integers)).in_range Kind.DivFacts a_division (λ x. refl) (λ x. refl) only_division
+    fields_none (pairs (word polynomials) (word integers)).text
+    (pairs (word polynomials) (word integers)).in_range Kind.DivFacts a_division (λ x. refl)
+    (λ x. refl) only_division
 
 -- the fields of each kind are unambiguous
 each_once : (kind : Kind) → IsUnambiguous (fields kind)
-each_once Kind.Sum = fields_once part_lists.text part_lists.in_range Kind.Sum Head.Sum (λ x. refl) (λ x. refl) only_sum part_lists_once
+each_once Kind.Sum =
+    fields_once part_lists.text part_lists.in_range Kind.Sum Head.Sum (λ x. refl) (λ x. refl)
+    only_sum part_lists_once
 each_once Kind.Cut =
-    fields_once (pairs part_lists (word integers)).text (pairs part_lists (word integers)).in_range Kind.Cut a_cut (λ x. refl) (λ x. refl) only_cut
-    (pairs_once part_lists.text part_lists.in_range integers.text integers.in_range part_lists_once integers_once)
-each_once Kind.Split = fields_once row_format.text row_format.in_range Kind.Split Head.Split (λ x. refl) (λ x. refl) only_split rows_once
-each_once Kind.Differ = fields_once numbers.text numbers.in_range Kind.Differ Head.Differ (λ x. refl) (λ x. refl) only_differ numbers_once
+    fields_once (pairs part_lists (word integers)).text (pairs part_lists (word integers)).in_range
+    Kind.Cut a_cut (λ x. refl) (λ x. refl) only_cut
+    (pairs_once part_lists.text part_lists.in_range integers.text integers.in_range part_lists_once
+    integers_once)
+each_once Kind.Split =
+    fields_once row_format.text row_format.in_range Kind.Split Head.Split (λ x. refl) (λ x. refl)
+    only_split rows_once
+each_once Kind.Differ =
+    fields_once numbers.text numbers.in_range Kind.Differ Head.Differ (λ x. refl) (λ x. refl)
+    only_differ numbers_once
 each_once Kind.Solve =
-    fields_once (pairs numbers (pairs numbers variables)).text (pairs numbers (pairs numbers variables)).in_range Kind.Solve a_solution (λ x. refl) (λ x. refl) only_solve
-    (pairs_once numbers.text numbers.in_range (pairs numbers variables).text (pairs numbers variables).in_range numbers_once second_rows_once)
+    fields_once (pairs numbers (pairs numbers variables)).text
+    (pairs numbers (pairs numbers variables)).in_range Kind.Solve a_solution (λ x. refl)
+    (λ x. refl) only_solve
+    (pairs_once numbers.text numbers.in_range (pairs numbers variables).text
+    (pairs numbers variables).in_range numbers_once second_rows_once)
 each_once Kind.DivFacts =
-    fields_once (pairs (word polynomials) (word integers)).text (pairs (word polynomials) (word integers)).in_range Kind.DivFacts a_division (λ x. refl) (λ x. refl) only_division
-    (pairs_once polynomials.text polynomials.in_range integers.text integers.in_range polynomials_once integers_once)
+    fields_once (pairs (word polynomials) (word integers)).text
+    (pairs (word polynomials) (word integers)).in_range Kind.DivFacts a_division (λ x. refl)
+    (λ x. refl) only_division
+    (pairs_once polynomials.text polynomials.in_range integers.text integers.in_range
+    polynomials_once integers_once)
 
 -- behind the word of the kind stand the fields
-behind_word : {bytes left rest : List ℕ} {head : Head} (kind : Kind) → BeginsWith heads bytes head left → bytes ≡ kind_word kind ++ rest → BeginsWith (fields kind) rest head left
+behind_word : {bytes left rest : List ℕ} {head : Head} (kind : Kind) →
+    BeginsWith heads bytes head left → bytes ≡ kind_word kind ++ rest →
+    BeginsWith (fields kind) rest head left
 behind_word {bytes} {left} {rest} {head} kind b e =
-    let apart = kinds_apart (kind_of head) kind (fields_text head ++ left) rest (sym (append_assoc (kind_word (kind_of head)) (fields_text head) left) ∙ sym b.text ∙ e) in
+    let apart = kinds_apart (kind_of head) kind (fields_text head ++ left) rest
+    (sym (append_assoc (kind_word (kind_of head)) (fields_text head) left) ∙ sym b.text ∙ e) in
     record {
-      in_range = and_from (is_of kind head) (is_readable_head head) (subst (λ k. is_of k head ≡ true) apart.0 (of_its_kind head)) b.in_range;
+      in_range =
+          and_from (is_of kind head) (is_readable_head head)
+          (subst (λ k. is_of k head ≡ true) apart.0 (of_its_kind head)) b.in_range;
       text = sym apart.1;
       over = b.over;
     }
 
 pub no_kind : (bytes : List ℕ) (at : ℕ) → ReadsKind bytes at None → Reads heads bytes at None
-no_kind bytes at never head left b = never (kind_of head) (fields_text head ++ left) (b.text ∙ append_assoc (kind_word (kind_of head)) (fields_text head) left)
+no_kind bytes at never head left b =
+    never (kind_of head) (fields_text head ++ left)
+    (b.text ∙ append_assoc (kind_word (kind_of head)) (fields_text head) left)
 
 is_its_kind : (kind : Kind) (head : Head) → is_of kind head ≡ true → kind_of head ≡ kind
 is_its_kind Kind.Sum head e = ap kind_of (only_sum head e).1
@@ -167,7 +209,9 @@ is_its_kind Kind.Solve head e = ap kind_of (only_solve head e).1
 is_its_kind Kind.DivFacts head e = ap kind_of (only_division head e).1
 
 -- what was read behind the word of a kind is what was read from its beginning
-pub reads_head : (bytes : List ℕ) (at next : ℕ) (kind : Kind) (r : Option (Head × ℕ)) → ReadsKind bytes at (Some (kind, next)) → Reads (fields kind) bytes next r → Reads heads bytes at r
+pub reads_head : (bytes : List ℕ) (at next : ℕ) (kind : Kind) (r : Option (Head × ℕ)) →
+    ReadsKind bytes at (Some (kind, next)) → Reads (fields kind) bytes next r →
+    Reads heads bytes at r
 reads_head bytes at next kind None k h = λ head left b. h head left (behind_word kind b k.1.1)
 reads_head bytes at next kind (Some r) k h =
     let parts = and_parts (is_of kind r.0) (is_readable_head r.0) h.begins.in_range in
@@ -176,8 +220,11 @@ reads_head bytes at next kind (Some r) k h =
       inside = h.inside;
       begins = record {
         in_range = parts.1;
-        text = k.1.1 ∙ ap (λ s. kind_word kind ++ s) h.begins.text ∙ sym (append_assoc (kind_word kind) (fields_text r.0) (drop r.1 bytes))
-            ∙ ap (λ j. (kind_word j ++ fields_text r.0) ++ drop r.1 bytes) (sym (is_its_kind kind r.0 parts.0));
+        text =
+            k.1.1 ∙ ap (λ s. kind_word kind ++ s) h.begins.text ∙
+            sym (append_assoc (kind_word kind) (fields_text r.0) (drop r.1 bytes))
+            ∙ ap (λ j. (kind_word j ++ fields_text r.0) ++ drop r.1 bytes)
+            (sym (is_its_kind kind r.0 parts.0));
         over = h.begins.over;
       };
     }
@@ -187,4 +234,5 @@ pub heads_once : IsUnambiguous heads
 heads_once bytes x y left right b c =
     let rest = fields_text x ++ left in
     let e = b.text ∙ append_assoc (kind_word (kind_of x)) (fields_text x) left in
-    each_once (kind_of x) rest x y left right (behind_word (kind_of x) b e) (behind_word (kind_of x) c e)
+    each_once (kind_of x) rest x y left right (behind_word (kind_of x) b e)
+    (behind_word (kind_of x) c e)

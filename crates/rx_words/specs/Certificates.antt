@@ -20,7 +20,8 @@ abbrev pub cert_text_level : Cert-F (List ℕ) → List ℕ
 cert_text_level (Cert-F.Sum parts) = spaced (codes "sum" ∷ part_lists.text parts ∷ [])
 cert_text_level (Cert-F.Cut parts div rest) =
     spaced (codes "cut" ∷ part_lists.text parts ∷ integer_text div ∷ rest ∷ [])
-cert_text_level (Cert-F.Split row holds fails) = spaced (codes "split" ∷ row_text row ∷ holds ∷ fails ∷ [])
+cert_text_level (Cert-F.Split row holds fails) =
+    spaced (codes "split" ∷ row_text row ∷ holds ∷ fails ∷ [])
 cert_text_level (Cert-F.Differ at above below) =
     spaced (codes "differ" ∷ natural_text at ∷ above ∷ below ∷ [])
 cert_text_level (Cert-F.Solve first second var rest) =

@@ -21,7 +21,8 @@ kind_word Kind.Differ = codes "differ "
 kind_word Kind.Solve = codes "solve "
 kind_word Kind.DivFacts = codes "div "
 
--- the kind whose word stands at the place, with the place behind it; None exactly where no kind's word stands there
+-- the kind whose word stands at the place, with the place behind it; None exactly where no kind's
+-- word stands there
 abbrev pub ReadsKind : List ℕ → ℕ → Option (Kind × ℕ) → Type 0
 ReadsKind bytes at (Some read) = Skips (kind_word read.0) bytes at (Some read.1)
 ReadsKind bytes at None = (kind : Kind) (left : List ℕ) → ¬ (drop at bytes ≡ kind_word kind ++ left)
@@ -41,7 +42,8 @@ fields_text (Head.Sum parts) = part_lists.text parts
 fields_text (Head.Cut parts div) = (pairs part_lists (word integers)).text (parts, div)
 fields_text (Head.Split row) = row_format.text row
 fields_text (Head.Differ at) = numbers.text at
-fields_text (Head.Solve first second var) = (pairs numbers (pairs numbers variables)).text (first, (second, var))
+fields_text (Head.Solve first second var) =
+    (pairs numbers (pairs numbers variables)).text (first, (second, var))
 fields_text (Head.DivFacts num den) = (pairs (word polynomials) (word integers)).text (num, den)
 
 abbrev pub is_readable_head : Head → Bool
@@ -49,8 +51,10 @@ is_readable_head (Head.Sum parts) = part_lists.in_range parts
 is_readable_head (Head.Cut parts div) = (pairs part_lists (word integers)).in_range (parts, div)
 is_readable_head (Head.Split row) = row_format.in_range row
 is_readable_head (Head.Differ at) = numbers.in_range at
-is_readable_head (Head.Solve first second var) = (pairs numbers (pairs numbers variables)).in_range (first, (second, var))
-is_readable_head (Head.DivFacts num den) = (pairs (word polynomials) (word integers)).in_range (num, den)
+is_readable_head (Head.Solve first second var) =
+    (pairs numbers (pairs numbers variables)).in_range (first, (second, var))
+is_readable_head (Head.DivFacts num den) =
+    (pairs (word polynomials) (word integers)).in_range (num, den)
 
 -- a test of the kind
 abbrev pub is_of : Kind → Head → Bool
@@ -106,8 +110,10 @@ sum_alone parts (cert ∷ certs) = None
 abbrev pub assembled : Head → List Cert → Option Cert
 assembled (Head.Sum parts) inner = sum_alone parts inner
 assembled (Head.Cut parts div) inner = option_map (λ rest. made.Cut parts div rest) (only_one inner)
-assembled (Head.Split row) inner = option_map (λ pair. made.Split row pair.0 pair.1) (only_two inner)
-assembled (Head.Differ at) inner = option_map (λ pair. made.Differ at pair.0 pair.1) (only_two inner)
+assembled (Head.Split row) inner =
+    option_map (λ pair. made.Split row pair.0 pair.1) (only_two inner)
+assembled (Head.Differ at) inner =
+    option_map (λ pair. made.Differ at pair.0 pair.1) (only_two inner)
 assembled (Head.Solve first second var) inner =
     option_map (λ rest. made.Solve first second var rest) (only_one inner)
 assembled (Head.DivFacts num den) inner =

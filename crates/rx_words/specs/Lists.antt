@@ -5,16 +5,19 @@ use Rattle.rx_text.specs.Formats.{Format, is_over}
 use Rattle.rx_words.specs.Words.{each_spaced, in_word}
 
 -- so many things in range stand there, each behind a space, and these bytes are left
-pub record AreSpaced {A : Type 0} (each : Format A) (count : ℕ) (bytes : List ℕ) (things : List A) (left : List ℕ) : Type 0 where
+pub record AreSpaced {A : Type 0} (each : Format A) (count : ℕ) (bytes : List ℕ) (things : List A)
+    (left : List ℕ) : Type 0 where
   pub many : length things ≡ count
   pub in_range : list_all each.in_range things ≡ true
   pub text : bytes ≡ each_spaced each.text things ++ left
   pub over : is_over in_word left ≡ true
 
--- the things that stand at the place, with the place after them; None exactly where so many don't stand there
+-- the things that stand at the place, with the place after them; None exactly where so many don't
+-- stand there
 abbrev pub ReadsSpaced : {A : Type 0} → Format A → ℕ → List ℕ → ℕ → Option (List A × ℕ) → Type 0
 ReadsSpaced each count bytes at (Some read) =
-    (at ≤ read.1) × ((read.1 ≤ length bytes) × AreSpaced each count (drop at bytes) read.0 (drop read.1 bytes))
+    (at ≤ read.1) × ((read.1 ≤ length bytes) ×
+    AreSpaced each count (drop at bytes) read.0 (drop read.1 bytes))
 ReadsSpaced {A} each count bytes at None =
     (things : List A) (left : List ℕ) → ¬ (AreSpaced each count (drop at bytes) things left)
 

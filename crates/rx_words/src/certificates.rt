@@ -55,7 +55,8 @@ fn read_inner(
 ) -> Result<Option<(Items<Cert>, usize)>, NoMemory>
     requires within { from ≤ length bytes.now }
     requires over { is_over in_word (drop from bytes.now) ≡ true }
-    ensures { IfOk result (λ found. ReadsSpaced (certificates_within most) count bytes.now from found) }
+    ensures { IfOk result (λ found. ReadsSpaced (certificates_within most) count bytes.now from
+        found) }
 {
     let mut inner = Items::new(alloc);
     let mut at = from;
@@ -73,7 +74,8 @@ fn read_inner(
 }
 
 /// The certificate whose text stands at the place, and the place after it. None exactly where no
-/// certificate has its text there: one has that is at most 200 deep, with variables below 1,000,000.
+/// certificate has its text there: one has that is at most 200 deep, with variables below
+/// 1,000,000.
 pub fn read_cert(alloc: Global, bytes: &[u8], at: usize) -> Result<Option<(Cert, usize)>, NoMemory>
     ensures { IfOk result (λ found. Reads certificates bytes.now at found) }
 {

@@ -22,7 +22,8 @@ pub(crate) fn read_spaced<T: Text>(
     requires within { from ≤ length bytes.now }
     requires once { IsUnambiguous (words T.text T.in_range) }
     requires over { is_over in_word (drop from bytes.now) ≡ true }
-    ensures { IfOk result (λ found. ReadsSpaced (words T.text T.in_range) count bytes.now from found) }
+    ensures { IfOk result (λ found. ReadsSpaced (words T.text T.in_range) count bytes.now from
+        found) }
 {
     let mut things = Items::new(alloc);
     let mut at = from;
@@ -76,7 +77,8 @@ pub fn push_count(out: &mut Vec<u8>, count: usize) -> Result<(), NoMemory>
 
 /// Puts how many things there are behind what was written before, and then each of them.
 pub(crate) fn push_list<T: Text>(things: &[T], out: &mut Vec<u8>) -> Result<(), NoMemory>
-    ensures { OnOk result (out.new.items ≡ out.old.items ++ (counted (words T.text T.in_range)).text things.now) }
+    ensures { OnOk result (out.new.items ≡ out.old.items ++
+        (counted (words T.text T.in_range)).text things.now) }
 {
     push_count(out, things.len())?;
     push_spaced(things, out)

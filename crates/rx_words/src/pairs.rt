@@ -16,7 +16,8 @@ pub(crate) fn read_pair<A: Text, B: Text>(
     at: usize,
 ) -> Result<Option<((A, B), usize)>, NoMemory>
     requires once { IsUnambiguous (words A.text A.in_range) }
-    ensures { IfOk result (λ found. Reads (pairs (words A.text A.in_range) (words B.text B.in_range)) bytes.now at found) }
+    ensures { IfOk result (λ found. Reads (pairs (words A.text A.in_range)
+        (words B.text B.in_range)) bytes.now at found) }
 {
     let Some((first, middle)) = A::read(alloc, bytes, at)? else {
         return Ok(None);
@@ -36,7 +37,8 @@ pub(crate) fn push_pair<A: Text, B: Text>(
     second: &B,
     out: &mut Vec<u8>,
 ) -> Result<(), NoMemory>
-    ensures { OnOk result (out.new.items ≡ out.old.items ++ (pairs (words A.text A.in_range) (words B.text B.in_range)).text (first.now, second.now)) }
+    ensures { OnOk result (out.new.items ≡ out.old.items ++
+        (pairs (words A.text A.in_range) (words B.text B.in_range)).text (first.now, second.now)) }
 {
     first.push_text(out)?;
     out.push(b' ')?;

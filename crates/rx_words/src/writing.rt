@@ -46,7 +46,8 @@ fn push_differ(at: u32, out: &mut Vec<u8>) -> Result<(), NoMemory>
 
 /// The first words of a replaced variable.
 fn push_solve(first: u32, second: u32, var: u32, out: &mut Vec<u8>) -> Result<(), NoMemory>
-    ensures { OnOk result (out.new.items ≡ out.old.items ++ heads.text (Head.Solve first second var)) }
+    ensures { OnOk result (out.new.items ≡ out.old.items ++
+        heads.text (Head.Solve first second var)) }
 {
     push_word(out, b"solve ")?;
     push_natural(out, first)?;
@@ -58,7 +59,8 @@ fn push_solve(first: u32, second: u32, var: u32, out: &mut Vec<u8>) -> Result<()
 
 /// The first words of a quotient and a remainder.
 fn push_division(num: &Poly, den: &i128, out: &mut Vec<u8>) -> Result<(), NoMemory>
-    ensures { OnOk result (out.new.items ≡ out.old.items ++ heads.text (Head.DivFacts num.now den.now)) }
+    ensures { OnOk result (out.new.items ≡ out.old.items ++
+        heads.text (Head.DivFacts num.now den.now)) }
 {
     push_word(out, b"div ")?;
     push_pair(num, den, out)

@@ -7,10 +7,14 @@ use Rattle.rx_term.specs.declared.rule.Rule.{Rule}
 use Rattle.rx_term.specs.declared.rule_set.RuleParts.{RuleParts}
 
 module _ (set : RuleParts) (rules : List Rule) (i : ℕ) where
-  pub more_fit : (rule : Rule) → i < length rules → rule ≡ get_or rules i rule → All (SidesFit set) (take i rules) → SidesFit set rule → All (SidesFit set) (take (i + 1) rules)
+  pub more_fit : (rule : Rule) → i < length rules → rule ≡ get_or rules i rule →
+      All (SidesFit set) (take i rules) → SidesFit set rule →
+      All (SidesFit set) (take (i + 1) rules)
   more_fit rule there is before fits =
-      let one : take (i + 1) rules ≡ take i rules ++ rule ∷ [] = take_more rules i rule there ∙ ap (λ r. take i rules ++ r ∷ []) (sym is) in
-      subst (All (SidesFit set)) (sym one) (All-append (SidesFit set) (take i rules) (rule ∷ []) before (All-cons (SidesFit set) rule [] fits (All-nil (SidesFit set))))
+      let one : take (i + 1) rules ≡ take i rules ++ rule ∷ [] = take_more rules i rule there ∙
+      ap (λ r. take i rules ++ r ∷ []) (sym is) in
+      subst (All (SidesFit set)) (sym one) (All-append (SidesFit set) (take i rules) (rule ∷ [])
+      before (All-cons (SidesFit set) rule [] fits (All-nil (SidesFit set))))
 
   pub all_fit : length rules ≤ i → All (SidesFit set) (take i rules) → All (SidesFit set) rules
   all_fit end before = subst (All (SidesFit set)) (take_all i rules end) before

@@ -8,9 +8,11 @@ use Rattle.c_front.specs.declared.stages.Next.TheVariants.{Goes}
 use Rattle.c_scoped.proofs.Programs.{resolved_is_scoped}
 
 module _ (source first second : List ℕ) (compared : Compared) where
-  pub compared_scoped : whole_front source first second None (Goes compared) → is_scoped compared.two.program ≡ true
+  pub compared_scoped : whole_front source first second None (Goes compared) →
+      is_scoped compared.two.program ≡ true
   compared_scoped (two, named, is) =
       let (left, right, are) = reading_of source first second (Goes two) named in
       let program = are.are_named.program in
-      let scoped = resolved_is_scoped source are.are_named.tokens program two.program are.are_named.is.scoped in
+      let scoped = resolved_is_scoped source are.are_named.tokens program two.program
+      are.are_named.is.scoped in
       subst (λ (c : Compared). is_scoped c.two.program ≡ true) (sym is) scoped

@@ -40,8 +40,8 @@ pub fn covered(alloc: Global, set: &RuleSet, given: &str) -> Option<Answer> {
     }
 }
 
-/// What is said of ranks and certificates under hypotheses: `lower`, or the first pair that isn't or
-/// passes the limits.
+/// What is said of ranks and certificates under hypotheses: `lower`, or the first pair that isn't
+/// or passes the limits.
 pub fn lowered(alloc: Global, set: &RuleSet, given: &str) -> Option<Answer> {
     let (hypotheses, rest) = given.split_once(" | ")?;
     let hypotheses = rules(alloc, hypotheses)?;

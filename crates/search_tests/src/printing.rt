@@ -1,4 +1,5 @@
-//! What calls answer, as text: words with a space between them, a list after its number of elements.
+//! What calls answer, as text: words with a space between them, a list after its number of
+//! elements.
 use rx_cover::CoverTree;
 use rx_generalise::Generalised;
 use rx_lemma::LemmaKind;

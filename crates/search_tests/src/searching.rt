@@ -110,8 +110,8 @@ fn end_text(alloc: Global, end: &Result<Log, SearchEnd>) -> Result<Vec<u8>, NoMe
     Ok(out)
 }
 
-/// What a search for the equation comes to, to the depth and within the budget behind it: the number
-/// of the steps of its log, or how it ends without one.
+/// What a search for the equation comes to, to the depth and within the budget behind it: the
+/// number of the steps of its log, or how it ends without one.
 pub fn searched(alloc: Global, set: &RuleSet, given: &str) -> Option<Answer> {
     let (goal, effort) = given.split_once(" | ")?;
     let goal = equation(alloc, goal)?;

@@ -4,4 +4,5 @@ use Rattle.c_ast.proofs.expr.+expr_height.Given as goal
 
 abbrev pub invariant-loop-argument : goal.invariant-loop-argument
 invariant-loop-argument l =
-    max l.most (greatest (map expr_height (drop l.argument-index l.argument-items))) ≡ greatest (map expr_height l.argument-items)
+    max l.most (greatest (map expr_height (drop l.argument-index l.argument-items))) ≡
+    greatest (map expr_height l.argument-items)

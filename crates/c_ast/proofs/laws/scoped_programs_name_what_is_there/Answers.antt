@@ -8,4 +8,5 @@ pub returns-clause-slots : goal.returns-clause-slots
 returns-clause-slots c = slots_grow
 
 pub returns-clause-calls : goal.returns-clause-calls
-returns-clause-calls c = λ program place function is there. body_calls_there program is place function there
+returns-clause-calls c =
+    λ program place function is there. body_calls_there program is place function there

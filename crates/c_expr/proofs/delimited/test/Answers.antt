@@ -6,4 +6,6 @@ use Rattle.c_expr.proofs.delimited.test.Goals as goal
 
 pub up_to-requires-clause-inside : goal.up_to-requires-clause-inside
 up_to-requires-clause-inside c =
-    let within : c.args.at < length c.args.tokens.now = kind_within c.args.tokens.now c.args.at (Mark LeftParen) c.if-not-stands.ensures in omega arith
+    let within : c.args.at < length c.args.tokens.now =
+    kind_within c.args.tokens.now c.args.at (Mark LeftParen) c.if-not-stands.ensures in
+    omega arith

@@ -7,11 +7,15 @@ use Rattle.c_expr.proofs.delimited.up_to.Goals as goal
 pub returns-then-stands : goal.returns-then-stands
 returns-then-stands c =
     let ts = c.args.tokens.now in
-    let read : Reads (Expression ts) ts (suc levels) c.args.at c.args.room (Some c.in-Some.read) = rw c.in-Some.is at c.in_ok-read.ensures in
-    up_to_ends c.args.mark ts c.args.at c.args.room c.requires.no_operator c.requires.no_choice c.requires.no_call c.in-Some.read read _ c.if-stands.ensures refl refl
+    let read : Reads (Expression ts) ts (suc levels) c.args.at c.args.room (Some c.in-Some.read) =
+    rw c.in-Some.is at c.in_ok-read.ensures in
+    up_to_ends c.args.mark ts c.args.at c.args.room c.requires.no_operator c.requires.no_choice
+    c.requires.no_call c.in-Some.read read _ c.if-stands.ensures refl refl
 
 pub returns-else-stands : goal.returns-else-stands
 returns-else-stands c =
     let ts = c.args.tokens.now in
-    let read : Reads (Expression ts) ts (suc levels) c.args.at c.args.room (Some c.in-Some.read) = rw c.in-Some.is at c.in_ok-read.ensures in
-    up_to_misses c.args.mark ts c.args.at c.args.room c.requires.no_operator c.requires.no_choice c.requires.no_call c.in-Some.read read c.if-stands.ensures
+    let read : Reads (Expression ts) ts (suc levels) c.args.at c.args.room (Some c.in-Some.read) =
+    rw c.in-Some.is at c.in_ok-read.ensures in
+    up_to_misses c.args.mark ts c.args.at c.args.room c.requires.no_operator c.requires.no_choice
+    c.requires.no_call c.in-Some.read read c.if-stands.ensures

@@ -19,22 +19,27 @@ use Rattle.c_expr.proofs.expr.+expr.Goals as goal
 pub chain-returns-in_default : goal.chain-returns-in_default
 chain-returns-in_default t c =
     let ts = c.args.tokens.now in
-    let first : Reads (BinaryAt ts c.args.n) ts c.args.n c.args.at c.args.room None = rw c.in_default.is at c.in_ok-left.ensures in
+    let first : Reads (BinaryAt ts c.args.n) ts c.args.n c.args.at c.args.room None =
+    rw c.in_default.is at c.in_ok-left.ensures in
     turning_none ts c.args.n c.args.at c.args.room first
 
 pub chain-more-init : goal.chain-more-init
 chain-more-init t c =
     let ts = c.args.tokens.now in
-    let first : Reads (BinaryAt ts c.args.n) ts c.args.n c.args.at c.args.room (Some c.in-Some.left) = rw c.in-Some.is at c.in_ok-left.ensures in
+    let first : Reads (BinaryAt ts c.args.n) ts c.args.n c.args.at c.args.room (Some c.in-Some.left)
+    = rw c.in-Some.is at c.in_ok-left.ensures in
     turning_begins ts c.args.n c.args.at c.args.room c.in-Some.left first
 
 pub chain-returns-then-left-room : goal.chain-returns-then-left-room
 chain-returns-then-left-room t c =
-    turning_full c.args.tokens.now c.args.n c.args.at c.args.room c.more.left c.in-Some-operator_at.op c.more.invariant c.in-Some-operator_at.ensures c.if-left-room.true
+    turning_full c.args.tokens.now c.args.n c.args.at c.args.room c.more.left
+    c.in-Some-operator_at.op c.more.invariant c.in-Some-operator_at.ensures c.if-left-room.true
 
 pub chain-level-requires-in-Some-operator_at : goal.chain-level-requires-in-Some-operator_at
 chain-level-requires-in-Some-operator_at t c =
-    let within : c.more.left.end < length c.args.tokens.now = operator_within c.args.tokens.now c.more.left.end c.args.n c.in-Some-operator_at.op c.in-Some-operator_at.ensures in
+    let within : c.more.left.end < length c.args.tokens.now =
+    operator_within c.args.tokens.now c.more.left.end c.args.n c.in-Some-operator_at.op
+    c.in-Some-operator_at.ensures in
     let some : 1 ≤ expr_height c.more.left.tree = height-positive c.more.left.tree in
     let high : c.more.left.height ≡ expr_height c.more.left.tree = c.more.invariant.high in
     let further : c.args.at < c.more.left.end = c.more.invariant.further in
@@ -44,79 +49,101 @@ chain-level-requires-in-Some-operator_at t c =
 pub chain-returns-in_default-2 : goal.chain-returns-in_default-2
 chain-returns-in_default-2 t c =
     let ts = c.args.tokens.now in
-    let right : Reads (BinaryAt ts c.args.n) ts c.args.n (c.more.left.end + 1) (c.args.room - 1) None = rw c.in_default-2.is at c.in_ok-right.ensures in
-    turning_breaks ts c.args.n c.args.at c.args.room c.more.left c.in-Some-operator_at.op c.more.invariant c.in-Some-operator_at.ensures right
+    let right : Reads (BinaryAt ts c.args.n) ts c.args.n (c.more.left.end + 1) (c.args.room - 1)
+    None = rw c.in_default-2.is at c.in_ok-right.ensures in
+    turning_breaks ts c.args.n c.args.at c.args.room c.more.left c.in-Some-operator_at.op
+    c.more.invariant c.in-Some-operator_at.ensures right
 
 pub chain-more-preserved : goal.chain-more-preserved
 chain-more-preserved t c =
     let ts = c.args.tokens.now in
-    let right : Reads (BinaryAt ts c.args.n) ts c.args.n (c.more.left.end + 1) (c.args.room - 1) (Some c.in-Some-2.right) = rw c.in-Some-2.is at c.in_ok-right.ensures in
-    turning_goes ts c.args.n c.args.at c.args.room c.more.left c.in-Some-2.right c.in_ok-left-2.left c.in-Some-operator_at.op c.more.invariant c.in-Some-operator_at.ensures
-    c.if-left-room.false right c.in_ok-left-2.ensures.tree c.in_ok-left-2.ensures.end c.in_ok-left-2.ensures.height
+    let right : Reads (BinaryAt ts c.args.n) ts c.args.n (c.more.left.end + 1) (c.args.room - 1)
+    (Some c.in-Some-2.right) = rw c.in-Some-2.is at c.in_ok-right.ensures in
+    turning_goes ts c.args.n c.args.at c.args.room c.more.left c.in-Some-2.right c.in_ok-left-2.left
+    c.in-Some-operator_at.op c.more.invariant c.in-Some-operator_at.ensures
+    c.if-left-room.false right c.in_ok-left-2.ensures.tree c.in_ok-left-2.ensures.end
+    c.in_ok-left-2.ensures.height
 
 pub chain-returns : goal.chain-returns
 chain-returns t c =
-    turning_ends c.args.tokens.now c.args.n c.args.at c.args.room c.more.left c.more.invariant c.in_default-operator_at.ensures
+    turning_ends c.args.tokens.now c.args.n c.args.at c.args.room c.more.left c.more.invariant
+    c.in_default-operator_at.ensures
 
 pub arguments-returns-then-stands : goal.arguments-returns-then-stands
-arguments-returns-then-stands t c = list_empty c.args.tokens.now c.args.at c.args.room _ c.if-stands.ensures c.new-found.ensures refl refl
+arguments-returns-then-stands t c =
+    list_empty c.args.tokens.now c.args.at c.args.room _ c.if-stands.ensures c.new-found.ensures
+    refl refl
 
 pub arguments-returns-in_default : goal.arguments-returns-in_default
 arguments-returns-in_default t c =
     let ts = c.args.tokens.now in
-    let first : Reads (Expression ts) ts (suc levels) c.args.at c.args.room None = rw c.in_default.is at c.in_ok-first.ensures in
+    let first : Reads (Expression ts) ts (suc levels) c.args.at c.args.room None =
+    rw c.in_default.is at c.in_ok-first.ensures in
     list_missing ts c.args.at c.args.room c.if-stands.ensures first
 
 pub arguments-next-init : goal.arguments-next-init
 arguments-next-init t c =
     let ts = c.args.tokens.now in
-    let first : Reads (Expression ts) ts (suc levels) c.args.at c.args.room (Some c.in-Some.first) = rw c.in-Some.is at c.in_ok-first.ensures in
-    let pushed : c.push.new.self ≡ c.in-Some.first.tree ∷ [] = rw c.new-found.ensures at c.in_ok-push.ensures.ok in
+    let first : Reads (Expression ts) ts (suc levels) c.args.at c.args.room (Some c.in-Some.first) =
+    rw c.in-Some.is at c.in_ok-first.ensures in
+    let pushed : c.push.new.self ≡ c.in-Some.first.tree ∷ [] =
+    rw c.new-found.ensures at c.in_ok-push.ensures.ok in
     rw pushed (passing_begins ts c.args.at c.args.room c.if-stands.ensures c.in-Some.first first)
 
 pub arguments-whole-requires-in-next : goal.arguments-whole-requires-in-next
 arguments-whole-requires-in-next t c =
-    let within : c.next.end < length c.args.tokens.now = kind_within c.args.tokens.now c.next.end (Mark Comma) c.next-test.ensures in
+    let within : c.next.end < length c.args.tokens.now =
+    kind_within c.args.tokens.now c.next.end (Mark Comma) c.next-test.ensures in
     let further : c.args.at < c.next.end = c.next.invariant.further in
     (omega (arith, c.decreases), (omega arith, (omega arith, omega arith)))
 
 pub arguments-returns-in_default-2 : goal.arguments-returns-in_default-2
 arguments-returns-in_default-2 t c =
     let ts = c.args.tokens.now in
-    let read : Reads (Expression ts) ts (suc levels) (c.next.end + 1) c.args.room None = rw c.in_default-2.is at c.in_ok-read.ensures in
-    passing_breaks ts c.args.at c.args.room c.next.found c.next.end c.next.height c.next.invariant c.next-test.ensures read
+    let read : Reads (Expression ts) ts (suc levels) (c.next.end + 1) c.args.room None =
+    rw c.in_default-2.is at c.in_ok-read.ensures in
+    passing_breaks ts c.args.at c.args.room c.next.found c.next.end c.next.height c.next.invariant
+    c.next-test.ensures read
 
 pub arguments-next-preserved : goal.arguments-next-preserved
 arguments-next-preserved t c =
     let ts = c.args.tokens.now in
-    let read : Reads (Expression ts) ts (suc levels) (c.next.end + 1) c.args.room (Some c.in-Some-2.read) = rw c.in-Some-2.is at c.in_ok-read.ensures in
+    let read : Reads (Expression ts) ts (suc levels) (c.next.end + 1) c.args.room
+    (Some c.in-Some-2.read) = rw c.in-Some-2.is at c.in_ok-read.ensures in
     rw (c.in_ok-push-2.ensures.ok, c.max-height.ensures)
-    (passing_goes ts c.args.at c.args.room c.next.found c.next.end c.next.height c.in-Some-2.read c.next.invariant c.next-test.ensures read)
+    (passing_goes ts c.args.at c.args.room c.next.found c.next.end c.next.height c.in-Some-2.read
+    c.next.invariant c.next-test.ensures read)
 
 pub arguments-returns-then-stands-2 : goal.arguments-returns-then-stands-2
 arguments-returns-then-stands-2 t c =
-    passing_ends c.args.tokens.now c.args.at c.args.room c.next.found c.next.end c.next.height _ c.next.invariant c.if-stands-2.ensures refl refl refl
+    passing_ends c.args.tokens.now c.args.at c.args.room c.next.found c.next.end c.next.height _
+    c.next.invariant c.if-stands-2.ensures refl refl refl
 
 pub arguments-returns-else-stands-2 : goal.arguments-returns-else-stands-2
 arguments-returns-else-stands-2 t c =
-    passing_stops c.args.tokens.now c.args.at c.args.room c.next.found c.next.end c.next.height c.next.invariant c.next-test.ensures c.if-stands-2.ensures
+    passing_stops c.args.tokens.now c.args.at c.args.room c.next.found c.next.end c.next.height
+    c.next.invariant c.next-test.ensures c.if-stands-2.ensures
 
 pub primary-arguments-requires : goal.primary-arguments-requires
 primary-arguments-requires t c =
-    let within : c.args.at + 1 < length c.args.tokens.now = kind_within c.args.tokens.now (c.args.at + 1) (Mark LeftParen) c.if-stands.ensures in
+    let within : c.args.at + 1 < length c.args.tokens.now =
+    kind_within c.args.tokens.now (c.args.at + 1) (Mark LeftParen) c.if-stands.ensures in
     (omega (arith, c.decreases), (omega arith, omega arith))
 
 pub primary-returns-then-stands : goal.primary-returns-then-stands
 primary-returns-then-stands t c =
     let ts = c.args.tokens.now in
     let here : kind_at ts c.args.at ≡ Some Name = cc in
-    let read : ReadsList ts (c.args.at + 2) (c.args.room - 1) (Some c.in-Some.read) = rw c.in-Some.is at c.in_ok-read-in-Some-Name.ensures in
-    reads_call ts c.args.at c.args.room c.in-Some.read _ here c.if-stands.ensures c.requires.some read refl refl refl
+    let read : ReadsList ts (c.args.at + 2) (c.args.room - 1) (Some c.in-Some.read) =
+    rw c.in-Some.is at c.in_ok-read-in-Some-Name.ensures in
+    reads_call ts c.args.at c.args.room c.in-Some.read _ here c.if-stands.ensures c.requires.some
+    read refl refl refl
 
 pub primary-whole-requires : goal.primary-whole-requires
 primary-whole-requires t c =
     let here : kind_at c.args.tokens.now c.args.at ≡ Some (Mark LeftParen) = cc in
-    let within : c.args.at < length c.args.tokens.now = kind_within c.args.tokens.now c.args.at (Mark LeftParen) here in
+    let within : c.args.at < length c.args.tokens.now =
+    kind_within c.args.tokens.now c.args.at (Mark LeftParen) here in
     (omega (arith, c.decreases), (omega arith, (omega arith, omega arith)))
 
 pub primary-returns-in-Some-Number : goal.primary-returns-in-Some-Number
@@ -125,9 +152,12 @@ primary-returns-in-Some-Number t c =
     let x = c.leaf.result in
     let here : kind_at ts c.args.at ≡ Some (Number c.in-Some-Number.value) = cc in
     let fits : SFits w64 c.in-Some-Number.value = search rules in
-    let value : to_z w64 (of_z w64 c.in-Some-Number.value) ≡ c.in-Some-Number.value = to_z-of_z w64 c.in-Some-Number.value fits in
-    let tree : x.tree ≡ Lit c.in-Some-Number.value = ap (λ (y : Read). y.tree) c.leaf.ensures ∙ ap Lit value in
-    reads_number ts c.args.at c.args.room c.in-Some-Number.value x here c.requires.some (ap (λ (y : Read). y.end) c.leaf.ensures) tree
+    let value : to_z w64 (of_z w64 c.in-Some-Number.value) ≡ c.in-Some-Number.value =
+    to_z-of_z w64 c.in-Some-Number.value fits in
+    let tree : x.tree ≡ Lit c.in-Some-Number.value = ap (λ (y : Read). y.tree) c.leaf.ensures ∙
+    ap Lit value in
+    reads_number ts c.args.at c.args.room c.in-Some-Number.value x here c.requires.some
+    (ap (λ (y : Read). y.end) c.leaf.ensures) tree
     (ap (λ (y : Read). y.height) c.leaf.ensures)
 
 pub primary-returns-else-stands : goal.primary-returns-else-stands
@@ -135,20 +165,26 @@ primary-returns-else-stands t c =
     let ts = c.args.tokens.now in
     let x = c.leaf-in-Some-Name.result in
     let here : kind_at ts c.args.at ≡ Some Name = cc in
-    reads_name ts c.args.at c.args.room x here c.if-stands.ensures c.requires.some (ap (λ (y : Read). y.end) c.leaf-in-Some-Name.ensures)
-    (ap (λ (y : Read). y.tree) c.leaf-in-Some-Name.ensures) (ap (λ (y : Read). y.height) c.leaf-in-Some-Name.ensures)
+    reads_name ts c.args.at c.args.room x here c.if-stands.ensures c.requires.some
+    (ap (λ (y : Read). y.end) c.leaf-in-Some-Name.ensures)
+    (ap (λ (y : Read). y.tree) c.leaf-in-Some-Name.ensures)
+    (ap (λ (y : Read). y.height) c.leaf-in-Some-Name.ensures)
 
 pub primary-returns-then-stands-2 : goal.primary-returns-then-stands-2
 primary-returns-then-stands-2 t c =
     let ts = c.args.tokens.now in
     let here : kind_at ts c.args.at ≡ Some (Mark LeftParen) = cc in
-    let inner : Reads (Expression ts) ts (suc levels) (c.args.at + 1) c.args.room (Some c.in-Some-2.inner) = rw c.in-Some-2.is at c.in_ok-inner-in-Some-Mark-LeftParen.ensures in
-    reads_parens ts c.args.at c.args.room c.in-Some-2.inner _ here inner c.if-stands-2.ensures refl refl refl
+    let inner : Reads (Expression ts) ts (suc levels) (c.args.at + 1) c.args.room
+    (Some c.in-Some-2.inner) = rw c.in-Some-2.is at c.in_ok-inner-in-Some-Mark-LeftParen.ensures
+    in
+    reads_parens ts c.args.at c.args.room c.in-Some-2.inner _ here inner c.if-stands-2.ensures refl
+    refl refl
 
 pub signed-returns-in_default : goal.signed-returns-in_default
 signed-returns-in_default t c =
     let unsigned : unary_of (kind_at c.args.tokens.now c.args.at) ≡ None = cc in
-    answers_unsigned c.args.tokens.now c.args.at c.args.room c.primary.result unsigned c.primary.ensures
+    answers_unsigned c.args.tokens.now c.args.at c.args.room c.primary.result unsigned
+    c.primary.ensures
 
 pub signed-returns-then-room-eq1 : goal.signed-returns-then-room-eq1
 signed-returns-then-room-eq1 t c =
@@ -158,92 +194,120 @@ signed-returns-then-room-eq1 t c =
 pub signed-signed-requires : goal.signed-signed-requires
 signed-signed-requires t c =
     let sign : unary_of (kind_at c.args.tokens.now c.args.at) ≡ Some c.in-Some.op = cc in
-    let within : c.args.at < length c.args.tokens.now = sign_within c.args.tokens.now c.args.at c.in-Some.op sign in
+    let within : c.args.at < length c.args.tokens.now =
+    sign_within c.args.tokens.now c.args.at c.in-Some.op sign in
     (omega (arith, c.decreases), (omega arith, (omega arith, omega arith)))
 
 pub signed-returns-in_default-2 : goal.signed-returns-in_default-2
 signed-returns-in_default-2 t c =
     let ts = c.args.tokens.now in
     let sign : unary_of (kind_at ts c.args.at) ≡ Some c.in-Some.op = cc in
-    let inner : Reads (BinaryAt ts 0) ts 0 (c.args.at + 1) (c.args.room - 1) None = rw c.in_default-2.is at c.in_ok-inner.ensures in
+    let inner : Reads (BinaryAt ts 0) ts 0 (c.args.at + 1) (c.args.room - 1) None =
+    rw c.in_default-2.is at c.in_ok-inner.ensures in
     reads_bare ts c.args.at c.args.room c.in-Some.op sign inner
 
 pub signed-returns : goal.signed-returns
 signed-returns t c =
     let ts = c.args.tokens.now in
     let sign : unary_of (kind_at ts c.args.at) ≡ Some c.in-Some.op = cc in
-    let inner : Reads (BinaryAt ts 0) ts 0 (c.args.at + 1) (c.args.room - 1) (Some c.in-Some-2.inner) = rw c.in-Some-2.is at c.in_ok-inner.ensures in
-    reads_prefixed ts c.args.at c.args.room c.in-Some.op c.in-Some-2.inner _ sign (omega arith) inner c.in_ok-prefixed.ensures.tree c.in_ok-prefixed.ensures.end c.in_ok-prefixed.ensures.height
+    let inner : Reads (BinaryAt ts 0) ts 0 (c.args.at + 1) (c.args.room - 1)
+    (Some c.in-Some-2.inner) = rw c.in-Some-2.is at c.in_ok-inner.ensures in
+    reads_prefixed ts c.args.at c.args.room c.in-Some.op c.in-Some-2.inner _ sign (omega arith)
+    inner c.in_ok-prefixed.ensures.tree c.in_ok-prefixed.ensures.end
+    c.in_ok-prefixed.ensures.height
 
 pub whole-returns-in_default : goal.whole-returns-in_default
 whole-returns-in_default t c =
     let ts = c.args.tokens.now in
-    let test : Reads (BinaryAt ts levels) ts levels c.args.at c.args.room None = rw c.in_default.is at c.in_ok-test.ensures in
+    let test : Reads (BinaryAt ts levels) ts levels c.args.at c.args.room None =
+    rw c.in_default.is at c.in_ok-test.ensures in
     whole_none ts c.args.at c.args.room test
 
 pub whole-returns-then-not-stands : goal.whole-returns-then-not-stands
 whole-returns-then-not-stands t c =
     let ts = c.args.tokens.now in
-    let test : Reads (BinaryAt ts levels) ts levels c.args.at c.args.room (Some c.in-Some.test) = rw c.in-Some.is at c.in_ok-test.ensures in
+    let test : Reads (BinaryAt ts levels) ts levels c.args.at c.args.room (Some c.in-Some.test) =
+    rw c.in-Some.is at c.in_ok-test.ensures in
     whole_plain ts c.args.at c.args.room c.in-Some.test test c.if-not-stands.ensures
 
 pub whole-returns-then-test-room : goal.whole-returns-then-test-room
 whole-returns-then-test-room t c =
     let ts = c.args.tokens.now in
-    let test : Reads (BinaryAt ts levels) ts levels c.args.at c.args.room (Some c.in-Some.test) = rw c.in-Some.is at c.in_ok-test.ensures in
-    whole_full ts c.args.at c.args.room c.in-Some.test test c.if-not-stands.ensures c.if-test-room.true
+    let test : Reads (BinaryAt ts levels) ts levels c.args.at c.args.room (Some c.in-Some.test) =
+    rw c.in-Some.is at c.in_ok-test.ensures in
+    whole_full ts c.args.at c.args.room c.in-Some.test test c.if-not-stands.ensures
+    c.if-test-room.true
 
 pub whole-whole-requires : goal.whole-whole-requires
 whole-whole-requires t c =
     let ts = c.args.tokens.now in
-    let test : Reads (BinaryAt ts levels) ts levels c.args.at c.args.room (Some c.in-Some.test) = rw c.in-Some.is at c.in_ok-test.ensures in
+    let test : Reads (BinaryAt ts levels) ts levels c.args.at c.args.room (Some c.in-Some.test) =
+    rw c.in-Some.is at c.in_ok-test.ensures in
     let further : c.args.at < c.in-Some.test.end = test.found.further in
     let high : c.in-Some.test.height ≡ expr_height c.in-Some.test.tree = test.found.high in
     let some : 1 ≤ expr_height c.in-Some.test.tree = height-positive c.in-Some.test.tree in
     let low : c.in-Some.test.height < c.args.room = c.if-test-room.false in
-    let within : c.in-Some.test.end < length ts = kind_within ts c.in-Some.test.end (Mark Question) c.if-not-stands.ensures in
+    let within : c.in-Some.test.end < length ts =
+    kind_within ts c.in-Some.test.end (Mark Question) c.if-not-stands.ensures in
     (omega (arith, c.decreases), (omega arith, (omega arith, omega arith)))
 
 pub whole-returns-in_default-2 : goal.whole-returns-in_default-2
 whole-returns-in_default-2 t c =
     let ts = c.args.tokens.now in
-    let test : Reads (BinaryAt ts levels) ts levels c.args.at c.args.room (Some c.in-Some.test) = rw c.in-Some.is at c.in_ok-test.ensures in
-    let first : Reads (Expression ts) ts (suc levels) (c.in-Some.test.end + 1) (c.args.room - 1) None = rw c.in_default-2.is at c.in_ok-first.ensures in
+    let test : Reads (BinaryAt ts levels) ts levels c.args.at c.args.room (Some c.in-Some.test) =
+    rw c.in-Some.is at c.in_ok-test.ensures in
+    let first : Reads (Expression ts) ts (suc levels) (c.in-Some.test.end + 1) (c.args.room - 1)
+    None = rw c.in_default-2.is at c.in_ok-first.ensures in
     whole_valueless ts c.args.at c.args.room c.in-Some.test test c.if-not-stands.ensures first
 
 pub whole-returns-then-not-stands-2 : goal.whole-returns-then-not-stands-2
 whole-returns-then-not-stands-2 t c =
     let ts = c.args.tokens.now in
-    let test : Reads (BinaryAt ts levels) ts levels c.args.at c.args.room (Some c.in-Some.test) = rw c.in-Some.is at c.in_ok-test.ensures in
-    let first : Reads (Expression ts) ts (suc levels) (c.in-Some.test.end + 1) (c.args.room - 1) (Some c.in-Some-2.first) = rw c.in-Some-2.is at c.in_ok-first.ensures in
-    whole_open ts c.args.at c.args.room c.in-Some.test test c.if-not-stands.ensures c.in-Some-2.first first c.if-not-stands-2.ensures
+    let test : Reads (BinaryAt ts levels) ts levels c.args.at c.args.room (Some c.in-Some.test) =
+    rw c.in-Some.is at c.in_ok-test.ensures in
+    let first : Reads (Expression ts) ts (suc levels) (c.in-Some.test.end + 1) (c.args.room - 1)
+    (Some c.in-Some-2.first) = rw c.in-Some-2.is at c.in_ok-first.ensures in
+    whole_open ts c.args.at c.args.room c.in-Some.test test c.if-not-stands.ensures
+    c.in-Some-2.first first c.if-not-stands-2.ensures
 
 pub whole-whole-requires-2 : goal.whole-whole-requires-2
 whole-whole-requires-2 t c =
     let ts = c.args.tokens.now in
-    let test : Reads (BinaryAt ts levels) ts levels c.args.at c.args.room (Some c.in-Some.test) = rw c.in-Some.is at c.in_ok-test.ensures in
-    let first : Reads (Expression ts) ts (suc levels) (c.in-Some.test.end + 1) (c.args.room - 1) (Some c.in-Some-2.first) = rw c.in-Some-2.is at c.in_ok-first.ensures in
+    let test : Reads (BinaryAt ts levels) ts levels c.args.at c.args.room (Some c.in-Some.test) =
+    rw c.in-Some.is at c.in_ok-test.ensures in
+    let first : Reads (Expression ts) ts (suc levels) (c.in-Some.test.end + 1) (c.args.room - 1)
+    (Some c.in-Some-2.first) = rw c.in-Some-2.is at c.in_ok-first.ensures in
     let further : c.args.at < c.in-Some.test.end = test.found.further in
     let again : c.in-Some.test.end + 1 < c.in-Some-2.first.end = first.found.further in
     let high : c.in-Some.test.height ≡ expr_height c.in-Some.test.tree = test.found.high in
     let some : 1 ≤ expr_height c.in-Some.test.tree = height-positive c.in-Some.test.tree in
     let low : c.in-Some.test.height < c.args.room = c.if-test-room.false in
-    let within : c.in-Some-2.first.end < length ts = kind_within ts c.in-Some-2.first.end (Mark Colon) c.if-not-stands-2.ensures in
+    let within : c.in-Some-2.first.end < length ts =
+    kind_within ts c.in-Some-2.first.end (Mark Colon) c.if-not-stands-2.ensures in
     (omega (arith, c.decreases), (omega arith, (omega arith, omega arith)))
 
 pub whole-returns-in_default-3 : goal.whole-returns-in_default-3
 whole-returns-in_default-3 t c =
     let ts = c.args.tokens.now in
-    let test : Reads (BinaryAt ts levels) ts levels c.args.at c.args.room (Some c.in-Some.test) = rw c.in-Some.is at c.in_ok-test.ensures in
-    let first : Reads (Expression ts) ts (suc levels) (c.in-Some.test.end + 1) (c.args.room - 1) (Some c.in-Some-2.first) = rw c.in-Some-2.is at c.in_ok-first.ensures in
-    let other : Reads (Expression ts) ts (suc levels) (c.in-Some-2.first.end + 1) (c.args.room - 1) None = rw c.in_default-3.is at c.in_ok-other.ensures in
-    whole_halved ts c.args.at c.args.room c.in-Some.test test c.if-not-stands.ensures c.in-Some-2.first first other
+    let test : Reads (BinaryAt ts levels) ts levels c.args.at c.args.room (Some c.in-Some.test) =
+    rw c.in-Some.is at c.in_ok-test.ensures in
+    let first : Reads (Expression ts) ts (suc levels) (c.in-Some.test.end + 1) (c.args.room - 1)
+    (Some c.in-Some-2.first) = rw c.in-Some-2.is at c.in_ok-first.ensures in
+    let other : Reads (Expression ts) ts (suc levels) (c.in-Some-2.first.end + 1) (c.args.room - 1)
+    None = rw c.in_default-3.is at c.in_ok-other.ensures in
+    whole_halved ts c.args.at c.args.room c.in-Some.test test c.if-not-stands.ensures
+    c.in-Some-2.first first other
 
 pub whole-returns : goal.whole-returns
 whole-returns t c =
     let ts = c.args.tokens.now in
-    let test : Reads (BinaryAt ts levels) ts levels c.args.at c.args.room (Some c.in-Some.test) = rw c.in-Some.is at c.in_ok-test.ensures in
-    let first : Reads (Expression ts) ts (suc levels) (c.in-Some.test.end + 1) (c.args.room - 1) (Some c.in-Some-2.first) = rw c.in-Some-2.is at c.in_ok-first.ensures in
-    let other : Reads (Expression ts) ts (suc levels) (c.in-Some-2.first.end + 1) (c.args.room - 1) (Some c.in-Some-3.other) = rw c.in-Some-3.is at c.in_ok-other.ensures in
-    whole_choice ts c.args.at c.args.room c.in-Some.test test c.if-not-stands.ensures c.in-Some-2.first first c.in-Some-3.other _ c.if-not-stands-2.ensures c.if-test-room.false other
+    let test : Reads (BinaryAt ts levels) ts levels c.args.at c.args.room (Some c.in-Some.test) =
+    rw c.in-Some.is at c.in_ok-test.ensures in
+    let first : Reads (Expression ts) ts (suc levels) (c.in-Some.test.end + 1) (c.args.room - 1)
+    (Some c.in-Some-2.first) = rw c.in-Some-2.is at c.in_ok-first.ensures in
+    let other : Reads (Expression ts) ts (suc levels) (c.in-Some-2.first.end + 1) (c.args.room - 1)
+    (Some c.in-Some-3.other) = rw c.in-Some-3.is at c.in_ok-other.ensures in
+    whole_choice ts c.args.at c.args.room c.in-Some.test test c.if-not-stands.ensures
+    c.in-Some-2.first first c.in-Some-3.other _ c.if-not-stands-2.ensures c.if-test-room.false
+    other
     c.in_ok-chosen.ensures.tree c.in_ok-chosen.ensures.end c.in_ok-chosen.ensures.height

@@ -6,4 +6,5 @@ pub returns-clause-one : goal.returns-clause-one
 returns-clause-one c = one_compared
 
 pub returns-clause-causes : goal.returns-clause-causes
-returns-clause-causes c = λ source first second x. (reading_of source first second x, front_of source first second x)
+returns-clause-causes c =
+    λ source first second x. (reading_of source first second x, front_of source first second x)

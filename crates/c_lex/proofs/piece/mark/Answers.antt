@@ -5,5 +5,6 @@ use Rattle.c_lex.proofs.piece.mark.Goals as goal
 
 pub returns-in-Some-default-clause-part : goal.returns-in-Some-default-clause-part
 returns-in-Some-default-clause-part c =
-    let written : c.byte_at-first.result ∷ c.byte_at.result ∷ [] ≡ spelling c.in-Some-default.two = c.in-Some-default.ensures.spelled in
+    let written : c.byte_at-first.result ∷ c.byte_at.result ∷ [] ≡ spelling c.in-Some-default.two =
+    c.in-Some-default.ensures.spelled in
     two_part c.in-Some-default.two c.args.rest.now c.requires cc

@@ -5,5 +5,12 @@ use Rattle.c_lex.proofs.piece.number.Goals.{else-byte_at-eq48-via-then-byte_at-e
 
 pub returns-clause-part : goal.returns-clause-part
 returns-clause-part c =
-    let single : get_or c.args.rest.now 0 0 ≡ 48 → c.run-len.result ≤ 1 = λ e. elim c.else-byte_at-eq48.branch [ else-byte_at-eq48-via-then-byte_at-eq48+else-len-ge2 w ↦ omega arith | else-byte_at-eq48-via-else-byte_at-eq48 w ↦ omega (arith, c.byte_at.ensures) ] in
-    number_part c.args.rest.now c.run-len.result c.literal_value-value.result c.run-len.ensures.len c.requires single c.literal_value-value.ensures (omega arith)
+    let single : get_or c.args.rest.now 0 0 ≡ 48 → c.run-len.result ≤ 1 = λ e.
+    elim c.else-byte_at-eq48.branch [
+      | else-byte_at-eq48-via-then-byte_at-eq48+else-len-ge2 w ↦
+          omega arith
+      | else-byte_at-eq48-via-else-byte_at-eq48 w ↦ omega (arith, c.byte_at.ensures)
+    ]
+    in
+    number_part c.args.rest.now c.run-len.result c.literal_value-value.result c.run-len.ensures.len
+    c.requires single c.literal_value-value.ensures (omega arith)

@@ -4,7 +4,9 @@ use Rattle.c_meaning.proofs.Division.{truncates, by_zero}
 use Rattle.c_meaning.proofs.laws.division_drops_the_fraction.Goals as goal
 
 pub returns-clause-truncates : goal.returns-clause-truncates
-returns-clause-truncates c = λ program n a b s x y left right. truncates (calls_with (rounds program n)) a b s x y left right
+returns-clause-truncates c =
+    λ program n a b s x y left right. truncates (calls_with (rounds program n)) a b s x y left right
 
 pub returns-clause-by_zero : goal.returns-clause-by_zero
-returns-clause-by_zero c = λ program n a b s x left right. by_zero (calls_with (rounds program n)) a b s x left right
+returns-clause-by_zero c =
+    λ program n a b s x left right. by_zero (calls_with (rounds program n)) a b s x left right

@@ -12,9 +12,16 @@ loop-token-preserved c =
     let words = map (spelling source) tokens in
     let place = c.loop-token.invariant.0 in
     let h : c.loop-token.number < length tokens = omega (arith, place, c.loop-token-test.true) in
-    let knows = λ (w : List ℕ). c.loop-token.invariant.1 w ∙ ap (λ k. place_of (take k words) w) (sym place) in
+    let knows = λ (w : List ℕ). c.loop-token.invariant.1 w ∙
+    ap (λ k. place_of (take k words) w) (sym place) in
     let word = c.spelling_at-word in
-    let seen = next_seen source tokens c.loop-token.number h word.result.now word.ensures c.loop-token.seen.entries knows c.number_of.new.seen.entries c.in_ok-name.ensures.known in
-    let names = next_name source tokens c.loop-token.number h word.result.now word.ensures c.loop-token.seen.entries knows c.in_ok-name.name c.loop-token.names.items
-    c.in_ok-name.ensures.number (c.loop-token.invariant.2 ∙ ap (λ k. take k (names_of source tokens)) (sym place)) in
-    (omega (arith, place), λ w. seen w ∙ ap (λ k. place_of (take (k + 1) words) w) place, c.in_ok-push.ensures.items ∙ names ∙ ap (λ k. take (k + 1) (names_of source tokens)) place)
+    let seen = next_seen source tokens c.loop-token.number h word.result.now word.ensures
+    c.loop-token.seen.entries knows c.number_of.new.seen.entries c.in_ok-name.ensures.known in
+    let names = next_name source tokens c.loop-token.number h word.result.now word.ensures
+    c.loop-token.seen.entries knows c.in_ok-name.name c.loop-token.names.items
+    c.in_ok-name.ensures.number (c.loop-token.invariant.2 ∙
+    ap (λ k. take k (names_of source tokens)) (sym place)) in (
+      omega (arith, place),
+      λ w. seen w ∙ ap (λ k. place_of (take (k + 1) words) w) place,
+      c.in_ok-push.ensures.items ∙ names ∙ ap (λ k. take (k + 1) (names_of source tokens)) place,
+    )

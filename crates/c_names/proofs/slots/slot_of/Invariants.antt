@@ -7,4 +7,5 @@ use Rattle.c_names.proofs.slots.slot_of.Given as goal
 abbrev pub invariant-loop-standing : goal.invariant-loop-standing
 invariant-loop-standing l =
     (l.slot ≡ l.standing-index) ×
-    (option_or (slot_from l.slot (drop l.standing-index l.scope) l.name) l.found ≡ slot_of l.scope l.name)
+    (option_or (slot_from l.slot (drop l.standing-index l.scope) l.name) l.found ≡
+    slot_of l.scope l.name)

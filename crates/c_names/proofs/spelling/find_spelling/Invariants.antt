@@ -7,5 +7,6 @@ use Rattle.c_names.proofs.spelling.find_spelling.Given as goal
 abbrev pub invariant-loop-number : goal.invariant-loop-number
 invariant-loop-number l =
     (l.place ≡ l.number-index) ×
-    (position_from (λ n. bytes_eq n l.name) l.place (spellings l.source l.tokens (drop l.number-index l.numbers))
+    (position_from (λ n. bytes_eq n l.name) l.place
+    (spellings l.source l.tokens (drop l.number-index l.numbers))
     ≡ place_of (spellings l.source l.tokens l.numbers) l.name)

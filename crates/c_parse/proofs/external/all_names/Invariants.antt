@@ -4,4 +4,6 @@ use Rattle.c_stmt.specs.Programs.{all_names}
 use Rattle.c_parse.proofs.external.all_names.Given as goal
 
 abbrev pub invariant-loop-parameter : goal.invariant-loop-parameter
-invariant-loop-parameter l = option_map (λ more. l.names ++ more) (all_names (drop l.parameter-index l.listed)) ≡ all_names l.listed
+invariant-loop-parameter l =
+    option_map (λ more. l.names ++ more) (all_names (drop l.parameter-index l.listed)) ≡
+    all_names l.listed

@@ -6,4 +6,6 @@ use Rattle.c_parse.proofs.external.block.Goals as goal
 
 pub inner-requires-clause-inside : goal.inner-requires-clause-inside
 inner-requires-clause-inside c =
-    let within : c.args.at < length c.args.tokens.now = kind_within c.args.tokens.now c.args.at (Mark LeftBrace) c.if-not-stands.ensures in omega arith
+    let within : c.args.at < length c.args.tokens.now =
+    kind_within c.args.tokens.now c.args.at (Mark LeftBrace) c.if-not-stands.ensures in
+    omega arith

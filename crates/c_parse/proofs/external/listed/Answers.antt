@@ -5,29 +5,37 @@ use Rattle.c_parse.proofs.Lists.{listing_begins, listing_stops, listing_ends, li
 use Rattle.c_parse.proofs.external.listed.Goals as goal
 
 pub parameters-init : goal.parameters-init
-parameters-init c = rw c.new-found.ensures (listing_begins c.args.tokens.now c.args.at c.requires.inside)
+parameters-init c =
+    rw c.new-found.ensures (listing_begins c.args.tokens.now c.args.at c.requires.inside)
 
 pub returns-in_default : goal.returns-in_default
 returns-in_default c =
     let ts = c.args.tokens.now in
-    let read : Gives (Parameter ts c.parameters.end) c.parameters.end (length ts) None = c.in_default.ensures in
+    let read : Gives (Parameter ts c.parameters.end) c.parameters.end (length ts) None =
+    c.in_default.ensures in
     listing_stops ts c.args.at c.parameters.found c.parameters.end c.parameters.invariant read
 
 pub returns-then-stands : goal.returns-then-stands
 returns-then-stands c =
     let ts = c.args.tokens.now in
-    let read : Gives (Parameter ts c.parameters.end) c.parameters.end (length ts) (Some c.in-Some.read) = c.in-Some.ensures in
-    listing_ends ts c.args.at c.parameters.found c.parameters.end c.parameters.invariant c.in-Some.read read _ c.if-stands.ensures c.in_ok-push.ensures.ok refl
+    let read : Gives (Parameter ts c.parameters.end) c.parameters.end (length ts)
+    (Some c.in-Some.read) = c.in-Some.ensures in
+    listing_ends ts c.args.at c.parameters.found c.parameters.end c.parameters.invariant
+    c.in-Some.read read _ c.if-stands.ensures c.in_ok-push.ensures.ok refl
 
 pub returns-then-not-stands : goal.returns-then-not-stands
 returns-then-not-stands c =
     let ts = c.args.tokens.now in
-    let read : Gives (Parameter ts c.parameters.end) c.parameters.end (length ts) (Some c.in-Some.read) = c.in-Some.ensures in
-    listing_breaks ts c.args.at c.parameters.found c.parameters.end c.parameters.invariant c.in-Some.read read c.if-stands.ensures c.if-not-stands.ensures
+    let read : Gives (Parameter ts c.parameters.end) c.parameters.end (length ts)
+    (Some c.in-Some.read) = c.in-Some.ensures in
+    listing_breaks ts c.args.at c.parameters.found c.parameters.end c.parameters.invariant
+    c.in-Some.read read c.if-stands.ensures c.if-not-stands.ensures
 
 pub parameters-preserved : goal.parameters-preserved
 parameters-preserved c =
     let ts = c.args.tokens.now in
-    let read : Gives (Parameter ts c.parameters.end) c.parameters.end (length ts) (Some c.in-Some.read) = c.in-Some.ensures in
+    let read : Gives (Parameter ts c.parameters.end) c.parameters.end (length ts)
+    (Some c.in-Some.read) = c.in-Some.ensures in
     rw c.in_ok-push.ensures.ok
-    (listing_goes ts c.args.at c.parameters.found c.parameters.end c.parameters.invariant c.in-Some.read read c.if-not-stands.ensures)
+    (listing_goes ts c.args.at c.parameters.found c.parameters.end c.parameters.invariant
+    c.in-Some.read read c.if-not-stands.ensures)

@@ -11,10 +11,13 @@ pub count_of-requires : goal.count_of-requires
 count_of-requires c =
     let ts = c.args.tokens.now in
     let x = c.args.params.now in
-    let short : of_option (λ (os : List (Option ℕ)). length os) x.value ≤ x.end = parameters_short ts (c.args.at + 3) x.end x.value c.requires.params.found.spelled in
+    let short : of_option (λ (os : List (Option ℕ)). length os) x.value ≤ x.end =
+    parameters_short ts (c.args.at + 3) x.end x.value c.requires.params.found.spelled in
     let within : x.end < length ts = kind_within ts x.end (Mark Semicolon) c.requires.ended in
     omega arith
 
 pub returns : goal.returns
 returns c =
-    gives_prototype c.args.tokens.now c.args.at c.args.params.now c.requires.params _ c.requires.heading c.requires.ended (ap (the_prototype (c.args.at + 1)) c.count_of.ensures) refl
+    gives_prototype c.args.tokens.now c.args.at c.args.params.now c.requires.params _
+    c.requires.heading c.requires.ended (ap (the_prototype (c.args.at + 1)) c.count_of.ensures)
+    refl

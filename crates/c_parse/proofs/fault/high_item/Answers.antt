@@ -11,11 +11,13 @@ items-init c = seeking_begins c.args.tokens.now c.args.at c.requires.inside c.re
 pub returns-in_default : goal.returns-in_default
 returns-in_default c =
     let ts = c.args.tokens.now in
-    let read : Gives (Low list_height 200 (BlockItem ts c.items.end)) c.items.end (length ts) None = rw c.in_default.is at c.in_ok-read.ensures in
+    let read : Gives (Low list_height 200 (BlockItem ts c.items.end)) c.items.end (length ts) None =
+    rw c.in_default.is at c.in_ok-read.ensures in
     seeking_stops ts c.args.at c.items.end c.items.invariant read
 
 pub items-preserved : goal.items-preserved
 items-preserved c =
     let ts = c.args.tokens.now in
-    let read : Gives (Low list_height 200 (BlockItem ts c.items.end)) c.items.end (length ts) (Some c.in-Some.read) = rw c.in-Some.is at c.in_ok-read.ensures in
+    let read : Gives (Low list_height 200 (BlockItem ts c.items.end)) c.items.end (length ts)
+    (Some c.in-Some.read) = rw c.in-Some.is at c.in_ok-read.ensures in
     seeking_goes ts c.args.at c.items.end c.in-Some.read c.items.invariant read

@@ -3,7 +3,8 @@ use Rattle.c_place.specs.Recogniser.{fed}
 use Rattle.c_place.proofs.recogniser.feed.Given as goal
 
 abbrev pub invariant-loop-symbol : goal.invariant-loop-symbol
-invariant-loop-symbol l = fed (reverse l.stack.items) l.kind ≡ fed (reverse l.initial.stack.items) l.kind
+invariant-loop-symbol l =
+    fed (reverse l.stack.items) l.kind ≡ fed (reverse l.initial.stack.items) l.kind
 
 abbrev pub decreases-loop-symbol : goal.decreases-loop-symbol
 decreases-loop-symbol l = length l.stack.items

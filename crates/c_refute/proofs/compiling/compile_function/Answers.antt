@@ -17,7 +17,10 @@ returns c =
     let function = c.args.function.now in
     let same = c.as_slice.ensures in
     let body = rw same at c.compile_sequence.ensures in
-    if_ok-mapped c.compile_sequence.result (λ p. Leads m1 new p (sequence_run m1 (all_to end) function.body)) (λ p. Leads old new p (function_run function))
+    if_ok-mapped c.compile_sequence.result (λ p.
+    Leads m1 new p (sequence_run m1 (all_to end) function.body))
+    (λ p. Leads old new p (function_run function))
     (λ p two. function-leads old m1 new function end p
-    (emitted old m1 (op.Do (Read (Constant (pos 0))) (sink.Return 0)) end c.in_ok-ended.ensures.position c.in_ok-ended.ensures.added tt) two)
+    (emitted old m1 (op.Do (Read (Constant (pos 0))) (sink.Return 0)) end
+    c.in_ok-ended.ensures.position c.in_ok-ended.ensures.added tt) two)
     body

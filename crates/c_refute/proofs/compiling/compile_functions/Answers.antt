@@ -4,7 +4,9 @@ use Rattle.c_refute.proofs.ProgramCode.{no-functions, one-function, take-one}
 use Rattle.c_refute.proofs.compiling.compile_functions.Goals as goal
 
 pub loop-function-init : goal.loop-function-init
-loop-function-init c = no-functions c.args.ops.now.items c.args.ops.now.items c.new-entries.result.items refl c.new-entries.ensures.items
+loop-function-init c =
+    no-functions c.args.ops.now.items c.args.ops.now.items c.new-entries.result.items refl
+    c.new-entries.ensures.items
 
 pub loop-function-preserved : goal.loop-function-preserved
 loop-function-preserved c =
@@ -12,6 +14,9 @@ loop-function-preserved c =
     let i = c.loop-function.function-index in
     let f = c.function-item.result in
     let below : i < length fs = omega arith in
-    let more : c.push.new.self.items ≡ c.loop-function.entries.items ++ c.in_ok-entry.entry ∷ [] = first_of (search rules, cc) in
-    one-function c.args.ops.now.items c.loop-function.ops.items c.compile_function.new.ops.items c.loop-function.entries.items c.push.new.self.items
-    (take i fs) (take (i + 1) fs) f c.in_ok-entry.entry c.loop-function.invariant c.in_ok-entry.ensures more (take-one Function fs i f below c.function-item.is)
+    let more : c.push.new.self.items ≡ c.loop-function.entries.items ++ c.in_ok-entry.entry ∷ [] =
+    first_of (search rules, cc) in
+    one-function c.args.ops.now.items c.loop-function.ops.items c.compile_function.new.ops.items
+    c.loop-function.entries.items c.push.new.self.items
+    (take i fs) (take (i + 1) fs) f c.in_ok-entry.entry c.loop-function.invariant
+    c.in_ok-entry.ensures more (take-one Function fs i f below c.function-item.is)

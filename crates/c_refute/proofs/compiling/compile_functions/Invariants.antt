@@ -4,4 +4,5 @@ use Rattle.c_refute.proofs.compiling.compile_functions.Given as goal
 
 abbrev pub invariant-loop-function : goal.invariant-loop-function
 invariant-loop-function l =
-    FunctionsLead l.fn.ops.items l.ops.items l.entries.items (take l.function-index l.function-items)
+    FunctionsLead l.fn.ops.items l.ops.items l.entries.items
+    (take l.function-index l.function-items)

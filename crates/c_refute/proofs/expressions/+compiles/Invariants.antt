@@ -4,4 +4,5 @@ use Rattle.c_refute.proofs.expressions.+compiles.Given as goal
 
 abbrev pub invariant-compile_arguments-loop-i : goal.invariant-compile_arguments-loop-i
 invariant-compile_arguments-loop-i l =
-    Leads l.fn.ops.items l.ops.items l.at (arguments_run l.fn.ops.items l.fn.next (drop l.i l.arguments))
+    Leads l.fn.ops.items l.ops.items l.at (arguments_run l.fn.ops.items l.fn.next
+    (drop l.i l.arguments))

@@ -17,7 +17,8 @@ returns-in-Push c =
 
 pub returns-in_default : goal.returns-in_default
 returns-in_default c =
-    emit-then c.emit.result c.args.ops.now.items c.emit.new.ops.items (op.Do (Read Popped) c.args.sink)
+    emit-then c.emit.result c.args.ops.now.items c.emit.new.ops.items
+    (op.Do (Read Popped) c.args.sink)
     (λ p. TopLeads c.args.ops.now.items c.emit.new.ops.items p c.args.sink) tt
     (λ p leads. top-added c.args.ops.now.items c.emit.new.ops.items p c.args.sink leads)
     c.emit.ensures.position c.emit.ensures.added

@@ -10,8 +10,10 @@ returns-in-Between-clause-number c =
     let b = c.in-Between in
     let x = c.read-x-in-Between.result in
     let y = c.read-y.result in
-    let first : to_z w128 (of_z w128 x) ≡ x = first_of (search rules, grind (arith, common_steps)) in
-    let second : to_z w128 (of_z w128 y) ≡ y = first_of (search rules, grind (arith, common_steps)) in
+    let first : to_z w128 (of_z w128 x) ≡ x =
+    first_of (search rules, grind (arith, common_steps)) in
+    let second : to_z w128 (of_z w128 y) ≡ y =
+    first_of (search rules, grind (arith, common_steps)) in
     let plain = rw (first, second) at c.apply_binary.ensures in
     let right = c.read-y.ensures.value in
     let left = c.read-x-in-Between.ensures.value ∙ ap (read b.a) c.read-y.ensures.kept in

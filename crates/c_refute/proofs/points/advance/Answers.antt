@@ -10,14 +10,17 @@ loop-i-preserved c =
     let j : ℕ = c.loop-i.i - 1 in
     let P : ℕ → Type 0 = λ n. Carried c.args.side c.args.point.now c.loop-i.point n in
     let e : c.loop-i.i ≡ suc j = omega arith in
-    carried_on c.args.side c.args.point.now c.loop-i.point j (omega arith) (subst P e c.loop-i.invariant) c.raise.new.x c.if-raise.ensures.ended c.if-raise.ensures.least
+    carried_on c.args.side c.args.point.now c.loop-i.point j (omega arith)
+    (subst P e c.loop-i.invariant) c.raise.new.x c.if-raise.ensures.ended
+    c.if-raise.ensures.least
 
 pub returns-then-raise : goal.returns-then-raise
 returns-then-raise c =
     let j : ℕ = c.loop-i.i - 1 in
     let P : ℕ → Type 0 = λ n. Carried c.args.side c.args.point.now c.loop-i.point n in
     let e : c.loop-i.i ≡ suc j = omega arith in
-    carried_out c.args.side c.args.point.now c.loop-i.point j (omega arith) (subst P e c.loop-i.invariant) c.raise.new.x c.if-raise.ensures.raised
+    carried_out c.args.side c.args.point.now c.loop-i.point j (omega arith)
+    (subst P e c.loop-i.invariant) c.raise.new.x c.if-raise.ensures.raised
 
 pub returns : goal.returns
 returns c =

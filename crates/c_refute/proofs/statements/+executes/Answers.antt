@@ -15,13 +15,15 @@ use Rattle.c_refute.proofs.statements.+executes.Goals as goal
 pub compile_other-returns-in-None : goal.compile_other-returns-in-None
 compile_other-returns-in-None t c =
     let old = c.args.ops.now.items in
-    let P : Option Stmt → Type 0 = λ o. Leads old old c.args.exits.next (flow_run old c.args.exits (λ calls. optional (option_map (stmt calls) o))) in
+    let P : Option Stmt → Type 0 = λ o. Leads old old c.args.exits.next
+    (flow_run old c.args.exits (λ calls. optional (option_map (stmt calls) o))) in
     subst P (sym c.in-None.is) (nothing-leads old old c.args.exits c.requires refl)
 
 pub compile_sequence-loop-i-init : goal.compile_sequence-loop-i-init
 compile_sequence-loop-i-init t c =
     let old = c.args.ops.now.items in
-    let P : List Stmt → Type 0 = λ ts. Leads old old c.args.exits.next (sequence_run old c.args.exits ts) in
+    let P : List Stmt → Type 0 = λ ts. Leads old old c.args.exits.next
+    (sequence_run old c.args.exits ts) in
     subst P (sym (drop-length c.args.statements.now)) (sequence-none old c.args.exits c.requires)
 
 pub compile_sequence-loop-i-preserved : goal.compile_sequence-loop-i-preserved
@@ -30,9 +32,11 @@ compile_sequence-loop-i-preserved t c =
     let ts = c.args.statements.now in
     let i : ℕ = c.loop-i.i in
     let s = c.index-statements-i.result in
-    let P : List Stmt → Type 0 = λ xs. Leads old c.compile_stmt.new.ops.items c.in_ok-next.next (sequence_run old c.args.exits xs) in
+    let P : List Stmt → Type 0 = λ xs. Leads old c.compile_stmt.new.ops.items c.in_ok-next.next
+    (sequence_run old c.args.exits xs) in
     subst P (sym (drop-one ts i s (omega arith) (omega arith) c.index-statements-i.is))
-    (sequence-leads old c.loop-i.ops.items c.compile_stmt.new.ops.items c.args.exits c.requires s (drop i ts) c.loop-i.next c.in_ok-next.next
+    (sequence-leads old c.loop-i.ops.items c.compile_stmt.new.ops.items c.args.exits c.requires s
+    (drop i ts) c.loop-i.next c.in_ok-next.next
     c.loop-i.invariant c.in_ok-next.ensures)
 
 pub compile_block-returns : goal.compile_block-returns
@@ -44,16 +48,21 @@ compile_block-returns t c =
     let exits = c.args.exits in
     let same = c.as_slice.ensures in
     let begun = rw same at c.in_ok-begun.ensures in
-    emit-then c.emit.result m2 new (op.Enter c.in_ok-begun.begun) (λ p. Leads old new p (stmt_run old exits (syntax.Block c.args.inner.now))) tt
-    (λ p three. block-leads old m1 exits c.in_ok-within.within c.in_ok-within.ensures m2 new c.args.inner.now c.in_ok-begun.begun p begun three)
+    emit-then c.emit.result m2 new (op.Enter c.in_ok-begun.begun)
+    (λ p. Leads old new p (stmt_run old exits (syntax.Block c.args.inner.now))) tt
+    (λ p three. block-leads old m1 exits c.in_ok-within.within c.in_ok-within.ensures m2 new
+    c.args.inner.now c.in_ok-begun.begun p begun three)
     c.emit.ensures.position c.emit.ensures.added
 
 pub compile_while-compile_stmt-requires : goal.compile_while-compile_stmt-requires
 compile_while-compile_stmt-requires t c =
     let old = c.args.ops.now.items in
     let m1 = c.emit.new.ops.items in
-    let one = one-longer old m1 (op.Turn c.args.whole c.args.exits 0) c.in_ok-turn.ensures.added in
-    (search rules, inside-within (length old) (length m1) (omega arith) c.args.exits c.inside.result c.in_ok-turn.turn c.in_ok-turn.ensures.within c.inside.ensures c.requires.within)
+    let one = one-longer old m1 (op.Turn c.args.whole c.args.exits 0) c.in_ok-turn.ensures.added in (
+      search rules,
+      inside-within (length old) (length m1) (omega arith) c.args.exits c.inside.result
+          c.in_ok-turn.turn c.in_ok-turn.ensures.within c.inside.ensures c.requires.within,
+    )
 
 pub compile_while-returns : goal.compile_while-returns
 compile_while-returns t c =
@@ -68,9 +77,12 @@ compile_while-returns t c =
     let one = one-longer old m1 (op.Turn whole exits 0) c.in_ok-turn.ensures.added in
     let same = c.inside.ensures in
     let body = rw same at c.in_ok-holds.ensures in
-    loop-leads old m1 m4 new whole exits c.requires.within turn c.in_ok-begin.begin c.in_ok-turn.ensures.position c.in_ok-turn.ensures.added
-    (while-turn-leads m1 m1 m3 m4 turn exits (exits-below (length old) (length m1) (omega arith) exits c.requires.within)
-    (Some c.args.test.now) None c.args.body.now whole.now c.requires.parts turn c.in_ok-holds.holds c.in_ok-begin.begin
+    loop-leads old m1 m4 new whole exits c.requires.within turn c.in_ok-begin.begin
+    c.in_ok-turn.ensures.position c.in_ok-turn.ensures.added
+    (while-turn-leads m1 m1 m3 m4 turn exits (exits-below (length old) (length m1) (omega arith)
+    exits c.requires.within)
+    (Some c.args.test.now) None c.args.body.now whole.now c.requires.parts turn c.in_ok-holds.holds
+    c.in_ok-begin.begin
     (no-change m1 turn exits c.in_ok-turn.ensures.within) body c.in_ok-begin.ensures)
     c.close.ensures
 
@@ -81,8 +93,11 @@ compile_do-compile_stmt-requires t c =
     let m2 = c.compile_expr.new.ops.items in
     let one = one-longer old m1 (op.Turn c.args.whole c.args.exits 0) c.in_ok-turn.ensures.added in
     let tested = c.in_ok-tested.ensures in
-    let two = longer-length m1 tested.more m2 tested.longer in
-    (search rules, inside-within (length old) (length m2) (omega arith) c.args.exits c.inside.result c.in_ok-tested.tested tested.within c.inside.ensures c.requires.within)
+    let two = longer-length m1 tested.more m2 tested.longer in (
+      search rules,
+      inside-within (length old) (length m2) (omega arith) c.args.exits c.inside.result
+          c.in_ok-tested.tested tested.within c.inside.ensures c.requires.within,
+    )
 
 pub compile_do-returns : goal.compile_do-returns
 compile_do-returns t c =
@@ -97,33 +112,43 @@ compile_do-returns t c =
     let one = one-longer old m1 (op.Turn whole exits 0) c.in_ok-turn.ensures.added in
     let same = c.inside.ensures in
     let body = rw same at c.in_ok-begin.ensures in
-    loop-leads old m1 m3 new whole exits c.requires.within turn c.in_ok-begin.begin c.in_ok-turn.ensures.position c.in_ok-turn.ensures.added
-    (do-turn-leads m1 m2 m3 turn c.in_ok-turn.ensures.within exits (exits-below (length old) (length m1) (omega arith) exits c.requires.within)
-    c.args.test.now c.args.body.now whole.now c.requires.parts c.in_ok-tested.tested c.in_ok-begin.begin c.in_ok-tested.ensures body)
+    loop-leads old m1 m3 new whole exits c.requires.within turn c.in_ok-begin.begin
+    c.in_ok-turn.ensures.position c.in_ok-turn.ensures.added
+    (do-turn-leads m1 m2 m3 turn c.in_ok-turn.ensures.within exits
+    (exits-below (length old) (length m1) (omega arith) exits c.requires.within)
+    c.args.test.now c.args.body.now whole.now c.requires.parts c.in_ok-tested.tested
+    c.in_ok-begin.begin c.in_ok-tested.ensures body)
     c.close.ensures
 
 pub compile_stmt-returns-in-Empty : goal.compile_stmt-returns-in-Empty
 compile_stmt-returns-in-Empty t c =
     let old = c.args.ops.now.items in
-    in-form old old c.args.exits c.args.exits.next c.args.statement.now syntax.Empty c.in-Empty.is (empty-leads old old c.args.exits c.requires refl)
+    in-form old old c.args.exits c.args.exits.next c.args.statement.now syntax.Empty c.in-Empty.is
+    (empty-leads old old c.args.exits c.requires refl)
 
 pub compile_stmt-returns-in-Break : goal.compile_stmt-returns-in-Break
 compile_stmt-returns-in-Break t c =
     let old = c.args.ops.now.items in
-    in-form old old c.args.exits c.args.exits.broken c.args.statement.now _ c.in-Break.is (break-leads old old c.args.exits _ c.requires refl)
+    in-form old old c.args.exits c.args.exits.broken c.args.statement.now _ c.in-Break.is
+    (break-leads old old c.args.exits _ c.requires refl)
 
 pub compile_stmt-returns-in-Continue : goal.compile_stmt-returns-in-Continue
 compile_stmt-returns-in-Continue t c =
     let old = c.args.ops.now.items in
-    in-form old old c.args.exits c.args.exits.continued c.args.statement.now _ c.in-Continue.is (continue-leads old old c.args.exits _ c.requires refl)
+    in-form old old c.args.exits c.args.exits.continued c.args.statement.now _ c.in-Continue.is
+    (continue-leads old old c.args.exits _ c.requires refl)
 
 pub compile_stmt-returns-in-Assign : goal.compile_stmt-returns-in-Assign
 compile_stmt-returns-in-Assign t c =
     let old = c.args.ops.now.items in
     let new = c.compile_expr.new.ops.items in
     let exits = c.args.exits in
-    if_ok-mapped c.compile_expr.result (λ p. Leads old new p (expr_run old (sink.Assign c.in-Assign.at exits.next) c.in-Assign.value)) (λ p. Leads old new p (stmt_run old exits c.args.statement.now))
-    (λ p leads. in-form old new exits p c.args.statement.now (syntax.Assign c.in-Assign.at c.in-Assign.value) c.in-Assign.is (assign-leads old new exits c.in-Assign.at p c.in-Assign.value leads))
+    if_ok-mapped c.compile_expr.result (λ p. Leads old new p
+    (expr_run old (sink.Assign c.in-Assign.at exits.next) c.in-Assign.value))
+    (λ p. Leads old new p (stmt_run old exits c.args.statement.now))
+    (λ p leads. in-form old new exits p c.args.statement.now
+    (syntax.Assign c.in-Assign.at c.in-Assign.value) c.in-Assign.is
+    (assign-leads old new exits c.in-Assign.at p c.in-Assign.value leads))
     c.compile_expr.ensures
 
 pub compile_stmt-returns-in_ok-taken-in-If : goal.compile_stmt-returns-in_ok-taken-in-If
@@ -136,10 +161,13 @@ compile_stmt-returns-in_ok-taken-in-If t c =
     let test = c.in-If.test in
     let inner = c.get.result.now in
     let is = c.in-If.is ∙ ap (λ (s : Stmt). syntax.If test s c.in-If.other) (sym c.get.ensures) in
-    if_ok-mapped c.compile_expr-in-If.result (λ p. Leads m2 new p (expr_run m2 (sink.Branch c.in_ok-other-in-If.other c.in_ok-taken-in-If.taken) test))
+    if_ok-mapped c.compile_expr-in-If.result (λ p.
+    Leads m2 new p (expr_run m2 (sink.Branch c.in_ok-other-in-If.other
+    c.in_ok-taken-in-If.taken) test))
     (λ p. Leads old new p (stmt_run old exits c.args.statement.now))
     (λ p last. in-form old new exits p c.args.statement.now (syntax.If test inner c.in-If.other) is
-    (if-leads old m1 m2 new exits c.requires test inner c.in-If.other c.in_ok-other-in-If.other c.in_ok-taken-in-If.taken p c.in_ok-other-in-If.ensures c.in_ok-taken-in-If.ensures last))
+    (if-leads old m1 m2 new exits c.requires test inner c.in-If.other c.in_ok-other-in-If.other
+    c.in_ok-taken-in-If.taken p c.in_ok-other-in-If.ensures c.in_ok-taken-in-If.ensures last))
     c.compile_expr-in-If.ensures
 
 pub compile_stmt-returns-in_ok-begun-in-For : goal.compile_stmt-returns-in_ok-begun-in-For
@@ -167,17 +195,23 @@ compile_stmt-returns-in_ok-begun-in-For t c =
     let one = one-longer m1 m2 (op.Turn whole inner 0) c.in_ok-turn-in-For.ensures.added in
     let same = c.inside.ensures in
     let held = rw same at c.in_ok-holds-in-For.ensures in
-    let turns = loop-leads m1 m2 m5 m6 whole inner scope.within turn c.in_ok-begin-in-For.begin c.in_ok-turn-in-For.ensures.position c.in_ok-turn-in-For.ensures.added
-    (while-turn-leads m2 m3 m4 m5 turn inner (exits-below (length m1) (length m2) (omega arith) inner scope.within)
-    test change body whole.now (λ calls. ap (turn_of calls) is ∙ turn-For calls first test change body)
+    let turns = loop-leads m1 m2 m5 m6 whole inner scope.within turn c.in_ok-begin-in-For.begin
+    c.in_ok-turn-in-For.ensures.position c.in_ok-turn-in-For.ensures.added
+    (while-turn-leads m2 m3 m4 m5 turn inner (exits-below (length m1) (length m2) (omega arith)
+    inner scope.within)
+    test change body whole.now (λ calls. ap (turn_of calls) is ∙
+    turn-For calls first test change body)
     c.in_ok-changed-in-For.changed c.in_ok-holds-in-For.holds c.in_ok-begin-in-For.begin
     c.in_ok-changed-in-For.ensures held c.in_ok-begin-in-For.ensures)
     c.close.ensures in
     let all = c.as_slice.ensures in
     let begun = rw all at c.in_ok-begun-in-For.ensures in
-    emit-then c.emit-in-For.result m7 new (op.Enter c.in_ok-begun-in-For.begun) (λ p. Leads old new p (stmt_run old exits whole.now)) tt
+    emit-then c.emit-in-For.result m7 new (op.Enter c.in_ok-begun-in-For.begun)
+    (λ p. Leads old new p (stmt_run old exits whole.now)) tt
     (λ p four. in-form old new exits p whole.now (syntax.For first test change body) is
     (for-all-leads old new exits p first test change body
-    (subst (λ (s : Stmt). Leads old new p (flow_run old exits (λ calls. for_loop calls first (turn_of calls s)))) is
-    (for-leads old m1 exits inner scope m6 m7 new whole.now first turn c.in_ok-begun-in-For.begun p turns begun four))))
+    (subst (λ (s : Stmt). Leads old new p (flow_run old exits
+    (λ calls. for_loop calls first (turn_of calls s)))) is
+    (for-leads old m1 exits inner scope m6 m7 new whole.now first turn c.in_ok-begun-in-For.begun p
+    turns begun four))))
     c.emit-in-For.ensures.position c.emit-in-For.ensures.added

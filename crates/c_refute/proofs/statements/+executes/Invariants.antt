@@ -4,4 +4,5 @@ use Rattle.c_refute.proofs.statements.+executes.Given as goal
 
 abbrev pub invariant-compile_sequence-loop-i : goal.invariant-compile_sequence-loop-i
 invariant-compile_sequence-loop-i l =
-    Leads l.fn.ops.items l.ops.items l.next (sequence_run l.fn.ops.items l.exits (drop l.i l.statements))
+    Leads l.fn.ops.items l.ops.items l.next (sequence_run l.fn.ops.items l.exits
+    (drop l.i l.statements))

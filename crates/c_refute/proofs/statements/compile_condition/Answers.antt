@@ -7,5 +7,7 @@ use Rattle.c_refute.proofs.statements.compile_condition.Goals as goal
 pub returns-in-None : goal.returns-in-None
 returns-in-None c =
     let old = c.args.ops.now.items in
-    let P : Option Expr → Type 0 = λ o. Leads old old c.args.holds (condition_run old c.args.ended c.args.holds o) in
-    subst P (sym c.in-None.is) (condition-none-leads old old c.args.ended c.args.holds c.requires.holds refl)
+    let P : Option Expr → Type 0 = λ o. Leads old old c.args.holds
+    (condition_run old c.args.ended c.args.holds o) in
+    subst P (sym c.in-None.is) (condition-none-leads old old c.args.ended c.args.holds
+    c.requires.holds refl)

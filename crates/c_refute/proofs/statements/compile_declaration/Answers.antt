@@ -14,8 +14,11 @@ pub returns-in-None : goal.returns-in-None
 returns-in-None c =
     let old = c.args.ops.now.items in
     let new = c.emit.new.ops.items in
-    emit-then c.emit.result old new (op.Do (Read (Constant (pos 0))) (sink.Declare c.args.at c.args.exits.next))
-    (λ p. Leads old new p (stmt_run old c.args.exits (syntax.Declare c.args.at c.args.value.now))) tt
-    (λ p leads. let P : Option Expr → Type 0 = λ o. Leads old new p (stmt_run old c.args.exits (syntax.Declare c.args.at o)) in
+    emit-then c.emit.result old new (op.Do (Read (Constant (pos 0)))
+    (sink.Declare c.args.at c.args.exits.next))
+    (λ p. Leads old new p (stmt_run old c.args.exits (syntax.Declare c.args.at c.args.value.now)))
+    tt
+    (λ p leads. let P : Option Expr → Type 0 = λ o.
+    Leads old new p (stmt_run old c.args.exits (syntax.Declare c.args.at o)) in
     subst P (sym c.in-None.is) (declare-none-leads old new c.args.exits c.args.at p leads))
     c.emit.ensures.position c.emit.ensures.added

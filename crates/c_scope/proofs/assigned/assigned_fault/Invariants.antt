@@ -4,4 +4,6 @@ use Rattle.c_scope.proofs.assigned.assigned_fault.Given as goal
 
 -- the functions that are left have the fault that all have
 abbrev pub invariant-loop-function : goal.invariant-loop-function
-invariant-loop-function l = spec.assigned_fault l.names (drop l.function-index l.functions) ≡ spec.assigned_fault l.names l.functions
+invariant-loop-function l =
+    spec.assigned_fault l.names (drop l.function-index l.functions) ≡
+    spec.assigned_fault l.names l.functions

@@ -8,4 +8,7 @@ use Rattle.c_scope.proofs.definitions.places_of.Given as goal
 
 -- the table has the first definition of each name among the functions from the place on
 abbrev pub invariant-loop-place : goal.invariant-loop-place
-invariant-loop-place l = (name : ℕ) → lookup (nat_eq name) l.places.entries ≡ position_from (λ (f : Function). nat_eq (name_at l.names f.name) name) l.place (drop l.place l.functions)
+invariant-loop-place l =
+    (name : ℕ) → lookup (nat_eq name) l.places.entries ≡
+    position_from (λ (f : Function). nat_eq (name_at l.names f.name) name) l.place
+    (drop l.place l.functions)

@@ -5,7 +5,10 @@ use Rattle.c_scope.proofs.Lists.{onto}
 use Rattle.c_scope.proofs.expressions.+expressions.Given as goal
 
 -- what was resolved, and the arguments that are left, give what all arguments give
-abbrev pub invariant-resolve_arguments-loop-argument : goal.invariant-resolve_arguments-loop-argument
+abbrev pub invariant-resolve_arguments-loop-argument :
+    goal.invariant-resolve_arguments-loop-argument
 invariant-resolve_arguments-loop-argument l =
-    onto l.resolved (all_found (map (resolved_expr l.definitions.names.now l.definitions.functions.now l.scope.names) (drop l.argument-index l.argument-items)))
-    ≡ all_found (map (resolved_expr l.definitions.names.now l.definitions.functions.now l.scope.names) l.argument-items)
+    onto l.resolved (all_found (map (resolved_expr l.definitions.names.now
+    l.definitions.functions.now l.scope.names) (drop l.argument-index l.argument-items)))
+    ≡ all_found (map (resolved_expr l.definitions.names.now l.definitions.functions.now
+    l.scope.names) l.argument-items)

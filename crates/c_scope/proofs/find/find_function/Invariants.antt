@@ -11,5 +11,7 @@ use Rattle.c_names.specs.Spellings.{spellings}
 abbrev pub invariant-loop-function : goal.invariant-loop-function
 invariant-loop-function l =
     (l.place ≡ l.function-index) ×
-    (position_from (λ n. bytes_eq n l.name) l.place (spellings l.source l.tokens (map (λ (f : Function). f.name) (drop l.function-index l.function-items)))
+    (position_from (λ n. bytes_eq n l.name) l.place
+    (spellings l.source l.tokens (map (λ (f : Function). f.name)
+    (drop l.function-index l.function-items)))
     ≡ place_of_function l.source l.tokens l.function-items l.name)

@@ -14,6 +14,9 @@ loop-function-preserved c =
     let here = c.loop-function-test.true in
     let function = c.function-item in (
       ap (λ fs. onto fs (all_found (map step (drop (i + 1) functions)))) c.in_ok-push.ensures.ok
-          ∙ found-turn step functions i here function.result function.is c.loop-function.resolved c.in_ok-resolve_function.field-0 (resolved_functions names functions) c.loop-function.invariant.0 c.in_ok-resolve_function.ensures.answer,
-      hold-more HasFewParams functions i function.result here function.is c.in_ok-resolve_function.ensures.few c.loop-function.invariant.1,
+          ∙ found-turn step functions i here function.result function.is c.loop-function.resolved
+          c.in_ok-resolve_function.field-0 (resolved_functions names functions)
+          c.loop-function.invariant.0 c.in_ok-resolve_function.ensures.answer,
+      hold-more HasFewParams functions i function.result here function.is
+          c.in_ok-resolve_function.ensures.few c.loop-function.invariant.1,
     )

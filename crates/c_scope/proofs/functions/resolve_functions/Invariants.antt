@@ -5,9 +5,12 @@ use Rattle.c_scope.specs.Steps.{all_found}
 use Rattle.c_scope.proofs.Lists.{onto}
 use Rattle.c_scope.proofs.functions.resolve_functions.Given as goal
 
--- what was resolved, and the functions that are left, give what all functions give; and those that were resolved have few parameters
+-- what was resolved, and the functions that are left, give what all functions give; and those that
+-- were resolved have few parameters
 abbrev pub invariant-loop-function : goal.invariant-loop-function
 invariant-loop-function l =
-    (onto l.resolved (all_found (map (resolved_function l.definitions.names.now l.definitions.functions.now) (drop l.function-index l.function-items)))
-    ≡ all_found (map (resolved_function l.definitions.names.now l.definitions.functions.now) l.function-items))
+    (onto l.resolved (all_found (map (resolved_function l.definitions.names.now
+    l.definitions.functions.now) (drop l.function-index l.function-items)))
+    ≡ all_found (map (resolved_function l.definitions.names.now l.definitions.functions.now)
+    l.function-items))
     × ((k : ℕ) (d : Function) → k < l.function-index → HasFewParams (get_or l.function-items k d))

@@ -6,5 +6,6 @@ use Rattle.c_scope.proofs.prototypes.second_definition.Given as goal
 abbrev pub invariant-loop-function : goal.invariant-loop-function
 invariant-loop-function l =
     (l.place ≡ l.function-index)
-    × (spec.second_definition l.definitions.names.now l.definitions.functions.now l.place (drop l.function-index l.function-items)
+    × (spec.second_definition l.definitions.names.now l.definitions.functions.now l.place
+    (drop l.function-index l.function-items)
     ≡ spec.second_definition l.definitions.names.now l.definitions.functions.now 0 l.function-items)

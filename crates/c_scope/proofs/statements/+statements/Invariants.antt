@@ -7,5 +7,8 @@ use Rattle.c_scope.proofs.statements.+statements.Given as goal
 -- what was resolved, and the statements that are left, give what all statements give
 abbrev pub invariant-in_order-loop-statement : goal.invariant-in_order-loop-statement
 invariant-in_order-loop-statement l =
-    behind l.resolved (in_order (map (resolved_stmt l.definitions.names.now l.definitions.functions.now) (drop l.statement-index l.statement-items)) (seen l.scope) l.in_loop)
-    ≡ in_order (map (resolved_stmt l.definitions.names.now l.definitions.functions.now) l.statement-items) (seen l.initial.scope) l.in_loop
+    behind l.resolved (in_order (map (resolved_stmt l.definitions.names.now
+    l.definitions.functions.now) (drop l.statement-index l.statement-items)) (seen l.scope)
+    l.in_loop)
+    ≡ in_order (map (resolved_stmt l.definitions.names.now l.definitions.functions.now)
+    l.statement-items) (seen l.initial.scope) l.in_loop

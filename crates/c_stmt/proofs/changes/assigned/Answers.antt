@@ -12,42 +12,71 @@ use Rattle.c_stmt.proofs.ChangeLemmas.{changing_within, builds_value, builds_upd
 use Rattle.c_stmt.proofs.changes.assigned.Goals as goal
 
 pub overflow_add-at : goal.overflow_add-at
-overflow_add-at c = let within : c.args.at < length c.args.tokens.now = kind_within c.args.tokens.now c.args.at Name c.requires.named in omega arith
+overflow_add-at c =
+    let within : c.args.at < length c.args.tokens.now =
+    kind_within c.args.tokens.now c.args.at Name c.requires.named in omega arith
 
 pub overflow_add-at-then-stands : goal.overflow_add-at-then-stands
-overflow_add-at-then-stands c = let within : c.args.at < length c.args.tokens.now = kind_within c.args.tokens.now c.args.at Name c.requires.named in omega arith
+overflow_add-at-then-stands c =
+    let within : c.args.at < length c.args.tokens.now =
+    kind_within c.args.tokens.now c.args.at Name c.requires.named in omega arith
 
 pub up_to-requires-clause-inside : goal.up_to-requires-clause-inside
-up_to-requires-clause-inside c = let within : c.args.at + 1 < length c.args.tokens.now = kind_within c.args.tokens.now (c.args.at + 1) (Mark AssignMark) c.if-stands.ensures in omega arith
+up_to-requires-clause-inside c =
+    let within : c.args.at + 1 < length c.args.tokens.now =
+    kind_within c.args.tokens.now (c.args.at + 1) (Mark AssignMark) c.if-stands.ensures in
+    omega arith
 
 pub overflow_add-at-2 : goal.overflow_add-at-2
-overflow_add-at-2 c = let within : c.args.at < length c.args.tokens.now = kind_within c.args.tokens.now c.args.at Name c.requires.named in omega arith
+overflow_add-at-2 c =
+    let within : c.args.at < length c.args.tokens.now =
+    kind_within c.args.tokens.now c.args.at Name c.requires.named in omega arith
 
 pub overflow_add-at-3 : goal.overflow_add-at-3
-overflow_add-at-3 c = let within : c.args.at < length c.args.tokens.now = kind_within c.args.tokens.now c.args.at Name c.requires.named in omega arith
+overflow_add-at-3 c =
+    let within : c.args.at < length c.args.tokens.now =
+    kind_within c.args.tokens.now c.args.at Name c.requires.named in omega arith
 
 pub up_to-requires-2-clause-inside : goal.up_to-requires-2-clause-inside
 up_to-requires-2-clause-inside c =
-    let within : c.args.at + 1 < length c.args.tokens.now = changing_within c.args.tokens.now (c.args.at + 1) (update c.in-Some-update_at.op) c.in-Some-update_at.ensures in omega arith
+    let within : c.args.at + 1 < length c.args.tokens.now =
+    changing_within c.args.tokens.now (c.args.at + 1) (update c.in-Some-update_at.op)
+    c.in-Some-update_at.ensures in omega arith
 
 pub returns-then-stands : goal.returns-then-stands
 returns-then-stands c =
     let ts = c.args.tokens.now in
-    let value : Gives (Low expr_height (c.args.room - 1) (UpTo c.args.mark ts (c.args.at + 2))) (c.args.at + 2) (length ts) (Some c.in-Some.value) = rw c.saturating_sub.ensures at (rw c.in-Some.is at c.in_ok-value.ensures) in
-    built_some (Assign c.args.at) (Low expr_height (c.args.room - 1) (UpTo c.args.mark ts (c.args.at + 2))) (Low stmt_height c.args.room (Change c.args.mark ts c.args.at))
-    (builds_value c.args.mark ts c.args.at c.args.room c.requires.named c.if-stands.ensures) c.args.at (c.args.at + 2) (length ts) (omega arith) c.in-Some.value _ value refl refl
+    let value : Gives (Low expr_height (c.args.room - 1) (UpTo c.args.mark ts (c.args.at + 2)))
+    (c.args.at + 2) (length ts) (Some c.in-Some.value) =
+    rw c.saturating_sub.ensures at (rw c.in-Some.is at c.in_ok-value.ensures) in
+    built_some (Assign c.args.at) (Low expr_height (c.args.room - 1)
+    (UpTo c.args.mark ts (c.args.at + 2)))
+    (Low stmt_height c.args.room (Change c.args.mark ts c.args.at))
+    (builds_value c.args.mark ts c.args.at c.args.room c.requires.named c.if-stands.ensures)
+    c.args.at (c.args.at + 2) (length ts) (omega arith) c.in-Some.value _ value refl refl
 
 pub returns-in_default-2 : goal.returns-in_default-2
 returns-in_default-2 c =
     let ts = c.args.tokens.now in
-    let value : Gives (Low expr_height (c.args.room - 2) (UpTo c.args.mark ts (c.args.at + 2))) (c.args.at + 2) (length ts) None = rw c.saturating_sub-2.ensures at (rw c.in_default-2.is at c.in_ok-value-2.ensures) in
-    built_none (updated c.args.at c.in-Some-update_at.op) (Low expr_height (c.args.room - 2) (UpTo c.args.mark ts (c.args.at + 2))) (Low stmt_height c.args.room (Change c.args.mark ts c.args.at))
-    (builds_update c.args.mark ts c.args.at c.args.room c.in-Some-update_at.op c.requires.named c.in-Some-update_at.ensures) c.args.at (c.args.at + 2) (length ts) value
+    let value : Gives (Low expr_height (c.args.room - 2) (UpTo c.args.mark ts (c.args.at + 2)))
+    (c.args.at + 2) (length ts) None = rw c.saturating_sub-2.ensures at
+    (rw c.in_default-2.is at c.in_ok-value-2.ensures) in
+    built_none (updated c.args.at c.in-Some-update_at.op)
+    (Low expr_height (c.args.room - 2) (UpTo c.args.mark ts (c.args.at + 2)))
+    (Low stmt_height c.args.room (Change c.args.mark ts c.args.at))
+    (builds_update c.args.mark ts c.args.at c.args.room c.in-Some-update_at.op c.requires.named
+    c.in-Some-update_at.ensures) c.args.at (c.args.at + 2) (length ts) value
 
 pub returns : goal.returns
 returns c =
     let ts = c.args.tokens.now in
-    let value : Gives (Low expr_height (c.args.room - 2) (UpTo c.args.mark ts (c.args.at + 2))) (c.args.at + 2) (length ts) (Some c.in-Some-2.value) = rw c.saturating_sub-2.ensures at (rw c.in-Some-2.is at c.in_ok-value-2.ensures) in
-    built_some (updated c.args.at c.in-Some-update_at.op) (Low expr_height (c.args.room - 2) (UpTo c.args.mark ts (c.args.at + 2))) (Low stmt_height c.args.room (Change c.args.mark ts c.args.at))
-    (builds_update c.args.mark ts c.args.at c.args.room c.in-Some-update_at.op c.requires.named c.in-Some-update_at.ensures) c.args.at (c.args.at + 2) (length ts) (omega arith) c.in-Some-2.value _ value
+    let value : Gives (Low expr_height (c.args.room - 2) (UpTo c.args.mark ts (c.args.at + 2)))
+    (c.args.at + 2) (length ts) (Some c.in-Some-2.value) =
+    rw c.saturating_sub-2.ensures at (rw c.in-Some-2.is at c.in_ok-value-2.ensures) in
+    built_some (updated c.args.at c.in-Some-update_at.op)
+    (Low expr_height (c.args.room - 2) (UpTo c.args.mark ts (c.args.at + 2)))
+    (Low stmt_height c.args.room (Change c.args.mark ts c.args.at))
+    (builds_update c.args.mark ts c.args.at c.args.room c.in-Some-update_at.op c.requires.named
+    c.in-Some-update_at.ensures) c.args.at (c.args.at + 2) (length ts) (omega arith)
+    c.in-Some-2.value _ value
     c.in_ok-updating.ensures refl

@@ -3,4 +3,6 @@ use Rattle.c_stmt.proofs.Declaring.{bare_reads}
 use Rattle.c_stmt.proofs.declare.declarator.Goals as goal
 
 pub returns-then-is_parted : goal.returns-then-is_parted
-returns-then-is_parted c = bare_reads c.args.tokens.now c.args.at c.args.room _ c.if-not-names.ensures c.if-is_parted.ensures (omega arith) refl refl
+returns-then-is_parted c =
+    bare_reads c.args.tokens.now c.args.at c.args.room _ c.if-not-names.ensures
+    c.if-is_parted.ensures (omega arith) refl refl

@@ -9,11 +9,15 @@ use Rattle.c_stmt.proofs.HeadLemmas.{advance_none, advance_builds}
 use Rattle.c_stmt.proofs.head.advance.Goals as goal
 
 pub returns-then-stands : goal.returns-then-stands
-returns-then-stands c = advance_none c.args.tokens.now c.args.at c.args.room _ c.if-stands.ensures refl refl
+returns-then-stands c =
+    advance_none c.args.tokens.now c.args.at c.args.room _ c.if-stands.ensures refl refl
 
 pub returns : goal.returns
 returns c =
     let ts = c.args.tokens.now in
-    let read : Gives (Low stmt_height c.args.room (Change RightParen ts c.args.at)) c.args.at (length ts) (Some c.in-Some.read) = rw c.in-Some.is at c.in_ok-read.ensures in
-    built_some (λ (s : Stmt). Some s) (Low stmt_height c.args.room (Change RightParen ts c.args.at)) (Low (of_option stmt_height) c.args.room (ForStep ts c.args.at))
-    (advance_builds ts c.args.at c.args.room c.if-stands.ensures) c.args.at c.args.at (length ts) (omega arith) c.in-Some.read _ read (ap (λ (s : Stmt). Some s) c.in_ok-new.ensures) refl
+    let read : Gives (Low stmt_height c.args.room (Change RightParen ts c.args.at)) c.args.at
+    (length ts) (Some c.in-Some.read) = rw c.in-Some.is at c.in_ok-read.ensures in
+    built_some (λ (s : Stmt). Some s) (Low stmt_height c.args.room (Change RightParen ts c.args.at))
+    (Low (of_option stmt_height) c.args.room (ForStep ts c.args.at))
+    (advance_builds ts c.args.at c.args.room c.if-stands.ensures) c.args.at c.args.at (length ts)
+    (omega arith) c.in-Some.read _ read (ap (λ (s : Stmt). Some s) c.in_ok-new.ensures) refl

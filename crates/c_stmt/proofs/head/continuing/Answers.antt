@@ -10,11 +10,15 @@ use Rattle.c_stmt.proofs.HeadLemmas.{test_none, test_builds}
 use Rattle.c_stmt.proofs.head.continuing.Goals as goal
 
 pub returns-then-stands : goal.returns-then-stands
-returns-then-stands c = test_none c.args.tokens.now c.args.at c.args.room _ c.if-stands.ensures refl refl
+returns-then-stands c =
+    test_none c.args.tokens.now c.args.at c.args.room _ c.if-stands.ensures refl refl
 
 pub returns : goal.returns
 returns c =
     let ts = c.args.tokens.now in
-    let read : Gives (Low expr_height c.args.room (UpTo Semicolon ts c.args.at)) c.args.at (length ts) (Some c.in-Some.read) = rw c.in-Some.is at c.in_ok-read.ensures in
-    built_some (λ (e : Expr). Some e) (Low expr_height c.args.room (UpTo Semicolon ts c.args.at)) (Low (of_option expr_height) c.args.room (ForTest ts c.args.at))
-    (test_builds ts c.args.at c.args.room c.if-stands.ensures) c.args.at c.args.at (length ts) (omega arith) c.in-Some.read _ read refl refl
+    let read : Gives (Low expr_height c.args.room (UpTo Semicolon ts c.args.at)) c.args.at
+    (length ts) (Some c.in-Some.read) = rw c.in-Some.is at c.in_ok-read.ensures in
+    built_some (λ (e : Expr). Some e) (Low expr_height c.args.room (UpTo Semicolon ts c.args.at))
+    (Low (of_option expr_height) c.args.room (ForTest ts c.args.at))
+    (test_builds ts c.args.at c.args.room c.if-stands.ensures) c.args.at c.args.at (length ts)
+    (omega arith) c.in-Some.read _ read refl refl

@@ -10,15 +10,21 @@ use Rattle.c_stmt.proofs.HeadLemmas.{start_none, start_declared, start_builds}
 use Rattle.c_stmt.proofs.head.start.Goals as goal
 
 pub returns-then-stands : goal.returns-then-stands
-returns-then-stands c = start_none c.args.tokens.now c.args.at c.args.room _ c.if-stands.ensures c.new.ensures refl
+returns-then-stands c =
+    start_none c.args.tokens.now c.args.at c.args.room _ c.if-stands.ensures c.new.ensures refl
 
 pub returns-then-says : goal.returns-then-says
-returns-then-says c = start_declared c.args.tokens.now c.args.at c.args.room _ c.if-says.ensures c.declaration.ensures
+returns-then-says c =
+    start_declared c.args.tokens.now c.args.at c.args.room _ c.if-says.ensures c.declaration.ensures
 
 pub returns : goal.returns
 returns c =
     let ts = c.args.tokens.now in
-    let read : Gives (Low stmt_height c.args.room (Change Semicolon ts c.args.at)) c.args.at (length ts) (Some c.in-Some.read) = rw c.in-Some.is at c.in_ok-read.ensures in
-    let one : c.push.new.self ≡ c.in-Some.read.value ∷ [] = rw c.new-one.ensures at c.in_ok-push.ensures.ok in
-    built_some (λ (s : Stmt). s ∷ []) (Low stmt_height c.args.room (Change Semicolon ts c.args.at)) (Low list_height c.args.room (ForInit ts c.args.at))
-    (start_builds ts c.args.at c.args.room c.if-stands.ensures c.if-says.ensures) c.args.at c.args.at (length ts) (omega arith) c.in-Some.read _ read one refl
+    let read : Gives (Low stmt_height c.args.room (Change Semicolon ts c.args.at)) c.args.at
+    (length ts) (Some c.in-Some.read) = rw c.in-Some.is at c.in_ok-read.ensures in
+    let one : c.push.new.self ≡ c.in-Some.read.value ∷ [] =
+    rw c.new-one.ensures at c.in_ok-push.ensures.ok in
+    built_some (λ (s : Stmt). s ∷ []) (Low stmt_height c.args.room (Change Semicolon ts c.args.at))
+    (Low list_height c.args.room (ForInit ts c.args.at))
+    (start_builds ts c.args.at c.args.room c.if-stands.ensures c.if-says.ensures) c.args.at
+    c.args.at (length ts) (omega arith) c.in-Some.read _ read one refl

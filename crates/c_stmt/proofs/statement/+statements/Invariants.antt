@@ -31,7 +31,9 @@ abbrev pub decreases-inner : goal.decreases-inner
 decreases-inner l = 4 * (length l.tokens.now - l.at) + 3
 
 abbrev pub invariant-inner-items : goal.invariant-inner-items
-invariant-inner-items l = Collected l.room (BlockItems l.tokens l.at) (BlockItems l.tokens) (length l.tokens) l.at l.found l.end
+invariant-inner-items l =
+    Collected l.room (BlockItems l.tokens l.at) (BlockItems l.tokens) (length l.tokens) l.at l.found
+    l.end
 
 abbrev pub decreases-inner-items : goal.decreases-inner-items
 decreases-inner-items l = length l.tokens - l.end

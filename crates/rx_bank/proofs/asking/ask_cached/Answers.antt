@@ -5,4 +5,8 @@ use Rattle.rx_bank.specs.CachedSolver.{IsCachedSolver}
 use Rattle.rx_bank.proofs.asking.ask_cached.Goals as goal
 
 pub ask-requires : goal.ask-requires
-ask-requires g c = record { solver = solver_while _ (λ h. IsCachedSolver g.S.FnMut h.0) (λ h a i. search rules) (λ h a r h' k i. search rules) _ c.requires }
+ask-requires g c =
+    record {
+      solver = solver_while _ (λ h. IsCachedSolver g.S.FnMut h.0) (λ h a i. search rules)
+          (λ h a r h' k i. search rules) _ c.requires;
+    }

@@ -10,6 +10,11 @@ pub returns-clause-ok : goal.returns-clause-ok
 returns-clause-ok c =
     let before = c.args.cache.now in
     let cached = c.in_ok-cached.cached in
-    let copied = ap (λ (rows : List Row). put_entries same_rows before rows cached) c.in_ok-copy.ensures in
-    let entries = copied ∙ put_new c.args.rows.now before cached c.requires in
-    (cached, c.in_ok-cached.ensures, c.in_ok-put.ensures.entries ∙ ap (λ (es : List Entry). lru_cache es before.cap) entries)
+    let copied = ap (λ (rows : List Row). put_entries same_rows before rows cached)
+    c.in_ok-copy.ensures in
+    let entries = copied ∙ put_new c.args.rows.now before cached c.requires in (
+      cached,
+      c.in_ok-cached.ensures,
+      c.in_ok-put.ensures.entries ∙
+          ap (λ (es : List Entry). lru_cache es before.cap) entries,
+    )

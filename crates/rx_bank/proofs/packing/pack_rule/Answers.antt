@@ -8,5 +8,8 @@ pub returns-clause-rule : goal.returns-clause-rule
 returns-clause-rule c =
     let rule = c.args.rule.now in
     let three = c.pack_rows.new.bank in
-    let rows = subst (λ (rs : List Row). RowsStand three c.in_ok-pack_rows.field-0 rs) c.rows.ensures c.in_ok-pack_rows.ensures.rows in
-    rule_packed c.pack_term.new.bank c.pack_term-2.new.bank three c.pack_term-2.ensures.stay c.pack_rows.ensures.stay _ rule.left rule.right rule.rows c.in_ok-pack_term.ensures.term c.in_ok-pack_term-2.ensures.term rows
+    let rows = subst (λ (rs : List Row). RowsStand three c.in_ok-pack_rows.field-0 rs)
+    c.rows.ensures c.in_ok-pack_rows.ensures.rows in
+    rule_packed c.pack_term.new.bank c.pack_term-2.new.bank three c.pack_term-2.ensures.stay
+    c.pack_rows.ensures.stay _ rule.left rule.right rule.rows c.in_ok-pack_term.ensures.term
+    c.in_ok-pack_term-2.ensures.term rows

@@ -11,7 +11,11 @@ loop-frame-preserved c =
     let ps = c.args.bank.now in
     let frame = c.in-Some.frame.now in
     let further = c.in-Some.further.now in
-    let on = last_frame ps s.upper.now further frame s.whole c.in-Some.ensures.cases.0 s.invariant.within in
-    let args : c.in_ok-args.args ≡ polys_at ps frame.args = c.in_ok-args.ensures ∙ ap (polys_at ps) c.as_slice.ensures in
-    let same : term.Frame frame.sym c.in_ok-args.args c.in_ok-new.field-0 ≡ term.Frame frame.sym (polys_at ps frame.args) s.whole = λ i. term.Frame frame.sym (args i) (c.in_ok-new.ensures i) in
+    let on = last_frame ps s.upper.now further frame s.whole c.in-Some.ensures.cases.0
+    s.invariant.within in
+    let args : c.in_ok-args.args ≡ polys_at ps frame.args = c.in_ok-args.ensures ∙
+    ap (polys_at ps) c.as_slice.ensures in
+    let same : term.Frame frame.sym c.in_ok-args.args c.in_ok-new.field-0 ≡
+    term.Frame frame.sym (polys_at ps frame.args) s.whole = λ i.
+    term.Frame frame.sym (args i) (c.in_ok-new.ensures i) in
     record { within = on.0; over = ap (frames_at ps further) same ∙ on.1 ∙ s.invariant.over }

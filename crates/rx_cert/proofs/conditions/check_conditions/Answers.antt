@@ -3,4 +3,6 @@ use Rattle.rx_cert.proofs.ConditionLaws.{answer_holds}
 use Rattle.rx_cert.proofs.conditions.check_conditions.Goals as goal
 
 pub returns-clause-holds : goal.returns-clause-holds
-returns-clause-holds c = answer_holds c.examine_in_order.result c.args.given.now c.args.rows.now c.args.certs.now c.examine_in_order.ensures.answer
+returns-clause-holds c =
+    answer_holds c.examine_in_order.result c.args.given.now c.args.rows.now c.args.certs.now
+    c.examine_in_order.ensures.answer

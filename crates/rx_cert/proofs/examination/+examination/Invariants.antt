@@ -1,4 +1,5 @@
--- The certificates inside are less deep; of one depth, what looks inside comes before what goes on with a part.
+-- The certificates inside are less deep; of one depth, what looks inside comes before what goes on
+-- with a part.
 use Rattle.std.proofs.Common.{◌+◌, ◌*◌, max}
 use Rattle.rx_cert.specs.Depth.{cert_depth}
 use Rattle.rx_cert.proofs.examination.+examination.Given as goal

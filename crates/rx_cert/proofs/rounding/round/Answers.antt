@@ -9,7 +9,11 @@ use Rattle.rx_cert.proofs.rounding.round.Goals as goal
 
 pub unreachable-requires : goal.unreachable-requires
 unreachable-requires c =
-    let terms : c.in_ok-terms.terms ≡ rounded_terms c.args.div.now (out-Body c.args.poly.now).terms =
-    c.in_ok-terms.ensures ∙ ap (rounded_terms c.args.div.now) (c.as_slice.ensures ∙ ap (λ (b : Body). (out-Body b).terms) c.body.ensures.body) in
-    let no : false ≡ true = c.in-None.ensures.exact.1 (ap (λ ts. is_poly (of_terms ts)) terms ∙ rounded_poly c.args.div.now c.args.poly.now c.requires c.body.ensures.normal) in
+    let terms : c.in_ok-terms.terms ≡ rounded_terms c.args.div.now (out-Body c.args.poly.now).terms
+    =
+    c.in_ok-terms.ensures ∙ ap (rounded_terms c.args.div.now)
+    (c.as_slice.ensures ∙ ap (λ (b : Body). (out-Body b).terms) c.body.ensures.body) in
+    let no : false ≡ true = c.in-None.ensures.exact.1
+    (ap (λ ts. is_poly (of_terms ts)) terms ∙
+    rounded_poly c.args.div.now c.args.poly.now c.requires c.body.ensures.normal) in
     cc

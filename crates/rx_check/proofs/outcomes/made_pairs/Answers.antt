@@ -5,4 +5,5 @@ use Rattle.rx_check.proofs.outcomes.made_pairs.Goals as goal
 
 pub all_pairs-requires-clause-rules : goal.all_pairs-requires-clause-rules
 all_pairs-requires-clause-rules c =
-    subst (All HasRoot) (sym c.rules.ensures) (made_roots c.args.rules.now c.args.rules.now.rules c.parts-parts.ensures.made)
+    subst (All HasRoot) (sym c.rules.ensures)
+    (made_roots c.args.rules.now c.args.rules.now.rules c.parts-parts.ensures.made)

@@ -9,8 +9,11 @@ pub returns-then-next-symbols-clause-covers : goal.returns-then-next-symbols-cla
 returns-then-next-symbols-clause-covers c = λ next at.
     let same : c.in-InCovers.next ≡ next = cc in
     let there : c.in-InCovers.next < length c.args.rules.now.symbols =
-    subst (λ (infos : List SymInfo). c.in-InCovers.next < length infos) c.symbols.ensures c.if-next-symbols.true in (
+    subst (λ (infos : List SymInfo). c.in-InCovers.next < length infos) c.symbols.ensures
+    c.if-next-symbols.true in (
       NotCovered next,
       ap (λ k. Some (NotCovered k)) same,
-      ap (λ found. once_covered found passed) (lists_end c.args.rules.now next (subst (λ k. k < length c.args.rules.now.symbols) same there)),
+      ap (λ found. once_covered found passed)
+          (lists_end c.args.rules.now next (subst (λ k. k < length c.args.rules.now.symbols) same
+          there)),
     )

@@ -3,5 +3,6 @@ use Rattle.rx_check.proofs.progress.judge_cover.Goals as goal
 
 pub returns-in-InCovers : goal.returns-in-InCovers
 returns-in-InCovers c = λ progress.
-    cover_answers c.args.rules.now c.args.place c.in-InCovers.next c.args.trees.now progress c.check_cover.result c.failure_of.result
+    cover_answers c.args.rules.now c.args.place c.in-InCovers.next c.args.trees.now progress
+    c.check_cover.result c.failure_of.result
     c.in-InCovers.is c.check_cover.ensures c.failure_of.ensures.ok

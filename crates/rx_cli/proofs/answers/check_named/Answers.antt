@@ -9,14 +9,20 @@ use Rattle.rx_cli.proofs.answers.check_named.Goals as goal
 
 pub returns-in-Ends-clause-verdict : goal.returns-in-Ends-clause-verdict
 returns-in-Ends-clause-verdict g c =
-    let ended : asked (functions_view c.args.functions.now) c.args.source.now (Ends c.in-Ends.verdict) = rw c.in-Ends.is at c.in_ok-verdict.ensures.stage in
-    checks_asked (g.F.Files.held c.args.files.now) (Rose (g.F.Files.faults c.args.files.now) (g.F.Files.faults c.args.files.now)) (functions_view c.args.functions.now) c.args.source.now c.args.log.now
+    let ended : asked (functions_view c.args.functions.now) c.args.source.now
+    (Ends c.in-Ends.verdict) = rw c.in-Ends.is at c.in_ok-verdict.ensures.stage in
+    checks_asked (g.F.Files.held c.args.files.now)
+    (Rose (g.F.Files.faults c.args.files.now) (g.F.Files.faults c.args.files.now))
+    (functions_view c.args.functions.now) c.args.source.now c.args.log.now
     c.in-Ends.verdict ended
 
 pub returns-in-Goes-clause-verdict : goal.returns-in-Goes-clause-verdict
 returns-in-Goes-clause-verdict g c =
-    let found : asked (functions_view c.args.functions.now) c.args.source.now (Goes c.in-Goes.question) = rw c.in-Goes.is at c.in_ok-verdict.ensures.stage in
+    let found : asked (functions_view c.args.functions.now) c.args.source.now
+    (Goes c.in-Goes.question) = rw c.in-Goes.is at c.in_ok-verdict.ensures.stage in
     IfOk-weaker c.on_named.result _ _
-    (λ verdict read. read_said (g.F.Files.held c.args.files.now) (Rose (g.F.Files.faults c.args.files.now) (g.F.Files.faults c.on_named.new.files)) (functions_view c.args.functions.now) c.args.source.now c.args.log.now
+    (λ verdict read. read_said (g.F.Files.held c.args.files.now)
+    (Rose (g.F.Files.faults c.args.files.now) (g.F.Files.faults c.on_named.new.files))
+    (functions_view c.args.functions.now) c.args.source.now c.args.log.now
     verdict c.in-Goes.question found read)
     c.on_named.ensures.verdict

@@ -11,29 +11,46 @@ use Rattle.rx_cli.proofs.answers.judge.Goals as goal
 
 pub judge_demo-requires : goal.judge_demo-requires
 judge_demo-requires g c =
-    let said : Some (Demo c.in-Some-Demo.pairs) ≡ command_of (map string_bytes c.args.words.now) = rw c.in-Some-Demo.field-0-is at (rw c.in-Some-Demo.is at c.in_ok-command_of.ensures.command) in
+    let said : Some (Demo c.in-Some-Demo.pairs) ≡ command_of (map string_bytes c.args.words.now) =
+    rw c.in-Some-Demo.field-0-is at (rw c.in-Some-Demo.is at c.in_ok-command_of.ensures.command)
+    in
     command_allowed (map string_bytes c.args.words.now) (Demo c.in-Some-Demo.pairs) said
 
 pub judge_comparison-requires-clause-pre : goal.judge_comparison-requires-clause-pre
 judge_comparison-requires-clause-pre g c =
-    let said : Some (Compare (comparison_view c.in-Some-Compare.comparison)) ≡ command_of (map string_bytes c.args.words.now) = rw c.in-Some-Compare.field-0-is at (rw c.in-Some-Compare.is at c.in_ok-command_of.ensures.command) in
-    (command_allowed (map string_bytes c.args.words.now) (Compare (comparison_view c.in-Some-Compare.comparison)) said).short
+    let said : Some (Compare (comparison_view c.in-Some-Compare.comparison)) ≡
+    command_of (map string_bytes c.args.words.now) =
+    rw c.in-Some-Compare.field-0-is at (rw c.in-Some-Compare.is at
+    c.in_ok-command_of.ensures.command) in
+    (command_allowed (map string_bytes c.args.words.now)
+    (Compare (comparison_view c.in-Some-Compare.comparison)) said).short
 
 pub judge_comparison-requires-clause-depth : goal.judge_comparison-requires-clause-depth
 judge_comparison-requires-clause-depth g c =
-    let said : Some (Compare (comparison_view c.in-Some-Compare.comparison)) ≡ command_of (map string_bytes c.args.words.now) = rw c.in-Some-Compare.field-0-is at (rw c.in-Some-Compare.is at c.in_ok-command_of.ensures.command) in
-    (command_allowed (map string_bytes c.args.words.now) (Compare (comparison_view c.in-Some-Compare.comparison)) said).depth
+    let said : Some (Compare (comparison_view c.in-Some-Compare.comparison)) ≡
+    command_of (map string_bytes c.args.words.now) =
+    rw c.in-Some-Compare.field-0-is at (rw c.in-Some-Compare.is at
+    c.in_ok-command_of.ensures.command) in
+    (command_allowed (map string_bytes c.args.words.now)
+    (Compare (comparison_view c.in-Some-Compare.comparison)) said).depth
 
 pub returns-in-None-clause-answer : goal.returns-in-None-clause-answer
 returns-in-None-clause-answer g c =
-    let said : ◌≡◌ {A = Option Command} None (command_of (map string_bytes c.args.words.now)) = rw c.in-None.is at c.in_ok-command_of.ensures.command in
-    answers_usage (g.F.Files.held c.args.files.now) (Rose (g.F.Files.faults c.args.files.now) (g.F.Files.faults c.args.files.now)) (command_of (map string_bytes c.args.words.now)) said
+    let said : ◌≡◌ {A = Option Command} None (command_of (map string_bytes c.args.words.now)) =
+    rw c.in-None.is at c.in_ok-command_of.ensures.command in
+    answers_usage (g.F.Files.held c.args.files.now)
+    (Rose (g.F.Files.faults c.args.files.now) (g.F.Files.faults c.args.files.now))
+    (command_of (map string_bytes c.args.words.now)) said
 
 pub returns-in-Some-Demo-clause-answer : goal.returns-in-Some-Demo-clause-answer
 returns-in-Some-Demo-clause-answer g c =
-    let said : Some (Demo c.in-Some-Demo.pairs) ≡ command_of (map string_bytes c.args.words.now) = rw c.in-Some-Demo.field-0-is at (rw c.in-Some-Demo.is at c.in_ok-command_of.ensures.command) in
+    let said : Some (Demo c.in-Some-Demo.pairs) ≡ command_of (map string_bytes c.args.words.now) =
+    rw c.in-Some-Demo.field-0-is at (rw c.in-Some-Demo.is at c.in_ok-command_of.ensures.command)
+    in
     IfOk-weaker c.judge_demo.result _ _
-    (λ answer to. subst (λ o. IsAnswered (g.F.Files.held c.args.files.now) (Rose (g.F.Files.faults c.args.files.now) (g.F.Files.faults c.args.files.now)) o answer) said (inl to))
+    (λ answer to. subst (λ o. IsAnswered (g.F.Files.held c.args.files.now)
+    (Rose (g.F.Files.faults c.args.files.now) (g.F.Files.faults c.args.files.now)) o answer)
+    said (inl to))
     (c.judge_demo.ensures.answer (g.F.Files.held c.args.files.now))
 
 pub returns-in-Some-Demo-clause-reach : goal.returns-in-Some-Demo-clause-reach
@@ -41,36 +58,60 @@ returns-in-Some-Demo-clause-reach g c = g.met.F.Files.reaches_same c.args.files.
 
 pub returns-in-Some-Demo-clause-sound : goal.returns-in-Some-Demo-clause-sound
 returns-in-Some-Demo-clause-sound g c =
-    let said : Some (Demo c.in-Some-Demo.pairs) ≡ command_of (map string_bytes c.args.words.now) = rw c.in-Some-Demo.field-0-is at (rw c.in-Some-Demo.is at c.in_ok-command_of.ensures.command) in
+    let said : Some (Demo c.in-Some-Demo.pairs) ≡ command_of (map string_bytes c.args.words.now) =
+    rw c.in-Some-Demo.field-0-is at (rw c.in-Some-Demo.is at c.in_ok-command_of.ensures.command)
+    in
     IfOk-weaker c.judge_demo.result _ _
-    (λ answer to. answered_equal (g.F.Files.held c.args.files.now) (map string_bytes c.args.words.now)
+    (λ answer to. answered_equal (g.F.Files.held c.args.files.now)
+    (map string_bytes c.args.words.now)
     (Rose (g.F.Files.faults c.args.files.now) (g.F.Files.faults c.args.files.now)) answer
-    (subst (λ o. IsAnswered (g.F.Files.held c.args.files.now) (Rose (g.F.Files.faults c.args.files.now) (g.F.Files.faults c.args.files.now)) o answer) said (inl to)))
+    (subst (λ o. IsAnswered (g.F.Files.held c.args.files.now)
+    (Rose (g.F.Files.faults c.args.files.now) (g.F.Files.faults c.args.files.now)) o answer)
+    said (inl to)))
     (c.judge_demo.ensures.answer (g.F.Files.held c.args.files.now))
 
 pub returns-in-Some-Compare-clause-sound : goal.returns-in-Some-Compare-clause-sound
 returns-in-Some-Compare-clause-sound g c =
-    let said : Some (Compare (comparison_view c.in-Some-Compare.comparison)) ≡ command_of (map string_bytes c.args.words.now) = rw c.in-Some-Compare.field-0-is at (rw c.in-Some-Compare.is at c.in_ok-command_of.ensures.command) in
+    let said : Some (Compare (comparison_view c.in-Some-Compare.comparison)) ≡
+    command_of (map string_bytes c.args.words.now) =
+    rw c.in-Some-Compare.field-0-is at (rw c.in-Some-Compare.is at
+    c.in_ok-command_of.ensures.command) in
     IfOk-weaker c.judge_comparison.result _ _
-    (λ answer answered. answered_equal (g.F.Files.held c.args.files.now) (map string_bytes c.args.words.now)
-    (Rose (g.F.Files.faults c.args.files.now) (g.F.Files.faults c.judge_comparison.new.files)) answer
-    (subst (λ o. IsAnswered (g.F.Files.held c.args.files.now) (Rose (g.F.Files.faults c.args.files.now) (g.F.Files.faults c.judge_comparison.new.files)) o answer) said answered))
+    (λ answer answered. answered_equal (g.F.Files.held c.args.files.now)
+    (map string_bytes c.args.words.now)
+    (Rose (g.F.Files.faults c.args.files.now) (g.F.Files.faults c.judge_comparison.new.files))
+    answer
+    (subst (λ o. IsAnswered (g.F.Files.held c.args.files.now)
+    (Rose (g.F.Files.faults c.args.files.now) (g.F.Files.faults c.judge_comparison.new.files)) o
+    answer) said answered))
     c.judge_comparison.ensures.answer
 
 pub returns-in-Some-Demo-clause-different : goal.returns-in-Some-Demo-clause-different
 returns-in-Some-Demo-clause-different g c =
-    let said : Some (Demo c.in-Some-Demo.pairs) ≡ command_of (map string_bytes c.args.words.now) = rw c.in-Some-Demo.field-0-is at (rw c.in-Some-Demo.is at c.in_ok-command_of.ensures.command) in
+    let said : Some (Demo c.in-Some-Demo.pairs) ≡ command_of (map string_bytes c.args.words.now) =
+    rw c.in-Some-Demo.field-0-is at (rw c.in-Some-Demo.is at c.in_ok-command_of.ensures.command)
+    in
     IfOk-weaker c.judge_demo.result _ _
-    (λ answer to. answered_different (g.F.Files.held c.args.files.now) (map string_bytes c.args.words.now)
+    (λ answer to. answered_different (g.F.Files.held c.args.files.now)
+    (map string_bytes c.args.words.now)
     (Rose (g.F.Files.faults c.args.files.now) (g.F.Files.faults c.args.files.now)) answer
-    (subst (λ o. IsAnswered (g.F.Files.held c.args.files.now) (Rose (g.F.Files.faults c.args.files.now) (g.F.Files.faults c.args.files.now)) o answer) said (inl to)))
+    (subst (λ o. IsAnswered (g.F.Files.held c.args.files.now)
+    (Rose (g.F.Files.faults c.args.files.now) (g.F.Files.faults c.args.files.now)) o answer)
+    said (inl to)))
     (c.judge_demo.ensures.answer (g.F.Files.held c.args.files.now))
 
 pub returns-in-Some-Compare-clause-different : goal.returns-in-Some-Compare-clause-different
 returns-in-Some-Compare-clause-different g c =
-    let said : Some (Compare (comparison_view c.in-Some-Compare.comparison)) ≡ command_of (map string_bytes c.args.words.now) = rw c.in-Some-Compare.field-0-is at (rw c.in-Some-Compare.is at c.in_ok-command_of.ensures.command) in
+    let said : Some (Compare (comparison_view c.in-Some-Compare.comparison)) ≡
+    command_of (map string_bytes c.args.words.now) =
+    rw c.in-Some-Compare.field-0-is at (rw c.in-Some-Compare.is at
+    c.in_ok-command_of.ensures.command) in
     IfOk-weaker c.judge_comparison.result _ _
-    (λ answer answered. answered_different (g.F.Files.held c.args.files.now) (map string_bytes c.args.words.now)
-    (Rose (g.F.Files.faults c.args.files.now) (g.F.Files.faults c.judge_comparison.new.files)) answer
-    (subst (λ o. IsAnswered (g.F.Files.held c.args.files.now) (Rose (g.F.Files.faults c.args.files.now) (g.F.Files.faults c.judge_comparison.new.files)) o answer) said answered))
+    (λ answer answered. answered_different (g.F.Files.held c.args.files.now)
+    (map string_bytes c.args.words.now)
+    (Rose (g.F.Files.faults c.args.files.now) (g.F.Files.faults c.judge_comparison.new.files))
+    answer
+    (subst (λ o. IsAnswered (g.F.Files.held c.args.files.now)
+    (Rose (g.F.Files.faults c.args.files.now) (g.F.Files.faults c.judge_comparison.new.files)) o
+    answer) said answered))
     c.judge_comparison.ensures.answer

@@ -9,17 +9,30 @@ use Rattle.rx_cli.proofs.answers.judge_check.Goals as goal
 
 pub returns-in-Ends-clause-answer : goal.returns-in-Ends-clause-answer
 returns-in-Ends-clause-answer g c =
-    let reads : Reads (g.F.Files.held c.args.files.now) (Rose (g.F.Files.faults c.args.files.now) (g.F.Files.faults c.read_source.new.files)) c.args.functions.now.file.now longest_source Said.LongSource (Ends c.in-Ends.verdict) =
+    let reads : Reads (g.F.Files.held c.args.files.now)
+    (Rose (g.F.Files.faults c.args.files.now) (g.F.Files.faults c.read_source.new.files))
+    c.args.functions.now.file.now longest_source Said.LongSource (Ends c.in-Ends.verdict) =
     rw c.in-Ends.is at c.in_ok-verdict.ensures.read in
-    answers_unread (g.F.Files.held c.args.files.now) (Rose (g.F.Files.faults c.args.files.now) (g.F.Files.faults c.read_source.new.files)) (Check (functions_view c.args.functions.now) c.args.log.now)
+    answers_unread (g.F.Files.held c.args.files.now)
+    (Rose (g.F.Files.faults c.args.files.now) (g.F.Files.faults c.read_source.new.files))
+    (Check (functions_view c.args.functions.now) c.args.log.now)
     c.in-Ends.verdict reads
 
-pub returns-in_ok-check_named-in-Goes-clause-answer : goal.returns-in_ok-check_named-in-Goes-clause-answer
+pub returns-in_ok-check_named-in-Goes-clause-answer :
+    goal.returns-in_ok-check_named-in-Goes-clause-answer
 returns-in_ok-check_named-in-Goes-clause-answer g c =
-    let reads : Reads (g.F.Files.held c.args.files.now) (Rose (g.F.Files.faults c.args.files.now) (g.F.Files.faults c.read_source.new.files)) c.args.functions.now.file.now longest_source Said.LongSource (Goes c.in-Goes.source.items) =
+    let reads : Reads (g.F.Files.held c.args.files.now)
+    (Rose (g.F.Files.faults c.args.files.now) (g.F.Files.faults c.read_source.new.files))
+    c.args.functions.now.file.now longest_source Said.LongSource (Goes c.in-Goes.source.items) =
     rw c.in-Goes.is at c.in_ok-verdict.ensures.read in
-    answers_checked (g.F.Files.held c.args.files.now) (Rose (g.F.Files.faults c.args.files.now) (g.F.Files.faults c.check_named.new.files)) (functions_view c.args.functions.now) c.in-Goes.source.items c.deref.result.now
+    answers_checked (g.F.Files.held c.args.files.now)
+    (Rose (g.F.Files.faults c.args.files.now) (g.F.Files.faults c.check_named.new.files))
+    (functions_view c.args.functions.now) c.in-Goes.source.items c.deref.result.now
     reads.0 reads.1 c.deref.ensures.value c.args.log.now c.in_ok-check_named-in-Goes.field-0
-    (checks_later (g.F.Files.held c.args.files.now) (g.F.Files.held c.read_source.new.files) (g.F.Files.faults c.args.files.now) (g.F.Files.faults c.read_source.new.files) (g.F.Files.faults c.check_named.new.files)
-    (functions_view c.args.functions.now) c.deref.result.now c.args.log.now c.in_ok-check_named-in-Goes.field-0 c.in_ok-verdict.ensures.held c.in_ok-verdict.ensures.later
+    (checks_later (g.F.Files.held c.args.files.now) (g.F.Files.held c.read_source.new.files)
+    (g.F.Files.faults c.args.files.now) (g.F.Files.faults c.read_source.new.files)
+    (g.F.Files.faults c.check_named.new.files)
+    (functions_view c.args.functions.now) c.deref.result.now c.args.log.now
+    c.in_ok-check_named-in-Goes.field-0 c.in_ok-verdict.ensures.held
+    c.in_ok-verdict.ensures.later
     c.in_ok-check_named-in-Goes.ensures.verdict)

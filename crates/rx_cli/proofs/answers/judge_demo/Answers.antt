@@ -2,4 +2,6 @@ use Rattle.rx_cli.proofs.AnswerLemmas.{answers_shown}
 use Rattle.rx_cli.proofs.answers.judge_demo.Goals as goal
 
 pub returns-clause-answer : goal.returns-clause-answer
-returns-clause-answer c = λ held. answers_shown held c.args.pairs c.in_ok-show_examples.field-0 c.in_ok-show_examples.ensures.shown
+returns-clause-answer c =
+    λ held. answers_shown held c.args.pairs c.in_ok-show_examples.field-0
+    c.in_ok-show_examples.ensures.shown

@@ -10,7 +10,10 @@ loop-number-preserved c =
     let s = c.in_ok-status_of_example.field-0 in
     let grown : c.push.new.self.items ≡ xs ++ s ∷ [] = c.in_ok-push.ensures.items in
     record {
-      count = ap length grown ∙ length-append xs (s ∷ []) ∙ ap (λ k. k + 1) c.loop-number.invariant.count;
+      count =
+          ap length grown ∙ length-append xs (s ∷ []) ∙
+          ap (λ k. k + 1) c.loop-number.invariant.count;
       are = subst AreStatuses (sym grown)
-          (statuses_more c.loop-number.number xs s c.loop-number.invariant.count c.loop-number.invariant.are c.in_ok-status_of_example.ensures);
+          (statuses_more c.loop-number.number xs s c.loop-number.invariant.count
+          c.loop-number.invariant.are c.in_ok-status_of_example.ensures);
     }

@@ -7,10 +7,13 @@ use Rattle.rx_cli.proofs.proving.prove.Goals as goal
 
 pub returns-in-Ends-clause-answer : goal.returns-in-Ends-clause-answer
 returns-in-Ends-clause-answer c =
-    let ended : asked (functions_view c.args.functions.now) c.args.source.now (Ends c.in-Ends.verdict) = rw c.in-Ends.is at c.in_ok-verdict.ensures.stage in
+    let ended : asked (functions_view c.args.functions.now) c.args.source.now
+    (Ends c.in-Ends.verdict) = rw c.in-Ends.is at c.in_ok-verdict.ensures.stage in
     inl (c.in-Ends.verdict, ended, refl)
 
 pub returns-in-Goes-clause-answer : goal.returns-in-Goes-clause-answer
 returns-in-Goes-clause-answer c =
-    let found : asked (functions_view c.args.functions.now) c.args.source.now (Goes c.in-Goes.question) = rw c.in-Goes.is at c.in_ok-verdict.ensures.stage in
-    IfOk-weaker c.on_question.result _ _ (λ answer on. inr (c.in-Goes.question, found, on)) c.on_question.ensures.answer
+    let found : asked (functions_view c.args.functions.now) c.args.source.now
+    (Goes c.in-Goes.question) = rw c.in-Goes.is at c.in_ok-verdict.ensures.stage in
+    IfOk-weaker c.on_question.result _ _ (λ answer on. inr (c.in-Goes.question, found, on))
+    c.on_question.ensures.answer

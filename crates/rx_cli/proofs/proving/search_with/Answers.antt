@@ -5,4 +5,6 @@ use Rattle.rx_bank.specs.CachedSolver.{IsCachedSolver}
 use Rattle.rx_cli.proofs.proving.search_with.Goals as goal
 
 pub new-search-requires : goal.new-search-requires
-new-search-requires g c = solver_while _ (λ h. IsCachedSolver g.S.FnMut h.0) (λ h a i. search rules) (λ h a r h' k i. search rules) _ c.requires.known
+new-search-requires g c =
+    solver_while _ (λ h. IsCachedSolver g.S.FnMut h.0) (λ h a i. search rules)
+    (λ h a r h' k i. search rules) _ c.requires.known

@@ -7,10 +7,13 @@ use Rattle.rx_cli.proofs.questions.question_stage.Goals as goal
 
 pub returns-clause-fits : goal.returns-clause-fits
 returns-clause-fits c =
-    let translated : Translates c.args.compared (Some c.in-Some.translation) = rw c.in-Some.is at c.in_ok-translation.ensures.translates in
-    fits_goal c.args.compared c.requires c.in-Some.translation translated c.parameter_count.result c.parameter_count.ensures c.in-Some-2.rows c.in_ok-goal.goal c.in_ok-goal.ensures
+    let translated : Translates c.args.compared (Some c.in-Some.translation) =
+    rw c.in-Some.is at c.in_ok-translation.ensures.translates in
+    fits_goal c.args.compared c.requires c.in-Some.translation translated c.parameter_count.result
+    c.parameter_count.ensures c.in-Some-2.rows c.in_ok-goal.goal c.in_ok-goal.ensures
 
 pub returns-clause-coverable : goal.returns-clause-coverable
 returns-clause-coverable c =
-    let paired : IsPaired c.in-Some.translation.rules = rw c.in-Some.is at c.in_ok-translation.ensures.paired in
+    let paired : IsPaired c.in-Some.translation.rules =
+    rw c.in-Some.is at c.in_ok-translation.ensures.paired in
     paired_coverable c.in-Some.translation.rules paired

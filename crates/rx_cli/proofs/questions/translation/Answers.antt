@@ -4,5 +4,7 @@ use Rattle.rx_cli.proofs.questions.translation.Goals as goal
 
 pub unreachable-requires : goal.unreachable-requires
 unreachable-requires c =
-    arities_agree c.args.compared.now c.requires c.in-Err-ArityDiffers.field-0-0 c.in-Err-ArityDiffers.field-0-1
-    ((c.rules_of.ensures.arity c.in-Err-ArityDiffers.field-0-0 c.in-Err-ArityDiffers.field-0-1).0 (c.in-Err-ArityDiffers.is ∙ ap Err c.in-Err-ArityDiffers.field-0-is))
+    arities_agree c.args.compared.now c.requires c.in-Err-ArityDiffers.field-0-0
+    c.in-Err-ArityDiffers.field-0-1
+    ((c.rules_of.ensures.arity c.in-Err-ArityDiffers.field-0-0 c.in-Err-ArityDiffers.field-0-1).0
+    (c.in-Err-ArityDiffers.is ∙ ap Err c.in-Err-ArityDiffers.field-0-is))

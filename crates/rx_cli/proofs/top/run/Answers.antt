@@ -7,9 +7,15 @@ use Rattle.rx_cli.proofs.top.run.Goals as goal
 
 pub returns-clause-complete : goal.returns-clause-complete
 returns-clause-complete g c = λ names held can.
-    let read_fault : Type 0 = Rose (g.F.Files.faults c.args.files.now) (g.F.Files.faults c.report_answer.new.files) in
-    let write_fault : Type 0 = Rose (g.O.Sink.faults c.args.out.now) (g.O.Sink.faults c.report_answer.new.out) in
-    run_complete names read_fault write_fault (map string_bytes c.args.words.now) (g.O.Sink.contents c.args.out.now) (g.O.Sink.contents c.report_answer.new.out) c.report_answer.result can
+    let read_fault : Type 0 = Rose (g.F.Files.faults c.args.files.now)
+    (g.F.Files.faults c.report_answer.new.files) in
+    let write_fault : Type 0 = Rose (g.O.Sink.faults c.args.out.now)
+    (g.O.Sink.faults c.report_answer.new.out) in
+    run_complete names read_fault write_fault (map string_bytes c.args.words.now)
+    (g.O.Sink.contents c.args.out.now) (g.O.Sink.contents c.report_answer.new.out)
+    c.report_answer.result can
     (subst
-    (λ h. RunEnds h read_fault write_fault (map string_bytes c.args.words.now) (g.O.Sink.contents c.args.out.now) (g.O.Sink.contents c.report_answer.new.out) c.report_answer.result)
+    (λ h. RunEnds h read_fault write_fault (map string_bytes c.args.words.now)
+    (g.O.Sink.contents c.args.out.now) (g.O.Sink.contents c.report_answer.new.out)
+    c.report_answer.result)
     held c.report_answer.ensures.ends)

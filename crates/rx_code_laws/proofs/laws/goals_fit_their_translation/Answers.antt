@@ -2,7 +2,9 @@ use Rattle.rx_code_laws.proofs.Translations.{left_fits, right_fits}
 use Rattle.rx_code_laws.proofs.laws.goals_fit_their_translation.Goals as goal
 
 pub returns-clause-left : goal.returns-clause-left
-returns-clause-left c = λ program scoped f g parts first second t. left_fits program scoped f g parts first second t
+returns-clause-left c =
+    λ program scoped f g parts first second t. left_fits program scoped f g parts first second t
 
 pub returns-clause-right : goal.returns-clause-right
-returns-clause-right c = λ program scoped f g parts first second t. right_fits program scoped f g parts first second t
+returns-clause-right c =
+    λ program scoped f g parts first second t. right_fits program scoped f g parts first second t

@@ -2,7 +2,11 @@ use Rattle.rx_code_laws.proofs.Translations.{translation_made, translation_paire
 use Rattle.rx_code_laws.proofs.laws.translations_are_well_made_and_paired.Goals as goal
 
 pub returns-clause-made : goal.returns-clause-made
-returns-clause-made c = λ program scoped f g parts first second t. translation_made program scoped f g parts first second t
+returns-clause-made c =
+    λ program scoped f g parts first second t. translation_made program scoped f g parts first
+    second t
 
 pub returns-clause-paired : goal.returns-clause-paired
-returns-clause-paired c = λ program scoped f g parts first second t. translation_paired program scoped f g parts first second t
+returns-clause-paired c =
+    λ program scoped f g parts first second t. translation_paired program scoped f g parts first
+    second t

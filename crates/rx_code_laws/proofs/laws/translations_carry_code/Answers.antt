@@ -2,7 +2,10 @@ use Rattle.rx_code_laws.proofs.Translations.{reached_entry, translation_carries}
 use Rattle.rx_code_laws.proofs.laws.translations_carry_code.Goals as goal
 
 pub returns-clause-carried : goal.returns-clause-carried
-returns-clause-carried c = λ program scoped f g parts first second t. translation_carries program scoped f g parts first second t
+returns-clause-carried c =
+    λ program scoped f g parts first second t. translation_carries program scoped f g parts first
+    second t
 
 pub returns-clause-entries : goal.returns-clause-entries
-returns-clause-entries c = λ program scoped f g parts first second t. reached_entry program scoped f g parts first second t
+returns-clause-entries c =
+    λ program scoped f g parts first second t. reached_entry program scoped f g parts first second t

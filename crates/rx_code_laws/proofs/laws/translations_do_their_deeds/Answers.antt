@@ -2,4 +2,6 @@ use Rattle.rx_code_laws.proofs.Translations.{translation_does}
 use Rattle.rx_code_laws.proofs.laws.translations_do_their_deeds.Goals as goal
 
 pub returns : goal.returns
-returns c = λ program scoped f g parts first second t. translation_does program scoped f g parts first second t
+returns c =
+    λ program scoped f g parts first second t. translation_does program scoped f g parts first
+    second t

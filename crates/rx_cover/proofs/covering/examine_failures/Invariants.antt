@@ -5,5 +5,6 @@ use Rattle.rx_cover.proofs.covering.examine_failures.Given as goal
 
 abbrev pub invariant-loop-at : goal.invariant-loop-at
 invariant-loop-at l =
-    in_turn l.rules (over_failures (symbol l.sym) (l.at + 1) (length (drop l.at l.trees))) (drop l.at l.trees)
+    in_turn l.rules (over_failures (symbol l.sym) (l.at + 1) (length (drop l.at l.trees)))
+    (drop l.at l.trees)
     ≡ in_turn l.rules (over_failures (symbol l.sym) 1 (length l.trees)) l.trees

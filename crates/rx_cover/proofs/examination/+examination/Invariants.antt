@@ -1,4 +1,5 @@
--- The trees inside are less deep; of one depth, what looks inside comes before what goes on with a part.
+-- The trees inside are less deep; of one depth, what looks inside comes before what goes on with a
+-- part.
 use Rattle.std.proofs.Common.{◌+◌, ◌*◌, max}
 use Rattle.rx_cover.specs.Depth.{tree_depth}
 use Rattle.rx_cover.proofs.examination.+examination.Given as goal

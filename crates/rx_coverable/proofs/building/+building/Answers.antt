@@ -10,26 +10,34 @@ use Rattle.rx_coverable.proofs.building.+building.Goals as goal
 
 pub build-returns-then-is_some-clause-coverage : goal.build-returns-then-is_some-clause-coverage
 build-returns-then-is_some-clause-coverage g t c =
-    used_covers (rules_of_shape (shape_at (symbol c.args.sym) c.args.redex) c.args.rules.now) c.args.left c.args.path.now (outcome c.in_ok-used.used)
+    used_covers (rules_of_shape (shape_at (symbol c.args.sym) c.args.redex) c.args.rules.now)
+    c.args.left c.args.path.now (outcome c.in_ok-used.used)
     c.in_ok-used.ensures.coverage (sym c.is_some.ensures ∙ c.if-is_some.true)
 
 pub build-returns-clause-coverage : goal.build-returns-clause-coverage
 build-returns-clause-coverage g t c =
     c.noted_before.ensures.outcome
-    ∙ not_used (rules_of_shape (shape_at (symbol c.args.sym) c.args.redex) c.args.rules.now) c.args.left c.args.path.now (outcome c.in_ok-used.used)
-    c.in_ok-used.ensures.coverage (sym c.is_some.ensures ∙ c.if-is_some.false) (outcome c.in_ok-built.built) c.in_ok-built.ensures.coverage
+    ∙ not_used (rules_of_shape (shape_at (symbol c.args.sym) c.args.redex) c.args.rules.now)
+    c.args.left c.args.path.now (outcome c.in_ok-used.used)
+    c.in_ok-used.ensures.coverage (sym c.is_some.ensures ∙ c.if-is_some.false)
+    (outcome c.in_ok-built.built) c.in_ok-built.ensures.coverage
 
 pub build_split-returns-clause-tree : goal.build_split-returns-clause-tree
 build_split-returns-clause-tree g t c =
     let is : c.in_ok-first.first.made ≡ Some c.in-Some.yes = cc in
-    split_trees c.args.rules.now (shape_at (symbol c.args.sym) c.args.redex) c.args.left c.args.path.now c.in_ok-second.second.made c.join.result
+    split_trees c.args.rules.now (shape_at (symbol c.args.sym) c.args.redex) c.args.left
+    c.args.path.now c.in_ok-second.second.made c.join.result
     c.requires.own c.in_ok-same.ensures c.in_ok-first.ensures.kept is c.in_ok-first.ensures.tree
     c.in_ok-second.ensures.tree c.in_ok-second.ensures.formed c.join.ensures.made
 
-pub build_unless_used-returns-then-left-eq0-clause-tree : goal.build_unless_used-returns-then-left-eq0-clause-tree
+pub build_unless_used-returns-then-left-eq0-clause-tree :
+    goal.build_unless_used-returns-then-left-eq0-clause-tree
 build_unless_used-returns-then-left-eq0-clause-tree g t c =
-    refuted_trees c.args.rules.now (shape_at (symbol c.args.sym) c.args.redex) c.args.path.now c.args.left c.refute_path.result c.refute_path.ensures.tree
+    refuted_trees c.args.rules.now (shape_at (symbol c.args.sym) c.args.redex) c.args.path.now
+    c.args.left c.refute_path.result c.refute_path.ensures.tree
 
-pub build_unless_used-returns-in-None-clause-tree : goal.build_unless_used-returns-in-None-clause-tree
+pub build_unless_used-returns-in-None-clause-tree :
+    goal.build_unless_used-returns-in-None-clause-tree
 build_unless_used-returns-in-None-clause-tree g t c =
-    refuted_trees c.args.rules.now (shape_at (symbol c.args.sym) c.args.redex) c.args.path.now c.args.left c.refute_path-in-None.result c.refute_path-in-None.ensures.tree
+    refuted_trees c.args.rules.now (shape_at (symbol c.args.sym) c.args.redex) c.args.path.now
+    c.args.left c.refute_path-in-None.result c.refute_path-in-None.ensures.tree

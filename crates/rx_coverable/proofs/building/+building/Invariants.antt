@@ -1,4 +1,5 @@
--- Each split leaves one less; with as many left, what looks at a part comes before what goes on with it.
+-- Each split leaves one less; with as many left, what looks at a part comes before what goes on
+-- with it.
 use Rattle.std.proofs.Common.{◌+◌, ◌*◌}
 use Rattle.rx_coverable.proofs.building.+building.Given as goal
 

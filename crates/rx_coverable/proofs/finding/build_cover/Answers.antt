@@ -10,9 +10,11 @@ use Rattle.rx_coverable.proofs.finding.build_cover.Goals as goal
 pub returns-clause-coverage : goal.returns-clause-coverage
 returns-clause-coverage g c =
     subst (λ (parts : RuleParts). IfOk c.build_lists.result (λ b. outcome b ≡ coverage parts))
-    (parts_are c.args.parts.now c.as_slice-symbols.ensures c.as_slice-rules.ensures) c.build_lists.ensures.coverage
+    (parts_are c.args.parts.now c.as_slice-symbols.ensures c.as_slice-rules.ensures)
+    c.build_lists.ensures.coverage
 
 pub returns-clause-lists : goal.returns-clause-lists
 returns-clause-lists g c =
     subst (λ (parts : RuleParts). IfOk c.build_lists.result (λ b. IfSome b.made (IsCover parts)))
-    (parts_are c.args.parts.now c.as_slice-symbols.ensures c.as_slice-rules.ensures) c.build_lists.ensures.lists
+    (parts_are c.args.parts.now c.as_slice-symbols.ensures c.as_slice-rules.ensures)
+    c.build_lists.ensures.lists

@@ -16,15 +16,24 @@ loop-sym-preserved g c =
     let blank : SymInfo = record { arity = 0; frame = false; entry = false; head = false } in
     let info : SymInfo = get_or c.args.symbols.now c.loop-sym.sym blank in
     let there = slice_get-get_or c.args.symbols.now c.loop-sym.sym blank c.loop-sym-test.true in
-    let either : c.if-noted.noted ≡ (c.loop-sym.noted || c.in_ok-tried.tried.noted) = elim c.if-noted.branch [
-      | then-noted w ↦ either_first c.loop-sym.noted c.in_ok-tried.tried.noted c.if-noted.noted w.if-noted.true w.noted-is
-      | else-noted w ↦ either_second c.loop-sym.noted c.in_ok-tried.tried.noted c.if-noted.noted w.if-noted.false w.noted-is
+    let either : c.if-noted.noted ≡ (c.loop-sym.noted || c.in_ok-tried.tried.noted) =
+    elim c.if-noted.branch [
+      | then-noted w ↦ either_first c.loop-sym.noted c.in_ok-tried.tried.noted c.if-noted.noted
+          w.if-noted.true w.noted-is
+      | else-noted w ↦ either_second c.loop-sym.noted c.in_ok-tried.tried.noted c.if-noted.noted
+          w.if-noted.false w.noted-is
     ] in
-    let decides = next_symbol parts c.loop-sym.sym info there c.loop-sym.noted c.in_ok-tried.tried c.in-Some.trees c.in_ok-tried.ensures.coverage c.in-Some.is c.loop-sym.invariant.decides in
+    let decides = next_symbol parts c.loop-sym.sym info there c.loop-sym.noted c.in_ok-tried.tried
+    c.in-Some.trees c.in_ok-tried.ensures.coverage c.in-Some.is c.loop-sym.invariant.decides in
     record {
       solver = c.build_symbol.ensures.solver;
-      decides = subst (λ n. noting n (symbols_coverage parts (c.loop-sym.sym + 1) (drop (c.loop-sym.sym + 1) c.args.symbols.now)) ≡ coverage parts) (sym either) decides;
-      listing = listed_next parts c.loop-sym.sym info there c.loop-sym.lists c.push.new.self c.in_ok-tried.tried.made c.in-Some.trees c.loop-sym.invariant.listing c.in-Some.is c.in_ok-tried.ensures.trees
+      decides =
+          subst (λ n. noting n (symbols_coverage parts (c.loop-sym.sym + 1)
+          (drop (c.loop-sym.sym + 1) c.args.symbols.now)) ≡ coverage parts) (sym either) decides;
+      listing =
+          listed_next parts c.loop-sym.sym info there c.loop-sym.lists c.push.new.self
+          c.in_ok-tried.tried.made c.in-Some.trees c.loop-sym.invariant.listing c.in-Some.is
+          c.in_ok-tried.ensures.trees
           (c.in_ok-push.ensures.ok ∙ ap (λ t. c.loop-sym.lists ++ t ∷ []) c.in-Some.trees-is);
     }
 

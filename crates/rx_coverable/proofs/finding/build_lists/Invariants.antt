@@ -10,6 +10,7 @@ use Rattle.rx_coverable.proofs.finding.build_lists.Given as goal
 abbrev pub invariant-loop-sym : goal.invariant-loop-sym
 invariant-loop-sym g l = record {
   solver : IsSolver g.S.FnMut l.solve;
-  decides : noting l.noted (symbols_coverage (parts_of l.symbols l.rules l.fails) l.sym (drop l.sym l.symbols)) ≡ coverage (parts_of l.symbols l.rules l.fails);
+  decides : noting l.noted (symbols_coverage (parts_of l.symbols l.rules l.fails) l.sym
+      (drop l.sym l.symbols)) ≡ coverage (parts_of l.symbols l.rules l.fails);
   listing : Listing (parts_of l.symbols l.rules l.fails) l.sym (drop l.sym l.symbols) l.lists;
 }

@@ -12,7 +12,9 @@ abbrev pub invariant-loop-redex : goal.invariant-loop-redex
 invariant-loop-redex g l = record {
   solver : IsSolver g.S.FnMut l.solve;
   decides :
-      noting l.noted (shapes_coverage l.rules (map (shape_at (symbol l.sym)) (drop l.redex-index l.redexes)))
+      noting l.noted (shapes_coverage l.rules
+      (map (shape_at (symbol l.sym)) (drop l.redex-index l.redexes)))
       ≡ shapes_coverage l.rules (map (shape_at (symbol l.sym)) l.redexes);
-  growing : Growing l.rules (map (shape_at (symbol l.sym)) l.redexes) (map (shape_at (symbol l.sym)) (drop l.redex-index l.redexes)) l.trees;
+  growing : Growing l.rules (map (shape_at (symbol l.sym)) l.redexes)
+      (map (shape_at (symbol l.sym)) (drop l.redex-index l.redexes)) l.trees;
 }

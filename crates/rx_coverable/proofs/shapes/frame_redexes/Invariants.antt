@@ -7,4 +7,5 @@ use Rattle.rx_coverable.proofs.shapes.frame_redexes.Given as goal
 
 abbrev pub invariant-loop-before : goal.invariant-loop-before
 invariant-loop-before l =
-    (f : Sym) → map (shape_at f) l.redexes ++ over_failures f (l.before + 1) (l.fails - l.before) ≡ redex_shapes f true l.fails
+    (f : Sym) → map (shape_at f) l.redexes ++ over_failures f (l.before + 1) (l.fails - l.before) ≡
+    redex_shapes f true l.fails

@@ -5,4 +5,6 @@ use Rattle.rx_coverable.specs.Redexes.{shape_at}
 use Rattle.rx_coverable.proofs.splits.find_split_row.Goals as goal
 
 pub returns-clause-own : goal.returns-clause-own
-returns-clause-own c = own_found c.args.path.now c.args.rules.now (shape_at (symbol c.args.sym) c.args.redex) c.find_open_row.result c.find_open_row.ensures
+returns-clause-own c =
+    own_found c.args.path.now c.args.rules.now (shape_at (symbol c.args.sym) c.args.redex)
+    c.find_open_row.result c.find_open_row.ensures

@@ -6,4 +6,5 @@ use Rattle.rx_coverable.proofs.splits.is_negation_among.Given as goal
 
 abbrev pub invariant-loop-other : goal.invariant-loop-other
 invariant-loop-other l =
-    stands_among (map negation (drop l.other-index l.rows)) l.row ≡ stands_among (map negation l.rows) l.row
+    stands_among (map negation (drop l.other-index l.rows)) l.row ≡
+    stands_among (map negation l.rows) l.row

@@ -10,7 +10,8 @@ pub returns-then-is_some-clause-tree : goal.returns-then-is_some-clause-tree
 returns-then-is_some-clause-tree g c =
     let at = c.loop-number.number in
     let rule = c.index-rules-number.result in
-    let there = at_some c.args.rules.now at rule rule c.loop-number-test.true c.index-rules-number.is in
+    let there = at_some c.args.rules.now at rule rule c.loop-number-test.true
+    c.index-rules-number.is in
     use_trees c.args.rules.now (shape_at (symbol c.args.sym) c.args.redex) at rule c.args.path.now
     c.in_ok-tried.tried.made there (sym c.is_redex_of.ensures ∙ c.if-not-is_redex_of.false)
     c.in_ok-rule_number.ensures c.rows.ensures c.in_ok-tried.ensures.tree

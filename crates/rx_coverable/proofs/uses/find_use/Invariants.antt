@@ -12,6 +12,7 @@ abbrev pub invariant-loop-number : goal.invariant-loop-number
 invariant-loop-number g l = record {
   solver : IsSolver g.S.FnMut l.solve;
   decides :
-      noting l.noted (using l.path (rules_of_shape (shape_at (symbol l.sym) l.redex) (drop l.number l.rules)))
+      noting l.noted (using l.path (rules_of_shape (shape_at (symbol l.sym) l.redex)
+      (drop l.number l.rules)))
       ≡ using l.path (rules_of_shape (shape_at (symbol l.sym) l.redex) l.rules);
 }

@@ -5,4 +5,5 @@ use Rattle.rx_fm.proofs.combination.divided_terms.Given as goal
 
 abbrev pub invariant-loop-term : goal.invariant-loop-term
 invariant-loop-term l =
-    l.made ++ map (λ (t : Mono × ℤ). (t.0, quotient t.1 l.by)) (drop l.term-index l.terms) ≡ map (λ (t : Mono × ℤ). (t.0, quotient t.1 l.by)) l.terms
+    l.made ++ map (λ (t : Mono × ℤ). (t.0, quotient t.1 l.by)) (drop l.term-index l.terms) ≡
+    map (λ (t : Mono × ℤ). (t.0, quotient t.1 l.by)) l.terms

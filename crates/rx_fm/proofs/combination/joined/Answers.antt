@@ -11,8 +11,13 @@ returns-clause-same c =
     let p : FitsSigned w128 c.coeff-positive.result = search rules in
     let n : FitsSigned w128 c.in-Some.negative = search rules in
     let q : FitsSigned w128 c.coeff.result = search rules in
-    let a : unsigned_abs (to_z w128 (of_z w128 c.coeff-positive.result)) ≡ unsigned_abs (at c.args.mono.now c.args.first.now) =
+    let a : unsigned_abs (to_z w128 (of_z w128 c.coeff-positive.result)) ≡
+    unsigned_abs (at c.args.mono.now c.args.first.now) =
     ap unsigned_abs (to_z-of_z w128 c.coeff-positive.result p ∙ c.coeff-positive.ensures) in
-    let b : unsigned_abs (to_z w128 (of_z w128 c.in-Some.negative)) ≡ unsigned_abs (at c.args.mono.now c.args.second.now) =
-    ap unsigned_abs (to_z-of_z w128 c.in-Some.negative n ∙ c.in-Some.ensures.1) ∙ ap unsigned_abs (to_z-of_z w128 c.coeff.result q ∙ c.coeff.ensures) in
-    IfOk-weaker c.reduced.result _ _ (λ r e. e ∙ ap reduced (c.in_ok-sum.ensures.same ∙ (λ i. cancelled (a i) (b i) c.args.first.now c.args.second.now))) c.reduced.ensures.same
+    let b : unsigned_abs (to_z w128 (of_z w128 c.in-Some.negative)) ≡
+    unsigned_abs (at c.args.mono.now c.args.second.now) =
+    ap unsigned_abs (to_z-of_z w128 c.in-Some.negative n ∙ c.in-Some.ensures.1) ∙
+    ap unsigned_abs (to_z-of_z w128 c.coeff.result q ∙ c.coeff.ensures) in
+    IfOk-weaker c.reduced.result _ _ (λ r e. e ∙
+    ap reduced (c.in_ok-sum.ensures.same ∙
+    (λ i. cancelled (a i) (b i) c.args.first.now c.args.second.now))) c.reduced.ensures.same

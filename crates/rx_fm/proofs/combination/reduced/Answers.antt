@@ -10,8 +10,10 @@ use Rattle.rx_fm.proofs.combination.reduced.Goals as goal
 pub divided_poly-requires-clause-divides : goal.divided_poly-requires-clause-divides
 divided_poly-requires-clause-divides c =
     let fits : FitsSigned w128 c.in-Some.by = search rules in
-    let by : unsigned_abs (to_z w128 (of_z w128 c.in-Some.by)) ≡ common c.args.combination = ap unsigned_abs (to_z-of_z w128 c.in-Some.by fits ∙ c.in-Some.ensures.1) in
-    ap (λ d. divides_all d (coefficients c.args.combination.poly)) by ∙ (common_divides c.args.combination).0
+    let by : unsigned_abs (to_z w128 (of_z w128 c.in-Some.by)) ≡ common c.args.combination =
+    ap unsigned_abs (to_z-of_z w128 c.in-Some.by fits ∙ c.in-Some.ensures.1) in
+    ap (λ d. divides_all d (coefficients c.args.combination.poly)) by ∙
+    (common_divides c.args.combination).0
 
 pub returns-then-by-eq1-clause-same : goal.returns-then-by-eq1-clause-same
 returns-then-by-eq1-clause-same c =

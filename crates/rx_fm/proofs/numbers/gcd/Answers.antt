@@ -8,8 +8,12 @@ use Rattle.rx_fm.proofs.numbers.gcd.Goals as goal
 pub loop-y-preserved : goal.loop-y-preserved
 loop-y-preserved c =
     let fits : FitsSigned w128 c.remainder-rest.result = search rules in
-    let e = to_z-of_z w128 c.remainder-rest.result fits ∙ c.remainder-rest.ensures in
-    (omega (arith, ints), not_negative e, gcd_turn (to_z w128 c.loop-y.x-bits) (to_z w128 c.loop-y.y-bits) e c.loop-y.invariant.2)
+    let e = to_z-of_z w128 c.remainder-rest.result fits ∙ c.remainder-rest.ensures in (
+      omega (arith, ints),
+      not_negative e,
+      gcd_turn (to_z w128 c.loop-y.x-bits)
+          (to_z w128 c.loop-y.y-bits) e c.loop-y.invariant.2,
+    )
 
 pub returns : goal.returns
 returns c =

@@ -9,6 +9,9 @@ returns-in-Generalise c =
     let s = c.in-Generalise in
     let a = c.args in
     let here =
-    subst (λ ws. Gives c.generalise_to.result (generalised a.rules.now a.goal.now (record { left = s.left; right = s.right; rows = s.rows }) ws))
+    subst (λ ws. Gives c.generalise_to.result
+    (generalised a.rules.now a.goal.now (record
+    { left = s.left; right = s.right; rows = s.rows }) ws))
     c.as_slice-in-Generalise.ensures c.generalise_to.ensures in
-    subst (λ step. Gives c.generalise_to.result (formed_on a.rules.now a.goal.now a.hypotheses.now step)) (sym s.is) here
+    subst (λ step. Gives c.generalise_to.result
+    (formed_on a.rules.now a.goal.now a.hypotheses.now step)) (sym s.is) here

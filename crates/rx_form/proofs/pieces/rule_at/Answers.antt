@@ -10,6 +10,10 @@ use Rattle.rx_form.proofs.pieces.rule_at.Goals as goal
 
 pub returns : goal.returns
 returns c =
-    let is : c.as_slice.result.now ≡ arguments_of c.args.part.now = c.as_slice.ensures ∙ c.in_ok-args.ensures in
+    let is : c.as_slice.result.now ≡ arguments_of c.args.part.now = c.as_slice.ensures ∙
+    c.in_ok-args.ensures in
     let same = ap numbered is ∙ numbered_in_order (arguments_of c.args.part.now) in
-    record { forms = subst (λ ws. Forms Large c.rule_at_args.result (rule_with ws c.args.rule.now)) same c.rule_at_args.ensures.forms }
+    record {
+      forms = subst (λ ws. Forms Large c.rule_at_args.result (rule_with ws c.args.rule.now))
+          same c.rule_at_args.ensures.forms;
+    }

@@ -3,4 +3,5 @@ use Rattle.rx_form.specs.Making.{failures, with_result}
 use Rattle.rx_form.proofs.results.push_failures.Given as goal
 
 abbrev pub invariant-loop-before : goal.invariant-loop-before
-invariant-loop-before l = l.goals ≡ l.fn.goals ++ map (with_result l.goal l.left l.right) (failures l.before)
+invariant-loop-before l =
+    l.goals ≡ l.fn.goals ++ map (with_result l.goal l.left l.right) (failures l.before)

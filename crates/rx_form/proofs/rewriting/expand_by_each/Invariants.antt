@@ -5,4 +5,6 @@ use Rattle.rx_form.proofs.Filtering.{Filtering}
 use Rattle.rx_form.proofs.rewriting.expand_by_each.Given as goal
 
 abbrev pub invariant-loop-rule : goal.invariant-loop-rule
-invariant-loop-rule l = Filtering (expanded_by l.goal l.side l.redex) (λ r. have_one_shape r.left l.redex) l.goals (drop l.rule-index l.rules) l.rules
+invariant-loop-rule l =
+    Filtering (expanded_by l.goal l.side l.redex) (λ r. have_one_shape r.left l.redex) l.goals
+    (drop l.rule-index l.rules) l.rules

@@ -9,14 +9,17 @@ pub loop-place-preserved : goal.loop-place-preserved
 loop-place-preserved c =
     let l = c.loop-place in
     let below : l.place < c.args.count = c.loop-place-test.true in
-    let e = answer_applies (naming_at c.args.side l.place l.naming) c.in_ok-next.field-0 c.in-Some.next c.in_ok-next.ensures c.in-Some.is in
-    sym (place_applies c.args.side l.place c.args.count l.naming c.in-Some.next below e) ∙ l.invariant
+    let e = answer_applies (naming_at c.args.side l.place l.naming) c.in_ok-next.field-0
+    c.in-Some.next c.in_ok-next.ensures c.in-Some.is in
+    sym (place_applies c.args.side l.place c.args.count l.naming c.in-Some.next below e) ∙
+    l.invariant
 
 pub returns-in-None : goal.returns-in-None
 returns-in-None c =
     let l = c.loop-place in
     let below : l.place < c.args.count = c.loop-place-test.true in
-    let e = answer_fails (naming_at c.args.side l.place l.naming) c.in_ok-next.field-0 c.in_ok-next.ensures c.in-None.is in
+    let e = answer_fails (naming_at c.args.side l.place l.naming) c.in_ok-next.field-0
+    c.in_ok-next.ensures c.in-None.is in
     sym l.invariant ∙ place_fails c.args.side l.place c.args.count l.naming below e
 
 pub returns-in_err-next : goal.returns-in_err-next
@@ -24,7 +27,8 @@ returns-in_err-next c =
     let l = c.loop-place in
     let below : l.place < c.args.count = c.loop-place-test.true in
     let p = err_from_is_err_and c.from_residual.result c.from_residual.ensures.1 in
-    rw (p.1, p.2) (λ h. sym l.invariant ∙ place_beyond c.args.side l.place c.args.count l.naming below (c.in_err-next.ensures h))
+    rw (p.1, p.2) (λ h. sym l.invariant ∙ place_beyond c.args.side l.place c.args.count l.naming
+    below (c.in_err-next.ensures h))
 
 pub returns : goal.returns
 returns c =

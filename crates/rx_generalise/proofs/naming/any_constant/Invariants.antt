@@ -6,4 +6,6 @@ use Rattle.rx_generalise.specs.Calls.{constant}
 use Rattle.rx_generalise.proofs.naming.any_constant.Given as goal
 
 abbrev pub invariant-loop-poly : goal.invariant-loop-poly
-invariant-loop-poly l = list_any (λ p. is_some (constant p)) (drop l.poly-index l.polys) ≡ list_any (λ p. is_some (constant p)) l.polys
+invariant-loop-poly l =
+    list_any (λ p. is_some (constant p)) (drop l.poly-index l.polys) ≡
+    list_any (λ p. is_some (constant p)) l.polys

@@ -7,5 +7,6 @@ use Rattle.rx_generalise.proofs.repeated.count_same.Given as goal
 abbrev pub invariant-loop-other : goal.invariant-loop-other
 invariant-loop-other l = record {
   few : l.count ≤ l.other-index;
-  all : length (filter (is_same_occurrence l.one) (drop l.other-index l.all)) + l.count ≡ length (filter (is_same_occurrence l.one) l.all);
+  all : length (filter (is_same_occurrence l.one) (drop l.other-index l.all)) + l.count ≡
+      length (filter (is_same_occurrence l.one) l.all);
 }

@@ -5,4 +5,6 @@ use Rattle.rx_generalise.specs.Repeated.{is_same_poly}
 use Rattle.rx_generalise.proofs.repeated.is_among.Given as goal
 
 abbrev pub invariant-loop-one : goal.invariant-loop-one
-invariant-loop-one l = list_any (λ p. is_same_poly p l.poly) (drop l.one-index l.polys) ≡ list_any (λ p. is_same_poly p l.poly) l.polys
+invariant-loop-one l =
+    list_any (λ p. is_same_poly p l.poly) (drop l.one-index l.polys) ≡
+    list_any (λ p. is_same_poly p l.poly) l.polys

@@ -5,4 +5,6 @@ use Rattle.rx_generalise.specs.Repeated.{is_taken_by}
 use Rattle.rx_generalise.proofs.repeated.is_taken.Given as goal
 
 abbrev pub invariant-loop-one : goal.invariant-loop-one
-invariant-loop-one l = list_any (is_taken_by l.all l.poly) (drop l.one-index l.all) ≡ list_any (is_taken_by l.all l.poly) l.all
+invariant-loop-one l =
+    list_any (is_taken_by l.all l.poly) (drop l.one-index l.all) ≡
+    list_any (is_taken_by l.all l.poly) l.all

@@ -5,7 +5,8 @@ use Rattle.rx_generalise.specs.Repeated.{occurrences_in}
 use Rattle.rx_generalise.proofs.repeated.push_occurrences.Given as goal
 
 abbrev pub invariant-loop-here : goal.invariant-loop-here
-invariant-loop-here l = l.occurrences.items ++ occurrences_in l.here ≡ l.fn.occurrences.items ++ occurrences_in l.term
+invariant-loop-here l =
+    l.occurrences.items ++ occurrences_in l.here ≡ l.fn.occurrences.items ++ occurrences_in l.term
 
 abbrev pub decreases-loop-here : goal.decreases-loop-here
 decreases-loop-here l = depth_of l.here

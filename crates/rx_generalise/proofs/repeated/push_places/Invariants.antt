@@ -4,4 +4,6 @@ use Rattle.rx_generalise.specs.Repeated.{occurrences_from}
 use Rattle.rx_generalise.proofs.repeated.push_places.Given as goal
 
 abbrev pub invariant-loop-place : goal.invariant-loop-place
-invariant-loop-place l = l.occurrences.items ++ occurrences_from l.symbol l.place (drop l.place l.polys) ≡ l.fn.occurrences.items ++ occurrences_from l.symbol 0 l.polys
+invariant-loop-place l =
+    l.occurrences.items ++ occurrences_from l.symbol l.place (drop l.place l.polys) ≡
+    l.fn.occurrences.items ++ occurrences_from l.symbol 0 l.polys

@@ -6,5 +6,6 @@ use Rattle.rx_generalise.proofs.replaced.new_variables.Given as goal
 abbrev pub invariant-loop-poly : goal.invariant-loop-poly
 invariant-loop-poly l = record {
   numbered : l.number ≡ l.first + l.poly-index;
-  all : l.with ++ enumerate_from l.number (drop l.poly-index l.polys) ≡ enumerate_from l.first l.polys;
+  all : l.with ++ enumerate_from l.number (drop l.poly-index l.polys) ≡
+      enumerate_from l.first l.polys;
 }

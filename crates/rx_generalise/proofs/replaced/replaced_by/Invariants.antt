@@ -7,4 +7,5 @@ use Rattle.rx_generalise.proofs.replaced.replaced_by.Given as goal
 
 abbrev pub invariant-loop-variable : goal.invariant-loop-variable
 invariant-loop-variable l =
-    find (λ (w : ℕ × Body). is_same_poly w.1 l.poly) (drop l.variable-index l.with) ≡ find (λ (w : ℕ × Body). is_same_poly w.1 l.poly) l.with
+    find (λ (w : ℕ × Body). is_same_poly w.1 l.poly) (drop l.variable-index l.with) ≡
+    find (λ (w : ℕ × Body). is_same_poly w.1 l.poly) l.with

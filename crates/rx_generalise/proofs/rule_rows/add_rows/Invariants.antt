@@ -7,5 +7,6 @@ use Rattle.rx_generalise.proofs.rule_rows.add_rows.Given as goal
 abbrev pub invariant-loop-row : goal.invariant-loop-row
 invariant-loop-row g l = record {
   solver : IsSolver g.S.FnMut l.solve;
-  decides : rows_added l.with l.given (drop l.row-index l.more) l.rows ≡ rows_added l.with l.given l.more l.fn.rows;
+  decides : rows_added l.with l.given (drop l.row-index l.more) l.rows ≡
+      rows_added l.with l.given l.more l.fn.rows;
 }

@@ -8,5 +8,6 @@ use Rattle.rx_generalise.proofs.rule_rows.rows_of.Given as goal
 
 abbrev pub invariant-loop-rule : goal.invariant-loop-rule
 invariant-loop-rule l =
-    ((λ more. l.made ++ more) <$> rows_by l.arguments (rules_of_shape (Called l.symbol) (drop l.rule-index l.rules)))
+    ((λ more. l.made ++ more) <$> rows_by l.arguments
+    (rules_of_shape (Called l.symbol) (drop l.rule-index l.rules)))
     ≡ rows_by l.arguments (rules_of_shape (Called l.symbol) l.rules)

@@ -8,5 +8,6 @@ use Rattle.rx_generalise.proofs.values.is_valued.Goals as goal
 pub returns : goal.returns
 unfolding is_valued
 returns c =
-    c.are_valued.ensures ∙ ap (valued_from false) (c.as_slice.ensures ∙ ap (λ (b : Body). (out-Body b).terms) c.body.ensures.body)
+    c.are_valued.ensures ∙ ap (valued_from false)
+    (c.as_slice.ensures ∙ ap (λ (b : Body). (out-Body b).terms) c.body.ensures.body)
     ∙ valued_by_terms (out-Body c.args.poly.now).terms

@@ -5,6 +5,8 @@ use Rattle.rx_graph.proofs.components.label_both.Given as goal
 
 abbrev pub invariant-loop-vertex : goal.invariant-loop-vertex
 invariant-loop-vertex l = record {
-  both : (b : ℕ) → b < l.vertex → IsMarked l.forwards b → IsMarked l.backwards b → get_or l.labels b 0 ≡ l.label;
-  only : (b : ℕ) → (get_or l.labels b 0 ≡ get_or l.initial.labels b 0) ⊎ (IsMarked l.forwards b × IsMarked l.backwards b × (get_or l.labels b 0 ≡ l.label));
+  both : (b : ℕ) → b < l.vertex → IsMarked l.forwards b → IsMarked l.backwards b →
+      get_or l.labels b 0 ≡ l.label;
+  only : (b : ℕ) → (get_or l.labels b 0 ≡ get_or l.initial.labels b 0) ⊎
+      (IsMarked l.forwards b × IsMarked l.backwards b × (get_or l.labels b 0 ≡ l.label));
 }

@@ -8,7 +8,8 @@ use Rattle.rx_graph.proofs.heights.raise.Goals as goal
 
 pub bounds-labels-target : goal.bounds-labels-target
 bounds-labels-target c =
-    c.requires.targets (get_or c.args.targets.now c.loop-target.target-index 0) (target_among c.args.targets.now c.loop-target.target-index c.loop-target-test.true)
+    c.requires.targets (get_or c.args.targets.now c.loop-target.target-index 0)
+    (target_among c.args.targets.now c.loop-target.target-index c.loop-target-test.true)
 
 pub loop-target-preserved : goal.loop-target-preserved
 loop-target-preserved c =
@@ -26,10 +27,12 @@ loop-target-preserved c =
     elim c.if-other-own.branch [
       | then-other-own+then-heights-other w ↦
           subst (Raised (take (i + 1) targets) labels own heights) (sym w.heights-is)
-          (raise_new targets labels own heights now i t there (target_is targets i there) inv (omega (arith, size, within)) w.if-other-own.true w.if-heights-other.true)
+          (raise_new targets labels own heights now i t there (target_is targets i there) inv
+          (omega (arith, size, within)) w.if-other-own.true w.if-heights-other.true)
       | else-other-own w ↦
           subst (Raised (take (i + 1) targets) labels own heights) (sym w.heights-is)
-          (raise_known targets labels own heights now i t there (target_is targets i there) inv (elim w.else-other-own.branch [
+          (raise_known targets labels own heights now i t there (target_is targets i there) inv
+          (elim w.else-other-own.branch [
             | else-other-own-via-then-other-own+else-heights-other x ↦ inr x.if-heights-other.false
             | else-other-own-via-else-other-own x ↦ inl x.if-other-own.false
           ]))

@@ -4,4 +4,5 @@ use Rattle.rx_graph.specs.Ranked.{Raised}
 use Rattle.rx_graph.proofs.heights.raise.Given as goal
 
 abbrev pub invariant-loop-target : goal.invariant-loop-target
-invariant-loop-target l = Raised (take l.target-index l.targets) l.labels l.own l.initial.heights l.heights
+invariant-loop-target l =
+    Raised (take l.target-index l.targets) l.labels l.own l.initial.heights l.heights

@@ -3,4 +3,6 @@ use Rattle.rx_graph.proofs.GraphLaws.{lead_below}
 use Rattle.rx_graph.proofs.laws.one_label_is_one_component.Goals as goal
 
 pub returns : goal.returns
-returns c = λ n edges over labels components. same_together n edges (lead_below n edges over) labels components
+returns c =
+    λ n edges over labels components. same_together n edges (lead_below n edges over) labels
+    components

@@ -8,12 +8,14 @@ use Rattle.rx_graph.proofs.reach.mark.Goals as goal
 
 pub index-requires : goal.index-requires
 index-requires c =
-    let h = c.requires (get_or c.args.targets.now c.loop-target.target-index 0) (target_among c.args.targets.now c.loop-target.target-index c.loop-target-test.true) in
+    let h = c.requires (get_or c.args.targets.now c.loop-target.target-index 0)
+    (target_among c.args.targets.now c.loop-target.target-index c.loop-target-test.true) in
     omega (arith, h, c.loop-target.invariant.count, c.loop-target.marks.ok.0)
 
 pub index_mut-requires : goal.index_mut-requires
 index_mut-requires c =
-    let h = c.requires (get_or c.args.targets.now c.loop-target.target-index 0) (target_among c.args.targets.now c.loop-target.target-index c.loop-target-test.true) in
+    let h = c.requires (get_or c.args.targets.now c.loop-target.target-index 0)
+    (target_among c.args.targets.now c.loop-target.target-index c.loop-target-test.true) in
     omega (arith, h, c.loop-target.invariant.count, c.loop-target.marks.ok.0)
 
 pub loop-target-preserved : goal.loop-target-preserved
@@ -31,12 +33,19 @@ loop-target-preserved c =
       | then-not-index+in_ok-push w ↦
           subst (λ rs. Marked marks before (take (i + 1) targets) c.if-not-index.marks.items rs)
           (sym (ap (λ r. r.items) w.reached-is ∙ w.in_ok-push.ensures.items))
-          (subst (λ ms. Marked marks before (take (i + 1) targets) ms (reached ++ t ∷ [])) (sym (ap (λ m. m.items) w.marks-is))
-          (mark_new marks before targets i t after reached there (target_is targets i there) c.loop-target.invariant
-          (omega (arith, h, c.loop-target.invariant.count)) (read_false after t c.index.result.now c.index.ensures w.if-not-index.true)))
+          (subst (λ ms. Marked marks before (take (i + 1) targets) ms (reached ++ t ∷ []))
+          (sym (ap (λ m. m.items) w.marks-is))
+          (mark_new marks before targets i t after reached there (target_is targets i there)
+          c.loop-target.invariant
+          (omega (arith, h, c.loop-target.invariant.count))
+          (read_false after t c.index.result.now c.index.ensures w.if-not-index.true)))
       | else-not-index w ↦
-          subst (λ rs. Marked marks before (take (i + 1) targets) c.if-not-index.marks.items rs) (sym (ap (λ r. r.items) w.reached-is))
-          (subst (λ ms. Marked marks before (take (i + 1) targets) ms reached) (sym (ap (λ m. m.items) w.marks-is))
-          (mark_known marks before targets i t after reached there (target_is targets i there) c.loop-target.invariant
-          (read_true after t c.index.result.now (omega (arith, h, c.loop-target.invariant.count)) c.index.ensures w.if-not-index.false)))
+          subst (λ rs. Marked marks before (take (i + 1) targets) c.if-not-index.marks.items rs)
+          (sym (ap (λ r. r.items) w.reached-is))
+          (subst (λ ms. Marked marks before (take (i + 1) targets) ms reached)
+          (sym (ap (λ m. m.items) w.marks-is))
+          (mark_known marks before targets i t after reached there (target_is targets i there)
+          c.loop-target.invariant
+          (read_true after t c.index.result.now (omega (arith, h, c.loop-target.invariant.count))
+          c.index.ensures w.if-not-index.false)))
     ]

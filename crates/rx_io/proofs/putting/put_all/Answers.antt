@@ -19,6 +19,8 @@ loop-rest-preserved g c =
     record {
       reach = g.met.O.Sink.reaches_on _ _ _ c.loop-rest.invariant.reach c.in-Ok.ensures.reach;
       later = omega (arith, c.in-Ok.ensures.later);
-      sent = sent_on _ _ _ _ _ c.in-Ok.count c.loop-rest.invariant.sent c.in-Ok.ensures.bound c.in-Ok.ensures.bytes;
+      sent =
+          sent_on _ _ _ _ _ c.in-Ok.count c.loop-rest.invariant.sent c.in-Ok.ensures.bound
+          c.in-Ok.ensures.bytes;
       run = sends_on c.loop-rest.invariant.run c.in-Ok.ensures.gives some;
     }

@@ -8,7 +8,8 @@ abbrev pub invariant-loop-rest : goal.invariant-loop-rest
 invariant-loop-rest g l = record {
   reach : g.O.Sink.reaches l.fn.out l.out;
   later : g.O.Sink.faults l.fn.out ≤ g.O.Sink.faults l.out;
-  sent : (count : ℕ) × (count ≤ length l.bytes) × (l.rest ≡ drop count l.bytes) × Appends (g.O.Sink.contents l.fn.out) (g.O.Sink.contents l.out) (take count l.bytes);
+  sent : (count : ℕ) × (count ≤ length l.bytes) × (l.rest ≡ drop count l.bytes) ×
+      Appends (g.O.Sink.contents l.fn.out) (g.O.Sink.contents l.out) (take count l.bytes);
   run : Sends g.O.Sink.puts l.fn.out l.bytes l.out l.rest;
 }
 

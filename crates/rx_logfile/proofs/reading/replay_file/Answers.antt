@@ -30,37 +30,66 @@ pub returns-then-count-eq0-clause-ends : goal.returns-then-count-eq0-clause-ends
 returns-then-count-eq0-clause-ends g c =
     let h = c.loop-count.invariant.so_far in
     let none : c.in-Ok-take.count ≡ 0 = c.if-count-eq0.true in
-    let at : IsAtEnd (g.F.Files.left c.take.new.self) = c.in-Ok-take.ensures.bytes.1 none (omega arith) in
+    let at : IsAtEnd (g.F.Files.left c.take.new.self) =
+    c.in-Ok-take.ensures.bytes.1 none (omega arith) in
     let holds : HoldsBytes (g.F.Files.held c.args.files.now) c.args.name.now h.bytes =
-    holds_all (g.F.Files.held c.args.files.now) c.args.name.now (g.F.Files.left c.open.new.self) (g.F.Files.left c.loop-count.files) (g.F.Files.left c.take.new.self) h.bytes (take c.in-Ok-take.count c.take.new.into)
-    (ap (λ (n : ℕ). take n c.take.new.into) none) c.in-Ok.ensures.ok h.taken c.in-Ok-take.ensures.bytes.0 at in
+    holds_all (g.F.Files.held c.args.files.now) c.args.name.now (g.F.Files.left c.open.new.self)
+    (g.F.Files.left c.loop-count.files) (g.F.Files.left c.take.new.self) h.bytes
+    (take c.in-Ok-take.count c.take.new.into)
+    (ap (λ (n : ℕ). take n c.take.new.into) none) c.in-Ok.ensures.ok h.taken
+    c.in-Ok-take.ensures.bytes.0 at in
     let within : length h.bytes ≤ c.args.limit = omega (arith, h.counted, h.within) in
-    on_file (g.F.Files.held c.args.files.now) (Rose (g.F.Files.faults c.args.files.now) (g.F.Files.faults c.take.new.self)) c.args.name.now c.args.limit c.args.rules.now c.args.goal h.bytes c.finish.result holds within
+    on_file (g.F.Files.held c.args.files.now)
+    (Rose (g.F.Files.faults c.args.files.now) (g.F.Files.faults c.take.new.self))
+    c.args.name.now c.args.limit c.args.rules.now c.args.goal h.bytes c.finish.result holds
+    within
     (c.finish.ensures c.args.goal h.bytes h.stands)
 
 pub returns-then-count-most-clause-ends : goal.returns-then-count-most-clause-ends
 returns-then-count-most-clause-ends g c =
     let h = c.loop-count.invariant.so_far in
-    let more : c.args.limit < length h.bytes + length (take c.in-Ok-take.count c.take.new.into) = omega (arith, c.in-Ok-take.ensures.bound.1, h.counted, h.within, c.if-count-most.true) in
-    holds_more (g.F.Files.held c.args.files.now) c.args.name.now (g.F.Files.left c.open.new.self) (g.F.Files.left c.loop-count.files) (g.F.Files.left c.take.new.self) h.bytes _ c.args.limit c.in-Ok.ensures.ok
+    let more : c.args.limit < length h.bytes + length (take c.in-Ok-take.count c.take.new.into) =
+    omega (arith, c.in-Ok-take.ensures.bound.1, h.counted, h.within, c.if-count-most.true) in
+    holds_more (g.F.Files.held c.args.files.now) c.args.name.now (g.F.Files.left c.open.new.self)
+    (g.F.Files.left c.loop-count.files) (g.F.Files.left c.take.new.self) h.bytes _ c.args.limit
+    c.in-Ok.ensures.ok
     h.taken c.in-Ok-take.ensures.bytes.0 more
 
 pub take-requires-in-loop-count-clause-room : goal.take-requires-in-loop-count-clause-room
 take-requires-in-loop-count-clause-room g c =
     let h = c.loop-count.invariant.so_far in
-    omega (arith, lines_within h.stands, h.counted, h.within, c.ranges.limit.fits, c.in-Ok-take.ensures.bound.1, c.if-count-most.false)
+    omega (
+      arith,
+      lines_within h.stands,
+      h.counted,
+      h.within,
+      c.ranges.limit.fits,
+      c.in-Ok-take.ensures.bound.1,
+      c.if-count-most.false,
+    )
 
 pub loop-count-preserved : goal.loop-count-preserved
 loop-count-preserved g c =
     let h = c.loop-count.invariant.so_far in
     record {
-      reach = g.met.F.Files.reaches_on c.args.files.now c.loop-count.files c.take.new.self c.loop-count.invariant.reach c.in-Ok-take.ensures.reach;
+      reach =
+          g.met.F.Files.reaches_on c.args.files.now c.loop-count.files c.take.new.self
+          c.loop-count.invariant.reach c.in-Ok-take.ensures.reach;
       held = c.in-Ok-take.ensures.held ∙ c.loop-count.invariant.held;
       later = omega (arith, c.loop-count.invariant.later, c.in-Ok-take.ensures.later);
       so_far = record {
         bytes = h.bytes ++ take c.in-Ok-take.count c.take.new.into;
-        taken = Consumes-trans (g.F.Files.left c.open.new.self) (g.F.Files.left c.loop-count.files) (g.F.Files.left c.take.new.self) h.bytes (take c.in-Ok-take.count c.take.new.into) h.taken c.in-Ok-take.ensures.bytes.0;
-        counted = omega (arith, h.counted, c.in-Ok-take.ensures.bound.1, length-append h.bytes (take c.in-Ok-take.count c.take.new.into));
+        taken =
+            Consumes-trans (g.F.Files.left c.open.new.self) (g.F.Files.left c.loop-count.files)
+            (g.F.Files.left c.take.new.self) h.bytes (take c.in-Ok-take.count c.take.new.into)
+            h.taken c.in-Ok-take.ensures.bytes.0;
+        counted =
+            omega (
+              arith,
+              h.counted,
+              c.in-Ok-take.ensures.bound.1,
+              length-append h.bytes (take c.in-Ok-take.count c.take.new.into),
+            );
         within = omega (arith, h.within, c.if-count-most.false);
         stands = c.in_ok-take.ensures.stands c.args.goal h.bytes h.stands;
         step = c.in_ok-take.ensures.step;
@@ -69,4 +98,5 @@ loop-count-preserved g c =
 
 pub returns-in_err-take-clause-reach : goal.returns-in_err-take-clause-reach
 returns-in_err-take-clause-reach g c =
-    g.met.F.Files.reaches_on c.args.files.now c.loop-count.files c.take.new.self c.loop-count.invariant.reach c.in-Ok-take.ensures.reach
+    g.met.F.Files.reaches_on c.args.files.now c.loop-count.files c.take.new.self
+    c.loop-count.invariant.reach c.in-Ok-take.ensures.reach

@@ -8,7 +8,8 @@ invariant-loop-count g l = record {
   reach : g.F.Files.reaches l.fn.files l.files;
   held : g.F.Files.held l.files ≡ g.F.Files.held l.fn.files;
   later : g.F.Files.faults l.fn.files ≤ g.F.Files.faults l.files;
-  so_far : FileSoFar (g.F.Files.left l.initial.files) (g.F.Files.left l.files) l.check l.rules l.fn.goal l.read l.most;
+  so_far : FileSoFar (g.F.Files.left l.initial.files) (g.F.Files.left l.files) l.check l.rules
+      l.fn.goal l.read l.most;
 }
 
 abbrev pub decreases-loop-count : goal.decreases-loop-count

@@ -6,5 +6,6 @@ returns-in_default c = no_symbol_of_cover c.args.line.now c.args.at c.requires c
 
 pub returns-in-None : goal.returns-in-None
 returns-in-None c =
-    no_trees_of_cover c.args.line.now c.args.at c.in-Some.end c.in-Some.symbol c.requires c.in-Some.ensures
+    no_trees_of_cover c.args.line.now c.args.at c.in-Some.end c.in-Some.symbol c.requires
+    c.in-Some.ensures
     (rw c.in-None.is at c.in_ok-trees.ensures)

@@ -3,5 +3,8 @@ use Rattle.std.proofs.lemmas.List.{append-nil}
 use Rattle.rx_logtext.proofs.part.is_word.Goals as goal
 
 pub returns-in-None : goal.returns-in-None
-returns-in-None c =
-    ((λ h. absurd (let f = h in cc)), (λ e. absurd (c.in-None.ensures [] (e ∙ sym (append-nil c.args.word.now)))))
+returns-in-None c = (
+  (λ h. absurd (let f = h in cc)),
+  (λ e. absurd
+      (c.in-None.ensures [] (e ∙ sym (append-nil c.args.word.now)))),
+)

@@ -9,7 +9,8 @@ returns-then-end-bytes g c =
 pub returns-else-end-bytes : goal.returns-else-end-bytes
 returns-else-end-bytes g c =
     let p = g.T.Part in
-    rest_longer p.text p.in_range g.met.T.Part.once (rw c.in-Some.is at c.in_ok-part.ensures) c.if-end-bytes.false
+    rest_longer p.text p.in_range g.met.T.Part.once (rw c.in-Some.is at c.in_ok-part.ensures)
+    c.if-end-bytes.false
 
 pub returns-in-None : goal.returns-in-None
 returns-in-None g c =

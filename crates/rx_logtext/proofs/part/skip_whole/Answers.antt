@@ -6,6 +6,8 @@ use Rattle.rx_logtext.proofs.part.skip_whole.Goals as goal
 
 pub returns-else-ends_word : goal.returns-else-ends_word
 returns-else-ends_word c = λ left over e.
-    let same : drop c.in-Some.end c.args.bytes.now ≡ left = append_cancel_left c.args.word.now (drop c.in-Some.end c.args.bytes.now) left (sym c.in-Some.ensures.1.1 ∙ e) in
+    let same : drop c.in-Some.end c.args.bytes.now ≡ left =
+    append_cancel_left c.args.word.now (drop c.in-Some.end c.args.bytes.now) left
+    (sym c.in-Some.ensures.1.1 ∙ e) in
     let never : false ≡ true = c.if-ends_word.ensures ∙ ap (is_over in_word) same ∙ over in
     cc

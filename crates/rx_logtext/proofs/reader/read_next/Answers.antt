@@ -7,5 +7,6 @@ use Rattle.rx_logtext.proofs.reader.read_next.Goals as goal
 pub returns-in-None : goal.returns-in-None
 returns-in-None c =
     never_comes c.args.place c.args.bytes.now (c.in-Some.line, c.in-Some.symbol)
-    (subst (λ (found : Option (Line × ℕ)). ReadsAll lines c.args.bytes.now found) c.in-Some.is c.in_ok-line.ensures)
+    (subst (λ (found : Option (Line × ℕ)). ReadsAll lines c.args.bytes.now found) c.in-Some.is
+    c.in_ok-line.ensures)
     (sym c.in-None.ensures)

@@ -5,4 +5,5 @@ use Rattle.rx_log.specs.Depth.{are_shallow}
 use Rattle.rx_logwriting.proofs.writing.are_shallow_steps.Given as goal
 
 abbrev pub invariant-loop-step : goal.invariant-loop-step
-invariant-loop-step l = list_all (λ step. are_shallow (certificates step)) (take l.step-index l.steps) ≡ true
+invariant-loop-step l =
+    list_all (λ step. are_shallow (certificates step)) (take l.step-index l.steps) ≡ true

@@ -11,7 +11,8 @@ pub returns : goal.returns
 returns c =
     let log = c.args.log.now in
     let both = c.in_ok-push_behind_steps.ensures
-    ∙ ap (λ text. text ++ ended (line_texts (behind_steps log))) c.in_ok-push_before_ranks.ensures in
+    ∙ ap (λ text. text ++ ended (line_texts (behind_steps log))) c.in_ok-push_before_ranks.ensures
+    in
     on_ok_weaker c.push_word.result
     (λ h. h ∙ ap (λ text. text ++ codes "EQUIVALENT\n") both ∙ log_written c.args.out.now.items log)
     c.push_word.ensures

@@ -4,4 +4,5 @@ use Rattle.rx_words.specs.Words.{each_spaced}
 use Rattle.rx_logwriting.proofs.writing.push_trees.Given as goal
 
 abbrev pub invariant-loop-tree : goal.invariant-loop-tree
-invariant-loop-tree l = l.out.items ≡ l.initial.out.items ++ each_spaced tree_text (take l.tree-index l.trees)
+invariant-loop-tree l =
+    l.out.items ≡ l.initial.out.items ++ each_spaced tree_text (take l.tree-index l.trees)

@@ -6,4 +6,5 @@ use Rattle.rx_match.proofs.arguments.set_by_pairs.Given as goal
 
 abbrev pub invariant-loop-pattern : goal.invariant-loop-pattern
 invariant-loop-pattern l =
-    set_by_pairs (zip (drop l.pattern-index l.patterns) l.others) l.settings ≡ set_by_pairs (zip l.patterns l.polys) []
+    set_by_pairs (zip (drop l.pattern-index l.patterns) l.others) l.settings ≡
+    set_by_pairs (zip l.patterns l.polys) []

@@ -5,4 +5,5 @@ use Rattle.rx_match.specs.Equations.{pass, set_by_row}
 use Rattle.rx_match.proofs.equations.pass.Given as goal
 
 abbrev pub invariant-loop-row : goal.invariant-loop-row
-invariant-loop-row l = Folding set_by_row l.settings (drop l.row-index l.rows) (pass l.rows l.initial.settings)
+invariant-loop-row l =
+    Folding set_by_row l.settings (drop l.row-index l.rows) (pass l.rows l.initial.settings)

@@ -7,5 +7,6 @@ use Rattle.rx_match.proofs.equations.pass_often.Given as goal
 abbrev pub invariant-loop : goal.invariant-loop
 invariant-loop l = record {
   count : l.end ≡ length l.rows;
-  passing : Passing l.rows l.settings (length l.rows - l.counter) (pass_times (length l.rows) l.rows l.initial.settings);
+  passing : Passing l.rows l.settings (length l.rows - l.counter)
+      (pass_times (length l.rows) l.rows l.initial.settings);
 }

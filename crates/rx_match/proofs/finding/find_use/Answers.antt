@@ -1,4 +1,5 @@
--- A use at the part is the step there, and has no variables but those of the goal and the hypothesis.
+-- A use at the part is the step there, and has no variables but those of the goal and the
+-- hypothesis.
 use Rattle.std.proofs.Common.{rules, ◌≡◌, true, Some}
 use Rattle.rx_term.specs.Stacks.{behind}
 use Rattle.rx_form.specs.Pieces.{have_one_shape, side_of}
@@ -14,9 +15,11 @@ returns-in-Some-clause-lawful g c =
     let part = c.in-Some.part.now in
     let ws = (matching a.hypothesis.now part).form in
     let at : behind a.place (side_of a.side a.goal.now) ≡ Some part = search rules in
-    if_use_both (IsShownAt a.goal.now a.hypothesis.now part ws) (λ u. have_one_shape part a.hypothesis.now.left ≡ true)
+    if_use_both (IsShownAt a.goal.now a.hypothesis.now part ws)
+    (λ u. have_one_shape part a.hypothesis.now.left ≡ true)
     (IsLawful a.goal.now a.hypothesis.now a.side a.place) c.use_at.result
-    (lawful_at a.goal.now a.hypothesis.now a.side a.place part ws at) c.use_at.ensures.shown c.use_at.ensures.shape
+    (lawful_at a.goal.now a.hypothesis.now a.side a.place part ws at) c.use_at.ensures.shown
+    c.use_at.ensures.shape
 
 pub returns-in-Some-clause-own_variables : goal.returns-in-Some-clause-own_variables
 returns-in-Some-clause-own_variables g c =
@@ -24,5 +27,6 @@ returns-in-Some-clause-own_variables g c =
     let part = c.in-Some.part.now in
     let ws = (matching a.hypothesis.now part).form in
     let at : behind a.place (side_of a.side a.goal.now) ≡ Some part = search rules in
-    if_use_then (IsShownAt a.goal.now a.hypothesis.now part ws) (HasOwnVariables a.goal.now a.hypothesis.now) c.use_at.result
+    if_use_then (IsShownAt a.goal.now a.hypothesis.now part ws)
+    (HasOwnVariables a.goal.now a.hypothesis.now) c.use_at.result
     (own_use a.goal.now a.hypothesis.now a.side a.place part at) c.use_at.ensures.shown

@@ -5,4 +5,6 @@ use Rattle.rx_match.specs.Variables.{polys_pass}
 use Rattle.rx_match.proofs.unset.are_polys_set.Given as goal
 
 abbrev pub invariant-loop-poly : goal.invariant-loop-poly
-invariant-loop-poly l = polys_pass (is_set l.settings) (drop l.poly-index l.polys) ≡ polys_pass (is_set l.settings) l.polys
+invariant-loop-poly l =
+    polys_pass (is_set l.settings) (drop l.poly-index l.polys) ≡
+    polys_pass (is_set l.settings) l.polys

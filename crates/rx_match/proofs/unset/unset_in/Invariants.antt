@@ -6,4 +6,6 @@ use Rattle.rx_match.proofs.unset.unset_in.Given as goal
 
 abbrev pub invariant-loop-variable : goal.invariant-loop-variable
 invariant-loop-variable l =
-    l.unset.items ++ filter (λ x. not (is_set l.settings x)) (drop l.variable-index l.variable-items) ≡ filter (λ x. not (is_set l.settings x)) l.variable-items
+    l.unset.items ++ filter (λ x. not (is_set l.settings x))
+    (drop l.variable-index l.variable-items) ≡
+    filter (λ x. not (is_set l.settings x)) l.variable-items

@@ -8,23 +8,28 @@ pub returns-in_err-first : goal.returns-in_err-first
 returns-in_err-first c = λ pairs are.
     let p = err_from_is_err_and c.from_residual.result c.from_residual.ensures.1 in
     rw (p.1, p.2)
-    (first_refused c.args.witness c.args.rules.now c.args.hypotheses.now c.in_err-first.field-0.0 c.in_err-first.ensures.decides pairs are)
+    (first_refused c.args.witness c.args.rules.now c.args.hypotheses.now c.in_err-first.field-0.0
+    c.in_err-first.ensures.decides pairs are)
 
 pub returns-in_err-count : goal.returns-in_err-count
 returns-in_err-count c = λ pairs are.
-    let p = err_from_is_err_and c.from_residual-in_err-count.result c.from_residual-in_err-count.ensures.1 in
+    let p = err_from_is_err_and c.from_residual-in_err-count.result
+    c.from_residual-in_err-count.ensures.1 in
     rw (p.1, p.2)
-    (second_refused c.args.witness c.args.rules.now c.args.hypotheses.now c.in_ok-first.first c.in_ok-first.ensures.decides
+    (second_refused c.args.witness c.args.rules.now c.args.hypotheses.now c.in_ok-first.first
+    c.in_ok-first.ensures.decides
     c.in_err-count.field-0.0 c.in_err-count.ensures.decides pairs are)
 
 pub returns-then-count-witness : goal.returns-then-count-witness
 returns-then-count-witness c = λ pairs are.
-    both_done c.args.witness c.args.rules.now c.args.hypotheses.now c.in_ok-first.first c.in_ok-first.ensures.decides
+    both_done c.args.witness c.args.rules.now c.args.hypotheses.now c.in_ok-first.first
+    c.in_ok-first.ensures.decides
     c.in_ok-count.count c.in_ok-count.ensures.decides pairs are
     ∙ more_left c.args.witness c.in_ok-count.count c.if-count-witness.true
 
 pub returns : goal.returns
 returns c = λ pairs are.
-    both_done c.args.witness c.args.rules.now c.args.hypotheses.now c.in_ok-first.first c.in_ok-first.ensures.decides
+    both_done c.args.witness c.args.rules.now c.args.hypotheses.now c.in_ok-first.first
+    c.in_ok-first.ensures.decides
     c.in_ok-count.count c.in_ok-count.ensures.decides pairs are
     ∙ none_left c.args.witness c.in_ok-count.count c.if-count-witness.false

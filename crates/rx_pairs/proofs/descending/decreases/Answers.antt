@@ -15,5 +15,7 @@ both_lower-requires-clause-rules c =
 pub returns-clause-lowers : goal.returns-clause-lowers
 returns-clause-lowers c =
     let rules = c.as_slice.ensures ∙ ap (λ all. all.rules) c.parts-parts.ensures.parts in
-    lowers_all c.args.rules.now c.args.hypotheses.now c.args.table.now c.args.certs.now c.both_lower.result c.parts-parts.ensures.made c.requires
-    (λ pairs are. c.both_lower.ensures pairs (subst (λ (rs : List Rule). AreAllPairs (rs ++ c.args.hypotheses.now) pairs) (sym rules) are))
+    lowers_all c.args.rules.now c.args.hypotheses.now c.args.table.now c.args.certs.now
+    c.both_lower.result c.parts-parts.ensures.made c.requires
+    (λ pairs are. c.both_lower.ensures pairs (subst
+    (λ (rs : List Rule). AreAllPairs (rs ++ c.args.hypotheses.now) pairs) (sym rules) are))

@@ -18,8 +18,10 @@ returns-in-Ok-true-clause-decides c = λ others.
     let cert = c.in-Some.cert.now in
     let number = c.args.number in
     let certs = c.args.witness.certs.now in
-    let there : slice_get certs number ≡ Some cert = at_some certs number cert cert c.in-Some.ensures.lookup.3.0 c.in-Some.ensures.lookup.1 in
-    one_turn c.args.witness (pair_of c.args.rule.now (lent c.args.root) (lent c.args.part)) others number c.in_ok-pair.pair cert Yes
+    let there : slice_get certs number ≡ Some cert =
+    at_some certs number cert cert c.in-Some.ensures.lookup.3.0 c.in-Some.ensures.lookup.1 in
+    one_turn c.args.witness (pair_of c.args.rule.now (lent c.args.root) (lent c.args.part)) others
+    number c.in_ok-pair.pair cert Yes
     there c.in_ok-pair.ensures (c.in-Ok-true.ensures.answer ∙ ap said c.in-Ok-true.field-0-test)
 
 pub returns-in-Ok-false-clause-decides : goal.returns-in-Ok-false-clause-decides
@@ -27,8 +29,10 @@ returns-in-Ok-false-clause-decides c = λ others.
     let cert = c.in-Some.cert.now in
     let number = c.args.number in
     let certs = c.args.witness.certs.now in
-    let there : slice_get certs number ≡ Some cert = at_some certs number cert cert c.in-Some.ensures.lookup.3.0 c.in-Some.ensures.lookup.1 in
-    one_turn c.args.witness (pair_of c.args.rule.now (lent c.args.root) (lent c.args.part)) others number c.in_ok-pair.pair cert No
+    let there : slice_get certs number ≡ Some cert =
+    at_some certs number cert cert c.in-Some.ensures.lookup.3.0 c.in-Some.ensures.lookup.1 in
+    one_turn c.args.witness (pair_of c.args.rule.now (lent c.args.root) (lent c.args.part)) others
+    number c.in_ok-pair.pair cert No
     there c.in_ok-pair.ensures (c.in-Ok-false.ensures.answer ∙ ap said c.in-Ok-false.field-0-test)
 
 pub returns-in-Err-Large-clause-decides : goal.returns-in-Err-Large-clause-decides
@@ -36,6 +40,8 @@ returns-in-Err-Large-clause-decides c = λ others.
     let cert = c.in-Some.cert.now in
     let number = c.args.number in
     let certs = c.args.witness.certs.now in
-    let there : slice_get certs number ≡ Some cert = at_some certs number cert cert c.in-Some.ensures.lookup.3.0 c.in-Some.ensures.lookup.1 in
-    one_turn c.args.witness (pair_of c.args.rule.now (lent c.args.root) (lent c.args.part)) others number c.in_ok-pair.pair cert Beyond
+    let there : slice_get certs number ≡ Some cert =
+    at_some certs number cert cert c.in-Some.ensures.lookup.3.0 c.in-Some.ensures.lookup.1 in
+    one_turn c.args.witness (pair_of c.args.rule.now (lent c.args.root) (lent c.args.part)) others
+    number c.in_ok-pair.pair cert Beyond
     there c.in_ok-pair.ensures (c.in-Err-Large.ensures.large c.in-Err-Large.field-0-is)

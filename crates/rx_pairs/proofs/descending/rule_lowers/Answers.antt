@@ -13,6 +13,8 @@ returns-clause-decides c = λ pairs others are.
     let parts = all_lent c.in_ok-parts.parts.items in
     let same : map (pair_of rule root) (all_lent c.as_slice.result.now) ≡ pairs =
     ap (λ lents. map (pair_of rule root) (all_lent lents)) c.as_slice.ensures.value
-    ∙ one_pairs rule (map (pair_of rule root) parts) pairs (PairsOf root c.in-Some.ensures parts c.in_ok-parts.ensures) are in
-    subst (λ ps. Leaves (lent_from c.args.witness others) (lent_from c.args.witness (ps ++ others) c.args.number) c.parts_lower.result) same
+    ∙ one_pairs rule (map (pair_of rule root) parts) pairs
+    (PairsOf root c.in-Some.ensures parts c.in_ok-parts.ensures) are in
+    subst (λ ps. Leaves (lent_from c.args.witness others)
+    (lent_from c.args.witness (ps ++ others) c.args.number) c.parts_lower.result) same
     (c.parts_lower.ensures.decides others)

@@ -11,8 +11,10 @@ returns-in_err-next-clause-decides c = λ pairs others are.
     let rules = c.args.rules.now in
     let i = c.loop-rule.rule-index in
     let rule = c.rule-item.result in
-    let there : slice_get rules i ≡ Some rule = at_some rules i rule rule c.loop-rule-test.true c.rule-item.is in
-    let turn = rule_turn c.args.witness rules i c.args.number c.loop-rule.next rule there c.loop-rule.invariant.decides in
+    let there : slice_get rules i ≡ Some rule =
+    at_some rules i rule rule c.loop-rule-test.true c.rule-item.is in
+    let turn = rule_turn c.args.witness rules i c.args.number c.loop-rule.next rule there
+    c.loop-rule.invariant.decides in
     rw (p.1, p.2)
     (rule_refused c.args.witness rules (drop (i + 1) rules) rule c.args.number c.loop-rule.next turn
     c.in_err-next.field-0.0 c.in_err-next.ensures.decides pairs others are)
@@ -22,14 +24,19 @@ loop-rule-preserved c =
     let rules = c.args.rules.now in
     let i = c.loop-rule.rule-index in
     let rule = c.rule-item.result in
-    let there : slice_get rules i ≡ Some rule = at_some rules i rule rule c.loop-rule-test.true c.rule-item.is in
-    let turn = rule_turn c.args.witness rules i c.args.number c.loop-rule.next rule there c.loop-rule.invariant.decides in
+    let there : slice_get rules i ≡ Some rule =
+    at_some rules i rule rule c.loop-rule-test.true c.rule-item.is in
+    let turn = rule_turn c.args.witness rules i c.args.number c.loop-rule.next rule there
+    c.loop-rule.invariant.decides in
     record {
-      decides = rule_done c.args.witness rules (drop (i + 1) rules) rule c.args.number c.loop-rule.next turn c.in_ok-next.next c.in_ok-next.ensures.decides;
+      decides =
+          rule_done c.args.witness rules (drop (i + 1) rules) rule c.args.number c.loop-rule.next
+          turn c.in_ok-next.next c.in_ok-next.ensures.decides;
       there = c.in_ok-next.ensures.there;
     }
 
 pub returns-clause-decides : goal.returns-clause-decides
 returns-clause-decides c =
     rules_done c.args.witness c.args.rules.now c.args.number c.loop-rule.next
-    (rules_end c.args.witness c.args.rules.now c.loop-rule.rule-index c.args.number c.loop-rule.next c.loop-rule-test.false c.loop-rule.invariant.decides)
+    (rules_end c.args.witness c.args.rules.now c.loop-rule.rule-index c.args.number c.loop-rule.next
+    c.loop-rule-test.false c.loop-rule.invariant.decides)

@@ -10,7 +10,8 @@ use Rattle.rx_pairs.proofs.graph.graph_of.Goals as goal
 
 pub add-requires : goal.add-requires
 add-requires c =
-    let h = pair_over c.args.symbols c.args.pairs.now c.loop-pair.pair-index c.pair-item.result c.loop-pair-test.true c.pair-item.is c.requires in
+    let h = pair_over c.args.symbols c.args.pairs.now c.loop-pair.pair-index c.pair-item.result
+    c.loop-pair-test.true c.pair-item.is c.requires in
     let count = length-map c.loop-pair.graph.rows.items (λ row. row.items) in
     let same = c.loop-pair.invariant.count in
     record { from = omega (arith, h, count, same); to = omega (arith, h, count, same) }
@@ -18,7 +19,8 @@ add-requires c =
 pub loop-pair-preserved : goal.loop-pair-preserved
 loop-pair-preserved c =
     subst (λ es. IsGraphOf c.args.symbols es (rows_of c.add.new.self.rows.items))
-    (edge_more c.args.pairs.now c.loop-pair.pair-index c.pair-item.result c.loop-pair-test.true c.pair-item.is)
+    (edge_more c.args.pairs.now c.loop-pair.pair-index c.pair-item.result c.loop-pair-test.true
+    c.pair-item.is)
     (c.in_ok-add.ensures.edge c.args.symbols _ c.loop-pair.invariant)
 
 pub returns-clause-closed : goal.returns-clause-closed
@@ -26,4 +28,5 @@ returns-clause-closed c =
     let pairs = c.args.pairs.now in
     let all = take_all c.loop-pair.pair-index pairs c.loop-pair-test.false in
     closed_graph c.args.symbols (edges_of pairs) (rows_of c.loop-pair.graph.rows.items) c.requires
-    (subst (λ (ps : List Pair). IsGraphOf c.args.symbols (edges_of ps) (rows_of c.loop-pair.graph.rows.items)) all c.loop-pair.invariant)
+    (subst (λ (ps : List Pair). IsGraphOf c.args.symbols (edges_of ps)
+    (rows_of c.loop-pair.graph.rows.items)) all c.loop-pair.invariant)

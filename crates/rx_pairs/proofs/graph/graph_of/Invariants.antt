@@ -5,4 +5,5 @@ use Rattle.rx_pairs.specs.Graph.{edges_of}
 use Rattle.rx_pairs.proofs.graph.graph_of.Given as goal
 
 abbrev pub invariant-loop-pair : goal.invariant-loop-pair
-invariant-loop-pair l = IsGraphOf l.symbols (edges_of (take l.pair-index l.pairs)) (rows_of l.graph.rows.items)
+invariant-loop-pair l =
+    IsGraphOf l.symbols (edges_of (take l.pair-index l.pairs)) (rows_of l.graph.rows.items)

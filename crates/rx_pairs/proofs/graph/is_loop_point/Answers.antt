@@ -6,7 +6,14 @@ use Rattle.rx_graph.proofs.Marking.{marked_true, read_true}
 use Rattle.rx_pairs.proofs.graph.is_loop_point.Goals as goal
 
 pub index-requires : goal.index-requires
-index-requires c = omega (arith, c.in-Some.ensures.lookup.3.0, c.requires.all, c.in_ok-marks.ensures.count, c.in_ok-marks.marks.ok.0)
+index-requires c =
+    omega (
+      arith,
+      c.in-Some.ensures.lookup.3.0,
+      c.requires.all,
+      c.in_ok-marks.ensures.count,
+      c.in_ok-marks.marks.ok.0,
+    )
 
 pub returns : goal.returns
 returns c = λ edges graph.
@@ -14,10 +21,18 @@ returns c = λ edges graph.
     let symbol = c.args.symbol in
     let symbols = c.args.symbols.now in
     let info = c.in-Some.info.now in
-    let there : symbol < length marks = omega (arith, c.in-Some.ensures.lookup.3.0, c.requires.all, c.in_ok-marks.ensures.count) in
-    let at : slice_get symbols symbol ≡ Some info = at_some symbols symbol info info c.in-Some.ensures.lookup.3.0 c.in-Some.ensures.lookup.1 in
+    let there : symbol < length marks = omega
+    (arith, c.in-Some.ensures.lookup.3.0, c.requires.all, c.in_ok-marks.ensures.count) in
+    let at : slice_get symbols symbol ≡ Some info =
+    at_some symbols symbol info info c.in-Some.ensures.lookup.3.0 c.in-Some.ensures.lookup.1 in
     let may : may_loop info ≡ true = sym c.may_loop.ensures ∙ c.if-not-may_loop.false in
     let exact = c.in_ok-marks.ensures.exact edges graph symbol in (
-      λ yes. (info, at, may, exact.0 (read_true marks symbol c.index.result.now there c.index.ensures yes)),
+      λ yes. (
+        info,
+        at,
+        may,
+        exact.0 (read_true marks symbol c.index.result.now there
+            c.index.ensures yes),
+      ),
       λ point. marked_true marks symbol c.index.result.now there c.index.ensures (exact.1 point.3),
     )

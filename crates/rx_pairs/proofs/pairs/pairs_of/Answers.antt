@@ -10,8 +10,11 @@ returns c =
     let rule = c.args.rule.now in
     let root = lent c.in-Some.root in
     let parts = all_lent c.in_ok-parts.parts.items in
-    IfOk-weaker c.pairs_with.result (λ pairs. pairs.items ≡ map (pair_of rule root) (all_lent c.as_slice.result.now)) (λ pairs. ArePairs rule pairs.items)
+    IfOk-weaker c.pairs_with.result (λ pairs. pairs.items ≡
+    map (pair_of rule root) (all_lent c.as_slice.result.now))
+    (λ pairs. ArePairs rule pairs.items)
     (λ pairs same.
-    subst (ArePairs rule) (ap (λ lents. map (pair_of rule root) (all_lent lents)) (sym c.as_slice.ensures.value) ∙ sym same)
+    subst (ArePairs rule) (ap (λ lents. map (pair_of rule root) (all_lent lents))
+    (sym c.as_slice.ensures.value) ∙ sym same)
     (PairsOf root c.in-Some.ensures parts c.in_ok-parts.ensures))
     c.pairs_with.ensures

@@ -5,4 +5,5 @@ use Rattle.rx_pairs.specs.Pairs.{pair_of}
 use Rattle.rx_pairs.proofs.pairs.pairs_with.Given as goal
 
 abbrev pub invariant-loop-part : goal.invariant-loop-part
-invariant-loop-part l = l.pairs.items ≡ map (pair_of l.rule (lent l.root)) (all_lent (take l.part-index l.parts))
+invariant-loop-part l =
+    l.pairs.items ≡ map (pair_of l.rule (lent l.root)) (all_lent (take l.part-index l.parts))

@@ -6,4 +6,5 @@ use Rattle.rx_pairs.proofs.pairs.push_pairs.Given as goal
 
 abbrev pub invariant-loop-rule : goal.invariant-loop-rule
 invariant-loop-rule l =
-    (before : List Rule) → AreAllPairs before l.initial.pairs.items → AreAllPairs (before ++ take l.rule-index l.rules) l.pairs.items
+    (before : List Rule) → AreAllPairs before l.initial.pairs.items →
+    AreAllPairs (before ++ take l.rule-index l.rules) l.pairs.items

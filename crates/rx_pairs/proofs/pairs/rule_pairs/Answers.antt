@@ -8,4 +8,5 @@ use Rattle.rx_pairs.proofs.pairs.rule_pairs.Goals as goal
 pub returns : goal.returns
 returns c =
     only_all_listed c.args.rules.now c.push_pairs.new.pairs.items
-    (c.in_ok-push_pairs.ensures [] (subst (λ (ps : List Pair). AreAllPairs [] ps) (sym c.new-pairs.ensures.items) NoRules))
+    (c.in_ok-push_pairs.ensures [] (subst (λ (ps : List Pair). AreAllPairs [] ps)
+    (sym c.new-pairs.ensures.items) NoRules))

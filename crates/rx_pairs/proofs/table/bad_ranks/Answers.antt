@@ -13,8 +13,10 @@ returns-then-len-symbols c =
     let symbols = ap (λ (infos : List SymInfo). length infos) c.symbols-2.ensures in
     let less = c.if-len-symbols.true in
     let count = c.len.ensures in
-    let number : c.loop-sym.sym ≡ length c.args.table.now.ranks = omega (arith, ended, most, ranks) in
+    let number : c.loop-sym.sym ≡ length c.args.table.now.ranks =
+    omega (arith, ended, most, ranks) in
     ap Some (c.len-then-len-symbols.ensures ∙ sym number)
-    ∙ sym (ranks_end c.args.table.now.columns c.loop-sym.sym c.args.rules.now.symbols c.args.table.now.ranks
+    ∙ sym (ranks_end c.args.table.now.columns c.loop-sym.sym c.args.rules.now.symbols
+    c.args.table.now.ranks
     (omega (arith, number)) (omega (arith, number, less, symbols, count)))
     ∙ c.loop-sym.invariant.decides

@@ -5,6 +5,7 @@ use Rattle.rx_pairs.proofs.table.bad_ranks.Given as goal
 
 abbrev pub invariant-loop-sym : goal.invariant-loop-sym
 invariant-loop-sym l = record {
-  decides : bad_from l.table.columns l.sym (drop l.sym l.rules.symbols) (drop l.sym l.table.ranks) ≡ bad_rank l.rules l.table;
+  decides : bad_from l.table.columns l.sym (drop l.sym l.rules.symbols) (drop l.sym l.table.ranks) ≡
+      bad_rank l.rules l.table;
   there : l.sym ≤ length l.rules.symbols;
 }

@@ -1,4 +1,5 @@
--- What a recursive type needs to know of `Boxed` to hold itself through it: seen from outside, a box is the value in it.
+-- What a recursive type needs to know of `Boxed` to hold itself through it: seen from outside, a
+-- box is the value in it.
 use Rattle.rx_plain.specs.contracts.boxed.Boxed as seen
 use Rattle.rx_plain.specs.contracts.boxed.Boxed.TheInside as inner
 use Rattle.rx_plain.specs.declared.boxed.Boxed.TheInside.{Inside}
@@ -53,21 +54,31 @@ module _ (From To : RattleType) (f : From.Denot → To.Denot) where
   box_places : Alike From To f → Alike (boxes From) (boxes To) (λ b. refilled b (f b.value))
   unfolding part_of
   box_places alike = record {
-    mir_same = λ i. (boxes (one_value From (alike.mir_same i) (λ _. ftrue) (λ _ _. nothing) gnil)).mir;
-    own_same = λ b i. (boxes (one_value From (alike.mir_same i) (alike.own_same b.value i) (alike.shr_same b.value i) gnil)).own_val (refilled b tt);
-    shr_same = λ b i. (boxes (one_value From (alike.mir_same i) (alike.own_same b.value i) (alike.shr_same b.value i) gnil)).shr_at (refilled b tt);
+    mir_same =
+        λ i. (boxes (one_value From (alike.mir_same i) (λ _. ftrue) (λ _ _. nothing) gnil)).mir;
+    own_same =
+        λ b i. (boxes (one_value From (alike.mir_same i) (alike.own_same b.value i)
+        (alike.shr_same b.value i) gnil)).own_val (refilled b tt);
+    shr_same =
+        λ b i. (boxes (one_value From (alike.mir_same i) (alike.own_same b.value i)
+        (alike.shr_same b.value i) gnil)).shr_at (refilled b tt);
   }
 
-  field_places : Alike From To f → Alike (inner.the_row From) (inner.the_row To) (behind.map From.Denot To.Denot f)
+  field_places : Alike From To f → Alike (inner.the_row From) (inner.the_row To)
+      (behind.map From.Denot To.Denot f)
   field_places alike =
-      struct_places (inner.the_type From) (inner.the_type To) ((λ b. refilled b (f b.value)), tt) _ (λ u. refl) refl (laid _ _ _ (box_places alike), tt)
+      struct_places (inner.the_type From) (inner.the_type To) ((λ b. refilled b (f b.value)), tt) _
+      (λ u. refl) refl (laid _ _ _ (box_places alike), tt)
 
-  pub the_places : Alike From To f → Alike (seen.the_row From) (seen.the_row To) ((the_former this).map From.Denot To.Denot f)
+  pub the_places : Alike From To f → Alike (seen.the_row From) (seen.the_row To)
+      ((the_former this).map From.Denot To.Denot f)
   the_places alike =
       view_places behind this view (λ X Y g u. refl) (λ X u. refl)
       From.Denot To.Denot f (seen.the_row From).coded (seen.the_row To).coded
-      (invariant From.Denot) (invariant To.Denot) (λ u p q. refl) (λ u p q. refl) (λ u h. tt) (λ u h. tt)
+      (invariant From.Denot) (invariant To.Denot) (λ u p q. refl) (λ u p q. refl) (λ u h. tt)
+      (λ u h. tt)
       (over (inner.the_row From)) (over (inner.the_row To)) (field_places alike)
 
-  pub the_codes_placed : Recodes From To f → Recodes (seen.the_row From) (seen.the_row To) ((the_former this).map From.Denot To.Denot f)
+  pub the_codes_placed : Recodes From To f → Recodes (seen.the_row From) (seen.the_row To)
+      ((the_former this).map From.Denot To.Denot f)
   the_codes_placed recodes content = recodes content

@@ -4,30 +4,46 @@ use Rattle.rx_poly.proofs.Merging.{begin, after_last, after_left, after_right, a
 use Rattle.rx_poly.proofs.merge.merge.Goals as goal
 
 pub loop-t-init : goal.loop-t-init
-loop-t-init c = rw c.new-sum.ensures (begin c.args.sign c.args.left.now c.args.right.now c.requires.left c.requires.right)
+loop-t-init c =
+    rw c.new-sum.ensures (begin c.args.sign c.args.left.now c.args.right.now c.requires.left
+    c.requires.right)
 
 pub loop-t-preserved-in_default-split_first : goal.loop-t-preserved-in_default-split_first
 loop-t-preserved-in_default-split_first c =
-    after_last c.args.sign c.loop-t.us.now c.in-Some.ensures.cases.0 c.loop-t.invariant c.in_default-split_first.ensures.cases c.in_ok-push_term.ensures
+    after_last c.args.sign c.loop-t.us.now c.in-Some.ensures.cases.0 c.loop-t.invariant
+    c.in_default-split_first.ensures.cases c.in_ok-push_term.ensures
 
 pub loop-t-preserved-in-Less : goal.loop-t-preserved-in-Less
 loop-t-preserved-in-Less c =
-    after_left c.args.sign c.loop-t.us.now c.in-Some.ensures.cases.0 c.loop-t.invariant c.in-Some-split_first.ensures.cases.0 c.in-Less.ensures c.in_ok-push_term-in-Less.ensures
+    after_left c.args.sign c.loop-t.us.now c.in-Some.ensures.cases.0 c.loop-t.invariant
+    c.in-Some-split_first.ensures.cases.0 c.in-Less.ensures c.in_ok-push_term-in-Less.ensures
 
-pub returns-in_err-push_sum-in-Equal-clause-large : goal.returns-in_err-push_sum-in-Equal-clause-large
+pub returns-in_err-push_sum-in-Equal-clause-large :
+    goal.returns-in_err-push_sum-in-Equal-clause-large
 returns-in_err-push_sum-in-Equal-clause-large c =
-    let p = err_from_is_err_and c.from_residual-in_err-push_sum-in-Equal.result c.from_residual-in_err-push_sum-in-Equal.ensures.1 in
-    rw (p.1, p.2) (λ h. no_sum c.args.sign c.loop-t.us.now c.in-Some.ensures.cases.0 c.loop-t.invariant c.in-Some-split_first.ensures.cases.0 c.in-Equal.ensures (c.in_err-push_sum-in-Equal.ensures.large h))
+    let p = err_from_is_err_and c.from_residual-in_err-push_sum-in-Equal.result
+    c.from_residual-in_err-push_sum-in-Equal.ensures.1 in
+    rw (p.1, p.2) (λ h. no_sum c.args.sign c.loop-t.us.now c.in-Some.ensures.cases.0
+    c.loop-t.invariant c.in-Some-split_first.ensures.cases.0 c.in-Equal.ensures
+    (c.in_err-push_sum-in-Equal.ensures.large h))
 
 pub loop-t-preserved-in-Equal : goal.loop-t-preserved-in-Equal
 loop-t-preserved-in-Equal c =
-    after_both c.args.sign c.loop-t.us.now c.in-Some.ensures.cases.0 c.loop-t.invariant c.in-Some-split_first.ensures.cases.0 c.in-Equal.ensures c.in_ok-push_sum-in-Equal.ensures.within c.in_ok-push_sum-in-Equal.ensures.ok
+    after_both c.args.sign c.loop-t.us.now c.in-Some.ensures.cases.0 c.loop-t.invariant
+    c.in-Some-split_first.ensures.cases.0 c.in-Equal.ensures
+    c.in_ok-push_sum-in-Equal.ensures.within c.in_ok-push_sum-in-Equal.ensures.ok
 
-pub returns-in_err-push_signed-in-Greater-clause-large : goal.returns-in_err-push_signed-in-Greater-clause-large
+pub returns-in_err-push_signed-in-Greater-clause-large :
+    goal.returns-in_err-push_signed-in-Greater-clause-large
 returns-in_err-push_signed-in-Greater-clause-large c =
-    let p = err_from_is_err_and c.from_residual-in_err-push_signed-in-Greater.result c.from_residual-in_err-push_signed-in-Greater.ensures.1 in
-    rw (p.1, p.2) (λ h. no_right c.args.sign c.loop-t.us.now c.in-Some.ensures.cases.0 c.loop-t.invariant c.in-Some-split_first.ensures.cases.0 c.in-Greater.ensures (c.in_err-push_signed-in-Greater.ensures.large h))
+    let p = err_from_is_err_and c.from_residual-in_err-push_signed-in-Greater.result
+    c.from_residual-in_err-push_signed-in-Greater.ensures.1 in
+    rw (p.1, p.2) (λ h. no_right c.args.sign c.loop-t.us.now c.in-Some.ensures.cases.0
+    c.loop-t.invariant c.in-Some-split_first.ensures.cases.0 c.in-Greater.ensures
+    (c.in_err-push_signed-in-Greater.ensures.large h))
 
 pub loop-t-preserved : goal.loop-t-preserved
 loop-t-preserved c =
-    after_right c.args.sign c.loop-t.us.now c.in-Some.ensures.cases.0 c.loop-t.invariant c.in-Some-split_first.ensures.cases.0 c.in-Greater.ensures c.in_ok-push_signed-in-Greater.ensures.within c.in_ok-push_signed-in-Greater.ensures.ok
+    after_right c.args.sign c.loop-t.us.now c.in-Some.ensures.cases.0 c.loop-t.invariant
+    c.in-Some-split_first.ensures.cases.0 c.in-Greater.ensures
+    c.in_ok-push_signed-in-Greater.ensures.within c.in_ok-push_signed-in-Greater.ensures.ok

@@ -7,7 +7,10 @@ use Rattle.rx_poly.proofs.moved.moved_sum.Given as goal
 
 abbrev pub invariant-loop-first : goal.invariant-loop-first
 invariant-loop-first l =
-    Moving l.sum (first_and_rest l.first (into_iter_items l.ts)) (first_and_rest l.second (into_iter_items l.us)) (add_terms mono_cmp l.fn.left l.fn.right)
+    Moving l.sum (first_and_rest l.first (into_iter_items l.ts))
+    (first_and_rest l.second (into_iter_items l.us)) (add_terms mono_cmp l.fn.left l.fn.right)
 
 abbrev pub decreases-loop-first : goal.decreases-loop-first
-decreases-loop-first l = length (first_and_rest l.first (into_iter_items l.ts)) + length (first_and_rest l.second (into_iter_items l.us))
+decreases-loop-first l =
+    length (first_and_rest l.first (into_iter_items l.ts)) +
+    length (first_and_rest l.second (into_iter_items l.us))

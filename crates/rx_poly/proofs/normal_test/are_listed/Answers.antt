@@ -7,5 +7,7 @@ use Rattle.rx_poly.proofs.normal_test.are_listed.Goals as goal
 
 pub loop-term-preserved : goal.loop-term-preserved
 loop-term-preserved c =
-    ap (λ b. b && is_listed mono_cmp c.in-Some.behind.now) (sym c.if-not-comes_before.false ∙ c.comes_before.ensures)
-    ∙ sym (listed_step c.in-Some.term.now c.in-Some.behind.now) ∙ ap (is_listed mono_cmp) (sym c.in-Some.ensures.cases.0) ∙ c.loop-term.invariant
+    ap (λ b. b && is_listed mono_cmp c.in-Some.behind.now)
+    (sym c.if-not-comes_before.false ∙ c.comes_before.ensures)
+    ∙ sym (listed_step c.in-Some.term.now c.in-Some.behind.now) ∙
+    ap (is_listed mono_cmp) (sym c.in-Some.ensures.cases.0) ∙ c.loop-term.invariant

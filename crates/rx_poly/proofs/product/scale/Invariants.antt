@@ -4,4 +4,5 @@ use Rattle.rx_poly.proofs.Scaling.{Scaling}
 use Rattle.rx_poly.proofs.product.scale.Given as goal
 
 abbrev pub invariant-loop-other : goal.invariant-loop-other
-invariant-loop-other l = Scaling l.term l.products (drop l.other-index l.terms) (scaled l.term l.terms)
+invariant-loop-other l =
+    Scaling l.term l.products (drop l.other-index l.terms) (scaled l.term l.terms)

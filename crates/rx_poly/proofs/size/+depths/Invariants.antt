@@ -11,4 +11,5 @@ invariant-body_fits_in-loop-term l =
 
 abbrev pub invariant-mono_fits_in-loop-atom : goal.invariant-mono_fits_in-loop-atom
 invariant-mono_fits_in-loop-atom l =
-    nat_le (greatest atom_depth (drop l.atom-index l.atom-items)) l.limit ≡ nat_le (greatest atom_depth l.atom-items) l.limit
+    nat_le (greatest atom_depth (drop l.atom-index l.atom-items)) l.limit ≡
+    nat_le (greatest atom_depth l.atom-items) l.limit

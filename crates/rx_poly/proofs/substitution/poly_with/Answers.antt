@@ -10,7 +10,11 @@ pub returns-then-body_stays : goal.returns-then-body_stays
 returns-then-body_stays c =
     let ws = replacements c.args.with in
     let st : stay ws (variables c.args.poly.now) =
-    subst (λ b. stay ws (variables b)) c.body.ensures.body (passed c.body_stays.result c.if-body_stays.true c.body_stays.ensures) in
+    subst (λ b. stay ws (variables b)) c.body.ensures.body
+    (passed c.body_stays.result c.if-body_stays.true c.body_stays.ensures) in
     record {
-      forms = (c.in_ok-try_clone.ensures ∙ sym (same_form ws c.args.poly.now c.body.ensures.normal st), all_within ws c.args.poly.now c.body.ensures.normal st);
+      forms = (
+        c.in_ok-try_clone.ensures ∙ sym (same_form ws c.args.poly.now c.body.ensures.normal st),
+        all_within ws c.args.poly.now c.body.ensures.normal st,
+      );
     }

@@ -11,4 +11,6 @@ invariant-body_uses_below-loop-term l =
     ≡ list_all (λ (t : Mono × ℤ). mono_uses_below l.bound t.0) l.term-items
 
 abbrev pub invariant-mono_uses_below-loop-atom : goal.invariant-mono_uses_below-loop-atom
-invariant-mono_uses_below-loop-atom l = list_all (atom_uses_below l.bound) (drop l.atom-index l.atom-items) ≡ list_all (atom_uses_below l.bound) l.atom-items
+invariant-mono_uses_below-loop-atom l =
+    list_all (atom_uses_below l.bound) (drop l.atom-index l.atom-items) ≡
+    list_all (atom_uses_below l.bound) l.atom-items

@@ -8,7 +8,8 @@ use Rattle.rx_ranges.proofs.substitutions.each_replacement_has_text.Goals as goa
 pub returns-then-not-replacement_has_text : goal.returns-then-not-replacement_has_text
 returns-then-not-replacement_has_text c =
     let has_text = (pairs variables (word polynomials)).in_range in
-    sym (list_all_at has_text c.args.subst.now c.loop-replacement.replacement-index c.replacement-item.result
+    sym (list_all_at has_text c.args.subst.now c.loop-replacement.replacement-index
+    c.replacement-item.result
     c.loop-replacement-test.true
     (ap has_text (sym c.replacement-item.is)
     ∙ (sym c.replacement_has_text.ensures ∙ c.if-not-replacement_has_text.true)))

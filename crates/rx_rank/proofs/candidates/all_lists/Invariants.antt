@@ -7,7 +7,8 @@ use Rattle.rx_rank.proofs.candidates.all_lists.Given as goal
 abbrev pub invariant-loop-arity : goal.invariant-loop-arity
 invariant-loop-arity l = record {
   lists :
-      lists_in l.lists.items ++ candidate_lists l.names l.name (l.rules ++ l.hypotheses) (drop l.arity-index l.arities)
+      lists_in l.lists.items ++ candidate_lists l.names l.name (l.rules ++ l.hypotheses)
+      (drop l.arity-index l.arities)
       ≡ candidate_lists l.names l.name (l.rules ++ l.hypotheses) l.arities;
   noted :
       (l.noted || are_noted l.names l.name (l.rules ++ l.hypotheses) (drop l.arity-index l.arities))

@@ -6,4 +6,5 @@ use Rattle.rx_rank.proofs.candidates.is_one_of.Given as goal
 
 abbrev pub invariant-loop-other : goal.invariant-loop-other
 invariant-loop-other l =
-    list_any (λ q. (body_equal.ghosts).eq q l.poly) (drop l.other-index l.polys) ≡ list_any (λ q. (body_equal.ghosts).eq q l.poly) l.polys
+    list_any (λ q. (body_equal.ghosts).eq q l.poly) (drop l.other-index l.polys) ≡
+    list_any (λ q. (body_equal.ghosts).eq q l.poly) l.polys

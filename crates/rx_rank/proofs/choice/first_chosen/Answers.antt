@@ -13,5 +13,7 @@ returns-then-is_some-clause-fit g c =
     let v = c.choice-item.result in
     let i = c.loop-choice.choice-index in
     let there = at_some a.choices.now i v v c.loop-choice-test.true c.choice-item.is in
-    let chosen = subst (λ ps. IfSome made (IsChosen a.infos.now pairs a.anchors.now a.order.now (polys_at ps))) c.as_slice.ensures.value c.in_ok-attempt.ensures.fit in
-    fit_among a.infos.now pairs a.anchors.now a.order.now (choices_at a.choices.now) (polys_at v.items) made (choice_among a.choices.now i v there) chosen
+    let chosen = subst (λ ps. IfSome made (IsChosen a.infos.now pairs a.anchors.now a.order.now
+    (polys_at ps))) c.as_slice.ensures.value c.in_ok-attempt.ensures.fit in
+    fit_among a.infos.now pairs a.anchors.now a.order.now (choices_at a.choices.now)
+    (polys_at v.items) made (choice_among a.choices.now i v there) chosen

@@ -11,6 +11,8 @@ abbrev pub invariant-loop-choice : goal.invariant-loop-choice
 invariant-loop-choice g l = record {
   solver : IsSolver g.S.FnMut l.solve;
   decides :
-      noting l.noted (first_applying (map (choosing l.infos (pairs_at l.pairs) l.anchors l.order) (choices_at (drop l.choice-index l.choices))))
-      ≡ first_applying (map (choosing l.infos (pairs_at l.pairs) l.anchors l.order) (choices_at l.choices));
+      noting l.noted (first_applying (map (choosing l.infos (pairs_at l.pairs) l.anchors l.order)
+      (choices_at (drop l.choice-index l.choices))))
+      ≡ first_applying (map (choosing l.infos (pairs_at l.pairs) l.anchors l.order)
+      (choices_at l.choices));
 }

@@ -7,5 +7,7 @@ use Rattle.rx_rank.proofs.choices.push_all.Given as goal
 
 abbrev pub invariant-loop-first : goal.invariant-loop-first
 invariant-loop-first l =
-    take most_choices (choices_at l.choices.items ++ flat_map (λ p. map (λ ps. p ∷ ps) (choices_at l.rest)) (drop l.first-index l.list))
-    ≡ take most_choices (choices_at l.initial.choices.items ++ flat_map (λ p. map (λ ps. p ∷ ps) (choices_at l.rest)) l.list)
+    take most_choices (choices_at l.choices.items ++
+    flat_map (λ p. map (λ ps. p ∷ ps) (choices_at l.rest)) (drop l.first-index l.list))
+    ≡ take most_choices (choices_at l.initial.choices.items ++
+    flat_map (λ p. map (λ ps. p ∷ ps) (choices_at l.rest)) l.list)

@@ -8,5 +8,6 @@ use Rattle.rx_rank.proofs.filling.all_hold_with.Given as goal
 abbrev pub invariant-loop-pair : goal.invariant-loop-pair
 invariant-loop-pair g l = record {
   solver : IsSolver g.S.FnMut l.solve;
-  decides : hold_with l.values l.poly (pairs_at (drop l.pair-index l.pairs)) ≡ hold_with l.values l.poly (pairs_at l.pairs);
+  decides : hold_with l.values l.poly (pairs_at (drop l.pair-index l.pairs)) ≡
+      hold_with l.values l.poly (pairs_at l.pairs);
 }

@@ -10,6 +10,7 @@ abbrev pub invariant-loop-symbol : goal.invariant-loop-symbol
 invariant-loop-symbol g l = record {
   solver : IsSolver g.S.FnMut l.solve;
   decides :
-      noting l.noted (filled l.infos (pairs_at l.pairs) l.values.items (drop l.symbol-index l.order))
+      noting l.noted (filled l.infos (pairs_at l.pairs) l.values.items
+      (drop l.symbol-index l.order))
       ≡ filled l.infos (pairs_at l.pairs) l.fn.start.items l.order;
 }

@@ -11,6 +11,7 @@ abbrev pub invariant-loop-pair : goal.invariant-loop-pair
 invariant-loop-pair g l = record {
   solver : IsSolver g.S.FnMut l.solve;
   decides :
-      noting l.noted (first_applying (map (from_target l.arity l.values (pairs_at l.pairs)) (pairs_at (drop l.pair-index l.pairs))))
+      noting l.noted (first_applying (map (from_target l.arity l.values (pairs_at l.pairs))
+      (pairs_at (drop l.pair-index l.pairs))))
       ≡ first_serving l.arity l.values (pairs_at l.pairs);
 }

@@ -15,8 +15,10 @@ returns-in-None-clause-tried g c =
     let i = c.loop-pair.pair-index in
     let s = holds_by values c.pair-item.result.now in
     let later = all_hold values (pairs_at (drop (i + 1) refs)) in
-    let turn = next_hold values refs i c.pair-item.result c.loop-pair-test.true c.pair-item.is s refl in
-    made_not c.in_ok-attempt.attempt.made c.in_ok-attempt.attempt.noted s c.in_ok-attempt.ensures.tried later c.in-None.is
+    let turn = next_hold values refs i c.pair-item.result c.loop-pair-test.true c.pair-item.is s
+    refl in
+    made_not c.in_ok-attempt.attempt.made c.in_ok-attempt.attempt.noted s
+    c.in_ok-attempt.ensures.tried later c.in-None.is
     ∙ ap only_shown (sym turn ∙ c.loop-pair.invariant.decides)
 
 pub loop-pair-preserved : goal.loop-pair-preserved
@@ -28,14 +30,21 @@ loop-pair-preserved g c =
     let s = holds_by values pair in
     let later = all_hold values (pairs_at (drop (i + 1) refs)) in
     let is : c.in_ok-attempt.attempt.made ≡ Some c.in-Some.certs = c.in-Some.is in
-    let yes = made_yes c.in_ok-attempt.attempt.made c.in_ok-attempt.attempt.noted s c.in_ok-attempt.ensures.tried c.in-Some.certs is in
-    let turn = next_hold values refs i c.pair-item.result c.loop-pair-test.true c.pair-item.is Yes yes in
-    let here : IsHeld values pair c.in-Some.certs = subst (λ o. IfSome o (IsHeld values pair)) is c.in_ok-attempt.ensures.held in
-    let more = zip_more (IsHeld values) (pairs_at (take i refs)) c.loop-pair.all.items pair c.in-Some.certs c.loop-pair.invariant.held here in
+    let yes = made_yes c.in_ok-attempt.attempt.made c.in_ok-attempt.attempt.noted s
+    c.in_ok-attempt.ensures.tried c.in-Some.certs is in
+    let turn = next_hold values refs i c.pair-item.result c.loop-pair-test.true c.pair-item.is Yes
+    yes in
+    let here : IsHeld values pair c.in-Some.certs =
+    subst (λ o. IfSome o (IsHeld values pair)) is c.in_ok-attempt.ensures.held in
+    let more = zip_more (IsHeld values) (pairs_at (take i refs)) c.loop-pair.all.items pair
+    c.in-Some.certs c.loop-pair.invariant.held here in
     record {
       solver = c.held.ensures.solver;
       decides = sym turn ∙ c.loop-pair.invariant.decides;
       held =
-          subst (λ ps. AllZip (IsHeld values) ps c.push.new.self.items) (sym (refs_until refs i c.pair-item.result c.loop-pair-test.true c.pair-item.is))
-          (subst (AllZip (IsHeld values) (pairs_at (take i refs) ++ pair ∷ [])) (sym (c.in_ok-push-in-Some.ensures.items ∙ ap (λ x. c.loop-pair.all.items ++ x ∷ []) c.in-Some.certs-is)) more);
+          subst (λ ps. AllZip (IsHeld values) ps c.push.new.self.items)
+          (sym (refs_until refs i c.pair-item.result c.loop-pair-test.true c.pair-item.is))
+          (subst (AllZip (IsHeld values) (pairs_at (take i refs) ++ pair ∷ []))
+          (sym (c.in_ok-push-in-Some.ensures.items ∙
+          ap (λ x. c.loop-pair.all.items ++ x ∷ []) c.in-Some.certs-is)) more);
     }

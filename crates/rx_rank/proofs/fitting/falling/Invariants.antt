@@ -11,6 +11,7 @@ invariant-loop-pair g l = record {
   solver : IsSolver g.S.FnMut l.solve;
   certs : AllZip (IsDecided l.values) (pairs_at (take l.pair-index l.pairs)) l.certs.items;
   noted :
-      (l.noted || list_any (λ pair. is_beyond (falls_by l.values pair)) (pairs_at (drop l.pair-index l.pairs)))
+      (l.noted || list_any (λ pair. is_beyond (falls_by l.values pair))
+      (pairs_at (drop l.pair-index l.pairs)))
       ≡ list_any (λ pair. is_beyond (falls_by l.values pair)) (pairs_at l.pairs);
 }

@@ -6,4 +6,5 @@ use Rattle.rx_rank.proofs.members.anchors_among.Given as goal
 
 abbrev pub invariant-loop-symbol : goal.invariant-loop-symbol
 invariant-loop-symbol l =
-    l.anchors.items ++ filter (is_anchor l.infos l.hypotheses) (drop l.symbol-index l.symbols) ≡ filter (is_anchor l.infos l.hypotheses) l.symbols
+    l.anchors.items ++ filter (is_anchor l.infos l.hypotheses) (drop l.symbol-index l.symbols) ≡
+    filter (is_anchor l.infos l.hypotheses) l.symbols

@@ -5,4 +5,6 @@ use Rattle.rx_rank.specs.Candidates.{is_left_root}
 use Rattle.rx_rank.proofs.members.is_some_root.Given as goal
 
 abbrev pub invariant-loop-rule : goal.invariant-loop-rule
-invariant-loop-rule l = list_any (is_left_root l.symbol) (drop l.rule-index l.rules) ≡ list_any (is_left_root l.symbol) l.rules
+invariant-loop-rule l =
+    list_any (is_left_root l.symbol) (drop l.rule-index l.rules) ≡
+    list_any (is_left_root l.symbol) l.rules

@@ -6,5 +6,6 @@ use Rattle.rx_rank.proofs.members.others_among.Given as goal
 
 abbrev pub invariant-loop-symbol : goal.invariant-loop-symbol
 invariant-loop-symbol l =
-    l.others.items ++ filter (λ f. not (is_anchor l.infos l.hypotheses f)) (drop l.symbol-index l.symbols)
+    l.others.items ++ filter (λ f. not (is_anchor l.infos l.hypotheses f))
+    (drop l.symbol-index l.symbols)
     ≡ filter (λ f. not (is_anchor l.infos l.hypotheses f)) l.symbols

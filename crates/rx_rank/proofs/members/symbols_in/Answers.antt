@@ -9,12 +9,16 @@ pub loop-at-preserved-then-other-name : goal.loop-at-preserved-then-other-name
 loop-at-preserved-then-other-name c =
     let names = c.args.names.now in
     let at = c.loop-at.at in
-    skip_member names c.args.name at (get_or names at 0) c.loop-at.symbols.items (members names c.args.name) c.loop-at-test.true
+    skip_member names c.args.name at (get_or names at 0) c.loop-at.symbols.items
+    (members names c.args.name) c.loop-at-test.true
     (slice_get-get_or names at 0 c.loop-at-test.true) c.loop-at.invariant c.if-other-name.true
 
 pub loop-at-preserved : goal.loop-at-preserved
 loop-at-preserved c =
     let names = c.args.names.now in
     let at = c.loop-at.at in
-    take_member names c.args.name at (get_or names at 0) c.loop-at.symbols.items (members names c.args.name) c.loop-at-test.true
-    (slice_get-get_or names at 0 c.loop-at-test.true) c.loop-at.invariant c.if-other-name.false c.push.new.self.items c.in_ok-symbol.symbol c.in_ok-symbol.ensures c.in_ok-push.ensures.items
+    take_member names c.args.name at (get_or names at 0) c.loop-at.symbols.items
+    (members names c.args.name) c.loop-at-test.true
+    (slice_get-get_or names at 0 c.loop-at-test.true) c.loop-at.invariant c.if-other-name.false
+    c.push.new.self.items c.in_ok-symbol.symbol c.in_ok-symbol.ensures
+    c.in_ok-push.ensures.items

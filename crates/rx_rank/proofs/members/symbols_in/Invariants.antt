@@ -6,4 +6,5 @@ use Rattle.rx_rank.proofs.members.symbols_in.Given as goal
 
 abbrev pub invariant-loop-at : goal.invariant-loop-at
 invariant-loop-at l =
-    l.symbols.items ++ filter (is_member l.names l.name) (range_with_len l.at (length l.names - l.at)) ≡ members l.names l.name
+    l.symbols.items ++ filter (is_member l.names l.name)
+    (range_with_len l.at (length l.names - l.at)) ≡ members l.names l.name

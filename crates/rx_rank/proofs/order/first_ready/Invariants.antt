@@ -7,4 +7,5 @@ use Rattle.rx_rank.proofs.order.first_ready.Given as goal
 
 abbrev pub invariant-loop-symbol : goal.invariant-loop-symbol
 invariant-loop-symbol l =
-    find (is_ready (pairs_at l.pairs) l.waiting) (drop l.symbol-index l.waiting) ≡ find (is_ready (pairs_at l.pairs) l.waiting) l.waiting
+    find (is_ready (pairs_at l.pairs) l.waiting) (drop l.symbol-index l.waiting) ≡
+    find (is_ready (pairs_at l.pairs) l.waiting) l.waiting

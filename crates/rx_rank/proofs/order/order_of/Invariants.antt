@@ -7,4 +7,5 @@ use Rattle.rx_rank.proofs.order.order_of.Given as goal
 
 abbrev pub invariant-loop-turn : goal.invariant-loop-turn
 invariant-loop-turn l =
-    option_map (λ fs. l.order.items ++ fs) (order_by (length l.symbols - l._turn) (pairs_at l.pairs) l.waiting.items) ≡ order_of (pairs_at l.pairs) l.symbols
+    option_map (λ fs. l.order.items ++ fs) (order_by (length l.symbols - l._turn) (pairs_at l.pairs)
+    l.waiting.items) ≡ order_of (pairs_at l.pairs) l.symbols

@@ -5,4 +5,6 @@ use Rattle.rx_rank.specs.Choices.{pairs_from}
 use Rattle.rx_rank.proofs.order.pairs_from.Given as goal
 
 abbrev pub invariant-loop-pair : goal.invariant-loop-pair
-invariant-loop-pair l = pairs_at l.own.items ++ pairs_from l.symbol (pairs_at (drop l.pair-index l.pairs)) ≡ pairs_from l.symbol (pairs_at l.pairs)
+invariant-loop-pair l =
+    pairs_at l.own.items ++ pairs_from l.symbol (pairs_at (drop l.pair-index l.pairs)) ≡
+    pairs_from l.symbol (pairs_at l.pairs)

@@ -4,4 +4,5 @@ use Rattle.rx_rank.specs.Choices.{without}
 use Rattle.rx_rank.proofs.order.without.Given as goal
 
 abbrev pub invariant-loop-other : goal.invariant-loop-other
-invariant-loop-other l = l.others.items ++ without l.symbol (drop l.other-index l.symbols) ≡ without l.symbol l.symbols
+invariant-loop-other l =
+    l.others.items ++ without l.symbol (drop l.other-index l.symbols) ≡ without l.symbol l.symbols

@@ -15,6 +15,7 @@ returns-clause-place c =
       known = one;
       there =
           subst (λ ks. slice_get ks c.len-at.result ≡ Some one) (sym c.in_ok-push.ensures.items)
-          (subst (λ i. slice_get (before ++ one ∷ []) i ≡ Some one) (sym number) (at_last before one));
+          (subst (λ i. slice_get (before ++ one ∷ []) i ≡ Some one) (sym number)
+          (at_last before one));
       same = c.in_ok-copied_pair.ensures;
     }

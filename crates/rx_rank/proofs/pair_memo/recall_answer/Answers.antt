@@ -10,5 +10,6 @@ returns-in-Some-clause-answer g c =
     let pair = a.known.now.pair in
     let tells = Tells a.test pair a.left.now a.right.now in
     let right = subst (AreRight pair) (sym c.as_slice.ensures.value) c.requires.right in
-    let told = subst (λ o. IfSome (option_copied o) tells) c.in-Some.is (c.find_answer.ensures pair right) in
+    let told = subst (λ o. IfSome (option_copied o) tells) c.in-Some.is
+    (c.find_answer.ensures pair right) in
     of_copy tells c.in-Some.answer.now c.copied_answer.result c.copied_answer.ensures told

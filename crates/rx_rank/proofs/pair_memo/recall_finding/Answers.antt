@@ -9,5 +9,6 @@ returns-in-Some-clause-finding g c =
     let pair = a.known.now.pair in
     let tells = Tells a.test pair a.left.now a.right.now in
     let right = subst (AreRight pair) (sym c.as_slice.ensures.value) c.requires.right in
-    let told = subst (λ o. IfSome (option_copied o) tells) c.in-Some.is (c.find_answer.ensures pair right) in
+    let told = subst (λ o. IfSome (option_copied o) tells) c.in-Some.is
+    (c.find_answer.ensures pair right) in
     c.finding_of.ensures a.test pair a.left.now a.right.now told

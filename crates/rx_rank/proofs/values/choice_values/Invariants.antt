@@ -6,4 +6,5 @@ use Rattle.rx_rank.proofs.values.choice_values.Given as goal
 
 abbrev pub invariant-loop-at : goal.invariant-loop-at
 invariant-loop-at l =
-    with_choice l.values.items (drop l.at l.anchors) (polys_at (drop l.at l.choice)) ≡ with_choice (without_polynomials l.symbols) l.anchors (polys_at l.choice)
+    with_choice l.values.items (drop l.at l.anchors) (polys_at (drop l.at l.choice)) ≡
+    with_choice (without_polynomials l.symbols) l.anchors (polys_at l.choice)

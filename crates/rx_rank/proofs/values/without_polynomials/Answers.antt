@@ -4,4 +4,6 @@ use Rattle.rx_rank.proofs.Walks.{without_more}
 use Rattle.rx_rank.proofs.values.without_polynomials.Goals as goal
 
 pub loop-symbol-preserved : goal.loop-symbol-preserved
-loop-symbol-preserved c = c.in_ok-push.ensures.items ∙ ap (λ vs. vs ++ None ∷ []) c.loop-symbol.invariant ∙ sym (without_more c.loop-symbol._symbol)
+loop-symbol-preserved c =
+    c.in_ok-push.ensures.items ∙ ap (λ vs. vs ++ None ∷ []) c.loop-symbol.invariant ∙
+    sym (without_more c.loop-symbol._symbol)

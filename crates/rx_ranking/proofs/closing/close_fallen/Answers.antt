@@ -13,11 +13,13 @@ use Rattle.rx_ranking.proofs.closing.close_fallen.Goals.{After-drop-entry-iterat
 pub loop-entry-preserved-in_ok-push-in-None-fall : goal.loop-entry-preserved-in_ok-push-in-None-fall
 loop-entry-preserved-in_ok-push-in-None-fall c =
     let past = c.loop-entry.yielded in
-    let law = one_stays c.args.column c.args.closed.now.items past c.in-Some.entry c.in-Some.held c.in-Some.fall c.in-None-fall.is in
+    let law = one_stays c.args.column c.args.closed.now.items past c.in-Some.entry c.in-Some.held
+    c.in-Some.fall c.in-None-fall.is in
     record {
       staying =
           c.in_ok-push-in-None-fall.ensures.items
-          ∙ ap (λ os. os ++ c.in_ok-with_certs-in-None-fall.field-0 ∷ []) c.loop-entry.invariant.staying
+          ∙ ap (λ os. os ++ c.in_ok-with_certs-in-None-fall.field-0 ∷ [])
+          c.loop-entry.invariant.staying
           ∙ ap (λ o. left_open past ++ o ∷ []) c.in_ok-with_certs-in-None-fall.ensures
           ∙ sym law.0;
       leaving = c.loop-entry.invariant.leaving ∙ sym law.1;
@@ -29,18 +31,22 @@ loop-entry-preserved c =
     let before = c.args.closed.now.items in
     let column = c.args.column in
     let after = c.in_ok-with_certs-in-Some-fall.field-0 in
-    let law = one_falls column before past c.in-Some.entry c.in-Some.held c.in-Some-fall.more c.in-Some.fall c.in-Some-fall.is in
+    let law = one_falls column before past c.in-Some.entry c.in-Some.held c.in-Some-fall.more
+    c.in-Some.fall c.in-Some-fall.is in
     record {
       staying = c.loop-entry.invariant.staying ∙ sym law.0;
       leaving =
           c.close_entry.ensures
-          ∙ ap (λ cs. set cs after.number (Some (closing column after))) c.loop-entry.invariant.leaving
-          ∙ ap (λ (o : OpenPair). set (close_all column before (fallen past)) o.number (Some (closing column o))) c.in_ok-with_certs-in-Some-fall.ensures
+          ∙ ap (λ cs. set cs after.number (Some (closing column after)))
+          c.loop-entry.invariant.leaving
+          ∙ ap (λ (o : OpenPair). set (close_all column before (fallen past)) o.number
+          (Some (closing column o))) c.in_ok-with_certs-in-Some-fall.ensures
           ∙ sym law.1;
     }
 
 -- all pairs have come
-ended : (c : After-drop-entry-iterator-4) → c.loop-entry.yielded ≡ fitted c.args.entries.items c.args.holds.items c.args.falls.items
+ended : (c : After-drop-entry-iterator-4) → c.loop-entry.yielded ≡
+    fitted c.args.entries.items c.args.holds.items c.args.falls.items
 ended c =
     let it = c.into_iter-entry-iterator.result in
     let gives = c.into_iter-entry-iterator.ensures.into_iter_gives in
@@ -57,12 +63,16 @@ ended c =
     let first = YieldsList-from_vec {s = it.a.a} c.args.entries.items opens opens_count in
     let next = YieldsList-from_vec {s = it.a.b} c.args.holds.items holds holds_count in
     let last = YieldsList-from_vec {s = it.b} c.args.falls.items falls falls_count in
-    let all = YieldsList-end (YieldsList-from_zip {s = it} (YieldsList-from_zip {s = it.a} first next) last)
-    c.loop-entry.yielded c.loop-entry.entry-iterator c.loop-entry.yielded_by c.next.result c.next.new.self c.in-None.is c.next.ensures.steps in
+    let all = YieldsList-end (YieldsList-from_zip {s = it}
+    (YieldsList-from_zip {s = it.a} first next) last)
+    c.loop-entry.yielded c.loop-entry.entry-iterator c.loop-entry.yielded_by c.next.result
+    c.next.new.self c.in-None.is c.next.ensures.steps in
     sym (map-id c.loop-entry.yielded) ∙ all.0
 
 pub returns-clause-staying : goal.returns-clause-staying
 returns-clause-staying c = c.loop-entry.invariant.staying ∙ ap left_open (ended c)
 
 pub returns-clause-leaving : goal.returns-clause-leaving
-returns-clause-leaving c = c.loop-entry.invariant.leaving ∙ ap (λ fits. close_all c.args.column c.args.closed.now.items (fallen fits)) (ended c)
+returns-clause-leaving c =
+    c.loop-entry.invariant.leaving ∙ ap (λ fits.
+    close_all c.args.column c.args.closed.now.items (fallen fits)) (ended c)

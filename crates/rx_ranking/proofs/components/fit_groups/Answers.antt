@@ -9,7 +9,9 @@ use Rattle.rx_ranking.proofs.components.fit_groups.Goals.{then-noted, else-noted
 pub loop-name-init : goal.loop-name-init
 loop-name-init g c = record {
   solver = c.requires.solver;
-  walked = walk_begin c.args.parts.now c.args.hypotheses.now c.args.names.now c.args.groups.now c.in_ok-fit.fit (c.in_ok-fit.ensures c.args.names.now);
+  walked =
+      walk_begin c.args.parts.now c.args.hypotheses.now c.args.names.now c.args.groups.now
+      c.in_ok-fit.fit (c.in_ok-fit.ensures c.args.names.now);
 }
 
 pub loop-name-preserved : goal.loop-name-preserved
@@ -23,10 +25,14 @@ loop-name-preserved g c =
     record {
       solver = c.fit_one_more.ensures.solver;
       walked =
-          subst (λ (f : Fit). IsWalked c.args.parts.now c.args.hypotheses.now c.args.names.now c.args.groups.now (c.loop-name.name + 1) c.if-noted.noted f) (sym c.in-Some.more-is)
-          (walk_next c.args.parts.now c.args.hypotheses.now c.args.names.now c.args.groups.now c.loop-name.name noted c.loop-name.fit c.loop-name.invariant.walked
-          c.index-groups-name.result c.as_slice-entries.result.now c.loop-name-test.true c.index-groups-name.is c.as_slice-entries.ensures.value
-          c.in_ok-tried.tried c.in_ok-tried.ensures.more c.if-noted.noted either c.in-Some.more c.in-Some.is);
+          subst (λ (f : Fit). IsWalked c.args.parts.now c.args.hypotheses.now c.args.names.now
+          c.args.groups.now (c.loop-name.name + 1) c.if-noted.noted f) (sym c.in-Some.more-is)
+          (walk_next c.args.parts.now c.args.hypotheses.now c.args.names.now c.args.groups.now
+          c.loop-name.name noted c.loop-name.fit c.loop-name.invariant.walked
+          c.index-groups-name.result c.as_slice-entries.result.now c.loop-name-test.true
+          c.index-groups-name.is c.as_slice-entries.ensures.value
+          c.in_ok-tried.tried c.in_ok-tried.ensures.more c.if-noted.noted either c.in-Some.more
+          c.in-Some.is);
     }
 
 pub returns-in-None-clause-tried : goal.returns-in-None-clause-tried
@@ -37,14 +43,20 @@ returns-in-None-clause-tried g c =
       | then-noted w ↦ either_first noted more c.if-noted.noted w.if-noted.true w.noted-is
       | else-noted w ↦ either_second noted more c.if-noted.noted w.if-noted.false w.noted-is
     ] in
-    walk_failed c.args.parts.now c.args.hypotheses.now c.args.names.now c.args.groups.now c.loop-name.name noted c.loop-name.fit c.loop-name.invariant.walked
-    c.index-groups-name.result c.as_slice-entries.result.now c.loop-name-test.true c.index-groups-name.is c.as_slice-entries.ensures.value
+    walk_failed c.args.parts.now c.args.hypotheses.now c.args.names.now c.args.groups.now
+    c.loop-name.name noted c.loop-name.fit c.loop-name.invariant.walked
+    c.index-groups-name.result c.as_slice-entries.result.now c.loop-name-test.true
+    c.index-groups-name.is c.as_slice-entries.ensures.value
     c.in_ok-tried.tried c.in_ok-tried.ensures.more c.if-noted.noted either c.in-None.is
 
 pub returns-clause-tried : goal.returns-clause-tried
 returns-clause-tried g c =
-    walk_end c.args.parts.now c.args.hypotheses.now c.args.names.now c.args.groups.now c.loop-name.name c.loop-name.noted c.loop-name.fit c.loop-name.invariant.walked c.loop-name-test.false
+    walk_end c.args.parts.now c.args.hypotheses.now c.args.names.now c.args.groups.now
+    c.loop-name.name c.loop-name.noted c.loop-name.fit c.loop-name.invariant.walked
+    c.loop-name-test.false
 
 pub returns-clause-fit : goal.returns-clause-fit
 returns-clause-fit g c =
-    walk_fits c.args.parts.now c.args.hypotheses.now c.args.names.now c.args.groups.now c.loop-name.name c.loop-name.noted c.loop-name.fit c.loop-name.invariant.walked c.loop-name-test.false
+    walk_fits c.args.parts.now c.args.hypotheses.now c.args.names.now c.args.groups.now
+    c.loop-name.name c.loop-name.noted c.loop-name.fit c.loop-name.invariant.walked
+    c.loop-name-test.false

@@ -6,5 +6,12 @@ use Rattle.rx_ranking.proofs.components.no_fit.Goals as goal
 
 pub returns : goal.returns
 returns c = λ names.
-    nothing_below c.args.parts.now.symbols names (record { values = c.in_ok-without_polynomials.field-0; holds = c.new.result; falls = c.new-2.result })
-    (c.in_ok-without_polynomials.ensures ∙ ap without_polynomials c.len.ensures) c.new.ensures.items c.new-2.ensures.items
+    nothing_below c.args.parts.now.symbols names
+    (record {
+      values = c.in_ok-without_polynomials.field-0;
+      holds = c.new.result;
+      falls =
+          c.new-2.result;
+    })
+    (c.in_ok-without_polynomials.ensures ∙ ap without_polynomials c.len.ensures) c.new.ensures.items
+    c.new-2.ensures.items

@@ -17,12 +17,14 @@ loop-at-preserved c =
     let past = c.loop-at.yielded in
     let longer = length-append past ((c.in-Some.at, c.in-Some.other) ∷ []) in
     let size = length-map past (λ y. y.1) in
-    let at : c.in-Some.at ≡ length (map (λ y. y.1) past) = step.1 ∙ c.loop-at.invariant.count ∙ sym size in
+    let at : c.in-Some.at ≡ length (map (λ y. y.1) past) = step.1 ∙ c.loop-at.invariant.count ∙
+    sym size in
     record {
       values =
           c.lay_one.ensures
           ∙ (λ i. laid_at (c.loop-at.invariant.values i) (at i) c.in-Some.other)
           ∙ sym (overlaid_more c.args.values.now.items (map (λ y. y.1) past) c.in-Some.other)
-          ∙ sym (ap (overlaid c.args.values.now.items) (map-append (λ y. y.1) past ((c.in-Some.at, c.in-Some.other) ∷ [])));
+          ∙ sym (ap (overlaid c.args.values.now.items)
+          (map-append (λ y. y.1) past ((c.in-Some.at, c.in-Some.other) ∷ [])));
       count = step.2 ∙ ap (λ k. k + 1) c.loop-at.invariant.count ∙ sym longer;
     }

@@ -5,4 +5,5 @@ use Rattle.rx_ranking.specs.Groups.{entries_in, groups_in}
 use Rattle.rx_ranking.proofs.groups.empty_groups.Given as goal
 
 abbrev pub invariant-loop-group : goal.invariant-loop-group
-invariant-loop-group l = groups_in l.groups.items ≡ map (entries_in l.names []) (symbols_of l._group)
+invariant-loop-group l =
+    groups_in l.groups.items ≡ map (entries_in l.names []) (symbols_of l._group)

@@ -12,10 +12,14 @@ loop-entry-preserved c =
     let past = c.loop-entry.yielded in
     let leaves = sym c.is_inside.ensures ∙ c.if-is_inside.false in
     record {
-      staying = c.loop-entry.invariant.staying ∙ sym (filter_skip (is_staying names) past entry leaves);
+      staying =
+          c.loop-entry.invariant.staying ∙ sym (filter_skip (is_staying names) past entry leaves);
       leaving =
           c.close_entry.ensures
-          ∙ ap (λ cs. set cs entry.number (Some (closing c.args.column entry))) c.loop-entry.invariant.leaving
-          ∙ sym (close_more c.args.column c.args.closed.now.items (filter (is_leaving names) past) entry)
-          ∙ sym (ap (close_all c.args.column c.args.closed.now.items) (filter_one (is_leaving names) past entry (ap not leaves)));
+          ∙ ap (λ cs. set cs entry.number (Some (closing c.args.column entry)))
+          c.loop-entry.invariant.leaving
+          ∙ sym (close_more c.args.column c.args.closed.now.items (filter (is_leaving names) past)
+          entry)
+          ∙ sym (ap (close_all c.args.column c.args.closed.now.items)
+          (filter_one (is_leaving names) past entry (ap not leaves)));
     }

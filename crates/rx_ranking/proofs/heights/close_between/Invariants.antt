@@ -7,5 +7,6 @@ use Rattle.rx_ranking.proofs.heights.close_between.Given as goal
 abbrev pub invariant-loop-entry : goal.invariant-loop-entry
 invariant-loop-entry l = record {
   staying : l.left.items ≡ filter (is_staying l.names) l.yielded;
-  leaving : l.closed.items ≡ close_all l.column l.fn.closed.items (filter (is_leaving l.names) l.yielded);
+  leaving : l.closed.items ≡ close_all l.column l.fn.closed.items
+      (filter (is_leaving l.names) l.yielded);
 }

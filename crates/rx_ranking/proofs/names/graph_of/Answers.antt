@@ -17,7 +17,8 @@ add-requires c =
     let entry = c.entry-item.result in
     let many = open_count entries in
     let inner = c.loop-entry-test.true in
-    let h = pair_over c.args.symbols (pairs_open entries) at entry.pair (omega (arith, many, inner)) (entry_pair entries at entry c.loop-entry-test.true c.entry-item.is) c.requires in
+    let h = pair_over c.args.symbols (pairs_open entries) at entry.pair (omega (arith, many, inner))
+    (entry_pair entries at entry c.loop-entry-test.true c.entry-item.is) c.requires in
     let count = length-map c.loop-entry.graph.rows.items (λ row. row.items) in
     let same = c.loop-entry.invariant.count in
     record { from = omega (arith, h, count, same); to = omega (arith, h, count, same) }
@@ -30,7 +31,8 @@ loop-entry-preserved c =
     let many = open_count entries in
     let inner = c.loop-entry-test.true in
     subst (λ es. IsGraphOf c.args.symbols es (rows_of c.add.new.self.rows.items))
-    (edge_more (pairs_open entries) at entry.pair (omega (arith, many, inner)) (entry_pair entries at entry c.loop-entry-test.true c.entry-item.is))
+    (edge_more (pairs_open entries) at entry.pair (omega (arith, many, inner))
+    (entry_pair entries at entry c.loop-entry-test.true c.entry-item.is))
     (c.in_ok-add.ensures.edge c.args.symbols _ c.loop-entry.invariant)
 
 pub returns-clause-edges : goal.returns-clause-edges
@@ -39,7 +41,8 @@ returns-clause-edges c =
     let many = open_count c.args.entries.now in
     let past = c.loop-entry-test.false in
     let all = take_all c.loop-entry.entry-index pairs (omega (arith, many, past)) in
-    subst (λ (ps : List Pair). IsGraphOf c.args.symbols (edges_of ps) (rows_of c.loop-entry.graph.rows.items)) all c.loop-entry.invariant
+    subst (λ (ps : List Pair). IsGraphOf c.args.symbols (edges_of ps)
+    (rows_of c.loop-entry.graph.rows.items)) all c.loop-entry.invariant
 
 pub returns-clause-closed : goal.returns-clause-closed
 returns-clause-closed c =
@@ -48,4 +51,5 @@ returns-clause-closed c =
     let past = c.loop-entry-test.false in
     let all = take_all c.loop-entry.entry-index pairs (omega (arith, many, past)) in
     closed_graph c.args.symbols (edges_of pairs) (rows_of c.loop-entry.graph.rows.items) c.requires
-    (subst (λ (ps : List Pair). IsGraphOf c.args.symbols (edges_of ps) (rows_of c.loop-entry.graph.rows.items)) all c.loop-entry.invariant)
+    (subst (λ (ps : List Pair). IsGraphOf c.args.symbols (edges_of ps)
+    (rows_of c.loop-entry.graph.rows.items)) all c.loop-entry.invariant)

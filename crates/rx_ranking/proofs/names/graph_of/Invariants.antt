@@ -6,4 +6,6 @@ use Rattle.rx_ranking.specs.Tables.{pairs_open}
 use Rattle.rx_ranking.proofs.names.graph_of.Given as goal
 
 abbrev pub invariant-loop-entry : goal.invariant-loop-entry
-invariant-loop-entry l = IsGraphOf l.symbols (edges_of (take l.entry-index (pairs_open l.entries))) (rows_of l.graph.rows.items)
+invariant-loop-entry l =
+    IsGraphOf l.symbols (edges_of (take l.entry-index (pairs_open l.entries)))
+    (rows_of l.graph.rows.items)

@@ -9,15 +9,22 @@ use Rattle.rx_ranking.proofs.table.ranking_of.Goals as goal
 
 pub returns-clause-lawful : goal.returns-clause-lawful
 returns-clause-lawful c = λ parts count all.
-    table_lawful parts (columns_in c.args.columns.now) c.args.symbols (record { columns = length c.args.columns.now; ranks = c.in_ok-ranks.ranks }) count all
+    table_lawful parts (columns_in c.args.columns.now) c.args.symbols
+    (record { columns = length c.args.columns.now; ranks = c.in_ok-ranks.ranks }) count all
     (sym (length-map c.args.columns.now (λ v. v.items))) c.in_ok-ranks.ensures
 
 pub returns-clause-lower : goal.returns-clause-lower
 returns-clause-lower c = λ pairs split over.
-    ap (λ (certs : List PairCert). descent_from (record { columns = length c.args.columns.now; ranks = c.in_ok-ranks.ranks }) 0 pairs certs) c.in_ok-certs.ensures
-    ∙ table_descends (columns_in c.args.columns.now) c.args.symbols (record { columns = length c.args.columns.now; ranks = c.in_ok-ranks.ranks }) c.in_ok-ranks.ensures pairs c.args.closed.items split over
+    ap (λ (certs : List PairCert). descent_from
+    (record { columns = length c.args.columns.now; ranks = c.in_ok-ranks.ranks }) 0 pairs certs)
+    c.in_ok-certs.ensures
+    ∙ table_descends (columns_in c.args.columns.now) c.args.symbols
+    (record { columns = length c.args.columns.now; ranks = c.in_ok-ranks.ranks })
+    c.in_ok-ranks.ensures pairs c.args.closed.items split over
 
 pub returns-clause-deep : goal.returns-clause-deep
 returns-clause-deep c = λ pairs split.
     subst (All IsDeepPair) (sym c.in_ok-certs.ensures)
-    (table_deep (columns_in c.args.columns.now) c.args.symbols (record { columns = length c.args.columns.now; ranks = c.in_ok-ranks.ranks }) c.in_ok-ranks.ensures pairs c.args.closed.items split)
+    (table_deep (columns_in c.args.columns.now) c.args.symbols
+    (record { columns = length c.args.columns.now; ranks = c.in_ok-ranks.ranks })
+    c.in_ok-ranks.ensures pairs c.args.closed.items split)

@@ -5,7 +5,8 @@ pub returns-clause-reached : goal.returns-clause-reached
 returns-clause-reached g c =
     let s = g.S.System in
     let r = c.requires in
-    let from = reached_convertible s.weight s.inside s.rule s.hypothesis r.lowers r.stays r.replaceable in
+    let from = reached_convertible s.weight s.inside s.rule s.hypothesis r.lowers r.stays
+    r.replaceable in
     λ a b in_a chain. from a in_a b chain
 
 pub returns-clause-joined : goal.returns-clause-joined

@@ -8,8 +8,10 @@ use Rattle.rx_row.proofs.opposites.is_one_less_turned.Goals as goal
 pub returns : goal.returns
 returns c =
     let terms = λ (b : Body). (out-Body b).terms in
-    let left : c.as_slice.result.now ≡ terms c.args.left.now = c.as_slice.ensures ∙ ap terms c.body.ensures.body in
-    let right : c.as_slice-2.result.now ≡ terms c.args.right.now = c.as_slice-2.ensures ∙ ap terms c.body-2.ensures.body in
+    let left : c.as_slice.result.now ≡ terms c.args.left.now = c.as_slice.ensures ∙
+    ap terms c.body.ensures.body in
+    let right : c.as_slice-2.result.now ≡ terms c.args.right.now = c.as_slice-2.ensures ∙
+    ap terms c.body-2.ensures.body in
     let is = is_minus c.args.left.now c.args.right.now c.body-2.ensures.normal in
     let tells = c.are_one_less_turned.ensures in (
       λ e. is.0 (sym left ∙ tells.0 e ∙ ap one_less_turned right),

@@ -5,7 +5,11 @@ use Rattle.rx_row.proofs.TurnedTerms.{turned_coefficient, turned_other}
 use Rattle.rx_row.proofs.opposites.is_turned.Goals as goal
 
 pub returns-then-is_eq : goal.returns-then-is_eq
-returns-then-is_eq c = turned_coefficient c.args.left.now c.args.right.now (sym (c.is_eq.ensures ∙ ap is_eq c.cmp.ensures) ∙ c.if-is_eq.true) c.are_opposite.ensures
+returns-then-is_eq c =
+    turned_coefficient c.args.left.now c.args.right.now
+    (sym (c.is_eq.ensures ∙ ap is_eq c.cmp.ensures) ∙ c.if-is_eq.true) c.are_opposite.ensures
 
 pub returns-else-is_eq : goal.returns-else-is_eq
-returns-else-is_eq c = turned_other c.args.left.now c.args.right.now (sym (c.is_eq.ensures ∙ ap is_eq c.cmp.ensures) ∙ c.if-is_eq.false) c.if-is_eq.false
+returns-else-is_eq c =
+    turned_other c.args.left.now c.args.right.now
+    (sym (c.is_eq.ensures ∙ ap is_eq c.cmp.ensures) ∙ c.if-is_eq.false) c.if-is_eq.false

@@ -6,4 +6,5 @@ use Rattle.rx_row.proofs.parts.sum_of_multiples.Given as goal
 
 abbrev pub invariant-loop-at : goal.invariant-loop-at
 invariant-loop-at l =
-    Summing l.sum l.rows (drop l.at-index l.parts) (sum_from (number (pos 0)) l.rows l.parts) (sum_within (number (pos 0)) l.rows l.parts)
+    Summing l.sum l.rows (drop l.at-index l.parts) (sum_from (number (pos 0)) l.rows l.parts)
+    (sum_within (number (pos 0)) l.rows l.parts)

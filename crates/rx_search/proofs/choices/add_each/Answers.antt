@@ -13,7 +13,11 @@ loop-lemma-preserved g c =
     record {
       solver = c.in_ok-add_lemma.ensures.solver;
       grows = λ cs are.
-          subst (λ cs. AreChoices a.node.now cs c.add_lemma.new.found) (mapped_more lemma found_as cs c.loop-lemma.yielded c.in-Some.lemma)
-          (c.in_ok-add_lemma.ensures.grows (cs ++ map lemma (map found_as c.loop-lemma.yielded)) (c.loop-lemma.invariant.grows cs are));
-      nodes = λ goal is all. c.in_ok-add_lemma.ensures.nodes goal is (c.loop-lemma.invariant.nodes goal is all);
+          subst (λ cs. AreChoices a.node.now cs c.add_lemma.new.found)
+          (mapped_more lemma found_as cs c.loop-lemma.yielded c.in-Some.lemma)
+          (c.in_ok-add_lemma.ensures.grows (cs ++ map lemma (map found_as c.loop-lemma.yielded))
+          (c.loop-lemma.invariant.grows cs are));
+      nodes =
+          λ goal is all. c.in_ok-add_lemma.ensures.nodes goal is
+          (c.loop-lemma.invariant.nodes goal is all);
     }

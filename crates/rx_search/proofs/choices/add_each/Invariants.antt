@@ -10,6 +10,10 @@ use Rattle.rx_search.proofs.choices.add_each.Given as goal
 abbrev pub invariant-loop-lemma : goal.invariant-loop-lemma
 invariant-loop-lemma g l = record {
   solver : IsSolver g.S.FnMut l.solve;
-  grows : (cs : List Chosen) → AreChoices l.node cs l.fn.found → AreChoices l.node (cs ++ map (by_lemma l.rules l.node.state) (map found_as l.yielded)) l.found;
-  nodes : (goal : Equation) → IsNode l.rules goal l.node → All (λ c. IsNode l.rules goal c.node) l.fn.found.choices → All (λ c. IsNode l.rules goal c.node) l.found.choices;
+  grows : (cs : List Chosen) → AreChoices l.node cs l.fn.found →
+      AreChoices l.node (cs ++ map (by_lemma l.rules l.node.state) (map found_as l.yielded))
+      l.found;
+  nodes : (goal : Equation) → IsNode l.rules goal l.node →
+      All (λ c. IsNode l.rules goal c.node) l.fn.found.choices →
+      All (λ c. IsNode l.rules goal c.node) l.found.choices;
 }

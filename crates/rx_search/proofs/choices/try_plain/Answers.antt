@@ -13,8 +13,10 @@ returns-clause-tried g c =
     let parts = a.rules.now in
     let from = a.node.now in
     let new = c.try_step.new.state in
-    let is = subst (λ (s : State). IsTrial parts s new (attempt parts s (move_of a.step)) c.in_ok-trial.trial) c.in_ok-state.ensures c.in_ok-trial.ensures.trial in
-    led_tried parts from new (attempt parts from.state (move_of a.step)) c.in_ok-trial.trial is c.led.result c.led.ensures
+    let is = subst (λ (s : State). IsTrial parts s new (attempt parts s (move_of a.step))
+    c.in_ok-trial.trial) c.in_ok-state.ensures c.in_ok-trial.ensures.trial in
+    led_tried parts from new (attempt parts from.state (move_of a.step)) c.in_ok-trial.trial is
+    c.led.result c.led.ensures
 
 pub returns-clause-reached : goal.returns-clause-reached
 returns-clause-reached g c =
@@ -22,5 +24,7 @@ returns-clause-reached g c =
     let parts = a.rules.now in
     let from = a.node.now in
     let new = c.try_step.new.state in
-    let is = subst (λ (s : State). IsTrial parts s new (attempt parts s (move_of a.step)) c.in_ok-trial.trial) c.in_ok-state.ensures c.in_ok-trial.ensures.trial in
-    λ goal reached. led_reached parts from new (attempt parts from.state (move_of a.step)) goal c.in_ok-trial.trial is reached c.led.result c.led.ensures
+    let is = subst (λ (s : State). IsTrial parts s new (attempt parts s (move_of a.step))
+    c.in_ok-trial.trial) c.in_ok-state.ensures c.in_ok-trial.ensures.trial in
+    λ goal reached. led_reached parts from new (attempt parts from.state (move_of a.step)) goal
+    c.in_ok-trial.trial is reached c.led.result c.led.ensures

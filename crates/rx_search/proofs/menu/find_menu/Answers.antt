@@ -9,9 +9,12 @@ use Rattle.rx_search.proofs.menu.find_menu.Goals as goal
 pub returns-in_default-clause-menu : goal.returns-in_default-clause-menu
 returns-in_default-clause-menu g c =
     (λ i. record { choices = map (seen_choice node_of) (c.new.ensures i); note = None })
-    ∙ menu_over c.args.rules.now c.args.node.now (sym c.open_goal.ensures ∙ ap option_copied c.in_default.is)
+    ∙ menu_over c.args.rules.now c.args.node.now
+    (sym c.open_goal.ensures ∙ ap option_copied c.in_default.is)
 
 pub returns-clause-menu : goal.returns-clause-menu
 returns-clause-menu g c =
-    menu_found c.args.rules.now c.args.node.now c.in-Some.first.now c.in_ok-found.found c.in_ok-note.note
-    (sym c.open_goal.ensures ∙ ap option_copied c.in-Some.is) c.in_ok-found.ensures.choices c.in_ok-note.ensures
+    menu_found c.args.rules.now c.args.node.now c.in-Some.first.now c.in_ok-found.found
+    c.in_ok-note.note
+    (sym c.open_goal.ensures ∙ ap option_copied c.in-Some.is) c.in_ok-found.ensures.choices
+    c.in_ok-note.ensures

@@ -6,11 +6,14 @@ use Rattle.rx_settle.proofs.items.try_from_uses.Goals as goal
 
 pub returns-in-Err-clause-trial : goal.returns-in-Err-clause-trial
 returns-in-Err-clause-trial g c =
-    first_of_both c.args.rules.now c.args.state.now c.try_uses.new.state (using_all c.args.rules.now c.args.state.now) (λ s. by_results c.args.rules.now s)
+    first_of_both c.args.rules.now c.args.state.now c.try_uses.new.state
+    (using_all c.args.rules.now c.args.state.now) (λ s. by_results c.args.rules.now s)
     c.in_ok-try_uses.field-0 c.in_ok-try_uses.ensures.trial c.in-Err.taken c.in-Err.ensures
 
 pub returns-clause-trial : goal.returns-clause-trial
 returns-clause-trial g c =
-    second_of_both c.args.rules.now c.args.state.now c.try_uses.new.state (using_all c.args.rules.now c.args.state.now) (λ s. by_results c.args.rules.now s)
-    c.in_ok-try_uses.field-0 c.in_ok-try_uses.ensures.trial c.in_ok-results.results c.after.result c.try_results_at_first.new.state c.in-Ok.noted
+    second_of_both c.args.rules.now c.args.state.now c.try_uses.new.state
+    (using_all c.args.rules.now c.args.state.now) (λ s. by_results c.args.rules.now s)
+    c.in_ok-try_uses.field-0 c.in_ok-try_uses.ensures.trial c.in_ok-results.results c.after.result
+    c.try_results_at_first.new.state c.in-Ok.noted
     c.in-Ok.ensures c.in_ok-results.ensures.trial c.after.ensures

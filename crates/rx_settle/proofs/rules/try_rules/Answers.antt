@@ -6,23 +6,33 @@ use Rattle.rx_settle.proofs.rules.try_rules.Goals as goal
 
 pub loop-number-preserved : goal.loop-number-preserved
 loop-number-preserved g c =
-    let next = goes_on c.args.rules.now c.args.state.now c.args.side c.args.from c.as_slice-list.result.now
-    (c.as_slice-list.ensures ∙ ap (λ (p : RuleParts). p.rules) c.parts.ensures.parts) c.loop-number.state c.loop-number.invariant.same
-    c.loop-number.noted c.loop-number.number c.loop-number.invariant.trying c.index-list-number.result c.loop-number-test.true c.index-list-number.is
+    let next = goes_on c.args.rules.now c.args.state.now c.args.side c.args.from
+    c.as_slice-list.result.now
+    (c.as_slice-list.ensures ∙ ap (λ (p : RuleParts). p.rules) c.parts.ensures.parts)
+    c.loop-number.state c.loop-number.invariant.same
+    c.loop-number.noted c.loop-number.number c.loop-number.invariant.trying
+    c.index-list-number.result c.loop-number-test.true c.index-list-number.is
     (sym (c.is_tried.ensures c.args.rules.now c.requires.points) ∙ c.if-not-is_tried.false)
-    c.in_ok-try_rule.field-0 c.after-tried.result c.try_rule.new.state c.in_ok-try_rule.ensures.trial c.after-tried.ensures (sym c.is_some.ensures ∙ c.if-is_some.false) in
+    c.in_ok-try_rule.field-0 c.after-tried.result c.try_rule.new.state
+    c.in_ok-try_rule.ensures.trial c.after-tried.ensures
+    (sym c.is_some.ensures ∙ c.if-is_some.false) in
     record { solver = c.in_ok-try_rule.ensures.solver; same = next.0; trying = next.1 }
 
 pub returns-then-is_some-clause-trial : goal.returns-then-is_some-clause-trial
 returns-then-is_some-clause-trial g c =
     ends c.args.rules.now c.args.state.now c.args.side c.args.from c.as_slice-list.result.now
-    (c.as_slice-list.ensures ∙ ap (λ (p : RuleParts). p.rules) c.parts.ensures.parts) c.loop-number.state c.loop-number.invariant.same
-    c.loop-number.noted c.loop-number.number c.loop-number.invariant.trying c.index-list-number.result c.loop-number-test.true c.index-list-number.is
+    (c.as_slice-list.ensures ∙ ap (λ (p : RuleParts). p.rules) c.parts.ensures.parts)
+    c.loop-number.state c.loop-number.invariant.same
+    c.loop-number.noted c.loop-number.number c.loop-number.invariant.trying
+    c.index-list-number.result c.loop-number-test.true c.index-list-number.is
     (sym (c.is_tried.ensures c.args.rules.now c.requires.points) ∙ c.if-not-is_tried.false)
-    c.in_ok-try_rule.field-0 c.after-tried.result c.try_rule.new.state c.in_ok-try_rule.ensures.trial c.after-tried.ensures (sym c.is_some.ensures ∙ c.if-is_some.true)
+    c.in_ok-try_rule.field-0 c.after-tried.result c.try_rule.new.state
+    c.in_ok-try_rule.ensures.trial c.after-tried.ensures
+    (sym c.is_some.ensures ∙ c.if-is_some.true)
 
 pub returns-clause-trial : goal.returns-clause-trial
 returns-clause-trial g c =
     ended c.args.rules.now c.args.state.now c.args.side c.args.from c.as_slice-list.result.now
-    (c.as_slice-list.ensures ∙ ap (λ (p : RuleParts). p.rules) c.parts.ensures.parts) c.loop-number.state c.loop-number.invariant.same
+    (c.as_slice-list.ensures ∙ ap (λ (p : RuleParts). p.rules) c.parts.ensures.parts)
+    c.loop-number.state c.loop-number.invariant.same
     c.loop-number.noted c.loop-number.number c.loop-number.invariant.trying c.loop-number-test.false

@@ -6,11 +6,16 @@ use Rattle.rx_settle.proofs.sides.try_leaving_sides.Goals as goal
 
 pub returns-in-Err-clause-trial : goal.returns-in-Err-clause-trial
 returns-in-Err-clause-trial g c =
-    first_of_both c.args.rules.now c.args.state.now c.try_leaving_side.new.state (leaving_side c.args.rules.now c.args.state.now Left) (λ s. leaving_side c.args.rules.now s Right)
+    first_of_both c.args.rules.now c.args.state.now c.try_leaving_side.new.state
+    (leaving_side c.args.rules.now c.args.state.now Left)
+    (λ s. leaving_side c.args.rules.now s Right)
     c.in_ok-left.left c.in_ok-left.ensures.trial c.in-Err.taken c.in-Err.ensures
 
 pub returns-clause-trial : goal.returns-clause-trial
 returns-clause-trial g c =
-    second_of_both c.args.rules.now c.args.state.now c.try_leaving_side.new.state (leaving_side c.args.rules.now c.args.state.now Left) (λ s. leaving_side c.args.rules.now s Right)
-    c.in_ok-left.left c.in_ok-left.ensures.trial c.in_ok-right.right c.after.result c.try_leaving_side-2.new.state c.in-Ok.noted
+    second_of_both c.args.rules.now c.args.state.now c.try_leaving_side.new.state
+    (leaving_side c.args.rules.now c.args.state.now Left)
+    (λ s. leaving_side c.args.rules.now s Right)
+    c.in_ok-left.left c.in_ok-left.ensures.trial c.in_ok-right.right c.after.result
+    c.try_leaving_side-2.new.state c.in-Ok.noted
     c.in-Ok.ensures c.in_ok-right.ensures.trial c.after.ensures

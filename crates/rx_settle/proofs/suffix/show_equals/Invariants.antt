@@ -7,7 +7,8 @@ use Rattle.rx_settle.proofs.suffix.show_equals.Given as goal
 abbrev pub invariant-loop-left : goal.invariant-loop-left
 invariant-loop-left g l = record {
   solver : IsSolver g.S.FnMut l.solve;
-  decides : equals_shown l.given (zip l.rest l.others) ≡ equals_shown l.given (zip l.lefts l.rights);
+  decides : equals_shown l.given (zip l.rest l.others) ≡
+      equals_shown l.given (zip l.lefts l.rights);
 }
 
 abbrev pub decreases-loop-left : goal.decreases-loop-left

@@ -5,9 +5,13 @@ use Rattle.rx_settle.proofs.suffix.show_row.Goals.{in-Shown, in-NotShown, in-Too
 
 pub returns-clause-answer : goal.returns-clause-answer
 returns-clause-answer g c =
-    let says = row_answer c.args.given.now c.args.row.now c.from_ref.result.now c.in_ok-show_all.field-0 in
+    let says = row_answer c.args.given.now c.args.row.now c.from_ref.result.now
+    c.in_ok-show_all.field-0 in
     elim c.match-branch-2.branch [
-      | in-Shown w ↦ says _ c.match-branch-2.result c.from_ref.ensures.value c.in_ok-show_all.ensures.answer w.in-Shown.is w.result-is
-      | in-NotShown w ↦ says _ c.match-branch-2.result c.from_ref.ensures.value c.in_ok-show_all.ensures.answer w.in-NotShown.is w.result-is
-      | in-TooLarge w ↦ says _ c.match-branch-2.result c.from_ref.ensures.value c.in_ok-show_all.ensures.answer w.in-TooLarge.is w.result-is
+      | in-Shown w ↦ says _ c.match-branch-2.result c.from_ref.ensures.value
+          c.in_ok-show_all.ensures.answer w.in-Shown.is w.result-is
+      | in-NotShown w ↦ says _ c.match-branch-2.result c.from_ref.ensures.value
+          c.in_ok-show_all.ensures.answer w.in-NotShown.is w.result-is
+      | in-TooLarge w ↦ says _ c.match-branch-2.result c.from_ref.ensures.value
+          c.in_ok-show_all.ensures.answer w.in-TooLarge.is w.result-is
     ]

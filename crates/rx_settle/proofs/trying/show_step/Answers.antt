@@ -5,16 +5,23 @@ use Rattle.rx_settle.proofs.trying.show_step.Goals as goal
 pub show_formed-requires-clause-alone : goal.show_formed-requires-clause-alone
 show_formed-requires-clause-alone g c =
     asks_alone c.args.state.now c.in-Formed.made c.args.rules.now c.args.step.now
-    (by_formed c.args.rules.now c.args.state.now c.args.step.now c.in_ok-made.field-0 c.in_ok-made.ensures c.in-Formed.made c.in-Formed.is)
+    (by_formed c.args.rules.now c.args.state.now c.args.step.now c.in_ok-made.field-0
+    c.in_ok-made.ensures c.in-Formed.made c.in-Formed.is)
 
 pub returns-in-Formed-clause-outcome : goal.returns-in-Formed-clause-outcome
 returns-in-Formed-clause-outcome g c =
-    step_follows c.args.state.now c.in-Formed.made c.args.rules.now c.args.step.now c.show_formed.result
-    (by_formed c.args.rules.now c.args.state.now c.args.step.now c.in_ok-made.field-0 c.in_ok-made.ensures c.in-Formed.made c.in-Formed.is)
+    step_follows c.args.state.now c.in-Formed.made c.args.rules.now c.args.step.now
+    c.show_formed.result
+    (by_formed c.args.rules.now c.args.state.now c.args.step.now c.in_ok-made.field-0
+    c.in_ok-made.ensures c.in-Formed.made c.in-Formed.is)
     c.show_formed.ensures.outcome
 
 pub returns-in-Refused-clause-outcome : goal.returns-in-Refused-clause-outcome
-returns-in-Refused-clause-outcome g c = by_refused c.args.rules.now c.args.state.now c.args.step.now c.in_ok-made.field-0 c.in_ok-made.ensures c.in-Refused.is
+returns-in-Refused-clause-outcome g c =
+    by_refused c.args.rules.now c.args.state.now c.args.step.now c.in_ok-made.field-0
+    c.in_ok-made.ensures c.in-Refused.is
 
 pub returns-in-TooLarge-clause-outcome : goal.returns-in-TooLarge-clause-outcome
-returns-in-TooLarge-clause-outcome g c = by_large c.args.rules.now c.args.state.now c.args.step.now c.in_ok-made.field-0 c.in_ok-made.ensures c.in-TooLarge.is
+returns-in-TooLarge-clause-outcome g c =
+    by_large c.args.rules.now c.args.state.now c.args.step.now c.in_ok-made.field-0
+    c.in_ok-made.ensures c.in-TooLarge.is

@@ -1,4 +1,5 @@
--- Fewer disequalities are left; for as many, what goes on with all comes after what goes on with one.
+-- Fewer disequalities are left; for as many, what goes on with all comes after what goes on with
+-- one.
 use Rattle.std.proofs.Common.{◌+◌, ◌*◌, length}
 use Rattle.rx_solve.proofs.disequalities.+differing.Given as goal
 

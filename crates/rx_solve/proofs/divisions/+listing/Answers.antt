@@ -11,17 +11,22 @@ use Rattle.rx_solve.proofs.divisions.+listing.Goals as goal
 pub push_body-returns : goal.push_body-returns
 push_body-returns t c =
     let items = c.as_slice-term-items in
-    listed_end (λ (u : Mono × ℤ). mono_ratios u.0) items.result.now c.loop-term.term-index c.loop-term.found.items c.args.found.now.items c.loop-term-test.false c.loop-term.invariant
-    ∙ ap (λ ts. c.args.found.now.items ++ flat_map (λ (u : Mono × ℤ). mono_ratios u.0) ts) items.ensures ∙ ap (λ vs. c.args.found.now.items ++ vs) (sym (ratios_is c.args.body.now))
+    listed_end (λ (u : Mono × ℤ). mono_ratios u.0) items.result.now c.loop-term.term-index
+    c.loop-term.found.items c.args.found.now.items c.loop-term-test.false c.loop-term.invariant
+    ∙ ap (λ ts. c.args.found.now.items ++ flat_map (λ (u : Mono × ℤ). mono_ratios u.0) ts)
+    items.ensures ∙ ap (λ vs. c.args.found.now.items ++ vs) (sym (ratios_is c.args.body.now))
 
 pub push_mono-returns : goal.push_mono-returns
 push_mono-returns t c =
     let items = c.as_slice-atom-items in
-    listed_end atom_ratios items.result.now c.loop-atom.atom-index c.loop-atom.found.items c.args.found.now.items c.loop-atom-test.false c.loop-atom.invariant
-    ∙ ap (λ xs. c.args.found.now.items ++ flat_map atom_ratios xs) items.ensures ∙ ap (λ vs. c.args.found.now.items ++ vs) (sym (mono_ratios_is c.args.mono.now))
+    listed_end atom_ratios items.result.now c.loop-atom.atom-index c.loop-atom.found.items
+    c.args.found.now.items c.loop-atom-test.false c.loop-atom.invariant
+    ∙ ap (λ xs. c.args.found.now.items ++ flat_map atom_ratios xs) items.ensures ∙
+    ap (λ vs. c.args.found.now.items ++ vs) (sym (mono_ratios_is c.args.mono.now))
 
 pub push_atom-returns-in-Var : goal.push_atom-returns-in-Var
-push_atom-returns-in-Var t c = after_Var c.args.found.now.items c.args.atom.now c.in-Var.field-0 c.in-Var.is
+push_atom-returns-in-Var t c =
+    after_Var c.args.found.now.items c.args.atom.now c.in-Var.field-0 c.in-Var.is
 
 pub push_atom-returns-in_ok-push_body-in-Div : goal.push_atom-returns-in_ok-push_body-in-Div
 push_atom-returns-in_ok-push_body-in-Div t c =
@@ -29,16 +34,23 @@ push_atom-returns-in_ok-push_body-in-Div t c =
     let num = c.in-Div.num in
     let den = c.in-Div.den in
     let before : c.push_body.new.found.items ++ ratios den ≡ old ++ atom_ratios c.args.atom.now =
-    ap (λ rs. rs ++ ratios den) (c.in_ok-push_body-in-Div.ensures ∙ ap (λ rs. rs ++ ratios num) c.in_ok-push_own-in-Div.ensures)
-    ∙ after_parts old num den ∙ ap (λ rs. old ++ rs) (sym (ratios_Div num den) ∙ ap atom_ratios (sym c.in-Div.is)) in
-    subst (λ (rs : List Ratio). OnOk c.push_body-in-Div.result (c.push_body-in-Div.new.found.items ≡ rs)) before c.push_body-in-Div.ensures
+    ap (λ rs. rs ++ ratios den) (c.in_ok-push_body-in-Div.ensures ∙
+    ap (λ rs. rs ++ ratios num) c.in_ok-push_own-in-Div.ensures)
+    ∙ after_parts old num den ∙ ap (λ rs. old ++ rs)
+    (sym (ratios_Div num den) ∙ ap atom_ratios (sym c.in-Div.is)) in
+    subst (λ (rs : List Ratio). OnOk c.push_body-in-Div.result
+    (c.push_body-in-Div.new.found.items ≡ rs)) before c.push_body-in-Div.ensures
 
 pub push_atom-returns-in_ok-push_body-in-Mod : goal.push_atom-returns-in_ok-push_body-in-Mod
 push_atom-returns-in_ok-push_body-in-Mod t c =
     let old = c.args.found.now.items in
     let num = c.in-Mod.num in
     let den = c.in-Mod.den in
-    let before : c.push_body-in-Mod.new.found.items ++ ratios den ≡ old ++ atom_ratios c.args.atom.now =
-    ap (λ rs. rs ++ ratios den) (c.in_ok-push_body-in-Mod.ensures ∙ ap (λ rs. rs ++ ratios num) c.in_ok-push_own-in-Mod.ensures)
-    ∙ after_parts old num den ∙ ap (λ rs. old ++ rs) (sym (ratios_Mod num den) ∙ ap atom_ratios (sym c.in-Mod.is)) in
-    subst (λ (rs : List Ratio). OnOk c.push_body-in-Mod-2.result (c.push_body-in-Mod-2.new.found.items ≡ rs)) before c.push_body-in-Mod-2.ensures
+    let before : c.push_body-in-Mod.new.found.items ++ ratios den ≡ old ++
+    atom_ratios c.args.atom.now =
+    ap (λ rs. rs ++ ratios den) (c.in_ok-push_body-in-Mod.ensures ∙
+    ap (λ rs. rs ++ ratios num) c.in_ok-push_own-in-Mod.ensures)
+    ∙ after_parts old num den ∙ ap (λ rs. old ++ rs)
+    (sym (ratios_Mod num den) ∙ ap atom_ratios (sym c.in-Mod.is)) in
+    subst (λ (rs : List Ratio). OnOk c.push_body-in-Mod-2.result
+    (c.push_body-in-Mod-2.new.found.items ≡ rs)) before c.push_body-in-Mod-2.ensures

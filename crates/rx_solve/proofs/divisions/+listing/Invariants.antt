@@ -6,7 +6,9 @@ use Rattle.rx_solve.specs.Divisions.{atom_ratios, mono_ratios}
 use Rattle.rx_solve.proofs.divisions.+listing.Given as goal
 
 abbrev pub invariant-push_mono-loop-atom : goal.invariant-push_mono-loop-atom
-invariant-push_mono-loop-atom l = l.found.items ++ flat_map atom_ratios (drop l.atom-index l.atom-items) ≡ l.initial.found.items ++ flat_map atom_ratios l.atom-items
+invariant-push_mono-loop-atom l =
+    l.found.items ++ flat_map atom_ratios (drop l.atom-index l.atom-items) ≡
+    l.initial.found.items ++ flat_map atom_ratios l.atom-items
 
 abbrev pub invariant-push_body-loop-term : goal.invariant-push_body-loop-term
 invariant-push_body-loop-term l =

@@ -9,6 +9,10 @@ use Rattle.rx_solve.proofs.divisions.first_ratios.Goals as goal
 
 pub returns-clause-own : goal.returns-clause-own
 returns-clause-own c =
-    let polynomials : list_all has_polynomial (rows_ratios c.args.rows.now) ≡ true = subst (λ (rs : List Ratio). list_all has_polynomial rs ≡ true) c.in_ok-all.ensures.found c.in_ok-all.ensures.polynomials in
-    let first : c.truncate.new.self.items ≡ take most_ratios (all_ratios c.args.rows.now) = search rules in
-    subst (λ (rs : List Ratio). AreRatiosOf rs c.args.rows.now) (sym first) (first_ratios_of most_ratios c.args.rows.now polynomials)
+    let polynomials : list_all has_polynomial (rows_ratios c.args.rows.now) ≡ true =
+    subst (λ (rs : List Ratio). list_all has_polynomial rs ≡ true) c.in_ok-all.ensures.found
+    c.in_ok-all.ensures.polynomials in
+    let first : c.truncate.new.self.items ≡ take most_ratios (all_ratios c.args.rows.now) =
+    search rules in
+    subst (λ (rs : List Ratio). AreRatiosOf rs c.args.rows.now) (sym first)
+    (first_ratios_of most_ratios c.args.rows.now polynomials)

@@ -5,4 +5,5 @@ use Rattle.rx_solve.proofs.RatioLaws.{ratios_poly}
 use Rattle.rx_solve.proofs.divisions.push_row.Goals as goal
 
 pub returns-clause-polynomials : goal.returns-clause-polynomials
-returns-clause-polynomials c = ratios_poly _ (subst (λ p. is_poly p ≡ true) c.poly.ensures c.body.ensures.normal)
+returns-clause-polynomials c =
+    ratios_poly _ (subst (λ p. is_poly p ≡ true) c.poly.ensures c.body.ensures.normal)

@@ -4,4 +4,5 @@ use Rattle.rx_solve.specs.Pivots.{least_of}
 use Rattle.rx_solve.proofs.pivots.least_solvable.Given as goal
 
 abbrev pub invariant-loop-term : goal.invariant-loop-term
-invariant-loop-term l = least_of l.poly (drop l.term-index l.term-items) ≡ least_of l.poly l.term-items
+invariant-loop-term l =
+    least_of l.poly (drop l.term-index l.term-items) ≡ least_of l.poly l.term-items

@@ -9,4 +9,6 @@ use Rattle.rx_solve.proofs.refuter.refutes.Goals as goal
 pub returns-clause-refuted : goal.returns-clause-refuted
 returns-clause-refuted c =
     let same : c.in_ok-copy.copy.items ≡ c.args.rows.now = c.in_ok-copy.ensures ∙ c.rows.ensures in
-    answer_unmet c.solve_in_order.result c.args.rows.now (subst (λ (rs : List Row). AnswersFor (solving 100) 174 rs c.solve_in_order.result) same c.solve_in_order.ensures)
+    answer_unmet c.solve_in_order.result c.args.rows.now
+    (subst (λ (rs : List Row). AnswersFor (solving 100) 174 rs c.solve_in_order.result) same
+    c.solve_in_order.ensures)

@@ -15,6 +15,10 @@ returns-in_ok-cut-in-Some-found-clause-answer t c =
     let part : c.as_slice-3.result.now ≡ (r.at, r.by) ∷ [] = search rules in
     let lent : c.as_slice-2.result.now ≡ rows = search rules in
     let more : c.push.new.self.items ≡ rows ++ row ∷ [] = search rules in
-    let made : c.in_ok-cut-in-Some-found.field-0 ≡ Cut ((r.at, r.by) ∷ []) r.divisor c.in-Some-found.cert = search rules in
-    rounding_step r rest rows row c.args.roundings.now c.as_slice-3.result.now c.as_slice-2.result.now c.push.new.self.items c.in_ok-row.field-0 c.in_ok-found.found c.in-Some-found.cert
-    c.in_ok-cut-in-Some-found.field-0 list part lent more c.in_ok-row.ensures.forms c.in-Some-2.is c.in-Some-found.is c.in_ok-found.ensures.answer made
+    let made : c.in_ok-cut-in-Some-found.field-0 ≡
+    Cut ((r.at, r.by) ∷ []) r.divisor c.in-Some-found.cert = search rules in
+    rounding_step r rest rows row c.args.roundings.now c.as_slice-3.result.now
+    c.as_slice-2.result.now c.push.new.self.items c.in_ok-row.field-0 c.in_ok-found.found
+    c.in-Some-found.cert
+    c.in_ok-cut-in-Some-found.field-0 list part lent more c.in_ok-row.ensures.forms c.in-Some-2.is
+    c.in-Some-found.is c.in_ok-found.ensures.answer made

@@ -7,15 +7,20 @@ pub loop-row-preserved : goal.loop-row-preserved
 loop-row-preserved g c =
     let at = c.loop-row in
     let has : c.in-Ok-Some.field-0 ≡ Some c.in-Ok-Some.cert = cc in
-    let next = after_certificate c.args.given.now c.args.rows.now at.row-index c.row-item.result at.certs c.loop-row-test.true c.row-item.is at.invariant.proving
-    (sym c.is_plain.ensures.plain ∙ c.if-is_plain.false) at.asked c.in-Ok-Some.field-0 c.in-Ok-Some.cert at.invariant.asked has c.in-Ok-Some.ensures.answer in
+    let next = after_certificate c.args.given.now c.args.rows.now at.row-index c.row-item.result
+    at.certs c.loop-row-test.true c.row-item.is at.invariant.proving
+    (sym c.is_plain.ensures.plain ∙ c.if-is_plain.false) at.asked c.in-Ok-Some.field-0
+    c.in-Ok-Some.cert at.invariant.asked has c.in-Ok-Some.ensures.answer in
     record {
       solver = c.ask_negation.ensures.solver;
       asked = c.in-Ok-Some.ensures.kept ∙ at.invariant.asked;
-      proving = subst (Proving c.args.given.now c.args.rows.now (at.row-index + 1) (drop (at.row-index + 1) c.args.rows.now)) (sym c.in_ok-push-in-Ok-Some.ensures.ok) next;
+      proving =
+          subst (Proving c.args.given.now c.args.rows.now (at.row-index + 1)
+          (drop (at.row-index + 1) c.args.rows.now)) (sym c.in_ok-push-in-Ok-Some.ensures.ok) next;
     }
 
 pub returns-clause-answer : goal.returns-clause-answer
 returns-clause-answer g c =
     all_done c.args.given.now c.args.rows.now c.loop-row.row-index c.loop-row.certs
-    (subst (λ rs. Proving c.args.given.now c.args.rows.now c.loop-row.row-index rs c.loop-row.certs) (drop_of_length-le c.args.rows.now c.loop-row-test.false) c.loop-row.invariant.proving)
+    (subst (λ rs. Proving c.args.given.now c.args.rows.now c.loop-row.row-index rs c.loop-row.certs)
+    (drop_of_length-le c.args.rows.now c.loop-row-test.false) c.loop-row.invariant.proving)

@@ -2,5 +2,8 @@ use Rattle.rx_soundness.proofs.Functions.{proof_returns_alike}
 use Rattle.rx_soundness.proofs.laws.proofs_show_equal_functions.Goals as goal
 
 pub returns : goal.returns
-returns c = λ program scoped f g parts first second t arguments rows count also holds hypotheses table proof.
-    proof_returns_alike program scoped f g parts first second t arguments rows count also holds hypotheses table proof
+returns c =
+    λ program scoped f g parts first second t arguments rows count also holds hypotheses table
+    proof.
+    proof_returns_alike program scoped f g parts first second t arguments rows count also holds
+    hypotheses table proof

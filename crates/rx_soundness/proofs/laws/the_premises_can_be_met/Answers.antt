@@ -18,5 +18,6 @@ returns-clause-proof c = example_proof
 
 pub returns-clause-alike : goal.returns-clause-alike
 returns-clause-alike c =
-    proof_returns_alike example example_scoped 0 1 parts first second example_translated [] [] refl refl
+    proof_returns_alike example example_scoped 0 1 parts first second example_translated [] [] refl
+    refl
     (All-nil (RowHolds (assigned []))) [] table example_proof

@@ -11,7 +11,13 @@ use Rattle.rx_stmts.proofs.functions.function_at.Goals as goal
 
 pub returns-in-None : goal.returns-in-None
 returns-in-None c =
-    let none = ap (λ (f : Option Function). place_code c.args.place f (length c.args.code.now.opened)) (slice_get_past c.args.functions.now c.args.place c.in-None.ensures.lookup.3) in
+    let none = ap (λ (f : Option Function). place_code c.args.place f
+    (length c.args.code.now.opened)) (slice_get_past c.args.functions.now c.args.place
+    c.in-None.ensures.lookup.3) in
     record {
-      code = (sym (no_code_right c.args.code.now) ∙ ap (λ (d : Formed Code). append_code c.args.code.now d.form) (sym none), ap (λ (d : Formed Code). d.within) none);
+      code = (
+        sym (no_code_right c.args.code.now) ∙
+            ap (λ (d : Formed Code). append_code c.args.code.now d.form) (sym none),
+        ap (λ (d : Formed Code). d.within) none,
+      );
     }

@@ -15,10 +15,15 @@ pub list-returns-in_err-next : goal.list-returns-in_err-next
 list-returns-in_err-next t c =
     let now = c.loop-i.code in
     let s = c.index-ts-i.result in
-    let f : Fails c.from_residual.result (is_room (length now.opened) (slots_after s c.loop-i.at.width)) = search rules in
+    let f : Fails c.from_residual.result (is_room (length now.opened)
+    (slots_after s c.loop-i.at.width)) = search rules in
     record {
-      code = fails_code c.args.code.now c.open_after.new.code c.from_residual.result (is_room (length now.opened) (slots_after s c.loop-i.at.width)) (list_at c.args.ts.now c.args.p c.args.code.now) f
-          (no_point c.args.ts.now c.loop-i.i c.loop-i-test.true c.index-ts-i.is c.loop-i.invariant c.if-i-ts.false);
+      code =
+          fails_code c.args.code.now c.open_after.new.code c.from_residual.result
+          (is_room (length now.opened) (slots_after s c.loop-i.at.width))
+          (list_at c.args.ts.now c.args.p c.args.code.now) f
+          (no_point c.args.ts.now c.loop-i.i c.loop-i-test.true c.index-ts-i.is c.loop-i.invariant
+          c.if-i-ts.false);
     }
 
 -- src/stmts.rt:272:9
@@ -28,14 +33,20 @@ list-returns-in_err-statement t c =
     let part = stmt_at s (between c.loop-i.at c.in_ok-next.next c.args.p) c.open_after.new.code in
     let f : Fails c.from_residual-in_err-statement.result part.within = search rules in
     record {
-      code = fails_code c.args.code.now c.statement-in-loop-i.new.code c.from_residual-in_err-statement.result part.within (list_at c.args.ts.now c.args.p c.args.code.now) f
-          (no_statement c.args.ts.now c.loop-i.i c.loop-i-test.true c.index-ts-i.is c.loop-i.invariant c.if-i-ts.false c.open_after.new.code c.in_ok-next.next c.in_ok-next.ensures.point);
+      code =
+          fails_code c.args.code.now c.statement-in-loop-i.new.code
+          c.from_residual-in_err-statement.result part.within
+          (list_at c.args.ts.now c.args.p c.args.code.now) f
+          (no_statement c.args.ts.now c.loop-i.i c.loop-i-test.true c.index-ts-i.is
+          c.loop-i.invariant c.if-i-ts.false c.open_after.new.code c.in_ok-next.next
+          c.in_ok-next.ensures.point);
     }
 
 -- src/stmts.rt:267:5
 pub list-loop-i-preserved : goal.list-loop-i-preserved
 list-loop-i-preserved t c =
-    next c.args.ts.now c.loop-i.i c.loop-i-test.true c.index-ts-i.is c.loop-i.invariant c.if-i-ts.false c.open_after.new.code c.in_ok-next.next c.in_ok-next.ensures.point
+    next c.args.ts.now c.loop-i.i c.loop-i-test.true c.index-ts-i.is c.loop-i.invariant
+    c.if-i-ts.false c.open_after.new.code c.in_ok-next.next c.in_ok-next.ensures.point
     c.statement-in-loop-i.new.code c.in_ok-statement.ensures.code
 
 -- src/stmts.rt:137:1
@@ -46,12 +57,17 @@ statement-returns-in_ok-statement-in-Some t c =
     let y = c.in_ok-y-in-Some in
     let w = c.in_ok-w-in-Some in
     record {
-      code = if_else_compiled c.args.t.now c.in-If.test s u c.args.code.now c.open.new.self c.open-in-Some.new.self c.condition.new.code c.statement.new.code c.statement-in-Some.new.code
+      code =
+          if_else_compiled c.args.t.now c.in-If.test s u c.args.code.now c.open.new.self
+          c.open-in-Some.new.self c.condition.new.code c.statement.new.code
+          c.statement-in-Some.new.code
           c.args.p y.y w.w c.statement-in-Some.result
-          (c.in-If.is ∙ same_if c.in-If.test c.in-If.inner s c.in-Some.other u c.in-If.other c.in-Some.is (sym c.get-in-Some.ensures) (sym c.get-in-Some-2.ensures))
+          (c.in-If.is ∙ same_if c.in-If.test c.in-If.inner s c.in-Some.other u c.in-If.other
+          c.in-Some.is (sym c.get-in-Some.ensures) (sym c.get-in-Some-2.ensures))
           (record { code = y.ensures.code; is = y.ensures.point; room = y.ensures.within })
           (record { code = w.ensures.code; is = w.ensures.point; room = w.ensures.within })
-          c.in_ok-condition-in-Some.ensures.condition c.in_ok-statement-in-Some.ensures.code c.statement-in-Some.ensures.code;
+          c.in_ok-condition-in-Some.ensures.condition c.in_ok-statement-in-Some.ensures.code
+          c.statement-in-Some.ensures.code;
     }
 
 -- src/stmts.rt:137:1
@@ -61,8 +77,11 @@ statement-returns-in-None-change t c =
     let first = c.as_slice.result.now in
     let inner = c.get-in-None-change.result.now in
     record {
-      code = for_compiled c.args.t.now first f.test None inner c.args.code.now c.head.new.code c.turn.new.code c.args.p c.in_ok-h-in-For.h c.turn.result
-          (f.is ∙ same_for f.first first f.test f.change None f.inner inner (sym c.as_slice.ensures) c.in-None-change.is (sym c.get-in-None-change.ensures))
+      code =
+          for_compiled c.args.t.now first f.test None inner c.args.code.now c.head.new.code
+          c.turn.new.code c.args.p c.in_ok-h-in-For.h c.turn.result
+          (f.is ∙ same_for f.first first f.test f.change None f.inner inner (sym c.as_slice.ensures)
+          c.in-None-change.is (sym c.get-in-None-change.ensures))
           c.in_ok-h-in-For.ensures.head c.turn.ensures.code;
     }
 
@@ -77,12 +96,19 @@ statement-returns-in_err-for_test-in-Some-change t c =
     let y = c.in_ok-y-in-Some-change in
     let u = c.in-Some-change.change in
     let part = condition_at (test_or_one f.test) h y.y p.to c.turn_points.new.code in
-    let e : Fails c.from_residual-in_err-for_test-in-Some-change.result part.within = search rules in
+    let e : Fails c.from_residual-in_err-for_test-in-Some-change.result part.within =
+    search rules in
     record {
-      code = fails_code c.args.code.now c.for_test.new.code c.from_residual-in_err-for_test-in-Some-change.result part.within (stmt_at c.args.t.now p c.args.code.now) e (λ large.
-          for_compiled c.args.t.now first f.test (Some u) f.inner c.args.code.now c.head.new.code c.for_test.new.code p h (Err Large)
-          (f.is ∙ same_for f.first first f.test f.change (Some u) f.inner f.inner (sym c.as_slice.ensures) c.in-Some-change.is refl) c.in_ok-h-in-For.ensures.head
-          (test_fails f.test u f.inner c.head.new.code c.turn_points.new.code p h y.y y.k y.ensures.points c.for_test.new.code Large (λ same. large)) refl);
+      code =
+          fails_code c.args.code.now c.for_test.new.code
+          c.from_residual-in_err-for_test-in-Some-change.result part.within
+          (stmt_at c.args.t.now p c.args.code.now) e (λ large.
+          for_compiled c.args.t.now first f.test (Some u) f.inner c.args.code.now c.head.new.code
+          c.for_test.new.code p h (Err Large)
+          (f.is ∙ same_for f.first first f.test f.change (Some u) f.inner f.inner
+          (sym c.as_slice.ensures) c.in-Some-change.is refl) c.in_ok-h-in-For.ensures.head
+          (test_fails f.test u f.inner c.head.new.code c.turn_points.new.code p h y.y y.k
+          y.ensures.points c.for_test.new.code Large (λ same. large)) refl);
     }
 
 -- src/stmts.rt:167:21
@@ -98,14 +124,23 @@ statement-returns-in_err-statement-in-Some-change t c =
     let u = c.in-Some-change.change in
     let turn : Places = record { at = y.y; to = y.k; break_to = p.to; continue_to = y.k } in
     let part = stmt_at inner turn c.for_test.new.code in
-    let e : Fails c.from_residual-in_err-statement-in-Some-change.result (stmt_at inner c.inside_loop.result c.for_test.new.code).within = search rules in
+    let e : Fails c.from_residual-in_err-statement-in-Some-change.result
+    (stmt_at inner c.inside_loop.result c.for_test.new.code).within = search rules in
     let e_so : Fails c.from_residual-in_err-statement-in-Some-change.result part.within =
-    subst (λ (q : Places). Fails c.from_residual-in_err-statement-in-Some-change.result (stmt_at inner q c.for_test.new.code).within) c.inside_loop.ensures e in
+    subst (λ (q : Places). Fails c.from_residual-in_err-statement-in-Some-change.result
+    (stmt_at inner q c.for_test.new.code).within) c.inside_loop.ensures e in
     record {
-      code = fails_code c.args.code.now c.statement-in-Some-change.new.code c.from_residual-in_err-statement-in-Some-change.result part.within (stmt_at c.args.t.now p c.args.code.now) e_so (λ large.
-          for_compiled c.args.t.now first f.test (Some u) inner c.args.code.now c.head.new.code c.statement-in-Some-change.new.code p h (Err Large)
-          (f.is ∙ same_for f.first first f.test f.change (Some u) f.inner inner (sym c.as_slice.ensures) c.in-Some-change.is (sym c.get-in-Some-change.ensures)) c.in_ok-h-in-For.ensures.head
-          (body_fails f.test u inner c.head.new.code c.turn_points.new.code p h y.y y.k y.ensures.points c.for_test.new.code c.in_ok-for_test-in-Some-change.ensures.code
+      code =
+          fails_code c.args.code.now c.statement-in-Some-change.new.code
+          c.from_residual-in_err-statement-in-Some-change.result part.within
+          (stmt_at c.args.t.now p c.args.code.now) e_so (λ large.
+          for_compiled c.args.t.now first f.test (Some u) inner c.args.code.now c.head.new.code
+          c.statement-in-Some-change.new.code p h (Err Large)
+          (f.is ∙ same_for f.first first f.test f.change (Some u) f.inner inner
+          (sym c.as_slice.ensures) c.in-Some-change.is (sym c.get-in-Some-change.ensures))
+          c.in_ok-h-in-For.ensures.head
+          (body_fails f.test u inner c.head.new.code c.turn_points.new.code p h y.y y.k
+          y.ensures.points c.for_test.new.code c.in_ok-for_test-in-Some-change.ensures.code
           c.statement-in-Some-change.new.code Large (λ same. large)) refl);
     }
 
@@ -120,11 +155,20 @@ statement-returns-in_ok-statement-in-Some-change t c =
     let p = c.args.p in
     let h = c.in_ok-h-in-For.h in
     let y = c.in_ok-y-in-Some-change in
-    let bodied = subst (λ (q : Places). CompilesCode c.for_test.new.code c.statement-in-Some-change.new.code (Ok tt) (stmt_at inner q c.for_test.new.code)) c.inside_loop.ensures c.in_ok-statement-in-Some-change.ensures.code in
+    let bodied = subst (λ (q : Places). CompilesCode c.for_test.new.code
+    c.statement-in-Some-change.new.code (Ok tt) (stmt_at inner q c.for_test.new.code))
+    c.inside_loop.ensures c.in_ok-statement-in-Some-change.ensures.code in
     record {
-      code = for_compiled c.args.t.now first f.test (Some u) inner c.args.code.now c.head.new.code c.statement-in-Some-change-2.new.code p h c.statement-in-Some-change-2.result
-          (f.is ∙ same_for f.first first f.test f.change (Some u) f.inner inner (sym c.as_slice.ensures) (c.in-Some-change.is ∙ ap (λ (s : Stmt). Some s) (sym c.get-in-Some-change-2.ensures)) (sym c.get-in-Some-change.ensures))
+      code =
+          for_compiled c.args.t.now first f.test (Some u) inner c.args.code.now c.head.new.code
+          c.statement-in-Some-change-2.new.code p h c.statement-in-Some-change-2.result
+          (f.is ∙ same_for f.first first f.test f.change (Some u) f.inner inner
+          (sym c.as_slice.ensures) (c.in-Some-change.is ∙
+          ap (λ (s : Stmt). Some s) (sym c.get-in-Some-change-2.ensures))
+          (sym c.get-in-Some-change.ensures))
           c.in_ok-h-in-For.ensures.head
-          (turned f.test u inner c.head.new.code c.turn_points.new.code p h y.y y.k y.ensures.points c.for_test.new.code c.in_ok-for_test-in-Some-change.ensures.code
-          c.statement-in-Some-change.new.code c.statement-in-Some-change-2.new.code c.statement-in-Some-change-2.result bodied c.statement-in-Some-change-2.ensures.code);
+          (turned f.test u inner c.head.new.code c.turn_points.new.code p h y.y y.k y.ensures.points
+          c.for_test.new.code c.in_ok-for_test-in-Some-change.ensures.code
+          c.statement-in-Some-change.new.code c.statement-in-Some-change-2.new.code
+          c.statement-in-Some-change-2.result bodied c.statement-in-Some-change-2.ensures.code);
     }

@@ -12,7 +12,9 @@ pub returns-clause-variables : goal.returns-clause-variables
 returns-clause-variables c = values-assigned
 
 pub returns-clause-value : goal.returns-clause-value
-returns-clause-value c = λ a ps p below. same_value_below (worth a (enumerate_from 0 ps)) (assigned (values a ps)) (length ps) p (worth-arguments a ps) below
+returns-clause-value c =
+    λ a ps p below. same_value_below (worth a (enumerate_from 0 ps)) (assigned (values a ps))
+    (length ps) p (worth-arguments a ps) below
 
 pub returns-clause-rows : goal.returns-clause-rows
 returns-clause-rows c = λ a ps rows below.

@@ -6,4 +6,5 @@ use Rattle.rx_term_words.proofs.layers.read_failure.Goals as goal
 
 pub returns-in-None : goal.returns-in-None
 returns-in-None c =
-    no_behind (codes "fail(") (naturals 255) (codes ")") (λ left. refl) c.args.bytes.now c.args.at codes_once c.in-Some.ensures c.in-Some-read_natural.ensures c.in-None.ensures
+    no_behind (codes "fail(") (naturals 255) (codes ")") (λ left. refl) c.args.bytes.now c.args.at
+    codes_once c.in-Some.ensures c.in-Some-read_natural.ensures c.in-None.ensures

@@ -7,4 +7,5 @@ use Rattle.rx_term_words.proofs.layers.read_value.Goals as goal
 pub returns-in-None : goal.returns-in-None
 returns-in-None c =
     let value = rw c.in-Some-2.is at c.in_ok-value.ensures in
-    no_behind (codes "ret(") polynomials (codes ")") (λ left. refl) c.args.bytes.now c.args.at polynomials_unambiguous c.in-Some.ensures value c.in-None.ensures
+    no_behind (codes "ret(") polynomials (codes ")") (λ left. refl) c.args.bytes.now c.args.at
+    polynomials_unambiguous c.in-Some.ensures value c.in-None.ensures

@@ -8,7 +8,8 @@ use Rattle.rx_term_words.proofs.term_writing.push_term.Goals as goal
 
 pub push_innermost-requires : goal.push_innermost-requires
 push_innermost-requires c =
-    subst (λ u. innermost_of u ≡ u) (sym c.in_ok-inner.ensures.inner) (innermost_again c.args.term.now)
+    subst (λ u. innermost_of u ≡ u) (sym c.in_ok-inner.ensures.inner)
+    (innermost_again c.args.term.now)
 
 pub returns : goal.returns
 returns c =

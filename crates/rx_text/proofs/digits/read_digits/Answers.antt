@@ -13,7 +13,8 @@ most_is_less = omega arith
 fits : (n : ℕ) {bytes left : _} → BeginsWith (naturals (2 ^ 128 - 1)) bytes n left → n < 2 ^ 128
 fits n b = let le : n ≤ 2 ^ 128 - 1 = leb-true n (2 ^ 128 - 1) b.in_range in omega arith
 
-run : {n : ℕ} {s rest : List ℕ} → n ≡ prefix_len is_digit s → s ≡ rest → n ≡ prefix_len is_digit rest
+run : {n : ℕ} {s rest : List ℕ} → n ≡ prefix_len is_digit s → s ≡ rest → n ≡
+    prefix_len is_digit rest
 run h e = h ∙ ap (prefix_len is_digit) e
 
 pub returns-then-at-bytes : goal.returns-then-at-bytes
@@ -32,7 +33,8 @@ pub returns-then-is_text_of : goal.returns-then-is_text_of
 returns-then-is_text_of c =
     stands c.args.bytes.now c.args.at (run c.run_of_digits.ensures.run c.rest_from.ensures)
     c.if-at-bytes.false
-    (subst (λ s. c.run_of_digits.result ≤ length s) c.rest_from.ensures c.run_of_digits.ensures.within)
+    (subst (λ s. c.run_of_digits.result ≤ length s) c.rest_from.ensures
+    c.run_of_digits.ensures.within)
     c.in-Some.ensures.fits (c.is_text_of.ensures.0 c.if-is_text_of.true)
 
 pub returns-else-is_text_of : goal.returns-else-is_text_of

@@ -10,14 +10,16 @@ pub returns-in_default-clause-value : goal.returns-in_default-clause-value
 returns-in_default-clause-value c = λ n small is.
     let wide : n < 10 ^ 64 = omega arith in
     absurd
-    (c.in_default.ensures.cases.0 (subst IsUtf8 (sym is) (IsUtf8-from_ascii (natural_text n) (IsAscii-decimal_wide n wide))))
+    (c.in_default.ensures.cases.0 (subst IsUtf8 (sym is)
+    (IsUtf8-from_ascii (natural_text n) (IsAscii-decimal_wide n wide))))
 
 pub returns-in_default-parse-clause-value : goal.returns-in_default-parse-clause-value
 returns-in_default-parse-clause-value c = λ n small is.
     let wide : n < 10 ^ 64 = omega arith in
     let text = c.in-Ok.ensures.cases.0 ∙ is in
     let read =
-    parse-decimal_wide 128 n c.in-Ok.text.now c.parse.result small wide text c.parse.ensures.value.0 in
+    parse-decimal_wide 128 n c.in-Ok.text.now c.parse.result small wide text c.parse.ensures.value.0
+    in
     let other = c.in_default-parse.is in cc
 
 pub returns-clause-value : goal.returns-clause-value
@@ -25,5 +27,6 @@ returns-clause-value c = λ n small is.
     let wide : n < 10 ^ 64 = omega arith in
     let text = c.in-Ok.ensures.cases.0 ∙ is in
     let read =
-    parse-decimal_wide 128 n c.in-Ok.text.now c.parse.result small wide text c.parse.ensures.value.0 in
+    parse-decimal_wide 128 n c.in-Ok.text.now c.parse.result small wide text c.parse.ensures.value.0
+    in
     let other = c.in-Ok-parse.is in cc

@@ -27,7 +27,8 @@ read_parts-returns-in_default-2 t c =
     let num = found (sums_nested c.args.depth) bytes c.args.at c.in-Some.is c.in_ok-num.ensures in
     no_second_part (sums_nested c.args.depth) refl refl (plain_unambiguous c.args.depth) bytes
     c.args.at num c.in-Some-skip_word.ensures
-    (absent (sums_nested c.args.depth) bytes c.in-Some-skip_word.den_at c.in_default-2.is c.in_ok-den.ensures)
+    (absent (sums_nested c.args.depth) bytes c.in-Some-skip_word.den_at c.in_default-2.is
+    c.in_ok-den.ensures)
 
 pub read_parts-returns-in_default-skip_word-2 : goal.read_parts-returns-in_default-skip_word-2
 read_parts-returns-in_default-skip_word-2 t c =
@@ -61,14 +62,16 @@ read_atom-returns-in-Some-2 t c =
     let bytes = c.args.bytes.now in
     let after = c.in-Some-skip_word.after in
     quotient_stands (is_plain_inside c.args.depth) bytes c.args.at c.in-Some-skip_word.ensures
-    (inside_found c.args.depth bytes after c.if-depth-eq0.false c.in-Some-2.is c.in_ok-parts.ensures)
+    (inside_found c.args.depth bytes after c.if-depth-eq0.false c.in-Some-2.is
+    c.in_ok-parts.ensures)
 
 pub read_atom-returns-in-None-2 : goal.read_atom-returns-in-None-2
 read_atom-returns-in-None-2 t c =
     let bytes = c.args.bytes.now in
     let after = c.in-Some-skip_word.after in
     no_quotient (is_plain_inside c.args.depth) bytes c.args.at c.in-Some-skip_word.ensures
-    (inside_absent c.args.depth bytes after c.if-depth-eq0.false c.in-None-2.is c.in_ok-parts.ensures)
+    (inside_absent c.args.depth bytes after c.if-depth-eq0.false c.in-None-2.is
+    c.in_ok-parts.ensures)
 
 pub read_atom-returns-in-Some-3 : goal.read_atom-returns-in-Some-3
 read_atom-returns-in-Some-3 t c =
@@ -97,21 +100,27 @@ pub read_term-returns-then-is_zero : goal.read_term-returns-then-is_zero
 read_term-returns-then-is_zero t c =
     coefficient_is_zero (is_plain_inside c.args.depth) (inside_unambiguous c.args.depth)
     c.args.bytes.now c.args.at c.in-Some.ensures
-    (ap is_zero (sym (same_integer c.in-Some.ensures.begins)) ∙ sym c.is_zero.ensures ∙ c.if-is_zero.true)
+    (ap is_zero (sym (same_integer c.in-Some.ensures.begins)) ∙ sym c.is_zero.ensures ∙
+    c.if-is_zero.true)
 
 pub read_term-returns-in_default-2 : goal.read_term-returns-in_default-2
 read_term-returns-in_default-2 t c =
     no_factor (is_plain_inside c.args.depth) (inside_unambiguous c.args.depth) c.args.bytes.now
     c.args.at c.in-Some.ensures c.loop-after.invariant c.in-Some-skip_word.ensures
-    (absent (atoms (is_plain_inside c.args.depth)) c.args.bytes.now c.in-Some-skip_word.after c.in_default-2.is c.in_ok-atom.ensures)
+    (absent (atoms (is_plain_inside c.args.depth)) c.args.bytes.now c.in-Some-skip_word.after
+    c.in_default-2.is c.in_ok-atom.ensures)
 
 pub read_term-returns : goal.read_term-returns
 read_term-returns t c =
     term_stands (is_plain_inside c.args.depth) (inside_unambiguous c.args.depth) c.args.bytes.now
     c.args.at c.in-Some.ensures
-    (ap is_zero (sym (same_integer c.in-Some.ensures.begins)) ∙ sym c.is_zero.ensures ∙ c.if-is_zero.false)
+    (ap is_zero (sym (same_integer c.in-Some.ensures.begins)) ∙ sym c.is_zero.ensures ∙
+    c.if-is_zero.false)
     c.loop-after.invariant c.in_default-skip_word.ensures
-    (c.term_of.ensures ∙ (λ i. (of_atoms c.loop-after.factors, same_integer c.in-Some.ensures.begins i)))
+    (c.term_of.ensures ∙ (λ i. (
+      of_atoms c.loop-after.factors,
+      same_integer c.in-Some.ensures.begins i,
+    )))
 
 -- ---- sums
 
@@ -136,14 +145,16 @@ read_sum-loop-after-preserved t c =
     let so_far = c.loop-after.invariant.2 in (
       c.loop-after.invariant.0 ++ c.in-Some-2.term ∷ [],
       listed,
-      one_more_read 43 (terms inner) bytes c.in-Some.first_end so_far c.in-Some-skip_word.ensures term,
+      one_more_read 43 (terms inner) bytes c.in-Some.first_end so_far c.in-Some-skip_word.ensures
+          term,
     )
 
 pub read_sum-returns : goal.read_sum-returns
 read_sum-returns t c =
     let inner = is_plain_inside c.args.depth in
     let bytes = c.args.bytes.now in
-    let begin = c.in_ok-push.ensures.ok ∙ ap (λ s. s ++ c.in-Some.first ∷ []) c.new-summands.ensures in
+    let begin = c.in_ok-push.ensures.ok ∙ ap (λ s. s ++ c.in-Some.first ∷ []) c.new-summands.ensures
+    in
     sum_stands inner (inside_unambiguous c.args.depth) bytes c.args.at
     (found (terms inner) bytes c.args.at c.in-Some.is c.in_ok-first.ensures)
     c.loop-after.invariant.2 c.in_default-skip_word.ensures

@@ -36,4 +36,5 @@ returns-else-starts_with c = λ left e.
     let word = c.args.word.now in
     other_text word (take (length word) c.rest_from.result.now)
     (sym c.if-starts_with.false ∙ c.starts_with.ensures.value)
-    (sym (take_at word left (length word) refl) ∙ ap (take (length word)) (sym e ∙ sym c.rest_from.ensures))
+    (sym (take_at word left (length word) refl) ∙
+    ap (take (length word)) (sym e ∙ sym c.rest_from.ensures))

@@ -4,4 +4,5 @@ use Rattle.rx_translate.proofs.marks.marks_of_second.Given as goal
 
 abbrev pub invariant-loop-number : goal.invariant-loop-number
 invariant-loop-number l =
-    marked_also l.marks.items (map (λ (e : ℕ × ℕ). e.1) (drop l.number-index l.pairs)) ≡ marks_of l.fn.count (map (λ (e : ℕ × ℕ). e.1) l.pairs)
+    marked_also l.marks.items (map (λ (e : ℕ × ℕ). e.1) (drop l.number-index l.pairs)) ≡
+    marks_of l.fn.count (map (λ (e : ℕ × ℕ). e.1) l.pairs)

@@ -7,7 +7,11 @@ use Rattle.rx_translate.proofs.parts.parts_of.Goals as goal
 pub returns : goal.returns
 returns c =
     let sorted = c.in_ok-sorted_rules.ensures.forms in
-    let rules = c.in_ok-rules.ensures ∙ ap (flat_map (λ (rs : List Rule). rs)) sorted.0 ∙ sorted_joined c.args.code.now in
+    let rules = c.in_ok-rules.ensures ∙ ap (flat_map (λ (rs : List Rule). rs)) sorted.0 ∙
+    sorted_joined c.args.code.now in
     record {
-      forms = ((λ i. record { symbols = c.in_ok-symbols_of.ensures i; rules = rules i; fails = 1 }), sorted.1);
+      forms = (
+        (λ i. record { symbols = c.in_ok-symbols_of.ensures i; rules = rules i; fails = 1 }),
+        sorted.1,
+      );
     }

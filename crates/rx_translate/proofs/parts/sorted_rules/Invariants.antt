@@ -3,4 +3,6 @@ use Rattle.rx_translate.proofs.Sorted.{Sorting}
 use Rattle.rx_translate.proofs.parts.sorted_rules.Given as goal
 
 abbrev pub invariant-loop-d : goal.invariant-loop-d
-invariant-loop-d l = Sorting l.code.entries (replicate (length l.code.opened) []) l.lists.items (drop l.d-index l.d-items) l.d-items
+invariant-loop-d l =
+    Sorting l.code.entries (replicate (length l.code.opened) []) l.lists.items
+    (drop l.d-index l.d-items) l.d-items

@@ -11,8 +11,11 @@ use Rattle.rx_translate.proofs.translation.rules_of.Goals as goal
 pub returns-clause-paired : goal.returns-clause-paired
 returns-clause-paired c =
     let program = c.args.program.now in
-    IfOk-weaker c.translated.result (λ (t : Translation). IsTranslation program c.args.first c.args.second t.rules t.first t.second) (λ (t : Translation). IsPaired t.rules)
-    (λ t is. translation_paired program c.requires.scoped c.args.first c.args.second t.rules t.first t.second is) c.translated.ensures.translation
+    IfOk-weaker c.translated.result (λ (t : Translation).
+    IsTranslation program c.args.first c.args.second t.rules t.first t.second)
+    (λ (t : Translation). IsPaired t.rules)
+    (λ t is. translation_paired program c.requires.scoped c.args.first c.args.second t.rules t.first
+    t.second is) c.translated.ensures.translation
 
 pub returns-clause-arity : goal.returns-clause-arity
 returns-clause-arity c =
@@ -26,8 +29,11 @@ returns-clause-arity c =
     let first_lent : c.args.first < length functions = omega (arith, size, first_there) in
     let second_lent : c.args.second < length functions = omega (arith, size, second_there) in
     let count = λ (h : Function). length h.params in
-    let equal = ap count c.index-functions-first.is ∙ sym c.len-one.ensures ∙ c.if-one-other.false ∙ c.len-other.ensures ∙ sym (ap count c.index-functions-second.is) in
+    let equal = ap count c.index-functions-first.is ∙ sym c.len-one.ensures ∙ c.if-one-other.false ∙
+    c.len-other.ensures ∙ sym (ap count c.index-functions-second.is) in
     λ m n. (
       λ e. absurd (c.translated.ensures.no_arity m n e),
-      λ differ. absurd (no_difference program functions c.args.first c.args.second one other c.as_slice-functions.ensures first_lent second_lent c.index-functions-first.is c.index-functions-second.is equal m n differ),
+      λ differ. absurd (no_difference program functions c.args.first c.args.second one other
+          c.as_slice-functions.ensures first_lent second_lent c.index-functions-first.is
+          c.index-functions-second.is equal m n differ),
     )

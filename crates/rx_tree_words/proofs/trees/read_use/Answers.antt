@@ -8,10 +8,12 @@ use Rattle.rx_tree_words.proofs.trees.read_use.Goals as goal
 pub returns-in_default-skip_word : goal.returns-in_default-skip_word
 returns-in_default-skip_word c =
     let first = rw c.in-Some.is at c.read_number.ensures in
-    no_middle numbers.text numbers.in_range certificate_lists.text certificate_lists.in_range numbers_once first c.in_default-skip_word.ensures
+    no_middle numbers.text numbers.in_range certificate_lists.text certificate_lists.in_range
+    numbers_once first c.in_default-skip_word.ensures
 
 pub returns-in_default-2 : goal.returns-in_default-2
 returns-in_default-2 c =
     let first = rw c.in-Some.is at c.read_number.ensures in
     let none = rw c.in_default-2.is at c.in_ok-certs.ensures in
-    no_second numbers.text numbers.in_range certificate_lists.text certificate_lists.in_range numbers_once first c.in-Some-skip_word.ensures none
+    no_second numbers.text numbers.in_range certificate_lists.text certificate_lists.in_range
+    numbers_once first c.in-Some-skip_word.ensures none

@@ -17,7 +17,8 @@ returns-then-is_going-clause-counted g c = λ lists stands.
     let a = c.args.progress in
     let goes : a.tally.ended ≡ Going = search rules in
     IfOk-weaker c.visit_list.result
-    (IsVisited view (g.T.Tree.settled w) (g.T.Tree.menu w) (record { tally = a.tally; kept = c.new.result; room = a.room }) lists)
+    (IsVisited view (g.T.Tree.settled w) (g.T.Tree.menu w)
+    (record { tally = a.tally; kept = c.new.result; room = a.room }) lists)
     (λ p. seen_tally view p.tally ≡ counted (seen_tally view a.tally) (lists 0))
     (λ p visited. visited.counted)
     (c.visit_list.ensures.visited lists (stands goes))
@@ -31,10 +32,13 @@ returns-then-is_going-clause-stands g c = λ lists stands.
     let a = c.args.progress in
     let goes : a.tally.ended ≡ Going = search rules in
     IfOk-weaker c.visit_list.result
-    (IsVisited view settled menu (record { tally = a.tally; kept = c.new.result; room = a.room }) lists)
-    (λ p. p.tally.ended ≡ Going → StandsForLists view settled menu p.tally.note p.kept (λ n. lists (n + 1)))
+    (IsVisited view settled menu (record { tally = a.tally; kept = c.new.result; room = a.room })
+    lists)
+    (λ p. p.tally.ended ≡ Going → StandsForLists view settled menu p.tally.note p.kept
+    (λ n. lists (n + 1)))
     (λ p visited going. visited.keeps (λ n. [])
-    (λ _. subst (λ ks. StandsForLists view settled menu a.tally.note ks (λ n. [])) (sym c.new.ensures) (λ n. refl)) going)
+    (λ _. subst (λ ks. StandsForLists view settled menu a.tally.note ks (λ n. []))
+    (sym c.new.ensures) (λ n. refl)) going)
     (c.visit_list.ensures.visited lists (stands goes))
 
 pub returns-then-is_going-clause-leaves : goal.returns-then-is_going-clause-leaves
@@ -46,4 +50,5 @@ pub returns-else-is_going-clause-counted : goal.returns-else-is_going-clause-cou
 returns-else-is_going-clause-counted g c = λ lists stands.
     let a = c.args.progress in
     let stopped : (a.tally.ended ≡ Going → ⊥) = search rules in
-    sym (ended-stays (seen_tally g.T.Tree.view a.tally) (lists 0) (ended_seen g.T.Tree.view a.tally.ended stopped))
+    sym (ended-stays (seen_tally g.T.Tree.view a.tally) (lists 0)
+    (ended_seen g.T.Tree.view a.tally.ended stopped))

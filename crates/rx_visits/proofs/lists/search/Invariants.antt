@@ -1,4 +1,5 @@
--- What is counted so far, and then the lists that are left, is all; and what is kept stands for these.
+-- What is counted so far, and then the lists that are left, is all; and what is kept stands for
+-- these.
 use Rattle.std.proofs.Common.{◌≡◌, ◌+◌, ◌-◌, [], All}
 use Rattle.rx_visits.specs.Keeping.{OfLeaf, StandsForLists}
 use Rattle.rx_visits.specs.Tallies.{begin, counted}
@@ -13,12 +14,18 @@ invariant-loop-list g l = record {
   world : g.T.Tree.world l.tree ≡ g.T.Tree.world l.fn.tree;
   counts :
       counted (seen_tally g.T.Tree.view l.progress.tally)
-      (lists (g.T.Tree.settled (g.T.Tree.world l.fn.tree)) (g.T.Tree.menu (g.T.Tree.world l.fn.tree)) (l.depth - l._list) (l._list + 1) (g.T.Tree.view l.start))
+      (lists (g.T.Tree.settled (g.T.Tree.world l.fn.tree))
+      (g.T.Tree.menu (g.T.Tree.world l.fn.tree)) (l.depth - l._list) (l._list + 1)
+      (g.T.Tree.view l.start))
       ≡ counted (begin l.budget)
-      (lists (g.T.Tree.settled (g.T.Tree.world l.fn.tree)) (g.T.Tree.menu (g.T.Tree.world l.fn.tree)) (l.depth + 1) 0 (g.T.Tree.view l.start));
+      (lists (g.T.Tree.settled (g.T.Tree.world l.fn.tree))
+      (g.T.Tree.menu (g.T.Tree.world l.fn.tree)) (l.depth + 1) 0 (g.T.Tree.view l.start));
   stands : l.progress.tally.ended ≡ Going
-      → StandsForLists g.T.Tree.view (g.T.Tree.settled (g.T.Tree.world l.fn.tree)) (g.T.Tree.menu (g.T.Tree.world l.fn.tree)) l.progress.tally.note l.progress.kept
-      (λ n. visits (g.T.Tree.settled (g.T.Tree.world l.fn.tree)) (g.T.Tree.menu (g.T.Tree.world l.fn.tree)) (n + (l._list + 1)) [] (g.T.Tree.view l.start));
+      → StandsForLists g.T.Tree.view (g.T.Tree.settled (g.T.Tree.world l.fn.tree))
+      (g.T.Tree.menu (g.T.Tree.world l.fn.tree)) l.progress.tally.note l.progress.kept
+      (λ n. visits (g.T.Tree.settled (g.T.Tree.world l.fn.tree))
+      (g.T.Tree.menu (g.T.Tree.world l.fn.tree)) (n + (l._list + 1)) []
+      (g.T.Tree.view l.start));
   valid : IfFound (g.T.Tree.valid (g.T.Tree.world l.fn.tree)) l.progress.tally.ended;
   leaves : All (OfLeaf (g.T.Tree.valid (g.T.Tree.world l.fn.tree)) (l._list + 1)) l.progress.kept;
 }

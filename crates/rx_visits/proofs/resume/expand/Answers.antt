@@ -22,13 +22,16 @@ returns-clause-visited g c = λ s unclosed noted is.
     IfOk-weaker c.visit_each.result
     (IsVisited view settled menu b (λ n. visits_of settled menu n a.path.now m.choices))
     (IsVisited view settled menu a.progress (λ n. visits_from settled menu n a.path.now s))
-    (λ e below. leaf_expanded view settled menu a.progress b e a.path.now s m c.requires.going c.requires.left unclosed noted is
-    (c.in_ok-progress.ensures.tally ∙ ap (λ p. visited_open (a.progress.tally.left - 1) a.progress.tally p a.menu.note) c.in_ok-at.ensures)
+    (λ e below. leaf_expanded view settled menu a.progress b e a.path.now s m c.requires.going
+    c.requires.left unclosed noted is
+    (c.in_ok-progress.ensures.tally ∙ ap (λ p.
+    visited_open (a.progress.tally.left - 1) a.progress.tally p a.menu.note) c.in_ok-at.ensures)
     c.in_ok-progress.ensures.kept below)
     c.visit_each.ensures.visited
 
 pub returns-clause-leaves : goal.returns-clause-leaves
 returns-clause-leaves g c = λ most some all.
     c.visit_each.ensures.leaves most some
-    (all_push (OfLeaf (g.T.Tree.valid (g.T.Tree.world c.args.tree.now)) most) c.args.progress.kept c.in_ok-progress.progress.kept Expanded
+    (all_push (OfLeaf (g.T.Tree.valid (g.T.Tree.world c.args.tree.now)) most) c.args.progress.kept
+    c.in_ok-progress.progress.kept Expanded
     c.in_ok-progress.ensures.kept all tt)

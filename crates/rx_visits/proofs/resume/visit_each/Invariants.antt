@@ -11,11 +11,15 @@ invariant-loop-choice g l = record {
   ready : g.T.Tree.ready l.tree;
   world : g.T.Tree.world l.tree ≡ g.T.Tree.world l.initial.tree;
   visited :
-      IsVisited g.T.Tree.view (g.T.Tree.settled (g.T.Tree.world l.initial.tree)) (g.T.Tree.menu (g.T.Tree.world l.initial.tree)) l.fn.progress
-      (λ n. visits_of (g.T.Tree.settled (g.T.Tree.world l.initial.tree)) (g.T.Tree.menu (g.T.Tree.world l.initial.tree)) n l.path
+      IsVisited g.T.Tree.view (g.T.Tree.settled (g.T.Tree.world l.initial.tree))
+      (g.T.Tree.menu (g.T.Tree.world l.initial.tree)) l.fn.progress
+      (λ n. visits_of (g.T.Tree.settled (g.T.Tree.world l.initial.tree))
+      (g.T.Tree.menu (g.T.Tree.world l.initial.tree)) n l.path
       (map (seen_choice g.T.Tree.view) (take l.choice-index l.choice-items)))
       l.progress;
-  valid : IfFound (g.T.Tree.valid (g.T.Tree.world l.initial.tree)) l.fn.progress.tally.ended → IfFound (g.T.Tree.valid (g.T.Tree.world l.initial.tree)) l.progress.tally.ended;
-  leaves : (most : ℕ) → 0 < most → All (OfLeaf (g.T.Tree.valid (g.T.Tree.world l.initial.tree)) most) l.fn.progress.kept
+  valid : IfFound (g.T.Tree.valid (g.T.Tree.world l.initial.tree)) l.fn.progress.tally.ended →
+      IfFound (g.T.Tree.valid (g.T.Tree.world l.initial.tree)) l.progress.tally.ended;
+  leaves : (most : ℕ) → 0 < most → All (OfLeaf (g.T.Tree.valid (g.T.Tree.world l.initial.tree))
+      most) l.fn.progress.kept
       → All (OfLeaf (g.T.Tree.valid (g.T.Tree.world l.initial.tree)) most) l.progress.kept;
 }

@@ -11,13 +11,15 @@ pub returns-then-not-is_going-clause-visited : goal.returns-then-not-is_going-cl
 returns-then-not-is_going-clause-visited g c = λ lists stands.
     let w = g.T.Tree.world c.args.tree.now in
     let stopped : (c.args.progress.tally.ended ≡ Going → ⊥) = search rules in
-    visited_stopped g.T.Tree.view (g.T.Tree.settled w) (g.T.Tree.menu w) c.args.progress lists stopped
+    visited_stopped g.T.Tree.view (g.T.Tree.settled w) (g.T.Tree.menu w) c.args.progress lists
+    stopped
 
 pub returns-then-progress-eq0-clause-visited : goal.returns-then-progress-eq0-clause-visited
 returns-then-progress-eq0-clause-visited g c = λ lists stands.
     let w = g.T.Tree.world c.args.tree.now in
     let goes : c.args.progress.tally.ended ≡ Going = search rules in
-    kept_over g.T.Tree.view (g.T.Tree.settled w) (g.T.Tree.menu w) c.args.progress c.end_over.result c.args.node lists goes c.if-progress-eq0.true stands
+    kept_over g.T.Tree.view (g.T.Tree.settled w) (g.T.Tree.menu w) c.args.progress c.end_over.result
+    c.args.node lists goes c.if-progress-eq0.true stands
     c.end_over.ensures.tally
 
 pub returns-in-Expanded-clause-visited : goal.returns-in-Expanded-clause-visited
@@ -27,8 +29,10 @@ returns-in-Expanded-clause-visited g c = λ lists stands.
     let a = c.args in
     let goes : a.progress.tally.ended ≡ Going = search rules in
     let some : 0 < a.progress.tally.left = omega arith in
-    expanded_made view (g.T.Tree.settled w) (g.T.Tree.menu w) a.progress c.visit_expanded.result lists goes some
-    (subst (λ (k : Kept _). StandsForVisits view (g.T.Tree.settled w) (g.T.Tree.menu w) a.progress.tally.note k lists) c.in-Expanded.is stands)
+    expanded_made view (g.T.Tree.settled w) (g.T.Tree.menu w) a.progress c.visit_expanded.result
+    lists goes some
+    (subst (λ (k : Kept _). StandsForVisits view (g.T.Tree.settled w) (g.T.Tree.menu w)
+    a.progress.tally.note k lists) c.in-Expanded.is stands)
     c.visit_expanded.ensures.tally c.visit_expanded.ensures.kept
 
 pub returns-in-Frontier-clause-visited : goal.returns-in-Frontier-clause-visited
@@ -39,11 +43,14 @@ returns-in-Frontier-clause-visited g c = λ lists stands.
     let menu = g.T.Tree.menu w in
     let a = c.args in
     let leaf = c.in-Frontier.leaf in
-    let (s, at, are) = subst (λ (k : Kept _). StandsForVisits view settled menu a.progress.tally.note k lists) c.in-Frontier.is stands in
-    visited_made view settled menu a.progress c.visit_leaf.result (λ n. visits_from settled menu (n + leaf.below) leaf.path s) lists (λ n. sym (are n))
+    let (s, at, are) = subst (λ (k : Kept _).
+    StandsForVisits view settled menu a.progress.tally.note k lists) c.in-Frontier.is stands in
+    visited_made view settled menu a.progress c.visit_leaf.result
+    (λ n. visits_from settled menu (n + leaf.below) leaf.path s) lists (λ n. sym (are n))
     (c.visit_leaf.ensures.visited s at)
 
 pub returns-in-Frontier-clause-leaves : goal.returns-in-Frontier-clause-leaves
 returns-in-Frontier-clause-leaves g c = λ most one all.
-    let of_leaf = subst (OfLeaf (g.T.Tree.valid (g.T.Tree.world c.args.tree.now)) most) c.in-Frontier.is one in
+    let of_leaf = subst (OfLeaf (g.T.Tree.valid (g.T.Tree.world c.args.tree.now)) most)
+    c.in-Frontier.is one in
     c.visit_leaf.ensures.leaves most of_leaf.1 all

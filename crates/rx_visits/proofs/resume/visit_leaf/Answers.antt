@@ -15,19 +15,24 @@ returns-then-len-progress-clause-visited g c = λ s at.
     let path = c.as_slice.result.now in
     let same : path ≡ a.leaf.path = c.as_slice.ensures in
     visited_made view (g.T.Tree.settled w) (g.T.Tree.menu w) a.progress c.expand.result
-    (λ n. visits_from (g.T.Tree.settled w) (g.T.Tree.menu w) n path s) (λ n. visits_from (g.T.Tree.settled w) (g.T.Tree.menu w) (n + a.leaf.below) a.leaf.path s)
-    (λ n. let more : n ≡ n + a.leaf.below = omega arith in λ i. visits_from (g.T.Tree.settled w) (g.T.Tree.menu w) (more i) (same i) s)
+    (λ n. visits_from (g.T.Tree.settled w) (g.T.Tree.menu w) n path s)
+    (λ n. visits_from (g.T.Tree.settled w) (g.T.Tree.menu w) (n + a.leaf.below) a.leaf.path s)
+    (λ n. let more : n ≡ n + a.leaf.below = omega arith in λ i.
+    visits_from (g.T.Tree.settled w) (g.T.Tree.menu w) (more i) (same i) s)
     (subst (λ (u : g.T.Tree.World). seen_menu view c.in_ok-menu.menu ≡ g.T.Tree.menu u s.node
-    → IfOk c.expand.result (IsVisited view (g.T.Tree.settled u) (g.T.Tree.menu u) a.progress (λ n. visits_from (g.T.Tree.settled u) (g.T.Tree.menu u) n path s)))
+    → IfOk c.expand.result (IsVisited view (g.T.Tree.settled u) (g.T.Tree.menu u) a.progress
+    (λ n. visits_from (g.T.Tree.settled u) (g.T.Tree.menu u) n path s)))
     c.in_ok-menu.ensures.world
-    (c.expand.ensures.visited s at.unclosed (subst (λ p. IsAfterNote a.progress.tally.note (alone p s)) (sym same) at.noted))
+    (c.expand.ensures.visited s at.unclosed (subst
+    (λ p. IsAfterNote a.progress.tally.note (alone p s)) (sym same) at.noted))
     (c.in_ok-menu.ensures.menu ∙ ap (g.T.Tree.menu w) at.seen))
 
 pub returns-then-len-progress-clause-leaves : goal.returns-then-len-progress-clause-leaves
 returns-then-len-progress-clause-leaves g c = λ most below.
     let some : 0 < most + 1 = omega arith in
     subst (λ (u : g.T.Tree.World). All (OfLeaf (g.T.Tree.valid u) (most + 1)) c.args.progress.kept
-    → IfOk c.expand.result (λ p. All (OfLeaf (g.T.Tree.valid u) (most + 1)) p.kept)) c.in_ok-menu.ensures.world
+    → IfOk c.expand.result (λ p. All (OfLeaf (g.T.Tree.valid u) (most + 1)) p.kept))
+    c.in_ok-menu.ensures.world
     (c.expand.ensures.leaves (most + 1) some)
 
 pub returns-else-leaf-eq0-clause-visited : goal.returns-else-leaf-eq0-clause-visited
@@ -35,12 +40,14 @@ returns-else-leaf-eq0-clause-visited g c = λ s at.
     let view = g.T.Tree.view in
     let a = c.args in
     subst (λ (u : g.T.Tree.World). seen_menu view c.in_ok-menu.menu ≡ g.T.Tree.menu u s.node
-    → IfOk c.walk_below.result (IsVisited view (g.T.Tree.settled u) (g.T.Tree.menu u) a.progress (λ n. visits_from (g.T.Tree.settled u) (g.T.Tree.menu u) (n + a.leaf.below) a.leaf.path s)))
+    → IfOk c.walk_below.result (IsVisited view (g.T.Tree.settled u) (g.T.Tree.menu u) a.progress
+    (λ n. visits_from (g.T.Tree.settled u) (g.T.Tree.menu u) (n + a.leaf.below) a.leaf.path s)))
     c.in_ok-menu.ensures.world (c.walk_below.ensures.visited s at)
     (c.in_ok-menu.ensures.menu ∙ ap (g.T.Tree.menu (g.T.Tree.world a.tree.now)) at.seen)
 
 pub returns-else-leaf-eq0-clause-leaves : goal.returns-else-leaf-eq0-clause-leaves
 returns-else-leaf-eq0-clause-leaves g c = λ most below.
     subst (λ (u : g.T.Tree.World). All (OfLeaf (g.T.Tree.valid u) (most + 1)) c.args.progress.kept
-    → IfOk c.walk_below.result (λ p. All (OfLeaf (g.T.Tree.valid u) (most + 1)) p.kept)) c.in_ok-menu.ensures.world
+    → IfOk c.walk_below.result (λ p. All (OfLeaf (g.T.Tree.valid u) (most + 1)) p.kept))
+    c.in_ok-menu.ensures.world
     (c.walk_below.ensures.leaves most below)

@@ -15,8 +15,13 @@ returns-clause-visited g c = λ s at is.
     let menu = g.T.Tree.menu w in
     let a = c.args in
     let left = a.progress.tally.left - 1 in
-    let tally = c.count_open-tally.ensures ∙ ap (λ p. visited_open left a.progress.tally p a.menu.note) (c.in_ok-at.ensures ∙ c.as_slice.ensures) in
-    leaf_walked view settled menu a.progress _ a.leaf s (seen_menu view a.menu) c.requires.going c.requires.left at is
+    let tally = c.count_open-tally.ensures ∙ ap
+    (λ p. visited_open left a.progress.tally p a.menu.note)
+    (c.in_ok-at.ensures ∙ c.as_slice.ensures) in
+    leaf_walked view settled menu a.progress _ a.leaf s (seen_menu view a.menu) c.requires.going
+    c.requires.left at is
     (c.in_ok-tally.ensures.counted
-    ∙ (λ i. counted (seen_tally view (tally i)) (visits_of settled menu a.leaf.below (c.as_slice-2.ensures i) (map (seen_choice view) (c.as_slice-3.ensures i)))))
+    ∙ (λ i. counted (seen_tally view (tally i))
+    (visits_of settled menu a.leaf.below (c.as_slice-2.ensures i)
+    (map (seen_choice view) (c.as_slice-3.ensures i)))))
     c.in_ok-push.ensures.ok

@@ -21,10 +21,13 @@ invariant-walk_all-loop-choice g l = record {
   world : g.T.Tree.world l.tree ≡ g.T.Tree.world l.initial.tree;
   counts :
       counted (seen_tally g.T.Tree.view l.tally)
-      (visits_of (g.T.Tree.settled (g.T.Tree.world l.initial.tree)) (g.T.Tree.menu (g.T.Tree.world l.initial.tree)) l.more l.path
+      (visits_of (g.T.Tree.settled (g.T.Tree.world l.initial.tree))
+      (g.T.Tree.menu (g.T.Tree.world l.initial.tree)) l.more l.path
       (map (seen_choice g.T.Tree.view) (drop l.choice-index l.choices)))
       ≡ counted (seen_tally g.T.Tree.view l.fn.tally)
-      (visits_of (g.T.Tree.settled (g.T.Tree.world l.initial.tree)) (g.T.Tree.menu (g.T.Tree.world l.initial.tree)) l.more l.path
+      (visits_of (g.T.Tree.settled (g.T.Tree.world l.initial.tree))
+      (g.T.Tree.menu (g.T.Tree.world l.initial.tree)) l.more l.path
       (map (seen_choice g.T.Tree.view) l.choices));
-  valid : IfFound (g.T.Tree.valid (g.T.Tree.world l.initial.tree)) l.fn.tally.ended → IfFound (g.T.Tree.valid (g.T.Tree.world l.initial.tree)) l.tally.ended;
+  valid : IfFound (g.T.Tree.valid (g.T.Tree.world l.initial.tree)) l.fn.tally.ended →
+      IfFound (g.T.Tree.valid (g.T.Tree.world l.initial.tree)) l.tally.ended;
 }

@@ -10,4 +10,5 @@ abbrev pub decreases-read_inner : goal.decreases-read_inner
 decreases-read_inner l = 2 * l.most + 1
 
 abbrev pub invariant-read_inner-loop-turn : goal.invariant-read_inner-loop-turn
-invariant-read_inner-loop-turn l = SoFar (certificates_within l.most) l._turn l.bytes l.from l.inner l.at
+invariant-read_inner-loop-turn l =
+    SoFar (certificates_within l.most) l._turn l.bytes l.from l.inner l.at

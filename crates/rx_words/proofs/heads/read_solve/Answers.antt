@@ -6,4 +6,6 @@ pub read_pair-requires : goal.read_pair-requires
 read_pair-requires c = record { once = numbers_once }
 
 pub returns : goal.returns
-returns c = rw c.solution.ensures (reads_solution c.args.bytes.now c.args.at c.in_ok-found.found c.in_ok-found.ensures)
+returns c =
+    rw c.solution.ensures (reads_solution c.args.bytes.now c.args.at c.in_ok-found.found
+    c.in_ok-found.ensures)

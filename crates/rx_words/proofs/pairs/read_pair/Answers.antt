@@ -6,11 +6,13 @@ pub returns-in_default-skip_word : goal.returns-in_default-skip_word
 returns-in_default-skip_word g c =
     let a = g.A.Text in let b = g.B.Text in
     let first = rw c.in-Some.is at c.in_ok-first.ensures in
-    no_middle a.text a.in_range b.text b.in_range c.requires.once first c.in_default-skip_word.ensures
+    no_middle a.text a.in_range b.text b.in_range c.requires.once first
+    c.in_default-skip_word.ensures
 
 pub returns-in_default-2 : goal.returns-in_default-2
 returns-in_default-2 g c =
     let a = g.A.Text in let b = g.B.Text in
     let first = rw c.in-Some.is at c.in_ok-first.ensures in
     let none = rw c.in_default-2.is at c.in_ok-second.ensures in
-    no_second a.text a.in_range b.text b.in_range c.requires.once first c.in-Some-skip_word.ensures none
+    no_second a.text a.in_range b.text b.in_range c.requires.once first c.in-Some-skip_word.ensures
+    none

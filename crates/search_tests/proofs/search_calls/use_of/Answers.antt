@@ -4,4 +4,5 @@ use Rattle.rx_solve.proofs.Calls.{solver_by}
 use Rattle.search_tests.proofs.search_calls.use_of.Goals as goal
 
 pub find_use-requires : goal.find_use-requires
-find_use-requires c = record { solver = solver_by _ (λ f a. search rules) (λ f a r f' k. search rules) _ }
+find_use-requires c =
+    record { solver = solver_by _ (λ f a. search rules) (λ f a r f' k. search rules) _ }

@@ -15,8 +15,10 @@ returns-in-Do-clause-steps c =
     let left = c.args.left in
     let back : Back = back_to (counted program) ops c.args.self.now.callers.items in
     let found = c.requires.found ∙ ap (λ (o : Op). Some o) c.in-Do.is in
-    let same = ap (λ (r : Rest). r c.args.self.now.store left) (op-found (counted program) back ops c.args.at (op.Do c.in-Do.work c.in-Do.sink) found) in
-    steps-same program ops _ _ c.make.result c.make.new.self.callers.items c.make.new.self.store left same (c.make.ensures.steps program ops left)
+    let same = ap (λ (r : Rest). r c.args.self.now.store left)
+    (op-found (counted program) back ops c.args.at (op.Do c.in-Do.work c.in-Do.sink) found) in
+    steps-same program ops _ _ c.make.result c.make.new.self.callers.items c.make.new.self.store
+    left same (c.make.ensures.steps program ops left)
 
 pub returns-in-Call-clause-steps : goal.returns-in-Call-clause-steps
 returns-in-Call-clause-steps c =
@@ -25,17 +27,23 @@ returns-in-Call-clause-steps c =
     let left = c.args.left in
     let back : Back = back_to (counted program) ops c.args.self.now.callers.items in
     let found = c.requires.found ∙ ap (λ (o : Op). Some o) c.in-Call.is in
-    let same = ap (λ (r : Rest). r c.args.self.now.store left) (op-found (counted program) back ops c.args.at (op.Call c.in-Call.f c.in-Call.count c.in-Call.next) found) in
-    steps-same program ops _ _ c.invoke.result c.invoke.new.self.callers.items c.invoke.new.self.store left same c.invoke.ensures.steps
+    let same = ap (λ (r : Rest). r c.args.self.now.store left)
+    (op-found (counted program) back ops c.args.at
+    (op.Call c.in-Call.f c.in-Call.count c.in-Call.next) found) in
+    steps-same program ops _ _ c.invoke.result c.invoke.new.self.callers.items
+    c.invoke.new.self.store left same c.invoke.ensures.steps
 
 pub returns-in-Turn-clause-steps : goal.returns-in-Turn-clause-steps
 returns-in-Turn-clause-steps c =
     let program = c.args.code.now.program.now in
     let ops = c.args.code.now.ops.items in
     let found = c.requires.found ∙ ap (λ (o : Op). Some o) c.in-Turn.is in
-    let right = c.requires.code.turns c.args.at c.in-Turn.field-0 c.in-Turn.field-1 c.in-Turn.begin (omega arith) found in
-    turn-steps program ops c.args.self.now.callers.items c.args.at c.in-Turn.field-0 c.in-Turn.field-1 c.in-Turn.begin right found
-    c.begin_turn.result c.args.self.now.store c.args.left c.begin_turn.ensures.begun c.begin_turn.ensures.next c.begin_turn.ensures.none c.begin_turn.ensures.more
+    let right = c.requires.code.turns c.args.at c.in-Turn.field-0 c.in-Turn.field-1 c.in-Turn.begin
+    (omega arith) found in
+    turn-steps program ops c.args.self.now.callers.items c.args.at c.in-Turn.field-0
+    c.in-Turn.field-1 c.in-Turn.begin right found
+    c.begin_turn.result c.args.self.now.store c.args.left c.begin_turn.ensures.begun
+    c.begin_turn.ensures.next c.begin_turn.ensures.none c.begin_turn.ensures.more
 
 pub returns-in_ok-enter-in-Enter-clause-steps : goal.returns-in_ok-enter-in-Enter-clause-steps
 returns-in_ok-enter-in-Enter-clause-steps c =
@@ -46,9 +54,12 @@ returns-in_ok-enter-in-Enter-clause-steps c =
     let back : Back = back_to (counted program) ops callers in
     let next = c.in-Enter.next in
     let found = c.requires.found ∙ ap (λ (o : Op). Some o) c.in-Enter.is in
-    let same = ap (λ (r : Rest). r c.args.self.now.store left) (op-found (counted program) back ops c.args.at (op.Enter next) found) in
-    let moved = ap (λ (k : Kept). at (rests (counted program) back (take c.args.at ops)) next k left) (sym c.in_ok-enter-in-Enter.ensures) in
-    steps-same program ops _ _ c.go_on.result callers c.enter.new.self left (same ∙ moved) (c.go_on.ensures.steps program ops callers c.enter.new.self left)
+    let same = ap (λ (r : Rest). r c.args.self.now.store left)
+    (op-found (counted program) back ops c.args.at (op.Enter next) found) in
+    let moved = ap (λ (k : Kept). at (rests (counted program) back (take c.args.at ops)) next k
+    left) (sym c.in_ok-enter-in-Enter.ensures) in
+    steps-same program ops _ _ c.go_on.result callers c.enter.new.self left (same ∙ moved)
+    (c.go_on.ensures.steps program ops callers c.enter.new.self left)
 
 pub returns-in-Leave-clause-steps : goal.returns-in-Leave-clause-steps
 returns-in-Leave-clause-steps c =
@@ -59,6 +70,9 @@ returns-in-Leave-clause-steps c =
     let back : Back = back_to (counted program) ops callers in
     let next = c.in-Leave.next in
     let found = c.requires.found ∙ ap (λ (o : Op). Some o) c.in-Leave.is in
-    let same = ap (λ (r : Rest). r c.args.self.now.store left) (op-found (counted program) back ops c.args.at (op.Leave next) found) in
-    let moved = ap (λ (k : Kept). at (rests (counted program) back (take c.args.at ops)) next k left) (sym c.leave.ensures) in
-    steps-same program ops _ _ c.go_on-in-Leave.result callers c.leave.new.self left (same ∙ moved) (c.go_on-in-Leave.ensures.steps program ops callers c.leave.new.self left)
+    let same = ap (λ (r : Rest). r c.args.self.now.store left)
+    (op-found (counted program) back ops c.args.at (op.Leave next) found) in
+    let moved = ap (λ (k : Kept). at (rests (counted program) back (take c.args.at ops)) next k
+    left) (sym c.leave.ensures) in
+    steps-same program ops _ _ c.go_on-in-Leave.result callers c.leave.new.self left (same ∙ moved)
+    (c.go_on-in-Leave.ensures.steps program ops callers c.leave.new.self left)

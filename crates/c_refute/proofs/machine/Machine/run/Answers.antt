@@ -11,10 +11,13 @@ returns-in_default c =
     let ops = c.args.code.now.ops.items in
     let w = c.steps in
     ap outcome_of (w.invariant ∙ ap (λ (r : Rest). r w.self.store w.left)
-    (lost-past (counted program) (back_to (counted program) ops w.self.callers.items) ops w.at (sym c.op_at.ensures ∙ c.in_default.is)))
+    (lost-past (counted program) (back_to (counted program) ops w.self.callers.items) ops w.at
+    (sym c.op_at.ensures ∙ c.in_default.is)))
 
 pub steps-smaller-in-Round : goal.steps-smaller-in-Round
 steps-smaller-in-Round c =
     let both = rw c.in-Round.is at c.in_ok-next.ensures.falls in
-    falls-round c.steps.left (length c.steps.self.callers.items) (length c.advance.new.self.callers.items) (length c.args.code.now.ops.items) c.steps.at c.in-Round.next
+    falls-round c.steps.left (length c.steps.self.callers.items)
+    (length c.advance.new.self.callers.items) (length c.args.code.now.ops.items) c.steps.at
+    c.in-Round.next
     both.0 both.1

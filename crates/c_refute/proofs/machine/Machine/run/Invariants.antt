@@ -6,7 +6,8 @@ use Rattle.c_refute.proofs.machine.Machine.run.Given as goal
 
 abbrev pub invariant-steps : goal.invariant-steps
 invariant-steps l =
-    machine_run l.code.program.now l.code.ops.items l.initial.self.callers.items l.initial.at l.initial.self.store l.initial.left
+    machine_run l.code.program.now l.code.ops.items l.initial.self.callers.items l.initial.at
+    l.initial.self.store l.initial.left
     ≡ machine_run l.code.program.now l.code.ops.items l.self.callers.items l.at l.self.store l.left
 
 abbrev pub decreases-steps : goal.decreases-steps

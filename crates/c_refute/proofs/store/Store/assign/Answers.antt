@@ -5,5 +5,6 @@ use Rattle.c_refute.proofs.store.Store.assign.Goals as goal
 pub returns-then-at-count : goal.returns-then-at-count
 returns-then-at-count c =
     let all = simp (to_z-of_z, c.ranges.value) at c.put.ensures in
-    kept-set c.self.inside.base c.self.inside.slots.items c.self.inside.values.items c.self.inside.scopes.items c.args.self.now
+    kept-set c.self.inside.base c.self.inside.slots.items c.self.inside.values.items
+    c.self.inside.scopes.items c.args.self.now
     c.self.view_is c.args.at c.args.value _ all

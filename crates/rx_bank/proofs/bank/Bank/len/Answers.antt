@@ -5,4 +5,5 @@ use Rattle.rx_bank.proofs.Numbering.{distinct_places}
 use Rattle.rx_bank.proofs.bank.Bank.len.Goals as goal
 
 pub returns-clause-distinct : goal.returns-clause-distinct
-returns-clause-distinct c = subst AreDistinct c.self.view_is (distinct_places c.self.inside.polys.keys c.len.ensures.unique)
+returns-clause-distinct c =
+    subst AreDistinct c.self.view_is (distinct_places c.self.inside.polys.keys c.len.ensures.unique)

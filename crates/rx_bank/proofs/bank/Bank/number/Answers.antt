@@ -15,7 +15,8 @@ returns-in-Some-clause-number c =
 pub returns-in-Some-clause-new : goal.returns-in-Some-clause-new
 returns-in-Some-clause-new c = λ none. absurd (none
     (subst (λ (ps : List Body). Contains ps c.args.poly.now) c.self.view_is
-    (found_among c.args.poly.now c.self.inside.polys.keys c.in-Some.at (sym c.in-Some.ensures.index))))
+    (found_among c.args.poly.now c.self.inside.polys.keys c.in-Some.at
+    (sym c.in-Some.ensures.index))))
 
 pub returns-clause-number : goal.returns-clause-number
 returns-clause-number c =
@@ -26,6 +27,7 @@ returns-clause-number c =
 pub returns-clause-stay : goal.returns-clause-stay
 returns-clause-stay c =
     let inside = c.self.inside.polys.keys in
-    let kept = keeps_inserted (list_any (body_eq c.in_ok-copy.copy) inside) inside c.in_ok-copy.copy in
+    let kept = keeps_inserted (list_any (body_eq c.in_ok-copy.copy) inside) inside c.in_ok-copy.copy
+    in
     subst (λ (ps : List Body). KeepsNumbers ps c.insert_full.new.self.keys) c.self.view_is
     (subst (KeepsNumbers inside) (sym c.in_ok-at.ensures.keys) kept)

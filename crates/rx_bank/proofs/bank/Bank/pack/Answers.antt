@@ -8,5 +8,8 @@ use Rattle.rx_bank.proofs.bank.Bank.pack.Goals as goal
 pub returns-clause-packed : goal.returns-clause-packed
 returns-clause-packed c =
     let b = c.pack_rules.new.bank in
-    let hypotheses = subst (λ (rs : List Rule). StandsAs equations_within rules_at b c.in_ok-hypotheses.hypotheses rs) c.hypotheses.ensures c.in_ok-hypotheses.ensures.rules in
-    state_packed c.pack_goals.new.bank b c.pack_rules.ensures.stay _ c.args.state.now c.in_ok-goals.ensures.goals hypotheses
+    let hypotheses = subst (λ (rs : List Rule).
+    StandsAs equations_within rules_at b c.in_ok-hypotheses.hypotheses rs) c.hypotheses.ensures
+    c.in_ok-hypotheses.ensures.rules in
+    state_packed c.pack_goals.new.bank b c.pack_rules.ensures.stay _ c.args.state.now
+    c.in_ok-goals.ensures.goals hypotheses

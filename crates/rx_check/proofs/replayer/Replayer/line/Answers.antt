@@ -4,5 +4,6 @@ use Rattle.rx_check.proofs.replayer.Replayer.line.Goals as goal
 
 pub returns-clause-stands : goal.returns-clause-stands
 returns-clause-stands c = λ goal its symbol behind stands e.
-    line_stands c.args.rules.now goal its c.args.line symbol behind c.args.self.now _ stands e (c.in_ok-behind.ensures symbol behind e)
+    line_stands c.args.rules.now goal its c.args.line symbol behind c.args.self.now _ stands e
+    (c.in_ok-behind.ensures symbol behind e)
     (c.in_ok-judge.ensures.stands goal (log_of its) symbol behind stands.holds e)

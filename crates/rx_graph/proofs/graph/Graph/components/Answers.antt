@@ -12,7 +12,8 @@ loop-vertex-init c =
     record {
       count = omega (arith, count, size, held);
       labels = λ edges graph.
-          begin_labels (length c.args.self.now.rows.items) edges c.in_ok-labels.labels.items (λ a less. c.in_ok-labels.ensures.own a (omega (arith, less, size, held)));
+          begin_labels (length c.args.self.now.rows.items) edges c.in_ok-labels.labels.items
+          (λ a less. c.in_ok-labels.ensures.own a (omega (arith, less, size, held)));
     }
 
 pub loop-vertex-preserved : goal.loop-vertex-preserved
@@ -25,8 +26,11 @@ loop-vertex-preserved c =
     record {
       count = c.label_component.ensures.count ∙ c.loop-vertex.invariant.count;
       labels = λ edges graph.
-          label_more n edges c.loop-vertex.vertex c.loop-vertex.labels.items c.label_component.new.labels.items (omega (arith, there, size, held))
-          (c.loop-vertex.invariant.labels edges graph) (c.in_ok-label_component.ensures.named edges graph (c.in_ok-back.ensures.edges edges graph));
+          label_more n edges c.loop-vertex.vertex c.loop-vertex.labels.items
+          c.label_component.new.labels.items (omega (arith, there, size, held))
+          (c.loop-vertex.invariant.labels edges graph)
+          (c.in_ok-label_component.ensures.named edges graph
+          (c.in_ok-back.ensures.edges edges graph));
     }
 
 pub returns : goal.returns
@@ -38,6 +42,7 @@ returns c =
     record {
       count = c.loop-vertex.invariant.count;
       least = λ edges graph.
-          all_labels (length rows.items) edges (rows_of rows.items) graph c.requires.closed c.loop-vertex.vertex c.loop-vertex.labels.items (omega (arith, end, size, held))
+          all_labels (length rows.items) edges (rows_of rows.items) graph c.requires.closed
+          c.loop-vertex.vertex c.loop-vertex.labels.items (omega (arith, end, size, held))
           (c.loop-vertex.invariant.labels edges graph);
     }

@@ -7,7 +7,11 @@ use Rattle.rx_graph.proofs.Elements.{same_at, written_back}
 use Rattle.rx_graph.proofs.graph.Graph.label_component.Goals as goal
 
 pub returns-clause-count : goal.returns-clause-count
-returns-clause-count c = ap length (written_back c.args.labels.now.items c.label_both.new.labels c.args.labels.now.len (sym c.args.labels.now.ok.0) (c.label_both.ensures.count ∙ ap length c.as_mut_slice.ensures.value)) ∙ c.label_both.ensures.count ∙ ap length c.as_mut_slice.ensures.value
+returns-clause-count c =
+    ap length (written_back c.args.labels.now.items c.label_both.new.labels c.args.labels.now.len
+    (sym c.args.labels.now.ok.0) (c.label_both.ensures.count ∙
+    ap length c.as_mut_slice.ensures.value)) ∙ c.label_both.ensures.count ∙
+    ap length c.as_mut_slice.ensures.value
 
 pub returns-clause-named : goal.returns-clause-named
 returns-clause-named c = λ edges graph back_graph.
@@ -18,10 +22,18 @@ returns-clause-named c = λ edges graph back_graph.
     let there = c.requires.vertex in
     let count = c.requires.labels in
     let own : get_or labels vertex 0 ≡ vertex =
-    same_at labels vertex 0 c.index.result.now (omega (arith, there, count)) ∙ sym c.index.ensures ∙ c.if-index-vertex.false in
-    let forwards = subst (MarksReached edges vertex) (sym c.as_slice.ensures.value) (c.in_ok-forwards.ensures.exact edges graph) in
-    let at_back = subst (λ n. IsGraphOf n (reversed_edges edges) (rows_of c.args.back.now.rows.items)) (sym c.requires.count) back_graph in
-    let backwards = subst (MarksReached (reversed_edges edges) vertex) (sym c.as_slice-2.ensures.value) (c.in_ok-backwards.ensures.exact (reversed_edges edges) at_back) in
-    let made = subst (λ ls. Labelled c.as_slice.result.now c.as_slice-2.result.now vertex ls after) slice c.label_both.ensures in
-    subst (Named edges vertex labels) (sym (written_back labels after c.args.labels.now.len (sym c.args.labels.now.ok.0) made.count))
-    (label_marked edges vertex c.as_slice.result.now c.as_slice-2.result.now labels after own forwards backwards made)
+    same_at labels vertex 0 c.index.result.now (omega (arith, there, count)) ∙ sym c.index.ensures ∙
+    c.if-index-vertex.false in
+    let forwards = subst (MarksReached edges vertex) (sym c.as_slice.ensures.value)
+    (c.in_ok-forwards.ensures.exact edges graph) in
+    let at_back = subst (λ n. IsGraphOf n (reversed_edges edges)
+    (rows_of c.args.back.now.rows.items)) (sym c.requires.count) back_graph in
+    let backwards = subst (MarksReached (reversed_edges edges) vertex)
+    (sym c.as_slice-2.ensures.value) (c.in_ok-backwards.ensures.exact (reversed_edges edges)
+    at_back) in
+    let made = subst (λ ls. Labelled c.as_slice.result.now c.as_slice-2.result.now vertex ls after)
+    slice c.label_both.ensures in
+    subst (Named edges vertex labels) (sym (written_back labels after c.args.labels.now.len
+    (sym c.args.labels.now.ok.0) made.count))
+    (label_marked edges vertex c.as_slice.result.now c.as_slice-2.result.now labels after own
+    forwards backwards made)

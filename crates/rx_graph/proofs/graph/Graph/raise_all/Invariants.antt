@@ -5,4 +5,5 @@ use Rattle.rx_graph.specs.Ranked.{HeightsTo}
 use Rattle.rx_graph.proofs.graph.Graph.raise_all.Given as goal
 
 abbrev pub invariant-loop-done : goal.invariant-loop-done
-invariant-loop-done l = HeightsTo (rows_of l.self.rows.items) l.labels l.counts (l.done + 1) 0 l.heights
+invariant-loop-done l =
+    HeightsTo (rows_of l.self.rows.items) l.labels l.counts (l.done + 1) 0 l.heights

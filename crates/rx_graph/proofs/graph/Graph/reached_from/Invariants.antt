@@ -9,7 +9,8 @@ abbrev pub invariant-loop-next : goal.invariant-loop-next
 invariant-loop-next l = record {
   count : length l.marks.items ≡ length l.self.rows.items;
   within : (b : ℕ) → Contains l.reached.items b → b < length l.self.rows.items;
-  walked : (edges : List (ℕ × ℕ)) → IsGraphOf (length l.self.rows.items) edges (rows_of l.self.rows.items) → Walked edges l.start l.marks.items l.reached.items l.next;
+  walked : (edges : List (ℕ × ℕ)) → IsGraphOf (length l.self.rows.items) edges
+      (rows_of l.self.rows.items) → Walked edges l.start l.marks.items l.reached.items l.next;
 }
 
 abbrev pub decreases-loop-next : goal.decreases-loop-next

@@ -14,9 +14,12 @@ add_from_all-requires c =
     let size = c.len-vertex-end.ensures in
     let held = rows.ok.0 in
     let at : c.loop-vertex.vertex < length rows.items = omega (arith, there, size, held) in
-    let read = row_read rows.items c.loop-vertex.vertex c.index.result.now c.as_slice.result.now at c.index.ensures c.as_slice.ensures.value in
+    let read = row_read rows.items c.loop-vertex.vertex c.index.result.now c.as_slice.result.now at
+    c.index.ensures c.as_slice.ensures.value in
     record {
-      sources = λ a among. let h = row_within rows.items c.loop-vertex.vertex c.as_slice.result.now c.requires.closed read a among in omega (arith, h, count);
+      sources =
+          λ a among. let h = row_within rows.items c.loop-vertex.vertex c.as_slice.result.now
+          c.requires.closed read a among in omega (arith, h, count);
       to = omega (arith, there, size, held, count);
     }
 
@@ -30,7 +33,9 @@ loop-vertex-init c =
     let held = rows.ok.0 in
     record {
       count = omega (arith, count, mapped, size, held);
-      turned = begin_turned c.len.result (rows_of rows.items) (rows_of c.in_ok-back.back.rows.items) made;
+      turned =
+          begin_turned c.len.result (rows_of rows.items) (rows_of c.in_ok-back.back.rows.items)
+          made;
     }
 
 pub loop-vertex-preserved : goal.loop-vertex-preserved
@@ -39,11 +44,16 @@ loop-vertex-preserved c =
     let there = c.loop-vertex-test.true in
     let size = c.len-vertex-end.ensures in
     let held = rows.ok.0 in
-    let read = row_read rows.items c.loop-vertex.vertex c.index.result.now c.as_slice.result.now (omega (arith, there, size, held)) c.index.ensures c.as_slice.ensures.value in
+    let read = row_read rows.items c.loop-vertex.vertex c.index.result.now c.as_slice.result.now
+    (omega (arith, there, size, held)) c.index.ensures c.as_slice.ensures.value in
     let all = c.in_ok-add_from_all.ensures in
     record {
-      count = same_count c.loop-vertex.back.rows.items c.add_from_all.new.self.rows.items all.count ∙ c.loop-vertex.invariant.count;
-      turned = turn_more (rows_of rows.items) (rows_of c.loop-vertex.back.rows.items) (rows_of c.add_from_all.new.self.rows.items) c.loop-vertex.vertex
+      count =
+          same_count c.loop-vertex.back.rows.items c.add_from_all.new.self.rows.items all.count ∙
+          c.loop-vertex.invariant.count;
+      turned =
+          turn_more (rows_of rows.items) (rows_of c.loop-vertex.back.rows.items)
+          (rows_of c.add_from_all.new.self.rows.items) c.loop-vertex.vertex
           c.as_slice.result.now read c.loop-vertex.invariant.turned all;
     }
 
@@ -60,7 +70,10 @@ returns c =
     record {
       count = count;
       edges = λ edges graph.
-          turned_graph (length rows.items) edges (rows_of rows.items) (rows_of back.items) c.loop-vertex.vertex (omega (arith, end, size, held)) (mapped ∙ count)
+          turned_graph (length rows.items) edges (rows_of rows.items) (rows_of back.items)
+          c.loop-vertex.vertex (omega (arith, end, size, held)) (mapped ∙ count)
           c.loop-vertex.invariant.turned graph;
-      closed = turned_closed (rows_of rows.items) (rows_of back.items) c.loop-vertex.vertex (omega (arith, upto, size, held, count, mapped)) c.loop-vertex.invariant.turned;
+      closed =
+          turned_closed (rows_of rows.items) (rows_of back.items) c.loop-vertex.vertex
+          (omega (arith, upto, size, held, count, mapped)) c.loop-vertex.invariant.turned;
     }

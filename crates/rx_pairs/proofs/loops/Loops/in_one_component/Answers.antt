@@ -5,4 +5,5 @@ use Rattle.rx_pairs.proofs.loops.Loops.in_one_component.Goals as goal
 
 pub returns : goal.returns
 returns c = λ parts are.
-    (λ i. nat_eq (c.component_of.ensures i) (c.component_of-2.ensures i)) ∙ names_tell parts c.args.self.now are c.args.first c.args.second
+    (λ i. nat_eq (c.component_of.ensures i) (c.component_of-2.ensures i)) ∙
+    names_tell parts c.args.self.now are c.args.first c.args.second

@@ -12,9 +12,13 @@ use Rattle.rx_poly.proofs.PolyLaws.{combined_plus, value-added}
 use Rattle.rx_poly.proofs.poly.Poly.add.Goals as goal
 
 pub returns-clause-forms : goal.returns-clause-forms
-returns-clause-forms c = subst (λ (b : Body). Forms Large c.combine.result (kept is_within b)) (combined_plus c.args.self.now c.args.other.now) c.combine.ensures.forms
+returns-clause-forms c =
+    subst (λ (b : Body). Forms Large c.combine.result (kept is_within b))
+    (combined_plus c.args.self.now c.args.other.now) c.combine.ensures.forms
 
 pub returns-clause-value : goal.returns-clause-value
 returns-clause-value c =
-    value_formed Large (kept is_within (combined Plus c.args.self.now c.args.other.now)) c.combine.result _
-    (λ a. ap (value a) (combined_plus c.args.self.now c.args.other.now) ∙ value-added a c.args.self.now c.args.other.now) c.combine.ensures.forms
+    value_formed Large (kept is_within (combined Plus c.args.self.now c.args.other.now))
+    c.combine.result _
+    (λ a. ap (value a) (combined_plus c.args.self.now c.args.other.now) ∙
+    value-added a c.args.self.now c.args.other.now) c.combine.ensures.forms

@@ -7,4 +7,5 @@ use Rattle.rx_poly.proofs.poly.Poly.at_args.Goals as goal
 
 pub returns-clause-value : goal.returns-clause-value
 returns-clause-value c =
-    value_formed Large (in_body (numbered c.args.args.now) c.args.self.now) c.poly_with.result _ (λ a. value-in_body a (numbered c.args.args.now) c.args.self.now) c.poly_with.ensures.forms
+    value_formed Large (in_body (numbered c.args.args.now) c.args.self.now) c.poly_with.result _
+    (λ a. value-in_body a (numbered c.args.args.now) c.args.self.now) c.poly_with.ensures.forms

@@ -5,9 +5,11 @@ use Rattle.rx_poly.proofs.ReadingLaws.{begin, later}
 use Rattle.rx_poly.proofs.poly.Poly.coeff.Goals as goal
 
 pub loop-term-init : goal.loop-term-init
-loop-term-init c = begin c.args.at.now c.self.inside.body c.as_slice-term-items.ensures c.self.invariant
+loop-term-init c =
+    begin c.args.at.now c.self.inside.body c.as_slice-term-items.ensures c.self.invariant
 
 pub returns-in-Less : goal.returns-in-Less
 returns-in-Less c = rw (← c.self.view_is)
-    (later c.args.at.now c.as_slice-term-items.result.now c.loop-term.term-index c.loop-term-test.true c.term-item.is c.loop-term.invariant (sym c.in-Less.ensures)
+    (later c.args.at.now c.as_slice-term-items.result.now c.loop-term.term-index
+    c.loop-term-test.true c.term-item.is c.loop-term.invariant (sym c.in-Less.ensures)
     ∙ ap (coefficient c.args.at.now) c.as_slice-term-items.ensures)

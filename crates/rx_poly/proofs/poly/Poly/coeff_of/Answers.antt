@@ -12,9 +12,15 @@ use Rattle.rx_poly.proofs.poly.Poly.coeff_of.Goals as goal
 pub returns-then-is_variable : goal.returns-then-is_variable
 returns-then-is_variable c =
     let f : FitsSigned w128 c.term-item.result.1 = search rules in
-    to_z-of_z w128 c.term-item.result.1 f ∙ here (of_atoms (Var c.args.var ∷ [])) c.as_slice-term-items.result.now c.loop-term.term-index c.loop-term-test.true c.term-item.is c.loop-term.invariant (c.is_variable.ensures.0 c.if-is_variable.true)
-    ∙ ap (coefficient (of_atoms (Var c.args.var ∷ []))) c.as_slice-term-items.ensures ∙ ap (λ (b : Body). coefficient (of_atoms (Var c.args.var ∷ [])) (out-Body b).terms) c.body.ensures.body
+    to_z-of_z w128 c.term-item.result.1 f ∙ here (of_atoms (Var c.args.var ∷ []))
+    c.as_slice-term-items.result.now c.loop-term.term-index c.loop-term-test.true c.term-item.is
+    c.loop-term.invariant (c.is_variable.ensures.0 c.if-is_variable.true)
+    ∙ ap (coefficient (of_atoms (Var c.args.var ∷ []))) c.as_slice-term-items.ensures ∙
+    ap (λ (b : Body). coefficient (of_atoms (Var c.args.var ∷ [])) (out-Body b).terms)
+    c.body.ensures.body
 
 pub loop-term-preserved : goal.loop-term-preserved
 loop-term-preserved c =
-    not_here (of_atoms (Var c.args.var ∷ [])) c.as_slice-term-items.result.now c.loop-term.term-index c.loop-term-test.true c.term-item.is c.loop-term.invariant c.is_variable.ensures c.if-is_variable.false
+    not_here (of_atoms (Var c.args.var ∷ [])) c.as_slice-term-items.result.now
+    c.loop-term.term-index c.loop-term-test.true c.term-item.is c.loop-term.invariant
+    c.is_variable.ensures c.if-is_variable.false

@@ -10,28 +10,39 @@ use Rattle.rx_poly.proofs.poly.Poly.mul.Goals as goal
 
 pub loop-term-init : goal.loop-term-init
 loop-term-init c =
-    begin c.zero-sum.result c.self.inside.body c.as_slice-term-items.result.now (out-Body c.args.other.now).terms c.as_slice-term-items.ensures c.zero-sum.ensures c.self.invariant
+    begin c.zero-sum.result c.self.inside.body c.as_slice-term-items.result.now
+    (out-Body c.args.other.now).terms c.as_slice-term-items.ensures c.zero-sum.ensures
+    c.self.invariant
 
 pub returns-in_err-sum-clause-forms : goal.returns-in_err-sum-clause-forms
 returns-in_err-sum-clause-forms c =
-    let p = err_from_is_err_and c.from_residual-in_err-sum.result c.from_residual-in_err-sum.ensures.1 in
+    let p = err_from_is_err_and c.from_residual-in_err-sum.result
+    c.from_residual-in_err-sum.ensures.1 in
     rw (p.1, p.2, ← c.self.view_is) (λ h.
-    ap (λ ts. running_within [] ts (out-Body c.args.other.now).terms) (sym c.as_slice-term-items.ensures)
-    ∙ no_sum c.as_slice-term-items.result.now (out-Body c.args.other.now).terms c.loop-term.term-index c.loop-term-test.true c.term-item.is c.loop-term.invariant
+    ap (λ ts. running_within [] ts (out-Body c.args.other.now).terms)
+    (sym c.as_slice-term-items.ensures)
+    ∙ no_sum c.as_slice-term-items.result.now (out-Body c.args.other.now).terms
+    c.loop-term.term-index c.loop-term-test.true c.term-item.is c.loop-term.invariant
     c.in_ok-product.ensures.forms.0 (c.in_err-sum.ensures.forms h))
 
 pub loop-term-preserved : goal.loop-term-preserved
 loop-term-preserved c =
-    after_sum c.as_slice-term-items.result.now (out-Body c.args.other.now).terms c.loop-term.term-index c.loop-term-test.true c.term-item.is c.loop-term.invariant
-    c.in_ok-product.ensures.forms.0 c.in_ok-sum.ensures.forms.0 c.in_ok-product.ensures.forms.1 c.in_ok-sum.ensures.forms.1
+    after_sum c.as_slice-term-items.result.now (out-Body c.args.other.now).terms
+    c.loop-term.term-index c.loop-term-test.true c.term-item.is c.loop-term.invariant
+    c.in_ok-product.ensures.forms.0 c.in_ok-sum.ensures.forms.0 c.in_ok-product.ensures.forms.1
+    c.in_ok-sum.ensures.forms.1
 
 pub returns-clause-forms : goal.returns-clause-forms
 returns-clause-forms c = rw (← c.self.view_is) (
-  finished c.self.inside.body c.args.other.now c.loop-term.sum c.loop-term.term-index c.as_slice-term-items.ensures c.loop-term-test.false c.loop-term.invariant,
-  within_finished c.self.inside.body c.args.other.now c.loop-term.sum c.loop-term.term-index c.as_slice-term-items.ensures c.loop-term-test.false c.loop-term.invariant,
+  finished c.self.inside.body c.args.other.now c.loop-term.sum c.loop-term.term-index
+      c.as_slice-term-items.ensures c.loop-term-test.false c.loop-term.invariant,
+  within_finished c.self.inside.body c.args.other.now c.loop-term.sum c.loop-term.term-index
+      c.as_slice-term-items.ensures c.loop-term-test.false c.loop-term.invariant,
 )
 
 pub returns-clause-value : goal.returns-clause-value
 returns-clause-value c = rw (← c.self.view_is) (λ a.
-    ap (value a) (finished c.self.inside.body c.args.other.now c.loop-term.sum c.loop-term.term-index c.as_slice-term-items.ensures c.loop-term-test.false c.loop-term.invariant)
+    ap (value a) (finished c.self.inside.body c.args.other.now c.loop-term.sum
+    c.loop-term.term-index c.as_slice-term-items.ensures c.loop-term-test.false
+    c.loop-term.invariant)
     ∙ value-multiplied a c.self.inside.body c.args.other.now)

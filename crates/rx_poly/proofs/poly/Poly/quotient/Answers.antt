@@ -9,4 +9,5 @@ use Rattle.rx_poly.proofs.poly.Poly.quotient.Goals as goal
 
 pub returns-clause-value : goal.returns-clause-value
 returns-clause-value c =
-    value_formed Large (kept is_within (quotient_of c.args.self.now c.args.by.now)) c.divide.result _ (λ a. value-quotient_of a c.args.self.now c.args.by.now) c.divide.ensures.forms
+    value_formed Large (kept is_within (quotient_of c.args.self.now c.args.by.now)) c.divide.result
+    _ (λ a. value-quotient_of a c.args.self.now c.args.by.now) c.divide.ensures.forms

@@ -9,4 +9,6 @@ use Rattle.rx_poly.proofs.poly.Poly.remainder.Goals as goal
 
 pub returns-clause-value : goal.returns-clause-value
 returns-clause-value c =
-    value_formed Large (kept is_within (remainder_of c.args.self.now c.args.by.now)) c.remainder.result _ (λ a. value-remainder_of a c.args.self.now c.args.by.now) c.remainder.ensures.forms
+    value_formed Large (kept is_within (remainder_of c.args.self.now c.args.by.now))
+    c.remainder.result _ (λ a. value-remainder_of a c.args.self.now c.args.by.now)
+    c.remainder.ensures.forms

@@ -12,5 +12,8 @@ use Rattle.rx_poly.proofs.poly.Poly.scale.Goals as goal
 
 pub returns-clause-value : goal.returns-clause-value
 returns-clause-value c =
-    value_formed Large (kept is_within (scaled_by (to_z w128 (of_z w128 c.args.by)) c.args.self.now)) c.times_number.result _
-    (λ a. value-scaled_by a _ c.args.self.now ∙ ap (λ k. k *ℤ value a c.args.self.now) (to_z-of_z w128 c.args.by c.ranges.by)) c.times_number.ensures.forms
+    value_formed Large (kept is_within (scaled_by (to_z w128 (of_z w128 c.args.by))
+    c.args.self.now)) c.times_number.result _
+    (λ a. value-scaled_by a _ c.args.self.now ∙
+    ap (λ k. k *ℤ value a c.args.self.now) (to_z-of_z w128 c.args.by c.ranges.by))
+    c.times_number.ensures.forms

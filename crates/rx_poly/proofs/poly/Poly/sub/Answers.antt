@@ -8,4 +8,6 @@ use Rattle.rx_poly.proofs.poly.Poly.sub.Goals as goal
 
 pub returns-clause-value : goal.returns-clause-value
 returns-clause-value c =
-    value_formed Large (kept is_within (subtracted c.args.self.now c.args.other.now)) c.combine.result _ (λ a. value-subtracted a c.args.self.now c.args.other.now) c.combine.ensures.forms
+    value_formed Large (kept is_within (subtracted c.args.self.now c.args.other.now))
+    c.combine.result _ (λ a. value-subtracted a c.args.self.now c.args.other.now)
+    c.combine.ensures.forms

@@ -10,5 +10,7 @@ use Rattle.rx_row.proofs.constraint.Constraint.at_args.Goals as goal
 pub returns-clause-holds : goal.returns-clause-holds
 returns-clause-holds c = λ a.
     let ws = numbered c.args.args.now in
-    let e : c.from_vec.result ≡ in_rows ws c.args.self.now = c.from_vec.ensures ∙ c.in_ok-rows.ensures.0 ∙ ap (in_rows ws) (c.as_slice.ensures ∙ c.self.view_is) in
-    subst (λ (rs : List Row). AllHold a rs ↔ AllHold (worth a ws) c.args.self.now) (sym e) (in_rows-hold a ws c.args.self.now)
+    let e : c.from_vec.result ≡ in_rows ws c.args.self.now = c.from_vec.ensures ∙
+    c.in_ok-rows.ensures.0 ∙ ap (in_rows ws) (c.as_slice.ensures ∙ c.self.view_is) in
+    subst (λ (rs : List Row). AllHold a rs ↔ AllHold (worth a ws) c.args.self.now) (sym e)
+    (in_rows-hold a ws c.args.self.now)

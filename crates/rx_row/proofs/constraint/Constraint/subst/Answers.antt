@@ -10,5 +10,7 @@ use Rattle.rx_row.proofs.constraint.Constraint.subst.Goals as goal
 pub returns-clause-holds : goal.returns-clause-holds
 returns-clause-holds c = λ a.
     let e : c.from_vec.result ≡ in_rows c.args.with.now c.args.self.now =
-    c.from_vec.ensures ∙ c.in_ok-rows.ensures.forms.0 ∙ ap (in_rows c.args.with.now) (c.as_slice.ensures ∙ c.self.view_is) in
-    subst (λ (rs : List Row). AllHold a rs ↔ AllHold (worth a c.args.with.now) c.args.self.now) (sym e) (in_rows-hold a c.args.with.now c.args.self.now)
+    c.from_vec.ensures ∙ c.in_ok-rows.ensures.forms.0 ∙
+    ap (in_rows c.args.with.now) (c.as_slice.ensures ∙ c.self.view_is) in
+    subst (λ (rs : List Row). AllHold a rs ↔ AllHold (worth a c.args.with.now) c.args.self.now)
+    (sym e) (in_rows-hold a c.args.with.now c.args.self.now)

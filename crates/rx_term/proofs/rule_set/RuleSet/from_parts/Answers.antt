@@ -4,5 +4,7 @@ use Rattle.rx_term.proofs.MadeLaws.{well_made_by_test}
 use Rattle.rx_term.proofs.rule_set.RuleSet.from_parts.Goals as goal
 
 pub returns-then-is_well_made-clause-exact : goal.returns-then-is_well_made-clause-exact
-returns-then-is_well_made-clause-exact c =
-    (λ e. well_made_by_test c.args.parts (sym c.is_well_made.ensures ∙ c.if-is_well_made.true), λ made. refl)
+returns-then-is_well_made-clause-exact c = (
+  λ e. well_made_by_test c.args.parts (sym c.is_well_made.ensures ∙ c.if-is_well_made.true),
+  λ made. refl,
+)

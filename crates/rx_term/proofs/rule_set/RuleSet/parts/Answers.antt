@@ -5,4 +5,5 @@ use Rattle.rx_term.proofs.MadeLaws.{well_made_by_test}
 use Rattle.rx_term.proofs.rule_set.RuleSet.parts.Goals as goal
 
 pub returns-clause-made : goal.returns-clause-made
-returns-clause-made c = well_made_by_test c.args.self.now (ap is_well_made (sym c.self.view_is) ∙ c.self.invariant)
+returns-clause-made c =
+    well_made_by_test c.args.self.now (ap is_well_made (sym c.self.view_is) ∙ c.self.invariant)

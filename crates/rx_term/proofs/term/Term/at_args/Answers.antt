@@ -1,4 +1,5 @@
--- What the instance means is what the stack does where the variables have the values of their replacements.
+-- What the instance means is what the stack does where the variables have the values of their
+-- replacements.
 use Rattle.rx_plain.proofs.Forming.{value_formed}
 use Rattle.rx_poly.specs.Substitution.{numbered}
 use Rattle.rx_poly.specs.declared.poly_end.PolyEnd.TheVariants.{Large}
@@ -8,4 +9,5 @@ use Rattle.rx_term.proofs.term.Term.at_args.Goals as goal
 
 pub returns-clause-value : goal.returns-clause-value
 returns-clause-value c =
-    value_formed Large (term_with (numbered c.args.args.now) c.args.self.now) c.instance.result _ (λ a. ground_in_term a (numbered c.args.args.now) c.args.self.now) c.instance.ensures.forms
+    value_formed Large (term_with (numbered c.args.args.now) c.args.self.now) c.instance.result _
+    (λ a. ground_in_term a (numbered c.args.args.now) c.args.self.now) c.instance.ensures.forms

@@ -10,4 +10,5 @@ loop-here-preserved c =
     let ps = c.in-Frame.field-1 in
     let is : c.loop-here.here.now ≡ Frame f ps c.get-here.result.now = cc in
     let inside : is_result c.get-here.result.now ≡ false = cc in
-    found_further f ps c.loop-here.here.now c.get-here.result.now c.args.self.now is inside c.loop-here.invariant
+    found_further f ps c.loop-here.here.now c.get-here.result.now c.args.self.now is inside
+    c.loop-here.invariant

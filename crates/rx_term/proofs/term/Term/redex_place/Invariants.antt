@@ -4,4 +4,8 @@ use Rattle.rx_term.proofs.Walks.{further_in}
 use Rattle.rx_term.proofs.term.Term.redex_place.Given as goal
 
 abbrev pub invariant-loop-here : goal.invariant-loop-here
-invariant-loop-here l = record { counted : l.count + depth_of l.here ≡ depth_of l.self; place : further_in l.count (redex_place l.here) ≡ redex_place l.self }
+invariant-loop-here l =
+    record {
+      counted : l.count + depth_of l.here ≡ depth_of l.self;
+      place : further_in l.count (redex_place l.here) ≡ redex_place l.self;
+    }

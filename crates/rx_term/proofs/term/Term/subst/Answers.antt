@@ -1,4 +1,5 @@
--- What the instance means is what the stack does where the variables have the values of their replacements.
+-- What the instance means is what the stack does where the variables have the values of their
+-- replacements.
 use Rattle.rx_plain.proofs.Forming.{value_formed}
 use Rattle.rx_poly.specs.declared.poly_end.PolyEnd.TheVariants.{Large}
 use Rattle.rx_term.specs.Substitution.{term_with}
@@ -7,4 +8,5 @@ use Rattle.rx_term.proofs.term.Term.subst.Goals as goal
 
 pub returns-clause-value : goal.returns-clause-value
 returns-clause-value c =
-    value_formed Large (term_with c.args.with.now c.args.self.now) c.instance.result _ (λ a. ground_in_term a c.args.with.now c.args.self.now) c.instance.ensures.forms
+    value_formed Large (term_with c.args.with.now c.args.self.now) c.instance.result _
+    (λ a. ground_in_term a c.args.with.now c.args.self.now) c.instance.ensures.forms

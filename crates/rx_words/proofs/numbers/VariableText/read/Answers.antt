@@ -8,5 +8,6 @@ pub returns-in-None : goal.returns-in-None
 returns-in-None c =
     let bytes = c.args.bytes.now in
     let read : Reads variables bytes c.args.at c.ending_word.result =
-    rw c.ending_word.ensures (variable_reads bytes c.args.at c.read_natural.result c.read_natural.ensures) in
+    rw c.ending_word.ensures (variable_reads bytes c.args.at c.read_natural.result
+    c.read_natural.ensures) in
     subst (λ (r : Option (ℕ × ℕ)). Reads variables bytes c.args.at r) c.in-None.is read
