@@ -1,5 +1,14 @@
 -- What a finding of `true` says of the parts of an examination.
-use Rattle.std.proofs.Common.{◌≡◌, ◌∙◌, ap, sym, ℕ, Bool, true, false, Option, Some, refl, List, [], ◌∷◌}
+use Rattle.std.proofs.Common.{◌≡◌, ◌∙◌, ap, sym, ℕ, ℤ, Bool, true, false, ◌&&◌, Option, Some, refl, List, [], ◌∷◌, ◌++◌}
+use Rattle.std.specs.Prelude.{if◌then◌else◌}
+use Rattle.std.proofs.lemmas.Bool.{and_parts, and_from}
+use Rattle.rx_poly.specs.Limits.{added, is_within, subtracted}
+use Rattle.rx_poly.specs.Terms.{is_zero}
+use Rattle.rx_row.specs.Negation.{negation_within, opposite}
+use Rattle.rx_row.specs.declared.row.Row.TheVariants.{Ge}
+use Rattle.rx_cert.specs.DivisionFacts.{at_least_zero_within, below_zero_within, division_formed, division_within, facts_at_least_zero, facts_below_zero, greatest_remainder, nothing_left, remainder_by, rows_at_least_zero, rows_below_zero}
+use Rattle.rx_cert.specs.Examination.{level}
+use Rattle.rx_cert.specs.declared.cert.Cert.TheOpen.{Cert-F}
 use Rattle.rx_poly.specs.declared.body.Body.{Body}
 use Rattle.rx_row.specs.Substitution.{in_rows, rows_within}
 use Rattle.rx_row.specs.declared.row.Row.{Row}
@@ -35,3 +44,41 @@ solve_found x o p e ws rows changed rest zero value first is second made =
     ∙ ap (λ b. within b (rest (in_rows ((x, e) ∷ []) rows)))
     (ap (λ (vs : List (ℕ × Body)). rows_within vs rows) (sym is) ∙ second)
     ∙ ap rest (sym (made ∙ ap (λ (vs : List (ℕ × Body)). in_rows vs rows) is))
+
+-- where both parts of a division keep the limits and the first is refuted, the second decides
+pub division_found : (num : Body) (d : ℤ) (above below : List Row → Said) (rows : List Row)
+    {equation rest bound : Body} {more less again : List Row} (b : Bool) → is_zero d ≡ false →
+    (equation, rest, bound) ≡ (division_formed num d).form → (division_formed num d).within ≡ true →
+    more ≡ (facts_at_least_zero num equation rest bound).form →
+    (facts_at_least_zero num equation rest bound).within ≡ true → b ≡ true →
+    above (rows ++ more) ≡ said b → less ≡ (facts_below_zero num equation rest bound).form →
+    (facts_below_zero num equation rest bound).within ≡ true → again ≡ rows →
+    level (Cert-F.DivFacts num d above below) rows ≡ below (again ++ less)
+division_found num d above below rows {equation} {rest} {bound} {more} {less} {again} b z t w m mw
+    yes_b
+    found l lw same =
+    let first : more ≡ rows_at_least_zero num d =
+    m ∙ ap (λ (p : Body × Body × Body). (facts_at_least_zero num p.0 p.1 p.2).form) t in
+    let second : less ≡ rows_below_zero num d =
+    l ∙ ap (λ (p : Body × Body × Body). (facts_below_zero num p.0 p.1 p.2).form) t in
+    let room : (facts_at_least_zero num (nothing_left num d) (remainder_by num d)
+    (greatest_remainder d)).within ≡ true =
+    sym (ap (λ (p : Body × Body × Body). (facts_at_least_zero num p.0 p.1 p.2).within) t) ∙ mw in
+    let space : (facts_below_zero num (nothing_left num d) (remainder_by num d)
+    (greatest_remainder d)).within ≡ true =
+    sym (ap (λ (p : Body × Body × Body). (facts_below_zero num p.0 p.1 p.2).within) t) ∙ lw in
+    let parts = and_parts (negation_within (Ge num)) (is_within (opposite (remainder_by num d)) &&
+    is_within (added (greatest_remainder d) (remainder_by num d))) space in
+    let upper : at_least_zero_within num d ≡ true =
+    and_from (division_within num d)
+    (is_within (subtracted (greatest_remainder d) (remainder_by num d))) w room in
+    let lower : below_zero_within num d ≡ true =
+    and_from (negation_within (Ge num)) (division_within num d &&
+    (is_within (opposite (remainder_by num d)) &&
+    is_within (added (greatest_remainder d) (remainder_by num d)))) parts.0
+    (and_from (division_within num d) (is_within (opposite (remainder_by num d)) &&
+    is_within (added (greatest_remainder d) (remainder_by num d))) w parts.1) in
+    let yes : above (rows ++ more) ≡ Yes = found ∙ ap said yes_b in
+    (λ i. if z i then No else both (within (upper i) (above (rows ++ sym first i)))
+    (within (lower i) (below (rows ++ sym second i))))
+    ∙ (λ i. both (yes i) (below (sym same i ++ less)))

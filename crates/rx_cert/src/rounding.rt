@@ -98,7 +98,8 @@ fn round(alloc: Global, div: &i128, poly: &Poly) -> Result<Poly, AllocError>
     ensures { IfOk result (λ p. p ≡ rounded div.now poly.now) }
 {
     let terms = round_terms(alloc, div, poly.body().terms.as_slice())?;
-    match Poly::from_body(Body { terms }) {
+    let made = Poly::from_body(alloc, Body { terms })?;
+    match made {
         Some(quotient) => Ok(quotient),
         None => unreachable!(),
     }

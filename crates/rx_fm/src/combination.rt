@@ -129,7 +129,7 @@ fn divided_poly(alloc: Global, poly: &Poly, by: &i128) -> Result<Poly, AllocErro
     ensures { IfOk result (λ p. p ≡ divided (unsigned_abs by.now) poly.now) }
 {
     let terms = divided_terms(alloc, poly.body().terms.as_slice(), by)?;
-    let quotient = Poly::from_body(Body { terms });
+    let quotient = Poly::from_body(alloc, Body { terms })?;
     Ok(quotient.unwrap())
 }
 

@@ -6,8 +6,10 @@ mod boxed;
 mod graded;
 mod items;
 mod no_memory;
+mod shared;
 
 pub use boxed::Boxed;
 pub use graded::Graded;
 pub use items::Items;
 pub use no_memory::NoMemory;
+pub use shared::Shared;

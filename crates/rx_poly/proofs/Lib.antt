@@ -1,5 +1,6 @@
 -- Lemmas on the definitions of specs/.
 pub mod Adjacent
+pub mod Alone
 pub mod Constants
 pub mod Depths
 pub mod DivisionCases

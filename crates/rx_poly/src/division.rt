@@ -60,7 +60,7 @@ pub(crate) fn divide(alloc: Global, num: &Poly, den: &Poly) -> Result<Poly, Poly
     ensures forms { Forms PolyEnd.Large result (kept is_within (quotient_of num.now den.now)) }
 {
     match parts_of(num, den) {
-        Parts::ByZero => Ok(zero(alloc)),
+        Parts::ByZero => Ok(zero(alloc)?),
         Parts::Numbers(dividend, divisor) => {
             let Some(number) = number_quotient(&dividend, &divisor) else {
                 return Err(PolyEnd::Large);
@@ -80,7 +80,7 @@ pub(crate) fn remainder(alloc: Global, num: &Poly, den: &Poly) -> Result<Poly, P
     ensures forms { Forms PolyEnd.Large result (kept is_within (remainder_of num.now den.now)) }
 {
     match parts_of(num, den) {
-        Parts::ByZero => Ok(zero(alloc)),
+        Parts::ByZero => Ok(zero(alloc)?),
         Parts::Numbers(dividend, divisor) => {
             let number = number_remainder(&dividend, &divisor);
             Ok(of_number(alloc, &number)?)

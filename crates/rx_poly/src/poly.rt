@@ -23,16 +23,17 @@ use crate::poly_end::PolyEnd;
 use crate::product::scale;
 use crate::sign::Sign;
 use crate::size::is_within_limits;
-use rx_plain::{Graded, Items};
+use rx_plain::{Graded, Items, Shared};
 use std::alloc::{AllocError, Global};
 use std::cmp::Ordering;
 use std::marker::Model;
 
 /// One polynomial: at every level in normal form, with coefficients in i128, a size of at most
-/// 4,096, and quotients and remainders nested at most 64 deep.
+/// 4,096, and quotients and remainders nested at most 64 deep. Its tree is shared: another copy of
+/// a polynomial takes no memory.
 #[derive(Debug, Drop, PartialEq, Eq, PartialOrd, Ord, Hash)]
 pub struct Poly {
-    body: Body,
+    body: Shared<Body>,
 }
 
 impl Model for Poly {
@@ -55,11 +56,12 @@ impl Model for Poly {
 }
 
 /// The polynomial of a normal form; Large where its size or depth passes the limits.
-pub(crate) fn within_limits(body: Body) -> Result<Poly, PolyEnd>
+pub(crate) fn within_limits(alloc: Global, body: Body) -> Result<Poly, PolyEnd>
     requires { is_normal body ≡ true }
     ensures forms { Forms PolyEnd.Large result (kept is_small body) }
 {
     if is_within_limits(&body) {
+        let body = Shared::new(alloc, body)?;
         Ok(Poly { body })
     } else {
         Err(PolyEnd::Large)
@@ -72,29 +74,30 @@ impl Poly {
         ensures body { result.now ≡ self.now }
         ensures normal { is_poly self.now ≡ true }
     {
-        &self.body
+        self.body.get()
+    }
+
+    /// The polynomial, lent, with what is known of each.
+    pub(crate) fn as_normal(&self) -> &Poly
+        ensures same { result.now ≡ self.now }
+        ensures normal { is_poly self.now ≡ true }
+    {
+        let _ = &self.body;
+        self
     }
 
     /// The polynomial with that body; None exactly where the body is, at some level, no normal
-    /// form, or passes the limits. Takes no memory.
-    pub fn from_body(body: Body) -> Option<Poly>
-        ensures same { IfSome result (λ p. p ≡ body) }
-        ensures exact { IsSome result ↔ (is_poly body ≡ true) }
+    /// form, or passes the limits. Fails only for want of memory.
+    pub fn from_body(alloc: Global, body: Body) -> Result<Option<Poly>, AllocError>
+        ensures same { IfOk result (λ made. IfSome made (λ p. p ≡ body)) }
+        ensures exact { IfOk result (λ made. IsSome made ↔ (is_poly body ≡ true)) }
     {
         if is_within_limits(&body) && body_is_normal(&body) {
-            Some(Poly { body })
+            let body = Shared::new(alloc, body)?;
+            Ok(Some(Poly { body }))
         } else {
-            None
+            Ok(None)
         }
-    }
-
-    /// The polynomial as a plain tree, moved out. Takes no memory.
-    pub fn into_body(self) -> Body
-        ensures body { result ≡ self }
-        ensures normal { is_poly self ≡ true }
-    {
-        let Poly { body } = self;
-        body
     }
 
     /// The polynomial that is one number; fails only where there is no memory.
@@ -125,7 +128,7 @@ impl Poly {
         ensures number { result ≡ constant_of (out-Body self.now).terms }
         ensures value { IfSome result (λ k. (a : ℕ → ℤ) → value a self.now ≡ k) }
     {
-        let Some((term, more)) = self.body.terms.as_slice().split_first() else {
+        let Some((term, more)) = self.body().terms.as_slice().split_first() else {
             return Some(0);
         };
         if more.is_empty() && term.0.atoms.is_empty() {
@@ -139,7 +142,7 @@ impl Poly {
     pub fn coeff(&self, at: &Mono) -> i128
         ensures { result ≡ coefficient at.now (out-Body self.now).terms }
     {
-        for term in self.body.terms.as_slice() {
+        for term in self.body().terms.as_slice() {
             match at.cmp(&term.0) {
                 Ordering::Less => return 0,
                 Ordering::Equal => {
@@ -151,11 +154,12 @@ impl Poly {
         0
     }
 
-    /// The same polynomial once more; fails only for want of memory.
-    pub fn try_clone(&self, alloc: Global) -> Result<Poly, AllocError>
+    /// The same polynomial once more, which takes no memory; fails only where no more copies can be
+    /// counted.
+    pub fn try_clone(&self, _alloc: Global) -> Result<Poly, AllocError>
         ensures { IfOk result (λ p. p ≡ self.now) }
     {
-        let body = self.body.try_clone(alloc)?;
+        let body = self.body.try_clone()?;
         Ok(Poly { body })
     }
 
@@ -193,8 +197,9 @@ impl Poly {
         ensures value { IfOk result (λ p. (a : ℕ → ℤ) → value a p ≡
             value a self.now *ℤ value a other.now) }
     {
-        let mut sum = zero(alloc);
-        for term in self.body.terms.as_slice() {
+        let start = zero(alloc)?;
+        let mut sum = start;
+        for term in self.body().terms.as_slice() {
             let product = times_term(alloc, term, other)?;
             sum = plus(alloc, sum, product)?;
         }
@@ -224,13 +229,23 @@ impl Poly {
 }
 
 /// The polynomial 0.
-pub(crate) fn zero(alloc: Global) -> Poly
-    ensures { result ≡ of_terms [] }
+pub(crate) fn zero(alloc: Global) -> Result<Poly, AllocError>
+    ensures { IfOk result (λ p. p ≡ of_terms []) }
 {
-    Poly {
-        body: Body {
-            terms: Items::new(alloc),
-        },
+    let terms = Items::new(alloc);
+    let body = Shared::new(alloc, Body { terms })?;
+    Ok(Poly { body })
+}
+
+/// The polynomial as a plain tree, moved out where it is the only copy.
+fn own_body(alloc: Global, poly: Poly) -> Result<Body, AllocError>
+    ensures body { IfOk result (λ b. b ≡ poly) }
+    ensures normal { IfOk result (λ b. is_poly b ≡ true) }
+{
+    let Poly { body } = poly;
+    match body.try_unwrap() {
+        Ok(body) => Ok(body),
+        Err(body) => body.get().try_clone(alloc),
     }
 }
 
@@ -238,10 +253,10 @@ pub(crate) fn zero(alloc: Global) -> Poly
 pub(crate) fn plus(alloc: Global, left: Poly, right: Poly) -> Result<Poly, PolyEnd>
     ensures forms { Forms PolyEnd.Large result (kept is_within (added left right)) }
 {
-    let Body { terms: left } = left.into_body();
-    let Body { terms: right } = right.into_body();
-    let terms = moved_sum(alloc, left, right)?;
-    within_limits(Body { terms })
+    let first = own_body(alloc, left)?;
+    let second = own_body(alloc, right)?;
+    let terms = moved_sum(alloc, first.terms, second.terms)?;
+    within_limits(alloc, Body { terms })
 }
 
 /// One term times a polynomial; Large exactly where that product passes the limits.
@@ -251,8 +266,8 @@ fn times_term(alloc: Global, term: &(Mono, i128), factor: &Poly) -> Result<Poly,
     ensures forms { Forms PolyEnd.Large result
         (kept is_within (of_terms (scaled term.now (out-Body factor.now).terms))) }
 {
-    let terms = scale(alloc, term, factor.body.terms.as_slice())?;
-    within_limits(Body { terms })
+    let terms = scale(alloc, term, factor.body().terms.as_slice())?;
+    within_limits(alloc, Body { terms })
 }
 
 /// The polynomial that is one variable.
@@ -263,9 +278,8 @@ pub(crate) fn of_variable(alloc: Global, at: u32) -> Result<Poly, AllocError>
     atoms.push(Atom::Var(at))?;
     let mut terms = Items::new(alloc);
     terms.push((Mono { atoms }, 1))?;
-    Ok(Poly {
-        body: Body { terms },
-    })
+    let body = Shared::new(alloc, Body { terms })?;
+    Ok(Poly { body })
 }
 
 /// The polynomial that is one number.
@@ -273,16 +287,15 @@ pub(crate) fn of_number(alloc: Global, by: &i128) -> Result<Poly, AllocError>
     ensures { IfOk result (λ p. p ≡ number by.now) }
 {
     if *by == 0 {
-        return Ok(zero(alloc));
+        return zero(alloc);
     }
     let one = Mono {
         atoms: Graded::new(alloc),
     };
     let mut terms = Items::new(alloc);
     terms.push((one, *by))?;
-    Ok(Poly {
-        body: Body { terms },
-    })
+    let body = Shared::new(alloc, Body { terms })?;
+    Ok(Poly { body })
 }
 
 /// The first polynomial plus or minus the second; Large exactly where that passes the limits.
@@ -291,19 +304,19 @@ fn combine(alloc: Global, left: &Poly, right: &Poly, sign: Sign) -> Result<Poly,
 {
     let terms = merge(
         alloc,
-        left.body.terms.as_slice(),
-        right.body.terms.as_slice(),
+        left.body().terms.as_slice(),
+        right.body().terms.as_slice(),
         sign,
     )?;
-    within_limits(Body { terms })
+    within_limits(alloc, Body { terms })
 }
 
 /// The polynomial times a number; Large exactly where that passes the limits.
 fn times_number(alloc: Global, poly: &Poly, by: &i128) -> Result<Poly, PolyEnd>
     ensures forms { Forms PolyEnd.Large result (kept is_within (scaled_by by.now poly.now)) }
 {
-    let terms = multiple(alloc, poly.body.terms.as_slice(), by)?;
-    within_limits(Body { terms })
+    let terms = multiple(alloc, poly.body().terms.as_slice(), by)?;
+    within_limits(alloc, Body { terms })
 }
 
 /// The polynomial that is one atom; Large where that passes the limits.
@@ -315,5 +328,5 @@ pub(crate) fn of_atom(alloc: Global, atom: Atom) -> Result<Poly, PolyEnd>
     atoms.push(atom)?;
     let mut terms = Items::new(alloc);
     terms.push((Mono { atoms }, 1))?;
-    within_limits(Body { terms })
+    within_limits(alloc, Body { terms })
 }

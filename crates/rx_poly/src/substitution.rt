@@ -1,8 +1,8 @@
 //! Polynomials put in place of variables.
-ghost use Rattle.std.specs.Prelude.{◌≡◌, slice_get, ◌*ℤ◌, ℕ, ℤ, IfOk, MatchOption};
+ghost use Rattle.std.specs.Prelude.{◌≡◌, slice_get, ◌*ℤ◌, ℕ, ℤ, IfOk, IfSome, MatchOption};
 ghost use Rattle.std.specs.Bool.{OnTrue};
 ghost use Rattle.std.specs.Option.{option_copied};
-ghost use Rattle.rx_plain.specs.Formed.{Forms};
+ghost use Rattle.rx_plain.specs.Formed.{Forms, pure};
 ghost use Rattle.rx_poly.specs.Substitution.{in_atom, in_mono, in_body, numbered, replaced, worth};
 ghost use Rattle.rx_poly.specs.Constants.{variable};
 ghost use Rattle.rx_poly.specs.Replacements.{replacements, stay};
@@ -150,7 +150,8 @@ fn mono_with(alloc: Global, mono: &Mono, by: &i128, with: Replacements) -> Resul
 fn body_with(alloc: Global, body: &Body, with: Replacements) -> Result<Poly, PolyEnd>
     ensures forms { Forms PolyEnd.Large result (in_body (replacements with.entry) body.now) }
 {
-    let mut sum = zero(alloc);
+    let start = zero(alloc)?;
+    let mut sum = start;
     for term in body.terms.as_slice() {
         let product = mono_with(alloc, &term.0, &term.1, with)?;
         sum = plus(alloc, sum, product)?;
@@ -158,10 +159,22 @@ fn body_with(alloc: Global, body: &Body, with: Replacements) -> Result<Poly, Pol
     Ok(sum)
 }
 
-/// The polynomial with its variables replaced, a copy where all of them stay.
+/// What is put in place of the polynomial, where it is one variable that doesn't stay.
+fn alone_with<'a>(poly: &Poly, with: Replacements<'a>) -> Option<&'a Poly>
+    ensures { IfSome result (λ p. in_body (replacements with.entry) poly.now ≡ pure p.now) }
+{
+    let found = replacement(poly.as_variable()?, with)?;
+    Some(found.as_normal())
+}
+
+/// The polynomial with its variables replaced: what is in place of it where it is one variable, a
+/// copy where all variables stay.
 fn poly_with(alloc: Global, poly: &Poly, with: Replacements) -> Result<Poly, PolyEnd>
     ensures forms { Forms PolyEnd.Large result (in_body (replacements with.entry) poly.now) }
 {
+    if let Some(found) = alone_with(poly, with) {
+        return Ok(found.try_clone(alloc)?);
+    }
     if body_stays(poly.body(), with) {
         return Ok(poly.try_clone(alloc)?);
     }

@@ -197,7 +197,7 @@ fn dividend(alloc: Global, ratio: &Ratio) -> Result<Poly, AllocError>
     requires { has_polynomial ratio.now ≡ true }
     ensures { IfOk result (λ p. p ≡ ratio.now.num) }
 {
-    match Poly::from_body(ratio.num.try_clone(alloc)?) {
+    match Poly::from_body(alloc, ratio.num.try_clone(alloc)?)? {
         Some(num) => Ok(num),
         None => unreachable!(),
     }

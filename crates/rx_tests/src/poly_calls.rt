@@ -117,7 +117,7 @@ fn body_copy(alloc: Global, given: &str) -> Option<Answer> {
 }
 
 fn from_body(alloc: Global, given: &str) -> Option<Answer> {
-    match Poly::from_body(body(alloc, given)?) {
+    match Poly::from_body(alloc, body(alloc, given)?).ok()? {
         Some(poly) => Some(Answer::Poly(poly)),
         None => nothing(),
     }

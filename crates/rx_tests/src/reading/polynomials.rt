@@ -144,7 +144,7 @@ pub fn atom(alloc: Global, text: &str) -> Option<Atom> {
 
 /// One polynomial.
 pub fn poly(alloc: Global, text: &str) -> Option<Poly> {
-    Poly::from_body(body(alloc, text)?)
+    Poly::from_body(alloc, body(alloc, text)?).ok()?
 }
 
 /// The polynomials between commas.
@@ -154,7 +154,7 @@ pub fn polys(alloc: Global, text: &str) -> Option<Items<Poly>> {
         return Some(made);
     }
     for body in bodies(alloc, text)? {
-        made.push(Poly::from_body(body)?).ok()?;
+        made.push(Poly::from_body(alloc, body).ok()??).ok()?;
     }
     Some(made)
 }

@@ -1,8 +1,9 @@
 -- Where the variable is replaced, what the certificate inside finds is what is found.
-use Rattle.std.proofs.Common.{sym, ◌∙◌}
+use Rattle.std.proofs.Common.{rules, sym, ◌≡◌, ◌∙◌, false}
+use Rattle.rx_poly.specs.Terms.{is_zero}
 use Rattle.rx_cert.specs.Elimination.{zero_polynomial}
 use Rattle.rx_cert.specs.Examination.{examined}
-use Rattle.rx_cert.proofs.FindingLaws.{solve_found}
+use Rattle.rx_cert.proofs.FindingLaws.{solve_found, division_found}
 use Rattle.rx_cert.proofs.examination.+examination.Goals as goal
 
 pub examine_solve-returns-clause-large : goal.examine_solve-returns-clause-large
@@ -14,3 +15,25 @@ examine_solve-returns-clause-large t c =
     c.in_ok-value.ensures.forms.1 c.as_slice.ensures c.in_ok-changed.ensures.forms.1
     c.in_ok-changed.ensures.forms.0 in
     rw (found, ← c.get.ensures) c.examine.ensures.large
+
+pub examine_division-returns-clause-answer : goal.examine_division-returns-clause-answer
+examine_division-returns-clause-answer t c =
+    let nonzero : is_zero c.args.den.now ≡ false = search rules in
+    let found = division_found c.args.num.now c.args.den.now (examined c.args.pos.now)
+    (examined c.args.neg.now) c.args.rows.now.items c.in_ok-examine_with_all.field-0
+    nonzero c.in_ok-division.ensures.forms.0 c.in_ok-division.ensures.forms.1
+    c.in_ok-above.ensures.forms.0 c.in_ok-above.ensures.forms.1 c.if-not-branch.false
+    c.in_ok-examine_with_all.ensures.answer c.in_ok-below.ensures.forms.0
+    c.in_ok-below.ensures.forms.1 c.in_ok-examine_with_all.ensures.kept in
+    rw found c.examine_with_all-2.ensures.answer
+
+pub examine_division-returns-clause-large : goal.examine_division-returns-clause-large
+examine_division-returns-clause-large t c =
+    let nonzero : is_zero c.args.den.now ≡ false = search rules in
+    let found = division_found c.args.num.now c.args.den.now (examined c.args.pos.now)
+    (examined c.args.neg.now) c.args.rows.now.items c.in_ok-examine_with_all.field-0
+    nonzero c.in_ok-division.ensures.forms.0 c.in_ok-division.ensures.forms.1
+    c.in_ok-above.ensures.forms.0 c.in_ok-above.ensures.forms.1 c.if-not-branch.false
+    c.in_ok-examine_with_all.ensures.answer c.in_ok-below.ensures.forms.0
+    c.in_ok-below.ensures.forms.1 c.in_ok-examine_with_all.ensures.kept in
+    rw found c.examine_with_all-2.ensures.large

@@ -16,5 +16,5 @@ unwrap-requires c =
     let lists = c.as_slice.ensures ∙ ap (λ (b : Body). (out-Body b).terms) c.body.ensures.body in
     let terms : c.in_ok-terms.terms ≡ each d (out-Body c.args.poly.now).terms =
     c.in_ok-terms.ensures ∙ (λ i. map (λ (t : Mono × ℤ). (t.0, quotient t.1 (by i))) (lists i)) in
-    c.from_body-quotient.ensures.exact.1 (ap (λ (ts : List (Mono × ℤ)). is_poly (of_terms ts)) terms
+    c.in_ok-quotient.ensures.exact.1 (ap (λ (ts : List (Mono × ℤ)). is_poly (of_terms ts)) terms
     ∙ divided_poly d c.args.poly.now c.body.ensures.normal c.requires.divides)

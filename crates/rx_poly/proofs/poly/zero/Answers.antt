@@ -3,4 +3,4 @@ use Rattle.rx_poly.proofs.PolyLaws.{zero_poly}
 use Rattle.rx_poly.proofs.poly.zero.Goals as goal
 
 pub invariant_of-result : goal.invariant_of-result
-invariant_of-result c = rw c.new.ensures zero_poly
+invariant_of-result c = rw (c.in_ok-body.ensures, c.new-terms.ensures) zero_poly

@@ -7,7 +7,8 @@ use Rattle.rx_poly.proofs.substitution.+substituted.Goals as goal
 
 pub body_with-returns-in_err-product : goal.body_with-returns-in_err-product
 body_with-returns-in_err-product t c =
-    let p = err_from_is_err_and c.from_residual.result c.from_residual.ensures.1 in
+    let p = err_from_is_err_and c.from_residual-in_err-product.result
+    c.from_residual-in_err-product.ensures.1 in
     rw (p.1, p.2) (record {
       forms = λ h. no_term (replacements c.args.with)
           c.as_slice-term-items.result.now c.loop-term.term-index c.loop-term-test.true

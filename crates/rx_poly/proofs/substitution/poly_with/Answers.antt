@@ -1,4 +1,5 @@
--- Where all variables stay, so does the polynomial, and nothing on the way passes the limits.
+-- A variable alone becomes what is in its place. Where all variables stay, so does the polynomial,
+-- and nothing on the way passes the limits.
 use Rattle.std.proofs.Common.{◌∙◌, subst, sym}
 use Rattle.rx_poly.specs.Replacements.{replacements, stay}
 use Rattle.rx_poly.specs.Variables.{variables}
@@ -14,7 +15,7 @@ returns-then-body_stays c =
     (passed c.body_stays.result c.if-body_stays.true c.body_stays.ensures) in
     record {
       forms = (
-        c.in_ok-try_clone.ensures ∙ sym (same_form ws c.args.poly.now c.body.ensures.normal st),
+        c.in_ok-try_clone-2.ensures ∙ sym (same_form ws c.args.poly.now c.body.ensures.normal st),
         all_within ws c.args.poly.now c.body.ensures.normal st,
       );
     }

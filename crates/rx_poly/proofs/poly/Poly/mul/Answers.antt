@@ -4,21 +4,22 @@ use Rattle.std.proofs.lemmas.Result.{err_from_is_err_and}
 use Rattle.rx_poly.proofs.ProductLaws.{value-multiplied}
 use Rattle.rx_poly.proofs.Running.{begin, no_sum, after_sum, finished, within_finished}
 use Rattle.rx_poly.specs.Products.{running_within}
+use Rattle.rx_poly.specs.Normal.{is_poly}
 use Rattle.rx_poly.specs.Value.{value}
 use Rattle.rx_poly.specs.declared.body.Body.{out-Body}
 use Rattle.rx_poly.proofs.poly.Poly.mul.Goals as goal
 
 pub loop-term-init : goal.loop-term-init
 loop-term-init c =
-    begin c.zero-sum.result c.self.inside.body c.as_slice-term-items.result.now
-    (out-Body c.args.other.now).terms c.as_slice-term-items.ensures c.zero-sum.ensures
-    c.self.invariant
+    begin c.in_ok-start.start c.body.result.now c.as_slice-term-items.result.now
+    (out-Body c.args.other.now).terms c.as_slice-term-items.ensures c.in_ok-start.ensures
+    (ap is_poly c.body.ensures.body ∙ c.body.ensures.normal)
 
 pub returns-in_err-sum-clause-forms : goal.returns-in_err-sum-clause-forms
 returns-in_err-sum-clause-forms c =
     let p = err_from_is_err_and c.from_residual-in_err-sum.result
     c.from_residual-in_err-sum.ensures.1 in
-    rw (p.1, p.2, ← c.self.view_is) (λ h.
+    rw (p.1, p.2, ← c.body.ensures.body) (λ h.
     ap (λ ts. running_within [] ts (out-Body c.args.other.now).terms)
     (sym c.as_slice-term-items.ensures)
     ∙ no_sum c.as_slice-term-items.result.now (out-Body c.args.other.now).terms
@@ -33,16 +34,16 @@ loop-term-preserved c =
     c.in_ok-sum.ensures.forms.1
 
 pub returns-clause-forms : goal.returns-clause-forms
-returns-clause-forms c = rw (← c.self.view_is) (
-  finished c.self.inside.body c.args.other.now c.loop-term.sum c.loop-term.term-index
+returns-clause-forms c = rw (← c.body.ensures.body) (
+  finished c.body.result.now c.args.other.now c.loop-term.sum c.loop-term.term-index
       c.as_slice-term-items.ensures c.loop-term-test.false c.loop-term.invariant,
-  within_finished c.self.inside.body c.args.other.now c.loop-term.sum c.loop-term.term-index
+  within_finished c.body.result.now c.args.other.now c.loop-term.sum c.loop-term.term-index
       c.as_slice-term-items.ensures c.loop-term-test.false c.loop-term.invariant,
 )
 
 pub returns-clause-value : goal.returns-clause-value
-returns-clause-value c = rw (← c.self.view_is) (λ a.
-    ap (value a) (finished c.self.inside.body c.args.other.now c.loop-term.sum
+returns-clause-value c = rw (← c.body.ensures.body) (λ a.
+    ap (value a) (finished c.body.result.now c.args.other.now c.loop-term.sum
     c.loop-term.term-index c.as_slice-term-items.ensures c.loop-term-test.false
     c.loop-term.invariant)
-    ∙ value-multiplied a c.self.inside.body c.args.other.now)
+    ∙ value-multiplied a c.body.result.now c.args.other.now)
