@@ -1,8 +1,8 @@
 -- Runs of digits: where one ends, and that a number has one decimal text.
-use Rattle.std.proofs.Common.{◌≡◌, ◌∙◌, ap, subst, refl, sym, ℕ, suc, ◌+◌, ◌-◌, ◌^◌, ◌<◌, ◌≤◌, nat_le, Bool, true, false, List, [], ◌∷◌, ◌++◌, length, drop, take, min, arith, slice_range}
-use Rattle.std.proofs.lemmas.Bool.{and_from, both_ways, cond-true, cond-false, le-leb, leb-true, not-true, not_from_false}
-use Rattle.std.proofs.lemmas.Fmt.{decimal_is_IsNumeral_wide}
-use Rattle.std.proofs.lemmas.List.{drop_all, drop-drop, length-append, length-drop, length-take, take_at}
+use Rattle.std.proofs.Common.{◌≡◌, ◌∙◌, ap, subst, refl, sym, ℕ, suc, ◌+◌, ◌-◌, ◌^◌, ◌<◌, ◌≤◌, nat_le, Bool, true, false, List, [], ◌∷◌, ◌++◌, length, drop, get_or, take, min, arith, slice_range}
+use Rattle.std.proofs.lemmas.Bool.{and_from, and_parts, both_ways, cond-true, cond-false, le-leb, leb-true, not-true, not_from_false}
+use Rattle.std.proofs.lemmas.Fmt.{decimal_digit, decimal_is_IsNumeral_wide}
+use Rattle.std.proofs.lemmas.List.{drop_all, drop-drop, drop_more, length-append, length-drop, length-take, take_at}
 use Rattle.std.proofs.lemmas.List.Folds.{drop_split}
 use Rattle.std.proofs.lemmas.Str.Parse.{digit_from_value}
 use Rattle.std.specs.Char.{digit_value}
@@ -151,3 +151,29 @@ digits_first (d ∷ ds) left {rest} {byte} a some e =
 pub number_first : (n : ℕ) (left : List ℕ) {rest : List ℕ} {byte : ℕ} → n < 10 ^ 64
     → natural_text n ++ left ≡ byte ∷ rest → is_digit byte ≡ true
 number_first n left h e = digits_first (natural_text n) left (digits_of n h) (some_digit n h) e
+
+-- one digit with no other behind it is the text of its number
+pub one_digit : (bytes : List ℕ) (at : ℕ) {byte : ℕ} → at < length bytes
+    → byte ≡ get_or bytes at byte → is_digit byte ≡ true
+    → is_over is_digit (drop (at + 1) bytes) ≡ true
+    → StandsAt (naturals (2 ^ 128 - 1)) bytes at (byte - 48) (at + 1)
+one_digit bytes at {byte} within is digit over =
+    let bounds = and_parts (nat_le 48 byte) (nat_le byte 57) digit in
+    let low : 48 ≤ byte = leb-true 48 byte bounds.0 in
+    let high : byte ≤ 57 = leb-true byte 57 bounds.1 in
+    let small : byte - 48 < 10 = omega arith in
+    let most : byte - 48 ≤ 2 ^ 128 - 1 = omega arith in
+    let same : 48 + (byte - 48) ≡ byte = omega arith in
+    let text : natural_text (byte - 48) ≡ byte ∷ [] =
+    decimal_digit (byte - 48) small ∙ ap (λ n. n ∷ []) same in
+    record {
+      forward = omega arith;
+      inside = omega arith;
+      begins = record {
+        in_range = le-leb (byte - 48) (2 ^ 128 - 1) most;
+        text = drop_more bytes at byte within
+            ∙ ap (λ b. b ∷ drop (at + 1) bytes) (sym is)
+            ∙ ap (λ ds. ds ++ drop (at + 1) bytes) (sym text);
+        over = over;
+      };
+    }

@@ -1,7 +1,7 @@
 //! Runs of decimal digits, and the numbers that they write.
 ghost use Rattle.std.specs.Prelude.{◌≡◌, ◌↔◌, ℕ, ◌+◌, ◌^◌, ◌<◌, ◌≤◌, ◌-◌, drop, length, IfSome, IsTrue, Some};
 ghost use Rattle.std.specs.List.{prefix_len};
-ghost use Rattle.rx_text.specs.Formats.{Reads};
+ghost use Rattle.rx_text.specs.Formats.{Reads, StandsAt, is_over};
 ghost use Rattle.rx_text.specs.Numbers.{is_digit, natural_text, naturals};
 
 use crate::words::rest_from;
@@ -12,6 +12,16 @@ pub(crate) fn is_digit(byte: u8) -> bool
     ensures { result ≡ is_digit byte }
 {
     b'0' <= byte && byte <= b'9'
+}
+
+/// Whether no digit stands at the place.
+pub(crate) fn ends_number(bytes: &[u8], at: usize) -> bool
+    ensures { result ≡ is_over is_digit (drop at bytes.now) }
+{
+    match bytes.get(at) {
+        Some(byte) => !is_digit(*byte),
+        None => true,
+    }
 }
 
 /// How many digits stand at the front.
@@ -44,12 +54,28 @@ fn is_text_of(digits: &[u8], value: u128) -> bool
     digits == buffer.format(value).as_bytes()
 }
 
-/// The natural number of u128 whose text stands at the place.
+/// The number that a digit writes with no other behind it, where such a one stands at the place.
+fn read_digit(bytes: &[u8], at: usize) -> Option<(u128, usize)>
+    ensures { IfSome result
+        (λ read. StandsAt (naturals (2 ^ 128 - 1)) bytes.now at read.0 read.1) }
+{
+    let digit = *bytes.get(at)?;
+    if is_digit(digit) && ends_number(bytes, at + 1) {
+        Some(((digit - b'0') as u128, at + 1))
+    } else {
+        None
+    }
+}
+
+/// The natural number of u128 whose text stands at the place. Most numbers have one digit.
 pub(crate) fn read_digits(bytes: &[u8], at: usize) -> Option<(u128, usize)>
     ensures { Reads (naturals (2 ^ 128 - 1)) bytes.now at result }
 {
     if at >= bytes.len() {
         return None;
+    }
+    if let Some(read) = read_digit(bytes, at) {
+        return Some(read);
     }
     let end = at + run_of_digits(rest_from(bytes, at));
     let digits = &bytes[at..end];

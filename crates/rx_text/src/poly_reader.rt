@@ -3,11 +3,10 @@ ghost use Rattle.std.specs.Prelude.{◌≡◌, ◌∷◌, ℕ, ◌≤◌, drop, 
 ghost use Rattle.rx_poly.specs.Limits.{of_atoms};
 ghost use Rattle.rx_poly.specs.Terms.{is_zero};
 ghost use Rattle.rx_text.specs.Formats.{Reads, StandsAt, is_over};
-ghost use Rattle.rx_text.specs.Numbers.{is_digit};
 ghost use Rattle.rx_text.specs.Plain.{atoms, is_plain_inside, pairs, sums_nested, terms};
 ghost use Rattle.rx_text.specs.Polynomials.{goes_on_with_poly, polynomials};
 
-use crate::digits::is_digit;
+use crate::digits::{ends_number, is_digit};
 use crate::numbers::{read_integer, read_natural};
 use crate::words::skip_word;
 use rx_plain::{Graded, Items, NoMemory};
@@ -19,16 +18,6 @@ const DEEPEST: u32 = 64;
 
 /// The greatest variable that has a text.
 const LAST_VARIABLE: u32 = 999_999;
-
-/// Whether no digit stands at the place.
-fn ends_number(bytes: &[u8], at: usize) -> bool
-    ensures { result ≡ is_over is_digit (drop at bytes.now) }
-{
-    match bytes.get(at) {
-        Some(byte) => !is_digit(*byte),
-        None => true,
-    }
-}
 
 /// Whether neither a digit nor `*` nor `+` stands at the place.
 fn ends_poly(bytes: &[u8], at: usize) -> bool
@@ -196,7 +185,7 @@ pub fn read_poly(alloc: Global, bytes: &[u8], at: usize) -> Result<Option<(Poly,
     let Some((sum, end)) = read_sum(alloc, bytes, at, DEEPEST)? else {
         return Ok(None);
     };
-    match Poly::from_body(sum) {
+    match Poly::from_body(alloc, sum)? {
         Some(poly) => Ok(Some((poly, end))),
         None => Ok(None),
     }

@@ -1,5 +1,5 @@
 //! Fixed words in a text.
-ghost use Rattle.std.specs.Prelude.{◌≡◌, ◌++◌, ◌<◌, ◌≤◌, ℕ, drop, length, OnOk};
+ghost use Rattle.std.specs.Prelude.{◌≡◌, ◌↔◌, ◌++◌, ◌<◌, ◌≤◌, ℕ, drop, length, take, IsTrue, OnOk};
 ghost use Rattle.rx_text.specs.Formats.{Skips};
 
 use rx_plain::NoMemory;
@@ -12,6 +12,22 @@ pub(crate) fn rest_from(bytes: &[u8], at: usize) -> &[u8]
     &bytes[at..]
 }
 
+/// Whether the bytes begin with the word. A loop, since most words have a few letters, and most
+/// bytes begin with another letter.
+fn begin_with(bytes: &[u8], word: &[u8]) -> bool
+    ensures { IsTrue result ↔ (word.now ≡ take (length word.now) bytes.now) }
+{
+    if word.len() > bytes.len() {
+        return false;
+    }
+    for (at, letter) in word.iter().enumerate() {
+        if bytes[at] != *letter {
+            return false;
+        }
+    }
+    true
+}
+
 /// The place after the word, where the word stands at that place; None where it doesn't.
 pub fn skip_word(bytes: &[u8], at: usize, word: &[u8]) -> Option<usize>
     requires { 0 < length word.now }
@@ -20,7 +36,7 @@ pub fn skip_word(bytes: &[u8], at: usize, word: &[u8]) -> Option<usize>
     if at > bytes.len() {
         return None;
     }
-    if rest_from(bytes, at).starts_with(word) {
+    if begin_with(rest_from(bytes, at), word) {
         Some(at + word.len())
     } else {
         None

@@ -21,13 +21,13 @@ pub returns-then-at-bytes : goal.returns-then-at-bytes
 returns-then-at-bytes c =
     λ thing left b. nothing_past c.args.bytes.now c.args.at most_is_less c.if-at-bytes.true b
 
-pub returns-in_default : goal.returns-in_default
-returns-in_default c = λ thing left b.
+pub returns-in_default-value_of : goal.returns-in_default-value_of
+returns-in_default-value_of c = λ thing left b.
     let text =
     run_is_text c.args.bytes.now c.args.at most_is_less
     (run c.run_of_digits.ensures.run c.rest_from.ensures) b in
     let read = c.value_of.ensures.value thing (fits thing b) text in
-    let other = c.in_default.is in cc
+    let other = c.in_default-value_of.is in cc
 
 pub returns-then-is_text_of : goal.returns-then-is_text_of
 returns-then-is_text_of c =
@@ -35,7 +35,7 @@ returns-then-is_text_of c =
     c.if-at-bytes.false
     (subst (λ s. c.run_of_digits.result ≤ length s) c.rest_from.ensures
     c.run_of_digits.ensures.within)
-    c.in-Some.ensures.fits (c.is_text_of.ensures.0 c.if-is_text_of.true)
+    c.in-Some-value_of.ensures.fits (c.is_text_of.ensures.0 c.if-is_text_of.true)
 
 pub returns-else-is_text_of : goal.returns-else-is_text_of
 returns-else-is_text_of c = λ thing left b.
@@ -43,8 +43,8 @@ returns-else-is_text_of c = λ thing left b.
     run_is_text c.args.bytes.now c.args.at most_is_less
     (run c.run_of_digits.ensures.run c.rest_from.ensures) b in
     let read = c.value_of.ensures.value thing (fits thing b) text in
-    let same : Some thing ≡ Some c.in-Some.value = sym read ∙ c.in-Some.is in
-    let number : thing ≡ c.in-Some.value = cc in
+    let same : Some thing ≡ Some c.in-Some-value_of.value = sym read ∙ c.in-Some-value_of.is in
+    let number : thing ≡ c.in-Some-value_of.value = cc in
     let told : c.is_text_of.result ≡ true =
     c.is_text_of.ensures.1 (text ∙ ap natural_text number) in
     let other = c.if-is_text_of.false in cc
