@@ -241,8 +241,9 @@ pub fn is_substitution(with: &[(u32, Poly)]) -> bool
     are_rising(with) && are_replacements(with)
 }
 
-/// Whether both sides fit the rules, and all variables of them and of the rows are below the limit.
-pub(crate) fn is_equation(rules: &RuleParts, equation: &Equation) -> bool
+/// Whether both sides fit the rules, and all variables of them and of the rows are below 2^31.
+/// Takes no memory.
+pub fn is_equation(rules: &RuleParts, equation: &Equation) -> bool
     ensures { result ≡ is_equation rules.now equation.now }
 {
     rules.fits(&equation.left)
