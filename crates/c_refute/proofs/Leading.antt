@@ -145,6 +145,8 @@ no-turns ops new same turn whole exits begin from is =
 -- an op that isn't the turns of a loop
 abbrev pub IsPlain : Op → Type 0
 IsPlain (op.Do work sink) = Unit {0}
+IsPlain (op.Test inner if_zero other) = Unit {0}
+IsPlain (op.Set inner v p) = Unit {0}
 IsPlain (op.Call f count p) = Unit {0}
 IsPlain (op.Turn whole exits begin) = ⊥
 IsPlain (op.Enter p) = Unit {0}

@@ -12,9 +12,11 @@ pub mod Runs
 pub mod Positions
 pub mod Leading
 pub mod ExpressionCode
+pub mod WorkCode
 pub mod StatementCode
 pub mod LoopCode
 pub mod RunningCode
 pub mod Slots
+pub mod Unscoped
 pub mod ProgramCode
 pub mod Endings

@@ -15,6 +15,7 @@ use Rattle.c_ast.specs.declared.program.Resolved.{Resolved}
 use Rattle.c_meaning.specs.Outcomes.{Flow, Next, Break, Continue, Return}
 use Rattle.c_meaning.specs.Statements.{Turn, Again, Ends}
 use Rattle.c_refute.specs.Counted.{returned, body_run, counted}
+use Rattle.c_refute.specs.Ends.{GivesNumber}
 use Rattle.c_refute.specs.Runs.{Run, Value, More, on_value}
 use Rattle.c_refute.specs.Expressions.{Calls}
 use Rattle.c_refute.specs.Statements.{optional, in_order, on_again, loop, stmt}
@@ -255,6 +256,20 @@ pub function-found : (functions : List Function) (f : ℕ) → f < length functi
 function-found [] f below = absurd (omega arith)
 function-found (g ∷ functions) zero below = (g, refl)
 function-found (g ∷ functions) (suc f) below = function-found functions f (omega arith)
+
+-- what goes on from a number
+pub gives-then : (run : ℕ → Run ℤ) (f : ℤ → ℕ → Run ℤ) (x : ℤ) (result : Result ℤ Stop) →
+    ((left : ℕ) → run left ≡ Value x left)
+    → GivesNumber (f x) result → GivesNumber (λ left. on_value (run left) f) result
+gives-then run f x (Ok y) first given =
+    λ left. ap (λ (r : Run ℤ). on_value r f) (first left) ∙ given left
+gives-then run f x (Err stop.DivisionError) first given =
+    λ left. ap (λ (r : Run ℤ). on_value r f) (first left) ∙ given left
+gives-then run f x (Err stop.More) first given =
+    λ left. ap (λ (r : Run ℤ). on_value r f) (first left) ∙ given left
+gives-then run f x (Err stop.Over) first given =
+    λ left. ap (λ (r : Run ℤ). on_value r f) (first left) ∙ given left
+gives-then run f x (Err stop.NoMemory) first given = given
 
 -- a value that is made goes to its sink
 pub made-to : (calls : Calls) (back : Back) (rs : List Rest) (work : Work) (s : Sink) (k new : Kept)

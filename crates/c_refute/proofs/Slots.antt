@@ -80,7 +80,7 @@ same-kept : (values other : List ℤ) (below under : List ℤ) (state second : S
 same-kept values other below under state second scopes counts one two three four =
     rw (one, two, three, four) refl
 
-length-most : (n : ℕ) (xs : List ℤ) → length (take n xs) ≤ n
+pub length-most : (n : ℕ) (xs : List ℤ) → length (take n xs) ≤ n
 length-most zero [] = omega arith
 length-most (suc n) [] = omega arith
 length-most zero (x ∷ xs) = omega arith

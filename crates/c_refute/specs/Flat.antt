@@ -22,7 +22,10 @@ use Rattle.c_refute.specs.Stores.{Kept, with_state, with_values, top, below_top,
 use Rattle.c_refute.specs.declared.code.Operand.{Operand}
 use Rattle.c_refute.specs.declared.code.Operand.TheVariants.{Constant, Slot, Popped}
 use Rattle.c_refute.specs.declared.code.Work.{Work}
-use Rattle.c_refute.specs.declared.code.Work.TheVariants.{Read, Before, Between}
+use Rattle.c_refute.specs.declared.code.Leaf.{Leaf}
+use Rattle.c_refute.specs.declared.code.Leaf.TheVariants as leaf
+use Rattle.c_refute.specs.declared.code.Inner.{Inner}
+use Rattle.c_refute.specs.declared.code.Work.TheVariants.{Read, Before, Between, Alone, Left, Right}
 use Rattle.c_refute.specs.declared.code.Sink.{Sink}
 use Rattle.c_refute.specs.declared.code.Sink.TheVariants as sink
 use Rattle.c_refute.specs.declared.code.Exits.{Exits}
@@ -82,17 +85,48 @@ operand_level _ = Popped
 abbrev pub operand_of : Expr → Operand
 operand_of e = operand_level (out-Expr e)
 
+-- a leaf's value
+abbrev pub leaf_value : Leaf → Kept → ℤ
+leaf_value (leaf.Constant x) k = x
+leaf_value (leaf.Slot v) k = slot k.state v
+
+-- what an operator between two leaves gives
+abbrev pub inner_run : Inner → Kept → ℕ → Run ℤ
+inner_run inner k left = apply inner.op (leaf_value inner.left k) (leaf_value inner.right k) left
+
 -- the value that is made
 abbrev pub made : Work → Kept → ℕ → Run ℤ
 made (Read a) k left = Value (read a k) left
 made (Before f a) k left = unary f (read a k) left
 made (Between f a b) k left = apply f (read a (after b k)) (read b k) left
+made (Alone inner) k left = inner_run inner k left
+made (Left f inner b) k left =
+    on_value (inner_run inner k left) (λ x. apply f x (leaf_value b k))
+made (Right f a inner) k left = on_value (inner_run inner k left) (apply f (read a k))
 
 -- what is kept after it is made
 abbrev pub kept_after : Work → Kept → Kept
 kept_after (Read a) k = after a k
 kept_after (Before f a) k = after a k
 kept_after (Between f a b) k = after a (after b k)
+kept_after (Alone inner) k = k
+kept_after (Left f inner b) k = k
+kept_after (Right f a inner) k = after a k
+
+-- the expression is the leaf
+abbrev pub IsLeaf : Expr → Leaf → Type 0
+IsLeaf e leaf = (calls : Calls) (k : Kept) (left : ℕ) →
+    expr calls e left k.state ≡ Value (leaf_value leaf k) left
+
+-- the expression is the operator between two leaves
+abbrev pub IsInner : Expr → Inner → Type 0
+IsInner e inner = (calls : Calls) (k : Kept) (left : ℕ) →
+    expr calls e left k.state ≡ inner_run inner k left
+
+-- the expression's value is made at once, and nothing else that is kept changes
+abbrev pub Makes : Expr → Work → Type 0
+Makes e work = (calls : Calls) (k : Kept) (left : ℕ) →
+    (expr calls e left k.state ≡ made work k left) × (kept_after work k ≡ k)
 
 -- a turn of a loop; where no loop stands nothing is said
 abbrev pub turn_level : Calls → Stmt-F Stmt → ℕ → State → Run Turn
@@ -132,6 +166,10 @@ turn_to rests back turn exits k (Ends flow) left = flow_to rests back exits k fl
 abbrev pub op_to : Calls → Back → List Rest → Op → Rest
 op_to calls back rests (op.Do work sink) =
     λ k left. on_value (made work k left) (sink_to rests back sink (kept_after work k))
+op_to calls back rests (op.Test inner if_zero other) =
+    λ k left. on_value (inner_run inner k left) (sink_to rests back (sink.Branch if_zero other) k)
+op_to calls back rests (op.Set inner v p) =
+    λ k left. on_value (inner_run inner k left) (sink_to rests back (sink.Assign v p) k)
 op_to calls back rests (op.Call f count p) = λ k left.
     on_value (calls left f (reverse (take count k.values)))
     (λ x. at rests p (pushed (with_values k (drop count k.values)) x))

@@ -10,3 +10,4 @@ pub mod Stores
 pub mod Flat
 pub mod Ends
 pub mod Machines
+pub mod Scopes

@@ -1,5 +1,5 @@
 //! Operators on numbers of `i128`.
-ghost use Rattle.std.specs.Prelude.{◌≡◌, true, false, SomeIff, Some, ◌+ℤ◌, ◌-ℤ◌, ◌*ℤ◌, neg_ℤ, int_div, int_rem, ℤ};
+ghost use Rattle.std.specs.Prelude.{◌≡◌, true, false, IfSome, SomeIff, Some, ◌+ℤ◌, ◌-ℤ◌, ◌*ℤ◌, neg_ℤ, int_div, int_rem, ℤ};
 ghost use Rattle.c_ast.specs.declared.expr.BinOp.TheVariants.{Div, Rem};
 ghost use Rattle.c_meaning.specs.Expressions.{is_zero, truth};
 ghost use Rattle.c_refute.specs.Expressions.{apply, unary};
@@ -10,6 +10,7 @@ use crate::stop::Stop;
 use c_ast::{BinOp, UnOp};
 
 /// 1 for true and 0 for false.
+#[inline(always)]
 fn number_of(holds: bool) -> i128
     ensures { result ≡ truth holds }
 {
@@ -17,6 +18,7 @@ fn number_of(holds: bool) -> i128
 }
 
 /// Whether the number is 0.
+#[inline(always)]
 pub(crate) fn is_zero(x: &i128) -> bool
     ensures { result ≡ is_zero x.now }
 {
@@ -24,6 +26,7 @@ pub(crate) fn is_zero(x: &i128) -> bool
 }
 
 /// The number negated; None where this leaves `i128`.
+#[inline(always)]
 fn negative(x: i128) -> Option<i128>
     ensures { SomeIff result (fits_i128 (neg_ℤ x) ≡ true) (neg_ℤ x) }
 {
@@ -31,6 +34,7 @@ fn negative(x: i128) -> Option<i128>
 }
 
 /// The sum; None where it leaves `i128`.
+#[inline(always)]
 fn sum(x: i128, y: i128) -> Option<i128>
     ensures { SomeIff result (fits_i128 (x +ℤ y) ≡ true) (x +ℤ y) }
 {
@@ -38,20 +42,37 @@ fn sum(x: i128, y: i128) -> Option<i128>
 }
 
 /// The difference; None where it leaves `i128`.
+#[inline(always)]
 fn difference(x: i128, y: i128) -> Option<i128>
     ensures { SomeIff result (fits_i128 (x -ℤ y) ≡ true) (x -ℤ y) }
 {
     x.checked_sub(y)
 }
 
+/// The product, if both numbers and it are of 64 bits, as most are: it takes one instruction.
+#[inline(always)]
+fn small_product(x: i128, y: i128) -> Option<i64>
+    ensures { IfSome result (λ product. product ≡ x *ℤ y) }
+{
+    let (Ok(a), Ok(b)) = (i64::try_from(x), i64::try_from(y)) else {
+        return None;
+    };
+    a.checked_mul(b)
+}
+
 /// The product; None where it leaves `i128`.
+#[inline(always)]
 fn product(x: i128, y: i128) -> Option<i128>
     ensures { SomeIff result (fits_i128 (x *ℤ y) ≡ true) (x *ℤ y) }
 {
-    x.checked_mul(y)
+    match small_product(x, y) {
+        Some(small) => Some(i128::from(small)),
+        None => x.checked_mul(y),
+    }
 }
 
 /// The number, or that it leaves `i128`.
+#[inline(always)]
 fn fitted(number: Option<i128>) -> Result<i128, Stop>
     ensures { (x : ℤ) → SomeIff number (fits_i128 x ≡ true) x → GivesNumber (exact x) result }
 {
@@ -101,6 +122,7 @@ fn remained(x: i128, y: i128) -> Result<i128, Stop>
 }
 
 /// What an operator before its operand gives.
+#[inline(always)]
 pub(crate) fn apply_unary(op: UnOp, x: i128) -> Result<i128, Stop>
     ensures { GivesNumber (unary op x) result }
 {
@@ -112,6 +134,7 @@ pub(crate) fn apply_unary(op: UnOp, x: i128) -> Result<i128, Stop>
 }
 
 /// What an operator gives, from both operands.
+#[inline(always)]
 pub(crate) fn apply_binary(op: BinOp, x: i128, y: i128) -> Result<i128, Stop>
     ensures { GivesNumber (apply op x y) result }
 {

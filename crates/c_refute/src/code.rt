@@ -12,6 +12,26 @@ pub(crate) enum Operand {
     Popped,
 }
 
+/// A literal or a variable.
+#[derive(Clone, Copy)]
+pub(crate) enum Leaf {
+    /// It is this integer.
+    Constant(i64),
+    /// In a slot; out of scope it is 0.
+    Slot(u32),
+}
+
+/// An operator between two leaves.
+#[derive(Clone, Copy)]
+pub(crate) struct Inner {
+    /// The operator.
+    pub op: BinOp,
+    /// Its left operand.
+    pub left: Leaf,
+    /// Its right operand.
+    pub right: Leaf,
+}
+
 /// How a value is made.
 #[derive(Clone, Copy)]
 pub(crate) enum Work {
@@ -21,6 +41,12 @@ pub(crate) enum Work {
     Before(UnOp, Operand),
     /// By an operator between its operands; the right one is read first.
     Between(BinOp, Operand, Operand),
+    /// By an operator between two leaves.
+    Alone(Inner),
+    /// By an operator between what an inner one gives and a leaf.
+    Left(BinOp, Inner, Leaf),
+    /// By an operator between an operand and what an inner one gives.
+    Right(BinOp, Operand, Inner),
 }
 
 /// What is done with a value, and where it goes on.
@@ -57,6 +83,11 @@ pub(crate) struct Exits {
 pub(crate) enum Op<'a> {
     /// A value is made, and something is done with it.
     Do(Work, Sink),
+    /// An operator between two leaves is made: it goes on at the first position where the value is
+    /// 0, and else at the second.
+    Test(Inner, usize, usize),
+    /// An operator between two leaves is made: the value is the new one of a slot.
+    Set(Inner, u32, usize),
     /// A call of the function at this place, with so many arguments from the top of the values;
     /// then it goes on at the position.
     Call(u32, usize, usize),

@@ -20,6 +20,7 @@ pub mod laws;
 mod machine;
 mod outcomes;
 mod points;
+mod scopes;
 mod statements;
 mod stop;
 mod store;

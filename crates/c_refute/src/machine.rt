@@ -4,7 +4,7 @@ ghost use Rattle.std.specs.Option.{option_copied};
 ghost use Rattle.c_ast.specs.declared.program.Resolved.{Resolved};
 ghost use Rattle.c_refute.specs.Counted.{counted, counted_expr, outcome_of};
 ghost use Rattle.c_refute.specs.Ends.{Ends, GivesNumber};
-ghost use Rattle.c_refute.specs.Flat.{Back, IsCode, Rest, code_run, kept_after, made, op_to, rests, sink_to};
+ghost use Rattle.c_refute.specs.Flat.{Back, IsCode, Rest, code_run, inner_run, kept_after, made, op_to, rests, sink_to};
 ghost use Rattle.c_refute.specs.Machines.{Falls, Sinks, Steps, back_to, machine_run};
 ghost use Rattle.c_refute.specs.Points.{precondition_at};
 ghost use Rattle.c_refute.specs.Runs.{Run};
@@ -16,7 +16,7 @@ ghost use Rattle.c_refute.specs.declared.machine.Reached.TheVariants as reached;
 ghost use Rattle.c_refute.specs.declared.stop.Stop.TheVariants as stop;
 
 use crate::arithmetic::{apply_binary, apply_unary, is_zero};
-use crate::code::{Code, Op, Sink, Work};
+use crate::code::{Code, Inner, Op, Sink, Work};
 use crate::compiling::compile;
 use crate::outcomes::Outcome;
 use crate::stop::Stop;
@@ -62,6 +62,7 @@ pub(crate) enum Reached {
 }
 
 /// Where the function at place `f` begins, if there is one.
+#[inline(always)]
 fn entry_of(code: &Code<'_>, f: u32) -> Option<usize>
     ensures { result ≡ slice_get code.now.entries.items f }
 {
@@ -72,61 +73,82 @@ fn entry_of(code: &Code<'_>, f: u32) -> Option<usize>
 }
 
 /// The op at a position, if there is one.
-fn op_at<'a>(code: &Code<'a>, at: usize) -> Option<Op<'a>>
-    ensures { result ≡ slice_get code.now.ops.items at }
+#[inline(always)]
+fn op_at<'c, 'a>(code: &'c Code<'a>, at: usize) -> Option<&'c Op<'a>>
+    ensures { option_copied result ≡ slice_get code.now.ops.items at }
 {
-    match code.ops.as_slice().get(at) {
-        Some(op) => Some(*op),
-        None => None,
-    }
+    code.ops.as_slice().get(at)
+}
+
+/// What an operator between two leaves gives.
+#[inline(always)]
+fn inner_value(store: &Store, inner: &Inner) -> Result<i128, Stop>
+    ensures { GivesNumber (inner_run inner.now store.now) result }
+{
+    let x = store.leaf_value(&inner.left);
+    let y = store.leaf_value(&inner.right);
+    apply_binary(inner.op, x, y)
 }
 
 /// Makes a value.
-fn value_of(store: &mut Store, work: Work) -> Result<i128, Stop>
-    ensures number { GivesNumber (made work store.old) result }
-    ensures kept { OnOk result (store.new ≡ kept_after work store.old) }
+#[inline(always)]
+fn value_of(store: &mut Store, work: &Work) -> Result<i128, Stop>
+    ensures number { GivesNumber (made work.now store.old) result }
+    ensures kept { OnOk result (store.new ≡ kept_after work.now store.old) }
 {
     match work {
-        Work::Read(a) => Ok(store.read(a)),
+        Work::Read(a) => Ok(store.read(*a)),
         Work::Before(op, a) => {
-            let x = store.read(a);
-            apply_unary(op, x)
+            let x = store.read(*a);
+            apply_unary(*op, x)
         }
         Work::Between(op, a, b) => {
-            let y = store.read(b);
-            let x = store.read(a);
-            apply_binary(op, x, y)
+            let y = store.read(*b);
+            let x = store.read(*a);
+            apply_binary(*op, x, y)
+        }
+        Work::Alone(inner) => inner_value(store, inner),
+        Work::Left(op, inner, b) => {
+            let x = inner_value(store, inner)?;
+            let y = store.leaf_value(b);
+            apply_binary(*op, x, y)
+        }
+        Work::Right(op, a, inner) => {
+            let y = inner_value(store, inner)?;
+            let x = store.read(*a);
+            apply_binary(*op, x, y)
         }
     }
 }
 
 /// Does something with a value.
-fn sink_value(store: &mut Store, sink: Sink, x: i128) -> Result<Sunk, Stop>
+#[inline(always)]
+fn sink_value(store: &mut Store, sink: &Sink, x: i128) -> Result<Sunk, Stop>
     ensures { (rests : List Rest) (back : Back) (left : ℕ) →
-        Sinks rests back (sink_to rests back sink store.old x) result store.new left }
+        Sinks rests back (sink_to rests back sink.now store.old x) result store.new left }
 {
     match sink {
         Sink::Push(next) => {
             store.push(x)?;
-            Ok(Sunk::On(next))
+            Ok(Sunk::On(*next))
         }
         Sink::Branch(zero, other) => {
             if is_zero(&x) {
-                Ok(Sunk::On(zero))
+                Ok(Sunk::On(*zero))
             } else {
-                Ok(Sunk::On(other))
+                Ok(Sunk::On(*other))
             }
         }
         Sink::Declare(at, next) => {
-            store.declare(at, x)?;
-            Ok(Sunk::On(next))
+            store.declare(*at, x)?;
+            Ok(Sunk::On(*next))
         }
         Sink::Assign(at, next) => {
-            store.assign(at, x);
-            Ok(Sunk::On(next))
+            store.assign(*at, x);
+            Ok(Sunk::On(*next))
         }
         Sink::Return(scopes) => {
-            store.end(scopes);
+            store.end(*scopes);
             Ok(Sunk::Back(x))
         }
     }
@@ -142,6 +164,7 @@ impl Machine {
     }
 
     /// Goes back to the caller, if one waits.
+    #[inline(always)]
     fn go_back(&mut self, x: i128) -> Result<Reached, Stop>
         ensures steps { (program : Resolved) (ops : List Op) (left : ℕ) →
             Steps program ops (back_to (counted program) ops self.old.callers.items x self.old.store
@@ -159,12 +182,14 @@ impl Machine {
     }
 
     /// Makes a value, and does something with it.
-    fn make(&mut self, work: Work, sink: Sink, at: usize) -> Result<Reached, Stop>
+    #[inline(always)]
+    fn make(&mut self, work: &Work, sink: &Sink, at: usize) -> Result<Reached, Stop>
         ensures steps { (program : Resolved) (ops : List Op) (left : ℕ) → Steps program ops
             (op_to (counted program) (back_to (counted program) ops self.old.callers.items)
             (rests (counted program) (back_to (counted program) ops self.old.callers.items)
             (take at ops))
-            (op.Do work sink) self.old.store left) result self.new.callers.items self.new.store left }
+            (op.Do work.now sink.now) self.old.store left) result self.new.callers.items
+            self.new.store left }
         ensures falls { (left : ℕ) → Falls at result (length self.old.callers.items)
             (length self.new.callers.items) left }
     {
@@ -176,6 +201,7 @@ impl Machine {
     }
 
     /// Begins a function.
+    #[inline(always)]
     fn invoke(
         &mut self,
         code: &Code<'_>,
@@ -208,15 +234,16 @@ impl Machine {
     }
 
     /// One step, by the op at a position.
+    #[inline(always)]
     fn advance(
         &mut self,
         code: &Code<'_>,
-        op: Op<'_>,
+        op: &Op<'_>,
         at: usize,
         left: u32,
     ) -> Result<Reached, Stop>
         requires code { IsCode code.now }
-        requires found { slice_get code.now.ops.items at ≡ Some op }
+        requires found { slice_get code.now.ops.items at ≡ Some op.now }
         ensures steps { Steps code.now.program.now code.now.ops.items (machine_run
             code.now.program.now code.now.ops.items self.old.callers.items at self.old.store left)
             result self.new.callers.items self.new.store left }
@@ -225,15 +252,21 @@ impl Machine {
     {
         match op {
             Op::Do(work, sink) => self.make(work, sink, at),
-            Op::Call(f, count, next) => self.invoke(code, f, count, next, at, left),
-            Op::Turn(_, _, begin) => begin_turn(begin, left),
+            Op::Test(inner, zero, other) => {
+                self.make(&Work::Alone(*inner), &Sink::Branch(*zero, *other), at)
+            }
+            Op::Set(inner, slot, next) => {
+                self.make(&Work::Alone(*inner), &Sink::Assign(*slot, *next), at)
+            }
+            Op::Call(f, count, next) => self.invoke(code, *f, *count, *next, at, left),
+            Op::Turn(_, _, begin) => begin_turn(*begin, left),
             Op::Enter(next) => {
                 self.store.enter()?;
-                go_on(next, at)
+                go_on(*next, at)
             }
             Op::Leave(next) => {
                 self.store.leave();
-                go_on(next, at)
+                go_on(*next, at)
             }
         }
     }
@@ -308,6 +341,7 @@ impl Machine {
 }
 
 /// The position, if it is a lower one; else `end`, where nothing stands.
+#[inline(always)]
 fn lower(next: usize, at: usize, end: usize) -> usize
     ensures next { next < at → result ≡ next }
     ensures end { at ≤ next → result ≡ end }
@@ -316,6 +350,7 @@ fn lower(next: usize, at: usize, end: usize) -> usize
 }
 
 /// Begins a turn of a loop, if a round is left.
+#[inline(always)]
 fn begin_turn(begin: usize, left: u32) -> Result<Reached, Stop>
     ensures begun { OnOk result (0 < left) }
     ensures next { IfOk result (λ r. r ≡ reached.Round begin) }
@@ -329,6 +364,7 @@ fn begin_turn(begin: usize, left: u32) -> Result<Reached, Stop>
 }
 
 /// Goes on at a position, which has to be lower.
+#[inline(always)]
 fn go_on(next: usize, at: usize) -> Result<Reached, Stop>
     ensures steps { (program : Resolved) (ops : List Op) (callers : List Caller) (k : Kept)
         (left : ℕ) → Steps program ops (code_run (counted program)

@@ -10,6 +10,7 @@ ghost use Rattle.c_refute.specs.declared.code.Op.TheVariants as op;
 
 use crate::code::{Exits, Op, Operand, Sink, Work};
 use crate::expressions::{compile_expr, emit};
+use crate::scopes::add_no_slots;
 use c_ast::{Expr, Stmt};
 use rx_plain::{Boxed, Items, NoMemory};
 
@@ -169,7 +170,7 @@ fn compile_do<'a>(
     Ok(turn)
 }
 
-/// The code of a block.
+/// The code of a block. Where its statements add no slot, it needs no scope.
 #[cycle(executes)]
 fn compile_block<'a>(
     ops: &mut Vec<Op<'a>>,
@@ -180,6 +181,9 @@ fn compile_block<'a>(
     ensures { IfOk result (λ p. Leads ops.old.items ops.new.items p
         (stmt_run ops.old.items exits (syntax.Block inner.now))) }
 {
+    if add_no_slots(inner.as_slice()) {
+        return compile_sequence(ops, inner.as_slice(), exits);
+    }
     let within = scoped(ops, exits)?;
     let begun = compile_sequence(ops, inner.as_slice(), within)?;
     emit(ops, Op::Enter(begun))

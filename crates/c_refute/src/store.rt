@@ -1,11 +1,11 @@
 //! What a run keeps: the slots of all functions that have begun, in one list, the values that wait
 //! for their operator or call, and how many slots there were as each scope began.
-ghost use Rattle.std.specs.Prelude.{◌≡◌, ◌++◌, ◌∷◌, ◌<◌, [], IfOk, OnOk, length, take, drop, reverse, slice_set};
+ghost use Rattle.std.specs.Prelude.{◌≡◌, ◌++◌, ◌∷◌, ◌<◌, ◌≤◌, [], IfOk, OnOk, length, take, drop, reverse, slice_set};
 ghost use Rattle.c_meaning.specs.Expressions.{slot};
 ghost use Rattle.c_refute.specs.Flat as spec;
 ghost use Rattle.c_refute.specs.Stores.{below_top, called, ended, entered, given_back, left_scope, pushed, top, with_state, with_values};
 
-use crate::code::Operand;
+use crate::code::{Leaf, Operand};
 use rx_plain::NoMemory;
 use std::alloc::Global;
 use std::marker::Model;
@@ -36,11 +36,24 @@ impl Model for Store {
 }
 
 /// Puts a value in place of another.
+#[inline(always)]
 fn put(slots: &mut Vec<i128>, at: usize, value: i128)
     requires { at < length slots.old.items }
     ensures { slots.new.items ≡ slice_set slots.old.items at value }
 {
     slots[at] = value;
+}
+
+/// Adds values at the end, one by one: they are few.
+#[inline(always)]
+fn push_all(slots: &mut Vec<i128>, values: &[i128]) -> Result<(), NoMemory>
+    ensures added { OnOk result (slots.new.items ≡ slots.old.items ++ values.now) }
+    ensures grown { length slots.old.items ≤ length slots.new.items }
+{
+    for value in values {
+        slots.push(*value)?;
+    }
+    Ok(())
 }
 
 impl Store {
@@ -69,21 +82,23 @@ impl Store {
         self.slots.clear();
         self.values.clear();
         self.scopes.clear();
-        self.slots.extend_from_slice(state)?;
+        push_all(&mut self.slots, state)?;
         Ok(())
     }
 
     /// The value of a slot; 0 where it isn't in scope.
+    #[inline(always)]
     pub fn value_at(&self, at: u32) -> i128
         ensures { result ≡ slot self.now.state at }
     {
-        match self.slots[self.base..].get(at as usize) {
+        match self.slots.as_slice().get(self.base + at as usize) {
             Some(value) => *value,
             None => 0,
         }
     }
 
     /// How many slots are in scope.
+    #[inline(always)]
     pub fn count(&self) -> usize
         ensures { result ≡ length self.now.state }
     {
@@ -91,16 +106,18 @@ impl Store {
     }
 
     /// Gives a slot a value, where it is in scope.
+    #[inline(always)]
     pub fn assign(&mut self, at: u32, value: i128)
         ensures { self.new ≡ with_state self.old (slice_set self.old.state at value) }
     {
-        let at = at as usize;
-        if at < self.count() {
-            put(&mut self.slots, self.base + at, value);
+        let at = self.base + at as usize;
+        if at < self.slots.len() {
+            put(&mut self.slots, at, value);
         }
     }
 
     /// Lets go of all but the first `count` slots.
+    #[inline(always)]
     fn keep_first(&mut self, count: usize)
         ensures { self.new ≡ with_state self.old (take count self.old.state) }
     {
@@ -110,6 +127,7 @@ impl Store {
     }
 
     /// Adds a slot after the first `at`; the others are let go of.
+    #[inline(always)]
     pub fn declare(&mut self, at: u32, value: i128) -> Result<(), NoMemory>
         ensures { OnOk result (self.new ≡ with_state self.old
             (take at self.old.state ++ value ∷ [])) }
@@ -120,6 +138,7 @@ impl Store {
     }
 
     /// Puts a value on top.
+    #[inline(always)]
     pub fn push(&mut self, value: i128) -> Result<(), NoMemory>
         ensures { OnOk result (self.new ≡ pushed self.old value) }
     {
@@ -128,6 +147,7 @@ impl Store {
     }
 
     /// Takes the value on top off; 0 where there is none.
+    #[inline(always)]
     fn pop(&mut self) -> i128
         ensures value { result ≡ top self.old.values }
         ensures kept { self.new ≡ with_values self.old (below_top self.old.values) }
@@ -139,6 +159,7 @@ impl Store {
     }
 
     /// Reads an operand.
+    #[inline(always)]
     pub fn read(&mut self, operand: Operand) -> i128
         ensures value { result ≡ spec.read operand self.old }
         ensures kept { self.new ≡ spec.after operand self.old }
@@ -150,7 +171,19 @@ impl Store {
         }
     }
 
+    /// The value of a leaf.
+    #[inline(always)]
+    pub fn leaf_value(&self, leaf: &Leaf) -> i128
+        ensures { result ≡ spec.leaf_value leaf.now self.now }
+    {
+        match leaf {
+            Leaf::Constant(value) => i128::from(*value),
+            Leaf::Slot(at) => self.value_at(*at),
+        }
+    }
+
     /// Begins a scope.
+    #[inline(always)]
     pub fn enter(&mut self) -> Result<(), NoMemory>
         ensures { OnOk result (self.new ≡ entered self.old) }
     {
@@ -160,6 +193,7 @@ impl Store {
     }
 
     /// Ends a scope.
+    #[inline(always)]
     pub fn leave(&mut self)
         ensures { self.new ≡ left_scope self.old }
     {
@@ -171,6 +205,7 @@ impl Store {
     }
 
     /// Ends a function, in which so many scopes have begun: none of its slots is read any more.
+    #[inline(always)]
     pub fn end(&mut self, scopes: usize)
         ensures { self.new ≡ ended self.old scopes }
     {
@@ -183,6 +218,7 @@ impl Store {
 
     /// Begins a function, whose slots are so many values from the top; returns where the slots of
     /// its caller begin.
+    #[inline(always)]
     pub fn call(&mut self, count: usize) -> Result<usize, NoMemory>
         ensures base { IfOk result (λ base. base ≡ length self.old.below) }
         ensures kept { OnOk result (self.new ≡ called self.old count) }
@@ -190,12 +226,13 @@ impl Store {
         let base = self.base;
         let first = self.values.len().saturating_sub(count);
         self.base = self.slots.len();
-        self.slots.extend_from_slice(&self.values[first..])?;
+        push_all(&mut self.slots, &self.values[first..])?;
         self.values.truncate(first);
         Ok(base)
     }
 
     /// Ends a function; the slots of its caller begin at `base`.
+    #[inline(always)]
     pub fn return_to(&mut self, base: usize)
         ensures { self.new ≡ given_back self.old base }
     {

@@ -1,4 +1,4 @@
-use Rattle.std.proofs.Common.{◌≡◌, ℕ, ◌∙◌, List, [], pos, length, drop, refl, sym, ap, subst, arith, rules}
+use Rattle.std.proofs.Common.{◌≡◌, ℕ, ◌∙◌, Option, IfSome, List, [], pos, length, drop, refl, sym, ap, subst, arith, rules}
 use Rattle.std.proofs.Math.Seq.{drop-length}
 use Rattle.std.proofs.lemmas.Grind.{common_steps}
 use mir.Syntax.{w64}
@@ -8,13 +8,16 @@ use Rattle.c_ast.specs.declared.expr.Expr.TheVariants as syntax
 use Rattle.c_ast.specs.declared.expr.BinOp.{BinOp}
 use Rattle.c_ast.specs.declared.expr.BinOp.TheVariants.{AndAlso, OrElse}
 use Rattle.c_refute.specs.declared.code.Operand.{Operand}
-use Rattle.c_refute.specs.Flat.{Leads, operand_of, code_run, arguments_run, expr_run, operand_run, right_run}
+use Rattle.c_refute.specs.Flat.{op_to, rests, IsInner, Leads, Makes, operand_of, code_run, arguments_run, expr_run, operand_run, right_run}
 use Rattle.c_refute.specs.declared.code.Operand.TheVariants.{Constant, Slot}
-use Rattle.c_refute.specs.declared.code.Work.TheVariants.{Read, Before, Between}
+use Rattle.c_refute.specs.declared.code.Work.TheVariants.{Read, Before, Between, Right}
+use Rattle.c_refute.specs.declared.code.Inner.{Inner}
+use Rattle.c_refute.specs.declared.code.Work.{Work}
 use Rattle.c_refute.specs.declared.code.Sink.TheVariants as sink
 use Rattle.c_refute.specs.declared.code.Op.TheVariants as op
 use Rattle.c_refute.proofs.Leading.{emitted, emit-then, if_ok-mapped, leads-here}
 use Rattle.c_refute.proofs.ExpressionCode.{read-leaf, right-leads, strict-leads, both-leads, either-leads, unary-leads, lit-leads, var-leads, choose-leads, call-leads, argument-leads, binary-leads, strict-op, in-form, drop-one}
+use Rattle.c_refute.proofs.WorkCode.{right-inner-leads, work-leads}
 use Rattle.c_refute.proofs.expressions.+compiles.Goals as goal
 
 pub compile_arguments-loop-i-init : goal.compile_arguments-loop-i-init
@@ -37,10 +40,23 @@ compile_arguments-loop-i-preserved t c =
     (argument-leads old c.loop-i.ops.items c.compile_expr.new.ops.items e (drop i es) c.args.next
     c.loop-i.at c.in_ok-at.at c.loop-i.invariant c.in_ok-at.ensures)
 
+pub compile_right-returns-in-Some : goal.compile_right-returns-in-Some
+compile_right-returns-in-Some t c =
+    let old = c.args.ops.now.items in
+    let new = c.emit.new.ops.items in
+    let b = c.args.b.now in
+    let inner = c.in-Some.inner in
+    let is = subst (λ (o : Option Inner). IfSome o (λ i. IsInner b i)) c.in-Some.is
+    c.inner_of.ensures in
+    emit-then c.emit.result old new (op.Do (Right c.args.op c.args.left inner) c.args.sink)
+    (λ p. Leads old new p (right_run old c.args.sink c.args.op c.args.left b)) tt
+    (λ p leads. right-inner-leads old new c.args.sink c.args.op c.args.left b inner p is leads)
+    c.emit.ensures.position c.emit.ensures.added
+
 pub compile_right-returns : goal.compile_right-returns
 compile_right-returns t c =
     let old = c.args.ops.now.items in
-    let m1 = c.emit.new.ops.items in
+    let m1 = c.emit-2.new.ops.items in
     let new = c.compile_operand.new.ops.items in
     let s = c.args.sink in
     let b = c.args.b.now in
@@ -53,6 +69,21 @@ compile_right-returns t c =
     (emitted old m1 (op.Do (Between c.args.op c.args.left (operand_of b)) s) both
     c.in_ok-both.ensures.position added tt) last)
     c.compile_operand.ensures
+
+pub compile_expr-returns-in-Some : goal.compile_expr-returns-in-Some
+compile_expr-returns-in-Some t c =
+    let old = c.args.ops.now.items in
+    let new = c.emit_work.new.ops.items in
+    let s = c.args.sink in
+    let e = c.args.e.now in
+    let work = c.in-Some.work in
+    let makes = subst (λ (o : Option Work). IfSome o (λ w. Makes e w)) c.in-Some.is
+    c.work_of.ensures in
+    if_ok-mapped c.emit_work.result
+    (λ p. Leads old new p (λ calls back. op_to calls back (rests calls back old) (op.Do work s)))
+    (λ p. Leads old new p (expr_run old s e))
+    (λ p leads. work-leads old new s work e p makes leads)
+    c.emit_work.ensures
 
 pub compile_operand-returns-in-Constant : goal.compile_operand-returns-in-Constant
 compile_operand-returns-in-Constant t c =
@@ -76,8 +107,8 @@ compile_operand-returns-in-Slot t c =
     (λ calls back k left. read-leaf calls k left e (λ j m. code_run calls back old n j m)
     (λ popped. absurd (cc)))
 
-pub compile_expr-returns-in-Lit : goal.compile_expr-returns-in-Lit
-compile_expr-returns-in-Lit t c =
+pub compile_parts-returns-in-Lit : goal.compile_parts-returns-in-Lit
+compile_parts-returns-in-Lit t c =
     let old = c.args.ops.now.items in
     let new = c.emit.new.ops.items in
     let s = c.args.sink in
@@ -90,8 +121,8 @@ compile_expr-returns-in-Lit t c =
     (lit-leads old new s c.in-Lit.value p leads))
     c.emit.ensures.position added
 
-pub compile_expr-returns-in-Var : goal.compile_expr-returns-in-Var
-compile_expr-returns-in-Var t c =
+pub compile_parts-returns-in-Var : goal.compile_parts-returns-in-Var
+compile_parts-returns-in-Var t c =
     let old = c.args.ops.now.items in
     let new = c.emit-in-Var.new.ops.items in
     let s = c.args.sink in
@@ -101,8 +132,8 @@ compile_expr-returns-in-Var t c =
     (var-leads old new s c.in-Var.slot p leads))
     c.emit-in-Var.ensures.position c.emit-in-Var.ensures.added
 
-pub compile_expr-returns-in_ok-next-in-Unary : goal.compile_expr-returns-in_ok-next-in-Unary
-compile_expr-returns-in_ok-next-in-Unary t c =
+pub compile_parts-returns-in_ok-next-in-Unary : goal.compile_parts-returns-in_ok-next-in-Unary
+compile_parts-returns-in_ok-next-in-Unary t c =
     let old = c.args.ops.now.items in
     let m1 = c.emit-in-Unary.new.ops.items in
     let new = c.compile_operand.new.ops.items in
@@ -121,8 +152,8 @@ compile_expr-returns-in_ok-next-in-Unary t c =
     added tt) last))
     c.compile_operand.ensures
 
-pub compile_expr-returns-in_ok-first-in-Choose : goal.compile_expr-returns-in_ok-first-in-Choose
-compile_expr-returns-in_ok-first-in-Choose t c =
+pub compile_parts-returns-in_ok-first-in-Choose : goal.compile_parts-returns-in_ok-first-in-Choose
+compile_parts-returns-in_ok-first-in-Choose t c =
     let old = c.args.ops.now.items in
     let m1 = c.compile_expr-in-Choose.new.ops.items in
     let m2 = c.compile_expr-in-Choose-2.new.ops.items in
@@ -145,8 +176,8 @@ compile_expr-returns-in_ok-first-in-Choose t c =
     c.in_ok-first-in-Choose.ensures last))
     c.compile_expr-in-Choose-3.ensures
 
-pub compile_expr-returns-in_ok-call-in-Apply : goal.compile_expr-returns-in_ok-call-in-Apply
-compile_expr-returns-in_ok-call-in-Apply t c =
+pub compile_parts-returns-in_ok-call-in-Apply : goal.compile_parts-returns-in_ok-call-in-Apply
+compile_parts-returns-in_ok-call-in-Apply t c =
     let old = c.args.ops.now.items in
     let m1 = c.after_call.new.ops.items in
     let m2 = c.emit-in-Apply.new.ops.items in
@@ -167,8 +198,8 @@ compile_expr-returns-in_ok-call-in-Apply t c =
     tt) last))
     c.compile_arguments.ensures
 
-pub compile_expr-returns-in_ok-right-in-AndAlso : goal.compile_expr-returns-in_ok-right-in-AndAlso
-compile_expr-returns-in_ok-right-in-AndAlso t c =
+pub compile_parts-returns-in_ok-right-in-AndAlso : goal.compile_parts-returns-in_ok-right-in-AndAlso
+compile_parts-returns-in_ok-right-in-AndAlso t c =
     let old = c.args.ops.now.items in
     let m1 = c.emit-in-AndAlso.new.ops.items in
     let m2 = c.compile_right.new.ops.items in
@@ -194,8 +225,8 @@ compile_expr-returns-in_ok-right-in-AndAlso t c =
     truth last)))
     c.compile_expr.ensures
 
-pub compile_expr-returns-in_ok-right-in-OrElse : goal.compile_expr-returns-in_ok-right-in-OrElse
-compile_expr-returns-in_ok-right-in-OrElse t c =
+pub compile_parts-returns-in_ok-right-in-OrElse : goal.compile_parts-returns-in_ok-right-in-OrElse
+compile_parts-returns-in_ok-right-in-OrElse t c =
     let old = c.args.ops.now.items in
     let m1 = c.emit-in-OrElse.new.ops.items in
     let m2 = c.compile_right-in-OrElse.new.ops.items in
@@ -221,8 +252,8 @@ compile_expr-returns-in_ok-right-in-OrElse t c =
     truth last)))
     c.compile_expr-in-OrElse.ensures
 
-pub compile_expr-returns-in_ok-right-in_default : goal.compile_expr-returns-in_ok-right-in_default
-compile_expr-returns-in_ok-right-in_default t c =
+pub compile_parts-returns-in_ok-right-in_default : goal.compile_parts-returns-in_ok-right-in_default
+compile_parts-returns-in_ok-right-in_default t c =
     let old = c.args.ops.now.items in
     let m1 = c.compile_right-in_default.new.ops.items in
     let new = c.compile_operand-in_default.new.ops.items in

@@ -1,15 +1,18 @@
 use Rattle.std.proofs.Common.{◌≡◌, ◌∙◌, ℕ, Option, None, Some, List, length, drop, refl, sym, ap, subst, arith, rules}
 use Rattle.std.proofs.Math.Seq.{drop-length}
 use Rattle.std.specs.Option.{option_map}
+use Rattle.std.specs.Prelude.{IfOk}
 use Rattle.c_ast.specs.declared.stmt.Stmt.{Stmt}
 use Rattle.c_ast.specs.declared.stmt.Stmt.TheVariants as syntax
 use Rattle.c_refute.specs.Statements.{optional, stmt}
+use Rattle.c_refute.specs.Scopes.{AddNoSlots}
 use Rattle.c_refute.specs.Flat.{Leads, expr_run, flow_run, for_loop, sequence_run, stmt_run, turn_of}
 use Rattle.c_refute.specs.declared.code.Sink.TheVariants as sink
 use Rattle.c_refute.specs.declared.code.Op.TheVariants as op
 use Rattle.c_refute.proofs.Leading.{emit-then, if_ok-mapped, longer-length, exits-below}
 use Rattle.c_refute.proofs.LoopCode.{loop-leads, while-turn-leads, no-change, do-turn-leads}
 use Rattle.c_refute.proofs.StatementCode.{inside-within, one-longer, nothing-leads, sequence-none, sequence-leads, block-leads, for-leads, if-leads, empty-leads, break-leads, continue-leads, assign-leads, for-all-leads, turn-For, in-form, drop-one}
+use Rattle.c_refute.proofs.Unscoped.{plain-block-leads}
 use Rattle.c_refute.proofs.statements.+executes.Goals as goal
 
 pub compile_other-returns-in-None : goal.compile_other-returns-in-None
@@ -39,14 +42,30 @@ compile_sequence-loop-i-preserved t c =
     (drop i ts) c.loop-i.next c.in_ok-next.next
     c.loop-i.invariant c.in_ok-next.ensures)
 
+pub compile_block-returns-then-add_no_slots : goal.compile_block-returns-then-add_no_slots
+compile_block-returns-then-add_no_slots t c =
+    let old = c.args.ops.now.items in
+    let new = c.compile_sequence.new.ops.items in
+    let exits = c.args.exits in
+    let inner = c.as_slice-then-add_no_slots.result.now in
+    let other = c.as_slice.ensures ∙ sym c.as_slice-then-add_no_slots.ensures in
+    let none = subst (λ (ts : List Stmt). AddNoSlots ts) other c.if-add_no_slots.ensures in
+    let P : List Stmt → Type 0 = λ ts. IfOk c.compile_sequence.result (λ p.
+    Leads old new p (stmt_run old exits (syntax.Block ts))) in
+    subst P c.as_slice-then-add_no_slots.ensures
+    (if_ok-mapped c.compile_sequence.result (λ p. Leads old new p (sequence_run old exits inner))
+    (λ p. Leads old new p (stmt_run old exits (syntax.Block inner)))
+    (λ p leads. plain-block-leads old new exits p inner none leads)
+    c.compile_sequence.ensures)
+
 pub compile_block-returns : goal.compile_block-returns
 compile_block-returns t c =
     let old = c.args.ops.now.items in
     let m1 = c.scoped.new.ops.items in
-    let m2 = c.compile_sequence.new.ops.items in
+    let m2 = c.compile_sequence-2.new.ops.items in
     let new = c.emit.new.ops.items in
     let exits = c.args.exits in
-    let same = c.as_slice.ensures in
+    let same = c.as_slice-2.ensures in
     let begun = rw same at c.in_ok-begun.ensures in
     emit-then c.emit.result m2 new (op.Enter c.in_ok-begun.begun)
     (λ p. Leads old new p (stmt_run old exits (syntax.Block c.args.inner.now))) tt

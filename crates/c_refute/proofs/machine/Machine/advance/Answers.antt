@@ -76,3 +76,29 @@ returns-in-Leave-clause-steps c =
     left) (sym c.leave.ensures) in
     steps-same program ops _ _ c.go_on-in-Leave.result callers c.leave.new.self left (same ∙ moved)
     (c.go_on-in-Leave.ensures.steps program ops callers c.leave.new.self left)
+
+pub returns-in-Test-clause-steps : goal.returns-in-Test-clause-steps
+returns-in-Test-clause-steps c =
+    let program = c.args.code.now.program.now in
+    let ops = c.args.code.now.ops.items in
+    let left = c.args.left in
+    let back : Back = back_to (counted program) ops c.args.self.now.callers.items in
+    let found = c.requires.found ∙ ap (λ (o : Op). Some o) c.in-Test.is in
+    let same = ap (λ (r : Rest). r c.args.self.now.store left)
+    (op-found (counted program) back ops c.args.at
+    (op.Test c.in-Test.inner c.in-Test.zero c.in-Test.other) found) in
+    steps-same program ops _ _ c.make-in-Test.result c.make-in-Test.new.self.callers.items
+    c.make-in-Test.new.self.store left same (c.make-in-Test.ensures.steps program ops left)
+
+pub returns-in-Set-clause-steps : goal.returns-in-Set-clause-steps
+returns-in-Set-clause-steps c =
+    let program = c.args.code.now.program.now in
+    let ops = c.args.code.now.ops.items in
+    let left = c.args.left in
+    let back : Back = back_to (counted program) ops c.args.self.now.callers.items in
+    let found = c.requires.found ∙ ap (λ (o : Op). Some o) c.in-Set.is in
+    let same = ap (λ (r : Rest). r c.args.self.now.store left)
+    (op-found (counted program) back ops c.args.at
+    (op.Set c.in-Set.inner c.in-Set.slot c.in-Set.next) found) in
+    steps-same program ops _ _ c.make-in-Set.result c.make-in-Set.new.self.callers.items
+    c.make-in-Set.new.self.store left same (c.make-in-Set.ensures.steps program ops left)

@@ -17,7 +17,8 @@ returns-in-On-clause-steps c program ops left =
     let plain : to_z w128 (of_z w128 c.in_ok-x.x) ≡ c.in_ok-x.x =
     first_of (search rules, grind (arith, common_steps)) in
     let sunk = rw c.in-On.is at (c.in_ok-next.ensures rs back left) in
-    let made = made-to (counted program) back rs c.args.work c.args.sink c.args.self.now.store
+    let made = made-to (counted program) back rs c.args.work.now c.args.sink.now
+    c.args.self.now.store
     c.value_of.new.store (to_z w128 (of_z w128 c.in_ok-x.x)) left
     (c.in_ok-x.ensures.number left ∙ ap (λ (z : ℤ). Value z left) (sym plain))
     c.in_ok-x.ensures.kept in
@@ -35,7 +36,8 @@ returns-in-Back-clause-steps c program ops left =
     let back_plain : to_z w128 (of_z w128 c.in-Back.x) ≡ c.in-Back.x =
     first_of (search rules, grind (arith, common_steps)) in
     let given = ap (λ (z : ℤ). back z c.sink_value.new.store left) (sym back_plain) in
-    let made = made-to (counted program) back rs c.args.work c.args.sink c.args.self.now.store
+    let made = made-to (counted program) back rs c.args.work.now c.args.sink.now
+    c.args.self.now.store
     c.value_of.new.store (to_z w128 (of_z w128 c.in_ok-x.x)) left
     (c.in_ok-x.ensures.number left ∙ ap (λ (z : ℤ). Value z left) (sym plain))
     c.in_ok-x.ensures.kept in

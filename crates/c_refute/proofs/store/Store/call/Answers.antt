@@ -8,7 +8,7 @@ returns-clause-kept c =
     let inside = c.self.inside in
     let first : c.saturating_sub-first.result ≡ length inside.values.items - c.args.count =
     cc (c.saturating_sub-first.ensures, c.len.ensures) in
-    let shown = rw (c.deref.ensures.value, first) at c.in_ok-extend_from_slice.ensures.items in
+    let shown = rw (c.deref.ensures.value, first) at c.in_ok-push_all.ensures.added in
     let few : length (drop (length inside.values.items - c.args.count) inside.values.items) ≤
     length inside.values.items - (length inside.values.items - c.args.count) =
     let many = length-drop (length inside.values.items - c.args.count) inside.values.items in
@@ -21,4 +21,4 @@ returns-clause-kept c =
     cc (c.len-self-inside.ensures) in
     rw base (kept-call inside.base inside.slots.items inside.values.items inside.scopes.items
     c.args.self.now c.self.view_is c.args.count
-    c.extend_from_slice.new.self.items c.truncate.new.self.items added less)
+    c.push_all.new.slots.items c.truncate.new.self.items added less)
