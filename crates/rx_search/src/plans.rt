@@ -8,7 +8,7 @@ ghost use Rattle.rx_term.specs.declared.rule.Equation.{Equation};
 ghost use Rattle.rx_visits.specs.Views.{seen_settled};
 
 use crate::menu::find_menu;
-use crate::node::{Node, copied_steps, is_closed};
+use crate::node::{Node, copied_steps, is_closed, shared_steps};
 use rx_cert::Cert;
 use rx_fm::FmEnd;
 use rx_plain::{Items, NoMemory};
@@ -38,7 +38,8 @@ fn settle_node<S: FnMut(&Constraint) -> Result<Option<Cert>, FmEnd>>(
     let mut steps = copied_steps(alloc, node.steps.as_slice())?;
     let mut state = node.state.try_clone(alloc)?;
     let found = settle(alloc, rules, points, &mut state, solve)?;
-    steps.append(found.steps)?;
+    let fresh = shared_steps(alloc, found.steps)?;
+    steps.append(fresh)?;
     let closed = is_closed(&state);
     Ok(Settled {
         node: Node {

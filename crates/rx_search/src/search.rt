@@ -21,7 +21,7 @@ ghost use Rattle.rx_visits.specs.Outcomes.{outcome};
 ghost use Rattle.rx_visits.specs.Views.{IfClosed, seen_outcome};
 ghost use Rattle.rx_visits.specs.Visits.{all_visits};
 
-use crate::node::{MOST_STEPS, Node, copied_rows};
+use crate::node::{MOST_STEPS, Node, copied_rows, own_steps};
 use crate::plans::Plans;
 use crate::search_end::SearchEnd;
 use rx_cert::Cert;
@@ -38,8 +38,9 @@ use rx_term::{Equation, Rule, RuleSet};
 use rx_visits::{Note, Outcome};
 use std::alloc::Global;
 
-/// How many nodes are kept from one list of visits to the next, at most.
-const MOST_KEPT: usize = 4096;
+/// How many nodes are kept from one list of visits to the next, at most, unless another number is
+/// given.
+const MOST_KEPT: usize = 32_768;
 
 /// The node with no steps.
 fn start_node(alloc: Global, goal: &Equation) -> Result<Node, NoMemory>
@@ -60,6 +61,7 @@ fn visit_plans<S: FnMut(&Constraint) -> Result<Option<Cert>, FmEnd>>(
     goal: &Equation,
     depth: u32,
     budget: u32,
+    most_kept: usize,
     memo: &mut PairMemo,
     solve: &mut S,
 ) -> Result<Outcome<Node, Items<Row>>, NoMemory>
@@ -82,7 +84,7 @@ fn visit_plans<S: FnMut(&Constraint) -> Result<Option<Cert>, FmEnd>>(
         memo,
         solve,
     };
-    rx_visits::search(alloc, &mut plans, &start, depth, budget, MOST_KEPT)
+    rx_visits::search(alloc, &mut plans, &start, depth, budget, most_kept)
 }
 
 /// Trees that cover the rules; as the rules are coverable, only want of memory stands against it.
@@ -144,9 +146,10 @@ fn log_of<S: FnMut(&Constraint) -> Result<Option<Cert>, FmEnd>>(
 {
     let covers = cover_of(alloc, rules, solve)?;
     let ranking = ranks_of(alloc, rules, node.state.hypotheses(), memo, solve)?;
+    let steps = own_steps(alloc, node.steps.as_slice())?;
     Ok(Log {
         covers,
-        steps: node.steps,
+        steps,
         table: ranking.table,
         pairs: ranking.certs,
     })
@@ -156,6 +159,7 @@ fn log_of<S: FnMut(&Constraint) -> Result<Option<Cert>, FmEnd>>(
 #[derive(Drop)]
 pub struct Search<S> {
     solve: S,
+    most_kept: usize,
 }
 
 impl<S: FnMut(&Constraint) -> Result<Option<Cert>, FmEnd>> Search<S> {
@@ -164,7 +168,23 @@ impl<S: FnMut(&Constraint) -> Result<Option<Cert>, FmEnd>> Search<S> {
         requires { IsSolver S.FnMut solve }
         ensures { AsksSolver S.FnMut result }
     {
-        Search { solve }
+        Search {
+            solve,
+            most_kept: MOST_KEPT,
+        }
+    }
+
+    /// The search that keeps at most so many nodes from one list of visits to the next; at first
+    /// these are 32,768. What it answers doesn't depend on that, only its time and its memory do.
+    /// Takes no memory.
+    pub fn keeping(self, most_kept: usize) -> Search<S>
+        requires { AsksSolver S.FnMut self }
+        ensures { AsksSolver S.FnMut result }
+    {
+        Search {
+            solve: self.solve,
+            most_kept,
+        }
     }
 
     /// What the visits of the plans come to, as a log or as an end.
@@ -191,7 +211,17 @@ impl<S: FnMut(&Constraint) -> Result<Option<Cert>, FmEnd>> Search<S> {
             (of_outcome (outcome budget (all_visits (settled rules.now) (menu rules.now) depth
             (start goal.now)))) e) }
     {
-        let outcome = visit_plans(alloc, rules, goal, depth, budget, memo, &mut self.solve)?;
+        let kept = self.most_kept;
+        let outcome = visit_plans(
+            alloc,
+            rules,
+            goal,
+            depth,
+            budget,
+            kept,
+            memo,
+            &mut self.solve,
+        )?;
         match outcome {
             Outcome::Closed(node) => {
                 let log = log_of(alloc, rules, node, memo, &mut self.solve)?;
@@ -205,8 +235,7 @@ impl<S: FnMut(&Constraint) -> Result<Option<Cert>, FmEnd>> Search<S> {
 
     /// Searches for a proof that both sides of the goal come to the same: nodes are visited by
     /// lists, the first with no choices on a path, the last with at most `depth` of them, and at
-    /// most
-    /// `budget` nodes are visited. The depth is at most 12.
+    /// most `budget` nodes are visited. The depth is at most 12.
     ///
     /// The answer is a log that is accepted for the rules and the goal; no certificate and no tree
     /// in it is deeper than 200. `NoRanks` where the rules alone have no ranks; `NoPlan` where all

@@ -16,8 +16,9 @@ returns-clause-settled g c =
     c.in_ok-found.found) c.in_ok-state.ensures c.in_ok-found.ensures.settled in
     settled_seen parts a.node.now new c.in_ok-found.found is c.append.new.self
     c.is_closed-closed.result
-    (c.in_ok-append.ensures.ok ∙ ap (λ xs. xs ++ c.in_ok-found.found.steps)
-    (c.in_ok-steps.ensures ∙ c.as_slice.ensures)) c.is_closed-closed.ensures
+    (c.in_ok-append.ensures.ok ∙ ap (λ xs. c.in_ok-steps.steps ++ xs) c.in_ok-fresh.ensures
+    ∙ ap (λ xs. xs ++ c.in_ok-found.found.steps) (c.in_ok-steps.ensures ∙ c.as_slice.ensures))
+    c.is_closed-closed.ensures
 
 pub returns-clause-node : goal.returns-clause-node
 returns-clause-node g c = λ goal node.
@@ -27,6 +28,6 @@ returns-clause-node g c = λ goal node.
     let is = subst (λ (s : State). IsSettled parts s new (settling.settle parts most_moves s)
     c.in_ok-found.found) c.in_ok-state.ensures c.in_ok-found.ensures.settled in
     settled_node parts a.node.now new c.in_ok-found.found is goal c.append.new.self
-    (c.in_ok-append.ensures.ok ∙ ap (λ xs. xs ++ c.in_ok-found.found.steps)
-    (c.in_ok-steps.ensures ∙ c.as_slice.ensures))
+    (c.in_ok-append.ensures.ok ∙ ap (λ xs. c.in_ok-steps.steps ++ xs) c.in_ok-fresh.ensures
+    ∙ ap (λ xs. xs ++ c.in_ok-found.found.steps) (c.in_ok-steps.ensures ∙ c.as_slice.ensures))
     (c.in_ok-found.ensures.hypotheses ∙ ap (λ (s : State). s.hypotheses) c.in_ok-state.ensures) node

@@ -31,12 +31,13 @@ returns-clause-accepted g c = λ goal node.
     accepted c.args.rules.now goal c.args.node
     (record {
       covers = c.in_ok-covers.covers;
-      steps = c.args.node.steps;
+      steps = c.in_ok-steps.steps;
       table =
           c.in_ok-ranking.ranking.table;
       pairs = c.in_ok-ranking.ranking.certs;
     })
-    c.in_ok-ranking.ranking node c.in_ok-covers.ensures.covers refl refl refl
+    c.in_ok-ranking.ranking node c.in_ok-covers.ensures.covers
+    (c.in_ok-steps.ensures ∙ c.as_slice.ensures) refl refl
     (subst (λ (hs : List Rule). LowersAll c.args.rules.now hs c.in_ok-ranking.ranking)
     c.hypotheses.ensures c.in_ok-ranking.ensures.lowers) c.requires.closed
 
@@ -46,11 +47,12 @@ returns-clause-shallow g c =
     log_shallow c.args.rules.now
     (record {
       covers = c.in_ok-covers.covers;
-      steps = c.args.node.steps;
+      steps = c.in_ok-steps.steps;
       table =
           c.in_ok-ranking.ranking.table;
       pairs = c.in_ok-ranking.ranking.certs;
     })
-    c.in_ok-covers.covers c.args.node.steps c.in_ok-ranking.ranking.certs refl refl refl
+    c.in_ok-covers.covers c.args.node.steps c.in_ok-ranking.ranking.certs refl
+    (c.in_ok-steps.ensures ∙ c.as_slice.ensures) refl
     c.in_ok-covers.ensures.small node.reached.deep
     c.in_ok-ranking.ensures.lowers.deep
