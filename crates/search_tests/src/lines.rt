@@ -2,7 +2,7 @@
 use crate::answer::is_wanted;
 use crate::printing::translation_text;
 use crate::set_calls::{parts_of, translation_of};
-use crate::{search_calls, solve_calls, state_cases};
+use crate::{packing, search_calls, solve_calls, state_cases};
 use rx_term::RuleSet;
 use rx_translate::{TranslateEnd, Translation};
 use std::alloc::Global;
@@ -49,10 +49,12 @@ impl Lines {
         }
     }
 
-    // Whether the refuter's call answers this.
+    // Whether the call that needs no rule set answers this.
     fn is_solved(alloc: Global, call: &str, given: &str, wanted: &str) -> Option<bool> {
         let answer = match call {
             "refutes" => solve_calls::refuted(alloc, given)?,
+            "calls" => solve_calls::asked_behind(alloc, given)?,
+            "unpacked" => packing::unpacked(alloc, given)?,
             _ => solve_calls::entailed(alloc, given)?,
         };
         Some(is_wanted(&answer, wanted))
@@ -73,7 +75,9 @@ impl Lines {
             "state" => Some(state_cases::holds(alloc, given)? == (wanted == "yes")),
             "rules" => self.take_rules(alloc, given, wanted),
             "set" => self.take_set(alloc, given, wanted),
-            "refutes" | "entails" => Lines::is_solved(alloc, call, given, wanted),
+            "refutes" | "calls" | "unpacked" | "entails" => Lines::is_solved(
+                alloc, call, given, wanted,
+            ),
             _ => self.is_answered(alloc, call, given, wanted),
         }
     }

@@ -10,8 +10,10 @@
 #![tactic(auto)]
 
 mod answer;
+mod caching;
 mod lines;
 mod log_calls;
+mod packing;
 mod parts;
 mod printing;
 mod reading;

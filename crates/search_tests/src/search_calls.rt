@@ -11,7 +11,7 @@ use crate::printing::{
 };
 use crate::reading::{equation, place, rule, rules};
 use crate::running::ran;
-use crate::searching::{asked, searched};
+use crate::searching::{asked, cached, kept, searched};
 use rx_coverable::find_cover;
 use rx_fm::FmEnd;
 use rx_generalise::{lemmas, named};
@@ -137,6 +137,8 @@ pub fn answer_to(alloc: Global, set: &RuleSet, call: &str, given: &str) -> Optio
         "lemmas" => lemmas_of(alloc, set, given),
         "search" => searched(alloc, set, given),
         "asks" => asked(alloc, set, given),
+        "cached" => cached(alloc, set, given),
+        "kept" => kept(alloc, set, given),
         _ => None,
     }
 }

@@ -5,10 +5,12 @@ ghost use Rattle.rx_coverable.specs.Coverable.{is_coverable};
 ghost use Rattle.rx_joins.specs.Goals.{IsFitting};
 
 use crate::answer::{Answer, written};
+use crate::caching::search_behind;
 use crate::reading::equation;
 use crate::words::Words;
 use rx_coverable::find_cover;
 use rx_log::Log;
+use rx_logwriting::write_log;
 use rx_plain::NoMemory;
 use rx_row::{Constraint, Row};
 use rx_search::{Search, SearchEnd};
@@ -110,9 +112,16 @@ fn end_text(alloc: Global, end: &Result<Log, SearchEnd>) -> Result<Vec<u8>, NoMe
     Ok(out)
 }
 
-/// What a search for the equation comes to, to the depth and within the budget behind it: the
-/// number of the steps of its log, or how it ends without one.
-pub fn searched(alloc: Global, set: &RuleSet, given: &str) -> Option<Answer> {
+/// A goal, and how far the search for it goes.
+#[derive(Drop)]
+struct Task {
+    goal: Equation,
+    depth: u32,
+    budget: u32,
+}
+
+// The goal that is given, and behind it the depth and the budget.
+fn read_task(alloc: Global, given: &str) -> Option<Task> {
     let (goal, effort) = given.split_once(" | ")?;
     let goal = equation(alloc, goal)?;
     let mut words = Words::new(alloc, effort);
@@ -121,8 +130,104 @@ pub fn searched(alloc: Global, set: &RuleSet, given: &str) -> Option<Answer> {
     if !words.is_done() {
         return None;
     }
+    Some(Task {
+        goal,
+        depth,
+        budget,
+    })
+}
+
+/// What a search for the equation comes to, to the depth and within the budget behind it: the
+/// number of the steps of its log, or how it ends without one.
+pub fn searched(alloc: Global, set: &RuleSet, given: &str) -> Option<Answer> {
+    let Task {
+        goal,
+        depth,
+        budget,
+    } = read_task(alloc, given)?;
     let found = search_for(alloc, set, &goal, depth, budget)?;
     written(end_text(alloc, &found.end))
+}
+
+// The text of the log, or how the search ended without one; none where memory ran out.
+fn whole_text(alloc: Global, end: &Result<Log, SearchEnd>) -> Option<Vec<u8>> {
+    match end {
+        Ok(log) => write_log(alloc, log).ok(),
+        Err(_) => end_text(alloc, end).ok(),
+    }
+}
+
+// How the first search ended, where the others came to the same text; otherwise the word `differ`.
+fn common_end(alloc: Global, first: &Result<Log, SearchEnd>, others: &[Vec<u8>]) -> Option<Answer> {
+    let text = whole_text(alloc, first)?;
+    if others
+        .iter()
+        .all(|other| other.as_slice() == text.as_slice())
+    {
+        return written(end_text(alloc, first));
+    }
+    let mut out = Vec::new(alloc);
+    push_word(&mut out, b"differ").ok()?;
+    Some(Answer::Found(out))
+}
+
+/// What searches for the equation come to, to the depth and within the budget behind it, by the
+/// refuter behind caches that hold 1, 16 and 4,096 answers, where the texts of their logs are the
+/// same bytes.
+pub fn cached(alloc: Global, set: &RuleSet, given: &str) -> Option<Answer> {
+    let Task {
+        goal,
+        depth,
+        budget,
+    } = read_task(alloc, given)?;
+    if depth > MOST_DEEP || !is_fitting(set, &goal) || !is_covered(alloc, set) {
+        return None;
+    }
+    let one = search_behind(alloc, set, &goal, depth, budget, 1);
+    let some = search_behind(alloc, set, &goal, depth, budget, 16);
+    let many = search_behind(alloc, set, &goal, depth, budget, 4096);
+    let mut others = Vec::new(alloc);
+    others.push(whole_text(alloc, &some)?).ok()?;
+    others.push(whole_text(alloc, &many)?).ok()?;
+    common_end(alloc, &one, &others)
+}
+
+/// The search for the goal that keeps so many nodes.
+fn search_keeping(
+    alloc: Global,
+    set: &RuleSet,
+    goal: &Equation,
+    depth: u32,
+    budget: u32,
+    most_kept: usize,
+) -> Result<Log, SearchEnd>
+    requires coverable { is_coverable set.now ≡ true }
+    requires fits { IsFitting set.now goal.now }
+    requires depth { depth ≤ 12 }
+{
+    Search::new(|rows: &Constraint| refutes(alloc, rows))
+        .keeping(most_kept)
+        .search(alloc, set, goal, depth, budget)
+}
+
+/// What searches for the equation come to, to the depth and within the budget behind it, that keep
+/// 1, 4 and 65,536 nodes, where the texts of their logs are the same bytes.
+pub fn kept(alloc: Global, set: &RuleSet, given: &str) -> Option<Answer> {
+    let Task {
+        goal,
+        depth,
+        budget,
+    } = read_task(alloc, given)?;
+    if depth > MOST_DEEP || !is_fitting(set, &goal) || !is_covered(alloc, set) {
+        return None;
+    }
+    let one = search_keeping(alloc, set, &goal, depth, budget, 1);
+    let four = search_keeping(alloc, set, &goal, depth, budget, 4);
+    let many = search_keeping(alloc, set, &goal, depth, budget, 65_536);
+    let mut others = Vec::new(alloc);
+    others.push(whole_text(alloc, &four)?).ok()?;
+    others.push(whole_text(alloc, &many)?).ok()?;
+    common_end(alloc, &one, &others)
 }
 
 // How many calls of the refuter more there are, as a word.

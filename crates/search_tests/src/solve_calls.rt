@@ -1,11 +1,12 @@
 //! The calls of the refuter.
 use crate::answer::{Answer, ended, written};
+use crate::caching::calls_behind;
 use rx_cert::Cert;
 use rx_plain::NoMemory;
 use rx_row::{Constraint, Row};
 use rx_solve::{entails, refutes};
-use rx_text::{push_word, read_row};
-use rx_words::{push_cert, read_rows};
+use rx_text::{push_word, read_row, skip_word};
+use rx_words::{push_cert, push_count, read_number, read_rows};
 use std::alloc::Global;
 
 // The rows that the text is.
@@ -56,4 +57,39 @@ pub fn entailed(alloc: Global, given: &str) -> Option<Answer> {
         Ok(None) => Some(Answer::Nothing),
         Err(end) => ended(end),
     }
+}
+
+// As many lists of rows as are counted, from the place on, each after a space, up to the end.
+fn lists_at(alloc: Global, text: &[u8], from: usize, count: u32) -> Option<Vec<Constraint>> {
+    let mut lists = Vec::new(alloc);
+    let mut at = from;
+    for _ in 0..count {
+        let next = skip_word(text, at, b" ")?;
+        let (rows, end) = read_rows(alloc, text, next).ok()??;
+        lists.push(Constraint::from_rows(rows.into_vec())).ok()?;
+        at = end;
+    }
+    if at == text.len() { Some(lists) } else { None }
+}
+
+// A number.
+fn number_text(alloc: Global, number: u32) -> Result<Vec<u8>, NoMemory> {
+    let mut out = Vec::new(alloc);
+    push_count(&mut out, number as usize)?;
+    Ok(out)
+}
+
+/// How often the refuter is asked behind a cache that holds so many answers, where the lists of
+/// rows behind the first ` | ` are asked for in turn.
+pub fn asked_behind(alloc: Global, given: &str) -> Option<Answer> {
+    let (capacity, questions) = given.split_once(" | ")?;
+    let capacity = capacity.parse::<u32>().ok()?;
+    if capacity < 1 || capacity > 65_536 {
+        return None;
+    }
+    let text = questions.as_bytes();
+    let (count, first) = read_number(text, 0)?;
+    let questions = lists_at(alloc, text, first, count)?;
+    let calls = calls_behind(alloc, capacity, &questions).ok()?;
+    written(number_text(alloc, calls))
 }

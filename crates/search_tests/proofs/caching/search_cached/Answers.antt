@@ -1,0 +1,10 @@
+-- What is known of the cached solver is known after each call of the closure again.
+use Rattle.std.proofs.Common.{rules}
+use Rattle.rx_solve.proofs.Calls.{solver_while}
+use Rattle.rx_bank.specs.CachedSolver.{IsCachedSolver}
+use Rattle.search_tests.proofs.caching.search_cached.Goals as goal
+
+pub new-search-requires : goal.new-search-requires
+new-search-requires g c =
+    solver_while _ (λ h. IsCachedSolver g.S.FnMut h.0) (λ h a i. search rules)
+    (λ h a r h' k i. search rules) _ c.requires.known
