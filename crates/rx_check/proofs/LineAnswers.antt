@@ -77,7 +77,7 @@ pair_answers parts place cert old lower failure asks next lent same outcome is f
 
 -- ---- what is kept
 
--- behind a failure nothing changes
+-- after a failure nothing changes
 pub still_stands : (parts : RuleParts) (goal : Equation) (place : Place) (log : Log)
     (progress : Progress) (failure : Option CheckEnd)
     (next : Line) (symbol : ℕ) (behind : Place) → is_some failure ≡ true →

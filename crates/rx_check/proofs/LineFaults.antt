@@ -30,7 +30,7 @@ ends_of x check (Err end) failure is found =
     subst (λ f. Ends f x check) (sym is.0)
     (is.1.0, is.1.1, subst (λ o. Told o (λ fault. check ≡ Err fault)) is.1.1 found)
 
--- an end that isn't want of memory names a fault
+-- an end that isn't out of memory names a fault
 pub names_fault : (end : CheckEnd) → (end ≡ ends.NoMemory → ⊥) → (fault : LogFault) ×
     (named end ≡ Some fault)
 names_fault (ends.Step k end) some = (log_fault.Refused k (fault end), refl)
@@ -101,7 +101,7 @@ module _ (parts : RuleParts) (goal : Equation) (whole : Log) where
         parts whole.table)) covers
         ∙ ap (λ (check : Checked State). check >>= kept_by parts whole.table) e
 
-    -- and behind them what the last state and the ranks come to
+    -- and after them what the last state and the ranks come to
     pub kept_behind : (state : State) → after_steps parts 0 (start goal) whole.steps ≡ Ok state
         → kept parts goal whole ≡ kept_by parts whole.table state
     kept_behind state e =

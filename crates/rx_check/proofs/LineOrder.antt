@@ -1,5 +1,5 @@
--- The order of lines: what comes behind each, and how the logs that go on behind a line go on
--- before it.
+-- The order of lines: what comes after each, and how the logs that go on after a line go on before
+-- it.
 use Rattle.std.proofs.Common.{◌≡◌, ◌∙◌, ap, sym, subst, refl, ℕ, ◌+◌, ◌==◌, Bool, true, false, if◌then◌else◌, Option, Some, None, List, [], ◌∷◌, ◌++◌, length, append_assoc}
 use Rattle.std.proofs.lemmas.List.{append-nil}
 use Rattle.std.proofs.lemmas.Option.{same_Some}
@@ -128,7 +128,7 @@ same : {A : Type 0} (xs ys : List A) → ys ≡ xs → Extends xs ys
 same xs ys e = ([], e ∙ sym (append-nil xs))
 
 module _ (log whole : Log) (symbol : ℕ) (behind : Place) where
-  -- a log that goes on behind a line goes on before it
+  -- a log that goes on after a line goes on before it
   pub goes_on_before : (place : Place) (next : Line) → after place (next, symbol) ≡ Some behind →
       GoesOn behind (pushed next log) whole → GoesOn place log whole
   goes_on_before AtHeader line.Header e there =

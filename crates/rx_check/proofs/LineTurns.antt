@@ -138,7 +138,7 @@ cover_judged parts (InRanks c n) trees progress failure ends goal log symbol beh
 cover_judged parts InPairs trees progress failure ends goal log symbol behind holds e = absurd cc
 cover_judged parts Finished trees progress failure ends goal log symbol behind holds e = absurd cc
 
--- ---- behind the covers
+-- ---- after the covers
 
 -- at this place steps and ranks may come
 abbrev pub IsOpen : Place → Type 0
@@ -365,7 +365,7 @@ rank_stands parts (InRanks c n) rank old new is goal log symbol behind holds e =
 rank_stands parts InPairs rank old new is goal log symbol behind holds e = absurd cc
 rank_stands parts Finished rank old new is goal log symbol behind holds e = absurd cc
 
--- ---- behind the ranks
+-- ---- after the ranks
 
 -- at this place pairs and the end may come
 abbrev pub IsRanked : Place → Type 0
@@ -647,7 +647,7 @@ end_judged parts place old asks none goal log symbol behind holds e =
     subst (λ b. Stands parts goal b log old None) comes.1
     (all_stand parts goal place log old holds known none)
 
--- ---- behind a failure
+-- ---- after a failure
 
 pub failed_stands : (parts : RuleParts) (goal : Equation) (place : Place) (log : Log) (next : Line)
     (symbol : ℕ) (behind : Place) (end : CheckEnd)

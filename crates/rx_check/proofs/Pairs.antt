@@ -47,7 +47,7 @@ module _ (parts : RuleParts) (goal : Equation) (log : Log) (made : IsWellMade pa
   pub one_verdict : One (kept parts goal log)
   one_verdict = by_kept (kept parts goal log) refl
 
-  -- the verdict that an answer tells is one of the log
+  -- the verdict that an answer gives is one of the log
   told : (r : Result (Unit {0}) CheckEnd) (verdict : Verdict) → Answers r parts goal log →
       verdict_told r ≡ Some verdict
       → HasVerdict parts goal log verdict

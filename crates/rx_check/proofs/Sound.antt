@@ -19,7 +19,7 @@ use Rattle.rx_check.specs.declared.check_end.CheckEnd.{CheckEnd}
 use Rattle.rx_check.proofs.Pairs.{pairs_there}
 use Rattle.rx_check.proofs.Proofs.{accepted_ends_alike, kept_have_roots}
 
--- what is told of a fault means something else of it
+-- what is said of a fault means something else of it
 told_too : (o : Option LogFault) (Says Means : LogFault → Type 0) →
     ((fault : LogFault) → Says fault → Means fault)
     → Told o Says → Told o Means
@@ -34,7 +34,7 @@ module _ (parts : RuleParts) (goal : Equation) (log : Log) (hypotheses : List Ru
   abbrev decided : Verdict
   decided = of_descent (descent_from log.table 0 pairs log.pairs)
 
-  -- the pairs decide behind all other checks
+  -- the pairs decide after all other checks
   pub concluded : (verdict : Verdict) → decided ≡ verdict → HasVerdict parts goal log verdict
   concluded verdict is =
       subst (λ check. Concludes parts log check verdict) (sym keeps)
@@ -47,8 +47,8 @@ module _ (parts : RuleParts) (goal : Equation) (log : Log) (hypotheses : List Ru
       (λ fault. HasVerdict parts goal log (Fails fault))
       (λ fault is. concluded (Fails fault) is) told
 
--- the answer on the pairs of lent hypotheses, which speaks of each list of pairs, is that of the
--- log
+-- the answer on the pairs of borrowed hypotheses, which speaks of each list of pairs, is that of
+-- the log
 pub lent_answered : (parts : RuleParts) (goal : Equation) (log : Log) (hypotheses lent : List Rule)
     (certs : List PairCert)
     → IsWellMade parts → kept parts goal log ≡ Ok hypotheses → lent ≡ hypotheses → certs ≡ log.pairs

@@ -1,4 +1,4 @@
--- What the answer to a call tells of a log.
+-- What the answer to a call says of a log.
 use Rattle.std.specs.Prelude.{◌≡◌, ℕ, Option, Some, None, Result, Ok, Err}
 use Rattle.std.specs.Option.{option_map}
 use Rattle.rx_cover.specs.declared.cover_end.CoverEnd.{CoverEnd}
@@ -76,7 +76,7 @@ Answers (Ok _) parts goal log = HasVerdict parts goal log Accepted
 Answers (Err end) parts goal log =
     Told (named end) (λ fault. HasVerdict parts goal log (Fails fault))
 
--- the verdict that an answer tells; memory that runs out tells none
+-- the verdict that an answer gives; memory that runs out gives none
 abbrev pub verdict_told : Result (Unit {0}) CheckEnd → Option Verdict
 verdict_told (Ok _) = Some Accepted
 verdict_told (Err end) = option_map Fails (named end)

@@ -1,4 +1,4 @@
--- What the ends of a replay tell; what a replay keeps between two lines of a log; what an accepted
+-- What the ends of a replay say; what a replay keeps between two lines of a log; what an accepted
 -- log says.
 pub mod Answers
 pub mod LineByLine

@@ -131,7 +131,7 @@ Stands parts goal place log progress (Some end) = FailsWith parts goal place log
 
 -- ---- what is kept
 
--- the place behind the lines so far
+-- the place after the lines so far
 abbrev pub place_behind : Replayer → Place
 place_behind replayer = replayer.place
 

@@ -29,7 +29,7 @@ pub enum CheckEnd {
         /// Why not.
         end: StepEnd,
     },
-    /// Goals are left behind the last step.
+    /// Goals are left after the last step.
     #[error("{goals} goals are left")]
     Unfinished {
         /// How many.

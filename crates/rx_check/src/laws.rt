@@ -28,8 +28,8 @@ pub fn each_log_has_one_verdict()
         × ((other : Verdict) → HasVerdict parts goal log other → other ≡ verdict) }
 {}
 
-/// Over a well made rule set, two answers on one log, by `replay` or line by line, tell the same
-/// verdict, if each tells one.
+/// Over a well made rule set, two answers on one log, by `replay` or line by line, give the same
+/// verdict, if each gives one.
 pub fn answers_agree()
     ensures { (parts : RuleParts) (goal : Equation) (log : Log) →
         (one two : Result (Unit {0}) CheckEnd) →

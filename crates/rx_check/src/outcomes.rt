@@ -13,7 +13,7 @@ ghost use Rattle.rx_pairs.specs.Pairs.{AreAllPairs, HasRoot};
 ghost use Rattle.rx_pairs.specs.Ranks.{bad_rank};
 
 use crate::check_end::{CheckEnd, Place as At};
-use crate::running::take_step;
+use crate::running::take_owned;
 use rx_cover::{CoverTree, cover_one};
 use rx_log::Place;
 use rx_pairs::{Pair, PairCert, RankTable, all_pairs, bad_ranks, is_lower};
@@ -62,7 +62,7 @@ pub(crate) fn check_cover(
     Ok(())
 }
 
-/// The first symbol without a list of trees, as a failure, where the place is behind some covers.
+/// The first symbol without a list of trees, as a failure, where the place is after some covers.
 pub(crate) fn missing_cover(rules: &RuleSet, place: Place) -> Option<CheckEnd>
     ensures covers { (next : ℕ) → place ≡ Place.InCovers next → IsOutcome result
         (once_covered (covering_from rules.now next (drop next rules.now.symbols) []) passed) }
@@ -86,15 +86,15 @@ pub(crate) fn step_failure(
     state: &mut State,
     rules: &RuleSet,
     number: usize,
-    step: &Step,
+    step: Step,
 ) -> Result<Option<CheckEnd>, NoMemory>
     requires roots { All HasRoot state.old.hypotheses }
     ensures ok { IfOk result (λ failure. Ends failure state.new
-        (after_step number (applied rules.now state.old step.now))) }
+        (after_step number (applied rules.now state.old step))) }
     ensures err { OnErr result (state.new ≡ state.old) }
     ensures roots { All HasRoot state.new.hypotheses }
 {
-    failure_of(take_step(alloc, state, rules, number, step))
+    failure_of(take_owned(alloc, state, rules, number, step))
 }
 
 /// The pairs of the rules, and then those of the hypotheses.
@@ -112,7 +112,7 @@ pub(crate) fn made_pairs(
     Ok(Items::from_vec(pairs))
 }
 
-/// The first symbol without a lawful rank, as a failure, where the place is behind some ranks.
+/// The first symbol without a lawful rank, as a failure, where the place is after some ranks.
 pub(crate) fn bad_rank_at(rules: &RuleSet, place: Place, table: &RankTable) -> Option<CheckEnd>
     ensures ranks { (columns next : ℕ) → place ≡ Place.InRanks columns next →
         IsOutcome result (once_ranked (bad_rank rules.now table.now) passed) }

@@ -56,10 +56,10 @@ impl Progress {
         alloc: Global,
         rules: &RuleSet,
         place: Place,
-        step: &Step,
+        step: Step,
     ) -> Result<Option<CheckEnd>, NoMemory>
         requires roots { All HasRoot self.old.state.hypotheses }
-        ensures judges { Judges rules.now place (Line.Step step.now) self.old self.new result }
+        ensures judges { Judges rules.now place (Line.Step step) self.old self.new result }
         ensures roots { All HasRoot self.new.state.hypotheses }
     {
         if let Some(end) = missing_cover(rules, place) {
@@ -157,7 +157,7 @@ impl Progress {
         match line {
             Line::Header => Ok(None),
             Line::Cover(trees) => judge_cover(alloc, rules, place, trees.as_slice()),
-            Line::Step(step) => self.take(alloc, rules, place, &step),
+            Line::Step(step) => self.take(alloc, rules, place, step),
             Line::Ranks(columns) => self.begin_ranks(alloc, rules, place, columns),
             Line::Rank(rank) => self.push_rank(rank),
             Line::Pair(cert) => self.judge_pair(alloc, rules, place, &cert),

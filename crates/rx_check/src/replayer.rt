@@ -29,13 +29,13 @@ use std::alloc::Global;
 pub struct Replayer {
     // Which lines may come next.
     place: Place,
-    // What is kept of the checks; of no use behind a failure.
+    // What is kept of the checks; of no use after a failure.
     progress: Progress,
     // The first failure.
     failure: Option<CheckEnd>,
 }
 
-/// The number behind this one; NoMemory where there is none.
+/// The number after this one; NoMemory where there is none.
 fn symbol_behind(symbol: u64) -> Result<u64, NoMemory>
     ensures { IfOk result (λ next. next ≡ symbol + 1) }
 {
@@ -45,7 +45,7 @@ fn symbol_behind(symbol: u64) -> Result<u64, NoMemory>
     }
 }
 
-/// The place behind the trees or the rank of the symbol that is next.
+/// The place after the trees or the rank of the symbol that is next.
 fn behind_symbol(place: Place) -> Result<Place, NoMemory>
     ensures covers { (next : ℕ) → place ≡ Place.InCovers next →
         IfOk result (λ behind. behind ≡ Place.InCovers (next + 1)) }
@@ -62,7 +62,7 @@ fn behind_symbol(place: Place) -> Result<Place, NoMemory>
     }
 }
 
-/// The place behind a line that may come at the place.
+/// The place after a line that may come at the place.
 fn behind_line(place: Place, line: &Line) -> Result<Place, NoMemory>
     ensures { (symbol : ℕ) (behind : Place) → after place (line.now, symbol) ≡ Some behind →
         IfOk result (λ next. next ≡ behind) }

@@ -38,8 +38,9 @@ fn check_pairs(
 /// Whether the log is accepted for the rules and the goal. Its checks come in this order, and the
 /// first that fails is the answer: the covers, the steps one after the other, whether goals are
 /// left, the ranks, the pairs. A place at which a polynomial passes the limits before anything
-/// fails there is told as such, and is no refusal. Where the log is accepted, on all integers that
-/// meet the goal's rows both sides reach results, and these are convertible by the rules alone.
+/// fails there is reported as such, and is no refusal. Where the log is accepted, on all integers
+/// that meet the goal's rows both sides reach results, and these are convertible by the rules
+/// alone.
 ///
 /// Both sides of the goal must fit the symbols. Trees and certificates are examined by recursion,
 /// as deep as they are.

@@ -8,7 +8,7 @@ use crate::check_end::{CheckEnd, Place};
 use rx_cover::covers;
 use rx_log::Log;
 use rx_pairs::{RankTable, bad_ranks};
-use rx_steps::{State, Step, StepEnd, apply};
+use rx_steps::{State, Step, StepEnd, apply, apply_owned};
 use rx_term::{Equation, RuleSet};
 use std::alloc::Global;
 
@@ -26,7 +26,7 @@ fn step_end(step: usize, end: StepEnd) -> CheckEnd
 }
 
 /// The step with that number on the state; a step that doesn't apply leaves it as it was.
-pub(crate) fn take_step(
+fn take_step(
     alloc: Global,
     state: &mut State,
     rules: &RuleSet,
@@ -38,6 +38,24 @@ pub(crate) fn take_step(
     ensures kept { OnErr result (state.new ≡ state.old) }
 {
     match apply(alloc, state, rules, step) {
+        Ok(()) => Ok(()),
+        Err(end) => Err(step_end(number, end)),
+    }
+}
+
+/// As `take_step`, with a step that is used up.
+pub(crate) fn take_owned(
+    alloc: Global,
+    state: &mut State,
+    rules: &RuleSet,
+    number: usize,
+    step: Step,
+) -> Result<(), CheckEnd>
+    ensures found { Finds (λ _. state.new) result
+        (after_step number (applied rules.now state.old step)) }
+    ensures kept { OnErr result (state.new ≡ state.old) }
+{
+    match apply_owned(alloc, state, rules, step) {
         Ok(()) => Ok(()),
         Err(end) => Err(step_end(number, end)),
     }
@@ -69,7 +87,7 @@ fn check_finished(rules: &RuleSet, end: &State, table: &RankTable) -> Result<(),
     }
 }
 
-/// The state behind the last step, in which no goal is left; all checks but that of the pairs.
+/// The state after the last step, in which no goal is left; all checks but that of the pairs.
 #[tactic(auto, using(crate::proofs::Turns::not_covered, crate::proofs::Turns::failed))]
 pub(crate) fn check_kept(
     alloc: Global,

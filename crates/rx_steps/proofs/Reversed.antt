@@ -12,6 +12,19 @@ popped None old new h = ap reverse h.1 ∙ sym (ap (λ xs. drop 1 (reverse xs)) 
 popped (Some last) old new h =
     sym (ap (λ xs. drop 1 (reverse xs)) h ∙ ap (drop 1) (reverse-append new (last ∷ [])))
 
+-- and the last is the first of what was read from the end
+pub popped_first : {A : Type 0} (r : Option A) (old new : List A) →
+    MatchOption r ((old ≡ []) × (new ≡ [])) (λ last. old ≡ new ++ last ∷ []) → r ≡
+    slice_get (reverse old) 0
+popped_first None old new h = sym (ap (λ xs. slice_get (reverse xs) 0) h.0)
+popped_first (Some last) old new h =
+    sym (ap (λ xs. slice_get (reverse xs) 0) h ∙
+    ap (λ xs. slice_get xs 0) (reverse-append new (last ∷ [])))
+
+-- one that is put behind the last comes first in what is read from the end
+pub pushed : {A : Type 0} (xs : List A) (y : A) → reverse (xs ++ y ∷ []) ≡ y ∷ reverse xs
+pushed xs y = reverse-append xs (y ∷ [])
+
 at_end : {A : Type 0} (xs : List A) (y : A) → slice_get (xs ++ y ∷ []) (length xs) ≡ Some y
 at_end [] y = refl
 at_end (x ∷ xs) y = at_end xs y

@@ -1,3 +1,4 @@
 -- The ends of steps on a state.
 pub mod Faults
+pub mod Settled
 pub mod Shown

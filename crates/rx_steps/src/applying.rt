@@ -1,14 +1,16 @@
 //! A step on a state: it is formed, judged, and taken.
-ghost use Rattle.std.specs.Prelude.{◌≡◌, OnErr};
+ghost use Rattle.std.specs.Prelude.{◌≡◌, IsTrue, OnErr};
 ghost use Rattle.rx_form.specs.States.{applied};
+ghost use Rattle.rx_form.specs.declared.step.Step.TheVariants.{Postulate};
 ghost use Rattle.rx_steps.specs.Faults.{Applies};
+ghost use Rattle.rx_steps.specs.Settled.{IsSettled, ReturnsOne, bare_equal};
 ghost use Rattle.rx_steps.specs.Shown.{Shows};
 
 use crate::judging::judge;
 use crate::state::State;
 use crate::step_end::StepEnd;
-use rx_form::{FormedStep, Step, form};
-use rx_term::RuleSet;
+use rx_form::{Delete, FormedStep, Step, form, is_equation};
+use rx_term::{Equation, RuleSet, Term};
 use std::alloc::Global;
 
 /// What the step makes of the first goal, where its certificates show what it asks.
@@ -26,6 +28,56 @@ fn shown(alloc: Global, state: &State, rules: &RuleSet, step: &Step) -> Result<F
     }
 }
 
+/// Whether both sides of the goal return one value.
+fn returns_one_value(goal: &Equation) -> bool
+    ensures { IsTrue result → ReturnsOne goal.now }
+{
+    match (&goal.left, &goal.right) {
+        (Term::Return(left), Term::Return(right)) => {
+            let _body = left.body();
+            left.is_same(right)
+        }
+        _ => false,
+    }
+}
+
+/// Whether there is a first goal, and both its sides return one value.
+fn is_settled(state: &State) -> bool
+    ensures { IsTrue result → IsSettled state.now }
+{
+    match state.first() {
+        Some(goal) => returns_one_value(goal),
+        None => false,
+    }
+}
+
+/// Whether the step says that both sides are equal, and gives no certificates.
+fn is_bare_equal(step: &Step) -> bool
+    ensures { IsTrue result → step.now ≡ bare_equal }
+{
+    match step {
+        Step::Delete(how) => match how {
+            Delete::Equal(certs) => certs.is_empty(),
+            Delete::Absurd(_) => false,
+        },
+        _ => false,
+    }
+}
+
+/// A step that is formed, judged and taken.
+fn apply_formed(
+    alloc: Global,
+    state: &mut State,
+    rules: &RuleSet,
+    step: &Step,
+) -> Result<(), StepEnd>
+    ensures answer { Applies result state.new (applied rules.now state.old step.now) }
+    ensures kept { OnErr result (state.new ≡ state.old) }
+{
+    let formed = shown(alloc, state, rules, step)?;
+    Ok(state.take(formed)?)
+}
+
 /// A step on the first goal of a state. It is formed first, then its certificates are judged in
 /// order, and then its goals and its hypothesis are taken. A refused step leaves the state as it
 /// was.
@@ -33,6 +85,44 @@ pub fn apply(alloc: Global, state: &mut State, rules: &RuleSet, step: &Step) -> 
     ensures answer { Applies result state.new (applied rules.now state.old step.now) }
     ensures kept { OnErr result (state.new ≡ state.old) }
 {
-    let formed = shown(alloc, state, rules, step)?;
-    Ok(state.take(formed)?)
+    // Where that is all that is to be seen, nothing is formed.
+    if is_bare_equal(step) && is_settled(state) {
+        state.take_first();
+        return Ok(());
+    }
+    apply_formed(alloc, state, rules, step)
+}
+
+/// The new goal before the first one, where it is an equation.
+#[tactic(auto, using(crate::proofs::PostulateLaws::no_goal))]
+fn postulate(state: &mut State, rules: &RuleSet, new: Equation) -> Result<(), StepEnd>
+    ensures answer { Applies result state.new
+        (applied rules.now state.old (Postulate new.left new.right new.rows)) }
+    ensures kept { OnErr result (state.new ≡ state.old) }
+{
+    let Some(_) = state.first() else {
+        return Err(StepEnd::NoGoal);
+    };
+    if !is_equation(rules.parts(), &new) {
+        return Err(StepEnd::WrongShape);
+    }
+    Ok(state.put_before(new)?)
+}
+
+/// As `apply`, with a step that is used up: the goal of a postulate isn't copied.
+pub fn apply_owned(
+    alloc: Global,
+    state: &mut State,
+    rules: &RuleSet,
+    step: Step,
+) -> Result<(), StepEnd>
+    ensures answer { Applies result state.new (applied rules.now state.old step) }
+    ensures kept { OnErr result (state.new ≡ state.old) }
+{
+    match step {
+        Step::Postulate { left, right, rows } => {
+            postulate(state, rules, Equation { left, right, rows })
+        }
+        other => apply(alloc, state, rules, &other),
+    }
 }

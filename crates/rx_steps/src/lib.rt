@@ -6,7 +6,7 @@ mod judging;
 mod state;
 mod step_end;
 
-pub use applying::apply;
+pub use applying::{apply, apply_owned};
 pub use rx_form::{Delete, FormedStep, Side, Step};
 pub use rx_plain::NoMemory;
 pub use state::State;

@@ -1,5 +1,5 @@
 //! The goals that are to be shown, and the hypotheses that may be used for them.
-ghost use Rattle.std.specs.Prelude.{◌≡◌, ◌+◌, ◌≤◌, ◌<◌, ◌^◌, nat_lt, ◌∷◌, [], ◌++◌, length, reverse, slice_get, vec_capacity, vec_len, IfOk, OnOk, OnErr};
+ghost use Rattle.std.specs.Prelude.{◌≡◌, ◌+◌, ◌≤◌, ◌<◌, ◌^◌, nat_lt, ◌∷◌, [], ◌++◌, drop, length, reverse, slice_get, vec_capacity, vec_len, IfOk, OnOk, OnErr};
 ghost use Rattle.std.specs.Option.{option_copied};
 ghost use Rattle.rx_form.specs.States.{taken};
 
@@ -41,14 +41,14 @@ impl Model for State {
 /// There are fewer goals than this, and fewer hypotheses.
 const LIMIT: usize = 1 << 32;
 
-/// Whether with so many more there are still fewer than the limit.
+/// Whether with that many more there are still fewer than the limit.
 fn is_room(count: usize, more: usize) -> bool
     ensures { result ≡ nat_lt (count + more) (2 ^ 32) }
 {
     count < LIMIT && more < LIMIT - count
 }
 
-/// Puts the goals before those that are there, for which there is room.
+/// Inserts the goals before those that are there, for which there is room.
 fn put_first(onto: &mut Vec<Equation>, goals: Vec<Equation>)
     requires { vec_len onto.old + vec_len goals ≤ vec_capacity onto.old }
     ensures { reverse onto.new.items ≡ goals.items ++ reverse onto.old.items }
@@ -59,7 +59,7 @@ fn put_first(onto: &mut Vec<Equation>, goals: Vec<Equation>)
     }
 }
 
-/// Puts the rules after those that are there, for which there is room.
+/// Adds the rules after those that are there, for which there is room.
 fn put_last(onto: &mut Vec<Rule>, rules: Vec<Rule>)
     requires { vec_len onto.old + vec_len rules ≤ vec_capacity onto.old }
     ensures { onto.new.items ≡ onto.old.items ++ rules.items }
@@ -119,7 +119,7 @@ impl State {
         State { goals, hypotheses }
     }
 
-    /// The same state once more; fails only for want of memory.
+    /// The same state once more; fails only when out of memory.
     pub fn try_clone(&self, alloc: Global) -> Result<State, NoMemory>
         ensures { IfOk result (λ s. s ≡ self.now) }
     {
@@ -166,7 +166,31 @@ impl State {
         self.goals.len() as u32
     }
 
-    /// Puts what a formed step makes in place of the first goal, and its hypothesis after the
+    /// Takes the first goal out, if there is one.
+    #[tactic(auto, using(crate::proofs::Reversed::popped, crate::proofs::Reversed::popped_first))]
+    pub fn take_first(&mut self) -> Option<Equation>
+        ensures first { result ≡ slice_get self.old.goals 0 }
+        ensures goals { self.new.goals ≡ drop 1 self.old.goals }
+        ensures hypotheses { self.new.hypotheses ≡ self.old.hypotheses }
+    {
+        self.goals.pop()
+    }
+
+    /// Adds a goal before the others. Where there is no memory, or there would be too many goals,
+    /// the state stays as it was.
+    #[tactic(auto, using(crate::proofs::Reversed::pushed))]
+    pub fn put_before(&mut self, goal: Equation) -> Result<(), NoMemory>
+        ensures ok { OnOk result (self.new ≡
+            record { goals = goal ∷ self.old.goals; hypotheses = self.old.hypotheses }) }
+        ensures err { OnErr result (self.new ≡ self.old) }
+    {
+        if !is_room(self.goals.len(), 1) {
+            return Err(NoMemory);
+        }
+        Ok(self.goals.push(goal)?)
+    }
+
+    /// Replaces the first goal with what a formed step makes, and adds its hypothesis after the
     /// others; whether it is shown isn't looked at. Where there is no memory, or there would be too
     /// many of either, the state stays as it was.
     #[tactic(auto, using(crate::proofs::Reversed::popped))]
