@@ -295,6 +295,13 @@ log_checked {check} {parts} {goal} {bytes} answer h is answers =
       ),
     )
 
+-- and what a replay never answers isn't said of it
+pub log_decided : {check : LogCheck} {parts : RuleParts} {goal : Equation} {bytes : List ℕ}
+    (Never : Type 0) (h : StandsFor check parts goal bytes) → IsLog h.front h.log
+    → ((its : List (Line × ℕ)) → lines.StandsFor check.replayer parts goal its → Never) → Never
+log_decided {check} Never h is never =
+    let r = replayed_of h (good_by (has_bad check.reader) refl h.reader is) in never r.its r.stands
+
 bad_by : {check : LogCheck} {parts : RuleParts} {goal : Equation} {bytes : List ℕ} (b : Bool)
     (number : ℕ) (h : StandsFor check parts goal bytes) → has_bad check.reader ≡ b →
     IsFirstBad h.front number → IsFirstBad bytes number

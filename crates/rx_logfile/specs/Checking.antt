@@ -15,8 +15,8 @@ use Rattle.rx_logfile.specs.declared.log_check.LogCheck.{LogCheck}
 abbrev pub lines_in : LogCheck → ℕ
 lines_in check = text.lines_in check.reader
 
--- the reader and the replay stand at one place of the log, and no kept hypothesis has a result as
--- its left side
+-- the reader and the replay are at one place of the log, and no kept hypothesis has a result as its
+-- left side
 pub record IsInStep (check : LogCheck) : Type 0 where
   pub place : place_behind check.replayer ≡ place_of check.reader
   pub roots : HasRoots check.replayer
@@ -35,7 +35,7 @@ abbrev pub UnlessBad : Bool → Type 0 → Type 0
 UnlessBad true replayed = ⊤
 UnlessBad false replayed = replayed
 
--- what is kept is what the bytes give for the rules and the goal; behind a bad line nothing is
+-- what is kept is what the bytes give for the rules and the goal; after a bad line nothing is
 -- looked at
 pub record StandsFor (check : LogCheck) (parts : RuleParts) (goal : Equation) (bytes : List ℕ)
     : Type 0 where
@@ -53,6 +53,6 @@ TakesLine new parts goal bytes piece None = StandsFor new parts goal (bytes ++ p
 TakesLine new parts goal bytes piece (Some count) =
     StandsFor new parts goal (bytes ++ up_to_feed piece)
 
--- so many bytes were taken
+-- n bytes were taken
 abbrev pub IsCount : List ℕ → ℕ → Type 0
 IsCount piece count = (count ≡ length (up_to_feed piece)) × (count ≤ length piece)

@@ -23,7 +23,7 @@ OnBytes parts goal bytes (Err end.Failed) = ⊥
 OnBytes parts goal bytes (Err end.TooLong) = ⊥
 OnBytes parts goal bytes (Err end.NoMemory) = Unit {0}
 
--- these bytes stand under the name, where that is told, and are no more than the limit
+-- these bytes are under the name, where that is known, and are no more than the limit
 pub record Stand (held : Option Names) (name : List ℕ) (limit : ℕ) (Said : List ℕ → Type 0) : Type 0
   where
     pub bytes : List ℕ
@@ -31,8 +31,8 @@ pub record Stand (held : Option Names) (name : List ℕ) (limit : ℕ) (Said : L
     pub within : length bytes ≤ limit
     pub said : Said bytes
 
--- what is said of the log that stands under a name: that a call on the files found a fault or the
--- name isn't held, that there are too many bytes, or what is said of the bytes
+-- what is said of the log that is under a name: that a call on the files found a fault or the name
+-- isn't held, that there are too many bytes, or what is said of the bytes
 abbrev pub OnFile
     : Option Names → Type 0 → List ℕ → ℕ → RuleParts → Equation → Result (Unit {0}) FileEnd → Type 0
 OnFile held fault name limit parts goal (Err end.Failed) = fault ⊎ IsMissing held name

@@ -1,10 +1,13 @@
 //! A log that is replayed while it is read from pieces of its text.
-ghost use Rattle.std.specs.Prelude.{◌≡◌, ◌+◌, ◌<◌, ◌≤◌, ◌^◌, [], ◌++◌, drop, ℕ, List, length};
+ghost use Rattle.std.specs.Prelude.{◌≡◌, ◌≢◌, ◌+◌, ◌<◌, ◌≤◌, ◌^◌, [], ◌++◌, drop, ℕ, List, length};
+ghost use Rattle.std.specs.Prelude.{Err};
 ghost use Rattle.std.specs.Prelude.{IfOk, IfSome, OnOk};
 ghost use Rattle.rx_term.specs.declared.rule.Equation.{Equation};
 ghost use Rattle.rx_term.specs.declared.rule_set.RuleParts.{RuleParts};
 ghost use Rattle.rx_logfile.specs.Checking.{IsCount, IsInStep, StandsFor, TakesLine, lines_in};
+ghost use Rattle.rx_check.specs.declared.check_end.CheckEnd.{CheckEnd};
 ghost use Rattle.rx_logfile.specs.LogFiles.{OnBytes};
+ghost use Rattle.rx_logfile.specs.declared.file_end.FileEnd.TheVariants.{Check};
 
 use crate::file_end::FileEnd;
 use rx_check::Replayer;
@@ -13,7 +16,7 @@ use rx_plain::NoMemory;
 use rx_term::{Equation, RuleSet};
 use std::alloc::Global;
 
-/// The bytes behind the first ones.
+/// The bytes after the first ones.
 fn bytes_behind(bytes: &[u8], count: usize) -> &[u8]
     requires { count ≤ length bytes.now }
     ensures { result.now ≡ drop count bytes.now }
@@ -45,7 +48,7 @@ impl LogCheck {
     }
 
     /// Takes the piece up to and with its first line feed, or all of it, and answers how many bytes
-    /// that were; None where a line is bad, behind which nothing more is looked at.
+    /// that were; None where a line is bad, after which nothing more is looked at.
     fn take_line(
         &mut self,
         alloc: Global,
@@ -95,8 +98,10 @@ impl LogCheck {
     pub fn finish(self, rules: &RuleSet) -> Result<(), FileEnd>
         requires room { lines_in self + 1 < 2 ^ 64 }
         requires step { IsInStep self }
-        ensures { (goal : Equation) (bytes : List ℕ) → StandsFor self rules.now goal bytes →
+        ensures said { (goal : Equation) (bytes : List ℕ) → StandsFor self rules.now goal bytes →
             OnBytes rules.now goal bytes result }
+        ensures decided { (goal : Equation) (bytes : List ℕ) →
+            StandsFor self rules.now goal bytes → result ≢ Err (Check CheckEnd.NoMemory) }
     {
         match self.reader.finish() {
             Ok(()) => match self.replayer.finish(rules) {

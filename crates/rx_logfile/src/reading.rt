@@ -1,7 +1,9 @@
 //! A log that is replayed while its file is read.
-ghost use Rattle.std.specs.Prelude.{◌≡◌, ◌≤◌};
+ghost use Rattle.std.specs.Prelude.{◌≡◌, ◌≢◌, ◌≤◌, Err};
 ghost use Rattle.rx_io.specs.Outside.{Rose};
+ghost use Rattle.rx_check.specs.declared.check_end.CheckEnd.{CheckEnd};
 ghost use Rattle.rx_logfile.specs.LogFiles.{OnFile};
+ghost use Rattle.rx_logfile.specs.declared.file_end.FileEnd.TheVariants.{Check};
 
 use crate::file_end::FileEnd;
 use crate::log_check::LogCheck;
@@ -17,7 +19,8 @@ const PIECE: usize = 65_536;
 ///
 /// The file is read to its end, whatever the first lines have come to, since a call that fails, too
 /// many bytes and a bad line count before the replay. Kept are a piece of the file, the next line,
-/// and what the replay keeps; never the text or the log.
+/// and what the replay keeps; never the text or the log. Where memory runs out the answer is
+/// NoMemory, and never that of a check.
 pub fn replay_file<F: Files>(
     alloc: Global,
     rules: &RuleSet,
@@ -31,6 +34,7 @@ pub fn replay_file<F: Files>(
     ensures later { F.faults files.old ≤ F.faults files.new }
     ensures ends { OnFile (F.held files.old) (Rose (F.faults files.old) (F.faults files.new))
         name.now limit rules.now goal result }
+    ensures decided { result ≢ Err (Check CheckEnd.NoMemory) }
 {
     let Ok(()) = files.open(name) else {
         return Err(FileEnd::Failed);

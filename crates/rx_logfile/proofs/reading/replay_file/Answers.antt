@@ -43,7 +43,11 @@ returns-then-count-eq0-clause-ends g c =
     (Rose (g.F.Files.faults c.args.files.now) (g.F.Files.faults c.take.new.self))
     c.args.name.now c.args.limit c.args.rules.now c.args.goal h.bytes c.finish.result holds
     within
-    (c.finish.ensures c.args.goal h.bytes h.stands)
+    (c.finish.ensures.said c.args.goal h.bytes h.stands)
+
+pub returns-then-count-eq0-clause-decided : goal.returns-then-count-eq0-clause-decided
+returns-then-count-eq0-clause-decided g c =
+    let h = c.loop-count.invariant.so_far in c.finish.ensures.decided c.args.goal h.bytes h.stands
 
 pub returns-then-count-most-clause-ends : goal.returns-then-count-most-clause-ends
 returns-then-count-most-clause-ends g c =
