@@ -83,7 +83,7 @@ fn read(alloc: Global, files: &mut MemoryFiles, given: &str, out: &mut String) -
     Some(())
 }
 
-// Takes so many bytes, over dots.
+// Takes `count` bytes, over dots.
 fn take(alloc: Global, files: &mut MemoryFiles, count: usize, out: &mut String) -> Option<()> {
     if count > 100 {
         return None;
@@ -125,7 +125,7 @@ fn call_all_files(alloc: Global, setup: &str, calls: &str) -> Option<String> {
     Some(out)
 }
 
-// One call on a sink, and what was put so far.
+// One call on a sink, and what was written so far.
 fn call_sink(alloc: Global, sink: &mut MemorySink, call: &str, out: &mut String) -> Option<()> {
     let (word, given) = call.split_once(' ')?;
     let bytes = bytes_of(alloc, given)?;

@@ -71,7 +71,7 @@ pub fn bytes_of(alloc: Global, text: &str) -> Option<Vec<u8>> {
     Some(bytes)
 }
 
-// Adds these bytes, again and again, so many in all.
+// Adds these bytes, again and again, n in all.
 fn push_repeated(bytes: &mut Vec<u8>, unit: &[u8], count: usize) -> Option<()> {
     for byte in unit.iter().cycle().take(count) {
         bytes.push(*byte).ok()?;
@@ -79,14 +79,13 @@ fn push_repeated(bytes: &mut Vec<u8>, unit: &[u8], count: usize) -> Option<()> {
     Some(())
 }
 
-// Adds the bytes of a unit, again and again, so many in all.
+// Adds the bytes of a unit, again and again, n in all.
 fn push_units(alloc: Global, bytes: &mut Vec<u8>, unit: &str, count: usize) -> Option<()> {
     let unit = bytes_of(alloc, unit)?;
     push_repeated(bytes, &unit, count)
 }
 
-// The bytes of a text, then a unit again and again, so many bytes in all, and the bytes of another
-// text.
+// The bytes of a text, then a unit again and again, n bytes in all, and the bytes of another text.
 fn repeated(alloc: Global, before: &str, unit: &str, count: usize, after: &str) -> Option<Vec<u8>> {
     let mut bytes = bytes_of(alloc, before)?;
     push_units(alloc, &mut bytes, unit, count)?;
@@ -94,7 +93,7 @@ fn repeated(alloc: Global, before: &str, unit: &str, count: usize, after: &str) 
     Some(bytes)
 }
 
-// The bytes of a long text, written as `BEFORE~UNIT~COUNT~AFTER`: so many bytes of the unit
+// The bytes of a long text, written as `BEFORE~UNIT~COUNT~AFTER`: n bytes of the unit
 // between two texts.
 fn long_bytes_of(alloc: Global, text: &str) -> Option<Vec<u8>> {
     let (before, rest) = text.split_once('~')?;

@@ -1,6 +1,6 @@
 //! The files and the output of the system, in the form in which a run sees them.
 //!
-//! They tell no content. Each counts its faults, in a number that stands still at its greatest
+//! They say nothing of contents. Each counts its faults, in a number that stays at its greatest
 //! value.
 ghost use Rattle.std.specs.Prelude.{None};
 

@@ -176,7 +176,7 @@ impl Case {
         Some(status.code() == 0 && sink.put_so_far() == wanted.as_slice())
     }
 
-    // Whether a run ends with the status, and so many bytes of its report are put.
+    // Whether a run ends with the status, and n bytes of its report are written.
     fn puts(&mut self, alloc: Global, wanted: &str) -> Option<bool> {
         let (code, count) = wanted.split_once(' ')?;
         let code: u8 = code.parse().ok()?;

@@ -2,7 +2,7 @@
 
 use std::alloc::Global;
 
-/// What stands in place of a line.
+/// What is in place of a line.
 #[derive(Drop)]
 pub struct Change {
     /// The number of the line, counted from 1.
@@ -11,7 +11,7 @@ pub struct Change {
     pub text: Option<String>,
 }
 
-/// The change that puts a text in place of a line: the number comes first.
+/// The change that replaces a line with a text: the number comes first.
 pub fn instead(alloc: Global, given: &str) -> Option<Change> {
     let (number, text) = given.split_once(' ').unwrap_or((given, ""));
     let line = number.parse().ok()?;
@@ -22,7 +22,7 @@ pub fn instead(alloc: Global, given: &str) -> Option<Change> {
     })
 }
 
-// Adds a text so many times.
+// Adds a text n times.
 fn push_times(text: &mut String, unit: &str, count: usize) -> Option<()> {
     for _ in 0..count {
         text.push_str(unit).ok()?;
@@ -30,7 +30,7 @@ fn push_times(text: &mut String, unit: &str, count: usize) -> Option<()> {
     Some(())
 }
 
-// The pieces of a text, parted by `~`: a text, a unit and how many times it stands there, and so
+// The pieces of a text, parted by `~`: a text, a unit and how many times it occurs there, and so
 // on.
 fn repeated(alloc: Global, given: &str) -> Option<String> {
     let mut text = String::new(alloc);
@@ -45,7 +45,7 @@ fn repeated(alloc: Global, given: &str) -> Option<String> {
     Some(text)
 }
 
-/// The change that puts a long text in place of a line: the number comes first, then the pieces.
+/// The change that replaces a line with a long text: the number comes first, then the pieces.
 pub fn long(alloc: Global, given: &str) -> Option<Change> {
     let (number, pieces) = given.split_once(' ').unwrap_or((given, ""));
     Some(Change {
@@ -66,7 +66,7 @@ fn push_line(bytes: &mut Vec<u8>, line: &str) -> Option<()> {
     bytes.push(b'\n').ok()
 }
 
-// Adds a line, or what stands in its place.
+// Adds a line, or what is in its place.
 fn push_changed(bytes: &mut Vec<u8>, line: &str, change: &Change) -> Option<()> {
     match &change.text {
         Some(text) => push_line(bytes, text.as_str()),
@@ -77,7 +77,7 @@ fn push_changed(bytes: &mut Vec<u8>, line: &str, change: &Change) -> Option<()> 
     }
 }
 
-// Adds a line, or what stands in its place where the change is of this one.
+// Adds a line, or what is in its place where the change is of this one.
 fn push_with(
     bytes: &mut Vec<u8>,
     number: usize,

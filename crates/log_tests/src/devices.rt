@@ -46,8 +46,8 @@ impl Inlet {
     }
 }
 
-/// How many bytes one call on the sink puts at most, the room, and which calls fail or put nothing,
-/// counted from 1.
+/// How many bytes one call on the sink writes at most, the room, and which calls fail or write
+/// nothing, counted from 1.
 #[derive(Drop)]
 pub struct Outlet {
     piece: usize,
@@ -57,7 +57,7 @@ pub struct Outlet {
 }
 
 impl Outlet {
-    /// A sink that takes as much as is put and never fails.
+    /// A sink that takes as much as is written and never fails.
     pub fn new(alloc: Global) -> Outlet {
         Outlet {
             piece: 65_536,
@@ -68,7 +68,7 @@ impl Outlet {
     }
 
     /// A sink as a line says: the most bytes of a call and the room; the numbers of the calls that
-    /// fail; those of the calls that put nothing, with `;` between the three.
+    /// fail; those of the calls that write nothing, with `;` between the three.
     pub fn given(alloc: Global, line: &str) -> Option<Outlet> {
         let (sizes, calls) = line.split_once(';')?;
         let (piece, room) = sizes.trim().split_once(' ')?;

@@ -1,4 +1,4 @@
--- What is packed piece by piece, while the list of polynomials grows, stands for the whole.
+-- What is packed piece by piece, while the list of polynomials grows, represents the whole.
 use Rattle.std.proofs.Common.{◌≡◌, ◌∙◌, ap, refl, subst, sym, ℕ, ◌+◌, ◌<◌, Bool, true, ◌&&◌, List, [], ◌∷◌, ◌++◌, Some, get_or, length, slice_get, take}
 use Rattle.std.proofs.lemmas.Bool.{and_from, and_parts}
 use Rattle.std.proofs.lemmas.List.{take_more}
@@ -66,7 +66,7 @@ last_frame ps upper further frame whole e within =
           ap (λ (fs : List PackedCall). frames_at ps fs whole) (sym e),
     )
 
--- frames over a term stand for a term
+-- frames over a term represent a term
 abbrev pub FramesOver : Term → List Body → List PackedCall → Term → Type 0
 FramesOver inner = StandsAs frames_within (λ ps frames. frames_at ps frames inner)
 
@@ -123,7 +123,7 @@ module _ (old new : List Body) (kept : KeepsNumbers old new) (frames : List Pack
 
 -- ---- equations and rules
 
--- rows stand for rows
+-- rows represent rows
 abbrev pub RowsStand : List Body → List PackedRow → List Row → Type 0
 RowsStand = StandsAs rows_within rows_at
 

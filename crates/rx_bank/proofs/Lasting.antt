@@ -1,4 +1,4 @@
--- What is packed stands for the same thing in each list that keeps the numbers.
+-- What is packed represents the same thing in each list that keeps the numbers.
 use Rattle.std.proofs.Common.{◌≡◌, ◌∙◌, ap, refl, ℕ, Bool, true, List, [], ◌∷◌, ◌++◌, Some, length, map, pos, slice_get}
 use Rattle.std.proofs.lemmas.Bool.{and_from, and_parts, lt-ltb, ltb-true}
 use Rattle.std.proofs.lemmas.List.{map-append}
@@ -22,7 +22,7 @@ use Rattle.rx_bank.specs.declared.parts.PackedRow.TheVariants as packed_row
 -- ---- anything packed, and lists of it
 
 module _ {A B : Type 0} (within_count : ℕ → A → Bool) (at_numbers : List Body → A → B) where
-  -- with numbers within a list it stands for the same in each list that keeps these
+  -- with numbers within a list it represents the same in each list that keeps these
   abbrev pub Lasts : Type 0
   Lasts =
       (old new : List Body) → KeepsNumbers old new → (x : A) → within_count (length old) x ≡ true →
@@ -50,7 +50,7 @@ module _ {A B : Type 0} (within_count : ℕ → A → Bool) (at_numbers : List B
       let rest = all_last lasts old new kept xs parts.1 in
       record { within = and_from _ _ first.within rest.within; is = λ i. first.is i ∷ rest.is i }
 
-  -- a list stands for a list, and one more after its last for one more
+  -- a list represents a list, and one more after its last for one more
   pub one_more : (ps : List Body) (xs : List A) (ys : List B) (x : A) (y : B) →
       StandsAs (all_within within_count at_numbers) (all_at within_count at_numbers) ps xs ys →
       StandsAs within_count at_numbers ps x y →
@@ -76,7 +76,7 @@ module _ {A B : Type 0} (within_count : ℕ → A → Bool) (at_numbers : List B
 
 -- ---- numbers, rows, terms, equations
 
--- a number stands for the polynomial that has it
+-- a number represents the polynomial that has it
 pub numbered : (ps : List Body) (n : ℕ) (p : Body) → slice_get ps n ≡ Some p →
     StandsAs number_within poly_at ps n p
 numbered ps n p e =
@@ -140,7 +140,7 @@ term_lasts old new kept t within =
 
 -- ---- equations, rules, states
 
--- two terms and rows stand for the same
+-- two terms and rows represent the same
 module _ (old new : List Body) (kept : KeepsNumbers old new) (e : PackedEquation)
     (within : equation_within (length old) e ≡ true) where
   parts : (term_within (length old) e.left ≡ true) × (term_within (length old) e.right ≡ true) ×
@@ -202,7 +202,7 @@ state_lasts old new kept packed t =
           record { goals = goals.is i; hypotheses = hypotheses.is i };
     }
 
--- a packed state stands for its state in each list that keeps the numbers
+-- a packed state represents its state in each list that keeps the numbers
 pub packed_states_last : (old new : List Body) → KeepsNumbers old new →
     (packed : Packed) (state : State) → StandsFor old packed state → StandsFor new packed state
 packed_states_last = stands_on is_within unpacked state_lasts

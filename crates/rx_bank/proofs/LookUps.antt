@@ -129,8 +129,8 @@ module _ (rows : List Row) where
       cached
   found_in_front es after cached f e first some = let is = some ∙ front es after cached f e in cc
 
-  -- where no entry has the rows, the new one is put before the others, and a full cache drops its
-  -- last
+  -- where no entry has the rows, the new one is inserted before the others, and a full cache drops
+  -- its last
   pub put_new : (c : LruCache (List Row) CachedAnswer) (cached : CachedAnswer) →
       NoneHas rows c.entries → put_entries same_rows c rows cached ≡ (rows, cached) ∷
       take (c.cap - 1) c.entries

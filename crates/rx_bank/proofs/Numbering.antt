@@ -53,7 +53,7 @@ found_with [] more i p e = cc
 found_with (q ∷ ps) more zero p e = e
 found_with (q ∷ ps) more (suc i) p e = found_with ps more i p e
 
--- polynomials keep their numbers where one is put after them, or none
+-- polynomials keep their numbers where one is added after them, or none
 pub keeps_inserted : (b : Bool) (ps : List Body) (q : Body) →
     KeepsNumbers ps (if b then ps else (ps ++ q ∷ []))
 keeps_inserted true ps q = λ i p e. e

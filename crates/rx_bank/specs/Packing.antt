@@ -1,4 +1,4 @@
--- States whose polynomials are numbers in a list, and the states for which they stand.
+-- States whose polynomials are numbers in a list, and the states that they represent.
 use Rattle.std.specs.Prelude.{◌≡◌, ℕ, nat_lt, pos, Bool, true, ◌&&◌, List, [], ◌∷◌, length, map}
 use Rattle.std.specs.List.{list_all, slice_index_or}
 use Rattle.rx_poly.specs.Constants.{number}
@@ -65,7 +65,7 @@ equations_at ps = map (equation_at ps)
 abbrev pub rules_at : List Body → List PackedEquation → List Rule
 rules_at ps = map (rule_at ps)
 
--- the state for which a packed one stands
+-- the state that a packed one represents
 abbrev pub unpacked : List Body → Packed → State
 unpacked ps packed =
     record { goals = equations_at ps packed.goals; hypotheses = rules_at ps packed.hypotheses }
@@ -111,7 +111,7 @@ abbrev pub is_within : ℕ → Packed → Bool
 is_within count packed =
     equations_within count packed.goals && equations_within count packed.hypotheses
 
--- ---- what is packed stands for something
+-- ---- what is packed represents something
 
 -- all numbers are below the list's length, and with each replaced by its polynomial it is that
 pub record StandsAs {A B : Type 0} (within_count : ℕ → A → Bool) (at_numbers : List Body → A → B)
@@ -119,6 +119,6 @@ pub record StandsAs {A B : Type 0} (within_count : ℕ → A → Bool) (at_numbe
   pub within : within_count (length ps) packed ≡ true
   pub is : at_numbers ps packed ≡ value
 
--- the packed state stands for the state
+-- the packed state represents the state
 abbrev pub StandsFor : List Body → Packed → State → Type 0
 StandsFor = StandsAs is_within unpacked

@@ -65,7 +65,7 @@ impl Bank {
         self.polys.len()
     }
 
-    /// The polynomial of that number, lent; None exactly past the end. Takes no memory.
+    /// The polynomial of that number, borrowed; None exactly past the end. Takes no memory.
     pub fn poly(&self, at: usize) -> Option<&Poly>
         ensures { option_copied result ≡ slice_get self.now at }
     {

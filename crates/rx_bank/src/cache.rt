@@ -27,7 +27,7 @@ pub(crate) fn recall(
     Some(cached.repeat(alloc))
 }
 
-/// Puts the answer as that of the rows, which no entry has, in front; from a full cache the last
+/// Inserts the answer as that of the rows, which no entry has, in front; from a full cache the last
 /// entry goes. Where there is no memory for that, and for the answer that memory ran out, the
 /// entries stay as they were.
 pub(crate) fn keep(

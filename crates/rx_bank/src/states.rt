@@ -17,8 +17,8 @@ const LIMIT: usize = 1 << 32;
 
 impl Bank {
     /// The state with the numbers of its polynomials, which go last where they are new. All others
-    /// keep their numbers, also where memory runs out. What is packed stands for the state then and
-    /// after any further calls.
+    /// keep their numbers, also where memory runs out. What is packed represents the state then and
+    /// after any more calls.
     pub fn pack(&mut self, alloc: Global, state: &State) -> Result<Packed, NoMemory>
         ensures packed { IfOk result (λ packed. StandsFor self.new packed state.now) }
         ensures stay { KeepsNumbers self.old self.new }
@@ -40,7 +40,7 @@ impl Bank {
             && are_equations_within(count, packed.hypotheses.as_slice())
     }
 
-    /// The state for which the packed one stands: each number is replaced by its polynomial. Each
+    /// The state that the packed one represents: each number is replaced by its polynomial. Each
     /// must be the number of a polynomial here.
     pub fn unpack(&self, alloc: Global, packed: &Packed) -> Result<State, NoMemory>
         requires { is_within (length self.now) packed.now ≡ true }

@@ -28,7 +28,7 @@ use Rattle.rx_cli.proofs.Comparisons.{never_equivalent}
 use Rattle.rx_cli.proofs.ExampleLaws.{shown_agree}
 use Rattle.rx_cli.proofs.Proved.{proved_agrees}
 
--- bytes that stand under a name were given under it
+-- bytes that are under a name were given under it
 pub given_under : (held : Option Names) (name bytes : List ℕ) → HoldsBytes held name bytes →
     IsHeld held name (Some bytes)
 given_under None name bytes holds = (bytes, refl)
@@ -99,7 +99,7 @@ checks_later held told a b c f source name verdict same below (inl (given, is_he
 checks_later held told a b c f source name verdict same below (inr (rose, is)) =
     inr (rose_later a b c below rose, is)
 
--- words that ask for nothing are told the usage
+-- words that ask for nothing are answered with the usage
 pub answers_usage : (held : Option Names) (fault : Type 0) (asked_for : Option Command) → None ≡
     asked_for → IsAnswered held fault asked_for (Line Said.Usage)
 answers_usage held fault asked_for is =

@@ -90,7 +90,7 @@ module _ (names : Names) (answer : Answer) where
       search_passes f effort has (subst (λ (o : Option Command). IsAnswerTo (Some names) o answer)
       asks is)
 
--- a run ends with a yes, or for want of memory, or because a call found a fault
+-- a run ends with a yes, or out of memory, or because a call found a fault
 pub run_complete : (names : Names) (read_fault write_fault : Type 0) (words : List (List ℕ))
     (old new : Option (List ℕ)) (status : Status) → CanShow names words
     → RunEnds (Some names) read_fault write_fault words old new status →

@@ -88,8 +88,8 @@ read_fault_absent names read_fault write_fault words old new status (inr (inr (i
     works e =
     let no : ⊥ = cc in absurd no
 
--- where a put falls short only at the end of the room, a write fault says that the report is longer
--- than it
+-- where a write falls short only at the end of the room, a write fault says that the report is
+-- longer than it
 pub write_fault_long : (names : Names) (read_fault write_fault : Type 0) (words : List (List ℕ))
     (old new : List ℕ) (status : Status) (room : ℕ) →
     RunEnds (Some names) read_fault write_fault words (Some old) (Some new) status

@@ -1,5 +1,5 @@
 -- Words have one verdict, and one report but for what shows the steps of a proof, over files whose
--- contents are told and that find no fault.
+-- contents are known and that find no fault.
 use Rattle.std.proofs.Common.{◌≡◌, ◌∙◌, ◌⊎◌, ℕ, zero, suc, Bool, true, false, List, length, nat_lt, Option, Some, None, inl, inr, refl, sym, ap, subst}
 use Rattle.std.specs.Prelude.{MatchBool, ⊤}
 use Rattle.c_front.specs.declared.stages.Next.TheVariants.{Ends, Goes}

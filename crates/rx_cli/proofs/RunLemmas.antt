@@ -1,4 +1,4 @@
--- How a run ends, from what was answered and what was put.
+-- How a run ends, from what was answered and what was written.
 use Rattle.std.proofs.Common.{◌≡◌, ◌∙◌, List, ℕ, Option, inr, refl}
 use Rattle.rx_io.specs.Outside.{Names, AppendsPrefix}
 use Rattle.rx_cli.specs.declared.answers.Answer.{Answer}
@@ -8,7 +8,7 @@ use Rattle.rx_cli.specs.Ends.{status_in}
 use Rattle.rx_cli.specs.Run.{RunEnds}
 use Rattle.rx_command.specs.Commands.{command_of}
 
--- a part of the text was put
+-- a part of the text was written
 pub ends_cut : (held : Option Names) (read_fault write_fault : Type 0) (words : List (List ℕ))
     (old new : Option (List ℕ)) (answer : Answer) (text lent : List ℕ)
     → IsAnswered held read_fault (command_of words) answer → text ≡ text_in answer → lent ≡ text →

@@ -46,7 +46,7 @@ pub record Given : Type 0 where
   pub source : Option (List ℕ)
   pub log : Option (List ℕ)
 
--- what was read under a name: what is held there where the names are told, else some bytes
+-- what was read under a name: what is held there where the names are known, else some bytes
 abbrev pub IsHeld : Option Names → List ℕ → Option (List ℕ) → Type 0
 IsHeld None name given = (bytes : List ℕ) × (given ≡ Some bytes)
 IsHeld (Some names) name given = given ≡ names name
@@ -119,8 +119,8 @@ IsAnswered held read_fault command answer =
     IsAnswerTo held command answer
     ⊎ (IsSome command × read_fault × (answer ≡ Line Said.ReadFault))
 
--- in a text that stands under the name, where that is told, both functions agree; where it isn't
--- told, in some text; or those of each example do
+-- in a text that is under the name, where that is known, both functions agree; where it isn't
+-- known, in some text; or those of each example do
 abbrev pub Holds : Option Names → Command → Type 0
 Holds held (Demo pairs) = ExamplesAgree pairs
 Holds held (Compare comparison) =
@@ -131,8 +131,8 @@ Holds held (Compare comparison) =
 abbrev pub AreEqual : Option Names → List (List ℕ) → Type 0
 AreEqual held words = (command : Command) × (command_of words ≡ Some command) × Holds held command
 
--- where the words ask for a counterexample, a text that stands under the name, where that is told,
--- has one; where it isn't told, some text
+-- where the words ask for a counterexample, a text that is under the name, where that is known, has
+-- one; where it isn't known, some text
 abbrev pub IsRefutedBy : Option Names → List (List ℕ) → Type 0
 IsRefutedBy held words =
     (f : Functions) (extent : Extent) → command_of words ≡ Some (Compare (Refute f extent))

@@ -28,7 +28,7 @@ abbrev pub check_status : CheckEnd → Status
 check_status (End.Large place) = Ends.Large
 check_status end = Ends.Refused
 
--- how a run ends that has shown so many examples, of which so many are proved
+-- how a run ends that has shown n examples, of which m are proved
 abbrev pub demo_status : ℕ → ℕ → Status
 demo_status pairs equivalent = if pairs == equivalent then Ends.Equivalent else Ends.Unknown
 

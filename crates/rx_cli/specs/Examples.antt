@@ -60,7 +60,7 @@ repeats k = k % 7
 abbrev pub AreStatuses : List Status → Type 0
 AreStatuses statuses = (k : ℕ) (d : Status) → k < length statuses → IsStatus k (get_or statuses k d)
 
--- a list with the status of each of so many examples, where those with one text have one status
+-- a list with the status of each of n examples, where those with one text have one status
 pub record HasStatuses (pairs : ℕ) (statuses : List Status) : Type 0 where
   pub all : (k : ℕ) → k < pairs → repeats k < length statuses
   pub each : AreStatuses statuses
@@ -72,7 +72,7 @@ IsTally (suc k) tally =
     (before : Tally) × IsTally k before
     × ((status : Status) × IsStatus k status × (tally ≡ with_status before status))
 
--- what is said of a tally of so many examples
+-- what is said of a tally of n examples
 abbrev pub verdict_on : ℕ → Tally → Verdict
 verdict_on pairs tally =
     if tally.is_large then Said.LargeSearch else Said.Demo pairs tally.equivalent

@@ -10,7 +10,7 @@ use Rattle.rx_cli.specs.Run.{Reports}
 abbrev pub IsAbsent : Names → List (List ℕ) → Type 0
 IsAbsent names words = (text : List ℕ) × Reports (Some names) ⊥ words Ends.ReadFault text
 
--- the report of what is held is longer than the room, and a part of it was put
+-- the report of what is held is longer than the room, and a part of it was written
 abbrev pub IsTooLong : Names → List (List ℕ) → List ℕ → List ℕ → ℕ → Type 0
 IsTooLong names words old new room =
     (meant : Status) × (text : List ℕ) × Reports (Some names) ⊥ words meant text

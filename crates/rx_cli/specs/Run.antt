@@ -1,4 +1,4 @@
--- How a run ends, and what it put.
+-- How a run ends, and what it wrote.
 use Rattle.std.specs.Prelude.{◌≡◌, ◌⊎◌, ℕ, List, Option}
 use Rattle.std.specs.Io.KnownBytes.{Appends, Keeps}
 use Rattle.rx_io.specs.Outside.{Names, AppendsPrefix}
@@ -14,17 +14,17 @@ Reports held read_fault words status text =
     (answer : Answer) × IsAnswered held read_fault (command_of words) answer ×
     IsReport answer status text
 
--- the whole report was put, and the status is its own
+-- the whole report was written, and the status is its own
 abbrev pub IsReported : Option Names → Type 0 → List (List ℕ) → Option (List ℕ) → Option (List ℕ) →
     Status → Type 0
 IsReported held read_fault words old new status =
     (text : List ℕ) × Reports held read_fault words status text × Appends old new text
 
--- there was no memory, and nothing was put
+-- there was no memory, and nothing was written
 abbrev pub IsOutOfMemory : Option (List ℕ) → Option (List ℕ) → Status → Type 0
 IsOutOfMemory old new status = (status ≡ Ends.NoMemory) × Keeps old new
 
--- a call on the output found a fault, and less than the whole report was put
+-- a call on the output found a fault, and less than the whole report was written
 abbrev pub IsCutShort : Option Names → Type 0 → Type 0 → List (List ℕ) → Option (List ℕ) →
     Option (List ℕ) → Status → Type 0
 IsCutShort held read_fault write_fault words old new status =

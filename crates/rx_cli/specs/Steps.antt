@@ -1,4 +1,4 @@
--- What the functions inside promise to one another. Nothing that a caller of the run reads stands
+-- What the functions inside promise to one another. Nothing that a caller of the run reads depends
 -- on these.
 use Rattle.std.specs.Prelude.{◌≡◌, ◌≢◌, ◌<◌, ◌≤◌, ◌^◌, ◌⊎◌, length, true, false, ⊤, ℕ, List, Option, Some, None, Vec, slice_get}
 use Rattle.c_ast.specs.declared.expr.Expr.{Expr}

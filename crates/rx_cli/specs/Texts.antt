@@ -32,7 +32,7 @@ numbered_line words number = words ++ (decimal number ++ codes "\n")
 abbrev pub place_line : List ℕ → ℕ → List ℕ
 place_line words at = codes "REFUSED " ++ (words ++ (codes " at " ++ (decimal at ++ codes "\n")))
 
--- the line of a source that is no list of tokens; want of memory has none
+-- the line of a source that is no list of tokens; running out of memory has none
 abbrev pub lex_line : LexEnd → List ℕ
 lex_line (Fault.BadByte at) = place_line (codes "lex bad-byte") at
 lex_line (Fault.OpenComment at) = place_line (codes "lex open-comment") at
@@ -41,8 +41,8 @@ lex_line (Fault.LeadingZero at) = place_line (codes "lex leading-zero") at
 lex_line (Fault.Directive at) = place_line (codes "lex directive") at
 lex_line Fault.NoMemory = []
 
--- the line of a source that spells no program within the limits; want of memory has none, and what
--- is said of preconditions alone has none
+-- the line of a source that spells no program within the limits; running out of memory has none,
+-- and what is said of preconditions alone has none
 abbrev pub parse_line : ParseEnd → List ℕ
 parse_line (Flaw.Syntax token) = place_line (codes "syntax") token
 parse_line (Flaw.TooDeep token) = place_line (codes "deep") token
@@ -50,7 +50,7 @@ parse_line (Flaw.TooManyParams token) = place_line (codes "params") token
 parse_line Flaw.NoMemory = []
 parse_line Flaw.NotARowForm = []
 
--- the line of a program that isn't well formed; want of memory has none
+-- the line of a program that isn't well formed; running out of memory has none
 abbrev pub scope_line : ScopeEnd → List ℕ
 scope_line (Wrong.UnknownName token) = place_line (codes "scope unknown-name") token
 scope_line (Wrong.TwiceDeclared token) = place_line (codes "scope twice-declared") token
@@ -66,7 +66,7 @@ abbrev pub arity_line : ℕ → ℕ → List ℕ
 arity_line first second =
     codes "REFUSED arity " ++ (decimal first ++ (codes " " ++ (decimal second ++ codes "\n")))
 
--- the line of a precondition that is no list of tokens; want of memory has none
+-- the line of a precondition that is no list of tokens; running out of memory has none
 abbrev pub pre_lex_line : LexEnd → List ℕ
 pre_lex_line (Fault.BadByte at) = place_line (codes "pre bad-byte") at
 pre_lex_line (Fault.OpenComment at) = place_line (codes "pre open-comment") at
@@ -75,8 +75,8 @@ pre_lex_line (Fault.LeadingZero at) = place_line (codes "pre leading-zero") at
 pre_lex_line (Fault.Directive at) = place_line (codes "pre directive") at
 pre_lex_line Fault.NoMemory = []
 
--- the line of a precondition that spells no row form within the limits; want of memory has none,
--- and what is said of programs alone has none
+-- the line of a precondition that spells no row form within the limits; running out of memory has
+-- none, and what is said of programs alone has none
 abbrev pub pre_parse_line : ParseEnd → List ℕ
 pre_parse_line (Flaw.Syntax token) = place_line (codes "pre syntax") token
 pre_parse_line (Flaw.TooDeep token) = place_line (codes "pre deep") token
@@ -91,8 +91,8 @@ abbrev pub step_line : ℕ → List ℕ → List ℕ
 step_line step words =
     codes "REFUSED step " ++ (decimal step ++ (codes " " ++ (words ++ codes "\n")))
 
--- the line of a step that doesn't apply; want of memory has none, and what passes the limits has
--- its own
+-- the line of a step that doesn't apply; running out of memory has none, and what passes the limits
+-- has its own
 abbrev pub unmet_line : ℕ → StepEnd → List ℕ
 unmet_line step Unmet.NoGoal = step_line step (codes "no-goal")
 unmet_line step Unmet.WrongShape = step_line step (codes "wrong-shape")
@@ -108,7 +108,7 @@ large_line (At.Cover symbol) = numbered_line (codes "LARGE cover s") symbol
 large_line (At.Step step) = numbered_line (codes "LARGE step ") step
 large_line (At.Pair pair) = numbered_line (codes "LARGE pair ") pair
 
--- the line of a log that isn't accepted; want of memory has none
+-- the line of a log that isn't accepted; running out of memory has none
 abbrev pub check_line : CheckEnd → List ℕ
 check_line (End.Step step end) = unmet_line step end
 check_line (End.Unfinished goals) = numbered_line (codes "REFUSED unfinished ") goals
@@ -146,7 +146,7 @@ abbrev pub different_line : List ℤ → Outcome → Outcome → List ℕ
 different_line arguments first second =
     codes "DIFFERENT" ++ (arguments_text arguments ++ outcomes_text first second)
 
--- the line of so many points found alike and so many undecided
+-- the line of n points found alike and m undecided
 abbrev pub alike_line : ℕ → ℕ → List ℕ
 alike_line points undecided =
     codes "ALIKE points " ++ (natural_text points
@@ -165,7 +165,7 @@ usage_line =
     codes
     "usage: ctrl MODE FILE [F] [G] [LOG] [--pre E] [--depth N] [--budget N] [--box N] [--rounds N]\n"
 
--- the line of so many examples, of which so many are proved and so many aren't
+-- the line of n examples, of which m are proved and k aren't
 abbrev pub counts_line : ℕ → ℕ → ℕ → List ℕ
 counts_line pairs equivalent unknown =
     codes "demo " ++ (decimal pairs ++ (codes " equivalent " ++ (decimal equivalent

@@ -1,7 +1,7 @@
 //! How a run ends.
 ghost use Rattle.std.specs.Prelude.{◌≡◌};
 
-/// How a run ends, as the program's exit status tells it.
+/// How a run ends, as the program's exit status says it.
 #[derive(Clone, Copy, Debug, PartialEq, Eq)]
 pub enum Status {
     /// The two functions compute the same.

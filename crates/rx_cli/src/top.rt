@@ -1,4 +1,4 @@
-//! The run of the program, from the words to the bytes put.
+//! The run of the program, from the words to the bytes written.
 ghost use Rattle.std.specs.Prelude.{◌≡◌, Some, map, string_bytes};
 ghost use Rattle.rx_io.specs.Outside.{Names, Rose};
 ghost use Rattle.rx_cli.specs.Answers.{AreEqual, IsRefutedBy};
@@ -41,12 +41,12 @@ fn report_answer<F: Files, O: Sink>(
     }
 }
 
-/// Runs the program: reads the words and the files that they name, and puts the whole report.
+/// Runs the program: reads the words and the files that they name, and writes the whole report.
 ///
-/// `words` begins with the program's name. Where the status is `NoMemory` nothing was put; where it is `WriteFault` a part of
-/// the report that isn't the whole. Where the files hold a log that is accepted for what the words
-/// ask, or a search that they ask for closes, the status is `Equivalent`, unless a call finds a
-/// fault or there is no memory (`complete`).
+/// `words` begins with the program's name. Where the status is `NoMemory` nothing was written;
+/// where it is `WriteFault` a part of the report that isn't the whole. Where the files hold a log
+/// that is accepted for what the words ask, or a search that they ask for closes, the status is
+/// `Equivalent`, unless a call finds a fault or there is no memory (`complete`).
 pub fn run<F: Files, O: Sink>(alloc: Global, words: &[String], files: &mut F, out: &mut O) -> Status
     ensures ends { RunEnds (F.held files.old) (Rose (F.faults files.old) (F.faults files.new))
         (Rose (O.faults out.old) (O.faults out.new))

@@ -21,7 +21,7 @@ fn pair(alloc: Global) -> Option<Pair> {
     })
 }
 
-// One column, v0, of so many of the two symbols.
+// One column, v0, of that many of the two symbols.
 fn table(alloc: Global, symbols: u32) -> Option<RankTable> {
     let mut ranks = Items::new(alloc);
     for _ in 0..symbols {
@@ -73,7 +73,7 @@ fn heights(alloc: Global) -> Option<RankTable> {
     Some(RankTable { columns: 1, ranks })
 }
 
-// So many certificates that a pair is lower by the first column, all of whose rows are plain.
+// `count` certificates that a pair is lower by the first column, all of whose rows are plain.
 fn plain(alloc: Global, count: u32) -> Option<Items<PairCert>> {
     let mut certs = Items::new(alloc);
     for _ in 0..count {

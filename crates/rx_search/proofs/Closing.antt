@@ -38,7 +38,7 @@ use Rattle.rx_visits.specs.declared.tree.Choice.{Choice}
 abbrev Visited : Type 0
 Visited = Visit search.Node (List Row)
 
--- it is told to be closed where no goal is left
+-- it is said to be closed where no goal is left
 abbrev IsTold : Visited → Type 0
 IsTold v = v.closed ≡ is_closed v.node.state.goals
 

@@ -1,5 +1,5 @@
 -- The choices at a settled goal: the four expansions, Decompose, and lemmas. Each that applies
--- leads to a further node.
+-- leads to another node.
 use Rattle.std.specs.Prelude.{ℕ, Bool, true, false, Option, Some, None, List, [], ◌∷◌, map}
 use Rattle.std.specs.List.{list_any}
 use Rattle.rx_solve.specs.Attempts.{Tried, beyond, where_shown}

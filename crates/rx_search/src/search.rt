@@ -87,7 +87,7 @@ fn visit_plans<S: FnMut(&Constraint) -> Result<Option<Cert>, FmEnd>>(
     rx_visits::search(alloc, &mut plans, &start, depth, budget, most_kept)
 }
 
-/// Trees that cover the rules; as the rules are coverable, only want of memory stands against it.
+/// Trees that cover the rules; as the rules are coverable, only running out of memory prevents it.
 fn cover_of<S: FnMut(&Constraint) -> Result<Option<Cert>, FmEnd>>(
     alloc: Global,
     rules: &RuleSet,
@@ -105,7 +105,7 @@ fn cover_of<S: FnMut(&Constraint) -> Result<Option<Cert>, FmEnd>>(
     }
 }
 
-/// Ranks by which all pairs are lower; as there are some, only want of memory stands against it.
+/// Ranks by which all pairs are lower; as there are some, only running out of memory prevents it.
 fn ranks_of<S: FnMut(&Constraint) -> Result<Option<Cert>, FmEnd>>(
     alloc: Global,
     rules: &RuleSet,

@@ -18,7 +18,7 @@ pub enum SearchEnd {
         /// How many choices.
         depth: u32,
     },
-    /// No proof is found in so many visits of nodes, and there are more.
+    /// No proof is found in that many visits of nodes, and there are more.
     #[error("no proof in {visits} visits")]
     Spent {
         /// How many visits.

@@ -105,7 +105,7 @@ module _ (given : List Row) (rest others : List Body) where
 
 -- ---- parts
 
--- so many common parts before those
+-- n common parts before those
 abbrev pub ahead : ℕ → Common → Common
 ahead n c = record { parts = n + c.parts; noted = c.noted }
 

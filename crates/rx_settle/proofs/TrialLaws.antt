@@ -134,7 +134,7 @@ module _ (parts : RuleParts) (old mid : State) (first : Tried Next) (t : Trial)
 
 module _ (parts : RuleParts) (old mid : State) (first : Tried Next) (t : Trial)
     (is : IsTrial parts old mid first t) where
-  -- the same where it is told apart whether a step is taken
+  -- the same where it is known separately whether a step is taken
   pub taken_first : (second : Tried Next) (same : Trial) → IsUntaken t (Err same) →
       IsTrial parts old mid (first_applying (first ∷ second ∷ [])) same
   taken_first second same e =

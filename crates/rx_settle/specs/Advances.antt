@@ -34,7 +34,7 @@ abbrev pub IsThere : Option Step → Bool → Type 0
 IsThere None made = made ≡ false
 IsThere (Some step) made = made ≡ true
 
--- the trial is recorded with those rows, and it is told whether it took a step
+-- the trial is recorded with those rows, and it is known whether it took a step
 pub record Records (before : Settled) (rows : Option (List Row)) (trial : Trial) (after : Settled)
     (made : Bool) : Type 0 where
   pub after_it : after ≡ recorded (with_note before (rows_where trial.noted rows)) trial.taken

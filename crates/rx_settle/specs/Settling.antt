@@ -114,7 +114,7 @@ module _ (parts : RuleParts) (state : State) where
       else resulting_at (1 + depth_of goal.left - suffix.parts)
       (1 + depth_of goal.right - suffix.parts))
 
-  -- the variable that stands for a result is to be below the end
+  -- the variable that represents a result is to be below the end
   abbrev pub by_results : Equation → Tried Next
   by_results goal =
       if nat_lt (equation_bound goal) variables_end
@@ -172,7 +172,7 @@ moved state left note (Some next) later =
           option_or note settled.note;
     }
 
--- settled by so many moves at most
+-- settled by n moves at most
 unfoldable pub settle : RuleParts → ℕ → State → Settled
 settle parts zero state = record { moves = []; state = state; left = 0; note = None }
 settle parts (suc left) state =

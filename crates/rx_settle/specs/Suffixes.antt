@@ -38,7 +38,7 @@ abbrev pub equals_shown : List Row → List (Body × Body) → Said
 equals_shown given [] = Yes
 equals_shown given (pair ∷ pairs) = both (equal_shown given pair) (equals_shown given pairs)
 
--- no further part is common
+-- no more parts are common
 abbrev pub ended : Common
 ended = record { parts = 0; noted = false }
 

@@ -8,7 +8,7 @@ use rx_plain::{Items, NoMemory};
 use rx_row::Row;
 use std::alloc::Global;
 
-/// A state is settled by so many moves at most.
+/// A state is settled by n moves at most.
 const MOST_MOVES: u32 = 200;
 
 /// How a state was settled.

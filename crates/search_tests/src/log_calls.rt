@@ -10,7 +10,7 @@ use rx_text::push_word;
 use rx_words::push_count;
 use std::alloc::Global;
 
-// A word, and a number where one is told.
+// A word, and a number where one is given.
 fn said(alloc: Global, word: &[u8], number: Option<usize>) -> Option<Answer> {
     written(said_text(alloc, word, number))
 }

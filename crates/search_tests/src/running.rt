@@ -33,7 +33,7 @@ fn applies(alloc: Global, rule: &Rule, redex: &Term, args: &[Poly]) -> Option<bo
     Some(true)
 }
 
-// What stands in place of a redex by the first rule that applies.
+// What is in place of a redex by the first rule that applies.
 fn stepped(alloc: Global, set: &RuleSet, redex: &Term) -> Option<Term> {
     let args = redex.arguments(alloc).ok()?;
     for rule in set.rules() {
@@ -80,7 +80,7 @@ fn result_text(alloc: Global, term: &Term) -> Result<Vec<u8>, NoMemory> {
     Ok(out)
 }
 
-/// What the call of a symbol, by its number, comes to with the integers behind it: an integer, or
+/// What the call of a symbol, by its number, comes to with the integers after it: an integer, or
 /// `div0`.
 pub fn ran(alloc: Global, set: &RuleSet, given: &str) -> Option<Answer> {
     let (symbol, integers) = given.split_once(' ').unwrap_or((given, ""));

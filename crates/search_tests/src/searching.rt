@@ -120,7 +120,7 @@ struct Task {
     budget: u32,
 }
 
-// The goal that is given, and behind it the depth and the budget.
+// The goal that is given, and after it the depth and the budget.
 fn read_task(alloc: Global, given: &str) -> Option<Task> {
     let (goal, effort) = given.split_once(" | ")?;
     let goal = equation(alloc, goal)?;
@@ -241,7 +241,7 @@ fn compared(alloc: Global, before: u64, after: u64) -> Result<Vec<u8>, NoMemory>
     Ok(out)
 }
 
-/// Whether a search for the equation to the second depth behind it asks the refuter as often as one
+/// Whether a search for the equation to the second depth after it asks the refuter as often as one
 /// to the first, more often, or less, both within the budget that follows.
 pub fn asked(alloc: Global, set: &RuleSet, given: &str) -> Option<Answer> {
     let (goal, effort) = given.split_once(" | ")?;

@@ -48,7 +48,7 @@ pub fn refuted(alloc: Global, given: &str) -> Option<Answer> {
     }
 }
 
-/// What shows the row, behind the last ` | `, under the rows: `plain` where none is needed.
+/// What shows the row, after the last ` | `, under the rows: `plain` where none is needed.
 pub fn entailed(alloc: Global, given: &str) -> Option<Answer> {
     let (under, wanted) = given.rsplit_once(" | ")?;
     match entails(alloc, &rows(alloc, under)?, &row(alloc, wanted)?) {

@@ -1,4 +1,4 @@
-//! A text as words, one behind the other: numbers, symbols, polynomials, certificates, trees, and
+//! A text as words, one after the other: numbers, symbols, polynomials, certificates, trees, and
 //! lists after the number of their elements.
 use rx_cert::Cert;
 use rx_cover::CoverTree;
@@ -29,7 +29,7 @@ impl<'a> Words<'a> {
         }
     }
 
-    // Where the next word begins: behind a space, but for the first.
+    // Where the next word begins: after a space, but for the first.
     fn next(&self) -> Option<usize> {
         if self.at == 0 {
             Some(0)
@@ -45,7 +45,7 @@ impl<'a> Words<'a> {
         Some(number)
     }
 
-    // Whether the letter stands here; what is next is after it then.
+    // Whether the letter is here; what is next is after it then.
     fn letter(&mut self, letter: &[u8]) -> bool {
         if letter.is_empty() {
             return false;

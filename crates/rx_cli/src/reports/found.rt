@@ -79,7 +79,7 @@ fn push_undecided(undecided: u32, out: &mut Vec<u8>) -> Result<(), NoMemory>
     push_word(out, b"\n")
 }
 
-// Adds the line of so many points found alike and so many undecided.
+// Adds the line of n points found alike and m undecided.
 fn push_alike(points: u32, undecided: u32, out: &mut Vec<u8>) -> Result<(), NoMemory>
     ensures { OnOk result (out.new.items ≡ out.old.items ++ alike_line points undecided) }
 {

@@ -1,4 +1,4 @@
--- No entry has the rows, so the new one is put in front.
+-- No entry has the rows, so the new one is inserted in front.
 use Rattle.std.proofs.Common.{◌∙◌, ap, List}
 use Rattle.lru.specs.LruCache.{lru_cache, put_entries}
 use Rattle.rx_row.specs.declared.row.Row.{Row}

@@ -1,4 +1,4 @@
--- One more packed goal stands for one more goal.
+-- One more packed goal represents one more goal.
 use Rattle.std.proofs.Common.{◌≡◌, sym, slice_get, Some}
 use Rattle.std.proofs.lemmas.Option.{get_or_from_slice_get, slice_get_within}
 use Rattle.rx_bank.specs.Packing.{equation_at, equation_within}

@@ -1,4 +1,4 @@
--- What is packed so far stands for the goals so far, and earlier numbers are kept.
+-- What is packed so far represents the goals so far, and earlier numbers are kept.
 use Rattle.std.proofs.Common.{take}
 use Rattle.rx_bank.specs.Numbers.{KeepsNumbers}
 use Rattle.rx_bank.specs.Packing.{StandsAs, equations_at, equations_within}

@@ -1,4 +1,4 @@
--- One more number stands for one more polynomial.
+-- One more number represents one more polynomial.
 use Rattle.rx_bank.specs.Packing.{number_within, poly_at}
 use Rattle.rx_bank.proofs.Lasting.{number_lasts, numbered}
 use Rattle.rx_bank.proofs.Growing.{packed_more}

@@ -1,4 +1,4 @@
--- The numbers so far stand for the polynomials so far, and earlier ones are kept.
+-- The numbers so far represent the polynomials so far, and earlier ones are kept.
 use Rattle.std.proofs.Common.{take}
 use Rattle.rx_bank.specs.Numbers.{KeepsNumbers}
 use Rattle.rx_bank.specs.Packing.{StandsAs, numbers_within, polys_at}

@@ -1,4 +1,4 @@
--- One more packed row stands for one more row.
+-- One more packed row represents one more row.
 use Rattle.rx_bank.specs.Packing.{row_at, row_within}
 use Rattle.rx_bank.proofs.Lasting.{row_lasts}
 use Rattle.rx_bank.proofs.Growing.{packed_more}

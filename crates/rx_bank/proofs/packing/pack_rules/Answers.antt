@@ -1,4 +1,4 @@
--- One more packed rule stands for one more rule.
+-- One more packed rule represents one more rule.
 use Rattle.rx_bank.specs.Packing.{equation_within, rule_at}
 use Rattle.rx_bank.proofs.Lasting.{rule_lasts}
 use Rattle.rx_bank.proofs.Growing.{packed_more}

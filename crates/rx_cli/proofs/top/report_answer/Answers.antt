@@ -1,4 +1,4 @@
--- Where a put ended the run, a part of the report was put.
+-- Where a write ended the run, a part of the report was written.
 use Rattle.std.proofs.Common.{map, string_bytes}
 use Rattle.rx_io.specs.Outside.{Rose}
 use Rattle.rx_cli.proofs.RunLemmas.{ends_cut}

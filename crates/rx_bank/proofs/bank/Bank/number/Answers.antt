@@ -1,4 +1,4 @@
--- A look-up finds the polynomial where it is one of them; otherwise it is put last.
+-- A look-up finds the polynomial where it is one of them; otherwise it is added last.
 use Rattle.std.proofs.Common.{◌≡◌, ◌∙◌, ap, sym, subst, Some, Contains, List, slice_get}
 use Rattle.std.specs.List.{list_any}
 use Rattle.rx_poly.specs.declared.body.Body.{Body}

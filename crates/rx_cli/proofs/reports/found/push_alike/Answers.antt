@@ -1,4 +1,4 @@
--- The parts one behind the other are the line.
+-- The parts one after the other are the line.
 use Rattle.std.proofs.Common.{◌∙◌, ◌++◌, ap, append_assoc}
 use Rattle.std.proofs.lemmas.Result.{on_ok_weaker}
 use Rattle.std.specs.Prelude.{codes}
