@@ -1,4 +1,4 @@
--- Flows that go on one behind the other.
+-- Flows that go on one after the other.
 use Rattle.std.proofs.Common.{◌≡◌, ◌∙◌, ap, ℕ, suc, ◌+◌, ◌<◌, ◌≤◌, ◌^◌, Bool, ◌&&◌, refl, sym, List, [], ◌∷◌, map, length, take, drop, get_or, drop_of_length-le, Option, Some, None, arith}
 use Rattle.std.proofs.Math.Seq.{drop-cons, take-length}
 use Rattle.std.proofs.lemmas.List.{take-take, length-take}
@@ -45,7 +45,7 @@ joined-assoc a b c = λ i. record {
   unset = or-assoc a.unset b.unset c.unset i;
 }
 
--- with nothing behind it a flow is itself
+-- with nothing after it a flow is itself
 done_is : (f g : Flow) → g ≡ (passing [] f.behind None).flow → f ≡ joined f g
 done_is f g e =
     sym (ap (joined f) e ∙ (λ i. record {

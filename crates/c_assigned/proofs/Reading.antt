@@ -72,7 +72,7 @@ module _ (names scope : List ℕ) (set : Assigned) (own : Option ℕ) where
   unset_Apply name arguments = ap unset (variables-Apply name arguments)
 
   -- one turn of a walk along arguments: the next one decides, where it reads a variable unset, and
-  -- else those behind it
+  -- else those after it
   pub unset_turn : (items : List Expr) (i : ℕ) (item : Expr) → i < length items → item ≡
       get_or items i item → first_unset names scope set own (concat (map variables (drop i items)))
       ≡ option_or (first_unset names scope set own (variables item))

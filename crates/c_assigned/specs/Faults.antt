@@ -19,7 +19,7 @@ abbrev pub at_end : ℕ → Assigned → Option Fault
 at_end token None = None
 at_end token (Some set) = Some (MayNotReturn token)
 
--- the first of the two faults: the end of the function stands behind all that it reads
+-- the first of the two faults: the end of the function comes after all that it reads
 abbrev pub first_fault : ℕ → Option ℕ → Assigned → Option Fault
 first_fault name (Some token) behind = Some (MayBeUnset token)
 first_fault name None behind = at_end name behind

@@ -1,8 +1,8 @@
 -- How statements pass on the set of surely assigned slots: from the set in front of a statement
--- come the sets behind it and at its `break`s and
--- `continue`s, and the first variable, in the order of the text, that is read where it may have no value. Behind a loop is what is assigned where it
--- is left: a loop whose test always holds is left by its `break`s alone, and any other counts as
--- left by its test.
+-- come the sets after it and at its `break`s and
+-- `continue`s, and the first variable, in the order of the text, that is read where it may have no
+-- value. After a loop is what is assigned where it is left: a loop whose test always holds is left
+-- by its `break`s alone, and any other counts as left by its test.
 use Rattle.std.specs.Prelude.{ℕ, ◌-◌, Bool, true, false, List, [], ◌∷◌, ◌++◌, length, Option, Some, None, pos, int_lt, if◌then◌else◌}
 use Rattle.std.specs.Option.{option_or}
 use Rattle.c_ast.specs.Variables.{variables}
@@ -17,7 +17,7 @@ use Rattle.c_names.specs.Slots.{slot_of}
 use Rattle.c_assigned.specs.declared.flow.Flow.{Flow}
 use Rattle.c_assigned.specs.Sets.{Assigned, meet, with_slot, with_assigned, cut, first_unset}
 
--- what comes of a statement, and the names in scope behind it, by slot
+-- what comes of a statement, and the names in scope after it, by slot
 pub record Behind : Type 0 where
   pub scope : List ℕ
   pub flow : Flow
@@ -55,7 +55,7 @@ assign (Some slot) set = with_assigned slot set
 abbrev pub Way : Type 0
 Way = List ℕ → Assigned → Behind
 
--- a flow that goes on with another behind it
+-- a flow that goes on with another after it
 abbrev pub joined : Flow → Flow → Flow
 joined first rest = record {
   behind = rest.behind;
@@ -83,7 +83,7 @@ leave slots flow =
       unset = flow.unset;
     }
 
--- a part of a statement: what it declares is gone behind it
+-- a part of a statement: what it declares is gone after it
 abbrev pub inside : Way → List ℕ → Assigned → Flow
 inside way scope set = leave (length scope) (way scope set).flow
 
@@ -92,7 +92,7 @@ abbrev pub inside_optional : Option Way → List ℕ → Assigned → Flow
 inside_optional None scope set = (passing scope set None).flow
 inside_optional (Some way) scope set = inside way scope set
 
--- two branches, behind a test
+-- two branches, after a test
 abbrev pub branched : Option ℕ → Flow → Flow → Flow
 branched tested holds fails = record {
   behind = meet holds.behind fails.behind;
@@ -130,7 +130,8 @@ module _ (names : List ℕ) where
       passing scope (if is_above_zero (out-Expr e) then turn.breaks else meet tested turn.breaks)
       (option_or turn.unset (unset_in scope tested e))
 
-  -- `for`, behind its first part: the change, which stands in front of the body, is read from the meet of the body and its `continue`s
+  -- `for`, after its first part: the change, which is in front of the body, is read from the meet
+  -- of the body and its `continue`s
   abbrev pub for_loop : List ℕ → Behind → Option Expr → Option Way → Way → Behind
   for_loop scope begun test change inner =
       let turn = inside inner begun.scope begun.flow.behind in
@@ -143,7 +144,7 @@ module _ (names : List ℕ) where
   -- what comes of a statement, from what the statements in it do
   abbrev pub stmt_level : Stmt-F Way → Way
   stmt_level Stmt-F.Empty scope set = passing scope set None
-  -- `int x;` and `int x = e;`: the name is in scope from behind its declarator
+  -- `int x;` and `int x = e;`: the name is in scope from the end of its declarator on
   stmt_level (Stmt-F.Declare token value) scope set =
       declared (scope ++ name_at names token ∷ []) set value
   stmt_level (Stmt-F.Assign token e) scope set =

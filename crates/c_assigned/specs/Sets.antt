@@ -1,5 +1,5 @@
 -- Sets of slots that are surely assigned. A set says of each slot in scope whether it is; none is
--- the set behind a place that is never reached, which contains every slot.
+-- the set after a place that is never reached, which contains every slot.
 use Rattle.std.specs.Prelude.{ℕ, Bool, true, false, not, ◌&&◌, nat_eq, List, [], ◌∷◌, ◌++◌, take, Option, Some, None, option_map, unwrap_or, slice_get, slice_set, if◌then◌else◌}
 use Rattle.c_names.specs.Names.{name_at}
 use Rattle.c_names.specs.Slots.{slot_of}
@@ -21,7 +21,7 @@ meet None b = b
 meet (Some a) None = Some a
 meet (Some a) (Some b) = Some (both a b)
 
--- the set with one slot more behind the others
+-- the set with one slot more after the others
 abbrev pub with_slot : Bool → Assigned → Assigned
 with_slot is_set = option_map (λ a. a ++ is_set ∷ [])
 
@@ -29,7 +29,7 @@ with_slot is_set = option_map (λ a. a ++ is_set ∷ [])
 abbrev pub with_assigned : ℕ → Assigned → Assigned
 with_assigned slot = option_map (λ a. slice_set a slot true)
 
--- the set of the first so many slots, as it is behind the scope of the others
+-- the set of the first n slots, as it is after the scope of the others
 abbrev pub cut : ℕ → Assigned → Assigned
 cut slots = option_map (take slots)
 

@@ -6,12 +6,12 @@ ghost use Rattle.c_assigned.specs.Flows as spec;
 use crate::sets::{cut, meet};
 use rx_plain::Items;
 
-/// The sets of surely assigned slots behind a statement, at its `break`s and at its `continue`s,
+/// The sets of surely assigned slots after a statement, at its `break`s and at its `continue`s,
 /// where none is what no way reaches, and the token of the first variable that is read where it may
 /// have no value.
 #[derive(Debug, Drop)]
 pub struct Flow {
-    /// Behind the statement.
+    /// After the statement.
     pub behind: Option<Items<bool>>,
     /// At its `break`s.
     pub breaks: Option<Items<bool>>,
@@ -43,7 +43,7 @@ pub fn first_of(first: Option<u32>, second: Option<u32>) -> Option<u32>
     }
 }
 
-/// A flow that goes on with another behind it.
+/// A flow that goes on with another after it.
 pub fn joined(first: Flow, rest: Flow) -> Flow
     ensures { result ≡ spec.joined first rest }
 {
@@ -67,7 +67,7 @@ pub fn leave(slots: usize, flow: Flow) -> Flow
     }
 }
 
-/// Two branches, behind a test.
+/// Two branches, after a test.
 pub fn branched(tested: Option<u32>, holds: Flow, fails: Flow) -> Flow
     ensures { result ≡ spec.branched tested holds fails }
 {

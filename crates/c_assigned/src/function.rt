@@ -35,7 +35,7 @@ fn all_assigned(alloc: Global, params: &[u32]) -> Result<Option<Items<bool>>, No
 
 /// The fault of a function, where it has one: the first variable that is read where it may have no
 /// value, or else that its end may be reached. `names` are the names of all tokens of the text. It
-/// fails only for want of memory.
+/// fails only when out of memory.
 pub fn fault_of(
     alloc: Global,
     names: &[u32],

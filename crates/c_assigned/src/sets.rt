@@ -1,4 +1,4 @@
-//! Sets of slots that are surely assigned: a flag for each slot in scope, or none behind a place
+//! Sets of slots that are surely assigned: a flag for each slot in scope, or none after a place
 //! that is never reached.
 ghost use Rattle.std.specs.Prelude.{◌≡◌, ◌&&◌, IfOk};
 ghost use Rattle.c_assigned.specs.Sets as spec;
@@ -41,7 +41,7 @@ pub fn meet(left: Option<Items<bool>>, right: Option<Items<bool>>) -> Option<Ite
     }
 }
 
-/// The set of the first so many slots.
+/// The set of the first n slots.
 pub fn cut(slots: usize, set: Option<Items<bool>>) -> Option<Items<bool>>
     ensures { result ≡ spec.cut slots set }
 {
@@ -55,7 +55,7 @@ pub fn cut(slots: usize, set: Option<Items<bool>>) -> Option<Items<bool>>
     }
 }
 
-/// The set with one slot more behind the others.
+/// The set with one slot more after the others.
 pub fn with_slot(is_set: bool, set: Option<Items<bool>>) -> Result<Option<Items<bool>>, NoMemory>
     ensures { IfOk result (λ s. s ≡ spec.with_slot is_set set) }
 {
@@ -97,7 +97,7 @@ pub fn is_assigned(set: &Option<Items<bool>>, slot: u32) -> bool
     }
 }
 
-/// The same set once more; fails only for want of memory.
+/// The same set once more; fails only when out of memory.
 pub fn copy(alloc: Global, set: &Option<Items<bool>>) -> Result<Option<Items<bool>>, NoMemory>
     ensures { IfOk result (λ s. s ≡ set.now) }
 {

@@ -94,7 +94,7 @@ fn assigned(
     }
 }
 
-// Behind a `for`, with the slots that were in scope outside it.
+// After a `for`, with the slots that were in scope outside it.
 fn for_behind(
     outside: usize,
     is_endless: bool,
@@ -113,8 +113,8 @@ fn for_behind(
     }
 }
 
-// Puts the name of a declaration in scope, as the last. A scope that no number could count any more
-// answers that there is no memory.
+// Brings the name of a declaration into scope, as the last. A scope that no number could count any
+// more answers that there is no memory.
 fn bring_in(scope: &mut Vec<u32>, name: u32) -> Result<(), NoMemory>
     ensures ok { OnOk result (scope.new.items ≡ scope.old.items ++ name ∷ []) }
     ensures few { OnOk result (length scope.new.items < 2 ^ 32) }
@@ -126,8 +126,8 @@ fn bring_in(scope: &mut Vec<u32>, name: u32) -> Result<(), NoMemory>
     Ok(())
 }
 
-/// What comes of a statement, with the names in scope and the set in front of it. It fails only for
-/// want of memory.
+/// What comes of a statement, with the names in scope and the set in front of it. It fails only
+/// when out of memory.
 #[cycle(flows)]
 pub fn stmt_flow(
     alloc: Global,
@@ -192,7 +192,7 @@ pub fn stmt_flow(
     }
 }
 
-// Of a part of a statement: what it declares is gone behind it.
+// Of a part of a statement: what it declares is gone after it.
 #[cycle(flows)]
 fn inside(
     alloc: Global,

@@ -1,5 +1,5 @@
--- An expression is straight over so many parameters exactly where it is straight and its variables
--- are slots of parameters.
+-- An expression is straight over n parameters exactly where it is straight and its variables are
+-- slots of parameters.
 use Rattle.std.proofs.Common.{◌≡◌, ◌∙◌, ap, refl, sym, subst, ℕ, Bool, true, false, ◌&&◌, List}
 use Rattle.std.specs.Prelude.{nat_lt}
 use Rattle.std.specs.List.{list_all}

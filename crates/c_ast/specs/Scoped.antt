@@ -18,7 +18,7 @@ abbrev pub passes_if_there : {A : Type 0} → (A → Bool) → Option A → Bool
 passes_if_there test None = true
 passes_if_there test (Some part) = test part
 
--- whether there is a function, with so many parameters as there are arguments
+-- whether there is a function, with as many parameters as there are arguments
 abbrev pub takes : Option ℕ → ℕ → Bool
 takes None arguments = false
 takes (Some parameters) arguments = nat_eq parameters arguments
@@ -37,7 +37,7 @@ slots_in_order (t ∷ ts) n = option_and_then (slots_in_order ts) (t n)
 abbrev pub is_fine : SlotStep → ℕ → Bool
 is_fine t n = is_some (t n)
 
--- what is in order leaves so many slots in scope
+-- what is in order leaves n slots in scope
 abbrev pub only_if : Bool → ℕ → Option ℕ
 only_if fine n = if fine then Some n else None
 

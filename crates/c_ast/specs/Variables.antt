@@ -17,7 +17,7 @@ variables_level (Expr-F.Binary op a b) = a ++ b
 variables_level (Expr-F.Choose c a b) = c ++ a ++ b
 variables_level (Expr-F.Apply name arguments) = concat arguments
 
--- the variables of an expression from left to right, each as often as it stands there; the name of
+-- the variables of an expression from left to right, each as often as it occurs there; the name of
 -- a called function is none
 abbrev pub variables : Expr → List ℕ
 variables = fold-Expr (List ℕ) variables_level
@@ -44,6 +44,6 @@ stmt_variables_level (Stmt-F.Return value) = variables value
 stmt_variables_level (Stmt-F.Block inner) = concat inner
 
 -- the variables that a statement declares, assigns or reads, in the order of its parts, each as
--- often as it stands there
+-- often as it occurs there
 abbrev pub stmt_variables : Stmt → List ℕ
 stmt_variables = fold-Stmt (List ℕ) stmt_variables_level

@@ -94,7 +94,7 @@ pub fn expr_height(e: &Expr) -> u32
 
 impl Expr {
     /// Adds the functions that the expression calls to the end of `called`, from left to right,
-    /// each as often as it is called there; fails only for want of memory.
+    /// each as often as it is called there; fails only when out of memory.
     pub fn push_calls(&self, called: &mut Items<u32>) -> Result<(), NoMemory>
         ensures { OnOk result (called.new ≡ called.old ++ calls self.now) }
     {
@@ -121,7 +121,7 @@ impl Expr {
         }
     }
 
-    /// A copy that equals `self`; fails only for want of memory.
+    /// A copy that equals `self`; fails only when out of memory.
     #[cycle(clones)]
     pub fn try_clone(&self, alloc: Global) -> Result<Expr, NoMemory>
         ensures { IfOk result (λ e. e ≡ self.now) }

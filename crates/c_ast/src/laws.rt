@@ -44,9 +44,9 @@ pub fn scoped_programs_name_what_is_there()
         All (λ g. g < length program.functions) (concat (map calls_in function.body)) }
 {}
 
-/// The two tests of straight expressions are one notion: what a straight function of so many
-/// parameters may return is an expression that may be an operand in a precondition, and whose
-/// variables are slots of parameters.
+/// The two tests of straight expressions are one notion: what a straight function of n parameters
+/// may return is an expression that may be an operand in a precondition, and whose variables are
+/// slots of parameters.
 pub fn straight_expressions_are_one_notion()
     ensures { (count : ℕ) (e : Expr) →
         over_parameters.is_straight count e

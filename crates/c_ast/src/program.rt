@@ -45,8 +45,8 @@ pub struct Resolved {
 
 impl Function {
     /// Adds the functions that the body calls to the end of `called`, in the order of its
-    /// statements, each as often as it is called there, also where nothing leads; fails only for
-    /// want of memory.
+    /// statements, each as often as it is called there, also where nothing leads; fails only when
+    /// out of memory.
     #[tactic(auto, using(crate::proofs::CallEquations::calls_of_list))]
     pub fn push_calls(&self, called: &mut Items<u32>) -> Result<(), NoMemory>
         ensures { OnOk result (called.new ≡ called.old ++ flat_map calls_in self.now.body) }
@@ -54,7 +54,7 @@ impl Function {
         push_calls_of_all(self.body.as_slice(), called)
     }
 
-    /// A copy that equals `self`; fails only for want of memory.
+    /// A copy that equals `self`; fails only when out of memory.
     pub fn try_clone(&self, alloc: Global) -> Result<Function, NoMemory>
         ensures { IfOk result (λ f. f ≡ self.now) }
     {
@@ -69,7 +69,7 @@ impl Function {
 }
 
 impl Program {
-    /// A copy that equals `self`; fails only for want of memory.
+    /// A copy that equals `self`; fails only when out of memory.
     pub fn try_clone(&self, alloc: Global) -> Result<Program, NoMemory>
         ensures { IfOk result (λ p. p ≡ self.now) }
     {
@@ -83,7 +83,7 @@ impl Program {
 }
 
 impl Resolved {
-    /// A copy that equals `self`; fails only for want of memory.
+    /// A copy that equals `self`; fails only when out of memory.
     pub fn try_clone(&self, alloc: Global) -> Result<Resolved, NoMemory>
         ensures { IfOk result (λ r. r ≡ self.now) }
     {

@@ -24,7 +24,8 @@ pub enum Stmt {
     While(Expr, Boxed<Stmt>),
     /// `do s while (e);`
     DoWhile(Boxed<Stmt>, Expr),
-    /// `for (..; ..; ..) s`: the declarations or the change before it, the test, the change after each turn, and the body.
+    /// `for (..; ..; ..) s`: the declarations or the change before it, the test, the change after
+    /// each turn, and the body.
     For(Items<Stmt>, Option<Expr>, Option<Boxed<Stmt>>, Boxed<Stmt>),
     /// `break;`: the number of its token.
     Break(u32),
@@ -98,7 +99,7 @@ fn option_height(e: &Option<Expr>) -> u32
 
 impl Stmt {
     /// Adds the functions that the statement calls to the end of `called`, in the order of its
-    /// parts, each as often as it is called there, also where nothing leads; fails only for want of
+    /// parts, each as often as it is called there, also where nothing leads; fails only when out of
     /// memory.
     #[cycle(stmt_calls)]
     pub fn push_calls(&self, called: &mut Items<u32>) -> Result<(), NoMemory>
@@ -168,7 +169,7 @@ fn push_calls_of_option(e: &Option<Expr>, called: &mut Items<u32>) -> Result<(),
 }
 
 impl Stmt {
-    /// A copy that equals `self`; fails only for want of memory.
+    /// A copy that equals `self`; fails only when out of memory.
     #[cycle(clones)]
     pub fn try_clone(&self, alloc: Global) -> Result<Stmt, NoMemory>
         ensures { IfOk result (λ s. s ≡ self.now) }

@@ -16,7 +16,7 @@ use Rattle.c_front.specs.FrontEnd.{AreNamed, IsReading, IsWellFormed, missing, p
 use Rattle.std.proofs.lemmas.Option.{none-some}
 use Rattle.c_scope.proofs.ResolvedPrograms.{counted, counts_kept}
 
--- the place found stands in the list
+-- the place found is in the list
 within_from : {K : Type 0} (p : K → Bool) (i : ℕ) (xs : List K) (k : ℕ) → position_from p i xs ≡
     Some k → k < i + length xs
 within_from p i [] k is = absurd (none-some _ is)
@@ -27,7 +27,7 @@ within_from p i (x ∷ xs) k is =
       | false ↦ (λ e. let h = within_from p (i + 1) xs k e in omega (arith, h))
     ] is
 
--- an element stands at each place in the list
+-- there is an element at each place in the list
 element_within : {A : Type 0} (xs : List A) (i : ℕ) → i < length xs → (x : A) ×
     (slice_get xs i ≡ Some x)
 element_within [] i h = absurd (omega (arith, h))
@@ -64,7 +64,7 @@ module _ (source : List ℕ) (tokens : List Token) (program : Program) (resolved
       length-map program.functions (λ (f : Function). f.name) in
       omega (arith, h, l, m)
 
-  -- the function that stands at a place, with so many parameters
+  -- the function that is at a place, with n parameters
   abbrev Stands : ℕ → Type 0
   Stands i =
       (g : Function) × (slice_get resolved.functions i ≡ Some g) ×

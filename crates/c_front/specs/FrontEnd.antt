@@ -108,7 +108,7 @@ IsReading source first second (Goes two) =
     (left : Function) × (right : Function) × AreComparable source first second two left right
 
 -- it can be said in a line: it is neither out of memory, nor an end of programs alone or of
--- preconditions alone that stands for the other
+-- preconditions alone that is used for the other
 abbrev pub IsSayable : Refusal → Type 0
 IsSayable (Lex Fault.NoMemory) = ⊥
 IsSayable (Parse Flaw.NoMemory) = ⊥

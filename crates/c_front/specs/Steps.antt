@@ -1,4 +1,4 @@
--- What the functions inside promise to one another. Nothing that a caller reads stands on this.
+-- What the functions inside promise to one another. Nothing that a caller reads depends on this.
 use Rattle.std.specs.Prelude.{◌<◌, ◌^◌, ℕ, All, List, length, Option, option_map}
 use Rattle.std.specs.Borrow.{Bor}
 use Rattle.c_front.specs.declared.refusals.Refusal.{Refusal}
@@ -23,6 +23,6 @@ abbrev pub two_of : Next Refusal NamedText → Next Refusal TwoFunctions
 two_of (Ends refusal) = Ends refusal
 two_of (Goes named) = Goes named.two
 
--- the bytes of a precondition that is lent
+-- the bytes of a precondition that is borrowed
 abbrev pub bytes_of : Option (Bor (List ℕ)) → Option (List ℕ)
 bytes_of = option_map (λ bytes. bytes.now)

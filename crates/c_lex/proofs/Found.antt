@@ -59,7 +59,7 @@ tokens_from_piece fresh at xs h =
     ap (λ p. follow p at (λ n. tokens_from (n - 1) (fresh_behind fresh (get_or xs at 0))
     (suc at) (drop (at + 1) xs))) (sym (at_drop_more (piece fresh) xs at 0 h))
 
--- the bytes behind the first
+-- the bytes after the first
 take_more : (xs : List ℕ) (at n : ℕ) → 1 ≤ n → at < length xs → take n (drop at xs) ≡
     get_or xs at 0 ∷ take (n - 1) (drop (at + 1) xs)
 take_more xs at zero some below = absurd (omega arith)
@@ -67,7 +67,7 @@ take_more xs at (suc n) some below =
     ap (take (suc n)) (drop_more xs at 0 below) ∙
     ap (λ k. get_or xs at 0 ∷ take k (drop (at + 1) xs)) (omega arith)
 
--- behind a piece of n bytes
+-- after a piece of n bytes
 pub tokens_from_behind : (fresh : Bool) (at n : ℕ) (xs : List ℕ) → 1 ≤ n → at + n ≤ length xs →
     IsSeenAtFront (drop at xs) n → tokens_from (n - 1) (fresh_behind fresh (get_or xs at 0))
     (suc at) (drop (at + 1) xs) ≡ tokens_from 0 (fresh_behind fresh (get_or xs at 0)) (at + n)
@@ -117,7 +117,7 @@ passed_more : (ts : List Token) (at n : ℕ) → All (λ t. t.at + t.len ≤ at)
     All (λ t. t.at + t.len ≤ at + n) ts
 passed_more ts at n h k d below = omega (arith, h k d below)
 
--- behind a piece that is not kept the same is known
+-- after a piece that is not kept the same is known
 found_blank : (xs : List ℕ) (fresh : Bool) (at n : ℕ) (ts : List Token) → Found xs fresh at ts →
     at < length xs → piece fresh (drop at xs) ≡ Blank n → 1 ≤ n → n ≤ length (drop at xs) →
     IsSeenAtFront (drop at xs) n → Found xs (fresh_behind fresh (get_or xs at 0)) (at + n) ts
@@ -135,7 +135,7 @@ found_blank xs fresh at n ts f below is some fits seen =
       few = (let h = f.few in omega arith);
     }
 
--- behind a token, which is kept, the same is known
+-- after a token, which is kept, the same is known
 found_spelled : (xs : List ℕ) (fresh : Bool) (at n : ℕ) (kind : TokenKind) (ts : List Token) →
     Found xs fresh at ts → at < length xs → piece fresh (drop at xs) ≡ Spelled kind n → 1 ≤ n → n ≤
     length (drop at xs) → IsSeenAtFront (drop at xs) n → Spells kind (take n (drop at xs)) →
@@ -158,7 +158,7 @@ found_spelled xs fresh at n kind ts f below is some fits seen spells =
       few = (let h = f.few in omega (arith, length-append ts (t ∷ [])));
     }
 
--- behind a piece that is no fault the same is known
+-- after a piece that is no fault the same is known
 pub found_turn : (p : Piece) (xs : List ℕ) (fresh : Bool) (at len : ℕ) (ts new : List Token) →
     Found xs fresh at ts → at < length xs → piece fresh (drop at xs) ≡ p →
     IsPieceOf (drop at xs) p → Keeps p at ts new (Ok len) →
@@ -170,7 +170,7 @@ found_turn (Spelled kind n) xs fresh at len ts new f below is part keeps =
     part.3)
 found_turn (Bad fault n) xs fresh at len ts new f below is part keeps = absurd keeps
 
--- and the place is further on
+-- and the place is later
 pub found_further : (p : Piece) (rest : List ℕ) (at len : ℕ) (ts new : List Token) →
     IsPieceOf rest p → Keeps p at ts new (Ok len) → 1 ≤ len
 found_further (Blank n) rest at len ts new part keeps = omega (arith, part.0, keeps.0)

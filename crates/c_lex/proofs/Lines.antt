@@ -1,4 +1,4 @@
--- Whether only spaces and tabs have stood since the last line end, behind the bytes of a piece.
+-- Whether only spaces and tabs have come since the last line end, after the bytes of a piece.
 use Rattle.std.proofs.Common.{◌≡◌, ℕ, ◌+◌, ◌-◌, ◌≤◌, suc, Bool, true, false, cond, ◌==◌, ◌||◌, List, [], ◌∷◌, length, get_or, take, fold, refl, sym, ap, ◌∙◌, arith}
 use Rattle.std.proofs.lemmas.Bool.{false≢true}
 use Rattle.std.proofs.lemmas.Bool.Decides.{eqb_tells}
@@ -41,7 +41,7 @@ slash_is_solid fresh = and_false fresh
 pub hash_is_solid : (fresh : Bool) → fresh_behind fresh hash ≡ false
 hash_is_solid fresh = and_false fresh
 
--- behind n bytes a line is as it is behind the last of them
+-- after n bytes a line is as it is after the last of them
 fold_last : (xs : List ℕ) (n : ℕ) (fresh : Bool) → 1 ≤ n → n ≤ length xs →
     fold fresh_behind fresh (take n xs) ≡ fresh_behind (fold fresh_behind fresh (take (n - 1) xs))
     (get_or xs (n - 1) 0)
@@ -82,7 +82,7 @@ quiet_until p nl [] = refl
 quiet_until p nl (x ∷ xs) =
     quiet_step (p (x ∷ xs)) x xs (until p xs) (nl (x ∷ xs)) (quiet_until p nl xs)
 
--- behind its first byte a line that is not blank stays so
+-- after its first byte a line that is not blank stays so
 line_step : (b : Bool) (x : ℕ) (xs : List ℕ) (k : ℕ) → 1 ≤ cond b 0 (1 + k) →
     ((fresh : Bool) → fresh_behind fresh x ≡ false) → fold fresh_behind false (take k xs) ≡ false →
     (fresh : Bool) → fold fresh_behind fresh (take (cond b 0 (1 + k)) (x ∷ xs)) ≡

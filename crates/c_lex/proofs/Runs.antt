@@ -75,7 +75,7 @@ pub keyword_part : (xs : List ℕ) (n : ℕ) (k : Keyword) → n ≡ prefix_len 
     IsPieceOf xs (Spelled (Word k) n)
 keyword_part xs n k len letter is = let w = word_part xs n len letter in (w.0, w.1, w.2, is)
 
--- a run of digits is a literal, if no zero stands in front of others and its value is below 2^63
+-- a run of digits is a literal, if no zero is in front of others and its value is below 2^63
 pub number_part : (xs : List ℕ) (n value : ℕ) → n ≡ prefix_len is_digit xs →
     is_digit (get_or xs 0 0) ≡ true → (get_or xs 0 0 ≡ digit_zero → n ≤ 1) → value ≡
     min (value_of (take n xs)) (2 ^ 63) → value < 2 ^ 63 →

@@ -16,7 +16,7 @@ unfolding until
 until_le p [] = omega arith
 until_le p (x ∷ xs) = omega (arith, step_le (p (x ∷ xs)) (until p xs) (length xs) (until_le p xs))
 
--- from one place on, it is that place, or it is looked for behind it
+-- from one place on, it is that place, or it is looked for after it
 pub until_turn : (p : List ℕ → Bool) (xs : List ℕ) (i : ℕ) → i < length xs → until p (drop i xs) ≡
     cond (p (drop i xs)) 0 (1 + until p (drop (i + 1) xs))
 unfolding until
@@ -24,7 +24,7 @@ until_turn p xs i h =
     at_drop_more (until p) xs i 0 h ∙ ap (λ b. cond b 0 (1 + until p (drop (i + 1) xs)))
     (sym (at_drop_more p xs i 0 h))
 
--- the place where the test stands, and none before it, is the first
+-- the place where the test holds, and none before it, is the first
 pub until_found : (p : List ℕ → Bool) (xs : List ℕ) (i limit : ℕ) → i < limit → limit ≤ length xs →
     i + until p (drop i xs) ≡ until p xs → p (drop i xs) ≡ true → i ≡ min (until p xs) limit
 until_found p xs i limit below within passed test =
@@ -32,7 +32,7 @@ until_found p xs i limit below within passed test =
     ap (λ b. cond b 0 (1 + until p (drop (i + 1) xs))) test in
     omega arith
 
--- a place where the test doesn't stand is passed
+-- a place where the test doesn't hold is passed
 pub until_more : (p : List ℕ → Bool) (xs : List ℕ) (i : ℕ) → i < length xs → i +
     until p (drop i xs) ≡ until p xs → p (drop i xs) ≡ false → (i + 1) + until p (drop (i + 1) xs) ≡
     until p xs
@@ -41,7 +41,7 @@ until_more p xs i below passed test =
     ap (λ b. cond b 0 (1 + until p (drop (i + 1) xs))) test in
     omega arith
 
--- where the test fails at the front, the place lies behind it
+-- where the test fails at the front, the place lies after it
 step_some : (b : Bool) (n : ℕ) → b ≡ false → 1 ≤ cond b 0 (1 + n)
 step_some true n h = absurd (false≢true (sym h))
 step_some false n h = omega arith
@@ -71,7 +71,7 @@ close_two : (x : ℕ) (xs : List ℕ) → at_close (x ∷ xs) ≡ true → 1 ≤
 close_two x [] h = absurd (false≢true (sym (and_false (x == star)) ∙ h))
 close_two x (y ∷ xs) h = omega arith
 
--- so they do one byte further on
+-- so they do one byte later
 close_step : (b : Bool) (n m : ℕ) → (b ≡ true → 1 ≤ m) → (n < m → n + 2 ≤ m) → cond b 0 (1 + n) <
     1 + m → cond b 0 (1 + n) + 2 ≤ 1 + m
 close_step true n m here behind h = omega (arith, here refl)
@@ -88,7 +88,7 @@ close_fits (x ∷ xs) h =
           (close_fits xs) (omega arith),
     )
 
--- the test stands at the first place, one byte further on
+-- the test holds at the first place, one byte later
 stands_step : (p : List ℕ → Bool) (x : ℕ) (xs : List ℕ) (b : Bool) → p (x ∷ xs) ≡ b → (n : ℕ) →
     cond b 0 (1 + n) < suc (length xs) → (n < length xs → p (drop n xs) ≡ true) →
     p (drop (cond b 0 (1 + n)) (x ∷ xs)) ≡ true
@@ -102,7 +102,7 @@ and_second : (a b : Bool) → (a && b) ≡ true → b ≡ true
 and_second true b h = h
 and_second false b h = absurd (false≢true h)
 
--- where the place lies within the text, the test stands there
+-- where the place lies within the text, the test holds there
 pub until_stands : (p : List ℕ → Bool) (xs : List ℕ) → until p xs < length xs →
     p (drop (until p xs) xs) ≡ true
 unfolding until

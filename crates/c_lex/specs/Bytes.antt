@@ -59,7 +59,7 @@ is_letter b = ((nat_le 97 b && nat_le b 122) || (nat_le 65 b && nat_le b 90)) ||
 abbrev pub is_word_byte : ℕ → Bool
 is_word_byte b = is_letter b || is_digit b
 
--- whether only spaces and tabs have stood since the last line end, behind one byte more
+-- whether only spaces and tabs have come since the last line end, after one byte more
 abbrev pub fresh_behind : Bool → ℕ → Bool
 fresh_behind fresh b = b == line_feed || (fresh && is_space b)
 
@@ -79,13 +79,13 @@ at_comment text = begins slash star text
 abbrev pub at_close : List ℕ → Bool
 at_close text = begins star slash text
 
--- a backslash stands here, directly before LF, or before CR LF
+-- a backslash is here, directly before LF, or before CR LF
 abbrev pub at_splice : List ℕ → Bool
 at_splice text =
     begins backslash line_feed text || (begins backslash carriage_return text &&
     slice_index text 2 == line_feed)
 
--- how many bytes stand in front of the first place that the test accepts, or all of them
+-- how many bytes are in front of the first place that the test accepts, or all of them
 unfoldable pub until : (List ℕ → Bool) → List ℕ → ℕ
 until p [] = 0
 until p (x ∷ xs) = if p (x ∷ xs) then 0 else 1 + until p xs

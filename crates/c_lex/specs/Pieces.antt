@@ -35,12 +35,12 @@ number rest =
     else (if is_letter (slice_index rest n) then Bad BadByte n
     else Spelled (Number (pos value)) n))
 
--- The first n bytes are not kept, unless a backslash among them stands directly before a line end.
+-- The first n bytes are not kept, unless a backslash among them is directly before a line end.
 unfoldable pub blank : ℕ → List ℕ → Piece
 blank n rest =
     if nat_lt (until at_splice rest) n then Bad BadByte (until at_splice rest) else Blank n
 
--- from `/*` to the first `*/` behind it
+-- from `/*` to the first `*/` after it
 unfoldable pub block_comment : List ℕ → Piece
 block_comment rest =
     let inside = until at_close (drop 2 rest) in
@@ -54,7 +54,7 @@ line_comment rest = blank (until at_line_end rest) rest
 abbrev pub at_include_end : List ℕ → Bool
 at_include_end rest = at_line_end rest || at_comment rest
 
--- the word behind spaces and tabs is `include`
+-- the word after spaces and tabs is `include`
 unfoldable pub names_include : List ℕ → Bool
 names_include rest =
     let behind = drop (prefix_len is_space rest) rest in
@@ -72,7 +72,7 @@ longest (Some two) one = Spelled (Mark two) 2
 longest None (Some one) = Spelled (Mark one) 1
 longest None None = Bad BadByte 0
 
--- What begins at the front of the text. `fresh` says that only spaces and tabs stand between it and
+-- What begins at the front of the text. `fresh` says that only spaces and tabs are between it and
 -- the line end before it.
 unfoldable pub piece : Bool → List ℕ → Piece
 piece fresh rest =
@@ -85,7 +85,7 @@ piece fresh rest =
     else (if begins slash slash rest then line_comment rest
     else longest (two_mark b (slice_index rest 1)) (one_mark b))))))
 
--- behind the first n bytes a line is as fresh as behind the first of them
+-- after the first n bytes a line is as fresh as after the first of them
 abbrev pub IsSeenAtFront : List ℕ → ℕ → Type 0
 IsSeenAtFront rest n =
     (fresh : Bool) → fold fresh_behind fresh (take n rest) ≡ fresh_behind fresh (slice_index rest 0)

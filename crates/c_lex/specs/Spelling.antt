@@ -11,8 +11,8 @@ use Rattle.c_lex.specs.Marks.{spelling}
 abbrev pub value_of : List ℕ → ℕ
 value_of digits = fold (λ v b. 10 * v + (b - digit_zero)) 0 digits
 
--- A name is a letter or underscore with letters, digits and underscores behind it, and no keyword.
--- A number is a run of digits with no zero in front of others, below 2^63.
+-- A name is a letter or underscore with letters, digits and underscores after it, and no keyword. A
+-- number is a run of digits with no zero in front of others, below 2^63.
 abbrev pub Spells : TokenKind → List ℕ → Type 0
 Spells Name w =
     (is_letter (slice_index w 0) ≡ true) × AllPass is_word_byte w × (keyword_of w ≡ None)

@@ -25,15 +25,15 @@ abbrev pub put : Token → Result (List Token) LexEnd → Result (List Token) Le
 put t (Ok ts) = Ok (t ∷ ts)
 put t (Err e) = Err e
 
--- the answer where this piece begins at the offset, by the answer behind it
+-- the answer where this piece begins at the offset, by the answer after it
 abbrev pub follow : Piece → ℕ → (ℕ → Result (List Token) LexEnd) → Result (List Token) LexEnd
 follow (Blank n) at behind = behind n
 follow (Spelled kind n) at behind = put (record { kind = kind; at = at; len = n }) (behind n)
 follow (Bad fault n) at behind = Err (end_at fault (at + n))
 
--- The tokens of the text that stands at the offset. Its first bytes, `covered` in number, belong to
--- the piece before; `fresh` says that only spaces and tabs stand between the text and the line end
--- before it.
+-- The tokens of the text that is at the offset. Its first bytes, `covered` in number, belong to the
+-- piece before; `fresh` says that only spaces and tabs are between the text and the line end before
+-- it.
 unfoldable pub tokens_from : ℕ → Bool → ℕ → List ℕ → Result (List Token) LexEnd
 tokens_from covered fresh at [] = Ok []
 tokens_from (suc covered) fresh at (x ∷ xs) = tokens_from covered (fresh_behind fresh x) (suc at) xs
@@ -44,7 +44,7 @@ tokens_from zero fresh at (x ∷ xs) =
 abbrev pub tokens_of : List ℕ → Result (List Token) LexEnd
 tokens_of source = tokens_from 0 true 0 source
 
--- the call's answer is the definition's; want of memory alone is free
+-- the call's answer is the definition's; running out of memory alone is free
 abbrev pub Gives : Result (Vec Token Global) LexEnd → Result (List Token) LexEnd → Type 0
 Gives (Ok v) answer = answer ≡ Ok v.items
 Gives (Err end.NoMemory) answer = Unit {0}

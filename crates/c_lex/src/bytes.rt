@@ -54,7 +54,7 @@ pub(crate) fn is_word_byte(byte: u8) -> bool
     is_letter(byte) || is_digit(byte)
 }
 
-/// Whether only spaces and tabs have stood since the last line end, behind one byte more.
+/// Whether only spaces and tabs have come since the last line end, after one byte more.
 pub(crate) fn fresh_behind(fresh: bool, byte: u8) -> bool
     ensures { result ≡ spec.fresh_behind fresh byte }
 {

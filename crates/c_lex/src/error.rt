@@ -1,11 +1,11 @@
 use rx_plain::NoMemory;
 use thiserror::Error;
 
-/// Why a text has no tokens: the first fault in it, with the offset of a byte, or want of memory.
+/// Why a text has no tokens: the first fault in it, with the offset of a byte, or out of memory.
 #[derive(Clone, Copy, Debug, PartialEq, Eq, Error)]
 pub enum LexEnd {
-    /// A byte that begins no token, a letter or underscore directly behind a literal, or a
-    /// backslash directly before a line end.
+    /// A byte that begins no token, a letter or underscore directly after a literal, or a backslash
+    /// directly before a line end.
     #[error("unexpected byte at {at}")]
     BadByte {
         /// The offset of that byte.

@@ -47,8 +47,8 @@ fn keep(found: &mut Vec<Token>, piece: Piece, at: usize) -> Result<usize, LexEnd
 /// The tokens of the text, in order, or its first fault.
 ///
 /// The text has at most 1,048,576 bytes. Spaces, tabs, CR, LF, VT, FF, comments and include lines
-/// stand between tokens and are none (ISO/IEC 9899:1999, 6.4 and 6.4.9, without trigraphs, and with
-/// a backslash directly before a line end refused).
+/// are between tokens and are none (ISO/IEC 9899:1999, 6.4 and 6.4.9, without trigraphs, and with a
+/// backslash directly before a line end refused).
 pub fn tokens(alloc: Global, source: &[u8]) -> Result<Vec<Token>, LexEnd>
     requires { length source.now ≤ 1048576 }
     ensures gives { Gives result (tokens_of source.now) }

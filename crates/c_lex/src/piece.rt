@@ -24,11 +24,11 @@ pub(crate) enum Fault {
 /// What begins at a place.
 #[derive(Clone, Copy)]
 pub(crate) enum Piece {
-    /// So many bytes that are not kept: a separator, a comment or an include line.
+    /// That many bytes, which are not kept: a separator, a comment or an include line.
     Blank(usize),
-    /// A token of so many bytes.
+    /// A token of that many bytes.
     Spelled(TokenKind, usize),
-    /// A fault, so many bytes behind the place.
+    /// A fault, that many bytes after the place.
     Bad(Fault, usize),
 }
 
@@ -80,7 +80,7 @@ fn number(rest: &[u8]) -> Piece
     Piece::Spelled(TokenKind::Number(value as i64), len)
 }
 
-/// So many bytes that are not kept, unless a backslash among them stands directly before a line
+/// That many bytes, which are not kept, unless a backslash among them is directly before a line
 /// end.
 #[tactic(auto, unfolding(crate::specs::Pieces::blank))]
 fn blank(len: usize, rest: &[u8]) -> Piece
@@ -124,7 +124,7 @@ fn line_comment(rest: &[u8]) -> Piece
     blank(place_of(Stop::LineEnd, rest), rest)
 }
 
-/// Whether the word behind spaces and tabs is `include`.
+/// Whether the word after spaces and tabs is `include`.
 #[tactic(auto, unfolding(crate::specs::Pieces::names_include))]
 fn names_include(rest: &[u8]) -> bool
     ensures { result ≡ spec.names_include rest.now }
@@ -133,8 +133,7 @@ fn names_include(rest: &[u8]) -> bool
     &behind[..run(Class::Word, behind)] == b"include".as_slice()
 }
 
-/// What a `#` begins, where `fresh` says that only spaces and tabs stand in front of it on its
-/// line.
+/// What a `#` begins, where `fresh` says that only spaces and tabs are in front of it on its line.
 #[tactic(auto, unfolding(crate::specs::Pieces::directive))]
 fn directive(fresh: bool, rest: &[u8]) -> Piece
     requires { slice_index rest.now 0 ≡ bytes_spec.hash }
@@ -164,8 +163,8 @@ fn mark(rest: &[u8]) -> Piece
     }
 }
 
-/// What begins at the front of the text, where `fresh` says that only spaces and tabs stand in
-/// front of it on its line.
+/// What begins at the front of the text, where `fresh` says that only spaces and tabs are in front
+/// of it on its line.
 #[tactic(auto, unfolding(crate::specs::Pieces::piece))]
 pub(crate) fn piece_at_front(fresh: bool, rest: &[u8]) -> Piece
     requires { 1 ≤ length rest.now }

@@ -55,7 +55,7 @@ fn stands(stop: Stop, text: &[u8]) -> bool
     }
 }
 
-/// The first place before `limit` where this stands, or `limit`.
+/// The first place before `limit` where this holds, or `limit`.
 pub(crate) fn place_before(stop: Stop, text: &[u8], limit: usize) -> usize
     requires { limit ≤ length text.now }
     ensures { result ≡ min (spec.until (stop_test stop) text.now) limit }
@@ -68,7 +68,7 @@ pub(crate) fn place_before(stop: Stop, text: &[u8], limit: usize) -> usize
     limit
 }
 
-/// The first place where this stands, or the length of the text.
+/// The first place where this holds, or the length of the text.
 #[tactic(auto, using(crate::proofs::Scans::until_le))]
 pub(crate) fn place_of(stop: Stop, text: &[u8]) -> usize
     ensures value { result ≡ spec.until (stop_test stop) text.now }

@@ -12,7 +12,7 @@ pub struct Token {
 /// What a token is.
 #[derive(Clone, Copy, Debug, PartialEq, Eq)]
 pub enum TokenKind {
-    /// A letter or underscore with the letters, digits and underscores behind it, and no keyword.
+    /// A letter or underscore with the letters, digits and underscores after it, and no keyword.
     Name,
     /// A decimal literal, by its value, which is at least 0.
     Number(i64),

@@ -1,5 +1,5 @@
 -- The definitions, run on programs of expressions and calls. The values come from an independent
--- second program that runs C by rounds. Of most calls stand here the least number of rounds with
+-- second program that runs C by rounds. For most calls there is the least number of rounds with
 -- which they have an outcome, and with one round less that more are needed: the test that ends a
 -- loop takes a round.
 use Rattle.std.proofs.Common.{◌≡◌, ℕ, zero, suc, pos, negsuc, None, List, [], ◌∷◌, refl}

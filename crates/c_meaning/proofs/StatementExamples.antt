@@ -1,5 +1,5 @@
 -- The definitions, run on programs of loops and other statements. The values come from an
--- independent second program that runs C by rounds. Of most calls stand here the least number of
+-- independent second program that runs C by rounds. For most calls there is the least number of
 -- rounds with which they have an outcome, and with one round less that more are needed: the test
 -- that ends a loop takes a round.
 use Rattle.std.proofs.Common.{◌≡◌, ℕ, zero, suc, pos, Some, None, List, [], ◌∷◌, refl, sym, ◌∙◌}
@@ -542,7 +542,7 @@ error_in_first-4 = simp equations
 abbrev same : Resolved
 same = record { functions = function 1 (0 ∷ []) (Return (Var 0) ∷ []) ∷ [] }
 
--- `int x;` gives 0, behind the slots in scope
+-- `int x;` gives 0, after the slots in scope
 unset : stmt_outcome same 0 (Declare 1 None) (pos 5 ∷ []) ≡ Value (Next (pos 5 ∷ pos 0 ∷ []))
 unset = simp equations
 

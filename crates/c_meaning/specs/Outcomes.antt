@@ -25,7 +25,7 @@ IsAnswer More = ⊥
 abbrev pub State : Type 0
 State = List ℤ
 
--- where a statement leads: behind it (next), to a break or to a continue (6.8.6), each in a state;
+-- where a statement leads: after it (next), to a break or to a continue (6.8.6), each in a state;
 -- or to a return with its integer
 pub data Flow : Type 0 where
   Next : State → Flow

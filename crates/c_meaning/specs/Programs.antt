@@ -11,7 +11,7 @@ use Rattle.c_meaning.specs.Statements.{Rounds, calls_with, in_order, stmt}
 
 -- what the end of a body gives its caller: a return its integer (6.5.2.2p5, 6.8.6.4p3), and
 -- reaching the body's end 0, where C says nothing (6.9.1p12). In a well-formed program no execution
--- reaches a body's end, and each break and continue stands in a loop
+-- reaches a body's end, and each break and continue is in a loop
 abbrev pub returned : Flow → Outcome ℤ
 returned (Return k) = Value k
 returned (Next s) = Value (pos 0)

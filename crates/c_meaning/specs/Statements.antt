@@ -26,7 +26,7 @@ abbrev pub optional : Option Execution → Execution
 optional None rounds s = Value (Next s)
 optional (Some part) rounds s = part rounds s
 
--- goes on behind a statement that led to next; a break, a continue and a return leave the rest out
+-- goes on after a statement that led to next; a break, a continue and a return leave the rest out
 -- (6.8.6p2)
 abbrev pub on_next : (State → Outcome Flow) → Flow → Outcome Flow
 on_next rest (Next s) = rest s
@@ -64,15 +64,16 @@ abbrev pub loop : (Rounds → State → Outcome Turn) → Execution
 loop turn [] s = More
 loop turn (call ∷ left) s = on_value (turn left s) (on_again (loop turn left))
 
--- a loop's body in a turn: behind it and at a continue (6.8.6.2p2) the turn goes on; a break
--- (6.8.6.3p2) leads behind the loop, and a return (6.8.6.4p2) ends it as it ends the function
+-- a loop's body in a turn: after it and at a continue (6.8.6.2p2) the turn goes on; a break
+-- (6.8.6.3p2) leads to what follows the loop, and a return (6.8.6.4p2) ends it as it ends the
+-- function
 abbrev pub after_body : (State → Outcome Turn) → Flow → Outcome Turn
 after_body rest (Next s) = rest s
 after_body rest (Continue s) = rest s
 after_body rest (Break s) = Value (Ends (Next s))
 after_body rest (Return k) = Value (Ends (Return k))
 
--- the last part of a `for` (6.8.5.3p1): behind it comes the next turn; it is an assignment, so it
+-- the last part of a `for` (6.8.5.3p1): after it comes the next turn; it is an assignment, so it
 -- leads nowhere else
 abbrev pub after_change : Flow → Outcome Turn
 after_change (Next s) = Value (Again s)
@@ -104,8 +105,9 @@ do_turn test body rounds s =
 abbrev pub stmt_level : Stmt-F Execution → Execution
 -- `;` (6.8.3p3)
 stmt_level Stmt-F.Empty rounds s = Value (Next s)
--- `int x;` each time it is reached (6.8p3, 6.2.4p5, 6.7.8p10): the new slot stands behind those in scope, whose number `k` is in a well-formed
--- program. C leaves its value open; it is 0, which a well-formed program never reads
+-- `int x;` each time it is reached (6.8p3, 6.2.4p5, 6.7.8p10): the new slot comes after those in
+-- scope, whose number `k` is in a well-formed program. C leaves its value open; it is 0, which a
+-- well-formed program never reads
 stmt_level (Stmt-F.Declare k None) rounds s = Value (Next (take k s ++ pos 0 ∷ []))
 -- `int x = e;` each time it is reached (6.8p3, 6.7.8p11)
 stmt_level (Stmt-F.Declare k (Some e)) rounds s =

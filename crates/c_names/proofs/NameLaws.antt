@@ -1,4 +1,4 @@
--- Names tell spellings.
+-- Names determine spellings.
 use Rattle.std.proofs.Common.{◌≡◌, ◌∙◌, ap, ℕ, suc, ◌+◌, ◌<◌, ◌≤◌, ◌↔◌, refl, sym, List, [], ◌∷◌, ◌++◌, map, length, take, drop, get_or, Option, Some, None, option_map, if◌then◌else◌, unwrap_or, arith}
 use Rattle.std.specs.Prelude.{slice_get}
 use Rattle.std.specs.Option.{option_or}
@@ -13,17 +13,17 @@ use Rattle.c_names.specs.Names.{names_of, name_at, NamesTellSpellings}
 use Rattle.c_names.specs.Seen.{number_in}
 use Rattle.c_names.proofs.Places.{place-last, place-is, place-more}
 
--- a list is what stands before a place, what stands there, and what stands behind it
+-- a list is what comes before a place, what is there, and what comes after it
 split : (words : List (List ℕ)) (i : ℕ) → i < length words → words ≡ take i words ++
     get_or words i [] ∷ drop (suc i) words
 split words i h =
     sym (take-append-drop i words) ∙ ap (λ ws. take i words ++ ws) (drop-cons words i [] h)
 
--- as many stand before a place as it says
+-- as many come before a place as it says
 taken : (words : List (List ℕ)) (i : ℕ) → i < length words → length (take i words) ≡ i
 taken words i h = grind (arith, length-take)
 
--- a word that stands in a list is found among those in front of it, or at its own place
+-- a word that is in a list is found among those in front of it, or at its own place
 found : (words : List (List ℕ)) (i : ℕ) → i < length words → place_of words (get_or words i []) ≡
     option_or (place_of (take i words) (get_or words i [])) (Some i)
 found words i h =
@@ -44,7 +44,7 @@ first_seen words i h =
     by None = refl
     by (Some n) = refl
 
--- and what stands at that place is the word
+-- and what is at that place is the word
 placed : (words : List (List ℕ)) (i : ℕ) → i < length words →
     get_or words (unwrap_or (place_of words (get_or words i [])) 0) [] ≡ get_or words i []
 placed words i h = by (place_of (take i words) (get_or words i [])) (found words i h)
@@ -100,7 +100,7 @@ module _ (source : List ℕ) (tokens : List Token) (i : ℕ) (h : i < length tok
     (is : word ≡ spelling_at source tokens i) (old : List (Bor (List ℕ) × ℕ))
     (knows : (w : List ℕ) → number_in old w ≡ place_of (take i (map (spelling source) tokens)) w)
   where
-    -- the table that the token's word was put into knows one word more
+    -- the table that the token's word was added to knows one word more
     pub next_seen : (new : List (Bor (List ℕ) × ℕ)) →
         ((w : List ℕ) → number_in new w ≡ option_or (number_in old w)
         (if bytes_eq word w then Some i else None)) → (w : List ℕ) → number_in new w ≡

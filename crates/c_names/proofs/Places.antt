@@ -34,7 +34,7 @@ first_or t i x rest whole behind later false e =
     ap (λ b. cond b (Some i) whole) e ∙ later ∙
     sym (ap (λ b. option_or (cond b (Some i) rest) behind) e)
 
--- what stands in two lists stands in the first, or behind it
+-- what is in two lists is in the first, or after it
 pub position-append : {K : Type 0} (t : K → Bool) (i : ℕ) (xs ys : List K) →
     position_from t i (xs ++ ys) ≡ option_or (position_from t i xs)
     (position_from t (i + length xs) ys)
@@ -77,7 +77,7 @@ place-last done w rest =
     ∙ (let e : 0 + length done ≡ length done = omega arith in
     ap (λ k. option_or (place_of done w) (Some k)) e)
 
--- a word that is put behind others is found there, unless it stood among them
+-- a word that is added after others is found there, unless it was among them
 pub place-more : (done : List (List ℕ)) (v w : List ℕ) → place_of (done ++ v ∷ []) w ≡
     option_or (place_of done w) (if bytes_eq v w then Some (length done) else None)
 place-more done v w =

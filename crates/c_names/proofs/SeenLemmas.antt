@@ -1,4 +1,4 @@
--- A table of names that one more word was put into.
+-- A table of names that one more word was added to.
 use Rattle.std.proofs.Common.{◌≡◌, ◌∙◌, ap, ℕ, Bool, true, false, refl, sym, List, [], ◌∷◌, Option, Some, None, cond, if◌then◌else◌}
 use Rattle.std.specs.Borrow.{Bor}
 use Rattle.std.specs.Map.{lookup}
@@ -17,7 +17,7 @@ or_none : (o : Option ℕ) → o ≡ option_or o None
 or_none None = refl
 or_none (Some n) = refl
 
--- a word that isn't in the table is found behind all others
+-- a word that isn't in the table is found after all others
 pub entered : (v : Bor (List ℕ)) (n : ℕ) (w : List ℕ) (es : List (Bor (List ℕ) × ℕ)) →
     number_in es v.now ≡ None → number_in (insert_entry alike es v n) w ≡
     option_or (number_in es w) (if bytes_eq v.now w then Some n else None)

@@ -1,4 +1,4 @@
--- How names are spelled, which tokens have one name, and which slot a name stands for.
+-- How names are spelled, which tokens have one name, and which slot a name denotes.
 pub mod Spellings
 pub mod Names
 pub mod Seen

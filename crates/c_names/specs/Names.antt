@@ -15,7 +15,7 @@ names_of source tokens =
 abbrev pub name_at : List ℕ → ℕ → ℕ
 name_at names number = unwrap_or (slice_get names number) 0
 
--- names tell spellings apart, and nothing else does
+-- names distinguish spellings, and nothing else does
 abbrev pub NamesTellSpellings : List ℕ → List Token → Type 0
 NamesTellSpellings source tokens = (i j : ℕ) → i < length tokens → j < length tokens →
     (name_at (names_of source tokens) i ≡ name_at (names_of source tokens) j) ↔

@@ -1,7 +1,7 @@
 //! Names of a text: which tokens spell one name, and the slots of the variables in scope.
 //!
 //! What a reader may rely on: `names_of` gives each token a number, and two tokens have one number
-//! exactly where the same bytes spell them. So what is done with names behind it looks at no byte.
+//! exactly where the same bytes spell them. So what is done with names after it looks at no byte.
 //! `slot_of` finds a variable among those in scope, the innermost first (ISO/IEC 9899:1999, 6.2.1).
 #![tactic(auto)]
 

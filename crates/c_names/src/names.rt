@@ -32,7 +32,7 @@ fn number_of<'a>(
 }
 
 /// The names of all tokens of a text, in order: each is the number of the first token that is
-/// spelled alike. It fails only for want of memory.
+/// spelled alike. It fails only when out of memory.
 pub fn names_of(alloc: Global, source: &[u8], tokens: &[Token]) -> Result<Vec<u32>, NoMemory>
     requires within { IsWithin source.now tokens.now }
     requires few { length tokens.now < 2 ^ 32 }

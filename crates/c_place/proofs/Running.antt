@@ -124,7 +124,7 @@ alike ts s r ss i h =
 regrouped : (a b c : List Symbol) → (a ++ b) ++ c ≡ a ++ (b ++ c)
 regrouped a b c = rw append_assoc refl
 
--- a symbol that stands for another and more after it
+-- a symbol that expands to another and more after it
 handed_last : (s r : Symbol) (more ss : List Symbol) (at : ℕ) (a : Action) → (a ≡ skips → ⊥) →
     action r None ≡ a → action s None ≡ before more a
     → fault (s ∷ ss) at [] ≡ fault (r ∷ (more ++ ss)) at []
@@ -156,7 +156,7 @@ handed_first s r more ss at [] never g = handed_last s r more ss at (action r No
 handed_first s r more ss at (t ∷ ts) never g =
     handed_token s r more ss at t ts (action r (Some t.kind)) never refl g
 
--- A symbol that stands for another and more after it does as that one does, where it isn't skipped.
+-- A symbol that expands to another and more after it does as that one does, where it isn't skipped.
 pub handed : (ts : List Token) (s r : Symbol) (more ss : List Symbol) (i : ℕ) →
     (action r (kind_at ts i) ≡ skips → ⊥) → action s (kind_at ts i) ≡
     before more (action r (kind_at ts i))

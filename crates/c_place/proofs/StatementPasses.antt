@@ -25,7 +25,7 @@ use Rattle.c_place.proofs.StatementRows.{two_on}
 last_on : (i : ℕ) → i + 2 + 1 ≡ i + 3
 last_on i = omega arith
 
--- a symbol that stands for another and more after it, at a token
+-- a symbol that expands to another and more after it, at a token
 pub handed_at : (ts : List Token) (s r : Symbol) (more ss : List Symbol) (i : ℕ) (kind : TokenKind)
     → kind_at ts i ≡ Some kind → action s (Some kind) ≡ before more (action r (Some kind))
     → (action r (Some kind) ≡ skips → ⊥) → fault_at ts (s ∷ ss) i ≡ fault_at ts (r ∷ (more ++ ss)) i

@@ -43,8 +43,8 @@ abbrev pub pushed : List Symbol → List Symbol → List Symbol
 pushed [] there = there
 pushed (s ∷ ss) there = pushed ss there ++ (s ∷ [])
 
--- What a step did to the stack, whose top is its last, by the table's action; want of memory is
--- free.
+-- What a step did to the stack, whose top is its last, by the table's action; running out of memory
+-- is free.
 abbrev pub Acts : Result Step NoMemory → List Symbol → List Symbol → Action → Type 0
 Acts (Ok step.Taken) old new (takes expected) = new ≡ pushed expected old
 Acts (Ok step.Skipped) old new skips = new ≡ old

@@ -1,4 +1,4 @@
-//! What a token does to the symbols of an expression. What comes last is put on the stack first.
+//! What a token does to the symbols of an expression. What comes last is pushed on the stack first.
 ghost use Rattle.std.specs.Prelude.{◌≡◌, ◌↔◌, IsTrue, IsSome, Some};
 ghost use Rattle.c_expr.specs.Grammar.{binary_of};
 ghost use Rattle.c_place.specs.Actions.{expression_action, going_action, called_action};

@@ -1,4 +1,4 @@
-//! What a token does to the symbols of programs. What comes last is put on the stack first.
+//! What a token does to the symbols of programs. What comes last is pushed on the stack first.
 ghost use Rattle.std.specs.Prelude.{◌≡◌};
 ghost use Rattle.c_place.specs.Actions.{closed, program_action, parameters_action};
 ghost use Rattle.c_place.specs.Actions.{parameter_action, parameter_name_action};

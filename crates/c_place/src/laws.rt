@@ -4,7 +4,7 @@ ghost use Rattle.c_lex.specs.declared.token.Token.{Token};
 ghost use Rattle.c_place.specs.Places.{IsExpression, IsPlace, IsProgram};
 
 /// A list of tokens is lost at one place at most, and at none where it is spelled: the tokens
-/// determine what `program_fault` and `expression_fault` answer, but for want of memory.
+/// determine what `program_fault` and `expression_fault` answer, except when out of memory.
 pub fn tokens_have_one_place()
     ensures programs { (ts : List Token) (o r : Option ℕ) →
         IsPlace IsProgram ts o → IsPlace IsProgram ts r → o ≡ r }

@@ -1,6 +1,6 @@
 //! The recogniser: a stack of what is expected, its top next, over one token after the other.
 //!
-//! Each token is taken by one symbol, which puts at most seven others on the stack, and a symbol
+//! Each token is taken by one symbol, which pushes at most seven others on the stack, and a symbol
 //! that is skipped leaves it: the time is linear in the number of tokens.
 ghost use Rattle.std.specs.Prelude.{◌≡◌, ◌<◌, ◌^◌, ◌∷◌, [], None, length, reverse, IfOk};
 ghost use Rattle.c_place.specs.Actions.{action};

@@ -1,4 +1,4 @@
-//! What a token does to the symbols of statements. What comes last is put on the stack first.
+//! What a token does to the symbols of statements. What comes last is pushed on the stack first.
 ghost use Rattle.std.specs.Prelude.{◌≡◌, ◌∷◌, [], IfOk};
 ghost use Rattle.c_place.specs.declared.symbol.Symbol.TheVariants as symbol;
 ghost use Rattle.c_place.specs.Actions.{statement_action, else_action, changed_action};
@@ -72,7 +72,7 @@ fn worded(stack: &mut Vec<Symbol>, word: Keyword) -> Result<Step, NoMemory>
     Ok(Step::Taken)
 }
 
-// Puts an expression in parentheses on the stack.
+// Pushes an expression in parentheses on the stack.
 fn test(stack: &mut Vec<Symbol>) -> Result<(), NoMemory>
     ensures { IfOk result (λ done. stack.new.items ≡ pushed
         (symbol.LeftParen ∷ symbol.Expression ∷ symbol.RightParen ∷ [])
@@ -84,7 +84,7 @@ fn test(stack: &mut Vec<Symbol>) -> Result<(), NoMemory>
     Ok(())
 }
 
-// Puts the head of a `for` on the stack.
+// Pushes the head of a `for` on the stack.
 fn head(stack: &mut Vec<Symbol>) -> Result<(), NoMemory>
     ensures { IfOk result (λ done. stack.new.items ≡ pushed
         (symbol.LeftParen ∷ symbol.ForStart ∷ symbol.ForTest ∷ symbol.ForChange ∷ [])

@@ -1,4 +1,4 @@
--- What stands at the positions of code, as ops are added.
+-- What is at the positions of code, as ops are added.
 use Rattle.std.proofs.Common.{◌≡◌, ℕ, suc, ◌+◌, ◌<◌, ◌≤◌, List, [], ◌∷◌, ◌++◌, length, refl, ap, ◌∙◌, sym, arith, zero, inl, inr, ◌⊎◌}
 use Rattle.std.specs.Prelude.{fold}
 use Rattle.std.proofs.Math.ListN.{length-append, get_or-append}

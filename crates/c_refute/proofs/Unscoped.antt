@@ -21,7 +21,7 @@ use Rattle.c_refute.proofs.Equations.{stmt-Empty, stmt-Assign, stmt-If-None, stm
 use Rattle.c_refute.proofs.Leading.{leads-as}
 use Rattle.c_refute.proofs.Slots.{length-most}
 
--- a turn leaves no more than so many slots
+-- a turn leaves no more than n slots
 abbrev TurnWithin : ℕ → Turn → Type 0
 TurnWithin count (Again s) = length s ≤ count
 TurnWithin count (Ends flow) = FlowWithin count flow
@@ -244,7 +244,7 @@ none-Block inner =
     adds-none (syntax.Block inner) _ (λ calls. stmt-Block calls inner)
     (λ calls count left s here. scope-within count (length s) here _)
 
--- what is told of a statement by its form
+-- what is said of a statement by its form
 pub of-form : (b : Bool) (a t form : Stmt) → t ≡ form → (AddsNoSlot a → AddsNoSlot form) →
     OnTrue b (AddsNoSlot a) → OnTrue b (AddsNoSlot t)
 of-form true a t form is all part = subst (λ (u : Stmt). AddsNoSlot u) (sym is) (all part)

@@ -42,7 +42,7 @@ Rest = Kept → ℕ → Run ℤ
 abbrev pub Back : Type 0
 Back = ℤ → Kept → ℕ → Run ℤ
 
--- where no op stands
+-- where there is no op
 abbrev pub lost : Rest
 lost k left = More
 
@@ -128,7 +128,7 @@ abbrev pub Makes : Expr → Work → Type 0
 Makes e work = (calls : Calls) (k : Kept) (left : ℕ) →
     (expr calls e left k.state ≡ made work k left) × (kept_after work k ≡ k)
 
--- a turn of a loop; where no loop stands nothing is said
+-- a turn of a loop; where there is no loop nothing is said
 abbrev pub turn_level : Calls → Stmt-F Stmt → ℕ → State → Run Turn
 turn_level calls (Stmt-F.While e body) = while_turn calls (Some e) (optional None) (stmt calls body)
 turn_level calls (Stmt-F.DoWhile body e) = do_turn calls e (stmt calls body)

@@ -7,7 +7,7 @@ use Rattle.c_meaning.specs.Programs.{expr_outcome, Returns}
 use Rattle.c_refute.specs.declared.outcomes.Outcome.{Outcome}
 use Rattle.c_refute.specs.declared.outcomes.Outcome.TheVariants.{Value, DivError, More, Over}
 
--- the outcome in the meaning that a decided outcome stands for
+-- the outcome in the meaning that a decided outcome represents
 abbrev pub meant : Outcome → meaning.Outcome ℤ
 meant (Value x) = meaning.Value x
 meant DivError = meaning.DivisionError

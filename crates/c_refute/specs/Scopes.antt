@@ -7,7 +7,7 @@ use Rattle.c_refute.specs.Runs.{Run, Value, DivisionError, More, Over}
 use Rattle.c_refute.specs.Expressions.{Calls}
 use Rattle.c_refute.specs.Statements.{Execution, in_order, stmt}
 
--- no more than so many slots are left; after a return none is read any more
+-- no more than n slots are left; after a return none is read any more
 abbrev pub FlowWithin : ℕ → Flow → Type 0
 FlowWithin count (Next s) = length s ≤ count
 FlowWithin count (Break s) = length s ≤ count

@@ -58,7 +58,8 @@ abbrev pub loop : (ℕ → State → Run Turn) → Execution
 loop turn left s = turns turn left left s
 
 -- a loop's body in a turn: after it and at a continue (6.8.6.2p2) the turn goes on; a break
--- (6.8.6.3p2) leads behind the loop, and a return (6.8.6.4p2) ends it as it ends the function
+-- (6.8.6.3p2) leads to what follows the loop, and a return (6.8.6.4p2) ends it as it ends the
+-- function
 abbrev pub after_body : (ℕ → State → Run Turn) → Flow → ℕ → Run Turn
 after_body rest (Next s) left = rest left s
 after_body rest (Continue s) left = rest left s

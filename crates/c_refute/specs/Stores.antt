@@ -41,7 +41,7 @@ abbrev pub outer_scopes : List ℕ → List ℕ
 outer_scopes [] = []
 outer_scopes (count ∷ counts) = counts
 
--- a value put on top
+-- a value pushed on top
 abbrev pub pushed : Kept → ℤ → Kept
 pushed k x = with_values k (x ∷ k.values)
 
@@ -54,7 +54,7 @@ abbrev pub left_scope : Kept → Kept
 left_scope k =
     with_scopes (with_state k (take (scope_count k.scopes) k.state)) (outer_scopes k.scopes)
 
--- a function ends: no slot of it is read any more, and so many scopes have ended
+-- a function ends: no slot of it is read any more, and n scopes have ended
 abbrev pub ended : Kept → ℕ → Kept
 ended k scopes = with_scopes (with_state k []) (drop scopes k.scopes)
 
@@ -69,7 +69,7 @@ given_back k base =
           k.scopes;
     }
 
--- a function begins, whose slots are so many values from the top
+-- a function begins, whose slots are n values from the top
 abbrev pub called : Kept → ℕ → Kept
 called k count = record {
   values = drop count k.values;

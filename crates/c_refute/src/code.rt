@@ -52,15 +52,15 @@ pub(crate) enum Work {
 /// What is done with a value, and where it goes on.
 #[derive(Clone, Copy)]
 pub(crate) enum Sink {
-    /// The value is put on top of the values.
+    /// The value is pushed on top of the values.
     Push(usize),
     /// It goes on at the first position where the value is 0, and else at the second.
     Branch(usize, usize),
-    /// The value is that of a new slot after so many.
+    /// The value is that of a new slot after that many.
     Declare(u32, usize),
     /// The value is the new one of a slot.
     Assign(u32, usize),
-    /// The value goes to the caller, with so many scopes less.
+    /// The value goes to the caller, with that many scopes fewer.
     Return(usize),
 }
 
@@ -88,7 +88,7 @@ pub(crate) enum Op<'a> {
     Test(Inner, usize, usize),
     /// An operator between two leaves is made: the value is the new one of a slot.
     Set(Inner, u32, usize),
-    /// A call of the function at this place, with so many arguments from the top of the values;
+    /// A call of the function at this place, with that many arguments from the top of the values;
     /// then it goes on at the position.
     Call(u32, usize, usize),
     /// The turns of a loop, where it leads, and the position at which a turn begins.

@@ -107,7 +107,7 @@ impl Tally {
 /// from -side to side in lexicographic order, with this number of rounds for each run. Different
 /// has the first point at which the precondition holds and both have outcomes that no more rounds
 /// change, and that differ; Alike is answered exactly where there is no such point. TooManyPoints
-/// exactly where there are more than `MAX_POINTS`; else fails only for want of memory.
+/// exactly where there are more than `MAX_POINTS`; else fails only when out of memory.
 pub fn compare(
     alloc: Global,
     program: &Resolved,

@@ -1,4 +1,4 @@
-//! The code of expressions. It is made from its end: what comes after a part stands at a lower
+//! The code of expressions. It is made from its end: what comes after a part is at a lower
 //! position.
 ghost use Rattle.std.specs.Prelude.{◌≡◌, ◌<◌, ◌++◌, ◌∷◌, ℤ, None, [], IfOk, IfSome, OnOk, length};
 ghost use Rattle.std.specs.Bool.{OnTrue};

@@ -340,7 +340,7 @@ impl Machine {
     }
 }
 
-/// The position, if it is a lower one; else `end`, where nothing stands.
+/// The position, if it is a lower one; else `end`, where there is nothing.
 #[inline(always)]
 fn lower(next: usize, at: usize, end: usize) -> usize
     ensures next { next < at → result ≡ next }

@@ -25,7 +25,7 @@ pub(crate) fn number_of_points(side: u32, arity: usize) -> Option<u64>
     Some(number)
 }
 
-/// The first point; fails only for want of memory.
+/// The first point; fails only when out of memory.
 pub(crate) fn first_point(alloc: Global, side: u32, arity: usize) -> Result<Vec<i128>, NoMemory>
     ensures { IfOk result (λ p. p.items ≡ lowest side arity) }
 {

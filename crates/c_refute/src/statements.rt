@@ -1,5 +1,4 @@
-//! The code of statements. It is made from its end: what comes after a part stands at a lower
-//! position.
+//! The code of statements. It is made from its end: what comes after a part is at a lower position.
 ghost use Rattle.std.specs.Prelude.{◌≡◌, ◌<◌, ◌+◌, ℕ, IfOk, Some, None, length, slice_set};
 ghost use Rattle.std.specs.Option.{option_map};
 ghost use Rattle.c_ast.specs.declared.stmt.Stmt.TheVariants as syntax;

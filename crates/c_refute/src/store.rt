@@ -35,7 +35,7 @@ impl Model for Store {
     ghost invariant = { λ s. s.base ≤ length s.slots.items };
 }
 
-/// Puts a value in place of another.
+/// Writes a value in place of another.
 #[inline(always)]
 fn put(slots: &mut Vec<i128>, at: usize, value: i128)
     requires { at < length slots.old.items }
@@ -137,7 +137,7 @@ impl Store {
         Ok(())
     }
 
-    /// Puts a value on top.
+    /// Pushes a value on top.
     #[inline(always)]
     pub fn push(&mut self, value: i128) -> Result<(), NoMemory>
         ensures { OnOk result (self.new ≡ pushed self.old value) }
@@ -204,7 +204,7 @@ impl Store {
         self.keep_first(count);
     }
 
-    /// Ends a function, in which so many scopes have begun: none of its slots is read any more.
+    /// Ends a function, in which n scopes have begun: none of its slots is read any more.
     #[inline(always)]
     pub fn end(&mut self, scopes: usize)
         ensures { self.new ≡ ended self.old scopes }
@@ -216,8 +216,8 @@ impl Store {
         }
     }
 
-    /// Begins a function, whose slots are so many values from the top; returns where the slots of
-    /// its caller begin.
+    /// Begins a function, whose slots are n values from the top; returns where the slots of its
+    /// caller begin.
     #[inline(always)]
     pub fn call(&mut self, count: usize) -> Result<usize, NoMemory>
         ensures base { IfOk result (λ base. base ≡ length self.old.below) }

@@ -49,7 +49,7 @@ module _ (names : List ℕ) (functions : List Function) where
       (λ s. in_order (map (resolved_stmt names functions) f.body) s false) is in
       sym (ap length numbers) ∙ numbered_length 0 f.params
 
-  -- each function stands where it stood
+  -- each function is where it was
   abbrev Kept : List Function → List Function → Type 0
   Kept fs gs = (i : ℕ) → counted (slice_get gs i) ≡ counted (slice_get fs i)
 
@@ -80,7 +80,7 @@ module _ (names : List ℕ) (functions : List Function) where
       of_both f fs gs (resolved_function names functions f) refl
       (all_found (map (resolved_function names functions) fs)) (of_all fs) is
 
-  -- what stands behind the passes
+  -- what holds after the passes
   of_names : (fault : Option ScopeEnd) (fs : List Function) (r : Resolved) → behind_names fault fs ≡
       Ok r → fs ≡ r.functions
   of_names None fs r is =
@@ -99,7 +99,7 @@ of_definitions names None p r is =
     (assigned_fault names p.functions) r is
 of_definitions names (Some fault) p r is = let no : ⊥ = cc in absurd no
 
--- each function of the program stands at its place with as many parameters
+-- each function of the program is at its place with as many parameters
 pub counts_kept : (source : List ℕ) (tokens : List Token) (p : Program) (r : Resolved) →
     scope_of source tokens p ≡ Ok r
     → (i : ℕ) → counted (slice_get r.functions i) ≡ counted (slice_get p.functions i)

@@ -8,7 +8,7 @@ use Rattle.c_scope.specs.Expressions.{definition_of, count_at}
 use Rattle.c_scope.specs.declared.error.ScopeEnd.{ScopeEnd}
 use Rattle.c_scope.specs.declared.error.ScopeEnd.TheVariants.{TwiceDeclared, WrongCount}
 
--- whether another definition of a name stands in front of the one at this place
+-- whether another definition of a name is in front of the one at this place
 abbrev pub is_second : ℕ → Option ℕ → Bool
 is_second place None = false
 is_second place (Some first) = nat_lt first place

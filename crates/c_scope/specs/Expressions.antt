@@ -33,14 +33,14 @@ module _ (names : List ℕ) (functions : List Function) where
   abbrev pub IsTable : List (ℕ × ℕ) → Type 0
   IsTable entries = (name : ℕ) → lookup (nat_eq name) entries ≡ definition_of name
 
-  -- a function that is called with so many arguments, at its place
+  -- a function that is called with n arguments, at its place
   abbrev pub with_count : ℕ → ℕ → ℕ → Found ℕ
   with_count token count place =
       if nat_eq count (count_at (slice_get functions place)) then Ok place else
       Err (WrongCount token)
 
-  -- what a call's name stands for: it is looked up among the variables first, and a variable can't
-  -- be called
+  -- what a call's name denotes: it is looked up among the variables first, and a variable can't be
+  -- called
   abbrev pub called : ℕ → ℕ → Option ℕ → Found ℕ
   called token count None =
       on_found (known token (definition_of (name_at names token))) (with_count token count)
@@ -51,8 +51,8 @@ module _ (names : List ℕ) (functions : List Function) where
     abbrev pub slot_at : ℕ → Found ℕ
     slot_at token = known token (slot_of scope (name_at names token))
 
-    -- an expression, from its resolved parts, from left to right; a call's name stands in front of
-    -- its arguments
+    -- an expression, from its resolved parts, from left to right; a call's name is in front of its
+    -- arguments
     abbrev pub expr_level : Expr-F (Found Expr) → Found Expr
     expr_level (Expr-F.Lit n) = Ok (Lit n)
     expr_level (Expr-F.Var token) = on_found (slot_at token) (λ slot. Ok (Var slot))

@@ -17,7 +17,7 @@ place_of_function source tokens functions name =
 abbrev pub HasFewParams : Function → Type 0
 HasFewParams f = length f.params ≤ 64
 
--- the first so many numbers, from this one on
+-- the first n numbers, from this one on
 abbrev pub numbered : {A : Type 0} → ℕ → List A → List ℕ
 numbered slot [] = []
 numbered slot (x ∷ xs) = slot ∷ numbered (slot + 1) xs

@@ -32,7 +32,7 @@ abbrev pub resolved_pre : List ℕ → List Token → List ℕ → List ℕ → 
 resolved_pre source tokens params pre_source pre_tokens =
     fold-Expr (Found Expr) (pre_level (param_of source tokens params pre_source pre_tokens))
 
--- an unknown name, or want of memory
+-- an unknown name, or out of memory
 abbrev pub IsUnknownOrMemory : ScopeEnd → Type 0
 IsUnknownOrMemory (UnknownName token) = Unit {0}
 IsUnknownOrMemory NoMemory = Unit {0}

@@ -25,7 +25,7 @@ opened s = record { names = s.names; outer = length s.names }
 abbrev pub is_declared : Scope → ℕ → Bool
 is_declared s name = list_any (λ standing. nat_eq standing name) (drop s.outer s.names)
 
--- a variable is declared: its slot is the next one. No name stands twice in one scope (6.7p3), and
+-- a variable is declared: its slot is the next one. No name occurs twice in one scope (6.7p3), and
 -- 64 slots may be in scope
 abbrev pub declare : ℕ → ℕ → Scope → Found Scope
 declare token name s =
@@ -34,7 +34,7 @@ declare token name s =
     (record { names = s.names ++ name ∷ []; outer = s.outer })
     else Err (TooManySlots token)
 
--- the scope is this, apart from want of memory
+-- the scope is this, except when out of memory
 abbrev pub GivesScope : {A : Type 0} → Result A ScopeEnd → Scope → Found Scope → Type 0
 GivesScope (Ok done) behind answer = answer ≡ Ok behind
 GivesScope (Err fault) behind answer = fault ≢ NoMemory → answer ≡ Err fault

@@ -13,12 +13,12 @@ use Rattle.c_scope.specs.Expressions.{slot_at, resolved_expr}
 use Rattle.c_scope.specs.declared.error.ScopeEnd.{ScopeEnd}
 use Rattle.c_scope.specs.declared.error.ScopeEnd.TheVariants.{StrayBreak, NoMemory}
 
--- what was resolved, and the scope behind it
+-- what was resolved, and the scope after it
 pub record Placed (A : Type 0) : Type 0 where
   pub what : A
   pub scope : Scope
 
--- a statement that waits for the scope in front of it and for whether it stands in a loop
+-- a statement that waits for the scope in front of it and for whether it is in a loop
 abbrev pub Waiting : Type 0
 Waiting = Scope → Bool → Found (Placed Stmt)
 
@@ -26,14 +26,14 @@ Waiting = Scope → Bool → Found (Placed Stmt)
 abbrev pub in_scope : {A : Type 0} → Scope → A → Found (Placed A)
 in_scope s x = Ok (record { what = x; scope = s })
 
--- statements in their order, each in the scope behind the one before
+-- statements in their order, each in the scope after the one before
 abbrev pub in_order : List Waiting → Scope → Bool → Found (Placed (List Stmt))
 in_order [] s in_loop = in_scope s []
 in_order (t ∷ ts) s in_loop =
     on_found (t s in_loop) (λ first. on_found (in_order ts first.scope in_loop) (λ rest.
     Ok (record { what = first.what ∷ rest.what; scope = rest.scope })))
 
--- a part of a statement: what it declares is gone behind it
+-- a part of a statement: what it declares is gone after it
 abbrev pub inside : Waiting → Scope → Bool → Found Stmt
 inside t s in_loop = on_found (t s in_loop) (λ part. Ok part.what)
 
@@ -41,7 +41,7 @@ inside t s in_loop = on_found (t s in_loop) (λ part. Ok part.what)
 abbrev pub inside_optional : Option Waiting → Scope → Bool → Found (Option Stmt)
 inside_optional part s in_loop = optional (option_map (λ t. inside t s in_loop) part)
 
--- a statement that only stands in loops
+-- a statement that only occurs in loops
 abbrev pub only_in_loops : Stmt → ℕ → Bool → Found Stmt
 only_in_loops t token in_loop = if in_loop then Ok t else Err (StrayBreak token)
 
@@ -50,7 +50,7 @@ module _ (names : List ℕ) (functions : List Function) where
   abbrev pub resolved_optional : Scope → Option Expr → Found (Option Expr)
   resolved_optional s e = optional (option_map (resolved_expr names functions s.names) e)
 
-  -- the name is in scope from behind its declarator, in front of its initial value (6.2.1p7)
+  -- the name is in scope from the end of its declarator on, before its initial value (6.2.1p7)
   abbrev pub declared : ℕ → Option Expr → Scope → Found (Placed Stmt)
   declared token value s =
       on_found (declare token (name_at names token) s)
@@ -98,11 +98,11 @@ module _ (names : List ℕ) (functions : List Function) where
   stmt_level (Stmt-F.Block inner) s in_loop =
       on_found (in_order inner (opened s) in_loop) (λ block. in_scope s (Block block.what))
 
-  -- a statement with its names resolved, and the scope behind it, or its first fault
+  -- a statement with its names resolved, and the scope after it, or its first fault
   abbrev pub resolved_stmt : Stmt → Waiting
   resolved_stmt = fold-Stmt Waiting stmt_level
 
--- the answer is this, and the scope behind it is this one, apart from want of memory
+-- the answer is this, and the scope after it is this one, except when out of memory
 abbrev pub GivesPlaced : {A : Type 0} → Result A ScopeEnd → Scope → Found (Placed A) → Type 0
 GivesPlaced (Ok x) behind answer = answer ≡ Ok (record { what = x; scope = behind })
 GivesPlaced (Err fault) behind answer = fault ≢ NoMemory → answer ≡ Err fault

@@ -22,7 +22,7 @@ abbrev pub optional : {A : Type 0} → Option (Found A) → Found (Option A)
 optional None = Ok None
 optional (Some x) = on_found x (λ y. Ok (Some y))
 
--- the answer is this, apart from want of memory
+-- the answer is this, except when out of memory
 abbrev pub Gives : {A : Type 0} → Result A ScopeEnd → Found A → Type 0
 Gives (Ok x) answer = answer ≡ Ok x
 Gives (Err fault) answer = fault ≢ NoMemory → answer ≡ Err fault

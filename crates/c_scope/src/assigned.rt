@@ -19,7 +19,7 @@ fn of_flaw(flaw: Fault) -> ScopeEnd
     }
 }
 
-/// The fault of the first function that has one; fails only for want of memory.
+/// The fault of the first function that has one; fails only when out of memory.
 pub fn assigned_fault(
     alloc: Global,
     names: &[u32],

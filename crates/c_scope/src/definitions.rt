@@ -1,4 +1,4 @@
-//! The definitions of a program: which function a name stands for.
+//! The definitions of a program: which function a name denotes.
 ghost use Rattle.std.specs.Prelude.{◌≡◌, ◌<◌, ◌^◌, length, IfOk};
 ghost use Rattle.c_scope.specs.Expressions.{definition_of, IsTable};
 ghost use Rattle.c_scope.specs.Views.{Knows};
@@ -20,7 +20,7 @@ pub struct Definitions<'a> {
     pub places: &'a IndexMap<u32, u32>,
 }
 
-/// A table with the place of the first definition of each name; fails only for want of memory.
+/// A table with the place of the first definition of each name; fails only when out of memory.
 pub fn places_of(
     alloc: Global,
     names: &[u32],

@@ -37,7 +37,7 @@ pub enum ScopeEnd {
         /// The token of the function's name.
         token: u32,
     },
-    /// A `break` or `continue` stands outside loops.
+    /// A `break` or `continue` is outside loops.
     #[error("token {token} stands outside loops")]
     StrayBreak {
         /// Its token.

@@ -36,7 +36,7 @@ pub fn count_at(functions: &[Function], place: u32) -> usize
     }
 }
 
-// The place of the function that is called with so many arguments.
+// The place of the function that is called with n arguments.
 fn called(
     definitions: &Definitions,
     scope: &Scope,

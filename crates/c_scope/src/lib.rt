@@ -2,7 +2,7 @@
 //! and whose calls name a place in the list of functions, or to its first fault.
 //!
 //! What a reader may rely on: `resolve` answers what the definitions of `specs/` give, in the tree
-//! and in the fault, apart from want of memory. There are three passes, over definitions and
+//! and in the fault, except when out of memory. There are three passes, over definitions and
 //! prototypes, over names, counts and scopes, and over what is surely assigned; the first that
 //! finds a fault decides, and within it the order of the text (ISO/IEC 9899:1999, 6.2.1, 6.7p3,
 //! 6.8, 6.9p3). `resolve_pre` does the same for a precondition over the parameters of one function,

@@ -14,7 +14,7 @@ use std::alloc::Global;
 
 /// A precondition of a function, with the slots of the parameters for their names, or `UnknownName`
 /// with the precondition's token: a name that is no parameter's, or that of a called function. It
-/// fails otherwise only for want of memory. The precondition is one of `pre_tokens`, which are
+/// fails otherwise only when out of memory. The precondition is one of `pre_tokens`, which are
 /// those of `pre_source`.
 pub fn resolve_pre(
     alloc: Global,

@@ -43,7 +43,7 @@ fn resolve_named(alloc: Global, names: &[u32], program: &Program) -> Result<Reso
     })
 }
 
-/// A program with its names resolved, or its first fault; fails otherwise only for want of memory.
+/// A program with its names resolved, or its first fault; fails otherwise only when out of memory.
 /// The program is one of these tokens, which are those of the source.
 pub fn resolve(
     alloc: Global,

@@ -12,7 +12,7 @@ use crate::expressions::count_at;
 use c_ast::Prototype;
 use c_names::name_at;
 
-// Whether another definition of the name of this token stands in front of this place.
+// Whether another definition of the name of this token is in front of this place.
 fn is_second(definitions: &Definitions, token: u32, place: u32) -> bool
     requires { Knows definitions.now }
     ensures { result ≡ spec.is_second place (definition_of definitions.now.names.now

@@ -37,7 +37,7 @@ impl Scope {
         }
     }
 
-    /// The scope again; fails only for want of memory.
+    /// The scope again; fails only when out of memory.
     pub fn try_clone(&self, alloc: Global) -> Result<Scope, NoMemory>
         ensures { IfOk result (λ s. seen s ≡ seen self.now) }
     {
@@ -47,7 +47,7 @@ impl Scope {
         })
     }
 
-    /// A scope that begins inside this one; fails only for want of memory.
+    /// A scope that begins inside this one; fails only when out of memory.
     pub fn opened(&self, alloc: Global) -> Result<Scope, NoMemory>
         ensures { IfOk result (λ s. seen s ≡ spec.opened (seen self.now)) }
     {

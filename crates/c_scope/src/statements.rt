@@ -77,7 +77,7 @@ fn jump(in_loop: bool, jump: Stmt, token: u32) -> Result<Stmt, ScopeEnd>
     }
 }
 
-/// A statement with its names resolved, or its first fault. What it declares is in scope behind it.
+/// A statement with its names resolved, or its first fault. What it declares is in scope after it.
 #[cycle(statements)]
 pub fn resolve_stmt(
     alloc: Global,
@@ -128,7 +128,7 @@ pub fn resolve_stmt(
     }
 }
 
-// A part of a statement: what it declares is gone behind it.
+// A part of a statement: what it declares is gone after it.
 #[cycle(statements)]
 fn inside(
     alloc: Global,
@@ -170,7 +170,7 @@ fn inside_optional(
     }
 }
 
-/// Statements in their order, each in the scope behind the one before.
+/// Statements in their order, each in the scope after the one before.
 #[cycle(statements)]
 pub fn in_order(
     alloc: Global,

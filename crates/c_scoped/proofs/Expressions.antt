@@ -32,7 +32,7 @@ pub known_is : (token place : ℕ) (o : Option ℕ) → known token o ≡ Ok pla
 known_is token place None is = no_fault _ place is
 known_is token place (Some k) is = ap Some (same_Ok k place is)
 
--- a function stands at each place in the list
+-- there is a function at each place in the list
 element_within : {A : Type 0} (xs : List A) (i : ℕ) → i < length xs → (x : A) ×
     (slice_get xs i ≡ Some x)
 element_within [] i h = absurd (omega (arith, h))
@@ -46,7 +46,7 @@ right_count : (token here place : ℕ) (is_right : Bool) →
 right_count token here place true is = (same_Ok here place is, refl)
 right_count token here place false is = no_fault _ place is
 
--- a function that is there and has the right count takes so many arguments
+-- a function that is there and has the right count takes n arguments
 takes_count : (count : ℕ) (o : Option Function) (f : Function) → o ≡ Some f →
     nat_eq count (count_at o) ≡ true → takes (counted o) count ≡ true
 takes_count count (Some g) f there is =
@@ -60,7 +60,7 @@ readable_is token false is = absurd (let no : ⊥ = cc in no)
 
 module _ (names : List ℕ) (functions : List Function) (counts : List ℕ)
     (counts_are : (i : ℕ) → slice_get counts i ≡ counted (slice_get functions i)) where
-  -- what is called takes so many arguments
+  -- what is called takes n arguments
   called_takes : (token count place : ℕ) (slot : Option ℕ) →
       called names functions token count slot ≡ Ok place → takes (slice_get counts place) count ≡
       true

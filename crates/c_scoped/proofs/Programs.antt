@@ -33,7 +33,7 @@ numbered_length : {A : Type 0} (slot : ℕ) (xs : List A) → length (numbered s
 numbered_length slot [] = refl
 numbered_length slot (x ∷ xs) = ap suc (numbered_length (slot + 1) xs)
 
--- the names of parameters stand in their order, after those that were in scope
+-- the names of parameters are in their order, after those that were in scope
 params_in_scope : (names tokens : List ℕ) (s after : Scope) → with_params names tokens s ≡
     Ok after → s.names ++ map (name_at names) tokens ≡ after.names
 params_in_scope names [] s after is =

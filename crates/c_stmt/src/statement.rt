@@ -1,7 +1,7 @@
 //! Statements and blocks, by one reader for each form.
 //!
 //! The readers call each other with less room or after a bracket, as those of expressions do. What
-//! is read of a statement's parts is put into a box at once.
+//! is read of a statement's parts is moved into a box at once.
 ghost use Rattle.std.specs.Prelude.{◌≡◌, ◌≤◌, ◌<◌, ◌^◌, Some, length, IfOk};
 ghost use Rattle.c_ast.specs.Height.{stmt_height};
 ghost use Rattle.c_expr.specs.Grammar.{kind_at};

@@ -22,7 +22,7 @@ use Rattle.c_meaning.specs.Expressions.{truth, binary, is_zero}
 use Rattle.rx_code.specs.Codes as code
 use Rattle.rx_code.specs.Codes.{IsComparison}
 
--- a test, with what it tells of a row at an assignment
+-- a test, with what it says of a row at an assignment
 pub record Tests (α : ℕ → ℤ) (row : Row) (b : Bool) : Type 0 where
   pub holds : b ≡ true → RowHolds α row
   pub fails : b ≡ false → RowHolds α row → ⊥
@@ -67,7 +67,7 @@ not_false : (b : Bool) → not b ≡ false → b ≡ true
 not_false true is = refl
 not_false false is = sym is
 
--- the row tells the comparison of the values
+-- the row gives the comparison of the values
 pub comparison_tests : (op : BinOp) (p q : Body) (row : Row) → IsComparison op p q row →
     (α : ℕ → ℤ) → Tests α row (test_of op (value α p) (value α q))
 comparison_tests op p q row (code.less _ _) α =

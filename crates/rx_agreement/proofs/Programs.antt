@@ -27,8 +27,7 @@ use Rattle.rx_agreement.proofs.Leads.{Leads, run-step, run-trans, on-run}
 use Rattle.rx_agreement.proofs.Statements.{Fine, CallsRun, Executes, list_runs, no_round, one_round, calls_run}
 use Rattle.std.proofs.Math.Seq.{take-length}
 
--- the function at the place is there, with so many parameters, and its code stands where its entry
--- is
+-- the function at the place is there, with n parameters, and its code is where its entry is
 pub record IsCompiled (acts : Actions) (callable : ℕ → ℕ → Type 0) (program : Resolved)
     (entry : ℕ → ℕ) (f count : ℕ) : Type 0 where
   pub function : Function
@@ -135,7 +134,7 @@ module _ (R : Relation) (program : Resolved) (entry : ℕ → ℕ) (may : ℕ �
   same_result DivisionError More one two same = absurd two
   same_result More q one two same = absurd one
 
-  -- a run of j steps to a result leaves no room for 'more' with so many rounds
+  -- a run of j steps to a result leaves no room for 'more' with n rounds
   too_long : (j : ℕ) (start end : Ground) → IsSingleValued R → ResultsRest R → IsResult end →
       ReachesIn R j start end → Long R w (suc (j * w + w)) w start → ⊥
   too_long j start end single rest result all long =

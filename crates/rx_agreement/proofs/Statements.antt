@@ -45,7 +45,7 @@ module _ (R : Relation) (entry : ℕ → ℕ) (acts : Actions) (callable : ℕ �
       Leads R w m w (stack.Call (entry f) args)
       (λ k. Runs R w (stack.Call (entry f) args) (stack.Ret k)) (calls f args)
 
-  -- so many rounds, with each of which calls do so
+  -- n rounds, with each of which calls do so
   pub data Fine : Rounds → ℕ → Type 0 where
     no_round : Fine [] zero
     one_round : (call : Calls) (left : Rounds) (m : ℕ) → CallsRun (suc m) call → Fine left m →
@@ -95,7 +95,7 @@ module _ (R : Relation) (entry : ℕ → ℕ) (acts : Actions) (callable : ℕ �
       leads-after R w m h start middle (Flowed middle n k z B K) (Flowed start n k z B K) o run
       (flowed-after start middle n k z B K run) there
 
-  -- a state of at least so many slots, at a point
+  -- a state of at least n slots, at a point
   over_state : (n : ℕ) (a : Point) (s : State) → a.width ≡ n → n ≤ length s →
       Over n s (take a.width s)
   over_state n a s same enough = record {

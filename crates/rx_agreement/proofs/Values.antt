@@ -111,7 +111,7 @@ module _ (R : Relation) (entry : ℕ → ℕ) (acts : Actions) (callable : ℕ �
   Decides a y z xs o =
       Leads R w m 0 (stack.Call a.symbol xs) (Forked R w (stack.Call a.symbol xs) y z xs) o
 
-  -- the value stands where the run is
+  -- the value is where the run is
   here : (a : Point) (xs : List ℤ) (p : Body) (x : ℤ) → length xs ≡ a.width → Stands R w p xs x →
       Comes R w a a xs p x
   here a xs p x long stands =

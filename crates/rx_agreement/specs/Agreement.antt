@@ -22,7 +22,7 @@ result_of (Value k) = stack.Ret k
 result_of DivisionError = stack.Fail 1
 result_of More = stack.Fail 0
 
--- on so many arguments as it has parameters the function at the place returns an outcome exactly
+-- on as many arguments as it has parameters the function at the place returns an outcome exactly
 -- where its entry at these arguments reaches it
 abbrev pub AgreeOn : Resolved → List Rule → ℕ → ℕ → Type 0
 AgreeOn program rules f symbol =

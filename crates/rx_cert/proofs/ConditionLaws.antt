@@ -64,8 +64,7 @@ plain_holds a given row e holds = by (stands_among given row) refl e
     by true s h = All-contains (RowHolds a) given row holds (stands-contains given row s)
     by false s h = evident_holds a row h
 
--- what a `bool` that tells which rows stand there, and one that tells what is evident, say of a
--- plain row
+-- what a `bool` for which rows are there, and one for what is evident, say of a plain row
 pub plain_then : (b : Bool) (rows : List Row) (row : Row) → ((b ≡ true) ↔ Contains rows row) → b ≡
     true → b ≡ is_plain_row rows row
 plain_then b rows row tells h =

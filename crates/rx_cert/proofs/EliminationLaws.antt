@@ -41,7 +41,7 @@ same_key m n e = same_mono m n (by (mono_cmp m n) e)
     by Equal h = refl
     by Greater h = cc
 
--- opposite sums are worth opposite numbers
+-- opposite sums have opposite values
 opposite_sums : (f : Mono → ℤ) (ts us : List (Mono × ℤ)) → are_opposite ts us ≡ true →
     sum_terms f ts +ℤ sum_terms f us ≡ pos 0
 opposite_sums f [] [] e = refl

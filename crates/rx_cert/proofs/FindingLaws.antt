@@ -15,7 +15,7 @@ use Rattle.rx_row.specs.declared.row.Row.{Row}
 use Rattle.rx_cert.specs.Elimination.{replaced_finding, solution, solution_within, solve_finding}
 use Rattle.rx_cert.specs.Findings.{Said, Yes, No, Beyond, said, both, within}
 
--- what was formed keeps the limits, and what is behind it refutes
+-- what was formed keeps the limits, and what is after it refutes
 pub within_parts : (b : Bool) (later : Said) → within b later ≡ Yes → (b ≡ true) × (later ≡ Yes)
 within_parts true later e = (refl, e)
 within_parts false later e = cc

@@ -75,7 +75,7 @@ no_atoms : (xs : List Atom) → is_empty xs ≡ true → xs ≡ []
 no_atoms [] e = refl
 no_atoms (x ∷ xs) e = cc
 
--- the monomial without atoms is worth 1
+-- the monomial without atoms has the value 1
 one_worth : (a : ℕ → ℤ) (m : Mono) → is_one m ≡ true → mono_value a m ≡ pos 1
 one_worth a m e = mono_value_is a m ∙ ap (product_of (atom_value a)) (no_atoms (out-Mono m).atoms e)
 
@@ -88,7 +88,7 @@ module _ (a : ℕ → ℤ) (n : ℕ) where
   abbrev quotient_by : ℤ → ℤ
   quotient_by c = int_div_euclid c (pos (suc n))
 
-  -- what is left out where it is 0 is worth nothing
+  -- what is left out where it is 0 has the value 0
   put_back : (t : Mono × ℤ) (ts : List (Mono × ℤ)) (r : ℕ) → sum_terms (mono_value a) (t ∷ ts) ≡
       pos (suc n) *ℤ (quotient_by t.1 *ℤ mono_value a t.0 +ℤ sum_terms (mono_value a)
       (rounded_terms (pos (suc n)) ts)) +ℤ pos r → sum_terms (mono_value a) (t ∷ ts) ≡

@@ -15,7 +15,7 @@ use Rattle.rx_cert.specs.Findings.{Yes, said}
 use Rattle.rx_cert.specs.Sums.{is_below_zero, is_negative, sum_finding}
 use Rattle.rx_cert.proofs.FindingLaws.{said_yes, within_parts}
 
--- a sum of parts of rows that hold is worth at least 0
+-- a sum of parts of rows that hold has a value of at least 0
 pub sum_holds : (a : ℕ → ℤ) (rows : List Row) (ps : List (ℕ × ℤ)) (p : Body) → AllHold a rows →
     sum_of rows ps ≡ Some p → pos 0 ≤ℤ value a p
 sum_holds a rows ps p holds e = by (are_lawful rows ps) refl e

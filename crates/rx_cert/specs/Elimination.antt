@@ -1,4 +1,4 @@
--- A variable that rows say the value of: p = 0, where it stands in p once, alone, with coefficient
+-- A variable that rows say the value of: p = 0, where it occurs in p once, alone, with coefficient
 -- 1 or -1. It is replaced in all rows.
 use Rattle.std.specs.Prelude.{ℕ, Bool, true, false, ◌&&◌, ◌||◌, ◌==◌, if◌then◌else◌, Option, Some, None, List, [], ◌∷◌, slice_get, ℤ, pos, negsuc, ◌+ℤ◌}
 use Rattle.std.specs.Ordering.{int_eq, is_eq}
@@ -58,7 +58,7 @@ abbrev pub coefficient_of : ℕ → Body → ℤ
 coefficient_of x p = coefficient (of_atoms (Var x ∷ [])) (out-Body p).terms
 
 -- p has the variable with coefficient 1: the rest is p without it, and the variable is -rest,
--- unless it stands there too
+-- unless it occurs there too
 abbrev pub solution_plus : ℕ → Body → Option Body
 solution_plus x rest = if uses x rest then None else Some (scaled_by (negsuc 0) rest)
 
@@ -70,7 +70,7 @@ solution_plus_within x rest =
 abbrev pub solution_minus : ℕ → Body → Option Body
 solution_minus x rest = if uses x rest then None else Some rest
 
--- what the variable is where p = 0; none where it doesn't stand in p once, alone, with coefficient
+-- what the variable is where p = 0; none where it doesn't occur in p once, alone, with coefficient
 -- 1 or -1
 abbrev pub solution : ℕ → Body → Option Body
 solution x p =

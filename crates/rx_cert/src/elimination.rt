@@ -71,8 +71,8 @@ pub fn polynomial_at_zero(rows: &[Row], first: u32, second: u32) -> Option<&Poly
     }
 }
 
-/// The opposite of what stands beside the variable, where its coefficient is 1 and it stands
-/// nowhere else.
+/// The opposite of what is beside the variable, where its coefficient is 1 and it occurs nowhere
+/// else.
 fn solved_plus(alloc: Global, poly: &Poly, alone: &Poly, var: u32) -> Result<Option<Poly>, PolyEnd>
     ensures value { IfOk result (λ s. s ≡ solution_plus var (subtracted poly.now alone.now)) }
     ensures within { OnOk result (solution_plus_within var (subtracted poly.now alone.now) ≡ true) }
@@ -86,7 +86,7 @@ fn solved_plus(alloc: Global, poly: &Poly, alone: &Poly, var: u32) -> Result<Opt
     Ok(Some(rest.scale(alloc, -1)?))
 }
 
-/// What stands beside the variable, where its coefficient is -1 and it stands nowhere else.
+/// What is beside the variable, where its coefficient is -1 and it occurs nowhere else.
 fn solved_minus(alloc: Global, poly: &Poly, alone: &Poly, var: u32) -> Result<Option<Poly>, PolyEnd>
     ensures value { IfOk result (λ s. s ≡ solution_minus var (added poly.now alone.now)) }
     ensures within { OnOk result (is_within (added poly.now alone.now) ≡ true) }
@@ -100,7 +100,7 @@ fn solved_minus(alloc: Global, poly: &Poly, alone: &Poly, var: u32) -> Result<Op
     Ok(Some(rest))
 }
 
-/// The value of the variable where the polynomial is 0; none where the variable doesn't stand in it
+/// The value of the variable where the polynomial is 0; none where the variable doesn't occur in it
 /// once, alone, with coefficient 1 or -1. Large exactly where a polynomial on the way passes the
 /// limits.
 pub fn solve(alloc: Global, poly: &Poly, var: u32) -> Result<Option<Poly>, PolyEnd>

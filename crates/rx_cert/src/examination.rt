@@ -1,4 +1,4 @@
-//! The examination of a certificate. The rows are borrowed: what a branch puts after them it takes
+//! The examination of a certificate. The rows are borrowed: what a branch adds after them it takes
 //! off again, and only the elimination of a variable makes a new list.
 ghost use Rattle.std.specs.Prelude.{◌≡◌, ◌∷◌, ◌++◌, [], IfOk, IfErr, OnOk};
 ghost use Rattle.rx_cert.specs.Examination.{examined, finding, level};

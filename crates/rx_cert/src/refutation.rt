@@ -22,7 +22,7 @@ pub(crate) fn copy_rows(alloc: Global, rows: &[Row]) -> Result<Vec<Row>, AllocEr
 }
 
 /// Whether the certificate refutes the rows with the negation of one more after them, also where
-/// that stands there already. The rows are the same again after it.
+/// that is there already. The rows are the same again after it.
 pub(crate) fn examine_negation(
     alloc: Global,
     rows: &mut Vec<Row>,

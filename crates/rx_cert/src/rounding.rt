@@ -57,7 +57,7 @@ fn can_be_rounded(div: &i128, poly: &Poly) -> bool
     *div > 0 && all_may_be_rounded(div, poly.body().terms.as_slice())
 }
 
-/// Puts the term with its coefficient rounded after the others, unless that is 0.
+/// Adds the term with its coefficient rounded after the others, unless that is 0.
 fn push_rounded(
     terms: &mut Items<(Mono, i128)>,
     alloc: Global,

@@ -64,7 +64,8 @@ abbrev pub test_or_one : Option Expr → Expr
 test_or_one None = expr.Lit (pos 1)
 test_or_one (Some e) = e
 
--- `acts` says what is done at points; `callable` says of a function, by its place, whether it takes so many arguments
+-- `acts` says what is done at points; `callable` says of a function, by its place, whether it takes
+-- n arguments
 module _ (acts : Actions) (callable : ℕ → ℕ → Type 0) where
   -- expressions, where n slots are in scope
   module _ (n : ℕ) where

@@ -1,5 +1,5 @@
--- Pieces of compiled code, and how they are put together. Symbols are numbered in the order in
--- which they are opened, so a piece is compiled from the number of the symbols before it.
+-- Pieces of compiled code, and how they are joined. Symbols are numbered in the order in which they
+-- are opened, so a piece is compiled from the number of the symbols before it.
 use Rattle.std.specs.Prelude.{ℕ, ◌+◌, Bool, true, false, ◌&&◌, nat_le, nat_lt, List, [], ◌∷◌, ◌++◌, length}
 use Rattle.rx_code.specs.declared.action.Action.{Action}
 use Rattle.rx_code.specs.declared.code.Code.{Code}
@@ -23,7 +23,7 @@ append_code c d = record {
 abbrev pub after : ℕ → Code → ℕ
 after next c = next + length c.opened
 
--- the point of a symbol with so many variables
+-- the point of a symbol with n variables
 abbrev pub point : ℕ → ℕ → Point
 point symbol width = record { symbol = symbol; width = width }
 
@@ -65,6 +65,6 @@ most_symbols = 4096
 abbrev pub most_variables : ℕ
 most_variables = 128
 
--- whether there is room for one symbol more, with so many variables
+-- whether there is room for one symbol more, with n variables
 abbrev pub is_room : ℕ → ℕ → Bool
 is_room next width = nat_lt next most_symbols && nat_le width most_variables

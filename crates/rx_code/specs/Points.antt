@@ -6,7 +6,7 @@ use Rattle.rx_code.specs.declared.action.Division.{Division}
 use Rattle.rx_code.specs.declared.action.Division.TheVariants.{Quotient, Remainder}
 use Rattle.rx_code.specs.declared.point.Point.{Point}
 
--- which action stands at which point
+-- which action is at which point
 abbrev pub Actions : Type 1
 Actions = Point → Action → Type 0
 

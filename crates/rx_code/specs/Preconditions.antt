@@ -27,7 +27,7 @@ of_polynomial p = record { value = p; rows = pure [] }
 abbrev pub of_rows : Formed (List Row) → Read
 of_rows rows = record { value = pure (number (pos 0)); rows = rows }
 
--- what an expression is that may not stand in a precondition
+-- what an expression is that may not occur in a precondition
 abbrev pub unread : Read
 unread = record { value = pure (number (pos 0)); rows = pure [] }
 

@@ -41,9 +41,8 @@ impl Code {
         }
     }
 
-    /// Opens the next symbol, a point or a frame with so many variables. Large exactly where there
-    /// are 4,096 symbols already, or the variables are more than 128. Where it fails nothing is
-    /// opened.
+    /// Opens the next symbol, a point or a frame with n variables. Large exactly where there are
+    /// 4,096 symbols already, or the variables are more than 128. Where it fails nothing is opened.
     pub fn open(&mut self, width: u32, frame: bool) -> Result<Point, PolyEnd>
         ensures code { OnOk result (self.new ≡
             append_code self.old (opens (record { width = width; frame = frame } ∷ []))) }

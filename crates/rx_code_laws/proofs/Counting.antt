@@ -35,7 +35,7 @@ abbrev pub deeds_at : ℕ → List Deed → ℕ
 deeds_at x [] = 0
 deeds_at x (d ∷ ds) = at_symbol x d.at.symbol + deeds_at x ds
 
--- how often x is among so many symbols from that number on
+-- how often x is among n symbols from that number on
 abbrev pub among_from : ℕ → ℕ → ℕ → ℕ
 among_from next zero x = 0
 among_from next (suc k) x = at_symbol x next + among_from (next + 1) k x

@@ -1,4 +1,4 @@
--- Elements of lists that are put together, and of numbered lists.
+-- Elements of lists that are joined, and of numbered lists.
 use Rattle.std.proofs.Common.{◌≡◌, sym, subst, inl, inr, ℕ, zero, suc, ◌+◌, Some, List, [], ◌∷◌, ◌++◌, arith}
 use Rattle.std.specs.Prelude.{All, Contains, slice_get}
 use Rattle.std.specs.List.{enumerate_from, flat_map}
@@ -23,7 +23,7 @@ pub all_right : {X : Type 0} (P : X → Type 0) (xs ys : List X) → All P (xs +
 all_right P xs ys all =
     all_from P ys (λ x there. All-contains P (xs ++ ys) x all (Contains-append_right xs ys x there))
 
--- an element's list is part of the lists put together
+-- an element's list is part of the lists that are joined
 pub in_flat_map : {X Y : Type 0} (f : X → List Y) (xs : List X) (x : X) (y : Y) → Contains xs x →
     Contains (f x) y → Contains (flat_map f xs) y
 in_flat_map f [] x y there inside = absurd (no_element x there)

@@ -1,4 +1,4 @@
--- The deeds of a piece fit the whole code in which it stands.
+-- The deeds of a piece fit the whole code in which it is.
 use Rattle.std.proofs.Common.{◌≡◌, ◌∙◌, ap, sym, subst, refl, Bool, true, false, ◌&&◌, ◌⊎◌, inl, inr, ℕ, zero, suc, ◌+◌, ◌≤◌, ◌<◌, Some, List, [], ◌∷◌, ◌++◌, length, map, ℤ, pos, negsuc, arith}
 use Rattle.std.specs.Prelude.{Contains, nat_le, nat_lt, slice_get}
 use Rattle.std.proofs.lemmas.Bool.{and_from, and_parts, leb-true, lt-ltb, ltb-false, ltb-true}
@@ -136,7 +136,7 @@ module _ (c : Code) where
     pub opened : IsOpened c z.symbol z.width false
     pub narrow : z.width ≤ 128
 
-  -- the piece stands in the code, its symbols from that number on
+  -- the piece is in the code, its symbols from that number on
   pub record StandsIn (next : ℕ) (p : Code) : Type 0 where
     pub opened : (i : ℕ) (o : Opening) → slice_get p.opened i ≡ Some o →
         slice_get c.opened (next + i) ≡ Some o

@@ -207,7 +207,7 @@ module _ (functions : List Function) where
               (ne_eqb f h (λ e. omega (arith, e, below))) ∙ is
 
   module _ (c : Code) where
-    -- the function's code stands at its entry
+    -- the function's code is at its entry
     pub record Piece (h s : ℕ) : Type 0 where
       pub function : Function
       pub stands : slice_get functions h ≡ Some function
@@ -245,7 +245,7 @@ module _ (functions : List Function) where
               | inr none ↦ absurd (no_element that none)
             ]
 
-    -- a piece's entry and end are opened, and its body stands after them
+    -- a piece's entry and end are opened, and its body comes after them
     abbrev opening_of : Function → ℕ → List Opening
     opening_of g s = a_point (length g.params) ∷ a_point 0 ∷ []
 
@@ -355,7 +355,7 @@ kept_all (d ∷ ds) all =
     let both = and_parts (deed_within d) (list_all deed_within ds) all in
     All-cons (λ d. deed_within d ≡ true) d ds both.0 (kept_all ds both.1)
 
--- a symbol is once among so many from a number on, or not at all
+-- a symbol is once among n from a number on, or not at all
 at_itself : (x y : ℕ) → y ≡ x → at_symbol x y ≡ 1
 at_itself x y is = ap one_if (eq-eqb y x is)
 

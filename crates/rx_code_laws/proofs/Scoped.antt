@@ -22,7 +22,7 @@ use Rattle.rx_code_laws.proofs.Elements.{all_left, all_right}
 use Rattle.rx_code_laws.proofs.Trees as tree
 use Rattle.rx_code_laws.proofs.Trees.{ExprTree, ExprTrees, StmtTree, StmtTrees, expr_tree, stmt_tree, stmt_trees}
 
--- `callable` says of a function, by its place, whether it takes so many arguments
+-- `callable` says of a function, by its place, whether it takes n arguments
 module _ (callable : ℕ → ℕ → Type 0) where
   mutual
     -- an expression where n slots are in scope

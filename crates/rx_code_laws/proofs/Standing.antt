@@ -1,4 +1,4 @@
--- The rules of a deed stand in the rule set of whole code, so that the set does what is done in the
+-- The rules of a deed are in the rule set of whole code, so that the set does what is done in the
 -- code.
 use Rattle.std.proofs.Common.{subst, refl, ℕ, arith}
 use Rattle.std.specs.Prelude.{Contains, filter}

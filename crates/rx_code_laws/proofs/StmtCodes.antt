@@ -21,7 +21,7 @@ use Rattle.rx_code_laws.proofs.Scoped as scope
 use Rattle.rx_code_laws.proofs.Scoped.{AreStmts, IsExpr, IsStmt, all_slots_stay, no_more, slots_stay}
 
 module _ (acts : Actions) (callable : ℕ → ℕ → Type 0) where
-  -- the compiled statement leaves so many slots, and is the statement's code at all places
+  -- the compiled statement leaves n slots, and is the statement's code at all places
   pub record CodesStmt (n : ℕ) (t : Stmt) (k : ℕ) (x : Compiled) : Type 0 where
     pub slots : x.slots_after n ≡ k
     pub code : (at : Places) (next : ℕ) → at.at.width ≡ n → at.to.width ≤ k →

@@ -1,4 +1,4 @@
--- The deeds of the code of statements fit the whole code in which it stands.
+-- The deeds of the code of statements fit the whole code in which it is.
 use Rattle.std.proofs.Common.{◌≡◌, ◌∙◌, ap, sym, subst, refl, true, false, ◌&&◌, inl, ℕ, suc, ◌+◌, ◌≤◌, ◌<◌, Option, Some, None, List, [], ◌∷◌, map, pos, arith}
 use Rattle.std.specs.Prelude.{Contains}
 use Rattle.std.proofs.lemmas.Bool.{and_parts}

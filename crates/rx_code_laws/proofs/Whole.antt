@@ -27,12 +27,12 @@ abbrev pub is_at : ℕ → Deed → Bool
 is_at k d = d.at.symbol == k
 
 module _ (c : Code) where
-  -- the symbol is opened as a point or a frame with so many variables
+  -- the symbol is opened as a point or a frame with n variables
   abbrev pub IsOpened : ℕ → ℕ → Bool → Type 0
   IsOpened symbol width frame =
       slice_get c.opened symbol ≡ Some (record { width = width; frame = frame })
 
-  -- the point is opened, and so many integers are enough for its variables
+  -- the point is opened, and n integers are enough for its variables
   pub record IsTarget (count : ℕ) (z : Point) : Type 0 where
     pub opened : IsOpened z.symbol z.width false
     pub enough : z.width ≤ count

@@ -13,7 +13,7 @@ use Rattle.rx_code.specs.declared.code.Code.{Code}
 abbrev pub acts_in : Code → Actions
 acts_in code a x = Contains code.deeds (record { at = a; action = x })
 
--- the function at the place has an entry, and takes so many arguments
+-- the function at the place has an entry, and takes n arguments
 pub record TakesCall (program : Resolved) (code : Code) (f count : ℕ) : Type 0 where
   pub symbol : ℕ
   pub begins : Contains code.entries (f, symbol)

@@ -1,4 +1,4 @@
--- What `clap` is told of the command line.
+-- What `clap` knows of the command line.
 use Rattle.std.specs.Prelude.{true, Some, codes}
 use Rattle.clap.specs.Simple.{on_top}
 use Rattle.clap.specs.Words.{App, Rule, Text, new_app, new_rule, with_rule}

@@ -28,7 +28,7 @@ pub data Comparison : Type 0 where
   Check : Functions → List ℕ → Comparison
   Refute : Functions → Extent → Comparison
 
--- to compare two functions, or to search for proofs of so many examples
+-- to compare two functions, or to search for proofs of n examples
 pub data Command : Type 0 where
   Compare : Comparison → Command
   Demo : ℕ → Command

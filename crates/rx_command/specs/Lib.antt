@@ -1,4 +1,4 @@
--- The command line: what `clap` is told of it, the numbers in it, and what its words ask for.
+-- The command line: what `clap` knows of it, the numbers in it, and what its words ask for.
 pub mod App
 pub mod Commands
 pub mod Examples

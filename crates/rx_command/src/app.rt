@@ -1,4 +1,4 @@
-//! What `clap` is told of the command line.
+//! What `clap` knows of the command line.
 ghost use Rattle.std.specs.Prelude.{◌≡◌, IfOk};
 ghost use Rattle.clap.specs.Words.{app_of, new_rule, with_rule};
 ghost use Rattle.rx_command.specs.App as spec;

@@ -1,4 +1,4 @@
--- What the answer to a call tells of the trees.
+-- What the answer to a call says of the trees.
 use Rattle.std.specs.Prelude.{◌≡◌, Result, Ok, Err}
 use Rattle.rx_cover.specs.Covering.{Covering, Covers, Fails, PassesLimits}
 use Rattle.rx_cover.specs.declared.cover_end.CoverEnd.{CoverEnd}

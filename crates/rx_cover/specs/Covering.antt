@@ -14,7 +14,7 @@ use Rattle.rx_cover.specs.declared.cover_tree.CoverTree.{CoverTree}
 abbrev pub symbol : ℕ → Sym
 symbol f = record { 0 = f }
 
--- a frame over failures with so many codes, from that one on
+-- a frame over failures with n codes, from that one on
 abbrev pub over_failures : Sym → ℕ → ℕ → List Shape
 over_failures f from zero = []
 over_failures f from (suc n) = Framed f (Failure from) ∷ over_failures f (from + 1) n

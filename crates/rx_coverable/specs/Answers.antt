@@ -1,4 +1,4 @@
--- What the answers of a search for trees tell.
+-- What the answers of a search for trees say.
 use Rattle.std.specs.Prelude.{◌≡◌, ℕ, All, is_some, List, [], length}
 use Rattle.rx_cert.specs.Findings.{Yes}
 use Rattle.rx_term.specs.Shapes.{Shape}

@@ -41,8 +41,7 @@ splitting (Some row) branch path =
     and_then (branch (path ++ row ∷ [])) (formed_then (negation_within row)
     (branch (path ++ negation row ∷ [])))
 
--- whether a tree is found at the path by these rules, with at most so many splits on a way from
--- here
+-- whether a tree is found at the path by these rules, with at most n splits on a way from here
 unfoldable pub covering_at : List Rule → ℕ → List Row → Coverage
 covering_at rules zero path = or_else (using path rules) (as_said (refuted path))
 covering_at rules (suc n) path =

@@ -23,7 +23,7 @@ use std::alloc::{AllocError, Global};
 /// How many splits a way through a tree has at most.
 const MOST_SPLITS: u32 = 32;
 
-/// What a frame can stand over: a returned value, and then the failures with the codes 1, 2, and
+/// What a frame can be over: a returned value, and then the failures with the codes 1, 2, and
 /// so on.
 fn frame_redexes(alloc: Global, fails: u8) -> Result<Items<Redex>, AllocError>
     ensures { IfOk result (λ rs. (f : Sym) → map (shape_at f) rs ≡ redex_shapes f true fails) }

@@ -1,4 +1,4 @@
--- Arguments that are being compiled one by one: what stands, and what those that are left still
+-- Arguments that are being compiled one by one: what is there, and what those that are left still
 -- decide.
 use Rattle.std.proofs.Common.{◌≡◌, ◌∙◌, refl, sym, ap, subst, ◌&&◌, false, ℕ, suc, ◌+◌, ◌<◌, ◌≤◌, Ok, List, [], ◌∷◌, ◌++◌, length, map, drop, get_or, drop_of_length-le, append_assoc, add-one}
 use Rattle.std.proofs.Math.Seq.{drop-cons}

@@ -17,7 +17,7 @@ use Rattle.rx_code.specs.declared.point.Point.{Point}
 use Rattle.rx_code.proofs.ExprEquations.{code-Binary}
 use Rattle.rx_exprs.specs.Compiles.{CompilesValue, division_at, value_at}
 
--- pieces are put together in any grouping
+-- pieces are joined in any grouping
 pub append_code_assoc : (b c d : Code) → append_code (append_code b c) d ≡
     append_code b (append_code c d)
 append_code_assoc b c d i = record {

@@ -43,7 +43,7 @@ condition_at e a y w code = (expr_code e).condition a y w (length code.opened)
 abbrev pub truth_at : Expr → Point → Code → Valued
 truth_at e a code = (of_condition (expr_code e).condition).value a (length code.opened)
 
--- a division of two values that are known at a point, with so many symbols before
+-- a division of two values that are known at a point, with n symbols before
 abbrev pub division_at : BinOp → Body → Body → Point → ℕ → Valued
 division_at op p q at next =
     let b = point next (at.width + 1) in

@@ -95,7 +95,7 @@ good-filter test (c ∷ cs) h =
     let parts = and_parts (good c) (list_all good cs) h in
     by_good c (filter test cs) parts.0 (good-filter test cs parts.1) (test c)
 
--- what has no coefficient before a stage has none behind it
+-- what has no coefficient before a stage has none after it
 pub next_lacks : (x m : Mono) (cs : List Combination) → list_all good cs ≡ true → Lacks x cs →
     Lacks x (next m cs)
 next_lacks x m cs h e =
@@ -158,7 +158,7 @@ without_lacks m (c ∷ cs) h =
     let parts = and_parts (is_zero (at m c)) (list_all (λ d. is_zero (at m d)) cs) h in
     (zero_is (at m c) parts.0, without_lacks m cs parts.1)
 
--- behind a stage its monomial has no coefficient
+-- after a stage its monomial has no coefficient
 pub next_without : (m : Mono) (cs : List Combination) → list_all good cs ≡ true →
     Lacks m (next m cs)
 next_without m cs h =

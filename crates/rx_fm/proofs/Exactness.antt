@@ -24,7 +24,7 @@ use Rattle.rx_fm.proofs.Sums.{Crosswise, Every, NotNegative, above, above_of, be
 abbrev pub elements : List (Combination × ℤ) → List Combination
 elements ts = map (λ (t : Combination × ℤ). t.0) ts
 
--- ---- the elements behind a stage
+-- ---- the elements after a stage
 
 elements-append : (ts us : List (Combination × ℤ)) → elements (ts ++ us) ≡ elements ts ++
     elements us
@@ -160,7 +160,7 @@ filtered_weights test ts h =
     (filter (λ (t : Combination × ℤ). test t.0) ts) (λ t g. g.0)
     (every-filter NotNegative test ts h)
 
--- the joint ones are worth what the two are, crosswise, at every monomial
+-- the joint ones have the values that the two have, crosswise, at every monomial
 all_cross : (m x : Mono) (ts : List (Combination × ℤ)) → list_all good (elements ts) ≡ true →
     Every (λ p. Every (λ q. Crosswise (joined m) (factor m) (at m) (at x) p.0 q.0)
     (below (at m) ts)) (above (at m) ts)

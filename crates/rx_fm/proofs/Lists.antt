@@ -1,10 +1,10 @@
--- Lists of numbers that are walked from the front: what stands, and what the rest still adds.
+-- Lists of numbers that are walked from the front: what is there, and what the rest still adds.
 use Rattle.std.proofs.Common.{◌≡◌, ◌∙◌, ap, subst, Bool, true, false, ◌&&◌, refl, sym, List, [], ◌∷◌, ◌++◌, append_assoc, ℤ, ◌+ℤ◌, ◌*ℤ◌, length, arith}
 use Rattle.std.proofs.lemmas.Bool.{and_left}
 use Rattle.std.proofs.lemmas.List.{append-nil}
 use Rattle.rx_fm.specs.Numbers.{combined, combined_within, sum_within}
 
--- what stands of the combined list, and what the two lists still add to it
+-- what is there of the combined list, and what the two lists still add to it
 pub record Combining (k : ℤ) (xs : List ℤ) (l : ℤ) (ys done whole : List ℤ) (within : Bool) : Type 0
   where
     pub made : done ++ combined k xs l ys ≡ whole

@@ -1,6 +1,7 @@
--- Weighted sums: of elements with weights, each worth an integer. Nothing here knows what the
--- elements are. The double sum: where each of some elements is joined with each of others, and the
--- joint one is worth what the two are, crosswise, all together are worth what the sums are.
+-- Weighted sums: of elements with weights, each of which has an integer as value. Nothing here
+-- knows what the elements are. The double sum: where each of some elements is joined with each of
+-- others, and the joint one has the value that the two have, crosswise, all together have the value
+-- of the sums.
 use Rattle.std.proofs.Common.{◌≡◌, ◌∙◌, ap, Bool, true, false, cond, refl, sym, List, [], ◌∷◌, ◌++◌, map, filter, ℤ, pos, negsuc, zero, suc, ℕ, ◌*◌, ◌+ℤ◌, ◌*ℤ◌, ◌≤ℤ◌, ◌<ℤ◌, neg_ℤ, int_lt, arith}
 use Rattle.std.proofs.lemmas.Int.{ints}
 use lib.IntN.{*ℤ_comm}
@@ -11,7 +12,7 @@ use Rattle.rx_poly.proofs.TermLaws.{by_false, zero_is}
 
 -- ---- products
 
--- the first of three factors goes behind the second
+-- the first of three factors goes after the second
 pub swap : (a b c : ℤ) → a *ℤ (b *ℤ c) ≡ b *ℤ (a *ℤ c)
 swap a b c = sym (mul-assoc-int a b c) ∙ ap (λ z. z *ℤ c) (*ℤ_comm a b) ∙ mul-assoc-int b a c
 
@@ -31,7 +32,7 @@ factor_zero (pos (suc a)) (pos (suc b)) h g e =
 factor_zero (pos (suc a)) (negsuc b) h g e = absurd (omega (arith, ints))
 factor_zero (negsuc a) b h g e = absurd (omega (arith, ints))
 
--- ---- the sign of a number, as three tests tell it
+-- ---- the sign of a number, as three tests find it
 
 pub data Told (z : ℤ) : Type 0 where
   told_zero : is_zero z ≡ true → int_lt (pos 0) z ≡ false → int_lt z (pos 0) ≡ false → Told z
@@ -72,7 +73,7 @@ module _ {A : Type 0} where
       let both = mul-add-int k (t.1 *ℤ f t.0) (sum_terms f ts) in
       omega (arith, ints)
 
-  -- with turned signs the sum has a turned sign
+  -- with reversed signs the sum has a reversed sign
   pub sum-turned : (f : A → ℤ) (ts : List (A × ℤ)) →
       sum_terms (λ x. neg_ℤ (f x)) ts +ℤ sum_terms f ts ≡ pos 0
   sum-turned f [] = refl
@@ -133,7 +134,7 @@ module _ {A : Type 0} where
       in
       omega (arith, ints)
 
-  -- where elements that are worth more than 0 sum up to 0, all weights are 0, so any worths do
+  -- where elements with values above 0 sum up to 0, all weights are 0, so any values do
   pub all_vanish : (a f : A → ℤ) (ts : List (A × ℤ)) →
       Every (λ t. NotNegative t × (pos 0 <ℤ a t.0)) ts → sum_terms a ts ≡ pos 0 → sum_terms f ts ≡
       pos 0
@@ -207,7 +208,8 @@ module _ {A : Type 0} where
     joined_pairs (p ∷ ps) qs = joined_with p qs ++ joined_pairs ps qs
 
     module _ (a f : A → ℤ) where
-      -- the joint element, times the factor, is worth what the two are, each times the other's size
+      -- the joint element, times the factor, has the value that the two have, each times the
+      -- other's size
       abbrev pub Crosswise : A → A → Type 0
       Crosswise p q = factor p q *ℤ f (join p q) ≡ neg_ℤ (a q) *ℤ f p +ℤ a p *ℤ f q
 
@@ -348,6 +350,6 @@ module _ {A : Type 0} where
               ∙ ap (λ z. k *ℤ z) (sym split)
           by_top (negsuc n) e h = absurd (omega (arith, ints))
 
-          -- behind the stage every worth is the same positive multiple of what it was
+          -- after the stage every value is the same positive multiple of what it was
           pub stage_sum : sum_terms f (stage_of (growth top)) ≡ growth top *ℤ sum_terms f ts
           stage_sum = by_top top refl (sum_not_negative a (above a ts) above_ones)

@@ -162,7 +162,7 @@ joined_tracked ps m p q w t u =
           (divides_coefficient x (common c) (out-Body c.poly).terms divisors.0) (same x);
     }
 
--- ---- all that stand
+-- ---- all that are there
 
 abbrev pub AllTracked : List Body → List Combination → Type 0
 AllTracked ps [] = Unit {0}
@@ -290,7 +290,7 @@ by_negative ps c cs ms t rest true h e =
     (by_constant ps c t (constant_of (out-Body c.poly).terms) refl h)
 by_negative ps c cs ms t rest false h e = rest e
 
--- a negative number that stands there shows the contradiction
+-- a negative number that is there shows the contradiction
 negative_shows : (ps : List Body) (cs : List Combination) (ms : List ℤ) → AllTracked ps cs →
     first_negative cs ≡ Some ms → IsWitness ps ms
 negative_shows ps [] ms h e = cc

@@ -21,23 +21,23 @@ use Rattle.rx_fm.specs.declared.combination.Combination.{Combination}
 abbrev pub is_one : Mono → Bool
 is_one m = is_empty (out-Mono m).atoms
 
--- the monomial put before m and the others, or further back, or nowhere where it is m
+-- the monomial inserted before m and the others, or later, or nowhere where it is m
 abbrev pub at_place : Ordering → Mono → Mono → List Mono → List Mono → List Mono
 at_place Less k m ms further = k ∷ (m ∷ ms)
 at_place Equal k m ms further = m ∷ ms
 at_place Greater k m ms further = m ∷ further
 
--- a monomial put at its place among others that rise, unless it stands there
+-- a monomial inserted at its place among others that rise, unless it is there
 abbrev pub with_mono : Mono → List Mono → List Mono
 with_mono k [] = k ∷ []
 with_mono k (m ∷ ms) = at_place (mono_cmp k m) k m ms (with_mono k ms)
 
--- the monomials of the terms that are not 1, put among others
+-- the monomials of the terms that are not 1, inserted among others
 abbrev pub with_monos : List (Mono × ℤ) → List Mono → List Mono
 with_monos [] ms = ms
 with_monos (t ∷ ts) ms = with_monos ts (if is_one t.0 then ms else with_mono t.0 ms)
 
--- the monomials of all the polynomials that are not 1, put among others
+-- the monomials of all the polynomials that are not 1, inserted among others
 abbrev pub with_all : List Body → List Mono → List Mono
 with_all [] ms = ms
 with_all (p ∷ ps) ms = with_all ps (with_monos (out-Body p).terms ms)
@@ -135,7 +135,7 @@ pairs_within m (p ∷ ps) qs = list_all (joined_within m p) qs && pairs_within m
 abbrev pub next : Mono → List Combination → List Combination
 next m cs = without m cs ++ pairs m (positive m cs) (negative m cs)
 
--- whether all that is formed keeps the limits, and no more than `limit` stand there
+-- whether all that is formed keeps the limits, and no more than `limit` are there
 abbrev pub next_within : ℕ → Mono → List Combination → Bool
 next_within limit m cs =
     nat_le (length (next m cs)) limit && pairs_within m (positive m cs) (negative m cs)
@@ -171,7 +171,7 @@ found_or None further = further
 found_or (Some ms) further = found ms
 
 -- the monomials are eliminated one after the other, and before each it is seen whether a negative
--- number stands there; where no polynomial has the monomial any more nothing changes
+-- number is there; where no polynomial has the monomial any more nothing changes
 abbrev pub eliminated : ℕ → List Mono → List Combination → Outcome
 eliminated limit [] cs = found_or (first_negative cs) nothing
 eliminated limit (m ∷ ms) cs =
@@ -191,7 +191,7 @@ given_from place count (p ∷ ps) =
 abbrev pub given : List Body → List Combination
 given ps = given_from 0 (length ps) ps
 
--- the elimination of all monomials, with at most `limit` polynomials at the beginning and behind
+-- the elimination of all monomials, with at most `limit` polynomials at the beginning and after
 -- each stage
 abbrev pub elimination : ℕ → List Body → Outcome
 elimination limit ps =

@@ -88,7 +88,7 @@ fn eliminated(
 /// Multipliers, one for each polynomial and none negative, whose sum of the polynomials is a
 /// negative number: they show that the polynomials are not all at least 0. None where there are
 /// none. Large exactly where the elimination passes a limit: of polynomials, of i128, or more than
-/// `limit` polynomials at the beginning or behind a stage.
+/// `limit` polynomials at the beginning or after a stage.
 pub fn farkas(alloc: Global, polys: &[Poly], limit: u32) -> Result<Option<Vec<i128>>, FmEnd>
     ensures exact { IfOk result (λ a. MatchOption a (elimination limit polys.now ≡ nothing)
         (λ ms. elimination limit polys.now ≡ found ms.items)) }

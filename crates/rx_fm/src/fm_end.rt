@@ -8,7 +8,7 @@ use thiserror::Error;
 /// Why an elimination gave no answer.
 #[derive(Clone, Copy, Debug, PartialEq, Eq, Error)]
 pub enum FmEnd {
-    /// A polynomial or a multiplier on the way passes its limits, or too many polynomials stand
+    /// A polynomial or a multiplier on the way passes its limits, or too many polynomials are
     /// there.
     #[error("an elimination is too large")]
     Large,

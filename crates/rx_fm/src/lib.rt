@@ -2,7 +2,7 @@
 //!
 //! What a reader may rely on: the answer is exactly that of the elimination as `specs/` defines it,
 //! over exact integers; multipliers that are answered show a contradiction, and where the answer is
-//! None there are no such multipliers. Monomials are unknowns here, whatever stands in them.
+//! None there are no such multipliers. Monomials are unknowns here, whatever is in them.
 #![tactic(auto)]
 
 mod combination;

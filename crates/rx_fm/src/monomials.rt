@@ -8,7 +8,7 @@ use rx_poly::{Mono, Poly};
 use std::alloc::{AllocError, Global};
 use std::cmp::Ordering;
 
-/// Where the monomial belongs among others that rise; None where it stands there.
+/// Where the monomial belongs among others that rise; None where it is there.
 fn place_of(monos: &[Mono], mono: &Mono) -> Option<usize>
     ensures { MatchOption result (with_mono mono.now monos.now ≡ monos.now)
         (λ at. (at ≤ length monos.now) × (with_mono mono.now monos.now ≡
@@ -24,7 +24,7 @@ fn place_of(monos: &[Mono], mono: &Mono) -> Option<usize>
     Some(monos.len())
 }
 
-/// Copies the monomial to its place, unless it stands there.
+/// Copies the monomial to its place, unless it is there.
 fn push_mono(monos: &mut Vec<Mono>, alloc: Global, mono: &Mono) -> Result<(), AllocError>
     ensures { OnOk result (monos.new.items ≡ with_mono mono.now monos.old.items) }
 {
@@ -36,7 +36,7 @@ fn push_mono(monos: &mut Vec<Mono>, alloc: Global, mono: &Mono) -> Result<(), Al
     Ok(())
 }
 
-/// Copies the monomials of the terms that are not 1 to their places, unless they stand there.
+/// Copies the monomials of the terms that are not 1 to their places, unless they are there.
 fn push_monos(
     monos: &mut Vec<Mono>,
     alloc: Global,

@@ -18,7 +18,7 @@ struct BySign {
 }
 
 impl BySign {
-    /// Puts the combination behind those of its kind.
+    /// Adds the combination after those of its kind.
     fn push(&mut self, mono: &Mono, combination: Combination) -> Result<(), AllocError>
         ensures without { OnOk result (self.new.without ≡ self.old.without ++
             without mono.now (combination ∷ [])) }
@@ -55,7 +55,7 @@ fn split(alloc: Global, combinations: Items<Combination>, mono: &Mono) -> Result
     Ok(split)
 }
 
-/// Puts the one joined with each of the others behind `made`. Large exactly where one of these
+/// Adds the one joined with each of the others after `made`. Large exactly where one of these
 /// passes its limits.
 fn push_joined(
     made: &mut Items<Combination>,
@@ -78,7 +78,7 @@ fn push_joined(
     Ok(())
 }
 
-/// Puts each of the first joined with each of the second behind `made`. Large exactly where one of
+/// Adds each of the first joined with each of the second after `made`. Large exactly where one of
 /// these passes its limits.
 fn push_pairs(
     made: &mut Items<Combination>,

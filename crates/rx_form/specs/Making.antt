@@ -135,7 +135,7 @@ abbrev pub failures : ℕ → List Term
 failures zero = []
 failures (suc n) = failures n ++ Fail (suc n) ∷ []
 
--- what two equal terms may come to: an integer, for which a variable stands, or a failure
+-- what two equal terms may come to: an integer, which a variable represents, or a failure
 abbrev pub results_of : ℕ → ℕ → List Term
 results_of fails fresh = Return (variable fresh) ∷ failures fails
 

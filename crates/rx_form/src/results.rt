@@ -94,7 +94,7 @@ fn with_result(
     })
 }
 
-/// Adds the goal with each of so many failures in place of both parts.
+/// Adds the goal with each of n failures in place of both parts.
 fn push_failures(
     goals: &mut Items<Equation>,
     alloc: Global,
@@ -113,7 +113,7 @@ fn push_failures(
     Ok(())
 }
 
-/// The goal with each result in place of both parts; the variable stands for the integers.
+/// The goal with each result in place of both parts; the variable represents the integers.
 fn goals_by_result(
     alloc: Global,
     goal: &Equation,

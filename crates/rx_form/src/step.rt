@@ -171,7 +171,7 @@ fn copied_generalisation(
 }
 
 impl Delete {
-    /// The same once more; fails only for want of memory.
+    /// The same once more; fails only when out of memory.
     pub fn try_clone(&self, alloc: Global) -> Result<Delete, NoMemory>
         ensures { IfOk result (λ by. by ≡ self.now) }
     {
@@ -198,7 +198,7 @@ impl Step {
             _ => &[],
         }
     }
-    /// The same step once more; fails only for want of memory.
+    /// The same step once more; fails only when out of memory.
     pub fn try_clone(&self, alloc: Global) -> Result<Step, NoMemory>
         ensures { IfOk result (λ step. step ≡ self.now) }
     {

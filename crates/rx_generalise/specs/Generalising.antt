@@ -1,6 +1,6 @@
 -- Two generalisations of a goal. Both drop the rows that only give a variable its value, and add
--- the rows of the rules at the calls of the new goal that the old rows show. The second puts new
--- variables in place of polynomials that occur repeatedly.
+-- the rows of the rules at the calls of the new goal that the old rows show. The second replaces
+-- polynomials that occur repeatedly with new variables.
 use Rattle.std.specs.Prelude.{ℕ, ◌+◌, nat_le, if◌then◌else◌, Option, Some, None, List, [], ◌∷◌, ◌++◌, length}
 use Rattle.std.specs.List.{list_any}
 use Rattle.std.specs.Option.{option_map}

@@ -100,7 +100,7 @@ module _ (side : Side) (place : ℕ) where
 
 -- ---- all constants
 
--- so many places of a side, from one on
+-- n places of a side, from one on
 unfoldable pub naming_from : Side → ℕ → ℕ → Naming → Tried Naming
 naming_from side place zero n = applies n
 naming_from side place (suc count) n =

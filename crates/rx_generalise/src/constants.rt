@@ -84,7 +84,7 @@ fn goal_with(
     }
 }
 
-/// The variable, which has the value by a row, is put at the place.
+/// The variable, which has the value by a row, is written at the place.
 fn named_as(
     alloc: Global,
     naming: Naming,
@@ -99,7 +99,7 @@ fn named_as(
     Ok(Naming { goal, subst, fresh })
 }
 
-/// The next new variable is put at the place, with the row that gives it the value.
+/// The next new variable is written at the place, with the row that gives it the value.
 fn named_new(
     alloc: Global,
     naming: Naming,

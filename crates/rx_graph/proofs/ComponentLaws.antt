@@ -7,7 +7,7 @@ use Rattle.rx_graph.specs.Marks.{Labelled, Named}
 use Rattle.rx_graph.proofs.GraphLaws.{among_below, one_behind, or_cases, or_left, or_right, path_behind, reaches_path}
 use Rattle.rx_graph.proofs.RowLaws.{leads_back, leads_forth, leads_within}
 
--- ---- paths turned round
+-- ---- paths reversed
 
 pub path_forth : (edges : List (ℕ × ℕ)) (a b : ℕ) → Path (reversed_edges edges) a b → Path edges b a
 path_forth edges _ _ (One a b is) = One b a (leads_forth edges b a is)

@@ -28,7 +28,7 @@ module _ (edges : List (ℕ × ℕ)) where
   wider k ks _ _ (Over a b c is among rest) =
       Over a b c is (other_one k ks b among) (wider k ks b c rest)
 
-  -- one path behind another, over the vertex between them
+  -- one path after another, over the vertex between them
   joined : (ks : List ℕ) (a k b : ℕ) → Contains ks k → Through ks a k → Through ks k b →
       Through ks a b
   joined ks _ k c among (Edge a _ is) rest = Over a k c is among rest
@@ -127,7 +127,7 @@ pub reaches_all : (n : ℕ) (edges : List (ℕ × ℕ)) → IsOver n edges → (
 reaches_all n edges over a b =
     reaches_path edges (below n) (λ c d is. among_below n d (lead_below n edges over c d is).1) a b
 
--- ---- paths, one behind another and turned round
+-- ---- paths, one after another and reversed
 
 pub one_behind : (edges : List (ℕ × ℕ)) (a b c : ℕ) → Path edges a b → leads edges b c ≡ true →
     Path edges a c

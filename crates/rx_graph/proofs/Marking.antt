@@ -138,7 +138,7 @@ pub read_true : (marks : List Bool) (t : ℕ) (m : Bool) → t < length marks �
     m ≡ true → IsMarked marks t
 read_true marks t m there is marked = same_at marks t false m there ∙ sym is ∙ marked
 
--- none of so many marks is set at the beginning
+-- none of n marks is set at the beginning
 pub none_marked : (n b : ℕ) → IsMarked (replicate n false) b → ⊥
 none_marked n b is = elim (cases_lt b n) [
   | inl less ↦ false≢true (sym (get_or-replicate n b false false less) ∙ is)
@@ -149,7 +149,7 @@ none_marked n b is = elim (cases_lt b n) [
 
 -- ---- walks
 
--- what was reached so far: all of it is marked, and what the first so many lead to is marked
+-- what was reached so far: all of it is marked, and what the first n lead to is marked
 pub record Walked (edges : List (ℕ × ℕ)) (start : ℕ) (marks : List Bool) (reached : List ℕ)
     (next : ℕ) : Type 0 where
   pub known : (b : ℕ) → IsMarked marks b → Contains reached b

@@ -1,4 +1,4 @@
--- Graphs in memory: one edge more, and edges turned round.
+-- Graphs in memory: one edge more, and edges reversed.
 use Rattle.std.proofs.Common.{◌≡◌, ◌∙◌, ap, sym, subst, refl, arith, ℕ, zero, suc, ◌+◌, ◌<◌, ◌≤◌, ◌==◌, true, false, ◌&&◌, ◌⊎◌, inl, inr, Vec, List, [], ◌∷◌, ◌++◌, Contains, get_or, length, set, take}
 use Rattle.std.proofs.lemmas.Bool.{and_from, and_parts, cases_lt, cases_order, eq-eqb, eqb-true, false≢true}
 use Rattle.std.proofs.lemmas.List.{get_or-set_other, get_or-map, get_or-set_same, get_or_past, length-append, length-map, length-set, map-append, map-set, take_more}
@@ -224,9 +224,9 @@ all_and_one rows now after sources i to there all one =
       ];
     }
 
--- ---- edges turned round
+-- ---- edges reversed
 
--- the edges from the first so many vertices, turned round
+-- the edges from the first n vertices, reversed
 pub record Turned (rows : List (List ℕ)) (i : ℕ) (back : List (List ℕ)) : Type 0 where
   pub has : (a b : ℕ) → a < i → HasEdge rows a b → HasEdge back b a
   pub only : (a b : ℕ) → HasEdge back b a → (a < i) × HasEdge rows a b
@@ -282,7 +282,7 @@ leads_forth (e ∷ edges) a b is =
       | inr other ↦ or_right (is_edge a b e) (leads edges a b) (leads_forth edges a b other)
     ]
 
--- where all vertices were taken, it is the graph of the edges turned round
+-- where all vertices were taken, it is the graph of the edges reversed
 pub turned_graph : (n : ℕ) (edges : List (ℕ × ℕ)) (rows back : List (List ℕ)) (i : ℕ) → n ≤ i →
     length back ≡ n → Turned rows i back → IsGraphOf n edges rows
     → IsGraphOf n (reversed_edges edges) back

@@ -10,7 +10,7 @@ is_edge a b e = e.0 == a && e.1 == b
 abbrev pub leads : List (ℕ × ℕ) → ℕ → ℕ → Bool
 leads edges a b = list_any (is_edge a b) edges
 
--- one edge or more, one behind the other
+-- one edge or more, one after the other
 pub data Path (edges : List (ℕ × ℕ)) : ℕ → ℕ → Type 0 where
   One : (a b : ℕ) → leads edges a b ≡ true → Path edges a b
   More : (a b c : ℕ) → leads edges a b ≡ true → Path edges b c → Path edges a c
@@ -33,7 +33,7 @@ below (suc n) = n ∷ below n
 abbrev pub IsOver : ℕ → List (ℕ × ℕ) → Type 0
 IsOver n edges = All (λ e. (e.0 < n) × (e.1 < n)) edges
 
--- the edges turned round
+-- the edges reversed
 abbrev pub reversed_edges : List (ℕ × ℕ) → List (ℕ × ℕ)
 reversed_edges edges = map (λ e. (e.1, e.0)) edges
 

@@ -11,7 +11,7 @@ left_over false = 1
 abbrev pub unmarked : List Bool → ℕ
 unmarked marks = sum_by left_over marks
 
--- the targets were marked, and those that weren't before stand behind the numbers that were marked
+-- the targets were marked, and those that weren't before come after the numbers that were marked
 -- before
 pub record Marked (marks : List Bool) (before : List ℕ) (targets : List ℕ) (after : List Bool)
     (reached : List ℕ) : Type 0 where

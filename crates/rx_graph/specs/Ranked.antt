@@ -3,7 +3,7 @@ use Rattle.std.specs.Prelude.{◌≡◌, ◌↔◌, ◌⊎◌, ◌<◌, ◌≤�
 use Rattle.rx_graph.specs.Graph.{IsMarked, Path}
 use Rattle.rx_graph.specs.Rows.{HasEdge}
 
--- so many vertices are the vertex or have a path from it
+-- n vertices are the vertex or have a path from it
 pub record IsReachCount (n : ℕ) (edges : List (ℕ × ℕ)) (a count : ℕ) : Type 0 where
   pub marks : List Bool
   pub size : length marks ≡ n

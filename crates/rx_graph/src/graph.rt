@@ -64,7 +64,7 @@ impl Graph {
         Ok(())
     }
 
-    /// The graph with each edge turned round; fails only where there is no memory.
+    /// The graph with each edge reversed; fails only where there is no memory.
     pub fn reversed(&self, alloc: Global) -> Result<Graph, NoMemory>
         requires closed { IsClosed (rows_of self.now.rows.items) }
         requires few { length self.now.rows.items ≤ 2 ^ 32 }

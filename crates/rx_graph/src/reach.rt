@@ -8,7 +8,7 @@ use crate::graph::Graph;
 use rx_plain::NoMemory;
 use std::alloc::Global;
 
-/// Marks the targets that aren't marked, and puts them after those that were marked before.
+/// Marks the targets that aren't marked, and adds them after those that were marked before.
 fn mark(marks: &mut Vec<bool>, reached: &mut Vec<u32>, targets: &[u32]) -> Result<(), NoMemory>
     requires { (b : ℕ) → Contains targets.now b → b < length marks.old.items }
     ensures { OnOk result (

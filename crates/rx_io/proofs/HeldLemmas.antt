@@ -1,4 +1,4 @@
--- A name's first entry, and what is left behind a take.
+-- A name's first entry, and what is left after a take.
 use Rattle.std.proofs.Common.{◌≡◌, ◌≤◌, ◌++◌, ℕ, List, None, Some, inl, inr, ap, ◌∙◌, cond, length, take, drop, arith, string_bytes, position, nat_lt}
 use Rattle.std.proofs.lemmas.Bool.{lt-ltb, le-ltb}
 use Rattle.std.proofs.lemmas.Grind.{common_steps}

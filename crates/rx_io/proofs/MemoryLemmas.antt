@@ -14,7 +14,7 @@ steady_files old new none setup rose =
     let still : files.faults_in new ≡ 0 = new.never_fails (setup.fail ∙ none) in
     omega (arith, rose)
 
--- a sink without listed calls that found a fault had less room left than there were bytes to put
+-- a sink without listed calls that found a fault had less room left than there were bytes to write
 pub full_sink : (old new : MemorySink) (bytes : List ℕ) → sink.fail_in old ≡ [] → sink.zero_in old ≡
     [] → sink.IsSameSetup old new → Rose (sink.faults_in old) (sink.faults_in new)
     → AppendsPrefix (Some (sink.put_in old)) (Some (sink.put_in new)) bytes → sink.room_left old <
@@ -32,7 +32,7 @@ full_sink old new bytes no_fail no_zero setup rose (count, short, put) =
       length-take count bytes,
     )
 
--- bytes that were put whole had room
+-- bytes that were written whole had room
 pub fits_sink : (old new : MemorySink) (bytes : List ℕ) → sink.IsSameSetup old new →
     sink.put_in new ≡ sink.put_in old ++ bytes → length bytes ≤ sink.room_left old
 fits_sink old new bytes setup put =

@@ -1,4 +1,4 @@
--- What was taken from an open file says of what stands under its name.
+-- What was taken from an open file says of what is under its name.
 use Rattle.std.proofs.Common.{◌<◌, ℕ, ◌+◌, ◌++◌, List, Option, None, Some, length, subst, ap, arith, length-append}
 use Rattle.std.proofs.KnownBytes.{Consumes-trans}
 use Rattle.std.specs.Io.KnownBytes.{Consumes}

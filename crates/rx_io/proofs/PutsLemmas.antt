@@ -1,4 +1,4 @@
--- One more put of a run.
+-- One more write of a run.
 use Rattle.std.proofs.Common.{◌≡◌, ◌<◌, ◌≤◌, ℕ, ◌+◌, ◌-◌, ◌++◌, List, Option, Result, Ok, sym, ap, ◌∙◌, subst, length, take, drop, arith, length-drop}
 use Rattle.std.proofs.Math.Seq.{take-add}
 use Rattle.std.proofs.lemmas.List.{take_rest, drop-drop}
@@ -13,7 +13,7 @@ IsSent old now bytes rest =
     (count : ℕ) × (count ≤ length bytes) × (rest ≡ drop count bytes) ×
     Appends old now (take count bytes)
 
--- a put of the rest makes the front longer
+-- a write of the rest makes the front longer
 pub sent_on : (old mid new : Option (List ℕ)) (bytes rest : List ℕ) (count : ℕ) →
     IsSent old mid bytes rest → count ≤ length rest → Appends mid new (take count rest)
     → IsSent old new bytes (take (length rest - count) (drop count rest))
@@ -30,7 +30,7 @@ sent_on old mid new bytes rest count (before, fits, e, appended) room more =
           (Appends-trans old mid new _ _ appended more),
     )
 
--- a put that took some of the rest lengthens the run
+-- a write that took some of the rest lengthens the run
 pub sends_on : {S : Type 0} {puts : S → List ℕ → Result ℕ Failed → S → Type 0} {old mid new : S}
     {bytes rest : List ℕ} {count : ℕ} → Sends puts old bytes mid rest → puts mid rest (Ok count) new
     → 0 < count → Sends puts old bytes new (take (length rest - count) (drop count rest))

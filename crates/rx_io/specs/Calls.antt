@@ -2,7 +2,7 @@
 use Rattle.std.specs.Prelude.{◌+◌, ◌-◌, ◌^◌, ℕ, min, List, Bool, ◌==◌}
 use Rattle.std.specs.List.{list_any}
 
--- the number of the call that follows so many stands in the list
+-- the number of the call that follows n others is in the list
 abbrev pub is_listed : List ℕ → ℕ → Bool
 is_listed numbers calls = list_any (λ number. number == calls + 1) numbers
 

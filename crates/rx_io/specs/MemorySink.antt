@@ -1,11 +1,11 @@
--- What a put to a sink in memory does.
+-- What a write to a sink in memory does.
 use Rattle.std.specs.Prelude.{◌≡◌, ◌-◌, ◌++◌, ◌&&◌, ◌||◌, ◌==◌, ℕ, min, List, Bool, Option, None, Some, Result, length, take, refl, nat_lt, if◌then◌else◌, MatchResult}
 use Rattle.std.proofs.Common.{◌∙◌}
 use Rattle.rx_io.specs.declared.outside.Failed.{Failed}
 use Rattle.rx_io.specs.declared.memory_sink.MemorySink.{MemorySink}
 use Rattle.rx_io.specs.Calls.{is_listed, counted}
 
--- the bytes put so far
+-- the bytes written so far
 abbrev pub put_in : MemorySink → List ℕ
 put_in sink = sink.taken.items
 
@@ -41,18 +41,18 @@ fails_next sink = is_listed (fail_in sink) (calls_in sink)
 abbrev pub gives_zero_next : MemorySink → Bool
 gives_zero_next sink = is_listed (zero_in sink) (calls_in sink)
 
--- there is no room for a piece of so many bytes
+-- there is no room for a piece of n bytes
 abbrev pub is_full_for : MemorySink → ℕ → Bool
 is_full_for sink size = (room_left sink == 0) && nat_lt 0 size
 
--- what the next put of so many bytes answers; none where it fails
+-- what the next write of n bytes answers; none where it fails
 abbrev pub next_put : MemorySink → ℕ → Option ℕ
 next_put sink size =
     if fails_next sink then None else (if gives_zero_next sink then Some 0 else
     (if is_full_for sink size then None else
     Some (min size (min (piece_in sink) (room_left sink)))))
 
--- that put raises the count of faults
+-- that write raises the count of faults
 abbrev pub is_fault : MemorySink → ℕ → Bool
 is_fault sink size = fails_next sink || gives_zero_next sink || is_full_for sink size
 
@@ -76,7 +76,7 @@ same_setup_on a b c p q =
           q.zero ∙ p.zero;
     }
 
--- a put: its answer, the bytes that it appends, and the two counts
+-- a write: its answer, the bytes that it appends, and the two counts
 pub record Puts (old : MemorySink) (piece : List ℕ) (answer : Result ℕ Failed) (new : MemorySink) :
     Type 0 where
   pub answers : MatchResult answer (λ count. next_put old (length piece) ≡ Some count)

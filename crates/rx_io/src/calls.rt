@@ -2,7 +2,7 @@
 ghost use Rattle.std.specs.Prelude.{◌≡◌, ◌≤◌};
 ghost use Rattle.rx_io.specs.Calls.{is_listed};
 
-/// Whether the number of the call that follows so many stands in the list.
+/// Whether the number of the call that follows that many others is in the list.
 pub fn is_listed(numbers: &[u64], calls: u64) -> bool
     ensures { result ≡ is_listed numbers.now calls }
 {

@@ -34,7 +34,7 @@ impl MemoryFiles {
     ghost use Rattle.rx_io.specs.MemoryFiles.{names_in, left_in, calls_in, faults_in, piece_in, fail_in};
 
     /// Files with these names and contents, none of them open. Of two equal names the first counts.
-    /// One call takes at most `piece` bytes. The calls whose numbers stand in `fail` fail; they are
+    /// One call takes at most `piece` bytes. The calls whose numbers are in `fail` fail; they are
     /// counted together from 1. It takes no memory.
     pub fn new(held: Vec<(String, Vec<u8>)>, piece: usize, fail: Vec<u64>) -> MemoryFiles
         requires { 1 ≤ piece }
@@ -88,7 +88,7 @@ fn rest_of(held: &[(String, Vec<u8>)], opened: Option<Opened>) -> &[u8]
     }
 }
 
-// The open file, so many bytes further.
+// The open file, that many bytes later.
 fn past(opened: Option<Opened>, count: usize) -> Option<Opened>
     requires { ForSome opened (λ file. file.taken + count < 2 ^ 64) }
     ensures { (held : List Entry) → left_of held result ≡ drop count (left_of held opened) }
@@ -100,7 +100,7 @@ fn past(opened: Option<Opened>, count: usize) -> Option<Opened>
     })
 }
 
-// Moves the front of `rest` into the front of `into`, as much as fits and at most so many bytes.
+// Moves the front of `rest` into the front of `into`, as much as fits and at most n bytes.
 fn move_front(rest: &[u8], most: usize, into: &mut [u8]) -> usize
     ensures count { result ≡ min most (min (length into.old) (length rest.now)) }
     ensures moved { into.new ≡ take result rest.now ++ drop result into.old }

@@ -24,8 +24,8 @@ pub struct MemorySink {
 impl MemorySink {
     ghost use Rattle.rx_io.specs.MemorySink.{put_in, calls_in, faults_in, piece_in, room_in, fail_in, zero_in};
 
-    /// A sink with nothing put and room for so many bytes, for which it takes the memory; a put
-    /// takes none. One call takes at most `piece` bytes. The calls whose numbers stand in `fail`
+    /// A sink with nothing written and room for n bytes, for which it takes the memory; a write
+    /// takes none. One call takes at most `piece` bytes. The calls whose numbers are in `fail`
     /// fail, and those in `zero` alone answer 0; they are counted together from 1.
     pub fn new(
         alloc: Global,
@@ -54,7 +54,7 @@ impl MemorySink {
         })
     }
 
-    /// The bytes put so far.
+    /// The bytes written so far.
     pub fn put_so_far(&self) -> &[u8]
         ensures { result.now ≡ put_in self.now }
     {

@@ -13,10 +13,10 @@ pub struct Failed;
 
 /// Files that are read by name, one at a time.
 pub trait Files {
-    /// What each name holds, by the name's bytes, where it is told.
+    /// What each name holds, by the name's bytes, where it is known.
     ghost held: { Self → Option (List ℕ → Option (List ℕ)) };
 
-    /// What is left of the open file, where it is told.
+    /// What is left of the open file, where it is known.
     ghost left: { Self → Option (List ℕ) };
 
     /// How many calls found a fault. It never falls.
@@ -59,7 +59,7 @@ pub trait Files {
 pub trait Sink {
     ghost use Rattle.rx_io.specs.declared.outside.Failed.{Failed};
 
-    /// The bytes put so far, where they are told.
+    /// The bytes written so far, where they are known.
     ghost contents: { Self → Option (List ℕ) };
 
     /// How many calls found a fault. It never falls.
@@ -68,7 +68,7 @@ pub trait Sink {
     /// The second state can follow from the first by calls.
     ghost reaches: { Self → Self → Type 0 };
 
-    /// A put of these bytes, from the first state, may answer this and leave the second.
+    /// A write of these bytes, from the first state, may answer this and leave the second.
     ghost puts: { Self → List ℕ → Result ℕ Failed → Self → Type 0 };
 
     /// Appends the first bytes of the piece, and answers how many. After `Failed` the bytes are as

@@ -1,4 +1,4 @@
-//! Bytes put to a sink, to the last.
+//! Bytes written to a sink, to the last.
 ghost use Rattle.std.specs.Prelude.{◌≤◌, OnOk, OnErr};
 ghost use Rattle.std.specs.Io.KnownBytes.{Appends};
 ghost use Rattle.rx_io.specs.Outside.{Rose, AppendsPrefix};
@@ -7,22 +7,22 @@ ghost use Rattle.rx_io.specs.Puts.{PutsAll};
 use crate::Sink;
 use thiserror::Error;
 
-/// Why not all bytes were put.
+/// Why not all bytes were written.
 #[derive(Clone, Copy, Debug, PartialEq, Eq, Error)]
 pub enum PutEnd {
-    /// A put failed.
+    /// A write failed.
     #[error("the output failed")]
     Failed,
-    /// A put of a nonempty piece took nothing.
+    /// A write of a nonempty piece took nothing.
     #[error("the output takes nothing more")]
     Stuck,
 }
 
-/// Puts all bytes. It takes no memory.
+/// Writes all bytes. It takes no memory.
 ///
-/// After an error a proper prefix of `bytes` was put. `Failed` comes exactly where a put failed,
-/// `Stuck` exactly where a put of a nonempty piece answered 0; either ends the run, so no put
-/// follows it.
+/// After an error a proper prefix of `bytes` was written. `Failed` comes exactly where a write
+/// failed, `Stuck` exactly where a write of a nonempty piece answered 0; either ends the run, so no
+/// write follows it.
 pub fn put_all<O: Sink>(out: &mut O, bytes: &[u8]) -> Result<(), PutEnd>
     ensures reach { O.reaches out.old out.new }
     ensures later { O.faults out.old ≤ O.faults out.new }

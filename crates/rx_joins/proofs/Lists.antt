@@ -1,4 +1,4 @@
--- Elements of lists that are put together, filtered, mapped or formed.
+-- Elements of lists that are joined, filtered, mapped or formed.
 use Rattle.std.proofs.Common.{◌≡◌, inl, inr, Bool, true, false, if◌then◌else◌, List, [], ◌∷◌, ◌++◌, map, refl, sym, ap, ◌∙◌, arith, All, Contains}
 use Rattle.std.specs.Prelude.{filter}
 use Rattle.std.proofs.lemmas.List.Elements.{All-cons, All-head, All-tail, All-nil}

@@ -1,5 +1,5 @@
 -- When a log is accepted, and otherwise its first fault; the lines of a log and their order; how
--- deep what stands in a log is.
+-- deep what is in a log is.
 pub mod Acceptance
 pub mod Depth
 pub mod Lines

@@ -5,7 +5,7 @@ use Rattle.rx_log.specs.declared.line.Line.TheVariants as line
 use Rattle.rx_log.specs.declared.place.Place.{Place}
 use Rattle.rx_log.specs.declared.place.Place.TheVariants.{AtHeader, InCovers, InSteps, InRanks, InPairs, Finished}
 
--- the place behind a line, where such a line may come; the cover of the symbol with this number is
+-- the place after a line, where such a line may come; the cover of the symbol with this number is
 -- next
 abbrev pub after_covers : ℕ → Line → ℕ → Option Place
 after_covers next (line.Cover trees) symbol =
@@ -24,7 +24,7 @@ after_pairs (line.Pair pair) = Some InPairs
 after_pairs line.End = Some Finished
 after_pairs other = None
 
--- the rank of the symbol with this number is next, with so many columns
+-- the rank of the symbol with this number is next, with n columns
 abbrev pub after_ranks : ℕ → ℕ → Line → ℕ → Option Place
 after_ranks columns next (line.Rank rank) symbol =
     if symbol == next
@@ -36,7 +36,7 @@ abbrev pub after_header : Line → Option Place
 after_header line.Header = Some (InCovers 0)
 after_header other = None
 
--- the place behind a line with its symbol; None where no such line may come
+-- the place after a line with its symbol; None where no such line may come
 abbrev pub after : Place → Line × ℕ → Option Place
 after AtHeader it = after_header it.0
 after (InCovers next) it = after_covers next it.0 it.1
@@ -45,7 +45,7 @@ after (InRanks columns next) it = after_ranks columns next it.0 it.1
 after InPairs it = after_pairs it.0
 after Finished it = None
 
--- the place behind lines one after the other
+-- the place after lines one after the other
 abbrev pub after_all : Option Place → List (Line × ℕ) → Option Place
 after_all place [] = place
 after_all None (it ∷ its) = None

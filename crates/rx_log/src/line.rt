@@ -6,7 +6,7 @@ use rx_pairs::PairCert;
 use rx_plain::Items;
 use rx_poly::Poly;
 
-/// A line of a log, without the symbols whose numbers stand in it.
+/// A line of a log, without the symbols whose numbers are in it.
 #[derive(Drop)]
 pub enum Line {
     /// The first line, which names the format.

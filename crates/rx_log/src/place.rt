@@ -4,14 +4,14 @@ ghost use Rattle.rx_log.specs.Places as spec;
 
 use crate::line::Line;
 
-/// Where a reader of a log stands: which lines may come next.
+/// Where a reader of a log is: which lines may come next.
 #[derive(Clone, Copy, Debug, PartialEq, Eq)]
 pub enum Place {
     /// Before the first line.
     AtHeader,
     /// Among the covers; that of the symbol with this number is next, if any.
     InCovers(u64),
-    /// Behind a step.
+    /// After a step.
     InSteps,
     /// Among the ranks.
     InRanks {
@@ -20,13 +20,13 @@ pub enum Place {
         /// The symbol whose rank is next, if any.
         next: u64,
     },
-    /// Behind the certificates of a pair.
+    /// After the certificates of a pair.
     InPairs,
-    /// Behind the last line.
+    /// After the last line.
     Finished,
 }
 
-/// The place behind a line that comes first.
+/// The place after a line that comes first.
 fn after_header(line: &Line) -> Option<Place>
     ensures { result ≡ spec.after_header line.now }
 {
@@ -36,8 +36,7 @@ fn after_header(line: &Line) -> Option<Place>
     }
 }
 
-/// The place behind a line that comes where the cover of the symbol with the number `next` may
-/// come.
+/// The place after a line that comes where the cover of the symbol with the number `next` may come.
 fn after_covers(next: u64, line: &Line, symbol: u32) -> Option<Place>
     ensures { result ≡ spec.after_covers next line.now symbol }
 {
@@ -58,7 +57,7 @@ fn after_covers(next: u64, line: &Line, symbol: u32) -> Option<Place>
     }
 }
 
-/// The place behind a line that comes behind a step.
+/// The place after a line that comes after a step.
 fn after_steps(line: &Line) -> Option<Place>
     ensures { result ≡ spec.after_steps line.now }
 {
@@ -72,7 +71,7 @@ fn after_steps(line: &Line) -> Option<Place>
     }
 }
 
-/// The place behind a line that comes behind the certificates of a pair.
+/// The place after a line that comes after the certificates of a pair.
 fn after_pairs(line: &Line) -> Option<Place>
     ensures { result ≡ spec.after_pairs line.now }
 {
@@ -83,8 +82,8 @@ fn after_pairs(line: &Line) -> Option<Place>
     }
 }
 
-/// The place behind a line that comes where the rank of the symbol with the number `next` may come,
-/// in so many columns.
+/// The place after a line that comes where the rank of the symbol with the number `next` may come,
+/// in n columns.
 fn after_ranks(columns: u32, next: u64, line: &Line, symbol: u32) -> Option<Place>
     ensures { result ≡ spec.after_ranks columns next line.now symbol }
 {
@@ -104,7 +103,7 @@ fn after_ranks(columns: u32, next: u64, line: &Line, symbol: u32) -> Option<Plac
 }
 
 impl Place {
-    /// The place behind a line that comes here, with the number of the symbol in it; None where no
+    /// The place after a line that comes here, with the number of the symbol in it; None where no
     /// such line may come.
     pub fn after(self, line: &Line, symbol: u32) -> Option<Place>
         ensures { result ≡ spec.after self (line.now, symbol) }

@@ -92,7 +92,7 @@ cut_once (x ∷ xs) (y ∷ ys) more rest p q e =
     let f : xs ++ 10 ∷ more ≡ ys ++ 10 ∷ rest = cc in
     let g : xs ≡ ys = cut_once xs ys more rest (tail_line x xs p) (tail_line y ys q) f in cc
 
--- ---- what stands up to the first line feed
+-- ---- what comes up to the first line feed
 
 found_further : (b : Bool) (x : ℕ) (xs more : List ℕ) → eqb x 10 ≡ b → is_one_line (x ∷ xs) ≡ true →
     (is_one_line xs ≡ true → up_to_feed (xs ++ 10 ∷ more) ≡ xs ++ 10 ∷ [])

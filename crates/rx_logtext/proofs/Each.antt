@@ -1,4 +1,4 @@
--- Things that are each behind a space, up to the end of a line.
+-- Things that are each after a space, up to the end of a line.
 use Rattle.std.proofs.Common.{◌≡◌, ◌∙◌, refl, sym, ap, ℕ, ◌<◌, ◌≤◌, Bool, true, false, ◌&&◌, Some, None, List, [], ◌∷◌, ◌++◌, length, drop, append_assoc, length-drop, arith}
 use Rattle.std.proofs.lemmas.List.{append-nil, drop_all}
 use Rattle.std.proofs.lemmas.Grind.{flat_map-append}
@@ -32,13 +32,13 @@ module _ {A : Type 0} (text : A → List ℕ) (in_range : A → Bool) where
   over_end [] = refl
   over_end (x ∷ xs) = refl
 
-  -- things in range and what is behind them
+  -- things in range and what is after them
   pub record Splits (rest : List ℕ) : Type 0 where
     pub others : List A
     pub all : list_all in_range others ≡ true
     pub is : rest ≡ each_spaced text others
 
-  -- a list that goes on behind others
+  -- a list that goes on after others
   pub splits : IsUnambiguous Each → (xs ys : List A) (rest : List ℕ) → list_all in_range xs ≡ true →
       list_all in_range ys ≡ true → is_over in_word rest ≡ true → each_spaced text xs ++ rest ≡
       each_spaced text ys → Splits rest

@@ -57,7 +57,7 @@ only_pair rest (line.Step s) n e =
     absurd (let f : true ≡ false = ap begins_frame e ∙ no_frame s in cc)
 only_pair rest l n e = absurd (let f : true ≡ false = ap (starts (codes "pai")) e in cc)
 
--- ---- lists behind a symbol
+-- ---- lists after a symbol
 
 module _ {A : Type 0} (text : A → List ℕ) (in_range : A → Bool) where
   no_number : (bytes : List ℕ) (at n : ℕ) (xs : List A) → Reads numbers bytes at None →

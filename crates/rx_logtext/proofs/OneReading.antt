@@ -12,7 +12,7 @@ use Rattle.rx_logtext.proofs.OneLineLines.{each_is_one_line}
 
 -- ---- lines that begin a text
 
--- these lines are the other ones and then more, which begin what is left behind the other ones
+-- these lines are the other ones and then more, which begin what is left after the other ones
 record GoesOn (xs ys : List (List ℕ)) (left rest : List ℕ) : Type 0 where
   more : List (List ℕ)
   whole : ys ≡ xs ++ more

@@ -36,7 +36,7 @@ pub list_all-push : {A : Type 0} (test : A → Bool) (xs : List A) (x : A) → l
     test x ≡ true → list_all test (xs ++ x ∷ []) ≡ true
 list_all-push test xs x h e = grind (arith, common_steps)
 
--- lines behind which none stands yet
+-- lines after which none comes yet
 snoc_first : {A : Type 0} (c new s : List A) (x : A) → new ≡ c ++ x ∷ [] → s ≡ [] → new ++ s ≡
     (c ++ s) ++ x ∷ []
 snoc_first c new s x e f = rw (e, f) (simp append-nil)
@@ -51,8 +51,8 @@ alone_behind b y c s r e f g = rw (e, f, g) refl
 
 -- ---- the lines up to the next place
 
--- what was read up to the place, the line, and the place behind it: the log with the line is read
--- up to there
+-- what was read up to the place, the line, and the place after it: the log with the line is read up
+-- to there
 pub record Moves (place : Place) (log : Log) (read : Line) (symbol : ℕ) (next : Place) : Type 0
   where
     pub at : IsAt next (pushed read log)
@@ -193,7 +193,7 @@ rank_next log columns n m new next at w a =
     (eqb-true m n c.0) c.1.1
     (rank log columns n new at w (eqb-true (length new) columns c.1.0))
 
--- where a line in range may come, the log with it is read up to the place behind it
+-- where a line in range may come, the log with it is read up to the place after it
 pub moves : (place : Place) (log : Log) (read : Line) (m : ℕ) (next : Place) → IsAt place log →
     has_widths log ≡ true → is_readable_line read m ≡ true → after place (read, m) ≡ Some next →
     Moves place log read m next

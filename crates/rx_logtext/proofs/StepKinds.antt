@@ -31,7 +31,7 @@ pub record IsKind {P : Type 0} (beginning : List ℕ) (format : Format P) (make 
     pub only : (rest : List ℕ) (x : Step) → beginning ++ rest ≡ step_text x → (parts : P) ×
         ((x ≡ make parts) × (rest ≡ format.text parts))
 
--- the line is read where what stands behind its beginning is
+-- the line is read where what comes after its beginning is
 pub kind_reads : {P : Type 0} {beginning : List ℕ} {format : Format P} {make : P → Step} →
     IsKind beginning format make → (line rest : List ℕ) → line ≡ beginning ++ rest →
     (found : Option P) → ReadsAll format rest found → ReadsAll steps line (option_map make found)

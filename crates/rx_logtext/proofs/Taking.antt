@@ -36,7 +36,7 @@ second false b e = absurd (cc)
 both : {a b : Bool} → a ≡ true → b ≡ true → (a && b) ≡ true
 both e f = rw (e, f) refl
 
--- ---- places behind lines
+-- ---- places after lines
 
 nowhere : (its : List (Line × ℕ)) → after_all None its ≡ None
 nowhere [] = refl
@@ -129,7 +129,7 @@ in_order : {A : Type 0} (c s k p e : List A) (r : A) → ((c ++ s) ++ r ∷ (k +
     (s ++ r ∷ (k ++ (p ++ e)))
 in_order c s k p e r = simp append_assoc
 
--- the lines of a log stand in order
+-- the lines of a log are in order
 pub log_runs : (log : Log) → has_widths log ≡ true → after_all (Some AtHeader) (log_lines log) ≡
     Some Finished
 log_runs log w =
@@ -164,7 +164,7 @@ of_ranges log h = first _ _ h
 of_widths : (log : Log) → has_ranges log ≡ true → has_widths log ≡ true
 of_widths log h = second _ _ h
 
--- the lines of a log up to a place, and those behind it
+-- the lines of a log up to a place, and those after it
 record Parts (place : Place) (log : Log) : Type 0 where
   behind : List (Line × ℕ)
   whole : log_lines log ≡ lines_to place log ++ behind
@@ -252,7 +252,7 @@ same_lines one (x ∷ xs) (y ∷ ys) r s e =
     second (lines.in_range y) (list_all lines.in_range ys) s in
     let rest : xs ≡ ys = same_lines one xs ys u v tail in cc
 
--- lines whose texts go on with one more: the line with that text stands behind the others
+-- lines whose texts go on with one more: the line with that text comes after the others
 record GoesOn (its : List (Line × ℕ)) (texts : List (List ℕ)) (bytes : List ℕ) : Type 0 where
   before : List (Line × ℕ)
   next : Line × ℕ

@@ -1,4 +1,4 @@
--- A text read piece by piece: what a reader stands for, and what that is at the end.
+-- A text read piece by piece: what a reader represents, and what that is at the end.
 use Rattle.std.proofs.Common.{◌≡◌, ◌∙◌, inl, inr, sym, refl, ap, subst, ℕ, ◌+◌, ◌≤◌, suc, Bool, true, false, ◌&&◌, Option, Some, None, Result, Ok, Err, List, [], ◌∷◌, ◌++◌, drop, length, append_assoc, length-append, arith}
 use Rattle.std.proofs.lemmas.Bool.{and_from}
 use Rattle.std.proofs.lemmas.List.{append-nil}
@@ -25,7 +25,7 @@ use Rattle.rx_logtext.proofs.OneReading.{never_both, one_bad_line, one_log}
 use Rattle.rx_logtext.proofs.Readers.{far_from_end, none_begins, one_taken}
 use Rattle.rx_logtext.proofs.Taking.{taken_begins}
 
--- ---- lines and what is left behind them
+-- ---- lines and what is left after them
 
 never_true : (b : Bool) → (b && false) ≡ true → ⊥
 never_true true e = cc
@@ -65,7 +65,7 @@ one_by_one {place} {log} {texts} h =
     subst (λ (ts : List (List ℕ)). list_all is_one_line ts ≡ true) h.are
     (each_is_one_line (lines_to place log))
 
--- ---- what a reader stands for
+-- ---- what a reader represents
 
 pub stands_within : {reader : LogReader} {log : Log} {bytes : List ℕ} → StandsFor reader log bytes →
     reader.taken ≤ length bytes
@@ -163,7 +163,7 @@ line_bad {old} {log} {bytes} front new h good one reads at count bad =
 
 -- ---- the first bad line
 
--- whatever comes behind a bad line, it is the first
+-- whatever comes after a bad line, it is the first
 pub bad_goes_on : {reader : LogReader} {log : Log} {bytes : List ℕ} → StandsFor reader log bytes →
     reader.is_bad ≡ true → (more : List ℕ) → IsFirstBad (bytes ++ more) (suc reader.taken)
 bad_goes_on {reader} {log} {bytes} h bad more =
@@ -345,7 +345,7 @@ read_alike log bytes (Err end.TooDeep) read f r = absurd f
 read_alike log bytes (Err end.OutOfRange) read f r = absurd f
 read_alike log bytes (Err end.NoMemory) read f r = absurd f
 
--- a reader that has met a bad line has its answer, whatever is behind that
+-- a reader that has met a bad line has its answer, whatever is after that
 bad_stays : {reader : LogReader} {log : Log} {bytes : List ℕ} (behind : List ℕ)
     (answer : Result (Unit {0}) LogEnd) → StandsFor reader log bytes → reader.is_bad ≡ true →
     Finishes log bytes answer → Finishes log (bytes ++ behind) answer

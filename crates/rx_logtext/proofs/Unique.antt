@@ -183,7 +183,7 @@ second false b e = absurd (cc)
 abbrev Numbered : Type 0
 Numbered = Line × ℕ
 
--- a list of things behind the number of a symbol
+-- a list of things after the number of a symbol
 listed_once : {A : Type 0} (text : A → List ℕ) (in_range : A → Bool) →
     IsUnambiguous (words text in_range) → (m n : ℕ) (xs ys : List A) → numbers.in_range m ≡ true →
     numbers.in_range n ≡ true → list_all in_range xs ≡ true → list_all in_range ys ≡ true →

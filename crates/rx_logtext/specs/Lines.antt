@@ -22,7 +22,7 @@ symbol_text kind symbol = kind ++ (codes " s" ++ natural_text symbol)
 abbrev pub pair_parts : Format (ℕ × List Cert)
 pair_parts = pairs numbers certificate_lists
 
--- a line; the symbol stands in it where it is a cover or a rank
+-- a line; the symbol is in it where it is a cover or a rank
 abbrev pub line_text : Line → ℕ → List ℕ
 line_text line.Header symbol = codes "ctrl-log 1"
 line_text (line.Cover covers) symbol =
@@ -75,7 +75,7 @@ ReadsAll {A} format bytes None = (thing : A) → ¬ (IsText format bytes thing)
 abbrev pub IsLine : List ℕ → Line → Type 0
 IsLine bytes line = (symbol : ℕ) × IsText lines bytes (line, symbol)
 
--- what skips a whole word answers: the place after it; None exactly where it doesn't stand there
+-- what skips a whole word answers: the place after it; None exactly where it isn't there
 abbrev pub SkipsWhole : List ℕ → List ℕ → ℕ → Option ℕ → Type 0
 SkipsWhole word bytes at (Some end) =
     (at < end)
@@ -84,7 +84,7 @@ SkipsWhole word bytes at (Some end) =
 SkipsWhole word bytes at None =
     (left : List ℕ) → is_over in_word left ≡ true → ¬ (drop at bytes ≡ word ++ left)
 
--- what a reader of things that are each behind a space answers; None exactly where the bytes are no
+-- what a reader of things that are each after a space answers; None exactly where the bytes are no
 -- such list
 abbrev pub ReadsEach : {A : Type 0} → Format A → List ℕ → Option (List A) → Type 0
 ReadsEach each bytes (Some things) =

@@ -76,7 +76,7 @@ ReadsLog text (Err end.NoMemory) = Unit {0}
 
 -- ---- cutting a text into lines
 
--- the first line of a text without its line feed, and what stands behind that; None exactly where
+-- the first line of a text without its line feed, and what comes after that; None exactly where
 -- there is no line feed
 abbrev pub SplitsLine : List ℕ → Option (List ℕ × List ℕ) → Type 0
 SplitsLine text (Some cut) = (text ≡ cut.0 ++ 10 ∷ cut.1) × (is_one_line cut.0 ≡ true)

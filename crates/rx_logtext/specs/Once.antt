@@ -6,7 +6,7 @@ use Rattle.rx_form.specs.declared.step.Side.TheVariants.{Left, Right}
 use Rattle.rx_text.specs.Formats.{IsUnambiguous}
 use Rattle.rx_logtext.specs.Steps.{keeps, sides}
 
--- the bytes behind the first
+-- the bytes after the first
 abbrev tail : List ℕ → List ℕ
 tail [] = []
 tail (byte ∷ bytes) = bytes

@@ -14,20 +14,20 @@ use Rattle.rx_logtext.specs.declared.reader.LogReader.{LogReader}
 
 -- ---- what is kept
 
--- behind these lines stands one more, ended, with which no log begins
+-- after these lines comes one more, ended, with which no log begins
 pub record IsBadNext (texts : List (List ℕ)) (left : List ℕ) : Type 0 where
   pub next : List ℕ
   pub is : left ≡ next ++ 10 ∷ []
   pub one : is_one_line next ≡ true
   pub bad : ¬ (Begins (texts ++ next ∷ []))
 
--- what stands behind the lines that were taken: the next line so far, or a bad line
+-- what comes after the lines that were taken: the next line so far, or a bad line
 abbrev pub IsLeft : Bool → List ℕ → List (List ℕ) → List ℕ → Type 0
 IsLeft false line texts left = (left ≡ line) × (is_one_line left ≡ true)
 IsLeft true line texts left = IsBadNext texts left
 
--- The bytes are lines of a log up to the reader's place, of which this is the log so far, and
--- behind them the next line so far, or a line with which no log begins.
+-- The bytes are lines of a log up to the reader's place, of which this is the log so far, and after
+-- them the next line so far, or a line with which no log begins.
 pub record StandsFor (reader : LogReader) (log : Log) (bytes : List ℕ) : Type 0 where
   pub texts : List (List ℕ)
   pub taken : HasTaken reader.place log texts
@@ -73,12 +73,12 @@ abbrev pub EndsLine : List ℕ → Option Line → Type 0
 EndsLine piece None = is_one_line piece ≡ true
 EndsLine piece (Some line) = is_one_line piece ≡ false
 
--- what a reader takes of a piece: nothing behind a bad line
+-- what a reader takes of a piece: nothing after a bad line
 abbrev pub taken_of : Bool → List ℕ → List ℕ
 taken_of true piece = []
 taken_of false piece = up_to_feed piece
 
--- what a reader that stands for these bytes answers to a piece, and what it stands for then
+-- what a reader that represents these bytes answers to a piece, and what it represents then
 abbrev pub Takes : LogReader → Log → List ℕ → List ℕ → LogReader → Result (ℕ × Option Line) LogEnd →
     Type 0
 Takes old log bytes piece new (Ok taken) =
@@ -91,7 +91,7 @@ Takes old log bytes piece new (Err end.TooDeep) = ⊥
 Takes old log bytes piece new (Err end.OutOfRange) = ⊥
 Takes old log bytes piece new (Err end.NoMemory) = old.is_bad ≡ false
 
--- the place is the end, no line has begun behind it, and none was bad
+-- the place is the end, no line has begun after it, and none was bad
 abbrev pub IsWhole : LogReader → Bool → Type 0
 IsWhole reader true =
     (reader.place ≡ Finished) × ((reader.is_bad ≡ false) × (reader.line ≡ []))
@@ -106,12 +106,12 @@ Finishes log bytes (Err end.TooDeep) = ⊥
 Finishes log bytes (Err end.OutOfRange) = ⊥
 Finishes log bytes (Err end.NoMemory) = ⊥
 
--- a reader that stands for the front of a text has taken all that it takes of it: the whole text,
--- or a line with which no log begins, whatever is behind that
+-- a reader that represents the front of a text has taken all that it takes of it: the whole text,
+-- or a line with which no log begins, whatever is after that
 abbrev pub HasTakenAll : LogReader → List ℕ → Type 0
 HasTakenAll reader behind = (behind ≡ []) ⊎ (has_bad reader ≡ true)
 
--- whole texts are read alike, but for want of memory
+-- whole texts are read alike, except when out of memory
 abbrev pub IsReadAlike : Log → Result (Unit {0}) LogEnd → Result Log LogEnd → Type 0
 IsReadAlike log answer (Ok read) = (read ≡ log) × (answer ≡ Ok tt)
 IsReadAlike log answer (Err end.NoMemory) = Unit {0}

@@ -26,7 +26,7 @@ pub record MayCome (place : Place) (bytes : List ℕ) : Type 0 where
   pub is : IsText lines bytes next
   pub leads : after place next ≡ Some behind
 
--- what a reader of the next line answers: the line and the place behind it; None exactly where no
+-- what a reader of the next line answers: the line and the place after it; None exactly where no
 -- line that may come has these bytes
 abbrev pub ReadsNext : Place → List ℕ → Option (Line × Place) → Type 0
 ReadsNext place bytes (Some it) =

@@ -4,7 +4,7 @@ ghost use Rattle.std.specs.List.{position};
 ghost use Rattle.std.specs.Option.{option_map};
 ghost use Rattle.rx_logtext.specs.Logs.{SplitsLine};
 
-/// Where the first line feed of the text stands, if there is one.
+/// Where the first line feed of the text is, if there is one.
 fn feed_at(text: &[u8]) -> Option<usize>
     ensures within { IfSome result (λ at. at < length text.now) }
     ensures first { result ≡ position (λ byte. byte == 10) text.now }
@@ -12,7 +12,7 @@ fn feed_at(text: &[u8]) -> Option<usize>
     text.iter().position(|byte| *byte == b'\n')
 }
 
-/// The first line of the text without its line feed, and the text behind that; None exactly where
+/// The first line of the text without its line feed, and the text after that; None exactly where
 /// there is no line feed.
 pub(crate) fn split_line(text: &[u8]) -> Option<(&[u8], &[u8])>
     ensures { SplitsLine text.now (option_map (λ cut. (cut.0.now, cut.1.now)) result) }
@@ -23,7 +23,7 @@ pub(crate) fn split_line(text: &[u8]) -> Option<(&[u8], &[u8])>
     }
 }
 
-/// The text behind its first bytes.
+/// The text after its first bytes.
 pub(crate) fn text_behind(text: &[u8], count: usize) -> &[u8]
     requires { count ≤ length text.now }
     ensures { result.now ≡ drop count text.now }

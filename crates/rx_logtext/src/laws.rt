@@ -22,8 +22,8 @@ pub fn a_text_has_one_reading()
 {}
 
 /// However a text is cut into pieces, a reader that has taken them answers what `read_log` answers,
-/// but for want of memory. It has taken all of the text, or as far as a line with which no log
-/// begins: behind that it takes nothing. It does nothing: its contract is the law.
+/// except when out of memory. It has taken all of the text, or as far as a line with which no log
+/// begins: after that it takes nothing. It does nothing: its contract is the law.
 pub fn each_cut_is_read_alike()
     ensures { (reader : LogReader) (log : Log) (bytes behind : List ℕ)
         (answer : Result (Unit {0}) LogEnd) (read : Result Log LogEnd) →

@@ -19,7 +19,7 @@ use rx_text::skip_word;
 use rx_words::read_number;
 use std::alloc::Global;
 
-/// The parts that the bytes from the place on are, each behind a space; None exactly where they are
+/// The parts that the bytes from the place on are, each after a space; None exactly where they are
 /// no such list.
 fn read_each<T: Part>(
     alloc: Global,
@@ -59,7 +59,7 @@ fn read_cover(alloc: Global, line: &[u8], at: usize) -> Result<Option<(Line, u32
     }
 }
 
-/// Whether a rank may have so many columns: 1 to 15.
+/// Whether a rank may have n columns: 1 to 15.
 pub fn is_width(columns: usize) -> bool
     ensures { result ≡ spec.is_width columns }
 {
@@ -140,8 +140,8 @@ fn read_frame(alloc: Global, line: &[u8]) -> Result<Option<(Line, u32)>, NoMemor
     Ok(None)
 }
 
-/// The line that the bytes are, with the number of the symbol in it, or 0 where none stands there;
-/// None exactly where the bytes are no line of any log.
+/// The line that the bytes are, with the number of the symbol in it, or 0 where none is there; None
+/// exactly where the bytes are no line of any log.
 pub(crate) fn read_numbered(alloc: Global, bytes: &[u8]) -> Result<Option<(Line, u32)>, NoMemory>
     ensures { IfOk result (ReadsAll lines bytes.now) }
 {
@@ -152,8 +152,8 @@ pub(crate) fn read_numbered(alloc: Global, bytes: &[u8]) -> Result<Option<(Line,
 }
 
 /// The line of a log that the bytes are, given without the line feed that ends it. BadLine with the
-/// number 1 exactly where they are no line of any log. Where a symbol stands in it, its number
-/// isn't kept. Fails else only for want of memory.
+/// number 1 exactly where they are no line of any log. Where a symbol is in it, its number isn't
+/// kept. Fails else only when out of memory.
 pub fn read_line(alloc: Global, bytes: &[u8]) -> Result<Line, LogEnd>
     ensures { ReadsLine bytes.now result }
 {

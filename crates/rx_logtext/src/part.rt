@@ -1,4 +1,4 @@
-//! Parts of a line: what stands in its words.
+//! Parts of a line: what is in its words.
 ghost use Rattle.std.specs.Prelude.{◌≡◌, ◌<◌, ◌↔◌, ◌++◌, true, ℕ, IsTrue, Bool, List, IfOk, drop, length};
 ghost use Rattle.rx_text.specs.Formats.{IsUnambiguous, Reads, Skips, is_over};
 ghost use Rattle.rx_words.specs.Lists.{ending_word};
@@ -18,14 +18,14 @@ use rx_tree_words::read_tree;
 use rx_words::{read_cert, read_certs, read_number, read_subst};
 use std::alloc::Global;
 
-/// What stands in words of a line.
+/// What is in words of a line.
 pub(crate) trait Part: Drop {
     ghost text: { Self → List ℕ };
 
     ghost in_range: { Self → Bool };
 
-    /// The part whose text stands at the place, with the place after it; None exactly where no part
-    /// in range has its text there.
+    /// The part whose text is at the place, with the place after it; None exactly where no part in
+    /// range has its text there.
     fn read_part(alloc: Global, bytes: &[u8], at: usize) -> Result<Option<(Self, usize)>, NoMemory>
         ensures { IfOk result (λ found. Reads (words text in_range) bytes.now at found) };
 
@@ -92,7 +92,7 @@ fn ends_word(bytes: &[u8], at: usize) -> bool
     }
 }
 
-/// What was read, where a word ends behind it; else None.
+/// What was read, where a word ends after it; else None.
 fn ending<T: Drop>(bytes: &[u8], found: Option<(T, usize)>) -> Option<(T, usize)>
     ensures { result ≡ ending_word bytes.now found }
 {
@@ -108,7 +108,7 @@ fn ending<T: Drop>(bytes: &[u8], found: Option<(T, usize)>) -> Option<(T, usize)
     }
 }
 
-/// The place after the word, where it stands at the place as a whole word; None where it doesn't.
+/// The place after the word, where it is at the place as a whole word; None where it isn't.
 fn skip_whole(bytes: &[u8], at: usize, word: &[u8]) -> Option<usize>
     requires { 0 < length word.now }
     ensures { SkipsWhole word.now bytes.now at result }
@@ -137,7 +137,7 @@ fn have_same_first(line: &[u8], word: &[u8]) -> bool
 }
 
 /// The place after the word, where the line begins with it; None where it doesn't. Most words are
-/// told from the line by its first byte.
+/// known from the first byte of the line.
 pub(crate) fn skip_beginning(line: &[u8], word: &[u8]) -> Option<usize>
     requires { 0 < length word.now }
     ensures { Skips word.now line.now 0 result }

@@ -55,7 +55,7 @@ fn push_taken(log: &mut Log, line: Option<Line>) -> Result<(), NoMemory>
 
 /// The log whose text this is. BadLine with the number of the first line with which no log begins,
 /// counted from 1: so it is where the text ends too early, or not in a line feed. Fails else only
-/// for want of memory. Time is linear in the text, and memory is taken only for what was read.
+/// when out of memory. Time is linear in the text, and memory is taken only for what was read.
 pub fn read_log(alloc: Global, text: &[u8]) -> Result<Log, LogEnd>
     ensures { ReadsLog text.now result }
 {

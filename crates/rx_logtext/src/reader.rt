@@ -13,7 +13,7 @@ use rx_log::{Line, Place};
 use rx_plain::{Items, NoMemory};
 use std::alloc::Global;
 
-/// The line that the bytes are, where it may come at the place, with the place behind it; None
+/// The line that the bytes are, where it may come at the place, with the place after it; None
 /// exactly where the bytes are no line that may.
 fn read_next(alloc: Global, place: Place, bytes: &[u8]) -> Result<Option<(Line, Place)>, NoMemory>
     ensures { IfOk result (ReadsNext place bytes.now) }
@@ -108,7 +108,7 @@ impl LogReader {
     ///
     /// BadLine with the number of the line, counted from 1, exactly where no log begins with it,
     /// which is judged at its line feed: it has then been taken, and from then on each call takes
-    /// nothing and answers the same. Fails else only for want of memory, and then the reader stays
+    /// nothing and answers the same. Fails else only when out of memory, and then the reader stays
     /// as it was. The number of the line must be below 2^64.
     pub fn take(&mut self, alloc: Global, piece: &[u8]) -> Result<(usize, Option<Line>), LogEnd>
         requires { lines_in self.old + 1 < 2 ^ 64 }
@@ -145,7 +145,7 @@ impl LogReader {
         Ok((bytes.len() + 1, Some(line)))
     }
 
-    /// Whether the lines taken are those of a log, and nothing has come behind them.
+    /// Whether the lines taken are those of a log, and nothing has come after them.
     fn is_whole(&self) -> bool
         ensures { IsWhole self.now result }
     {

@@ -21,7 +21,7 @@ plain_in_range make test same (x ∷ xs) =
     ap (λ b. b && list_all lines.in_range (plain make xs)) (same x)
     ∙ ap (λ b. test x && b) (plain_in_range make test same xs)
 
--- what stands before the ranks
+-- what comes before the ranks
 begins_in_range : (log : Log) → list_all lines.in_range (before_ranks log)
     ≡ (list_all lines.in_range (by_symbol line.Cover 0 log.covers) &&
     list_all is_readable_step log.steps)

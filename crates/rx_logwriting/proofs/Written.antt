@@ -1,4 +1,4 @@
--- The text of a log is that of its parts, one behind the other.
+-- The text of a log is that of its parts, one after the other.
 use Rattle.std.proofs.Common.{◌≡◌, ◌∙◌, ap, sym, ℕ, List, [], ◌∷◌, ◌++◌, append_assoc}
 use Rattle.std.proofs.lemmas.Grind.{flat_map-append}
 use Rattle.std.proofs.lemmas.List.{map-append}

@@ -149,7 +149,7 @@ fn pairs_have_text(pairs: &[PairCert]) -> bool
     true
 }
 
-/// Whether each rank has so many columns.
+/// Whether each rank has n columns.
 fn are_as_wide(ranks: &[Items<Poly>], columns: u32) -> bool
     ensures { result ≡ list_all (λ (rank : List Body). length rank == columns) ranks.now }
 {

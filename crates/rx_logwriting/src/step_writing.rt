@@ -190,7 +190,7 @@ fn push_results(
     push_certs(certs, out)
 }
 
-/// Puts the text of the step behind what was written before.
+/// Writes the text of the step after what was written before.
 pub(crate) fn push_step(step: &Step, out: &mut Vec<u8>) -> Result<(), NoMemory>
     ensures { OnOk result (out.new.items ≡ out.old.items ++ step_text step.now) }
 {

@@ -39,7 +39,7 @@ fn push_symbol(kind: &[u8], symbol: usize, out: &mut Vec<u8>) -> Result<(), NoMe
     push_count(out, symbol)
 }
 
-/// The trees, each behind a space.
+/// The trees, each after a space.
 fn push_trees(trees: &[CoverTree], out: &mut Vec<u8>) -> Result<(), NoMemory>
     ensures { OnOk result (out.new.items ≡ out.old.items ++ each_spaced tree_text trees.now) }
 {
@@ -50,7 +50,7 @@ fn push_trees(trees: &[CoverTree], out: &mut Vec<u8>) -> Result<(), NoMemory>
     Ok(())
 }
 
-/// The polynomials, each behind a space.
+/// The polynomials, each after a space.
 fn push_columns(columns: &[Poly], out: &mut Vec<u8>) -> Result<(), NoMemory>
     ensures { OnOk result (out.new.items ≡ out.old.items ++ each_spaced poly_text columns.now) }
 {

@@ -256,7 +256,7 @@ closed_pass ws (row ∷ rows) h =
     ap (λ (f : Formed Settings). f >>= pass rows)
     (closed_row ws row (one_is (row_passes (is_set ws) row) one)) ∙ closed_pass ws rows rest
 
--- ---- so many passes
+-- ---- n passes
 
 module _ (rows : List Row) where
   -- a pass more changes nothing, where that many passes keep the limits

@@ -58,7 +58,7 @@ unchanging (suc n) rows ws h =
 
 -- ---- the passes one after the other
 
--- what is set so far, and then by so many passes, is the whole
+-- what is set so far, and then by n passes, is the whole
 pub record Passing (rows : List Row) (ws : List (ℕ × Body)) (left : ℕ)
     (whole : Formed (List (ℕ × Body))) : Type 0 where
   pub all : pass_times left rows ws ≡ whole

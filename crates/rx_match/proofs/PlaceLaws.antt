@@ -42,7 +42,7 @@ module _ (goal : Equation) (hypothesis : Rule) (side : Side) where
   by_part n (Some part) e h =
       depth_behind n (side_of side goal) part e ∙ ap (λ d. n + d) (one_depth part hypothesis.left h)
 
-  -- so many frames are over the part
+  -- n frames are over the part
   pub place_is : (n : ℕ) → is_place goal hypothesis side n ≡ true → depth_of (side_of side goal) ≡
       n + depth_of hypothesis.left
   place_is n h = by_part n (behind n (side_of side goal)) refl h

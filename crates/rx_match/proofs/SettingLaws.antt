@@ -15,7 +15,7 @@ module _ (x : ℕ) where
   place_for-le [] = omega arith
   place_for-le (w ∷ ws) = place_within (nat_le x w.0) (place_for x ws) (length ws) (place_for-le ws)
 
-  -- the polynomial is put at that place
+  -- the polynomial is written at that place
   put_at : (b : Bool) (p : Body) (w : ℕ × Body) (ws : List (ℕ × Body)) →
       insert ws (place_for x ws) (x, p) ≡ set_to x p ws
       → insert (w ∷ ws) (cond b 0 (suc (place_for x ws))) (x, p) ≡

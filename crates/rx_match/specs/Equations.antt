@@ -41,7 +41,7 @@ set_by_row ws (Ne p) = pure ws
 abbrev pub pass : List Row → List (ℕ × Body) → Formed (List (ℕ × Body))
 pass rows ws = fold_formed set_by_row ws rows
 
--- so many passes
+-- n passes
 abbrev pub pass_times : ℕ → List Row → List (ℕ × Body) → Formed (List (ℕ × Body))
 pass_times zero rows ws = pure ws
 pass_times (suc n) rows ws = do

@@ -59,14 +59,14 @@ use_at goal hypothesis part =
     then where_within (matching hypothesis part) (use_with goal hypothesis part)
     else fails
 
--- at the part behind so many frames of a side, if there is one
+-- at the part under n frames of a side, if there is one
 abbrev pub use_of : Equation → Rule → Side → ℕ → Tried (List (ℕ × Body))
 use_of goal hypothesis side place =
     option_map_or (use_at goal hypothesis) (behind place (side_of side goal)) fails
 
 -- ---- where
 
--- the part behind so many frames of the side has the shape of the hypothesis's left side
+-- the part under n frames of the side has the shape of the hypothesis's left side
 abbrev pub is_place : Equation → Rule → Side → ℕ → Bool
 is_place goal hypothesis side place =
     option_map_or (λ part. have_one_shape part hypothesis.left) (behind place (side_of side goal))

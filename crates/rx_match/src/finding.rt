@@ -122,7 +122,7 @@ fn use_at<S: FnMut(&Constraint) -> Result<Option<Cert>, FmEnd>>(
     use_with(alloc, goal, hypothesis, part, subst, solve)
 }
 
-/// The use of the hypothesis at the part of that side that is behind so many frames: with what its
+/// The use of the hypothesis at the part of that side that is under that many frames: with what its
 /// variables are replaced by, and certificates for the rows that the step asks. Its variables are
 /// set by the arguments of the part, and then by the equations among its rows, in as many passes as
 /// it has rows. The solver is asked in place of the refuter. Certificates are at most 174 deep.

@@ -58,7 +58,7 @@ one_part t s u (n, h) (m, g) same =
     let places : n ≡ m = omega (arith, d, e, same) in
     same_Some s u (sym h ∙ ap (λ k. behind k t) places ∙ g)
 
--- behind fewer frames stands what more frames lead to
+-- under fewer frames is what more frames lead to
 abbrev Behind : ℕ → Term → Type 0
 Behind n t =
     (m : ℕ) (s u : Term) → behind n t ≡ Some s → behind (n + m) t ≡ Some u → behind m s ≡ Some u
@@ -178,7 +178,7 @@ module _ (a b : Term) (f g : Sym) (ps qs : List Body) (h t start : Term)
         ∙ sym (one_part b t u second_under in_b (omega (arith, deep, not, level_under)))
   ]
 
-  -- behind two frames that are the same the start stays
+  -- after two frames that are the same the start stays
   pub behind_same : f ≡ g → ps ≡ qs → Walk a b h t start
   behind_same symbols arguments = record {
     level = level_under;
@@ -190,7 +190,7 @@ module _ (a b : Term) (f g : Sym) (ps qs : List Body) (h t start : Term)
     ends = ends_under;
   }
 
-  -- behind two that differ is a new one
+  -- after two that differ is a new one
   pub behind_different : ((f ≡ g) × (ps ≡ qs) → ⊥) → Walk a b h t t
   behind_different differ = record {
     level = level_under;

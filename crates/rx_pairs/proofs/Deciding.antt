@@ -1,4 +1,4 @@
--- Whether two stacks are one can be decided, and so whether one stands under another.
+-- Whether two stacks are one can be decided, and so whether one is under another.
 use Rattle.std.proofs.Common.{◌≡◌, ap, refl, arith, ◌⊎◌, inl, inr}
 use Rattle.std.proofs.lemmas.Bool.{cases_order}
 use base.Stored.{Coded, Gv, gnil, gnum, gcons}

@@ -247,7 +247,7 @@ none_left w count end = ap (descent_from w.table.now count []) (drop_of_length-l
 
 -- ---- lists of pairs that are made
 
--- one more rule's pairs behind those so far
+-- one more rule's pairs after those so far
 pub push_rule : (rules before : List Rule) (i : ℕ) (rule : Rule) (pairs more after : List Pair) →
     i < length rules → rule ≡ get_or rules i rule
     → AreAllPairs (before ++ take i rules) pairs → ArePairs rule more → after ≡ pairs ++ more →

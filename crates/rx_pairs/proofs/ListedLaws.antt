@@ -151,7 +151,7 @@ same_itself = induct (λ t. is_same_term t t ≡ true)
     (and_from (f.0 == f.0) (same_arguments ps ps) (eq-eqb f.0 f.0 refl)
     ((arguments_same ps ps).1 refl)) inner)
 
--- ---- what stands under the left side
+-- ---- what is under the left side
 
 module _ (left t : Term) where
   abbrev is_here : Option Term → Bool

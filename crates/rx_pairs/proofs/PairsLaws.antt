@@ -129,7 +129,7 @@ module _ (left : Term) where
         | inr clear ↦ (part f ps ∷ inner.0, AtFrame f ps t inner.0 clear inner.1)
       ])
 
--- ---- whether one stack stands under another can be decided
+-- ---- whether one stack is under another can be decided
 
 abbrev Ends : Term → Type 0
 Ends u = (k : ℕ) → behind (suc k) u ≡ None

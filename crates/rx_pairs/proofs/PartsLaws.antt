@@ -32,14 +32,14 @@ frame_root t f ps qs inner is same =
 
 -- ---- parts under a frame
 
--- what stands under a frame is a part of what the frame is over
+-- what is under a frame is a part of what the frame is over
 pub under_inner : (f : Sym) (ps : List Body) (t u : Term) → IsUnder (Frame f ps t) u → IsPart t u
 under_inner f ps t u (k, is) = (k, sym (behind-Frame k f ps t) ∙ is)
 
 pub inner_under : (f : Sym) (ps : List Body) (t u : Term) → IsPart t u → IsUnder (Frame f ps t) u
 inner_under f ps t u (k, is) = (k, behind-Frame k f ps t ∙ is)
 
--- so the largest common part with that is the largest that stands under the frame
+-- so the largest common part with that is the largest that is under the frame
 kept_inner : (f : Sym) (ps : List Body) (t right : Term) (found : Option Term) →
     IsCommon t right found → IsKept (Frame f ps t) right found
 kept_inner f ps t right None none = λ u under in_right. none u (under_inner f ps t u under) in_right
@@ -115,7 +115,7 @@ passed done rest here count term before none =
 -- ---- down to what is kept
 
 module _ (left : Term) where
-  -- no part of it that is deeper stands under the left side
+  -- no part of it that is deeper is under the left side
   abbrev Clear : Term → Term → Type 0
   Clear t s = (u : Term) → IsPart t u → depth_of s < depth_of u → IsUnder left u → ⊥
 

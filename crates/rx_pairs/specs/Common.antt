@@ -3,7 +3,7 @@ use Rattle.std.specs.Prelude.{◌≡◌, ◌≤◌, ℕ, Option, Some, None}
 use Rattle.rx_term.specs.Stacks.{behind, depth_of}
 use Rattle.rx_term.specs.declared.term.Term.{Term}
 
--- the term is the whole, or stands under some of its frames
+-- the term is the whole, or is under some of its frames
 abbrev pub IsPart : Term → Term → Type 0
 IsPart whole t = (k : ℕ) × (behind k whole ≡ Some t)
 

@@ -1,4 +1,4 @@
--- What the answers to calls tell of the descent.
+-- What the answers to calls say of the descent.
 use Rattle.std.specs.Prelude.{◌≡◌, ℕ, drop, List, Result, Ok, Err}
 use Rattle.rx_pairs.specs.Lowering.{Descends, Descent, NotLower, PassesLimits, descent_from}
 use Rattle.rx_pairs.specs.declared.descending.Witness.{Witness}
@@ -24,7 +24,7 @@ abbrev pub Leaves : {A : Type 0} → (A → Descent) → Descent → Result A Pa
 Leaves rest d (Ok n) = d ≡ rest n
 Leaves rest d (Err e) = Refuses d e
 
--- the descent from so many pairs on
+-- the descent from n pairs on
 abbrev pub from_pair : RankTable → List PairCert → List Pair → ℕ → Descent
 from_pair table certs pairs n = descent_from table n pairs (drop n certs)
 

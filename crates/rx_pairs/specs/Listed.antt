@@ -26,7 +26,7 @@ same_level _ _ = false
 abbrev pub is_same_term : Term → Term → Bool
 is_same_term = fold-Term (Term → Bool) (λ level other. same_level level (out-Term other))
 
--- the term is what stands under at most so many frames of the left side, and under one at least
+-- the term is what is under at most n frames of the left side, and under one at least
 abbrev pub is_under_most : ℕ → Term → Term → Bool
 is_under_most zero left t = false
 is_under_most (suc n) left t =
@@ -48,7 +48,7 @@ abbrev pub root_part_of : Term → Option Part
 root_part_of t = root_part_level (out-Term t)
 
 -- the frames and the call, from outer to inner, down to the first part that is also under the left
--- side; so many at most
+-- side; n at most
 abbrev pub parts_level : Term-F Term → (Term → List Part) → List Part
 parts_level (Term-F.Return p) inner_parts = []
 parts_level (Term-F.Fail c) inner_parts = []

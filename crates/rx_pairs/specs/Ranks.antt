@@ -23,7 +23,7 @@ columns_of table f = unwrap_or (slice_get table.ranks f) []
 abbrev pub rank_of : RankTable → ℕ → List ℤ → Rank
 rank_of table f xs = map (λ p. column (value (assigned xs) p)) (columns_of table f)
 
--- the rank has the table's width, and is over the first so many variables
+-- the rank has the table's width, and is over the first n variables
 abbrev pub is_rank : ℕ → ℕ → List Body → Bool
 is_rank width arity rank = length rank == width && list_all (uses_below arity) rank
 

@@ -7,8 +7,7 @@ ghost use Rattle.rx_term.specs.Stacks.{depth_of};
 use rx_poly::Poly;
 use rx_term::{Sym, Term};
 
-/// What stands behind as many frames of `term` as `other` has; its innermost part where it has
-/// fewer.
+/// What is under as many frames of `term` as `other` has; its innermost part where it has fewer.
 pub(crate) fn beyond<'a>(term: &'a Term, other: &Term) -> &'a Term
     ensures part { IsPart term.now result.now }
     ensures depth { depth_of result.now ≡ depth_of term.now - depth_of other.now }
@@ -49,7 +48,7 @@ fn is_same_part(f: Sym, args: &[Poly], g: Sym, others: &[Poly]) -> bool
 }
 
 /// The largest part of both, for two stacks of one depth. Both are walked together; the part begins
-/// behind the last frame at which they differ.
+/// under the last frame at which they differ.
 fn common_at_depth<'a>(left: &Term, right: &'a Term) -> Option<&'a Term>
     requires { depth_of left.now ≡ depth_of right.now }
     ensures { IsCommon left.now right.now (option_copied result) }

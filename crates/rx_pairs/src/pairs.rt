@@ -12,7 +12,7 @@ use rx_poly::Poly;
 use rx_term::Rule;
 use std::alloc::Global;
 
-/// The same polynomials once more; fails only for want of memory.
+/// The same polynomials once more.
 fn copied(alloc: Global, arguments: &[Poly]) -> Result<Items<Poly>, NoMemory>
     ensures { IfOk result (λ made. made ≡ arguments.now) }
 {
@@ -87,7 +87,7 @@ pub fn have_roots(rules: &[Rule]) -> bool
     true
 }
 
-/// Puts the pairs of the rules behind the others.
+/// Adds the pairs of the rules after the others.
 fn push_pairs(pairs: &mut Vec<Pair>, alloc: Global, rules: &[Rule]) -> Result<(), NoMemory>
     requires { All HasRoot rules.now }
     ensures { OnOk result ((before : List Rule) →

@@ -13,7 +13,7 @@ use rx_poly::Poly;
 use rx_term::{Sym, Term};
 use std::alloc::Global;
 
-/// A symbol with its arguments, lent.
+/// A symbol with its arguments, borrowed.
 #[derive(Clone, Copy)]
 pub(crate) struct Application<'a> {
     /// The symbol of a frame or a call.
@@ -63,7 +63,7 @@ fn outer_frames<'a>(
     Ok(parts)
 }
 
-/// The largest part of `right` that stands under a frame of `left`, if there is one.
+/// The largest part of `right` that is under a frame of `left`, if there is one.
 fn kept_part<'a>(left: &Term, right: &'a Term) -> Option<&'a Term>
     ensures { IsKept left.now right.now (option_copied result) }
 {

@@ -1,4 +1,4 @@
--- What is formed within limits, the order of the graded list, and how the containers stand in a
+-- What is formed within limits, the order of the graded list, and how the containers occur in a
 -- type that holds itself.
 pub mod Formed
 pub mod Graded

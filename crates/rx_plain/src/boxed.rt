@@ -20,7 +20,7 @@ impl<T> Model for Boxed<T> {
 }
 
 impl<T> Boxed<T> {
-    /// The value in the box, lent.
+    /// The value in the box, borrowed.
     pub fn get(&self) -> &T
         ensures { result.now ≡ self.now }
     {
@@ -35,7 +35,7 @@ impl<T> Boxed<T> {
         Box::into_inner(inner)
     }
 
-    /// Puts `value` into the box and gives back what stood there. Takes no memory.
+    /// Stores `value` in the box and gives back what was there. Takes no memory.
     pub fn replace(&mut self, value: T) -> T
         ensures old { result ≡ self.old }
         ensures new { self.new ≡ value }
@@ -45,7 +45,7 @@ impl<T> Boxed<T> {
 }
 
 impl<T: Drop> Boxed<T> {
-    /// A box with `value` in it; fails only for want of memory.
+    /// A box with `value` in it; fails only when out of memory.
     pub fn new(alloc: Global, value: T) -> Result<Boxed<T>, AllocError>
         ensures { IfOk result (λ b. b ≡ value) }
     {

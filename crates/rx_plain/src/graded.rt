@@ -67,7 +67,7 @@ impl<T> Graded<T> {
         items
     }
 
-    /// The elements, lent.
+    /// The elements, borrowed.
     pub fn as_slice(&self) -> &[T]
         ensures { result.now ≡ self.now }
     {
@@ -98,7 +98,7 @@ impl<T> Graded<T> {
 }
 
 impl<T: Drop> Graded<T> {
-    /// Adds `item` behind the last element; where there is no memory the list stays as it was and
+    /// Adds `item` after the last element; where there is no memory the list stays as it was and
     /// `item` is let go.
     pub fn push(&mut self, item: T) -> Result<(), AllocError>
         ensures ok { OnOk result (self.new ≡ self.old ++ item ∷ []) }
@@ -108,7 +108,7 @@ impl<T: Drop> Graded<T> {
         Ok(())
     }
 
-    /// Puts `item` before the element at `at`; where there is no memory the list stays as it was
+    /// Inserts `item` before the element at `at`; where there is no memory the list stays as it was
     /// and `item` is let go.
     pub fn insert(&mut self, at: usize, item: T) -> Result<(), AllocError>
         requires { at ≤ length self.old }

@@ -66,7 +66,7 @@ impl<T> Items<T> {
         items
     }
 
-    /// The elements, lent.
+    /// The elements, borrowed.
     pub fn as_slice(&self) -> &[T]
         ensures { result.now ≡ self.now }
     {
@@ -118,7 +118,7 @@ impl<T: Drop> Items<T> {
 }
 
 impl<T: Copy> Items<T> {
-    /// A list of the elements of `items`, copied; fails only for want of memory.
+    /// A list of the elements of `items`, copied; fails only when out of memory.
     pub fn from_slice(alloc: Global, items: &[T]) -> Result<Items<T>, AllocError>
         ensures { IfOk result (λ it. it ≡ items.now) }
     {
@@ -128,7 +128,7 @@ impl<T: Copy> Items<T> {
 }
 
 impl<T: Drop> Items<T> {
-    /// Adds `item` behind the last element; where there is no memory the list stays as it was and
+    /// Adds `item` after the last element; where there is no memory the list stays as it was and
     /// `item` is let go.
     pub fn push(&mut self, item: T) -> Result<(), AllocError>
         ensures ok { OnOk result (self.new ≡ self.old ++ item ∷ []) }

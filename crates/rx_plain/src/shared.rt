@@ -7,7 +7,7 @@ use std::hash::{Hash, Hasher};
 use std::marker::Model;
 use std::rc::Rc;
 
-/// One value on the heap that several owners may have. It never changes; a further owner takes no
+/// One value on the heap that several owners may have. It never changes; another owner takes no
 /// memory, and the last one lets the value go.
 #[derive(Debug, Drop)]
 pub struct Shared<T> {
@@ -23,7 +23,7 @@ impl<T> Model for Shared<T> {
 }
 
 impl<T> Shared<T> {
-    /// The value, lent.
+    /// The value, borrowed.
     pub fn get(&self) -> &T
         ensures { result.now ≡ self.now }
     {
@@ -45,7 +45,7 @@ impl<T> Shared<T> {
 }
 
 impl<T: Drop> Shared<T> {
-    /// The value with its first owner; fails only for want of memory.
+    /// The value with its first owner; fails only when out of memory.
     pub fn new(alloc: Global, value: T) -> Result<Shared<T>, AllocError>
         ensures { IfOk result (λ s. s ≡ value) }
     {

@@ -1,4 +1,4 @@
--- Sorted and listed, told from each element and the next.
+-- Sorted and listed, known from each element and the next.
 use Rattle.std.proofs.Common.{◌≡◌, ◌∙◌, ap, Bool, true, false, not, ◌&&◌, refl, sym, List, [], ◌∷◌, ℤ}
 use Rattle.std.proofs.lemmas.Bool.{and_parts, and_from}
 use Rattle.std.specs.List.{list_all}

@@ -1,4 +1,5 @@
--- A variable alone, replaced, is what is put in its place, and nothing on the way passes the limits.
+-- A variable alone, replaced, is what is substituted for it, and nothing on the way passes the
+-- limits.
 use Rattle.std.proofs.Common.{◌≡◌, ◌∙◌, ap, ℕ, true, ◌&&◌, refl, sym, List, [], ◌∷◌, map, ℤ, pos}
 use Rattle.std.proofs.lemmas.Bool.{and_parts, and_from}
 use Rattle.rx_plain.proofs.Integers.{one-mul-int}
@@ -97,7 +98,7 @@ module _ (ws : List (ℕ × Body)) (n : ℕ) (h : is_poly (replaced ws n) ≡ tr
       })
       ∙ zero_sum (replaced ws n) h
 
--- the same of a polynomial that is told to be the variable, and of what is told to replace it
+-- the same of a polynomial that is known to be the variable, and of what is known to replace it
 pub replaced_alone : (ws : List (ℕ × Body)) (n : ℕ) (p : Body) {q : Body} → p ≡ variable n → q ≡
     replaced ws n → is_poly q ≡ true → in_body ws p ≡ well q
 replaced_alone ws n p e r h =

@@ -1,4 +1,5 @@
--- One variable and one number, as polynomials: normal, within the limits, and worth what they say.
+-- One variable and one number, as polynomials: normal, within the limits, and with the value that
+-- they say.
 use Rattle.std.proofs.Common.{◌≡◌, ◌∙◌, ap, ℕ, ◌+◌, max, Bool, true, false, not, ◌&&◌, nat_le, sum_by, refl, sym, [], ◌∷◌, ℤ, pos, negsuc, ◌*ℤ◌, arith}
 use Rattle.std.proofs.lemmas.Bool.{and_parts, and_from}
 use Rattle.std.proofs.lemmas.Int.{to_z-of_z}
@@ -68,7 +69,7 @@ variable_poly n = poly_of_terms ((alone n, pos 1) ∷ []) (record {
     nat_le (depth-of_terms ((alone n, pos 1) ∷ []) i) 64)
     ∙ (λ i. nat_le (0 + alone_size n i) 4096 && nat_le (max (alone_depth n i) 0) 64))
 
--- and worth what the variable is given
+-- and with the value that the variable is given
 pub value-variable : (a : ℕ → ℤ) (n : ℕ) → value a (variable n) ≡ a n
 value-variable a n =
     value-of_terms a ((alone n, pos 1) ∷ [])
@@ -93,7 +94,7 @@ alone_normal x h = normal_of_terms ((of_atoms (x ∷ []), pos 1) ∷ []) (record
   listed = refl;
 })
 
--- and worth what the atom is
+-- and with the value of the atom
 pub value-alone : (a : ℕ → ℤ) (x : Atom) → value a (atom_alone x) ≡ atom_value a x
 value-alone a x =
     value-of_terms a ((of_atoms (x ∷ []), pos 1) ∷ [])
@@ -155,7 +156,7 @@ number_within k = by (is_zero k) refl
         nat_le (max (one_depth i) 0) 64))
         ∙ and_true (fits_i128 k)
 
--- and worth itself
+-- and with itself as value
 pub value-number : (a : ℕ → ℤ) (k : ℤ) → value a (number k) ≡ k
 value-number a k = by (is_zero k) refl
   where

@@ -1,4 +1,4 @@
--- What a walk along a list, from the front, tells of the greatest depth in it.
+-- What a walk along a list, from the front, says of the greatest depth in it.
 use Rattle.std.proofs.Common.{◌≡◌, ◌∙◌, ap, ℕ, suc, ◌<◌, ◌≤◌, max, nat_le, true, false, sym, List, length, drop, get_or, drop_of_length-le, arith}
 use Rattle.std.proofs.Math.Seq.{drop-cons}
 use Rattle.std.proofs.lemmas.Bool.Decides.{nat_tests}

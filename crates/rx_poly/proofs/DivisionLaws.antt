@@ -1,4 +1,4 @@
--- Quotients and remainders of polynomials: which case they are, what they are worth, and when the
+-- Quotients and remainders of polynomials: which case they are, what value they have, and when the
 -- atom is normal.
 use Rattle.std.proofs.Common.{◌≡◌, ◌∙◌, ap, ℕ, Bool, true, false, not, ◌&&◌, Option, Some, None, refl, sym, List, [], ◌∷◌, cond, ℤ, pos, ◌*ℤ◌, int_div, int_rem}
 use Rattle.std.proofs.lemmas.Bool.{and_parts, and_from, and_right}
@@ -40,7 +40,7 @@ by_number_test : (t : Mono × ℤ) (ts : List (Mono × ℤ)) (k : ℤ) (a : ℕ 
 by_number_test t ts k a true h e = one_term t ts k a h (some_same t.1 k e)
 by_number_test t ts k a false h e = cc
 
--- a sum that is a number is worth it
+-- a sum that is a number has it as value
 number_worth : (a : ℕ → ℤ) (ts : List (Mono × ℤ)) (k : ℤ) → constant_of ts ≡ Some k →
     sum_terms (mono_value a) ts ≡ k
 number_worth a [] k e = some_same (pos 0) k e
@@ -50,7 +50,7 @@ pub constant_worth : (a : ℕ → ℤ) (p : Body) (k : ℤ) → constant_of (out
     value a p ≡ k
 constant_worth a p k e = value_is a p ∙ number_worth a (out-Body p).terms k e
 
--- a sum that is no number has a term, and isn't told to be one
+-- a sum that is no number has a term, and isn't found to be one
 no_number_test : (ts : List (Mono × ℤ)) → constant_of ts ≡ None → (is_empty ts ≡ false) ×
     (is_number ts ≡ false)
 no_number_test [] e = cc
@@ -167,14 +167,14 @@ module _ (a : ℕ → ℤ) (f : ℤ → ℤ → ℤ) (p q whole : Body)
   by_parts m None g k = open_is
   by_parts m (Some z) g k = by_zero m z (is_zero z) refl g k
 
--- a quotient is worth the quotient
+-- a quotient has the quotient as value
 pub value-quotient_of : (a : ℕ → ℤ) (p q : Body) → value a (quotient_of p q) ≡
     quotient (value a p) (value a q)
 value-quotient_of a p q =
     by_parts a int_div p q (atom_alone (Div p q)) (value-alone a (Div p q) ∙ value-Div a p q)
     (constant_of (out-Body p).terms) (constant_of (out-Body q).terms) refl refl
 
--- a remainder is worth the remainder
+-- a remainder has the remainder as value
 pub value-remainder_of : (a : ℕ → ℤ) (p q : Body) → value a (remainder_of p q) ≡
     remainder (value a p) (value a q)
 value-remainder_of a p q =

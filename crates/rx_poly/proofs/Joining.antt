@@ -1,5 +1,5 @@
--- Two sorted lists of atoms that are being joined from the front: what stands already, and what the
--- rest still adds.
+-- Two sorted lists of atoms that are being joined from the front: what is there already, and what
+-- the rest still adds.
 use Rattle.std.proofs.Common.{◌≡◌, ◌∙◌, ap, subst, true, false, refl, sym, List, [], ◌∷◌, ◌++◌, length, append_assoc}
 use Rattle.std.specs.Ordering.{is_gt}
 use Rattle.rx_poly.specs.Normal.{is_sorted}
@@ -10,7 +10,7 @@ use Rattle.rx_poly.proofs.OrderLemmas.{atom_total}
 use Rattle.rx_poly.proofs.SortedLaws.{sorted_parts, join-left, join-right, before_all, not_behind_all}
 use Rattle.rx_poly.specs.declared.body.Atom.{Atom}
 
--- what of the whole stands in `joined`, and what the two lists still add to it
+-- what of the whole is in `joined`, and what the two lists still add to it
 pub record Joining (joined xs ys whole : List Atom) : Type 0 where
   pub xs_sorted : is_sorted atom_cmp xs ≡ true
   pub ys_sorted : is_sorted atom_cmp ys ≡ true

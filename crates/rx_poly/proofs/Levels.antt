@@ -35,20 +35,20 @@ product_mapped : {X Y : Type 0} (f : X → ℤ) (g : Y → X) (xs : List Y) → 
 product_mapped f g [] = refl
 product_mapped f g (x ∷ xs) = ap (λ s. f (g x) *ℤ s) (product_mapped f g xs)
 
--- a sum is worth what its terms are worth together
+-- a sum has the value of its terms together
 pub value_is : (a : ℕ → ℤ) (b : Body) → value a b ≡ sum_terms (mono_value a) (out-Body b).terms
 value_is a b =
     fold_out-Body ℤ ℤ ℤ (atom_level a) body_level mono_level b ∙
     sum_mapped (λ z. z) (mono_value a) (out-Body b).terms
 
--- a monomial is worth the product of its atoms
+-- a monomial has as value the product of its atoms
 pub mono_value_is : (a : ℕ → ℤ) (m : Mono) → mono_value a m ≡
     product_of (atom_value a) (out-Mono m).atoms
 mono_value_is a m =
     fold_out-Mono ℤ ℤ ℤ (atom_level a) body_level mono_level m ∙
     product_mapped (λ z. z) (atom_value a) (out-Mono m).atoms
 
--- a variable is worth what it is given
+-- a variable has the value that it is given
 pub var_value : (a : ℕ → ℤ) (n : ℕ) → atom_value a (Var n) ≡ a n
 unfolding out-Atom denote.Hole.Carrier.out
 var_value a n = fold_out-Atom ℤ ℤ ℤ (atom_level a) body_level mono_level (Var n)

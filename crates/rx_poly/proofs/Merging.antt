@@ -1,4 +1,5 @@
--- Two sums that are being merged from the front: what stands already, and what the rest still adds.
+-- Two sums that are being merged from the front: what is there already, and what the rest still
+-- adds.
 use Rattle.std.proofs.Common.{◌≡◌, ◌∙◌, ap, subst, Bool, true, false, ◌&&◌, refl, sym, List, [], ◌∷◌, ◌++◌, ℤ, ◌+ℤ◌, pos, negsuc, zero, suc, length, append_assoc, arith}
 use Rattle.std.proofs.lemmas.Int.{ints}
 use Rattle.std.proofs.lemmas.Bool.{and_parts, and_from, and_left, and_right}
@@ -16,7 +17,7 @@ use Rattle.rx_poly.specs.declared.body.Mono.{Mono}
 use Rattle.rx_poly.specs.declared.sign.Sign.{Sign}
 use Rattle.rx_poly.specs.declared.sign.Sign.TheVariants.{Plus, Minus}
 
--- a sum in which a first term stands apart
+-- a sum in which a first term is apart
 pub record First (t : Mono × ℤ) (ts : List (Mono × ℤ)) : Type 0 where
   pub listed : Listed mono_cmp mono_total same_mono t ts
   pub fits : fits_i128 t.1 ≡ true
@@ -33,7 +34,7 @@ first_of t ts h =
       rest = and_from (is_listed mono_cmp ts) (all_fit ts) l.rest f.1;
     }
 
--- what of the whole stands in `sum`, and what `left` and `right` still add to it
+-- what of the whole is in `sum`, and what `left` and `right` still add to it
 pub record Merging (sum left right whole : List (Mono × ℤ)) : Type 0 where
   pub left_sum : is_sum left ≡ true
   pub right_listed : is_listed mono_cmp right ≡ true

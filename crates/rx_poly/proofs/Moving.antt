@@ -1,5 +1,5 @@
--- Two sums whose terms are being moved into their sum: what stands already, and what both still add
--- to it.
+-- Two sums whose terms are being moved into their sum: what is there already, and what both still
+-- add to it.
 use Rattle.std.proofs.Common.{◌≡◌, ◌∙◌, subst, true, false, refl, sym, Option, Some, None, List, [], ◌∷◌, ◌++◌, ℤ, ◌+ℤ◌}
 use Rattle.std.proofs.lemmas.Bool.{and_parts}
 use Rattle.std.specs.Vec.Iter.{into_iter_items, into_iter_steps}
@@ -17,7 +17,7 @@ pub step : {X Z : Type 0} (s : IntoIter X Z) (r : Option X) (t : IntoIter X Z) �
 step s None t h = sym (no_length (into_iter_items s) (sym s.rest.ok.0 ∙ h.0))
 step s (Some x) t h = sym h.0
 
--- what of the whole stands in `sum`, and what `left` and `right` still add to it
+-- what of the whole is in `sum`, and what `left` and `right` still add to it
 pub record Moving (sum left right whole : List (Mono × ℤ)) : Type 0 where
   pub merging : Merging sum left right whole
   pub fits : all_fit right ≡ true

@@ -1,4 +1,4 @@
--- A term's worth, by its parts.
+-- A term's value, by its parts.
 use Rattle.std.proofs.Common.{◌≡◌, ◌∙◌, ap, refl, sym, ℕ, ℤ, negsuc, ◌+ℤ◌, ◌*ℤ◌, neg_ℤ, arith}
 use Rattle.std.proofs.lemmas.Int.{ints}
 use Rattle.rx_poly.specs.Norm.{term_level, term_value}
@@ -26,7 +26,7 @@ pub term_value-Mod : (a : ℕ → ℤ) (l r : ITerm) → term_value a (Mod l r) 
     remainder (term_value a l) (term_value a r)
 term_value-Mod a l r = fold_out-ITerm ℤ (term_level a) (Mod l r) ∙ rw (outs-Mod l r) refl
 
--- what is worth -1 times the part is worth its turned sign
+-- what has -1 times the value of the part has the value of its negation
 pub turned_value : {t : ITerm} (term : ITerm) {inner : ITerm} (p : Body) → inner ≡ t →
     ((a : ℕ → ℤ) → value a p ≡ term_value a inner) → term ≡ Neg t → (b : Body) →
     ((a : ℕ → ℤ) → value a b ≡ negsuc 0 *ℤ value a p) → (a : ℕ → ℤ) → value a b ≡ term_value a term
@@ -38,7 +38,7 @@ turned_value {t} term {inner} p is p_is e b h a =
 module _ {l r : ITerm} (term : ITerm) {left right : ITerm} (p q : Body) (left_is : left ≡ l)
     (right_is : right ≡ r) (p_is : (a : ℕ → ℤ) → value a p ≡ term_value a left)
     (q_is : (a : ℕ → ℤ) → value a q ≡ term_value a right) where
-  -- what is worth the sum of both parts is worth their sum
+  -- what has the sum of the values of both parts has the value of their sum
   pub sum_value : term ≡ Add l r → (b : Body) → ((a : ℕ → ℤ) → value a b ≡ value a p +ℤ value a q) →
       (a : ℕ → ℤ) → value a b ≡ term_value a term
   sum_value is b e a =

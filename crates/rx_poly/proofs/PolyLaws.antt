@@ -23,7 +23,7 @@ use Rattle.rx_poly.proofs.TermLaws.{sum-add, sum-put, listed-add, listed-put, li
 use Rattle.rx_poly.specs.declared.body.Mono.{Mono}
 use Rattle.rx_poly.specs.declared.body.Body.{Body, out-Body}
 
--- a turned sign of one factor turns that of the product
+-- a reversed sign of one factor reverses that of the product
 neg-mul-int : (c x : ℤ) → neg_ℤ c *ℤ x ≡ neg_ℤ (c *ℤ x)
 neg-mul-int c x = same_in (neg_ℤ c *ℤ x) (neg_ℤ (c *ℤ x)) (omega (
   arith,
@@ -124,7 +124,7 @@ pub combined_plus : (p q : Body) → combined Plus p q ≡ added p q
 combined_plus p q =
     ap (λ us. of_terms (add_terms mono_cmp (out-Body p).terms us)) (with_plus (out-Body q).terms)
 
--- a sum with a sign is worth the number with that sign
+-- a sum with a sign has as value the number with that sign
 sum-with_sign : (f : Mono → ℤ) (s : Sign) (us : List (Mono × ℤ)) → sum_terms f (with_sign s us) ≡
     signed s (sum_terms f us)
 sum-with_sign f Plus us = ap (sum_terms f) (with_plus us)
@@ -134,7 +134,7 @@ sum-with_sign f Minus (u ∷ us) =
     let one : neg_ℤ u.1 *ℤ f u.0 ≡ neg_ℤ (u.1 *ℤ f u.0) = neg-mul-int u.1 (f u.0) in
     omega (arith, ints)
 
--- both combined are worth the numbers combined
+-- both combined have as value the numbers combined
 pub value-combined : (a : ℕ → ℤ) (s : Sign) (p q : Body) → value a (combined s p q) ≡
     value a p +ℤ signed s (value a q)
 value-combined a s p q =

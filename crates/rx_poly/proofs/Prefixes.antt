@@ -1,5 +1,5 @@
 -- Beginnings of sorted atoms and of listed terms: sorted, listed and small as the whole is, and
--- what is put behind them.
+-- what is added after them.
 use Rattle.std.proofs.Common.{◌≡◌, ◌∙◌, ap, ℕ, ◌+◌, ◌≤◌, max, Bool, true, refl, sym, List, [], ◌∷◌, ◌++◌, ℤ, arith}
 use Rattle.std.specs.Prelude.{nat_le, sum_by}
 use Rattle.std.specs.List.{list_all}
@@ -66,7 +66,7 @@ atoms-prefix xs ys s =
           omega (arith, depth, s.depth);
     }
 
--- an atom that comes behind all others is joined to them at the end
+-- an atom that comes after all others is joined to them at the end
 pub join-last : (xs : List Atom) (y : Atom) → is_sorted atom_cmp (xs ++ y ∷ []) ≡ true →
     join_sorted atom_cmp xs (y ∷ []) ≡ xs ++ y ∷ []
 join-last [] y h = refl
@@ -128,7 +128,7 @@ terms-prefix ts us s =
       depth = omega (arith, depth, s.depth);
     }
 
--- a term that comes behind all others is added to them at the end
+-- a term that comes after all others is added to them at the end
 pub add-last : (ts : List (Mono × ℤ)) (u : Mono × ℤ) → is_listed mono_cmp (ts ++ u ∷ []) ≡ true →
     add_terms mono_cmp ts (u ∷ []) ≡ ts ++ u ∷ []
 add-last [] u h = refl

@@ -1,4 +1,4 @@
--- Laws of products of monomials and sums: their order, their worth, and that they stay normal.
+-- Laws of products of monomials and sums: their order, their value, and that they stay normal.
 use Rattle.std.proofs.Common.{◌≡◌, ◌∙◌, ap, subst, ℕ, zero, suc, true, false, ◌&&◌, refl, sym, List, [], ◌∷◌, ℤ, pos, negsuc, ◌+ℤ◌, ◌*ℤ◌, arith}
 use Rattle.std.proofs.lemmas.Int.{ints}
 use Rattle.std.proofs.lemmas.Bool.{and_parts, and_from}
@@ -25,7 +25,7 @@ use Rattle.rx_poly.specs.declared.body.Body.{Body, out-Body}
 
 -- ---- two monomials
 
--- a product is worth the product
+-- a product has the product as value
 pub value-mono_times : (a : ℕ → ℤ) (m n : Mono) → mono_value a (mono_times m n) ≡
     mono_value a m *ℤ mono_value a n
 value-mono_times a m n =
@@ -128,7 +128,7 @@ cross_factors c d x y =
     (sym (mul-assoc-int d x y) ∙ ap (λ n. n *ℤ y) (*ℤ_comm d x) ∙ mul-assoc-int x d y) ∙
     sym (mul-assoc-int c x (d *ℤ y))
 
--- one term times a sum is worth the product
+-- one term times a sum has the product as value
 pub sum-scaled : (a : ℕ → ℤ) (t : Mono × ℤ) (us : List (Mono × ℤ)) →
     sum_terms (mono_value a) (scaled t us) ≡ (t.1 *ℤ mono_value a t.0) *ℤ sum_terms (mono_value a)
     us
@@ -170,7 +170,7 @@ sum-running a sum (t ∷ ts) us =
     ∙ +ℤ_assoc (f sum) ((t.1 *ℤ mono_value a t.0) *ℤ f us) (f ts *ℤ f us)
     ∙ ap (λ n. f sum +ℤ n) (sym (add-mul-int (t.1 *ℤ mono_value a t.0) (f ts) (f us)))
 
--- the product of two polynomials is worth the product
+-- the product of two polynomials has the product as value
 pub value-multiplied : (a : ℕ → ℤ) (p q : Body) → value a (multiplied p q) ≡ value a p *ℤ value a q
 value-multiplied a p q =
     value-of_terms a (running [] (out-Body p).terms (out-Body q).terms)

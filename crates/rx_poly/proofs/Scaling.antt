@@ -10,7 +10,7 @@ use Rattle.rx_poly.specs.Products.{mono_times, scaled}
 use Rattle.rx_poly.specs.Terms.{all_keys}
 use Rattle.rx_poly.specs.declared.body.Mono.{Mono}
 
--- the products that stand already, and the terms that are left
+-- the products that are there already, and the terms that are left
 pub record Scaling (t : Mono × ℤ) (done rest whole : List (Mono × ℤ)) : Type 0 where
   pub keys : all_keys is_normal_mono rest ≡ true
   pub made : done ++ scaled t rest ≡ whole
@@ -35,7 +35,7 @@ module _ {t : Mono × ℤ} {done whole : List (Mono × ℤ)} (us : List (Mono ×
   apart : (done ++ product t u ∷ []) ++ scaled t (drop (suc i) us) ≡ whole
   apart = append_assoc done (product t u ∷ []) (scaled t (drop (suc i) us)) ∙ opened.made
 
-  -- its product stands behind the others
+  -- its product comes after the others
   pub after_product : {next : List (Mono × ℤ)} → next ≡ done ++ product t u ∷ [] →
       fits_i128 (t.1 *ℤ u.1) ≡ true → Scaling t next (drop (i + 1) us) whole
   after_product e f =

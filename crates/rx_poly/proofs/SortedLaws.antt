@@ -1,5 +1,5 @@
--- Laws of sorted lists: what is put in or joined, that it stays sorted, that it compares alike, and
--- how two are joined from the front.
+-- Laws of sorted lists: what is inserted or joined, that it stays sorted, that it compares alike,
+-- and how two are joined from the front.
 use Rattle.std.proofs.Common.{◌≡◌, ◌∙◌, ap, Bool, true, false, cond, refl, sym, List, [], ◌∷◌, length, ℕ, suc, ℤ, ◌*ℤ◌, nat_lt, ◌==◌, arith}
 use Rattle.std.proofs.lemmas.Bool.Decides.{nat_tests}
 use Rattle.std.proofs.lemmas.Bool.{and_parts, and_from}
@@ -52,7 +52,7 @@ module _ {A : Type 0} (R : A → A → Ordering) where
   by_insert P x y ys f g true e = f e
   by_insert P x y ys f g false e = g e
 
-  -- an element goes behind the first, or in front of it
+  -- an element goes after the first, or in front of it
   insert_cases : (P : List A → Type 0) (x y : A) (ys : List A) →
       (is_gt (R x y) ≡ true → P (y ∷ insert_sorted R x ys)) →
       (is_gt (R x y) ≡ false → P (x ∷ (y ∷ ys))) → P (insert_sorted R x (y ∷ ys))
@@ -133,7 +133,8 @@ module _ {A : Type 0} (R : A → A → Ordering) where
     sorted-join [] ys h = h
     sorted-join (x ∷ xs) ys h = sorted-insert x (join_sorted R xs ys) (sorted-join xs ys h)
 
-    -- ---- an element that is put into both of two lists as long doesn't change how they compare
+    -- ---- an element that is inserted into both of two lists as long doesn't change how they
+    -- compare
 
     first_less : (r s : Ordering) → r ≡ Less → ordering_then r s ≡ Less
     first_less r s e = ap (λ q. ordering_then q s) e
@@ -149,7 +150,7 @@ module _ {A : Type 0} (R : A → A → Ordering) where
         own Equal e = refl
         own Greater e = cc
 
-    -- y comes before x, and x not behind z: so y comes before z
+    -- y comes before x, and x not after z: so y comes before z
     below : (x y z : A) → is_gt (R x y) ≡ true → is_gt (R x z) ≡ false → R y z ≡ Less
     below x y z h g = by (R x z) refl g
       where
@@ -225,7 +226,7 @@ module _ {A : Type 0} (R : A → A → Ordering) where
         ap (λ b. cond b (y ∷ insert_sorted R x ys) (x ∷ (y ∷ ys)))
         (le_not_gt (R x y) (and_parts (is_le (R x y)) (list_all (λ z. is_le (R x z)) ys) h).0)
 
-    -- a first element of the left list that is not behind any other leads
+    -- a first element of the left list that is not after any other leads
     pub join-left : (x : A) (xs ys : List A) → Sorted x xs → list_all (λ y. is_le (R x y)) ys ≡
         true → join_sorted R (x ∷ xs) ys ≡ x ∷ join_sorted R xs ys
     join-left x xs ys s h =

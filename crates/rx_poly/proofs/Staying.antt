@@ -36,7 +36,7 @@ finished ws f xs i h s =
     (subst (λ ys. Staying ws f ys xs) (drop_of_length-le xs h) s).all
     (All-nil (λ v. replaced ws v ≡ variable v))
 
--- what a test that passed tells
+-- what a test that passed says
 pub passed : {P : Type 0} (b : Bool) → b ≡ true → OnTrue b P → P
 passed true e h = h
 passed false e h = cc

@@ -1,5 +1,5 @@
--- What polynomials with replaced variables are worth: what the polynomial is worth where each
--- variable is worth what stands in its place.
+-- The values of polynomials with replaced variables: the value of the polynomial where each
+-- variable has the value of what is in its place.
 use Rattle.std.proofs.Common.{◌≡◌, ◌∙◌, ap, subst, ℕ, sym, List, [], ◌∷◌, map, ◌&&◌, ℤ, ◌+ℤ◌, ◌*ℤ◌}
 use lib.IntN.{+ℤ_assoc}
 use Rattle.rx_plain.proofs.Integers.{mul-one-int, mul-assoc-int, zero-add-int, add-zero-int}
@@ -129,7 +129,7 @@ module _ (a : ℕ → ℤ) (ws : List (ℕ × Body)) where
       ∙ zero-add-int (sum_terms (mono_value (worth a ws)) (out-Body b).terms)
       ∙ sym (value_is (worth a ws) b))
 
-  -- a polynomial with replaced variables is worth what it was where these are worth their
-  -- replacements
+  -- a polynomial with replaced variables has the value that it had where these have the values of
+  -- their replacements
   pub value-in_body : (b : Body) → value a (in_body ws b).form ≡ value (worth a ws) b
   value-in_body = ind-Body WorthAtom WorthBody WorthMono atom_step body_step mono_step

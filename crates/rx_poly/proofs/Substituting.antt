@@ -1,4 +1,4 @@
--- Polynomials that are being put in place of variables: the product or sum so far, and what is left
+-- Polynomials that are being substituted for variables: the product or sum so far, and what is left
 -- still makes the whole.
 use Rattle.std.proofs.Common.{◌≡◌, ◌∙◌, ap, subst, ℕ, suc, ◌+◌, ◌<◌, ◌≤◌, true, false, ◌&&◌, refl, sym, List, [], ◌∷◌, map, length, drop, get_or, drop_of_length-le, add-one, ℤ}
 use Rattle.std.proofs.Math.Seq.{drop-cons}

@@ -1,4 +1,4 @@
--- Laws of listed sums: what a term that is put in adds, that a sum stays listed, and how two sums
+-- Laws of listed sums: what a term that is inserted adds, that a sum stays listed, and how two sums
 -- are merged from the front.
 use Rattle.std.proofs.Common.{◌≡◌, ◌∙◌, ap, subst, Bool, true, false, not, ◌&&◌, cond, refl, sym, List, [], ◌∷◌, ℤ, pos, ◌+ℤ◌, ◌*ℤ◌, arith}
 use Rattle.std.proofs.lemmas.Int.{ints}
@@ -84,7 +84,7 @@ module _ {K : Type 0} where
       let parts = and_parts (p t.0) (all_keys p ts) h in
       and_from (q t.0) (all_keys q ts) (w t.0 parts.0) (all_keys-weaker p q ts w parts.1)
 
-  -- ---- what a sum is worth
+  -- ---- the value of a sum
 
   pub sum-put : (f : K → ℤ) (k : K) (c : ℤ) (ts : List (K × ℤ)) → sum_terms f (put k c ts) ≡
       c *ℤ f k +ℤ sum_terms f ts
@@ -106,7 +106,7 @@ module _ {K : Type 0} where
       omega (arith, ints)
   sum-placed f R same k c u us further h Greater e = omega (arith, ints)
 
-  -- a term that is put in adds its worth
+  -- a term that is inserted adds its value
   pub sum-insert : (f : K → ℤ) (R : K → K → Ordering) (same : (x y : K) → R x y ≡ Equal → x ≡ y)
       (k : K) (c : ℤ) (us : List (K × ℤ)) → sum_terms f (insert_term R k c us) ≡
       c *ℤ f k +ℤ sum_terms f us
@@ -115,7 +115,7 @@ module _ {K : Type 0} where
       sum-placed f R same k c u us (insert_term R k c us) (sum-insert f R same k c us) (R k u.0)
       refl
 
-  -- the sum of two sums is worth both together
+  -- the sum of two sums has the value of both together
   pub sum-add : (f : K → ℤ) (R : K → K → Ordering) (same : (x y : K) → R x y ≡ Equal → x ≡ y)
       (ts us : List (K × ℤ)) → sum_terms f (add_terms R ts us) ≡ sum_terms f ts +ℤ sum_terms f us
   sum-add f R same [] us = omega (arith, ints)
@@ -134,7 +134,7 @@ module _ {K : Type 0} where
       back : (x y : K) → R x y ≡ Greater → R y x ≡ Less
       back x y e = o.antisymm y x ∙ ap ordering_reverse e
 
-      -- what comes before a key comes before all behind it
+      -- what comes before a key comes before all after it
       pub before_trans : (j k : K) (us : List (K × ℤ)) → R j k ≡ Less → is_before R k us ≡ true →
           is_before R j us ≡ true
       before_trans j k us e h =
@@ -185,7 +185,7 @@ module _ {K : Type 0} where
             rest = h;
           })
 
-      -- a listed sum stays listed where a term is put in
+      -- a listed sum stays listed where a term is inserted
       pub listed-insert : (k : K) (c : ℤ) (us : List (K × ℤ)) → is_listed R us ≡ true →
           is_listed R (insert_term R k c us) ≡ true
       listed-insert k c [] h = listed-put k c [] refl refl

@@ -234,7 +234,7 @@ module _ (ws : List (ℕ × Body)) where
 
   -- ---- products
 
-  -- a product of sorted atoms, times one behind them
+  -- a product of sorted atoms, times one after them
   times_one : (done : List Atom) (x : Atom) (k : ℤ) → SmallAtoms (done ++ x ∷ []) → fits_i128 k ≡
       true
       → record {
@@ -331,7 +331,7 @@ module _ (ws : List (ℕ × Body)) where
   abbrev of_term : Mono × ℤ → List ℕ
   of_term t = mono_variables t.0
 
-  -- a listed sum, plus one term behind it
+  -- a listed sum, plus one term after it
   plus_one : (done : List (Mono × ℤ)) (t : Mono × ℤ) → SmallTerms (done ++ t ∷ [])
       → record {
         form = added (of_terms done) (of_terms (t ∷ []));

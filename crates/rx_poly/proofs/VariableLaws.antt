@@ -43,7 +43,7 @@ variables_is b =
     ∙ flat_map-map (λ (t : List ℕ × ℤ). t.0) (λ (t : Mono × ℤ). (mono_variables t.0, t.1))
     (out-Body b).terms
 
--- nothing is left of a list whose pieces are put after others
+-- nothing is left of a list whose pieces are added after others
 pub listed_end : {X Y : Type 0} (f : X → List Y) (xs : List X) (i : ℕ) (so_far before : List Y) →
     length xs ≤ i → so_far ++ flat_map f (drop i xs) ≡ before ++ flat_map f xs → so_far ≡ before ++
     flat_map f xs

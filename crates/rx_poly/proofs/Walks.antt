@@ -1,4 +1,4 @@
--- What a walk along a list, from the front, tells of a test of all its elements.
+-- What a walk along a list, from the front, says of a test of all its elements.
 use Rattle.std.proofs.Common.{◌≡◌, ◌∙◌, ap, ℕ, suc, ◌<◌, ◌≤◌, Bool, true, false, sym, List, length, drop, get_or, drop_of_length-le}
 use Rattle.std.proofs.Math.Seq.{drop-cons}
 use Rattle.std.proofs.lemmas.Bool.{and_left}

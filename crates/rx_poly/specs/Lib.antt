@@ -1,4 +1,4 @@
--- What the polynomials of this crate are, what they are worth, and what is formed of them.
+-- What the polynomials of this crate are, what value they have, and what is formed of them.
 pub mod Replacements
 pub mod Substitution
 pub mod Variables

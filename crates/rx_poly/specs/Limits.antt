@@ -108,7 +108,7 @@ is_sum ts = is_listed mono_cmp ts && all_fit ts
 
 -- ---- the difference of two polynomials, and one times a number
 
--- the terms of the first, and those of the second with turned signs
+-- the terms of the first, and those of the second with reversed signs
 abbrev pub subtracted : Body → Body → Body
 subtracted p q = of_terms (add_terms mono_cmp (out-Body p).terms (negated (out-Body q).terms))
 

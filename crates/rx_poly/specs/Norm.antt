@@ -1,5 +1,5 @@
--- Integer terms: what one is worth, its normal form, and whether all that is formed on the way
--- keeps the limits.
+-- Integer terms: the value of one, its normal form, and whether all that is formed on the way keeps
+-- the limits.
 use Rattle.std.specs.Prelude.{ℕ, Bool, ℤ, negsuc, ◌+ℤ◌, ◌*ℤ◌, neg_ℤ}
 use Rattle.rx_plain.specs.Formed.{Formed, pure, kept, ◌>>=◌}
 use Rattle.rx_poly.specs.Limits.{added, scaled_by, is_within}
@@ -24,7 +24,7 @@ term_level a (ITerm-F.Mod l r) = remainder l r
 abbrev pub term_value : (ℕ → ℤ) → ITerm → ℤ
 term_value a = fold-ITerm ℤ (term_level a)
 
--- the left part, the right part, then the two joined; a turned sign is a multiple by -1
+-- the left part, the right part, then the two joined; a reversed sign is a multiple by -1
 abbrev pub norm_level : ITerm-F (Formed Body) → Formed Body
 norm_level (ITerm-F.Var n) = pure (variable n)
 norm_level (ITerm-F.Lit k) = pure (number k)

@@ -11,12 +11,12 @@ use Rattle.rx_poly.specs.declared.body.Atom.{Atom, Atom-F, para-Atom}
 use Rattle.rx_poly.specs.declared.body.Mono.{Mono, Mono-F, para-Mono, out-Mono}
 use Rattle.rx_poly.specs.declared.body.Body.{Body, Body-F, para-Body, out-Body}
 
--- no element comes before one that stands in front of it
+-- no element comes before one that is in front of it
 abbrev pub is_sorted : {A : Type 0} → (A → A → Ordering) → List A → Bool
 is_sorted R [] = true
 is_sorted R (x ∷ xs) = list_all (λ y. is_le (R x y)) xs && is_sorted R xs
 
--- the element is not behind the first of the others
+-- the element is not after the first of the others
 abbrev pub is_first : {A : Type 0} → (A → A → Ordering) → A → List A → Bool
 is_first R x [] = true
 is_first R x (y ∷ ys) = is_le (R x y)

@@ -10,7 +10,7 @@ use Rattle.rx_poly.specs.Terms.{add_terms}
 use Rattle.rx_poly.specs.declared.body.Mono.{Mono, out-Mono}
 use Rattle.rx_poly.specs.declared.body.Body.{Body, out-Body}
 
--- an element put into a sorted list, in front of those that do not come before it
+-- an element inserted into a sorted list, in front of those that do not come before it
 abbrev pub insert_sorted : {A : Type 0} → (A → A → Ordering) → A → List A → List A
 insert_sorted R x [] = x ∷ []
 insert_sorted R x (y ∷ ys) = if is_gt (R x y) then y ∷ insert_sorted R x ys else x ∷ (y ∷ ys)
@@ -34,7 +34,7 @@ abbrev pub running : List (Mono × ℤ) → List (Mono × ℤ) → List (Mono ×
 running sum [] us = sum
 running sum (t ∷ ts) us = running (add_terms mono_cmp sum (scaled t us)) ts us
 
--- whether each of those products, and the sum behind each, keeps the limits
+-- whether each of those products, and the sum after each, keeps the limits
 abbrev pub running_within : List (Mono × ℤ) → List (Mono × ℤ) → List (Mono × ℤ) → Bool
 running_within sum [] us = true
 running_within sum (t ∷ ts) us =

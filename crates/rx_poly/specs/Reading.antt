@@ -32,7 +32,7 @@ variable_of [] = None
 variable_of (t ∷ ts) =
     if is_empty ts && int_eq t.1 (pos 1) then variable_of_atoms (out-Mono t.0).atoms else None
 
--- the coefficient of a term, or what is found further on, by how the monomial stands to that of the
+-- the coefficient of a term, or what is found later, by how the monomial compares to that of the
 -- term
 abbrev pub found : Ordering → ℤ → ℤ → ℤ
 found Less c further = further

@@ -12,6 +12,6 @@ abbrev pub replacements : Replacements → List (ℕ × Body)
 replacements (Listed pairs) = pairs.now
 replacements (InOrder args) = numbered args.now
 
--- nothing is put in place of these variables, or they themselves are
+-- nothing is substituted for these variables, or they themselves are
 abbrev pub stay : List (ℕ × Body) → List ℕ → Type 0
 stay ws vs = All (λ v. replaced ws v ≡ variable v) vs

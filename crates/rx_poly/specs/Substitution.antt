@@ -1,4 +1,4 @@
--- Polynomials put in place of variables: the result, and whether all that is formed on the way
+-- Polynomials substituted for variables: the result, and whether all that is formed on the way
 -- keeps the limits.
 use Rattle.std.specs.Prelude.{ℕ, ◌+◌, ◌==◌, if◌then◌else◌, List, [], ◌∷◌, ℤ}
 use Rattle.rx_poly.specs.Constants.{number, variable}
@@ -11,7 +11,7 @@ use Rattle.rx_poly.specs.declared.body.Atom.{Atom, Atom-F, fold-Atom}
 use Rattle.rx_poly.specs.declared.body.Mono.{Mono, Mono-F, fold-Mono}
 use Rattle.rx_poly.specs.declared.body.Body.{Body, Body-F, fold-Body}
 
--- what stands in place of a variable: the polynomial that is listed for it, else the variable
+-- what is in place of a variable: the polynomial that is listed for it, else the variable
 abbrev pub replaced : List (ℕ × Body) → ℕ → Body
 replaced [] n = variable n
 replaced (w ∷ ws) n = if w.0 == n then w.1 else replaced ws n
@@ -25,7 +25,7 @@ numbered_from n (p ∷ ps) = (n, p) ∷ numbered_from (n + 1) ps
 abbrev pub numbered : List Body → List (ℕ × Body)
 numbered ps = numbered_from 0 ps
 
--- what the variables are worth then
+-- the values of the variables then
 abbrev pub worth : (ℕ → ℤ) → List (ℕ × Body) → ℕ → ℤ
 worth a ws n = value a (replaced ws n)
 

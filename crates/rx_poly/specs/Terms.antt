@@ -20,13 +20,14 @@ module _ {K : Type 0} where
   abbrev pub put : K → ℤ → List (K × ℤ) → List (K × ℤ)
   put k c ts = if is_zero c then ts else (k, c) ∷ ts
 
-  -- a term put into u ∷ us, by how its key stands to that of u; `further` is the term put into us
+  -- a term inserted into u ∷ us, by how its key compares to that of u; `further` is the term
+  -- inserted into us
   abbrev pub placed : Ordering → K → ℤ → K × ℤ → List (K × ℤ) → List (K × ℤ) → List (K × ℤ)
   placed Less k c u us further = put k c (u ∷ us)
   placed Equal k c u us further = put k (c +ℤ u.1) us
   placed Greater k c u us further = u ∷ further
 
-  -- a term put into a listed sum: at its place, or added to the coefficient that its key has
+  -- a term inserted into a listed sum: at its place, or added to the coefficient that its key has
   abbrev pub insert_term : (K → K → Ordering) → K → ℤ → List (K × ℤ) → List (K × ℤ)
   insert_term R k c [] = put k c []
   insert_term R k c (u ∷ us) = placed (R k u.0) k c u us (insert_term R k c us)
@@ -40,7 +41,7 @@ module _ {K : Type 0} where
   abbrev pub is_before : (K → K → Ordering) → K → List (K × ℤ) → Bool
   is_before R k ts = list_all (λ u. is_lt (R k u.0)) ts
 
-  -- each key comes before all keys behind it, and no coefficient is 0
+  -- each key comes before all keys after it, and no coefficient is 0
   abbrev pub is_listed : (K → K → Ordering) → List (K × ℤ) → Bool
   is_listed R [] = true
   is_listed R (t ∷ ts) = not (is_zero t.1) && (is_before R t.0 ts && is_listed R ts)
@@ -54,6 +55,6 @@ module _ {K : Type 0} where
   times_number k [] = []
   times_number k (t ∷ ts) = put t.0 (t.1 *ℤ k) (times_number k ts)
 
-  -- the same terms with their signs turned
+  -- the same terms with their signs reversed
   abbrev pub negated : List (K × ℤ) → List (K × ℤ)
   negated ts = map (λ t. (t.0, neg_ℤ t.1)) ts

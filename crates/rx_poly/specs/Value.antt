@@ -1,4 +1,5 @@
--- The integer that an atom, a monomial or a sum is worth, where `a` gives each variable an integer.
+-- The integer that is the value of an atom, a monomial or a sum, where `a` gives each variable an
+-- integer.
 use Rattle.std.specs.Prelude.{ℕ, if◌then◌else◌, List, [], ◌∷◌, ℤ, pos, ◌+ℤ◌, ◌*ℤ◌, int_div, int_rem}
 use Rattle.rx_poly.specs.Terms.{is_zero}
 use Rattle.rx_poly.specs.declared.body.Atom.{Atom, Atom-F, fold-Atom}
@@ -13,12 +14,12 @@ quotient z d = if is_zero d then pos 0 else int_div z d
 abbrev pub remainder : ℤ → ℤ → ℤ
 remainder z d = if is_zero d then pos 0 else int_rem z d
 
--- the sum of the terms, where `f` is what a key is worth
+-- the sum of the terms, where `f` is the value of a key
 abbrev pub sum_terms : {K : Type 0} → (K → ℤ) → List (K × ℤ) → ℤ
 sum_terms f [] = pos 0
 sum_terms f (t ∷ ts) = t.1 *ℤ f t.0 +ℤ sum_terms f ts
 
--- the product of the factors, where `f` is what a factor is worth
+-- the product of the factors, where `f` is the value of a factor
 abbrev pub product_of : {A : Type 0} → (A → ℤ) → List A → ℤ
 product_of f [] = pos 1
 product_of f (x ∷ xs) = f x *ℤ product_of f xs

@@ -1,4 +1,4 @@
--- The variables of atoms, monomials and sums, at every level, as often as they stand there.
+-- The variables of atoms, monomials and sums, at every level, as often as they occur there.
 use Rattle.std.specs.Prelude.{ℕ, ◌+◌, ◌==◌, Bool, nat_lt, List, [], ◌∷◌, ◌++◌, ℤ}
 use Rattle.std.specs.List.{flat_map, list_all, list_any}
 use Rattle.rx_poly.specs.Limits.{greatest}

@@ -19,7 +19,7 @@ pub enum Atom {
     Mod(Body, Body),
 }
 
-/// A product of atoms, each as often as it stands in the list; the empty product is 1.
+/// A product of atoms, each as often as it occurs in the list; the empty product is 1.
 /// The one with more atoms comes first; those as long are ordered atom by atom.
 #[cycle(poly)]
 #[derive(Debug, Drop, PartialEq, Eq, PartialOrd, Ord, Hash)]
@@ -38,7 +38,7 @@ pub struct Body {
 }
 
 impl Atom {
-    /// The same atom once more; fails only for want of memory.
+    /// The same atom once more; fails only when out of memory.
     #[cycle(clones)]
     pub fn try_clone(&self, alloc: Global) -> Result<Atom, AllocError>
         ensures { IfOk result (λ x. x ≡ self.now) }
@@ -52,7 +52,7 @@ impl Atom {
 }
 
 impl Mono {
-    /// The same monomial once more; fails only for want of memory.
+    /// The same monomial once more; fails only when out of memory.
     #[cycle(clones)]
     pub fn try_clone(&self, alloc: Global) -> Result<Mono, AllocError>
         ensures { IfOk result (λ m. m ≡ self.now) }
@@ -68,7 +68,7 @@ impl Mono {
 }
 
 impl Body {
-    /// The same sum once more; fails only for want of memory.
+    /// The same sum once more; fails only when out of memory.
     #[cycle(clones)]
     pub fn try_clone(&self, alloc: Global) -> Result<Body, AllocError>
         ensures { IfOk result (λ b. b ≡ self.now) }

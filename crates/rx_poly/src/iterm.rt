@@ -13,7 +13,7 @@ pub enum ITerm {
     Add(Boxed<ITerm>, Boxed<ITerm>),
     /// The product of two terms.
     Mul(Boxed<ITerm>, Boxed<ITerm>),
-    /// The term with its sign turned.
+    /// The term with its sign reversed.
     Neg(Boxed<ITerm>),
     /// The quotient of the first by the second, truncated toward zero (ISO C99 6.5.5); 0 at divisor
     /// 0.

@@ -12,7 +12,7 @@ use rx_plain::Items;
 use std::alloc::{AllocError, Global};
 use std::cmp::Ordering;
 
-/// Copies `term` behind the others.
+/// Copies `term` after the others.
 fn push_term(
     terms: &mut Items<(Mono, i128)>,
     alloc: Global,
@@ -24,7 +24,7 @@ fn push_term(
     terms.push((mono, term.1))
 }
 
-/// Copies `term` with that sign behind the others.
+/// Copies `term` with that sign after the others.
 fn push_signed(
     terms: &mut Items<(Mono, i128)>,
     alloc: Global,
@@ -44,7 +44,7 @@ fn push_signed(
     Ok(())
 }
 
-/// Puts the one term plus or minus the other of the same monomial behind the others, unless that is
+/// Adds the one term plus or minus the other of the same monomial after the others, unless that is
 /// 0.
 fn push_sum(
     terms: &mut Items<(Mono, i128)>,
@@ -70,7 +70,7 @@ fn push_sum(
     Ok(())
 }
 
-/// Copies the terms of `more` with that sign behind the others.
+/// Copies the terms of `more` with that sign after the others.
 fn push_all(
     terms: &mut Items<(Mono, i128)>,
     alloc: Global,

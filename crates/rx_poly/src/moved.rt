@@ -13,7 +13,7 @@ use std::alloc::{AllocError, Global};
 use std::cmp::Ordering;
 use std::vec::IntoIter;
 
-/// Puts the term with that number added after the others, unless that is 0.
+/// Adds the term with that number added after the others, unless that is 0.
 fn push_added(
     terms: &mut Items<(Mono, i128)>,
     term: (Mono, i128),
@@ -37,7 +37,7 @@ fn push_added(
     Ok(())
 }
 
-/// Puts the terms that are left after the others.
+/// Adds the terms that are left after the others.
 fn push_rest(
     terms: &mut Items<(Mono, i128)>,
     first: Option<(Mono, i128)>,

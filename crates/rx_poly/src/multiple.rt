@@ -8,7 +8,7 @@ use crate::poly_end::PolyEnd;
 use rx_plain::Items;
 use std::alloc::Global;
 
-/// Puts the term times the number behind the others, unless that is 0.
+/// Adds the term times the number after the others, unless that is 0.
 fn push_multiple(
     terms: &mut Items<(Mono, i128)>,
     alloc: Global,

@@ -9,7 +9,7 @@ ghost use Rattle.rx_poly.specs.declared.body.Body.{out-Body};
 
 use crate::body::{Atom, Body, Mono};
 
-/// Whether the atom doesn't come behind the first of the others.
+/// Whether the atom doesn't come after the first of the others.
 fn comes_first(atom: &Atom, others: &[Atom]) -> bool
     ensures { result ≡ is_first atom_cmp atom.now others.now }
 {

@@ -69,7 +69,7 @@ pub(crate) fn within_limits(alloc: Global, body: Body) -> Result<Poly, PolyEnd>
 }
 
 impl Poly {
-    /// The polynomial as a plain tree, lent.
+    /// The polynomial as a plain tree, borrowed.
     pub fn body(&self) -> &Body
         ensures body { result.now ≡ self.now }
         ensures normal { is_poly self.now ≡ true }
@@ -77,7 +77,7 @@ impl Poly {
         self.body.get()
     }
 
-    /// The polynomial, lent, with what is known of each.
+    /// The polynomial, borrowed, with what is known of each.
     pub(crate) fn as_normal(&self) -> &Poly
         ensures same { result.now ≡ self.now }
         ensures normal { is_poly self.now ≡ true }
@@ -87,7 +87,7 @@ impl Poly {
     }
 
     /// The polynomial with that body; None exactly where the body is, at some level, no normal
-    /// form, or passes the limits. Fails only for want of memory.
+    /// form, or passes the limits. Fails only when out of memory.
     pub fn from_body(alloc: Global, body: Body) -> Result<Option<Poly>, AllocError>
         ensures same { IfOk result (λ made. IfSome made (λ p. p ≡ body)) }
         ensures exact { IfOk result (λ made. IsSome made ↔ (is_poly body ≡ true)) }

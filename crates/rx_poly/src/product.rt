@@ -11,7 +11,7 @@ use crate::poly_end::PolyEnd;
 use rx_plain::{Graded, Items};
 use std::alloc::{AllocError, Global};
 
-/// Copies `atom` behind the others.
+/// Copies `atom` after the others.
 fn push_atom(atoms: &mut Graded<Atom>, alloc: Global, atom: &Atom) -> Result<(), AllocError>
     ensures { OnOk result (atoms.new ≡ atoms.old ++ atom.now ∷ []) }
 {
@@ -19,7 +19,7 @@ fn push_atom(atoms: &mut Graded<Atom>, alloc: Global, atom: &Atom) -> Result<(),
     atoms.push(copy)
 }
 
-/// Copies the atoms of `more` behind the others.
+/// Copies the atoms of `more` after the others.
 fn push_atoms(atoms: &mut Graded<Atom>, alloc: Global, more: &[Atom]) -> Result<(), AllocError>
     ensures { OnOk result (atoms.new ≡ atoms.old ++ more.now) }
 {
@@ -66,7 +66,7 @@ fn times(alloc: Global, left: &Mono, right: &Mono) -> Result<Mono, AllocError>
     Ok(Mono { atoms })
 }
 
-/// Puts the product of two terms behind the others.
+/// Adds the product of two terms after the others.
 fn push_product(
     products: &mut Items<(Mono, i128)>,
     alloc: Global,

@@ -1,4 +1,4 @@
-//! Polynomials put in place of variables.
+//! Polynomials substituted for variables.
 ghost use Rattle.std.specs.Prelude.{◌≡◌, slice_get, ◌*ℤ◌, ℕ, ℤ, IfOk, IfSome, MatchOption};
 ghost use Rattle.std.specs.Bool.{OnTrue};
 ghost use Rattle.std.specs.Option.{option_copied};
@@ -159,7 +159,7 @@ fn body_with(alloc: Global, body: &Body, with: Replacements) -> Result<Poly, Pol
     Ok(sum)
 }
 
-/// What is put in place of the polynomial, where it is one variable that doesn't stay.
+/// What is substituted for the polynomial, where it is one variable that doesn't stay.
 fn alone_with<'a>(poly: &Poly, with: Replacements<'a>) -> Option<&'a Poly>
     ensures { IfSome result (λ p. in_body (replacements with.entry) poly.now ≡ pure p.now) }
 {

@@ -1,4 +1,4 @@
-//! Which variables stand in a polynomial.
+//! Which variables occur in a polynomial.
 ghost use Rattle.std.specs.Prelude.{◌≡◌, ◌++◌, IfOk, OnOk};
 ghost use Rattle.rx_poly.specs.Variables.{atom_bound, atom_uses, atom_uses_below, atom_variables, mono_bound, mono_uses, mono_uses_below, mono_variables, uses, uses_below, variable_bound, variables};
 

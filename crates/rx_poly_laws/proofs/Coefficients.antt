@@ -36,7 +36,7 @@ itself k = own (mono_cmp k k) (mono_total.antisymm k k)
 pub first_coefficient : (t : Mono × ℤ) (ts : List (Mono × ℤ)) → coefficient t.0 (t ∷ ts) ≡ t.1
 first_coefficient t ts = ap (λ r. found r t.1 (coefficient t.0 ts)) (itself t.0)
 
--- a monomial that stands first has another coefficient than 0
+-- a monomial that comes first has another coefficient than 0
 not_absent : (t : Mono × ℤ) (ts : List (Mono × ℤ)) → is_zero t.1 ≡ false →
     coefficient t.0 (t ∷ ts) ≡ pos 0 → ⊥
 not_absent t ts n e =

@@ -1,4 +1,4 @@
--- What stands inside a polynomial is normal, and as small as the whole or smaller.
+-- What is inside a polynomial is normal, and as small as the whole or smaller.
 use Rattle.std.proofs.Common.{◌≡◌, ◌∙◌, ap, subst, ◌+◌, ◌≤◌, max, true, ◌&&◌, sym, List, [], ◌∷◌, ℤ, arith}
 use Rattle.std.specs.Prelude.{nat_le, sum_by}
 use Rattle.std.specs.List.{All, flat_map, list_all}

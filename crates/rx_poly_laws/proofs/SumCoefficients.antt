@@ -53,7 +53,7 @@ coefficient-put m k c ts h =
     found_zero (mono_cmp m k) in omega (arith, ints))
     (λ e. front m k c ts h)
 
--- ---- a term put into a sum
+-- ---- a term inserted into a sum
 
 share_sum : (r : Ordering) (c d : ℤ) → found r (c +ℤ d) (pos 0) ≡
     found r c (pos 0) +ℤ found r d (pos 0)

@@ -1,4 +1,4 @@
--- The dividends and divisors that stand in a polynomial, one level down.
+-- The dividends and divisors that occur in a polynomial, one level down.
 use Rattle.std.specs.Prelude.{List, [], ◌∷◌, ℤ}
 use Rattle.std.specs.List.{flat_map}
 use Rattle.rx_poly.specs.declared.body.Atom.{Atom, Atom-F, out-Atom}

@@ -1,3 +1,3 @@
--- The polynomials that stand inside one.
+-- The polynomials that are inside one.
 pub mod Inner
 pub mod Tests

@@ -3,7 +3,7 @@ ghost use Rattle.std.specs.Prelude.{◌≡◌};
 ghost use Rattle.rx_words.specs.Certificates.{part_lists};
 ghost use Rattle.rx_words.specs.Words.{numbers};
 
-/// Whether a list of so many things has a text: at most 4,294,967,295.
+/// Whether a list of n things has a text: at most 4,294,967,295.
 pub fn is_count(count: usize) -> bool
     ensures { result ≡ numbers.in_range count }
 {

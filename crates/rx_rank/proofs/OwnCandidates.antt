@@ -24,7 +24,7 @@ use Rattle.rx_rank.specs.Components.{is_rule_of}
 use Rattle.rx_rank.specs.Tries.{kept_tried}
 
 module _ (whole : List Rule) (arity : ℕ) where
-  -- over so many arguments, and without other variables than those of the rules' rows
+  -- over n arguments, and without other variables than those of the rules' rows
   pub record IsOwnCandidate (p : Body) : Type 0 where
     pub over : uses_below arity p ≡ true
     pub own_variables : (test : ℕ → Bool) → rules_pass test whole ≡ true → passes test p ≡ true

@@ -1,4 +1,4 @@
--- What answers about the rows of a column tell.
+-- What answers about the rows of a column say.
 use Rattle.std.proofs.Common.{◌≡◌, ◌∙◌, ap, sym, subst, refl, ◌≤◌, true, false, List, [], ◌∷◌, Result, Ok, Err, IfOk}
 use Rattle.std.proofs.lemmas.Bool.{and_from}
 use Rattle.std.proofs.lemmas.List.Elements.{All-nil}

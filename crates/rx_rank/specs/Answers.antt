@@ -1,4 +1,4 @@
--- What the answers of calls tell.
+-- What the answers of calls say.
 use Rattle.std.specs.Prelude.{◌≡◌, ℕ, Bool, true, false, ◌&&◌, Option, Some, None, List, [], ◌∷◌, ◌++◌, Vec, Contains, length, map}
 use Rattle.std.specs.List.{AllZip, fold, list_all}
 use Rattle.std.specs.declared.alloc.Global.{Global}
@@ -110,7 +110,7 @@ pub record IsFallen (values : List (Option Body)) (pair : Pair) (certs : List Ce
   pub right_is : polynomial_of values pair.right.0 ≡ Some right
   pub proved : IsProved pair (falls_rows pair left right) certs
 
--- what an answer tells of that
+-- what an answer says of that
 abbrev pub TellsHolds : List (Option Body) → Pair → AllShown → Type 0
 TellsHolds values pair (Shown certs) = (holds_by values pair ≡ Yes) × IsHeld values pair certs
 TellsHolds values pair NotShown = holds_by values pair ≡ No

@@ -45,8 +45,8 @@ is_anchor infos hypotheses f = is_start infos f || list_any (is_left_root f) hyp
 abbrev pub opposite_tried : Body → Tried Body
 opposite_tried p = formed_tried (kept is_within (opposite p))
 
--- those of a row's polynomial, where it is over so many arguments: an inequality p >= 0 gives p,
--- any other row p and -p
+-- those of a row's polynomial, where it is over n arguments: an inequality p >= 0 gives p, any
+-- other row p and -p
 abbrev pub candidates_by : Row → List (Tried Body)
 candidates_by (Ge p) = applies p ∷ []
 candidates_by (Eq p) = applies p ∷ opposite_tried p ∷ []

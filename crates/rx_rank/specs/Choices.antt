@@ -89,7 +89,7 @@ hold_with values p (pair ∷ pairs) =
     both (tested (holds pair) (Some p) (polynomial_of values pair.right.0))
     (hold_with values p pairs)
 
--- p serves where it is over so many arguments and all of them hold with it
+-- p serves where it is over n arguments and all of them hold with it
 abbrev pub serving : ℕ → List (Option Body) → List Pair → Body → Tried Body
 serving arity values mine p =
     if uses_below arity p then where_shown (hold_with values p mine) p else fails

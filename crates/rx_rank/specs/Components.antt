@@ -9,7 +9,7 @@ use Rattle.rx_graph.specs.Graph.{below, together}
 use Rattle.rx_pairs.specs.Graph.{edges_of}
 use Rattle.rx_pairs.specs.declared.pair.Pair.{Pair}
 
--- the symbols of a set with so many
+-- the symbols of a set with n
 abbrev pub symbols_of : ℕ → List ℕ
 symbols_of n = range_with_len 0 n
 

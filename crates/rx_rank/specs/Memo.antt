@@ -24,7 +24,7 @@ abbrev pub rows_of : PairTest → Pair → Body → Body → Formed (List Row)
 rows_of Holds pair p q = holds_rows pair p q
 rows_of Falls pair p q = falls_rows pair p q
 
--- the answer tells what is said, where they are shown by certificates
+-- the answer is what is said, where they are shown by certificates
 abbrev pub Tells : PairTest → Pair → Body → Body → AllShown → Type 0
 Tells test pair p q answer = IsTold (said_of test pair p q) pair (rows_of test pair p q) answer
 

@@ -17,7 +17,7 @@ use Rattle.rx_rank.specs.Choices.{choosing, order_of, products}
 use Rattle.rx_rank.specs.Components.{inside, members, names_of, pairs_in, symbols_of}
 use Rattle.rx_rank.specs.Tries.{all_made, and_then, noting, tried_said}
 
--- at most so many choices are tried in a component
+-- at most n choices are tried in a component
 abbrev pub most_choices : ℕ
 most_choices = 4096
 
@@ -68,8 +68,8 @@ module _ (parts : RuleParts) (hypotheses : List Rule) where
   unless_closed [] next = applies tt
   unless_closed (pair ∷ pairs) next = next
 
-  -- a column of heights, where none is open then the end, and otherwise a column of polynomials; so
-  -- many rounds are left
+  -- a column of heights, where none is open then the end, and otherwise a column of polynomials; n
+  -- rounds are left
   unfoldable pub ranking_from : ℕ → List Pair → Tried (Unit {0})
   ranking_from zero pairs = unless_closed (inside (length parts.symbols) pairs) fails
   ranking_from (suc n) pairs =

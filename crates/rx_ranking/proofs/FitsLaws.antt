@@ -20,7 +20,7 @@ use Rattle.rx_ranking.specs.Groups.{IsFitBelow, by_component, groups_in, tries_f
 use Rattle.rx_ranking.specs.Tables.{has_number, pairs_open}
 use Rattle.rx_ranking.specs.declared.open_pair.OpenPair.{OpenPair}
 
--- the groups are those of the components of the open pairs, and are lent
+-- the groups are those of the components of the open pairs, and are borrowed
 module _ (parts : RuleParts) (hypotheses : List Rule) (entries : List OpenPair) (names : List ℕ)
     (groups lent : List (Vec OpenPair Global))
     (found : names ≡ names_of (length parts.symbols) (pairs_open entries))

@@ -1,4 +1,4 @@
--- Entries by component: one entry more, and that each entry stands in a group.
+-- Entries by component: one entry more, and that each entry is in a group.
 use Rattle.std.proofs.Common.{◌≡◌, ◌∙◌, ap, sym, subst, refl, cond, arith, ℕ, zero, suc, ◌==◌, ◌+◌, ◌<◌, ◌≤◌, Bool, true, false, ◌||◌, inl, inr, Option, Some, None, Vec, List, [], ◌∷◌, ◌++◌, All, Contains, get_or, length, map, set, slice_get, unwrap_or}
 use Rattle.std.specs.List.{filter, find, list_any, range_with_len}
 use Rattle.std.specs.Option.{option_map, option_map_or}
@@ -86,7 +86,7 @@ module _ (names : List ℕ) (past : List OpenPair) (entry : OpenPair) where
 
   module _ (groups : List (Vec OpenPair Global)) (is : groups_in groups ≡ by_component names past)
     where
-      -- it is put into the group of its component
+      -- it is added to the group of its component
       put_in_group : (name : ℕ) (after : List (List OpenPair)) → slice_get names f ≡ Some name →
           name < length groups
           → after ≡ set (groups_in groups) name (get_or (groups_in groups) name [] ++ entry ∷ []) →
@@ -115,7 +115,7 @@ module _ (names : List ℕ) (past : List OpenPair) (entry : OpenPair) where
           is ∙ same_groups 0 (length names) (λ c from to.
           ap (λ o. option_map_or (λ k. k == c) o false) none)
 
-      -- it is put where it belongs, if that is a place
+      -- it is added where it belongs, if that is a place
       pub put_by_name : (name : ℕ) (after : List (List OpenPair)) → Some name ≡ slice_get names f
           → after ≡ set (groups_in groups) name (get_or (groups_in groups) name [] ++ entry ∷ []) →
           after ≡ by_component names more

@@ -316,7 +316,7 @@ module _ (parts : RuleParts) (hypotheses : List Rule) (names : List ℕ) (c : �
   module _ (lent : List Pair) (same : lent ≡ pairs) (some : length pairs ≡ 0 → ⊥) (t : Attempt Fit)
       (tried : tried_as (λ (fit : Fit). still_open lent fit.falls.items) t ≡
       component parts hypotheses names c lent) where
-    -- the same of an attempt at pairs that are lent
+    -- the same of an attempt at pairs that are borrowed
     pub one_made : (fit whole : Fit) → t.made ≡ Some fit →
         IfSome t.made (IsComponentFit parts hypotheses names c lent) → AreJoined before fit whole
         → IsOneMore parts hypotheses names c pairs before

@@ -6,7 +6,7 @@ use Rattle.rx_pairs.specs.declared.pair_cert.PairCert.{PairCert}
 use Rattle.rx_rank.specs.Components.{is_inside}
 use Rattle.rx_ranking.specs.declared.open_pair.OpenPair.{OpenPair}
 
--- the certificate of a pair that falls at the column with that number without further certificates
+-- the certificate of a pair that falls at the column with that number without more certificates
 abbrev pub closing : ℕ → OpenPair → PairCert
 closing column o = record { column = column; certs = o.certs }
 

@@ -16,7 +16,7 @@ IsSplitBy pairs progress =
 abbrev pub AreLawful : List SymInfo → Progress → Type 0
 AreLawful infos progress = All (IsLawful infos) (columns_in progress.columns.items)
 
--- the open pairs are of so many symbols
+-- the open pairs are of n symbols
 abbrev pub AreOver : ℕ → Progress → Type 0
 AreOver n progress = IsOver n (edges_of (pairs_open progress.entries.items))
 

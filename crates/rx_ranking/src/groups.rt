@@ -90,7 +90,7 @@ pub(crate) fn all_entries(
     Ok(entries)
 }
 
-/// The pairs of the entries, lent.
+/// The pairs of the entries, borrowed.
 pub(crate) fn pairs_of(alloc: Global, entries: &[OpenPair]) -> Result<Vec<&Pair>, NoMemory>
     ensures { IfOk result (λ pairs. pairs_at pairs.items ≡ pairs_open entries.now) }
 {

@@ -18,8 +18,8 @@ use rx_row::Constraint;
 use rx_term::{Rule, RuleParts};
 use std::alloc::Global;
 
-/// A ranking with so many rounds left: a column of heights, where pairs are open then one of
-/// polynomials, and so on; where no round is left and pairs are open, a last column of heights.
+/// A ranking with n rounds left: a column of heights, where pairs are open then one of polynomials,
+/// and so on; where no round is left and pairs are open, a last column of heights.
 pub(crate) fn rank_from<S: FnMut(&Constraint) -> Result<Option<Cert>, FmEnd>>(
     alloc: Global,
     parts: &RuleParts,

@@ -42,7 +42,7 @@ fn rank_of(
     Ok(rank)
 }
 
-/// The ranks of so many symbols.
+/// The ranks of n symbols.
 fn ranks_of(
     alloc: Global,
     columns: &[Vec<Option<Poly>>],
@@ -76,7 +76,7 @@ fn certs_of(alloc: Global, closed: Vec<Option<PairCert>>) -> Result<Items<PairCe
     Ok(certs)
 }
 
-/// The ranks of so many symbols by the columns, where no pair is open, and why all pairs are lower.
+/// The ranks of n symbols by the columns, where no pair is open, and why all pairs are lower.
 pub(crate) fn ranking_of(
     alloc: Global,
     columns: &[Vec<Option<Poly>>],

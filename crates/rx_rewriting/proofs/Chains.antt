@@ -1,9 +1,9 @@
--- Chains of steps: put together, turned round, counted, and taken from one relation to a wider one.
+-- Chains of steps: joined, reversed, counted, and taken from one relation to a wider one.
 use Rattle.std.proofs.Common.{◌≡◌, ℕ, zero, suc, ◌+◌, ◌⊎◌, inl, inr, arith, subst, List, ℤ}
 use Rattle.rx_rewriting.specs.Terms.{Ground, Frame, Relation}
 use Rattle.rx_rewriting.specs.Steps.{Step, Here, Under, Reaches, Stop, Go, ReachesIn, NoStep, OneMore, Convertible, Same, Forth, Back, Joins, Either}
 
--- one chain behind another
+-- one chain after another
 pub Reaches-trans : {R : Relation} {s t u : Ground} → Reaches R s t → Reaches R t u → Reaches R s u
 Reaches-trans Stop later = later
 Reaches-trans (Go step rest) later = Go step (Reaches-trans rest later)
@@ -34,14 +34,14 @@ ReachesIn-trans {R = R} {n = n} {s = s} {u = u} (OneMore {m = m} step rest) late
     let e : suc (m + n) ≡ suc m + n = omega arith in
     subst P e (OneMore step (ReachesIn-trans rest later))
 
--- one conversion behind another
+-- one conversion after another
 pub Convertible-trans : {R : Relation} {s t u : Ground} → Convertible R s t → Convertible R t u →
     Convertible R s u
 Convertible-trans Same later = later
 Convertible-trans (Forth step rest) later = Forth step (Convertible-trans rest later)
 Convertible-trans (Back step rest) later = Back step (Convertible-trans rest later)
 
--- a conversion turned round
+-- a conversion reversed
 pub Convertible-sym : {R : Relation} {s t : Ground} → Convertible R s t → Convertible R t s
 Convertible-sym Same = Same
 Convertible-sym (Forth step rest) = Convertible-trans (Convertible-sym rest) (Back step Same)
@@ -60,11 +60,11 @@ Joins-same R s = (s, Stop, Stop)
 pub Joins-sym : (R : Relation) (s t : Ground) → Joins R s t → Joins R t s
 Joins-sym R s t (u, left, right) = (u, right, left)
 
--- a chain put before the left side
+-- a chain added before the left side
 pub Joins-before_left : (R : Relation) (r s t : Ground) → Reaches R r s → Joins R s t → Joins R r t
 Joins-before_left R r s t chain (u, left, right) = (u, Reaches-trans chain left, right)
 
--- a chain put before the right side
+-- a chain added before the right side
 pub Joins-before_right : (R : Relation) (r s t : Ground) → Reaches R r t → Joins R s t → Joins R s r
 Joins-before_right R r s t chain (u, left, right) = (u, left, Reaches-trans chain right)
 

@@ -23,7 +23,7 @@ reached_convertible weight inside R H lowers stays replaceable =
     induction_on weight (IsConvertedFrom inside R H)
     (λ s lesser in_s u chain. go s u lesser in_s chain)
   where
-    -- behind a first step all is smaller: the induction is used at what the step leads to
+    -- after a first step all is smaller: the induction is used at what the step leads to
     after : (s t : Ground) → ((v : Ground) → Smaller (weight v) (weight s) →
         IsConvertedFrom inside R H v)
         → inside s → Step (Either R H) s t → (u : Ground) → Reaches (Either R H) t u →

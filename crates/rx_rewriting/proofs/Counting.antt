@@ -21,12 +21,12 @@ same_rank-true (x ∷ xs) (y ∷ ys) e =
     let parts = and-true (nat_eq x y) (same_rank xs ys) e in
     ap₂ (λ a as'. a ∷ as') (eqb-true x y parts.0) (same_rank-true xs ys parts.1)
 
--- the counts of two weights put together add up
+-- the counts of two weights joined add up
 pub times-append : (r : Rank) (v w : Weight) → times r (v ++ w) ≡ times r v + times r w
 times-append r [] w = omega arith
 times-append r (x ∷ v) w = omega (arith, times-append r v w)
 
--- a rank that stands first is there
+-- a rank that comes first is there
 pub times-first : (r : Rank) (w : Weight) → 0 < times r (r ∷ w)
 times-first r w = rw (same_rank-refl r) (omega arith)
 

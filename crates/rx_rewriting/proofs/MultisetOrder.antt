@@ -1,5 +1,5 @@
 -- The order of weights is well-founded: nested induction over the rank taken out, the rest, and the
--- ranks put in.
+-- ranks inserted.
 use Rattle.std.proofs.Common.{◌≡◌, ◌<◌, Bool, true, false, inl, inr, [], ◌∷◌, ◌++◌, refl, ap, arith}
 use mathlib.Core.WellFounded.{Acc}
 use mathlib.Core.WellFounded.Acc
@@ -12,7 +12,7 @@ abbrev pub BelowThis : Rank → Weight → Type 0
 BelowThis a [] = Unit {0}
 BelowThis a (r ∷ put) = RankLess r a × BelowThis a put
 
--- v comes from w by taking out one rank and putting in finitely many below it
+-- v comes from w by taking out one rank and inserting finitely many below it
 pub record OneOut (v w : Weight) : Type 0 where
   pub out : Rank
   pub kept : Weight
@@ -33,7 +33,7 @@ same_accessible v w same (Acc.intro at smaller) =
       below = one.below;
     }))
 
--- where any lower rank may be put on top of an accessible weight, finitely many may
+-- where any lower rank may be added on top of an accessible weight, finitely many may
 put_accessible : (a : Rank) → ((b : Rank) → RankLess b a → (w : Weight) → Acc OneOut w →
     Acc OneOut (b ∷ w))
     → (put : Weight) → BelowThis a put → (w : Weight) → Acc OneOut w → Acc OneOut (put ++ w)
@@ -41,7 +41,7 @@ put_accessible a lesser [] below w rest = rest
 put_accessible a lesser (b ∷ put) below w rest =
     lesser b below.0 (put ++ w) (put_accessible a lesser put below.1 w rest)
 
--- one more rank on top of an accessible weight, where all lesser ranks may be put on top of any
+-- one more rank on top of an accessible weight, where all lesser ranks may be added on top of any
 on_top : (a : Rank) → ((b : Rank) → RankLess b a → (w : Weight) → Acc OneOut w → Acc OneOut (b ∷ w))
     → (w : Weight) → Acc OneOut w → Acc OneOut (a ∷ w)
 on_top a lesser w (Acc.intro at smaller) =
@@ -85,7 +85,7 @@ on_top a lesser w (Acc.intro at smaller) =
           below = one.below;
         }))
 
--- any rank may be put on top of an accessible weight
+-- any rank may be added on top of an accessible weight
 any_on_top : (a : Rank) → Acc RankLess a → (w : Weight) → Acc OneOut w → Acc OneOut (a ∷ w)
 any_on_top a (Acc.intro top smaller) w rest =
     on_top top (λ b less. any_on_top b (smaller b less)) w rest
@@ -148,12 +148,12 @@ split first others (r ∷ put) (inr less, below) =
       below_others = (less, s.below_others);
     }
 
--- where nothing may be below, nothing is put in
+-- where nothing may be below, nothing is inserted
 none_below : (put : Weight) → AllBelow [] put → put ≡ []
 none_below [] below = refl
 none_below (r ∷ put) below = absurd below.0
 
--- taking out some ranks and putting in lower ones is a row of single exchanges
+-- taking out some ranks and inserting lower ones is a row of single exchanges
 row : (first : Rank) (others kept put v w : Weight) → Alike w ((first ∷ others) ++ kept) →
     Alike v (put ++ kept)
     → AllBelow (first ∷ others) put → Exchanges v w

@@ -49,7 +49,7 @@ Smaller-Alike v w v' w' left right less =
       below = less.below;
     }
 
--- ranks below one of those taken out, put in their place, make a weight smaller
+-- ranks below one of those taken out, inserted in their place, make a weight smaller
 pub Smaller-exchange : (first : Rank) (others put kept : Weight) → AllBelow (first ∷ others) put
     → Smaller (put ++ kept) ((first ∷ others) ++ kept)
 Smaller-exchange first others put kept below =
@@ -92,7 +92,7 @@ Smaller-add_left u v w less =
       below = less.below;
     }
 
--- the same ranks added behind on both sides keep smaller
+-- the same ranks added at the end on both sides keep smaller
 pub Smaller-add_right : (u v w : Weight) → Smaller v w → Smaller (v ++ u) (w ++ u)
 Smaller-add_right u v w less =
     Smaller-Alike (u ++ v) (u ++ w) (v ++ u) (w ++ u)
@@ -132,7 +132,7 @@ below_one (y ∷ ys) r x among less = go (same_rank x y) refl (λ later. below_o
     go true e further = inl (rw (same_rank-true x y e) at less)
     go false e further = inr (further (omega (arith, rw e at among)))
 
--- where all put in are below, each of them is
+-- where all inserted are below, each of them is
 pub each_below : (taken put : Weight) → AllBelow taken put → (r : Rank) → 0 < times r put →
     IsBelowOne taken r
 each_below taken [] below r among = absurd (omega arith)
@@ -143,7 +143,7 @@ each_below taken (x ∷ put) below r among = go (same_rank r x) refl (each_below
     go true e further = rw (same_rank-true r x e) below.0
     go false e further = further (omega (arith, rw e at among))
 
--- where each rank put in is below, all are
+-- where each rank inserted is below, all are
 pub all_below : (taken put : Weight) → ((r : Rank) → 0 < times r put → IsBelowOne taken r) →
     AllBelow taken put
 all_below taken [] each = tt
@@ -287,7 +287,7 @@ Smaller-trans u v w low high =
     out : Weight
     out = low.first ∷ low.others
 
-    -- what the upper step put in is below one that it took out
+    -- what the upper step inserted is below one that it took out
     upper : (r : Rank) → 0 < times r high.put → IsBelowOne top r
     upper = each_below top high.put high.below
 
@@ -311,7 +311,7 @@ Smaller-trans u v w low high =
         below_one (top ++ p.only_other) r some.over
         (omega (arith, e, times-append some.over top p.only_other)) some.less
 
-    -- what both together put in is below one that both together took out
+    -- what both together inserted is below one that both together took out
     below : (p : Parts high.put high.kept out low.kept) (r : Rank) (n : ℕ) → times r low.put ≡ n
         → 0 < times r (low.put ++ p.only_one) → IsBelowOne (top ++ p.only_other) r
     below p r zero e among =

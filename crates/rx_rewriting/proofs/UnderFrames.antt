@@ -130,7 +130,7 @@ moves_under_frames inside R inner calls frames (Frame f xs s) in_s =
 pub Fits-inner : (symbols : Symbols) → KeepsInner (Fits symbols)
 Fits-inner symbols f xs s fits = fits.1
 
--- and another fitting term may stand in its place
+-- and another fitting term may be in its place
 pub Fits-exchange : (symbols : Symbols) (f : ℕ) (xs : List ℤ) (s t : Ground)
     → Fits symbols (Frame f xs s) → Fits symbols t → Fits symbols (Frame f xs t)
 Fits-exchange symbols f xs s t whole inner = (whole.0, inner)

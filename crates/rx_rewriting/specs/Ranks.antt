@@ -41,13 +41,13 @@ abbrev pub IsBelowOne : Weight → Rank → Type 0
 IsBelowOne [] r = ⊥
 IsBelowOne (x ∷ xs) r = RankLess r x ⊎ IsBelowOne xs r
 
--- each rank put in is below one that was taken out
+-- each rank inserted is below one that was taken out
 abbrev pub AllBelow : Weight → Weight → Type 0
 AllBelow taken [] = Unit {0}
 AllBelow taken (r ∷ put) = IsBelowOne taken r × AllBelow taken put
 
--- v is smaller than w: at least one rank is taken out, and finitely many are put in, each below one
--- taken out
+-- v is smaller than w: at least one rank is taken out, and finitely many are inserted, each below
+-- one taken out
 pub record Smaller (v w : Weight) : Type 0 where
   pub first : Rank
   pub others : Weight

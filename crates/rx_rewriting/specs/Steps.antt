@@ -22,7 +22,7 @@ pub data Reaches (R : Relation) : Ground → Ground → Type 0 where
   Stop : {s : Ground} → Reaches R s s
   Go : {s t u : Ground} → Step R s t → Reaches R t u → Reaches R s u
 
--- counted reach: exactly so many steps forwards
+-- counted reach: exactly n steps forwards
 pub data ReachesIn (R : Relation) : ℕ → Ground → Ground → Type 0 where
   NoStep : {s : Ground} → ReachesIn R zero s s
   OneMore : {m : ℕ} {s t u : Ground} → Step R s t → ReachesIn R m t u → ReachesIn R (suc m) s u

@@ -34,8 +34,7 @@ abbrev pub under : List StackFrame → Ground → Ground
 under [] s = s
 under (f ∷ fs) s = Frame f.symbol f.arguments (under fs s)
 
--- what a symbol is declared as: the number of its arguments, and whether it stands as a frame or is
--- called
+-- what a symbol is declared as: the number of its arguments, and whether it is a frame or is called
 pub record Symbol : Type 0 where
   pub arity : ℕ
   pub is_frame : Bool

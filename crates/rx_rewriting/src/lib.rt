@@ -4,7 +4,7 @@
 //!
 //! What a reader may rely on: each public function has an empty body, and its contract is a law,
 //! proved for every relation, weight and set of inside terms that a trait's ghost members name.
-//! The definitions stand in `specs/`: `Terms` (ground terms, and which fit a signature), `Steps`
+//! The definitions are in `specs/`: `Terms` (ground terms, and which fit a signature), `Steps`
 //! (steps under frames, reach, conversion, joins), `Ranks` (ranks, weights, smaller), `Premises`
 //! (what the laws ask). The lemmas of `proofs/` are the same laws for relations that depend on
 //! values, as those of a rule list do, and are for the crates above. `specs/Example` has rules and

@@ -18,7 +18,7 @@ first_or_behind : (r : Row) (rs : List Row) (row : Row) →
 first_or_behind r rs row later true same h = (0, omega arith, told_same_row r row same)
 first_or_behind r rs row later false same h = behind r rs row (later h)
 
--- the test of the rows tells which are among them
+-- the test of the rows says which are among them
 pub stands-contains : (rows : List Row) (row : Row) → stands_among rows row ≡ true →
     Contains rows row
 stands-contains [] row e = cc
@@ -42,7 +42,7 @@ contains-stands (r ∷ rs) row zero h e =
 contains-stands (r ∷ rs) row (suc k) h e =
     or_right (row_eq r row) (stands_among rs row) (contains-stands rs row k (omega arith) e)
 
--- so a `bool` that tells which rows these are is the test
+-- so a `bool` that says which rows these are is the test
 pub stands_is : (b : Bool) (rows : List Row) (row : Row) → ((b ≡ true) ↔ Contains rows row) → b ≡
     stands_among rows row
 stands_is true rows row tells = let c = tells.0 refl in sym (contains-stands rows row c.0 c.1 c.2)

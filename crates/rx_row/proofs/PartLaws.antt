@@ -1,4 +1,4 @@
--- Lawful parts of rows that hold have a sum that is worth at least 0.
+-- Lawful parts of rows that hold have a sum whose value is at least 0.
 use Rattle.std.proofs.Common.{◌≡◌, ◌∙◌, ap, subst, refl, ℕ, true, ◌&&◌, nat_le, ◌+◌, List, [], ◌∷◌, Option, Some, None, slice_get, ℤ, pos, negsuc, ◌+ℤ◌, ◌*ℤ◌, ◌≤ℤ◌, int_lt, arith}
 use Rattle.std.proofs.lemmas.Int.{ints}
 use Rattle.std.proofs.lemmas.Bool.{and_parts}
@@ -21,7 +21,7 @@ positive_multiple (pos m) (pos n) h g = omega (arith, ints)
 positive_multiple (pos m) (negsuc n) h g = absurd (omega (arith, ints))
 positive_multiple (negsuc m) z h g = cc
 
--- what a row takes is worth at least 0 where the row holds
+-- what a row takes has a value of at least 0 where the row holds
 pub taken_multiple : (a : ℕ → ℤ) (row : Row) (by : ℤ) → takes row by ≡ true → RowHolds a row →
     pos 0 ≤ℤ (by *ℤ value a (poly_of row))
 taken_multiple a (Ge p) by h g = positive_multiple by (value a p) h g
@@ -56,7 +56,7 @@ sum_from-holds a rows from (p ∷ ps) sum h holds g =
     sum_from-holds a rows (p.0 + 1) ps (with_multiple sum (slice_get rows p.0) p.1) r.1 holds
     (sum_step a rows p.0 p.1 sum (slice_get rows p.0) refl r.0 holds g)
 
--- lawful parts of rows that hold have a sum that is worth at least 0
+-- lawful parts of rows that hold have a sum whose value is at least 0
 pub lawful_sum : (a : ℕ → ℤ) (rows : List Row) (ps : List (ℕ × ℤ)) → are_lawful rows ps ≡ true →
     AllHold a rows → pos 0 ≤ℤ value a (sum_from (number (pos 0)) rows ps)
 lawful_sum a rows ps h holds =

@@ -14,7 +14,7 @@ use Rattle.rx_row.specs.Negation.{minus_one_more, negation, opposite}
 use Rattle.rx_row.specs.declared.row.Row.{Row}
 use Rattle.rx_row.specs.declared.row.Row.TheVariants.{Ge, Eq, Ne}
 
--- -p - 1 is worth what it says
+-- -p - 1 has the value that it says
 pub value-minus_one_more : (a : ℕ → ℤ) (p : Body) → value a (minus_one_more p) ≡
     (negsuc 0 *ℤ value a p) -ℤ pos 1
 value-minus_one_more a p =
@@ -61,7 +61,7 @@ negation-holds a row = (
       [ inl h ↦ absurd (n h) | inr g ↦ g ],
 )
 
--- rows with one behind them hold exactly where they do and it does
+-- rows with one after them hold exactly where they do and it does
 pub all_hold-push : (a : ℕ → ℤ) (rows : List Row) (row : Row) →
     AllHold a (rows ++ row ∷ []) ↔ (AllHold a rows × RowHolds a row)
 all_hold-push a rows row = (
@@ -74,7 +74,7 @@ all_hold-push a rows row = (
   λ h. All-push (RowHolds a) rows row h.0 h.1,
 )
 
--- where rows hold, so does one that stands among them
+-- where rows hold, so does one that is among them
 pub all_hold-contains : (a : ℕ → ℤ) (rows : List Row) (row : Row) → Contains rows row →
     AllHold a rows ↔ (AllHold a rows × RowHolds a row)
 all_hold-contains a rows row c = (λ h. (h, All-contains (RowHolds a) rows row h c), λ h. h.0)

@@ -1,4 +1,4 @@
--- What `==` tells of two rows, or of two lists of rows, is that they are one.
+-- What `==` says of two rows, or of two lists of rows, is that they are one.
 use Rattle.std.proofs.Common.{◌≡◌, ap, Bool, true, refl, List, [], ◌∷◌}
 use Rattle.std.proofs.lemmas.Bool.{and_parts, and_from}
 use Rattle.std.specs.Cmp.Lexicographic.{pointwise}

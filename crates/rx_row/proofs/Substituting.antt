@@ -1,4 +1,4 @@
--- Rows that are being rewritten one by one: what stands, and what the rows that are left still
+-- Rows that are being rewritten one by one: what is there, and what the rows that are left still
 -- decide.
 use Rattle.std.proofs.Common.{◌≡◌, ◌∙◌, ap, subst, true, false, ◌&&◌, refl, sym, ℕ, suc, ◌+◌, ◌<◌, ◌≤◌, List, [], ◌∷◌, ◌++◌, length, drop, get_or, drop_of_length-le, append_assoc, add-one}
 use Rattle.std.proofs.Math.Seq.{drop-cons}
@@ -8,7 +8,7 @@ use Rattle.rx_poly.specs.declared.body.Body.{Body}
 use Rattle.rx_row.specs.Substitution.{in_row, in_rows, row_within, rows_within}
 use Rattle.rx_row.specs.declared.row.Row.{Row}
 
--- the rows that stand already, and those that are left
+-- the rows that are there already, and those that are left
 pub record Substituting (ws : List (ℕ × Body)) (done rest whole : List Row) : Type 0 where
   pub made : done ++ in_rows ws rest ≡ in_rows ws whole
   pub limits : rows_within ws rest ≡ rows_within ws whole

@@ -1,5 +1,5 @@
--- A row with polynomials in place of its variables holds where the row holds of what these are
--- worth.
+-- A row with polynomials in place of its variables holds where the row holds of the values of
+-- these.
 use Rattle.std.proofs.Common.{◌≡◌, ◌↔◌, subst, sym, ℕ, ℤ, pos, ◌≤ℤ◌, List, [], ◌∷◌}
 use Rattle.std.proofs.lemmas.List.Elements.{All-cons, All-head, All-nil, All-tail}
 use Rattle.rx_poly.proofs.SubstitutedValue.{value-in_body}

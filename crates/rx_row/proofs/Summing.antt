@@ -1,4 +1,4 @@
--- A sum that is being formed: what stands so far, and what the parts that are left still decide.
+-- A sum that is being formed: what is there so far, and what the parts that are left still decide.
 use Rattle.std.proofs.Common.{◌≡◌, ◌∙◌, ap, subst, Bool, true, false, ◌&&◌, sym, ℕ, suc, ◌+◌, ◌<◌, List, ◌∷◌, length, drop, get_or, add-one, Option, slice_get, ℤ, pos}
 use Rattle.std.proofs.Math.Seq.{drop-cons}
 use Rattle.std.proofs.lemmas.Bool.{and_left}

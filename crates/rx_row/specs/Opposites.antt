@@ -9,11 +9,11 @@ use Rattle.rx_poly.specs.declared.body.Mono.{Mono, out-Mono}
 abbrev pub number_terms : ℤ → List (Mono × ℤ)
 number_terms c = put (of_atoms []) c []
 
--- the term with its sign turned
+-- the term with its sign reversed
 abbrev pub turned : Mono × ℤ → Mono × ℤ
 turned t = (t.0, t.1 *ℤ negsuc 0)
 
--- the terms with their signs turned, and 1 less for the constant, which in a normal form is the
+-- the terms with their signs reversed, and 1 less for the constant, which in a normal form is the
 -- last
 abbrev pub one_less_turned : List (Mono × ℤ) → List (Mono × ℤ)
 one_less_turned [] = number_terms (negsuc 0)

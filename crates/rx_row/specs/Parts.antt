@@ -51,7 +51,7 @@ abbrev pub sum_from : Body → List Row → List (ℕ × ℤ) → Body
 sum_from sum rows [] = sum
 sum_from sum rows (p ∷ ps) = sum_from (with_multiple sum (slice_get rows p.0) p.1) rows ps
 
--- each multiple, and the sum behind it, keeps the limits
+-- each multiple, and the sum after it, keeps the limits
 abbrev pub sum_within : Body → List Row → List (ℕ × ℤ) → Bool
 sum_within sum rows [] = true
 sum_within sum rows (p ∷ ps) =

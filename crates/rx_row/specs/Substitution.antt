@@ -1,4 +1,4 @@
--- Polynomials put in place of variables in rows: the rows, and whether all that is formed on the
+-- Polynomials substituted for variables in rows: the rows, and whether all that is formed on the
 -- way keeps the limits.
 use Rattle.std.specs.Prelude.{ℕ, Bool, List, [], ◌∷◌, ◌++◌, map}
 use Rattle.std.specs.List.{list_all}

@@ -33,7 +33,7 @@ impl Model for Constraint {
     ghost inverse = { λ rows. record { rows = rows } };
 }
 
-/// Puts the row behind the others, with those polynomials in place of their variables.
+/// Adds the row after the others, with those polynomials in place of their variables.
 fn push_substituted(
     rows: &mut Vec<Row>,
     alloc: Global,
@@ -60,7 +60,7 @@ pub fn subst_rows(alloc: Global, rows: &[Row], with: &[(u32, Poly)]) -> Result<V
     Ok(changed)
 }
 
-/// Puts the row after the others, with those polynomials in place of v0, v1, and so on.
+/// Adds the row after the others, with those polynomials in place of v0, v1, and so on.
 fn push_at_args(rows: &mut Vec<Row>, alloc: Global, row: &Row, args: &[Poly]) -> Result<(), PolyEnd>
     ensures forms { FormsAs (λ _. rows.new.items) PolyEnd.Large result
         (pushed_with rows.old.items (numbered args.now) row.now) }
@@ -83,7 +83,7 @@ pub fn rows_at_args(alloc: Global, rows: &[Row], args: &[Poly]) -> Result<Vec<Ro
 }
 
 impl Constraint {
-    /// Exactly these rows, in their order, also where one stands there twice. Takes no memory.
+    /// Exactly these rows, in their order, also where one occurs there twice. Takes no memory.
     pub fn from_rows(rows: Vec<Row>) -> Constraint
         ensures { result ≡ rows.items }
     {
@@ -92,14 +92,14 @@ impl Constraint {
         }
     }
 
-    /// The rows in order, lent.
+    /// The rows in order, borrowed.
     pub fn rows(&self) -> &[Row]
         ensures { result.now ≡ self.now }
     {
         self.rows.as_slice()
     }
 
-    /// Whether the row stands there. Takes no memory.
+    /// Whether the row is there. Takes no memory.
     pub fn contains(&self, row: &Row) -> bool
         ensures { IsTrue result ↔ Contains self.now row.now }
     {
@@ -111,8 +111,8 @@ impl Constraint {
         false
     }
 
-    /// Puts the row behind the others, unless it stands there; such a row changes nothing. Where
-    /// there is no memory the rows stay as they were.
+    /// Adds the row after the others, unless it is there; such a row changes nothing. Where there
+    /// is no memory the rows stay as they were.
     pub fn push(&mut self, row: Row) -> Result<(), NoMemory>
         ensures known { Contains self.old row → self.new ≡ self.old }
         ensures ready { Contains self.old row → IsOk result }
@@ -129,7 +129,7 @@ impl Constraint {
         Ok(())
     }
 
-    /// Puts the row after the others, also where it is one of them. Where there is no memory the
+    /// Adds the row after the others, also where it is one of them. Where there is no memory the
     /// rows stay as they were.
     pub fn append(&mut self, row: Row) -> Result<(), NoMemory>
         ensures ok { OnOk result (self.new ≡ self.old ++ row ∷ []) }
@@ -173,7 +173,7 @@ impl Constraint {
         self.rows == other.rows
     }
 
-    /// The same rows once more; fails only for want of memory.
+    /// The same rows once more; fails only when out of memory.
     pub fn try_clone(&self, alloc: Global) -> Result<Constraint, AllocError>
         ensures { IfOk result (λ c. c ≡ self.now) }
     {

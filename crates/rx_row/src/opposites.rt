@@ -29,7 +29,7 @@ fn are_opposite(left: &i128, right: &i128) -> bool
     }
 }
 
-/// Whether the one term is the other with its sign turned.
+/// Whether the one term is the other with its sign reversed.
 fn is_turned(left: &(Mono, i128), right: &(Mono, i128)) -> bool
     ensures { IsTrue result ↔ (left.now ≡ turned right.now) }
 {

@@ -92,7 +92,7 @@ impl Row {
         matches!(self, Row::Ge(_))
     }
 
-    /// The row's polynomial, lent.
+    /// The row's polynomial, borrowed.
     pub fn poly(&self) -> &Poly
         ensures { result.now ≡ poly_of self.now }
     {
@@ -115,7 +115,7 @@ impl Row {
         }
     }
 
-    /// The same row once more; fails only for want of memory.
+    /// The same row once more; fails only when out of memory.
     pub fn try_clone(&self, alloc: Global) -> Result<Row, AllocError>
         ensures { IfOk result (λ r. r ≡ self.now) }
     {

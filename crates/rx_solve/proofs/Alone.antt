@@ -23,7 +23,7 @@ use Rattle.rx_poly.specs.declared.body.Mono.{Mono}
 use Rattle.rx_poly.specs.declared.body.Body.{Body, out-Body}
 use Rattle.rx_cert.specs.Elimination.{coefficient_of}
 
--- a term that comes before all others is put first
+-- a term that comes before all others is added first
 insert_first : (t : Mono × ℤ) (us : List (Mono × ℤ)) → is_zero t.1 ≡ false →
     is_before mono_cmp t.0 us ≡ true → insert_term mono_cmp t.0 t.1 us ≡ t ∷ us
 insert_first t [] z h = put-nonzero t.0 t.1 [] z

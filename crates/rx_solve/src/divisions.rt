@@ -47,7 +47,7 @@ fn number_of(body: &Body) -> Option<i128>
     }
 }
 
-/// Puts the ratio of the two after the others, where the divisor is a number other than 0.
+/// Adds the ratio of the two after the others, where the divisor is a number other than 0.
 fn push_own(found: &mut Vec<Ratio>, alloc: Global, num: &Body, den: &Body) -> Result<(), AllocError>
     ensures { OnOk result (found.new.items ≡ found.old.items ++ own_ratio num.now den.now) }
 {
@@ -61,7 +61,7 @@ fn push_own(found: &mut Vec<Ratio>, alloc: Global, num: &Body, den: &Body) -> Re
     }
 }
 
-/// Puts the ratios in the atom after the others.
+/// Adds the ratios in the atom after the others.
 #[cycle(listing)]
 #[tactic(auto, using(crate::proofs::RatioLaws::ratios_Var, crate::proofs::RatioLaws::ratios_Div, crate::proofs::RatioLaws::ratios_Mod))]
 fn push_atom(found: &mut Vec<Ratio>, alloc: Global, atom: &Atom) -> Result<(), AllocError>
@@ -82,7 +82,7 @@ fn push_atom(found: &mut Vec<Ratio>, alloc: Global, atom: &Atom) -> Result<(), A
     }
 }
 
-/// Puts those in the monomial after the others.
+/// Adds those in the monomial after the others.
 #[cycle(listing)]
 fn push_mono(found: &mut Vec<Ratio>, alloc: Global, mono: &Mono) -> Result<(), AllocError>
     ensures { OnOk result (found.new.items ≡ found.old.items ++ mono_ratios mono.now) }
@@ -93,7 +93,7 @@ fn push_mono(found: &mut Vec<Ratio>, alloc: Global, mono: &Mono) -> Result<(), A
     Ok(())
 }
 
-/// Puts those in the sum after the others.
+/// Adds those in the sum after the others.
 #[cycle(listing)]
 fn push_body(found: &mut Vec<Ratio>, alloc: Global, body: &Body) -> Result<(), AllocError>
     ensures { OnOk result (found.new.items ≡ found.old.items ++ ratios body.now) }
@@ -104,7 +104,7 @@ fn push_body(found: &mut Vec<Ratio>, alloc: Global, body: &Body) -> Result<(), A
     Ok(())
 }
 
-/// Puts those in the row after the others. Their dividends are polynomials.
+/// Adds those in the row after the others. Their dividends are polynomials.
 fn push_row(found: &mut Vec<Ratio>, alloc: Global, row: &Row) -> Result<(), AllocError>
     ensures found { OnOk result (found.new.items ≡ found.old.items ++ ratios (poly_of row.now)) }
     ensures polynomials { list_all has_polynomial (ratios (poly_of row.now)) ≡ true }
@@ -143,7 +143,7 @@ fn is_one_of(known: &[Ratio], ratio: &Ratio) -> bool
     false
 }
 
-/// Puts the ratio after the others, unless it is one of them.
+/// Adds the ratio after the others, unless it is one of them.
 fn push_once(known: &mut Vec<Ratio>, ratio: Ratio) -> Result<(), AllocError>
     ensures { OnOk result (known.new.items ≡ pushed_ratio known.old.items ratio) }
 {

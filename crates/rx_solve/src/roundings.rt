@@ -28,7 +28,7 @@ pub struct Rounding {
     pub divisor: i128,
 }
 
-/// Puts the roundings of the row by the divisor after the others: one of an inequality, two of an
+/// Adds the roundings of the row by the divisor after the others: one of an inequality, two of an
 /// equation.
 fn push_with(found: &mut Vec<Rounding>, at: u32, row: &Row, divisor: i128) -> Result<(), AllocError>
     ensures { OnOk result (found.new.items ≡ found.old.items ++ roundings_with divisor at row.now) }
@@ -45,7 +45,7 @@ fn push_with(found: &mut Vec<Rounding>, at: u32, row: &Row, divisor: i128) -> Re
     Ok(())
 }
 
-/// Puts the roundings of the row after the others. Large exactly where a coefficient's size leaves
+/// Adds the roundings of the row after the others. Large exactly where a coefficient's size leaves
 /// i128.
 fn push_roundings(found: &mut Vec<Rounding>, at: usize, row: &Row) -> Result<(), FmEnd>
     ensures { FormsAs (λ _. found.new.items) FmEnd.Large result

@@ -15,7 +15,7 @@ use std::alloc::{AllocError, Global};
 /// The most polynomials that the elimination may hold.
 const MOST_POLYNOMIALS: u32 = 4096;
 
-/// Puts what the row says to be at least 0 after the others.
+/// Adds what the row says to be at least 0 after the others.
 fn push_nonnegative(polys: &mut Vec<Poly>, alloc: Global, row: &Row) -> Result<(), PolyEnd>
     ensures { FormsAs (λ _. polys.new.items) PolyEnd.Large result
         (nonnegative_after polys.old.items row.now) }
@@ -84,7 +84,7 @@ fn next_multiplier<'a>(row: &Row, left: &'a [i128]) -> Option<(i128, &'a [i128])
     }
 }
 
-/// Puts the part after the others, unless its multiplier is 0.
+/// Adds the part after the others, unless its multiplier is 0.
 fn push_part(parts: &mut Parts, at: usize, by: i128) -> Result<(), AllocError>
     ensures { OnOk result (parts.new ≡ parts.old ++ with_part at by []) }
 {

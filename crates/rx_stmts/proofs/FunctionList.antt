@@ -1,4 +1,4 @@
--- Functions that are being compiled one by one: what stands, and what those that are left still
+-- Functions that are being compiled one by one: what is there, and what those that are left still
 -- decide.
 use Rattle.std.proofs.Common.{◌≡◌, ◌∙◌, refl, sym, ap, subst, Bool, true, false, ◌&&◌, ℕ, suc, ◌+◌, ◌<◌, ◌≤◌, Result, List, ◌∷◌, length, drop, get_or, drop_of_length-le, add-one}
 use Rattle.std.specs.Prelude.{IsErrAnd, Ok, Err, slice_get}

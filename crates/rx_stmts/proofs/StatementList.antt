@@ -1,4 +1,4 @@
--- Statements of a list that are being compiled one by one: what stands, and what those that are
+-- Statements of a list that are being compiled one by one: what is there, and what those that are
 -- left still decide.
 use Rattle.std.proofs.Common.{◌≡◌, ◌≢◌, ◌∙◌, refl, sym, ap, subst, true, false, ◌&&◌, ℕ, suc, ◌+◌, ◌<◌, ◌≤◌, Result, Ok, Err, List, [], ◌∷◌, length, map, drop, get_or, drop_of_length-le, add-one, arith, length-drop}
 use Rattle.std.proofs.Math.Seq.{drop-cons}

@@ -30,7 +30,7 @@ slots_after t n = (stmt_code t).slots_after n
 abbrev pub slots_after_list : List Stmt → ℕ → ℕ
 slots_after_list ts n = table.slots_after_all (map stmt_code ts) n
 
--- a call opens exactly one point more, with so many variables
+-- a call opens exactly one point more, with n variables
 abbrev pub CompilesPoint : Code → Code → Result Point PolyEnd → ℕ → Type 0
 CompilesPoint old new (Ok z) n =
     (new ≡ append_code old (opens (a_point n ∷ []))) × (z ≡ point (length old.opened) n) ×

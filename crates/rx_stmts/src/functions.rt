@@ -12,7 +12,7 @@ use rx_code::{Action, Code, Point};
 use rx_poly::{Poly, PolyEnd};
 use std::alloc::Global;
 
-/// Opens the entry of a function, over so many parameters. Large exactly where there is no room.
+/// Opens the entry of a function, over n parameters. Large exactly where there is no room.
 fn open_entry(code: &mut Code, parameters: usize) -> Result<Point, PolyEnd>
     ensures point { CompilesPoint code.old code.new result parameters }
 {

@@ -1,4 +1,4 @@
--- Polynomials that are being changed one by one: those that stand, and what those that are left
+-- Polynomials that are being changed one by one: those that are there, and what those that are left
 -- still decide.
 use Rattle.std.proofs.Common.{◌≡◌, ◌∙◌, ap, subst, true, false, ◌&&◌, refl, sym, ℕ, suc, ◌+◌, ◌<◌, ◌≤◌, List, [], ◌∷◌, ◌++◌, length, drop, get_or, drop_of_length-le, append_assoc, add-one}
 use Rattle.std.proofs.Math.Seq.{drop-cons}
@@ -8,7 +8,7 @@ use Rattle.rx_poly.specs.Substitution.{in_body}
 use Rattle.rx_poly.specs.declared.body.Body.{Body}
 use Rattle.rx_term.specs.Substitution.{in_polys, polys_within}
 
--- the polynomials that stand already, and those that are left
+-- the polynomials that are there already, and those that are left
 pub record Changing (ws : List (ℕ × Body)) (done rest whole : List Body) : Type 0 where
   pub made : done ++ in_polys ws rest ≡ in_polys ws whole
   pub limits : polys_within ws rest ≡ polys_within ws whole

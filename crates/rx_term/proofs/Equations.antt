@@ -115,7 +115,7 @@ pub ground-Frame : (a : ℕ → ℤ) (f : Sym) (ps : List Body) (t : Term) → g
 ground-Frame a f ps t =
     fold_out-Term Ground (ground_level a) (Frame f ps t) ∙ rw (outs-Frame f ps t) refl
 
--- how many frames stand over the redex
+-- how many frames are over the redex
 pub redex-Return : (p : Body) → redex_place (Return p) ≡ None
 redex-Return p = fold_out-Term (Option ℕ) redex_place_level (Return p) ∙ rw (outs-Return p) refl
 
@@ -160,7 +160,7 @@ pub arguments-Frame : (f : Sym) (ps : List Body) (t : Term) → arguments_of (Fr
 arguments-Frame f ps t =
     fold_out-Term (List Body) arguments_level (Frame f ps t) ∙ rw (outs-Frame f ps t) refl
 
--- whether only the first variables stand in it
+-- whether only the first variables occur in it
 pub below-Return : (n : ℕ) (p : Body) → term_uses_below n (Return p) ≡ uses_below n p
 below-Return n p = fold_out-Term Bool (term_below_level n) (Return p) ∙ rw (outs-Return p) refl
 

@@ -79,7 +79,7 @@ module _ (ws : List (ℕ × Body)) where
         ap (λ b. is_declared parts.symbols f true (length ps) && b) inner ∙
         sym (fits-Frame parts f ps t))
 
--- ---- parts behind frames
+-- ---- parts under frames
 
 no_part : (s : Term) → ◌≡◌ {A = Option Term} None (Some s) → ⊥
 no_part s e = cc
@@ -87,7 +87,7 @@ no_part s e = cc
 a_part : (s : Term) → ◌≡◌ {A = Option Term} (Some s) None → ⊥
 a_part s e = cc
 
--- behind more frames than there are stands nothing, and behind fewer something
+-- under more frames than there are there is nothing, and under fewer something
 abbrev Ends : ℕ → Term → Type 0
 Ends n t = ((behind n t ≡ None) → depth_of t < n) × (depth_of t < n → behind n t ≡ None)
 
@@ -165,7 +165,7 @@ module _ (parts : RuleParts) where
         ∙ and_from (is_declared parts.symbols f true (length ps))
         (term_fits parts (replaced n t inner)) both.0 (further t both.1)
 
-    -- and another fitting term may stand in its place
+    -- and another fitting term may be in its place
     pub fits_replaced : (n : ℕ) (t : Term) → Stays n t
     fits_replaced zero t = λ fits. inner_fits
     fits_replaced (suc n) t = stays n (λ u. fits_replaced n u) t (form t)
@@ -191,7 +191,7 @@ module _ (inner : Term) where
       let h = further t in
       omega arith
 
-  -- a term over which so many frames stand is no deeper than these and the term
+  -- a term over which there are n frames is no deeper than these and the term
   pub depth_replaced : (n : ℕ) (t : Term) → Deep n t
   depth_replaced zero t = omega arith
   depth_replaced (suc n) t = deep n (λ u. depth_replaced n u) t (form t)
@@ -213,7 +213,7 @@ counted n further _ (AFrame f ps t) s h =
     let inner = further t s (sym (behind-Frame n f ps t) ∙ h) in
     omega arith
 
--- the part behind so many frames has so many fewer
+-- the part under n frames has n fewer
 pub depth_behind : (n : ℕ) (t : Term) → Counted n t
 depth_behind zero t = λ s h. let same : t ≡ s = cc in let e = ap depth_of same in omega arith
 depth_behind (suc n) t = counted n (λ u. depth_behind n u) t (form t)

@@ -1,4 +1,4 @@
--- What a term means, and whether rows hold, is decided by the variables that stand in them.
+-- What a term means, and whether rows hold, is decided by the variables that occur in them.
 use Rattle.std.proofs.Common.{◌≡◌, ◌∙◌, ap, sym, subst, refl, true, ℕ, zero, suc, ◌<◌, List, [], ◌∷◌, ℤ, pos, ◌≤ℤ◌}
 use Rattle.std.proofs.lemmas.Bool.{and_parts}
 use Rattle.std.proofs.lemmas.List.Elements.{All-cons, All-head, All-nil, All-tail}

@@ -1,4 +1,4 @@
--- The test that a rule set is well made tells exactly that.
+-- The test that a rule set is well made says exactly that.
 use Rattle.std.proofs.Common.{◌≡◌, ◌∙◌, ap, sym, subst, refl, Bool, true, false, ◌&&◌, ℕ, ◌+◌, ◌^◌, ◌≤◌, ◌<◌, if◌then◌else◌, Option, Some, None, List, [], ◌∷◌, ◌++◌, length, arith}
 use Rattle.std.specs.Prelude.{nat_lt, nat_le, option_and_then, All}
 use Rattle.std.specs.List.{list_all}
@@ -27,13 +27,13 @@ use Rattle.rx_term.proofs.VariableTests.{variable-is, is-variable, variables-are
 nothing : {n : ℕ} → ◌≡◌ {A = Option ℕ} None (Some n) → ⊥
 nothing e = cc
 
--- a left side with so many variables
+-- a left side with n variables
 pub record HasWidth (t : Term) (n : ℕ) : Type 0 where
   pub form : IsLeft t
   pub counted : width t ≡ n
   pub few : n ≤ 2 ^ 31
 
--- so many first variables
+-- the first n variables
 pub record FirstVariables (ps : List Body) (n : ℕ) : Type 0 where
   pub are : ps ≡ variables_from 0 n
   pub few : n ≤ 2 ^ 31
@@ -134,7 +134,7 @@ level (Term-F.Frame f ps inner) k h = chosen (variable_count ps) refl h where
       ap (Frame f (variables_from 0 n)) (sym (roll-out-Term inner)) in
       subst (λ t. HasWidth t k) (sym whole) (over f n (out-Term inner) k first.few h)
 
--- a term with a number of variables is a left side with so many
+-- a term with a number of variables is a left side with that many
 pub left_width-is : (t : Term) (n : ℕ) → left_width t ≡ Some n → HasWidth t n
 left_width-is t n h = subst (λ u. HasWidth u n) (roll-out-Term t) (level (out-Term t) n h)
 

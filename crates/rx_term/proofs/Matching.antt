@@ -1,5 +1,5 @@
--- A rule's left side, where its variables are worth the polynomials of a term of its shape, means
--- what the term does.
+-- A rule's left side, where its variables have the values of the polynomials of a term of its
+-- shape, means what the term does.
 use Rattle.std.proofs.Common.{◌≡◌, ◌∙◌, ap, sym, refl, Bool, true, ℕ, zero, suc, ◌+◌, ◌≤◌, if◌then◌else◌, List, [], ◌∷◌, ◌++◌, length, ℤ, arith}
 use Rattle.std.specs.List.{enumerate_from}
 use Rattle.std.proofs.lemmas.Bool.{eq-eqb, ne_eqb}
@@ -64,7 +64,7 @@ listed_values a b k (p ∷ ps) is =
     let rest = listed_values a b (k + 1) ps further in
     (λ i. here i ∷ rest i)
 
--- a rule's left side of the shape of a term, both fitting, at what the term's polynomials are worth
+-- a rule's left side of the shape of a term, both fitting, at the values of the term's polynomials
 pub left_matches : (parts : RuleParts) (a : ℕ → ℤ) (left t : Term) → IsLeft left →
     term_fits parts left ≡ true → term_fits parts t ≡ true → shape_of left ≡ shape_of t →
     ground_at (worth a (matched t)) left ≡ ground_at a t

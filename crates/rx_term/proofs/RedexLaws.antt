@@ -1,4 +1,4 @@
--- Parts of a term and parts of its ground term: behind outer frames, and at the redex.
+-- Parts of a term and parts of its ground term: under outer frames, and at the redex.
 use Rattle.std.proofs.Common.{◌≡◌, ◌∙◌, ap, sym, subst, refl, ℕ, zero, suc, ◌+◌, ◌⊎◌, inl, inr, arith, Option, Some, None, List, ℤ}
 use Rattle.std.specs.Prelude.{unwrap_or, option_and_then}
 use Rattle.std.specs.Option.{option_map, option_map_or}
@@ -12,7 +12,7 @@ use Rattle.rx_term.specs.declared.term.Term.{Term, Term-F}
 use Rattle.rx_term.specs.declared.term.Term.TheVariants.{Return, Fail, Call, Frame, outs-Return, outs-Fail, outs-Call}
 use Rattle.rx_term.proofs.Equations.{induct, Form, AReturn, AFail, ACall, AFrame, form, behind-Frame, replaced-Frame, outer-Frame, ground-Return, ground-Fail, ground-Call, ground-Frame, redex-Return, redex-Fail, redex-Call, redex-Frame}
 
--- ---- parts behind outer frames
+-- ---- parts under outer frames
 
 module _ (a : ℕ → ℤ) (n : ℕ) (inner : Term) where
   abbrev Stands : Term → Type 0
@@ -41,7 +41,7 @@ module _ (a : ℕ → ℤ) (n : ℕ) (inner : Term) where
       ∙ ap (stack.Frame f.0 (values a ps)) (further u)
       ∙ sym (ap (λ fs. under fs (ground_at a inner)) (outer-Frame a n f ps u))
 
--- what replaces the part behind outer frames stands under the same frames
+-- what replaces the part under outer frames is under the same frames
 pub ground_replaced : (a : ℕ → ℤ) (n : ℕ) (t inner : Term) → ground_at a (replaced n t inner) ≡
     under (outer_frames a n t) (ground_at a inner)
 ground_replaced a zero t inner = refl
@@ -68,7 +68,7 @@ module _ (a : ℕ → ℤ) (n : ℕ) (s : Term) where
       (further u (sym (behind-Frame n f ps u) ∙ h))
       ∙ sym (ap (λ fs. under fs (ground_at a s)) (outer-Frame a n f ps u))
 
--- the part behind outer frames stands under them
+-- the part under outer frames is under them
 pub ground_behind : (a : ℕ → ℤ) (n : ℕ) (t s : Term) → behind n t ≡ Some s → ground_at a t ≡
     under (outer_frames a n t) (ground_at a s)
 ground_behind a zero t s h = let same : t ≡ s = cc in ap (ground_at a) same
@@ -81,7 +81,7 @@ pub data IsEnd : Term → Type 0 where
   EndReturn : (p : Body) → IsEnd (Return p)
   EndFail : (c : ℕ) → IsEnd (Fail c)
 
--- a term's redex: where it stands, what it is, and what it means
+-- a term's redex: where it is, what it is, and what it means
 pub record Found (t : Term) : Type 0 where
   pub place : ℕ
   pub part : Term

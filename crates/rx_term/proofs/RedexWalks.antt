@@ -42,7 +42,7 @@ frame_place f ps t h =
     redex-Frame f ps t ∙ ap (λ (o : Option ℕ). Some (option_map_or (λ n. 1 + n) o 0))
     (result_place t (form t) h)
 
--- over another term the redex is one frame further in
+-- over another term the redex is one frame deeper
 inner_place : (f : Sym) (ps : List Body) (t : Term) (n : ℕ) → redex_place t ≡ Some n →
     redex_place (Frame f ps t) ≡ Some (suc n)
 inner_place f ps t n e =
@@ -96,7 +96,7 @@ pub record Finding (here whole : Term) : Type 0 where
   pub redex : redex_of here ≡ redex_of whole
   pub result : is_result here ≡ is_result whole
 
--- one frame further in
+-- one frame deeper
 pub found_further : (f : Sym) (ps : List Body) (here t whole : Term) → here ≡ Frame f ps t →
     is_result t ≡ false → Finding here whole → Finding t whole
 found_further f ps here t whole is h s = record {

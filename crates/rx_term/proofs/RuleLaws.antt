@@ -55,7 +55,7 @@ redex_shape parts _ (FailRedex f ps c) fits =
     subst (IsRedexShape parts) (sym (shape-Frame f ps (Fail c) ∙ ap (Framed f) (shape-Fail c)))
     (FailShape f (length ps) c both.0 (sym (fits-Fail parts c) ∙ both.1))
 
--- the test tells whether two shapes are one
+-- the test says whether two shapes are one
 pub told_shape : (s t : Shape) → same_shape s t ≡ true → s ≡ t
 told_shape Value Value h = refl
 told_shape Value (Failure d) h = cc

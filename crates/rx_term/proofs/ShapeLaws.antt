@@ -166,7 +166,7 @@ same_count _ _ (SameFrame f ps qs s t count inner) =
 length-values : (a : ℕ → ℤ) (ps : List Body) → length (values a ps) ≡ length ps
 length-values a ps = length-map ps (value a)
 
--- lists that are equal behind beginnings of one length are equal in both parts
+-- lists that are equal after beginnings of one length are equal in both parts
 pub parts_equal : (xs ys us vs : List ℤ) → length xs ≡ length ys → xs ++ us ≡ ys ++ vs → (xs ≡ ys) ×
     (us ≡ vs)
 parts_equal xs ys us vs long e = (
@@ -317,7 +317,7 @@ module _ (a b : ℕ → ℤ) where
             map-append (value b) qs (arguments_of t));
       })
 
-  -- what one ground term tells of two terms
+  -- what one ground term says of two terms
   pub ground_alike : (s t : Term) → ground_at a s ≡ ground_at b t → Alike s t
   ground_alike = induct Back
       (λ p t h. back_return p t (form t) h)

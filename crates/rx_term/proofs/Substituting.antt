@@ -1,5 +1,5 @@
--- A stack that is being rewritten frame by frame: what stands, turned over, and what the part that
--- is left still decides.
+-- A stack that is being rewritten frame by frame: what is there, in reverse order, and what the
+-- part that is left still decides.
 use Rattle.std.proofs.Common.{◌≡◌, ◌∙◌, ap, sym, true, false, ◌&&◌, ℕ, List}
 use Rattle.std.proofs.lemmas.Bool.{and_left}
 use Rattle.rx_poly.specs.declared.body.Body.{Body}

@@ -1,4 +1,4 @@
--- What the test for a variable tells, and for the first variables in order.
+-- What the test for a variable says, and for the first variables in order.
 use Rattle.std.proofs.Common.{◌≡◌, ◌∙◌, ap, sym, refl, true, ℕ, zero, suc, ◌+◌, List, [], ◌∷◌, length, ℤ, pos}
 use Rattle.std.specs.Ordering.{int_eq}
 use Rattle.std.proofs.lemmas.Bool.{and_parts, and_from, eqb-true, eq-eqb}

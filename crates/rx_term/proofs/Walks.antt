@@ -8,7 +8,7 @@ use Rattle.rx_term.specs.declared.term.Term.TheVariants.{Frame, outs-Return, out
 use Rattle.rx_term.specs.Stacks.{behind, onto, redex_place, replaced, turned, turned_level}
 use Rattle.rx_term.proofs.Equations.{induct, behind-Frame, onto-Frame, replaced-Frame, turned-Frame, redex-Frame}
 
--- behind one frame more is behind one less under the frame
+-- the part under n frames is that under one less of what the first frame is over
 pub behind-frame : (n : ℕ) (f : Sym) (ps : List Body) (t : Term) → 0 < n → behind n (Frame f ps t) ≡
     behind (n - 1) t
 behind-frame zero f ps t h = absurd (omega arith)
@@ -24,7 +24,7 @@ replaced-frame (suc n) f ps t inner h =
     let q : n ≡ suc n - 1 = omega arith in
     replaced-Frame n f ps t inner ∙ ap (λ (k : ℕ). Frame f ps (replaced k t inner)) q
 
--- a term that turns has a frame
+-- a term that is reversed frame by frame has one
 abbrev Turns : Term → Type 0
 Turns t =
     (n : ℕ) (u b inner : Term) (r : Term × Option Term) → 0 < n → r ≡ turned t u → r.1 ≡ Some b
@@ -45,7 +45,7 @@ turns-Frame f ps t further n u b inner r h is some =
     ap (λ (x : Term). onto (Frame f ps u) (replaced (n - 1) x inner)) same ∙ left ∙
     ap (onto u) (sym right)
 
--- what was turned over stands over the rest as it did before
+-- what was reversed is over the rest as it was before
 pub turned-on : (t : Term) → Turns t
 turned-on = induct Turns
     (λ p n u b inner r h is some. absurd (no_part b
@@ -59,7 +59,7 @@ turned-on = induct Turns
     (is ∙ ap (λ (x : Term-F Term). turned_level x u) (outs-Call f ps))) ∙ some)))
     turns-Frame
 
--- the redex's place, where so many frames stand over the term
+-- the redex's place, where n frames are over the term
 abbrev pub further_in : ℕ → Option ℕ → Option ℕ
 further_in zero r = r
 further_in (suc n) None = Some n
@@ -80,7 +80,7 @@ further-more zero (Some k) = refl
 further-more (suc n) None = let q : suc n + 0 ≡ suc n = omega arith in ap Some q
 further-more (suc n) (Some k) = let q : suc n + (1 + k) ≡ suc (suc n) + k = omega arith in ap Some q
 
--- one frame further in
+-- one frame deeper
 pub further-frame : (n : ℕ) (f : Sym) (ps : List Body) (t : Term) →
     further_in n (redex_place (Frame f ps t)) ≡ further_in (n + 1) (redex_place t)
 further-frame n f ps t =

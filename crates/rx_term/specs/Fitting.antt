@@ -12,7 +12,7 @@ is_alike true other = other
 is_alike false true = false
 is_alike false false = true
 
--- the symbol is declared, as a frame or as a point, with so many arguments
+-- the symbol is declared, as a frame or as a point, with n arguments
 abbrev pub is_declared : List SymInfo → Sym → Bool → ℕ → Bool
 is_declared symbols f frame count =
     option_map_or (λ (s : SymInfo). is_alike s.frame frame && nat_eq s.arity count)

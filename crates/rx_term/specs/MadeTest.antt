@@ -46,7 +46,7 @@ abbrev pub variable_count : List Body → Option ℕ
 variable_count ps =
     if are_variables 0 ps && nat_le (length ps) (2 ^ 31) then Some (length ps) else None
 
--- with what stands under a frame of so many variables
+-- with what is under a frame of n variables
 abbrev pub width_over : ℕ → Term-F Term → Option ℕ
 width_over n (Term-F.Return p) = if nat_lt n (2 ^ 31) && is_variable n p then Some (n + 1) else None
 width_over n (Term-F.Fail c) = Some n
@@ -64,7 +64,7 @@ left_width_level (Term-F.Frame f ps inner) =
 abbrev pub left_width : Term → Option ℕ
 left_width t = left_width_level (out-Term t)
 
--- the sides fit, and the right side and the rows use only so many variables
+-- the sides fit, and the right side and the rows use only n variables
 abbrev pub is_made_over : RuleParts → Rule → ℕ → Bool
 is_made_over parts rule n =
     term_fits parts rule.left && (term_fits parts rule.right &&

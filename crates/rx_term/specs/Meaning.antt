@@ -46,7 +46,7 @@ symbol_of s = record { arity = s.arity; is_frame = s.frame }
 abbrev pub signature : RuleParts → Symbols
 signature parts = record { declared = map symbol_of parts.symbols; fails = parts.fails }
 
--- so many outer frames of a term, or all where there are fewer, at an assignment
+-- n outer frames of a term, or all where there are fewer, at an assignment
 abbrev pub outer_level : (ℕ → ℤ) → Term-F Term → (Term → List StackFrame) → List StackFrame
 outer_level a (Term-F.Return p) further = []
 outer_level a (Term-F.Fail c) further = []
@@ -58,7 +58,7 @@ abbrev pub outer_frames : (ℕ → ℤ) → ℕ → Term → List StackFrame
 outer_frames a zero t = []
 outer_frames a (suc n) t = outer_level a (out-Term t) (outer_frames a n)
 
--- the redex of a term: the part behind the frames that stand over it
+-- the redex of a term: the part under the frames that are over it
 abbrev pub redex_of : Term → Option Term
 redex_of t = option_and_then (λ n. behind n t) (redex_place t)
 
@@ -68,7 +68,7 @@ pub data IsRedex : Term → Type 0 where
   ReturnRedex : (f : Sym) (ps : List Body) (p : Body) → IsRedex (Frame f ps (Return p))
   FailRedex : (f : Sym) (ps : List Body) (c : ℕ) → IsRedex (Frame f ps (Fail c))
 
--- the redex of a ground term: its call, or its innermost frame where that stands over a result; a
+-- the redex of a ground term: its call, or its innermost frame where that is over a result; a
 -- result has none
 abbrev pub ground_redex : Ground → Option Ground
 ground_redex (stack.Ret k) = None

@@ -1,5 +1,4 @@
--- Terms as stacks: their frames, the part behind some of them, and what stands in place of that
--- part.
+-- Terms as stacks: their frames, the part under some of them, and what is in place of that part.
 use Rattle.std.specs.Prelude.{ℕ, zero, suc, ◌+◌, Bool, true, false, Option, Some, None}
 use Rattle.std.specs.Option.{option_map_or}
 use Rattle.rx_term.specs.declared.term.Sym.{Sym}
@@ -16,7 +15,7 @@ depth_level (Term-F.Frame f ps inner) = 1 + inner
 abbrev pub depth_of : Term → ℕ
 depth_of = fold-Term ℕ depth_level
 
--- how many frames stand over the redex: none over a call, all but the innermost over a result; a
+-- how many frames are over the redex: none over a call, all but the innermost over a result; a
 -- result has none
 abbrev pub redex_place_level : Term-F (Option ℕ) → Option ℕ
 redex_place_level (Term-F.Return p) = None
@@ -57,7 +56,7 @@ root_level (Term-F.Frame f ps inner) = Some f
 abbrev pub root_of : Term → Option Sym
 root_of t = root_level (out-Term t)
 
--- whether the frames stand over a call, and not over a result
+-- whether the frames are over a call, and not over a result
 abbrev pub ends_in_call_level : Term-F Bool → Bool
 ends_in_call_level (Term-F.Return p) = false
 ends_in_call_level (Term-F.Fail c) = false
@@ -74,7 +73,7 @@ under_frame (Term-F.Fail c) find = None
 under_frame (Term-F.Call f ps) find = None
 under_frame (Term-F.Frame f ps inner) find = find inner
 
--- the part behind so many frames, if there are so many
+-- the part under n frames, if there are n
 abbrev pub behind : ℕ → Term → Option Term
 behind zero t = Some t
 behind (suc n) t = under_frame (out-Term t) (behind n)
@@ -96,7 +95,7 @@ over_frame (Term-F.Fail c) end change = end
 over_frame (Term-F.Call f ps) end change = end
 over_frame (Term-F.Frame f ps inner) end change = Frame f ps (change inner)
 
--- so many outer frames, or all where there are fewer, over the other term
+-- n outer frames, or all where there are fewer, over the other term
 abbrev pub replaced : ℕ → Term → Term → Term
 replaced zero t inner = inner
 replaced (suc n) t inner = over_frame (out-Term t) inner (λ rest. replaced n rest inner)

@@ -1,4 +1,4 @@
--- Polynomials put in place of variables in terms: the term, and whether all that is formed on the
+-- Polynomials substituted for variables in terms: the term, and whether all that is formed on the
 -- way keeps the limits.
 use Rattle.std.specs.Prelude.{ℕ, Bool, true, ◌&&◌, List, map}
 use Rattle.std.specs.List.{list_all}

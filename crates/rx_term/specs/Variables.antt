@@ -1,4 +1,4 @@
--- The polynomials of a term, and whether only the first variables stand in them.
+-- The polynomials of a term, and whether only the first variables occur in them.
 use Rattle.std.specs.Prelude.{ℕ, Bool, true, ◌&&◌, List, [], ◌∷◌, ◌++◌}
 use Rattle.std.specs.List.{list_all}
 use Rattle.rx_poly.specs.declared.body.Body.{Body}

@@ -11,7 +11,7 @@ use Rattle.rx_term.specs.declared.term.Sym.{Sym}
 use Rattle.rx_term.specs.declared.term.Term.{Term}
 use Rattle.rx_term.specs.declared.term.Term.TheVariants.{Return, Fail, Call, Frame}
 
--- so many variables in order, from that number on
+-- n variables in order, from that number on
 abbrev pub variables_from : ℕ → ℕ → List Body
 variables_from from zero = []
 variables_from from (suc n) = variable from ∷ variables_from (from + 1) n
@@ -27,7 +27,7 @@ pub data IsLeft : Term → Type 0 where
 abbrev pub width : Term → ℕ
 width left = length (arguments_of left)
 
--- a rule that is well made: its left side is one, its terms fit, and no variable stands in it but
+-- a rule that is well made: its left side is one, its terms fit, and no variable occurs in it but
 -- those of the left side, of which there are at most as many as there are variables
 pub record IsMade (parts : RuleParts) (rule : Rule) : Type 0 where
   pub form : IsLeft rule.left

@@ -11,7 +11,7 @@ use rx_plain::Items;
 use rx_poly::{Poly, PolyEnd, uses_below};
 use std::alloc::{AllocError, Global};
 
-/// The same polynomials once more; fails only for want of memory.
+/// The same polynomials once more; fails only when out of memory.
 pub(crate) fn copied(alloc: Global, args: &[Poly]) -> Result<Items<Poly>, AllocError>
     ensures { IfOk result (λ made. made ≡ args.now) }
 {

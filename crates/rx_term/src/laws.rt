@@ -31,7 +31,7 @@ ghost use Rattle.rx_term.specs.declared.rule_set.RuleParts.{RuleParts};
 ghost use Rattle.rx_term.specs.declared.term.Term.{Term};
 
 /// A term with polynomials in place of its variables means what the term does where each variable
-/// is worth its polynomial.
+/// has the value of its polynomial.
 pub fn substitution_and_values_commute()
     ensures { (a : ℕ → ℤ) (ws : List (ℕ × Body)) (t : Term) →
         ground_at a (in_term ws t) ≡ ground_at (worth a ws) t }
@@ -65,7 +65,7 @@ pub fn equal_values_make_one_ground_term()
         values a (arguments_of s) ≡ values b (arguments_of t) → ground_at a s ≡ ground_at b t }
 {}
 
-/// The part behind outer frames means what stands under the same ground frames, and so does what
+/// The part under outer frames means what is under the same ground frames, and so does what
 /// replaces it.
 #[tactic(auto, using(crate::proofs::RedexLaws::ground_behind, crate::proofs::RedexLaws::ground_replaced))]
 pub fn parts_stand_under_ground_frames()
@@ -91,8 +91,8 @@ pub fn fitting_terms_have_fitting_ground_terms()
 {}
 
 /// A rule steps each term that means what its left side does, with polynomials in place of its
-/// variables, where its rows hold so; and so it does where the term stands behind outer frames.
-/// This is said of any list of rules, and so of hypotheses too.
+/// variables, where its rows hold so; and so it does where the term is under outer frames. This is
+/// said of any list of rules, and so of hypotheses too.
 pub fn rules_step_their_instances()
     ensures here { (rules : List Rule) (a : ℕ → ℤ) (rule : Rule) (ws : List (ℕ × Body)) (t : Term) →
         Contains rules rule → ground_at a (in_term ws rule.left) ≡ ground_at a t →
@@ -108,8 +108,7 @@ pub fn rules_step_their_instances()
 {}
 
 /// A rule of a well made set steps each fitting term of its shape at which its rows hold, with the
-/// term's polynomials in place of its variables; so it does where that term stands behind outer
-/// frames.
+/// term's polynomials in place of its variables; so it does where that term is under outer frames.
 pub fn rules_step_terms_of_their_shape()
     ensures here { (parts : RuleParts) → IsWellMade parts → (a : ℕ → ℤ) (rule : Rule) (t : Term) →
         Contains parts.rules rule → term_fits parts t ≡ true → shape_of rule.left ≡ shape_of t →
@@ -219,7 +218,7 @@ pub fn bounds_are_the_least_above_all()
         ↔ (equation_bound e ≤ n) }
 {}
 
-/// Polynomials in place of the first variables, as `at_args` puts them, are the polynomials by
+/// Polynomials in place of the first variables, as `at_args` inserts them, are the polynomials by
 /// number: with the polynomials of a term these make the left side of a rule of its shape into the
 /// term.
 #[tactic(auto, using(crate::proofs::TogetherLaws::numbered_in_order))]

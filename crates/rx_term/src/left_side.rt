@@ -49,7 +49,7 @@ fn variable_count(args: &[Poly]) -> Option<u32>
     Some(count)
 }
 
-/// How many variables a left side has that is a frame of so many over this.
+/// How many variables a left side has that is a frame of n over this.
 fn width_over(count: u32, inner: &Term) -> Option<u32>
     ensures { result ≡ width_over count (out-Term inner.now) }
 {

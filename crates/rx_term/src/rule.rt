@@ -21,7 +21,7 @@ pub struct Equation {
 pub struct Rule {
     /// What is replaced.
     pub left: Term,
-    /// What stands in its place.
+    /// What is in its place.
     pub right: Term,
     /// Under which it may be replaced.
     pub rows: Constraint,
@@ -37,7 +37,7 @@ impl Equation {
             && self.rows.is_same(&other.rows)
     }
 
-    /// The same equation once more; fails only for want of memory.
+    /// The same equation once more; fails only when out of memory.
     pub fn try_clone(&self, alloc: Global) -> Result<Equation, AllocError>
         ensures { IfOk result (λ e. e ≡ self.now) }
     {
@@ -59,7 +59,7 @@ impl Rule {
             && self.rows.is_same(&other.rows)
     }
 
-    /// The same rule once more; fails only for want of memory.
+    /// The same rule once more; fails only when out of memory.
     pub fn try_clone(&self, alloc: Global) -> Result<Rule, AllocError>
         ensures { IfOk result (λ r. r ≡ self.now) }
     {

@@ -15,7 +15,7 @@ use std::marker::Model;
 /// What a symbol is: a point, which is called, or a frame.
 #[derive(Clone, Copy, Debug, PartialEq, Eq)]
 pub struct SymInfo {
-    /// The number of its arguments; for a frame, without what it stands over.
+    /// The number of its arguments; for a frame, without what it is over.
     pub arity: u32,
     /// Whether it is a frame.
     pub frame: bool,
@@ -49,8 +49,7 @@ pub struct RuleParts {
 }
 
 impl RuleParts {
-    /// Whether the symbol is declared as a frame, or as a point, with so many arguments. Takes no
-    /// memory.
+    /// Whether the symbol is declared as a frame, or as a point, with n arguments. Takes no memory.
     fn declares(&self, sym: Sym, frame: bool, count: usize) -> bool
         ensures { result ≡ is_declared self.now.symbols sym frame count }
     {
@@ -117,7 +116,7 @@ impl RuleParts {
             && are_same_rules(self.rules.as_slice(), other.rules.as_slice())
     }
 
-    /// The same parts once more; fails only for want of memory.
+    /// The same parts once more; fails only when out of memory.
     pub fn try_clone(&self, alloc: Global) -> Result<RuleParts, AllocError>
         ensures { IfOk result (λ p. p ≡ self.now) }
     {
@@ -169,7 +168,7 @@ fn are_same_rules(left: &[Rule], right: &[Rule]) -> bool
     rest.is_empty() && others.is_empty()
 }
 
-/// The same rules once more; fails only for want of memory.
+/// The same rules once more.
 fn copied_rules(alloc: Global, rules: &[Rule]) -> Result<Items<Rule>, AllocError>
     ensures { IfOk result (λ made. made ≡ rules.now) }
 {
@@ -221,7 +220,7 @@ impl RuleSet {
         }
     }
 
-    /// The parts, lent.
+    /// The parts, borrowed.
     pub fn parts(&self) -> &RuleParts
         ensures parts { result.now ≡ self.now }
         ensures made { IsWellMade self.now }
@@ -229,14 +228,14 @@ impl RuleSet {
         &self.parts
     }
 
-    /// The symbols by their numbers, lent.
+    /// The symbols by their numbers, borrowed.
     pub fn symbols(&self) -> &[SymInfo]
         ensures { result.now ≡ self.now.symbols }
     {
         self.parts.symbols.as_slice()
     }
 
-    /// The rules by their numbers, lent.
+    /// The rules by their numbers, borrowed.
     pub fn rules(&self) -> &[Rule]
         ensures { result.now ≡ self.now.rules }
     {
@@ -265,7 +264,7 @@ impl RuleSet {
         self.parts.is_same(&other.parts)
     }
 
-    /// The same rule set once more; fails only for want of memory.
+    /// The same rule set once more; fails only when out of memory.
     pub fn try_clone(&self, alloc: Global) -> Result<RuleSet, AllocError>
         ensures { IfOk result (λ s. s ≡ self.now) }
     {

@@ -59,7 +59,8 @@ impl Term {
         count
     }
 
-    /// The part behind `place` frames, lent; None exactly where there are fewer. Takes no memory.
+    /// The part under `place` frames, borrowed; None exactly where there are fewer. Takes no
+    /// memory.
     #[tactic(auto, using(crate::proofs::KeepingLaws::behind_ends))]
     pub fn suffix(&self, place: u32) -> Option<&Term>
         ensures part { option_copied result ≡ behind place self.now }
@@ -77,8 +78,8 @@ impl Term {
         Some(here)
     }
 
-    /// How many frames stand over the redex: the innermost call, or the innermost frame where that
-    /// stands over a result. None exactly where the term is a result. Takes no memory.
+    /// How many frames are over the redex: the innermost call, or the innermost frame where that is
+    /// over a result. None exactly where the term is a result. Takes no memory.
     pub fn redex_place(&self) -> Option<u32>
         requires { depth_of self.now < 2 ^ 32 }
         ensures { result ≡ redex_place self.now }
@@ -324,7 +325,7 @@ impl Term {
         }
     }
 
-    /// The same term once more; fails only for want of memory.
+    /// The same term once more; fails only when out of memory.
     pub fn try_clone(&self, alloc: Global) -> Result<Term, AllocError>
         ensures { IfOk result (λ t. t ≡ self.now) }
     {

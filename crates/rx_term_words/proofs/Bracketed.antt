@@ -14,7 +14,7 @@ module _ {A : Type 0} (before : List ℕ) (format : Format A) (behind : List ℕ
       b.text ∙ append_assoc before (format.text x ++ behind) left
       ∙ (λ i. before ++ append_assoc (format.text x) behind left i)
 
-  -- the thing itself stands behind the first word
+  -- the thing itself comes after the first word
   pub between : {bytes rest left : List ℕ} {x : A} →
       BeginsWith (bracketed before format behind) bytes x left
       → bytes ≡ before ++ rest → BeginsWith format rest x (behind ++ left)

@@ -1,4 +1,4 @@
--- Frames up to what they stand over, and what closes them.
+-- Frames up to what they are over, and what closes them.
 use Rattle.std.proofs.Common.{◌≡◌, ◌∙◌, ap, subst, refl, sym, ℕ, ◌≤◌, true, false, ◌&&◌, List, [], ◌∷◌, ◌++◌, length, drop, Some, None, arith, append_assoc}
 use Rattle.std.specs.List.{list_all}
 use Rattle.std.proofs.lemmas.Bool.{and_from, and_parts}
@@ -79,7 +79,7 @@ outermost {start} bytes f fs h e = record {
   over = none_goes_on (openings fs ++ bytes);
 }
 
--- what is left of a term behind the frames that were read of it
+-- what is left of a term after the frames that were read of it
 record Further (frames all : Frames) (last : Layer) (bytes left : List ℕ) : Type 0 where
   pub more : Frames
   pub whole : all ≡ frames ++ more

@@ -41,7 +41,7 @@ symbols_once =
 symbols_are : (f g : Sym) → f.0 ≡ g.0 → f ≡ g
 symbols_are f g e = (λ i. record { 0 = e i })
 
--- ---- what stands where a layer does
+-- ---- what is where a layer is
 
 value_begins : {bytes left : List ℕ} {p : Body} → BeginsWith layers bytes (Layer.Return p) left →
     BeginsWith values bytes p left
@@ -69,7 +69,7 @@ arguments_begin {bytes} {left} {rest} {f} {ps} {closer} b e = record {
   over = b.over;
 }
 
--- the first byte tells the kind
+-- the first byte gives the kind
 abbrev first_of : List ℕ → ℕ
 first_of [] = 0
 first_of (byte ∷ bytes) = byte
@@ -162,7 +162,7 @@ application_stands bytes at {middle} {end} f {ps} {closer} s t = record {
   };
 }
 
--- where neither a value nor a failure stands, a layer is an application
+-- where there is neither a value nor a failure, a layer is an application
 no_layer_there : (bytes : List ℕ) (at : ℕ) → Reads values bytes at None →
     Reads failures bytes at None → Reads applications bytes at None
     → Reads layers bytes at None

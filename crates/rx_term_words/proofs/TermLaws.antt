@@ -174,7 +174,7 @@ no_closing bytes at s h t left b =
     let same = only_that open_once s (opens p b) in
     h left (same.1 ∙ (λ i. closings (sym same.0 i).0 ++ left))
 
--- what was closed is the term that stands there
+-- what was closed is the term that is there
 pub reads_closed : (bytes : List ℕ) (at : ℕ) {middle : ℕ} {frames : Frames} {last : Layer}
     {inner : Term} → StandsAt open_terms bytes at (frames, last) middle
     → inner ≡ innermost last → (r : Option (Term × ℕ)) → Closes frames inner bytes middle r →

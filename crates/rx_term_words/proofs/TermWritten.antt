@@ -64,7 +64,7 @@ innermost_Frame f ps t =
 
 -- ---- the whole
 
--- one more closing parenthesis, in front or behind
+-- one more closing parenthesis, before or after
 closed_behind : (t : Term) → closing_text t ++ (41 ∷ []) ≡ 41 ∷ closing_text t
 closed_behind = induct (λ t. closing_text t ++ (41 ∷ []) ≡ 41 ∷ closing_text t)
     (λ p. rw (closing_Return p) refl)
@@ -110,7 +110,7 @@ innermost_again = induct (λ t. innermost_of (innermost_of t) ≡ innermost_of t
     (λ f ps. ap innermost_of (innermost_Call f ps))
     (λ f ps t inner. rw (innermost_Frame f ps t) inner)
 
--- and so written one behind the other
+-- and so written one after the other
 pub written_in_three : (out : List ℕ) (t : Term) →
     ((out ++ opening_text t) ++ term_text (innermost_of t)) ++ closing_text t ≡ out ++ term_text t
 written_in_three out t =

@@ -1,4 +1,4 @@
--- What stands first in the text of a term: a frame, or a call or result; and terms up to their
+-- What comes first in the text of a term: a frame, or a call or result; and terms up to their
 -- innermost call or result.
 use Rattle.std.specs.Prelude.{◌≡◌, ℕ, ◌≤◌, ◌-◌, ◌^◌, ◌||◌, ◌==◌, Bool, true, false, ◌&&◌, Option, Some, None, List, [], ◌∷◌, ◌++◌, length, drop, flat_map, codes}
 use Rattle.std.specs.List.{list_all}
@@ -31,7 +31,7 @@ failures = bracketed (codes "fail(") (naturals 255) (codes ")")
 abbrev pub symbols : Format ℕ
 symbols = bracketed (codes "s") (naturals (2 ^ 32 - 1)) (codes "(")
 
--- what stands behind the polynomials: of a frame `;`, of a call `)`
+-- what comes after the polynomials: of a frame `;`, of a call `)`
 abbrev pub closer_text : Closer → List ℕ
 closer_text Closer.Semicolon = codes ";"
 closer_text Closer.Parenthesis = codes ")"
@@ -99,7 +99,7 @@ is_last (Layer.Fail c) = true
 is_last (Layer.Applied f ps Closer.Semicolon) = false
 is_last (Layer.Applied f ps Closer.Parenthesis) = true
 
--- frames up to what they stand over, and what closes them
+-- frames up to what they are over, and what closes them
 abbrev pub openings : List (Sym × List Body) → List ℕ
 openings frames = flat_map (λ frame. layer_text (frame_layer frame)) frames
 
@@ -129,7 +129,7 @@ abbrev pub around : List (Sym × List Body) → Term → Term
 around [] inner = inner
 around (frame ∷ frames) inner = made.Frame frame.0 frame.1 (around frames inner)
 
--- the term with those frames, and the place behind what closes them; None exactly where they aren't
+-- the term with those frames, and the place after what closes them; None exactly where they aren't
 -- closed
 abbrev pub Closes : List (Sym × List Body) → Term → List ℕ → ℕ → Option (Term × ℕ) → Type 0
 Closes frames inner bytes at (Some read) =

@@ -43,7 +43,7 @@ is_readable_level (Term-F.Frame f ps inner) = is_readable_call f ps && inner
 abbrev pub is_readable_term : Term → Bool
 is_readable_term = fold-Term Bool is_readable_level
 
--- the text of terms, wherever they stand: nothing goes on with one
+-- the text of terms, wherever they are: nothing goes on with one
 abbrev pub closed_terms : Format Term
 closed_terms = record { text = term_text; in_range = is_readable_term; goes_on = λ byte. false }
 

@@ -14,7 +14,7 @@ use rx_text::skip_word;
 use rx_words::read_rows;
 use std::alloc::Global;
 
-/// A right side with the rows behind it.
+/// A right side with the rows after it.
 fn read_right(
     alloc: Global,
     bytes: &[u8],
@@ -42,8 +42,8 @@ fn equated(left: Term, right: Term, rows: Items<Row>) -> Equation
     Equation { left, right, rows }
 }
 
-/// The equation whose text stands at the place, and the place after it: the two sides, and then how
-/// many rows there are and each of them. None exactly where no such text stands there.
+/// The equation whose text is at the place, and the place after it: the two sides, and then how
+/// many rows there are and each of them. None exactly where no such text is there.
 pub fn read_equation(
     alloc: Global,
     bytes: &[u8],

@@ -1,4 +1,4 @@
-//! What stands first in the text of a term: a frame, a call, or a result.
+//! What comes first in the text of a term: a frame, a call, or a result.
 ghost use Rattle.std.specs.Prelude.{◌≡◌, IfOk};
 ghost use Rattle.rx_text.specs.Formats.{Reads};
 ghost use Rattle.rx_term_words.specs.Layers.{applications, failures, innermost, layers, symbols, values};
@@ -10,7 +10,7 @@ use rx_term::{Sym, Term};
 use rx_text::{read_natural, read_poly, skip_word};
 use std::alloc::Global;
 
-/// A term but for what stands under its outermost frame.
+/// A term but for what is under its outermost frame.
 #[derive(Drop)]
 pub(crate) enum Layer {
     /// A returned value.
@@ -86,7 +86,7 @@ fn read_application(
     }
 }
 
-/// The layer that stands at the place, with the place after it.
+/// The layer that is at the place, with the place after it.
 pub(crate) fn read_layer(
     alloc: Global,
     bytes: &[u8],

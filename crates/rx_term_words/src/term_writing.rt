@@ -77,7 +77,7 @@ fn push_innermost(term: &Term, out: &mut Vec<u8>) -> Result<(), NoMemory>
     }
 }
 
-/// The frames up to what is under them all, which is lent.
+/// The frames up to what is under them all, which is borrowed.
 fn push_openings<'a>(term: &'a Term, out: &mut Vec<u8>) -> Result<&'a Term, NoMemory>
     ensures text { OnOk result (out.new.items ≡ out.old.items ++ opening_text term.now) }
     ensures inner { IfOk result (λ inner. inner.now ≡ innermost_of term.now) }
@@ -103,8 +103,8 @@ fn push_closings(term: &Term, out: &mut Vec<u8>) -> Result<(), NoMemory>
     Ok(())
 }
 
-/// Puts the text of the term behind what was written before. It may have as many frames as memory
-/// holds. Fails only for want of memory, and then some of the text may stand there.
+/// Writes the text of the term after what was written before. It may have as many frames as memory
+/// holds. Fails only when out of memory, and then some of the text may have been written.
 pub fn push_term(term: &Term, out: &mut Vec<u8>) -> Result<(), NoMemory>
     ensures { OnOk result (out.new.items ≡ out.old.items ++ term_text term.now) }
 {
@@ -113,8 +113,8 @@ pub fn push_term(term: &Term, out: &mut Vec<u8>) -> Result<(), NoMemory>
     push_closings(term, out)
 }
 
-/// Puts the text of the equation of the two sides under those rows behind what was written before.
-/// Fails only for want of memory, and then some of the text may stand there.
+/// Writes the text of the equation of the two sides under those rows after what was written before.
+/// Fails only when out of memory, and then some of the text may have been written.
 pub fn push_equation(
     left: &Term,
     right: &Term,

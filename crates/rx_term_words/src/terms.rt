@@ -37,7 +37,7 @@ fn read_open(
     }
 }
 
-/// The term with those frames over `inner`, where what closes them stands at the place.
+/// The term with those frames over `inner`, where what closes them is at the place.
 fn close(
     alloc: Global,
     bytes: &[u8],
@@ -61,7 +61,7 @@ fn close(
     Ok(Some((whole, place)))
 }
 
-/// The term with those frames over the call or result, where what closes them stands at the place.
+/// The term with those frames over the call or result, where what closes them is at the place.
 fn close_over(
     alloc: Global,
     bytes: &[u8],
@@ -76,7 +76,7 @@ fn close_over(
     close(alloc, bytes, at, frames, inner)
 }
 
-/// The term whose text stands at the place, whatever follows.
+/// The term whose text is at the place, whatever follows.
 fn read_closed_term(
     alloc: Global,
     bytes: &[u8],
@@ -92,7 +92,7 @@ fn read_closed_term(
 
 /// The term whose text is the word at the place, and the place after it: `ret(P)`, `fail(N)`, a
 /// call
-/// `sN(P,..,P)`, or a frame `sN(P,..,P;T)`. None exactly where no such text stands there; its
+/// `sN(P,..,P)`, or a frame `sN(P,..,P;T)`. None exactly where no such text is there; its
 /// variables are below 1,000,000. It may have as many frames as memory holds.
 pub fn read_term(alloc: Global, bytes: &[u8], at: usize) -> Result<Option<(Term, usize)>, NoMemory>
     ensures { IfOk result (λ found. Reads terms bytes.now at found) }

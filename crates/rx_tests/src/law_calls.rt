@@ -1,4 +1,4 @@
-//! Which variables stand in a polynomial.
+//! Which variables occur in a polynomial.
 use crate::answer::{Answer, told};
 use crate::reading::polynomials::poly;
 use crate::reading::words::count;

@@ -22,8 +22,8 @@ fn of_items(alloc: Global, name: &str, first: Items<i128>, second: Items<i128>) 
     Some(Answer::Numbers(items.into_vec()))
 }
 
-// The items of the second list, put after the others where there is room for them: after the first
-// list's, or alone.
+// The items of the second list, added after the others where there is room for them: after the
+// first list's, or alone.
 fn with_room(alloc: Global, name: &str, first: Items<i128>, more: Items<i128>) -> Option<Answer> {
     let mut items = first;
     if name == "with_capacity" {
@@ -52,7 +52,7 @@ fn of_graded(name: &str, first: Graded<i128>, second: Graded<i128>) -> Option<An
     Some(Answer::Numbers(graded.into_vec()))
 }
 
-// What a box holds, what is put into it, and which of the two is read.
+// What a box holds, what is stored in it, and which of the two is read.
 fn of_box(alloc: Global, name: &str, first: i128, second: i128) -> Option<Answer> {
     let mut boxed = Boxed::new(alloc, first).ok()?;
     let old = boxed.replace(second);

@@ -1,4 +1,4 @@
-//! Polynomials: normal forms, sums, products, orders and what is put in place of variables.
+//! Polynomials: normal forms, sums, products, orders and what is substituted for variables.
 use crate::answer::{Answer, formed, nothing, ordered, told};
 use crate::reading::integer_terms::integer_term;
 use crate::reading::polynomials::{atom, body, listed, monomial, poly, substitution};

@@ -46,7 +46,7 @@ pub fn without_rules(alloc: Global) -> Option<RuleSet> {
     RuleSet::from_parts(parts(alloc, Items::new(alloc))?)
 }
 
-// How deep a term is, and where its redex stands.
+// How deep a term is, and where its redex is.
 fn walked(call: &str, term: &Term) -> Option<Answer> {
     if term.suffix(MANY).is_some() {
         return None;

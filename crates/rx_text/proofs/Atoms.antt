@@ -62,7 +62,7 @@ module _ {A : Type 0} (format : Format A) (comma : format.goes_on 44 ≡ false)
   no_first_part bytes at never =
       λ thing left b. never thing.0 (44 ∷ (format.text thing.1 ++ (41 ∷ left))) (pair_first b)
 
-  -- what follows the first part of any pair that stands there
+  -- what follows the first part of any pair that is there
   rest_is : IsUnambiguous format
       → (bytes : List ℕ) (at : ℕ) {end : ℕ} {x : A} {pair : A × A} {left : List ℕ}
       → StandsAt format bytes at x end → BeginsWith (pairs format) (drop at bytes) pair left
@@ -265,7 +265,7 @@ module _ (inner : Body → Bool) where
   atoms_unambiguous one bytes x y left right b c =
       kinds (pairs_unambiguous (sums inner) refl refl one) (kind_of b) (kind_of c)
 
-  -- ---- what reading after a word tells
+  -- ---- what reading after a word says
 
   pub variable_stands : (bytes : List ℕ) (at : ℕ) {after n end : ℕ}
       → Skips (118 ∷ []) bytes at (Some after) → StandsAt (naturals 999999) bytes after n end

@@ -92,7 +92,7 @@ naturals_unambiguous most h bytes m n left right b c =
     (sym b.text ∙ c.text) in
     (same_number m n j k s.0, s.1)
 
--- the run of digits at the place is the text of the number that stands there
+-- the run of digits at the place is the text of the number that is there
 pub run_is_text : {most : ℕ} (bytes : List ℕ) {left : List ℕ} (at : ℕ) {thing run : ℕ}
     → most < 10 ^ 64 → run ≡ prefix_len is_digit (drop at bytes)
     → BeginsWith (naturals most) (drop at bytes) thing left
@@ -105,7 +105,7 @@ run_is_text {most} bytes {left} at {thing} {run} h is b =
     (λ i. take (long i) (b.text i))
     ∙ take_at (natural_text thing) left (length (natural_text thing)) refl
 
--- a run of digits that is the text of a number is where that number stands
+-- a run of digits that is the text of a number is where that number is
 pub stands : (bytes : List ℕ) (at : ℕ) {run value : ℕ} → run ≡ prefix_len is_digit (drop at bytes)
     → at < length bytes → run ≤ length (drop at bytes) → value < 2 ^ 128
     → slice_range bytes at (at + run) ≡ natural_text value
@@ -131,7 +131,7 @@ stands bytes at {run} {value} is h within fits e =
       };
     }
 
--- no number stands past the end
+-- no number is past the end
 pub nothing_past : {most : ℕ} (bytes : List ℕ) {left : List ℕ} (at : ℕ) {thing : ℕ} → most < 10 ^ 64
     → length bytes ≤ at → BeginsWith (naturals most) (drop at bytes) thing left → ⊥
 nothing_past {most} bytes {left} at {thing} h past b =
@@ -152,7 +152,7 @@ pub number_first : (n : ℕ) (left : List ℕ) {rest : List ℕ} {byte : ℕ} �
     → natural_text n ++ left ≡ byte ∷ rest → is_digit byte ≡ true
 number_first n left h e = digits_first (natural_text n) left (digits_of n h) (some_digit n h) e
 
--- one digit with no other behind it is the text of its number
+-- one digit with no other after it is the text of its number
 pub one_digit : (bytes : List ℕ) (at : ℕ) {byte : ℕ} → at < length bytes
     → byte ≡ get_or bytes at byte → is_digit byte ≡ true
     → is_over is_digit (drop (at + 1) bytes) ≡ true

@@ -1,4 +1,4 @@
--- Integers of i128 as text: the sign tells the two kinds apart.
+-- Integers of i128 as text: the sign distinguishes the two kinds.
 use Rattle.std.proofs.Common.{rules, ◌≡◌, ◌∙◌, ap, subst, refl, sym, ℕ, suc, ◌-◌, ◌^◌, ◌<◌, ◌≤◌, true, List, [], ◌∷◌, ◌++◌, drop, arith, ℤ, pos, negsuc, Option, Some, None}
 use Rattle.std.proofs.lemmas.Bool.{le-leb, ltb-true}
 use Rattle.std.proofs.lemmas.Int.{to_z-of_z}

@@ -148,7 +148,7 @@ module _ {A : Type 0} (byte : ℕ) (format : Format A) where
         (over_byte byte (drop at bytes) never);
   }
 
-  -- where it follows and nothing in range stands after it, there is no such row
+  -- where it follows and nothing in range comes after it, there is no such row
   pub stuck : IsUnambiguous format → format.goes_on byte ≡ false
       → (bytes : List ℕ) (start : ℕ) {things xs : List A} {left : List ℕ} {at after : ℕ}
       → ReadSoFar bytes start things at → Skips (byte ∷ []) bytes at (Some after)

@@ -187,7 +187,7 @@ pub polynomials_unambiguous : IsUnambiguous polynomials
 polynomials_unambiguous bytes p q left right b c =
     plain_unambiguous 64 bytes p q left right (as_sum b) (as_sum c)
 
--- ---- what the sum that was read tells
+-- ---- what the sum that was read says
 
 pub no_poly : (bytes : List ℕ) (at : ℕ) → Reads (sums_nested 64) bytes at None
     → Reads polynomials bytes at None

@@ -53,7 +53,7 @@ rows_unambiguous bytes r s left right b c =
     (row_poly (poly_text (poly_of r) ++ left) c kind.0) in
     (kind.1 poly.0, poly.1)
 
--- ---- what reading after a word tells
+-- ---- what reading after a word says
 
 pub row_stands : (bytes : List ℕ) (at : ℕ) {after end : ℕ} (r : Row)
     → Skips (row_word r) bytes at (Some after) → StandsAt polynomials bytes after (poly_of r) end

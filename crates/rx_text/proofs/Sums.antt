@@ -209,7 +209,7 @@ module _ (inner : Body → Bool) (one : IsUnambiguous (sums inner)) where
 
   -- ---- what has been read of a sum
 
-  -- no term stands there, and `0` stands there
+  -- no term is there, and `0` is there
   pub zero_stands : (bytes : List ℕ) (at : ℕ) {end : ℕ} → Skips (48 ∷ []) bytes at (Some end)
       → is_over goes_on_with_poly (drop end bytes) ≡ true
       → StandsAt (sums (is_plain inner)) bytes at (of_terms []) end

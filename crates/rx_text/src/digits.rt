@@ -14,7 +14,7 @@ pub(crate) fn is_digit(byte: u8) -> bool
     b'0' <= byte && byte <= b'9'
 }
 
-/// Whether no digit stands at the place.
+/// Whether no digit is at the place.
 pub(crate) fn ends_number(bytes: &[u8], at: usize) -> bool
     ensures { result ≡ is_over is_digit (drop at bytes.now) }
 {
@@ -24,7 +24,7 @@ pub(crate) fn ends_number(bytes: &[u8], at: usize) -> bool
     }
 }
 
-/// How many digits stand at the front.
+/// How many digits are at the front.
 fn run_of_digits(bytes: &[u8]) -> usize
     ensures run { result ≡ prefix_len is_digit bytes.now }
     ensures within { result ≤ length bytes.now }
@@ -54,7 +54,7 @@ fn is_text_of(digits: &[u8], value: u128) -> bool
     digits == buffer.format(value).as_bytes()
 }
 
-/// The number that a digit writes with no other behind it, where such a one stands at the place.
+/// The number that a digit writes with no other after it, where such a one is at the place.
 fn read_digit(bytes: &[u8], at: usize) -> Option<(u128, usize)>
     ensures { IfSome result
         (λ read. StandsAt (naturals (2 ^ 128 - 1)) bytes.now at read.0 read.1) }
@@ -67,7 +67,7 @@ fn read_digit(bytes: &[u8], at: usize) -> Option<(u128, usize)>
     }
 }
 
-/// The natural number of u128 whose text stands at the place. Most numbers have one digit.
+/// The natural number of u128 whose text is at the place. Most numbers have one digit.
 pub(crate) fn read_digits(bytes: &[u8], at: usize) -> Option<(u128, usize)>
     ensures { Reads (naturals (2 ^ 128 - 1)) bytes.now at result }
 {

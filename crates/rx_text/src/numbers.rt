@@ -8,8 +8,8 @@ use crate::words::{push_word, skip_word};
 use itoa::Buffer;
 use rx_plain::NoMemory;
 
-/// The natural number of at most `most` whose text stands at the place, and the place after it.
-/// None where there is no such text: also of a number with a leading zero.
+/// The natural number of at most `most` whose text is at the place, and the place after it. None
+/// where there is no such text: also of a number with a leading zero.
 pub fn read_natural(bytes: &[u8], at: usize, most: u32) -> Option<(u32, usize)>
     ensures { Reads (naturals most) bytes.now at result }
 {
@@ -46,7 +46,7 @@ fn below_zero(size: u128) -> Option<i128>
     }
 }
 
-/// The integer below 0 whose text, without its sign, stands at the place.
+/// The integer below 0 whose text, without its sign, is at the place.
 fn read_below_zero(bytes: &[u8], at: usize) -> Option<(i128, usize)>
     ensures { Reads sizes_below_zero bytes.now at result }
 {
@@ -59,7 +59,7 @@ fn read_below_zero(bytes: &[u8], at: usize) -> Option<(i128, usize)>
     }
 }
 
-/// The integer of at least 0 whose text stands at the place.
+/// The integer of at least 0 whose text is at the place.
 fn read_at_least_zero(bytes: &[u8], at: usize) -> Option<(i128, usize)>
     ensures { Reads integers_from_zero bytes.now at result }
 {
@@ -72,8 +72,8 @@ fn read_at_least_zero(bytes: &[u8], at: usize) -> Option<(i128, usize)>
     }
 }
 
-/// The integer of i128 whose text stands at the place, and the place after it. None where there is
-/// no such text: also of `-0`, and of a number with a leading zero.
+/// The integer of i128 whose text is at the place, and the place after it. None where there is no
+/// such text: also of `-0`, and of a number with a leading zero.
 pub fn read_integer(bytes: &[u8], at: usize) -> Option<(i128, usize)>
     ensures { Reads integers bytes.now at result }
 {

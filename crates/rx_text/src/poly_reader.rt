@@ -19,7 +19,7 @@ const DEEPEST: u32 = 64;
 /// The greatest variable that has a text.
 const LAST_VARIABLE: u32 = 999_999;
 
-/// Whether neither a digit nor `*` nor `+` stands at the place.
+/// Whether neither a digit nor `*` nor `+` is at the place.
 fn ends_poly(bytes: &[u8], at: usize) -> bool
     ensures { result ≡ is_over goes_on_with_poly (drop at bytes.now) }
 {
@@ -176,8 +176,8 @@ fn read_sum(
     Ok(Some((Body { terms: summands }, place)))
 }
 
-/// The polynomial whose text stands at the place, and the place after it. None where no text of a
-/// polynomial stands there: also of a sum that is no normal form, that passes the limits of a
+/// The polynomial whose text is at the place, and the place after it. None where no text of a
+/// polynomial is there: also of a sum that is no normal form, that passes the limits of a
 /// polynomial, or that has a variable from 1,000,000 on.
 pub fn read_poly(alloc: Global, bytes: &[u8], at: usize) -> Result<Option<(Poly, usize)>, NoMemory>
     ensures { IfOk result (λ read. Reads polynomials bytes.now at read) }

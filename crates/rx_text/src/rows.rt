@@ -10,8 +10,8 @@ use rx_plain::NoMemory;
 use rx_row::Row;
 use std::alloc::Global;
 
-/// The row whose text stands at the place, and the place after it. None where no text of a row
-/// stands there; of its polynomial as `read_poly` says.
+/// The row whose text is at the place, and the place after it. None where no text of a row is
+/// there; of its polynomial as `read_poly` says.
 pub fn read_row(alloc: Global, bytes: &[u8], at: usize) -> Result<Option<(Row, usize)>, NoMemory>
     ensures { IfOk result (λ read. Reads row_format bytes.now at read) }
 {

@@ -28,7 +28,7 @@ fn begin_with(bytes: &[u8], word: &[u8]) -> bool
     true
 }
 
-/// The place after the word, where the word stands at that place; None where it doesn't.
+/// The place after the word, where the word is at that place; None where it isn't.
 pub fn skip_word(bytes: &[u8], at: usize, word: &[u8]) -> Option<usize>
     requires { 0 < length word.now }
     ensures { Skips word.now bytes.now at result }

@@ -69,7 +69,7 @@ module _ (entries : List (ℕ × ℕ)) where
   abbrev at : ℕ → List Deed → List Rule
   at n ds = flat_map rules (filter (λ (d : Deed). d.at.symbol == n) ds)
 
-  -- the rules of a deed stand before those of the others at a symbol
+  -- the rules of a deed come before those of the others at a symbol
   one_more : (xs : List Rule) (n : ℕ) (d : Deed) (ds : List Deed) (b : Bool) → (d.at.symbol == n) ≡
       b
       → (xs ++ cond (d.at.symbol == n) (rules d) []) ++ at n ds ≡ xs ++ at n (d ∷ ds)

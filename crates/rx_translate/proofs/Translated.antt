@@ -69,7 +69,7 @@ module _ (program : Resolved) (f g : ℕ) (fs : List ℕ) (reached : AreReached 
           (symbol (entry_of c.entries g))
           (is_translation (entry_of c.entries f) (entry_of c.entries g) refl refl)
 
--- the code is that of the functions and the places that are lent
+-- the code is that of the functions and the places that are borrowed
 pub compiled_is : (functions program_functions : List Function) (lent fs : List ℕ) (c : Code) →
     functions ≡ program_functions → lent ≡ fs
     → (c ≡ (places_code functions lent 0).form) × ((places_code functions lent 0).within ≡ true) →

@@ -4,7 +4,7 @@ use Rattle.std.specs.Prelude.{slice_get}
 use Rattle.c_ast.specs.Scoped.{parameter_counts}
 use Rattle.c_ast.specs.declared.program.Resolved.{Resolved}
 
--- the function at that place has so many parameters
+-- the function at that place has n parameters
 abbrev pub HasParameters : Resolved → ℕ → ℕ → Type 0
 HasParameters program f count = slice_get (parameter_counts program.functions) f ≡ Some count
 

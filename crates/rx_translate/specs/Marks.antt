@@ -18,7 +18,7 @@ abbrev pub marked_also : List Bool → List ℕ → List Bool
 marked_also marks [] = marks
 marked_also marks (k ∷ ks) = marked_also (slice_set marks k true) ks
 
--- so many marks, those of these numbers
+-- n marks, those of these numbers
 abbrev pub marks_of : ℕ → List ℕ → List Bool
 marks_of count ks = marked_also (replicate count false) ks
 

@@ -7,7 +7,7 @@ ghost use Rattle.rx_translate.specs.Marks.{IsMarked, marked_from};
 use rx_plain::Items;
 use std::alloc::{AllocError, Global};
 
-/// So many numbers without a mark; fails only for want of memory.
+/// `count` numbers without a mark; fails only when out of memory.
 pub(crate) fn no_marks(alloc: Global, count: usize) -> Result<Vec<bool>, AllocError>
     ensures { IfOk result (λ marks. marks.items ≡ replicate count false) }
 {
@@ -23,7 +23,7 @@ pub(crate) fn mark(marks: &mut Vec<bool>, number: u32)
     }
 }
 
-/// So many marks, those of these numbers; fails only for want of memory.
+/// `count` marks, those of these numbers; fails only when out of memory.
 pub(crate) fn marks_of(
     alloc: Global,
     count: usize,
@@ -38,7 +38,7 @@ pub(crate) fn marks_of(
     Ok(marks)
 }
 
-/// So many marks, those of the second numbers of these pairs; fails only for want of memory.
+/// `count` marks, those of the second numbers of these pairs; fails only when out of memory.
 pub(crate) fn marks_of_second(
     alloc: Global,
     count: usize,
@@ -54,7 +54,7 @@ pub(crate) fn marks_of_second(
     Ok(marks)
 }
 
-/// The numbers that have marks, in order; fails only for want of memory.
+/// The numbers that have marks, in order; fails only when out of memory.
 pub(crate) fn marked(alloc: Global, marks: &[bool]) -> Result<Items<u32>, AllocError>
     requires { (h : ℕ) → IsMarked marks.now h → h < 2 ^ 32 }
     ensures { IfOk result (λ numbers. numbers ≡ marked_from 0 marks.now) }

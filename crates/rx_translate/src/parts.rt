@@ -26,7 +26,7 @@ fn info(opening: Opening, entry: bool, head: bool) -> SymInfo
     }
 }
 
-/// What each symbol is, by marks of entries and of heads; fails only for want of memory.
+/// What each symbol is, by marks of entries and of heads.
 fn infos(
     alloc: Global,
     opened: &[Opening],
@@ -44,7 +44,7 @@ fn infos(
     Ok(infos)
 }
 
-/// What each symbol of code is; fails only for want of memory.
+/// What each symbol of code is.
 fn symbols_of(alloc: Global, code: &Code) -> Result<Items<SymInfo>, AllocError>
     ensures { IfOk result (λ infos.
         infos ≡ map (info_at code.now) (enumerate_from 0 code.now.opened)) }
@@ -55,7 +55,7 @@ fn symbols_of(alloc: Global, code: &Code) -> Result<Items<SymInfo>, AllocError>
     infos(alloc, opened, entries.as_slice(), heads.as_slice())
 }
 
-/// So many empty lists; fails only for want of memory.
+/// `count` empty lists.
 fn empty_lists(alloc: Global, count: usize) -> Result<Vec<Items<Rule>>, AllocError>
     ensures { IfOk result (λ lists. lists.items ≡ replicate count []) }
 {
@@ -75,7 +75,7 @@ fn rules_of_deed(alloc: Global, entries: &[(u32, u32)], d: &Deed) -> Result<Item
     Ok(rules)
 }
 
-/// Puts rules after those of a symbol, where it has a list; fails only for want of memory.
+/// Adds rules after those of a symbol, where it has a list.
 fn add(lists: &mut Vec<Items<Rule>>, symbol: u32, rules: Items<Rule>) -> Result<(), AllocError>
     ensures { OnOk result (lists.new.items ≡ add_at lists.old.items symbol rules) }
 {
@@ -98,7 +98,7 @@ fn sorted_rules(alloc: Global, code: &Code) -> Result<Vec<Items<Rule>>, PolyEnd>
     Ok(lists)
 }
 
-/// The rules of the lists, in order; fails only for want of memory.
+/// The rules of the lists, in order.
 fn joined(alloc: Global, lists: Vec<Items<Rule>>) -> Result<Items<Rule>, AllocError>
     ensures { IfOk result (λ rules. rules ≡ flat_map (λ rs. rs) lists.items) }
 {

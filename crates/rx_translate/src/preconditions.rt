@@ -34,7 +34,7 @@ fn straight_value(alloc: Global, e: &Expr) -> Result<Poly, PolyEnd>
     }
 }
 
-/// Puts the rows of a precondition after others, also where one is one of them.
+/// Adds the rows of a precondition after others, also where one is one of them.
 fn push_rows(alloc: Global, rows: &mut Items<Row>, pre: &Expr) -> Result<(), PolyEnd>
     ensures forms { FormsAs (λ _. rows.new) PolyEnd.Large result (rows_after rows.old pre.now) }
 {

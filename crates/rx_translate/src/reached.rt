@@ -45,7 +45,7 @@ fn marks_of_reached(
 }
 
 /// The places of the functions that the two reach by calls, calls in unreachable code included, in
-/// the order of the text; fails only for want of memory. The time is linear in the program.
+/// the order of the text; fails only when out of memory. The time is linear in the program.
 pub fn reached_functions(
     alloc: Global,
     program: &Resolved,

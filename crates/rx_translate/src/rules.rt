@@ -184,7 +184,7 @@ fn push_resume(alloc: Global, rules: &mut Items<Rule>, a: Point, b: Point) -> Re
     rules.push(always(alloc, over_failure, Term::Fail(1)))
 }
 
-/// Puts the rules of a deed after others, where `entries` has the entry of each function. Large
+/// Adds the rules of a deed after others, where `entries` has the entry of each function. Large
 /// exactly where the negation of a row, or the result of a division, passes the limits.
 pub fn push_rules(
     alloc: Global,

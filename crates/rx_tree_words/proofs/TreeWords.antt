@@ -1,5 +1,5 @@
--- A cover tree is the word of its kind with what belongs behind it: its text, its depth, and
--- whether it has a text.
+-- A cover tree is the word of its kind with what belongs after it: its text, its depth, and whether
+-- it has a text.
 use Rattle.std.proofs.Common.{◌≡◌, ◌∙◌, ap, subst, refl, sym, ℕ, zero, suc, ◌+◌, ◌<◌, ◌≤◌, max, ◌==◌, Bool, true, false, cond, ◌&&◌, List, [], ◌∷◌, ◌++◌, drop, Option, Some, None, arith, append_assoc}
 use Rattle.std.proofs.lemmas.Bool.{and_from, and_parts, leb-true, le-leb}
 use Rattle.std.proofs.lemmas.List.{append_cancel_left}
@@ -22,7 +22,7 @@ use Rattle.rx_words.proofs.CertLaws.{certificate_lists_once, certificates_once}
 use Rattle.rx_words.proofs.Joined.{pairs_once}
 use Rattle.rx_words.proofs.Once.{numbers_once, rows_once}
 
--- what belongs behind the word of a kind
+-- what belongs after the word of a kind
 abbrev pub Contents : TreeKind → Type 0
 Contents TreeKind.Use = ℕ × List Cert
 Contents TreeKind.Split = Row × (CoverTree × CoverTree)
@@ -60,7 +60,7 @@ depth_of : (tree : CoverTree) →
     tree_depth tree ≡ depth_level (map-CoverTree CoverTree ℕ tree_depth (out-CoverTree tree))
 depth_of tree = fold_out-CoverTree ℕ depth_level tree
 
--- its text is the word with the contents behind it
+-- its text is the word with the contents after it
 pub text_behind : (kind : TreeKind) (x : Contents kind) →
     tree_text (tree_of kind x) ≡ tree_word kind ++ contents_text kind x
 text_behind TreeKind.Use x = text_of (made.Use x.0 x.1) ∙ rw (made.outs-Use x.0 x.1) refl
@@ -164,7 +164,7 @@ same_kind : (j k : TreeKind) (s t : List ℕ) → tree_word j ++ s ≡ tree_word
 same_kind j k s t e = sym (told j s) ∙ ap told_kind e ∙ told k t
 
 module _ (n : ℕ) where
-  -- the bytes behind the word of a tree's kind begin with its contents
+  -- the bytes after the word of a tree's kind begin with its contents
   behind_word : {bytes left rest : List ℕ} (kind : TreeKind) (x : Contents kind) →
       BeginsWith (trees_within (n + 1)) bytes (tree_of kind x) left →
       bytes ≡ tree_word kind ++ rest → BeginsWith (contents n kind) rest x left
@@ -186,7 +186,7 @@ module _ (n : ℕ) where
   abbrev Begins : List ℕ → List ℕ → CoverTree → Type 0
   Begins bytes left tree = BeginsWith (trees_within (n + 1)) bytes tree left
 
-  -- where no kind's word stands, no tree does
+  -- where there is no kind's word, there is no tree
   pub no_kind : (bytes : List ℕ) (at : ℕ) → ReadsTreeKind bytes at None →
       Reads (trees_within (n + 1)) bytes at None
   no_kind bytes at never tree left b =
@@ -194,7 +194,7 @@ module _ (n : ℕ) where
       never k.0 (contents_text k.0 k.1 ++ left)
       (whole_text k.0 k.1 (subst (Begins (drop at bytes) left) (sym k.2) b))
 
-  -- what was read behind the word of a kind is what was read from its beginning
+  -- what was read after the word of a kind is what was read from its beginning
   pub reads_tree : (kind : TreeKind) (bytes : List ℕ) (at next : ℕ) (r : Option (Contents kind × ℕ))
       → ReadsTreeKind bytes at (Some (kind, next)) →
       Reads (contents n kind) bytes next r → Reads (trees_within (n + 1)) bytes at

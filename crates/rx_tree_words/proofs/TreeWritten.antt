@@ -1,4 +1,4 @@
--- A tree is written as the word of its kind with its contents behind it.
+-- A tree is written as the word of its kind with its contents after it.
 use Rattle.std.proofs.Common.{◌≡◌, ◌∙◌, ap, sym, List, ◌∷◌, ◌++◌, ℕ, append_assoc}
 use Rattle.rx_cert.specs.declared.cert.Cert.{Cert}
 use Rattle.rx_cover.specs.declared.cover_tree.CoverTree.{CoverTree}

@@ -1,5 +1,5 @@
--- Cover trees by their kinds: the word that each begins with, and what is made of what stands
--- behind it.
+-- Cover trees by their kinds: the word that each begins with, and what is made of what comes after
+-- it.
 use Rattle.std.specs.Prelude.{◌≡◌, ℕ, Option, Some, None, List, ◌++◌, drop, codes}
 use Rattle.std.specs.Option.{option_map}
 use Rattle.rx_cert.specs.declared.cert.Cert.{Cert}
@@ -13,14 +13,14 @@ use Rattle.rx_tree_words.specs.Trees.{trees_within}
 use Rattle.rx_words.specs.Words.{numbers, pairs, word}
 use Rattle.rx_tree_words.specs.declared.trees.TreeKind.{TreeKind}
 
--- the word of a kind, with the space behind it
+-- the word of a kind, with the space after it
 abbrev pub tree_word : TreeKind → List ℕ
 tree_word TreeKind.Use = codes "use "
 tree_word TreeKind.Split = codes "split "
 tree_word TreeKind.Absurd = codes "absurd "
 
--- the kind whose word stands at the place, with the place behind it; None exactly where no kind's
--- word stands there
+-- the kind whose word is at the place, with the place after it; None exactly where no kind's word
+-- is there
 abbrev pub ReadsTreeKind : List ℕ → ℕ → Option (TreeKind × ℕ) → Type 0
 ReadsTreeKind bytes at (Some read) = Skips (tree_word read.0) bytes at (Some read.1)
 ReadsTreeKind bytes at None =

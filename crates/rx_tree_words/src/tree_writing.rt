@@ -1,4 +1,4 @@
-//! Cover trees are written: the word of their kind, and all that stands behind it.
+//! Cover trees are written: the word of their kind, and all that comes after it.
 ghost use Rattle.std.specs.Prelude.{◌≡◌, ◌++◌, ◌∷◌, OnOk};
 ghost use Rattle.rx_text.specs.Rows.{row_text};
 ghost use Rattle.rx_tree_words.specs.Branches.{tree_word, uses};
@@ -42,7 +42,7 @@ fn push_absurd(cert: &Cert, out: &mut Vec<u8>) -> Result<(), NoMemory>
     push_cert(cert, out)
 }
 
-/// One tree behind a space.
+/// One tree after a space.
 #[cycle(tree_writing)]
 fn push_branch(tree: &Boxed<CoverTree>, out: &mut Vec<u8>) -> Result<(), NoMemory>
     ensures { OnOk result (out.new.items ≡ out.old.items ++ (32 ∷ tree_text tree.now)) }
@@ -51,8 +51,8 @@ fn push_branch(tree: &Boxed<CoverTree>, out: &mut Vec<u8>) -> Result<(), NoMemor
     push_tree(tree.get(), out)
 }
 
-/// Puts the text of the tree behind what was written before. Fails only for want of memory, and
-/// then some of the text may stand there.
+/// Writes the text of the tree after what was written before. Fails only when out of memory, and
+/// then some of the text may have been written.
 #[cycle(tree_writing)]
 pub fn push_tree(tree: &CoverTree, out: &mut Vec<u8>) -> Result<(), NoMemory>
     ensures { OnOk result (out.new.items ≡ out.old.items ++ tree_text tree.now) }

@@ -36,7 +36,7 @@ pub(crate) enum TreeKind {
     Absurd,
 }
 
-/// The kind whose word stands at the place, with the place behind the word and its space.
+/// The kind whose word is at the place, with the place after the word and its space.
 fn read_tree_kind(bytes: &[u8], at: usize) -> Option<(TreeKind, usize)>
     ensures { ReadsTreeKind bytes.now at result }
 {
@@ -84,7 +84,7 @@ fn as_absurd(found: Option<(Cert, usize)>) -> Option<(CoverTree, usize)>
     }
 }
 
-/// The number of a rule and its certificates that stand at the place.
+/// The number of a rule and its certificates that are at the place.
 fn read_use(
     alloc: Global,
     bytes: &[u8],
@@ -104,14 +104,14 @@ fn read_use(
     Ok(Some(((rule, certs), end)))
 }
 
-/// The row whose text stands at the place, up to the end of a word.
+/// The row whose text is at the place, up to the end of a word.
 fn read_row_word(alloc: Global, bytes: &[u8], at: usize) -> Result<Option<(Row, usize)>, NoMemory>
     ensures { IfOk result (λ found. Reads (word row_format) bytes.now at found) }
 {
     Ok(ending_word(bytes, read_row(alloc, bytes, at)?))
 }
 
-/// The two trees at most so deep that stand at the place, with a space between them.
+/// The two trees at most so deep that are at the place, with a space between them.
 #[cycle(trees)]
 fn read_branches(
     alloc: Global,
@@ -135,7 +135,7 @@ fn read_branches(
     Ok(Some(((yes, no), end)))
 }
 
-/// The row and the two trees at most so deep that stand at the place, with spaces between them.
+/// The row and the two trees at most so deep that are at the place, with spaces between them.
 #[cycle(trees)]
 fn read_split(
     alloc: Global,
@@ -157,7 +157,7 @@ fn read_split(
     Ok(Some(((row, branches), end)))
 }
 
-/// The tree at most so deep that stands at the place.
+/// The tree at most so deep that is at the place.
 #[cycle(trees)]
 fn read_within(
     alloc: Global,
@@ -180,8 +180,8 @@ fn read_within(
     }
 }
 
-/// The cover tree whose text stands at the place, and the place after it. None exactly where no
-/// tree has its text there: one has that is at most 200 deep, and whose certificates each are, with
+/// The cover tree whose text is at the place, and the place after it. None exactly where no tree
+/// has its text there: one has that is at most 200 deep, and whose certificates each are, with
 /// variables below 1,000,000.
 pub fn read_tree(
     alloc: Global,

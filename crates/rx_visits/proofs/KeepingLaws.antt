@@ -1,4 +1,4 @@
--- What is kept stands for lists of visits: one node more, a later first note, lists that are as
+-- What is kept represents lists of visits: one node more, a later first note, lists that are as
 -- long.
 use Rattle.std.proofs.Common.{All, ◌≡◌, ◌∙◌, ap, refl, sym, subst, ℕ, Option, Some, None, List, [], ◌∷◌, ◌++◌, append_assoc, append-nil}
 use Rattle.std.proofs.lemmas.List.Elements.{All-pop, All-push}
@@ -28,7 +28,7 @@ module _ {R : Type 0} where
   note_counts (Some n) o = refl
 
 module _ {N V R : Type 0} (view : N → V) (settled : V → Settled V R) (menu : V → Menu V R) where
-  -- a kept node still stands for the same visits where there is another first note
+  -- a kept node still represents the same visits where there is another first note
   pub visits_later : (first later : Option (Note R)) (k : Kept N) (lists : ℕ → List (Visit V R)) →
       option_or first later ≡ later
       → StandsForVisits view settled menu first k lists →
@@ -67,7 +67,7 @@ module _ {N V R : Type 0} (view : N → V) (settled : V → Settled V R) (menu :
   lists_same first ks lists others e stands =
       subst (StandsForLists view settled menu first ks) (λ i n. e n i) stands
 
-  -- one node more stands for more visits
+  -- one node more represents more visits
   pub lists_push : (first : Option (Note R)) (ks : List (Kept N)) (k : Kept N)
       (lists more : ℕ → List (Visit V R))
       → StandsForLists view settled menu first ks lists →
@@ -90,7 +90,7 @@ module _ {N V R : Type 0} (view : N → V) (settled : V → Settled V R) (menu :
         append_assoc (here n) (rest n) (more n),
   )
 
-  -- the last node stands for the last visits
+  -- the last node represents the last visits
   pub lists_last : (first : Option (Note R)) (ks : List (Kept N)) (k : Kept N)
       (lists : ℕ → List (Visit V R))
       → StandsForLists view settled menu first (ks ++ k ∷ []) lists

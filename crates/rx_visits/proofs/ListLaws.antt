@@ -29,7 +29,7 @@ module _ {N V R : Type 0} (view : N → V) (settled : V → Settled V R) (menu :
       ∙ list-counts settled menu (begin budget) (seen_tally view p.tally) (depth + 1) 0 v some
       visited.counted
 
-  -- and what is kept stands for these
+  -- and what is kept represents these
   pub first_stands : (budget room : ℕ) (v : V) (p : Progress N R) →
       IsVisited view settled menu (begun budget room) (λ n. visits settled menu n [] v) p
       → p.tally.ended ≡ Going → StandsForLists view settled menu p.tally.note p.kept

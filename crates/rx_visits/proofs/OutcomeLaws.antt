@@ -36,7 +36,7 @@ module _ {N R : Type 0} where
   abbrev tally_of : Tally N R → Outcome N R
   tally_of t = outcome_by t.ended t.note
 
-  -- visits go on with so many left and this note
+  -- visits go on with n left and this note
   abbrev going : ℕ → Option (Note R) → Tally N R
   going left note = record { left = left; note = note; ended = Going }
 

@@ -1,5 +1,5 @@
 -- What is kept of a tree from one list of visits to the next: the visited nodes in preorder, where
--- an expanded node is a bare mark and a leaf has its node. It stands for the lists to come: the
+-- an expanded node is a bare mark and a leaf has its node. It represents the lists to come: the
 -- visits of each are, node by node, the one visit of an expanded node, and those from a leaf on.
 use Rattle.std.specs.Prelude.{◌≡◌, ℕ, ◌+◌, ◌<◌, false, Option, List, [], ◌∷◌, ◌++◌}
 use Rattle.std.specs.Option.{option_or}
@@ -21,7 +21,7 @@ abbrev pub IsAfterNote : {V R : Type 0} → Option (Note R) → Visit V R → Ty
 IsAfterNote first v = option_or first (note_of v) ≡ first
 
 module _ {V R : Type 0} (settled : V → Settled V R) (menu : V → Menu V R) where
-  -- the visits from a node on that is settled so, with so many choices to come after the first
+  -- the visits from a node on that is settled so, with n choices to come after the first
   abbrev pub visits_from : ℕ → List ℕ → Settled V R → List (Visit V R)
   visits_from more path s =
       choosing path s (menu s.node) ∷ visits_of settled menu more path (menu s.node).choices
@@ -35,7 +35,7 @@ module _ {N V R : Type 0} (view : N → V) where
     pub noted : IsAfterNote first (alone leaf.path s)
 
 module _ {N V R : Type 0} (view : N → V) (settled : V → Settled V R) (menu : V → Menu V R) where
-  -- a kept node stands for visits in each list to come: for one, always the same, or for those from
+  -- a kept node represents visits in each list to come: for one, always the same, or for those from
   -- a leaf on
   abbrev pub StandsForVisits : Option (Note R) → Kept N → (ℕ → List (Visit V R)) → Type 0
   StandsForVisits first Expanded lists =
@@ -44,7 +44,7 @@ module _ {N V R : Type 0} (view : N → V) (settled : V → Settled V R) (menu :
       (s : Settled V R) × IsLeaf view first leaf s ×
       ((n : ℕ) → lists n ≡ visits_from settled menu (n + leaf.below) leaf.path s)
 
-  -- all that is kept stands for them one after the other
+  -- all that is kept represents them one after the other
   abbrev pub StandsForLists : Option (Note R) → List (Kept N) → (ℕ → List (Visit V R)) → Type 0
   StandsForLists first [] lists = (n : ℕ) → lists n ≡ []
   StandsForLists first (k ∷ ks) lists =
@@ -52,14 +52,14 @@ module _ {N V R : Type 0} (view : N → V) (settled : V → Settled V R) (menu :
       × StandsForVisits first k here × StandsForLists first ks later ×
       ((n : ℕ) → lists n ≡ here n ++ later n)
 
-  -- what is kept goes on by nodes that stand for more visits, while visits go on
+  -- what is kept goes on by nodes that represent more visits, while visits go on
   abbrev pub Keeps : Progress N R → Progress N R → (ℕ → List (Visit V R)) → Type 0
   Keeps old new more =
       (lists : ℕ → List (Visit V R)) → (old.tally.ended ≡ Going →
       StandsForLists old.tally.note old.kept lists)
       → new.tally.ended ≡ Going → StandsForLists new.tally.note new.kept (λ n. lists n ++ more n)
 
-  -- the first of the lists is visited, and what is kept goes on by nodes that stand for the others
+  -- the first of the lists is visited, and what is kept goes on by nodes that represent the others
   pub record IsVisited (old : Progress N R) (lists : ℕ → List (Visit V R)) (new : Progress N R) :
       Type 0 where
     pub counted : seen_tally view new.tally ≡ counted (seen_tally view old.tally) (lists 0)

@@ -1,6 +1,6 @@
 -- The visits of a tree: the tree cut at no choice, then at one, and so on, each in preorder. A node
--- is settled, and then, where more choices may come and it isn't closed, its choices lead to
--- further nodes.
+-- is settled, and then, where more choices may come and it isn't closed, its choices lead to more
+-- nodes.
 use Rattle.std.specs.Prelude.{ℕ, zero, suc, Bool, if◌then◌else◌, Option, List, [], ◌∷◌, ◌++◌}
 use Rattle.std.specs.List.{flat_map}
 use Rattle.std.specs.Option.{option_or}
@@ -26,7 +26,7 @@ choosing path s m =
     record { path = path; node = s.node; closed = s.closed; note = option_or s.note m.note }
 
 module _ {N R : Type 0} (settled : N → Settled N R) (menu : N → Menu N R) where
-  -- the visits from a node on, with at most so many choices to come
+  -- the visits from a node on, with at most n choices to come
   unfoldable pub visits : ℕ → List ℕ → N → List (Visit N R)
   visits zero path node = alone path (settled node) ∷ []
   visits (suc more) path node =
@@ -40,11 +40,11 @@ module _ {N R : Type 0} (settled : N → Settled N R) (menu : N → Menu N R) wh
   visits_of more path choices =
       flat_map (λ (c : Choice N). visits more (path ++ c.number ∷ []) c.node) choices
 
-  -- so many lists one after the other, the first with at most that many choices on a path
+  -- n lists one after the other, the first with at most the given number of choices on a path
   unfoldable pub lists : ℕ → ℕ → N → List (Visit N R)
   lists zero more start = []
   lists (suc n) more start = visits more [] start ++ lists n (suc more) start
 
-  -- all visits with at most so many choices on a path
+  -- all visits with at most n choices on a path
   abbrev pub all_visits : ℕ → N → List (Visit N R)
   all_visits depth start = lists (suc depth) 0 start

@@ -80,7 +80,7 @@ fn walk_choices<T: Tree>(
     walk_all(alloc, tree, more, path, menu.choices.as_slice(), tally)
 }
 
-/// The visits from a node on, with at most so many choices to come.
+/// The visits from a node on, with at most n choices to come.
 #[cycle(walking)]
 fn walk<T: Tree>(
     alloc: Global,

@@ -256,7 +256,7 @@ by_level (Cert-F.DivFacts num den x y) =
 pub each_assembled : (cert : Cert) → IsAssembled cert
 each_assembled cert = subst IsAssembled (roll-out-Cert cert) (by_level (out-Cert cert))
 
--- so many certificates as belong behind the first words can be assembled with them
+-- as many certificates as belong after the first words can be assembled with them
 pub can_assemble : (head : Head) (inner : List Cert) → length inner ≡ inner_count head →
     assembled head inner ≡ None → ⊥
 can_assemble (Head.Sum ps) [] n e = cc
@@ -335,7 +335,7 @@ module _ (n : ℕ) where
     over = b.over;
   }
 
-  -- first words, and behind them as many certificates as belong there, are a certificate
+  -- first words, and after them as many certificates as belong there, are a certificate
   pub cert_stands : {bytes : List ℕ} {at middle end : ℕ} {head : Head} {inner : List Cert}
       {cert : Cert} → Made head inner cert → StandsAt heads bytes at head middle →
       ReadsSpaced (certificates_within n) (inner_count head) bytes middle (Some (inner, end)) →

@@ -15,7 +15,7 @@ use Rattle.rx_words.specs.declared.heads.Kind.{Kind}
 use Rattle.rx_words.proofs.Once.{numbers_once, integers_once, part_lists_once, polynomials_once, rows_once, second_rows_once}
 use Rattle.rx_words.proofs.Joined.{pairs_once}
 
--- the kind whose word the first three bytes begin, and what stands behind the word
+-- the kind whose word the first three bytes begin, and what comes after the word
 abbrev told_s : ℕ → List ℕ → Kind × List ℕ
 told_s b rest =
     cond (b == 117) (Kind.Sum, drop 1 rest) (cond (b == 112) (Kind.Split, drop 3 rest)
@@ -180,7 +180,7 @@ each_once Kind.DivFacts =
     (pairs_once polynomials.text polynomials.in_range integers.text integers.in_range
     polynomials_once integers_once)
 
--- behind the word of the kind stand the fields
+-- after the word of the kind come the fields
 behind_word : {bytes left rest : List ℕ} {head : Head} (kind : Kind) →
     BeginsWith heads bytes head left → bytes ≡ kind_word kind ++ rest →
     BeginsWith (fields kind) rest head left
@@ -208,7 +208,7 @@ is_its_kind Kind.Differ head e = ap kind_of (only_differ head e).1
 is_its_kind Kind.Solve head e = ap kind_of (only_solve head e).1
 is_its_kind Kind.DivFacts head e = ap kind_of (only_division head e).1
 
--- what was read behind the word of a kind is what was read from its beginning
+-- what was read after the word of a kind is what was read from its beginning
 pub reads_head : (bytes : List ℕ) (at next : ℕ) (kind : Kind) (r : Option (Head × ℕ)) →
     ReadsKind bytes at (Some (kind, next)) → Reads (fields kind) bytes next r →
     Reads heads bytes at r

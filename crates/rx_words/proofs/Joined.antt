@@ -1,4 +1,4 @@
--- Words one after the other: the end of a word, two things with a space between them, a list behind
+-- Words one after the other: the end of a word, two things with a space between them, a list after
 -- its number.
 use Rattle.std.proofs.Common.{◌≡◌, ◌∙◌, ap, refl, sym, ℕ, ◌==◌, Bool, true, false, not, cond, List, [], ◌∷◌, ◌++◌, length, drop, Option, Some, None, arith, append_assoc}
 use Rattle.std.specs.List.{list_all}
@@ -37,7 +37,7 @@ module _ {A : Type 0} (format : Format A) (space : format.goes_on 32 ≡ false)
   pub word_once : IsUnambiguous format → IsUnambiguous (word format)
   word_once once bytes x y left right b c = once bytes x y left right (narrow b) (narrow c)
 
-  -- what was read is read as a word, where a word ends behind it
+  -- what was read is read as a word, where a word ends after it
   pub word_reads : IsUnambiguous format → (bytes : List ℕ) (at : ℕ) (r : Option (A × ℕ)) →
       Reads format bytes at r → Reads (word format) bytes at (ending_word bytes r)
   word_reads once bytes at None h = λ x left b. h x left (narrow b)
@@ -146,7 +146,7 @@ module _ {A : Type 0} (text : A → List ℕ) (in_range : A → Bool) where
     over = b.over;
   }
 
-  -- a list behind its number is unambiguous
+  -- a list after its number is unambiguous
   pub counted_once : IsUnambiguous numbers → IsUnambiguous Each → IsUnambiguous (counted Each)
   counted_once once each bytes xs ys left right b c =
       let s = once bytes (length xs) (length ys) (each_spaced text xs ++ left)
@@ -184,7 +184,7 @@ module _ {A : Type 0} (text : A → List ℕ) (in_range : A → Bool) where
       let same = only_that once s (number_stands b) in
       never xs left (things_stand b (sym same.0) same.1)
 
-  -- what was read behind the number
+  -- what was read after the number
   pub reads_list : {bytes : List ℕ} {at middle n : ℕ} → IsUnambiguous numbers →
       StandsAt numbers bytes at n middle → (r : Option (List A × ℕ)) →
       ReadsSpaced Each n bytes middle r → Reads (counted Each) bytes at r

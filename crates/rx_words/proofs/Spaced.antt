@@ -1,5 +1,4 @@
--- Lists of things, each behind a space: one more thing, and that only one list of so many stands at
--- a place.
+-- Lists of things, each after a space: one more thing, and that only one list of n is at a place.
 use Rattle.std.proofs.Common.{◌≡◌, ◌∙◌, ap, refl, sym, ℕ, ◌+◌, ◌<◌, ◌≤◌, Bool, true, ◌&&◌, List, [], ◌∷◌, ◌++◌, length, drop, Some, None, arith, append_assoc, length-append}
 use Rattle.std.specs.List.{list_all}
 use Rattle.std.proofs.lemmas.Bool.{and_from, and_parts}
@@ -10,7 +9,7 @@ use Rattle.rx_text.specs.Formats.{BeginsWith, Format, IsUnambiguous, Reads, Skip
 use Rattle.rx_words.specs.Lists.{AreSpaced, ReadsSpaced}
 use Rattle.rx_words.specs.Words.{each_spaced, in_word, words}
 
--- a word ends where a list of spaced things begins, or where it ends behind an empty one
+-- a word ends where a list of spaced things begins, or where it ends after an empty one
 pub over_spaced : {A : Type 0} (text : A → List ℕ) (xs : List A) (left : List ℕ) →
     is_over in_word left ≡ true → is_over in_word (each_spaced text xs ++ left) ≡ true
 over_spaced text [] left over = over
@@ -85,7 +84,7 @@ module _ {A : Type 0} (text : A → List ℕ) (in_range : A → Bool)
       at [] w t z = (sym (append-nil xs) ∙ sym w, t)
       at (m ∷ ms) w t z = absurd (omega arith)
 
--- the list that was read so far, with the place behind it
+-- the list that was read so far, with the place after it
 pub record SoFar {A : Type 0} (each : Format A) (count : ℕ) (bytes : List ℕ) (from : ℕ)
     (things : List A) (at : ℕ) : Type 0 where
   pub forward : from ≤ at
@@ -128,7 +127,7 @@ module _ {A : Type 0} (text : A → List ℕ) (in_range : A → Bool) where
     };
   }
 
-  -- where so many things stand from the first place, one more stands here behind a space
+  -- where n things are there from the first place on, one more is here after a space
   more_stands : {n count : ℕ} {bytes : List ℕ} {from at : ℕ} {things : List A} →
       IsUnambiguous Every → SoFar Every n bytes from things at → n < count →
       (all : List A) (left : List ℕ) → AreSpaced Every count (drop from bytes) all left →

@@ -1,4 +1,4 @@
--- A certificate is written as its first words with those in it behind them.
+-- A certificate is written as its first words with those in it after them.
 use Rattle.std.proofs.Common.{◌≡◌, ◌∙◌, ap, sym, List, [], ◌∷◌, ◌++◌, ℕ, append_assoc}
 use Rattle.std.proofs.lemmas.List.{append-nil}
 use Rattle.rx_cert.specs.declared.cert.Cert.{Cert}

@@ -1,4 +1,4 @@
--- The first words of a certificate: its kind, and all that stands before the certificates in it.
+-- The first words of a certificate: its kind, and all that comes before the certificates in it.
 use Rattle.std.specs.Prelude.{◌≡◌, ℕ, ◌&&◌, Bool, true, false, Option, Some, None, List, [], ◌∷◌, ◌++◌, drop, ℤ, codes}
 use Rattle.std.specs.Option.{option_map}
 use Rattle.rx_cert.specs.declared.cert.Cert.{Cert}
@@ -12,7 +12,7 @@ use Rattle.rx_words.specs.Words.{numbers, pairs, variables, word, words}
 use Rattle.rx_words.specs.declared.heads.Head.{Head}
 use Rattle.rx_words.specs.declared.heads.Kind.{Kind}
 
--- the word of a kind, with the space behind it
+-- the word of a kind, with the space after it
 abbrev pub kind_word : Kind → List ℕ
 kind_word Kind.Sum = codes "sum "
 kind_word Kind.Cut = codes "cut "
@@ -21,8 +21,8 @@ kind_word Kind.Differ = codes "differ "
 kind_word Kind.Solve = codes "solve "
 kind_word Kind.DivFacts = codes "div "
 
--- the kind whose word stands at the place, with the place behind it; None exactly where no kind's
--- word stands there
+-- the kind whose word is at the place, with the place after it; None exactly where no kind's word
+-- is there
 abbrev pub ReadsKind : List ℕ → ℕ → Option (Kind × ℕ) → Type 0
 ReadsKind bytes at (Some read) = Skips (kind_word read.0) bytes at (Some read.1)
 ReadsKind bytes at None = (kind : Kind) (left : List ℕ) → ¬ (drop at bytes ≡ kind_word kind ++ left)
@@ -36,7 +36,7 @@ kind_of (Head.Differ at) = Kind.Differ
 kind_of (Head.Solve first second var) = Kind.Solve
 kind_of (Head.DivFacts num den) = Kind.DivFacts
 
--- what stands behind the kind
+-- what comes after the kind
 abbrev pub fields_text : Head → List ℕ
 fields_text (Head.Sum parts) = part_lists.text parts
 fields_text (Head.Cut parts div) = (pairs part_lists (word integers)).text (parts, div)
@@ -66,7 +66,7 @@ is_of Kind.Solve (Head.Solve first second var) = true
 is_of Kind.DivFacts (Head.DivFacts num den) = true
 is_of kind head = false
 
--- what stands behind the word of one kind
+-- what comes after the word of one kind
 abbrev pub fields : Kind → Format Head
 fields kind = words fields_text (λ head. is_of kind head && is_readable_head head)
 
@@ -79,7 +79,7 @@ abbrev pub solution : Option ((ℕ × (ℕ × ℕ)) × ℕ) → Option (Head × 
 solution None = None
 solution (Some read) = Some (Head.Solve read.0.0 read.0.1.0 read.0.1.1, read.1)
 
--- how many certificates stand behind
+-- how many certificates come after
 abbrev pub inner_count : Head → ℕ
 inner_count (Head.Sum parts) = 0
 inner_count (Head.Cut parts div) = 1

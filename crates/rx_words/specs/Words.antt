@@ -36,7 +36,7 @@ numbers = word (naturals (2 ^ 32 - 1))
 abbrev pub variables : Format ℕ
 variables = word (naturals 999999)
 
--- each thing behind a space
+-- each thing after a space
 abbrev pub each_spaced : {A : Type 0} → (A → List ℕ) → List A → List ℕ
 each_spaced text xs = flat_map (λ x. codes " " ++ text x) xs
 

@@ -1,4 +1,4 @@
-//! Certificates, put together of their first words and the certificates in them.
+//! Certificates, assembled from their first words and the certificates in them.
 ghost use Rattle.std.specs.Prelude.{◌≡◌, IfOk};
 ghost use Rattle.std.specs.Option.{option_map};
 ghost use Rattle.rx_words.specs.Heads.{assembled, only_one, only_two};
@@ -40,7 +40,7 @@ fn only_two(
     Ok(Some((first, Boxed::new(alloc, second)?)))
 }
 
-/// A sum, where no certificate stands behind it.
+/// A sum, where no certificate comes after it.
 fn sum(parts: Parts, inner: &Items<Cert>) -> Option<Cert>
     ensures { result ≡ assembled (Head.Sum parts) inner.now }
 {

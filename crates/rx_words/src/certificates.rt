@@ -18,7 +18,7 @@ use std::alloc::Global;
 /// How deep a certificate may be that has a text.
 const DEEPEST: u32 = 200;
 
-/// The certificate at most so deep that stands at the place.
+/// The certificate at most so deep that is at the place.
 #[cycle(certificates)]
 fn read_within(
     alloc: Global,
@@ -44,7 +44,7 @@ fn read_within(
     }
 }
 
-/// So many certificates at most so deep that stand at the place, each behind a space.
+/// That many certificates at most so deep that are at the place, each after a space.
 #[cycle(certificates)]
 fn read_inner(
     alloc: Global,
@@ -73,7 +73,7 @@ fn read_inner(
     Ok(Some((inner, at)))
 }
 
-/// The certificate whose text stands at the place, and the place after it. None exactly where no
+/// The certificate whose text is at the place, and the place after it. None exactly where no
 /// certificate has its text there: one has that is at most 200 deep, with variables below
 /// 1,000,000.
 pub fn read_cert(alloc: Global, bytes: &[u8], at: usize) -> Result<Option<(Cert, usize)>, NoMemory>
@@ -98,7 +98,7 @@ impl Text for Cert {
     }
 }
 
-/// The list of certificates whose text stands at the place, how many and then each of them, and the
+/// The list of certificates whose text is at the place, how many and then each of them, and the
 /// place after it. None exactly where no list of certificates has its text there.
 pub fn read_certs(
     alloc: Global,
@@ -110,8 +110,8 @@ pub fn read_certs(
     read_list(alloc, bytes, at)
 }
 
-/// Puts the text of the certificates behind what was written before: how many, and then each of
-/// them. Fails only for want of memory, and then some of the text may stand there.
+/// Writes the text of the certificates after what was written before: how many, and then each of
+/// them. Fails only when out of memory, and then some of the text may have been written.
 pub fn push_certs(certs: &Items<Cert>, out: &mut Vec<u8>) -> Result<(), NoMemory>
     ensures { OnOk result (out.new.items ≡ out.old.items ++ certificate_lists.text certs.now) }
 {

@@ -1,4 +1,4 @@
-//! The first words of a certificate: its kind, and all that stands before the certificates in it.
+//! The first words of a certificate: its kind, and all that comes before the certificates in it.
 ghost use Rattle.std.specs.Prelude.{◌≡◌, IfOk};
 ghost use Rattle.rx_text.specs.Formats.{Reads};
 ghost use Rattle.rx_words.specs.Heads.{ReadsKind, fields, heads, inner_count, solution};
@@ -48,7 +48,7 @@ pub(crate) enum Head {
     DivFacts(Poly, i128),
 }
 
-/// The kind whose word stands at the place, with the place behind the word and its space.
+/// The kind whose word is at the place, with the place after the word and its space.
 fn read_kind(bytes: &[u8], at: usize) -> Option<(Kind, usize)>
     ensures { ReadsKind bytes.now at result }
 {
@@ -143,7 +143,7 @@ fn read_division(alloc: Global, bytes: &[u8], at: usize) -> Result<Option<(Head,
     }
 }
 
-/// What stands behind the word of that kind, up to the certificates in it.
+/// What comes after the word of that kind, up to the certificates in it.
 fn read_fields(
     alloc: Global,
     bytes: &[u8],
@@ -177,7 +177,7 @@ pub(crate) fn read_head(
 }
 
 impl Head {
-    /// How many certificates stand behind it.
+    /// How many certificates come after it.
     pub(crate) fn inner_count(&self) -> u32
         ensures { result ≡ inner_count self.now }
     {

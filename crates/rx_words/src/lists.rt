@@ -1,4 +1,4 @@
-//! Lists of things, each behind a space.
+//! Lists of things, each after a space.
 ghost use Rattle.std.specs.Prelude.{◌≡◌, ◌≤◌, ◌++◌, true, length, drop, IfOk, OnOk};
 ghost use Rattle.rx_text.specs.Formats.{IsUnambiguous, Reads, is_over};
 ghost use Rattle.rx_text.specs.Numbers.{natural_text};
@@ -12,7 +12,7 @@ use rx_plain::{Items, NoMemory};
 use rx_text::{push_word, skip_word};
 use std::alloc::Global;
 
-/// So many things that stand at the place, each behind a space.
+/// That many things that are at the place, each after a space.
 pub(crate) fn read_spaced<T: Text>(
     alloc: Global,
     bytes: &[u8],
@@ -40,7 +40,7 @@ pub(crate) fn read_spaced<T: Text>(
     Ok(Some((things, at)))
 }
 
-/// Puts each thing behind a space.
+/// Writes each thing after a space.
 pub(crate) fn push_spaced<T: Text>(things: &[T], out: &mut Vec<u8>) -> Result<(), NoMemory>
     ensures { OnOk result (out.new.items ≡ out.old.items ++ each_spaced T.text things.now) }
 {
@@ -51,7 +51,7 @@ pub(crate) fn push_spaced<T: Text>(things: &[T], out: &mut Vec<u8>) -> Result<()
     Ok(())
 }
 
-/// A list whose number stands at the place, with its things behind it.
+/// A list whose number is at the place, with its things after it.
 pub(crate) fn read_list<T: Text>(
     alloc: Global,
     bytes: &[u8],
@@ -66,8 +66,8 @@ pub(crate) fn read_list<T: Text>(
     }
 }
 
-/// Puts the number behind what was written before. Fails only for want of memory, and then some of
-/// its text may stand there.
+/// Writes the number after what was written before. Fails only when out of memory, and then some of
+/// its text may have been written.
 pub fn push_count(out: &mut Vec<u8>, count: usize) -> Result<(), NoMemory>
     ensures { OnOk result (out.new.items ≡ out.old.items ++ natural_text count) }
 {
@@ -75,7 +75,7 @@ pub fn push_count(out: &mut Vec<u8>, count: usize) -> Result<(), NoMemory>
     push_word(out, buffer.format(count).as_bytes())
 }
 
-/// Puts how many things there are behind what was written before, and then each of them.
+/// Writes how many things there are after what was written before, and then each of them.
 pub(crate) fn push_list<T: Text>(things: &[T], out: &mut Vec<u8>) -> Result<(), NoMemory>
     ensures { OnOk result (out.new.items ≡ out.old.items ++
         (counted (words T.text T.in_range)).text things.now) }

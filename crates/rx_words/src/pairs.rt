@@ -9,7 +9,7 @@ use rx_plain::NoMemory;
 use rx_text::skip_word;
 use std::alloc::Global;
 
-/// Two things that stand at the place, with a space between them.
+/// Two things that are at the place, with a space between them.
 pub(crate) fn read_pair<A: Text, B: Text>(
     alloc: Global,
     bytes: &[u8],
@@ -31,7 +31,7 @@ pub(crate) fn read_pair<A: Text, B: Text>(
     Ok(Some(((first, second), end)))
 }
 
-/// Puts the two behind what was written before, with a space between them.
+/// Writes the two after what was written before, with a space between them.
 pub(crate) fn push_pair<A: Text, B: Text>(
     first: &A,
     second: &B,

@@ -9,8 +9,8 @@ use rx_cert::Parts;
 use rx_plain::NoMemory;
 use std::alloc::Global;
 
-/// The parts of a sum that stand at the place, with the place after them: how many, then the number
-/// of a row and its multiplier for each. None exactly where no such text stands there.
+/// The parts of a sum that are at the place, with the place after them: how many, then the number
+/// of a row and its multiplier for each. None exactly where no such text is there.
 pub fn read_parts(
     alloc: Global,
     bytes: &[u8],
@@ -21,8 +21,8 @@ pub fn read_parts(
     read_list(alloc, bytes, at)
 }
 
-/// Puts the text of the parts behind what was written before. Fails only for want of memory, and
-/// then some of the text may stand there.
+/// Writes the text of the parts after what was written before. Fails only when out of memory, and
+/// then some of the text may have been written.
 pub fn push_parts(parts: &Parts, out: &mut Vec<u8>) -> Result<(), NoMemory>
     ensures { OnOk result (out.new.items ≡ out.old.items ++ part_lists.text parts.now) }
 {

@@ -14,7 +14,7 @@ fn ends_word(bytes: &[u8], at: usize) -> bool
     }
 }
 
-/// What was read, where a word ends behind it; else None.
+/// What was read, where a word ends after it; else None.
 pub fn ending_word<T: Drop>(bytes: &[u8], found: Option<(T, usize)>) -> Option<(T, usize)>
     ensures { result ≡ ending_word bytes.now found }
 {

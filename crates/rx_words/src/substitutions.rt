@@ -47,9 +47,9 @@ impl Text for (u32, Poly) {
     }
 }
 
-/// The substitution whose text stands at the place, and the place after it: how many variables are
+/// The substitution whose text is at the place, and the place after it: how many variables are
 /// replaced, then for each its number, below 1,000,000, and the polynomial in its place. None
-/// exactly where no such text stands there.
+/// exactly where no such text is there.
 pub fn read_subst(
     alloc: Global,
     bytes: &[u8],
@@ -60,16 +60,16 @@ pub fn read_subst(
     read_list(alloc, bytes, at)
 }
 
-/// Puts the text of the substitution behind what was written before. Fails only for want of memory,
-/// and then some of the text may stand there.
+/// Writes the text of the substitution after what was written before. Fails only when out of
+/// memory, and then some of the text may have been written.
 pub fn push_subst(pairs: &[(u32, Poly)], out: &mut Vec<u8>) -> Result<(), NoMemory>
     ensures { OnOk result (out.new.items ≡ out.old.items ++ substitutions.text pairs.now) }
 {
     push_list(pairs, out)
 }
 
-/// The rows whose text stands at the place, how many and then each of them, and the place after it.
-/// None exactly where no such text stands there.
+/// The rows whose text is at the place, how many and then each of them, and the place after it.
+/// None exactly where no such text is there.
 pub fn read_rows(
     alloc: Global,
     bytes: &[u8],
@@ -80,8 +80,8 @@ pub fn read_rows(
     read_list(alloc, bytes, at)
 }
 
-/// Puts the text of the rows behind what was written before. Fails only for want of memory, and
-/// then some of the text may stand there.
+/// Writes the text of the rows after what was written before. Fails only when out of memory, and
+/// then some of the text may have been written.
 pub fn push_rows(rows: &[Row], out: &mut Vec<u8>) -> Result<(), NoMemory>
     ensures { OnOk result (out.new.items ≡ out.old.items ++ row_lists.text rows.now) }
 {

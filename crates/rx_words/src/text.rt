@@ -1,4 +1,4 @@
-//! Things that stand in words of a line.
+//! Things that are in words of a line.
 ghost use Rattle.std.specs.Prelude.{◌≡◌, ◌++◌, ℕ, Bool, List, IfOk, OnOk};
 ghost use Rattle.rx_text.specs.Formats.{Reads};
 ghost use Rattle.rx_words.specs.Words.{words};
@@ -12,13 +12,13 @@ pub(crate) trait Text: Drop {
 
     ghost in_range: { Self → Bool };
 
-    /// The thing whose text stands at the place, with the place after it; None exactly where no
-    /// thing in range has its text there.
+    /// The thing whose text is at the place, with the place after it; None exactly where no thing
+    /// in range has its text there.
     fn read(alloc: Global, bytes: &[u8], at: usize) -> Result<Option<(Self, usize)>, NoMemory>
         ensures { IfOk result (λ found. Reads (words text in_range) bytes.now at found) };
 
-    /// Puts the text behind what was written before. Fails only for want of memory, and then some
-    /// of the text may stand there.
+    /// Writes the text after what was written before. Fails only when out of memory, and then some
+    /// of the text may have been written.
     fn push_text(&self, out: &mut Vec<u8>) -> Result<(), NoMemory>
         ensures { OnOk result (out.new.items ≡ out.old.items ++ text self.now) };
 }

@@ -66,7 +66,7 @@ fn push_division(num: &Poly, den: &i128, out: &mut Vec<u8>) -> Result<(), NoMemo
     push_pair(num, den, out)
 }
 
-/// One certificate behind a space.
+/// One certificate after a space.
 #[cycle(writing)]
 fn push_one(cert: &Boxed<Cert>, out: &mut Vec<u8>) -> Result<(), NoMemory>
     ensures { OnOk result (out.new.items ≡ out.old.items ++ (32 ∷ cert_text cert.now)) }
@@ -75,8 +75,8 @@ fn push_one(cert: &Boxed<Cert>, out: &mut Vec<u8>) -> Result<(), NoMemory>
     push_cert(cert.get(), out)
 }
 
-/// Puts the text of the certificate behind what was written before. Fails only for want of memory,
-/// and then some of the text may stand there.
+/// Writes the text of the certificate after what was written before. Fails only when out of memory,
+/// and then some of the text may have been written.
 #[cycle(writing)]
 pub fn push_cert(cert: &Cert, out: &mut Vec<u8>) -> Result<(), NoMemory>
     ensures { OnOk result (out.new.items ≡ out.old.items ++ cert_text cert.now) }

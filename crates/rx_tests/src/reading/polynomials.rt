@@ -5,7 +5,7 @@ use rx_poly::{Atom, Body, Mono, Poly};
 use std::alloc::Global;
 use std::mem;
 
-// Sums that stand between two brackets, as far as they are read.
+// Sums that are between two brackets, as far as they are read.
 #[derive(Drop)]
 struct Open {
     // Whether the sums are those of a quotient.
@@ -31,7 +31,7 @@ fn opened(alloc: Global, quotient: bool) -> Open {
     }
 }
 
-// The number of a variable, and how often it stands there.
+// The number of a variable, and how often it occurs there.
 fn power(word: &str) -> Option<(u32, u32)> {
     let (number, times) = word.split_once('^').unwrap_or((word, "1"));
     Some((count(number)?, count(times)?))
@@ -88,7 +88,7 @@ fn division(open: Open) -> Option<Atom> {
     Some(Atom::Mod(num, den))
 }
 
-// The division that is read last is closed: it is an atom of what it stands in.
+// The division that is read last is closed: it is an atom of what it is in.
 fn close(open: &mut Vec<Open>) -> Option<()> {
     let atom = division(open.pop()?)?;
     open.last_mut()?.atoms.push(atom).ok()
@@ -173,13 +173,13 @@ pub fn listed(alloc: Global, text: &str) -> Option<Vec<Poly>> {
     Some(made)
 }
 
-// A variable's number, and what stands in its place.
+// A variable's number, and what is in its place.
 fn replacement(alloc: Global, words: &mut Vec<&str>) -> Option<(u32, Poly)> {
     let at = small(words)?;
     Some((at, next_poly(alloc, words)?))
 }
 
-/// The next words, a list of variables, each by its number, with what stands in its place.
+/// The next words, a list of variables, each by its number, with what is in its place.
 pub fn next_substitution(alloc: Global, words: &mut Vec<&str>) -> Option<Items<(u32, Poly)>> {
     let mut made = Items::new(alloc);
     for _ in 0..small(words)? {
@@ -188,7 +188,7 @@ pub fn next_substitution(alloc: Global, words: &mut Vec<&str>) -> Option<Items<(
     Some(made)
 }
 
-/// A list of variables, each by its number, with what stands in its place.
+/// A list of variables, each by its number, with what is in its place.
 pub fn substitution(alloc: Global, text: &str) -> Option<Vec<(u32, Poly)>> {
     let mut words = words(alloc, text)?;
     Some(next_substitution(alloc, &mut words)?.into_vec())

@@ -1,4 +1,4 @@
-//! Terms, as `s4(1*v0;s2(;ret(3)))`. A frame that stands there many times is written once, with the
+//! Terms, as `s4(1*v0;s2(;ret(3)))`. A frame that occurs there many times is written once, with the
 //! number in front, as `100*s2(;fail(1))`.
 use crate::reading::polynomials::{poly, polys};
 use crate::reading::words::count;
@@ -32,7 +32,7 @@ fn one_frame(alloc: Global, number: u32, args: &str, inner: Term) -> Option<Term
     Some(Term::Frame(Sym(number), polys(alloc, args)?, inner))
 }
 
-// How often a frame stands there, and its symbol's number.
+// How often a frame occurs there, and its symbol's number.
 fn head(text: &str) -> Option<(u32, u32)> {
     let (times, number) = text.split_once('s')?;
     let times = count(times.strip_suffix('*').unwrap_or("1"))?;

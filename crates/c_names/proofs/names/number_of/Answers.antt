@@ -1,4 +1,4 @@
--- A new word is put behind the others.
+-- A new word is added after the others.
 use Rattle.std.proofs.Common.{◌∙◌, ap, sym}
 use Rattle.c_names.specs.Seen.{number_in}
 use Rattle.c_names.proofs.SeenLemmas.{entered, stands}

@@ -1,4 +1,4 @@
--- The kinds are what they are to be, and their numbers tell how many come of them.
+-- The kinds are what they are to be, and their numbers say how many come of them.
 use Rattle.std.proofs.Common.{◌∙◌, ap, sym, length, nat_le, pos, int_lt, List}
 use Rattle.std.proofs.lemmas.Bool.{and_from, and_left}
 use Rattle.std.specs.List.{list_all}

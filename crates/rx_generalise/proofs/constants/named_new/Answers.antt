@@ -1,4 +1,4 @@
--- The goal, its rows and what the new variables stand for are those of the definition.
+-- The goal, its rows and what the new variables represent are those of the definition.
 use Rattle.std.proofs.Common.{◌∙◌, ap, ◌++◌, [], ◌∷◌}
 use Rattle.rx_poly.specs.declared.body.Body.{Body}
 use Rattle.rx_generalise.proofs.NamingLaws.{named_made}

@@ -1,4 +1,4 @@
--- So many, and those among what is left, are all.
+-- That many, and those among what is left, are all.
 use Rattle.std.proofs.Common.{◌≡◌, ◌≤◌, ◌+◌, drop, length}
 use Rattle.std.specs.Prelude.{filter}
 use Rattle.rx_generalise.specs.Repeated.{is_same_occurrence}

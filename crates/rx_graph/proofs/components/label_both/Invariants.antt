@@ -1,4 +1,4 @@
--- The first so many vertices that have both marks have the label.
+-- The first n vertices that have both marks have the label.
 use Rattle.std.proofs.Common.{◌≡◌, ◌<◌, ◌⊎◌, ℕ, get_or}
 use Rattle.rx_graph.specs.Graph.{IsMarked}
 use Rattle.rx_graph.proofs.components.label_both.Given as goal

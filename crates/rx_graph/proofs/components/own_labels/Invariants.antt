@@ -1,4 +1,4 @@
--- The first so many vertices, each for itself.
+-- The first n vertices, each for itself.
 use Rattle.std.proofs.Common.{◌≡◌, ◌<◌, ℕ, get_or, length}
 use Rattle.rx_graph.proofs.components.own_labels.Given as goal
 

@@ -1,4 +1,4 @@
--- So many empty rows so far.
+-- That many empty rows so far.
 use Rattle.std.proofs.Common.{[]}
 use Rattle.rx_graph.specs.Graph.{IsGraphOf, rows_of}
 use Rattle.rx_graph.proofs.graph.empty_rows.Given as goal

@@ -1,4 +1,4 @@
--- The heights of the first so many labels.
+-- The heights of the first n labels.
 use Rattle.std.proofs.Common.{◌≡◌, ◌<◌, ℕ, get_or, length}
 use Rattle.rx_graph.proofs.heights.named_heights.Given as goal
 

@@ -1,4 +1,4 @@
--- The height is above those of the first so many targets.
+-- The height is above those of the first n targets.
 use Rattle.std.proofs.Common.{take}
 use Rattle.rx_graph.specs.Ranked.{Raised}
 use Rattle.rx_graph.proofs.heights.raise.Given as goal

@@ -1,4 +1,4 @@
--- The run begins with all bytes left, and each turn lengthens it by a put.
+-- The run begins with all bytes left, and each turn lengthens it by a write.
 use Rattle.std.proofs.Common.{◌<◌, refl, arith}
 use Rattle.std.proofs.KnownBytes.{Appends-nil}
 use Rattle.rx_io.specs.Puts.{start}

@@ -1,4 +1,4 @@
--- What was put so far is a front of the bytes, and the rest is what is left of them.
+-- What was written so far is a front of the bytes, and the rest is what is left of them.
 use Rattle.std.proofs.Common.{◌≤◌, ◌≡◌, ℕ, length, take, drop}
 use Rattle.std.specs.Io.KnownBytes.{Appends}
 use Rattle.rx_io.specs.Puts.{Sends}

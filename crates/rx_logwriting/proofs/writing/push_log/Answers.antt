@@ -1,4 +1,4 @@
--- The parts one behind the other are the text of the log.
+-- The parts one after the other are the text of the log.
 use Rattle.std.proofs.Common.{◌∙◌, ◌++◌, ap}
 use Rattle.std.proofs.lemmas.Result.{on_ok_weaker}
 use Rattle.std.specs.Prelude.{codes}

@@ -1,4 +1,4 @@
--- The variable is put at its place.
+-- The variable is written at its place.
 use Rattle.std.proofs.Common.{◌≡◌, ◌∙◌, ap, sym, subst, ◌≤◌, ℕ, List, length, arith}
 use Rattle.std.specs.List.{insert}
 use Rattle.rx_poly.specs.declared.body.Body.{Body}

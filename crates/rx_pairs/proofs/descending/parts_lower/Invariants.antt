@@ -1,4 +1,4 @@
--- What is left of the parts decides, and so many certificates are used.
+-- What is left of the parts decides, and n certificates are used.
 use Rattle.std.proofs.Common.{◌≤◌, length}
 use Rattle.rx_pairs.specs.Lent.{lent}
 use Rattle.rx_pairs.proofs.DescendingLaws.{PartsRemain}

@@ -1,4 +1,4 @@
--- The pairs of what is left of the rules decide, and so many certificates are used.
+-- The pairs of what is left of the rules decide, and n certificates are used.
 use Rattle.std.proofs.Common.{◌≤◌, drop, length}
 use Rattle.rx_pairs.proofs.DescendingLaws.{Remain}
 use Rattle.rx_pairs.proofs.descending.rules_lower.Given as goal

@@ -1,4 +1,4 @@
--- The first so many symbols.
+-- The first n symbols.
 use Rattle.std.proofs.Common.{◌≡◌, ◌<◌, ◌↔◌, ℕ, List, true, false, get_or, length}
 use Rattle.rx_graph.specs.Graph.{IsGraphOf, rows_of}
 use Rattle.rx_pairs.specs.Graph.{IsLoopPoint}

@@ -1,4 +1,4 @@
--- The rules' pairs behind none, and the hypotheses' behind them.
+-- The rules' pairs after none, and the hypotheses' after them.
 use Rattle.std.proofs.Common.{[], subst, sym}
 use Rattle.rx_pairs.specs.Pairs.{AreAllPairs, NoRules}
 use Rattle.rx_pairs.proofs.pairs.all_pairs.Goals as goal

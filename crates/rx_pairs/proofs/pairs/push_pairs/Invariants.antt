@@ -1,4 +1,4 @@
--- The pairs so far are those that stood there and those of the first rules.
+-- The pairs so far are those that were there and those of the first rules.
 use Rattle.std.proofs.Common.{◌++◌, List, take}
 use Rattle.rx_term.specs.declared.rule.Rule.{Rule}
 use Rattle.rx_pairs.specs.Pairs.{AreAllPairs}

@@ -50,7 +50,7 @@ abbrev boxes : RattleType → RattleType
 boxes content = heap_box.the_row content global.the_row ghosts
 
 module _ (From To : RattleType) (f : From.Denot → To.Denot) where
-  -- a box whose content owns and lends the same is laid out, owns and lends the same
+  -- a box whose content owns and borrows the same is laid out, owns and borrows the same
   box_places : Alike From To f → Alike (boxes From) (boxes To) (λ b. refilled b (f b.value))
   unfolding part_of
   box_places alike = record {

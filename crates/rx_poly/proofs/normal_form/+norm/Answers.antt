@@ -1,4 +1,4 @@
--- What is worth the sum or product of both parts is worth the term.
+-- What has as value the sum or product of both parts has the value of the term.
 use Rattle.std.proofs.lemmas.Result.{IfOk-weaker}
 use Rattle.rx_poly.proofs.NormLaws.{sum_value, product_value, turned_value, quotient_value, remainder_value}
 use Rattle.rx_poly.proofs.DivisionLaws.{value-quotient_of, value-remainder_of}

@@ -1,4 +1,4 @@
--- A variable alone becomes what is put in its place.
+-- A variable alone becomes what is substituted for it.
 use Rattle.std.proofs.Common.{◌∙◌, ap, sym}
 use Rattle.rx_poly.proofs.Alone.{replaced_alone}
 use Rattle.rx_poly.proofs.Substituting.{well}

@@ -1,4 +1,4 @@
--- So many empty groups so far.
+-- That many empty groups so far.
 use Rattle.std.proofs.Common.{◌≡◌, [], map}
 use Rattle.rx_rank.specs.Components.{symbols_of}
 use Rattle.rx_ranking.specs.Groups.{entries_in, groups_in}

@@ -1,4 +1,4 @@
--- The terms that are lent are those of the polynomials.
+-- The terms that are borrowed are those of the polynomials.
 use Rattle.std.proofs.Common.{◌≡◌, ◌∙◌, ap, sym}
 use Rattle.rx_poly.specs.declared.body.Body.{Body, out-Body}
 use Rattle.rx_row.specs.Opposites.{one_less_turned}

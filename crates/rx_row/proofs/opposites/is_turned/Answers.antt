@@ -1,4 +1,4 @@
--- One monomial with opposite coefficients is the term with its sign turned.
+-- One monomial with opposite coefficients is the term with its sign reversed.
 use Rattle.std.proofs.Common.{◌∙◌, ap, sym}
 use Rattle.std.specs.Ordering.{is_eq}
 use Rattle.rx_row.proofs.TurnedTerms.{turned_coefficient, turned_other}

@@ -1,4 +1,4 @@
--- The rows that are lent are those of the constraint.
+-- The rows that are borrowed are those of the constraint.
 use Rattle.rx_row.proofs.parts.combine.Goals as goal
 
 pub returns-clause-holds : goal.returns-clause-holds

@@ -1,4 +1,4 @@
--- The polynomials behind the first one are read in a loop.
+-- The polynomials after the first one are read in a loop.
 use Rattle.std.proofs.Common.{◌∙◌, ap, ◌++◌, ◌∷◌, []}
 use Rattle.std.proofs.lemmas.List.{append_assoc}
 use Rattle.rx_text.specs.Polynomials.{polynomials}

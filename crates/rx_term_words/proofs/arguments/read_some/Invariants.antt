@@ -1,4 +1,4 @@
--- The polynomials behind the first one that were read.
+-- The polynomials after the first one that were read.
 use Rattle.std.proofs.Common.{◌≡◌, ◌-◌, ◌++◌, List, length}
 use Rattle.rx_poly.specs.declared.body.Body.{Body}
 use Rattle.rx_text.specs.Polynomials.{polynomials}

@@ -1,4 +1,4 @@
--- The three parts one behind the other are the text of the term.
+-- The three parts one after the other are the text of the term.
 use Rattle.std.proofs.Common.{◌≡◌, ◌∙◌, ◌++◌, ap, sym, subst}
 use Rattle.std.proofs.lemmas.Result.{on_ok_weaker}
 use Rattle.rx_term_words.specs.Terms.{term_text}

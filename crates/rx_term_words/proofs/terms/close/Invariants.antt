@@ -1,4 +1,4 @@
--- The frames that are closed stand over the innermost part.
+-- The frames that are closed are over the innermost part.
 use Rattle.std.proofs.Common.{length}
 use Rattle.rx_term_words.proofs.FrameLaws.{ClosedSoFar}
 use Rattle.rx_term_words.proofs.terms.close.Given as goal

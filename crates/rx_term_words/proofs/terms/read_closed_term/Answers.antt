@@ -1,4 +1,4 @@
--- What was read up to the innermost call or result is closed behind it.
+-- What was read up to the innermost call or result is closed after it.
 use Rattle.std.proofs.Common.{refl}
 use Rattle.std.proofs.lemmas.Result.{IfOk-weaker}
 use Rattle.rx_term_words.proofs.TermLaws.{no_open, reads_closed}

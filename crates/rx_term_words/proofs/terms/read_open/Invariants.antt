@@ -1,4 +1,4 @@
--- The frames that were read stand between the first place and this one.
+-- The frames that were read are between the first place and this one.
 use Rattle.std.proofs.Common.{◌-◌, length}
 use Rattle.rx_term_words.proofs.FrameLaws.{FramesSoFar}
 use Rattle.rx_term_words.proofs.terms.read_open.Given as goal

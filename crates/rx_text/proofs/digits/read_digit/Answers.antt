@@ -1,4 +1,4 @@
--- A digit with no other behind it is the text of its number.
+-- A digit with no other after it is the text of its number.
 use Rattle.std.proofs.Common.{◌∙◌, sym}
 use Rattle.rx_text.proofs.Decimals.{one_digit}
 use Rattle.rx_text.proofs.digits.read_digit.Goals as goal

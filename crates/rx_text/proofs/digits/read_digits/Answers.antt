@@ -1,4 +1,4 @@
--- The run of digits is the text of the number that stands there, and of no other.
+-- The run of digits is the text of the number that is there, and of no other.
 use Rattle.std.proofs.Common.{◌≡◌, ◌∙◌, ap, subst, sym, arith, ℕ, ◌-◌, ◌<◌, ◌≤◌, ◌^◌, true, length, List, Some}
 use Rattle.std.proofs.lemmas.Bool.{leb-true}
 use Rattle.rx_text.specs.Formats.{BeginsWith}

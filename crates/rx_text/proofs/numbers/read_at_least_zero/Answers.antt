@@ -1,4 +1,4 @@
--- The number is too large, and no other stands there.
+-- The number is too large, and no other is there.
 use Rattle.rx_text.proofs.Integers.{too_large}
 use Rattle.rx_text.proofs.numbers.read_at_least_zero.Goals as goal
 

@@ -1,4 +1,4 @@
--- The number is 0 or too low, and no other stands there.
+-- The number is 0 or too low, and no other is there.
 use Rattle.rx_text.proofs.Integers.{too_low}
 use Rattle.rx_text.proofs.numbers.read_below_zero.Goals as goal
 

@@ -1,4 +1,4 @@
--- After `-` stands a number below 0, and else one of at least 0.
+-- After `-` comes a number below 0, and else one of at least 0.
 use Rattle.rx_text.proofs.Integers.{after_sign, no_sign_here}
 use Rattle.rx_text.proofs.numbers.read_integer.Goals as goal
 

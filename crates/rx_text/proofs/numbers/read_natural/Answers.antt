@@ -1,4 +1,4 @@
--- A number above the bound is the only one that stands there.
+-- A number above the bound is the only one that is there.
 use Rattle.std.proofs.Common.{arith, ◌≤◌, ◌^◌, ◌-◌}
 use Rattle.std.proofs.lemmas.Bool.{le-leb, leb-true}
 use Rattle.rx_text.proofs.Decimals.{naturals_unambiguous}

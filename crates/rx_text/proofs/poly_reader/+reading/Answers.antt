@@ -1,4 +1,4 @@
--- What is read is the only thing that stands there; where a part is missing nothing stands there.
+-- What is read is the only thing that is there; where a part is missing nothing is there.
 use Rattle.std.proofs.Common.{◌∙◌, ap, refl, sym, ◌++◌, ◌∷◌, []}
 use Rattle.std.proofs.lemmas.List.{append_assoc}
 use Rattle.rx_poly.specs.Limits.{of_atoms}

@@ -1,4 +1,4 @@
--- The sum that stands there is the only one, and it is a polynomial or none stands there.
+-- The sum that is there is the only one, and it is a polynomial or none is there.
 use Rattle.std.proofs.Common.{◌≡◌, refl, subst, sym}
 use Rattle.std.specs.Prelude.{IfSome, IsSome}
 use Rattle.rx_text.specs.Plain.{sums_nested}

@@ -1,4 +1,4 @@
--- Where no term and no `0` stands, no sum does.
+-- Where there is no term and no `0`, there is no sum.
 use Rattle.std.proofs.Common.{◌≡◌, ◌∙◌, ap, sym, ◌∷◌, drop}
 use Rattle.std.proofs.lemmas.Bool.{both_ways}
 use Rattle.rx_text.specs.Formats.{is_over}

@@ -1,4 +1,4 @@
--- The word stands at the place exactly where the rest of the bytes starts with it.
+-- The word is at the place exactly where the rest of the bytes starts with it.
 use Rattle.std.proofs.Common.{◌≡◌, ◌∙◌, ap, sym, refl, arith, ◌+◌, ◌-◌, ◌≤◌, ◌++◌, length, drop, take, min, true}
 use Rattle.std.proofs.lemmas.List.{drop_all, drop-drop, length-append, length-drop, length-take, take-append-drop, take_at}
 use Rattle.rx_text.proofs.words.skip_word.Goals as goal

@@ -1,4 +1,4 @@
--- A tree stands where the word of its kind does with its contents behind it.
+-- A tree is where the word of its kind is with its contents after it.
 use Rattle.std.proofs.Common.{◌≡◌, subst, arith, ℕ, ◌+◌, ◌-◌, Some, None}
 use Rattle.rx_text.specs.Formats.{Reads}
 use Rattle.rx_tree_words.specs.Branches.{ReadsTreeKind, branches_within}

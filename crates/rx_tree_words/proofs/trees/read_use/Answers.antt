@@ -1,4 +1,4 @@
--- Where the number, the space or the certificates are missing, they don't stand there.
+-- Where the number, the space or the certificates are missing, they aren't there.
 use Rattle.rx_words.specs.Certificates.{certificate_lists}
 use Rattle.rx_words.specs.Words.{numbers}
 use Rattle.rx_words.proofs.Joined.{no_middle, no_second}

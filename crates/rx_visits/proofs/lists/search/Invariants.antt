@@ -1,4 +1,4 @@
--- What is counted so far, and then the lists that are left, is all; and what is kept stands for
+-- What is counted so far, and then the lists that are left, is all; and what is kept represents
 -- these.
 use Rattle.std.proofs.Common.{◌≡◌, ◌+◌, ◌-◌, [], All}
 use Rattle.rx_visits.specs.Keeping.{OfLeaf, StandsForLists}

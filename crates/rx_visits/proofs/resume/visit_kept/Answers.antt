@@ -1,4 +1,4 @@
--- A kept node is visited as it stands for visits, unless they have ended.
+-- A kept node is visited as it represents visits, unless they have ended.
 use Rattle.std.proofs.Common.{rules, ◌≡◌, ◌<◌, ◌+◌, arith, subst, sym}
 use Rattle.rx_visits.specs.Keeping.{OfLeaf, StandsForVisits, visits_from}
 use Rattle.rx_visits.specs.declared.kept.Kept.{Kept}

@@ -1,4 +1,4 @@
--- A certificate stands where its first words do with the certificates in it behind them.
+-- A certificate is where its first words are with the certificates in it after them.
 use Rattle.std.proofs.Common.{◌≡◌, ◌∙◌, sym, subst, arith, ℕ, ◌+◌, ◌-◌, List, Option, Some, None}
 use Rattle.rx_cert.specs.declared.cert.Cert.{Cert}
 use Rattle.rx_text.specs.Formats.{Reads, StandsAt}

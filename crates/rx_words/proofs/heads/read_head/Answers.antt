@@ -1,4 +1,4 @@
--- Behind the word of a kind stand its fields; where no word stands there, no certificate begins.
+-- After the word of a kind come its fields; where no word is there, no certificate begins.
 use Rattle.std.proofs.lemmas.Result.{IfOk-weaker}
 use Rattle.rx_words.proofs.HeadLaws.{no_kind, reads_head}
 use Rattle.rx_words.proofs.heads.read_head.Goals as goal

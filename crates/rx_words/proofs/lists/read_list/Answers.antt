@@ -1,4 +1,4 @@
--- A list stands where its number does with so many things behind it.
+-- A list is where its number is with that many things after it.
 use Rattle.std.proofs.lemmas.Result.{IfOk-weaker}
 use Rattle.rx_words.proofs.Joined.{reads_list, no_number}
 use Rattle.rx_words.proofs.Once.{numbers_once}

@@ -1,4 +1,4 @@
--- Where a space or a thing is missing, so many things don't stand there.
+-- Where a space or a thing is missing, that many things aren't there.
 use Rattle.rx_words.proofs.Spaced.{no_space, no_thing}
 use Rattle.rx_words.proofs.lists.read_spaced.Goals as goal
 

@@ -1,4 +1,4 @@
--- Where one of the two or the space between them is missing, they don't stand there.
+-- Where one of the two or the space between them is missing, they aren't there.
 use Rattle.rx_words.proofs.Joined.{no_middle, no_second}
 use Rattle.rx_words.proofs.pairs.read_pair.Goals as goal
 

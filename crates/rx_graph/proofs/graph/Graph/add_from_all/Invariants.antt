@@ -1,4 +1,4 @@
--- An edge from each of the first so many sources.
+-- An edge from each of the first n sources.
 use Rattle.std.proofs.Common.{take}
 use Rattle.rx_graph.specs.Graph.{rows_of}
 use Rattle.rx_graph.specs.Rows.{HasAllFrom}

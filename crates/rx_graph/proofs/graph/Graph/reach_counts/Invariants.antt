@@ -1,4 +1,4 @@
--- The counts of the first so many vertices.
+-- The counts of the first n vertices.
 use Rattle.std.proofs.Common.{◌≡◌, ◌<◌, ℕ, List, get_or, length}
 use Rattle.rx_graph.specs.Graph.{IsGraphOf, rows_of}
 use Rattle.rx_graph.specs.Ranked.{IsReachCount}

@@ -1,4 +1,4 @@
--- What was reached so far is marked, and so is what the first so many lead to.
+-- What was reached so far is marked, and so is what the first n lead to.
 use Rattle.std.proofs.Common.{◌≡◌, ◌+◌, ◌-◌, ◌<◌, ℕ, Contains, List, length}
 use Rattle.rx_graph.specs.Graph.{IsGraphOf, rows_of}
 use Rattle.rx_graph.specs.Marks.{unmarked}

@@ -1,4 +1,4 @@
--- The edges from the first so many vertices are turned round.
+-- The edges from the first n vertices are reversed.
 use Rattle.std.proofs.Common.{◌≡◌, length}
 use Rattle.rx_graph.specs.Graph.{rows_of}
 use Rattle.rx_graph.proofs.RowLaws.{Turned}

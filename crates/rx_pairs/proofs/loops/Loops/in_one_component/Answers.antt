@@ -1,4 +1,4 @@
--- The names of the components tell.
+-- The names of the components decide.
 use Rattle.std.proofs.Common.{◌∙◌, nat_eq}
 use Rattle.rx_pairs.proofs.LoopLaws.{names_tell}
 use Rattle.rx_pairs.proofs.loops.Loops.in_one_component.Goals as goal

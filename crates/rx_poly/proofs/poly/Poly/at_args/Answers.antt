@@ -1,4 +1,5 @@
--- What is formed is worth the polynomial where its variables are worth their replacements.
+-- What is formed has the value of the polynomial where its variables have the values of their
+-- replacements.
 use Rattle.rx_plain.proofs.Forming.{value_formed}
 use Rattle.rx_poly.specs.Substitution.{in_body, numbered}
 use Rattle.rx_poly.specs.declared.poly_end.PolyEnd.TheVariants.{Large}

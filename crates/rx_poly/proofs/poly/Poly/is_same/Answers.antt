@@ -1,4 +1,4 @@
--- What `==` tells of two sums is that they are one.
+-- What `==` says of two sums is that they are one.
 use Rattle.std.proofs.Common.{sym, ◌∙◌}
 use Rattle.rx_poly.proofs.Same.{told_same, told_itself}
 use Rattle.rx_poly.proofs.poly.Poly.is_same.Goals as goal

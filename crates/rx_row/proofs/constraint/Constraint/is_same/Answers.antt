@@ -1,4 +1,4 @@
--- What `==` tells of two lists of rows is that they are one.
+-- What `==` says of two lists of rows is that they are one.
 use Rattle.std.proofs.Common.{sym, ◌∙◌, ap}
 use Rattle.std.specs.Cmp.Lexicographic.{pointwise}
 use Rattle.rx_row.proofs.Same.{row_eq, told_same_rows, told_themselves}

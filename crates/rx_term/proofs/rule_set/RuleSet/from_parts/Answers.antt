@@ -1,4 +1,4 @@
--- The test passed, and it tells that the parts are well made.
+-- The test passed, and it says that the parts are well made.
 use Rattle.std.proofs.Common.{refl, sym, ◌∙◌}
 use Rattle.rx_term.proofs.MadeLaws.{well_made_by_test}
 use Rattle.rx_term.proofs.rule_set.RuleSet.from_parts.Goals as goal

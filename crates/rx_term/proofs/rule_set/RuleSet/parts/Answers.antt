@@ -1,4 +1,4 @@
--- What every rule set passes tells that its parts are well made.
+-- What every rule set passes says that its parts are well made.
 use Rattle.std.proofs.Common.{ap, sym, ◌∙◌}
 use Rattle.rx_term.specs.MadeTest.{is_well_made}
 use Rattle.rx_term.proofs.MadeLaws.{well_made_by_test}
