@@ -3,12 +3,14 @@ pub mod Adjacent
 pub mod Alone
 pub mod Constants
 pub mod Depths
+pub mod Digesting
 pub mod DivisionCases
 pub mod DivisionLaws
 pub mod Joining
 pub mod Levels
 pub mod Merging
 pub mod Moving
+pub mod Neutral
 pub mod NormLaws
 pub mod Numbering
 pub mod OrderLemmas

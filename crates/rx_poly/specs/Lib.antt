@@ -11,5 +11,6 @@ pub mod Products
 pub mod Reading
 pub mod Signs
 pub mod Constants
+pub mod Digest
 pub mod Division
 pub mod Norm

@@ -2,6 +2,7 @@
 #![tactic(auto)]
 
 mod body;
+mod digest;
 mod division;
 mod iterm;
 mod merge;

@@ -5,6 +5,7 @@ ghost use Rattle.rx_plain.specs.Formed.{Forms, kept};
 ghost use Rattle.rx_poly.specs.Limits.{added, of_terms, is_small, is_within, scaled_by, subtracted};
 ghost use Rattle.rx_poly.specs.Normal.{is_normal, is_normal_atom, is_normal_mono, is_poly};
 ghost use Rattle.rx_poly.specs.Constants.{number, variable};
+ghost use Rattle.rx_poly.specs.Digest.{digest_of};
 ghost use Rattle.rx_poly.specs.Division.{atom_alone, quotient_of, remainder_of};
 ghost use Rattle.rx_poly.specs.Products.{scaled, product_formed};
 ghost use Rattle.rx_poly.specs.Reading.{coefficient, constant_of};
@@ -14,6 +15,7 @@ ghost use Rattle.rx_poly.specs.declared.body.Body.{out-Body};
 ghost use Rattle.rx_poly.specs.Value.{quotient, remainder, value};
 
 use crate::body::{Atom, Body, Mono};
+use crate::digest::digest_of;
 use crate::division::{divide, remainder};
 use crate::merge::merge;
 use crate::moved::moved_sum;
@@ -154,6 +156,14 @@ impl Poly {
         0
     }
 
+    /// One number made of the terms: equal polynomials have one. Two others may have the same, but
+    /// seldom. Takes no memory.
+    pub fn digest(&self) -> u128
+        ensures { result ≡ digest_of (out-Body self.now).terms }
+    {
+        digest_of(self.body().terms.as_slice())
+    }
+
     /// The same polynomial once more, which takes no memory; fails only where no more copies can be
     /// counted.
     pub fn try_clone(&self, _alloc: Global) -> Result<Poly, AllocError>
@@ -253,6 +263,10 @@ fn own_body(alloc: Global, poly: Poly) -> Result<Body, AllocError>
 pub(crate) fn plus(alloc: Global, left: Poly, right: Poly) -> Result<Poly, PolyEnd>
     ensures forms { Forms PolyEnd.Large result (kept is_within (added left right)) }
 {
+    if left.body().terms.is_empty() {
+        let _ = right.as_normal();
+        return Ok(right);
+    }
     let first = own_body(alloc, left)?;
     let second = own_body(alloc, right)?;
     let terms = moved_sum(alloc, first.terms, second.terms)?;

@@ -5,6 +5,7 @@ ghost use Rattle.std.specs.Option.{option_copied};
 ghost use Rattle.rx_plain.specs.Formed.{Forms, pure};
 ghost use Rattle.rx_poly.specs.Substitution.{in_atom, in_mono, in_body, numbered, replaced, worth};
 ghost use Rattle.rx_poly.specs.Constants.{variable};
+ghost use Rattle.rx_poly.specs.Products.{product_formed};
 ghost use Rattle.rx_poly.specs.Replacements.{replacements, stay};
 ghost use Rattle.rx_poly.specs.Variables.{atom_variables, mono_variables, variables};
 ghost use Rattle.rx_poly.specs.Value.{value};
@@ -73,13 +74,23 @@ fn in_place_of(alloc: Global, at: u32, with: Replacements) -> Result<Poly, Alloc
     }
 }
 
+/// Whether nothing is in place of the variable, or the variable itself is.
+fn variable_stays(at: u32, with: Replacements) -> bool
+    ensures { OnTrue result (replaced (replacements with.entry) at ≡ variable at) }
+{
+    match replacement(at, with) {
+        Some(poly) => poly.as_variable() == Some(at),
+        None => true,
+    }
+}
+
 /// Whether the atom's variables stay.
 #[cycle(stays)]
 fn atom_stays(atom: &Atom, with: Replacements) -> bool
     ensures { OnTrue result (stay (replacements with.entry) (atom_variables atom.now)) }
 {
     match atom {
-        Atom::Var(number) => replacement(*number, with).is_none(),
+        Atom::Var(number) => variable_stays(*number, with),
         Atom::Div(num, den) => body_stays(num, with) && body_stays(den, with),
         Atom::Mod(num, den) => body_stays(num, with) && body_stays(den, with),
     }
@@ -131,6 +142,19 @@ fn atom_with(alloc: Global, atom: &Atom, with: Replacements) -> Result<Poly, Pol
     }
 }
 
+/// The product of the two; the second is moved where the first is 1.
+fn times(alloc: Global, product: Poly, factor: Poly) -> Result<Poly, PolyEnd>
+    ensures forms { Forms PolyEnd.Large result (product_formed product factor) }
+{
+    if let Some(number) = product.is_constant() {
+        if number == 1 {
+            let _ = factor.as_normal();
+            return Ok(factor);
+        }
+    }
+    product.mul(alloc, &factor)
+}
+
 /// The number times the monomial with its variables replaced.
 #[cycle(substituted)]
 fn mono_with(alloc: Global, mono: &Mono, by: &i128, with: Replacements) -> Result<Poly, PolyEnd>
@@ -140,7 +164,7 @@ fn mono_with(alloc: Global, mono: &Mono, by: &i128, with: Replacements) -> Resul
     let mut product = start;
     for atom in mono.atoms.as_slice() {
         let factor = atom_with(alloc, atom, with)?;
-        product = product.mul(alloc, &factor)?;
+        product = times(alloc, product, factor)?;
     }
     Ok(product)
 }

@@ -1,5 +1,6 @@
 -- What it means that rows hold, what the negation of one is, which of their multiples may be
 -- summed, and what lists of them are.
+pub mod Digest
 pub mod Holds
 pub mod Membership
 pub mod Naming

@@ -10,9 +10,10 @@ ghost use Rattle.rx_poly.specs.Substitution.{numbered, worth};
 
 use rx_poly::{Poly, PolyEnd};
 use std::alloc::{AllocError, Global};
+use std::hash::{Hash, Hasher};
 
 /// What is said of one polynomial.
-#[derive(Debug, Drop, PartialEq, Eq, PartialOrd, Ord, Hash)]
+#[derive(Debug, Drop, PartialEq, Eq, PartialOrd, Ord)]
 pub enum Row {
     /// The polynomial is at least 0.
     Ge(Poly),
@@ -20,6 +21,24 @@ pub enum Row {
     Eq(Poly),
     /// The polynomial is not 0.
     Ne(Poly),
+}
+
+/// A row feeds a hash function one number.
+impl Hash for Row {
+    ghost use Rattle.rx_row.specs.Digest.{fed_alike, fed_of};
+
+    ghost hash_input = { fed_of };
+
+    ghost respects_eq = { fed_alike };
+
+    fn hash<H: Hasher>(&self, state: &mut H) {
+        let number = match self {
+            Row::Ge(poly) => poly.digest().wrapping_add(0),
+            Row::Eq(poly) => poly.digest().wrapping_add(1),
+            Row::Ne(poly) => poly.digest().wrapping_add(2),
+        };
+        state.write_u128(number);
+    }
 }
 
 /// `-p - 1`: p scaled by -1, minus 1. Large exactly where one of the two passes the limits.
