@@ -1,9 +1,11 @@
 -- Labels of components: the vertices in order, each naming its component unless a lesser one did.
-use Rattle.std.proofs.Common.{◌≡◌, ◌∙◌, ap, sym, subst, refl, arith, ℕ, ◌+◌, ◌<◌, ◌≤◌, ◌==◌, Bool, true, ◌&&◌, ◌⊎◌, inl, inr, ◌↔◌, List, get_or}
+use Rattle.std.proofs.Common.{◌≡◌, ◌∙◌, ap, sym, subst, refl, arith, ℕ, ◌+◌, ◌<◌, ◌≤◌, ◌==◌, Bool, true, false, ◌&&◌, ◌⊎◌, inl, inr, ◌↔◌, List, [], ◌∷◌, get_or, length}
+use Rattle.std.specs.Bool.{OnTrue}
 use Rattle.std.proofs.lemmas.Bool.{and_from, and_parts, cases_lt, eq-eqb, eqb-true}
 use Rattle.rx_graph.specs.Components.{AreComponents}
 use Rattle.rx_graph.specs.Graph.{IsClosed, IsGraphOf, MarksReached, More, One, Path, below, leads, reaches, reversed_edges, together}
 use Rattle.rx_graph.specs.Marks.{Labelled, Named}
+use Rattle.rx_graph.proofs.Elements.{none_in}
 use Rattle.rx_graph.proofs.GraphLaws.{among_below, one_behind, or_cases, or_left, or_right, path_behind, reaches_path}
 use Rattle.rx_graph.proofs.RowLaws.{leads_back, leads_forth, leads_within}
 
@@ -180,6 +182,37 @@ label_none edges v labels differs = record {
   both = λ own. absurd (differs own);
   only = λ b. inl refl;
 }
+
+-- or where it reaches nothing, or nothing reaches it
+pub label_alone : (edges : List (ℕ × ℕ)) (v : ℕ) (labels : List ℕ) →
+    ((b : ℕ) → Path edges v b → Path edges b v → ⊥) → Named edges v labels labels
+label_alone edges v labels none = record {
+  count = refl;
+  known = λ _. refl;
+  both = λ _ b there here. absurd (none b there here);
+  only = λ b. inl refl;
+}
+
+-- a row of no targets is empty
+pub no_targets : (b : Bool) (targets : List ℕ) {row : List ℕ} → b ≡ (length targets == 0) →
+    targets ≡ row → OnTrue b (row ≡ [])
+no_targets true [] e same = sym same
+no_targets true (t ∷ ts) e same =
+    let none = eqb-true (length (t ∷ ts)) 0 (sym e) in absurd (omega (arith, none))
+no_targets false targets e same = tt
+
+-- what a test that passed says
+pub passed : {P : Type 0} (b : Bool) → b ≡ true → OnTrue b P → P
+passed true e h = h
+passed false e h = cc
+
+-- no path begins where no edge does
+pub no_path : (n : ℕ) (edges : List (ℕ × ℕ)) (rows : List (List ℕ)) (a b : ℕ) →
+    IsGraphOf n edges rows → get_or rows a [] ≡ [] → Path edges a b → ⊥
+no_path n edges rows _ _ graph none (One a b is) =
+    none_in (get_or rows a []) none b ((graph.targets a b).1 is)
+no_path n edges rows _ _ graph none (More a b c is rest) =
+    none_in (get_or rows a []) none b ((graph.targets a b).1 is)
 
 -- ---- one label is one component
 

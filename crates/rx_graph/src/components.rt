@@ -1,6 +1,7 @@
 //! Strongly connected components, each named by its least vertex.
 ghost use Rattle.std.specs.Prelude.{◌≡◌, ◌<◌, ◌≤◌, ◌^◌, ℕ, List, length, slice_index};
-ghost use Rattle.std.specs.Prelude.{IfOk, OnOk};
+ghost use Rattle.std.specs.Prelude.{IfOk, OnOk, [], slice_index_or};
+ghost use Rattle.std.specs.Bool.{OnTrue};
 ghost use Rattle.rx_graph.specs.Components.{AreComponents};
 ghost use Rattle.rx_graph.specs.Graph.{IsClosed, IsGraphOf, reversed_edges, rows_of};
 ghost use Rattle.rx_graph.specs.Marks.{Labelled, Named};
@@ -36,6 +37,14 @@ fn label_both(labels: &mut [u32], forwards: &[bool], backwards: &[bool], label: 
 }
 
 impl Graph {
+    /// Whether no edge leaves the vertex.
+    fn is_end(&self, vertex: u32) -> bool
+        requires vertex { vertex < length self.now.rows.items }
+        ensures { OnTrue result (slice_index_or (rows_of self.now.rows.items) vertex [] ≡ []) }
+    {
+        self.rows[vertex as usize].as_slice().is_empty()
+    }
+
     /// Names all of the vertex's component by the vertex, unless a lesser one did.
     fn label_component(
         &self,
@@ -57,6 +66,9 @@ impl Graph {
             Named edges vertex labels.old.items labels.new.items) }
     {
         if labels[vertex as usize] != vertex {
+            return Ok(());
+        }
+        if self.is_end(vertex) || back.is_end(vertex) {
             return Ok(());
         }
         let forwards = self.reached_from(alloc, vertex)?;

@@ -2,9 +2,24 @@
 use Rattle.std.proofs.Common.{◌≡◌, ◌∙◌, ap, arith, get_or, length, subst, sym}
 use Rattle.rx_graph.specs.Graph.{IsGraphOf, MarksReached, reversed_edges, rows_of}
 use Rattle.rx_graph.specs.Marks.{Labelled, Named}
-use Rattle.rx_graph.proofs.ComponentLaws.{label_marked}
+use Rattle.rx_graph.proofs.ComponentLaws.{label_alone, label_marked, no_path, passed, path_back}
 use Rattle.rx_graph.proofs.Elements.{same_at, written_back}
 use Rattle.rx_graph.proofs.graph.Graph.label_component.Goals as goal
+use Rattle.rx_graph.proofs.graph.Graph.label_component.Goals.{then-is_end-via-then-is_end, then-is_end-via-else-is_end+then-is_end-2}
+
+pub returns-then-is_end-clause-named : goal.returns-then-is_end-clause-named
+returns-then-is_end-clause-named c = λ edges graph back_graph.
+    let v = c.args.vertex in
+    label_alone edges v c.args.labels.now.items (elim c.then-is_end.branch [
+      | then-is_end-via-then-is_end w ↦ λ b there here. no_path (length c.args.self.now.rows.items)
+          edges (rows_of c.args.self.now.rows.items) v b graph
+          (passed c.is_end.result w.if-is_end.true c.is_end.ensures) there
+      | then-is_end-via-else-is_end+then-is_end-2 w ↦ λ b there here. no_path
+          (length c.args.self.now.rows.items) (reversed_edges edges)
+          (rows_of c.args.back.now.rows.items) v b back_graph
+          (passed w.is_end-else-is_end.result w.if-is_end-2.true w.is_end-else-is_end.ensures)
+          (path_back edges b v here)
+    ])
 
 pub returns-clause-count : goal.returns-clause-count
 returns-clause-count c =
