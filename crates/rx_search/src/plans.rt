@@ -8,7 +8,7 @@ ghost use Rattle.rx_term.specs.declared.rule.Equation.{Equation};
 ghost use Rattle.rx_visits.specs.Views.{seen_settled};
 
 use crate::menu::find_menu;
-use crate::node::{Node, copied_steps, is_closed, shared_steps};
+use crate::node::{Node, is_closed, shared_steps};
 use rx_cert::Cert;
 use rx_fm::FmEnd;
 use rx_plain::{Items, NoMemory};
@@ -24,19 +24,22 @@ fn settle_node<S: FnMut(&Constraint) -> Result<Option<Cert>, FmEnd>>(
     alloc: Global,
     rules: &RuleSet,
     points: &LoopPoints,
-    node: &Node,
+    node: Node,
     solve: &mut S,
 ) -> Result<Settled<Node, Items<Row>>, NoMemory>
     requires points { AreLoopPoints rules.now points.now }
     requires solver { IsSolver S.FnMut solve.old }
     ensures solver { IsSolver S.FnMut solve.new }
     ensures settled { IfOk result (λ s. seen_settled node_of s ≡
-        settled rules.now (node_of node.now)) }
-    ensures node { (goal : Equation) → IsNode rules.now goal node.now →
+        settled rules.now (node_of node)) }
+    ensures node { (goal : Equation) → IsNode rules.now goal node →
         IfOk result (λ s. IsNode rules.now goal s.node) }
 {
-    let mut steps = copied_steps(alloc, node.steps.as_slice())?;
-    let mut state = node.state.try_clone(alloc)?;
+    let Node {
+        mut steps,
+        mut state,
+        ..
+    } = node;
     let found = settle(alloc, rules, points, &mut state, solve)?;
     let fresh = shared_steps(alloc, found.steps)?;
     steps.append(fresh)?;
@@ -102,7 +105,7 @@ impl<'a, S: FnMut(&Constraint) -> Result<Option<Cert>, FmEnd>> Tree for Plans<'a
 
     ghost menu = { λ w v. search.menu w.parts v };
 
-    fn settle(&mut self, node: &Node) -> Result<Settled<Node, Items<Row>>, NoMemory> {
+    fn settle(&mut self, node: Node) -> Result<Settled<Node, Items<Row>>, NoMemory> {
         settle_node(self.alloc, self.rules, self.points, node, self.solve)
     }
 

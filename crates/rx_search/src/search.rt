@@ -84,7 +84,7 @@ fn visit_plans<S: FnMut(&Constraint) -> Result<Option<Cert>, FmEnd>>(
         memo,
         solve,
     };
-    rx_visits::search(alloc, &mut plans, &start, depth, budget, most_kept)
+    rx_visits::search(alloc, &mut plans, start, depth, budget, most_kept)
 }
 
 /// Trees that cover the rules; as the rules are coverable, only running out of memory prevents it.

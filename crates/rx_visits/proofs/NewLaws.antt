@@ -1,8 +1,8 @@
 -- The visit of a node that is new: it is closed, or it is kept as a leaf.
-use Rattle.std.proofs.Common.{◌≡◌, ◌∙◌, ap, refl, sym, subst, inl, arith, ℕ, ◌+◌, ◌-◌, ◌<◌, Bool, true, false, Result, Ok, Err, IfOk, List, [], ◌∷◌, ◌++◌, append-nil, get_or, length, take}
+use Rattle.std.proofs.Common.{◌≡◌, ◌∙◌, ap, refl, sym, subst, inl, arith, ℕ, ◌+◌, ◌-◌, ◌<◌, Bool, true, false, Result, Ok, Err, IfOk, List, [], ◌∷◌, ◌++◌, append-nil}
 use Rattle.std.specs.Prelude.{map}
 use Rattle.std.proofs.lemmas.Grind.{flat_map-append}
-use Rattle.std.proofs.lemmas.List.{map-append, take_more}
+use Rattle.std.proofs.lemmas.List.{map-append}
 use Rattle.rx_visits.specs.Keeping.{IsAfterNote, IsVisited, visits_from}
 use Rattle.rx_visits.specs.Outcomes.{note_of}
 use Rattle.rx_visits.specs.Tallies.{counted, visited, visited_open}
@@ -15,6 +15,7 @@ use Rattle.rx_visits.specs.declared.tally.Tally.{Tally}
 use Rattle.rx_visits.specs.declared.tree.Choice.{Choice}
 use Rattle.rx_visits.specs.declared.tree.Menu.{Menu}
 use Rattle.rx_visits.specs.declared.tree.Settled.{Settled}
+use Rattle.rx_visits.proofs.CountLaws.{counted-append}
 use Rattle.rx_visits.proofs.KeepingLaws.{note_counts}
 use Rattle.rx_visits.proofs.SeenLaws.{going_seen, visited_seen}
 use Rattle.rx_visits.proofs.VisitedLaws.{open_visit, visited_ending, visited_push}
@@ -104,16 +105,27 @@ module _ {N V R : Type 0} (view : N → V) (settled : V → Settled V R) (menu :
       ∙ sym (flat_map-append (λ (c : Choice V).
       visits settled menu n (path ++ c.number ∷ []) c.node) cs (c ∷ []))
 
-  pub each_more : (n : ℕ) (path at : List ℕ) (cs : List (Choice N)) (c : Choice N) (i : ℕ) → at ≡
-      path ++ c.number ∷ [] → i < length cs → c ≡ get_or cs i c
-      → visits_of settled menu n path (map (seen_choice view) (take i cs)) ++
+  -- and so of what is seen of the nodes
+  pub each_next : (n : ℕ) (path at : List ℕ) (cs : List (Choice N)) (c : Choice N) → at ≡
+      path ++ c.number ∷ []
+      → visits_of settled menu n path (map (seen_choice view) cs) ++
       visits settled menu n at (view c.node)
-      ≡ visits_of settled menu n path (map (seen_choice view) (take (i + 1) cs))
-  each_more n path at cs c i longer below is =
-      ap (λ p. visits_of settled menu n path (map (seen_choice view) (take i cs)) ++
+      ≡ visits_of settled menu n path (map (seen_choice view) (cs ++ c ∷ []))
+  each_next n path at cs c longer =
+      ap (λ p. visits_of settled menu n path (map (seen_choice view) cs) ++
       visits settled menu n p (view c.node)) longer
-      ∙ choice_more n path (map (seen_choice view) (take i cs)) (seen_choice view c)
-      ∙ ap (visits_of settled menu n path)
-      (sym (map-append (seen_choice view) (take i cs) (c ∷ []))
-      ∙ ap (map (seen_choice view)) (ap (λ (x : Choice N). take i cs ++ x ∷ []) is ∙
-      sym (take_more cs i c below)))
+      ∙ choice_more n path (map (seen_choice view) cs) (seen_choice view c)
+      ∙ ap (visits_of settled menu n path) (sym (map-append (seen_choice view) cs (c ∷ [])))
+
+  -- what they are counted to
+  pub next_counted : (start t u : Tally V R) (n : ℕ) (path at : List ℕ) (cs : List (Choice N))
+      (c : Choice N) → at ≡ path ++ c.number ∷ []
+      → t ≡ counted start (visits_of settled menu n path (map (seen_choice view) cs))
+      → u ≡ counted t (visits settled menu n at (view c.node))
+      → u ≡ counted start (visits_of settled menu n path (map (seen_choice view) (cs ++ c ∷ [])))
+  next_counted start t u n path at cs c longer before now =
+      now
+      ∙ ap (λ (x : Tally V R). counted x (visits settled menu n at (view c.node))) before
+      ∙ sym (counted-append start (visits_of settled menu n path (map (seen_choice view) cs))
+      (visits settled menu n at (view c.node)))
+      ∙ ap (counted start) (each_next n path at cs c longer)

@@ -93,30 +93,6 @@ module _ {N R : Type 0} (settled : N → Settled N R) (menu : N → Menu N R) wh
       ≡ counted t (visits settled menu more path node)) (sym is)
       (node-counts t more path node g h k (sym (ap (λ (r : Settled N R). r.closed) is) ∙ e))
 
-  -- one choice more
-  pub choice-counts : (t u : Tally N R) (more : ℕ) (path : List ℕ) (c : Choice N)
-      (choices : List (Choice N))
-      → u ≡ counted t (visits settled menu more (path ++ c.number ∷ []) c.node)
-      → counted u (visits_of settled menu more path choices) ≡
-      counted t (visits_of settled menu more path (c ∷ choices))
-  choice-counts t u more path c choices e =
-      ap (λ (x : Tally N R). counted x (visits_of settled menu more path choices)) e
-      ∙ sym (counted-append t (visits settled menu more (path ++ c.number ∷ []) c.node)
-      (visits_of settled menu more path choices))
-
-  -- so of those that are left of a list
-  pub next-choice : (t u whole : Tally N R) (more : ℕ) (path at : List ℕ) (c : Choice N)
-      (rest choices : List (Choice N))
-      → at ≡ path ++ c.number ∷ [] → u ≡ counted t (visits settled menu more at c.node) → rest ≡ c ∷
-      choices
-      → counted t (visits_of settled menu more path rest) ≡ whole →
-      counted u (visits_of settled menu more path choices) ≡ whole
-  next-choice t u whole more path at c rest choices longer is first h =
-      choice-counts t u more path c choices (is ∙
-      ap (λ p. counted t (visits settled menu more p c.node)) longer)
-      ∙ ap (λ (cs : List (Choice N)). counted t (visits_of settled menu more path cs)) (sym first) ∙
-      h
-
   -- one list more
   pub list-counts : (t u : Tally N R) (n more : ℕ) (start : N) → 0 < n → u ≡
       counted t (visits settled menu more [] start)

@@ -96,18 +96,18 @@ fn next_list<T: Tree>(
 pub fn search<T: Tree>(
     alloc: Global,
     tree: &mut T,
-    start: &T::Node,
+    start: T::Node,
     depth: u32,
     budget: u32,
     most_kept: usize,
 ) -> Result<Outcome<T::Node, T::Note>, NoMemory>
     requires ready { T.ready tree.old }
-    requires valid { T.valid (T.world tree.old) start.now }
+    requires valid { T.valid (T.world tree.old) start }
     ensures ready { T.ready tree.new }
     ensures world { T.world tree.new ≡ T.world tree.old }
     ensures outcome { IfOk result (λ o. seen_outcome T.view o ≡
         outcome budget (all_visits (T.settled (T.world tree.old)) (T.menu (T.world tree.old)) depth
-        (T.view start.now))) }
+        (T.view start))) }
     ensures valid { IfOk result (λ o. IfClosed (T.valid (T.world tree.old)) o) }
 {
     let begun = start_keeping(alloc, budget, most_kept.saturating_sub(1));

@@ -21,16 +21,16 @@ pub(crate) fn visit_new<T: Tree>(
     alloc: Global,
     tree: &mut T,
     path: Items<u8>,
-    node: &T::Node,
+    node: T::Node,
     progress: Progress<T::Node, T::Note>,
 ) -> Result<Progress<T::Node, T::Note>, NoMemory>
     requires ready { T.ready tree.old }
-    requires valid { T.valid (T.world tree.old) node.now }
+    requires valid { T.valid (T.world tree.old) node }
     ensures ready { T.ready tree.new }
     ensures world { T.world tree.new ≡ T.world tree.old }
     ensures visited { IfOk result (IsVisited T.view (T.settled (T.world tree.old))
         (T.menu (T.world tree.old)) progress (λ n.
-        visits (T.settled (T.world tree.old)) (T.menu (T.world tree.old)) n path (T.view node.now))) }
+        visits (T.settled (T.world tree.old)) (T.menu (T.world tree.old)) n path (T.view node))) }
     ensures valid { IfFound (T.valid (T.world tree.old)) progress.tally.ended →
         IfOk result (λ p. IfFound (T.valid (T.world tree.old)) p.tally.ended) }
     ensures leaves { (most : ℕ) → 0 < most → All (OfLeaf (T.valid (T.world tree.old)) most)
@@ -75,9 +75,10 @@ fn visit_each<T: Tree>(
         progress.kept → IfOk result (λ p. All (OfLeaf (T.valid (T.world tree.old)) most) p.kept) }
 {
     let mut progress = progress;
-    for choice in choices.as_slice() {
-        let at = longer(alloc, path, choice.number)?;
-        progress = visit_new(alloc, tree, at, &choice.node, progress)?;
+    for choice in choices.into_vec() {
+        let Choice { number, node } = choice;
+        let at = longer(alloc, path, number)?;
+        progress = visit_new(alloc, tree, at, node, progress)?;
     }
     Ok(progress)
 }
@@ -146,14 +147,7 @@ fn walk_below<T: Tree>(
     let at = Items::from_slice(alloc, path.as_slice())?;
     let tally = count_open(tally, at, menu.note);
     let choices = menu.choices;
-    let tally = walk_all(
-        alloc,
-        tree,
-        below,
-        path.as_slice(),
-        choices.as_slice(),
-        tally,
-    )?;
+    let tally = walk_all(alloc, tree, below, path.as_slice(), choices, tally)?;
     kept.push(Kept::Frontier(Leaf {
         path,
         node,

@@ -67,14 +67,14 @@ pub trait Tree {
     // The choices at a settled node.
     ghost menu: { World → View → Menu View Self.Note };
 
-    /// Settles a node.
-    fn settle(&mut self, node: &Self::Node) -> Result<Settled<Self::Node, Self::Note>, NoMemory>
+    /// Settles a node, which it takes over.
+    fn settle(&mut self, node: Self::Node) -> Result<Settled<Self::Node, Self::Note>, NoMemory>
         requires ready { ready self.old }
-        requires valid { valid (world self.old) node.now }
+        requires valid { valid (world self.old) node }
         ensures ready { ready self.new }
         ensures world { world self.new ≡ world self.old }
         ensures settled { IfOk result (λ s. seen_settled view s ≡
-            settled (world self.old) (view node.now)) }
+            settled (world self.old) (view node)) }
         ensures valid { IfOk result (λ s. valid (world self.old) s.node) };
 
     /// Finds the choices at a settled node that isn't closed.

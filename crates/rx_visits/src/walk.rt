@@ -29,23 +29,24 @@ pub(crate) fn walk_all<T: Tree>(
     tree: &mut T,
     more: u32,
     path: &[u8],
-    choices: &[Choice<T::Node>],
+    choices: Items<Choice<T::Node>>,
     tally: Tally<T::Node, T::Note>,
 ) -> Result<Tally<T::Node, T::Note>, NoMemory>
     requires ready { T.ready tree.old }
-    requires valid { All (λ c. T.valid (T.world tree.old) c.node) choices.now }
+    requires valid { All (λ c. T.valid (T.world tree.old) c.node) choices }
     ensures ready { T.ready tree.new }
     ensures world { T.world tree.new ≡ T.world tree.old }
     ensures counted { IfOk result (λ t. seen_tally T.view t ≡
         counted (seen_tally T.view tally) (visits_of (T.settled (T.world tree.old))
-        (T.menu (T.world tree.old)) more path.now (map (seen_choice T.view) choices.now))) }
+        (T.menu (T.world tree.old)) more path.now (map (seen_choice T.view) choices))) }
     ensures valid { IfFound (T.valid (T.world tree.old)) tally.ended →
         IfOk result (λ t. IfFound (T.valid (T.world tree.old)) t.ended) }
 {
     let mut tally = tally;
-    for choice in choices {
-        let at = longer(alloc, path, choice.number)?;
-        tally = walk(alloc, tree, more, at.as_slice(), &choice.node, tally)?;
+    for choice in choices.into_vec() {
+        let Choice { number, node } = choice;
+        let at = longer(alloc, path, number)?;
+        tally = walk(alloc, tree, more, at.as_slice(), node, tally)?;
     }
     Ok(tally)
 }
@@ -77,7 +78,7 @@ fn walk_choices<T: Tree>(
     let at = Items::from_slice(alloc, path)?;
     let note = settled.note.or(menu.note);
     let tally = count(tally, at, settled.node, settled.closed, note);
-    walk_all(alloc, tree, more, path, menu.choices.as_slice(), tally)
+    walk_all(alloc, tree, more, path, menu.choices, tally)
 }
 
 /// The visits from a node on, with at most n choices to come.
@@ -87,16 +88,16 @@ fn walk<T: Tree>(
     tree: &mut T,
     more: u32,
     path: &[u8],
-    node: &T::Node,
+    node: T::Node,
     tally: Tally<T::Node, T::Note>,
 ) -> Result<Tally<T::Node, T::Note>, NoMemory>
     requires ready { T.ready tree.old }
-    requires valid { T.valid (T.world tree.old) node.now }
+    requires valid { T.valid (T.world tree.old) node }
     ensures ready { T.ready tree.new }
     ensures world { T.world tree.new ≡ T.world tree.old }
     ensures counted { IfOk result (λ t. seen_tally T.view t ≡
         counted (seen_tally T.view tally) (visits (T.settled (T.world tree.old))
-        (T.menu (T.world tree.old)) more path.now (T.view node.now))) }
+        (T.menu (T.world tree.old)) more path.now (T.view node))) }
     ensures valid { IfFound (T.valid (T.world tree.old)) tally.ended →
         IfOk result (λ t. IfFound (T.valid (T.world tree.old)) t.ended) }
 {

@@ -16,16 +16,16 @@ invariant-loop-list g l = record {
       counted (seen_tally g.T.Tree.view l.progress.tally)
       (lists (g.T.Tree.settled (g.T.Tree.world l.fn.tree))
       (g.T.Tree.menu (g.T.Tree.world l.fn.tree)) (l.depth - l._list) (l._list + 1)
-      (g.T.Tree.view l.start))
+      (g.T.Tree.view l.fn.start))
       ≡ counted (begin l.budget)
       (lists (g.T.Tree.settled (g.T.Tree.world l.fn.tree))
-      (g.T.Tree.menu (g.T.Tree.world l.fn.tree)) (l.depth + 1) 0 (g.T.Tree.view l.start));
+      (g.T.Tree.menu (g.T.Tree.world l.fn.tree)) (l.depth + 1) 0 (g.T.Tree.view l.fn.start));
   stands : l.progress.tally.ended ≡ Going
       → StandsForLists g.T.Tree.view (g.T.Tree.settled (g.T.Tree.world l.fn.tree))
       (g.T.Tree.menu (g.T.Tree.world l.fn.tree)) l.progress.tally.note l.progress.kept
       (λ n. visits (g.T.Tree.settled (g.T.Tree.world l.fn.tree))
       (g.T.Tree.menu (g.T.Tree.world l.fn.tree)) (n + (l._list + 1)) []
-      (g.T.Tree.view l.start));
+      (g.T.Tree.view l.fn.start));
   valid : IfFound (g.T.Tree.valid (g.T.Tree.world l.fn.tree)) l.progress.tally.ended;
   leaves : All (OfLeaf (g.T.Tree.valid (g.T.Tree.world l.fn.tree)) (l._list + 1)) l.progress.kept;
 }

@@ -1,5 +1,5 @@
 -- The nodes so far are visited, and what is kept goes on by those that are kept of them.
-use Rattle.std.proofs.Common.{◌≡◌, ◌<◌, ℕ, All, take}
+use Rattle.std.proofs.Common.{◌≡◌, ◌<◌, ℕ, All}
 use Rattle.std.specs.Prelude.{map}
 use Rattle.rx_visits.specs.Keeping.{IsVisited, OfLeaf}
 use Rattle.rx_visits.specs.Views.{IfFound, seen_choice}
@@ -15,7 +15,7 @@ invariant-loop-choice g l = record {
       (g.T.Tree.menu (g.T.Tree.world l.initial.tree)) l.fn.progress
       (λ n. visits_of (g.T.Tree.settled (g.T.Tree.world l.initial.tree))
       (g.T.Tree.menu (g.T.Tree.world l.initial.tree)) n l.path
-      (map (seen_choice g.T.Tree.view) (take l.choice-index l.choice-items)))
+      (map (seen_choice g.T.Tree.view) l.yielded))
       l.progress;
   valid : IfFound (g.T.Tree.valid (g.T.Tree.world l.initial.tree)) l.fn.progress.tally.ended →
       IfFound (g.T.Tree.valid (g.T.Tree.world l.initial.tree)) l.progress.tally.ended;

@@ -14,7 +14,7 @@ returns-then-not-is_going-clause-visited g c =
     let stopped : (c.args.progress.tally.ended ≡ Going → ⊥) = search rules in
     visited_stopped g.T.Tree.view (g.T.Tree.settled w) (g.T.Tree.menu w) c.args.progress
     (λ n. visits (g.T.Tree.settled w) (g.T.Tree.menu w) n c.args.path
-    (g.T.Tree.view c.args.node.now)) stopped
+    (g.T.Tree.view c.args.node)) stopped
 
 pub returns-then-progress-eq0-clause-visited : goal.returns-then-progress-eq0-clause-visited
 returns-then-progress-eq0-clause-visited g c =
@@ -23,8 +23,8 @@ returns-then-progress-eq0-clause-visited g c =
     let a = c.args in
     let goes : a.progress.tally.ended ≡ Going = search rules in
     visited_over view (g.T.Tree.settled w) (g.T.Tree.menu w) a.progress c.end_over.result
-    (λ n. visits (g.T.Tree.settled w) (g.T.Tree.menu w) n a.path (view a.node.now))
-    (budget-stops (g.T.Tree.settled w) (g.T.Tree.menu w) _ 0 a.path (view a.node.now)
+    (λ n. visits (g.T.Tree.settled w) (g.T.Tree.menu w) n a.path (view a.node))
+    (budget-stops (g.T.Tree.settled w) (g.T.Tree.menu w) _ 0 a.path (view a.node)
     (going_seen view a.progress.tally.ended goes) c.if-progress-eq0.true)
     c.end_over.ensures.tally
 
@@ -35,7 +35,7 @@ returns-then-settled-clause-visited g c =
     let goes : a.progress.tally.ended ≡ Going = search rules in
     let some : 0 < a.progress.tally.left = omega arith in
     closed_new g.T.Tree.view (g.T.Tree.settled w) (g.T.Tree.menu w) a.progress _ a.path
-    (g.T.Tree.view a.node.now) c.in_ok-settled.settled
+    (g.T.Tree.view a.node) c.in_ok-settled.settled
     c.in_ok-settled.ensures.settled c.if-settled.true goes some c.count.ensures
 
 pub returns-clause-visited : goal.returns-clause-visited
@@ -45,6 +45,6 @@ returns-clause-visited g c =
     let goes : a.progress.tally.ended ≡ Going = search rules in
     let some : 0 < a.progress.tally.left = omega arith in
     open_new_made g.T.Tree.view (g.T.Tree.settled w) (g.T.Tree.menu w) a.progress c.keep_leaf.result
-    a.path (g.T.Tree.view a.node.now) c.in_ok-settled.settled
+    a.path (g.T.Tree.view a.node) c.in_ok-settled.settled
     c.in_ok-settled.ensures.settled c.if-settled.false goes some c.keep_leaf.ensures.tally
     c.keep_leaf.ensures.kept

@@ -23,5 +23,5 @@ returns-clause-visited g c = λ s at is.
     (c.in_ok-tally.ensures.counted
     ∙ (λ i. counted (seen_tally view (tally i))
     (visits_of settled menu a.leaf.below (c.as_slice-2.ensures i)
-    (map (seen_choice view) (c.as_slice-3.ensures i)))))
+    (map (seen_choice view) a.menu.choices))))
     c.in_ok-push.ensures.ok

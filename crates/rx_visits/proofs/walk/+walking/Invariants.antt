@@ -1,5 +1,5 @@
--- What is counted so far, and then the visits of the choices that are left, is all.
-use Rattle.std.proofs.Common.{◌≡◌, ◌+◌, ◌*◌, drop}
+-- The visits of the choices so far are counted.
+use Rattle.std.proofs.Common.{◌≡◌, ◌+◌, ◌*◌}
 use Rattle.std.specs.Prelude.{map}
 use Rattle.rx_visits.specs.Tallies.{counted}
 use Rattle.rx_visits.specs.Views.{IfFound, seen_choice, seen_tally}
@@ -20,14 +20,10 @@ invariant-walk_all-loop-choice g l = record {
   ready : g.T.Tree.ready l.tree;
   world : g.T.Tree.world l.tree ≡ g.T.Tree.world l.initial.tree;
   counts :
-      counted (seen_tally g.T.Tree.view l.tally)
+      seen_tally g.T.Tree.view l.tally ≡ counted (seen_tally g.T.Tree.view l.fn.tally)
       (visits_of (g.T.Tree.settled (g.T.Tree.world l.initial.tree))
       (g.T.Tree.menu (g.T.Tree.world l.initial.tree)) l.more l.path
-      (map (seen_choice g.T.Tree.view) (drop l.choice-index l.choices)))
-      ≡ counted (seen_tally g.T.Tree.view l.fn.tally)
-      (visits_of (g.T.Tree.settled (g.T.Tree.world l.initial.tree))
-      (g.T.Tree.menu (g.T.Tree.world l.initial.tree)) l.more l.path
-      (map (seen_choice g.T.Tree.view) l.choices));
+      (map (seen_choice g.T.Tree.view) l.yielded));
   valid : IfFound (g.T.Tree.valid (g.T.Tree.world l.initial.tree)) l.fn.tally.ended →
       IfFound (g.T.Tree.valid (g.T.Tree.world l.initial.tree)) l.tally.ended;
 }
