@@ -5,3 +5,4 @@ pub mod PassLaws
 pub mod PlaceLaws
 pub mod SettingLaws
 pub mod UseLaws
+pub mod VariableTests

@@ -86,7 +86,7 @@ module _ (test : ℕ → Bool) where
   -- ---- by arguments
 
   -- a variable that passes, as a polynomial
-  variable_test : (n : ℕ) → passes test (variable n) ≡ true → test n ≡ true
+  pub variable_test : (n : ℕ) → passes test (variable n) ≡ true → test n ≡ true
   variable_test n h =
       let k = of_atoms (Var n ∷ []) in
       let mono = (and_parts (mono_passes test k) true

@@ -57,6 +57,9 @@ pub(crate) fn set_by_arguments(
 ) -> Result<Items<(u32, Poly)>, AllocError>
     ensures { IfOk result (λ ws. ws ≡ set_by_arguments pattern.now part.now) }
 {
+    if let (Term::Call(_, patterns), Term::Call(_, polys)) = (pattern, part) {
+        return set_by_pairs(alloc, patterns.as_slice(), polys.as_slice());
+    }
     let patterns = pattern.arguments(alloc)?;
     let polys = part.arguments(alloc)?;
     set_by_pairs(alloc, patterns.as_slice(), polys.as_slice())

@@ -43,8 +43,12 @@ pub(crate) fn only_one(variables: &[u32]) -> Option<u32>
     Some(*first)
 }
 
-/// Whether all variables of the polynomial are set.
-fn is_poly_set(alloc: Global, settings: &[(u32, Poly)], poly: &Poly) -> Result<bool, AllocError>
+/// Whether all variables that are listed for the polynomial are set.
+fn are_variables_set(
+    alloc: Global,
+    settings: &[(u32, Poly)],
+    poly: &Poly,
+) -> Result<bool, AllocError>
     ensures { IfOk result (λ b. b ≡ passes (is_set settings.now) poly.now) }
 {
     let variables = variables_of(alloc, poly)?;
@@ -54,6 +58,16 @@ fn is_poly_set(alloc: Global, settings: &[(u32, Poly)], poly: &Poly) -> Result<b
         }
     }
     Ok(true)
+}
+
+/// Whether all variables of the polynomial are set.
+fn is_poly_set(alloc: Global, settings: &[(u32, Poly)], poly: &Poly) -> Result<bool, AllocError>
+    ensures { IfOk result (λ b. b ≡ passes (is_set settings.now) poly.now) }
+{
+    match poly.as_variable() {
+        Some(variable) => Ok(is_set(settings, variable)),
+        None => are_variables_set(alloc, settings, poly),
+    }
 }
 
 /// Whether all variables of the polynomials are set.
@@ -76,6 +90,9 @@ fn are_polys_set(
 fn is_term_set(alloc: Global, settings: &[(u32, Poly)], term: &Term) -> Result<bool, AllocError>
     ensures { IfOk result (λ b. b ≡ term_passes (is_set settings.now) term.now) }
 {
+    if let Term::Call(_, args) = term {
+        return are_polys_set(alloc, settings, args.as_slice());
+    }
     let polys = term.arguments(alloc)?;
     are_polys_set(alloc, settings, polys.as_slice())
 }

@@ -7,6 +7,8 @@ pub mod KeepingLaws
 pub mod MoveLaws
 pub mod NamingLaws
 pub mod PointLaws
+pub mod RedexLaws
+pub mod RuleStepLaws
 pub mod RuleWalk
 pub mod ShowingLaws
 pub mod SuffixLaws

@@ -1,6 +1,7 @@
 -- Rules tried in order: what is left of them decides, with what was noted so far.
-use Rattle.std.proofs.Common.{◌≡◌, ◌∙◌, ap, subst, sym, refl, cond, ℕ, suc, ◌+◌, ◌<◌, Bool, true, false, ◌||◌, Option, None, List, [], ◌∷◌, length, drop, drop_of_length-le, ◌≤◌, add-one, get_or}
-use Rattle.std.specs.Prelude.{is_some}
+use Rattle.std.proofs.Common.{◌≡◌, ◌∙◌, ap, subst, sym, refl, cond, ℕ, suc, ◌+◌, ◌<◌, Bool, true, false, ◌||◌, Option, Some, None, List, [], ◌∷◌, length, drop, drop_of_length-le, ◌≤◌, add-one, get_or}
+use Rattle.std.specs.Prelude.{is_some, slice_get}
+use Rattle.std.proofs.lemmas.Option.{slice_get_read}
 use Rattle.std.proofs.Math.Seq.{drop-cons}
 use Rattle.rx_solve.specs.Attempts.{Tried, fails, first_applying, made_or}
 use Rattle.rx_term.specs.declared.rule.Rule.{Rule}
@@ -14,6 +15,13 @@ use Rattle.rx_settle.specs.Settling.{by_rules, is_tried, simplifying}
 use Rattle.rx_settle.specs.Trying.{Next, attempt, noting}
 use Rattle.rx_settle.specs.declared.trial.Trial.{Trial}
 use Rattle.rx_settle.proofs.TrialLaws.{first_takes, none_by, none_made, noting_again, nothing_noted, or_no, same_state, some_by, trial_of}
+
+-- the rule that is read from a list that is borrowed
+pub read_rule : (parts : RuleParts) (list : List Rule) → list ≡ parts.rules → (n : ℕ) (rule : Rule) →
+    n < length list → rule ≡ get_or list n rule → slice_get parts.rules n ≡ Some rule
+read_rule parts list same n rule inside is =
+    subst (λ rs. slice_get rs n ≡ Some rule) same
+    (slice_get_read list (length list) n rule refl inside is)
 
 module _ (parts : RuleParts) (state : State) (side : Side) (from : Option Sym) where
   -- what comes of the rules from a number on

@@ -8,6 +8,7 @@ pub mod LoopPoints
 pub mod Moves
 pub mod Outcomes
 pub mod Parts
+pub mod RuleSteps
 pub mod Settling
 pub mod SuffixAnswers
 pub mod Suffixes

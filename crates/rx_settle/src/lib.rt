@@ -9,6 +9,7 @@ mod loop_points;
 mod naming;
 mod number;
 mod results;
+mod rule_steps;
 mod rules;
 mod settled;
 mod settling;

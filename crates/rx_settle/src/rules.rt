@@ -1,5 +1,5 @@
 //! Rules at the redex of a side.
-ghost use Rattle.std.specs.Prelude.{◌≡◌, false, IfOk, OnErr};
+ghost use Rattle.std.specs.Prelude.{◌≡◌, Some, false, IfOk, OnErr, slice_get};
 ghost use Rattle.rx_settle.specs.Answers.{IsTrial};
 ghost use Rattle.rx_settle.specs.LoopPoints.{AreLoopPoints};
 ghost use Rattle.rx_settle.specs.Moves.{Expand, Simplify};
@@ -9,15 +9,16 @@ ghost use Rattle.rx_solve.specs.Answers.{IsSolver};
 
 use crate::loop_points::LoopPoints;
 use crate::number::to_u32;
+use crate::rule_steps::show_first;
 use crate::trial::Trial;
-use crate::trying::try_step;
+use crate::trying::{Outcome, take_shown, try_step};
 use rx_cert::Cert;
 use rx_fm::FmEnd;
 use rx_form::{Side, Step};
-use rx_plain::{Items, NoMemory};
+use rx_plain::NoMemory;
 use rx_row::Constraint;
 use rx_steps::State;
-use rx_term::{RuleSet, Sym};
+use rx_term::{Rule, RuleSet, Sym};
 use std::alloc::Global;
 
 /// Simplify by the rule with that number.
@@ -27,20 +28,29 @@ fn try_rule<S: FnMut(&Constraint) -> Result<Option<Cert>, FmEnd>>(
     state: &mut State,
     side: Side,
     number: usize,
+    rule: &Rule,
     solve: &mut S,
 ) -> Result<Trial, NoMemory>
+    requires there { slice_get rules.now.rules number ≡ Some rule.now }
     requires solver { IsSolver S.FnMut solve.old }
     ensures solver { IsSolver S.FnMut solve.new }
     ensures trial { IfOk result (IsTrial rules.now state.old state.new
         (attempt rules.now state.old (Simplify side number))) }
     ensures kept { OnErr result (state.new ≡ state.old) }
 {
-    let step = Step::Simplify {
-        side,
-        rule: to_u32(number)?,
-        certs: Items::new(alloc),
-    };
-    try_step(alloc, rules, state, step, solve)
+    let number = to_u32(number)?;
+    match show_first(alloc, state, side, rule, solve)? {
+        Outcome::Shown { made, certs } => {
+            let step = Step::Simplify {
+                side,
+                rule: number,
+                certs,
+            };
+            take_shown(state, made, step)
+        }
+        Outcome::Fails => Ok(Trial::failed()),
+        Outcome::TooLarge => Ok(Trial::too_large()),
+    }
 }
 
 /// Simplify by the rules in order: by all, or by those that leave the component of a symbol.
@@ -66,7 +76,7 @@ fn try_rules<S: FnMut(&Constraint) -> Result<Option<Cert>, FmEnd>>(
         if !points.is_tried(from, rule) {
             continue;
         }
-        let tried = try_rule(alloc, rules, state, side, number, solve)?.after(noted);
+        let tried = try_rule(alloc, rules, state, side, number, rule, solve)?.after(noted);
         if tried.taken.is_some() {
             return Ok(tried);
         }

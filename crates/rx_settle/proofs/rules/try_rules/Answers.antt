@@ -1,8 +1,14 @@
 -- A rule isn't tried, doesn't apply, or is taken.
 use Rattle.std.proofs.Common.{◌∙◌, ap, sym}
 use Rattle.rx_term.specs.declared.rule_set.RuleParts.{RuleParts}
-use Rattle.rx_settle.proofs.RuleWalk.{ended, ends, goes_on}
+use Rattle.rx_settle.proofs.RuleWalk.{ended, ends, goes_on, read_rule}
 use Rattle.rx_settle.proofs.rules.try_rules.Goals as goal
+
+pub try_rule-requires-clause-there : goal.try_rule-requires-clause-there
+try_rule-requires-clause-there g c =
+    read_rule c.args.rules.now c.as_slice-list.result.now
+    (c.as_slice-list.ensures ∙ ap (λ (p : RuleParts). p.rules) c.parts.ensures.parts)
+    c.loop-number.number c.index-list-number.result c.loop-number-test.true c.index-list-number.is
 
 pub loop-number-preserved : goal.loop-number-preserved
 loop-number-preserved g c =

@@ -2,7 +2,7 @@
 use Rattle.std.proofs.Common.{◌≡◌, drop}
 use Rattle.std.specs.List.{list_all}
 use Rattle.rx_match.specs.Settings.{is_set}
-use Rattle.rx_match.proofs.unset.is_poly_set.Given as goal
+use Rattle.rx_match.proofs.unset.are_variables_set.Given as goal
 
 abbrev pub invariant-loop-variable : goal.invariant-loop-variable
 invariant-loop-variable l =
