@@ -1,29 +1,10 @@
 -- What a memo keeps of pairs stays right.
-use Rattle.std.proofs.Common.{◌≡◌, subst, sym, refl, ℕ, zero, suc, true, IfOk, Some, All, List, [], ◌∷◌, ◌++◌, length, Result, Ok, Err, slice_get}
-use Rattle.std.proofs.lemmas.Bool.{and_from, and_parts}
+use Rattle.std.proofs.Common.{◌≡◌, subst, sym, refl, ℕ, zero, suc, IfOk, Some, All, List, [], ◌∷◌, ◌++◌, length, Result, Ok, Err, slice_get}
 use Rattle.std.proofs.lemmas.List.Elements.{All-head, All-nil, All-push, All-tail}
-use Rattle.std.specs.Cmp.Lexicographic.{pointwise}
-use Rattle.rx_poly.proofs.Same.{body_eq, told_itself, told_same}
-use Rattle.rx_poly.specs.declared.body.Body.{Body}
 use Rattle.rx_pairs.specs.declared.pair.Pair.{Pair}
 use Rattle.rx_rank.specs.Memo.{AreRight, AreRightPairs, IsRight}
 use Rattle.rx_rank.specs.declared.pair_memo.KnownAnswer.{KnownAnswer}
 use Rattle.rx_rank.specs.declared.pair_memo.KnownPair.{KnownPair}
-
--- ---- polynomials in order that compare as equal are the same
-
-pub told_same_polys : (ps qs : List Body) → pointwise body_eq ps qs ≡ true → ps ≡ qs
-told_same_polys [] [] e = refl
-told_same_polys [] (q ∷ qs) e = cc
-told_same_polys (p ∷ ps) [] e = cc
-told_same_polys (p ∷ ps) (q ∷ qs) e =
-    let b = and_parts (body_eq p q) (pointwise body_eq ps qs) e in
-    λ i. told_same p q b.0 i ∷ told_same_polys ps qs b.1 i
-
-pub told_themselves : (ps : List Body) → pointwise body_eq ps ps ≡ true
-told_themselves [] = refl
-told_themselves (p ∷ ps) =
-    and_from (body_eq p p) (pointwise body_eq ps ps) (told_itself p p refl) (told_themselves ps)
 
 -- ---- elements
 

@@ -141,24 +141,48 @@ fn finding_of(answer: &AllShown) -> Finding
     }
 }
 
-/// Whether both are the same polynomials in order.
-fn are_same(first: &Items<Poly>, second: &Items<Poly>) -> bool
+/// Whether both are one polynomial. Variables, which most arguments are, are compared by number.
+fn is_same_argument(first: &Poly, second: &Poly) -> bool
     ensures { IsTrue result ↔ (first.now ≡ second.now) }
 {
-    *first == *second
+    if let Some(one) = first.as_variable() {
+        if let Some(other) = second.as_variable() {
+            return one == other;
+        }
+    }
+    first.is_same(second)
 }
 
-/// Whether both are one pair.
+/// Whether both are the same polynomials in order.
+fn are_same(first: &[Poly], second: &[Poly]) -> bool
+    ensures { IsTrue result ↔ (first.now ≡ second.now) }
+{
+    let mut rest = first;
+    let mut others = second;
+    while let (Some((one, more)), Some((other, further))) = (
+        rest.split_first(),
+        others.split_first(),
+    ) {
+        if !is_same_argument(one, other) {
+            return false;
+        }
+        rest = more;
+        others = further;
+    }
+    rest.is_empty() && others.is_empty()
+}
+
+/// Whether both are one pair. The arguments on the right differ most often.
 fn is_same_pair(first: &Pair, second: &Pair) -> bool
     ensures { IsTrue result ↔ (first.now ≡ second.now) }
 {
     if first.left != second.left || first.right != second.right {
         return false;
     }
-    if !are_same(&first.left_args, &second.left_args) {
+    if !are_same(first.right_args.as_slice(), second.right_args.as_slice()) {
         return false;
     }
-    if !are_same(&first.right_args, &second.right_args) {
+    if !are_same(first.left_args.as_slice(), second.left_args.as_slice()) {
         return false;
     }
     first.phi.is_same(&second.phi)

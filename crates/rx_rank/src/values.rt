@@ -12,7 +12,7 @@ use std::alloc::Global;
 pub fn without_polynomials(alloc: Global, symbols: usize) -> Result<Vec<Option<Poly>>, NoMemory>
     ensures { IfOk result (λ values. values.items ≡ without_polynomials symbols) }
 {
-    let mut values = Vec::new(alloc);
+    let mut values = Vec::with_capacity(alloc, symbols)?;
     for _symbol in 0..symbols {
         values.push(None)?;
     }
