@@ -11,7 +11,7 @@ use Rattle.c_meaning.specs.Statements.{Turn, Again, Ends}
 use Rattle.c_refute.specs.Expressions.{Calls}
 use Rattle.c_refute.specs.Stores.{Kept}
 use Rattle.c_refute.specs.Flat.{Rest, Back, at, op_to, rests, code_run, sink_to, flow_to, turn_to, turn_of}
-use Rattle.c_refute.specs.Flat.{SinkWithin, ExitsWithin, TurnIsRight, TurnsFrom, Leads}
+use Rattle.c_refute.specs.Flat.{IsPlain, SinkWithin, ExitsWithin, TurnIsRight, TurnsFrom, Leads}
 use Rattle.c_refute.specs.declared.code.Sink.{Sink}
 use Rattle.c_refute.specs.declared.code.Sink.TheVariants as sink
 use Rattle.c_refute.specs.declared.code.Exits.{Exits}
@@ -141,16 +141,6 @@ no-turns ops new same turn whole exits begin from is =
     let none = slice_get_past ops turn from in
     let other = ap (λ (all : List Op). slice_get all turn) (sym same) ∙ is in
     absurd (let wrong : None ≡ Some (op.Turn whole exits begin) = sym none ∙ other in cc)
-
--- an op that isn't the turns of a loop
-abbrev pub IsPlain : Op → Type 0
-IsPlain (op.Do work sink) = Unit {0}
-IsPlain (op.Test inner if_zero other) = Unit {0}
-IsPlain (op.Set inner v p) = Unit {0}
-IsPlain (op.Call f count p) = Unit {0}
-IsPlain (op.Turn whole exits begin) = ⊥
-IsPlain (op.Enter p) = Unit {0}
-IsPlain (op.Leave p) = Unit {0}
 
 slice_get-added : (old : List Op) (o : Op) (p : ℕ) (found : Op) → length old ≤ p →
     slice_get (old ++ o ∷ []) p ≡ Some found → found ≡ o

@@ -15,19 +15,18 @@ use Rattle.c_ast.specs.declared.program.Resolved.{Resolved}
 use Rattle.c_meaning.specs.Outcomes.{Flow, Next, Break, Continue, Return}
 use Rattle.c_meaning.specs.Statements.{Turn, Again, Ends}
 use Rattle.c_refute.specs.Counted.{returned, body_run, counted}
-use Rattle.c_refute.specs.Ends.{GivesNumber}
+use Rattle.c_refute.specs.Ends.{EndsBy, GivesNumber}
 use Rattle.c_refute.specs.Runs.{Run, Value, More, on_value}
 use Rattle.c_refute.specs.Expressions.{Calls}
 use Rattle.c_refute.specs.Statements.{optional, in_order, on_again, loop, stmt}
 use Rattle.c_refute.specs.Stores.{Kept, with_state, with_values, pushed, ended, called}
-use Rattle.c_refute.specs.Flat.{Rest, Back, lost, at, op_to, rests, code_run, flow_to, turn_to, turn_level, turn_of, made, kept_after, sink_to}
+use Rattle.c_refute.specs.Flat.{Rest, Back, lost, at, op_to, rests, code_run, flow_to, turn_to, turn_level, turn_of, sink_to}
 use Rattle.c_refute.specs.Flat.{TurnIsRight, FunctionIsRight}
 use Rattle.c_refute.specs.Machines.{done, resumed, back_to, machine_run, Steps}
 use Rattle.c_refute.specs.declared.code.Exits.{Exits}
 use Rattle.c_refute.specs.declared.code.Op.{Op}
 use Rattle.c_refute.specs.declared.code.Op.TheVariants as op
 use Rattle.c_refute.specs.declared.machine.Caller.{Caller}
-use Rattle.c_refute.specs.declared.code.Work.{Work}
 use Rattle.c_refute.specs.declared.code.Sink.{Sink}
 use Rattle.c_refute.specs.declared.machine.Reached.{Reached}
 use Rattle.c_refute.specs.declared.machine.Reached.TheVariants as reached
@@ -61,11 +60,6 @@ length-most [] zero = omega arith
 length-most [] (suc p) = omega arith
 length-most (x ∷ ops) zero = omega arith
 length-most (x ∷ ops) (suc p) = let rec = length-most ops p in omega arith
-
-none-past : (ops : List Op) (p : ℕ) → slice_get ops p ≡ None → length ops ≤ p
-none-past [] p is = omega arith
-none-past (x ∷ ops) zero is = absurd (cc)
-none-past (x ∷ ops) (suc p) is = let rec = none-past ops p is in omega arith
 
 module _ (calls : Calls) (back : Back) (ops : List Op) (p : ℕ) where
   -- the op at a position, from the ops before it
@@ -102,10 +96,10 @@ module _ (calls : Calls) (back : Back) (ops : List Op) (p : ℕ) where
       let le = length-most ops p in
       get_or_past (rests calls back (take p ops)) q lost (omega arith)
 
-  pub lost-past : slice_get ops p ≡ None → at (rests calls back ops) p ≡ lost
-  lost-past none =
+  -- past all ops nothing is found
+  pub lost-past : length ops ≤ p → at (rests calls back ops) p ≡ lost
+  lost-past past =
       let few = length-rests calls back ops in
-      let le = none-past ops p none in
       get_or_past (rests calls back ops) p lost (omega arith)
 
 -- what a loop executes leaves no more rounds than there were
@@ -271,28 +265,39 @@ gives-then run f x (Err stop.Over) first given =
     λ left. ap (λ (r : Run ℤ). on_value r f) (first left) ∙ given left
 gives-then run f x (Err stop.NoMemory) first given = given
 
+-- what goes on from a number that isn't there ends
+pub ends-with : (e : Stop) (run : ℕ → Run ℤ) (f : ℤ → ℕ → Run ℤ) (all : Run ℤ) (left : ℕ)
+    → GivesNumber run (Err e) → all ≡ on_value (run left) f → EndsBy e all
+ends-with stop.DivisionError run f all left given same =
+    same ∙ ap (λ (r : Run ℤ). on_value r f) (given left)
+ends-with stop.More run f all left given same =
+    same ∙ ap (λ (r : Run ℤ). on_value r f) (given left)
+ends-with stop.Over run f all left given same =
+    same ∙ ap (λ (r : Run ℤ). on_value r f) (given left)
+ends-with stop.NoMemory run f all left given same = tt
+
 -- a value that is made goes to its sink
-pub made-to : (calls : Calls) (back : Back) (rs : List Rest) (work : Work) (s : Sink) (k new : Kept)
-    (x : ℤ) (left : ℕ)
-    → made work k left ≡ Value x left → new ≡ kept_after work k →
-    op_to calls back rs (op.Do work s) k left ≡ sink_to rs back s new x left
-made-to calls back rs work s k new x left is kept =
-    ap (λ (r : Run ℤ). on_value r (sink_to rs back s (kept_after work k))) is ∙
-    ap (λ (j : Kept). sink_to rs back s j x left) (sym kept)
+pub made-to : (rs : List Rest) (back : Back) (s : Sink) (run : ℕ → Run ℤ) (x y : ℤ)
+    (kept new : Kept) (left : ℕ)
+    → GivesNumber run (Ok x) → y ≡ x → new ≡ kept →
+    on_value (run left) (sink_to rs back s kept) ≡ sink_to rs back s new y left
+made-to rs back s run x y kept new left given plain same =
+    ap (λ (r : Run ℤ). on_value r (sink_to rs back s kept)) (given left)
+    ∙ rw (plain, same) refl
 
 -- what is the same leads to the same
-pub steps-same : (program : Resolved) (ops : List Op) (run other : Run ℤ)
+pub steps-same : (here : ℕ) (program : Resolved) (ops : List Op) (run other : Run ℤ)
     (result : Result Reached Stop) (callers : List Caller) (k : Kept) (left : ℕ)
-    → run ≡ other → Steps program ops other result callers k left →
-    Steps program ops run result callers k left
-steps-same program ops run other (Ok (reached.On p)) callers k left same is = same ∙ is
-steps-same program ops run other (Ok (reached.Round p)) callers k left same is = same ∙ is
-steps-same program ops run other (Ok (reached.Back p)) callers k left same is = same ∙ is
-steps-same program ops run other (Ok (reached.Ended x)) callers k left same is = same ∙ is
-steps-same program ops run other (Err stop.DivisionError) callers k left same is = same ∙ is
-steps-same program ops run other (Err stop.More) callers k left same is = same ∙ is
-steps-same program ops run other (Err stop.Over) callers k left same is = same ∙ is
-steps-same program ops run other (Err stop.NoMemory) callers k left same is = tt
+    → run ≡ other → Steps here program ops other result callers k left →
+    Steps here program ops run result callers k left
+steps-same here program ops run other (Ok (reached.On p)) callers k left same is = same ∙ is
+steps-same here program ops run other (Ok (reached.Round p)) callers k left same is = same ∙ is
+steps-same here program ops run other (Ok (reached.Back p)) callers k left same is = same ∙ is
+steps-same here program ops run other (Ok (reached.Ended x)) callers k left same is = same ∙ is
+steps-same here program ops run other (Err stop.DivisionError) callers k left same is = same ∙ is
+steps-same here program ops run other (Err stop.More) callers k left same is = same ∙ is
+steps-same here program ops run other (Err stop.Over) callers k left same is = same ∙ is
+steps-same here program ops run other (Err stop.NoMemory) callers k left same is = tt
 
 -- how much is left to do: rounds and callers count more than positions
 abbrev pub left_to_do : (rounds callers size p : ℕ) → ℕ
@@ -328,16 +333,16 @@ pub turn-steps : (program : Resolved) (ops : List Op) (callers : List Caller) (t
     → (result : Result Reached Stop) (k : Kept) (left : ℕ)
     → OnOk result (0 < left) → IfOk result (λ r. r ≡ reached.Round begin) →
     OnErr result (left ≡ 0) → IfErr result (λ e. e ≡ stop.More)
-    → Steps program ops (machine_run program ops callers turn k left) result callers k left
+    → Steps turn program ops (machine_run program ops callers turn k left) result callers k left
 turn-steps program ops callers turn whole exits begin right found (Ok r) k left some is none more =
     let same : left ≡ suc (left - 1) = omega arith in
-    let P : Reached → Type 0 = λ q. Steps program ops (machine_run program ops callers turn k left)
+    let P : Reached → Type 0 = λ q. Steps turn program ops (machine_run program ops callers turn k left)
     (Ok q) callers k left in
     subst P (sym is) (ap (λ (n : ℕ). machine_run program ops callers turn k n) same
     ∙ turn-begun program (back_to (counted program) ops callers) ops turn whole exits begin right
     found k (left - 1))
 turn-steps program ops callers turn whole exits begin right found (Err e) k left some is none more =
-    let P : Stop → Type 0 = λ q. Steps program ops (machine_run program ops callers turn k left)
+    let P : Stop → Type 0 = λ q. Steps turn program ops (machine_run program ops callers turn k left)
     (Err q) callers k left in
     subst P (sym more) (ap (λ (n : ℕ). machine_run program ops callers turn k n) none
     ∙ (ap (λ (r : Rest). r k 0) (op-found (counted program) (back_to (counted program) ops callers)

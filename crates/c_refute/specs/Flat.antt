@@ -1,10 +1,11 @@
 -- What flat code comes to. An op goes on at a lower position, whose meaning is there already; a
 -- call and the turns of a loop are those of the counted run.
 use Rattle.std.specs.Prelude.{◌≡◌, ℕ, ◌<◌, ◌≤◌, if◌then◌else◌, Option, None, Some, List, [], ◌∷◌, ◌++◌, ℤ}
-use Rattle.std.specs.Prelude.{length, fold, map, take, drop, reverse, slice_get, slice_set, slice_index_or}
+use Rattle.std.specs.Prelude.{int_lt, length, fold, map, take, drop, reverse, slice_get, slice_set, slice_index_or}
 use Rattle.std.specs.Option.{option_map, option_copied}
 use Rattle.std.specs.Borrow.{Bor}
 use Rattle.c_ast.specs.declared.expr.BinOp.{BinOp}
+use Rattle.c_ast.specs.declared.expr.BinOp.TheVariants.{Add, Mul}
 use Rattle.c_ast.specs.declared.expr.Expr.{Expr}
 use Rattle.c_ast.specs.declared.expr.Expr.TheOpen.{Expr-F}
 use Rattle.c_ast.specs.declared.expr.Expr.TheViews.{out-Expr}
@@ -162,14 +163,54 @@ abbrev pub turn_to : List Rest → Back → ℕ → Exits → Kept → Turn → 
 turn_to rests back turn exits k (Again s) left = at rests turn (with_state k s) left
 turn_to rests back turn exits k (Ends flow) left = flow_to rests back exits k flow left
 
+-- a work, whose value goes to a sink
+abbrev pub do_to : List Rest → Back → Work → Sink → Rest
+do_to rests back work sink k left =
+    on_value (made work k left) (sink_to rests back sink (kept_after work k))
+
+-- where it goes on after two leaves are compared
+abbrev pub less_to : List Rest → Leaf → Leaf → ℕ → ℕ → Rest
+less_to rests x y less other k left =
+    at rests (if int_lt (leaf_value x k) (leaf_value y k) then less else other) k left
+
+-- an operator between two leaves
+abbrev pub between : BinOp → Leaf → Leaf → Work
+between f x y = Alone (record { op = f; left = x; right = y })
+
+-- the sum of the values of three slots
+abbrev pub three : (a b c : ℕ) → Work
+three a b c = Left Add (record { op = Add; left = leaf.Slot a; right = leaf.Slot b }) (leaf.Slot c)
+
+-- the sum of a slot's value and an integer times another's
+abbrev pub times : ℕ → ℤ → ℕ → Work
+times a x b =
+    Right Add (Slot a) (record { op = Mul; left = leaf.Constant x; right = leaf.Slot b })
+
 -- an op, from what the lower positions come to
 abbrev pub op_to : Calls → Back → List Rest → Op → Rest
-op_to calls back rests (op.Do work sink) =
-    λ k left. on_value (made work k left) (sink_to rests back sink (kept_after work k))
+op_to calls back rests (op.Do work sink) = do_to rests back work sink
 op_to calls back rests (op.Test inner if_zero other) =
-    λ k left. on_value (inner_run inner k left) (sink_to rests back (sink.Branch if_zero other) k)
-op_to calls back rests (op.Set inner v p) =
-    λ k left. on_value (inner_run inner k left) (sink_to rests back (sink.Assign v p) k)
+    do_to rests back (Alone inner) (sink.Branch if_zero other)
+op_to calls back rests (op.Set inner v p) = do_to rests back (Alone inner) (sink.Assign v p)
+op_to calls back rests (op.LessSlot v w less other) =
+    less_to rests (leaf.Slot v) (leaf.Slot w) less other
+op_to calls back rests (op.LessLiteral v x less other) =
+    less_to rests (leaf.Slot v) (leaf.Constant x) less other
+op_to calls back rests (op.LiteralLess x v less other) =
+    less_to rests (leaf.Constant x) (leaf.Slot v) less other
+op_to calls back rests (op.Raise v x p) =
+    do_to rests back (between Add (leaf.Slot v) (leaf.Constant x)) (sink.Assign v p)
+op_to calls back rests (op.Add v w u p) =
+    do_to rests back (between Add (leaf.Slot v) (leaf.Slot w)) (sink.Assign u p)
+op_to calls back rests (op.AddThree a b c v p) = do_to rests back (three a b c) (sink.Assign v p)
+op_to calls back rests (op.AddTimes a x b v p) = do_to rests back (times a x b) (sink.Assign v p)
+op_to calls back rests (op.SetLeft f inner b v p) =
+    do_to rests back (Left f inner b) (sink.Assign v p)
+op_to calls back rests (op.SetRight f v inner u p) =
+    do_to rests back (Right f (Slot v) inner) (sink.Assign u p)
+op_to calls back rests (op.PushInner inner p) = do_to rests back (Alone inner) (sink.Push p)
+op_to calls back rests (op.Give f a b scopes) =
+    do_to rests back (Between f a b) (sink.Return scopes)
 op_to calls back rests (op.Call f count p) = λ k left.
     on_value (calls left f (reverse (take count k.values)))
     (λ x. at rests p (pushed (with_values k (drop count k.values)) x))
@@ -177,6 +218,17 @@ op_to calls back rests (op.Turn whole exits begin) = λ k left.
     on_value (loop (turn_of calls whole.now) left k.state) (flow_to rests back exits k)
 op_to calls back rests (op.Enter p) = λ k left. at rests p (entered k) left
 op_to calls back rests (op.Leave p) = λ k left. at rests p (left_scope k) left
+
+-- an op that isn't the turns of a loop
+abbrev pub IsPlain : Op → Type 0
+IsPlain (op.Turn whole exits begin) = ⊥
+IsPlain _ = Unit {0}
+
+-- an op that isn't the turns of a loop, and what it comes to
+pub record IsOp (o : Op) (run : Calls → Back → List Rest → Rest) : Type 0 where
+  pub plain : IsPlain o
+  pub comes : (calls : Calls) (back : Back) (rests : List Rest) (k : Kept) (left : ℕ) →
+      op_to calls back rests o k left ≡ run calls back rests k left
 
 -- one op more
 abbrev pub with_op : Calls → Back → List Rest → Op → List Rest

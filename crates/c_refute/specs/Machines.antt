@@ -1,5 +1,5 @@
 -- What a run of code comes to, and how its steps and the run itself end.
-use Rattle.std.specs.Prelude.{◌≡◌, ℕ, ◌+◌, ◌-◌, ◌<◌, ◌≤◌, Result, Ok, Err, List, fold, ℤ}
+use Rattle.std.specs.Prelude.{◌≡◌, ℕ, ◌+◌, ◌-◌, ◌<◌, ◌≤◌, Result, Ok, Err, List, fold, take, ℤ}
 use Rattle.c_ast.specs.declared.program.Resolved.{Resolved}
 use Rattle.c_refute.specs.Counted.{counted}
 use Rattle.c_refute.specs.Ends.{EndsBy}
@@ -39,22 +39,23 @@ Sinks rests back run (Ok (sunk.On p)) k left = run left ≡ at rests p k left
 Sinks rests back run (Ok (sunk.Back x)) k left = run left ≡ back x k left
 Sinks rests back run (Err e) k left = EndsBy e (run left)
 
--- where a step led: what follows is what the run comes to
-abbrev pub Steps : Resolved → List Op → Run ℤ → Result Reached Stop → List Caller → Kept → ℕ →
+-- where a step from the position `here` led: what follows is what the run comes to; what is not lower
+-- is lost
+abbrev pub Steps : ℕ → Resolved → List Op → Run ℤ → Result Reached Stop → List Caller → Kept → ℕ →
     Type 0
-Steps program ops run (Ok (reached.On p)) callers k left =
-    run ≡ machine_run program ops callers p k left
-Steps program ops run (Ok (reached.Round p)) callers k left =
+Steps here program ops run (Ok (reached.On p)) callers k left =
+    run ≡ code_run (counted program) (back_to (counted program) ops callers) (take here ops) p k left
+Steps here program ops run (Ok (reached.Round p)) callers k left =
     run ≡ machine_run program ops callers p k (left - 1)
-Steps program ops run (Ok (reached.Back p)) callers k left =
+Steps here program ops run (Ok (reached.Back p)) callers k left =
     run ≡ machine_run program ops callers p k left
-Steps program ops run (Ok (reached.Ended x)) callers k left = run ≡ Value x left
-Steps program ops run (Err e) callers k left = EndsBy e run
+Steps here program ops run (Ok (reached.Ended x)) callers k left = run ≡ Value x left
+Steps here program ops run (Err e) callers k left = EndsBy e run
 
--- a step goes on at a lower position, takes a round, or goes back to a caller
+-- a step from code of this size goes on, takes a round, or goes back to a caller
 abbrev pub Falls : ℕ → Result Reached Stop → ℕ → ℕ → ℕ → Type 0
-Falls p (Ok (reached.On q)) old new left = (q < p) × (new ≡ old)
-Falls p (Ok (reached.Round q)) old new left = (0 < left) × (new ≤ old + 1)
-Falls p (Ok (reached.Back q)) old new left = new + 1 ≡ old
-Falls p (Ok (reached.Ended x)) old new left = Unit {0}
-Falls p (Err e) old new left = Unit {0}
+Falls size (Ok (reached.On q)) old new left = new ≡ old
+Falls size (Ok (reached.Round q)) old new left = (0 < left) × (new ≤ old + 1) × (q < size)
+Falls size (Ok (reached.Back q)) old new left = new + 1 ≡ old
+Falls size (Ok (reached.Ended x)) old new left = Unit {0}
+Falls size (Err e) old new left = Unit {0}

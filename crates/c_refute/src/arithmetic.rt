@@ -1,5 +1,6 @@
 //! Operators on numbers of `i128`.
-ghost use Rattle.std.specs.Prelude.{◌≡◌, true, false, IfSome, SomeIff, Some, ◌+ℤ◌, ◌-ℤ◌, ◌*ℤ◌, neg_ℤ, int_div, int_rem, ℤ};
+ghost use Rattle.std.specs.Prelude.{◌≡◌, true, false, IfSome, SomeIff, Some, pos, ◌^◌, ◌≤ℤ◌, ◌<ℤ◌, ◌+ℤ◌, ◌-ℤ◌, ◌*ℤ◌, neg_ℤ, int_div, int_rem, ℤ};
+ghost use Rattle.std.specs.Bool.{OnTrue};
 ghost use Rattle.c_ast.specs.declared.expr.BinOp.TheVariants.{Div, Rem};
 ghost use Rattle.c_meaning.specs.Expressions.{is_zero, truth};
 ghost use Rattle.c_refute.specs.Expressions.{apply, unary};
@@ -33,12 +34,25 @@ fn negative(x: i128) -> Option<i128>
     x.checked_neg()
 }
 
+/// Whether the number is from -2^126 to 2^126 - 1, so that a sum or difference of two such numbers
+/// is one of `i128`.
+#[inline(always)]
+fn is_moderate(x: i128) -> bool
+    ensures { OnTrue result ((neg_ℤ (pos (2 ^ 126)) ≤ℤ x) × (x <ℤ pos (2 ^ 126))) }
+{
+    -0x4000_0000_0000_0000_0000_0000_0000_0000 <= x && x < 0x4000_0000_0000_0000_0000_0000_0000_0000
+}
+
 /// The sum; None where it leaves `i128`.
 #[inline(always)]
 fn sum(x: i128, y: i128) -> Option<i128>
     ensures { SomeIff result (fits_i128 (x +ℤ y) ≡ true) (x +ℤ y) }
 {
-    x.checked_add(y)
+    if is_moderate(x) && is_moderate(y) {
+        Some(x + y)
+    } else {
+        x.checked_add(y)
+    }
 }
 
 /// The difference; None where it leaves `i128`.
@@ -46,18 +60,22 @@ fn sum(x: i128, y: i128) -> Option<i128>
 fn difference(x: i128, y: i128) -> Option<i128>
     ensures { SomeIff result (fits_i128 (x -ℤ y) ≡ true) (x -ℤ y) }
 {
-    x.checked_sub(y)
+    if is_moderate(x) && is_moderate(y) {
+        Some(x - y)
+    } else {
+        x.checked_sub(y)
+    }
 }
 
-/// The product, if both numbers and it are of 64 bits, as most are: it takes one instruction.
+/// The product, if both numbers are of 64 bits, as most are: it takes one instruction.
 #[inline(always)]
-fn small_product(x: i128, y: i128) -> Option<i64>
+fn small_product(x: i128, y: i128) -> Option<i128>
     ensures { IfSome result (λ product. product ≡ x *ℤ y) }
 {
     let (Ok(a), Ok(b)) = (i64::try_from(x), i64::try_from(y)) else {
         return None;
     };
-    a.checked_mul(b)
+    Some(i128::from(a) * i128::from(b))
 }
 
 /// The product; None where it leaves `i128`.
@@ -66,7 +84,7 @@ fn product(x: i128, y: i128) -> Option<i128>
     ensures { SomeIff result (fits_i128 (x *ℤ y) ≡ true) (x *ℤ y) }
 {
     match small_product(x, y) {
-        Some(small) => Some(i128::from(small)),
+        Some(small) => Some(small),
         None => x.checked_mul(y),
     }
 }

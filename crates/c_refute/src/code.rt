@@ -88,6 +88,33 @@ pub(crate) enum Op<'a> {
     Test(Inner, usize, usize),
     /// An operator between two leaves is made: the value is the new one of a slot.
     Set(Inner, u32, usize),
+    /// It goes on at the first position where the first slot's value is less than the second's, and
+    /// else at the second.
+    LessSlot(u32, u32, usize, usize),
+    /// The same for a slot's value and an integer.
+    LessLiteral(u32, i64, usize, usize),
+    /// The same for an integer and a slot's value.
+    LiteralLess(i64, u32, usize, usize),
+    /// An integer is added to the value of a slot.
+    Raise(u32, i64, usize),
+    /// The sum of the values of the first two slots is the new value of the third.
+    Add(u32, u32, u32, usize),
+    /// The sum of the values of the first three slots is the new value of the fourth.
+    AddThree(u32, u32, u32, u32, usize),
+    /// The sum of the first slot's value and an integer times the second's is the new value of the
+    /// third.
+    AddTimes(u32, i64, u32, u32, usize),
+    /// An operator between what an inner one gives and a leaf is made: the value is the new one of
+    /// a slot.
+    SetLeft(BinOp, Inner, Leaf, u32, usize),
+    /// An operator between the first slot's value and what an inner one gives is made: the value is
+    /// the new one of the second.
+    SetRight(BinOp, u32, Inner, u32, usize),
+    /// An operator between two leaves is made: the value is pushed.
+    PushInner(Inner, usize),
+    /// An operator between two operands is made: the value goes to the caller, with that many
+    /// scopes fewer.
+    Give(BinOp, Operand, Operand, usize),
     /// A call of the function at this place, with that many arguments from the top of the values;
     /// then it goes on at the position.
     Call(u32, usize, usize),

@@ -4,9 +4,12 @@ ghost use Rattle.std.specs.Prelude.{◌≡◌, ◌<◌, ◌++◌, ◌∷◌, ℤ
 ghost use Rattle.std.specs.Bool.{OnTrue};
 ghost use Rattle.c_refute.specs.Flat as spec;
 ghost use Rattle.c_refute.specs.Expressions.{short_circuit};
-ghost use Rattle.c_refute.specs.declared.code.Op.TheVariants as op;
+ghost use Rattle.c_ast.specs.declared.expr.BinOp.TheVariants as binary;
+ghost use Rattle.c_refute.specs.declared.code.Leaf.TheVariants as leaf;
+ghost use Rattle.c_refute.specs.declared.code.Operand.TheVariants as operand;
+ghost use Rattle.c_refute.specs.declared.code.Sink.TheVariants as sink;
 ghost use Rattle.c_refute.specs.declared.code.Work.TheVariants as work;
-ghost use Rattle.c_refute.specs.Flat.{op_to, rests, IsInner, IsLeaf, Leads, Makes, SinkWithin, TopLeads, arguments_run, expr_run, operand_run, right_run};
+ghost use Rattle.c_refute.specs.Flat.{do_to, less_to, rests, IsInner, IsLeaf, IsOp, Leads, Makes, SinkWithin, TopLeads, arguments_run, expr_run, operand_run, right_run};
 
 use crate::code::{Inner, Leaf, Op, Operand, Sink, Work};
 use c_ast::{BinOp, Expr};
@@ -59,6 +62,26 @@ fn is_strict(op: BinOp) -> bool
     }
 }
 
+/// Whether an operator is `+`.
+fn is_sum(op: BinOp) -> bool
+    ensures { OnTrue result (op ≡ binary.Add) }
+{
+    match op {
+        BinOp::Add => true,
+        _ => false,
+    }
+}
+
+/// Whether an operator is `*`.
+fn is_product(op: BinOp) -> bool
+    ensures { OnTrue result (op ≡ binary.Mul) }
+{
+    match op {
+        BinOp::Mul => true,
+        _ => false,
+    }
+}
+
 /// The operator between two leaves that an expression is, if it is one.
 fn inner_of(e: &Expr) -> Option<Inner>
     ensures { IfSome result (λ inner. IsInner e.now inner) }
@@ -75,27 +98,220 @@ fn inner_of(e: &Expr) -> Option<Inner>
     Some(Inner { op, left, right })
 }
 
-/// Adds the op of an operator between two leaves, for which the most frequent sinks have their own.
-fn emit_inner(ops: &mut Vec<Op<'_>>, inner: Inner, sink: Sink) -> Result<usize, NoMemory>
-    ensures { IfOk result (λ p. Leads ops.old.items ops.new.items p (λ calls back.
-        op_to calls back (rests calls back ops.old.items) (op.Do (work.Alone inner) sink))) }
+/// The op that compares two leaves, if it has its own.
+fn less_op<'a>(x: Leaf, y: Leaf, less: usize, other: usize) -> Option<Op<'a>>
+    ensures { IfSome result (λ o. IsOp o (λ calls back rests. less_to rests x y less other)) }
+{
+    match x {
+        Leaf::Slot(a) => match y {
+            Leaf::Slot(b) => Some(Op::LessSlot(a, b, less, other)),
+            Leaf::Constant(c) => Some(Op::LessLiteral(a, c, less, other)),
+        },
+        Leaf::Constant(c) => match y {
+            Leaf::Slot(a) => Some(Op::LiteralLess(c, a, less, other)),
+            Leaf::Constant(_) => None,
+        },
+    }
+}
+
+/// The op of a test by `<`, `<=`, `>` or `>=`, if it has its own.
+fn order_op<'a>(inner: Inner, zero: usize, other: usize) -> Option<Op<'a>>
+    ensures { IfSome result (λ o. IsOp o (λ calls back rests.
+        do_to rests back (work.Alone inner) (sink.Branch zero other))) }
+{
+    match inner.op {
+        BinOp::Lt => less_op(inner.left, inner.right, other, zero),
+        BinOp::Ge => less_op(inner.left, inner.right, zero, other),
+        BinOp::Gt => less_op(inner.right, inner.left, other, zero),
+        BinOp::Le => less_op(inner.right, inner.left, zero, other),
+        _ => None,
+    }
+}
+
+/// The op of a test.
+fn test_op<'a>(inner: Inner, zero: usize, other: usize) -> Op<'a>
+    ensures { IsOp result (λ calls back rests.
+        do_to rests back (work.Alone inner) (sink.Branch zero other)) }
+{
+    match order_op(inner, zero, other) {
+        Some(op) => op,
+        None => Op::Test(inner, zero, other),
+    }
+}
+
+/// The op of `+` between a slot's value and a leaf's, which is the new value of a slot, if it has
+/// its own.
+fn add_op<'a>(a: u32, y: Leaf, at: u32, next: usize) -> Option<Op<'a>>
+    ensures { IfSome result (λ o. IsOp o (λ calls back rests. do_to rests back
+        (work.Alone (record { op = binary.Add; left = leaf.Slot a; right = y }))
+        (sink.Assign at next))) }
+{
+    match y {
+        Leaf::Slot(b) => Some(Op::Add(a, b, at, next)),
+        Leaf::Constant(c) => {
+            if a != at {
+                return None;
+            }
+            Some(Op::Raise(a, c, next))
+        }
+    }
+}
+
+/// The op of `-` between a slot's value and a leaf's, which is the new value of a slot, if it has
+/// its own.
+fn sub_op<'a>(a: u32, y: Leaf, at: u32, next: usize) -> Option<Op<'a>>
+    ensures { IfSome result (λ o. IsOp o (λ calls back rests. do_to rests back
+        (work.Alone (record { op = binary.Sub; left = leaf.Slot a; right = y }))
+        (sink.Assign at next))) }
+{
+    match y {
+        Leaf::Slot(_) => None,
+        Leaf::Constant(c) => {
+            if a != at || c < 0 {
+                return None;
+            }
+            Some(Op::Raise(a, -c, next))
+        }
+    }
+}
+
+/// The op of a sum or a difference that is the new value of a slot, if it has its own.
+fn sum_op<'a>(inner: Inner, at: u32, next: usize) -> Option<Op<'a>>
+    ensures { IfSome result (λ o. IsOp o (λ calls back rests.
+        do_to rests back (work.Alone inner) (sink.Assign at next))) }
+{
+    let Inner { op, left, right } = inner;
+    let Leaf::Slot(a) = left else {
+        return None;
+    };
+    match op {
+        BinOp::Add => add_op(a, right, at, next),
+        BinOp::Sub => sub_op(a, right, at, next),
+        _ => None,
+    }
+}
+
+/// The op of an operator between two leaves that is the new value of a slot.
+fn set_op<'a>(inner: Inner, at: u32, next: usize) -> Op<'a>
+    ensures { IsOp result (λ calls back rests.
+        do_to rests back (work.Alone inner) (sink.Assign at next)) }
+{
+    match sum_op(inner, at, next) {
+        Some(op) => op,
+        None => Op::Set(inner, at, next),
+    }
+}
+
+/// The op of the sum of three slots' values, which is the new value of a slot, if it is one.
+fn three_op<'a>(op: BinOp, inner: Inner, b: Leaf, at: u32, next: usize) -> Option<Op<'a>>
+    ensures { IfSome result (λ o. IsOp o (λ calls back rests.
+        do_to rests back (work.Left op inner b) (sink.Assign at next))) }
+{
+    let Inner {
+        op: first,
+        left,
+        right,
+    } = inner;
+    let Leaf::Slot(x) = left else {
+        return None;
+    };
+    let Leaf::Slot(y) = right else {
+        return None;
+    };
+    let Leaf::Slot(z) = b else {
+        return None;
+    };
+    if !is_sum(op) || !is_sum(first) {
+        return None;
+    }
+    Some(Op::AddThree(x, y, z, at, next))
+}
+
+/// The op of the sum of a slot's value and an integer times another's, which is the new value of a
+/// slot, if it is one.
+fn times_op<'a>(op: BinOp, a: u32, inner: Inner, at: u32, next: usize) -> Option<Op<'a>>
+    ensures { IfSome result (λ o. IsOp o (λ calls back rests.
+        do_to rests back (work.Right op (operand.Slot a) inner) (sink.Assign at next))) }
+{
+    let Inner {
+        op: first,
+        left,
+        right,
+    } = inner;
+    let Leaf::Constant(c) = left else {
+        return None;
+    };
+    let Leaf::Slot(b) = right else {
+        return None;
+    };
+    if !is_sum(op) || !is_product(first) {
+        return None;
+    }
+    Some(Op::AddTimes(a, c, b, at, next))
+}
+
+/// The op of an operator on an inner one, which is the new value of a slot.
+fn left_op<'a>(op: BinOp, inner: Inner, b: Leaf, at: u32, next: usize) -> Op<'a>
+    ensures { IsOp result (λ calls back rests.
+        do_to rests back (work.Left op inner b) (sink.Assign at next)) }
+{
+    match three_op(op, inner, b, at, next) {
+        Some(three) => three,
+        None => Op::SetLeft(op, inner, b, at, next),
+    }
+}
+
+/// The op of an operator on a slot's value and an inner one, which is the new value of a slot.
+fn right_op<'a>(op: BinOp, a: u32, inner: Inner, at: u32, next: usize) -> Op<'a>
+    ensures { IsOp result (λ calls back rests.
+        do_to rests back (work.Right op (operand.Slot a) inner) (sink.Assign at next)) }
+{
+    match times_op(op, a, inner, at, next) {
+        Some(times) => times,
+        None => Op::SetRight(op, a, inner, at, next),
+    }
+}
+
+/// The op of a work whose value is the new one of a slot.
+fn assign_op<'a>(work: Work, at: u32, next: usize) -> Op<'a>
+    ensures { IsOp result (λ calls back rests. do_to rests back work (sink.Assign at next)) }
+{
+    match work {
+        Work::Alone(inner) => set_op(inner, at, next),
+        Work::Left(op, inner, b) => left_op(op, inner, b, at, next),
+        Work::Right(op, Operand::Slot(a), inner) => right_op(op, a, inner, at, next),
+        _ => Op::Do(work, Sink::Assign(at, next)),
+    }
+}
+
+/// The op of a work and a sink: the most frequent ones have their own.
+fn op_of<'a>(work: Work, sink: Sink) -> Op<'a>
+    ensures { IsOp result (λ calls back rests. do_to rests back work sink) }
 {
     match sink {
-        Sink::Branch(zero, other) => emit(ops, Op::Test(inner, zero, other)),
-        Sink::Assign(at, next) => emit(ops, Op::Set(inner, at, next)),
-        _ => emit(ops, Op::Do(Work::Alone(inner), sink)),
+        Sink::Branch(zero, other) => match work {
+            Work::Alone(inner) => test_op(inner, zero, other),
+            _ => Op::Do(work, sink),
+        },
+        Sink::Assign(at, next) => assign_op(work, at, next),
+        Sink::Push(next) => match work {
+            Work::Alone(inner) => Op::PushInner(inner, next),
+            _ => Op::Do(work, sink),
+        },
+        Sink::Return(scopes) => match work {
+            Work::Between(op, a, b) => Op::Give(op, a, b, scopes),
+            _ => Op::Do(work, sink),
+        },
+        Sink::Declare(_, _) => Op::Do(work, sink),
     }
 }
 
 /// Adds the op of a work and a sink.
 fn emit_work(ops: &mut Vec<Op<'_>>, work: Work, sink: Sink) -> Result<usize, NoMemory>
     ensures { IfOk result (λ p. Leads ops.old.items ops.new.items p (λ calls back.
-        op_to calls back (rests calls back ops.old.items) (op.Do work sink))) }
+        do_to (rests calls back ops.old.items) back work sink)) }
 {
-    match work {
-        Work::Alone(inner) => emit_inner(ops, inner, sink),
-        _ => emit(ops, Op::Do(work, sink)),
-    }
+    emit(ops, op_of(work, sink))
 }
 
 /// The work of an expression that is an operator between such an inner one and a leaf.
@@ -152,10 +368,10 @@ fn compile_right(
         (right_run ops.old.items sink op left b.now)) }
 {
     if let Some(inner) = inner_of(b) {
-        return emit(ops, Op::Do(Work::Right(op, left, inner), sink));
+        return emit_work(ops, Work::Right(op, left, inner), sink);
     }
     let work = Work::Between(op, left, operand_of(b));
-    let both = emit(ops, Op::Do(work, sink))?;
+    let both = emit_work(ops, work, sink)?;
     compile_operand(ops, b, both)
 }
 

@@ -4,24 +4,28 @@ ghost use Rattle.std.specs.Option.{option_copied};
 ghost use Rattle.c_ast.specs.declared.program.Resolved.{Resolved};
 ghost use Rattle.c_refute.specs.Counted.{counted, counted_expr, outcome_of};
 ghost use Rattle.c_refute.specs.Ends.{Ends, GivesNumber};
-ghost use Rattle.c_refute.specs.Flat.{Back, IsCode, Rest, code_run, inner_run, kept_after, made, op_to, rests, sink_to};
+ghost use Rattle.c_ast.specs.declared.expr.BinOp.TheVariants as binary;
+ghost use Rattle.c_refute.specs.Flat.{Back, IsCode, Rest, between, inner_run, kept_after, made, op_to, rests, sink_to, three, times};
 ghost use Rattle.c_refute.specs.Machines.{Falls, Sinks, Steps, back_to, machine_run};
 ghost use Rattle.c_refute.specs.Points.{precondition_at};
 ghost use Rattle.c_refute.specs.Runs.{Run};
 ghost use Rattle.c_refute.specs.Stores.{Kept};
 ghost use Rattle.c_refute.specs.declared.code.Op.{Op};
 ghost use Rattle.c_refute.specs.declared.code.Op.TheVariants as op;
+ghost use Rattle.c_refute.specs.declared.code.Leaf.TheVariants as leaf;
+ghost use Rattle.c_refute.specs.declared.code.Operand.TheVariants as operand;
+ghost use Rattle.c_refute.specs.declared.code.Work.TheVariants as work;
 ghost use Rattle.c_refute.specs.declared.machine.Caller.{Caller};
 ghost use Rattle.c_refute.specs.declared.machine.Reached.TheVariants as reached;
 ghost use Rattle.c_refute.specs.declared.stop.Stop.TheVariants as stop;
 
 use crate::arithmetic::{apply_binary, apply_unary, is_zero};
-use crate::code::{Code, Inner, Op, Sink, Work};
+use crate::code::{Code, Inner, Leaf, Op, Operand, Sink, Work};
 use crate::compiling::compile;
 use crate::outcomes::Outcome;
 use crate::stop::Stop;
 use crate::store::Store;
-use c_ast::{Expr, Resolved};
+use c_ast::{BinOp, Expr, Resolved};
 use rx_plain::NoMemory;
 use std::alloc::Global;
 
@@ -72,14 +76,6 @@ fn entry_of(code: &Code<'_>, f: u32) -> Option<usize>
     }
 }
 
-/// The op at a position, if there is one.
-#[inline(always)]
-fn op_at<'c, 'a>(code: &'c Code<'a>, at: usize) -> Option<&'c Op<'a>>
-    ensures { option_copied result ≡ slice_get code.now.ops.items at }
-{
-    code.ops.as_slice().get(at)
-}
-
 /// What an operator between two leaves gives.
 #[inline(always)]
 fn inner_value(store: &Store, inner: &Inner) -> Result<i128, Stop>
@@ -88,6 +84,74 @@ fn inner_value(store: &Store, inner: &Inner) -> Result<i128, Stop>
     let x = store.leaf_value(&inner.left);
     let y = store.leaf_value(&inner.right);
     apply_binary(inner.op, x, y)
+}
+
+/// What an operator between two operands gives.
+#[inline(always)]
+fn between_value(store: &mut Store, op: &BinOp, a: &Operand, b: &Operand) -> Result<i128, Stop>
+    ensures number { GivesNumber (made (work.Between op.now a.now b.now) store.old) result }
+    ensures kept { OnOk result
+        (store.new ≡ kept_after (work.Between op.now a.now b.now) store.old) }
+{
+    let y = store.read(*b);
+    let x = store.read(*a);
+    apply_binary(*op, x, y)
+}
+
+/// What an operator between what an inner one gives and a leaf gives.
+#[inline(always)]
+fn left_value(store: &Store, op: &BinOp, inner: &Inner, b: &Leaf) -> Result<i128, Stop>
+    ensures { GivesNumber (made (work.Left op.now inner.now b.now) store.now) result }
+{
+    let x = inner_value(store, inner)?;
+    let y = store.leaf_value(b);
+    apply_binary(*op, x, y)
+}
+
+/// What an operator between a slot's value and what an inner one gives gives.
+#[inline(always)]
+fn right_value(store: &Store, op: &BinOp, slot: u32, inner: &Inner) -> Result<i128, Stop>
+    ensures { GivesNumber (made (work.Right op.now (operand.Slot slot) inner.now) store.now) result }
+{
+    let y = inner_value(store, inner)?;
+    let x = store.value_at(slot);
+    apply_binary(*op, x, y)
+}
+
+/// The sum of a slot's value and a leaf's.
+#[inline(always)]
+fn sum_value(store: &Store, a: u32, y: &Leaf) -> Result<i128, Stop>
+    ensures { GivesNumber (made (between binary.Add (leaf.Slot a) y.now) store.now) result }
+{
+    let x = store.value_at(a);
+    let y = store.leaf_value(y);
+    apply_binary(BinOp::Add, x, y)
+}
+
+/// The sum of the values of three slots.
+#[inline(always)]
+fn three_value(store: &Store, a: u32, b: u32, c: u32) -> Result<i128, Stop>
+    ensures { GivesNumber (made (three a b c) store.now) result }
+{
+    let inner = Inner {
+        op: BinOp::Add,
+        left: Leaf::Slot(a),
+        right: Leaf::Slot(b),
+    };
+    left_value(store, &BinOp::Add, &inner, &Leaf::Slot(c))
+}
+
+/// The sum of a slot's value and an integer times another's.
+#[inline(always)]
+fn times_value(store: &Store, a: u32, c: i64, b: u32) -> Result<i128, Stop>
+    ensures { GivesNumber (made (times a c b) store.now) result }
+{
+    let inner = Inner {
+        op: BinOp::Mul,
+        left: Leaf::Constant(c),
+        right: Leaf::Slot(b),
+    };
+    right_value(store, &BinOp::Add, a, &inner)
 }
 
 /// Makes a value.
@@ -102,17 +166,9 @@ fn value_of(store: &mut Store, work: &Work) -> Result<i128, Stop>
             let x = store.read(*a);
             apply_unary(*op, x)
         }
-        Work::Between(op, a, b) => {
-            let y = store.read(*b);
-            let x = store.read(*a);
-            apply_binary(*op, x, y)
-        }
+        Work::Between(op, a, b) => between_value(store, op, a, b),
         Work::Alone(inner) => inner_value(store, inner),
-        Work::Left(op, inner, b) => {
-            let x = inner_value(store, inner)?;
-            let y = store.leaf_value(b);
-            apply_binary(*op, x, y)
-        }
+        Work::Left(op, inner, b) => left_value(store, op, inner, b),
         Work::Right(op, a, inner) => {
             let y = inner_value(store, inner)?;
             let x = store.read(*a);
@@ -167,10 +223,9 @@ impl Machine {
     #[inline(always)]
     fn go_back(&mut self, x: i128) -> Result<Reached, Stop>
         ensures steps { (program : Resolved) (ops : List Op) (left : ℕ) →
-            Steps program ops (back_to (counted program) ops self.old.callers.items x self.old.store
-            left)
-            result self.new.callers.items self.new.store left }
-        ensures falls { (at left : ℕ) → Falls at result (length self.old.callers.items)
+            (at : ℕ) → Steps at program ops (back_to (counted program) ops self.old.callers.items x
+            self.old.store left) result self.new.callers.items self.new.store left }
+        ensures falls { (size left : ℕ) → Falls size result (length self.old.callers.items)
             (length self.new.callers.items) left }
     {
         let Some(caller) = self.callers.pop() else {
@@ -181,21 +236,19 @@ impl Machine {
         Ok(Reached::Back(caller.next))
     }
 
-    /// Makes a value, and does something with it.
+    /// Does something with a value.
     #[inline(always)]
-    fn make(&mut self, work: &Work, sink: &Sink, at: usize) -> Result<Reached, Stop>
-        ensures steps { (program : Resolved) (ops : List Op) (left : ℕ) → Steps program ops
-            (op_to (counted program) (back_to (counted program) ops self.old.callers.items)
-            (rests (counted program) (back_to (counted program) ops self.old.callers.items)
-            (take at ops))
-            (op.Do work.now sink.now) self.old.store left) result self.new.callers.items
-            self.new.store left }
-        ensures falls { (left : ℕ) → Falls at result (length self.old.callers.items)
+    fn give(&mut self, x: i128, sink: &Sink) -> Result<Reached, Stop>
+        ensures steps { (program : Resolved) (ops : List Op) (at left : ℕ) → Steps at program ops
+            (sink_to (rests (counted program)
+            (back_to (counted program) ops self.old.callers.items) (take at ops))
+            (back_to (counted program) ops self.old.callers.items) sink.now self.old.store x left)
+            result self.new.callers.items self.new.store left }
+        ensures falls { (size left : ℕ) → Falls size result (length self.old.callers.items)
             (length self.new.callers.items) left }
     {
-        let x = value_of(&mut self.store, work)?;
         match sink_value(&mut self.store, sink, x)? {
-            Sunk::On(next) => go_on(next, at),
+            Sunk::On(next) => Ok(Reached::On(next)),
             Sunk::Back(x) => self.go_back(x),
         }
     }
@@ -212,13 +265,13 @@ impl Machine {
         left: u32,
     ) -> Result<Reached, Stop>
         requires { IsCode code.now }
-        ensures steps { Steps code.now.program.now code.now.ops.items
+        ensures steps { Steps at code.now.program.now code.now.ops.items
             (op_to (counted code.now.program.now) (back_to (counted code.now.program.now)
             code.now.ops.items self.old.callers.items) (rests (counted code.now.program.now)
             (back_to (counted code.now.program.now) code.now.ops.items self.old.callers.items)
             (take at code.now.ops.items)) (op.Call f count next) self.old.store left)
             result self.new.callers.items self.new.store left }
-        ensures falls { Falls at result (length self.old.callers.items)
+        ensures falls { Falls (length code.now.ops.items) result (length self.old.callers.items)
             (length self.new.callers.items) left }
     {
         if left == 0 {
@@ -244,29 +297,84 @@ impl Machine {
     ) -> Result<Reached, Stop>
         requires code { IsCode code.now }
         requires found { slice_get code.now.ops.items at ≡ Some op.now }
-        ensures steps { Steps code.now.program.now code.now.ops.items (machine_run
+        ensures steps { Steps at code.now.program.now code.now.ops.items (machine_run
             code.now.program.now code.now.ops.items self.old.callers.items at self.old.store left)
             result self.new.callers.items self.new.store left }
-        ensures falls { Falls at result (length self.old.callers.items)
+        ensures falls { Falls (length code.now.ops.items) result (length self.old.callers.items)
             (length self.new.callers.items) left }
     {
         match op {
-            Op::Do(work, sink) => self.make(work, sink, at),
+            Op::Do(work, sink) => {
+                let x = value_of(&mut self.store, work)?;
+                self.give(x, sink)
+            }
             Op::Test(inner, zero, other) => {
-                self.make(&Work::Alone(*inner), &Sink::Branch(*zero, *other), at)
+                let x = inner_value(&self.store, inner)?;
+                self.give(x, &Sink::Branch(*zero, *other))
             }
             Op::Set(inner, slot, next) => {
-                self.make(&Work::Alone(*inner), &Sink::Assign(*slot, *next), at)
+                let x = inner_value(&self.store, inner)?;
+                self.give(x, &Sink::Assign(*slot, *next))
+            }
+            Op::LessSlot(a, b, less, other) => {
+                let x = Leaf::Slot(*a);
+                let y = Leaf::Slot(*b);
+                let next = self.store.compare(&x, &y, *less, *other);
+                Ok(Reached::On(next))
+            }
+            Op::LessLiteral(a, c, less, other) => {
+                let x = Leaf::Slot(*a);
+                let y = Leaf::Constant(*c);
+                let next = self.store.compare(&x, &y, *less, *other);
+                Ok(Reached::On(next))
+            }
+            Op::LiteralLess(c, a, less, other) => {
+                let x = Leaf::Constant(*c);
+                let y = Leaf::Slot(*a);
+                let next = self.store.compare(&x, &y, *less, *other);
+                Ok(Reached::On(next))
+            }
+            Op::Raise(slot, c, next) => {
+                let x = sum_value(&self.store, *slot, &Leaf::Constant(*c))?;
+                self.give(x, &Sink::Assign(*slot, *next))
+            }
+            Op::Add(a, b, slot, next) => {
+                let x = sum_value(&self.store, *a, &Leaf::Slot(*b))?;
+                self.give(x, &Sink::Assign(*slot, *next))
+            }
+            Op::AddThree(a, b, c, slot, next) => {
+                let x = three_value(&self.store, *a, *b, *c)?;
+                self.give(x, &Sink::Assign(*slot, *next))
+            }
+            Op::AddTimes(a, c, b, slot, next) => {
+                let x = times_value(&self.store, *a, *c, *b)?;
+                self.give(x, &Sink::Assign(*slot, *next))
+            }
+            Op::SetLeft(op, inner, leaf, slot, next) => {
+                let x = left_value(&self.store, op, inner, leaf)?;
+                self.give(x, &Sink::Assign(*slot, *next))
+            }
+            Op::SetRight(op, a, inner, slot, next) => {
+                let x = right_value(&self.store, op, *a, inner)?;
+                self.give(x, &Sink::Assign(*slot, *next))
+            }
+            Op::PushInner(inner, next) => {
+                let x = inner_value(&self.store, inner)?;
+                self.give(x, &Sink::Push(*next))
+            }
+            Op::Give(op, a, b, scopes) => {
+                let x = between_value(&mut self.store, op, a, b)?;
+                self.give(x, &Sink::Return(*scopes))
             }
             Op::Call(f, count, next) => self.invoke(code, *f, *count, *next, at, left),
             Op::Turn(_, _, begin) => begin_turn(*begin, left),
             Op::Enter(next) => {
                 self.store.enter()?;
-                go_on(*next, at)
+                Ok(Reached::On(*next))
             }
             Op::Leave(next) => {
                 self.store.leave();
-                go_on(*next, at)
+                Ok(Reached::On(*next))
             }
         }
     }
@@ -277,19 +385,30 @@ impl Machine {
         ensures { Ends (machine_run code.now.program.now code.now.ops.items
             self.old.callers.items start self.old.store rounds) result }
     {
+        let ops = code.ops.as_slice();
+        if ops.len() <= start {
+            return Err(Stop::More);
+        }
         let mut at = start;
         let mut left = rounds;
         'steps: loop {
-            let Some(op) = op_at(code, at) else {
-                return Err(Stop::More);
-            };
-            match self.advance(code, op, at, left)? {
-                Reached::On(next) => at = next,
+            match self.advance(code, &ops[at], at, left)? {
+                Reached::On(next) => {
+                    if at <= next {
+                        return Err(Stop::More);
+                    }
+                    at = next;
+                }
                 Reached::Round(next) => {
                     at = next;
                     left -= 1;
                 }
-                Reached::Back(next) => at = next,
+                Reached::Back(next) => {
+                    if ops.len() <= next {
+                        return Err(Stop::More);
+                    }
+                    at = next;
+                }
                 Reached::Ended(x) => return Ok(x),
             }
         }
@@ -361,21 +480,6 @@ fn begin_turn(begin: usize, left: u32) -> Result<Reached, Stop>
         return Err(Stop::More);
     }
     Ok(Reached::Round(begin))
-}
-
-/// Goes on at a position, which has to be lower.
-#[inline(always)]
-fn go_on(next: usize, at: usize) -> Result<Reached, Stop>
-    ensures steps { (program : Resolved) (ops : List Op) (callers : List Caller) (k : Kept)
-        (left : ℕ) → Steps program ops (code_run (counted program)
-        (back_to (counted program) ops callers) (take at ops) next k left) result callers k left }
-    ensures falls { (callers left : ℕ) → Falls at result callers callers left }
-{
-    if next < at {
-        Ok(Reached::On(next))
-    } else {
-        Err(Stop::More)
-    }
 }
 
 /// The outcome of a run.

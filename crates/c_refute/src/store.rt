@@ -1,6 +1,6 @@
 //! What a run keeps: the slots of all functions that have begun, in one list, the values that wait
 //! for their operator or call, and how many slots there were as each scope began.
-ghost use Rattle.std.specs.Prelude.{◌≡◌, ◌++◌, ◌∷◌, ◌<◌, ◌≤◌, [], IfOk, OnOk, length, take, drop, reverse, slice_set};
+ghost use Rattle.std.specs.Prelude.{◌≡◌, ◌++◌, ◌∷◌, ◌<◌, ◌≤◌, [], IfOk, OnOk, length, take, drop, reverse, slice_set, int_lt, if◌then◌else◌};
 ghost use Rattle.c_meaning.specs.Expressions.{slot};
 ghost use Rattle.c_refute.specs.Flat as spec;
 ghost use Rattle.c_refute.specs.Stores.{below_top, called, ended, entered, given_back, left_scope, pushed, top, with_state, with_values};
@@ -42,6 +42,14 @@ fn put(slots: &mut Vec<i128>, at: usize, value: i128)
     ensures { slots.new.items ≡ slice_set slots.old.items at value }
 {
     slots[at] = value;
+}
+
+/// The first position where it holds, and else the second.
+#[inline(always)]
+fn either(holds: bool, first: usize, second: usize) -> usize
+    ensures { result ≡ if holds then first else second }
+{
+    if holds { first } else { second }
 }
 
 /// Adds values at the end, one by one: they are few.
@@ -180,6 +188,17 @@ impl Store {
             Leaf::Constant(value) => i128::from(*value),
             Leaf::Slot(at) => self.value_at(*at),
         }
+    }
+
+    /// Where it goes on after two leaves are compared: at `less` where the first is less.
+    #[inline(always)]
+    pub fn compare(&self, x: &Leaf, y: &Leaf, less: usize, other: usize) -> usize
+        ensures { result ≡ if int_lt (spec.leaf_value x.now self.now)
+            (spec.leaf_value y.now self.now) then less else other }
+    {
+        let x = self.leaf_value(x);
+        let y = self.leaf_value(y);
+        either(x < y, less, other)
     }
 
     /// Begins a scope.

@@ -8,9 +8,9 @@ use Rattle.c_ast.specs.declared.expr.Expr.TheVariants as syntax
 use Rattle.c_ast.specs.declared.expr.BinOp.{BinOp}
 use Rattle.c_ast.specs.declared.expr.BinOp.TheVariants.{AndAlso, OrElse}
 use Rattle.c_refute.specs.declared.code.Operand.{Operand}
-use Rattle.c_refute.specs.Flat.{op_to, rests, IsInner, Leads, Makes, operand_of, code_run, arguments_run, expr_run, operand_run, right_run}
+use Rattle.c_refute.specs.Flat.{do_to, op_to, rests, IsInner, Leads, Makes, operand_of, code_run, arguments_run, expr_run, operand_run, right_run}
 use Rattle.c_refute.specs.declared.code.Operand.TheVariants.{Constant, Slot}
-use Rattle.c_refute.specs.declared.code.Work.TheVariants.{Read, Before, Between, Right}
+use Rattle.c_refute.specs.declared.code.Work.TheVariants.{Read, Before, Right}
 use Rattle.c_refute.specs.declared.code.Inner.{Inner}
 use Rattle.c_refute.specs.declared.code.Work.{Work}
 use Rattle.c_refute.specs.declared.code.Sink.TheVariants as sink
@@ -43,31 +43,31 @@ compile_arguments-loop-i-preserved t c =
 pub compile_right-returns-in-Some : goal.compile_right-returns-in-Some
 compile_right-returns-in-Some t c =
     let old = c.args.ops.now.items in
-    let new = c.emit.new.ops.items in
+    let new = c.emit_work.new.ops.items in
     let b = c.args.b.now in
     let inner = c.in-Some.inner in
     let is = subst (λ (o : Option Inner). IfSome o (λ i. IsInner b i)) c.in-Some.is
     c.inner_of.ensures in
-    emit-then c.emit.result old new (op.Do (Right c.args.op c.args.left inner) c.args.sink)
-    (λ p. Leads old new p (right_run old c.args.sink c.args.op c.args.left b)) tt
+    if_ok-mapped c.emit_work.result (λ p. Leads old new p
+    (λ calls back. do_to (rests calls back old) back (Right c.args.op c.args.left inner)
+    c.args.sink))
+    (λ p. Leads old new p (right_run old c.args.sink c.args.op c.args.left b))
     (λ p leads. right-inner-leads old new c.args.sink c.args.op c.args.left b inner p is leads)
-    c.emit.ensures.position c.emit.ensures.added
+    c.emit_work.ensures
 
 pub compile_right-returns : goal.compile_right-returns
 compile_right-returns t c =
     let old = c.args.ops.now.items in
-    let m1 = c.emit-2.new.ops.items in
+    let m1 = c.emit_work-2.new.ops.items in
     let new = c.compile_operand.new.ops.items in
     let s = c.args.sink in
     let b = c.args.b.now in
     let both = c.in_ok-both.both in
     let o = c.operand_of.ensures in
-    let added = rw o at c.in_ok-both.ensures.added in
+    let made = rw o at c.in_ok-both.ensures in
     if_ok-mapped c.compile_operand.result (λ p. Leads m1 new p (operand_run m1 both b))
     (λ p. Leads old new p (right_run old s c.args.op c.args.left b))
-    (λ p last. right-leads old m1 new s c.args.op c.args.left b both p
-    (emitted old m1 (op.Do (Between c.args.op c.args.left (operand_of b)) s) both
-    c.in_ok-both.ensures.position added tt) last)
+    (λ p last. right-leads old m1 new s c.args.op c.args.left b both p made last)
     c.compile_operand.ensures
 
 pub compile_expr-returns-in-Some : goal.compile_expr-returns-in-Some

@@ -1,5 +1,6 @@
-use Rattle.std.proofs.Common.{◌≡◌, ◌-◌, ◌∙◌, ℕ, suc, Some, List, take, arith, ap, sym, rules}
+use Rattle.std.proofs.Common.{◌≡◌, length, ◌-◌, ◌∙◌, ℕ, suc, Some, List, take, arith, ap, sym, rules}
 use Rattle.std.specs.Prelude.{slice_get}
+use Rattle.std.proofs.Math.ListN.{length-append}
 use Rattle.std.proofs.lemmas.Option.{slice_get_within}
 use Rattle.c_refute.specs.Counted.{counted}
 use Rattle.c_refute.specs.Flat.{Back, Rest, op_to, rests, code_run}
@@ -41,3 +42,15 @@ returns-clause-steps c =
     (c.args.left - 1)) (sym backs)
     ∙ ap (λ (j : Kept). machine_run program ops c.push.new.self.items entry j (c.args.left - 1))
     (sym c.in_ok-base.ensures.kept)))
+
+pub returns-clause-falls : goal.returns-clause-falls
+returns-clause-falls c =
+    let f = c.args.f in
+    let entry = c.in-Some.entry in
+    let there : slice_get c.args.code.now.entries.items f ≡ Some entry = sym c.entry_of.ensures ∙
+    c.in-Some.is in
+    let below = slice_get_within c.args.code.now.entries.items f entry there in
+    let count = c.requires.functions.count in
+    let g = function-found c.args.code.now.program.now.functions f (omega arith) in
+    let more = ap length c.in_ok-push.ensures.items ∙ length-append c.args.self.now.callers.items _ in
+    (omega arith, omega arith, (c.requires.functions.each f entry g.0 g.1 there).within)
