@@ -1,15 +1,15 @@
 -- How many vertices a vertex reaches: equal within a component, less beyond each edge that leaves
 -- it.
-use Rattle.std.proofs.Common.{◌≡◌, ◌∙◌, ap, sym, subst, refl, arith, ℕ, zero, suc, ◌+◌, ◌<◌, ◌≤◌, Bool, true, false, cond, ◌⊎◌, inl, inr, List, [], ◌∷◌, get_or, length, set}
+use Rattle.std.proofs.Common.{◌≡◌, ◌∙◌, ap, sym, subst, refl, arith, ℕ, zero, suc, ◌+◌, ◌<◌, ◌≤◌, Bool, true, false, cond, ◌⊎◌, inl, inr, List, [], ◌∷◌, get_or, length, replicate, set}
 use Rattle.std.proofs.lemmas.Bool.{false≢true}
-use Rattle.std.proofs.lemmas.List.{length-set}
+use Rattle.std.proofs.lemmas.List.{length-replicate, length-set}
 use Rattle.std.proofs.lemmas.List.Sums.{count_by-le-length, get_or-le-sum_by, sum_by-cons}
 use Rattle.std.specs.List.{count_by}
 use Rattle.rx_graph.specs.Components.{AreComponents}
 use Rattle.rx_graph.specs.Graph.{IsClosed, IsGraphOf, IsMarked, MarksReached, One, Path, leads}
 use Rattle.rx_graph.specs.Ranked.{AreRanks, IsReachCount}
 use Rattle.rx_graph.specs.Rows.{HasEdge}
-use Rattle.rx_graph.proofs.ComponentLaws.{Joined, joined_back, joined_same, label_within, same_joined}
+use Rattle.rx_graph.proofs.ComponentLaws.{Joined, joined_back, joined_same, label_within, no_path, same_joined}
 use Rattle.rx_graph.proofs.GraphLaws.{path_behind}
 use Rattle.rx_graph.proofs.Marking.{marked_within, now_marked, still_marked, was_marked}
 use Rattle.rx_graph.proofs.RowLaws.{from_within, leads_within}
@@ -85,6 +85,42 @@ reach_counted n edges a marks count there size reached is = record {
   );
   is = is;
 }
+
+-- ---- a vertex that no edge leaves
+
+no_read : (n b : ℕ) → get_or (replicate n false) b false ≡ false
+no_read zero b = refl
+no_read (suc n) zero = refl
+no_read (suc n) (suc b) = no_read n b
+
+no_count : (n : ℕ) → marked_count (replicate n false) ≡ 0
+no_count zero = refl
+no_count (suc n) =
+    let first = first_counts false (replicate n false) in
+    let rest = no_count n in
+    omega (arith, first, rest)
+
+one_count : (n a : ℕ) → a < n → 1 ≡ marked_count (set (replicate n false) a true)
+one_count zero a there = absurd (omega (arith, there))
+one_count (suc n) zero there =
+    let first = first_counts true (replicate n false) in
+    let rest = no_count n in
+    omega (arith, first, rest)
+one_count (suc n) (suc a) there =
+    let first = first_counts false (set (replicate n false) a true) in
+    let rest = one_count n a (omega (arith, there)) in
+    omega (arith, first, rest)
+
+-- it reaches itself alone
+pub reach_itself : (n : ℕ) (edges : List (ℕ × ℕ)) (rows : List (List ℕ)) (a : ℕ) → a < n →
+    IsGraphOf n edges rows → get_or rows a [] ≡ [] → IsReachCount n edges a 1
+reach_itself n edges rows a there graph empty =
+    reach_counted n edges a (replicate n false) 1 there (length-replicate n false)
+    (λ b. (
+      λ marked. absurd (false≢true (sym (no_read n b) ∙ marked)),
+      λ path. absurd (no_path n edges rows a b graph empty path),
+    ))
+    (one_count n a there)
 
 joined_reaches : (edges : List (ℕ × ℕ)) (a b c : ℕ) → Joined edges a b → Reaches edges b c →
     Reaches edges a c

@@ -38,7 +38,7 @@ fn label_both(labels: &mut [u32], forwards: &[bool], backwards: &[bool], label: 
 
 impl Graph {
     /// Whether no edge leaves the vertex.
-    fn is_end(&self, vertex: u32) -> bool
+    pub(crate) fn is_end(&self, vertex: u32) -> bool
         requires vertex { vertex < length self.now.rows.items }
         ensures { OnTrue result (slice_index_or (rows_of self.now.rows.items) vertex [] ≡ []) }
     {

@@ -58,6 +58,9 @@ impl Graph {
             IsGraphOf (length self.now.rows.items) edges (rows_of self.now.rows.items) →
             IsReachCount (length self.now.rows.items) edges vertex count) }
     {
+        if self.is_end(vertex) {
+            return Ok(1);
+        }
         let mut marks = self.reached_from(alloc, vertex)?;
         marks[vertex as usize] = true;
         Ok(count_marked(marks.as_slice()))

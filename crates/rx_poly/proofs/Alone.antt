@@ -1,6 +1,7 @@
 -- A variable alone, replaced, is what is substituted for it, and nothing on the way passes the
 -- limits.
-use Rattle.std.proofs.Common.{◌≡◌, ◌∙◌, ap, ℕ, true, ◌&&◌, refl, sym, List, [], ◌∷◌, map, ℤ, pos}
+use Rattle.std.proofs.Common.{◌≡◌, ◌∙◌, ap, ℕ, true, false, ◌&&◌, refl, sym, List, [], ◌∷◌, map, ℤ, pos}
+use Rattle.std.proofs.lemmas.Bool.{and_left}
 use Rattle.rx_poly.specs.Constants.{number, variable}
 use Rattle.rx_poly.specs.Limits.{of_terms, of_atoms, added, is_within}
 use Rattle.rx_poly.specs.Normal.{is_poly}
@@ -9,13 +10,15 @@ use Rattle.rx_poly.specs.Substitution.{replaced, times_all, plus_all, in_atom, i
 use Rattle.rx_poly.proofs.Constants.{number-nonzero}
 use Rattle.rx_poly.proofs.Levels.{terms-of_terms, atoms-of_atoms}
 use Rattle.rx_poly.proofs.Neutral.{one, one_product, zero_sum}
-use Rattle.rx_poly.proofs.Substituting.{well, term_in, in_Var, in_mono_is, in_body_is}
+use Rattle.rx_poly.proofs.Substituting.{well, term_in, times_false, in_Var, in_mono_is, in_body_is}
+use Rattle.rx_plain.specs.Formed.{Formed}
+use Rattle.rx_poly.specs.declared.body.Atom.{Atom}
 use Rattle.rx_poly.specs.declared.body.Atom.TheVariants.{Var}
-use Rattle.rx_poly.specs.declared.body.Mono.{Mono}
+use Rattle.rx_poly.specs.declared.body.Mono.{Mono, out-Mono}
 use Rattle.rx_poly.specs.declared.body.Body.{Body, out-Body}
 
 -- the factor 1 of a monomial, times a polynomial
-one_factor : (q : Body) → is_poly q ≡ true →
+pub one_factor : (q : Body) → is_poly q ≡ true →
     record {
       form = multiplied (number (pos 1)) q;
       within = true && (true && mul_within (number (pos 1)) q);
@@ -64,3 +67,33 @@ pub replaced_alone : (ws : List (ℕ × Body)) (n : ℕ) (p : Body) {q : Body} �
     replaced ws n → is_poly q ≡ true → in_body ws p ≡ well q
 replaced_alone ws n p e r h =
     ap (in_body ws) e ∙ alone ws n (ap is_poly (sym r) ∙ h) ∙ ap well (sym r)
+
+-- what is formed of the first atom of a monomial with the coefficient 1, times the others
+module _ (ws : List (ℕ × Body)) (x : Atom) (xs : List Atom) where
+  abbrev first : Formed Body
+  first = in_atom ws x
+
+  pub first_fails : first.within ≡ false →
+      (times_all (well (number (pos 1))) (map (in_atom ws) (x ∷ xs))).within ≡ false
+  first_fails f =
+      times_false (map (in_atom ws) xs) (record {
+        form = multiplied (number (pos 1)) first.form;
+        within = true && (first.within && mul_within (number (pos 1)) first.form);
+      })
+      (and_left first.within (mul_within (number (pos 1)) first.form) f)
+
+  pub first_made : {q : Body} → q ≡ first.form → first.within ≡ true → is_poly q ≡ true →
+      times_all (well q) (map (in_atom ws) xs) ≡
+      times_all (well (number (pos 1))) (map (in_atom ws) (x ∷ xs))
+  first_made {q} e f h =
+      ap (λ (d : Formed Body). times_all d (map (in_atom ws) xs)) (sym (one_factor q h) ∙
+      (λ i. record {
+        form = multiplied (number (pos 1)) (e i);
+        within = true && (sym f i && mul_within (number (pos 1)) (e i));
+      }))
+
+  pub mono_first : (m : Mono) (k : ℤ) → (out-Mono m).atoms ≡ x ∷ xs → k ≡ pos 1 →
+      in_mono ws m k ≡ times_all (well (number (pos 1))) (map (in_atom ws) (x ∷ xs))
+  mono_first m k is one =
+      in_mono_is ws m k ∙
+      (λ i. times_all (well (number (one i))) (map (in_atom ws) (is i)))

@@ -64,7 +64,7 @@ module _ (ws : List (ℕ × Body)) where
       (body_substituted ws) (mono_substituted ws) b
 
 -- what has passed the limits stays so
-times_false : (xs : List (Formed Body)) (done : Formed Body) → done.within ≡ false →
+pub times_false : (xs : List (Formed Body)) (done : Formed Body) → done.within ≡ false →
     (times_all done xs).within ≡ false
 times_false [] done h = h
 times_false (x ∷ xs) done h =

@@ -1,9 +1,9 @@
 //! Polynomials substituted for variables.
-ghost use Rattle.std.specs.Prelude.{◌≡◌, slice_get, ◌*ℤ◌, ℕ, ℤ, IfOk, IfSome, MatchOption};
+ghost use Rattle.std.specs.Prelude.{◌≡◌, map, slice_get, ◌*ℤ◌, ℕ, ℤ, IfOk, IfSome, MatchOption};
 ghost use Rattle.std.specs.Bool.{OnTrue};
 ghost use Rattle.std.specs.Option.{option_copied};
 ghost use Rattle.rx_plain.specs.Formed.{Forms, pure};
-ghost use Rattle.rx_poly.specs.Substitution.{in_atom, in_mono, in_body, numbered, replaced, worth};
+ghost use Rattle.rx_poly.specs.Substitution.{in_atom, in_mono, in_body, numbered, replaced, times_all, worth};
 ghost use Rattle.rx_poly.specs.Constants.{variable};
 ghost use Rattle.rx_poly.specs.Products.{product_formed};
 ghost use Rattle.rx_poly.specs.Replacements.{replacements, stay};
@@ -155,18 +155,40 @@ fn times(alloc: Global, product: Poly, factor: Poly) -> Result<Poly, PolyEnd>
     product.mul(alloc, &factor)
 }
 
+/// The product, times each of the atoms with its variables replaced, in order.
+#[cycle(substituted)]
+fn times_atoms(
+    alloc: Global,
+    start: Poly,
+    atoms: &[Atom],
+    with: Replacements,
+) -> Result<Poly, PolyEnd>
+    ensures forms { Forms PolyEnd.Large result
+        (times_all (pure start) (map (in_atom (replacements with.entry)) atoms.now)) }
+{
+    let mut product = start;
+    for atom in atoms {
+        let factor = atom_with(alloc, atom, with)?;
+        product = times(alloc, product, factor)?;
+    }
+    Ok(product)
+}
+
 /// The number times the monomial with its variables replaced.
 #[cycle(substituted)]
 fn mono_with(alloc: Global, mono: &Mono, by: &i128, with: Replacements) -> Result<Poly, PolyEnd>
     ensures forms { Forms PolyEnd.Large result (in_mono (replacements with.entry) mono.now by.now) }
 {
-    let start = of_number(alloc, by)?;
-    let mut product = start;
-    for atom in mono.atoms.as_slice() {
-        let factor = atom_with(alloc, atom, with)?;
-        product = times(alloc, product, factor)?;
+    let atoms = mono.atoms.as_slice();
+    if *by == 1 {
+        if let Some((first, others)) = atoms.split_first() {
+            let start = atom_with(alloc, first, with)?;
+            let _ = start.as_normal();
+            return times_atoms(alloc, start, others, with);
+        }
     }
-    Ok(product)
+    let start = of_number(alloc, by)?;
+    times_atoms(alloc, start, atoms, with)
 }
 
 /// The sum with its variables replaced.

@@ -1,8 +1,13 @@
 -- Each turn takes one atom or one term; what is left still makes the whole, and what passes the
 -- limits decides.
+use Rattle.std.proofs.Common.{rules, ◌≡◌, ◌∙◌, ap, pos, subst, sym}
 use Rattle.std.proofs.lemmas.Result.{err_from_is_err_and}
+use Rattle.rx_plain.specs.Formed.{Formed, Forms}
 use Rattle.rx_poly.specs.Replacements.{replacements}
-use Rattle.rx_poly.proofs.Substituting.{no_factor, no_times, after_times, no_term, no_plus, after_plus}
+use Rattle.rx_poly.specs.declared.body.Body.{Body}
+use Rattle.rx_poly.specs.declared.poly_end.PolyEnd.TheVariants.{Large}
+use Rattle.rx_poly.proofs.Alone.{first_fails, first_made, mono_first}
+use Rattle.rx_poly.proofs.Substituting.{no_factor, no_times, after_times, times_end, no_term, no_plus, after_plus}
 use Rattle.rx_poly.proofs.substitution.+substituted.Goals as goal
 
 pub body_with-returns-in_err-product : goal.body_with-returns-in_err-product
@@ -34,31 +39,65 @@ body_with-loop-term-preserved t c =
     c.in_ok-product.ensures.forms.0 c.in_ok-product.ensures.forms.1 c.in_ok-sum.ensures.forms.0
     c.in_ok-sum.ensures.forms.1
 
-pub mono_with-returns-in_err-factor : goal.mono_with-returns-in_err-factor
-mono_with-returns-in_err-factor t c =
-    let p = err_from_is_err_and c.from_residual-in_err-factor.result
-    c.from_residual-in_err-factor.ensures.1 in
+pub times_atoms-returns-in_err-factor : goal.times_atoms-returns-in_err-factor
+times_atoms-returns-in_err-factor t c =
+    let p = err_from_is_err_and c.from_residual.result
+    c.from_residual.ensures.1 in
     rw (p.1, p.2) (record {
       forms = λ h. no_factor (replacements c.args.with)
-          c.as_slice-atom-items.result.now c.loop-atom.atom-index c.loop-atom-test.true
+          c.args.atoms.now c.loop-atom.atom-index c.loop-atom-test.true
           c.atom-item.is
           c.loop-atom.invariant (c.in_err-factor.ensures.forms h);
     })
 
-pub mono_with-returns-in_err-product : goal.mono_with-returns-in_err-product
-mono_with-returns-in_err-product t c =
+pub times_atoms-returns-in_err-product : goal.times_atoms-returns-in_err-product
+times_atoms-returns-in_err-product t c =
     let p = err_from_is_err_and c.from_residual-in_err-product.result
     c.from_residual-in_err-product.ensures.1 in
     rw (p.1, p.2) (record {
       forms = λ h. no_times (replacements c.args.with)
-          c.as_slice-atom-items.result.now c.loop-atom.atom-index c.loop-atom-test.true
+          c.args.atoms.now c.loop-atom.atom-index c.loop-atom-test.true
           c.atom-item.is
           c.loop-atom.invariant c.in_ok-factor.ensures.forms.0 (c.in_err-product.ensures.forms h);
     })
 
-pub mono_with-loop-atom-preserved : goal.mono_with-loop-atom-preserved
-mono_with-loop-atom-preserved t c =
-    after_times (replacements c.args.with) c.as_slice-atom-items.result.now c.loop-atom.atom-index
+pub times_atoms-loop-atom-preserved : goal.times_atoms-loop-atom-preserved
+times_atoms-loop-atom-preserved t c =
+    after_times (replacements c.args.with) c.args.atoms.now c.loop-atom.atom-index
     c.loop-atom-test.true c.atom-item.is c.loop-atom.invariant
     c.in_ok-factor.ensures.forms.0 c.in_ok-factor.ensures.forms.1 c.in_ok-product.ensures.forms.0
     c.in_ok-product.ensures.forms.1
+
+pub times_atoms-returns : goal.times_atoms-returns
+times_atoms-returns t c =
+    let e = times_end (replacements c.args.with) c.args.atoms.now c.loop-atom.atom-index
+    c.loop-atom-test.false c.loop-atom.invariant in
+    record {
+      forms = (
+        ap (λ (w : Formed Body). w.form) e,
+        sym (ap (λ (w : Formed Body). w.within) e),
+      );
+    }
+
+pub mono_with-returns-in_err-start : goal.mono_with-returns-in_err-start
+mono_with-returns-in_err-start t c =
+    let ws = replacements c.args.with in
+    let p = err_from_is_err_and c.from_residual.result c.from_residual.ensures.1 in
+    let is = sym c.as_slice-atoms.ensures ∙ c.in-Some.ensures.cases.0 in
+    let one : c.args.by.now ≡ pos 1 = search rules in
+    rw (p.1, p.2) (record {
+      forms = λ h. ap (λ (w : Formed Body). w.within) (mono_first ws c.in-Some.first.now
+          c.in-Some.others.now c.args.mono.now c.args.by.now is one) ∙
+          first_fails ws c.in-Some.first.now c.in-Some.others.now (c.in_err-start.ensures.forms h);
+    })
+
+pub mono_with-returns-in-Some : goal.mono_with-returns-in-Some
+mono_with-returns-in-Some t c =
+    let ws = replacements c.args.with in
+    let is = sym c.as_slice-atoms.ensures ∙ c.in-Some.ensures.cases.0 in
+    let one : c.args.by.now ≡ pos 1 = search rules in
+    let made = c.in_ok-start.ensures.forms in
+    let whole = first_made ws c.in-Some.first.now c.in-Some.others.now made.0 made.1
+    c.as_normal.ensures.normal ∙ sym (mono_first ws c.in-Some.first.now c.in-Some.others.now
+    c.args.mono.now c.args.by.now is one) in
+    record { forms = subst (Forms Large c.times_atoms.result) whole c.times_atoms.ensures.forms }

@@ -1,13 +1,13 @@
-use Rattle.std.proofs.Common.{drop}
-use Rattle.rx_poly.specs.Substitution.{in_mono, in_body}
+use Rattle.std.proofs.Common.{drop, map}
+use Rattle.rx_poly.specs.Substitution.{in_atom, in_body, times_all}
 use Rattle.rx_poly.specs.Replacements.{replacements}
-use Rattle.rx_poly.proofs.Substituting.{Multiplying, Adding}
+use Rattle.rx_poly.proofs.Substituting.{well, Multiplying, Adding}
 use Rattle.rx_poly.proofs.substitution.+substituted.Given as goal
 
-abbrev pub invariant-mono_with-loop-atom : goal.invariant-mono_with-loop-atom
-invariant-mono_with-loop-atom l =
-    Multiplying (replacements l.with) l.product (drop l.atom-index l.atom-items)
-    (in_mono (replacements l.with) l.mono l.by)
+abbrev pub invariant-times_atoms-loop-atom : goal.invariant-times_atoms-loop-atom
+invariant-times_atoms-loop-atom l =
+    Multiplying (replacements l.with) l.product (drop l.atom-index l.atoms)
+    (times_all (well l.fn.start) (map (in_atom (replacements l.with)) l.atoms))
 
 abbrev pub invariant-body_with-loop-term : goal.invariant-body_with-loop-term
 invariant-body_with-loop-term l =
