@@ -4,26 +4,28 @@ use Rattle.std.proofs.Math.Seq.{drop-cons, take-length}
 use Rattle.std.proofs.lemmas.List.{take-take, length-take}
 use Rattle.std.specs.Option.{option_or}
 use Rattle.c_ast.specs.declared.stmt.Stmt.{Stmt}
-use Rattle.c_assigned.specs.Sets.{Assigned, both, meet}
-use Rattle.c_assigned.specs.Flows.{passing, joined, in_order, stmt_flow}
+use Rattle.c_assigned.specs.Sets.{Assigned, intersection, meet}
+use Rattle.c_assigned.specs.Flows.{fall_through, sequence, in_order, stmt_flow}
 use Rattle.c_assigned.specs.declared.flow.Flow.{Flow}
 
 and_assoc : (x y z : Bool) → ((x && y) && z) ≡ (x && (y && z))
 and_assoc Bool.true y z = refl
 and_assoc Bool.false y z = refl
 
-both-assoc : (xs ys zs : List Bool) → both (both xs ys) zs ≡ both xs (both ys zs)
-both-assoc [] ys zs = refl
-both-assoc (x ∷ xs) [] zs = refl
-both-assoc (x ∷ xs) (y ∷ ys) [] = refl
-both-assoc (x ∷ xs) (y ∷ ys) (z ∷ zs) = λ i. and_assoc x y z i ∷ both-assoc xs ys zs i
+intersection-assoc : (xs ys zs : List Bool) → intersection (intersection xs ys) zs ≡
+    intersection xs (intersection ys zs)
+intersection-assoc [] ys zs = refl
+intersection-assoc (x ∷ xs) [] zs = refl
+intersection-assoc (x ∷ xs) (y ∷ ys) [] = refl
+intersection-assoc (x ∷ xs) (y ∷ ys) (z ∷ zs) =
+    λ i. and_assoc x y z i ∷ intersection-assoc xs ys zs i
 
 -- the order in which ways are met doesn't matter
 pub meet-assoc : (a b c : Assigned) → meet (meet a b) c ≡ meet a (meet b c)
 meet-assoc None b c = refl
 meet-assoc (Some x) None c = refl
 meet-assoc (Some x) (Some y) None = refl
-meet-assoc (Some x) (Some y) (Some z) = ap Some (both-assoc x y z)
+meet-assoc (Some x) (Some y) (Some z) = ap Some (intersection-assoc x y z)
 
 meet-none : (a : Assigned) → meet a None ≡ a
 meet-none None = refl
@@ -37,8 +39,8 @@ or-none : (x : Option ℕ) → option_or x None ≡ x
 or-none None = refl
 or-none (Some x) = refl
 
-joined-assoc : (a b c : Flow) → joined (joined a b) c ≡ joined a (joined b c)
-joined-assoc a b c = λ i. record {
+sequence-assoc : (a b c : Flow) → sequence (sequence a b) c ≡ sequence a (sequence b c)
+sequence-assoc a b c = λ i. record {
   behind = c.behind;
   breaks = meet-assoc a.breaks b.breaks c.breaks i;
   continues = meet-assoc a.continues b.continues c.continues i;
@@ -46,9 +48,9 @@ joined-assoc a b c = λ i. record {
 }
 
 -- with nothing after it a flow is itself
-done_is : (f g : Flow) → g ≡ (passing [] f.behind None).flow → f ≡ joined f g
+done_is : (f g : Flow) → g ≡ (fall_through [] f.behind None).flow → f ≡ sequence f g
 done_is f g e =
-    sym (ap (joined f) e ∙ (λ i. record {
+    sym (ap (sequence f) e ∙ (λ i. record {
       behind = f.behind;
       breaks = meet-none f.breaks i;
       continues = meet-none f.continues i;
@@ -58,7 +60,7 @@ done_is f g e =
 -- what was seen of a list of statements, from a scope and a set: with the rest it makes the whole
 pub record Going (names scope : List ℕ) (set : Assigned) (statements : List Stmt) (now : List ℕ)
     (flow : Flow) (i : ℕ) : Type 0 where
-  pub flows : joined flow (in_order (map (stmt_flow names) (drop i statements)) now
+  pub flows : sequence flow (in_order (map (stmt_flow names) (drop i statements)) now
       flow.behind).flow ≡ (in_order (map (stmt_flow names) statements) scope set).flow
   pub scopes : (in_order (map (stmt_flow names) (drop i statements)) now flow.behind).scope ≡
       (in_order (map (stmt_flow names) statements) scope set).scope
@@ -67,7 +69,7 @@ pub record Going (names scope : List ℕ) (set : Assigned) (statements : List St
 
 -- at the start all is left
 pub going_begun : (names scope : List ℕ) (set : Assigned) (statements : List Stmt) → length scope <
-    2 ^ 32 → Going names scope set statements scope (passing scope set None).flow 0
+    2 ^ 32 → Going names scope set statements scope (fall_through scope set None).flow 0
 going_begun names scope set statements few =
     record { flows = refl; scopes = refl; kept = take-length scope; few = few }
 
@@ -78,7 +80,7 @@ module _ (names scope : List ℕ) (set : Assigned) (statements : List Stmt) (now
       (next : Flow) (further : List ℕ) → next ≡ (stmt_flow names s now flow.behind).flow → further ≡
       (stmt_flow names s now flow.behind).scope
       → take (length now) further ≡ now → length further < 2 ^ 32 → (whole : Flow) → whole ≡
-      joined flow next → Going names scope set statements further whole (i + 1)
+      sequence flow next → Going names scope set statements further whole (i + 1)
   going_on h s is next further fe se kept few whole we =
       let step : drop i statements ≡ s ∷ drop (i + 1) statements = drop-cons statements i s h ∙
       (λ k. sym is k ∷ drop (let e : suc i ≡ i + 1 = omega arith in e k) statements) in
@@ -86,13 +88,13 @@ module _ (names scope : List ℕ) (set : Assigned) (statements : List Stmt) (now
       (map (stmt_flow names) rest) from behind in
       record {
         flows =
-            (λ k. joined (we k) (way (drop (i + 1) statements) further (we k).behind).flow)
-            ∙ (λ k. joined (joined flow (fe k))
+            (λ k. sequence (we k) (way (drop (i + 1) statements) further (we k).behind).flow)
+            ∙ (λ k. sequence (sequence flow (fe k))
             (way (drop (i + 1) statements) (se k) (fe k).behind).flow)
-            ∙ joined-assoc flow (stmt_flow names s now flow.behind).flow
+            ∙ sequence-assoc flow (stmt_flow names s now flow.behind).flow
             (way (drop (i + 1) statements) (stmt_flow names s now flow.behind).scope
             (stmt_flow names s now flow.behind).flow.behind).flow
-            ∙ (λ k. joined flow (way (sym step k) now flow.behind).flow) ∙ g.flows;
+            ∙ (λ k. sequence flow (way (sym step k) now flow.behind).flow) ∙ g.flows;
         scopes =
             (λ k. (way (drop (i + 1) statements) further (we k).behind).scope) ∙
             (λ k. (way (drop (i + 1) statements) (se k) (fe k).behind).scope) ∙

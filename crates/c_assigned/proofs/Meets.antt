@@ -3,55 +3,59 @@ use Rattle.std.proofs.Common.{◌≡◌, ◌∙◌, ap, ℕ, suc, ◌+◌, ◌-�
 use Rattle.std.proofs.lemmas.List.{append-nil, take_more, length-take, length-drop}
 use Rattle.std.proofs.Math.Seq.{drop-cons, set-append_seam, get_or-append_seam, take-length}
 use Rattle.std.proofs.Common.{length-append}
-use Rattle.c_assigned.specs.Sets.{both}
+use Rattle.c_assigned.specs.Sets.{intersection}
 
-length-both : (xs ys : List Bool) → length xs ≤ length ys → length (both xs ys) ≡ length xs
-length-both [] ys h = refl
-length-both (x ∷ xs) [] h = absurd (omega arith)
-length-both (x ∷ xs) (y ∷ ys) h =
-    let rest : length (both xs ys) ≡ length xs = length-both xs ys (omega arith) in
+length-intersection : (xs ys : List Bool) → length xs ≤ length ys → length (intersection xs ys) ≡
+    length xs
+length-intersection [] ys h = refl
+length-intersection (x ∷ xs) [] h = absurd (omega arith)
+length-intersection (x ∷ xs) (y ∷ ys) h =
+    let rest : length (intersection xs ys) ≡ length xs = length-intersection xs ys (omega arith) in
     omega (arith, rest)
 
-both-last : (xs ys : List Bool) (x y : Bool) → length xs ≡ length ys →
-    both (xs ++ x ∷ []) (ys ++ y ∷ []) ≡ both xs ys ++ (x && y) ∷ []
-both-last [] [] x y e = refl
-both-last [] (v ∷ ys) x y e = absurd (omega arith)
-both-last (u ∷ xs) [] x y e = absurd (omega arith)
-both-last (u ∷ xs) (v ∷ ys) x y e = ap (λ zs. (u && v) ∷ zs) (both-last xs ys x y (omega arith))
+intersection-last : (xs ys : List Bool) (x y : Bool) → length xs ≡ length ys →
+    intersection (xs ++ x ∷ []) (ys ++ y ∷ []) ≡ intersection xs ys ++ (x && y) ∷ []
+intersection-last [] [] x y e = refl
+intersection-last [] (v ∷ ys) x y e = absurd (omega arith)
+intersection-last (u ∷ xs) [] x y e = absurd (omega arith)
+intersection-last (u ∷ xs) (v ∷ ys) x y e =
+    ap (λ zs. (u && v) ∷ zs) (intersection-last xs ys x y (omega arith))
 
 -- slots that the second hasn't are in neither
-both-cut : (xs ys : List Bool) → both (take (length ys) xs) ys ≡ both xs ys
-both-cut [] [] = refl
-both-cut [] (y ∷ ys) = refl
-both-cut (x ∷ xs) [] = refl
-both-cut (x ∷ xs) (y ∷ ys) = ap (λ zs. (x && y) ∷ zs) (both-cut xs ys)
+intersection-cut : (xs ys : List Bool) → intersection (take (length ys) xs) ys ≡ intersection xs ys
+intersection-cut [] [] = refl
+intersection-cut [] (y ∷ ys) = refl
+intersection-cut (x ∷ xs) [] = refl
+intersection-cut (x ∷ xs) (y ∷ ys) = ap (λ zs. (x && y) ∷ zs) (intersection-cut xs ys)
 
-both-short : (xs ys : List Bool) → both xs (take (length xs) ys) ≡ both xs ys
-both-short [] ys = refl
-both-short (x ∷ xs) [] = refl
-both-short (x ∷ xs) (y ∷ ys) = ap (λ zs. (x && y) ∷ zs) (both-short xs ys)
+intersection-short : (xs ys : List Bool) → intersection xs (take (length xs) ys) ≡
+    intersection xs ys
+intersection-short [] ys = refl
+intersection-short (x ∷ xs) [] = refl
+intersection-short (x ∷ xs) (y ∷ ys) = ap (λ zs. (x && y) ∷ zs) (intersection-short xs ys)
 
 -- the flags where the first i slots were met
 pub record Meeting (xs ys flags : List Bool) (i : ℕ) : Type 0 where
   pub within : i ≤ length xs
   pub shorter : length xs ≤ length ys
-  pub made : flags ≡ both (take i xs) (take i ys) ++ drop i xs
+  pub made : flags ≡ intersection (take i xs) (take i ys) ++ drop i xs
 
 taken : (xs : List Bool) (i : ℕ) → i ≤ length xs → length (take i xs) ≡ i
 taken xs i h = grind (arith, length-take)
 
 module _ (xs ys flags : List Bool) (i : ℕ) (m : Meeting xs ys flags i) where
-  done : length (both (take i xs) (take i ys)) ≡ i
+  done : length (intersection (take i xs) (take i ys)) ≡ i
   done =
       let a = taken xs i m.within in
       let b = taken ys i (omega (arith, m.within, m.shorter)) in
-      length-both (take i xs) (take i ys) (omega (arith, a, b)) ∙ a
+      length-intersection (take i xs) (take i ys) (omega (arith, a, b)) ∙ a
 
   pub as_long : length flags ≡ length xs
   as_long =
       let d = done in
-      let whole : length flags ≡ length (both (take i xs) (take i ys)) + length (drop i xs) =
-      ap length m.made ∙ length-append (both (take i xs) (take i ys)) (drop i xs) in
+      let whole : length flags ≡ length (intersection (take i xs) (take i ys)) +
+      length (drop i xs) =
+      ap length m.made ∙ length-append (intersection (take i xs) (take i ys)) (drop i xs) in
       let rest : length (drop i xs) ≡ length xs - i = length-drop i xs in
       omega (arith, d, whole, rest, m.within)
 
@@ -59,7 +63,7 @@ module _ (xs ys flags : List Bool) (i : ℕ) (m : Meeting xs ys flags i) where
   pub met_next : i < length xs → (x v : Bool) → x ≡ get_or flags i x → v ≡
       (x && get_or ys i false) → Meeting xs ys (set flags i v) (i + 1)
   met_next h x v xe ve =
-      let front = both (take i xs) (take i ys) in
+      let front = intersection (take i xs) (take i ys) in
       let here = get_or xs i x in
       let there = get_or ys i false in
       let hy : i < length ys = omega (arith, h, m.shorter) in
@@ -72,9 +76,10 @@ module _ (xs ys flags : List Bool) (i : ℕ) (m : Meeting xs ys flags i) where
       get_or-append_seam front here rest x in
       let held : x ≡ here = xe ∙ ap (λ zs. get_or zs i x) split ∙ seam in
       let value : v ≡ (here && there) = ve ∙ ap (λ u. u && there) held in
-      let both_more : both (take (i + 1) xs) (take (i + 1) ys) ≡ front ++ (here && there) ∷ [] =
-      (λ k. both (take_more xs i x h k) (take_more ys i false hy k))
-      ∙ both-last (take i xs) (take i ys) here there
+      let both_more : intersection (take (i + 1) xs) (take (i + 1) ys) ≡ front ++ (here && there) ∷
+      [] =
+      (λ k. intersection (take_more xs i x h k) (take_more ys i false hy k))
+      ∙ intersection-last (take i xs) (take i ys) here there
       (taken xs i m.within ∙ sym (taken ys i (omega (arith, m.within, m.shorter)))) in
       record {
         within = omega (arith, h);
@@ -88,13 +93,13 @@ module _ (xs ys flags : List Bool) (i : ℕ) (m : Meeting xs ys flags i) where
       }
 
   -- where all were met, the flags are those in both
-  pub met_all : length xs ≤ i → flags ≡ both xs ys
+  pub met_all : length xs ≤ i → flags ≡ intersection xs ys
   met_all h =
       let e : i ≡ length xs = omega (arith, h, m.within) in
       let all : length xs ≤ length xs = omega arith in
-      m.made ∙ (λ k. both (take (e k) xs) (take (e k) ys) ++ drop (e k) xs)
-      ∙ (λ k. both (take-length xs k) (take (length xs) ys) ++ drop_of_length-le xs all k)
-      ∙ append-nil (both xs (take (length xs) ys)) ∙ both-short xs ys
+      m.made ∙ (λ k. intersection (take (e k) xs) (take (e k) ys) ++ drop (e k) xs)
+      ∙ (λ k. intersection (take-length xs k) (take (length xs) ys) ++ drop_of_length-le xs all k)
+      ∙ append-nil (intersection xs (take (length xs) ys)) ∙ intersection-short xs ys
 
 -- at the start nothing is met
 pub met_none : (xs ys : List Bool) → Meeting (take (length ys) xs) ys (take (length ys) xs) 0
@@ -105,7 +110,7 @@ met_none xs ys = record { within = omega arith; shorter = short; made = refl }
 
 -- and at the end the slots of both are found
 pub met_both : (xs ys flags : List Bool) (i : ℕ) → Meeting (take (length ys) xs) ys flags i →
-    length flags ≤ i → flags ≡ both xs ys
+    length flags ≤ i → flags ≡ intersection xs ys
 met_both xs ys flags i m h =
     let long = as_long (take (length ys) xs) ys flags i m in
-    met_all (take (length ys) xs) ys flags i m (omega (arith, long, h)) ∙ both-cut xs ys
+    met_all (take (length ys) xs) ys flags i m (omega (arith, long, h)) ∙ intersection-cut xs ys

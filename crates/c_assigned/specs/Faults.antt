@@ -3,13 +3,13 @@
 use Rattle.std.specs.Prelude.{ℕ, true, List, map, length, replicate, Option, Some, None}
 use Rattle.c_ast.specs.declared.program.Function.{Function}
 use Rattle.c_assigned.specs.Sets.{Assigned}
-use Rattle.c_assigned.specs.Flows.{Behind, in_order, stmt_flow}
+use Rattle.c_assigned.specs.Flows.{After, in_order, stmt_flow}
 use Rattle.c_assigned.specs.declared.fault.Fault.{Fault}
 use Rattle.c_assigned.specs.declared.fault.Fault.TheVariants.{MayBeUnset, MayNotReturn}
 use Rattle.c_names.specs.Names.{name_at}
 
 -- what comes of a function's body: its parameters are in scope, and assigned
-abbrev pub body_flow : List ℕ → Function → Behind
+abbrev pub body_flow : List ℕ → Function → After
 body_flow names f =
     in_order (map (stmt_flow names) f.body) (map (name_at names) f.params)
     (Some (replicate (length f.params) true))

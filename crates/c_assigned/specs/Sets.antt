@@ -10,16 +10,16 @@ Assigned = Option (List Bool)
 
 -- the slots that are in both: of sets of different scopes, those of the outer scope, which both
 -- have in front
-abbrev pub both : List Bool → List Bool → List Bool
-both [] ys = []
-both (x ∷ xs) [] = []
-both (x ∷ xs) (y ∷ ys) = (x && y) ∷ both xs ys
+abbrev pub intersection : List Bool → List Bool → List Bool
+intersection [] ys = []
+intersection (x ∷ xs) [] = []
+intersection (x ∷ xs) (y ∷ ys) = (x && y) ∷ intersection xs ys
 
 -- the meet: what is assigned on either way; a way that isn't reached takes nothing away
 abbrev pub meet : Assigned → Assigned → Assigned
 meet None b = b
 meet (Some a) None = Some a
-meet (Some a) (Some b) = Some (both a b)
+meet (Some a) (Some b) = Some (intersection a b)
 
 -- the set with one slot more after the others
 abbrev pub with_slot : Bool → Assigned → Assigned
@@ -30,8 +30,8 @@ abbrev pub with_assigned : ℕ → Assigned → Assigned
 with_assigned slot = option_map (λ a. slice_set a slot true)
 
 -- the set of the first n slots, as it is after the scope of the others
-abbrev pub cut : ℕ → Assigned → Assigned
-cut slots = option_map (take slots)
+abbrev pub restrict : ℕ → Assigned → Assigned
+restrict slots = option_map (take slots)
 
 -- whether the slot is in the set
 abbrev pub is_assigned : Assigned → ℕ → Bool

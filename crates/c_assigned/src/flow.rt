@@ -23,7 +23,7 @@ pub struct Flow {
 
 /// What passes to the next statement alone.
 pub fn passing(behind: Option<Items<bool>>, unset: Option<u32>) -> Flow
-    ensures { result ≡ (spec.passing [] behind unset).flow }
+    ensures { result ≡ (spec.fall_through [] behind unset).flow }
 {
     Flow {
         behind,
@@ -45,7 +45,7 @@ pub fn first_of(first: Option<u32>, second: Option<u32>) -> Option<u32>
 
 /// A flow that goes on with another after it.
 pub fn joined(first: Flow, rest: Flow) -> Flow
-    ensures { result ≡ spec.joined first rest }
+    ensures { result ≡ spec.sequence first rest }
 {
     Flow {
         behind: rest.behind,
@@ -69,7 +69,7 @@ pub fn leave(slots: usize, flow: Flow) -> Flow
 
 /// Two branches, after a test.
 pub fn branched(tested: Option<u32>, holds: Flow, fails: Flow) -> Flow
-    ensures { result ≡ spec.branched tested holds fails }
+    ensures { result ≡ spec.branch tested holds fails }
 {
     Flow {
         behind: meet(holds.behind, fails.behind),

@@ -15,7 +15,7 @@ fn both_hold(left: bool, right: bool) -> bool
 
 // The slots that are in both.
 fn both(left: Items<bool>, right: &Items<bool>) -> Items<bool>
-    ensures { result ≡ spec.both left right.now }
+    ensures { result ≡ spec.intersection left right.now }
 {
     let mut flags = left.into_vec();
     let others = right.as_slice();
@@ -43,7 +43,7 @@ pub fn meet(left: Option<Items<bool>>, right: Option<Items<bool>>) -> Option<Ite
 
 /// The set of the first n slots.
 pub fn cut(slots: usize, set: Option<Items<bool>>) -> Option<Items<bool>>
-    ensures { result ≡ spec.cut slots set }
+    ensures { result ≡ spec.restrict slots set }
 {
     match set {
         None => None,

@@ -61,7 +61,7 @@ fn declared(
 ) -> Result<Flow, NoMemory>
     requires some { 0 < length scope.now }
     requires few { length scope.now < 2 ^ 32 }
-    ensures { IfOk result (λ f. f ≡ (spec.declared names.now scope.now set value.now).flow) }
+    ensures { IfOk result (λ f. f ≡ (spec.declaration_flow names.now scope.now set value.now).flow) }
 {
     match value {
         None => Ok(passing(with_slot(false, set)?, None)),
@@ -83,7 +83,7 @@ fn assigned(
     value: &Expr,
 ) -> Flow
     requires { length scope.now < 2 ^ 32 }
-    ensures { result ≡ (spec.passing scope.now
+    ensures { result ≡ (spec.fall_through scope.now
         (spec.assign (slots_spec.slot_of scope.now (names_spec.name_at names.now token)) set)
         (spec.unset_in names.now scope.now set value.now)).flow }
 {
@@ -102,7 +102,7 @@ fn for_behind(
     breaks: Option<Items<bool>>,
     unset: Option<u32>,
 ) -> Flow
-    ensures { result ≡ (spec.passing [] (spec_sets.cut outside
+    ensures { result ≡ (spec.fall_through [] (spec_sets.restrict outside
         (if is_endless then breaks else begun.behind)) (option_or begun.unset unset)).flow }
 {
     let unset = first_of(begun.unset, unset);
@@ -202,7 +202,7 @@ fn inside(
     stmt: &Stmt,
 ) -> Result<Flow, NoMemory>
     requires { length scope.old.items < 2 ^ 32 }
-    ensures flow { IfOk result (λ f. f ≡ spec.inside (spec.stmt_flow names.now stmt.now)
+    ensures flow { IfOk result (λ f. f ≡ spec.nested (spec.stmt_flow names.now stmt.now)
         scope.old.items set) }
     ensures scope { OnOk result (scope.new.items ≡ scope.old.items) }
 {
@@ -222,7 +222,7 @@ fn inside_optional(
     part: &Option<Boxed<Stmt>>,
 ) -> Result<Flow, NoMemory>
     requires { length scope.old.items < 2 ^ 32 }
-    ensures flow { IfOk result (λ f. f ≡ spec.inside_optional
+    ensures flow { IfOk result (λ f. f ≡ spec.nested_optional
         (option_map (spec.stmt_flow names.now) part.now) scope.old.items set) }
     ensures scope { OnOk result (scope.new.items ≡ scope.old.items) }
 {
@@ -272,7 +272,7 @@ fn while_flow(
     ensures flow { IfOk result (λ f. f ≡ (spec.while_loop names.now scope.old.items set
         (spec.is_above_zero (out-Expr test.now))
         (spec.unset_in names.now scope.old.items set test.now)
-        (spec.inside (spec.stmt_flow names.now inner.now) scope.old.items set)).flow) }
+        (spec.nested (spec.stmt_flow names.now inner.now) scope.old.items set)).flow) }
     ensures scope { OnOk result (scope.new.items ≡ scope.old.items) }
 {
     let tested = first_unset(names, scope.as_slice(), &set, None, test);
@@ -298,7 +298,7 @@ fn do_flow(
 ) -> Result<Flow, NoMemory>
     requires { length scope.old.items < 2 ^ 32 }
     ensures flow { IfOk result (λ f. f ≡ (spec.do_loop names.now scope.old.items test.now
-        (spec.inside (spec.stmt_flow names.now inner.now) scope.old.items set)).flow) }
+        (spec.nested (spec.stmt_flow names.now inner.now) scope.old.items set)).flow) }
     ensures scope { OnOk result (scope.new.items ≡ scope.old.items) }
 {
     let turn = inside(alloc, names, scope, set, inner)?;

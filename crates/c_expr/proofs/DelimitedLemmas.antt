@@ -9,7 +9,7 @@ use Rattle.c_ast.specs.Height.{expr_height}
 use Rattle.c_expr.specs.declared.read.Read.{Read}
 use Rattle.c_expr.specs.declared.read.Span.{Span}
 use Rattle.c_expr.specs.Grammar.{kind_at, binary_of, levels, Expression, UpTo, ended}
-use Rattle.c_expr.specs.Readers.{Reads, Gives, Low}
+use Rattle.c_expr.specs.Readers.{Reads, Gives, IsNoHigher}
 use Rattle.c_expr.proofs.Lookahead.{kind_within, token_stops}
 
 -- the parts of an expression up to a mark
@@ -38,7 +38,7 @@ module _ (m : TheMark) (ts : List Token) (at room : ℕ)
 
     -- the mark is after the expression
     pub up_to_ends : (y : Span Expr) → kind_at ts x.end ≡ Some (Mark m) → y.value ≡ x.tree → y.end ≡
-        x.end + 1 → Gives (Low expr_height room (UpTo m ts at)) at (length ts) (Some y)
+        x.end + 1 → Gives (IsNoHigher expr_height room (UpTo m ts at)) at (length ts) (Some y)
     up_to_ends y h yv ye =
         let within : x.end < length ts = kind_within ts x.end (Mark m) h in
         let further : at < x.end = r.found.further in
@@ -61,7 +61,7 @@ module _ (m : TheMark) (ts : List Token) (at room : ℕ)
 
     -- another token is there
     pub up_to_misses : (kind_at ts x.end ≡ Some (Mark m) → ⊥) →
-        Gives (Low expr_height room (UpTo m ts at)) at (length ts) None
+        Gives (IsNoHigher expr_height room (UpTo m ts at)) at (length ts) None
     up_to_misses h =
         record {
           found = tt;

@@ -119,5 +119,5 @@ pub record Gives {A : Type 0} (Spells : ℕ → A → Type 0) (at bound : ℕ) (
   pub only : (j : ℕ) → (value : A) → Spells j value → IsThat r j value
 
 -- what is spelled, and no higher than `room`
-abbrev pub Low : {A : Type 0} → (A → ℕ) → ℕ → (ℕ → A → Type 0) → ℕ → A → Type 0
-Low height room Spells j x = Spells j x × (height x ≤ room)
+abbrev pub IsNoHigher : {A : Type 0} → (A → ℕ) → ℕ → (ℕ → A → Type 0) → ℕ → A → Type 0
+IsNoHigher height room Spells j x = Spells j x × (height x ≤ room)

@@ -2,7 +2,7 @@
 ghost use Rattle.std.specs.Prelude.{◌≡◌, ◌≢◌, ◌≤◌, ◌<◌, ◌^◌, Some, None, length, IfOk};
 ghost use Rattle.c_ast.specs.Height.{expr_height};
 ghost use Rattle.c_expr.specs.Grammar.{binary_of, UpTo, Test};
-ghost use Rattle.c_expr.specs.Readers.{Gives, Low};
+ghost use Rattle.c_expr.specs.Readers.{Gives, IsNoHigher};
 
 use crate::expr::whole;
 use crate::read::Span;
@@ -25,7 +25,7 @@ pub fn up_to(
     requires no_operator { binary_of (Some (TokenKind.Mark mark)) ≡ None }
     requires no_choice { mark ≢ Mark.Question }
     requires no_call { mark ≢ Mark.LeftParen }
-    ensures { IfOk result (Gives (Low expr_height room (UpTo mark tokens.now at)) at
+    ensures { IfOk result (Gives (IsNoHigher expr_height room (UpTo mark tokens.now at)) at
         (length tokens.now)) }
 {
     if room == 0 {
@@ -53,7 +53,8 @@ pub fn test(
 ) -> Result<Option<Span<Expr>>, NoMemory>
     requires few { length tokens.now < 2 ^ 32 }
     requires inside { at ≤ length tokens.now }
-    ensures { IfOk result (Gives (Low expr_height room (Test tokens.now at)) at (length tokens.now)) }
+    ensures { IfOk result (Gives (IsNoHigher expr_height room (Test tokens.now at)) at
+        (length tokens.now)) }
 {
     if !stands(tokens, at, Mark::LeftParen) {
         return Ok(None);

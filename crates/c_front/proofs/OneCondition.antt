@@ -7,7 +7,7 @@ use Rattle.c_parse.proofs.OneAnswer.{one_pre_refusal, spelled_unrefused_pre}
 use Rattle.c_parse.proofs.PreLemmas.{expression_unique}
 use Rattle.c_parse.proofs.Unique.{program_unique}
 use Rattle.c_scope.specs.Preconditions.{resolved_pre}
-use Rattle.c_scope.specs.Steps.{Found}
+use Rattle.c_scope.specs.Steps.{Checked}
 use Rattle.c_scope.specs.declared.error.ScopeEnd.TheVariants as Wrong
 use Rattle.c_front.specs.declared.pairs.Compared.{Compared}
 use Rattle.c_front.specs.declared.refusals.Refusal.{Refusal}
@@ -36,7 +36,7 @@ one_parse tokens (Goes t) (Goes u) (same, a) (too, b) =
     λ i. record { tokens = lists i; pre = trees i }
 
 -- names are resolved in one way
-one_resolved : (found : Found Expr) (x y : Next Refusal Expr) → IsResolved found x →
+one_resolved : (found : Checked Expr) (x y : Next Refusal Expr) → IsResolved found x →
     IsResolved found y → AreSame x y
 one_resolved found (Ends r) (Ends s) (t, p, is_r) (u, q, is_s) =
     let faults : Wrong.UnknownName t ≡ Wrong.UnknownName u = same_err p q in

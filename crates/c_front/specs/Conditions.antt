@@ -11,7 +11,7 @@ use Rattle.c_parse.specs.declared.error.ParseEnd.TheVariants as Flaw
 use Rattle.c_parse.specs.Preconditions.{PreAnswers}
 use Rattle.c_scope.specs.declared.error.ScopeEnd.TheVariants as Wrong
 use Rattle.c_scope.specs.Preconditions.{resolved_pre}
-use Rattle.c_scope.specs.Steps.{Found}
+use Rattle.c_scope.specs.Steps.{Checked}
 use Rattle.c_front.specs.declared.pairs.Compared.{Compared}
 use Rattle.c_front.specs.declared.pairs.TwoFunctions.{TwoFunctions}
 use Rattle.c_front.specs.declared.refusals.Refusal.{Refusal}
@@ -43,7 +43,7 @@ params_at functions place =
 
 -- the names of a precondition are resolved, or this token is the first that no parameter has as its
 -- name
-abbrev pub IsResolved : Found Expr → Next Refusal Expr → Type 0
+abbrev pub IsResolved : Checked Expr → Next Refusal Expr → Type 0
 IsResolved found (Ends refusal) =
     (token : ℕ) × (found ≡ Err (Wrong.UnknownName token)) × (refusal ≡ PreName token)
 IsResolved found (Goes pre) = found ≡ Ok pre

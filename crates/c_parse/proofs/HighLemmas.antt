@@ -8,7 +8,7 @@ use Rattle.c_lex.specs.declared.token.Mark.TheVariants.{LeftParen, LeftBrace}
 use Rattle.c_ast.specs.declared.stmt.Stmt.{Stmt}
 use Rattle.c_expr.specs.declared.read.Span.{Span}
 use Rattle.c_expr.specs.Grammar.{kind_at}
-use Rattle.c_expr.specs.Readers.{Gives, Low}
+use Rattle.c_expr.specs.Readers.{Gives, IsNoHigher}
 use Rattle.c_stmt.specs.declared.tree.External.{External}
 use Rattle.c_stmt.specs.Heights.{list_height}
 use Rattle.c_stmt.specs.Statements.{BlockItem, BlockItems}
@@ -80,7 +80,7 @@ seeking_begins ts at inside g =
 
 -- an item that can't be read
 pub seeking_stops : (ts : List Token) (i at : ℕ) → Seeking ts i at →
-    Gives (Low list_height 200 (BlockItem ts at)) at (length ts) None → IsFirstHigh ts i at
+    Gives (IsNoHigher list_height 200 (BlockItem ts at)) at (length ts) None → IsFirstHigh ts i at
 seeking_stops ts i at s g =
     let next = next_item ts at s.further in
     record {
@@ -95,7 +95,8 @@ seeking_stops ts i at s g =
 
 -- one more item is passed
 pub seeking_goes : (ts : List Token) (i at : ℕ) (x : Span (List Stmt)) → Seeking ts i at →
-    Gives (Low list_height 200 (BlockItem ts at)) at (length ts) (Some x) → Seeking ts i x.end
+    Gives (IsNoHigher list_height 200 (BlockItem ts at)) at (length ts) (Some x) →
+    Seeking ts i x.end
 seeking_goes ts i at x s g =
     let next = next_item ts at s.further in
     let same : Same x.end next.end x.value next.item =

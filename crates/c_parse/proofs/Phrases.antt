@@ -21,7 +21,7 @@ use Rattle.c_stmt.specs.Statements.{CompoundStatement}
 use Rattle.c_stmt.specs.Heights.{list_height}
 use Rattle.c_stmt.specs.Programs.{IsHeading, Parameters, names_of, ExternalDeclaration, function, prototype, Externals, finished, followed}
 use Rattle.c_parse.specs.Programs.{functions_of, prototypes_of, program_of, IsLow}
-use Rattle.c_expr.specs.Readers.{IsThat, Gives, Low}
+use Rattle.c_expr.specs.Readers.{IsThat, Gives, IsNoHigher}
 use Rattle.c_parse.specs.Readers.{LowExternal, added, Collecting, ReadsAll}
 use Rattle.c_expr.proofs.Lookahead.{kind_within}
 
@@ -132,7 +132,8 @@ module _ (ts : List Token) (at : ℕ) where
       gives_nameless none =
           record { found = tt; only = λ j z low. nameless_only none j z (outer_of ts at j z low.0) }
 
-      bodiless_only : Gives (Low list_height 200 (CompoundStatement ts x.end)) x.end (length ts)
+      bodiless_only : Gives (IsNoHigher list_height 200 (CompoundStatement ts x.end)) x.end
+          (length ts)
           None → (j : ℕ) (z : External) → Outer ts at j z → IsLow z → ⊥
       bodiless_only b j z (outer_function k ps names body h p n w q) low =
           let is : (x.end ≡ k) × (x.value ≡ ps) = r.only k ps p in
@@ -143,7 +144,7 @@ module _ (ts : List Token) (at : ℕ) where
           let is : (x.end ≡ k) × (x.value ≡ ps) = r.only k ps p in continued (rw is.0 c)
 
       -- without a body there is no function
-      pub gives_bodiless : Gives (Low list_height 200 (CompoundStatement ts x.end)) x.end
+      pub gives_bodiless : Gives (IsNoHigher list_height 200 (CompoundStatement ts x.end)) x.end
           (length ts) None → Gives (LowExternal ts at) at (length ts) None
       gives_bodiless b =
           record {
@@ -153,7 +154,8 @@ module _ (ts : List Token) (at : ℕ) where
           }
 
       function_only : (names : List ℕ) (y : Span (List Stmt)) (w : Span External) →
-          names_of x.value ≡ Some names → Gives (Low list_height 200 (CompoundStatement ts x.end))
+          names_of x.value ≡ Some names → Gives
+          (IsNoHigher list_height 200 (CompoundStatement ts x.end))
           x.end (length ts) (Some y)
           → w.value ≡ the_function (at + 1) names y.value → w.end ≡ y.end → (j : ℕ) (z : External) →
           Outer ts at j z → IsLow z → IsThat (Some w) j z
@@ -173,7 +175,8 @@ module _ (ts : List Token) (at : ℕ) where
       -- a function
       pub gives_function : (names : List ℕ) (y : Span (List Stmt)) (w : Span External) →
           IsHeading ts at → names_of x.value ≡ Some names
-          → Gives (Low list_height 200 (CompoundStatement ts x.end)) x.end (length ts) (Some y) →
+          → Gives (IsNoHigher list_height 200 (CompoundStatement ts x.end)) x.end (length ts)
+          (Some y) →
           w.value ≡ the_function (at + 1) names y.value → w.end ≡ y.end
           → Gives (LowExternal ts at) at (length ts) (Some w)
       gives_function names y w h given b wv we =

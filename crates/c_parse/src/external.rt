@@ -6,7 +6,7 @@ ghost use Rattle.c_expr.specs.Grammar.{kind_at};
 ghost use Rattle.c_stmt.specs.Statements.{CompoundStatement};
 ghost use Rattle.c_stmt.specs.Programs.{Parameter, Listed, Parameters, IsHeading, IsVoid, all_names, names_of};
 ghost use Rattle.c_stmt.specs.Heights.{list_height};
-ghost use Rattle.c_expr.specs.Readers.{Gives, Low};
+ghost use Rattle.c_expr.specs.Readers.{Gives, IsNoHigher};
 ghost use Rattle.c_parse.specs.Readers.{LowExternal};
 
 use c_ast::{Function, Prototype, Stmt};
@@ -170,7 +170,7 @@ pub fn parameters(
             end: at + 2,
         }));
     }
-    let Some(read) = listed(alloc, tokens, at)? else {
+    let Some(read) = parameter_list(alloc, tokens, at)? else {
         return Ok(None);
     };
     Ok(Some(Span {
@@ -180,7 +180,7 @@ pub fn parameters(
 }
 
 // The parameters, at least one, up to and with the closing parenthesis.
-fn listed(
+fn parameter_list(
     alloc: Global,
     tokens: &[Token],
     at: usize,
@@ -234,7 +234,7 @@ fn parameter(tokens: &[Token], at: usize) -> Option<Span<Option<u32>>>
 fn block(alloc: Global, tokens: &[Token], at: usize) -> Result<Option<Span<Items<Stmt>>>, NoMemory>
     requires few { length tokens.now < 2 ^ 32 }
     requires inside { at ≤ length tokens.now }
-    ensures { IfOk result (Gives (Low list_height 200 (CompoundStatement tokens.now at)) at
+    ensures { IfOk result (Gives (IsNoHigher list_height 200 (CompoundStatement tokens.now at)) at
         (length tokens.now)) }
 {
     if !stands(tokens, at, Mark::LeftBrace) {

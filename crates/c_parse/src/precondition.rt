@@ -40,12 +40,12 @@ pub fn parse_pre(alloc: Global, tokens: &[Token]) -> Result<Expr, ParseEnd>
     match whole(alloc, tokens, 0, MAX_HEIGHT) {
         Err(_) => Err(ParseEnd::NoMemory),
         Ok(None) => Err(pre_syntax_error(alloc, tokens)),
-        Ok(Some(read)) => judged(alloc, tokens, read),
+        Ok(Some(read)) => checked_form(alloc, tokens, read),
     }
 }
 
 // The expression that was read, where it is all that the tokens spell and has the form.
-fn judged(alloc: Global, tokens: &[Token], read: Read) -> Result<Expr, ParseEnd>
+fn checked_form(alloc: Global, tokens: &[Token], read: Read) -> Result<Expr, ParseEnd>
     requires few { length tokens.now < 2 ^ 32 }
     requires shallow { too_deep 0 0 tokens.now ≡ None }
     requires read { Reads (Expression tokens.now) tokens.now (suc levels) 0 200 (Some read) }

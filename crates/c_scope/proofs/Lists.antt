@@ -1,55 +1,55 @@
 -- A list of steps, of which some are done.
 use Rattle.std.proofs.Common.{◌≡◌, ◌∙◌, ap, sym, refl, ℕ, suc, ◌+◌, ◌<◌, List, [], ◌∷◌, ◌++◌, map, drop, length, get_or, Ok, Err, append_assoc, add-one, drop-cons, subst, below_more}
 use Rattle.std.proofs.lemmas.List.{get_or_default}
-use Rattle.c_scope.specs.Statements.{Placed}
+use Rattle.c_scope.specs.Statements.{Scoped}
 use Rattle.c_ast.specs.declared.stmt.Stmt.{Stmt}
-use Rattle.c_scope.specs.Steps.{Found, on_found, all_found}
+use Rattle.c_scope.specs.Steps.{Checked, and_then, sequence}
 use Rattle.c_scope.specs.declared.error.ScopeEnd.{ScopeEnd}
 
 -- what was found, and what the rest gives
-abbrev pub onto : {A : Type 0} → List A → Found (List A) → Found (List A)
-onto done rest = on_found rest (λ xs. Ok (done ++ xs))
+abbrev pub onto : {A : Type 0} → List A → Checked (List A) → Checked (List A)
+onto done rest = and_then rest (λ xs. Ok (done ++ xs))
 
 -- one more is found
-pub onto-more : {A : Type 0} (done : List A) (x : A) (rest : Found (List A)) →
-    onto done (on_found rest (λ xs. Ok (x ∷ xs))) ≡ onto (done ++ x ∷ []) rest
+pub onto-more : {A : Type 0} (done : List A) (x : A) (rest : Checked (List A)) →
+    onto done (and_then rest (λ xs. Ok (x ∷ xs))) ≡ onto (done ++ x ∷ []) rest
 onto-more done x (Ok xs) = ap Ok (sym (append_assoc done (x ∷ []) xs))
 onto-more done x (Err fault) = refl
 
-module _ {A B : Type 0} (step : A → Found B) (xs : List A) (i : ℕ) (h : i < length xs) (x : A)
+module _ {A B : Type 0} (step : A → Checked B) (xs : List A) (i : ℕ) (h : i < length xs) (x : A)
     (is : x ≡ get_or xs i x) where
   -- the steps that are left begin with this one
-  begun : all_found (map step (drop i xs)) ≡ on_found (step x)
-      (λ y. on_found (all_found (map step (drop (i + 1) xs))) (λ ys. Ok (y ∷ ys)))
+  begun : sequence (map step (drop i xs)) ≡ and_then (step x)
+      (λ y. and_then (sequence (map step (drop (i + 1) xs))) (λ ys. Ok (y ∷ ys)))
   begun =
-      ap (λ rest. all_found (map step rest)) (drop-cons xs i x h)
-      ∙ ap (λ y. on_found (step y) (λ z. on_found (all_found (map step (drop (suc i) xs)))
+      ap (λ rest. sequence (map step rest)) (drop-cons xs i x h)
+      ∙ ap (λ y. and_then (step y) (λ z. and_then (sequence (map step (drop (suc i) xs)))
       (λ ys. Ok (z ∷ ys)))) (sym is)
-      ∙ ap (λ k. on_found (step x) (λ y. on_found (all_found (map step (drop k xs)))
+      ∙ ap (λ k. and_then (step x) (λ y. and_then (sequence (map step (drop k xs)))
       (λ ys. Ok (y ∷ ys)))) (sym (add-one i))
 
   -- a step that finds something
-  pub found-turn : (done : List B) (y : B) (all : Found (List B)) →
-      onto done (all_found (map step (drop i xs))) ≡ all → step x ≡ Ok y →
-      onto (done ++ y ∷ []) (all_found (map step (drop (i + 1) xs))) ≡ all
+  pub found-turn : (done : List B) (y : B) (all : Checked (List B)) →
+      onto done (sequence (map step (drop i xs))) ≡ all → step x ≡ Ok y →
+      onto (done ++ y ∷ []) (sequence (map step (drop (i + 1) xs))) ≡ all
   found-turn done y all whole e =
-      sym (onto-more done y (all_found (map step (drop (i + 1) xs))))
-      ∙ ap (λ r. onto done (on_found r (λ z. on_found (all_found (map step (drop (i + 1) xs)))
+      sym (onto-more done y (sequence (map step (drop (i + 1) xs))))
+      ∙ ap (λ r. onto done (and_then r (λ z. and_then (sequence (map step (drop (i + 1) xs)))
       (λ ys. Ok (z ∷ ys))))) (sym e)
       ∙ ap (onto done) (sym begun) ∙ whole
 
   -- a step that finds a fault
-  pub found-fault : (done : List B) (fault : ScopeEnd) (all : Found (List B)) →
-      onto done (all_found (map step (drop i xs))) ≡ all → step x ≡ Err fault → all ≡ Err fault
+  pub found-fault : (done : List B) (fault : ScopeEnd) (all : Checked (List B)) →
+      onto done (sequence (map step (drop i xs))) ≡ all → step x ≡ Err fault → all ≡ Err fault
   found-fault done fault all whole e =
       sym whole ∙ ap (onto done) begun
-      ∙ ap (λ r. onto done (on_found r (λ z. on_found (all_found (map step (drop (i + 1) xs)))
+      ∙ ap (λ r. onto done (and_then r (λ z. and_then (sequence (map step (drop (i + 1) xs)))
       (λ ys. Ok (z ∷ ys))))) e
 
 -- statements that were resolved, and what the rest gives
-abbrev pub behind : List Stmt → Found (Placed (List Stmt)) → Found (Placed (List Stmt))
+abbrev pub behind : List Stmt → Checked (Scoped (List Stmt)) → Checked (Scoped (List Stmt))
 behind done rest =
-    on_found rest (λ placed. Ok (record { what = done ++ placed.what; scope = placed.scope }))
+    and_then rest (λ placed. Ok (record { tree = done ++ placed.tree; scope = placed.scope }))
 
 -- what holds of all items in front of a place, and of the one there, holds of one item more
 pub hold-more : {A : Type 0} (P : A → Type 0) (xs : List A) (i : ℕ) (x : A) → i < length xs → x ≡

@@ -8,34 +8,34 @@ use Rattle.c_ast.specs.declared.program.Program.{Program}
 use Rattle.c_ast.specs.declared.program.Resolved.{Resolved}
 use Rattle.c_names.specs.Names.{names_of}
 use Rattle.c_scope.specs.Definitions.{definition_fault}
-use Rattle.c_scope.specs.Functions.{numbered, with_params, resolved_function, resolved_functions}
-use Rattle.c_scope.specs.Programs.{assigned_fault, behind_definitions, behind_names, scope_of}
-use Rattle.c_scope.specs.Slots.{Scope, nothing}
-use Rattle.c_scope.specs.Statements.{Placed, in_order, resolved_stmt}
-use Rattle.c_scope.specs.Steps.{Found, on_found, all_found}
+use Rattle.c_scope.specs.Functions.{slots_from, with_params, resolved_function, resolved_functions}
+use Rattle.c_scope.specs.Programs.{assigned_fault, after_definitions, after_names, scope_of}
+use Rattle.c_scope.specs.Slots.{Scope, empty_scope}
+use Rattle.c_scope.specs.Statements.{Scoped, in_order, resolved_stmt}
+use Rattle.c_scope.specs.Steps.{Checked, and_then, sequence}
 use Rattle.c_scope.specs.declared.error.ScopeEnd.{ScopeEnd}
 
 -- how many parameters a function has, where there is one
 abbrev pub counted : Option Function → Option ℕ
 counted = option_map (λ (f : Function). length f.params)
 
-numbered_length : {A : Type 0} (slot : ℕ) (xs : List A) → length (numbered slot xs) ≡ length xs
+numbered_length : {A : Type 0} (slot : ℕ) (xs : List A) → length (slots_from slot xs) ≡ length xs
 numbered_length slot [] = refl
 numbered_length slot (x ∷ xs) = ap suc (numbered_length (slot + 1) xs)
 
 module _ (f g : Function) where
   -- a function of this name with numbered parameters
   abbrev with_body : List Stmt → Function
-  with_body body = record { name = f.name; params = numbered 0 f.params; body = body }
+  with_body body = record { name = f.name; params = slots_from 0 f.params; body = body }
 
-  of_placed : (x : Found (Placed (List Stmt))) → on_found x (λ body. Ok (with_body body.what)) ≡
-      Ok g → numbered 0 f.params ≡ g.params
-  of_placed (Ok body) is = let e : with_body body.what ≡ g = cc in ap (λ (h : Function). h.params) e
+  of_placed : (x : Checked (Scoped (List Stmt))) → and_then x (λ body. Ok (with_body body.tree)) ≡
+      Ok g → slots_from 0 f.params ≡ g.params
+  of_placed (Ok body) is = let e : with_body body.tree ≡ g = cc in ap (λ (h : Function). h.params) e
   of_placed (Err fault) is = let no : ⊥ = cc in absurd no
 
-  of_scope : (x : Found Scope) (next : Scope → Found (Placed (List Stmt))) →
-      on_found x (λ s. on_found (next s) (λ body. Ok (with_body body.what))) ≡ Ok g
-      → numbered 0 f.params ≡ g.params
+  of_scope : (x : Checked Scope) (next : Scope → Checked (Scoped (List Stmt))) →
+      and_then x (λ s. and_then (next s) (λ body. Ok (with_body body.tree))) ≡ Ok g
+      → slots_from 0 f.params ≡ g.params
   of_scope (Ok s) next is = of_placed (next s) is
   of_scope (Err fault) next is = let no : ⊥ = cc in absurd no
 
@@ -44,8 +44,8 @@ module _ (names : List ℕ) (functions : List Function) where
   same_count : (f g : Function) → resolved_function names functions f ≡ Ok g → length g.params ≡
       length f.params
   same_count f g is =
-      let numbers : numbered 0 f.params ≡ g.params =
-      of_scope f g (with_params names f.params nothing)
+      let numbers : slots_from 0 f.params ≡ g.params =
+      of_scope f g (with_params names f.params empty_scope)
       (λ s. in_order (map (resolved_stmt names functions) f.body) s false) is in
       sym (ap length numbers) ∙ numbered_length 0 f.params
 
@@ -59,41 +59,41 @@ module _ (names : List ℕ) (functions : List Function) where
   kept_front f g fs gs same kept (suc i) = kept i
 
   of_rest : (f g : Function) (fs gs : List Function) → length g.params ≡ length f.params →
-      (xs : Found (List Function)) → ((hs : List Function) → xs ≡ Ok hs → Kept fs hs)
-      → on_found xs (λ hs. Ok (g ∷ hs)) ≡ Ok gs → Kept (f ∷ fs) gs
+      (xs : Checked (List Function)) → ((hs : List Function) → xs ≡ Ok hs → Kept fs hs)
+      → and_then xs (λ hs. Ok (g ∷ hs)) ≡ Ok gs → Kept (f ∷ fs) gs
   of_rest f g fs gs same (Ok hs) kept is =
       let e : g ∷ hs ≡ gs = cc in subst (Kept (f ∷ fs)) e (kept_front f g fs hs same (kept hs refl))
   of_rest f g fs gs same (Err fault) kept is = let no : ⊥ = cc in absurd no
 
-  of_both : (f : Function) (fs gs : List Function) (x : Found Function) →
+  of_both : (f : Function) (fs gs : List Function) (x : Checked Function) →
       resolved_function names functions f ≡ x
-      → (xs : Found (List Function)) → ((hs : List Function) → xs ≡ Ok hs → Kept fs hs)
-      → on_found x (λ g. on_found xs (λ hs. Ok (g ∷ hs))) ≡ Ok gs → Kept (f ∷ fs) gs
+      → (xs : Checked (List Function)) → ((hs : List Function) → xs ≡ Ok hs → Kept fs hs)
+      → and_then x (λ g. and_then xs (λ hs. Ok (g ∷ hs))) ≡ Ok gs → Kept (f ∷ fs) gs
   of_both f fs gs (Ok g) resolved xs kept is =
       of_rest f g fs gs (same_count f g resolved) xs kept is
   of_both f fs gs (Err fault) resolved xs kept is = let no : ⊥ = cc in absurd no
 
-  of_all : (fs gs : List Function) → all_found (map (resolved_function names functions) fs) ≡
+  of_all : (fs gs : List Function) → sequence (map (resolved_function names functions) fs) ≡
       Ok gs → Kept fs gs
   of_all [] gs is = let e : [] ≡ gs = cc in subst (Kept []) e (λ i. refl)
   of_all (f ∷ fs) gs is =
       of_both f fs gs (resolved_function names functions f) refl
-      (all_found (map (resolved_function names functions) fs)) (of_all fs) is
+      (sequence (map (resolved_function names functions) fs)) (of_all fs) is
 
   -- what holds after the passes
-  of_names : (fault : Option ScopeEnd) (fs : List Function) (r : Resolved) → behind_names fault fs ≡
+  of_names : (fault : Option ScopeEnd) (fs : List Function) (r : Resolved) → after_names fault fs ≡
       Ok r → fs ≡ r.functions
   of_names None fs r is =
       let e : record { functions = fs } ≡ r = cc in ap (λ (q : Resolved). q.functions) e
   of_names (Some fault) fs r is = let no : ⊥ = cc in absurd no
 
-  of_functions : (x : Found (List Function)) (fault : Option ScopeEnd) (r : Resolved) →
-      on_found x (λ fs. behind_names fault fs) ≡ Ok r → x ≡ Ok r.functions
+  of_functions : (x : Checked (List Function)) (fault : Option ScopeEnd) (r : Resolved) →
+      and_then x (λ fs. after_names fault fs) ≡ Ok r → x ≡ Ok r.functions
   of_functions (Ok fs) fault r is = ap Ok (of_names fault fs r is)
   of_functions (Err end) fault r is = let no : ⊥ = cc in absurd no
 
 of_definitions : (names : List ℕ) (fault : Option ScopeEnd) (p : Program) (r : Resolved) →
-    behind_definitions names fault p ≡ Ok r → resolved_functions names p.functions ≡ Ok r.functions
+    after_definitions names fault p ≡ Ok r → resolved_functions names p.functions ≡ Ok r.functions
 of_definitions names None p r is =
     of_functions names p.functions (resolved_functions names p.functions)
     (assigned_fault names p.functions) r is

@@ -4,9 +4,9 @@ use Rattle.c_lex.specs.declared.token.Token.{Token}
 use Rattle.c_ast.specs.declared.program.Function.{Function}
 use Rattle.c_names.specs.Names.{name_at}
 use Rattle.c_names.specs.Spellings.{spellings, place_of}
-use Rattle.c_scope.specs.Slots.{Scope, nothing, declare}
+use Rattle.c_scope.specs.Slots.{Scope, empty_scope, declare}
 use Rattle.c_scope.specs.Statements.{in_order, resolved_stmt}
-use Rattle.c_scope.specs.Steps.{Found, on_found, all_found}
+use Rattle.c_scope.specs.Steps.{Checked, and_then, sequence}
 
 -- the place of the first definition whose name these bytes spell
 abbrev pub place_of_function : List ℕ → List Token → List Function → List ℕ → Option ℕ
@@ -18,26 +18,26 @@ abbrev pub HasFewParams : Function → Type 0
 HasFewParams f = length f.params ≤ 64
 
 -- the first n numbers, from this one on
-abbrev pub numbered : {A : Type 0} → ℕ → List A → List ℕ
-numbered slot [] = []
-numbered slot (x ∷ xs) = slot ∷ numbered (slot + 1) xs
+abbrev pub slots_from : {A : Type 0} → ℕ → List A → List ℕ
+slots_from slot [] = []
+slots_from slot (x ∷ xs) = slot ∷ slots_from (slot + 1) xs
 
 module _ (names : List ℕ) where
   -- the parameters are declared in their order
-  abbrev pub with_params : List ℕ → Scope → Found Scope
+  abbrev pub with_params : List ℕ → Scope → Checked Scope
   with_params [] s = Ok s
   with_params (token ∷ tokens) s =
-      on_found (declare token (name_at names token) s) (with_params tokens)
+      and_then (declare token (name_at names token) s) (with_params tokens)
 
   module _ (functions : List Function) where
     -- a function with its names resolved: parameters share the scope of the body's outermost block
     -- (6.2.1p4)
-    abbrev pub resolved_function : Function → Found Function
+    abbrev pub resolved_function : Function → Checked Function
     resolved_function f =
-        on_found (with_params f.params nothing) (λ s.
-        on_found (in_order (map (resolved_stmt names functions) f.body) s false) (λ body.
-        Ok (record { name = f.name; params = numbered 0 f.params; body = body.what })))
+        and_then (with_params f.params empty_scope) (λ s.
+        and_then (in_order (map (resolved_stmt names functions) f.body) s false) (λ body.
+        Ok (record { name = f.name; params = slots_from 0 f.params; body = body.tree })))
 
     -- all functions with their names resolved, in the order of the text
-    abbrev pub resolved_functions : Found (List Function)
-    resolved_functions = all_found (map resolved_function functions)
+    abbrev pub resolved_functions : Checked (List Function)
+    resolved_functions = sequence (map resolved_function functions)

@@ -2,7 +2,7 @@
 -- begins.
 use Rattle.std.specs.Prelude.{◌≡◌, ◌≢◌, ℕ, Bool, nat_eq, nat_lt, List, [], ◌∷◌, ◌++◌, length, drop, Result, Ok, Err, if◌then◌else◌}
 use Rattle.std.specs.List.{list_any}
-use Rattle.c_scope.specs.Steps.{Found}
+use Rattle.c_scope.specs.Steps.{Checked}
 use Rattle.c_scope.specs.declared.error.ScopeEnd.{ScopeEnd}
 use Rattle.c_scope.specs.declared.error.ScopeEnd.TheVariants.{TwiceDeclared, TooManySlots, NoMemory}
 
@@ -14,12 +14,12 @@ pub record Scope : Type 0 where
   pub outer : ℕ
 
 -- no variable is in scope
-abbrev pub nothing : Scope
-nothing = record { names = []; outer = 0 }
+abbrev pub empty_scope : Scope
+empty_scope = record { names = []; outer = 0 }
 
 -- a scope begins inside
-abbrev pub opened : Scope → Scope
-opened s = record { names = s.names; outer = length s.names }
+abbrev pub inner_scope : Scope → Scope
+inner_scope s = record { names = s.names; outer = length s.names }
 
 -- whether the innermost scope has a variable of this name
 abbrev pub is_declared : Scope → ℕ → Bool
@@ -27,7 +27,7 @@ is_declared s name = list_any (λ standing. nat_eq standing name) (drop s.outer 
 
 -- a variable is declared: its slot is the next one. No name occurs twice in one scope (6.7p3), and
 -- 64 slots may be in scope
-abbrev pub declare : ℕ → ℕ → Scope → Found Scope
+abbrev pub declare : ℕ → ℕ → Scope → Checked Scope
 declare token name s =
     if is_declared s name then Err (TwiceDeclared token)
     else if nat_lt (length s.names) 64 then Ok
@@ -35,6 +35,6 @@ declare token name s =
     else Err (TooManySlots token)
 
 -- the scope is this, except when out of memory
-abbrev pub GivesScope : {A : Type 0} → Result A ScopeEnd → Scope → Found Scope → Type 0
+abbrev pub GivesScope : {A : Type 0} → Result A ScopeEnd → Scope → Checked Scope → Type 0
 GivesScope (Ok done) behind answer = answer ≡ Ok behind
 GivesScope (Err fault) behind answer = fault ≢ NoMemory → answer ≡ Err fault

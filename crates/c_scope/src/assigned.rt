@@ -11,7 +11,7 @@ use std::alloc::Global;
 
 // What a fault of assignment is called here.
 fn of_flaw(flaw: Fault) -> ScopeEnd
-    ensures { result ≡ spec.of_flaw flaw }
+    ensures { result ≡ spec.scope_end_of flaw }
 {
     match flaw {
         Fault::MayBeUnset(token) => ScopeEnd::MayBeUnset { token },

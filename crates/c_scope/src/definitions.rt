@@ -1,7 +1,7 @@
 //! The definitions of a program: which function a name denotes.
 ghost use Rattle.std.specs.Prelude.{◌≡◌, ◌<◌, ◌^◌, length, IfOk};
-ghost use Rattle.c_scope.specs.Expressions.{definition_of, IsTable};
-ghost use Rattle.c_scope.specs.Views.{Knows};
+ghost use Rattle.c_scope.specs.Expressions.{definition_of, IsIndexOf};
+ghost use Rattle.c_scope.specs.Views.{IsIndexed};
 
 use c_ast::Function;
 use c_names::name_at;
@@ -27,7 +27,7 @@ pub fn places_of(
     functions: &[Function],
 ) -> Result<IndexMap<u32, u32>, NoMemory>
     requires { length functions.now < 2 ^ 32 }
-    ensures { IfOk result (λ places. IsTable names.now functions.now places.entries) }
+    ensures { IfOk result (λ places. IsIndexOf names.now functions.now places.entries) }
 {
     let mut places = IndexMap::new(alloc);
     for place in (0..functions.len()).rev() {
@@ -38,7 +38,7 @@ pub fn places_of(
 
 /// The place of the first definition of a name, none where no function has it. Takes no memory.
 pub fn find_definition(definitions: &Definitions, name: u32) -> Option<u32>
-    requires { Knows definitions.now }
+    requires { IsIndexed definitions.now }
     ensures { result ≡ definition_of definitions.now.names.now definitions.now.functions.now name }
 {
     definitions.places.get(&name).copied()

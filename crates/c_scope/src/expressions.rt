@@ -4,8 +4,8 @@ ghost use Rattle.c_names.specs.Names as name_spec;
 ghost use Rattle.c_names.specs.Slots as slot_spec;
 ghost use Rattle.c_scope.specs.Expressions as spec;
 ghost use Rattle.c_scope.specs.Expressions.{resolved_expr};
-ghost use Rattle.c_scope.specs.Steps.{Gives, all_found};
-ghost use Rattle.c_scope.specs.Views.{Knows};
+ghost use Rattle.c_scope.specs.Steps.{Gives, sequence};
+ghost use Rattle.c_scope.specs.Views.{IsIndexed};
 
 use crate::definitions::{Definitions, find_definition};
 use crate::error::ScopeEnd;
@@ -17,7 +17,7 @@ use std::alloc::Global;
 
 /// The slot of a variable.
 pub fn slot_at(names: &[u32], scope: &Scope, token: u32) -> Result<u32, ScopeEnd>
-    ensures { Gives result (spec.known token (slot_spec.slot_of scope.now.names
+    ensures { Gives result (spec.ok_or_unknown token (slot_spec.slot_of scope.now.names
         (name_spec.name_at names.now token))) }
 {
     match slot_of(scope.names.as_slice(), name_at(names, token)) {
@@ -43,8 +43,8 @@ fn called(
     token: u32,
     arguments: &Items<Expr>,
 ) -> Result<u32, ScopeEnd>
-    requires { Knows definitions.now }
-    ensures { Gives result (spec.called definitions.now.names.now definitions.now.functions.now
+    requires { IsIndexed definitions.now }
+    ensures { Gives result (spec.callee_of definitions.now.names.now definitions.now.functions.now
         token (length arguments.now) (slot_spec.slot_of scope.now.names
         (name_spec.name_at definitions.now.names.now token))) }
 {
@@ -73,7 +73,7 @@ pub fn resolve_expr(
     scope: &Scope,
     e: &Expr,
 ) -> Result<Expr, ScopeEnd>
-    requires { Knows definitions.now }
+    requires { IsIndexed definitions.now }
     ensures { Gives result (resolved_expr definitions.now.names.now definitions.now.functions.now
         scope.now.names e.now) }
 {
@@ -107,7 +107,7 @@ fn resolve_boxed(
     scope: &Scope,
     e: &Boxed<Expr>,
 ) -> Result<Boxed<Expr>, ScopeEnd>
-    requires { Knows definitions.now }
+    requires { IsIndexed definitions.now }
     ensures { Gives result (resolved_expr definitions.now.names.now definitions.now.functions.now
         scope.now.names e.now) }
 {
@@ -123,8 +123,8 @@ fn resolve_arguments(
     scope: &Scope,
     arguments: &Items<Expr>,
 ) -> Result<Items<Expr>, ScopeEnd>
-    requires { Knows definitions.now }
-    ensures { Gives result (all_found (map (resolved_expr definitions.now.names.now
+    requires { IsIndexed definitions.now }
+    ensures { Gives result (sequence (map (resolved_expr definitions.now.names.now
         definitions.now.functions.now scope.now.names) arguments.now)) }
 {
     let mut resolved = Items::new(alloc);

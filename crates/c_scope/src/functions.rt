@@ -1,10 +1,10 @@
 //! The names of functions, in the order of the text.
 ghost use Rattle.std.specs.Prelude.{◌≡◌, ◌≤◌, length, All, IfOk, OnOk};
 ghost use Rattle.c_scope.specs.Functions as spec;
-ghost use Rattle.c_scope.specs.Functions.{HasFewParams, numbered, with_params};
+ghost use Rattle.c_scope.specs.Functions.{HasFewParams, slots_from, with_params};
 ghost use Rattle.c_scope.specs.Slots.{GivesScope};
 ghost use Rattle.c_scope.specs.Steps.{Gives};
-ghost use Rattle.c_scope.specs.Views.{Knows, seen};
+ghost use Rattle.c_scope.specs.Views.{IsIndexed, model_of};
 
 use crate::definitions::Definitions;
 use crate::error::ScopeEnd;
@@ -21,9 +21,9 @@ fn declare_params(
     scope: &mut Scope,
     params: &[u32],
 ) -> Result<Items<u32>, ScopeEnd>
-    ensures scope { GivesScope result (seen scope.new)
-        (with_params names.now params.now (seen scope.old)) }
-    ensures slots { IfOk result (λ slots. slots ≡ numbered (length scope.old.names) params.now) }
+    ensures scope { GivesScope result (model_of scope.new)
+        (with_params names.now params.now (model_of scope.old)) }
+    ensures slots { IfOk result (λ slots. slots ≡ slots_from (length scope.old.names) params.now) }
     ensures few { OnOk result (length params.now ≤ 64) }
 {
     let mut slots = Items::new(alloc);
@@ -40,7 +40,7 @@ fn resolve_function(
     definitions: &Definitions,
     function: &Function,
 ) -> Result<Function, ScopeEnd>
-    requires { Knows definitions.now }
+    requires { IsIndexed definitions.now }
     ensures answer { Gives result (spec.resolved_function definitions.now.names.now
         definitions.now.functions.now function.now) }
     ensures few { OnOk result (HasFewParams function.now) }
@@ -65,7 +65,7 @@ pub fn resolve_functions(
     alloc: Global,
     definitions: &Definitions,
 ) -> Result<Items<Function>, ScopeEnd>
-    requires { Knows definitions.now }
+    requires { IsIndexed definitions.now }
     ensures answer { Gives result (spec.resolved_functions definitions.now.names.now
         definitions.now.functions.now) }
     ensures few { OnOk result (All HasFewParams definitions.now.functions.now) }

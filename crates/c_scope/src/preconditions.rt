@@ -2,7 +2,7 @@
 ghost use Rattle.std.specs.Prelude.{◌≡◌, ◌<◌, ◌^◌, length, IfErr};
 ghost use Rattle.c_names.specs.Spellings.{IsWithin};
 ghost use Rattle.c_scope.specs.Preconditions.{param_of, resolved_pre, IsUnknownOrMemory};
-ghost use Rattle.c_scope.specs.Expressions.{known};
+ghost use Rattle.c_scope.specs.Expressions.{ok_or_unknown};
 ghost use Rattle.c_scope.specs.Steps.{Gives};
 
 use crate::error::ScopeEnd;
@@ -57,7 +57,7 @@ fn slot_at(names: &Params, token: u32) -> Result<u32, ScopeEnd>
     requires within { IsWithin names.now.source.now names.now.tokens.now }
     requires pre_within { IsWithin names.now.pre_source.now names.now.pre_tokens.now }
     requires few { length names.now.numbers.now < 2 ^ 32 }
-    ensures answer { Gives result (known token
+    ensures answer { Gives result (ok_or_unknown token
         (param_of names.now.source.now names.now.tokens.now names.now.numbers.now
         names.now.pre_source.now names.now.pre_tokens.now token)) }
     ensures refusals { IfErr result IsUnknownOrMemory }

@@ -20,7 +20,7 @@ use std::alloc::Global;
 // A program with its names resolved, or its first fault, where these are the names of its tokens.
 fn resolve_named(alloc: Global, names: &[u32], program: &Program) -> Result<Resolved, ScopeEnd>
     requires { length program.now.functions < 2 ^ 32 }
-    ensures { Gives result (spec.behind_definitions names.now
+    ensures { Gives result (spec.after_definitions names.now
         (definition_spec.definition_fault names.now program.now.functions program.now.prototypes)
         program.now) }
 {

@@ -25,11 +25,11 @@ impl Scope {
     ghost use Rattle.c_names.specs.Names as name_spec;
     ghost use Rattle.c_scope.specs.Slots as spec;
     ghost use Rattle.c_scope.specs.Slots.{GivesScope};
-    ghost use Rattle.c_scope.specs.Views.{seen};
+    ghost use Rattle.c_scope.specs.Views.{model_of};
 
     /// No variable is in scope.
     pub fn new(alloc: Global) -> Scope
-        ensures { seen result ≡ spec.nothing }
+        ensures { model_of result ≡ spec.empty_scope }
     {
         Scope {
             names: Items::new(alloc),
@@ -39,7 +39,7 @@ impl Scope {
 
     /// The scope again; fails only when out of memory.
     pub fn try_clone(&self, alloc: Global) -> Result<Scope, NoMemory>
-        ensures { IfOk result (λ s. seen s ≡ seen self.now) }
+        ensures { IfOk result (λ s. model_of s ≡ model_of self.now) }
     {
         Ok(Scope {
             names: Items::from_slice(alloc, self.names.as_slice())?,
@@ -49,7 +49,7 @@ impl Scope {
 
     /// A scope that begins inside this one; fails only when out of memory.
     pub fn opened(&self, alloc: Global) -> Result<Scope, NoMemory>
-        ensures { IfOk result (λ s. seen s ≡ spec.opened (seen self.now)) }
+        ensures { IfOk result (λ s. model_of s ≡ spec.inner_scope (model_of self.now)) }
     {
         Ok(Scope {
             names: Items::from_slice(alloc, self.names.as_slice())?,
@@ -61,8 +61,8 @@ impl Scope {
     pub fn declare(&mut self, names: &[u32], token: u32) -> Result<u32, ScopeEnd>
         ensures slot { IfOk result (λ slot. slot ≡ length self.old.names) }
         ensures more { OnOk result (length self.new.names ≡ length self.old.names + 1) }
-        ensures scope { GivesScope result (seen self.new)
-            (spec.declare token (name_spec.name_at names.now token) (seen self.old)) }
+        ensures scope { GivesScope result (model_of self.new)
+            (spec.declare token (name_spec.name_at names.now token) (model_of self.old)) }
     {
         let name = name_at(names, token);
         if self.is_declared(name) {
@@ -78,7 +78,7 @@ impl Scope {
 
     // Whether the innermost scope has a variable of this name.
     fn is_declared(&self, name: u32) -> bool
-        ensures { result ≡ spec.is_declared (seen self.now) name }
+        ensures { result ≡ spec.is_declared (model_of self.now) name }
     {
         self.names.as_slice()[self.outer..].contains(&name)
     }

@@ -1,9 +1,9 @@
 //! The names of statements, in the order of the text.
 ghost use Rattle.std.specs.Prelude.{◌≡◌, map, option_map};
 ghost use Rattle.c_scope.specs.Statements as spec;
-ghost use Rattle.c_scope.specs.Statements.{GivesPlaced, resolved_stmt};
+ghost use Rattle.c_scope.specs.Statements.{GivesScoped, resolved_stmt};
 ghost use Rattle.c_scope.specs.Steps.{Gives};
-ghost use Rattle.c_scope.specs.Views.{Knows, seen};
+ghost use Rattle.c_scope.specs.Views.{IsIndexed, model_of};
 
 use crate::definitions::Definitions;
 use crate::error::ScopeEnd;
@@ -20,9 +20,9 @@ fn resolve_optional(
     scope: &Scope,
     e: &Option<Expr>,
 ) -> Result<Option<Expr>, ScopeEnd>
-    requires { Knows definitions.now }
+    requires { IsIndexed definitions.now }
     ensures { Gives result (spec.resolved_optional definitions.now.names.now
-        definitions.now.functions.now (seen scope.now) e.now) }
+        definitions.now.functions.now (model_of scope.now) e.now) }
 {
     match e {
         None => Ok(None),
@@ -38,10 +38,10 @@ fn declare(
     token: u32,
     value: &Option<Expr>,
 ) -> Result<Stmt, ScopeEnd>
-    requires { Knows definitions.now }
-    ensures { GivesPlaced result (seen scope.new)
-        (spec.declared definitions.now.names.now definitions.now.functions.now token value.now
-        (seen scope.old)) }
+    requires { IsIndexed definitions.now }
+    ensures { GivesScoped result (model_of scope.new)
+        (spec.declaration_of definitions.now.names.now definitions.now.functions.now token value.now
+        (model_of scope.old)) }
 {
     let slot = scope.declare(definitions.names, token)?;
     let value = resolve_optional(alloc, definitions, scope, value)?;
@@ -56,10 +56,10 @@ fn assign(
     token: u32,
     value: &Expr,
 ) -> Result<Stmt, ScopeEnd>
-    requires { Knows definitions.now }
-    ensures { GivesPlaced result (seen scope.now)
-        (spec.assigned definitions.now.names.now definitions.now.functions.now token value.now
-        (seen scope.now)) }
+    requires { IsIndexed definitions.now }
+    ensures { GivesScoped result (model_of scope.now)
+        (spec.assignment_of definitions.now.names.now definitions.now.functions.now token value.now
+        (model_of scope.now)) }
 {
     let slot = slot_at(definitions.names, scope, token)?;
     let value = resolve_expr(alloc, definitions, scope, value)?;
@@ -86,10 +86,10 @@ pub fn resolve_stmt(
     in_loop: bool,
     s: &Stmt,
 ) -> Result<Stmt, ScopeEnd>
-    requires { Knows definitions.now }
-    ensures { GivesPlaced result (seen scope.new)
+    requires { IsIndexed definitions.now }
+    ensures { GivesScoped result (model_of scope.new)
         (resolved_stmt definitions.now.names.now definitions.now.functions.now s.now
-        (seen scope.old) in_loop) }
+        (model_of scope.old) in_loop) }
 {
     match s {
         Stmt::Empty => Ok(Stmt::Empty),
@@ -137,9 +137,9 @@ fn inside(
     in_loop: bool,
     part: &Boxed<Stmt>,
 ) -> Result<Boxed<Stmt>, ScopeEnd>
-    requires { Knows definitions.now }
-    ensures { Gives result (spec.inside (resolved_stmt definitions.now.names.now
-        definitions.now.functions.now part.now) (seen scope.now) in_loop) }
+    requires { IsIndexed definitions.now }
+    ensures { Gives result (spec.nested (resolved_stmt definitions.now.names.now
+        definitions.now.functions.now part.now) (model_of scope.now) in_loop) }
 {
     let mut within = scope.try_clone(alloc)?;
     let part = resolve_stmt(alloc, definitions, &mut within, in_loop, part.get())?;
@@ -155,10 +155,10 @@ fn inside_optional(
     in_loop: bool,
     part: &Option<Boxed<Stmt>>,
 ) -> Result<Option<Boxed<Stmt>>, ScopeEnd>
-    requires { Knows definitions.now }
-    ensures { Gives result (spec.inside_optional
+    requires { IsIndexed definitions.now }
+    ensures { Gives result (spec.nested_optional
         (option_map (resolved_stmt definitions.now.names.now definitions.now.functions.now)
-        part.now) (seen scope.now) in_loop) }
+        part.now) (model_of scope.now) in_loop) }
 {
     match part {
         None => Ok(None),
@@ -179,10 +179,10 @@ pub fn in_order(
     in_loop: bool,
     statements: &Items<Stmt>,
 ) -> Result<Items<Stmt>, ScopeEnd>
-    requires { Knows definitions.now }
-    ensures { GivesPlaced result (seen scope.new)
+    requires { IsIndexed definitions.now }
+    ensures { GivesScoped result (model_of scope.new)
         (spec.in_order (map (resolved_stmt definitions.now.names.now definitions.now.functions.now)
-        statements.now) (seen scope.old) in_loop) }
+        statements.now) (model_of scope.old) in_loop) }
 {
     let mut resolved = Items::new(alloc);
     for statement in statements.as_slice() {

@@ -20,15 +20,15 @@ use Rattle.c_assigned.specs.Sets.{Assigned, is_readable, first_unset}
 use Rattle.c_assigned.proofs.Reading.{unset-append}
 use Rattle.c_names.specs.Names.{name_at}
 use Rattle.c_names.specs.Slots.{slot_of}
-use Rattle.c_scope.specs.Expressions.{known, count_at, called, slot_at, expr_level, resolved_expr}
-use Rattle.c_scope.specs.Steps.{Found, on_found, all_found}
+use Rattle.c_scope.specs.Expressions.{ok_or_unknown, count_at, callee_of, slot_at, expr_level, resolved_expr}
+use Rattle.c_scope.specs.Steps.{Checked, and_then, sequence}
 use Rattle.c_scope.specs.declared.error.ScopeEnd.TheVariants.{WrongCount}
 use Rattle.c_scope.proofs.ResolvedPrograms.{counted}
 use Rattle.c_scoped.proofs.Steps.{same_Ok, no_fault, found, none_first, none_second, both_true}
 use Rattle.c_scoped.proofs.Places.{definition_within}
 
 -- a name that is known is found
-pub known_is : (token place : ℕ) (o : Option ℕ) → known token o ≡ Ok place → o ≡ Some place
+pub known_is : (token place : ℕ) (o : Option ℕ) → ok_or_unknown token o ≡ Ok place → o ≡ Some place
 known_is token place None is = no_fault _ place is
 known_is token place (Some k) is = ap Some (same_Ok k place is)
 
@@ -41,7 +41,7 @@ element_within (x ∷ xs) (suc i) h = element_within xs i (omega (arith, h))
 
 -- a place with the right count is the one that is answered
 right_count : (token here place : ℕ) (is_right : Bool) →
-    ◌≡◌ {A = Found ℕ} (if is_right then Ok here else Err (WrongCount token)) (Ok place) →
+    ◌≡◌ {A = Checked ℕ} (if is_right then Ok here else Err (WrongCount token)) (Ok place) →
     (here ≡ place) × (is_right ≡ true)
 right_count token here place true is = (same_Ok here place is, refl)
 right_count token here place false is = no_fault _ place is
@@ -62,7 +62,7 @@ module _ (names : List ℕ) (functions : List Function) (counts : List ℕ)
     (counts_are : (i : ℕ) → slice_get counts i ≡ counted (slice_get functions i)) where
   -- what is called takes n arguments
   called_takes : (token count place : ℕ) (slot : Option ℕ) →
-      called names functions token count slot ≡ Ok place → takes (slice_get counts place) count ≡
+      callee_of names functions token count slot ≡ Ok place → takes (slice_get counts place) count ≡
       true
   called_takes token count place (Some k) is = no_fault _ place is
   called_takes token count place None is =
@@ -84,14 +84,14 @@ module _ (names : List ℕ) (functions : List Function) (counts : List ℕ)
     abbrev unset : List ℕ → Option ℕ
     unset = first_unset names scope set own
 
-    abbrev resolved : Expr → Found Expr
+    abbrev resolved : Expr → Checked Expr
     resolved = resolved_expr names functions scope
 
     abbrev IsFine : Expr → Type 0
     IsFine x = is_scoped_expr counts n x ≡ true
 
     -- what was resolved is in order, where none of these variables is read unset
-    abbrev Reads : Found Expr → List ℕ → Type 0
+    abbrev Reads : Checked Expr → List ℕ → Type 0
     Reads whole vs = (x : Expr) → whole ≡ Ok x → unset vs ≡ None → IsFine x
 
     abbrev Part : Type 0
@@ -104,7 +104,7 @@ module _ (names : List ℕ) (functions : List Function) (counts : List ℕ)
     literal_fine : (k : ℤ) → Reads (Ok (Lit k)) []
     literal_fine k x is none = subst IsFine (same_Ok (Lit k) x is) (scoped-Lit counts n k)
 
-    variable_fine : (token : ℕ) → Reads (on_found (slot_at names functions scope token)
+    variable_fine : (token : ℕ) → Reads (and_then (slot_at names functions scope token)
         (λ slot. Ok (Var slot))) (token ∷ [])
     variable_fine token x is none =
         let h = found _ _ x is in
@@ -112,15 +112,15 @@ module _ (names : List ℕ) (functions : List Function) (counts : List ℕ)
         let small : h.0 < n = below token h.0 (known_is token h.0 _ h.1) readable in
         subst IsFine (same_Ok (Var h.0) x h.2) (scoped-Var counts n h.0 ∙ lt-ltb h.0 n small)
 
-    unary_fine : (op : UnOp) (a : Found Expr) (us : List ℕ) → Reads a us →
-        Reads (on_found a (λ u. Ok (Unary op u))) us
+    unary_fine : (op : UnOp) (a : Checked Expr) (us : List ℕ) → Reads a us →
+        Reads (and_then a (λ u. Ok (Unary op u))) us
     unary_fine op a us fine x is none =
         let h = found _ _ x is in
         subst IsFine (same_Ok (Unary op h.0) x h.2)
         (scoped-Unary counts n op h.0 ∙ fine h.0 h.1 none)
 
-    binary_fine : (op : BinOp) (a b : Found Expr) (us vs : List ℕ) → Reads a us → Reads b vs
-        → Reads (on_found a (λ u. on_found b (λ v. Ok (Binary op u v)))) (us ++ vs)
+    binary_fine : (op : BinOp) (a b : Checked Expr) (us vs : List ℕ) → Reads a us → Reads b vs
+        → Reads (and_then a (λ u. and_then b (λ v. Ok (Binary op u v)))) (us ++ vs)
     binary_fine op a b us vs left right x is none =
         let parted = sym (unset-append names scope set own us vs) ∙ none in
         let h = found _ _ x is in
@@ -129,8 +129,8 @@ module _ (names : List ℕ) (functions : List Function) (counts : List ℕ)
         (right g.0 g.1 (none_second _ _ parted)) in
         subst IsFine (same_Ok (Binary op h.0 g.0) x g.2) (scoped-Binary counts n op h.0 g.0 ∙ fine)
 
-    choose_fine : (c a b : Found Expr) (ts us vs : List ℕ) → Reads c ts → Reads a us → Reads b vs
-        → Reads (on_found c (λ t. on_found a (λ u. on_found b (λ v. Ok (Choose t u v)))))
+    choose_fine : (c a b : Checked Expr) (ts us vs : List ℕ) → Reads c ts → Reads a us → Reads b vs
+        → Reads (and_then c (λ t. and_then a (λ u. and_then b (λ v. Ok (Choose t u v)))))
         (ts ++ us ++ vs)
     choose_fine c a b ts us vs test left right x is none =
         let parted = sym (unset-append names scope set own (ts ++ us) vs) ∙ none in
@@ -149,7 +149,7 @@ module _ (names : List ℕ) (functions : List Function) (counts : List ℕ)
       pub fine : list_all (is_scoped_expr counts n) xs ≡ true
       pub number : count ≡ length xs
 
-    arguments_fine : (ps : List Part) (xs : List Expr) → all_found (map resolved (trees ps)) ≡ Ok xs
+    arguments_fine : (ps : List Part) (xs : List Expr) → sequence (map resolved (trees ps)) ≡ Ok xs
         → unset (concat (map variables (trees ps))) ≡ None →
         Arguments xs (length (map resolved (trees ps)))
     arguments_fine [] xs is none =
@@ -166,9 +166,9 @@ module _ (names : List ℕ) (functions : List Function) (counts : List ℕ)
         (record { fine = fine; number = ap suc others.number })
 
     call_fine : (token : ℕ) (ps : List Part) → let arguments = map resolved (trees ps) in
-        Reads (on_found (called names functions token (length arguments)
+        Reads (and_then (callee_of names functions token (length arguments)
         (slot_of scope (name_at names token)))
-        (λ place. on_found (all_found arguments) (λ xs. Ok (Apply place xs))))
+        (λ place. and_then (sequence arguments) (λ xs. Ok (Apply place xs))))
         (concat (map variables (trees ps)))
     call_fine token ps x is none =
         let count = length (map resolved (trees ps)) in
@@ -181,7 +181,7 @@ module _ (names : List ℕ) (functions : List Function) (counts : List ℕ)
         (scoped-Apply counts n h.0 g.0 ∙ both_true _ _ right arguments.fine)
 
     level : (y : Expr-F Part) → Reads (expr_level names functions scope
-        (map-Expr Expr (Found Expr) resolved (map-Expr Part Expr (λ p. p.0) y)))
+        (map-Expr Expr (Checked Expr) resolved (map-Expr Part Expr (λ p. p.0) y)))
         (variables_level (map-Expr Expr (List ℕ) variables (map-Expr Part Expr (λ p. p.0) y)))
     level (Expr-F.Lit k) = literal_fine k
     level (Expr-F.Var token) = variable_fine token
@@ -197,13 +197,13 @@ module _ (names : List ℕ) (functions : List Function) (counts : List ℕ)
         Reads (resolved (roll-Expr x)) (variables (roll-Expr x))
     step x y is =
         let P : Expr-F Expr → Type 0 = λ z. Reads
-        (expr_level names functions scope (map-Expr Expr (Found Expr) resolved z))
+        (expr_level names functions scope (map-Expr Expr (Checked Expr) resolved z))
         (variables_level (map-Expr Expr (List ℕ) variables z)) in
         let opened : P x = subst P is (level y) in
         let V : List ℕ → Type 0 = λ vs. Reads
-        (expr_level names functions scope (map-Expr Expr (Found Expr) resolved x)) vs in
-        let M : Found Expr → Type 0 = λ m. Reads m (variables (roll-Expr x)) in
-        subst M (sym (fold-roll-Expr (Found Expr) (expr_level names functions scope) x))
+        (expr_level names functions scope (map-Expr Expr (Checked Expr) resolved x)) vs in
+        let M : Checked Expr → Type 0 = λ m. Reads m (variables (roll-Expr x)) in
+        subst M (sym (fold-roll-Expr (Checked Expr) (expr_level names functions scope) x))
         (subst V (sym (fold-roll-Expr (List ℕ) variables_level x)) opened)
 
     -- an expression that reads no variable unset, with its names resolved, has slots below n alone

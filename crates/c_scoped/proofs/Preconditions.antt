@@ -16,20 +16,20 @@ use Rattle.c_ast.specs.declared.expr.Expr.TheVariants.{Lit, Var, Unary, Binary, 
 use Rattle.c_ast.specs.declared.expr.Expr.TheOpen.{Expr-F}
 use Rattle.c_ast.specs.declared.expr.Expr.TheFolds.{fold-Expr, map-Expr, fold-roll-Expr, ind-Expr}
 use Rattle.c_ast.specs.declared.expr.Expr.TheViews.{roll-Expr}
-use Rattle.c_scope.specs.Expressions.{known}
+use Rattle.c_scope.specs.Expressions.{ok_or_unknown}
 use Rattle.c_scope.specs.Preconditions.{pre_level, param_of, resolved_pre}
-use Rattle.c_scope.specs.Steps.{Found, on_found}
+use Rattle.c_scope.specs.Steps.{Checked, and_then}
 use Rattle.c_scope.specs.declared.error.ScopeEnd.TheVariants.{UnknownName}
 use Rattle.c_scoped.proofs.Steps.{same_Ok, no_fault, found}
 use Rattle.c_scoped.proofs.Places.{parameter_within}
 use Rattle.c_scoped.proofs.Expressions.{known_is}
 
 module _ (slot : ℕ → Option ℕ) where
-  abbrev resolved : Expr → Found Expr
-  resolved = fold-Expr (Found Expr) (pre_level slot)
+  abbrev resolved : Expr → Checked Expr
+  resolved = fold-Expr (Checked Expr) (pre_level slot)
 
   -- what was resolved is in these forms
-  abbrev HasForms : Found Expr → Forms → Type 0
+  abbrev HasForms : Checked Expr → Forms → Type 0
   HasForms whole these = (x : Expr) → whole ≡ Ok x → forms x ≡ these
 
   abbrev FormPart : Type 0
@@ -42,21 +42,22 @@ module _ (slot : ℕ → Option ℕ) where
       (record { straight = false; row = false })
   call_forms token x is = no_fault (UnknownName token) x is
 
-  var_forms : (token : ℕ) → HasForms (on_found (known token (slot token)) (λ s. Ok (Var s)))
+  var_forms : (token : ℕ) → HasForms (and_then (ok_or_unknown token (slot token)) (λ s. Ok (Var s)))
       (forms_level (Expr-F.Var token))
   var_forms token x is =
-      let h = found (known token (slot token)) _ x is in ap forms (sym (same_Ok (Var h.0) x h.2)) ∙
+      let h = found (ok_or_unknown token (slot token)) _ x is in
+      ap forms (sym (same_Ok (Var h.0) x h.2)) ∙
       forms-Var h.0
 
-  unary_forms : (op : UnOp) (a : Found Expr) (f : Forms) → HasForms a f →
-      HasForms (on_found a (λ u. Ok (Unary op u))) (forms_level (Expr-F.Unary op f))
+  unary_forms : (op : UnOp) (a : Checked Expr) (f : Forms) → HasForms a f →
+      HasForms (and_then a (λ u. Ok (Unary op u))) (forms_level (Expr-F.Unary op f))
   unary_forms op a f fits x is =
       let h = found _ _ x is in
       ap forms (sym (same_Ok (Unary op h.0) x h.2)) ∙ forms-Unary op h.0 ∙
       ap (λ k. forms_level (Expr-F.Unary op k)) (fits h.0 h.1)
 
-  binary_forms : (op : BinOp) (a b : Found Expr) (f g : Forms) → HasForms a f → HasForms b g
-      → HasForms (on_found a (λ u. on_found b (λ v. Ok (Binary op u v))))
+  binary_forms : (op : BinOp) (a b : Checked Expr) (f g : Forms) → HasForms a f → HasForms b g
+      → HasForms (and_then a (λ u. and_then b (λ v. Ok (Binary op u v))))
       (forms_level (Expr-F.Binary op f g))
   binary_forms op a b f g left right x is =
       let h = found _ _ x is in
@@ -64,8 +65,8 @@ module _ (slot : ℕ → Option ℕ) where
       ap forms (sym (same_Ok (Binary op h.0 k.0) x k.2)) ∙ forms-Binary op h.0 k.0
       ∙ (λ i. forms_level (Expr-F.Binary op (left h.0 h.1 i) (right k.0 k.1 i)))
 
-  choose_forms : (c a b : Found Expr) (e f g : Forms) →
-      HasForms (on_found c (λ t. on_found a (λ u. on_found b (λ v. Ok (Choose t u v)))))
+  choose_forms : (c a b : Checked Expr) (e f g : Forms) →
+      HasForms (and_then c (λ t. and_then a (λ u. and_then b (λ v. Ok (Choose t u v)))))
       (forms_level (Expr-F.Choose e f g))
   choose_forms c a b e f g x is =
       let t = found c _ x is in
@@ -74,7 +75,7 @@ module _ (slot : ℕ → Option ℕ) where
       ap forms (sym (same_Ok (Choose t.0 h.0 k.0) x k.2)) ∙ forms-Choose t.0 h.0 k.0
 
   form_level : (y : Expr-F FormPart) → HasForms
-      (pre_level slot (map-Expr Expr (Found Expr) resolved (map-Expr FormPart Expr (λ p. p.0) y)))
+      (pre_level slot (map-Expr Expr (Checked Expr) resolved (map-Expr FormPart Expr (λ p. p.0) y)))
       (forms_level (map-Expr Expr Forms forms (map-Expr FormPart Expr (λ p. p.0) y)))
   form_level (Expr-F.Lit k) = literal_forms k
   form_level (Expr-F.Var token) = var_forms token
@@ -89,13 +90,13 @@ module _ (slot : ℕ → Option ℕ) where
       HasForms (resolved (roll-Expr x)) (forms (roll-Expr x))
   form_step x y is =
       let P : Expr-F Expr → Type 0 = λ z. HasForms
-      (pre_level slot (map-Expr Expr (Found Expr) resolved z))
+      (pre_level slot (map-Expr Expr (Checked Expr) resolved z))
       (forms_level (map-Expr Expr Forms forms z)) in
       let opened : P x = subst P is (form_level y) in
       let V : Forms → Type 0 = λ f. HasForms (pre_level slot
-      (map-Expr Expr (Found Expr) resolved x)) f in
-      let M : Found Expr → Type 0 = λ m. HasForms m (forms (roll-Expr x)) in
-      subst M (sym (fold-roll-Expr (Found Expr) (pre_level slot) x))
+      (map-Expr Expr (Checked Expr) resolved x)) f in
+      let M : Checked Expr → Type 0 = λ m. HasForms m (forms (roll-Expr x)) in
+      subst M (sym (fold-roll-Expr (Checked Expr) (pre_level slot) x))
       (subst V (sym (fold-roll-Expr Forms forms_level x)) opened)
 
   forms_kept : (e : Expr) → HasForms (resolved e) (forms e)
@@ -111,7 +112,7 @@ module _ (slot : ℕ → Option ℕ) where
       pub below : AreBelow (variables x)
       pub silent : calls x ≡ []
 
-    abbrev Bounded : Found Expr → Type 0
+    abbrev Bounded : Checked Expr → Type 0
     Bounded whole = (x : Expr) → whole ≡ Ok x → IsPlain x
 
     abbrev BoundPart : Type 0
@@ -131,7 +132,8 @@ module _ (slot : ℕ → Option ℕ) where
     call_bounded : (token : ℕ) → Bounded (Err (UnknownName token))
     call_bounded token x is = no_fault (UnknownName token) x is
 
-    var_bounded : (token : ℕ) → Bounded (on_found (known token (slot token)) (λ s. Ok (Var s)))
+    var_bounded : (token : ℕ) → Bounded (and_then (ok_or_unknown token (slot token))
+        (λ s. Ok (Var s)))
     var_bounded token x is =
         let h = found _ _ x is in
         let small : h.0 < n = within token h.0 (known_is token h.0 _ h.1) in
@@ -143,8 +145,8 @@ module _ (slot : ℕ → Option ℕ) where
               calls-Var h.0;
         })
 
-    unary_bounded : (op : UnOp) (a : Found Expr) → Bounded a →
-        Bounded (on_found a (λ u. Ok (Unary op u)))
+    unary_bounded : (op : UnOp) (a : Checked Expr) → Bounded a →
+        Bounded (and_then a (λ u. Ok (Unary op u)))
     unary_bounded op a bounded x is =
         let h = found _ _ x is in
         let inner = bounded h.0 h.1 in
@@ -155,8 +157,8 @@ module _ (slot : ℕ → Option ℕ) where
               calls-Unary op h.0 ∙ inner.silent;
         })
 
-    binary_bounded : (op : BinOp) (a b : Found Expr) → Bounded a → Bounded b →
-        Bounded (on_found a (λ u. on_found b (λ v. Ok (Binary op u v))))
+    binary_bounded : (op : BinOp) (a b : Checked Expr) → Bounded a → Bounded b →
+        Bounded (and_then a (λ u. and_then b (λ v. Ok (Binary op u v))))
     binary_bounded op a b left right x is =
         let h = found _ _ x is in
         let k = found _ _ x h.2 in
@@ -168,8 +170,8 @@ module _ (slot : ℕ → Option ℕ) where
           silent = calls-Binary op h.0 k.0 ∙ (λ i. first.silent i ++ second.silent i);
         })
 
-    choose_bounded : (c a b : Found Expr) → Bounded c → Bounded a → Bounded b →
-        Bounded (on_found c (λ t. on_found a (λ u. on_found b (λ v. Ok (Choose t u v)))))
+    choose_bounded : (c a b : Checked Expr) → Bounded c → Bounded a → Bounded b →
+        Bounded (and_then c (λ t. and_then a (λ u. and_then b (λ v. Ok (Choose t u v)))))
     choose_bounded c a b test left right x is =
         let t = found _ _ x is in
         let h = found _ _ x t.2 in
@@ -187,7 +189,7 @@ module _ (slot : ℕ → Option ℕ) where
         })
 
     bound_level : (y : Expr-F BoundPart) → Bounded
-        (pre_level slot (map-Expr Expr (Found Expr) resolved
+        (pre_level slot (map-Expr Expr (Checked Expr) resolved
         (map-Expr BoundPart Expr (λ p. p.0) y)))
     bound_level (Expr-F.Lit k) = literal_bounded k
     bound_level (Expr-F.Var token) = var_bounded token
@@ -201,10 +203,10 @@ module _ (slot : ℕ → Option ℕ) where
         x → Bounded (resolved (roll-Expr x))
     bound_step x y is =
         let P : Expr-F Expr → Type 0 = λ z. Bounded
-        (pre_level slot (map-Expr Expr (Found Expr) resolved z)) in
+        (pre_level slot (map-Expr Expr (Checked Expr) resolved z)) in
         let opened : P x = subst P is (bound_level y) in
-        let M : Found Expr → Type 0 = λ m. Bounded m in
-        subst M (sym (fold-roll-Expr (Found Expr) (pre_level slot) x)) opened
+        let M : Checked Expr → Type 0 = λ m. Bounded m in
+        subst M (sym (fold-roll-Expr (Checked Expr) (pre_level slot) x)) opened
 
     all_bounded : (e : Expr) → Bounded (resolved e)
     all_bounded = ind-Expr (λ e. Bounded (resolved e)) bound_step

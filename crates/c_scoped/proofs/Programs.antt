@@ -18,18 +18,18 @@ use Rattle.c_assigned.specs.Sets.{Assigned}
 use Rattle.c_assigned.specs.declared.fault.Fault.{Fault}
 use Rattle.c_names.specs.Names.{name_at, names_of}
 use Rattle.c_scope.specs.Definitions.{definition_fault}
-use Rattle.c_scope.specs.Functions.{numbered, with_params, resolved_function, resolved_functions}
-use Rattle.c_scope.specs.Programs.{flaw_or, assigned_fault, behind_definitions, behind_names, scope_of}
-use Rattle.c_scope.specs.Slots.{Scope, nothing}
+use Rattle.c_scope.specs.Functions.{slots_from, with_params, resolved_function, resolved_functions}
+use Rattle.c_scope.specs.Programs.{fault_or, assigned_fault, after_definitions, after_names, scope_of}
+use Rattle.c_scope.specs.Slots.{Scope, empty_scope}
 use Rattle.c_scope.specs.Statements as Scoping
-use Rattle.c_scope.specs.Statements.{Placed, resolved_stmt}
-use Rattle.c_scope.specs.Steps.{all_found}
+use Rattle.c_scope.specs.Statements.{Scoped, resolved_stmt}
+use Rattle.c_scope.specs.Steps.{sequence}
 use Rattle.c_scope.specs.declared.error.ScopeEnd.{ScopeEnd}
 use Rattle.c_scope.proofs.ResolvedPrograms.{counted, counts_kept}
 use Rattle.c_scoped.proofs.Steps.{same_Ok, no_fault, found, both_true}
 use Rattle.c_scoped.proofs.Statements.{declared_names, list_kept}
 
-numbered_length : {A : Type 0} (slot : ℕ) (xs : List A) → length (numbered slot xs) ≡ length xs
+numbered_length : {A : Type 0} (slot : ℕ) (xs : List A) → length (slots_from slot xs) ≡ length xs
 numbered_length slot [] = refl
 numbered_length slot (x ∷ xs) = ap suc (numbered_length (slot + 1) xs)
 
@@ -52,14 +52,14 @@ no_unset name None behind is = refl
 no_unset name (Some token) behind is = absurd (let no : ⊥ = cc in no)
 
 -- where no function has a fault, the first hasn't, and the others haven't
-first_flaw : (flaw : Option Fault) (later : Option ScopeEnd) → flaw_or flaw later ≡ None →
+first_flaw : (flaw : Option Fault) (later : Option ScopeEnd) → fault_or flaw later ≡ None →
     (flaw ≡ None) × (later ≡ None)
 first_flaw None later is = (refl, is)
 first_flaw (Some flaw) later is = absurd (let no : ⊥ = cc in no)
 
 -- a program that passed has no such fault, and these functions
 passed_names : (fault : Option ScopeEnd) (fs : List Function) (r : Resolved) →
-    behind_names fault fs ≡ Ok r → (fault ≡ None) × (fs ≡ r.functions)
+    after_names fault fs ≡ Ok r → (fault ≡ None) × (fs ≡ r.functions)
 passed_names None fs r is =
     (refl, ap (λ (q : Resolved). q.functions) (same_Ok (record { functions = fs }) r is))
 passed_names (Some fault) fs r is = no_fault fault r is
@@ -69,7 +69,7 @@ record IsPassed (names : List ℕ) (p : Program) (r : Resolved) : Type 0 where
   pub faultless : assigned_fault names p.functions ≡ None
 
 passed_all : (names : List ℕ) (fault : Option ScopeEnd) (p : Program) (r : Resolved) →
-    behind_definitions names fault p ≡ Ok r → IsPassed names p r
+    after_definitions names fault p ≡ Ok r → IsPassed names p r
 passed_all names (Some fault) p r is = no_fault fault r is
 passed_all names None p r is =
     let h = found _ _ r is in
@@ -79,15 +79,15 @@ passed_all names None p r is =
 module _ (names : List ℕ) (functions : List Function) where
   -- a function with this body
   abbrev with_body : Function → List Stmt → Function
-  with_body f body = record { name = f.name; params = numbered 0 f.params; body = body }
+  with_body f body = record { name = f.name; params = slots_from 0 f.params; body = body }
 
   -- what the parts of a function were resolved to
   record Parts (f g : Function) : Type 0 where
     pub scope : Scope
-    pub body : Placed (List Stmt)
-    pub declared : with_params names f.params nothing ≡ Ok scope
+    pub body : Scoped (List Stmt)
+    pub declared : with_params names f.params empty_scope ≡ Ok scope
     pub placed : Scoping.in_order (map (resolved_stmt names functions) f.body) scope false ≡ Ok body
-    pub whole : with_body f body.what ≡ g
+    pub whole : with_body f body.tree ≡ g
 
   parts_of : (f g : Function) → resolved_function names functions f ≡ Ok g → Parts f g
   parts_of f g is =
@@ -99,7 +99,7 @@ module _ (names : List ℕ) (functions : List Function) where
         declared = h.1;
         placed = b.1;
         whole =
-            same_Ok (with_body f b.0.what) g b.2;
+            same_Ok (with_body f b.0.tree) g b.2;
       }
 
   -- a function keeps the number of its parameters
@@ -110,7 +110,7 @@ module _ (names : List ℕ) (functions : List Function) where
       numbered_length 0 f.params
 
   -- and all do
-  same_counts : (fs gs : List Function) → all_found (map (resolved_function names functions) fs) ≡
+  same_counts : (fs gs : List Function) → sequence (map (resolved_function names functions) fs) ≡
       Ok gs → parameter_counts gs ≡ parameter_counts fs
   same_counts [] gs is = ap parameter_counts (sym (same_Ok [] gs is))
   same_counts (f ∷ fs) gs is =
@@ -127,7 +127,7 @@ module _ (names : List ℕ) (functions : List Function) (counts : List ℕ)
   function_fine f g is faultless =
       let parts = parts_of names functions f g is in
       let params : map (name_at names) f.params ≡ parts.scope.names =
-      params_in_scope names f.params nothing parts.scope parts.declared in
+      params_in_scope names f.params empty_scope parts.scope parts.declared in
       let set : Assigned = Some (replicate (length f.params) true) in
       let none = no_unset f.name (body_flow names f).flow.unset (body_flow names f).flow.behind
       faultless in
@@ -135,14 +135,15 @@ module _ (names : List ℕ) (functions : List Function) (counts : List ℕ)
       set).flow.unset ≡ None) params none in
       let fine = list_kept names functions counts counts_are f.body parts.scope set false parts.body
       parts.placed none_there in
-      let size : length parts.scope.names ≡ length (numbered 0 f.params) = sym (ap length params) ∙
+      let size : length parts.scope.names ≡ length (slots_from 0 f.params) =
+      sym (ap length params) ∙
       length-map f.params (name_at names) ∙ sym (numbered_length 0 f.params) in
       subst (λ k. is_scoped_function counts k ≡ true) parts.whole
-      (ap (λ n. is_some (slots_in_order (map (slots_after counts) parts.body.what) n)) (sym size) ∙
+      (ap (λ n. is_some (slots_in_order (map (slots_after counts) parts.body.tree) n)) (sym size) ∙
       ap (λ o. is_some o) fine.slots)
 
   -- and so are all
-  functions_fine : (fs gs : List Function) → all_found (map (resolved_function names functions) fs)
+  functions_fine : (fs gs : List Function) → sequence (map (resolved_function names functions) fs)
       ≡ Ok gs → assigned_fault names fs ≡ None → list_all (is_scoped_function counts) gs ≡ true
   functions_fine [] gs is faultless =
       subst (λ ks. list_all (is_scoped_function counts) ks ≡ true) (same_Ok [] gs is) refl

@@ -15,7 +15,7 @@ use Rattle.c_ast.specs.declared.program.Function.{Function}
 use Rattle.c_ast.specs.declared.program.Program.{Program}
 use Rattle.c_ast.specs.declared.program.Resolved.{Resolved}
 use Rattle.c_assigned.specs.Flows as Assigning
-use Rattle.c_assigned.specs.Flows.{Behind, Way, passing, stmt_flow, unset_in}
+use Rattle.c_assigned.specs.Flows.{After, Transfer, fall_through, stmt_flow, unset_in}
 use Rattle.c_assigned.specs.Sets.{Assigned}
 use Rattle.c_names.specs.Names.{name_at, names_of}
 use Rattle.c_scope.specs.Expressions.{slot_at, expr_level, resolved_expr}
@@ -23,44 +23,47 @@ use Rattle.c_scope.specs.Functions.{resolved_functions}
 use Rattle.c_scope.specs.Programs.{scope_of}
 use Rattle.c_scope.specs.Slots.{Scope}
 use Rattle.c_scope.specs.Statements as Scoping
-use Rattle.c_scope.specs.Statements.{Placed, Waiting, in_scope, resolved_stmt}
-use Rattle.c_scope.specs.Steps.{Found, on_found}
+use Rattle.c_scope.specs.Statements.{Scoped, Resolver, pure, resolved_stmt}
+use Rattle.c_scope.specs.Steps.{Checked, and_then}
 use Rattle.c_scope.specs.declared.error.ScopeEnd.TheVariants.{MayBeUnset}
 use Rattle.c_scoped.proofs.Programs.{resolved_is_scoped}
 
 module _ (names : List ℕ) (functions : List Function) where
   expr-Var : (scope : List ℕ) (token : ℕ) → resolved_expr names functions scope (Var token) ≡
-      on_found (slot_at names functions scope token) (λ slot. Ok (Var slot))
+      and_then (slot_at names functions scope token) (λ slot. Ok (Var slot))
   expr-Var scope token =
-      fold_out-Expr (Found Expr) (expr_level names functions scope) (Var token) ∙
+      fold_out-Expr (Checked Expr) (expr_level names functions scope) (Var token) ∙
       rw (outs-Var token) refl
 
   stmt-Declare : (token : ℕ) (e : Expr) (s : Scope) (in_loop : Bool) →
       resolved_stmt names functions (Declare token (Some e)) s in_loop ≡
-      Scoping.declared names functions token (Some e) s
+      Scoping.declaration_of names functions token (Some e) s
   stmt-Declare token e s in_loop =
-      ap (λ (w : Waiting). w s in_loop) (fold_out-Stmt Waiting (Scoping.stmt_level names functions)
+      ap (λ (w : Resolver). w s in_loop) (fold_out-Stmt Resolver
+      (Scoping.stmt_level names functions)
       (Declare token (Some e))) ∙ rw (outs-Declare token (Some e)) refl
 
   stmt-Return : (e : Expr) (s : Scope) (in_loop : Bool) →
       resolved_stmt names functions (Return e) s in_loop ≡
-      on_found (resolved_expr names functions s.names e) (λ v. in_scope s (Return v))
+      and_then (resolved_expr names functions s.names e) (λ v. pure s (Return v))
   stmt-Return e s in_loop =
-      ap (λ (w : Waiting). w s in_loop) (fold_out-Stmt Waiting (Scoping.stmt_level names functions)
+      ap (λ (w : Resolver). w s in_loop) (fold_out-Stmt Resolver
+      (Scoping.stmt_level names functions)
       (Return e)) ∙ rw (outs-Return e) refl
 
 module _ (names : List ℕ) where
   flow-Declare : (token : ℕ) (e : Expr) (scope : List ℕ) (set : Assigned) →
       stmt_flow names (Declare token (Some e)) scope set ≡
-      Assigning.declared names (scope ++ name_at names token ∷ []) set (Some e)
+      Assigning.declaration_flow names (scope ++ name_at names token ∷ []) set (Some e)
   flow-Declare token e scope set =
-      ap (λ (w : Way). w scope set) (fold_out-Stmt Way (Assigning.stmt_level names)
+      ap (λ (w : Transfer). w scope set) (fold_out-Stmt Transfer (Assigning.stmt_level names)
       (Declare token (Some e))) ∙ rw (outs-Declare token (Some e)) refl
 
   flow-Return : (e : Expr) (scope : List ℕ) (set : Assigned) →
-      stmt_flow names (Return e) scope set ≡ passing scope None (unset_in names scope set e)
+      stmt_flow names (Return e) scope set ≡ fall_through scope None (unset_in names scope set e)
   flow-Return e scope set =
-      ap (λ (w : Way). w scope set) (fold_out-Stmt Way (Assigning.stmt_level names) (Return e)) ∙
+      ap (λ (w : Transfer). w scope set) (fold_out-Stmt Transfer (Assigning.stmt_level names)
+      (Return e)) ∙
       rw (outs-Return e) refl
 
 ruleset equations = (expr-Var, stmt-Declare, stmt-Return, flow-Declare, flow-Return, variables-Var)

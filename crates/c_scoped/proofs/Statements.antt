@@ -15,14 +15,14 @@ use Rattle.c_ast.specs.declared.stmt.Stmt.TheViews.{roll-Stmt}
 use Rattle.c_ast.specs.declared.program.Function.{Function}
 use Rattle.c_assigned.specs.Sets.{Assigned, meet, with_slot, is_assigned, may_read, is_readable}
 use Rattle.c_assigned.specs.Flows as Assigning
-use Rattle.c_assigned.specs.Flows.{Way, stmt_flow, unset_in, unset_in_test}
+use Rattle.c_assigned.specs.Flows.{Transfer, stmt_flow, unset_in, unset_in_test}
 use Rattle.c_names.specs.Names.{name_at}
 use Rattle.c_names.specs.Slots.{slot_of}
 use Rattle.c_scope.specs.Expressions.{resolved_expr}
-use Rattle.c_scope.specs.Slots.{Scope, opened, is_declared, declare}
+use Rattle.c_scope.specs.Slots.{Scope, inner_scope, is_declared, declare}
 use Rattle.c_scope.specs.Statements as Scoping
-use Rattle.c_scope.specs.Statements.{Placed, Waiting, in_scope, only_in_loops, resolved_optional, resolved_stmt}
-use Rattle.c_scope.specs.Steps.{Found, on_found, optional}
+use Rattle.c_scope.specs.Statements.{Scoped, Resolver, pure, only_in_loops, resolved_optional, resolved_stmt}
+use Rattle.c_scope.specs.Steps.{Checked, and_then, optional}
 use Rattle.c_scope.specs.declared.error.ScopeEnd.{ScopeEnd}
 use Rattle.c_scope.proofs.ResolvedPrograms.{counted}
 use Rattle.c_scoped.proofs.Steps.{same_Ok, no_fault, found, none_first, none_second, both_true, first_true}
@@ -34,7 +34,7 @@ passed : (fine : Bool) (n : ℕ) → fine ≡ true → only_if fine n ≡ Some n
 passed fine n is = ap (λ (b : Bool). only_if b n) is
 
 by_tests : (f g : ScopeEnd) (after s : Scope) (twice few : Bool) →
-    ◌≡◌ {A = Found Scope} (if twice then Err f else if few then Ok after else Err g) (Ok s) →
+    ◌≡◌ {A = Checked Scope} (if twice then Err f else if few then Ok after else Err g) (Ok s) →
     after ≡ s
 by_tests f g after s true few is = no_fault f s is
 by_tests f g after s false true is = same_Ok after s is
@@ -96,7 +96,7 @@ module _ (names : List ℕ) (functions : List Function) (counts : List ℕ)
     -- so it is in order before its own slot is in scope
     initial : (e x : Option Expr) → optional (option_map
         (resolved_expr names functions (scope ++ name ∷ [])) e) ≡ Ok x
-        → (Assigning.declared names (scope ++ name ∷ []) set e).flow.unset ≡ None →
+        → (Assigning.declaration_flow names (scope ++ name ∷ []) set e).flow.unset ≡ None →
         passes_if_there (is_scoped_expr counts (length scope)) x ≡ true
     initial None x is none =
         subst (λ y. passes_if_there (is_scoped_expr counts (length scope)) y ≡ true)
@@ -110,67 +110,68 @@ module _ (names : List ℕ) (functions : List Function) (counts : List ℕ)
         (same_Ok (Some h.0) x h.2) fine
 
     -- and after it the name is in scope
-    scope_after : (e : Option Expr) → (Assigning.declared names (scope ++ name ∷ []) set e).scope ≡
+    scope_after : (e : Option Expr) → (Assigning.declaration_flow names (scope ++ name ∷ []) set
+        e).scope ≡
         scope ++ name ∷ []
     scope_after None = refl
     scope_after (Some e) = refl
 
-  abbrev resolved : Stmt → Waiting
+  abbrev resolved : Stmt → Resolver
   resolved = resolved_stmt names functions
 
-  abbrev flow : Stmt → Way
+  abbrev flow : Stmt → Transfer
   flow = stmt_flow names
 
   -- a statement that was placed is in order, and so is the scope that sure assignment has after it
-  pub record IsFine (before : ℕ) (after : List ℕ) (placed : Placed Stmt) : Type 0 where
-    pub slots : slots_after counts placed.what before ≡ Some (length placed.scope.names)
+  pub record IsFine (before : ℕ) (after : List ℕ) (placed : Scoped Stmt) : Type 0 where
+    pub slots : slots_after counts placed.tree before ≡ Some (length placed.scope.names)
     pub scope : after ≡ placed.scope.names
 
   -- and so are statements in their order
-  pub record AreFine (before : ℕ) (after : List ℕ) (placed : Placed (List Stmt)) : Type 0 where
-    pub slots : slots_in_order (map (slots_after counts) placed.what) before ≡
+  pub record AreFine (before : ℕ) (after : List ℕ) (placed : Scoped (List Stmt)) : Type 0 where
+    pub slots : slots_in_order (map (slots_after counts) placed.tree) before ≡
         Some (length placed.scope.names)
     pub scope : after ≡ placed.scope.names
 
   -- this holds of what is resolved so, and walked so, where it reads no variable unset
-  abbrev Kept : Waiting → Way → Type 0
+  abbrev Kept : Resolver → Transfer → Type 0
   Kept t way =
-      (s : Scope) (set : Assigned) (in_loop : Bool) (placed : Placed Stmt) → t s in_loop ≡
+      (s : Scope) (set : Assigned) (in_loop : Bool) (placed : Scoped Stmt) → t s in_loop ≡
       Ok placed → (way s.names set).flow.unset ≡ None
       → IsFine (length s.names) (way s.names set).scope placed
 
-  abbrev KeptList : List Waiting → List Way → Type 0
+  abbrev KeptList : List Resolver → List Transfer → Type 0
   KeptList ts ways =
-      (s : Scope) (set : Assigned) (in_loop : Bool) (placed : Placed (List Stmt)) →
+      (s : Scope) (set : Assigned) (in_loop : Bool) (placed : Scoped (List Stmt)) →
       Scoping.in_order ts s in_loop ≡ Ok placed
       → (Assigning.in_order ways s.names set).flow.unset ≡ None →
       AreFine (length s.names) (Assigning.in_order ways s.names set).scope placed
 
   -- of a part that may be left out
-  abbrev KeptPart : Option Waiting → Option Way → Type 0
+  abbrev KeptPart : Option Resolver → Option Transfer → Type 0
   KeptPart t way =
       (s : Scope) (set : Assigned) (in_loop : Bool) (x : Option Stmt) →
-      Scoping.inside_optional t s in_loop ≡ Ok x
-      → (Assigning.inside_optional way s.names set).unset ≡ None →
+      Scoping.nested_optional t s in_loop ≡ Ok x
+      → (Assigning.nested_optional way s.names set).unset ≡ None →
       passes_if_there (λ u. is_fine u (length s.names)) (option_map (slots_after counts) x) ≡
       true
 
   -- a statement that leaves the scope as it was
-  in_place : (t : Stmt) (s : Scope) (placed : Placed Stmt) → slots_after counts t (length s.names) ≡
-      Some (length s.names) → in_scope s t ≡ Ok placed
+  in_place : (t : Stmt) (s : Scope) (placed : Scoped Stmt) → slots_after counts t (length s.names) ≡
+      Some (length s.names) → pure s t ≡ Ok placed
       → IsFine (length s.names) s.names placed
   in_place t s placed fine is =
-      subst (IsFine (length s.names) s.names) (same_Ok (record { what = t; scope = s }) placed is)
+      subst (IsFine (length s.names) s.names) (same_Ok (record { tree = t; scope = s }) placed is)
       (record { slots = fine; scope = refl })
 
   -- a part of a statement
-  inside_kept : (t : Waiting) (way : Way) → Kept t way →
-      (s : Scope) (set : Assigned) (in_loop : Bool) (x : Stmt) → Scoping.inside t s in_loop ≡ Ok x
+  inside_kept : (t : Resolver) (way : Transfer) → Kept t way →
+      (s : Scope) (set : Assigned) (in_loop : Bool) (x : Stmt) → Scoping.nested t s in_loop ≡ Ok x
       → (way s.names set).flow.unset ≡ None → is_fine (slots_after counts x) (length s.names) ≡ true
   inside_kept t way kept s set in_loop x is none =
       let h = found _ _ x is in
       let fine = kept s set in_loop h.0 h.1 none in
-      subst (λ y. is_fine (slots_after counts y) (length s.names) ≡ true) (same_Ok h.0.what x h.2)
+      subst (λ y. is_fine (slots_after counts y) (length s.names) ≡ true) (same_Ok h.0.tree x h.2)
       (ap (λ o. is_some o) fine.slots)
 
   no_part : KeptPart None None
@@ -178,7 +179,7 @@ module _ (names : List ℕ) (functions : List Function) (counts : List ℕ)
       subst (λ y. passes_if_there (λ u. is_fine u (length s.names))
       (option_map (slots_after counts) y) ≡ true) (same_Ok None x is) refl
 
-  one_part : (t : Waiting) (way : Way) → Kept t way → KeptPart (Some t) (Some way)
+  one_part : (t : Resolver) (way : Transfer) → Kept t way → KeptPart (Some t) (Some way)
   one_part t way kept s set in_loop x is none =
       let h = found _ _ x is in
       subst (λ y. passes_if_there (λ u. is_fine u (length s.names))
@@ -188,10 +189,11 @@ module _ (names : List ℕ) (functions : List Function) (counts : List ℕ)
   -- statements in their order
   nothing_kept : KeptList [] []
   nothing_kept s set in_loop placed is none =
-      subst (AreFine (length s.names) s.names) (same_Ok (record { what = []; scope = s }) placed is)
+      subst (AreFine (length s.names) s.names) (same_Ok (record { tree = []; scope = s }) placed is)
       (record { slots = refl; scope = refl })
 
-  more_kept : (t : Waiting) (way : Way) (ts : List Waiting) (ways : List Way) → Kept t way →
+  more_kept : (t : Resolver) (way : Transfer) (ts : List Resolver) (ways : List Transfer) →
+      Kept t way →
       KeptList ts ways → KeptList (t ∷ ts) (way ∷ ways)
   more_kept t way ts ways kept rest_kept s set in_loop placed is none =
       let first = way s.names set in
@@ -202,10 +204,10 @@ module _ (names : List ℕ) (functions : List Function) (counts : List ℕ)
       fine.scope (none_second _ _ none) in
       let others = rest_kept h.0.scope first.flow.behind in_loop g.0 g.1 left in
       subst (AreFine (length s.names) (Assigning.in_order (way ∷ ways) s.names set).scope)
-      (same_Ok (record { what = h.0.what ∷ g.0.what; scope = g.0.scope }) placed g.2)
+      (same_Ok (record { tree = h.0.tree ∷ g.0.tree; scope = g.0.scope }) placed g.2)
       (record {
         slots =
-            ap (option_and_then (slots_in_order (map (slots_after counts) g.0.what))) fine.slots ∙
+            ap (option_and_then (slots_in_order (map (slots_after counts) g.0.tree))) fine.slots ∙
             others.slots;
         scope =
             ap (λ now. (Assigning.in_order ways now first.flow.behind).scope) fine.scope ∙
@@ -233,8 +235,8 @@ module _ (names : List ℕ) (functions : List Function) (counts : List ℕ)
       (sym after) g.1) none in
       let size : n + 1 ≡ length h.0.names = sym (length-append s.names (name ∷ [])) ∙
       ap length after in
-      subst (IsFine n (Assigning.declared names (s.names ++ name ∷ []) set e).scope)
-      (same_Ok (record { what = Declare n g.0; scope = h.0 }) placed g.2)
+      subst (IsFine n (Assigning.declaration_flow names (s.names ++ name ∷ []) set e).scope)
+      (same_Ok (record { tree = Declare n g.0; scope = h.0 }) placed g.2)
       (record {
         slots =
             slots-Declare counts n g.0 n ∙ passed _ (n + 1) (both_true _ _ (eq-eqb n n refl) fine) ∙
@@ -253,7 +255,8 @@ module _ (names : List ℕ) (functions : List Function) (counts : List ℕ)
       let fine = both_true _ _ (lt-ltb h.0 n there) (plain s.names set e g.0 g.1 none) in
       in_place (Assign h.0 g.0) s placed (slots-Assign counts h.0 g.0 n ∙ passed _ n fine) g.2
 
-  if_kept : (e : Expr) (t : Waiting) (way : Way) (o : Option Waiting) (other : Option Way) →
+  if_kept : (e : Expr) (t : Resolver) (way : Transfer) (o : Option Resolver)
+      (other : Option Transfer) →
       Kept t way → KeptPart o other
       → Kept (Scoping.stmt_level names functions (Stmt-F.If e t o))
       (Assigning.stmt_level names (Stmt-F.If e way other))
@@ -269,7 +272,7 @@ module _ (names : List ℕ) (functions : List Function) (counts : List ℕ)
       (both_true _ _ inner others) in
       in_place (If h.0 g.0 k.0) s placed (slots-If counts h.0 g.0 k.0 n ∙ passed _ n fine) k.2
 
-  while_kept : (e : Expr) (t : Waiting) (way : Way) → Kept t way →
+  while_kept : (e : Expr) (t : Resolver) (way : Transfer) → Kept t way →
       Kept (Scoping.stmt_level names functions (Stmt-F.While e t))
       (Assigning.stmt_level names (Stmt-F.While e way))
   while_kept e t way kept s set in_loop placed is none =
@@ -280,12 +283,12 @@ module _ (names : List ℕ) (functions : List Function) (counts : List ℕ)
       (inside_kept t way kept s set true g.0 g.1 (none_second _ _ none)) in
       in_place (While h.0 g.0) s placed (slots-While counts h.0 g.0 n ∙ passed _ n fine) g.2
 
-  do_kept : (t : Waiting) (way : Way) (e : Expr) → Kept t way →
+  do_kept : (t : Resolver) (way : Transfer) (e : Expr) → Kept t way →
       Kept (Scoping.stmt_level names functions (Stmt-F.DoWhile t e))
       (Assigning.stmt_level names (Stmt-F.DoWhile way e))
   do_kept t way e kept s set in_loop placed is none =
       let n = length s.names in
-      let turn = Assigning.inside way s.names set in
+      let turn = Assigning.nested way s.names set in
       let h = found _ _ placed is in
       let g = found _ _ placed h.2 in
       let fine = both_true _ _ (inside_kept t way kept s set true h.0 h.1 (none_first _ _ none))
@@ -302,39 +305,41 @@ module _ (names : List ℕ) (functions : List Function) (counts : List ℕ)
   for_slots first test change inner n i started fine =
       slots-For counts first test change inner n ∙ rw started (passed _ n fine)
 
-  for_kept : (ts : List Waiting) (ways : List Way) (e : Option Expr) (o : Option Waiting)
-      (change : Option Way) (t : Waiting) (way : Way) → KeptList ts ways → KeptPart o change →
+  for_kept : (ts : List Resolver) (ways : List Transfer) (e : Option Expr) (o : Option Resolver)
+      (change : Option Transfer) (t : Resolver) (way : Transfer) → KeptList ts ways →
+      KeptPart o change →
       Kept t way
       → Kept (Scoping.stmt_level names functions (Stmt-F.For ts e o t))
       (Assigning.stmt_level names (Stmt-F.For ways e change way))
   for_kept ts ways e o change t way list_kept part_kept kept s set in_loop placed is none =
       let n = length s.names in
       let begun = Assigning.in_order ways s.names set in
-      let turn = Assigning.inside way begun.scope begun.flow.behind in
+      let turn = Assigning.nested way begun.scope begun.flow.behind in
       let set_after = meet turn.behind turn.continues in
       let h = found _ _ placed is in
       let g = found _ _ placed h.2 in
       let k = found _ _ placed g.2 in
       let b = found _ _ placed k.2 in
-      let started = list_kept (opened s) set false h.0 h.1 (none_first _ _ none) in
+      let started = list_kept (inner_scope s) set false h.0 h.1 (none_first _ _ none) in
       let parts = none_second _ _ none in
       let rest = none_second _ _ parts in
       let no_test = subst (λ now. unset_in_test names now begun.flow.behind e ≡ None) started.scope
       (none_first _ _ parts) in
-      let no_change = subst (λ now. (Assigning.inside_optional change now set_after).unset ≡ None)
+      let no_change = subst (λ now. (Assigning.nested_optional change now set_after).unset ≡ None)
       started.scope (none_first _ _ rest) in
       let no_body = subst (λ now. (way now begun.flow.behind).flow.unset ≡ None) started.scope
       (none_second _ _ rest) in
       let tested = optional_plain h.0.scope begun.flow.behind e g.0 g.1 no_test in
       let changed = part_kept h.0.scope set_after false k.0 k.1 no_change in
-      let inner = inside_kept t way kept (opened h.0.scope) begun.flow.behind true b.0 b.1 no_body
+      let inner = inside_kept t way kept (inner_scope h.0.scope) begun.flow.behind true b.0 b.1
+      no_body
       in
       let fine = both_true _ _ tested (both_true _ _ changed inner) in
-      in_place (For h.0.what g.0 k.0 b.0) s placed
-      (for_slots h.0.what g.0 k.0 b.0 n (length h.0.scope.names) started.slots fine) b.2
+      in_place (For h.0.tree g.0 k.0 b.0) s placed
+      (for_slots h.0.tree g.0 k.0 b.0 n (length h.0.scope.names) started.slots fine) b.2
 
-  in_loop_is : (t : Stmt) (token : ℕ) (s : Scope) (in_loop : Bool) (placed : Placed Stmt) →
-      on_found (only_in_loops t token in_loop) (in_scope s) ≡ Ok placed → in_scope s t ≡ Ok placed
+  in_loop_is : (t : Stmt) (token : ℕ) (s : Scope) (in_loop : Bool) (placed : Scoped Stmt) →
+      and_then (only_in_loops t token in_loop) (pure s) ≡ Ok placed → pure s t ≡ Ok placed
   in_loop_is t token s true placed is = is
   in_loop_is t token s false placed is = no_fault _ placed is
 
@@ -357,13 +362,13 @@ module _ (names : List ℕ) (functions : List Function) (counts : List ℕ)
       in_place (Return h.0) s placed (slots-Return counts h.0 (length s.names) ∙
       passed _ (length s.names) (plain s.names set e h.0 h.1 none)) h.2
 
-  block_kept : (ts : List Waiting) (ways : List Way) → KeptList ts ways →
+  block_kept : (ts : List Resolver) (ways : List Transfer) → KeptList ts ways →
       Kept (Scoping.stmt_level names functions (Stmt-F.Block ts))
       (Assigning.stmt_level names (Stmt-F.Block ways))
   block_kept ts ways list_kept s set in_loop placed is none =
       let h = found _ _ placed is in
-      let fine = list_kept (opened s) set in_loop h.0 h.1 none in
-      in_place (Block h.0.what) s placed (slots-Block counts h.0.what (length s.names) ∙
+      let fine = list_kept (inner_scope s) set in_loop h.0 h.1 none in
+      in_place (Block h.0.tree) s placed (slots-Block counts h.0.tree (length s.names) ∙
       passed _ (length s.names) (ap (λ o. is_some o) fine.slots)) h.2
 
   -- ---- by induction on the tree
@@ -381,8 +386,8 @@ module _ (names : List ℕ) (functions : List Function) (counts : List ℕ)
       (parts_kept ps)
 
   level : (y : Stmt-F Part) → Kept (Scoping.stmt_level names functions
-      (map-Stmt Stmt Waiting resolved (map-Stmt Part Stmt (λ p. p.0) y)))
-      (Assigning.stmt_level names (map-Stmt Stmt Way flow (map-Stmt Part Stmt (λ p. p.0) y)))
+      (map-Stmt Stmt Resolver resolved (map-Stmt Part Stmt (λ p. p.0) y)))
+      (Assigning.stmt_level names (map-Stmt Stmt Transfer flow (map-Stmt Part Stmt (λ p. p.0) y)))
   level Stmt-F.Empty = empty_kept
   level (Stmt-F.Declare token e) = declare_kept token e
   level (Stmt-F.Assign token e) = assign_kept token e
@@ -409,14 +414,14 @@ module _ (names : List ℕ) (functions : List Function) (counts : List ℕ)
       Kept (resolved (roll-Stmt x)) (flow (roll-Stmt x))
   step x y is =
       let P : Stmt-F Stmt → Type 0 = λ z. Kept
-      (Scoping.stmt_level names functions (map-Stmt Stmt Waiting resolved z))
-      (Assigning.stmt_level names (map-Stmt Stmt Way flow z)) in
+      (Scoping.stmt_level names functions (map-Stmt Stmt Resolver resolved z))
+      (Assigning.stmt_level names (map-Stmt Stmt Transfer flow z)) in
       let opened_so : P x = subst P is (level y) in
-      let F : Way → Type 0 = λ m. Kept (Scoping.stmt_level names functions
-      (map-Stmt Stmt Waiting resolved x)) m in
-      let R : Waiting → Type 0 = λ m. Kept m (flow (roll-Stmt x)) in
-      subst R (sym (fold-roll-Stmt Waiting (Scoping.stmt_level names functions) x))
-      (subst F (sym (fold-roll-Stmt Way (Assigning.stmt_level names) x)) opened_so)
+      let F : Transfer → Type 0 = λ m. Kept (Scoping.stmt_level names functions
+      (map-Stmt Stmt Resolver resolved x)) m in
+      let R : Resolver → Type 0 = λ m. Kept m (flow (roll-Stmt x)) in
+      subst R (sym (fold-roll-Stmt Resolver (Scoping.stmt_level names functions) x))
+      (subst F (sym (fold-roll-Stmt Transfer (Assigning.stmt_level names) x)) opened_so)
 
   -- a statement that reads no variable unset, with its names resolved, is in order
   pub stmt_kept : (t : Stmt) → Kept (resolved t) (flow t)

@@ -12,7 +12,7 @@ use Rattle.c_expr.specs.declared.read.Span.{Span}
 use Rattle.c_expr.specs.Grammar.{kind_at}
 use Rattle.c_stmt.specs.Statements.{Declaration, Statement, BlockItem, statement, declaration, BlockItems, closed, item}
 use Rattle.c_stmt.specs.Heights.{list_height}
-use Rattle.c_expr.specs.Readers.{IsThat, Gives, Low}
+use Rattle.c_expr.specs.Readers.{IsThat, Gives, IsNoHigher}
 use Rattle.c_stmt.specs.Readers.{Collected}
 use Rattle.c_ast.proofs.StmtEquations.{height-append}
 use Rattle.c_expr.proofs.Lookahead.{kind_within}
@@ -54,10 +54,12 @@ module _ (ts : List Token) (at room : ℕ) where
 
   -- a declaration in a block
   pub item_names : (r : Result (Option (Span (List Stmt))) NoMemory) → kind_at ts at ≡
-      Some (Word Int) → IfOk r (Gives (Low list_height room (Declaration ts at)) at (length ts))
-      → IfOk r (Gives (Low list_height room (BlockItem ts at)) at (length ts))
+      Some (Word Int) → IfOk r (Gives (IsNoHigher list_height room (Declaration ts at)) at
+      (length ts))
+      → IfOk r (Gives (IsNoHigher list_height room (BlockItem ts at)) at (length ts))
   item_names r h =
-      renamed_ok (Low list_height room (Declaration ts at)) (Low list_height room (BlockItem ts at))
+      renamed_ok (IsNoHigher list_height room (Declaration ts at))
+      (IsNoHigher list_height room (BlockItem ts at))
       at at (length ts) r (omega arith)
       (λ j ss p. (declaration ts at j ss p.0, p.1))
       (λ j ss q. (names_from h j ss (itemed_of ts at j ss q.0), q.1))
@@ -72,8 +74,8 @@ module _ (ts : List Token) (at room : ℕ) where
 
   -- a statement in a block
   pub item_builds : (kind_at ts at ≡ Some (Word Int) → ⊥) →
-      Built (λ (s : Stmt). s ∷ []) (Low stmt_height room (Statement ts at))
-      (Low list_height room (BlockItem ts at))
+      Built (λ (s : Stmt). s ∷ []) (IsNoHigher stmt_height room (Statement ts at))
+      (IsNoHigher list_height room (BlockItem ts at))
   item_builds a = record {
     make = λ j s p. let fits : stmt_height s ≤ room = p.1 in (statement ts at j s p.0, omega arith);
     part = λ j ss q. statement_from a j ss (itemed_of ts at j ss q.0) q.1;
@@ -112,7 +114,7 @@ collected_begins ts at room inside = record {
 module _ (ts : List Token) (at room : ℕ) (found : List Stmt) (end : ℕ)
     (c : Collected room (BlockItems ts at) (BlockItems ts) (length ts) at found end) where
   none_only : (kind_at ts end ≡ Some (Mark RightBrace) → ⊥) →
-      Gives (Low list_height room (BlockItem ts end)) end (length ts) None →
+      Gives (IsNoHigher list_height room (BlockItem ts end)) end (length ts) None →
       (k : ℕ) (ss : List Stmt) → Inside ts end k ss
       → list_height ss ≤ room → ⊥
   none_only o g k ss (inside_closed h p q) fits = o h
@@ -121,8 +123,8 @@ module _ (ts : List Token) (at room : ℕ) (found : List Stmt) (end : ℕ)
 
   -- neither an item nor the closing brace
   pub inner_stops : (kind_at ts end ≡ Some (Mark RightBrace) → ⊥) →
-      Gives (Low list_height room (BlockItem ts end)) end (length ts) None →
-      Gives (Low list_height room (BlockItems ts at)) at (length ts) None
+      Gives (IsNoHigher list_height room (BlockItem ts end)) end (length ts) None →
+      Gives (IsNoHigher list_height room (BlockItems ts at)) at (length ts) None
   inner_stops o g = record {
     found = tt;
     only = λ k all p.
@@ -141,7 +143,8 @@ module _ (ts : List Token) (at room : ℕ) (found : List Stmt) (end : ℕ)
 
   -- the closing brace
   pub inner_ends : (y : Span (List Stmt)) → kind_at ts end ≡ Some (Mark RightBrace) → y.value ≡
-      found → y.end ≡ end + 1 → Gives (Low list_height room (BlockItems ts at)) at (length ts)
+      found → y.end ≡ end + 1 → Gives (IsNoHigher list_height room (BlockItems ts at)) at
+      (length ts)
       (Some y)
   inner_ends y o yv ye =
       let spelled : BlockItems ts at (end + 1) (found ++ []) =
@@ -163,7 +166,7 @@ module _ (ts : List Token) (at room : ℕ) (found : List Stmt) (end : ℕ)
             closed_only y o yv ye k all go.0 go.1.0 (inside_of ts end k go.0 go.1.1);
       }
 
-  module _ (x : Span (List Stmt)) (g : Gives (Low list_height room (BlockItem ts end)) end
+  module _ (x : Span (List Stmt)) (g : Gives (IsNoHigher list_height room (BlockItem ts end)) end
       (length ts) (Some x)) where
     item_only : (kind_at ts end ≡ Some (Mark RightBrace) → ⊥) → (k : ℕ) (all ss : List Stmt) → all ≡
         found ++ ss → Inside ts end k ss → list_height ss ≤ room

@@ -16,7 +16,7 @@ use Rattle.rx_plain.specs.declared.no_memory.NoMemory.{NoMemory}
 use Rattle.c_expr.specs.declared.read.Span.{Span}
 use Rattle.c_expr.specs.Grammar.{kind_at, UpTo}
 use Rattle.c_stmt.specs.Statements.{Changing, update, step, changing_of, unit, updated, Change, by_value, by_update, by_step_behind, by_step_before}
-use Rattle.c_expr.specs.Readers.{Gives, Low}
+use Rattle.c_expr.specs.Readers.{Gives, IsNoHigher}
 use Rattle.c_stmt.specs.Readers.{IsStep}
 use Rattle.c_ast.proofs.StmtEquations.{height-Assign}
 use Rattle.c_expr.proofs.Lookahead.{kind_within}
@@ -130,8 +130,8 @@ module _ (m : TheMark) (ts : List Token) (i : ℕ) where
 -- a change by a value, built of the value
 pub builds_value : (m : TheMark) (ts : List Token) (i room : ℕ) → kind_at ts i ≡ Some Name →
     kind_at ts (i + 1) ≡ Some (Mark AssignMark)
-    → Built (Assign i) (Low expr_height (room - 1) (UpTo m ts (i + 2)))
-    (Low stmt_height room (Change m ts i))
+    → Built (Assign i) (IsNoHigher expr_height (room - 1) (UpTo m ts (i + 2)))
+    (IsNoHigher stmt_height room (Change m ts i))
 builds_value m ts i room named assigned = record {
   make = λ j e p.
       let high : stmt_height (Assign i e) ≡ 1 + expr_height e = height-Assign i e in
@@ -149,8 +149,8 @@ builds_value m ts i room named assigned = record {
 -- a change by `op=`, built of the value
 pub builds_update : (m : TheMark) (ts : List Token) (i room : ℕ) (op : BinOp) → kind_at ts i ≡
     Some Name → changing_of (kind_at ts (i + 1)) ≡ Some (update op)
-    → Built (updated i op) (Low expr_height (room - 2) (UpTo m ts (i + 2)))
-    (Low stmt_height room (Change m ts i))
+    → Built (updated i op) (IsNoHigher expr_height (room - 2) (UpTo m ts (i + 2)))
+    (IsNoHigher stmt_height room (Change m ts i))
 builds_update m ts i room op named o = record {
   make = λ j e p.
       let high : stmt_height (updated i op e) ≡ 2 + expr_height e = height-updated i op e in
@@ -184,7 +184,7 @@ unchanged m ts i room named no_step no_value no_update j s (changed_before op a 
 pub step_reads : (m : TheMark) (ts : List Token) (name at room : ℕ) (op : BinOp) (y : Span Stmt) →
     kind_at ts at ≡ Some (Mark m) → 3 ≤ room
     → y.value ≡ updated name op unit → y.end ≡ at + 1 →
-    Gives (Low stmt_height room (IsStep m ts name op at)) at (length ts) (Some y)
+    Gives (IsNoHigher stmt_height room (IsStep m ts name op at)) at (length ts) (Some y)
 step_reads m ts name at room op y h some yv ye =
     let within : at < length ts = kind_within ts at (Mark m) h in
     let high : stmt_height (updated name op unit) ≡ 2 + expr_height unit =
@@ -210,11 +210,12 @@ behind_two i = omega arith
 pub steps_before : (m : TheMark) (ts : List Token) (i room : ℕ) (op : BinOp)
     (r : Result (Option (Span Stmt)) NoMemory) → changing_of (kind_at ts i) ≡ Some (step op) →
     kind_at ts (i + 1) ≡ Some Name
-    → IfOk r (Gives (Low stmt_height room (IsStep m ts (i + 1) op (i + 2))) (i + 2) (length ts)) →
-    IfOk r (Gives (Low stmt_height room (Change m ts i)) i (length ts))
+    → IfOk r (Gives (IsNoHigher stmt_height room (IsStep m ts (i + 1) op (i + 2))) (i + 2)
+    (length ts)) →
+    IfOk r (Gives (IsNoHigher stmt_height room (Change m ts i)) i (length ts))
 steps_before m ts i room op r o named =
-    renamed_ok (Low stmt_height room (IsStep m ts (i + 1) op (i + 2)))
-    (Low stmt_height room (Change m ts i)) i (i + 2) (length ts) r (omega arith)
+    renamed_ok (IsNoHigher stmt_height room (IsStep m ts (i + 1) op (i + 2)))
+    (IsNoHigher stmt_height room (Change m ts i)) i (i + 2) (length ts) r (omega arith)
     (λ j s p. (
       rw (p.0.behind, behind_two i, p.0.is) (by_step_before m ts i op o named p.0.marked),
       p.1,
@@ -227,11 +228,11 @@ steps_before m ts i room op r o named =
 pub steps_behind : (m : TheMark) (ts : List Token) (i room : ℕ) (op : BinOp)
     (r : Result (Option (Span Stmt)) NoMemory) → kind_at ts i ≡ Some Name →
     changing_of (kind_at ts (i + 1)) ≡ Some (step op)
-    → IfOk r (Gives (Low stmt_height room (IsStep m ts i op (i + 2))) (i + 2) (length ts)) →
-    IfOk r (Gives (Low stmt_height room (Change m ts i)) i (length ts))
+    → IfOk r (Gives (IsNoHigher stmt_height room (IsStep m ts i op (i + 2))) (i + 2) (length ts)) →
+    IfOk r (Gives (IsNoHigher stmt_height room (Change m ts i)) i (length ts))
 steps_behind m ts i room op r named o =
-    renamed_ok (Low stmt_height room (IsStep m ts i op (i + 2)))
-    (Low stmt_height room (Change m ts i)) i (i + 2) (length ts) r (omega arith)
+    renamed_ok (IsNoHigher stmt_height room (IsStep m ts i op (i + 2)))
+    (IsNoHigher stmt_height room (Change m ts i)) i (i + 2) (length ts) r (omega arith)
     (λ j s p. (
       rw (p.0.behind, behind_two i, p.0.is) (by_step_behind m ts i op named o p.0.marked),
       p.1,

@@ -12,7 +12,7 @@ use Rattle.c_expr.specs.declared.read.Span.{Span}
 use Rattle.c_expr.specs.Grammar.{kind_at, levels, Expression}
 use Rattle.c_stmt.specs.Statements.{IsParted, InitDeclarator, bare, valued, InitDeclarators, last_name, next_name}
 use Rattle.c_stmt.specs.Heights.{list_height}
-use Rattle.c_expr.specs.Readers.{Stops, Reads, IsThat, Gives, Low}
+use Rattle.c_expr.specs.Readers.{Stops, Reads, IsThat, Gives, IsNoHigher}
 use Rattle.c_stmt.specs.Readers.{Collected}
 use Rattle.c_ast.proofs.StmtEquations.{height-Declare, height-append}
 use Rattle.c_expr.proofs.Lookahead.{kind_within, comma_stops, semicolon_stops}
@@ -60,7 +60,7 @@ module _ (ts : List Token) (at room : ℕ) where
   -- a name without a value
   pub bare_reads : (y : Span Stmt) → kind_at ts at ≡ Some Name → IsParted ts (at + 1) → 0 < room →
       y.value ≡ Declare at None → y.end ≡ at + 1
-      → Gives (Low stmt_height room (InitDeclarator ts at)) at (length ts) (Some y)
+      → Gives (IsNoHigher stmt_height room (InitDeclarator ts at)) at (length ts) (Some y)
   bare_reads y h p some yv ye =
       let within : at < length ts = kind_within ts at Name h in
       let none : Option Expr = None in
@@ -92,7 +92,7 @@ module _ (ts : List Token) (at room : ℕ) where
     -- a name with a value
     pub valued_reads : (y : Span Stmt) → kind_at ts at ≡ Some Name → IsParted ts x.end → 2 ≤ room →
         y.value ≡ Declare at (Some x.tree) → y.end ≡ x.end
-        → Gives (Low stmt_height room (InitDeclarator ts at)) at (length ts) (Some y)
+        → Gives (IsNoHigher stmt_height room (InitDeclarator ts at)) at (length ts) (Some y)
     valued_reads y h p some yv ye =
         let high : stmt_height (Declare at (Some x.tree)) ≡ 1 + expr_height x.tree =
         height-Declare at (Some x.tree) in
@@ -118,7 +118,7 @@ module _ (ts : List Token) (at room : ℕ) where
 
     -- neither a comma nor a semicolon after the value
     pub valued_misses : (IsParted ts x.end → ⊥) →
-        Gives (Low stmt_height room (InitDeclarator ts at)) at (length ts) None
+        Gives (IsNoHigher stmt_height room (InitDeclarator ts at)) at (length ts) None
     valued_misses unparted =
         record {
           found = tt;
@@ -154,15 +154,15 @@ first_fits s rest ss room same fits =
 
 module _ (ts : List Token) (at room : ℕ) (found : List Stmt) (end : ℕ)
     (c : Collected room (InitDeclarators ts at) (InitDeclarators ts) (length ts) at found end) where
-  none_only : Gives (Low stmt_height room (InitDeclarator ts end)) end (length ts) None →
+  none_only : Gives (IsNoHigher stmt_height room (InitDeclarator ts end)) end (length ts) None →
       (k : ℕ) (ss : List Stmt) → Named ts end k ss → list_height ss ≤ room → ⊥
   none_only g k ss (named_last j s d h p q) fits = g.only j s (d, first_fits s [] ss room q fits)
   none_only g k ss (named_next j s rest d h r q) fits =
       g.only j s (d, first_fits s rest ss room q fits)
 
   -- no name follows
-  pub names_end : Gives (Low stmt_height room (InitDeclarator ts end)) end (length ts) None →
-      Gives (Low list_height room (InitDeclarators ts at)) at (length ts) None
+  pub names_end : Gives (IsNoHigher stmt_height room (InitDeclarator ts end)) end (length ts) None →
+      Gives (IsNoHigher list_height room (InitDeclarators ts at)) at (length ts) None
   names_end g = record {
     found = tt;
     only = λ k all low.
@@ -171,7 +171,8 @@ module _ (ts : List Token) (at room : ℕ) (found : List Stmt) (end : ℕ)
         (later_fits all found go.0 room go.1.0 low.1);
   }
 
-  module _ (x : Span Stmt) (g : Gives (Low stmt_height room (InitDeclarator ts end)) end (length ts)
+  module _ (x : Span Stmt) (g : Gives (IsNoHigher stmt_height room (InitDeclarator ts end)) end
+      (length ts)
       (Some x)) where
     last_only : (y : Span (List Stmt)) → kind_at ts x.end ≡ Some (Mark Semicolon) → y.value ≡
         found ++ x.value ∷ [] → y.end ≡ x.end + 1 → (k : ℕ) (all ss : List Stmt)
@@ -187,7 +188,7 @@ module _ (ts : List Token) (at room : ℕ) (found : List Stmt) (end : ℕ)
     -- the last name
     pub names_last : (y : Span (List Stmt)) → kind_at ts x.end ≡ Some (Mark Semicolon) → y.value ≡
         found ++ x.value ∷ [] → y.end ≡ x.end + 1
-        → Gives (Low list_height room (InitDeclarators ts at)) at (length ts) (Some y)
+        → Gives (IsNoHigher list_height room (InitDeclarators ts at)) at (length ts) (Some y)
     names_last y o yv ye =
         let spelled : InitDeclarators ts at (x.end + 1) (found ++ x.value ∷ []) =
         c.forward (x.end + 1) (x.value ∷ [])

@@ -16,7 +16,7 @@ use Rattle.c_expr.specs.declared.read.Span.{Span}
 use Rattle.c_expr.specs.Grammar.{kind_at, UpTo, Test}
 use Rattle.c_stmt.specs.Statements.{step, changing_of, Change, ForHead, Statement, nothing, block, changes, if_alone, if_else, while_loop, do_loop, for_loop, breaks, continues, returns, BlockItems}
 use Rattle.c_stmt.specs.Heights.{list_height, head_height}
-use Rattle.c_expr.specs.Readers.{IsThat, Gives, Low}
+use Rattle.c_expr.specs.Readers.{IsThat, Gives, IsNoHigher}
 use Rattle.c_stmt.specs.Readers.{IsSimple, Jumps}
 use Rattle.c_ast.proofs.StmtEquations.{height-Empty, height-alone, height-else, height-While, height-DoWhile, height-For, height-Break, height-Continue, height-Block}
 use Rattle.c_expr.proofs.Lookahead.{kind_within}
@@ -205,7 +205,7 @@ change_of ts i j s simple a b c d (returns _ _ l e h u) = absurd (d h)
 module _ (ts : List Token) (at room : ℕ) (some : 0 < room) where
   -- the empty statement
   pub reads_nothing : (y : Span Stmt) → kind_at ts at ≡ Some (Mark mark.Semicolon) → y.value ≡
-      Empty → y.end ≡ at + 1 → Gives (Low stmt_height room (Statement ts at)) at (length ts)
+      Empty → y.end ≡ at + 1 → Gives (IsNoHigher stmt_height room (Statement ts at)) at (length ts)
       (Some y)
   reads_nothing y h yv ye =
       let within : at < length ts = kind_within ts at (Mark mark.Semicolon) h in
@@ -245,9 +245,10 @@ module _ (ts : List Token) (at room : ℕ) (some : 0 < room) where
   -- a `break`
   pub reads_break : (r : Option (Span Stmt)) → kind_at ts at ≡ Some (Word word.Break)
       → Jumps ts at (Break at) r
-      → Gives (Low stmt_height room (Statement ts at)) at (length ts) r
+      → Gives (IsNoHigher stmt_height room (Statement ts at)) at (length ts) r
   reads_break r h g =
-      renamed (Jumping ts at (Break at)) (Low stmt_height room (Statement ts at)) at at (length ts)
+      renamed (Jumping ts at (Break at)) (IsNoHigher stmt_height room (Statement ts at)) at at
+      (length ts)
       r (omega arith)
       (λ j s p.
       let high : stmt_height (Break at) ≡ 1 = height-Break at in
@@ -259,9 +260,9 @@ module _ (ts : List Token) (at room : ℕ) (some : 0 < room) where
   -- a `continue`
   pub reads_continue : (r : Option (Span Stmt)) → kind_at ts at ≡ Some (Word word.Continue)
       → Jumps ts at (Continue at) r
-      → Gives (Low stmt_height room (Statement ts at)) at (length ts) r
+      → Gives (IsNoHigher stmt_height room (Statement ts at)) at (length ts) r
   reads_continue r h g =
-      renamed (Jumping ts at (Continue at)) (Low stmt_height room (Statement ts at)) at at
+      renamed (Jumping ts at (Continue at)) (IsNoHigher stmt_height room (Statement ts at)) at at
       (length ts) r (omega arith)
       (λ j s p.
       let high : stmt_height (Continue at) ≡ 1 = height-Continue at in
@@ -272,8 +273,8 @@ module _ (ts : List Token) (at room : ℕ) (some : 0 < room) where
 
   -- a `return`, built of its value
   pub builds_return : kind_at ts at ≡ Some (Word word.Return) →
-      Built Return (Low expr_height (room - 1) (UpTo mark.Semicolon ts (at + 1)))
-      (Low stmt_height room (Statement ts at))
+      Built Return (IsNoHigher expr_height (room - 1) (UpTo mark.Semicolon ts (at + 1)))
+      (IsNoHigher stmt_height room (Statement ts at))
   builds_return h = record {
     make = λ j e p.
         let high : stmt_height (Return e) ≡ 1 + expr_height e = height-Return e in
@@ -293,18 +294,18 @@ module _ (ts : List Token) (at room : ℕ) (some : 0 < room) where
       (kind_at ts at ≡ Some (Word word.Break) → ⊥)
       → (kind_at ts at ≡ Some (Word word.Continue) → ⊥) →
       (kind_at ts at ≡ Some (Word word.Return) → ⊥)
-      → IfOk r (Gives (Low stmt_height room (Change mark.Semicolon ts at)) at (length ts)) →
-      IfOk r (Gives (Low stmt_height room (Statement ts at)) at (length ts))
+      → IfOk r (Gives (IsNoHigher stmt_height room (Change mark.Semicolon ts at)) at (length ts)) →
+      IfOk r (Gives (IsNoHigher stmt_height room (Statement ts at)) at (length ts))
   reads_change r simple a b c d =
-      renamed_ok (Low stmt_height room (Change mark.Semicolon ts at))
-      (Low stmt_height room (Statement ts at)) at at (length ts) r (omega arith)
+      renamed_ok (IsNoHigher stmt_height room (Change mark.Semicolon ts at))
+      (IsNoHigher stmt_height room (Statement ts at)) at at (length ts) r (omega arith)
       (λ j s p. (changes ts at j s p.0, p.1))
       (λ j s q. (change_of ts at j s simple a b c d q.0, q.1))
 
   -- a block, built of what is in it
   pub builds_block : kind_at ts at ≡ Some (Mark mark.LeftBrace) →
-      Built Block (Low list_height (room - 1) (BlockItems ts (at + 1)))
-      (Low stmt_height room (Statement ts at))
+      Built Block (IsNoHigher list_height (room - 1) (BlockItems ts (at + 1)))
+      (IsNoHigher stmt_height room (Statement ts at))
   builds_block h = record {
     make = λ j ss p.
         let high : stmt_height (Block ss) ≡ 1 + list_height ss = height-Block ss in
@@ -332,8 +333,9 @@ module _ (ts : List Token) (at room : ℕ) (some : 0 < room) where
         (omega arith, omega arith)
 
     -- a loop without a test is none
-    pub while_testless : Gives (Low expr_height (room - 1) (Test ts (at + 1))) (at + 1) (length ts)
-        None → Gives (Low stmt_height room (Statement ts at)) at (length ts) None
+    pub while_testless : Gives (IsNoHigher expr_height (room - 1) (Test ts (at + 1))) (at + 1)
+        (length ts)
+        None → Gives (IsNoHigher stmt_height room (Statement ts at)) at (length ts) None
     while_testless r =
         record {
           found = tt;
@@ -342,10 +344,11 @@ module _ (ts : List Token) (at room : ℕ) (some : 0 < room) where
         }
 
     -- a loop after its test, built of its body
-    pub builds_while : (x : Span Expr) → Gives (Low expr_height (room - 1) (Test ts (at + 1)))
+    pub builds_while : (x : Span Expr) → Gives
+        (IsNoHigher expr_height (room - 1) (Test ts (at + 1)))
         (at + 1) (length ts) (Some x)
-        → Built (While x.value) (Low stmt_height (room - 1) (Statement ts x.end))
-        (Low stmt_height room (Statement ts at))
+        → Built (While x.value) (IsNoHigher stmt_height (room - 1) (Statement ts x.end))
+        (IsNoHigher stmt_height room (Statement ts at))
     builds_while x r = record {
       make = λ j b p.
           let high : stmt_height (While x.value b) ≡ 1 + max (expr_height x.value) (stmt_height b) =
@@ -379,8 +382,9 @@ module _ (ts : List Token) (at room : ℕ) (some : 0 < room) where
         (omega arith, omega arith)
 
     -- a loop without a head is none
-    pub for_headless : Gives (Low head_height (room - 1) (ForHead ts (at + 1))) (at + 1) (length ts)
-        None → Gives (Low stmt_height room (Statement ts at)) at (length ts) None
+    pub for_headless : Gives (IsNoHigher head_height (room - 1) (ForHead ts (at + 1))) (at + 1)
+        (length ts)
+        None → Gives (IsNoHigher stmt_height room (Statement ts at)) at (length ts) None
     for_headless r =
         record {
           found = tt;
@@ -389,11 +393,12 @@ module _ (ts : List Token) (at room : ℕ) (some : 0 < room) where
         }
 
     -- a loop after its head, built of its body
-    pub builds_for : (x : Span Head) → Gives (Low head_height (room - 1) (ForHead ts (at + 1)))
+    pub builds_for : (x : Span Head) → Gives (IsNoHigher head_height (room - 1)
+        (ForHead ts (at + 1)))
         (at + 1) (length ts) (Some x)
         → Built (For x.value.first x.value.test x.value.change)
-        (Low stmt_height (room - 1) (Statement ts x.end))
-        (Low stmt_height room (Statement ts at))
+        (IsNoHigher stmt_height (room - 1) (Statement ts x.end))
+        (IsNoHigher stmt_height room (Statement ts at))
     builds_for x r = record {
       make = λ j b p.
           let high : stmt_height (For x.value.first x.value.test x.value.change b)
@@ -431,8 +436,8 @@ module _ (ts : List Token) (at room : ℕ) (some : 0 < room) where
         (omega arith, omega arith)
 
     -- a loop without a body is none
-    pub do_bodiless : Gives (Low stmt_height (room - 1) (Statement ts (at + 1))) (at + 1)
-        (length ts) None → Gives (Low stmt_height room (Statement ts at)) at (length ts) None
+    pub do_bodiless : Gives (IsNoHigher stmt_height (room - 1) (Statement ts (at + 1))) (at + 1)
+        (length ts) None → Gives (IsNoHigher stmt_height room (Statement ts at)) at (length ts) None
     do_bodiless r =
         record {
           found = tt;
@@ -440,7 +445,7 @@ module _ (ts : List Token) (at room : ℕ) (some : 0 < room) where
               r.only f.middle f.body (f.runs, fit.0);
         }
 
-    module _ (x : Span Stmt) (r : Gives (Low stmt_height (room - 1) (Statement ts (at + 1)))
+    module _ (x : Span Stmt) (r : Gives (IsNoHigher stmt_height (room - 1) (Statement ts (at + 1)))
         (at + 1) (length ts) (Some x)) where
       body_is : (j : ℕ) (s : Stmt) (f : Doing ts at j s) → stmt_height s ≤ room →
           (x.end ≡ f.middle) × (x.value ≡ f.body)
@@ -448,7 +453,7 @@ module _ (ts : List Token) (at room : ℕ) (some : 0 < room) where
 
       -- no `while` after the body
       pub do_whileless : (kind_at ts x.end ≡ Some (Word word.While) → ⊥) →
-          Gives (Low stmt_height room (Statement ts at)) at (length ts) None
+          Gives (IsNoHigher stmt_height room (Statement ts at)) at (length ts) None
       do_whileless no_while =
           record {
             found = tt;
@@ -457,8 +462,9 @@ module _ (ts : List Token) (at room : ℕ) (some : 0 < room) where
           }
 
       -- no test after it
-      pub do_testless : Gives (Low expr_height (room - 1) (Test ts (x.end + 1))) (x.end + 1)
-          (length ts) None → Gives (Low stmt_height room (Statement ts at)) at (length ts) None
+      pub do_testless : Gives (IsNoHigher expr_height (room - 1) (Test ts (x.end + 1))) (x.end + 1)
+          (length ts) None → Gives (IsNoHigher stmt_height room (Statement ts at)) at (length ts)
+          None
       do_testless t = record {
         found = tt;
         only = λ j s p.
@@ -469,7 +475,7 @@ module _ (ts : List Token) (at room : ℕ) (some : 0 < room) where
             t.only f.last f.test (there, fit.1);
       }
 
-      module _ (y : Span Expr) (t : Gives (Low expr_height (room - 1) (Test ts (x.end + 1)))
+      module _ (y : Span Expr) (t : Gives (IsNoHigher expr_height (room - 1) (Test ts (x.end + 1)))
           (x.end + 1) (length ts) (Some y)) where
         test_is : (j : ℕ) (s : Stmt) (f : Doing ts at j s) → stmt_height s ≤ room →
             (y.end ≡ f.last) × (y.value ≡ f.test)
@@ -481,7 +487,7 @@ module _ (ts : List Token) (at room : ℕ) (some : 0 < room) where
 
         -- no semicolon after the test
         pub do_endless : (kind_at ts y.end ≡ Some (Mark mark.Semicolon) → ⊥) →
-            Gives (Low stmt_height room (Statement ts at)) at (length ts) None
+            Gives (IsNoHigher stmt_height room (Statement ts at)) at (length ts) None
         do_endless no_semicolon =
             record {
               found = tt;
@@ -493,7 +499,7 @@ module _ (ts : List Token) (at room : ℕ) (some : 0 < room) where
         pub reads_do : (z : Span Stmt) → kind_at ts x.end ≡ Some (Word word.While) →
             kind_at ts y.end ≡ Some (Mark mark.Semicolon) → z.value ≡ DoWhile x.value y.value →
             z.end ≡ y.end + 1
-            → Gives (Low stmt_height room (Statement ts at)) at (length ts) (Some z)
+            → Gives (IsNoHigher stmt_height room (Statement ts at)) at (length ts) (Some z)
         reads_do z w c zv ze =
             let high : stmt_height (DoWhile x.value y.value) ≡ 1 +
             max (stmt_height x.value) (expr_height y.value) = height-DoWhile x.value y.value in
@@ -545,8 +551,9 @@ module _ (ts : List Token) (at room : ℕ) (some : 0 < room) where
     branch_fits j s f fits = way_fits f.last j f.test f.taken s f.way fits
 
     -- an `if` without a test is none
-    pub if_testless : Gives (Low expr_height (room - 1) (Test ts (at + 1))) (at + 1) (length ts)
-        None → Gives (Low stmt_height room (Statement ts at)) at (length ts) None
+    pub if_testless : Gives (IsNoHigher expr_height (room - 1) (Test ts (at + 1))) (at + 1)
+        (length ts)
+        None → Gives (IsNoHigher stmt_height room (Statement ts at)) at (length ts) None
     if_testless r =
         record {
           found = tt;
@@ -554,7 +561,8 @@ module _ (ts : List Token) (at room : ℕ) (some : 0 < room) where
               branch_fits j s f p.1 in r.only f.middle f.test (f.tests, fit.0);
         }
 
-    module _ (x : Span Expr) (r : Gives (Low expr_height (room - 1) (Test ts (at + 1))) (at + 1)
+    module _ (x : Span Expr) (r : Gives (IsNoHigher expr_height (room - 1) (Test ts (at + 1)))
+        (at + 1)
         (length ts) (Some x)) where
       if_test_is : (j : ℕ) (s : Stmt) (f : Branching ts at j s) → stmt_height s ≤ room →
           (x.end ≡ f.middle) × (x.value ≡ f.test)
@@ -562,8 +570,9 @@ module _ (ts : List Token) (at room : ℕ) (some : 0 < room) where
           let fit = branch_fits j s f fits in r.only f.middle f.test (f.tests, fit.0)
 
       -- an `if` without a statement is none
-      pub if_thenless : Gives (Low stmt_height (room - 1) (Statement ts x.end)) x.end (length ts)
-          None → Gives (Low stmt_height room (Statement ts at)) at (length ts) None
+      pub if_thenless : Gives (IsNoHigher stmt_height (room - 1) (Statement ts x.end)) x.end
+          (length ts)
+          None → Gives (IsNoHigher stmt_height room (Statement ts at)) at (length ts) None
       if_thenless t = record {
         found = tt;
         only = λ j s p.
@@ -574,7 +583,8 @@ module _ (ts : List Token) (at room : ℕ) (some : 0 < room) where
             t.only f.last f.taken (there, fit.1);
       }
 
-      module _ (y : Span Stmt) (t : Gives (Low stmt_height (room - 1) (Statement ts x.end)) x.end
+      module _ (y : Span Stmt) (t : Gives (IsNoHigher stmt_height (room - 1) (Statement ts x.end))
+          x.end
           (length ts) (Some y)) where
         then_is : (j : ℕ) (s : Stmt) (f : Branching ts at j s) → stmt_height s ≤ room →
             (y.end ≡ f.last) × (y.value ≡ f.taken)
@@ -601,7 +611,7 @@ module _ (ts : List Token) (at room : ℕ) (some : 0 < room) where
         -- an `if` without an `else`
         pub reads_alone : (z : Span Stmt) → (kind_at ts y.end ≡ Some (Word word.Else) → ⊥) →
             z.value ≡ If x.value y.value None → z.end ≡ y.end
-            → Gives (Low stmt_height room (Statement ts at)) at (length ts) (Some z)
+            → Gives (IsNoHigher stmt_height room (Statement ts at)) at (length ts) (Some z)
         reads_alone z no_else zv ze =
             let high : stmt_height (If x.value y.value None) ≡ 1 +
             max (expr_height x.value) (stmt_height y.value) = height-alone x.value y.value in
@@ -641,8 +651,8 @@ module _ (ts : List Token) (at room : ℕ) (some : 0 < room) where
         -- an `if` after its `else`, built of the other statement
         pub builds_else : kind_at ts y.end ≡ Some (Word word.Else)
             → Built (λ (u : Stmt). If x.value y.value (Some u))
-            (Low stmt_height (room - 1) (Statement ts (y.end + 1)))
-            (Low stmt_height room (Statement ts at))
+            (IsNoHigher stmt_height (room - 1) (Statement ts (y.end + 1)))
+            (IsNoHigher stmt_height room (Statement ts at))
         builds_else o = record {
           make = λ j u p.
               let high : stmt_height (If x.value y.value (Some u)) ≡ 1 +

@@ -14,7 +14,7 @@ use Rattle.c_expr.specs.declared.read.Span.{Span}
 use Rattle.c_expr.specs.Grammar.{kind_at, UpTo}
 use Rattle.c_stmt.specs.Statements.{step, changing_of, Change, Declaration, ForInit, no_start, start_change, start_names, ForTest, no_test, a_test, ForStep, no_change, a_change, ForHead}
 use Rattle.c_stmt.specs.Heights.{list_height, head_height}
-use Rattle.c_expr.specs.Readers.{IsThat, Gives, Low}
+use Rattle.c_expr.specs.Readers.{IsThat, Gives, IsNoHigher}
 use Rattle.c_expr.proofs.Lookahead.{kind_within}
 use Rattle.c_expr.proofs.Passing.{whole_begins}
 use Rattle.c_expr.proofs.DelimitedLemmas.{ended_of}
@@ -81,7 +81,7 @@ module _ (ts : List Token) (at room : ℕ) where
 
   -- nothing before the test
   pub start_none : (y : Span (List Stmt)) → kind_at ts at ≡ Some (Mark Semicolon) → y.value ≡ [] →
-      y.end ≡ at + 1 → Gives (Low list_height room (ForInit ts at)) at (length ts) (Some y)
+      y.end ≡ at + 1 → Gives (IsNoHigher list_height room (ForInit ts at)) at (length ts) (Some y)
   start_none y h yv ye =
       let within : at < length ts = kind_within ts at (Mark Semicolon) h in
       record {
@@ -103,10 +103,12 @@ module _ (ts : List Token) (at room : ℕ) where
 
   -- a declaration before the test
   pub start_declared : (r : Result (Option (Span (List Stmt))) NoMemory) → kind_at ts at ≡
-      Some (Word Int) → IfOk r (Gives (Low list_height room (Declaration ts at)) at (length ts))
-      → IfOk r (Gives (Low list_height room (ForInit ts at)) at (length ts))
+      Some (Word Int) → IfOk r (Gives (IsNoHigher list_height room (Declaration ts at)) at
+      (length ts))
+      → IfOk r (Gives (IsNoHigher list_height room (ForInit ts at)) at (length ts))
   start_declared r h =
-      renamed_ok (Low list_height room (Declaration ts at)) (Low list_height room (ForInit ts at))
+      renamed_ok (IsNoHigher list_height room (Declaration ts at))
+      (IsNoHigher list_height room (ForInit ts at))
       at at (length ts) r (omega arith)
       (λ j ss p. (start_names ts at j ss p.0, p.1))
       (λ j ss q. (names_from h j ss (started_of ts at j ss q.0), q.1))
@@ -124,8 +126,8 @@ module _ (ts : List Token) (at room : ℕ) where
   -- a change before the test
   pub start_builds : (kind_at ts at ≡ Some (Mark Semicolon) → ⊥) →
       (kind_at ts at ≡ Some (Word Int) → ⊥)
-      → Built (λ (s : Stmt). s ∷ []) (Low stmt_height room (Change Semicolon ts at))
-      (Low list_height room (ForInit ts at))
+      → Built (λ (s : Stmt). s ∷ []) (IsNoHigher stmt_height room (Change Semicolon ts at))
+      (IsNoHigher list_height room (ForInit ts at))
   start_builds a b = record {
     make =
         λ j s p. let fits : stmt_height s ≤ room = p.1 in (start_change ts at j s p.0, omega arith);
@@ -142,7 +144,7 @@ module _ (ts : List Token) (at room : ℕ) where
   -- no test
   pub test_none : (y : Span (Option Expr)) → kind_at ts at ≡ Some (Mark Semicolon) → y.value ≡
       None → y.end ≡ at + 1
-      → Gives (Low (of_option expr_height) room (ForTest ts at)) at (length ts) (Some y)
+      → Gives (IsNoHigher (of_option expr_height) room (ForTest ts at)) at (length ts) (Some y)
   test_none y h yv ye =
       let within : at < length ts = kind_within ts at (Mark Semicolon) h in
       record {
@@ -165,8 +167,8 @@ module _ (ts : List Token) (at room : ℕ) where
 
   -- a test
   pub test_builds : (kind_at ts at ≡ Some (Mark Semicolon) → ⊥) →
-      Built (λ (e : Expr). Some e) (Low expr_height room (UpTo Semicolon ts at))
-      (Low (of_option expr_height) room (ForTest ts at))
+      Built (λ (e : Expr). Some e) (IsNoHigher expr_height room (UpTo Semicolon ts at))
+      (IsNoHigher (of_option expr_height) room (ForTest ts at))
   test_builds a = record {
     make = λ j e p. (a_test ts at j e p.0, p.1);
     part = λ j o q. test_from a j o (continued_of ts at j o q.0) q.1;
@@ -182,7 +184,7 @@ module _ (ts : List Token) (at room : ℕ) where
   -- no change after the test
   pub advance_none : (y : Span (Option Stmt)) → kind_at ts at ≡ Some (Mark RightParen) → y.value ≡
       None → y.end ≡ at + 1
-      → Gives (Low (of_option stmt_height) room (ForStep ts at)) at (length ts) (Some y)
+      → Gives (IsNoHigher (of_option stmt_height) room (ForStep ts at)) at (length ts) (Some y)
   advance_none y h yv ye =
       let within : at < length ts = kind_within ts at (Mark RightParen) h in
       record {
@@ -205,8 +207,8 @@ module _ (ts : List Token) (at room : ℕ) where
 
   -- a change after the test
   pub advance_builds : (kind_at ts at ≡ Some (Mark RightParen) → ⊥) →
-      Built (λ (s : Stmt). Some s) (Low stmt_height room (Change RightParen ts at))
-      (Low (of_option stmt_height) room (ForStep ts at))
+      Built (λ (s : Stmt). Some s) (IsNoHigher stmt_height room (Change RightParen ts at))
+      (IsNoHigher (of_option stmt_height) room (ForStep ts at))
   advance_builds a = record {
     make = λ j s p. (a_change ts at j s p.0, p.1);
     part = λ j o q. advance_from a j o (advanced_of ts at j o q.0) q.1;
@@ -221,8 +223,9 @@ module _ (ts : List Token) (at room : ℕ) where
       (omega arith, (omega arith, omega arith))
 
   -- no head without the part before the test
-  pub head_startless : Gives (Low list_height room (ForInit ts (at + 1))) (at + 1) (length ts) None
-      → Gives (Low head_height room (ForHead ts at)) at (length ts) None
+  pub head_startless : Gives (IsNoHigher list_height room (ForInit ts (at + 1))) (at + 1)
+      (length ts) None
+      → Gives (IsNoHigher head_height room (ForHead ts at)) at (length ts) None
   head_startless r =
       record {
         found = tt;
@@ -230,15 +233,16 @@ module _ (ts : List Token) (at room : ℕ) where
             r.only p.0.middle h.first (p.0.starts, fit.0);
       }
 
-  module _ (x : Span (List Stmt)) (r : Gives (Low list_height room (ForInit ts (at + 1))) (at + 1)
+  module _ (x : Span (List Stmt)) (r : Gives (IsNoHigher list_height room (ForInit ts (at + 1)))
+      (at + 1)
       (length ts) (Some x)) where
     start_is : (j : ℕ) (h : Head) (p : ForHead ts at j h) → head_height h ≤ room →
         (x.end ≡ p.middle) × (x.value ≡ h.first)
     start_is j h p fits = let fit = parts_fit h fits in r.only p.middle h.first (p.starts, fit.0)
 
     -- no head without a test
-    pub head_testless : Gives (Low (of_option expr_height) room (ForTest ts x.end)) x.end
-        (length ts) None → Gives (Low head_height room (ForHead ts at)) at (length ts) None
+    pub head_testless : Gives (IsNoHigher (of_option expr_height) room (ForTest ts x.end)) x.end
+        (length ts) None → Gives (IsNoHigher head_height room (ForHead ts at)) at (length ts) None
     head_testless t = record {
       found = tt;
       only = λ j h p.
@@ -249,63 +253,65 @@ module _ (ts : List Token) (at room : ℕ) where
     }
 
     module _ (y : Span (Option Expr)) (t : Gives
-        (Low (of_option expr_height) room (ForTest ts x.end)) x.end (length ts) (Some y)) where
-      test_is : (j : ℕ) (h : Head) (p : ForHead ts at j h) → head_height h ≤ room →
-          (y.end ≡ p.last) × (y.value ≡ h.test)
-      test_is j h p fits =
-          let fit = parts_fit h fits in
-          let is = start_is j h p fits in
-          let there : ForTest ts x.end p.last h.test = rw is.0 p.continues in
-          t.only p.last h.test (there, fit.1.0)
+        (IsNoHigher (of_option expr_height) room (ForTest ts x.end)) x.end (length ts) (Some y))
+      where
+        test_is : (j : ℕ) (h : Head) (p : ForHead ts at j h) → head_height h ≤ room →
+            (y.end ≡ p.last) × (y.value ≡ h.test)
+        test_is j h p fits =
+            let fit = parts_fit h fits in
+            let is = start_is j h p fits in
+            let there : ForTest ts x.end p.last h.test = rw is.0 p.continues in
+            t.only p.last h.test (there, fit.1.0)
 
-      -- no head without what is after the test
-      pub head_changeless : Gives (Low (of_option stmt_height) room (ForStep ts y.end)) y.end
-          (length ts) None → Gives (Low head_height room (ForHead ts at)) at (length ts) None
-      head_changeless a = record {
-        found = tt;
-        only = λ j h p.
-            let fit = parts_fit h p.1 in
-            let is = test_is j h p.0 p.1 in
-            let there : ForStep ts y.end j h.change = rw is.0 p.0.advances in
-            a.only j h.change (there, fit.1.1);
-      }
+        -- no head without what is after the test
+        pub head_changeless : Gives (IsNoHigher (of_option stmt_height) room (ForStep ts y.end)) y.end
+            (length ts) None → Gives (IsNoHigher head_height room (ForHead ts at)) at (length ts) None
+        head_changeless a = record {
+          found = tt;
+          only = λ j h p.
+              let fit = parts_fit h p.1 in
+              let is = test_is j h p.0 p.1 in
+              let there : ForStep ts y.end j h.change = rw is.0 p.0.advances in
+              a.only j h.change (there, fit.1.1);
+        }
 
-      -- a head
-      pub head_reads : (z : Span (Option Stmt)) (w : Span Head) → kind_at ts at ≡
-          Some (Mark LeftParen) → Gives (Low (of_option stmt_height) room (ForStep ts y.end)) y.end
-          (length ts) (Some z)
-          → w.value ≡ record { first = x.value; test = y.value; change = z.value } → w.end ≡ z.end →
-          Gives (Low head_height room (ForHead ts at)) at (length ts) (Some w)
-      head_reads z w o a wv we =
-          let f1 : at + 1 < x.end = r.found.further in
-          let f2 : x.end < y.end = t.found.further in
-          let f3 : y.end < z.end = a.found.further in
-          let within : z.end ≤ length ts = a.found.within in
-          let low1 : list_height x.value ≤ room = r.found.spelled.1 in
-          let low2 : of_option expr_height y.value ≤ room = t.found.spelled.1 in
-          let low3 : of_option stmt_height z.value ≤ room = a.found.spelled.1 in
-          record {
-            found = record {
-              spelled =
-                  rw (we, wv) (
-                    record {
-                      opens = o;
-                      middle = x.end;
-                      starts = r.found.spelled.0;
-                      last = y.end;
-                      continues = t.found.spelled.0;
-                      advances = a.found.spelled.0;
-                    },
-                    omega arith,
-                  );
-              further = omega arith;
-              within = omega arith;
-            };
-            only = λ j h p.
-                let fit = parts_fit h p.1 in
-                let is1 = start_is j h p.0 p.1 in
-                let is2 = test_is j h p.0 p.1 in
-                let there : ForStep ts y.end j h.change = rw is2.0 p.0.advances in
-                let is3 : (z.end ≡ j) × (z.value ≡ h.change) = a.only j h.change (there, fit.1.1) in
-                (we ∙ is3.0, wv ∙ (rw (is1.1, is2.1, is3.1) refl));
-          }
+        -- a head
+        pub head_reads : (z : Span (Option Stmt)) (w : Span Head) → kind_at ts at ≡
+            Some (Mark LeftParen) → Gives (IsNoHigher (of_option stmt_height) room (ForStep ts y.end))
+            y.end
+            (length ts) (Some z)
+            → w.value ≡ record { first = x.value; test = y.value; change = z.value } → w.end ≡ z.end →
+            Gives (IsNoHigher head_height room (ForHead ts at)) at (length ts) (Some w)
+        head_reads z w o a wv we =
+            let f1 : at + 1 < x.end = r.found.further in
+            let f2 : x.end < y.end = t.found.further in
+            let f3 : y.end < z.end = a.found.further in
+            let within : z.end ≤ length ts = a.found.within in
+            let low1 : list_height x.value ≤ room = r.found.spelled.1 in
+            let low2 : of_option expr_height y.value ≤ room = t.found.spelled.1 in
+            let low3 : of_option stmt_height z.value ≤ room = a.found.spelled.1 in
+            record {
+              found = record {
+                spelled =
+                    rw (we, wv) (
+                      record {
+                        opens = o;
+                        middle = x.end;
+                        starts = r.found.spelled.0;
+                        last = y.end;
+                        continues = t.found.spelled.0;
+                        advances = a.found.spelled.0;
+                      },
+                      omega arith,
+                    );
+                further = omega arith;
+                within = omega arith;
+              };
+              only = λ j h p.
+                  let fit = parts_fit h p.1 in
+                  let is1 = start_is j h p.0 p.1 in
+                  let is2 = test_is j h p.0 p.1 in
+                  let there : ForStep ts y.end j h.change = rw is2.0 p.0.advances in
+                  let is3 : (z.end ≡ j) × (z.value ≡ h.change) = a.only j h.change (there, fit.1.1) in
+                  (we ∙ is3.0, wv ∙ (rw (is1.1, is2.1, is3.1) refl));
+            }

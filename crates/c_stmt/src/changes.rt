@@ -4,7 +4,7 @@ ghost use Rattle.c_ast.specs.Height.{stmt_height};
 ghost use Rattle.c_expr.specs.Grammar.{kind_at, binary_of};
 ghost use Rattle.c_stmt.specs.Statements.{Change, updated, changing_of, step};
 ghost use Rattle.c_ast.specs.declared.expr.BinOp.{BinOp};
-ghost use Rattle.c_expr.specs.Readers.{Gives, Low};
+ghost use Rattle.c_expr.specs.Readers.{Gives, IsNoHigher};
 ghost use Rattle.c_stmt.specs.Readers.{IsStep};
 
 use crate::update::{step_at, update_at};
@@ -37,7 +37,8 @@ fn stepped(
     mark: Mark,
 ) -> Result<Option<Span<Stmt>>, NoMemory>
     requires { at < 2 ^ 33 }
-    ensures { IfOk result (Gives (Low stmt_height room (IsStep mark tokens.now name op at)) at
+    ensures { IfOk result (Gives (IsNoHigher stmt_height room (IsStep mark tokens.now name op at))
+        at
         (length tokens.now)) }
 {
     if room < STEP_HEIGHT {
@@ -67,7 +68,7 @@ fn assigned(
     requires no_operator { binary_of (Some (TokenKind.Mark mark)) ≡ None }
     requires no_choice { mark ≢ Mark.Question }
     requires no_call { mark ≢ Mark.LeftParen }
-    ensures { IfOk result (Gives (Low stmt_height room (Change mark tokens.now at)) at
+    ensures { IfOk result (Gives (IsNoHigher stmt_height room (Change mark tokens.now at)) at
         (length tokens.now)) }
 {
     if stands(tokens, at + 1, Mark::Assign) {
@@ -104,7 +105,7 @@ pub fn change(
     requires no_operator { binary_of (Some (TokenKind.Mark mark)) ≡ None }
     requires no_choice { mark ≢ Mark.Question }
     requires no_call { mark ≢ Mark.LeftParen }
-    ensures { IfOk result (Gives (Low stmt_height room (Change mark tokens.now at)) at
+    ensures { IfOk result (Gives (IsNoHigher stmt_height room (Change mark tokens.now at)) at
         (length tokens.now)) }
 {
     if let Some(op) = step_at(tokens, at) {

@@ -4,7 +4,7 @@ ghost use Rattle.c_ast.specs.Height.{stmt_height};
 ghost use Rattle.c_expr.specs.Grammar.{kind_at};
 ghost use Rattle.c_stmt.specs.Statements.{InitDeclarator, InitDeclarators, Declaration, IsParted};
 ghost use Rattle.c_stmt.specs.Heights.{list_height};
-ghost use Rattle.c_expr.specs.Readers.{Gives, Low};
+ghost use Rattle.c_expr.specs.Readers.{Gives, IsNoHigher};
 
 use c_ast::Stmt;
 use c_expr::{Span, names, says, stands, whole};
@@ -28,7 +28,7 @@ fn declarator(
 ) -> Result<Option<Span<Stmt>>, NoMemory>
     requires few { length tokens.now < 2 ^ 32 }
     requires inside { at ≤ length tokens.now }
-    ensures { IfOk result (Gives (Low stmt_height room (InitDeclarator tokens.now at)) at
+    ensures { IfOk result (Gives (IsNoHigher stmt_height room (InitDeclarator tokens.now at)) at
         (length tokens.now)) }
 {
     if !names(tokens, at) {
@@ -59,7 +59,7 @@ fn valued(
     requires few { length tokens.now < 2 ^ 32 }
     requires named { kind_at tokens.now at ≡ Some TokenKind.Name }
     requires assigned { kind_at tokens.now (at + 1) ≡ Some (TokenKind.Mark Mark.Assign) }
-    ensures { IfOk result (Gives (Low stmt_height room (InitDeclarator tokens.now at)) at
+    ensures { IfOk result (Gives (IsNoHigher stmt_height room (InitDeclarator tokens.now at)) at
         (length tokens.now)) }
 {
     if room < 2 {
@@ -86,7 +86,7 @@ fn declarators(
 ) -> Result<Option<Span<Items<Stmt>>>, NoMemory>
     requires few { length tokens.now < 2 ^ 32 }
     requires inside { at ≤ length tokens.now }
-    ensures { IfOk result (Gives (Low list_height room (InitDeclarators tokens.now at)) at
+    ensures { IfOk result (Gives (IsNoHigher list_height room (InitDeclarators tokens.now at)) at
         (length tokens.now)) }
 {
     let mut found = Items::new(alloc);
@@ -112,7 +112,7 @@ pub fn declaration(
 ) -> Result<Option<Span<Items<Stmt>>>, NoMemory>
     requires few { length tokens.now < 2 ^ 32 }
     requires inside { at ≤ length tokens.now }
-    ensures { IfOk result (Gives (Low list_height room (Declaration tokens.now at)) at
+    ensures { IfOk result (Gives (IsNoHigher list_height room (Declaration tokens.now at)) at
         (length tokens.now)) }
 {
     if !says(tokens, at, Keyword::Int) {

@@ -3,7 +3,7 @@ ghost use Rattle.std.specs.Prelude.{◌≤◌, ◌<◌, ◌^◌, length, IfOk};
 ghost use Rattle.c_ast.specs.Height.{expr_height, stmt_height, of_option};
 ghost use Rattle.c_stmt.specs.Statements.{ForInit, ForTest, ForStep, ForHead};
 ghost use Rattle.c_stmt.specs.Heights.{list_height, head_height};
-ghost use Rattle.c_expr.specs.Readers.{Gives, Low};
+ghost use Rattle.c_expr.specs.Readers.{Gives, IsNoHigher};
 
 use crate::changes::change;
 use crate::declare::declaration;
@@ -23,7 +23,7 @@ fn start(
 ) -> Result<Option<Span<Items<Stmt>>>, NoMemory>
     requires few { length tokens.now < 2 ^ 32 }
     requires inside { at ≤ length tokens.now }
-    ensures { IfOk result (Gives (Low list_height room (ForInit tokens.now at)) at
+    ensures { IfOk result (Gives (IsNoHigher list_height room (ForInit tokens.now at)) at
         (length tokens.now)) }
 {
     if stands(tokens, at, Mark::Semicolon) {
@@ -55,7 +55,8 @@ fn continuing(
 ) -> Result<Option<Span<Option<Expr>>>, NoMemory>
     requires few { length tokens.now < 2 ^ 32 }
     requires inside { at ≤ length tokens.now }
-    ensures { IfOk result (Gives (Low (of_option expr_height) room (ForTest tokens.now at)) at
+    ensures { IfOk result (Gives (IsNoHigher (of_option expr_height) room (ForTest tokens.now at))
+        at
         (length tokens.now)) }
 {
     if stands(tokens, at, Mark::Semicolon) {
@@ -82,7 +83,8 @@ fn advance(
 ) -> Result<Option<Span<Option<Boxed<Stmt>>>>, NoMemory>
     requires few { length tokens.now < 2 ^ 32 }
     requires inside { at ≤ length tokens.now }
-    ensures { IfOk result (Gives (Low (of_option stmt_height) room (ForStep tokens.now at)) at
+    ensures { IfOk result (Gives (IsNoHigher (of_option stmt_height) room (ForStep tokens.now at))
+        at
         (length tokens.now)) }
 {
     if stands(tokens, at, Mark::RightParen) {
@@ -109,7 +111,7 @@ pub fn head(
 ) -> Result<Option<Span<Head>>, NoMemory>
     requires few { length tokens.now < 2 ^ 32 }
     requires inside { at ≤ length tokens.now }
-    ensures { IfOk result (Gives (Low head_height room (ForHead tokens.now at)) at
+    ensures { IfOk result (Gives (IsNoHigher head_height room (ForHead tokens.now at)) at
         (length tokens.now)) }
 {
     if !stands(tokens, at, Mark::LeftParen) {

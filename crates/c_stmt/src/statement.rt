@@ -7,7 +7,7 @@ ghost use Rattle.c_ast.specs.Height.{stmt_height};
 ghost use Rattle.c_expr.specs.Grammar.{kind_at};
 ghost use Rattle.c_stmt.specs.Statements.{Statement, BlockItem, BlockItems};
 ghost use Rattle.c_stmt.specs.Heights.{list_height};
-ghost use Rattle.c_expr.specs.Readers.{Gives, Low};
+ghost use Rattle.c_expr.specs.Readers.{Gives, IsNoHigher};
 ghost use Rattle.c_stmt.specs.Readers.{IsSimple, Jumps};
 
 use crate::changes::change;
@@ -29,7 +29,7 @@ fn statement(
 ) -> Result<Option<Span<Stmt>>, NoMemory>
     requires few { length tokens.now < 2 ^ 32 }
     requires inside { at ≤ length tokens.now }
-    ensures { IfOk result (Gives (Low stmt_height room (Statement tokens.now at)) at
+    ensures { IfOk result (Gives (IsNoHigher stmt_height room (Statement tokens.now at)) at
         (length tokens.now)) }
 {
     if room == 0 {
@@ -63,7 +63,7 @@ fn part(
 ) -> Result<Option<Span<Boxed<Stmt>>>, NoMemory>
     requires few { length tokens.now < 2 ^ 32 }
     requires inside { at ≤ length tokens.now }
-    ensures { IfOk result (Gives (Low stmt_height room (Statement tokens.now at)) at
+    ensures { IfOk result (Gives (IsNoHigher stmt_height room (Statement tokens.now at)) at
         (length tokens.now)) }
 {
     let Some(read) = statement(alloc, tokens, at, room)? else {
@@ -86,7 +86,7 @@ fn block(
     requires few { length tokens.now < 2 ^ 32 }
     requires some { 0 < room }
     requires here { kind_at tokens.now at ≡ Some (TokenKind.Mark Mark.LeftBrace) }
-    ensures { IfOk result (Gives (Low stmt_height room (Statement tokens.now at)) at
+    ensures { IfOk result (Gives (IsNoHigher stmt_height room (Statement tokens.now at)) at
         (length tokens.now)) }
 {
     let Some(inside) = inner(alloc, tokens, at + 1, room - 1)? else {
@@ -109,7 +109,7 @@ fn branch(
     requires few { length tokens.now < 2 ^ 32 }
     requires some { 0 < room }
     requires here { kind_at tokens.now at ≡ Some (TokenKind.Word Keyword.If) }
-    ensures { IfOk result (Gives (Low stmt_height room (Statement tokens.now at)) at
+    ensures { IfOk result (Gives (IsNoHigher stmt_height room (Statement tokens.now at)) at
         (length tokens.now)) }
 {
     let Some(test) = test(alloc, tokens, at + 1, room - 1)? else {
@@ -144,7 +144,7 @@ fn while_loop(
     requires few { length tokens.now < 2 ^ 32 }
     requires some { 0 < room }
     requires here { kind_at tokens.now at ≡ Some (TokenKind.Word Keyword.While) }
-    ensures { IfOk result (Gives (Low stmt_height room (Statement tokens.now at)) at
+    ensures { IfOk result (Gives (IsNoHigher stmt_height room (Statement tokens.now at)) at
         (length tokens.now)) }
 {
     let Some(test) = test(alloc, tokens, at + 1, room - 1)? else {
@@ -170,7 +170,7 @@ fn do_loop(
     requires few { length tokens.now < 2 ^ 32 }
     requires some { 0 < room }
     requires here { kind_at tokens.now at ≡ Some (TokenKind.Word Keyword.Do) }
-    ensures { IfOk result (Gives (Low stmt_height room (Statement tokens.now at)) at
+    ensures { IfOk result (Gives (IsNoHigher stmt_height room (Statement tokens.now at)) at
         (length tokens.now)) }
 {
     let Some(body) = part(alloc, tokens, at + 1, room - 1)? else {
@@ -202,7 +202,7 @@ fn for_loop(
     requires few { length tokens.now < 2 ^ 32 }
     requires some { 0 < room }
     requires here { kind_at tokens.now at ≡ Some (TokenKind.Word Keyword.For) }
-    ensures { IfOk result (Gives (Low stmt_height room (Statement tokens.now at)) at
+    ensures { IfOk result (Gives (IsNoHigher stmt_height room (Statement tokens.now at)) at
         (length tokens.now)) }
 {
     let Some(head) = head(alloc, tokens, at + 1, room - 1)? else {
@@ -233,7 +233,7 @@ pub fn inner(
 ) -> Result<Option<Span<Items<Stmt>>>, NoMemory>
     requires few { length tokens.now < 2 ^ 32 }
     requires inside { at ≤ length tokens.now }
-    ensures { IfOk result (Gives (Low list_height room (BlockItems tokens.now at)) at
+    ensures { IfOk result (Gives (IsNoHigher list_height room (BlockItems tokens.now at)) at
         (length tokens.now)) }
 {
     let mut found = Items::new(alloc);
@@ -261,7 +261,7 @@ pub fn item(
 ) -> Result<Option<Span<Items<Stmt>>>, NoMemory>
     requires few { length tokens.now < 2 ^ 32 }
     requires inside { at ≤ length tokens.now }
-    ensures { IfOk result (Gives (Low list_height room (BlockItem tokens.now at)) at
+    ensures { IfOk result (Gives (IsNoHigher list_height room (BlockItem tokens.now at)) at
         (length tokens.now)) }
 {
     if says(tokens, at, Keyword::Int) {
@@ -301,7 +301,7 @@ fn simple(
     requires inside { at ≤ length tokens.now }
     requires some { 0 < room }
     requires simple { IsSimple tokens.now at }
-    ensures { IfOk result (Gives (Low stmt_height room (Statement tokens.now at)) at
+    ensures { IfOk result (Gives (IsNoHigher stmt_height room (Statement tokens.now at)) at
         (length tokens.now)) }
 {
     if stands(tokens, at, Mark::Semicolon) {

@@ -1,6 +1,6 @@
 //! The lines of verdicts, and the exit statuses.
 ghost use Rattle.std.specs.Prelude.{IfSome};
-ghost use Rattle.rx_cli.specs.Texts.{HasLine};
+ghost use Rattle.rx_cli.specs.Texts.{IsReportableVerdict};
 
 use crate::outside::put_bytes;
 use crate::printing::put_debug;
@@ -11,7 +11,7 @@ use std::alloc::Global;
 
 // A fault of the tokens, by its word.
 fn lex_verdict(word: &str, at: u32) -> Option<Verdict>
-    ensures { IfSome result HasLine }
+    ensures { IfSome result IsReportableVerdict }
 {
     match word {
         "bad-byte" => Some(Verdict::Lex(LexEnd::BadByte { at })),
@@ -25,7 +25,7 @@ fn lex_verdict(word: &str, at: u32) -> Option<Verdict>
 
 // A fault of the names, by its word.
 fn scope_verdict(word: &str, token: u32) -> Option<Verdict>
-    ensures { IfSome result HasLine }
+    ensures { IfSome result IsReportableVerdict }
 {
     match word {
         "unknown-name" => Some(Verdict::Scope(ScopeEnd::UnknownName { token })),
@@ -41,7 +41,7 @@ fn scope_verdict(word: &str, token: u32) -> Option<Verdict>
 
 // Another verdict, by its word.
 fn other_verdict(word: &str, number: u32) -> Option<Verdict>
-    ensures { IfSome result HasLine }
+    ensures { IfSome result IsReportableVerdict }
 {
     match word {
         "equivalent" => Some(Verdict::Equivalent),
@@ -61,7 +61,7 @@ fn other_verdict(word: &str, number: u32) -> Option<Verdict>
 
 // The line of a verdict.
 fn line(alloc: Global, verdict: &Verdict) -> Option<String>
-    requires { HasLine verdict.now }
+    requires { IsReportableVerdict verdict.now }
 {
     let mut out = String::new(alloc);
     put_bytes(&mut out, &report(alloc, verdict).ok()?);

@@ -6,11 +6,11 @@ use Rattle.std.specs.Int.Signed.{lt_z_yes, lt_z_no, le_z_yes}
 use Rattle.std.proofs.lemmas.Int.{ints, by_lt_z}
 use Rattle.std.proofs.lemmas.Bool.Decides.{Decides-int_eq, not_from_Decides}
 use Rattle.rx_poly.specs.Constants.{number}
-use Rattle.rx_poly.specs.Limits.{subtracted}
+use Rattle.rx_poly.specs.Limits.{body_difference}
 use Rattle.rx_poly.specs.Value.{value}
 use Rattle.rx_poly.specs.declared.body.Body.{Body}
 use Rattle.rx_poly.proofs.Constants.{value-number}
-use Rattle.rx_poly.proofs.PolyLaws.{value-subtracted}
+use Rattle.rx_poly.proofs.PolyLaws.{value-body_difference}
 use Rattle.rx_row.specs.declared.row.Row.{Row}
 use Rattle.rx_row.specs.Holds.{RowHolds}
 use Rattle.rx_row.specs.Negation.{negation}
@@ -71,8 +71,8 @@ not_false false is = sym is
 pub comparison_tests : (op : BinOp) (p q : Body) (row : Row) → IsComparison op p q row →
     (α : ℕ → ℤ) → Tests α row (test_of op (value α p) (value α q))
 comparison_tests op p q row (code.less _ _) α =
-    let e = value-subtracted α (subtracted q p) (number (pos 1)) in
-    let f = value-subtracted α q p in
+    let e = value-body_difference α (body_difference q p) (number (pos 1)) in
+    let f = value-body_difference α q p in
     let g = value-number α (pos 1) in
     record {
       holds = λ is. let h = lt_yes (value α p) (value α q) is in omega (arith, ints, e, f, g, h);
@@ -81,15 +81,15 @@ comparison_tests op p q row (code.less _ _) α =
           omega (arith, ints, e, f, g, h, hold);
     }
 comparison_tests op p q row (code.at_most _ _) α =
-    let f = value-subtracted α q p in
+    let f = value-body_difference α q p in
     record {
       holds = λ is. let h = le_yes (value α p) (value α q) is in omega (arith, ints, f, h);
       fails =
           λ is hold. let h = le_no (value α p) (value α q) is in omega (arith, ints, f, h, hold);
     }
 comparison_tests op p q row (code.greater _ _) α =
-    let e = value-subtracted α (subtracted p q) (number (pos 1)) in
-    let f = value-subtracted α p q in
+    let e = value-body_difference α (body_difference p q) (number (pos 1)) in
+    let f = value-body_difference α p q in
     let g = value-number α (pos 1) in
     record {
       holds = λ is. let h = lt_yes (value α q) (value α p) is in omega (arith, ints, e, f, g, h);
@@ -98,14 +98,14 @@ comparison_tests op p q row (code.greater _ _) α =
           omega (arith, ints, e, f, g, h, hold);
     }
 comparison_tests op p q row (code.at_least _ _) α =
-    let f = value-subtracted α p q in
+    let f = value-body_difference α p q in
     record {
       holds = λ is. let h = le_yes (value α q) (value α p) is in omega (arith, ints, f, h);
       fails =
           λ is hold. let h = le_no (value α q) (value α p) is in omega (arith, ints, f, h, hold);
     }
 comparison_tests op p q row (code.equal _ _) α =
-    let f = value-subtracted α p q in
+    let f = value-body_difference α p q in
     record {
       holds =
           λ is. let h : value α p ≡ value α q = (Decides-int_eq (value α p) (value α q)).0 is in
@@ -115,7 +115,7 @@ comparison_tests op p q row (code.equal _ _) α =
           (difference_zero (value α p) (value α q) (sym f ∙ hold));
     }
 comparison_tests op p q row (code.unequal _ _) α =
-    let f = value-subtracted α p q in
+    let f = value-body_difference α p q in
     record {
       holds =
           λ is hold. not_eq (value α p) (value α q) (not_true (int_eq (value α p) (value α q)) is)

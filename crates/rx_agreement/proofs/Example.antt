@@ -238,7 +238,7 @@ agrees =
     first_agrees example example_scoped 1 0 example_parts (symbol 3) (symbol 0) example_translated
 
 pub returned_integer : Reaches (Instance example_parts.rules) (stack.Call 3 (pos 1 ∷ []))
-    (stack.Ret (pos 1))
+    (stack.Return (pos 1))
 returned_integer = (agrees (pos 1 ∷ []) refl (Value (pos 1)) tt).0 last_at_one
 
 pub division_error : Reaches (Instance example_parts.rules) (stack.Call 3 (pos 0 ∷ []))

@@ -3,13 +3,13 @@ use Rattle.std.proofs.Common.{◌≡◌, ◌≢◌, ◌∙◌, ap, sym, subst, r
 use Rattle.std.proofs.lemmas.Bool.{and_parts}
 use Rattle.std.proofs.lemmas.Int.{ints}
 use Rattle.std.proofs.lemmas.List.Elements.{All-append, All-cons, All-head, All-nil}
-use Rattle.rx_poly.specs.Limits.{added, scaled_by}
-use Rattle.rx_poly.specs.Products.{multiplied}
+use Rattle.rx_poly.specs.Limits.{body_sum, scaled_by}
+use Rattle.rx_poly.specs.Products.{body_product}
 use Rattle.rx_poly.specs.Value.{value}
 use Rattle.rx_poly.specs.declared.body.Body.{Body}
 use Rattle.rx_poly.proofs.Constants.{value-number, value-variable}
-use Rattle.rx_poly.proofs.PolyLaws.{value-added, value-scaled_by}
-use Rattle.rx_poly.proofs.ProductLaws.{value-multiplied}
+use Rattle.rx_poly.proofs.PolyLaws.{value-body_sum, value-scaled_by}
+use Rattle.rx_poly.proofs.ProductLaws.{value-body_product}
 use Rattle.rx_row.specs.Holds.{AllHold, RowHolds}
 use Rattle.rx_row.specs.declared.row.Row.{Row}
 use Rattle.rx_term.specs.Assigned.{assigned}
@@ -68,17 +68,17 @@ module _ (s : State) where
   joined_value : (op : BinOp) (e f : Expr) → is_sum_or_product op ≡ true → HasValue e → HasValue f →
       HasValue (expr.Binary op e f)
   joined_value bin.Add e f is left right =
-      sum_has bin.Add e f (added (polynomial e) (polynomial f)) ◌+ℤ◌ (λ x y. refl)
+      sum_has bin.Add e f (body_sum (polynomial e) (polynomial f)) ◌+ℤ◌ (λ x y. refl)
       (ap (λ (r : Read). r.value.form) (read-Binary bin.Add e f))
-      (value-added (assigned s) (polynomial e) (polynomial f)) left right
+      (value-body_sum (assigned s) (polynomial e) (polynomial f)) left right
   joined_value bin.Sub e f is left right =
-      sum_has bin.Sub e f (added (polynomial e) (scaled_by (negsuc 0) (polynomial f))) ◌-ℤ◌
+      sum_has bin.Sub e f (body_sum (polynomial e) (scaled_by (negsuc 0) (polynomial f))) ◌-ℤ◌
       (λ x y. refl) (ap (λ (r : Read). r.value.form) (read-Binary bin.Sub e f))
       (value-difference (assigned s) (polynomial e) (polynomial f)) left right
   joined_value bin.Mul e f is left right =
-      sum_has bin.Mul e f (multiplied (polynomial e) (polynomial f)) ◌*ℤ◌ (λ x y. refl)
+      sum_has bin.Mul e f (body_product (polynomial e) (polynomial f)) ◌*ℤ◌ (λ x y. refl)
       (ap (λ (r : Read). r.value.form) (read-Binary bin.Mul e f))
-      (value-multiplied (assigned s) (polynomial e) (polynomial f)) left right
+      (value-body_product (assigned s) (polynomial e) (polynomial f)) left right
   joined_value bin.Div e f is left right = never is
   joined_value bin.Rem e f is left right = never is
   joined_value bin.Lt e f is left right = never is

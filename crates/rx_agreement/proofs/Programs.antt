@@ -6,7 +6,7 @@ use Rattle.rx_poly.proofs.Constants.{value-number}
 use Rattle.rx_rewriting.specs.Terms as stack
 use Rattle.rx_rewriting.specs.Terms.{Ground, Relation, IsResult}
 use Rattle.rx_rewriting.specs.Steps.{Reaches, ReachesIn, IsSingleValued}
-use Rattle.rx_rewriting.specs.Premises.{ResultsRest}
+use Rattle.rx_rewriting.specs.Premises.{ResultsAreNormal}
 use Rattle.rx_rewriting.proofs.Chains.{ReachesIn-reaches, Reaches-counted}
 use Rattle.rx_rewriting.proofs.UniqueResults.{result_in_rest, reached_from_result}
 use Rattle.c_ast.specs.declared.program.Function.{Function}
@@ -47,19 +47,19 @@ module _ (R : Relation) (program : Resolved) (entry : ℕ → ℕ) (may : ℕ �
     Some function → total (map loops function.body) < w) (positive : 0 < w) where
   -- the end of a body
   zero_at_end : (end : Point) (s : State) → end.width ≡ 0 →
-      acts end (does_at.Return (number (pos 0))) → Runs R w (at_point end s) (stack.Ret (pos 0))
+      acts end (does_at.Return (number (pos 0))) → Runs R w (at_point end s) (stack.Return (pos 0))
   zero_at_end end s none act =
       let step = does end (does_at.Return (number (pos 0))) act [] (sym none) in
       let e : stack.Call end.symbol [] ≡ at_point end s =
       ap (stack.Call end.symbol) (sym (ap (λ k. take k s) none)) in
-      subst (λ g. Runs R w g (stack.Ret (pos 0))) e
-      (subst (λ k. Runs R w (stack.Call end.symbol []) (stack.Ret k))
+      subst (λ g. Runs R w g (stack.Return (pos 0))) e
+      (subst (λ k. Runs R w (stack.Call end.symbol []) (stack.Return k))
       (value-number (assigned []) (pos 0)) (on-run R w (run-step R w step)))
 
   ends_value : (m h : ℕ) (start : Ground) (n k : ℕ) (end : Point) (o : Outcome Flow) → end.width ≡
       0 → acts end (does_at.Return (number (pos 0))) → suc h ≤ w
       → Executes R entry acts may does w positive m h start n k end end end o →
-      Leads R w (suc m) w start (λ v. Runs R w start (stack.Ret v)) (on_value o returned)
+      Leads R w (suc m) w start (λ v. Runs R w start (stack.Return v)) (on_value o returned)
   ends_value m h start n k end (Value (Next s)) none act below there =
       run-trans R w there.0 (zero_at_end end s none act)
   ends_value m h start n k end (Value (Break s)) none act below there =
@@ -100,7 +100,7 @@ module _ (R : Relation) (program : Resolved) (entry : ℕ → ℕ) (may : ℕ �
       (in_order (map stmt body) r args) in
       let Q : Option Function → Type 0 = λ o.
       Leads R w (suc m) w (stack.Call (entry f) args)
-      (λ k. Runs R w (stack.Call (entry f) args) (stack.Ret k)) (body_outcome o r args) in
+      (λ k. Runs R w (stack.Call (entry f) args) (stack.Return k)) (body_outcome o r args) in
       subst Q (sym there.stands)
       (ends_value m (total (map loops body)) (stack.Call (entry f) args)
       (length there.function.params) code.slots end (in_order (map stmt body) r args)
@@ -115,7 +115,7 @@ module _ (R : Relation) (program : Resolved) (entry : ℕ → ℕ) (may : ℕ �
       (fine_rounds n)
 
   answers_reach : (m : ℕ) (start : Ground) (r : Outcome ℤ) → IsAnswer r →
-      Leads R w m w start (λ v. Runs R w start (stack.Ret v)) r → Reaches R start (result_of r)
+      Leads R w m w start (λ v. Runs R w start (stack.Return v)) r → Reaches R start (result_of r)
   answers_reach m start (Value k) answer there = ReachesIn-reaches there.1
   answers_reach m start DivisionError answer there = ReachesIn-reaches there.1
   answers_reach m start More answer there = absurd answer
@@ -135,14 +135,15 @@ module _ (R : Relation) (program : Resolved) (entry : ℕ → ℕ) (may : ℕ �
   same_result More q one two same = absurd one
 
   -- a run of j steps to a result leaves no room for 'more' with n rounds
-  too_long : (j : ℕ) (start end : Ground) → IsSingleValued R → ResultsRest R → IsResult end →
+  too_long : (j : ℕ) (start end : Ground) → IsSingleValued R → ResultsAreNormal R → IsResult end →
       ReachesIn R j start end → Long R w (suc (j * w + w)) w start → ⊥
   too_long j start end single rest result all long =
       let (at_most, left) = result_in_rest R single rest start end long.end j long.steps result all
       long.run in
       let e = long.enough in let f = less_times long.steps j w at_most in omega (arith, e, f)
 
-  two_results : (start : Ground) (g h : Ground) → IsSingleValued R → ResultsRest R → IsResult g →
+  two_results : (start : Ground) (g h : Ground) → IsSingleValued R → ResultsAreNormal R →
+      IsResult g →
       IsResult h → Reaches R start g → Reaches R start h → g ≡ h
   two_results start g h single rest one two to_g to_h =
       let (i, run_g) = Reaches-counted to_g in
@@ -151,7 +152,8 @@ module _ (R : Relation) (program : Resolved) (entry : ℕ → ℕ) (may : ℕ �
       reached_from_result R rest g h one (ReachesIn-reaches left)
 
   -- the meaning and the rules agree
-  pub agree : IsSingleValued R → ResultsRest R → (f : ℕ) (args : List ℤ) → may f (length args) →
+  pub agree : IsSingleValued R → ResultsAreNormal R → (f : ℕ) (args : List ℤ) →
+      may f (length args) →
       (r : Outcome ℤ) → IsAnswer r
       → Returns program f args r ↔ Reaches R (stack.Call (entry f) args) (result_of r)
   agree single rest f args called r answer = (there, back)
@@ -160,7 +162,7 @@ module _ (R : Relation) (program : Resolved) (entry : ℕ → ℕ) (may : ℕ �
       there returns =
           answers_reach returns.enough (stack.Call (entry f) args) r answer
           (subst (Leads R w returns.enough w (stack.Call (entry f) args)
-          (λ v. Runs R w (stack.Call (entry f) args) (stack.Ret v))) returns.outcome
+          (λ v. Runs R w (stack.Call (entry f) args) (stack.Return v))) returns.outcome
           (calls_run R entry acts may does w positive (rounds program returns.enough) returns.enough
           (fine_rounds returns.enough) f args called))
 
@@ -168,10 +170,10 @@ module _ (R : Relation) (program : Resolved) (entry : ℕ → ℕ) (may : ℕ �
           Reaches R (stack.Call (entry f) args) (result_of r)
           → ReachesIn R j (stack.Call (entry f) args) (result_of r)
           → Leads R w n w (stack.Call (entry f) args)
-          (λ v. Runs R w (stack.Call (entry f) args) (stack.Ret v)) o → Returns program f args r
+          (λ v. Runs R w (stack.Call (entry f) args) (stack.Return v)) o → Returns program f args r
       found n j (Value k) is outcome reaches counted runs =
           let e : Value k ≡ r = same_result (Value k) r tt answer
-          (two_results (stack.Call (entry f) args) (stack.Ret k) (result_of r) single rest tt
+          (two_results (stack.Call (entry f) args) (stack.Return k) (result_of r) single rest tt
           (result_is r answer) (ReachesIn-reaches runs.1) reaches) in
           record { enough = n; outcome = outcome ∙ e; is_answer = answer }
       found n j DivisionError is outcome reaches counted runs =

@@ -43,7 +43,7 @@ module _ (R : Relation) (entry : ℕ → ℕ) (acts : Actions) (callable : ℕ �
   CallsRun m calls =
       (f : ℕ) (args : List ℤ) → callable f (length args) →
       Leads R w m w (stack.Call (entry f) args)
-      (λ k. Runs R w (stack.Call (entry f) args) (stack.Ret k)) (calls f args)
+      (λ k. Runs R w (stack.Call (entry f) args) (stack.Return k)) (calls f args)
 
   -- n rounds, with each of which calls do so
   pub data Fine : Rounds → ℕ → Type 0 where
@@ -77,7 +77,7 @@ module _ (R : Relation) (entry : ℕ → ℕ) (acts : Actions) (callable : ℕ �
   Flowed start n k z B K (Next s) = Runs R w start (at_point z s) × (k ≤ length s)
   Flowed start n k z B K (Break s) = Runs R w start (at_point B s) × (n ≤ length s)
   Flowed start n k z B K (Continue s) = Runs R w start (at_point K s) × (n ≤ length s)
-  Flowed start n k z B K (Return x) = Runs R w start (stack.Ret x)
+  Flowed start n k z B K (Return x) = Runs R w start (stack.Return x)
 
   abbrev pub Executes : ℕ → ℕ → Ground → ℕ → ℕ → Point → Point → Point → Outcome Flow → Type 0
   Executes m h start n k z B K o = Leads R w m h start (Flowed start n k z B K) o
@@ -345,7 +345,7 @@ module _ (R : Relation) (entry : ℕ → ℕ) (acts : Actions) (callable : ℕ �
   after_body_runs : (T : Ground → Turn → Type 0) (m h : ℕ) (start : Ground) (n k : ℕ) (c z : Point)
       (o : Outcome Flow) (rest : State → Outcome Turn) → n ≤ k
       → ((s : State) → Runs R w start (at_point z s) → n ≤ length s → T start (Ends (Next s)))
-      → ((x : ℤ) → Runs R w start (stack.Ret x) → T start (Ends (Return x)))
+      → ((x : ℤ) → Runs R w start (stack.Return x) → T start (Ends (Return x)))
       → ((middle : Ground) → Runs R w start middle → (t : Turn) → T middle t → T start t)
       → Executes m h start n k c z c o
       → ((s : State) → n ≤ length s → Leads R w m h (at_point c s) (T (at_point c s)) (rest s))
@@ -504,7 +504,7 @@ module _ (R : Relation) (entry : ℕ → ℕ) (acts : Actions) (callable : ℕ �
       let is : value (assigned ys) p ≡ x = ap (λ l. value (assigned l) p) (sym (append-nil ys)) ∙
       come.stands [] in
       run-trans R w come.run (on-run R w (run-step R w
-      (subst (λ k. Step R (stack.Call b.symbol ys) (stack.Ret k)) is
+      (subst (λ k. Step R (stack.Call b.symbol ys) (stack.Return k)) is
       (does b (does_at.Return p) act ys come.long))))
   returns_value m h n a b z B K s p DivisionError act there = there
   returns_value m h n a b z B K s p More act there =

@@ -4,7 +4,7 @@ use Rattle.std.specs.Prelude.{slice_get}
 use Rattle.rx_rewriting.specs.Terms as stack
 use Rattle.rx_rewriting.specs.Terms.{Fits, Ground, IsResult, Relation, TermSet}
 use Rattle.rx_rewriting.specs.Steps.{Go, IsSingleValued, Reaches, Stop}
-use Rattle.rx_rewriting.specs.Premises.{ResultsRest, Stays}
+use Rattle.rx_rewriting.specs.Premises.{ResultsAreNormal, ClosedUnder}
 use Rattle.rx_rewriting.proofs.UniqueResults.{convertible_results_equal}
 use Rattle.rx_term.specs.Meaning.{Instance, ground_at, signature, values}
 use Rattle.rx_term.specs.declared.rule_set.RuleParts.{RuleParts}
@@ -30,7 +30,8 @@ use Rattle.rx_agreement.specs.Agreement.{AgreeOn, ReachConvertible, ReturnAlike,
 use Rattle.rx_agreement.proofs.Agreement.{carried_code_agrees}
 
 -- what is reached from an inside term is inside
-reached_inside : (inside : TermSet) (R : Relation) → Stays inside R → (s t : Ground) → inside s →
+reached_inside : (inside : TermSet) (R : Relation) → ClosedUnder inside R → (s t : Ground) →
+    inside s →
     Reaches R s t → inside t
 reached_inside inside R stays s t is Stop = is
 reached_inside inside R stays s t is (Go {t = u} step rest) =
@@ -71,7 +72,7 @@ module _ (program : Resolved) (scoped : is_scoped program ≡ true) (f g : ℕ) 
       single_valued parts (translation_made program scoped f g parts first second t)
       (translation_paired program scoped f g parts first second t)
 
-  rest : ResultsRest R
+  rest : ResultsAreNormal R
   rest = results_rest parts (translation_made program scoped f g parts first second t)
 
   -- a result that the first entry reaches is that of an outcome
@@ -92,7 +93,7 @@ module _ (program : Resolved) (scoped : is_scoped program ≡ true) (f g : ℕ) 
     where
       go : (u : Ground) → IsResult u → Fits (signature parts) u → (r : Outcome ℤ) × IsAnswer r ×
           (u ≡ result_of r)
-      go (stack.Ret k) result fits = (Value k, tt, refl)
+      go (stack.Return k) result fits = (Value k, tt, refl)
       go (stack.Fail c) result fits =
           let one = one_failure program scoped f g parts first second t in
           let low = fits.0 in let high = fits.1 in

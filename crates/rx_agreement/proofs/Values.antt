@@ -7,19 +7,19 @@ use Rattle.std.proofs.lemmas.Int.{ints}
 use Rattle.std.proofs.lemmas.Bool.Decides.{Decides-int_eq, not_from_Decides}
 use Rattle.std.specs.Ordering.{int_eq}
 use Rattle.rx_poly.specs.Constants.{number, variable}
-use Rattle.rx_poly.specs.Limits.{added, scaled_by}
+use Rattle.rx_poly.specs.Limits.{body_sum, scaled_by}
 use Rattle.rx_poly.specs.Value.{value}
 use Rattle.rx_poly.specs.declared.body.Body.{Body}
 use Rattle.rx_poly.proofs.Constants.{value-number, value-variable}
-use Rattle.rx_poly.proofs.PolyLaws.{value-added, value-scaled_by}
-use Rattle.rx_poly.proofs.ProductLaws.{value-multiplied}
+use Rattle.rx_poly.proofs.PolyLaws.{value-body_sum, value-scaled_by}
+use Rattle.rx_poly.proofs.ProductLaws.{value-body_product}
 use Rattle.rx_poly.proofs.TermLaws.{zero_is}
 use Rattle.rx_row.specs.declared.row.Row.{Row}
 use Rattle.rx_row.specs.declared.row.Row.TheVariants as Says
 use Rattle.rx_rewriting.specs.Terms as stack
-use Rattle.rx_rewriting.specs.Terms.{Ground, Relation, StackFrame, under}
+use Rattle.rx_rewriting.specs.Terms.{Ground, Relation, StackFrame, in_context}
 use Rattle.rx_rewriting.specs.Steps.{Step}
-use Rattle.rx_rewriting.proofs.UnderFrames.{ReachesIn-under}
+use Rattle.rx_rewriting.proofs.UnderFrames.{ReachesIn-in_context}
 use Rattle.rx_rewriting.proofs.Chains.{ReachesIn-trans}
 use Rattle.c_ast.specs.declared.expr.UnOp.TheVariants as Sign
 use Rattle.c_ast.specs.declared.expr.BinOp.{BinOp}
@@ -41,10 +41,10 @@ use Rattle.rx_agreement.proofs.Comparisons.{Tests, test_fails, test_of, comparis
 use Rattle.rx_code_laws.proofs.Lists.{assigned-append, assigned-next, with_element-end}
 use Rattle.rx_agreement.proofs.Leads.{Leads, run-none, run-step, run-trans, run-on, on-run, on-then, long-after, leads-on, leads-after, times_sum}
 
-pub value-difference : (α : ℕ → ℤ) (p q : Body) → value α (added p (scaled_by (negsuc 0) q)) ≡
+pub value-difference : (α : ℕ → ℤ) (p q : Body) → value α (body_sum p (scaled_by (negsuc 0) q)) ≡
     value α p -ℤ value α q
 value-difference α p q =
-    let e = value-added α p (scaled_by (negsuc 0) q) in let f = value-scaled_by α (negsuc 0) q in
+    let e = value-body_sum α p (scaled_by (negsuc 0) q) in let f = value-scaled_by α (negsuc 0) q in
     omega (arith, ints, e, f)
 
 not_zero : (y : ℤ) → is_zero y ≡ false → y ≡ pos 0 → ⊥
@@ -103,7 +103,7 @@ module _ (R : Relation) (entry : ℕ → ℕ) (acts : Actions) (callable : ℕ �
     (w n m : ℕ) (calls : Calls)
     (called : (f : ℕ) (args : List ℤ) → callable f (length args) →
     Leads R w m w (stack.Call (entry f) args)
-    (λ k. Runs R w (stack.Call (entry f) args) (stack.Ret k)) (calls f args)) where
+    (λ k. Runs R w (stack.Call (entry f) args) (stack.Return k)) (calls f args)) where
   abbrev Evaluates : Point → Point → List ℤ → Body → Outcome ℤ → Type 0
   Evaluates a b xs p o = Leads R w m 0 (stack.Call a.symbol xs) (Comes R w a b xs p) o
 
@@ -178,11 +178,11 @@ module _ (R : Relation) (entry : ℕ → ℕ) (acts : Actions) (callable : ℕ �
       → Evaluates a b xs p o → ((x : ℤ) (come : Comes R w a b xs p x) →
       Evaluates b c (xs ++ come.more) q u) → Evaluates a c xs r (binary op o u)
   joint_value op a b c xs p q r o u (code.sum _ _) first second =
-      two a b c xs p q r o u ◌+ℤ◌ (λ α. value-added α p q) first second
+      two a b c xs p q r o u ◌+ℤ◌ (λ α. value-body_sum α p q) first second
   joint_value op a b c xs p q r o u (code.difference _ _) first second =
       two a b c xs p q r o u ◌-ℤ◌ (λ α. value-difference α p q) first second
   joint_value op a b c xs p q r o u (code.product _ _) first second =
-      two a b c xs p q r o u ◌*ℤ◌ (λ α. value-multiplied α p q) first second
+      two a b c xs p q r o u ◌*ℤ◌ (λ α. value-body_product α p q) first second
 
   nil : (ys : List ℤ) (r : Body) (z : ℤ) → Stands R w r ys z → value (assigned ys) r ≡ z
   nil ys r z stands = ap (λ l. value (assigned l) r) (sym (append-nil ys)) ∙ stands []
@@ -328,7 +328,7 @@ module _ (R : Relation) (entry : ℕ → ℕ) (acts : Actions) (callable : ℕ �
 
       inside : (vs ys : List ℤ) (t : Ground) → Runs R w (stack.Call (entry f) vs) t →
           Runs R w (stack.Frame r.symbol ys (stack.Call (entry f) vs)) (stack.Frame r.symbol ys t)
-      inside vs ys t (j, run) = (j, ReachesIn-under (frame ys ∷ []) run)
+      inside vs ys t (j, run) = (j, ReachesIn-in_context (frame ys ∷ []) run)
 
       after_call : (vs : List ℤ) (come : AllCome R w a b xs ps vs) (k : ℤ) →
           Comes R w b z (xs ++ come.more) (variable b.width) k →
@@ -356,19 +356,19 @@ module _ (R : Relation) (entry : ℕ → ℕ) (acts : Actions) (callable : ℕ �
           record {
             steps = suc i + long.steps;
             end = stack.Frame r.symbol ys long.end;
-            run = ReachesIn-trans run (ReachesIn-under (frame ys ∷ []) long.run);
+            run = ReachesIn-trans run (ReachesIn-in_context (frame ys ∷ []) long.run);
             enough = omega (arith, e, long.enough);
           }
 
       go : (vs : List ℤ) (come : AllCome R w a b xs ps vs) (u : Outcome ℤ)
           → Leads R w m w (stack.Call (entry f) vs)
-          (λ k. Runs R w (stack.Call (entry f) vs) (stack.Ret k)) u →
+          (λ k. Runs R w (stack.Call (entry f) vs) (stack.Return k)) u →
           Evaluates a z xs (variable b.width) u
       go vs come (Value k) back =
           let ys = xs ++ come.more in
           let run = on-run R w (on-then R w (enter vs come)
-          (run-trans R w (inside vs ys (stack.Ret k) back)
-          (on-run R w (run-step R w (subst (Step R (stack.Frame r.symbol ys (stack.Ret k)))
+          (run-trans R w (inside vs ys (stack.Return k) back)
+          (on-run R w (run-step R w (subst (Step R (stack.Frame r.symbol ys (stack.Return k)))
           (longer_point b z ys k come.long wide)
           ((does r (Resume z) resumes ys (come.long ∙ sym same_width)).0 k)))))) in
           after_call vs come k (next_place b z ys k come.long wide run)

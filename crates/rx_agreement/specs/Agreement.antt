@@ -18,7 +18,7 @@ use Rattle.c_meaning.specs.Programs.{Returns, expr_outcome}
 -- the result that an outcome is: the returned integer, or the first failure for the division error.
 -- 'More' is no answer; it has no result
 abbrev pub result_of : Outcome ℤ → Ground
-result_of (Value k) = stack.Ret k
+result_of (Value k) = stack.Return k
 result_of DivisionError = stack.Fail 1
 result_of More = stack.Fail 0
 

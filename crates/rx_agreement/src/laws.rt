@@ -100,7 +100,7 @@ pub fn the_premises_can_be_met()
     ensures scoped { is_scoped example ≡ true }
     ensures translated { IsTranslation example 1 0 example_parts (symbol 3) (symbol 0) }
     ensures returned { Reaches (Instance example_parts.rules) (stack.Call 3 (pos 1 ∷ []))
-        (stack.Ret (pos 1)) }
+        (stack.Return (pos 1)) }
     ensures failed { Reaches (Instance example_parts.rules) (stack.Call 3 (pos 0 ∷ []))
         (stack.Fail 1) }
     ensures precondition { is_row_form between ≡ true }

@@ -6,7 +6,7 @@ use Rattle.std.specs.List.{slice_index_or}
 use Rattle.std.specs.List.{AllByRecursion, IsDistinct}
 use Rattle.rx_bank.specs.Numbers.{AreDistinct, KeepsNumbers}
 use Rattle.rx_poly.specs.declared.body.Body.{Body}
-use Rattle.rx_poly.proofs.Same.{body_eq, told_itself, told_same}
+use Rattle.rx_poly.proofs.Same.{body_eq, body_eq-refl, body_eq-sound}
 
 module _ (p : Body) where
   -- a place that a look-up finds has the polynomial
@@ -14,18 +14,18 @@ module _ (p : Body) where
       Some p
   found_at ps i e =
       let f = position-Some (body_eq p) ps i p e in slice_get-get_or ps i p f.0 ∙
-      ap Some (sym (told_same p (slice_index_or ps i p) f.1))
+      ap Some (sym (body_eq-sound p (slice_index_or ps i p) f.1))
 
   -- so it is one of them
   pub found_among : (ps : List Body) (i : ℕ) → position (body_eq p) ps ≡ Some i → Contains ps p
   found_among ps i e =
       let f = position-Some (body_eq p) ps i p e in
-      (i, f.0, sym (told_same p (slice_index_or ps i p) f.1))
+      (i, f.0, sym (body_eq-sound p (slice_index_or ps i p) f.1))
 
   -- a place of an equal polynomial has it
   pub stored_at : (ps : List Body) (i : ℕ) (q : Body) → slice_get ps i ≡ Some q → body_eq p q ≡
       true → slice_get ps i ≡ Some p
-  stored_at ps i q e same = e ∙ ap Some (sym (told_same p q same))
+  stored_at ps i q e same = e ∙ ap Some (sym (body_eq-sound p q same))
 
 -- a list in which no two compare as equal has no polynomial at two places
 differs_at : (q p : Body) (ps : List Body) (i : ℕ) → AllByRecursion (λ r. body_eq q r ≡ false) ps →
@@ -41,10 +41,10 @@ distinct_places [] d i j p e f = cc
 distinct_places (q ∷ ps) d zero zero p e f = refl
 distinct_places (q ∷ ps) d zero (suc j) p e f =
     let same : q ≡ p = cc in absurd (true≢false
-    (sym (told_itself q p same) ∙ differs_at q p ps j d.0 f))
+    (sym (body_eq-refl q p same) ∙ differs_at q p ps j d.0 f))
 distinct_places (q ∷ ps) d (suc i) zero p e f =
     let same : q ≡ p = cc in absurd (true≢false
-    (sym (told_itself q p same) ∙ differs_at q p ps i d.0 e))
+    (sym (body_eq-refl q p same) ∙ differs_at q p ps i d.0 e))
 distinct_places (q ∷ ps) d (suc i) (suc j) p e f = ap suc (distinct_places ps d.1 i j p e f)
 
 found_with : (ps more : List Body) (i : ℕ) (p : Body) → slice_get ps i ≡ Some p →

@@ -4,7 +4,7 @@ use mathlib.Core.Logic.{inl, inr}
 use Rattle.std.proofs.lemmas.Int.{ints}
 use Rattle.std.proofs.lemmas.Option.{get_or_from_slice_get, slice_get_within}
 use Rattle.rx_poly.proofs.Constants.{value-number}
-use Rattle.rx_poly.proofs.PolyLaws.{value-subtracted}
+use Rattle.rx_poly.proofs.PolyLaws.{value-body_difference}
 use Rattle.rx_poly.specs.Constants.{number}
 use Rattle.rx_poly.specs.Limits.{is_within}
 use Rattle.rx_poly.specs.Value.{value}
@@ -15,7 +15,7 @@ use Rattle.rx_row.specs.Negation.{negation, negation_within}
 use Rattle.rx_row.specs.declared.row.Row.{Row}
 use Rattle.rx_row.specs.declared.row.Row.TheVariants.{Ge, Eq, Ne}
 use Rattle.rx_cert.specs.Differences.{differ_finding, disequal, one_less}
-use Rattle.rx_cert.specs.Findings.{Said, Yes, within}
+use Rattle.rx_cert.specs.Findings.{Said, Yes, guard}
 use Rattle.rx_cert.proofs.FindingLaws.{both_parts, within_parts}
 
 -- a row that is found among rows that hold holds
@@ -34,7 +34,7 @@ at_least_one (negsuc k) w e h n = absurd (omega (arith, ints))
 above_or_below : (a : ℕ → ℤ) (p : Body) → RowHolds a (Ne p) → RowHolds a (Ge (one_less p)) ⊎
     RowHolds a (negation (Ge p))
 above_or_below a p differs =
-    let e : value a (one_less p) ≡ value a p -ℤ pos 1 = value-subtracted a p (number (pos 1)) ∙
+    let e : value a (one_less p) ≡ value a p -ℤ pos 1 = value-body_difference a p (number (pos 1)) ∙
     (λ i. value a p -ℤ value-number a (pos 1) i) in
     elim (holds_or_not a (Ge p)) [
       | inl h ↦ inl (at_least_one (value a p) (value a (one_less p)) e h differs)
@@ -55,8 +55,8 @@ pub differ_refutes : (a : ℕ → ℤ) (rows : List Row) (at : ℕ) (above below
     AllHold a rows → ⊥
 differ_refutes a rows at above below f g None is e holds = cc
 differ_refutes a rows at above below f g (Some p) is e holds =
-    let parts = both_parts (within (is_within (one_less p)) (above (rows ++ Ge (one_less p) ∷ [])))
-    (within (negation_within (Ge p)) (below (rows ++ negation (Ge p) ∷ []))) e in
+    let parts = both_parts (guard (is_within (one_less p)) (above (rows ++ Ge (one_less p) ∷ [])))
+    (guard (negation_within (Ge p)) (below (rows ++ negation (Ge p) ∷ []))) e in
     let first = within_parts (is_within (one_less p)) (above (rows ++ Ge (one_less p) ∷ [])) parts.0
     in
     let second = within_parts (negation_within (Ge p)) (below (rows ++ negation (Ge p) ∷ []))

@@ -6,9 +6,9 @@ use Rattle.std.proofs.lemmas.List.Elements.{All-append, All-cons, All-nil}
 use lib.IntN.{*ℤ_comm}
 use Rattle.rx_poly.proofs.Constants.{value-number}
 use Rattle.rx_poly.proofs.DivisionLaws.{value-quotient_of, value-remainder_of}
-use Rattle.rx_poly.proofs.PolyLaws.{value-added, value-scaled_by, value-subtracted}
+use Rattle.rx_poly.proofs.PolyLaws.{value-body_sum, value-scaled_by, value-body_difference}
 use Rattle.rx_poly.specs.Constants.{number}
-use Rattle.rx_poly.specs.Limits.{added, scaled_by, subtracted}
+use Rattle.rx_poly.specs.Limits.{body_sum, scaled_by, body_difference}
 use Rattle.rx_poly.specs.Terms.{is_zero}
 use Rattle.rx_poly.specs.Value.{quotient, remainder, value}
 use Rattle.rx_poly.specs.declared.body.Body.{Body}
@@ -18,7 +18,7 @@ use Rattle.rx_row.specs.Negation.{minus_one_more, negation, opposite}
 use Rattle.rx_row.specs.declared.row.Row.{Row}
 use Rattle.rx_row.specs.declared.row.Row.TheVariants.{Ge, Eq}
 use Rattle.rx_cert.specs.DivisionFacts.{at_least_zero_within, below_zero_within, greatest_remainder, nothing_left, quotient_by, remainder_by, rows_at_least_zero, rows_below_zero, without_quotient}
-use Rattle.rx_cert.specs.Findings.{Said, Yes, No, both, within}
+use Rattle.rx_cert.specs.Findings.{Said, Yes, No, and_also, guard}
 use Rattle.rx_cert.proofs.FindingLaws.{both_parts, within_parts}
 
 -- ---- numbers
@@ -73,9 +73,9 @@ module _ (a : ℕ → ℤ) (num : Body) (d : ℤ) (nonzero : is_zero d ≡ false
       let product : value a (scaled_by d (quotient_by num d)) ≡ d *ℤ int_div v d =
       value-scaled_by a d (quotient_by num d) ∙ ap (λ z. d *ℤ z) value-quotient_by in
       let first : value a (without_quotient num d) ≡ v -ℤ (d *ℤ int_div v d) =
-      value-subtracted a num (scaled_by d (quotient_by num d)) ∙ ap (λ z. v -ℤ z) product in
+      value-body_difference a num (scaled_by d (quotient_by num d)) ∙ ap (λ z. v -ℤ z) product in
       let second : value a (nothing_left num d) ≡ (v -ℤ (d *ℤ int_div v d)) -ℤ int_rem v d =
-      value-subtracted a (without_quotient num d) (remainder_by num d) ∙
+      value-body_difference a (without_quotient num d) (remainder_by num d) ∙
       (λ i. first i -ℤ value-remainder_by i) in
       second ∙ nothing v (d *ℤ int_div v d) (int_rem v d)
       (ap (λ z. z +ℤ int_rem v d) (*ℤ_comm d (int_div v d)) ∙ quot-rem v d)
@@ -103,12 +103,13 @@ module _ (a : ℕ → ℤ) (num : Body) (d : ℤ) (nonzero : is_zero d ≡ false
   at_least_zero_hold : RowHolds a (Ge num) → AllHold a (rows_at_least_zero num d)
   at_least_zero_hold h =
       let r = remainder_by num d in
-      four_hold (Ge num) (Eq (nothing_left num d)) (Ge r) (Ge (subtracted (greatest_remainder d) r))
+      four_hold (Ge num) (Eq (nothing_left num d)) (Ge r)
+      (Ge (body_difference (greatest_remainder d) r))
       h value-nothing_left
       (subst (λ z. pos 0 ≤ℤ z) (sym value-remainder_by) (remainder_above (value a num) d h))
       (fits_above (value a r) (value a (greatest_remainder d))
-      (value a (subtracted (greatest_remainder d) r)) (unsigned_abs d) remainder_small
-      value-greatest_remainder (value-subtracted a (greatest_remainder d) r))
+      (value a (body_difference (greatest_remainder d) r)) (unsigned_abs d) remainder_small
+      value-greatest_remainder (value-body_difference a (greatest_remainder d) r))
 
   -- the facts of one below
   below_zero_hold : RowHolds a (negation (Ge num)) → value a num ≤ℤ negsuc 0 →
@@ -116,13 +117,13 @@ module _ (a : ℕ → ℤ) (num : Body) (d : ℤ) (nonzero : is_zero d ≡ false
   below_zero_hold h below =
       let r = remainder_by num d in
       four_hold (negation (Ge num)) (Eq (nothing_left num d)) (Ge (opposite r))
-      (Ge (added (greatest_remainder d) r)) h value-nothing_left
+      (Ge (body_sum (greatest_remainder d) r)) h value-nothing_left
       (turned (value a r) (value a (opposite r)) (value-scaled_by a (negsuc 0) r)
       (subst (λ z. z ≤ℤ pos 0) (sym value-remainder_by)
       (remainder_below (value a num) d below)))
       (fits_below (value a r) (value a (greatest_remainder d))
-      (value a (added (greatest_remainder d) r)) (unsigned_abs d) remainder_small
-      value-greatest_remainder (value-added a (greatest_remainder d) r))
+      (value a (body_sum (greatest_remainder d) r)) (unsigned_abs d) remainder_small
+      value-greatest_remainder (value-body_sum a (greatest_remainder d) r))
 
 -- so where both cases are refuted, so are the rows
 pub division_refutes : (a : ℕ → ℤ) (rows : List Row) (num : Body) (d : ℤ)
@@ -130,14 +131,15 @@ pub division_refutes : (a : ℕ → ℤ) (rows : List Row) (num : Body) (d : ℤ
     ((rs : List Row) → above rs ≡ Yes → AllHold a rs → ⊥) →
     ((rs : List Row) → below rs ≡ Yes → AllHold a rs → ⊥) →
     (b : Bool) → is_zero d ≡ b →
-    cond b No (both (within (at_least_zero_within num d) (above (rows ++ rows_at_least_zero num d)))
-    (within (below_zero_within num d) (below (rows ++ rows_below_zero num d)))) ≡ Yes →
+    cond b No (and_also (guard (at_least_zero_within num d)
+    (above (rows ++ rows_at_least_zero num d)))
+    (guard (below_zero_within num d) (below (rows ++ rows_below_zero num d)))) ≡ Yes →
     AllHold a rows → ⊥
 division_refutes a rows num d above below f g true is e holds = cc
 division_refutes a rows num d above below f g false is e holds =
-    let parts = both_parts (within (at_least_zero_within num d)
+    let parts = both_parts (guard (at_least_zero_within num d)
     (above (rows ++ rows_at_least_zero num d)))
-    (within (below_zero_within num d) (below (rows ++ rows_below_zero num d))) e in
+    (guard (below_zero_within num d) (below (rows ++ rows_below_zero num d))) e in
     let first = within_parts (at_least_zero_within num d) (above (rows ++ rows_at_least_zero num d))
     parts.0 in
     let second = within_parts (below_zero_within num d) (below (rows ++ rows_below_zero num d))

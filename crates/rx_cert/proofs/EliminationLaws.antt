@@ -9,21 +9,21 @@ use Rattle.std.specs.declared.cmp.Ordering.TheVariants.{Less, Equal, Greater}
 use Rattle.rx_plain.proofs.Integers.{add-mul-int, zero-mul-int}
 use Rattle.rx_poly.proofs.Constants.{value-variable}
 use Rattle.rx_poly.proofs.Levels.{value_is}
-use Rattle.rx_poly.proofs.PolyLaws.{value-added, value-scaled_by, value-subtracted}
+use Rattle.rx_poly.proofs.PolyLaws.{value-body_sum, value-scaled_by, value-body_difference}
 use Rattle.rx_poly.proofs.Same.{same_mono}
 use Rattle.rx_poly.proofs.TermLaws.{zero_is}
 use Rattle.rx_poly.specs.Constants.{variable}
-use Rattle.rx_poly.specs.Limits.{added, scaled_by, subtracted}
+use Rattle.rx_poly.specs.Limits.{body_sum, scaled_by, body_difference}
 use Rattle.rx_poly.specs.Order.{mono_cmp}
-use Rattle.rx_poly.specs.Substitution.{worth}
+use Rattle.rx_poly.specs.Substitution.{updated_assignment}
 use Rattle.rx_poly.specs.Terms.{is_zero}
 use Rattle.rx_poly.specs.Variables.{uses}
 use Rattle.rx_poly.specs.Value.{mono_value, sum_terms, value}
 use Rattle.rx_poly.specs.declared.body.Mono.{Mono}
 use Rattle.rx_poly.specs.declared.body.Body.{Body, out-Body}
-use Rattle.rx_row.proofs.SubstitutionLaws.{in_rows-hold}
+use Rattle.rx_row.proofs.SubstitutionLaws.{subst_rows-hold}
 use Rattle.rx_row.specs.Holds.{AllHold}
-use Rattle.rx_row.specs.Substitution.{in_rows, rows_within}
+use Rattle.rx_row.specs.Substitution.{subst_rows, rows_within}
 use Rattle.rx_row.specs.declared.row.Row.{Row}
 use Rattle.rx_row.specs.declared.row.Row.TheVariants.{Ge, Eq, Ne}
 use Rattle.rx_cert.specs.Elimination.{are_opposite, coefficient_of, zero_polynomial, of_opposites, replaced_finding, solution, solution_minus, solution_plus, solution_within, solve_finding, zero_of}
@@ -99,11 +99,11 @@ zero_holds a rows first second z holds e = by (slice_get rows first) refl e
 
 -- p = x + rest, so x is -rest
 plus_worth : (a : ℕ → ℤ) (x : ℕ) (p e : Body) → value a p ≡ pos 0 →
-    solution_plus x (subtracted p (variable x)) ≡ Some e → a x ≡ value a e
+    solution_plus x (body_difference p (variable x)) ≡ Some e → a x ≡ value a e
 plus_worth a x p e zero f =
-    let rest = subtracted p (variable x) in
+    let rest = body_difference p (variable x) in
     let c = cond_none (uses x rest) (scaled_by (negsuc 0) rest) e f in
-    let left : value a rest ≡ value a p -ℤ a x = value-subtracted a p (variable x) ∙
+    let left : value a rest ≡ value a p -ℤ a x = value-body_difference a p (variable x) ∙
     (λ i. value a p -ℤ value-variable a x i) in
     let turned : value a (scaled_by (negsuc 0) rest) ≡ negsuc 0 *ℤ value a rest =
     value-scaled_by a (negsuc 0) rest in
@@ -118,10 +118,10 @@ plus_worth a x p e zero f =
 
 -- p = -x + rest, so x is the rest
 minus_worth : (a : ℕ → ℤ) (x : ℕ) (p e : Body) → value a p ≡ pos 0 →
-    solution_minus x (added p (variable x)) ≡ Some e → a x ≡ value a e
+    solution_minus x (body_sum p (variable x)) ≡ Some e → a x ≡ value a e
 minus_worth a x p e zero f =
-    let rest = added p (variable x) in
-    let left : value a rest ≡ value a p +ℤ a x = value-added a p (variable x) ∙
+    let rest = body_sum p (variable x) in
+    let left : value a rest ≡ value a p +ℤ a x = value-body_sum a p (variable x) ∙
     (λ i. value a p +ℤ value-variable a x i) in
     rest_of (a x) (value a p) (value a rest) zero left ∙
     ap (value a) (cond_none (uses x rest) rest e f)
@@ -138,14 +138,15 @@ solution_worth : (a : ℕ → ℤ) (x : ℕ) (p e : Body) → value a p ≡ pos 
 solution_worth a x p e zero f =
     by (int_eq (coefficient_of x p) (pos 1)) (int_eq (coefficient_of x p) (negsuc 0)) f
   where
-    by : (b c : Bool) → cond b (solution_plus x (subtracted p (variable x)))
-        (cond c (solution_minus x (added p (variable x))) None) ≡ Some e → a x ≡ value a e
+    by : (b c : Bool) → cond b (solution_plus x (body_difference p (variable x)))
+        (cond c (solution_minus x (body_sum p (variable x))) None) ≡ Some e → a x ≡ value a e
     by true c g = plus_worth a x p e zero g
     by false true g = minus_worth a x p e zero g
     by false false g = cc
 
 -- an assignment is what it is with a variable's own value in its place
-worth_same : (a : ℕ → ℤ) (x : ℕ) (e : Body) → a x ≡ value a e → (n : ℕ) → worth a ((x, e) ∷ []) n ≡
+worth_same : (a : ℕ → ℤ) (x : ℕ) (e : Body) → a x ≡ value a e → (n : ℕ) →
+    updated_assignment a ((x, e) ∷ []) n ≡
     a n
 worth_same a x e is n = by (x == n) refl
   where
@@ -154,9 +155,9 @@ worth_same a x e is n = by (x == n) refl
     by false h = value-variable a n
 
 replaced_hold : (a : ℕ → ℤ) (x : ℕ) (e : Body) (rows : List Row) → a x ≡ value a e →
-    AllHold a rows → AllHold a (in_rows ((x, e) ∷ []) rows)
+    AllHold a rows → AllHold a (subst_rows ((x, e) ∷ []) rows)
 replaced_hold a x e rows is holds =
-    (in_rows-hold a ((x, e) ∷ []) rows).1 (subst (λ (b : ℕ → ℤ). AllHold b rows)
+    (subst_rows-hold a ((x, e) ∷ []) rows).1 (subst (λ (b : ℕ → ℤ). AllHold b rows)
     (λ i n. sym (worth_same a x e is n) i) holds)
 
 -- so where the rows with the value are refuted, so are the rows
@@ -172,7 +173,7 @@ solve_refutes a rows first second x rest f (Some p) is e holds =
     by : (o : Option Body) → solution x p ≡ o → replaced_finding x o rows rest ≡ Yes → ⊥
     by None s g = cc
     by (Some v) s g =
-        f (in_rows ((x, v) ∷ []) rows) (within_parts (rows_within ((x, v) ∷ []) rows)
-        (rest (in_rows ((x, v) ∷ []) rows)) g).1
+        f (subst_rows ((x, v) ∷ []) rows) (within_parts (rows_within ((x, v) ∷ []) rows)
+        (rest (subst_rows ((x, v) ∷ []) rows)) g).1
         (replaced_hold a x v rows (solution_worth a x p v
         (zero_holds a rows first second p holds is) s) holds)

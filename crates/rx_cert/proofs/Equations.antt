@@ -5,45 +5,45 @@ use Rattle.rx_poly_laws.specs.Tests.{passes}
 use Rattle.rx_poly.specs.declared.body.Body.{Body}
 use Rattle.rx_row.specs.declared.row.Row.{Row}
 use Rattle.rx_cert.specs.Depth.{cert_depth, depth_level}
-use Rattle.rx_cert.specs.Examination.{examined, finding, level}
+use Rattle.rx_cert.specs.Examination.{examined, verdict, level}
 use Rattle.rx_cert.specs.Findings.{Said}
 use Rattle.rx_cert.specs.Variables.{cert_passes, passes_level, row_passes}
 use Rattle.rx_cert.specs.declared.cert.Cert.{Cert, Cert-F, fold_out-Cert, out-Cert, map-Cert}
 use Rattle.rx_cert.specs.declared.cert.Cert.TheVariants.{Sum, Cut, Split, Differ, Solve, DivFacts, outs-Sum, outs-Cut, outs-Split, outs-Differ, outs-Solve, outs-DivFacts}
 
-finding_is : (rows : List Row) (cert : Cert) → finding rows cert ≡
+finding_is : (rows : List Row) (cert : Cert) → verdict rows cert ≡
     level (map-Cert Cert (List Row → Said) examined (out-Cert cert)) rows
 finding_is rows cert =
     ap (λ (g : List Row → Said). g rows) (fold_out-Cert (List Row → Said) level cert)
 
-pub finding_sum : (rows : List Row) (ps : List (ℕ × ℤ)) → finding rows (Sum ps) ≡
+pub finding_sum : (rows : List Row) (ps : List (ℕ × ℤ)) → verdict rows (Sum ps) ≡
     level (Cert-F.Sum ps) rows
 finding_sum rows ps = finding_is rows (Sum ps) ∙ rw (outs-Sum ps) refl
 
 pub finding_cut : (rows : List Row) (ps : List (ℕ × ℤ)) (d : ℤ) (rest : Cert) →
-    finding rows (Cut ps d rest) ≡ level (Cert-F.Cut ps d (examined rest)) rows
+    verdict rows (Cut ps d rest) ≡ level (Cert-F.Cut ps d (examined rest)) rows
 finding_cut rows ps d rest = finding_is rows (Cut ps d rest) ∙ rw (outs-Cut ps d rest) refl
 
 pub finding_split : (rows : List Row) (row : Row) (first second : Cert) →
-    finding rows (Split row first second) ≡ level
+    verdict rows (Split row first second) ≡ level
     (Cert-F.Split row (examined first) (examined second)) rows
 finding_split rows row first second =
     finding_is rows (Split row first second) ∙ rw (outs-Split row first second) refl
 
 pub finding_differ : (rows : List Row) (at : ℕ) (above below : Cert) →
-    finding rows (Differ at above below) ≡ level
+    verdict rows (Differ at above below) ≡ level
     (Cert-F.Differ at (examined above) (examined below)) rows
 finding_differ rows at above below =
     finding_is rows (Differ at above below) ∙ rw (outs-Differ at above below) refl
 
 pub finding_solve : (rows : List Row) (first second x : ℕ) (rest : Cert) →
-    finding rows (Solve first second x rest) ≡
+    verdict rows (Solve first second x rest) ≡
     level (Cert-F.Solve first second x (examined rest)) rows
 finding_solve rows first second x rest =
     finding_is rows (Solve first second x rest) ∙ rw (outs-Solve first second x rest) refl
 
 pub finding_division : (rows : List Row) (num : Body) (d : ℤ) (above below : Cert) →
-    finding rows (DivFacts num d above below) ≡
+    verdict rows (DivFacts num d above below) ≡
     level (Cert-F.DivFacts num d (examined above) (examined below)) rows
 finding_division rows num d above below =
     finding_is rows (DivFacts num d above below) ∙ rw (outs-DivFacts num d above below) refl

@@ -2,7 +2,7 @@
 use Rattle.std.proofs.Common.{◌≡◌, ◌∙◌, ap, sym, ℕ, ℤ, Bool, true, false, ◌&&◌, Option, Some, refl, List, [], ◌∷◌, ◌++◌}
 use Rattle.std.specs.Prelude.{if◌then◌else◌}
 use Rattle.std.proofs.lemmas.Bool.{and_parts, and_from}
-use Rattle.rx_poly.specs.Limits.{added, is_within, subtracted}
+use Rattle.rx_poly.specs.Limits.{body_sum, is_within, body_difference}
 use Rattle.rx_poly.specs.Terms.{is_zero}
 use Rattle.rx_row.specs.Negation.{negation_within, opposite}
 use Rattle.rx_row.specs.declared.row.Row.TheVariants.{Ge}
@@ -10,18 +10,19 @@ use Rattle.rx_cert.specs.DivisionFacts.{at_least_zero_within, below_zero_within,
 use Rattle.rx_cert.specs.Examination.{level}
 use Rattle.rx_cert.specs.declared.cert.Cert.TheOpen.{Cert-F}
 use Rattle.rx_poly.specs.declared.body.Body.{Body}
-use Rattle.rx_row.specs.Substitution.{in_rows, rows_within}
+use Rattle.rx_row.specs.Substitution.{subst_rows, rows_within}
 use Rattle.rx_row.specs.declared.row.Row.{Row}
 use Rattle.rx_cert.specs.Elimination.{replaced_finding, solution, solution_within, solve_finding}
-use Rattle.rx_cert.specs.Findings.{Said, Yes, No, Beyond, said, both, within}
+use Rattle.rx_cert.specs.Findings.{Said, Yes, No, Beyond, said, and_also, guard}
 
 -- what was formed keeps the limits, and what is after it refutes
-pub within_parts : (b : Bool) (later : Said) → within b later ≡ Yes → (b ≡ true) × (later ≡ Yes)
+pub within_parts : (b : Bool) (later : Said) → guard b later ≡ Yes → (b ≡ true) × (later ≡ Yes)
 within_parts true later e = (refl, e)
 within_parts false later e = cc
 
 -- both parts refute
-pub both_parts : (before later : Said) → both before later ≡ Yes → (before ≡ Yes) × (later ≡ Yes)
+pub both_parts : (before later : Said) → and_also before later ≡ Yes → (before ≡ Yes) ×
+    (later ≡ Yes)
 both_parts Beyond later e = cc
 both_parts Yes later e = (refl, e)
 both_parts No later e = cc
@@ -36,14 +37,14 @@ said_yes false e = cc
 pub solve_found : (x : ℕ) (o : Option Body) (p e : Body) (ws : List (ℕ × Body))
     (rows changed : List Row) (rest : List Row → Said) →
     o ≡ Some p → solution x p ≡ Some e → solution_within x p ≡ true → ws ≡ (x, e) ∷ [] →
-    rows_within ws rows ≡ true → changed ≡ in_rows ws rows → solve_finding x o rows rest ≡
+    rows_within ws rows ≡ true → changed ≡ subst_rows ws rows → solve_finding x o rows rest ≡
     rest changed
 solve_found x o p e ws rows changed rest zero value first is second made =
     ap (λ z. solve_finding x z rows rest) zero
-    ∙ (λ i. within (first i) (replaced_finding x (value i) rows rest))
-    ∙ ap (λ b. within b (rest (in_rows ((x, e) ∷ []) rows)))
+    ∙ (λ i. guard (first i) (replaced_finding x (value i) rows rest))
+    ∙ ap (λ b. guard b (rest (subst_rows ((x, e) ∷ []) rows)))
     (ap (λ (vs : List (ℕ × Body)). rows_within vs rows) (sym is) ∙ second)
-    ∙ ap rest (sym (made ∙ ap (λ (vs : List (ℕ × Body)). in_rows vs rows) is))
+    ∙ ap rest (sym (made ∙ ap (λ (vs : List (ℕ × Body)). subst_rows vs rows) is))
 
 -- where both parts of a division keep the limits and the first is refuted, the second decides
 pub division_found : (num : Body) (d : ℤ) (above below : List Row → Said) (rows : List Row)
@@ -68,17 +69,17 @@ division_found num d above below rows {equation} {rest} {bound} {more} {less} {a
     (greatest_remainder d)).within ≡ true =
     sym (ap (λ (p : Body × Body × Body). (facts_below_zero num p.0 p.1 p.2).within) t) ∙ lw in
     let parts = and_parts (negation_within (Ge num)) (is_within (opposite (remainder_by num d)) &&
-    is_within (added (greatest_remainder d) (remainder_by num d))) space in
+    is_within (body_sum (greatest_remainder d) (remainder_by num d))) space in
     let upper : at_least_zero_within num d ≡ true =
     and_from (division_within num d)
-    (is_within (subtracted (greatest_remainder d) (remainder_by num d))) w room in
+    (is_within (body_difference (greatest_remainder d) (remainder_by num d))) w room in
     let lower : below_zero_within num d ≡ true =
     and_from (negation_within (Ge num)) (division_within num d &&
     (is_within (opposite (remainder_by num d)) &&
-    is_within (added (greatest_remainder d) (remainder_by num d)))) parts.0
+    is_within (body_sum (greatest_remainder d) (remainder_by num d)))) parts.0
     (and_from (division_within num d) (is_within (opposite (remainder_by num d)) &&
-    is_within (added (greatest_remainder d) (remainder_by num d))) w parts.1) in
+    is_within (body_sum (greatest_remainder d) (remainder_by num d))) w parts.1) in
     let yes : above (rows ++ more) ≡ Yes = found ∙ ap said yes_b in
-    (λ i. if z i then No else both (within (upper i) (above (rows ++ sym first i)))
-    (within (lower i) (below (rows ++ sym second i))))
-    ∙ (λ i. both (yes i) (below (sym same i ++ less)))
+    (λ i. if z i then No else and_also (guard (upper i) (above (rows ++ sym first i)))
+    (guard (lower i) (below (rows ++ sym second i))))
+    ∙ (λ i. and_also (yes i) (below (sym same i ++ less)))

@@ -13,8 +13,8 @@ use Rattle.rx_row.specs.declared.row.Row.{Row}
 use Rattle.rx_row.specs.declared.row.Row.TheVariants.{Ge}
 use Rattle.rx_cert.specs.Differences.{disequal}
 use Rattle.rx_cert.specs.Elimination.{zero_polynomial}
-use Rattle.rx_cert.specs.Examination.{examined, finding, level, row_finding}
-use Rattle.rx_cert.specs.Findings.{Said, Yes, said, both, with_row, within}
+use Rattle.rx_cert.specs.Examination.{examined, verdict, level, row_finding}
+use Rattle.rx_cert.specs.Findings.{Said, Yes, said, and_also, with_row, guard}
 use Rattle.rx_cert.specs.Rounding.{rounding_row, can_be_rounded_by, rounded}
 use Rattle.rx_cert.specs.declared.cert.Cert.{Cert, Cert-F, roll-Cert, map-Cert, fold-roll-Cert, ind-Cert}
 use Rattle.rx_cert.proofs.DifferenceLaws.{differ_refutes}
@@ -30,7 +30,7 @@ Refutes a found = (rows : List Row) → found rows ≡ Yes → AllHold a rows �
 
 rounding_refutes : (a : ℕ → ℤ) (rows : List Row) (ps : List (ℕ × ℤ)) (d : ℤ)
     (rest : List Row → Said) → Refutes a rest →
-    within (parts_within rows ps) (with_row rows (rounding_row d (sum_of rows ps)) rest) ≡ Yes →
+    guard (parts_within rows ps) (with_row rows (rounding_row d (sum_of rows ps)) rest) ≡ Yes →
     AllHold a rows → ⊥
 rounding_refutes a rows ps d rest f e holds =
     by_sum (sum_of rows ps) refl (within_parts (parts_within rows ps)
@@ -50,11 +50,11 @@ rounding_refutes a rows ps d rest f e holds =
 
 split_refutes : (a : ℕ → ℤ) (rows : List Row) (row : Row)
     (holds_found fails_found : List Row → Said) → Refutes a holds_found → Refutes a fails_found →
-    both (holds_found (rows ++ row ∷ [])) (within (negation_within row)
+    and_also (holds_found (rows ++ row ∷ [])) (guard (negation_within row)
     (fails_found (rows ++ negation row ∷ []))) ≡ Yes → AllHold a rows → ⊥
 split_refutes a rows row holds_found fails_found f g e holds =
     let parts = both_parts (holds_found (rows ++ row ∷ []))
-    (within (negation_within row) (fails_found (rows ++ negation row ∷ []))) e in
+    (guard (negation_within row) (fails_found (rows ++ negation row ∷ []))) e in
     let second = within_parts (negation_within row) (fails_found (rows ++ negation row ∷ []))
     parts.1 in
     elim (holds_or_not a row) [
@@ -101,7 +101,7 @@ module _ (a : ℕ → ℤ) where
   by_induction = ind-Cert RefutesRows step
 
 -- where a certificate refutes rows, no assignment of integers meets them
-pub refuted : (rows : List Row) (cert : Cert) → finding rows cert ≡ Yes → (a : ℕ → ℤ) →
+pub refuted : (rows : List Row) (cert : Cert) → verdict rows cert ≡ Yes → (a : ℕ → ℤ) →
     AllHold a rows → ⊥
 refuted rows cert e a holds = by_induction a cert rows e holds
 
@@ -112,16 +112,16 @@ shown_holds rows row cert e a holds =
     elim (holds_or_not a row) [
       | inl h ↦ h
       | inr h ↦ absurd (refuted (rows ++ negation row ∷ []) cert
-          (within_parts (negation_within row) (finding (rows ++ negation row ∷ []) cert) e).1 a
+          (within_parts (negation_within row) (verdict (rows ++ negation row ∷ []) cert) e).1 a
           ((all_hold-push a rows (negation row)).1 (holds, h)))
     ]
 
 -- the same of an answer
 pub answer_refuted : (r : Result Bool PolyEnd) (rows lent : List Row) (cert : Cert) → lent ≡ rows →
-    IfOk r (λ b. finding lent cert ≡ said b) →
+    IfOk r (λ b. verdict lent cert ≡ said b) →
     IfOk r (λ b. IsTrue b → (a : ℕ → ℤ) → AllHold a rows → ⊥)
 answer_refuted (Ok b) rows lent cert same e =
-    λ is a holds. refuted rows cert (ap (λ rs. finding rs cert) (sym same) ∙ e ∙ ap said is) a holds
+    λ is a holds. refuted rows cert (ap (λ rs. verdict rs cert) (sym same) ∙ e ∙ ap said is) a holds
 answer_refuted (Err x) rows lent cert same e = tt
 
 pub answer_shown : (r : Result Bool PolyEnd) (rows lent : List Row) (row : Row) (cert : Cert) →

@@ -11,11 +11,11 @@ use Rattle.rx_poly.proofs.Levels.{body_depth_is, body_size_is}
 use Rattle.rx_poly.proofs.OrderLemmas.{mono_total}
 use Rattle.rx_poly.proofs.PolyLaws.{depth-of_terms, poly_of_terms, poly_terms, size-of_terms}
 use Rattle.rx_poly.proofs.Same.{same_mono}
-use Rattle.rx_poly.proofs.TermLaws.{all_keys-put, listed-put, listed_parts, put_cases}
+use Rattle.rx_poly.proofs.TermLaws.{all_keys-cons_nonzero, listed-cons_nonzero, listed_parts, put_cases}
 use Rattle.rx_poly.specs.Limits.{all_fit, body_depth, body_size, fits_i128, greatest, is_small, mono_depth, mono_size, of_terms}
 use Rattle.rx_poly.specs.Normal.{is_normal, is_normal_mono, is_poly}
 use Rattle.rx_poly.specs.Order.{mono_cmp}
-use Rattle.rx_poly.specs.Terms.{all_keys, is_listed}
+use Rattle.rx_poly.specs.Terms.{all_keys, is_sparse_sorted}
 use Rattle.rx_poly.specs.declared.body.Mono.{Mono}
 use Rattle.rx_poly.specs.declared.body.Body.{Body, out-Body}
 use Rattle.rx_cert.specs.Rounding.{divides, divides_terms, is_one, rounded, rounded_terms}
@@ -62,15 +62,16 @@ module _ (n : ℕ) where
   keys-rounded test [] h = refl
   keys-rounded test (t ∷ ts) h =
       let p = and_parts (test t.0) (all_keys test ts) h in
-      all_keys-put test t.0 (int_div_euclid t.1 d) (rounded_terms d ts) p.0
+      all_keys-cons_nonzero test t.0 (int_div_euclid t.1 d) (rounded_terms d ts) p.0
       (keys-rounded test ts p.1)
 
-  listed-rounded : (ts : List (Mono × ℤ)) → is_listed mono_cmp ts ≡ true →
-      is_listed mono_cmp (rounded_terms d ts) ≡ true
+  listed-rounded : (ts : List (Mono × ℤ)) → is_sparse_sorted mono_cmp ts ≡ true →
+      is_sparse_sorted mono_cmp (rounded_terms d ts) ≡ true
   listed-rounded [] h = refl
   listed-rounded (t ∷ ts) h =
       let l = listed_parts mono_cmp mono_total same_mono t ts h in
-      listed-put mono_cmp mono_total same_mono t.0 (int_div_euclid t.1 d) (rounded_terms d ts)
+      listed-cons_nonzero mono_cmp mono_total same_mono t.0 (int_div_euclid t.1 d)
+      (rounded_terms d ts)
       (keys-rounded (λ x. is_lt (mono_cmp t.0 x)) ts l.before) (listed-rounded ts l.rest)
 
   all_fit-rounded : (ts : List (Mono × ℤ)) → all_fit ts ≡ true → all_fit (rounded_terms d ts) ≡ true

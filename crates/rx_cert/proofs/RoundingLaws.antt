@@ -7,7 +7,7 @@ use Rattle.std.proofs.Math.Nat.{mul-le-mul_left}
 use Rattle.rx_plain.proofs.Integers.{add-zero-int, mul-add-int, mul-assoc-int, mul-one-int, mul-zero-int}
 use Rattle.rx_poly.proofs.Levels.{mono_value_is, value_is}
 use Rattle.rx_poly.proofs.PolyLaws.{value-of_terms}
-use Rattle.rx_poly.proofs.TermLaws.{sum-put, zero_is}
+use Rattle.rx_poly.proofs.TermLaws.{sum-cons_nonzero, zero_is}
 use Rattle.rx_poly.specs.Normal.{is_empty}
 use Rattle.rx_poly.specs.Value.{atom_value, mono_value, product_of, sum_terms, value}
 use Rattle.rx_poly.specs.declared.body.Atom.{Atom}
@@ -95,7 +95,7 @@ module _ (a : ℕ → ℤ) (n : ℕ) where
       pos (suc n) *ℤ sum_terms (mono_value a) (rounded_terms (pos (suc n)) (t ∷ ts)) +ℤ pos r
   put_back t ts r e =
       e ∙ ap (λ z. pos (suc n) *ℤ z +ℤ pos r)
-      (sym (sum-put (mono_value a) t.0 (quotient_by t.1) (rounded_terms (pos (suc n)) ts)))
+      (sym (sum-cons_nonzero (mono_value a) t.0 (quotient_by t.1) (rounded_terms (pos (suc n)) ts)))
 
   last_rounds : (t : Mono × ℤ) (b : Bool) → is_one t.0 ≡ b → (b || divides (pos (suc n)) t.1) ≡
       true → Rounds (t ∷ [])

@@ -7,8 +7,8 @@ use Rattle.std.proofs.lemmas.List.Sums.{sum_by-cons}
 use Rattle.rx_row.specs.Negation.{negation, negation_within}
 use Rattle.rx_row.specs.declared.row.Row.{Row}
 use Rattle.rx_cert.specs.Conditions.{asked_for, conditions, in_order, is_plain_row, shown_or}
-use Rattle.rx_cert.specs.Examination.{finding, row_finding}
-use Rattle.rx_cert.specs.Findings.{Said, Yes, within}
+use Rattle.rx_cert.specs.Examination.{verdict, row_finding}
+use Rattle.rx_cert.specs.Findings.{Said, Yes, guard}
 use Rattle.rx_cert.specs.Showing.{HasCertificates, all_shown, shown}
 use Rattle.rx_cert.specs.declared.cert.Cert.{Cert}
 use Rattle.rx_cert.specs.declared.conditions.ConditionsAnswer.TheVariants.{Shown, WrongCount}
@@ -105,14 +105,14 @@ module _ (given : List Row) where
         (cert : Cert) × (row_finding given row cert ≡ Yes)
     certificate_of row e h =
         by (within_parts (negation_within row) (says (given ++ negation row ∷ []))
-        (sym (ap (λ b. cond b Yes (within (negation_within row)
+        (sym (ap (λ b. cond b Yes (guard (negation_within row)
         (says (given ++ negation row ∷ [])))) e) ∙ h))
       where
         by : (negation_within row ≡ true) × (says (given ++ negation row ∷ []) ≡ Yes) →
             (cert : Cert) × (row_finding given row cert ≡ Yes)
         by (keeps, refuted) =
             let c = certified (given ++ negation row ∷ []) refuted in
-            (c.0, ap (λ b. within b (finding (given ++ negation row ∷ []) c.0)) keeps ∙ c.1)
+            (c.0, ap (λ b. guard b (verdict (given ++ negation row ∷ []) c.0)) keeps ∙ c.1)
 
     abbrev Certificates : List Row → Type 0
     Certificates rows = (certs : List Cert) × (conditions given (Some rows) certs ≡ Some Shown)

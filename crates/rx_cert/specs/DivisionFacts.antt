@@ -4,7 +4,7 @@ use Rattle.std.specs.Prelude.{Bool, ◌&&◌, List, [], ◌∷◌, ℤ, pos, ◌
 use Rattle.rx_plain.specs.Formed.{Formed}
 use Rattle.rx_poly.specs.Constants.{number}
 use Rattle.rx_poly.specs.Division.{quotient_of, remainder_of}
-use Rattle.rx_poly.specs.Limits.{added, fits_i128, is_within, scaled_by, subtracted}
+use Rattle.rx_poly.specs.Limits.{body_sum, fits_i128, is_within, scaled_by, body_difference}
 use Rattle.rx_poly.specs.declared.body.Body.{Body}
 use Rattle.rx_row.specs.Negation.{negation, negation_within, opposite}
 use Rattle.rx_row.specs.declared.row.Row.{Row}
@@ -20,11 +20,11 @@ remainder_by dividend divisor = remainder_of dividend (number divisor)
 -- dividend - divisor*q - r, from left to right
 abbrev pub without_quotient : Body → ℤ → Body
 without_quotient dividend divisor =
-    subtracted dividend (scaled_by divisor (quotient_by dividend divisor))
+    body_difference dividend (scaled_by divisor (quotient_by dividend divisor))
 
 abbrev pub nothing_left : Body → ℤ → Body
 nothing_left dividend divisor =
-    subtracted (without_quotient dividend divisor) (remainder_by dividend divisor)
+    body_difference (without_quotient dividend divisor) (remainder_by dividend divisor)
 
 -- a - 1
 abbrev pub greatest_remainder : ℤ → Body
@@ -52,38 +52,39 @@ division_formed dividend divisor = record {
 abbrev pub rows_at_least_zero : Body → ℤ → List Row
 rows_at_least_zero dividend divisor =
     Ge dividend ∷ Eq (nothing_left dividend divisor) ∷ Ge (remainder_by dividend divisor) ∷
-    Ge (subtracted (greatest_remainder divisor) (remainder_by dividend divisor)) ∷ []
+    Ge (body_difference (greatest_remainder divisor) (remainder_by dividend divisor)) ∷ []
 
 abbrev pub at_least_zero_within : Body → ℤ → Bool
 at_least_zero_within dividend divisor =
     division_within dividend divisor && is_within
-    (subtracted (greatest_remainder divisor) (remainder_by dividend divisor))
+    (body_difference (greatest_remainder divisor) (remainder_by dividend divisor))
 
 -- where it is below: -dividend - 1 >= 0, dividend - divisor*q - r = 0, -r >= 0, a - 1 + r >= 0
 abbrev pub rows_below_zero : Body → ℤ → List Row
 rows_below_zero dividend divisor =
     negation (Ge dividend) ∷ Eq (nothing_left dividend divisor) ∷
     Ge (opposite (remainder_by dividend divisor)) ∷
-    Ge (added (greatest_remainder divisor) (remainder_by dividend divisor)) ∷ []
+    Ge (body_sum (greatest_remainder divisor) (remainder_by dividend divisor)) ∷ []
 
 abbrev pub below_zero_within : Body → ℤ → Bool
 below_zero_within dividend divisor =
     negation_within (Ge dividend) && (division_within dividend divisor &&
     (is_within (opposite (remainder_by dividend divisor)) &&
-    is_within (added (greatest_remainder divisor) (remainder_by dividend divisor))))
+    is_within (body_sum (greatest_remainder divisor) (remainder_by dividend divisor))))
 
 -- the same rows of a division whose parts are formed, and whether what is formed of them keeps the
 -- limits: where the dividend is at least 0
 abbrev pub facts_at_least_zero : Body → Body → Body → Body → Formed (List Row)
 facts_at_least_zero dividend equation rest bound = record {
-  form = Ge dividend ∷ Eq equation ∷ Ge rest ∷ Ge (subtracted bound rest) ∷ [];
-  within = is_within (subtracted bound rest);
+  form = Ge dividend ∷ Eq equation ∷ Ge rest ∷ Ge (body_difference bound rest) ∷ [];
+  within = is_within (body_difference bound rest);
 }
 
 -- where it is below
 abbrev pub facts_below_zero : Body → Body → Body → Body → Formed (List Row)
 facts_below_zero dividend equation rest bound = record {
-  form = negation (Ge dividend) ∷ Eq equation ∷ Ge (opposite rest) ∷ Ge (added bound rest) ∷ [];
+  form = negation (Ge dividend) ∷ Eq equation ∷ Ge (opposite rest) ∷ Ge (body_sum bound rest) ∷ [];
   within =
-      negation_within (Ge dividend) && (is_within (opposite rest) && is_within (added bound rest));
+      negation_within (Ge dividend) && (is_within (opposite rest) &&
+      is_within (body_sum bound rest));
 }

@@ -4,7 +4,7 @@ use Rattle.std.specs.Prelude.{ℕ, Bool, true, false, ◌&&◌, ◌||◌, ◌==�
 use Rattle.std.specs.Ordering.{int_eq, is_eq}
 use Rattle.rx_plain.specs.Formed.{Formed}
 use Rattle.rx_poly.specs.Constants.{variable}
-use Rattle.rx_poly.specs.Limits.{added, is_within, of_atoms, scaled_by, subtracted}
+use Rattle.rx_poly.specs.Limits.{body_sum, is_within, of_atoms, scaled_by, body_difference}
 use Rattle.rx_poly.specs.Order.{mono_cmp}
 use Rattle.rx_poly.specs.Reading.{coefficient}
 use Rattle.rx_poly.specs.Terms.{is_zero}
@@ -12,10 +12,10 @@ use Rattle.rx_poly.specs.Variables.{uses}
 use Rattle.rx_poly.specs.declared.body.Atom.TheVariants.{Var}
 use Rattle.rx_poly.specs.declared.body.Mono.{Mono}
 use Rattle.rx_poly.specs.declared.body.Body.{Body, out-Body}
-use Rattle.rx_row.specs.Substitution.{in_rows, rows_within}
+use Rattle.rx_row.specs.Substitution.{subst_rows, rows_within}
 use Rattle.rx_row.specs.declared.row.Row.{Row}
 use Rattle.rx_row.specs.declared.row.Row.TheVariants.{Ge, Eq, Ne}
-use Rattle.rx_cert.specs.Findings.{Said, No, within}
+use Rattle.rx_cert.specs.Findings.{Said, No, guard}
 
 -- ---- which polynomial is 0
 
@@ -74,15 +74,17 @@ solution_minus x rest = if uses x rest then None else Some rest
 -- 1 or -1
 abbrev pub solution : ℕ → Body → Option Body
 solution x p =
-    if int_eq (coefficient_of x p) (pos 1) then solution_plus x (subtracted p (variable x))
+    if int_eq (coefficient_of x p) (pos 1) then solution_plus x (body_difference p (variable x))
     else (if int_eq (coefficient_of x p) (negsuc 0) then
-    solution_minus x (added p (variable x)) else None)
+    solution_minus x (body_sum p (variable x)) else None)
 
 -- the rest, which is no larger than p, and its multiple by -1 keep the limits
 abbrev pub solution_within : ℕ → Body → Bool
 solution_within x p =
-    if int_eq (coefficient_of x p) (pos 1) then solution_plus_within x (subtracted p (variable x))
-    else (if int_eq (coefficient_of x p) (negsuc 0) then is_within (added p (variable x)) else true)
+    if int_eq (coefficient_of x p) (pos 1) then
+    solution_plus_within x (body_difference p (variable x))
+    else (if int_eq (coefficient_of x p) (negsuc 0) then is_within (body_sum p (variable x)) else
+    true)
 
 -- both at once
 abbrev pub solution_formed : ℕ → Body → Formed (Option Body)
@@ -94,10 +96,10 @@ solution_formed x p = record { form = solution x p; within = solution_within x p
 abbrev pub replaced_finding : ℕ → Option Body → List Row → (List Row → Said) → Said
 replaced_finding x None rows rest = No
 replaced_finding x (Some e) rows rest =
-    within (rows_within ((x, e) ∷ []) rows) (rest (in_rows ((x, e) ∷ []) rows))
+    guard (rows_within ((x, e) ∷ []) rows) (rest (subst_rows ((x, e) ∷ []) rows))
 
 -- what is found, by the polynomial that the rows say to be 0, where they do
 abbrev pub solve_finding : ℕ → Option Body → List Row → (List Row → Said) → Said
 solve_finding x None rows rest = No
 solve_finding x (Some p) rows rest =
-    within (solution_within x p) (replaced_finding x (solution x p) rows rest)
+    guard (solution_within x p) (replaced_finding x (solution x p) rows rest)

@@ -8,7 +8,7 @@ use Rattle.rx_row.specs.declared.row.Row.{Row}
 use Rattle.rx_cert.specs.Differences.{differ_finding, disequal}
 use Rattle.rx_cert.specs.DivisionFacts.{at_least_zero_within, below_zero_within, rows_at_least_zero, rows_below_zero}
 use Rattle.rx_cert.specs.Elimination.{zero_polynomial, solve_finding}
-use Rattle.rx_cert.specs.Findings.{Said, No, both, with_row, within}
+use Rattle.rx_cert.specs.Findings.{Said, No, and_also, with_row, guard}
 use Rattle.rx_cert.specs.Rounding.{rounding_row}
 use Rattle.rx_cert.specs.Sums.{sum_finding}
 use Rattle.rx_cert.specs.declared.cert.Cert.{Cert}
@@ -19,25 +19,25 @@ use Rattle.rx_cert.specs.declared.cert.Cert.TheFolds.{fold-Cert}
 abbrev pub level : Cert-F (List Row → Said) → List Row → Said
 level (Cert-F.Sum parts) rows = sum_finding rows parts
 level (Cert-F.Cut parts d rest) rows =
-    within (parts_within rows parts) (with_row rows (rounding_row d (sum_of rows parts)) rest)
-level (Cert-F.Split row holds fails) rows = both
+    guard (parts_within rows parts) (with_row rows (rounding_row d (sum_of rows parts)) rest)
+level (Cert-F.Split row holds fails) rows = and_also
     (holds (rows ++ row ∷ []))
-    (within (negation_within row) (fails (rows ++ negation row ∷ [])))
+    (guard (negation_within row) (fails (rows ++ negation row ∷ [])))
 level (Cert-F.Differ at above below) rows =
     differ_finding (disequal (slice_get rows at)) rows above below
 level (Cert-F.Solve first second x rest) rows =
     solve_finding x (zero_polynomial rows first second) rows rest
-level (Cert-F.DivFacts num d above below) rows = if is_zero d then No else both
-    (within (at_least_zero_within num d) (above (rows ++ rows_at_least_zero num d)))
-    (within (below_zero_within num d) (below (rows ++ rows_below_zero num d)))
+level (Cert-F.DivFacts num d above below) rows = if is_zero d then No else and_also
+    (guard (at_least_zero_within num d) (above (rows ++ rows_at_least_zero num d)))
+    (guard (below_zero_within num d) (below (rows ++ rows_below_zero num d)))
 
 abbrev pub examined : Cert → List Row → Said
 examined = fold-Cert (List Row → Said) level
 
 -- whether the certificate refutes the rows
-abbrev pub finding : List Row → Cert → Said
-finding rows cert = examined cert rows
+abbrev pub verdict : List Row → Cert → Said
+verdict rows cert = examined cert rows
 
 -- whether the rows show the row: its negation after them is refuted
 abbrev pub row_finding : List Row → Row → Cert → Said
-row_finding rows row cert = within (negation_within row) (finding (rows ++ negation row ∷ []) cert)
+row_finding rows row cert = guard (negation_within row) (verdict (rows ++ negation row ∷ []) cert)

@@ -15,15 +15,15 @@ said true = Yes
 said false = No
 
 -- what is formed first keeps the limits, or nothing after it is seen
-abbrev pub within : Bool → Said → Said
-within true later = later
-within false later = Beyond
+abbrev pub guard : Bool → Said → Said
+guard true later = later
+guard false later = Beyond
 
 -- two parts, from left to right: the first that fails or passes the limits ends the examination
-abbrev pub both : Said → Said → Said
-both Yes later = later
-both No later = No
-both Beyond later = Beyond
+abbrev pub and_also : Said → Said → Said
+and_also Yes later = later
+and_also No later = No
+and_also Beyond later = Beyond
 
 -- what is found with one more row after the others; without that row the part fails
 abbrev pub with_row : List Row → Option Row → (List Row → Said) → Said

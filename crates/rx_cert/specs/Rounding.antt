@@ -5,7 +5,7 @@ use Rattle.std.specs.Int.{int_div_euclid, int_rem_euclid}
 use Rattle.rx_plain.specs.Formed.{Formed}
 use Rattle.rx_poly.specs.Limits.{of_terms}
 use Rattle.rx_poly.specs.Normal.{is_empty}
-use Rattle.rx_poly.specs.Terms.{is_zero, put}
+use Rattle.rx_poly.specs.Terms.{is_zero, cons_nonzero}
 use Rattle.rx_poly.specs.declared.body.Mono.{Mono, out-Mono}
 use Rattle.rx_poly.specs.declared.body.Body.{Body, out-Body}
 use Rattle.rx_row.specs.Parts.{parts_within, sum_of}
@@ -30,7 +30,7 @@ divides_terms d (t ∷ u ∷ us) = divides d t.1 && divides_terms d (u ∷ us)
 -- each coefficient divided by a divisor of at least 1, and rounded down; what is 0 then is left out
 abbrev pub rounded_terms : ℤ → List (Mono × ℤ) → List (Mono × ℤ)
 rounded_terms d [] = []
-rounded_terms d (t ∷ ts) = put t.0 (int_div_euclid t.1 d) (rounded_terms d ts)
+rounded_terms d (t ∷ ts) = cons_nonzero t.0 (int_div_euclid t.1 d) (rounded_terms d ts)
 
 abbrev pub rounded : ℤ → Body → Body
 rounded d p = of_terms (rounded_terms d (out-Body p).terms)

@@ -4,7 +4,7 @@ use Rattle.rx_poly.specs.Reading.{constant_of}
 use Rattle.rx_poly.specs.declared.body.Body.{Body, out-Body}
 use Rattle.rx_row.specs.Parts.{parts_within, sum_of}
 use Rattle.rx_row.specs.declared.row.Row.{Row}
-use Rattle.rx_cert.specs.Findings.{Said, said, within}
+use Rattle.rx_cert.specs.Findings.{Said, said, guard}
 
 -- there is a number, and it is negative
 abbrev pub is_below_zero : Option ℤ → Bool
@@ -18,4 +18,4 @@ is_negative (Some p) = is_below_zero (constant_of (out-Body p).terms)
 
 -- the parts are lawful and their sum is a negative number
 abbrev pub sum_finding : List Row → List (ℕ × ℤ) → Said
-sum_finding rows parts = within (parts_within rows parts) (said (is_negative (sum_of rows parts)))
+sum_finding rows parts = guard (parts_within rows parts) (said (is_negative (sum_of rows parts)))

@@ -1,7 +1,7 @@
 //! The examination of a certificate. The rows are borrowed: what a branch adds after them it takes
 //! off again, and only the elimination of a variable makes a new list.
 ghost use Rattle.std.specs.Prelude.{◌≡◌, ◌∷◌, ◌++◌, [], IfOk, IfErr, OnOk};
-ghost use Rattle.rx_cert.specs.Examination.{examined, finding, level};
+ghost use Rattle.rx_cert.specs.Examination.{examined, verdict, level};
 ghost use Rattle.rx_cert.specs.Findings.{Beyond, said};
 ghost use Rattle.rx_cert.specs.declared.cert.Cert.TheOpen.{Cert-F};
 ghost use Rattle.rx_poly.specs.Terms.{is_zero};
@@ -25,9 +25,9 @@ fn examine_with(
     row: Row,
     cert: &Boxed<Cert>,
 ) -> Result<bool, PolyEnd>
-    ensures answer { IfOk result (λ b. finding (rows.old.items ++ row ∷ []) cert.now ≡ said b) }
+    ensures answer { IfOk result (λ b. verdict (rows.old.items ++ row ∷ []) cert.now ≡ said b) }
     ensures large { IfErr result (λ e. e ≡ PolyEnd.Large →
-        finding (rows.old.items ++ row ∷ []) cert.now ≡ Beyond) }
+        verdict (rows.old.items ++ row ∷ []) cert.now ≡ Beyond) }
     ensures kept { OnOk result (rows.new.items ≡ rows.old.items) }
 {
     let count = rows.len();
@@ -45,9 +45,9 @@ fn examine_with_all(
     mut more: Vec<Row>,
     cert: &Boxed<Cert>,
 ) -> Result<bool, PolyEnd>
-    ensures answer { IfOk result (λ b. finding (rows.old.items ++ more.items) cert.now ≡ said b) }
+    ensures answer { IfOk result (λ b. verdict (rows.old.items ++ more.items) cert.now ≡ said b) }
     ensures large { IfErr result (λ e. e ≡ PolyEnd.Large →
-        finding (rows.old.items ++ more.items) cert.now ≡ Beyond) }
+        verdict (rows.old.items ++ more.items) cert.now ≡ Beyond) }
     ensures kept { OnOk result (rows.new.items ≡ rows.old.items) }
 {
     let count = rows.len();
@@ -187,8 +187,8 @@ fn examine_division(
 #[cycle(examination)]
 #[tactic(auto, using(crate::proofs::Equations::finding_sum, crate::proofs::Equations::finding_cut, crate::proofs::Equations::finding_split, crate::proofs::Equations::finding_differ, crate::proofs::Equations::finding_solve, crate::proofs::Equations::finding_division, crate::proofs::Equations::depth_cut, crate::proofs::Equations::depth_split, crate::proofs::Equations::depth_differ, crate::proofs::Equations::depth_solve, crate::proofs::Equations::depth_division))]
 pub(crate) fn examine(alloc: Global, rows: &mut Vec<Row>, cert: &Cert) -> Result<bool, PolyEnd>
-    ensures answer { IfOk result (λ b. finding rows.old.items cert.now ≡ said b) }
-    ensures large { IfErr result (λ e. e ≡ PolyEnd.Large → finding rows.old.items cert.now ≡ Beyond) }
+    ensures answer { IfOk result (λ b. verdict rows.old.items cert.now ≡ said b) }
+    ensures large { IfErr result (λ e. e ≡ PolyEnd.Large → verdict rows.old.items cert.now ≡ Beyond) }
     ensures kept { OnOk result (rows.new.items ≡ rows.old.items) }
 {
     match cert {

@@ -1,6 +1,6 @@
 //! Whether a certificate refutes rows, and whether rows show a row.
 ghost use Rattle.std.specs.Prelude.{◌≡◌, ℕ, ℤ, IsTrue, IfOk, IfErr, OnOk};
-ghost use Rattle.rx_cert.specs.Examination.{finding, row_finding};
+ghost use Rattle.rx_cert.specs.Examination.{verdict, row_finding};
 ghost use Rattle.rx_cert.specs.Findings.{Beyond, said};
 ghost use Rattle.rx_row.specs.Holds.{AllHold, RowHolds};
 
@@ -46,9 +46,9 @@ pub(crate) fn examine_negation(
 /// are examined from left to right, and the first that is false ends the examination. Large exactly
 /// where a polynomial passes the limits before that.
 pub fn shows(alloc: Global, rows: &Constraint, cert: &Cert) -> Result<bool, PolyEnd>
-    ensures answer { IfOk result (λ b. finding rows.now cert.now ≡ said b) }
+    ensures answer { IfOk result (λ b. verdict rows.now cert.now ≡ said b) }
     ensures refuted { IfOk result (λ b. IsTrue b → (a : ℕ → ℤ) → ¬ (AllHold a rows.now)) }
-    ensures large { IfErr result (λ e. e ≡ PolyEnd.Large → finding rows.now cert.now ≡ Beyond) }
+    ensures large { IfErr result (λ e. e ≡ PolyEnd.Large → verdict rows.now cert.now ≡ Beyond) }
 {
     let mut lent = copy_rows(alloc, rows.rows())?;
     examine(alloc, &mut lent, cert)

@@ -3,7 +3,7 @@ ghost use Rattle.std.specs.Prelude.{◌≡◌, ◌++◌, [], true, false, ◌&&�
 ghost use Rattle.std.specs.Int.{int_div_euclid};
 ghost use Rattle.rx_plain.specs.Formed.{Forms};
 ghost use Rattle.rx_cert.specs.Rounding.{rounding_formed, divides, divides_terms, can_be_rounded_by, is_one, rounded, rounded_terms};
-ghost use Rattle.rx_poly.specs.Terms.{put};
+ghost use Rattle.rx_poly.specs.Terms.{cons_nonzero};
 
 use rx_plain::Items;
 use rx_poly::{Body, Mono, Poly, PolyEnd};
@@ -66,7 +66,7 @@ fn push_rounded(
 ) -> Result<(), AllocError>
     requires { pos 0 <ℤ div.now }
     ensures { OnOk result (terms.new ≡ terms.old ++
-        put term.now.0 (int_div_euclid term.now.1 div.now) []) }
+        cons_nonzero term.now.0 (int_div_euclid term.now.1 div.now) []) }
 {
     let quotient = rounded_down(div, &term.1);
     if quotient == 0 {

@@ -4,7 +4,7 @@ use Rattle.std.proofs.Common.{◌≡◌, ℕ, ◌+◌, Bool, true, false, Option
 use Rattle.std.proofs.lemmas.List.Elements.{All-append, All-cons, All-nil}
 use Rattle.std.specs.Option.{option_and_then}
 use Rattle.rx_term.specs.Meaning.{redex_of}
-use Rattle.rx_term.specs.Stacks.{behind, is_result, is_result_level}
+use Rattle.rx_term.specs.Stacks.{suffix_at, is_result, is_result_level}
 use Rattle.rx_term.specs.declared.rule.Equation.{Equation}
 use Rattle.rx_term.specs.declared.rule.Rule.{Rule}
 use Rattle.rx_term.specs.declared.rule_set.RuleParts.{RuleParts}
@@ -49,10 +49,10 @@ module _ (parts : RuleParts) (end : State) where
 no_result_by : (t redex : Term) → Form t → redex_of t ≡ Some redex → is_result t ≡ false
 no_result_by _ redex (AReturn p) e =
     let none : ◌≡◌ {A = Option Term} None (Some redex) =
-    sym (ap (option_and_then (λ n. behind n _)) (redex-Return p)) ∙ e in absurd cc
+    sym (ap (option_and_then (λ n. suffix_at n _)) (redex-Return p)) ∙ e in absurd cc
 no_result_by _ redex (AFail c) e =
     let none : ◌≡◌ {A = Option Term} None (Some redex) =
-    sym (ap (option_and_then (λ n. behind n _)) (redex-Fail c)) ∙ e in absurd cc
+    sym (ap (option_and_then (λ n. suffix_at n _)) (redex-Fail c)) ∙ e in absurd cc
 no_result_by _ redex (ACall f ps) e = ap is_result_level (outs-Call f ps)
 no_result_by _ redex (AFrame f ps t) e = ap is_result_level (outs-Frame f ps t)
 

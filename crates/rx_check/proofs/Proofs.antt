@@ -2,7 +2,7 @@
 use Rattle.std.proofs.Common.{◌≡◌, ℕ, Option, Some, None, Ok, Err, List, [], ◌∷◌, ◌++◌, refl, sym, subst, ℤ, All}
 use Rattle.std.proofs.lemmas.List.Elements.{All-nil}
 use Rattle.rx_row.specs.Holds.{AllHold}
-use Rattle.rx_rewriting.specs.Premises.{EndAlike}
+use Rattle.rx_rewriting.specs.Premises.{HaveConvertibleNormalForms}
 use Rattle.rx_rewriting.specs.Steps.{IsSingleValued, Reaches}
 use Rattle.rx_rewriting.proofs.UniqueResults.{convertible_results_equal}
 use Rattle.rx_term.specs.Meaning.{Instance, ground_at}
@@ -124,7 +124,7 @@ module _ (parts : RuleParts) (goal : Equation) (log : Log) (made : IsWellMade pa
   accepted_proof accepted = by_kept (kept parts goal log) refl accepted
 
   pub accepted_ends_alike : IsAccepted parts goal log → (a : ℕ → ℤ) → AllHold a goal.rows
-      → EndAlike (Inside parts) (Instance parts.rules) (ground_at a goal.left)
+      → HaveConvertibleNormalForms (Inside parts) (Instance parts.rules) (ground_at a goal.left)
       (ground_at a goal.right)
   accepted_ends_alike accepted a holds =
       let (hypotheses, _, proof) = accepted_proof accepted in

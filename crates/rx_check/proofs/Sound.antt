@@ -1,7 +1,7 @@
 -- What an answer means: the verdict on the log, and what it means for the goal.
 use Rattle.std.proofs.Common.{◌≡◌, ℕ, sym, subst, Option, Some, None, List, ◌++◌, Result, Ok, Err, OnOk, ℤ}
 use Rattle.rx_row.specs.Holds.{AllHold}
-use Rattle.rx_rewriting.specs.Premises.{EndAlike}
+use Rattle.rx_rewriting.specs.Premises.{HaveConvertibleNormalForms}
 use Rattle.rx_term.specs.Meaning.{Instance, ground_at}
 use Rattle.rx_term.specs.WellMade.{IsWellMade}
 use Rattle.rx_term.specs.declared.rule.Equation.{Equation}
@@ -69,7 +69,7 @@ lent_answered parts goal log hypotheses lent certs made keeps same same_certs r 
 -- both sides of the goal reach results that are convertible by the rules alone
 abbrev pub IsSound : RuleParts → Equation → Type 0
 IsSound parts goal = (a : ℕ → ℤ) → AllHold a goal.rows
-    → EndAlike (Inside parts) (Instance parts.rules) (ground_at a goal.left)
+    → HaveConvertibleNormalForms (Inside parts) (Instance parts.rules) (ground_at a goal.left)
     (ground_at a goal.right)
 
 pub answer_sound : (parts : RuleParts) (goal : Equation) (log : Log) → IsWellMade parts →

@@ -12,7 +12,7 @@ ghost use Rattle.rx_log.specs.Lines.{log_lines};
 ghost use Rattle.rx_log.specs.declared.log.Log.{Log};
 ghost use Rattle.rx_pairs.specs.Pairs.{HasRoot};
 ghost use Rattle.rx_pairs.specs.declared.table.RankTable.{RankTable};
-ghost use Rattle.rx_rewriting.specs.Premises.{EndAlike};
+ghost use Rattle.rx_rewriting.specs.Premises.{HaveConvertibleNormalForms};
 ghost use Rattle.rx_rewriting.specs.Steps.{IsSingleValued};
 ghost use Rattle.rx_row.specs.Holds.{AllHold};
 ghost use Rattle.rx_term.specs.Meaning.{Instance, ground_at};
@@ -54,7 +54,7 @@ pub fn accepted_logs_are_proofs()
         × IsProof parts goal hypotheses log.table }
     ensures alike { (parts : RuleParts) (goal : Equation) (log : Log) → IsWellMade parts →
         IsFitting parts goal → IsAccepted parts goal log → (a : ℕ → ℤ) → AllHold a goal.rows →
-        EndAlike (Inside parts) (Instance parts.rules)
+        HaveConvertibleNormalForms (Inside parts) (Instance parts.rules)
         (ground_at a goal.left) (ground_at a goal.right) }
     ensures equal { (parts : RuleParts) (goal : Equation) (log : Log) → IsWellMade parts →
         IsFitting parts goal → IsAccepted parts goal log →

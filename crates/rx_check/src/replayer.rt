@@ -8,7 +8,7 @@ ghost use Rattle.rx_joins.specs.Goals.{Inside, IsFitting};
 ghost use Rattle.rx_log.specs.Places.{after};
 ghost use Rattle.rx_log.specs.Reading.{pushed};
 ghost use Rattle.rx_log.specs.declared.log.Log.{Log};
-ghost use Rattle.rx_rewriting.specs.Premises.{EndAlike};
+ghost use Rattle.rx_rewriting.specs.Premises.{HaveConvertibleNormalForms};
 ghost use Rattle.rx_row.specs.Holds.{AllHold};
 ghost use Rattle.rx_term.specs.Meaning.{Instance, ground_at};
 ghost use Rattle.rx_term.specs.declared.rule.Equation.{Equation};
@@ -162,7 +162,7 @@ impl Replayer {
         ensures sound { OnOk result ((goal : Equation) (its : List (Line × ℕ)) →
             StandsFor self rules.now goal its → IsFitting rules.now goal →
             (a : ℕ → ℤ) → AllHold a goal.rows →
-            EndAlike (Inside rules.now) (Instance rules.now.rules)
+            HaveConvertibleNormalForms (Inside rules.now) (Instance rules.now.rules)
             (ground_at a goal.left) (ground_at a goal.right)) }
     {
         // That the rules are well made is what makes an accepted log a proof.

@@ -6,7 +6,7 @@ ghost use Rattle.rx_log.specs.Acceptance.{of_descent};
 ghost use Rattle.rx_pairs.specs.Lowering.{descent_from};
 ghost use Rattle.rx_pairs.specs.Pairs.{AreAllPairs, HasRoot};
 ghost use Rattle.rx_pairs.specs.declared.pair.Pair.{Pair};
-ghost use Rattle.rx_rewriting.specs.Premises.{EndAlike};
+ghost use Rattle.rx_rewriting.specs.Premises.{HaveConvertibleNormalForms};
 ghost use Rattle.rx_row.specs.Holds.{AllHold};
 ghost use Rattle.rx_term.specs.Fitting.{term_fits};
 ghost use Rattle.rx_term.specs.Meaning.{Instance, ground_at};
@@ -49,7 +49,7 @@ pub fn replay(alloc: Global, rules: &RuleSet, goal: Equation, log: &Log) -> Resu
     requires right { term_fits rules.now goal.right ≡ true }
     ensures exact { Answers result rules.now goal log.now }
     ensures sound { OnOk result ((a : ℕ → ℤ) → AllHold a goal.rows →
-        EndAlike (Inside rules.now) (Instance rules.now.rules)
+        HaveConvertibleNormalForms (Inside rules.now) (Instance rules.now.rules)
         (ground_at a goal.left) (ground_at a goal.right)) }
 {
     // That the rules are well made is what makes an accepted log a proof.

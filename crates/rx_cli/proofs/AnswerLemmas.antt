@@ -16,7 +16,7 @@ use Rattle.rx_cli.specs.declared.ends.Status.TheVariants as Ends
 use Rattle.rx_cli.specs.declared.verdicts.Verdict.{Verdict}
 use Rattle.rx_cli.specs.declared.verdicts.Verdict.TheVariants as Said
 use Rattle.rx_cli.specs.Agreement.{Agrees}
-use Rattle.rx_cli.specs.Answers.{IsAnswerTo, IsAnswered, IsHeld, IsLogHeld, OnSource, functions_in, longest_source}
+use Rattle.rx_cli.specs.Answers.{AnswersSoundly, AnswersOrFails, IsHeld, IsLogHeld, OnSource, functions_in, longest_source}
 use Rattle.rx_cli.specs.Ends.{status_of}
 use Rattle.rx_cli.specs.Proofs.{IsProved}
 use Rattle.rx_cli.specs.Steps.{ChecksNamed, Reads}
@@ -101,9 +101,9 @@ checks_later held told a b c f source name verdict same below (inr (rose, is)) =
 
 -- words that ask for nothing are answered with the usage
 pub answers_usage : (held : Option Names) (fault : Type 0) (asked_for : Option Command) → None ≡
-    asked_for → IsAnswered held fault asked_for (Line Said.Usage)
+    asked_for → AnswersOrFails held fault asked_for (Line Said.Usage)
 answers_usage held fault asked_for is =
-    subst (λ o. IsAnswered held fault o (Line Said.Usage)) is (inl (record {
+    subst (λ o. AnswersOrFails held fault o (Line Said.Usage)) is (inl (record {
       given = record { source = None; log = None };
       is_given = tt;
       is = refl;
@@ -116,7 +116,7 @@ answers_usage held fault asked_for is =
 module _ (held : Option Names) (fault : Type 0) (command : Comparison) (verdict : Verdict) where
   long_answer : (bytes : List ℕ) → HoldsBytes held (functions_in command).file bytes →
       longest_source < length bytes → verdict ≡ Said.LongSource →
-      IsAnswered held fault (Some (Compare command)) (Line verdict)
+      AnswersOrFails held fault (Some (Compare command)) (Line verdict)
   long_answer bytes holds more is =
       let log = log_any held command in
       let said : OnSource command (Some bytes) log.0 (Line verdict) =
@@ -131,7 +131,7 @@ module _ (held : Option Names) (fault : Type 0) (command : Comparison) (verdict 
       })
 
   missing_answer : (names : Names) → held ≡ Some names → names (functions_in command).file ≡ None →
-      verdict ≡ Said.ReadFault → IsAnswered held fault (Some (Compare command)) (Line verdict)
+      verdict ≡ Said.ReadFault → AnswersOrFails held fault (Some (Compare command)) (Line verdict)
   missing_answer names told missing is =
       let log = log_any held command in
       inl (record {
@@ -147,12 +147,12 @@ module _ (held : Option Names) (fault : Type 0) (command : Comparison) (verdict 
       })
 
   by_held : (h : Option Names) → held ≡ h → IsMissing h (functions_in command).file → verdict ≡
-      Said.ReadFault → IsAnswered held fault (Some (Compare command)) (Line verdict)
+      Said.ReadFault → AnswersOrFails held fault (Some (Compare command)) (Line verdict)
   by_held None told missing is = absurd missing
   by_held (Some names) told missing is = missing_answer names told missing is
 
   pub answers_unread : Reads held fault (functions_in command).file longest_source Said.LongSource
-      (Ends verdict) → IsAnswered held fault (Some (Compare command)) (Line verdict)
+      (Ends verdict) → AnswersOrFails held fault (Some (Compare command)) (Line verdict)
   answers_unread (inl ((bytes, holds, more), is)) = long_answer bytes holds more is
   answers_unread (inr (inl failed, is)) = inr (refl, failed, ap Line is)
   answers_unread (inr (inr missing, is)) = by_held held refl missing is
@@ -163,7 +163,7 @@ module _ (held : Option Names) (fault : Type 0) (f : Functions) (source lent : L
     (same : lent ≡ source) where
   pub answers_checked : (name : List ℕ) (verdict : Verdict) →
       ChecksNamed held fault f lent name verdict →
-      IsAnswered held fault (Some (Compare (Check f name))) (Line verdict)
+      AnswersOrFails held fault (Some (Compare (Check f name))) (Line verdict)
   answers_checked name verdict (inl (given, is_held, checked)) =
       let said : OnSource (Check f name) (Some source) given (Line verdict) =
       rw (le-ltb longest_source (length source) fits) (verdict, rw (← same) checked, refl) in
@@ -182,7 +182,7 @@ module _ (held : Option Names) (fault : Type 0) (f : Functions) (source lent : L
   answers_checked name verdict (inr (failed, is)) = inr (refl, failed, ap Line is)
 
   pub answers_proved : (effort : Effort) (answer : Answer) → IsProved f effort lent answer →
-      IsAnswered held fault (Some (Compare (Prove f effort))) answer
+      AnswersOrFails held fault (Some (Compare (Prove f effort))) answer
   answers_proved effort answer proved =
       let said : OnSource (Prove f effort) (Some source) None answer =
       rw (le-ltb longest_source (length source) fits)
@@ -201,7 +201,7 @@ module _ (held : Option Names) (fault : Type 0) (f : Functions) (source lent : L
       })
 
   pub answers_refuted : (extent : Extent) (answer : Answer) → IsRefuted f extent lent answer →
-      IsAnswered held fault (Some (Compare (Refute f extent))) answer
+      AnswersOrFails held fault (Some (Compare (Refute f extent))) answer
   answers_refuted extent answer refuted =
       let said : OnSource (Refute f extent) (Some source) None answer =
       rw (le-ltb longest_source (length source) fits)
@@ -215,7 +215,7 @@ module _ (held : Option Names) (fault : Type 0) (f : Functions) (source lent : L
 
 -- examples that were shown
 pub answers_shown : (held : Option Names) (pairs : ℕ) (verdict : Verdict) → IsShown pairs verdict →
-    IsAnswerTo held (Some (Demo pairs)) (Line verdict)
+    AnswersSoundly held (Some (Demo pairs)) (Line verdict)
 answers_shown held pairs verdict shown = record {
   given = record { source = None; log = None };
   is_given = tt;

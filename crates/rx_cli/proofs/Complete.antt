@@ -13,7 +13,7 @@ use Rattle.rx_cli.specs.declared.ends.Status.{Status}
 use Rattle.rx_cli.specs.declared.ends.Status.TheVariants as Said
 use Rattle.rx_cli.specs.declared.questions.Question.{Question}
 use Rattle.rx_cli.specs.declared.verdicts.Verdict.TheVariants as verdict
-use Rattle.rx_cli.specs.Answers.{IsAnswerTo, IsDone, OnSource, longest_source}
+use Rattle.rx_cli.specs.Answers.{AnswersSoundly, IsDone, OnSource, longest_source}
 use Rattle.rx_cli.specs.Checks.{IsChecked}
 use Rattle.rx_cli.specs.Completeness.{CanShow, Holds, HoldsAccepted, HoldsClosed, SaysYes}
 use Rattle.rx_cli.specs.Ends.{status_in, status_of}
@@ -40,7 +40,7 @@ on_short command given log source answer is fits on =
 module _ (names : Names) (answer : Answer) where
   -- a check of an accepted log
   check_passes : (f : Functions) (name : List ℕ) → HoldsAccepted names f name →
-      IsAnswerTo (Some names) (Some (Compare (Check f name))) answer → status_in answer ≡
+      AnswersSoundly (Some names) (Some (Compare (Check f name))) answer → status_in answer ≡
       Said.Equivalent
   check_passes f name has is =
       let source : List ℕ = has.source.source in
@@ -74,7 +74,7 @@ module _ (names : Names) (answer : Answer) where
 
   -- a search that closes
   search_passes : (f : Functions) (effort : Effort) → HoldsClosed names f effort →
-      IsAnswerTo (Some names) (Some (Compare (Prove f effort))) answer → status_in answer ≡
+      AnswersSoundly (Some names) (Some (Compare (Prove f effort))) answer → status_in answer ≡
       Said.Equivalent
   search_passes f effort has is =
       proved_yes f effort has.source.source has.question has.moves has.source.asks has.closes
@@ -82,12 +82,14 @@ module _ (names : Names) (answer : Answer) where
       (is.is_given.0 ∙ has.source.held) has.source.short is.is)
 
   answered_yes : (words : List (List ℕ)) → CanShow names words →
-      IsAnswerTo (Some names) (command_of words) answer → status_in answer ≡ Said.Equivalent
+      AnswersSoundly (Some names) (command_of words) answer → status_in answer ≡ Said.Equivalent
   answered_yes words (inl (f, name, asks, has)) is =
-      check_passes f name has (subst (λ (o : Option Command). IsAnswerTo (Some names) o answer) asks
+      check_passes f name has (subst (λ (o : Option Command). AnswersSoundly (Some names) o answer)
+      asks
       is)
   answered_yes words (inr (f, effort, asks, has)) is =
-      search_passes f effort has (subst (λ (o : Option Command). IsAnswerTo (Some names) o answer)
+      search_passes f effort has (subst (λ (o : Option Command).
+      AnswersSoundly (Some names) o answer)
       asks is)
 
 -- a run ends with a yes, or out of memory, or because a call found a fault

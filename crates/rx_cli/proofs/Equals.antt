@@ -8,14 +8,14 @@ use Rattle.rx_cli.specs.declared.answers.Answer.{Answer}
 use Rattle.rx_cli.specs.declared.ends.Status.TheVariants as Ends
 use Rattle.rx_cli.specs.declared.answers.Answer.TheVariants.{Line}
 use Rattle.rx_cli.specs.declared.verdicts.Verdict.TheVariants as Said
-use Rattle.rx_cli.specs.Answers.{AreEqual, Given, IsAnswerTo, IsAnswered, IsGiven, IsHeld, IsRefutedBy, Means, OnSource, functions_in, longest_source}
+use Rattle.rx_cli.specs.Answers.{AreEqual, Input, AnswersSoundly, AnswersOrFails, IsInput, IsHeld, IsRefutedBy, Means, OnSource, functions_in, longest_source}
 use Rattle.rx_cli.specs.Ends.{status_in}
 use Rattle.rx_cli.specs.Refutations.{IsRefuted, Refutes}
 use Rattle.rx_cli.proofs.Comparisons.{different_refutes}
 
 module _ (held : Option Names) (words : List (List ℕ)) where
-  by_command : (o : Option Command) → command_of words ≡ o → (given : Given) →
-      IsGiven held o given → Means o given → AreEqual held words
+  by_command : (o : Option Command) → command_of words ≡ o → (given : Input) →
+      IsInput held o given → Means o given → AreEqual held words
   by_command None is given is_given means = absurd means
   by_command (Some (Demo pairs)) is given is_given agree = (Demo pairs, is, agree)
   by_command (Some (Compare comparison)) is given is_given (source, there, agrees) = (
@@ -31,7 +31,7 @@ module _ (held : Option Names) (words : List (List ℕ)) where
 
   -- where the status is that of equivalence, both functions agree
   pub answered_equal : (fault : Type 0) (answer : Answer) →
-      IsAnswered held fault (command_of words) answer → status_in answer ≡ Ends.Equivalent →
+      AnswersOrFails held fault (command_of words) answer → status_in answer ≡ Ends.Equivalent →
       AreEqual held words
   answered_equal fault answer (inl to) says =
       by_command (command_of words) refl to.given to.is_given (to.right says)
@@ -65,11 +65,11 @@ module _ (held : Option Names) (words : List (List ℕ)) where
 
   -- where the status is that of a difference, there is a counterexample
   pub answered_different : (fault : Type 0) (answer : Answer) →
-      IsAnswered held fault (command_of words) answer → status_in answer ≡ Ends.Different →
+      AnswersOrFails held fault (command_of words) answer → status_in answer ≡ Ends.Different →
       IsRefutedBy held words
   answered_different fault answer (inl to) says f extent asks =
-      let at : IsAnswerTo held (Some (Compare (Refute f extent))) answer =
-      subst (λ o. IsAnswerTo held o answer) asks to in
+      let at : AnswersSoundly held (Some (Compare (Refute f extent))) answer =
+      subst (λ o. AnswersSoundly held o answer) asks to in
       by_source f extent answer at.given.source at.given.log at.is_given.0 at.is says
   answered_different fault answer (inr (some, failed, is)) says f extent asks =
       let no : Ends.ReadFault ≡ Ends.Different = sym (ap status_in is) ∙ says in

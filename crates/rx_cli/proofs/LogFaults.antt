@@ -26,7 +26,7 @@ use Rattle.rx_cli.specs.declared.questions.Question.{Question}
 use Rattle.rx_cli.specs.declared.verdicts.Verdict.TheVariants as Said
 use Rattle.rx_cli.specs.Checks.{OnLog}
 use Rattle.rx_cli.specs.declared.verdicts.Verdict.{Verdict}
-use Rattle.rx_cli.specs.Texts.{HasLine, IsSayableEnd}
+use Rattle.rx_cli.specs.Texts.{IsReportableVerdict, IsSayableEnd}
 
 -- the fault that no log has
 abbrev large : ℕ → LogFault
@@ -135,6 +135,7 @@ end_said question log End.NoMemory other told = absurd (other refl)
 pub verdict_said : (question : Question) (log : Log) (end : CheckEnd) (verdict : Verdict) →
     (verdict ≡ Said.Check end) × (end ≢ End.NoMemory) →
     Answers (Err end) question.rules question.goal log
-    → OnLog question log verdict × HasLine verdict
+    → OnLog question log verdict × IsReportableVerdict verdict
 verdict_said question log end verdict (is, other) told =
-    subst (λ v. OnLog question log v × HasLine v) (sym is) (end_said question log end other told)
+    subst (λ v. OnLog question log v × IsReportableVerdict v) (sym is)
+    (end_said question log end other told)

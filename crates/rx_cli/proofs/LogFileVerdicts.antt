@@ -14,7 +14,7 @@ use Rattle.rx_cli.specs.declared.verdicts.Verdict.TheVariants as Said
 use Rattle.rx_cli.specs.Checks.{longest_log}
 use Rattle.rx_cli.specs.Questions.{asked}
 use Rattle.rx_cli.specs.Steps.{ChecksNamed, ChecksRead, OnNext, Reads, SaysEndOfLog}
-use Rattle.rx_cli.specs.Texts.{HasLine}
+use Rattle.rx_cli.specs.Texts.{IsReportableVerdict}
 use Rattle.rx_cli.proofs.AnswerLemmas.{checks_text, checks_unread}
 use Rattle.rx_cli.proofs.LogFaults.{verdict_said}
 
@@ -29,15 +29,15 @@ module _ (held : Option Names) (fault : Type 0) (name : List ℕ) (question : Qu
 
   pub end_said : (why : FileEnd) (verdict : Verdict) → SaysEndOfLog why verdict →
       OnFile held fault name longest_log question.rules question.goal (Err why)
-      → ChecksRead held fault name question verdict × HasLine verdict
+      → ChecksRead held fault name question verdict × IsReportableVerdict verdict
   end_said end.Failed verdict is told =
-      let line : HasLine verdict = subst HasLine (sym is) tt in
+      let line : IsReportableVerdict verdict = subst IsReportableVerdict (sym is) tt in
       (record { next = Ends Said.ReadFault; reads = inr (told, refl); on = is }, line)
   end_said end.TooLong verdict is told =
-      let line : HasLine verdict = subst HasLine (sym is) tt in
+      let line : IsReportableVerdict verdict = subst IsReportableVerdict (sym is) tt in
       (record { next = Ends Said.LongLog; reads = inl (told, refl); on = is }, line)
   end_said (end.BadLine number) verdict is told =
-      let line : HasLine verdict = subst HasLine (sym is) tt in (
+      let line : IsReportableVerdict verdict = subst IsReportableVerdict (sym is) tt in (
         record {
           next = Goes told.bytes;
           reads = (told.holds, told.within);

@@ -24,7 +24,7 @@ use Rattle.rx_cli.specs.declared.ends.Status.TheVariants as Ends
 use Rattle.rx_cli.specs.declared.questions.Question.{Question}
 use Rattle.rx_cli.specs.declared.verdicts.Verdict.{Verdict}
 use Rattle.rx_cli.specs.declared.verdicts.Verdict.TheVariants as Said
-use Rattle.rx_cli.specs.Answers.{IsAnswerTo, IsDone, OnSource, functions_in, longest_source, text_in}
+use Rattle.rx_cli.specs.Answers.{AnswersSoundly, IsDone, OnSource, functions_in, longest_source, text_in}
 use Rattle.rx_cli.specs.Checks.{IsChecked, OnLog, OnRead, OnText, longest_log}
 use Rattle.rx_cli.specs.Ends.{status_in}
 use Rattle.c_front.specs.declared.pairs.Compared.{Compared}
@@ -340,7 +340,8 @@ module _ (a b : Answer) where
               proofs,
         )) (one_on_source command source log p q)
 
-    one_answer : (o : Option Command) → IsAnswerTo (Some names) o a → IsAnswerTo (Some names) o b →
+    one_answer : (o : Option Command) → AnswersSoundly (Some names) o a →
+        AnswersSoundly (Some names) o b →
         AreAlike (AreProofsIn names o (text_in a) (text_in b)) a b
     one_answer None p q =
         equal_answers (AreProofsIn names None (text_in a) (text_in b)) a b (Line Said.Usage) p.is
@@ -434,8 +435,8 @@ one_for_words names words s u t v p q = (one_report names words s u t v p q).1
 
 -- words have one verdict
 pub one_verdict_for_words : (names : Names) (words : List (List ℕ)) (v w : Verdict) →
-    IsAnswerTo (Some names) (command_of words) (Line v) →
-    IsAnswerTo (Some names) (command_of words) (Line w) → v ≡ w
+    AnswersSoundly (Some names) (command_of words) (Line v) →
+    AnswersSoundly (Some names) (command_of words) (Line w) → v ≡ w
 one_verdict_for_words names words v w p q =
     alike_verdicts (AreProofsIn names (command_of words) (text_in (Line v)) (text_in (Line w))) v w
     (one_answer (Line v) (Line w) names (command_of words) p q)

@@ -3,7 +3,7 @@ use Rattle.std.proofs.Common.{◌≡◌, ◌∙◌, List, ℕ, Option, inr, refl
 use Rattle.rx_io.specs.Outside.{Names, AppendsPrefix}
 use Rattle.rx_cli.specs.declared.answers.Answer.{Answer}
 use Rattle.rx_cli.specs.declared.ends.Status.TheVariants as Ends
-use Rattle.rx_cli.specs.Answers.{IsAnswered, text_in}
+use Rattle.rx_cli.specs.Answers.{AnswersOrFails, text_in}
 use Rattle.rx_cli.specs.Ends.{status_in}
 use Rattle.rx_cli.specs.Run.{RunEnds}
 use Rattle.rx_command.specs.Commands.{command_of}
@@ -11,7 +11,8 @@ use Rattle.rx_command.specs.Commands.{command_of}
 -- a part of the text was written
 pub ends_cut : (held : Option Names) (read_fault write_fault : Type 0) (words : List (List ℕ))
     (old new : Option (List ℕ)) (answer : Answer) (text lent : List ℕ)
-    → IsAnswered held read_fault (command_of words) answer → text ≡ text_in answer → lent ≡ text →
+    → AnswersOrFails held read_fault (command_of words) answer → text ≡ text_in answer → lent ≡
+    text →
     write_fault → AppendsPrefix old new lent →
     RunEnds held read_fault write_fault words old new Ends.WriteFault
 ends_cut held read_fault write_fault words old new answer text lent answered is same fault put =

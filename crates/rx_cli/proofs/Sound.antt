@@ -6,7 +6,7 @@ use Rattle.c_meaning.specs.Outcomes.{Value}
 use Rattle.c_front.specs.declared.pairs.Compared.{Compared}
 use Rattle.c_front.specs.declared.stages.Next.TheVariants.{Goes}
 use Rattle.c_front.specs.Front.{count_in}
-use Rattle.rx_rewriting.specs.Premises.{EndAlike}
+use Rattle.rx_rewriting.specs.Premises.{HaveConvertibleNormalForms}
 use Rattle.rx_row.specs.Holds.{AllHold}
 use Rattle.rx_term.specs.Assigned.{assigned}
 use Rattle.rx_term.specs.Meaning.{Instance, ground_at}
@@ -58,7 +58,8 @@ meets_rows program (Some pre) arguments form (value, outcome, other) =
     means.rows.1 (subst (λ v. v ≢ pos 0) values other)
 
 -- what is reached alike is convertible
-reached : (parts : RuleParts) (s t : Ground) → EndAlike (Inside parts) (Instance parts.rules) s t →
+reached : (parts : RuleParts) (s t : Ground) →
+    HaveConvertibleNormalForms (Inside parts) (Instance parts.rules) s t →
     ReachConvertible parts.rules s t
 reached parts s t ends = record {
   left = ends.left.end;

@@ -15,7 +15,7 @@ use Rattle.rx_cli.specs.declared.ends.Status.{Status}
 use Rattle.rx_cli.specs.declared.ends.Status.TheVariants as Ends
 use Rattle.rx_cli.specs.declared.questions.Question.{Question}
 use Rattle.rx_cli.specs.declared.verdicts.Verdict.TheVariants as Said
-use Rattle.rx_cli.specs.Answers.{IsAnswerTo, IsDone, OnSource, longest_source, text_in}
+use Rattle.rx_cli.specs.Answers.{AnswersSoundly, IsDone, OnSource, longest_source, text_in}
 use Rattle.rx_cli.specs.Ends.{status_in}
 use Rattle.rx_cli.specs.Checks.{IsChecked, OnRead, longest_log}
 use Rattle.rx_cli.specs.Proofs.{IsProved}
@@ -72,9 +72,9 @@ pub proofs_accepted : (before after : Names) (f : Functions) (effort : Effort) (
     → Reports (Some after) ⊥ checking Ends.Equivalent (text_of Said.Equivalent)
 proofs_accepted before after f effort name text searching checking asks_proof asks_check
     (answer, inl found, (status, is_text)) file log fits =
-    let search : IsAnswerTo (Some before) (Some (Compare (Prove f effort))) answer =
-    subst (λ o. IsAnswerTo (Some before) o answer) asks_proof found in
-    let check : IsAnswerTo (Some after) (Some (Compare (Check f name))) (Line Said.Equivalent) =
+    let search : AnswersSoundly (Some before) (Some (Compare (Prove f effort))) answer =
+    subst (λ o. AnswersSoundly (Some before) o answer) asks_proof found in
+    let check : AnswersSoundly (Some after) (Some (Compare (Check f name))) (Line Said.Equivalent) =
     record {
       given = record { source = search.given.source; log = Some text };
       is_given = (search.is_given.0 ∙ sym file, sym log);
@@ -84,7 +84,7 @@ proofs_accepted before after f effort name text searching checking asks_proof as
       right = λ _. search.right (sym status);
     } in (
       Line Said.Equivalent,
-      inl (subst (λ o. IsAnswerTo (Some after) o (Line Said.Equivalent))
+      inl (subst (λ o. AnswersSoundly (Some after) o (Line Said.Equivalent))
           (sym asks_check) check),
       (refl, refl),
     )

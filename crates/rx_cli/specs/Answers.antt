@@ -15,7 +15,7 @@ use Rattle.rx_cli.specs.Ends.{status_in}
 use Rattle.rx_cli.specs.Examples.{IsShown, example_functions, example_source}
 use Rattle.rx_cli.specs.Proofs.{IsProved}
 use Rattle.rx_cli.specs.Refutations.{IsRefuted, Refutes}
-use Rattle.rx_cli.specs.Texts.{HasLine, found_text, text_of}
+use Rattle.rx_cli.specs.Texts.{IsReportableVerdict, found_text, text_of}
 
 -- the most bytes of a source
 abbrev pub longest_source : ℕ
@@ -35,14 +35,14 @@ IsReport answer status text = (status ≡ status_in answer) × (text ≡ text_in
 
 -- it has a text
 abbrev pub IsReportable : Answer → Type 0
-IsReportable (Line verdict) = HasLine verdict
+IsReportable (Line verdict) = IsReportableVerdict verdict
 IsReportable (Proof text) = ⊤
 IsReportable (Found found) = ⊤
 
 -- ---- what was read
 
 -- what was read, by its role
-pub record Given : Type 0 where
+pub record Input : Type 0 where
   pub source : Option (List ℕ)
   pub log : Option (List ℕ)
 
@@ -64,10 +64,10 @@ IsLogHeld held (Check f log) given = IsHeld held log given
 IsLogHeld held (Refute f extent) given = ⊤
 
 -- what was read for a command
-abbrev pub IsGiven : Option Names → Option Command → Given → Type 0
-IsGiven held None given = ⊤
-IsGiven held (Some (Demo pairs)) given = ⊤
-IsGiven held (Some (Compare comparison)) given =
+abbrev pub IsInput : Option Names → Option Command → Input → Type 0
+IsInput held None given = ⊤
+IsInput held (Some (Demo pairs)) given = ⊤
+IsInput held (Some (Compare comparison)) given =
     IsHeld held (functions_in comparison).file given.source × IsLogHeld held comparison given.log
 
 -- ---- answers
@@ -87,11 +87,11 @@ OnSource comparison (Some source) log answer =
     (IsDone comparison source log answer)
 
 -- the answer to a command and to what was read for it
-abbrev pub IsAnswer : Option Command → Given → Answer → Type 0
-IsAnswer None given answer = answer ≡ Line Said.Usage
-IsAnswer (Some (Demo pairs)) given answer =
+abbrev pub Answers : Option Command → Input → Answer → Type 0
+Answers None given answer = answer ≡ Line Said.Usage
+Answers (Some (Demo pairs)) given answer =
     (verdict : Verdict) × IsShown pairs verdict × (answer ≡ Line verdict)
-IsAnswer (Some (Compare comparison)) given answer =
+Answers (Some (Compare comparison)) given answer =
     OnSource comparison given.source given.log answer
 
 -- the functions of the first examples agree
@@ -99,24 +99,25 @@ abbrev pub ExamplesAgree : ℕ → Type 0
 ExamplesAgree pairs = (k : ℕ) → k < pairs → Agrees (example_source k) example_functions
 
 -- both functions agree in the text that was read, or in each example
-abbrev pub Means : Option Command → Given → Type 0
+abbrev pub Means : Option Command → Input → Type 0
 Means None given = ⊥
 Means (Some (Demo pairs)) given = ExamplesAgree pairs
 Means (Some (Compare comparison)) given =
     (source : List ℕ) × (given.source ≡ Some source) × Agrees source (functions_in comparison)
 
 -- the answer to what was read, which is right where it says that the functions are equal
-pub record IsAnswerTo (held : Option Names) (command : Option Command) (answer : Answer) : Type 0
+pub record AnswersSoundly (held : Option Names) (command : Option Command) (answer : Answer) : Type
+    0
   where
-    pub given : Given
-    pub is_given : IsGiven held command given
-    pub is : IsAnswer command given answer
+    pub given : Input
+    pub is_given : IsInput held command given
+    pub is : Answers command given answer
     pub right : status_in answer ≡ Ends.Equivalent → Means command given
 
 -- an answer to what was read, or a read fault because a call on the files found a fault
-abbrev pub IsAnswered : Option Names → Type 0 → Option Command → Answer → Type 0
-IsAnswered held read_fault command answer =
-    IsAnswerTo held command answer
+abbrev pub AnswersOrFails : Option Names → Type 0 → Option Command → Answer → Type 0
+AnswersOrFails held read_fault command answer =
+    AnswersSoundly held command answer
     ⊎ (IsSome command × read_fault × (answer ≡ Line Said.ReadFault))
 
 -- in a text that is under the name, where that is known, both functions agree; where it isn't

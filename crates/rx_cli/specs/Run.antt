@@ -5,13 +5,13 @@ use Rattle.rx_io.specs.Outside.{Names, AppendsPrefix}
 use Rattle.rx_cli.specs.declared.answers.Answer.{Answer}
 use Rattle.rx_cli.specs.declared.ends.Status.{Status}
 use Rattle.rx_cli.specs.declared.ends.Status.TheVariants as Ends
-use Rattle.rx_cli.specs.Answers.{IsAnswered, IsReport}
+use Rattle.rx_cli.specs.Answers.{AnswersOrFails, IsReport}
 use Rattle.rx_command.specs.Commands.{command_of}
 
 -- a report that the words may have: that of what was read, or that of a read fault
 abbrev pub Reports : Option Names → Type 0 → List (List ℕ) → Status → List ℕ → Type 0
 Reports held read_fault words status text =
-    (answer : Answer) × IsAnswered held read_fault (command_of words) answer ×
+    (answer : Answer) × AnswersOrFails held read_fault (command_of words) answer ×
     IsReport answer status text
 
 -- the whole report was written, and the status is its own

@@ -24,7 +24,7 @@ use Rattle.rx_logfile.specs.declared.file_end.FileEnd.{FileEnd}
 use Rattle.rx_logfile.specs.declared.file_end.FileEnd.TheVariants as file_end
 use Rattle.rx_cli.specs.declared.questions.Question.{Question}
 use Rattle.rx_cli.specs.Checks.{IsChecked, OnText, longest_log}
-use Rattle.rx_cli.specs.Texts.{HasLine}
+use Rattle.rx_cli.specs.Texts.{IsReportableVerdict}
 
 -- a precondition, where there is one, is a row form
 abbrev pub HasRowForm : Option Expr → Type 0
@@ -44,9 +44,9 @@ pub record IsReady (compared : Compared) : Type 0 where
   pub row_form : HasRowForm compared.precondition
 
 -- a verdict that ends the run has a line
-abbrev pub HasLineNext : {B : Type 0} → Next Verdict B → Type 0
-HasLineNext (Ends verdict) = HasLine verdict
-HasLineNext (Goes b) = ⊤
+abbrev pub IsReportableNext : {B : Type 0} → Next Verdict B → Type 0
+IsReportableNext (Ends verdict) = IsReportableVerdict verdict
+IsReportableNext (Goes b) = ⊤
 
 -- what is formed, where it keeps the limits; none exactly where it doesn't
 abbrev pub FormsSome : {A : Type 0} → Option A → Formed A → Type 0

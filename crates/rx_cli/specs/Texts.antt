@@ -209,11 +209,11 @@ IsSayableEnd End.NoMemory = ⊥
 IsSayableEnd end = ⊤
 
 -- a verdict that has a line: no end inside is out of memory, or one that has its line elsewhere
-abbrev pub HasLine : Verdict → Type 0
-HasLine (Said.Lex fault) = IsSayable (Why.Lex fault)
-HasLine (Said.Parse end) = IsSayable (Why.Parse end)
-HasLine (Said.Scope end) = IsSayable (Why.Scope end)
-HasLine (Said.PreLex fault) = IsSayable (Why.PreLex fault)
-HasLine (Said.PreParse end) = IsSayable (Why.PreParse end)
-HasLine (Said.Check end) = IsSayableEnd end
-HasLine verdict = ⊤
+abbrev pub IsReportableVerdict : Verdict → Type 0
+IsReportableVerdict (Said.Lex fault) = IsSayable (Why.Lex fault)
+IsReportableVerdict (Said.Parse end) = IsSayable (Why.Parse end)
+IsReportableVerdict (Said.Scope end) = IsSayable (Why.Scope end)
+IsReportableVerdict (Said.PreLex fault) = IsSayable (Why.PreLex fault)
+IsReportableVerdict (Said.PreParse end) = IsSayable (Why.PreParse end)
+IsReportableVerdict (Said.Check end) = IsSayableEnd end
+IsReportableVerdict verdict = ⊤

@@ -3,11 +3,11 @@ ghost use Rattle.std.specs.Prelude.{◌≡◌, ◌≤◌, true, length, map, str
 ghost use Rattle.rx_command.specs.Commands as words_say;
 ghost use Rattle.rx_command.specs.Commands.{Check, Compare, Demo, Prove, Refute, comparison_view, functions_view, is_short};
 ghost use Rattle.rx_io.specs.Outside.{Names, Rose};
-ghost use Rattle.rx_cli.specs.Answers.{AreEqual, IsAnswerTo, IsRefutedBy, IsAnswered, IsReportable, functions_in, longest_source, text_in};
+ghost use Rattle.rx_cli.specs.Answers.{AreEqual, AnswersSoundly, IsRefutedBy, AnswersOrFails, IsReportable, functions_in, longest_source, text_in};
 ghost use Rattle.rx_cli.specs.Ends as ends;
 ghost use Rattle.rx_cli.specs.Ends.{status_in};
-ghost use Rattle.rx_cli.specs.Steps.{ChecksNamed, HasLineNext, IsNotDeep, Reads, bytes_in};
-ghost use Rattle.rx_cli.specs.Texts.{HasLine};
+ghost use Rattle.rx_cli.specs.Steps.{ChecksNamed, IsReportableNext, IsNotDeep, Reads, bytes_in};
+ghost use Rattle.rx_cli.specs.Texts.{IsReportableVerdict};
 
 use crate::check::on_named;
 use crate::examples::show_examples;
@@ -85,7 +85,7 @@ fn read_source<F: Files>(
     ensures read { IfOk result (λ next. Reads (F.held files.old)
         (Rose (F.faults files.old) (F.faults files.new)) functions.now.file.now longest_source
         Verdict.LongSource (bytes_in next)) }
-    ensures line { IfOk result HasLineNext }
+    ensures line { IfOk result IsReportableNext }
 {
     match read_all(alloc, files, functions.file, LONGEST_SOURCE) {
         Ok(bytes) => Ok(Next::Goes(bytes)),
@@ -111,7 +111,7 @@ fn check_named<F: Files>(
     ensures verdict { IfOk result (ChecksNamed (F.held files.old)
         (Rose (F.faults files.old) (F.faults files.new)) (functions_view functions.now) source.now
         log.now) }
-    ensures line { IfOk result HasLine }
+    ensures line { IfOk result IsReportableVerdict }
 {
     match ask(alloc, source, functions)? {
         Next::Ends(verdict) => Ok(verdict),
@@ -128,7 +128,7 @@ fn judge_check<F: Files>(
 ) -> Result<Answer, NoMemory>
     requires { is_short (functions_view functions.now).precondition ≡ true }
     ensures reach { F.reaches files.old files.new }
-    ensures answer { IfOk result (IsAnswered (F.held files.old)
+    ensures answer { IfOk result (AnswersOrFails (F.held files.old)
         (Rose (F.faults files.old) (F.faults files.new))
         (Some (Compare (Check (functions_view functions.now) log.now)))) }
     ensures reportable { IfOk result IsReportable }
@@ -151,7 +151,7 @@ fn judge_prove<F: Files>(
     requires pre { is_short (functions_view functions.now).precondition ≡ true }
     requires depth { effort.depth ≤ 12 }
     ensures reach { F.reaches files.old files.new }
-    ensures answer { IfOk result (IsAnswered (F.held files.old)
+    ensures answer { IfOk result (AnswersOrFails (F.held files.old)
         (Rose (F.faults files.old) (F.faults files.new))
         (Some (Compare (Prove (functions_view functions.now) effort)))) }
     ensures reportable { IfOk result IsReportable }
@@ -171,7 +171,7 @@ fn judge_refute<F: Files>(
 ) -> Result<Answer, NoMemory>
     requires pre { is_short (functions_view functions.now).precondition ≡ true }
     ensures reach { F.reaches files.old files.new }
-    ensures answer { IfOk result (IsAnswered (F.held files.old)
+    ensures answer { IfOk result (AnswersOrFails (F.held files.old)
         (Rose (F.faults files.old) (F.faults files.new))
         (Some (Compare (Refute (functions_view functions.now) extent)))) }
     ensures reportable { IfOk result IsReportable }
@@ -191,7 +191,7 @@ fn judge_comparison<F: Files>(
     requires pre { is_short (functions_in (comparison_view comparison.now)).precondition ≡ true }
     requires depth { IsNotDeep (comparison_view comparison.now) }
     ensures reach { F.reaches files.old files.new }
-    ensures answer { IfOk result (IsAnswered (F.held files.old)
+    ensures answer { IfOk result (AnswersOrFails (F.held files.old)
         (Rose (F.faults files.old) (F.faults files.new))
         (Some (Compare (comparison_view comparison.now)))) }
     ensures reportable { IfOk result IsReportable }
@@ -207,7 +207,7 @@ fn judge_comparison<F: Files>(
 fn judge_demo(alloc: Global, pairs: u32) -> Result<Answer, NoMemory>
     requires { pairs ≤ 100 }
     ensures answer { (held : Option Names) →
-        IfOk result (IsAnswerTo held (Some (Demo pairs))) }
+        IfOk result (AnswersSoundly held (Some (Demo pairs))) }
     ensures reportable { IfOk result IsReportable }
 {
     Ok(Answer::Line(show_examples(alloc, pairs)?))
@@ -216,7 +216,7 @@ fn judge_demo(alloc: Global, pairs: u32) -> Result<Answer, NoMemory>
 /// The answer to the words, for which it reads the files that they name.
 pub fn judge<F: Files>(alloc: Global, words: &[String], files: &mut F) -> Result<Answer, NoMemory>
     ensures reach { F.reaches files.old files.new }
-    ensures answer { IfOk result (IsAnswered (F.held files.old)
+    ensures answer { IfOk result (AnswersOrFails (F.held files.old)
         (Rose (F.faults files.old) (F.faults files.new))
         (words_say.command_of (map string_bytes words.now))) }
     ensures sound { IfOk result (λ answer. status_in answer ≡ Status.Equivalent →

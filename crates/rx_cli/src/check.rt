@@ -2,7 +2,7 @@
 ghost use Rattle.std.specs.Prelude.{◌≡◌, ◌≢◌, ◌≤◌, IfOk, MatchOption};
 ghost use Rattle.rx_io.specs.Outside.{Rose};
 ghost use Rattle.rx_cli.specs.Steps.{ChecksRead, SaysEndOfLog};
-ghost use Rattle.rx_cli.specs.Texts.{HasLine};
+ghost use Rattle.rx_cli.specs.Texts.{IsReportableVerdict};
 
 use crate::Verdict;
 use crate::questions::Question;
@@ -58,7 +58,7 @@ pub fn on_named<F: Files>(
     ensures later { F.faults files.old ≤ F.faults files.new }
     ensures verdict { IfOk result (ChecksRead (F.held files.old)
         (Rose (F.faults files.old) (F.faults files.new)) name.now question) }
-    ensures line { IfOk result HasLine }
+    ensures line { IfOk result IsReportableVerdict }
 {
     let Question { rules, goal } = question;
     match replay_file(alloc, &rules, goal, files, name, LONGEST_LOG) {

@@ -4,7 +4,7 @@ ghost use Rattle.std.specs.Prelude.{◌≡◌, ◌≤◌, ◌<◌, IfOk, length,
 ghost use Rattle.rx_cli.specs.Ends.{status_in};
 ghost use Rattle.rx_cli.specs.Examples as spec;
 ghost use Rattle.rx_cli.specs.Examples.{HasStatuses, IsShown, IsStatus, IsTally, with_status};
-ghost use Rattle.rx_cli.specs.Texts.{HasLine};
+ghost use Rattle.rx_cli.specs.Texts.{IsReportableVerdict};
 
 use crate::proving::prove;
 use crate::{NoMemory, Status, Verdict};
@@ -120,7 +120,7 @@ fn count_proved(alloc: Global, pairs: u32) -> Result<Tally, NoMemory>
 pub fn show_examples(alloc: Global, pairs: u32) -> Result<Verdict, NoMemory>
     requires { pairs ≤ 100 }
     ensures shown { IfOk result (IsShown pairs) }
-    ensures line { IfOk result HasLine }
+    ensures line { IfOk result IsReportableVerdict }
 {
     let tally = count_proved(alloc, pairs)?;
     if tally.is_large {

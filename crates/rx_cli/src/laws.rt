@@ -9,7 +9,7 @@ ghost use Rattle.rx_cli.specs.declared.answers.Answer.TheVariants as answer;
 ghost use Rattle.rx_cli.specs.declared.verdicts.Verdict.{Verdict};
 ghost use Rattle.rx_cli.specs.declared.verdicts.Verdict.TheVariants as said;
 ghost use Rattle.rx_cli.specs.Agreement.{Agrees};
-ghost use Rattle.rx_cli.specs.Answers.{IsAnswerTo};
+ghost use Rattle.rx_cli.specs.Answers.{AnswersSoundly};
 ghost use Rattle.rx_cli.specs.Checks.{longest_log};
 ghost use Rattle.rx_cli.specs.Proofs.{AreOne};
 ghost use Rattle.rx_cli.specs.Refutations.{Refutes};
@@ -25,8 +25,8 @@ pub fn words_have_one_report()
     ensures status { (names : Names) (words : List (List ℕ)) (s u : Status) (t v : List ℕ) →
         Reports (Some names) ⊥ words s t → Reports (Some names) ⊥ words u v → s ≡ u }
     ensures verdict { (names : Names) (words : List (List ℕ)) (v w : Verdict) →
-        IsAnswerTo (Some names) (command_of words) (answer.Line v) →
-        IsAnswerTo (Some names) (command_of words) (answer.Line w) → v ≡ w }
+        AnswersSoundly (Some names) (command_of words) (answer.Line v) →
+        AnswersSoundly (Some names) (command_of words) (answer.Line w) → v ≡ w }
     ensures text { (names : Names) (words : List (List ℕ)) (s u : Status) (t v : List ℕ) →
         Reports (Some names) ⊥ words s t → Reports (Some names) ⊥ words u v →
         AreOne names words s t v }

@@ -10,7 +10,7 @@ ghost use Rattle.rx_solve.specs.Answers.{Answers};
 ghost use Rattle.rx_cli.specs.Answers.{IsReportable};
 ghost use Rattle.rx_cli.specs.Proofs.{IsProved, OnQuestion};
 ghost use Rattle.rx_cli.specs.Steps.{SaysEnd};
-ghost use Rattle.rx_cli.specs.Texts.{HasLine};
+ghost use Rattle.rx_cli.specs.Texts.{IsReportableVerdict};
 
 use crate::answers::Answer;
 use crate::questions::{Question, ask};
@@ -46,7 +46,7 @@ fn proof_text(alloc: Global, log: &Log) -> Result<Items<u8>, NoMemory>
 /// The verdict that names how a search ended without a log.
 fn verdict_on(end: &SearchEnd) -> Result<Verdict, NoMemory>
     ensures says { IfOk result (SaysEnd end.now) }
-    ensures line { IfOk result HasLine }
+    ensures line { IfOk result IsReportableVerdict }
 {
     match end {
         SearchEnd::NoRanks => Ok(Verdict::NoRanks),

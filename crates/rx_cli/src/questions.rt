@@ -9,7 +9,7 @@ ghost use Rattle.rx_joins.specs.Goals.{IsFitting};
 ghost use Rattle.rx_term.specs.Paired.{IsPaired};
 ghost use Rattle.rx_cli.specs.Questions as spec;
 ghost use Rattle.rx_cli.specs.Questions.{asked, rows_of};
-ghost use Rattle.rx_cli.specs.Steps.{FormsSome, HasLineNext, HasRowForm, IsReady, Translates};
+ghost use Rattle.rx_cli.specs.Steps.{FormsSome, IsReportableNext, HasRowForm, IsReady, Translates};
 
 use crate::Verdict;
 use c_ast::Expr;
@@ -51,7 +51,7 @@ pub fn front_stage(
     requires pre { is_short (functions_view functions.now).precondition ≡ true }
     ensures stage { IfOk result (spec.front_stage (functions_view functions.now) source.now) }
     ensures ready { IfOk result (λ next. IfGoes next IsReady) }
-    ensures line { IfOk result HasLineNext }
+    ensures line { IfOk result IsReportableNext }
 {
     let pre = bytes_of(functions.precondition);
     match compared_functions(alloc, source, functions.first, functions.second, pre)? {
@@ -112,7 +112,7 @@ fn question_stage(alloc: Global, compared: Compared) -> Result<Next<Verdict, Que
     ensures stage { IfOk result (spec.question_stage compared) }
     ensures fits { IfOk result (λ next. IfGoes next (λ q. IsFitting q.rules q.goal)) }
     ensures coverable { IfOk result (λ next. IfGoes next (λ q. is_coverable q.rules ≡ true)) }
-    ensures line { IfOk result HasLineNext }
+    ensures line { IfOk result IsReportableNext }
 {
     let Some(translation) = translation(alloc, &compared)? else {
         return Ok(Next::Ends(Verdict::LargeTranslate));
@@ -140,7 +140,7 @@ pub fn ask(
     ensures stage { IfOk result (asked (functions_view functions.now) source.now) }
     ensures fits { IfOk result (λ next. IfGoes next (λ q. IsFitting q.rules q.goal)) }
     ensures coverable { IfOk result (λ next. IfGoes next (λ q. is_coverable q.rules ≡ true)) }
-    ensures line { IfOk result HasLineNext }
+    ensures line { IfOk result IsReportableNext }
 {
     match front_stage(alloc, source, functions)? {
         Next::Ends(verdict) => Ok(Next::Ends(verdict)),

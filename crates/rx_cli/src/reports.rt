@@ -1,7 +1,7 @@
 //! The text of a report of one line.
 ghost use Rattle.std.specs.Prelude.{◌≡◌, IfOk, string_bytes};
 ghost use Rattle.rx_cli.specs.Texts as spec;
-ghost use Rattle.rx_cli.specs.Texts.{HasLine, text_of};
+ghost use Rattle.rx_cli.specs.Texts.{IsReportableVerdict, text_of};
 
 mod checks;
 mod found;
@@ -77,7 +77,7 @@ fn line(alloc: Global, verdict: &Verdict) -> Result<String, AllocError>
 
 /// The report of a verdict: one line with its line end.
 pub fn report(alloc: Global, verdict: &Verdict) -> Result<Vec<u8>, NoMemory>
-    requires { HasLine verdict.now }
+    requires { IsReportableVerdict verdict.now }
     ensures text { IfOk result (λ text. text.items ≡ text_of verdict.now) }
 {
     Ok(line(alloc, verdict)?.into_bytes())

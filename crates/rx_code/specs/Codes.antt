@@ -3,8 +3,8 @@
 -- points are new isn't asked, and a comparison may be tested by its value too.
 use Rattle.std.specs.Prelude.{◌≡◌, ℕ, suc, ◌≤◌, ◌<◌, List, [], ◌∷◌, Option, Some, None, ℤ, pos, negsuc, length}
 use Rattle.rx_poly.specs.Constants.{number, variable}
-use Rattle.rx_poly.specs.Limits.{added, scaled_by, subtracted}
-use Rattle.rx_poly.specs.Products.{multiplied}
+use Rattle.rx_poly.specs.Limits.{body_sum, scaled_by, body_difference}
+use Rattle.rx_poly.specs.Products.{body_product}
 use Rattle.rx_poly.specs.declared.body.Body.{Body}
 use Rattle.rx_row.specs.declared.row.Row.{Row}
 use Rattle.rx_row.specs.declared.row.Row.TheVariants as row
@@ -25,20 +25,20 @@ use Rattle.rx_code.specs.declared.point.Point.{Point}
 -- the row that a comparison tests, of the values of its two sides
 pub data IsComparison : BinOp → Body → Body → Row → Type 0 where
   less : (p q : Body) → IsComparison binary.Lt p q
-      (row.Ge (subtracted (subtracted q p) (number (pos 1))))
-  at_most : (p q : Body) → IsComparison binary.Le p q (row.Ge (subtracted q p))
+      (row.Ge (body_difference (body_difference q p) (number (pos 1))))
+  at_most : (p q : Body) → IsComparison binary.Le p q (row.Ge (body_difference q p))
   greater : (p q : Body) → IsComparison binary.Gt p q
-      (row.Ge (subtracted (subtracted p q) (number (pos 1))))
-  at_least : (p q : Body) → IsComparison binary.Ge p q (row.Ge (subtracted p q))
-  equal : (p q : Body) → IsComparison binary.Eq p q (row.Eq (subtracted p q))
-  unequal : (p q : Body) → IsComparison binary.Ne p q (row.Ne (subtracted p q))
+      (row.Ge (body_difference (body_difference p q) (number (pos 1))))
+  at_least : (p q : Body) → IsComparison binary.Ge p q (row.Ge (body_difference p q))
+  equal : (p q : Body) → IsComparison binary.Eq p q (row.Eq (body_difference p q))
+  unequal : (p q : Body) → IsComparison binary.Ne p q (row.Ne (body_difference p q))
 
 -- the polynomial of an operator, of the values of its two sides; a difference adds what is scaled
 -- by -1
 pub data IsArithmetic : BinOp → Body → Body → Body → Type 0 where
-  sum : (p q : Body) → IsArithmetic binary.Add p q (added p q)
-  difference : (p q : Body) → IsArithmetic binary.Sub p q (added p (scaled_by (negsuc 0) q))
-  product : (p q : Body) → IsArithmetic binary.Mul p q (multiplied p q)
+  sum : (p q : Body) → IsArithmetic binary.Add p q (body_sum p q)
+  difference : (p q : Body) → IsArithmetic binary.Sub p q (body_sum p (scaled_by (negsuc 0) q))
+  product : (p q : Body) → IsArithmetic binary.Mul p q (body_product p q)
 
 -- which result of a division an operator takes
 pub data IsDivision : BinOp → Division → Type 0 where

@@ -4,8 +4,8 @@ use Rattle.std.specs.Prelude.{ℕ, Bool, true, false, Some, None, List, [], ◌�
 use Rattle.std.specs.List.{range_with_len}
 use Rattle.rx_poly.specs.Constants.{number, variable}
 use Rattle.rx_poly.specs.Division.{quotient_of, remainder_of}
-use Rattle.rx_poly.specs.Limits.{added, scaled_by, subtracted}
-use Rattle.rx_poly.specs.Products.{multiplied}
+use Rattle.rx_poly.specs.Limits.{body_sum, scaled_by, body_difference}
+use Rattle.rx_poly.specs.Products.{body_product}
 use Rattle.rx_poly.specs.declared.body.Body.{Body}
 use Rattle.rx_row.specs.Negation.{minus_one_more}
 use Rattle.rx_row.specs.declared.row.Row.{Row}
@@ -105,21 +105,21 @@ sums_rules =
     ∷ always (s 1 []) (Return (number (pos 0)))
     ∷ always (s 2 (v0 ∷ v1 ∷ [])) (s 4 (v0 ∷ v1 ∷ number (pos 1) ∷ []))
     ∷ always (s 3 (v0 ∷ v1 ∷ [])) (Return v1)
-    ∷ where_holds (Ge (subtracted v0 v2)) (s 4 (v0 ∷ v1 ∷ v2 ∷ [])) (s 5 (v0 ∷ v1 ∷ v2 ∷ []))
-    ∷ where_holds (Ge (minus_one_more (subtracted v0 v2))) (s 4 (v0 ∷ v1 ∷ v2 ∷ []))
+    ∷ where_holds (Ge (body_difference v0 v2)) (s 4 (v0 ∷ v1 ∷ v2 ∷ [])) (s 5 (v0 ∷ v1 ∷ v2 ∷ []))
+    ∷ where_holds (Ge (minus_one_more (body_difference v0 v2))) (s 4 (v0 ∷ v1 ∷ v2 ∷ []))
     (s 3 (v0 ∷ v1 ∷ []))
-    ∷ always (s 5 (v0 ∷ v1 ∷ v2 ∷ [])) (s 6 (v0 ∷ added v1 v2 ∷ v2 ∷ []))
-    ∷ always (s 6 (v0 ∷ v1 ∷ v2 ∷ [])) (s 4 (v0 ∷ v1 ∷ added v2 (number (pos 1)) ∷ []))
-    ∷ where_holds (Ge (subtracted (number (pos 0)) v0)) (s 7 (v0 ∷ [])) (s 10 (v0 ∷ []))
-    ∷ where_holds (Ge (minus_one_more (subtracted (number (pos 0)) v0))) (s 7 (v0 ∷ []))
+    ∷ always (s 5 (v0 ∷ v1 ∷ v2 ∷ [])) (s 6 (v0 ∷ body_sum v1 v2 ∷ v2 ∷ []))
+    ∷ always (s 6 (v0 ∷ v1 ∷ v2 ∷ [])) (s 4 (v0 ∷ v1 ∷ body_sum v2 (number (pos 1)) ∷ []))
+    ∷ where_holds (Ge (body_difference (number (pos 0)) v0)) (s 7 (v0 ∷ [])) (s 10 (v0 ∷ []))
+    ∷ where_holds (Ge (minus_one_more (body_difference (number (pos 0)) v0))) (s 7 (v0 ∷ []))
     (s 9 (v0 ∷ []))
     ∷ always (s 8 []) (Return (number (pos 0)))
     ∷ always (s 9 (v0 ∷ [])) (Frame (symbol 11) (v0 ∷ [])
-    (s 7 (added v0 (scaled_by (negsuc 0) (number (pos 1))) ∷ [])))
+    (s 7 (body_sum v0 (scaled_by (negsuc 0) (number (pos 1))) ∷ [])))
     ∷ always (s 10 (v0 ∷ [])) (Return (number (pos 0)))
     ∷ always (Frame (symbol 11) (v0 ∷ []) (Return v1)) (s 12 (v0 ∷ v1 ∷ []))
     ∷ always (Frame (symbol 11) (v0 ∷ []) (Fail 1)) (Fail 1)
-    ∷ always (s 12 (v0 ∷ v1 ∷ [])) (Return (added v0 v1))
+    ∷ always (s 12 (v0 ∷ v1 ∷ [])) (Return (body_sum v0 v1))
     ∷ []
 
 abbrev pub sums_parts : RuleParts
@@ -162,7 +162,7 @@ division_rules =
     where_holds (Eq v0) (s 0 (v0 ∷ [])) (Fail 1)
     ∷ where_holds (Ne v0) (s 0 (v0 ∷ [])) (s 2 (v0 ∷ quotient_of (number (pos 1)) v0 ∷ []))
     ∷ always (s 1 []) (Return (number (pos 0)))
-    ∷ always (s 2 (v0 ∷ v1 ∷ [])) (Return (multiplied (number (pos 0)) v1))
+    ∷ always (s 2 (v0 ∷ v1 ∷ [])) (Return (body_product (number (pos 0)) v1))
     ∷ always (s 3 (v0 ∷ [])) (Return (number (pos 0)))
     ∷ always (s 4 []) (Return (number (pos 0)))
     ∷ []
@@ -236,40 +236,45 @@ forms_symbols =
 
 abbrev forms_rules : List Rule
 forms_rules =
-    where_holds (Ge (subtracted (subtracted v1 v0) (number (pos 1)))) (s 0 (v0 ∷ v1 ∷ []))
+    where_holds (Ge (body_difference (body_difference v1 v0) (number (pos 1)))) (s 0 (v0 ∷ v1 ∷ []))
     (s 7 (v0 ∷ v1 ∷ []))
-    ∷ where_holds (Ge (minus_one_more (subtracted (subtracted v1 v0) (number (pos 1)))))
+    ∷ where_holds (Ge (minus_one_more (body_difference (body_difference v1 v0) (number (pos 1)))))
     (s 0 (v0 ∷ v1 ∷ [])) (s 5 (v0 ∷ v1 ∷ []))
     ∷ always (s 1 []) (Return (number (pos 0)))
-    ∷ where_holds (Ge (subtracted (subtracted v0 v1) (number (pos 1)))) (s 2 (v0 ∷ v1 ∷ []))
+    ∷ where_holds (Ge (body_difference (body_difference v0 v1) (number (pos 1))))
+    (s 2 (v0 ∷ v1 ∷ []))
     (s 23 (v0 ∷ v1 ∷ []))
-    ∷ where_holds (Ge (minus_one_more (subtracted (subtracted v0 v1) (number (pos 1)))))
+    ∷ where_holds (Ge (minus_one_more (body_difference (body_difference v0 v1) (number (pos 1)))))
     (s 2 (v0 ∷ v1 ∷ [])) (s 24 (v0 ∷ v1 ∷ []))
     ∷ where_holds (Ne v0) (s 3 (v0 ∷ v1 ∷ [])) (s 14 (v0 ∷ v1 ∷ []))
     ∷ where_holds (Eq v0) (s 3 (v0 ∷ v1 ∷ [])) (s 15 (v0 ∷ v1 ∷ []))
-    ∷ where_holds (Ge (subtracted (subtracted v0 (number (pos 0))) (number (pos 1))))
+    ∷ where_holds (Ge (body_difference (body_difference v0 (number (pos 0))) (number (pos 1))))
     (s 4 (v0 ∷ v1 ∷ [])) (s 10 (v0 ∷ v1 ∷ []))
-    ∷ where_holds (Ge (minus_one_more (subtracted (subtracted v0 (number (pos 0)))
+    ∷ where_holds (Ge (minus_one_more (body_difference (body_difference v0 (number (pos 0)))
     (number (pos 1))))) (s 4 (v0 ∷ v1 ∷ [])) (s 3 (v0 ∷ v1 ∷ []))
     ∷ always (s 5 (v0 ∷ v1 ∷ [])) (s 2 (v0 ∷ v1 ∷ []))
     ∷ where_holds (Eq v1) (s 6 (v0 ∷ v1 ∷ [])) (Fail 1)
     ∷ where_holds (Ne v1) (s 6 (v0 ∷ v1 ∷ [])) (s 8 (v0 ∷ v1 ∷ remainder_of v0 v1 ∷ []))
-    ∷ where_holds (Eq (subtracted v0 (number (pos 3)))) (s 7 (v0 ∷ v1 ∷ [])) (s 5 (v0 ∷ v1 ∷ []))
-    ∷ where_holds (Ne (subtracted v0 (number (pos 3)))) (s 7 (v0 ∷ v1 ∷ [])) (s 6 (v0 ∷ v1 ∷ []))
+    ∷ where_holds (Eq (body_difference v0 (number (pos 3)))) (s 7 (v0 ∷ v1 ∷ []))
+    (s 5 (v0 ∷ v1 ∷ []))
+    ∷ where_holds (Ne (body_difference v0 (number (pos 3)))) (s 7 (v0 ∷ v1 ∷ []))
+    (s 6 (v0 ∷ v1 ∷ []))
     ∷ always (s 8 (v0 ∷ v1 ∷ v2 ∷ [])) (s 4 (v2 ∷ v1 ∷ []))
     ∷ always (s 9 (v0 ∷ v1 ∷ [])) (s 11 (v0 ∷ v1 ∷ scaled_by (negsuc 0) v0 ∷ []))
     ∷ where_holds (Ne v1) (s 10 (v0 ∷ v1 ∷ [])) (s 9 (v0 ∷ v1 ∷ []))
     ∷ where_holds (Eq v1) (s 10 (v0 ∷ v1 ∷ [])) (s 3 (v0 ∷ v1 ∷ []))
     ∷ always (s 11 (v0 ∷ v1 ∷ v2 ∷ [])) (s 12 (v0 ∷ v2 ∷ v2 ∷ []))
-    ∷ where_holds (Ge (subtracted v1 v0)) (s 12 (v0 ∷ v1 ∷ v2 ∷ [])) (s 13 (v0 ∷ v1 ∷ v2 ∷ []))
-    ∷ where_holds (Ge (minus_one_more (subtracted v1 v0))) (s 12 (v0 ∷ v1 ∷ v2 ∷ []))
+    ∷ where_holds (Ge (body_difference v1 v0)) (s 12 (v0 ∷ v1 ∷ v2 ∷ [])) (s 13 (v0 ∷ v1 ∷ v2 ∷ []))
+    ∷ where_holds (Ge (minus_one_more (body_difference v1 v0))) (s 12 (v0 ∷ v1 ∷ v2 ∷ []))
     (s 4 (v0 ∷ v1 ∷ []))
     ∷ always (s 13 (v0 ∷ v1 ∷ v2 ∷ [])) (s 4 (v0 ∷ v1 ∷ []))
-    ∷ where_holds (Ne (subtracted v1 (number (pos 1)))) (s 14 (v0 ∷ v1 ∷ [])) (s 17 (v0 ∷ v1 ∷ []))
-    ∷ where_holds (Eq (subtracted v1 (number (pos 1)))) (s 14 (v0 ∷ v1 ∷ [])) (s 18 (v0 ∷ v1 ∷ []))
-    ∷ where_holds (Ge (subtracted (subtracted (number (pos 2)) v0) (number (pos 1))))
+    ∷ where_holds (Ne (body_difference v1 (number (pos 1)))) (s 14 (v0 ∷ v1 ∷ []))
+    (s 17 (v0 ∷ v1 ∷ []))
+    ∷ where_holds (Eq (body_difference v1 (number (pos 1)))) (s 14 (v0 ∷ v1 ∷ []))
+    (s 18 (v0 ∷ v1 ∷ []))
+    ∷ where_holds (Ge (body_difference (body_difference (number (pos 2)) v0) (number (pos 1))))
     (s 15 (v0 ∷ v1 ∷ [])) (s 20 (v0 ∷ v1 ∷ []))
-    ∷ where_holds (Ge (minus_one_more (subtracted (subtracted (number (pos 2)) v0)
+    ∷ where_holds (Ge (minus_one_more (body_difference (body_difference (number (pos 2)) v0)
     (number (pos 1))))) (s 15 (v0 ∷ v1 ∷ [])) (s 21 (v0 ∷ v1 ∷ []))
     ∷ where_holds (Ne v2) (s 16 (v0 ∷ v1 ∷ v2 ∷ [])) (s 0 (v0 ∷ v1 ∷ []))
     ∷ where_holds (Eq v2) (s 16 (v0 ∷ v1 ∷ v2 ∷ [])) (s 2 (v0 ∷ v1 ∷ []))
@@ -278,7 +283,8 @@ forms_rules =
     ∷ always (s 19 (v0 ∷ v1 ∷ v2 ∷ [])) (s 16 (v0 ∷ v1 ∷ v2 ∷ []))
     ∷ always (s 20 (v0 ∷ v1 ∷ [])) (s 22 (v0 ∷ v1 ∷ number (pos 1) ∷ []))
     ∷ always (s 21 (v0 ∷ v1 ∷ [])) (s 22 (v0 ∷ v1 ∷ number (pos 0) ∷ []))
-    ∷ always (s 22 (v0 ∷ v1 ∷ v2 ∷ [])) (s 16 (v0 ∷ v1 ∷ added v2 (scaled_by (negsuc 0) v1) ∷ []))
+    ∷ always (s 22 (v0 ∷ v1 ∷ v2 ∷ [])) (s 16
+    (v0 ∷ v1 ∷ body_sum v2 (scaled_by (negsuc 0) v1) ∷ []))
     ∷ always (s 23 (v0 ∷ v1 ∷ [])) (s 25 (v0 ∷ v1 ∷ number (pos 1) ∷ []))
     ∷ always (s 24 (v0 ∷ v1 ∷ [])) (s 25 (v0 ∷ v1 ∷ number (pos 0) ∷ []))
     ∷ always (s 25 (v0 ∷ v1 ∷ v2 ∷ [])) (Return v2)
@@ -411,13 +417,14 @@ walks_rules =
     ∷ where_holds (Eq v1) (s 13 (v0 ∷ v1 ∷ v2 ∷ [])) (s 12 (v0 ∷ v1 ∷ v2 ∷ []))
     ∷ where_holds (Ne v1) (s 14 (v0 ∷ v1 ∷ v2 ∷ [])) (s 22 (v0 ∷ v1 ∷ v2 ∷ []))
     ∷ where_holds (Eq v1) (s 14 (v0 ∷ v1 ∷ v2 ∷ [])) (s 21 (v0 ∷ v1 ∷ v2 ∷ []))
-    ∷ where_holds (Ge (subtracted (subtracted v1 v2) (number (pos 1)))) (s 15 (v0 ∷ v1 ∷ v2 ∷ []))
+    ∷ where_holds (Ge (body_difference (body_difference v1 v2) (number (pos 1))))
+    (s 15 (v0 ∷ v1 ∷ v2 ∷ []))
     (s 16 (v0 ∷ v1 ∷ v2 ∷ []))
-    ∷ where_holds (Ge (minus_one_more (subtracted (subtracted v1 v2) (number (pos 1)))))
+    ∷ where_holds (Ge (minus_one_more (body_difference (body_difference v1 v2) (number (pos 1)))))
     (s 15 (v0 ∷ v1 ∷ v2 ∷ [])) (s 14 (v0 ∷ v1 ∷ v2 ∷ []))
-    ∷ where_holds (Eq (subtracted v2 v0)) (s 16 (v0 ∷ v1 ∷ v2 ∷ [])) (s 19 (v0 ∷ v1 ∷ v2 ∷ []))
-    ∷ where_holds (Ne (subtracted v2 v0)) (s 16 (v0 ∷ v1 ∷ v2 ∷ [])) (s 18 (v0 ∷ v1 ∷ v2 ∷ []))
-    ∷ always (s 17 (v0 ∷ v1 ∷ v2 ∷ [])) (s 15 (v0 ∷ v1 ∷ added v2 (number (pos 1)) ∷ []))
+    ∷ where_holds (Eq (body_difference v2 v0)) (s 16 (v0 ∷ v1 ∷ v2 ∷ [])) (s 19 (v0 ∷ v1 ∷ v2 ∷ []))
+    ∷ where_holds (Ne (body_difference v2 v0)) (s 16 (v0 ∷ v1 ∷ v2 ∷ [])) (s 18 (v0 ∷ v1 ∷ v2 ∷ []))
+    ∷ always (s 17 (v0 ∷ v1 ∷ v2 ∷ [])) (s 15 (v0 ∷ v1 ∷ body_sum v2 (number (pos 1)) ∷ []))
     ∷ always (s 18 (v0 ∷ v1 ∷ v2 ∷ [])) (s 17 (v0 ∷ v1 ∷ v2 ∷ []))
     ∷ always (s 19 (v0 ∷ v1 ∷ v2 ∷ [])) (s 17 (v0 ∷ v1 ∷ v2 ∷ []))
     ∷ where_holds (Ne v0) (s 20 (v0 ∷ v1 ∷ v2 ∷ [])) (s 24 (v0 ∷ v1 ∷ v2 ∷ []))
@@ -438,14 +445,14 @@ walks_rules =
     ∷ always (Frame (symbol 28) (v0 ∷ v1 ∷ v2 ∷ v3 ∷ []) (Fail 1)) (Fail 1)
     ∷ always (s 29 (v0 ∷ v1 ∷ v2 ∷ v3 ∷ v4 ∷ []))
     (Frame (symbol 30) (v0 ∷ v1 ∷ v2 ∷ v3 ∷ v4 ∷ [])
-    (s 32 (added v0 (scaled_by (negsuc 0) (number (pos 1))) ∷ v4 ∷ [])))
+    (s 32 (body_sum v0 (scaled_by (negsuc 0) (number (pos 1))) ∷ v4 ∷ [])))
     ∷ always (Frame (symbol 30) (v0 ∷ v1 ∷ v2 ∷ v3 ∷ v4 ∷ []) (Return v5))
     (s 31 (v0 ∷ v1 ∷ v2 ∷ v3 ∷ v4 ∷ v5 ∷ []))
     ∷ always (Frame (symbol 30) (v0 ∷ v1 ∷ v2 ∷ v3 ∷ v4 ∷ []) (Fail 1)) (Fail 1)
     ∷ always (s 31 (v0 ∷ v1 ∷ v2 ∷ v3 ∷ v4 ∷ v5 ∷ [])) (s 3 (v5 ∷ v1 ∷ v2 ∷ []))
     ∷ always (s 32 (v0 ∷ v1 ∷ [])) (s 34 (v0 ∷ v1 ∷ []))
     ∷ always (s 33 []) (Return (number (pos 0)))
-    ∷ always (s 34 (v0 ∷ v1 ∷ [])) (Return (added v0 v1))
+    ∷ always (s 34 (v0 ∷ v1 ∷ [])) (Return (body_sum v0 v1))
     ∷ []
 
 abbrev pub walks_parts : RuleParts
@@ -515,5 +522,5 @@ between = Binary binary.AndAlso
 
 abbrev pub between_rows : List Row
 between_rows =
-    Ge (subtracted v0 (number (pos 0)))
-    ∷ Ge (subtracted (scaled_by (negsuc 0) (number (pos 1))) v0) ∷ []
+    Ge (body_difference v0 (number (pos 0)))
+    ∷ Ge (body_difference (scaled_by (negsuc 0) (number (pos 1))) v0) ∷ []

@@ -3,7 +3,7 @@
 use Rattle.std.specs.Prelude.{ℕ, ◌+◌, Bool, true, false, ◌&&◌, List, [], ◌∷◌, Option, Some, None, pos, negsuc}
 use Rattle.rx_plain.specs.Formed.{Formed, pure, kept, ◌>>=◌, ◌<$>◌}
 use Rattle.rx_poly.specs.Constants.{number, variable}
-use Rattle.rx_poly.specs.Limits.{added, scaled_by, subtracted, is_within}
+use Rattle.rx_poly.specs.Limits.{body_sum, scaled_by, body_difference, is_within}
 use Rattle.rx_poly.specs.Products.{product_formed}
 use Rattle.rx_poly.specs.declared.body.Body.{Body}
 use Rattle.rx_row.specs.declared.row.Row.{Row}
@@ -29,10 +29,10 @@ use Rattle.rx_code.specs.declared.point.Point.{Point}
 
 -- the polynomial of `+`, `-` or `*`; a difference adds what is scaled by -1
 abbrev pub arithmetic_of : BinOp → Body → Body → Formed Body
-arithmetic_of binary.Add p q = kept is_within (added p q)
+arithmetic_of binary.Add p q = kept is_within (body_sum p q)
 arithmetic_of binary.Sub p q = do
   r ← kept is_within (scaled_by (negsuc 0) q)
-  kept is_within (added p r)
+  kept is_within (body_sum p r)
 arithmetic_of binary.Mul p q = product_formed p q
 -- other operators aren't asked
 arithmetic_of _ p q = pure p
@@ -40,18 +40,18 @@ arithmetic_of _ p q = pure p
 -- p - q - 1
 abbrev pub one_less : Body → Body → Formed Body
 one_less p q = do
-  d ← kept is_within (subtracted p q)
-  kept is_within (subtracted d (number (pos 1)))
+  d ← kept is_within (body_difference p q)
+  kept is_within (body_difference d (number (pos 1)))
 
 -- the row of a comparison
 abbrev pub test_of : BinOp → Body → Body → Formed Row
 test_of binary.Lt p q = row.Ge <$> one_less q p
-test_of binary.Le p q = row.Ge <$> kept is_within (subtracted q p)
+test_of binary.Le p q = row.Ge <$> kept is_within (body_difference q p)
 test_of binary.Gt p q = row.Ge <$> one_less p q
-test_of binary.Ge p q = row.Ge <$> kept is_within (subtracted p q)
-test_of binary.Eq p q = row.Eq <$> kept is_within (subtracted p q)
+test_of binary.Ge p q = row.Ge <$> kept is_within (body_difference p q)
+test_of binary.Eq p q = row.Eq <$> kept is_within (body_difference p q)
 -- `!=`; other operators aren't asked
-test_of _ p q = row.Ne <$> kept is_within (subtracted p q)
+test_of _ p q = row.Ne <$> kept is_within (body_difference p q)
 
 -- ---- what a compiled expression is
 

@@ -185,7 +185,7 @@ module _ (rules : List Rule) where
         (first_of_two _ _ among)
         (sym (ground-Frame α (symbol a.symbol) (variables_of a) (term.Return (variable a.width))
         ∙ (λ i. stack.Frame a.symbol (variables_are a xs (x ∷ []) long i)
-        ((ground-Return α (variable a.width) ∙ ap stack.Ret last) i))))
+        ((ground-Return α (variable a.width) ∙ ap stack.Return last) i))))
         (sym (ground-jump α z (variables_of a ++ variable a.width ∷ []) (xs ++ x ∷ [])
         (map-append (value α) (variables_of a) (variable a.width ∷ []) ∙
         (λ i. variables_are a xs (x ∷ []) long i ++ last i ∷ [])))),

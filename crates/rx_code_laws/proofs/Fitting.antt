@@ -5,11 +5,11 @@ use Rattle.std.proofs.lemmas.Bool.{and_from, and_parts, leb-true, lt-ltb, ltb-fa
 use Rattle.std.proofs.lemmas.List.{length-map}
 use Rattle.std.proofs.lemmas.List.Elements.{Contains-append_cases, Contains-append_left, Contains-append_right}
 use Rattle.rx_poly.specs.Constants.{number, variable}
-use Rattle.rx_poly.specs.Limits.{scaled_by, subtracted}
+use Rattle.rx_poly.specs.Limits.{scaled_by, body_difference}
 use Rattle.rx_poly.specs.Variables.{uses_below}
 use Rattle.rx_poly.specs.declared.body.Body.{Body}
 use Rattle.rx_poly_laws.proofs.BoundLaws.{below_the_bound}
-use Rattle.rx_poly_laws.proofs.TestLaws.{passes-added, passes-multiplied, passes-number, passes-scaled_by, passes-subtracted, passes-variable}
+use Rattle.rx_poly_laws.proofs.TestLaws.{passes-body_sum, passes-body_product, passes-number, passes-scaled_by, passes-body_difference, passes-variable}
 use Rattle.rx_row.specs.Variables.{rows_use_below}
 use Rattle.rx_row.specs.declared.row.Row.TheVariants.{Ne}
 use Rattle.rx_term.specs.Variables.{polys_use_below}
@@ -60,11 +60,11 @@ more_polys_below m n (p ∷ ps) h is =
 
 arithmetic_below : (op : BinOp) (n : ℕ) (p q : Body) → uses_below n p ≡ true → uses_below n q ≡
     true → uses_below n (arithmetic_of op p q).form ≡ true
-arithmetic_below bin.Add n p q h g = passes-added (λ w. nat_lt w n) p q h g
+arithmetic_below bin.Add n p q h g = passes-body_sum (λ w. nat_lt w n) p q h g
 arithmetic_below bin.Sub n p q h g =
-    passes-added (λ w. nat_lt w n) p (scaled_by (negsuc 0) q) h
+    passes-body_sum (λ w. nat_lt w n) p (scaled_by (negsuc 0) q) h
     (passes-scaled_by (λ w. nat_lt w n) (negsuc 0) q g)
-arithmetic_below bin.Mul n p q h g = passes-multiplied (λ w. nat_lt w n) p q h g
+arithmetic_below bin.Mul n p q h g = passes-body_product (λ w. nat_lt w n) p q h g
 arithmetic_below bin.Div n p q h g = h
 arithmetic_below bin.Rem n p q h g = h
 arithmetic_below bin.Lt n p q h g = h
@@ -77,8 +77,8 @@ arithmetic_below bin.AndAlso n p q h g = h
 arithmetic_below bin.OrElse n p q h g = h
 
 difference_below : (n : ℕ) (p q : Body) → uses_below n p ≡ true → uses_below n q ≡ true →
-    uses_below n (subtracted p q) ≡ true
-difference_below n p q h g = passes-subtracted (λ w. nat_lt w n) p q h g
+    uses_below n (body_difference p q) ≡ true
+difference_below n p q h g = passes-body_difference (λ w. nat_lt w n) p q h g
 
 alone_below : (n : ℕ) (p : Body) → uses_below n p ≡ true → (uses_below n p && true) ≡ true
 alone_below n p h = and_from (uses_below n p) true h refl
@@ -86,24 +86,24 @@ alone_below n p h = and_from (uses_below n p) true h refl
 test_below : (op : BinOp) (n : ℕ) (p q : Body) → uses_below n p ≡ true → uses_below n q ≡ true →
     rows_use_below n ((test_of op p q).form ∷ []) ≡ true
 test_below bin.Lt n p q h g =
-    alone_below n (subtracted (subtracted q p) (number (pos 1)))
-    (difference_below n (subtracted q p) (number (pos 1)) (difference_below n q p g h)
+    alone_below n (body_difference (body_difference q p) (number (pos 1)))
+    (difference_below n (body_difference q p) (number (pos 1)) (difference_below n q p g h)
     (number_below n (pos 1)))
-test_below bin.Le n p q h g = alone_below n (subtracted q p) (difference_below n q p g h)
+test_below bin.Le n p q h g = alone_below n (body_difference q p) (difference_below n q p g h)
 test_below bin.Gt n p q h g =
-    alone_below n (subtracted (subtracted p q) (number (pos 1)))
-    (difference_below n (subtracted p q) (number (pos 1)) (difference_below n p q h g)
+    alone_below n (body_difference (body_difference p q) (number (pos 1)))
+    (difference_below n (body_difference p q) (number (pos 1)) (difference_below n p q h g)
     (number_below n (pos 1)))
-test_below bin.Ge n p q h g = alone_below n (subtracted p q) (difference_below n p q h g)
-test_below bin.Eq n p q h g = alone_below n (subtracted p q) (difference_below n p q h g)
-test_below bin.Ne n p q h g = alone_below n (subtracted p q) (difference_below n p q h g)
-test_below bin.Add n p q h g = alone_below n (subtracted p q) (difference_below n p q h g)
-test_below bin.Sub n p q h g = alone_below n (subtracted p q) (difference_below n p q h g)
-test_below bin.Mul n p q h g = alone_below n (subtracted p q) (difference_below n p q h g)
-test_below bin.Div n p q h g = alone_below n (subtracted p q) (difference_below n p q h g)
-test_below bin.Rem n p q h g = alone_below n (subtracted p q) (difference_below n p q h g)
-test_below bin.AndAlso n p q h g = alone_below n (subtracted p q) (difference_below n p q h g)
-test_below bin.OrElse n p q h g = alone_below n (subtracted p q) (difference_below n p q h g)
+test_below bin.Ge n p q h g = alone_below n (body_difference p q) (difference_below n p q h g)
+test_below bin.Eq n p q h g = alone_below n (body_difference p q) (difference_below n p q h g)
+test_below bin.Ne n p q h g = alone_below n (body_difference p q) (difference_below n p q h g)
+test_below bin.Add n p q h g = alone_below n (body_difference p q) (difference_below n p q h g)
+test_below bin.Sub n p q h g = alone_below n (body_difference p q) (difference_below n p q h g)
+test_below bin.Mul n p q h g = alone_below n (body_difference p q) (difference_below n p q h g)
+test_below bin.Div n p q h g = alone_below n (body_difference p q) (difference_below n p q h g)
+test_below bin.Rem n p q h g = alone_below n (body_difference p q) (difference_below n p q h g)
+test_below bin.AndAlso n p q h g = alone_below n (body_difference p q) (difference_below n p q h g)
+test_below bin.OrElse n p q h g = alone_below n (body_difference p q) (difference_below n p q h g)
 
 -- ---- places of lists
 

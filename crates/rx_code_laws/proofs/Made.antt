@@ -10,7 +10,7 @@ use Rattle.std.proofs.lemmas.Option.{slice_get-map}
 use Rattle.rx_poly.specs.Constants.{number, variable}
 use Rattle.rx_poly.specs.Variables.{uses_below}
 use Rattle.rx_poly.specs.declared.body.Body.{Body}
-use Rattle.rx_poly_laws.proofs.TestLaws.{passes-quotient_of, passes-remainder_of, passes-scaled_by, passes-subtracted, passes-number, passes-variable}
+use Rattle.rx_poly_laws.proofs.TestLaws.{passes-quotient_of, passes-remainder_of, passes-scaled_by, passes-body_difference, passes-number, passes-variable}
 use Rattle.rx_row.specs.Negation.{minus_one_more, negation, opposite}
 use Rattle.rx_row.specs.Variables.{rows_use_below}
 use Rattle.rx_row.specs.declared.row.Row.{Row}
@@ -192,7 +192,7 @@ module _ (c : Code) where
       let p_below = (and_parts (uses_below n p) true h).0 in
       let test = λ (v : ℕ). nat_lt v n in
       and_from (uses_below n (minus_one_more p)) true
-      (passes-subtracted test (opposite p) (number (pos 1))
+      (passes-body_difference test (opposite p) (number (pos 1))
       (passes-scaled_by test (negsuc 0) p p_below) (passes-number test (pos 1))) refl
   below-negation n (Eq p) h = h
   below-negation n (Ne p) h = h

@@ -11,7 +11,8 @@ use Rattle.rx_poly.specs.Constants.{variable}
 use Rattle.rx_row.specs.declared.row.Row.TheVariants.{Eq}
 use Rattle.rx_term.specs.Fitting.{code_fits, is_declared}
 use Rattle.rx_term.specs.Paired.{IsPair, One, Two, IsPaired, PointShape, ReturnShape, FailShape, rules_of_shape}
-use Rattle.rx_term.specs.Shapes.{Shape, Value, Failure, Called, Framed, same_shape, shape_of}
+use Rattle.rx_term.specs.Shapes.{Shape, same_shape, shape_of}
+use Rattle.rx_term.specs.Shapes as shapes
 use Rattle.rx_term.specs.declared.rule.Rule.{Rule}
 use Rattle.rx_term.specs.declared.term.Sym.{Sym}
 use Rattle.rx_term.specs.declared.term.Term.TheVariants as term
@@ -78,24 +79,25 @@ only_from g n (x ∷ xs) (suc k) below others =
 
 -- ---- the rules of one action
 
-shape-call_of : (a : Point) → shape_of (call_of a) ≡ Called (symbol a.symbol)
+shape-call_of : (a : Point) → shape_of (call_of a) ≡ shapes.Call (symbol a.symbol)
 shape-call_of a = shape-Call (symbol a.symbol) (variables_of a)
 
 module _ (entry : ℕ → ℕ) where
   -- at a point all rules have its shape
   pub point_rules : (shape : Shape) (a : Point) (x : Action) → is_resume x ≡ false
       → rules_of_shape shape (rules_of_action entry a x) ≡
-      cond (same_shape (Called (symbol a.symbol)) shape) (rules_of_action entry a x) []
+      cond (same_shape (shapes.Call (symbol a.symbol)) shape) (rules_of_action entry a x) []
   point_rules shape a x not_resume = go x not_resume
     where
       test : Rule → Bool
       test r = same_shape (shape_of r.left) shape
 
-      same : same_shape (shape_of (call_of a)) shape ≡ same_shape (Called (symbol a.symbol)) shape
+      same : same_shape (shape_of (call_of a)) shape ≡
+          same_shape (shapes.Call (symbol a.symbol)) shape
       same = ap (λ s. same_shape s shape) (shape-call_of a)
 
       go : (x : Action) → is_resume x ≡ false → rules_of_shape shape (rules_of_action entry a x) ≡
-          cond (same_shape (Called (symbol a.symbol)) shape) (rules_of_action entry a x) []
+          cond (same_shape (shapes.Call (symbol a.symbol)) shape) (rules_of_action entry a x) []
       go (Go z) h = keeps_one test _ _ same
       go (Set k p z) h = keeps_one test _ _ same
       go (Test row y w) h = keeps_both test _ _ _ same same
@@ -115,8 +117,8 @@ module _ (entry : ℕ → ℕ) where
       always (term.Frame (symbol a.symbol) (variables_of a) (term.Fail 1)) (term.Fail 1)
 
   pub frame_rules : (shape : Shape) (a z : Point) (b d : Bool) →
-      same_shape (Framed (symbol a.symbol) Value) shape ≡ b →
-      same_shape (Framed (symbol a.symbol) (Failure 1)) shape ≡ d
+      same_shape (shapes.Frame (symbol a.symbol) shapes.Return) shape ≡ b →
+      same_shape (shapes.Frame (symbol a.symbol) (shapes.Fail 1)) shape ≡ d
       → rules_of_shape shape (rules_of_action entry a (Resume z)) ≡
       cond b (over_value a z ∷ cond d (over_failure a ∷ []) [])
       (cond d (over_failure a ∷ []) [])
@@ -124,31 +126,33 @@ module _ (entry : ℕ → ℕ) where
       keeps_two (λ (r : Rule). same_shape (shape_of r.left) shape) (over_value a z) (over_failure a)
       b d
       (ap (λ s. same_shape s shape) (shape-Frame (symbol a.symbol) (variables_of a)
-      (term.Return (variable a.width)) ∙ ap (Framed (symbol a.symbol))
+      (term.Return (variable a.width)) ∙ ap (shapes.Frame (symbol a.symbol))
       (shape-Return (variable a.width))) ∙ is)
       (ap (λ s. same_shape s shape) (shape-Frame (symbol a.symbol) (variables_of a) (term.Fail 1) ∙
-      ap (Framed (symbol a.symbol)) (shape-Fail 1)) ∙ also)
+      ap (shapes.Frame (symbol a.symbol)) (shape-Fail 1)) ∙ also)
 
   -- the symbol of a shape
   abbrev root : Shape → ℕ
-  root Value = 0
-  root (Failure c) = 0
-  root (Called f) = f.0
-  root (Framed f s) = f.0
+  root shapes.Return = 0
+  root (shapes.Fail c) = 0
+  root (shapes.Call f) = f.0
+  root (shapes.Frame f s) = f.0
 
-  other_call : (j : ℕ) (shape : Shape) → j ≢ root shape → same_shape (Called (symbol j)) shape ≡
+  other_call : (j : ℕ) (shape : Shape) → j ≢ root shape →
+      same_shape (shapes.Call (symbol j)) shape ≡
       false
-  other_call j Value other = refl
-  other_call j (Failure c) other = refl
-  other_call j (Called f) other = ne_eqb j f.0 other
-  other_call j (Framed f s) other = refl
+  other_call j shapes.Return other = refl
+  other_call j (shapes.Fail c) other = refl
+  other_call j (shapes.Call f) other = ne_eqb j f.0 other
+  other_call j (shapes.Frame f s) other = refl
 
   other_frame : (j : ℕ) (inner shape : Shape) → j ≢ root shape →
-      same_shape (Framed (symbol j) inner) shape ≡ false
-  other_frame j inner Value other = refl
-  other_frame j inner (Failure c) other = refl
-  other_frame j inner (Called f) other = refl
-  other_frame j inner (Framed f s) other = ap (λ b. b && same_shape inner s) (ne_eqb j f.0 other)
+      same_shape (shapes.Frame (symbol j) inner) shape ≡ false
+  other_frame j inner shapes.Return other = refl
+  other_frame j inner (shapes.Fail c) other = refl
+  other_frame j inner (shapes.Call f) other = refl
+  other_frame j inner (shapes.Frame f s) other =
+      ap (λ b. b && same_shape inner s) (ne_eqb j f.0 other)
 
   -- the rules at another symbol have other shapes
   pub rules_elsewhere : (shape : Shape) (d : Deed) → d.at.symbol ≢ root shape →
@@ -169,8 +173,8 @@ module _ (entry : ℕ → ℕ) where
       go a (Divide d p q z) other = at_point a (Divide d p q z) refl other
       go a (Call f ps r) other = at_point a (Call f ps r) refl other
       go a (Resume z) other =
-          frame_rules shape a z false false (other_frame a.symbol Value shape other)
-          (other_frame a.symbol (Failure 1) shape other)
+          frame_rules shape a z false false (other_frame a.symbol shapes.Return shape other)
+          (other_frame a.symbol (shapes.Fail 1) shape other)
       go a (Return p) other = at_point a (Return p) refl other
 
   -- the rules of a point are one, or two with a row and its negation
@@ -186,9 +190,10 @@ module _ (entry : ℕ → ℕ) where
 
   -- the rules of a point's shape
   pub point_pair : (f : Sym) (d : Deed) → d.at.symbol ≡ f.0 → is_resume d.action ≡ false →
-      action_within d.action ≡ true → IsPair (rules_of_shape (Called f) (rules_of_deed entry d))
+      action_within d.action ≡ true → IsPair (rules_of_shape (shapes.Call f)
+      (rules_of_deed entry d))
   point_pair f d at h within =
-      subst IsPair (sym (point_rules (Called f) d.at d.action h ∙
+      subst IsPair (sym (point_rules (shapes.Call f) d.at d.action h ∙
       ap (λ b. cond b (rules_of_action entry d.at d.action) []) (eq-eqb d.at.symbol f.0 at)))
       (pair_at d.at d.action h within)
 
@@ -203,23 +208,26 @@ module _ (entry : ℕ → ℕ) where
   frame_of (Return p) h = absurd (true≢false (sym h))
 
   pub value_pair : (f : Sym) (d : Deed) → d.at.symbol ≡ f.0 → is_resume d.action ≡ true →
-      IsPair (rules_of_shape (Framed f Value) (rules_of_deed entry d))
+      IsPair (rules_of_shape (shapes.Frame f shapes.Return) (rules_of_deed entry d))
   value_pair f d at h =
       let (z, is) = frame_of d.action h in
       let same : nat_eq d.at.symbol f.0 ≡ true = eq-eqb d.at.symbol f.0 at in
-      subst (λ x. IsPair (rules_of_shape (Framed f Value) (rules_of_action entry d.at x))) (sym is)
-      (subst IsPair (sym (frame_rules (Framed f Value) d.at z true false (ap (λ b. b && true) same)
+      subst (λ x. IsPair (rules_of_shape (shapes.Frame f shapes.Return)
+      (rules_of_action entry d.at x))) (sym is)
+      (subst IsPair (sym (frame_rules (shapes.Frame f shapes.Return) d.at z true false
+      (ap (λ b. b && true) same)
       (ap (λ b. b && false) same))) (One (over_value d.at z) refl))
 
   pub failure_pair : (f : Sym) (c : ℕ) (d : Deed) → c ≡ 1 → d.at.symbol ≡ f.0 → is_resume d.action ≡
-      true → IsPair (rules_of_shape (Framed f (Failure c)) (rules_of_deed entry d))
+      true → IsPair (rules_of_shape (shapes.Frame f (shapes.Fail c)) (rules_of_deed entry d))
   failure_pair f c d one at h =
       let (z, is) = frame_of d.action h in
       let same : nat_eq d.at.symbol f.0 ≡ true = eq-eqb d.at.symbol f.0 at in
       let code : nat_eq 1 c ≡ true = eq-eqb 1 c (sym one) in
-      subst (λ x. IsPair (rules_of_shape (Framed f (Failure c)) (rules_of_action entry d.at x)))
+      subst (λ x. IsPair (rules_of_shape (shapes.Frame f (shapes.Fail c))
+      (rules_of_action entry d.at x)))
       (sym is)
-      (subst IsPair (sym (frame_rules (Framed f (Failure c)) d.at z false true
+      (subst IsPair (sym (frame_rules (shapes.Frame f (shapes.Fail c)) d.at z false true
       (ap (λ b. b && false) same) (λ i. same i && code i))) (One (over_failure d.at) refl))
 
 -- ---- the rule set
@@ -321,14 +329,15 @@ module _ (c : Code) (whole : IsWhole c) where
   pub whole_paired : IsPaired (parts_of c)
   whole_paired _ (PointShape f n h) =
       let there = found f false n h in
-      subst IsPair (sym (picked (Called f) there.deed there.below there.alone))
+      subst IsPair (sym (picked (shapes.Call f) there.deed there.below there.alone))
       (point_pair (entry_of c.entries) f there.deed there.at there.kind there.within)
   whole_paired _ (ReturnShape f n h) =
       let there = found f true n h in
-      subst IsPair (sym (picked (Framed f Value) there.deed there.below there.alone))
+      subst IsPair (sym (picked (shapes.Frame f shapes.Return) there.deed there.below there.alone))
       (value_pair (entry_of c.entries) f there.deed there.at there.kind)
   whole_paired _ (FailShape f n code h k) =
       let there = found f true n h in
-      subst IsPair (sym (picked (Framed f (Failure code)) there.deed there.below there.alone))
+      subst IsPair (sym (picked (shapes.Frame f (shapes.Fail code)) there.deed there.below
+      there.alone))
       (failure_pair (entry_of c.entries) f code there.deed (one_code code k) there.at
       there.kind)

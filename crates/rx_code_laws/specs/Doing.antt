@@ -41,10 +41,10 @@ module _ (R : Relation) (entry : ℕ → ℕ) where
       (stack.Call (entry f) (map (value (assigned xs)) ps)))
   -- a frame over a returned integer, and over a failure
   Does a (Resume z) = (xs : List ℤ) → length xs ≡ a.width →
-      ((x : ℤ) → Step R (stack.Frame a.symbol xs (stack.Ret x)) (at_point z (xs ++ x ∷ [])))
+      ((x : ℤ) → Step R (stack.Frame a.symbol xs (stack.Return x)) (at_point z (xs ++ x ∷ [])))
       × Step R (stack.Frame a.symbol xs (stack.Fail 1)) (stack.Fail 1)
   Does a (Return p) =
-      (xs : List ℤ) → length xs ≡ a.width → StepsFrom a xs (stack.Ret (value (assigned xs) p))
+      (xs : List ℤ) → length xs ≡ a.width → StepsFrom a xs (stack.Return (value (assigned xs) p))
 
   -- the rules do what is done at points
   abbrev pub DoAll : (Point → Action → Type 0) → Type 0

@@ -5,14 +5,14 @@ use Rattle.std.specs.Option.{option_map_or}
 use Rattle.std.proofs.lemmas.Bool.{and_parts, eqb-false, eqb-true, leb-true}
 use Rattle.std.proofs.lemmas.Option.{none-some, same_Some, slice_get_within}
 use Rattle.rx_cert.proofs.FindingLaws.{both_parts}
-use Rattle.rx_cert.specs.Findings.{Said, Yes, No, Beyond, both}
+use Rattle.rx_cert.specs.Findings.{Said, Yes, No, Beyond, and_also}
 use Rattle.std.proofs.lemmas.List.Elements.{All-nil}
 use Rattle.rx_row.specs.Holds.{RowHolds}
 use Rattle.rx_term.proofs.ShapeLaws.{alike}
 use Rattle.rx_term.specs.Covered.{HasRule, IsCovered}
 use Rattle.rx_term.specs.Fitting.{is_alike, is_declared}
 use Rattle.rx_term.specs.Paired.{PointShape, ReturnShape, FailShape}
-use Rattle.rx_term.specs.Shapes.{Shape, Value, Failure, Called, Framed}
+use Rattle.rx_term.specs.Shapes.{Shape, Return, Fail, Call, Frame}
 use Rattle.rx_term.specs.declared.rule.Rule.{Rule}
 use Rattle.rx_term.specs.declared.rule_set.RuleParts.{RuleParts}
 use Rattle.rx_term.specs.declared.rule_set.SymInfo.{SymInfo}
@@ -104,14 +104,14 @@ module _ (rules : List Rule) (shape : Shape) (shapes : List Shape) (trees : List
       in_turn rules (shape ∷ shapes) trees ≡ Beyond
   first_beyond e =
       ap (in_turn rules (shape ∷ shapes)) is ∙
-      ap (λ found. both found (in_turn rules shapes others)) e
+      ap (λ found. and_also found (in_turn rules shapes others)) e
 
   -- where it shows its shape, the others decide
   pub first_shows : tree_finding rules shape tree [] ≡ Yes → in_turn rules (shape ∷ shapes) trees ≡
       in_turn rules shapes others
   first_shows e =
       ap (in_turn rules (shape ∷ shapes)) is ∙
-      ap (λ found. both found (in_turn rules shapes others)) e
+      ap (λ found. and_also found (in_turn rules shapes others)) e
 
 -- ---- what is covered
 
@@ -167,18 +167,18 @@ module _ (rules : List Rule) where
 
   failure_shown : (f : Sym) (from n c : ℕ) (trees : List CoverTree) →
       in_turn rules (over_failures f from n) trees ≡ Yes
-      → from ≤ c → c < from + n → (a : ℕ → ℤ) → HasRule rules (Framed f (Failure c)) a
+      → from ≤ c → c < from + n → (a : ℕ → ℤ) → HasRule rules (Frame f (Fail c)) a
   failure_shown f from zero c trees e low high a = absurd (omega (arith, low, high))
   failure_shown f from (suc n) c trees e low high a =
-      let others = others_shown (Framed f (Failure from)) (over_failures f (from + 1) n) trees e in
+      let others = others_shown (Frame f (Fail from)) (over_failures f (from + 1) n) trees e in
       by_code (failure_shown f (from + 1) n c others.0 others.1) (nat_eq from c) refl
     where
       by_code : (from + 1 ≤ c → c < (from + 1) + n → (a : ℕ → ℤ) →
-          HasRule rules (Framed f (Failure c)) a)
-          → (b : Bool) → nat_eq from c ≡ b → HasRule rules (Framed f (Failure c)) a
+          HasRule rules (Frame f (Fail c)) a)
+          → (b : Bool) → nat_eq from c ≡ b → HasRule rules (Frame f (Fail c)) a
       by_code next true is =
-          subst (λ k. HasRule rules (Framed f (Failure k)) a) (eqb-true from c is)
-          (first_shown (Framed f (Failure from)) (over_failures f (from + 1) n) trees e a)
+          subst (λ k. HasRule rules (Frame f (Fail k)) a) (eqb-true from c is)
+          (first_shown (Frame f (Fail from)) (over_failures f (from + 1) n) trees e a)
       by_code next false is =
           let differs = eqb-false from c is in
           next (omega (arith, low, differs)) (omega (arith, high)) a
@@ -223,13 +223,13 @@ module _ (parts : RuleParts) (lists : List (List CoverTree)) (all : covering par
     pub covers_all : IsCovered parts
     covers_all _ (PointShape f n declared) a domain =
         let one = declared_covered f false n declared in
-        first_shown parts.rules (Called f) [] one.0 one.1 a
+        first_shown parts.rules (Call f) [] one.0 one.1 a
     covers_all _ (ReturnShape f n declared) a domain =
         let one = declared_covered f true n declared in
-        first_shown parts.rules (Framed f Value) (over_failures f 1 parts.fails) one.0 one.1 a
+        first_shown parts.rules (Frame f Return) (over_failures f 1 parts.fails) one.0 one.1 a
     covers_all _ (FailShape f n c declared fits) a domain =
         let one = declared_covered f true n declared in
-        let others = others_shown parts.rules (Framed f Value) (over_failures f 1 parts.fails) one.0
+        let others = others_shown parts.rules (Frame f Return) (over_failures f 1 parts.fails) one.0
         one.1 in
         let both = and_parts (nat_le 1 c) (nat_le c parts.fails) fits in
         let low = leb-true 1 c both.0 in

@@ -11,7 +11,7 @@ use Rattle.rx_cert.proofs.ConditionLaws.{conditions_hold}
 use Rattle.rx_cert.proofs.FindingLaws.{both_parts, within_parts}
 use Rattle.rx_cert.proofs.Law.{refuted}
 use Rattle.rx_cert.specs.Conditions.{conditions, is_shown}
-use Rattle.rx_cert.specs.Findings.{Said, Yes, No, both, within}
+use Rattle.rx_cert.specs.Findings.{Said, Yes, No, and_also, guard}
 use Rattle.rx_cert.specs.declared.cert.Cert.{Cert}
 use Rattle.rx_cert.specs.declared.conditions.ConditionsAnswer.{ConditionsAnswer}
 use Rattle.rx_cert.specs.declared.conditions.ConditionsAnswer.TheVariants.{Shown, WrongCount, NotShown}
@@ -62,11 +62,11 @@ module _ (rules : List Rule) (shape : Shape) (a : ℕ → ℤ) where
           by_shape rule there (same_shape (shape_of rule.left) shape) refl f
 
   split_covers : (row : Row) (first second : List Row → Said) → Covers first → Covers second →
-      Covers (λ path. both (first (path ++ row ∷ []))
-      (within (negation_within row) (second (path ++ negation row ∷ []))))
+      Covers (λ path. and_also (first (path ++ row ∷ []))
+      (guard (negation_within row) (second (path ++ negation row ∷ []))))
   split_covers row first second f g path e holds =
       let parts = both_parts (first (path ++ row ∷ []))
-      (within (negation_within row) (second (path ++ negation row ∷ []))) e in
+      (guard (negation_within row) (second (path ++ negation row ∷ []))) e in
       let other = within_parts (negation_within row) (second (path ++ negation row ∷ [])) parts.1 in
       elim (holds_or_not a row) [
         | inl h ↦ f (path ++ row ∷ []) parts.0 ((all_hold-push a path row).1 (holds, h))

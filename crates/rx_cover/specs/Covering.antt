@@ -1,8 +1,8 @@
 -- Cover trees for a rule set: for each symbol a list, one tree for each shape that a redex with
 -- that symbol has.
 use Rattle.std.specs.Prelude.{Bool, true, false, if◌then◌else◌, ℕ, zero, suc, ◌+◌, ◌==◌, Option, Some, None, List, [], ◌∷◌, length, slice_get}
-use Rattle.rx_cert.specs.Findings.{Said, Yes, No, Beyond, both}
-use Rattle.rx_term.specs.Shapes.{Shape, Value, Failure, Called, Framed}
+use Rattle.rx_cert.specs.Findings.{Said, Yes, No, Beyond, and_also}
+use Rattle.rx_term.specs.Shapes.{Shape, Return, Fail, Call, Frame}
 use Rattle.rx_term.specs.declared.rule.Rule.{Rule}
 use Rattle.rx_term.specs.declared.rule_set.RuleParts.{RuleParts}
 use Rattle.rx_term.specs.declared.rule_set.SymInfo.{SymInfo}
@@ -17,13 +17,13 @@ symbol f = record { 0 = f }
 -- a frame over failures with n codes, from that one on
 abbrev pub over_failures : Sym → ℕ → ℕ → List Shape
 over_failures f from zero = []
-over_failures f from (suc n) = Framed f (Failure from) ∷ over_failures f (from + 1) n
+over_failures f from (suc n) = Frame f (Fail from) ∷ over_failures f (from + 1) n
 
 -- the shapes of redexes with the symbol: a point's call; a frame over a returned value, and over
 -- each failure code
 abbrev pub redex_shapes : Sym → Bool → ℕ → List Shape
-redex_shapes f false fails = Called f ∷ []
-redex_shapes f true fails = Framed f Value ∷ over_failures f 1 fails
+redex_shapes f false fails = Call f ∷ []
+redex_shapes f true fails = Frame f Return ∷ over_failures f 1 fails
 
 -- how many there are
 abbrev pub shape_count : Bool → ℕ → ℕ
@@ -36,7 +36,7 @@ abbrev pub in_turn : List Rule → List Shape → List CoverTree → Said
 in_turn rules [] trees = Yes
 in_turn rules (shape ∷ shapes) [] = No
 in_turn rules (shape ∷ shapes) (tree ∷ trees) =
-    both (tree_finding rules shape tree []) (in_turn rules shapes trees)
+    and_also (tree_finding rules shape tree []) (in_turn rules shapes trees)
 
 -- whether the trees show the shapes of the symbol, a frame or a point; where there is another
 -- number of trees than of shapes, nothing is examined

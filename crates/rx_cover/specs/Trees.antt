@@ -6,8 +6,8 @@ use Rattle.std.specs.Prelude.{if◌then◌else◌, Option, Some, None, List, [],
 use Rattle.rx_row.specs.Negation.{negation, negation_within}
 use Rattle.rx_row.specs.declared.row.Row.{Row}
 use Rattle.rx_cert.specs.Conditions.{conditions, is_shown}
-use Rattle.rx_cert.specs.Examination.{finding}
-use Rattle.rx_cert.specs.Findings.{Said, Yes, No, Beyond, both, within}
+use Rattle.rx_cert.specs.Examination.{verdict}
+use Rattle.rx_cert.specs.Findings.{Said, Yes, No, Beyond, and_also, guard}
 use Rattle.rx_cert.specs.declared.cert.Cert.{Cert}
 use Rattle.rx_term.specs.Shapes.{Shape, same_shape, shape_of}
 use Rattle.rx_term.specs.declared.rule.Rule.{Rule}
@@ -28,9 +28,9 @@ abbrev pub tree_level : List Rule → Shape → CoverTree-F (List Row → Said) 
 tree_level rules shape (CoverTree-F.Use rule certs) path =
     use_finding shape (slice_get rules rule) path certs
 tree_level rules shape (CoverTree-F.Split row holds fails) path =
-    both (holds (path ++ row ∷ [])) (within (negation_within row)
+    and_also (holds (path ++ row ∷ [])) (guard (negation_within row)
     (fails (path ++ negation row ∷ [])))
-tree_level rules shape (CoverTree-F.Absurd cert) path = finding path cert
+tree_level rules shape (CoverTree-F.Absurd cert) path = verdict path cert
 
 -- whether the tree shows that at the path some rule of the shape applies
 abbrev pub tree_finding : List Rule → Shape → CoverTree → List Row → Said

@@ -13,7 +13,7 @@ use Rattle.rx_row.specs.Holds.{RowHolds}
 use Rattle.rx_row.specs.Membership.{stands_among}
 use Rattle.rx_row.specs.declared.row.Row.{Row}
 use Rattle.rx_row.specs.declared.row.Row.TheVariants.{Eq, Ne}
-use Rattle.rx_cert.specs.Findings.{Said, Yes, No, Beyond, both}
+use Rattle.rx_cert.specs.Findings.{Said, Yes, No, Beyond, and_also}
 use Rattle.rx_term.proofs.Example.{example_paired}
 use Rattle.rx_term.specs.Example.{ends, example, goes_on}
 use Rattle.rx_solve.proofs.Found.{refuted_is_met_by_none, shown_hold}
@@ -47,7 +47,7 @@ abbrev ones : ℕ → ℤ
 ones v = pos 1
 
 shown_so : is_evident (Eq (variable 0)) ≡ true → all_shown refuted [] (Eq (variable 0) ∷ []) ≡ Yes
-shown_so e = ap (λ b. both (cond b Yes (negation_said refuted [] (Eq (variable 0)))) Yes) e
+shown_so e = ap (λ b. and_also (cond b Yes (negation_said refuted [] (Eq (variable 0)))) Yes) e
 
 -- a variable isn't 0 everywhere
 not_evident : is_evident (Eq (variable 0)) ≡ false

@@ -6,9 +6,9 @@ use Rattle.std.specs.Prelude.{is_some, ◌||◌}
 use Rattle.std.proofs.lemmas.Bool.{eq-eqb}
 use Rattle.std.proofs.lemmas.List.{map-append}
 use Rattle.std.proofs.lemmas.List.Elements.{All-append, All-cons, All-nil}
-use Rattle.rx_cert.specs.Findings.{Yes, No, both}
+use Rattle.rx_cert.specs.Findings.{Yes, No, and_also}
 use Rattle.rx_term.proofs.Places.{from_place}
-use Rattle.rx_term.specs.Shapes.{Shape, Failure, Framed}
+use Rattle.rx_term.specs.Shapes.{Shape, Fail, Frame}
 use Rattle.rx_term.specs.declared.rule.Rule.{Rule}
 use Rattle.rx_term.specs.declared.rule_set.RuleParts.{RuleParts}
 use Rattle.rx_term.specs.declared.rule_set.SymInfo.{SymInfo}
@@ -44,7 +44,7 @@ module _ (rules : List Rule) (whole : List Shape) where
   grown shape rest trees tree g t = record {
     shows = λ more e.
         ap (in_turn rules whole) (append_assoc trees (tree ∷ []) more)
-        ∙ g.shows (tree ∷ more) (ap (λ s. both s (in_turn rules rest more)) t.shows ∙ e);
+        ∙ g.shows (tree ∷ more) (ap (λ s. and_also s (in_turn rules rest more)) t.shows ∙ e);
     count = let c = g.count in omega (arith, length-append trees (tree ∷ []));
     small =
         All-append (IsSmall rules 33 []) trees (tree ∷ []) g.small
@@ -68,7 +68,7 @@ next_shape f redexes i redex there = ap (map (shape_at f)) (from_place redexes i
 
 -- one more failure
 next_failure : (f : Sym) (from i n : ℕ) → i < n → over_failures f from (n - i) ≡
-    Framed f (Failure from) ∷ over_failures f (from + 1) (n - (i + 1))
+    Frame f (Fail from) ∷ over_failures f (from + 1) (n - (i + 1))
 next_failure f from i n below =
     let e : n - i ≡ suc (n - (i + 1)) = omega arith in ap (over_failures f from) e
 
@@ -78,7 +78,7 @@ pub over_one : (f : Sym) (done : List Redex) (i n : ℕ) → i < n →
 over_one f done i n below =
     ap (λ shapes. shapes ++ over_failures f (i + 1 + 1) (n - (i + 1)))
     (map-append (shape_at f) done (OverFail (i + 1) ∷ []))
-    ∙ append_assoc (map (shape_at f) done) (Framed f (Failure (i + 1)) ∷ [])
+    ∙ append_assoc (map (shape_at f) done) (Frame f (Fail (i + 1)) ∷ [])
     (over_failures f (i + 1 + 1) (n - (i + 1)))
     ∙ ap (λ shapes. map (shape_at f) done ++ shapes) (sym (next_failure f (i + 1) i n below))
 

@@ -10,11 +10,11 @@ use Rattle.rx_row.specs.Membership.{stands_among}
 use Rattle.rx_row.specs.Negation.{negation, negation_within}
 use Rattle.rx_row.specs.declared.row.Row.{Row}
 use Rattle.rx_cert.specs.Conditions.{is_evident, is_plain_row}
-use Rattle.rx_cert.specs.Findings.{Said, Yes, No, Beyond, both}
+use Rattle.rx_cert.specs.Findings.{Said, Yes, No, Beyond, and_also}
 use Rattle.rx_cert.specs.Showing.{all_shown, negation_said, shown}
 use Rattle.rx_term.specs.Fitting.{is_alike, is_declared}
 use Rattle.rx_term.specs.Paired.{IsPair, One, Two, IsPaired, IsRedexShape, PointShape, ReturnShape, FailShape, rules_of_shape}
-use Rattle.rx_term.specs.Shapes.{Shape, Value, Failure, Called, Framed}
+use Rattle.rx_term.specs.Shapes.{Shape, Return, Fail, Call, Frame}
 use Rattle.rx_term.specs.declared.rule.Rule.{Rule}
 use Rattle.rx_term.specs.declared.rule_set.RuleParts.{RuleParts}
 use Rattle.rx_term.specs.declared.rule_set.SymInfo.{SymInfo}
@@ -58,7 +58,7 @@ used_alone : (path : List Row) (rule : Rule) (row : Row) → rule.rows ≡ row �
     shown refuted path row ≡ Yes → Covered (as_said (all_shown refuted path rule.rows))
 used_alone path rule row is e =
     ap (λ rs. (as_said (all_shown refuted path rs)).covered) is ∙
-    ap (λ s. (as_said (both s Yes)).covered) e
+    ap (λ s. (as_said (and_also s Yes)).covered) e
 
 -- a row is shown where it is the path's
 shown_itself : (row : Row) → shown refuted (row ∷ []) row ≡ Yes
@@ -137,21 +137,21 @@ module _ (parts : RuleParts) (paired : IsPaired parts) where
   failures_cover f n declared from (suc count) low high =
       let a : nat_le 1 from ≡ true = grind arith in
       let b : nat_le from parts.fails ≡ true = grind arith in
-      and_both (covering_at (rules_of_shape (Framed f (Failure from)) parts.rules) 32 [])
+      and_both (covering_at (rules_of_shape (Frame f (Fail from)) parts.rules) 32 [])
       (shapes_coverage parts.rules (over_failures f (from + 1) count))
-      (one_shape (Framed f (Failure from)) (FailShape f n from declared
+      (one_shape (Frame f (Fail from)) (FailShape f n from declared
       (and_from (nat_le 1 from) (nat_le from parts.fails) a b)))
       (failures_cover f n declared (from + 1) count (omega arith) (omega arith))
 
   shapes_cover : (f : Sym) (frame : Bool) (n : ℕ) → is_declared parts.symbols f frame n ≡ true →
       Covered (shapes_coverage parts.rules (redex_shapes f frame parts.fails))
   shapes_cover f false n declared =
-      and_both (covering_at (rules_of_shape (Called f) parts.rules) 32 []) holds
-      (one_shape (Called f) (PointShape f n declared)) refl
+      and_both (covering_at (rules_of_shape (Call f) parts.rules) 32 []) holds
+      (one_shape (Call f) (PointShape f n declared)) refl
   shapes_cover f true n declared =
-      and_both (covering_at (rules_of_shape (Framed f Value) parts.rules) 32 [])
+      and_both (covering_at (rules_of_shape (Frame f Return) parts.rules) 32 [])
       (shapes_coverage parts.rules (over_failures f 1 parts.fails))
-      (one_shape (Framed f Value) (ReturnShape f n declared))
+      (one_shape (Frame f Return) (ReturnShape f n declared))
       (failures_cover f n declared 1 parts.fails (omega arith) (omega arith))
 
   alike_itself : (b : Bool) → is_alike b b ≡ true

@@ -13,7 +13,7 @@ use Rattle.rx_row.specs.Negation.{negation, negation_within}
 use Rattle.rx_row.specs.declared.row.Row.{Row}
 use Rattle.rx_cert.specs.Conditions.{conditions, is_shown}
 use Rattle.rx_cert.specs.Depth.{cert_depth}
-use Rattle.rx_cert.specs.Findings.{Yes, No, both, within}
+use Rattle.rx_cert.specs.Findings.{Yes, No, and_also, guard}
 use Rattle.rx_cert.specs.Variables.{cert_passes, row_passes, rows_pass}
 use Rattle.rx_cert.specs.declared.cert.Cert.{Cert}
 use Rattle.rx_term.specs.Paired.{rules_of_shape}
@@ -156,9 +156,9 @@ module _ (rules : List Rule) (shape : Shape) where
         tree_finding rules shape (Split row held other) path ≡ Yes
     split_shows keeps f g =
         finding_split rules shape row held other path
-        ∙ ap (λ s. both s (within (negation_within row)
+        ∙ ap (λ s. and_also s (guard (negation_within row)
         (tree_finding rules shape other (path ++ negation row ∷ [])))) f
-        ∙ ap (λ b. within b (tree_finding rules shape other (path ++ negation row ∷ []))) keeps
+        ∙ ap (λ b. guard b (tree_finding rules shape other (path ++ negation row ∷ []))) keeps
         ∙ g
 
     split_small : IsOwnRow rules row → IsSmall rules most (path ++ row ∷ []) held →

@@ -2,7 +2,7 @@
 ghost use Rattle.std.specs.Prelude.{◌≡◌};
 ghost use Rattle.rx_cover.specs.Covering.{symbol};
 ghost use Rattle.rx_coverable.specs.Redexes.{shape_at};
-ghost use Rattle.rx_term.specs.Shapes.{Failure, Value, same_shape, shape_of};
+ghost use Rattle.rx_term.specs.Shapes.{Fail, Return, same_shape, shape_of};
 
 use rx_term::Term;
 
@@ -35,7 +35,7 @@ pub(crate) fn is_redex_of(term: &Term, sym: usize, redex: Redex) -> bool
 
 /// Whether the term is a returned value.
 fn is_returned(term: &Term) -> bool
-    ensures { result ≡ same_shape (shape_of term.now) Value }
+    ensures { result ≡ same_shape (shape_of term.now) Return }
 {
     match term {
         Term::Return(_) => true,
@@ -45,7 +45,7 @@ fn is_returned(term: &Term) -> bool
 
 /// Whether the term is a failure with that code.
 fn is_failure(term: &Term, code: u8) -> bool
-    ensures { result ≡ same_shape (shape_of term.now) (Failure code) }
+    ensures { result ≡ same_shape (shape_of term.now) (Fail code) }
 {
     match term {
         Term::Fail(other) => *other == code,

@@ -8,7 +8,7 @@ use Rattle.std.specs.declared.cmp.Ordering.TheVariants.{Less, Equal, Greater}
 use Rattle.rx_poly.specs.Normal.{is_empty, is_number}
 use Rattle.rx_poly.specs.Order.{mono_cmp}
 use Rattle.rx_poly.specs.Reading.{coefficient, constant_of, found}
-use Rattle.rx_poly.specs.Terms.{is_before, is_listed, is_zero}
+use Rattle.rx_poly.specs.Terms.{is_before, is_sparse_sorted, is_zero}
 use Rattle.rx_poly.specs.Value.{quotient}
 use Rattle.rx_poly.proofs.OrderLemmas.{mono_total}
 use Rattle.rx_poly.proofs.Same.{same_mono}
@@ -123,7 +123,7 @@ one_second t u us e n h true d = d
 one_second t u us e n h false d =
     let no : is_zero u.1 ≡ true = ap is_zero (sym (second_coefficient t u us e) ∙ h u.0 d) in cc
 
-pub numeral : (ts : List (Mono × ℤ)) → is_listed mono_cmp ts ≡ true →
+pub numeral : (ts : List (Mono × ℤ)) → is_sparse_sorted mono_cmp ts ≡ true →
     ((x : Mono) → is_one x ≡ false → coefficient x ts ≡ pos 0) → Numeral ts
 numeral [] h g = record { value = pos 0; is = refl }
 numeral (t ∷ []) h g =

@@ -17,12 +17,12 @@ use Rattle.rx_poly.proofs.Same.{same_mono}
 use Rattle.rx_poly.proofs.TermLaws.{zero_is}
 use Rattle.rx_poly.specs.declared.body.Body.{Body, out-Body}
 use Rattle.rx_poly.specs.declared.body.Mono.{Mono}
-use Rattle.rx_fm.specs.Elimination.{at, at_place, common, given_from, is_one, joined, negative, next, pairs, positive, with_all, with_mono, with_monos, without}
+use Rattle.rx_fm.specs.Elimination.{at, at_place, common_divisor, given_from, is_one, resolvent, negative, stage, pairs, positive, with_all, with_mono, with_monos, without}
 use Rattle.rx_fm.specs.Numbers.{gcd}
 use Rattle.rx_fm.specs.declared.combination.Combination.{Combination}
 use Rattle.rx_fm.proofs.Dividing.{quotient_zero}
 use Rattle.rx_fm.proofs.Exact.{gcd_above_zero}
-use Rattle.rx_fm.proofs.Joined.{at-crossed, at-reduced, crossed, crossed_vanishes, good}
+use Rattle.rx_fm.proofs.Joined.{at-crossed, at-primitive_part, crossed, crossed_vanishes, good}
 use Rattle.rx_fm.proofs.Stages.{all_filtered}
 use Rattle.rx_fm.proofs.Sums.{above_of, below_of}
 use Rattle.rx_fm.proofs.Tracking.{same_factor}
@@ -56,20 +56,21 @@ lacks-filter x test (c ∷ cs) h =
 
 -- two in which it has no coefficient are joined to one in which it has none
 joined_lacks : (x m : Mono) (p q : Combination) → good p ≡ true → good q ≡ true → at x p ≡ pos 0 →
-    at x q ≡ pos 0 → at x (joined m p q) ≡ pos 0
+    at x q ≡ pos 0 → at x (resolvent m p q) ≡ pos 0
 joined_lacks x m p q h g e f =
     let c = crossed m p q in
     let a = unsigned_abs (at m p) in
     let b = unsigned_abs (at m q) in
     let k = pos (b / gcd a b) in
     let l = pos (a / gcd a b) in
-    at-reduced x c
-    ∙ ap (λ z. quotient z (pos (common c))) (at-crossed m p q h g x ∙ (λ i. e i *ℤ k +ℤ f i *ℤ l) ∙
+    at-primitive_part x c
+    ∙ ap (λ z. quotient z (pos (common_divisor c)))
+    (at-crossed m p q h g x ∙ (λ i. e i *ℤ k +ℤ f i *ℤ l) ∙
     (λ i. zero-mul-int k i +ℤ zero-mul-int l i))
-    ∙ quotient_zero (common c)
+    ∙ quotient_zero (common_divisor c)
 
 with_lacks : (x m : Mono) (p : Combination) (qs : List Combination) → good p ≡ true →
-    list_all good qs ≡ true → at x p ≡ pos 0 → Lacks x qs → Lacks x (map (joined m p) qs)
+    list_all good qs ≡ true → at x p ≡ pos 0 → Lacks x qs → Lacks x (map (resolvent m p) qs)
 with_lacks x m p [] h g e f = tt
 with_lacks x m p (q ∷ qs) h g e f =
     let parts = and_parts (good q) (list_all good qs) g in
@@ -80,7 +81,7 @@ pairs_lack : (x m : Mono) (ps qs : List Combination) → list_all good ps ≡ tr
 pairs_lack x m [] qs h g e f = tt
 pairs_lack x m (p ∷ ps) qs h g e f =
     let parts = and_parts (good p) (list_all good ps) h in
-    lacks-append x (map (joined m p) qs) (pairs m ps qs) (with_lacks x m p qs parts.0 g e.0 f)
+    lacks-append x (map (resolvent m p) qs) (pairs m ps qs) (with_lacks x m p qs parts.0 g e.0 f)
     (pairs_lack x m ps qs parts.1 g e.1 f)
 
 by_good : (c : Combination) (cs : List Combination) → good c ≡ true → list_all good cs ≡ true →
@@ -97,7 +98,7 @@ good-filter test (c ∷ cs) h =
 
 -- what has no coefficient before a stage has none after it
 pub next_lacks : (x m : Mono) (cs : List Combination) → list_all good cs ≡ true → Lacks x cs →
-    Lacks x (next m cs)
+    Lacks x (stage m cs)
 next_lacks x m cs h e =
     lacks-append x (without m cs) (pairs m (positive m cs) (negative m cs))
     (lacks-filter x (λ c. is_zero (at m c)) cs e)
@@ -118,21 +119,21 @@ no_factor zero z h e = absurd (omega arith)
 no_factor (suc g) z h e = same_factor g z (pos 0) (e ∙ sym (mul-zero-int (pos (suc g))))
 
 joined_without : (m : Mono) (p q : Combination) → good p ≡ true → good q ≡ true →
-    int_lt (pos 0) (at m p) ≡ true → int_lt (at m q) (pos 0) ≡ true → at m (joined m p q) ≡ pos 0
+    int_lt (pos 0) (at m p) ≡ true → int_lt (at m q) (pos 0) ≡ true → at m (resolvent m p q) ≡ pos 0
 joined_without m p q h g e f =
     let c = crossed m p q in
     let up = above_of (at m p) e in
     let down = below_of (at m q) f in
-    at-reduced m c
-    ∙ ap (λ z. quotient z (pos (common c))) (no_factor
+    at-primitive_part m c
+    ∙ ap (λ z. quotient z (pos (common_divisor c))) (no_factor
     (gcd (unsigned_abs (at m p)) (unsigned_abs (at m q))) (at m c)
     (gcd_above_zero (unsigned_abs (at m p)) (unsigned_abs (at m q)) (size_some (at m p) up))
     (crossed_vanishes m p q h g up down))
-    ∙ quotient_zero (common c)
+    ∙ quotient_zero (common_divisor c)
 
 with_without : (m : Mono) (p : Combination) (qs : List Combination) → good p ≡ true →
     list_all good qs ≡ true → int_lt (pos 0) (at m p) ≡ true →
-    list_all (λ c. int_lt (at m c) (pos 0)) qs ≡ true → Lacks m (map (joined m p) qs)
+    list_all (λ c. int_lt (at m c) (pos 0)) qs ≡ true → Lacks m (map (resolvent m p) qs)
 with_without m p [] h g e f = tt
 with_without m p (q ∷ qs) h g e f =
     let parts = and_parts (good q) (list_all good qs) g in
@@ -148,7 +149,8 @@ pairs_without m (p ∷ ps) qs h g e f =
     let parts = and_parts (good p) (list_all good ps) h in
     let signs = and_parts (int_lt (pos 0) (at m p)) (list_all (λ c. int_lt (pos 0) (at m c)) ps) e
     in
-    lacks-append m (map (joined m p) qs) (pairs m ps qs) (with_without m p qs parts.0 g signs.0 f)
+    lacks-append m (map (resolvent m p) qs) (pairs m ps qs)
+    (with_without m p qs parts.0 g signs.0 f)
     (pairs_without m ps qs parts.1 g signs.1 f)
 
 without_lacks : (m : Mono) (cs : List Combination) → list_all (λ c. is_zero (at m c)) cs ≡ true →
@@ -160,7 +162,7 @@ without_lacks m (c ∷ cs) h =
 
 -- after a stage its monomial has no coefficient
 pub next_without : (m : Mono) (cs : List Combination) → list_all good cs ≡ true →
-    Lacks m (next m cs)
+    Lacks m (stage m cs)
 next_without m cs h =
     lacks-append m (without m cs) (pairs m (positive m cs) (negative m cs))
     (without_lacks m (without m cs) (all_filtered (λ c. is_zero (at m c)) cs))
@@ -187,16 +189,16 @@ itself m = tied_itself_is (mono_cmp m m) (mono_total.antisymm m m)
 
 by_same : (x m : Mono) (ms : List Mono) (cs : List Combination) → list_all good cs ≡ true →
     Covers (m ∷ ms) cs → is_one x ≡ false → Missing x ms → (r : Ordering) → mono_cmp x m ≡ r →
-    (x ≡ m → mono_cmp x m ≡ Equal) → Lacks x (next m cs)
+    (x ≡ m → mono_cmp x m ≡ Equal) → Lacks x (stage m cs)
 by_same x m ms cs h c o s Less e same =
     next_lacks x m cs h (c.lacks x o (λ k. let d : Less ≡ Equal = sym e ∙ same k in cc, s))
 by_same x m ms cs h c o s Equal e same =
-    subst (λ y. Lacks y (next m cs)) (sym (same_mono x m e)) (next_without m cs h)
+    subst (λ y. Lacks y (stage m cs)) (sym (same_mono x m e)) (next_without m cs h)
 by_same x m ms cs h c o s Greater e same =
     next_lacks x m cs h (c.lacks x o (λ k. let d : Greater ≡ Equal = sym e ∙ same k in cc, s))
 
 pub next_covers : (m : Mono) (ms : List Mono) (cs : List Combination) → list_all good cs ≡ true →
-    Covers (m ∷ ms) cs → Covers ms (next m cs)
+    Covers (m ∷ ms) cs → Covers ms (stage m cs)
 next_covers m ms cs h c = record {
   none_one = (and_parts (not (is_one m)) (list_all (λ x. not (is_one x)) ms) c.none_one).1;
   lacks =

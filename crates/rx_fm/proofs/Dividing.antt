@@ -12,7 +12,7 @@ use Rattle.rx_plain.proofs.Integers.{mul-zero-int, one-mul-int}
 use Rattle.rx_poly.specs.Limits.{all_fit, body_depth, body_size, fits_i128, greatest, is_small, mono_depth, mono_size}
 use Rattle.rx_poly.specs.Normal.{is_normal, is_normal_mono, is_poly}
 use Rattle.rx_poly.specs.Order.{mono_cmp}
-use Rattle.rx_poly.specs.Terms.{all_keys, is_listed, is_zero}
+use Rattle.rx_poly.specs.Terms.{all_keys, is_sparse_sorted, is_zero}
 use Rattle.rx_poly.specs.Value.{quotient}
 use Rattle.rx_poly.proofs.Levels.{body_depth_is, body_size_is}
 use Rattle.rx_poly.proofs.OrderLemmas.{mono_total}
@@ -21,7 +21,7 @@ use Rattle.rx_poly.proofs.Same.{same_mono}
 use Rattle.rx_poly.proofs.TermLaws.{by_false, listed_from, listed_parts, zero_is}
 use Rattle.rx_poly.specs.declared.body.Body.{Body, out-Body, roll-Body, roll-out-Body}
 use Rattle.rx_poly.specs.declared.body.Mono.{Mono}
-use Rattle.rx_fm.specs.Elimination.{coefficients, common, divided, reduced}
+use Rattle.rx_fm.specs.Elimination.{coefficients, common_divisor, divided, primitive_part}
 use Rattle.rx_fm.specs.Numbers.{divides_all, gcd, gcd_with, quotients}
 use Rattle.rx_fm.specs.declared.combination.Combination.{Combination}
 use Rattle.rx_fm.proofs.Gcd.{gcd_is}
@@ -118,11 +118,13 @@ divides_weaker d e (x ∷ xs) h g =
     (divides_weaker d e xs h p.1)
 
 -- the common divisor of a polynomial and multipliers divides all of both
-pub common_divides : (c : Combination) → (divides_all (common c) (coefficients c.poly) ≡ true) ×
-    (divides_all (common c) c.multipliers ≡ true)
+pub common_divides : (c : Combination) → (divides_all (common_divisor c) (coefficients c.poly) ≡
+    true) ×
+    (divides_all (common_divisor c) c.multipliers ≡ true)
 common_divides c =
     let first = gcd_with 0 (coefficients c.poly) in (
-      divides_weaker (common c) first (coefficients c.poly) (with_divides_first first c.multipliers)
+      divides_weaker (common_divisor c) first (coefficients c.poly)
+          (with_divides_first first c.multipliers)
           (with_divides 0 (coefficients c.poly)),
       with_divides first c.multipliers,
     )
@@ -144,8 +146,9 @@ fits-each d (t ∷ ts) h =
     and_from (fits_i128 (quotient t.1 (pos d))) (all_fit (each d ts)) (quotient_fits d t.1 p.0)
     (fits-each d ts p.1)
 
-listed-each : (d : ℕ) (ts : List (Mono × ℤ)) → is_listed mono_cmp ts ≡ true →
-    divides_all d (map (λ (t : Mono × ℤ). t.1) ts) ≡ true → is_listed mono_cmp (each d ts) ≡ true
+listed-each : (d : ℕ) (ts : List (Mono × ℤ)) → is_sparse_sorted mono_cmp ts ≡ true →
+    divides_all d (map (λ (t : Mono × ℤ). t.1) ts) ≡ true → is_sparse_sorted mono_cmp (each d ts) ≡
+    true
 listed-each d [] h g = refl
 listed-each d (t ∷ ts) h g =
     let l = listed_parts mono_cmp mono_total same_mono t ts h in
@@ -217,7 +220,7 @@ divided_one p =
     (λ i. roll-Body (record { terms = each_one (out-Body p).terms i })) ∙ roll-out-Body p
 
 -- where the common divisor is 1, nothing changes
-pub reduced_one : (c : Combination) → common c ≡ 1 → reduced c ≡ c
+pub reduced_one : (c : Combination) → common_divisor c ≡ 1 → primitive_part c ≡ c
 reduced_one c e =
     (λ i. record { poly = divided (e i) c.poly; multipliers = quotients (e i) c.multipliers })
     ∙ (λ i. record { poly = divided_one c.poly i; multipliers = quotients_one c.multipliers i })

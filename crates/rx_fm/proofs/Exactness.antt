@@ -12,7 +12,7 @@ use Rattle.rx_poly.specs.Value.{sum_terms}
 use Rattle.rx_poly.proofs.PolyLaws.{poly_terms}
 use Rattle.rx_poly.specs.declared.body.Body.{Body, out-Body}
 use Rattle.rx_poly.specs.declared.body.Mono.{Mono}
-use Rattle.rx_fm.specs.Elimination.{Outcome, at, beyond, eliminated, elimination, first_negative, found_or, given, given_from, is_below_zero, is_negative, is_one, joined, joined_within, monomials, negative, next, next_within, nothing, pairs, pairs_within, positive, unit, without}
+use Rattle.rx_fm.specs.Elimination.{EliminationEnd, at, Large, eliminate, elimination, first_negative, found_or, given, given_from, is_below_zero, is_negative, is_one, resolvent, resolvent_within, monomials, negative, stage, stage_within, nothing, pairs, pairs_within, positive, unit, without}
 use Rattle.rx_fm.specs.Witness.{IsWitness, one, total}
 use Rattle.rx_fm.specs.declared.combination.Combination.{Combination}
 use Rattle.rx_fm.proofs.Coefficients.{numeral, only_number}
@@ -51,28 +51,28 @@ elements-filter test (t ∷ ts) =
 
 module _ (m : Mono) where
   elements-with : (p : Combination × ℤ) (qs : List (Combination × ℤ)) →
-      elements (joined_with (joined m) (factor m) p qs) ≡ map (joined m p.0) (elements qs)
+      elements (joined_with (resolvent m) (factor m) p qs) ≡ map (resolvent m p.0) (elements qs)
   elements-with p [] = refl
-  elements-with p (q ∷ qs) = ap (λ cs. joined m p.0 q.0 ∷ cs) (elements-with p qs)
+  elements-with p (q ∷ qs) = ap (λ cs. resolvent m p.0 q.0 ∷ cs) (elements-with p qs)
 
   elements-pairs : (ps qs : List (Combination × ℤ)) →
-      elements (joined_pairs (joined m) (factor m) ps qs) ≡ pairs m (elements ps) (elements qs)
+      elements (joined_pairs (resolvent m) (factor m) ps qs) ≡ pairs m (elements ps) (elements qs)
   elements-pairs [] qs = refl
   elements-pairs (p ∷ ps) qs =
-      elements-append (joined_with (joined m) (factor m) p qs)
-      (joined_pairs (joined m) (factor m) ps qs)
+      elements-append (joined_with (resolvent m) (factor m) p qs)
+      (joined_pairs (resolvent m) (factor m) ps qs)
       ∙ (λ i. elements-with p qs i ++ elements-pairs ps qs i)
 
   abbrev pub behind : List (Combination × ℤ) → List (Combination × ℤ)
   behind ts =
-      stage_of (joined m) (factor m) (at m) ts
-      (growth (joined m) (factor m) (at m) ts (top (joined m) (factor m) (at m) ts))
+      stage_of (resolvent m) (factor m) (at m) ts
+      (growth (resolvent m) (factor m) (at m) ts (top (resolvent m) (factor m) (at m) ts))
 
-  elements-behind : (ts : List (Combination × ℤ)) → elements (behind ts) ≡ next m (elements ts)
+  elements-behind : (ts : List (Combination × ℤ)) → elements (behind ts) ≡ stage m (elements ts)
   elements-behind ts =
-      let k = growth (joined m) (factor m) (at m) ts (top (joined m) (factor m) (at m) ts) in
+      let k = growth (resolvent m) (factor m) (at m) ts (top (resolvent m) (factor m) (at m) ts) in
       elements-append (map (λ (t : Combination × ℤ). (t.0, k *ℤ t.1)) (kept (at m) ts))
-      (joined_pairs (joined m) (factor m) (above (at m) ts) (below (at m) ts))
+      (joined_pairs (resolvent m) (factor m) (above (at m) ts) (below (at m) ts))
       ∙ (λ i. (elements-scaled k (kept (at m) ts) ∙ elements-filter (λ c. is_zero (at m c)) ts) i ++
       elements-pairs (above (at m) ts) (below (at m) ts) i)
       ∙ (λ i. without m (elements ts) ++ pairs m
@@ -88,28 +88,29 @@ good-append (c ∷ cs) ds h g =
     let parts = and_parts (good c) (list_all good cs) h in
     and_from (good c) (list_all good (cs ++ ds)) parts.0 (good-append cs ds parts.1 g)
 
-good-with : (m : Mono) (p : Combination) (qs : List Combination) → list_all (joined_within m p) qs ≡
-    true → good p ≡ true → list_all good qs ≡ true → list_all good (map (joined m p) qs) ≡ true
+good-with : (m : Mono) (p : Combination) (qs : List Combination) →
+    list_all (resolvent_within m p) qs ≡
+    true → good p ≡ true → list_all good qs ≡ true → list_all good (map (resolvent m p) qs) ≡ true
 good-with m p [] w h g = refl
 good-with m p (q ∷ qs) w h g =
-    let within = and_parts (joined_within m p q) (list_all (joined_within m p) qs) w in
+    let within = and_parts (resolvent_within m p q) (list_all (resolvent_within m p) qs) w in
     let parts = and_parts (good q) (list_all good qs) g in
-    and_from (good (joined m p q)) (list_all good (map (joined m p) qs))
+    and_from (good (resolvent m p q)) (list_all good (map (resolvent m p) qs))
     (joined_good m p q h parts.0 within.0) (good-with m p qs within.1 h parts.1)
 
 good-pairs : (m : Mono) (ps qs : List Combination) → pairs_within m ps qs ≡ true →
     list_all good ps ≡ true → list_all good qs ≡ true → list_all good (pairs m ps qs) ≡ true
 good-pairs m [] qs w h g = refl
 good-pairs m (p ∷ ps) qs w h g =
-    let within = and_parts (list_all (joined_within m p) qs) (pairs_within m ps qs) w in
+    let within = and_parts (list_all (resolvent_within m p) qs) (pairs_within m ps qs) w in
     let parts = and_parts (good p) (list_all good ps) h in
-    good-append (map (joined m p) qs) (pairs m ps qs) (good-with m p qs within.0 parts.0 g)
+    good-append (map (resolvent m p) qs) (pairs m ps qs) (good-with m p qs within.0 parts.0 g)
     (good-pairs m ps qs within.1 parts.1 g)
 
-good-next : (limit : ℕ) (m : Mono) (cs : List Combination) → next_within limit m cs ≡ true →
-    list_all good cs ≡ true → list_all good (next m cs) ≡ true
-good-next limit m cs w h =
-    let within = and_parts (nat_le (length (next m cs)) limit)
+good-stage : (limit : ℕ) (m : Mono) (cs : List Combination) → stage_within limit m cs ≡ true →
+    list_all good cs ≡ true → list_all good (stage m cs) ≡ true
+good-stage limit m cs w h =
+    let within = and_parts (nat_le (length (stage m cs)) limit)
     (pairs_within m (positive m cs) (negative m cs)) w in
     good-append (without m cs) (pairs m (positive m cs) (negative m cs))
     (good-filter (λ c. is_zero (at m c)) cs h)
@@ -137,7 +138,7 @@ scaled_weights k [] h g = tt
 scaled_weights k (t ∷ ts) h g = (product_not_negative k t.1 h g.0, scaled_weights k ts h g.1)
 
 with_weights : (m : Mono) (p : Combination × ℤ) (qs : List (Combination × ℤ)) → pos 0 ≤ℤ p.1 →
-    Every NotNegative qs → Every NotNegative (joined_with (joined m) (factor m) p qs)
+    Every NotNegative qs → Every NotNegative (joined_with (resolvent m) (factor m) p qs)
 with_weights m p [] h g = tt
 with_weights m p (q ∷ qs) h g = (
   product_not_negative (p.1 *ℤ q.1) (factor m p.0 q.0) (product_not_negative p.1 q.1 h g.0)
@@ -146,11 +147,11 @@ with_weights m p (q ∷ qs) h g = (
 )
 
 pairs_weights : (m : Mono) (ps qs : List (Combination × ℤ)) → Every NotNegative ps →
-    Every NotNegative qs → Every NotNegative (joined_pairs (joined m) (factor m) ps qs)
+    Every NotNegative qs → Every NotNegative (joined_pairs (resolvent m) (factor m) ps qs)
 pairs_weights m [] qs h g = tt
 pairs_weights m (p ∷ ps) qs h g =
-    every-append NotNegative (joined_with (joined m) (factor m) p qs)
-    (joined_pairs (joined m) (factor m) ps qs) (with_weights m p qs h.0 g)
+    every-append NotNegative (joined_with (resolvent m) (factor m) p qs)
+    (joined_pairs (resolvent m) (factor m) ps qs) (with_weights m p qs h.0 g)
     (pairs_weights m ps qs h.1 g)
 
 filtered_weights : (test : Combination → Bool) (ts : List (Combination × ℤ)) →
@@ -162,17 +163,17 @@ filtered_weights test ts h =
 
 -- the joint ones have the values that the two have, crosswise, at every monomial
 all_cross : (m x : Mono) (ts : List (Combination × ℤ)) → list_all good (elements ts) ≡ true →
-    Every (λ p. Every (λ q. Crosswise (joined m) (factor m) (at m) (at x) p.0 q.0)
+    Every (λ p. Every (λ q. Crosswise (resolvent m) (factor m) (at m) (at x) p.0 q.0)
     (below (at m) ts)) (above (at m) ts)
 all_cross m x ts h =
     let goods = every_good ts h in
     let ups = every-filter (λ t. good t.0 ≡ true) (λ c. int_lt (pos 0) (at m c)) ts goods in
     let downs = every-filter (λ t. good t.0 ≡ true) (λ c. int_lt (at m c) (pos 0)) ts goods in
     every-weaker (λ p. (good p.0 ≡ true) × (int_lt (pos 0) (at m p.0) ≡ true))
-    (λ p. Every (λ q. Crosswise (joined m) (factor m) (at m) (at x) p.0 q.0) (below (at m) ts))
+    (λ p. Every (λ q. Crosswise (resolvent m) (factor m) (at m) (at x) p.0 q.0) (below (at m) ts))
     (above (at m) ts)
     (λ p u. every-weaker (λ q. (good q.0 ≡ true) × (int_lt (at m q.0) (pos 0) ≡ true))
-    (λ q. Crosswise (joined m) (factor m) (at m) (at x) p.0 q.0) (below (at m) ts)
+    (λ q. Crosswise (resolvent m) (factor m) (at m) (at x) p.0 q.0) (below (at m) ts)
     (λ q d. cross m p.0 q.0 u.0 d.0 x (above_of (at m p.0) u.1) (below_of (at m q.0) d.1)) downs)
     ups
 
@@ -186,14 +187,15 @@ still_below (negsuc n) z h g = absurd (omega (arith, ints))
 stage_keeps : (m : Mono) (ts : List (Combination × ℤ)) → is_one m ≡ false →
     list_all good (elements ts) ≡ true → Refuting ts → Refuting (behind m ts)
 stage_keeps m ts o h r =
-    let k = growth (joined m) (factor m) (at m) ts (top (joined m) (factor m) (at m) ts) in
-    let up = growth_above (joined m) (factor m) (at m) ts (top (joined m) (factor m) (at m) ts) in
-    let sums = λ (x : Mono). stage_sum (joined m) (factor m) (at m) ts r.weights (r.cancels m o)
+    let k = growth (resolvent m) (factor m) (at m) ts (top (resolvent m) (factor m) (at m) ts) in
+    let up = growth_above (resolvent m) (factor m) (at m) ts
+    (top (resolvent m) (factor m) (at m) ts) in
+    let sums = λ (x : Mono). stage_sum (resolvent m) (factor m) (at m) ts r.weights (r.cancels m o)
     (at x) (all_cross m x ts h) in
     record {
       weights =
           every-append NotNegative (map (λ (t : Combination × ℤ). (t.0, k *ℤ t.1)) (kept (at m) ts))
-          (joined_pairs (joined m) (factor m) (above (at m) ts) (below (at m) ts))
+          (joined_pairs (resolvent m) (factor m) (above (at m) ts) (below (at m) ts))
           (scaled_weights k (kept (at m) ts) (omega (arith, ints))
           (filtered_weights (λ c. is_zero (at m c)) ts r.weights))
           (pairs_weights m (above (at m) ts) (below (at m) ts)
@@ -240,18 +242,19 @@ sum_of_numbers (t ∷ ts) h g e w =
 
 -- ---- all stages
 
-found_none : (o : Option (List ℤ)) (further : Outcome) → found_or o further ≡ nothing → (o ≡ None) ×
+found_none : (o : Option (List ℤ)) (further : EliminationEnd) → found_or o further ≡ nothing →
+    (o ≡ None) ×
     (further ≡ nothing)
 found_none None further e = (refl, e)
 found_none (Some ms) further e = cc
 
-within_none : (b : Bool) (further : Outcome) → cond b further beyond ≡ nothing → (b ≡ true) ×
+within_none : (b : Bool) (further : EliminationEnd) → cond b further Large ≡ nothing → (b ≡ true) ×
     (further ≡ nothing)
 within_none true further e = (refl, e)
 within_none false further e = cc
 
 no_weights : (limit : ℕ) (ms : List Mono) (ts : List (Combination × ℤ)) →
-    eliminated limit ms (elements ts) ≡ nothing → list_all good (elements ts) ≡ true →
+    eliminate limit ms (elements ts) ≡ nothing → list_all good (elements ts) ≡ true →
     Covers ms (elements ts) → Refuting ts → ⊥
 no_weights limit [] ts e h c r =
     let none = found_none (first_negative (elements ts)) nothing e in
@@ -259,17 +262,17 @@ no_weights limit [] ts e h c r =
     let under = r.below_zero in
     omega (arith, ints)
 no_weights limit (m ∷ ms) ts e h c r =
-    let further : Outcome = cond (next_within limit m (elements ts))
-    (eliminated limit ms (next m (elements ts))) beyond in
+    let further : EliminationEnd = cond (stage_within limit m (elements ts))
+    (eliminate limit ms (stage m (elements ts))) Large in
     let none = found_none (first_negative (elements ts)) further e in
-    let within = within_none (next_within limit m (elements ts))
-    (eliminated limit ms (next m (elements ts))) none.1 in
+    let within = within_none (stage_within limit m (elements ts))
+    (eliminate limit ms (stage m (elements ts))) none.1 in
     let same = elements-behind m ts in
     let other : is_one m ≡ false = by_not (is_one m)
     (and_parts (not (is_one m)) (list_all (λ x. not (is_one x)) ms) c.none_one).0 in
     no_weights limit ms (behind m ts)
-    (ap (eliminated limit ms) same ∙ within.1)
-    (ap (list_all good) same ∙ good-next limit m (elements ts) within.0 h)
+    (ap (eliminate limit ms) same ∙ within.1)
+    (ap (list_all good) same ∙ good-stage limit m (elements ts) within.0 h)
     (subst (Covers ms) (sym same) (next_covers m ms (elements ts) h c))
     (stage_keeps m ts other h r)
   where
@@ -328,10 +331,10 @@ none limit ps h e ms w =
     let count = length ps in
     let ts = paired (given ps) ms in
     let same = paired_elements count 0 ps ms w.one_each in
-    let ends = (within_none (nat_le count limit) (eliminated limit (monomials ps) (given ps)) e).1
+    let ends = (within_none (nat_le count limit) (eliminate limit (monomials ps) (given ps)) e).1
     in
     no_weights limit (monomials ps) ts
-    (ap (eliminated limit (monomials ps)) same ∙ ends)
+    (ap (eliminate limit (monomials ps)) same ∙ ends)
     (ap (list_all good) same ∙ given_good count 0 ps h)
     (subst (Covers (monomials ps)) (sym same) (given_covers 0 count ps))
     (record {

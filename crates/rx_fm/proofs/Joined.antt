@@ -6,7 +6,7 @@ use Rattle.std.proofs.Math.Nat.{mul-div_cancel'}
 use Rattle.std.specs.Int.{◌∣◌}
 use lib.IntN.{*ℤ_comm}
 use Rattle.rx_plain.proofs.Integers.{mul-assoc-int, mul-add-int, mul-zero-int}
-use Rattle.rx_poly.specs.Limits.{added, all_fit, is_small, is_within, of_terms, scaled_by}
+use Rattle.rx_poly.specs.Limits.{body_sum, all_fit, is_small, is_within, of_terms, scaled_by}
 use Rattle.rx_poly.specs.Normal.{is_normal, is_normal_mono, is_poly}
 use Rattle.rx_poly.specs.Order.{mono_cmp}
 use Rattle.rx_poly.specs.Reading.{coefficient}
@@ -19,7 +19,7 @@ use Rattle.rx_poly.proofs.TermLaws.{all_keys-add, listed-add}
 use Rattle.rx_poly.proofs.PolyLaws.{listed-times_number, multiple_normal, poly_of_terms, poly_terms, within_terms}
 use Rattle.rx_poly.specs.declared.body.Body.{Body, out-Body}
 use Rattle.rx_poly.specs.declared.body.Mono.{Mono}
-use Rattle.rx_fm.specs.Elimination.{at, cancelled, cancelled_within, common, common_within, joined, joined_within, reduced, weighed, weighed_within}
+use Rattle.rx_fm.specs.Elimination.{at, eliminant, eliminant_within, common_divisor, common_divisor_within, resolvent, resolvent_within, primitive_part, linear_combination, linear_combination_within}
 use Rattle.rx_fm.specs.Numbers.{combined_within, gcd, size_fits}
 use Rattle.rx_fm.specs.declared.combination.Combination.{Combination}
 use Rattle.rx_fm.proofs.Coefficients.{coefficient-each, divides_coefficient}
@@ -39,9 +39,10 @@ terms_of : (x : Mono) (ts : List (Mono × ℤ)) → coefficient x (out-Body (of_
 terms_of x ts = ap (coefficient x) (terms-of_terms ts)
 
 -- each coefficient of the weighed sum
-pub at-weighed : (x : Mono) (k l : ℤ) (p q : Combination) → good p ≡ true → good q ≡ true →
-    at x (weighed k p l q) ≡ at x p *ℤ k +ℤ at x q *ℤ l
-at-weighed x k l p q h g =
+pub at-linear_combination : (x : Mono) (k l : ℤ) (p q : Combination) → good p ≡ true → good q ≡
+    true →
+    at x (linear_combination k p l q) ≡ at x p *ℤ k +ℤ at x q *ℤ l
+at-linear_combination x k l p q h g =
     let ps = (out-Body p.poly).terms in
     let qs = (out-Body q.poly).terms in
     let left = poly_terms p.poly h in
@@ -66,8 +67,8 @@ scaled_poly k p h w =
     (multiple_normal k p {ls = (out-Body p).terms} {ts = times_number k (out-Body p).terms} refl
     refl h parts.0) parts.1
 
-added_poly : (p q : Body) → is_poly p ≡ true → is_poly q ≡ true → is_within (added p q) ≡ true →
-    is_poly (added p q) ≡ true
+added_poly : (p q : Body) → is_poly p ≡ true → is_poly q ≡ true → is_within (body_sum p q) ≡ true →
+    is_poly (body_sum p q) ≡ true
 added_poly p q h g w =
     let ps = (out-Body p).terms in
     let qs = (out-Body q).terms in
@@ -81,9 +82,9 @@ added_poly p q h g w =
     }) parts.1
 
 pub weighed_good : (k l : ℤ) (p q : Combination) → good p ≡ true → good q ≡ true →
-    weighed_within k p l q ≡ true → good (weighed k p l q) ≡ true
+    linear_combination_within k p l q ≡ true → good (linear_combination k p l q) ≡ true
 weighed_good k l p q h g w =
-    let sum = added (scaled_by k p.poly) (scaled_by l q.poly) in
+    let sum = body_sum (scaled_by k p.poly) (scaled_by l q.poly) in
     let multipliers = combined_within k p.multipliers l q.multipliers in
     let a = and_parts (is_within (scaled_by k p.poly))
     (is_within (scaled_by l q.poly) && (is_within sum && multipliers)) w in
@@ -94,31 +95,34 @@ weighed_good k l p q h g w =
 
 -- ---- division by the common divisor
 
-pub at-reduced : (x : Mono) (c : Combination) → at x (reduced c) ≡
-    quotient (at x c) (pos (common c))
-at-reduced x c =
-    terms_of x (each (common c) (out-Body c.poly).terms) ∙
-    coefficient-each x (common c) (out-Body c.poly).terms
+pub at-primitive_part : (x : Mono) (c : Combination) → at x (primitive_part c) ≡
+    quotient (at x c) (pos (common_divisor c))
+at-primitive_part x c =
+    terms_of x (each (common_divisor c) (out-Body c.poly).terms) ∙
+    coefficient-each x (common_divisor c) (out-Body c.poly).terms
 
-pub back-reduced : (x : Mono) (c : Combination) → pos (common c) *ℤ at x (reduced c) ≡ at x c
-back-reduced x c =
-    ap (λ z. pos (common c) *ℤ z) (at-reduced x c)
-    ∙ exact (common c) (at x c) (divides_coefficient x (common c) (out-Body c.poly).terms
+pub back-primitive_part : (x : Mono) (c : Combination) →
+    pos (common_divisor c) *ℤ at x (primitive_part c) ≡ at x c
+back-primitive_part x c =
+    ap (λ z. pos (common_divisor c) *ℤ z) (at-primitive_part x c)
+    ∙ exact (common_divisor c) (at x c) (divides_coefficient x (common_divisor c)
+    (out-Body c.poly).terms
     (common_divides c).0)
 
-reduced_good : (c : Combination) → good c ≡ true → good (reduced c) ≡ true
-reduced_good c h = divided_poly (common c) c.poly h (common_divides c).0
+reduced_good : (c : Combination) → good c ≡ true → good (primitive_part c) ≡ true
+reduced_good c h = divided_poly (common_divisor c) c.poly h (common_divides c).0
 
 -- ---- two joined
 
 -- the combination that is reduced
 abbrev pub crossed : Mono → Combination → Combination → Combination
-crossed m p q = cancelled (unsigned_abs (at m p)) (unsigned_abs (at m q)) p q
+crossed m p q = eliminant (unsigned_abs (at m p)) (unsigned_abs (at m q)) p q
 
 -- by how much the joint one was divided, in comparison with the two times each other's size
 abbrev pub factor : Mono → Combination → Combination → ℤ
 factor m p q =
-    pos (gcd (unsigned_abs (at m p)) (unsigned_abs (at m q))) *ℤ pos (common (crossed m p q))
+    pos (gcd (unsigned_abs (at m p)) (unsigned_abs (at m q))) *ℤ pos
+    (common_divisor (crossed m p q))
 
 pub factor_not_negative : (m : Mono) (p q : Combination) → pos 0 ≤ℤ factor m p q
 factor_not_negative m p q = omega (arith, ints)
@@ -141,16 +145,17 @@ module _ (m : Mono) (p q : Combination) (h : good p ≡ true) (k : good q ≡ tr
   abbrev g : ℕ
   g = gcd a b
 
-  pub joined_good : joined_within m p q ≡ true → good (joined m p q) ≡ true
+  pub joined_good : resolvent_within m p q ≡ true → good (resolvent m p q) ≡ true
   joined_good w =
       let parts = and_parts (size_fits (at m q))
-      (cancelled_within a b p q && common_within (crossed m p q)) w in
-      let inner = and_parts (cancelled_within a b p q) (common_within (crossed m p q)) parts.1 in
+      (eliminant_within a b p q && common_divisor_within (crossed m p q)) w in
+      let inner = and_parts (eliminant_within a b p q) (common_divisor_within (crossed m p q))
+      parts.1 in
       reduced_good (crossed m p q) (weighed_good (pos (b / g)) (pos (a / g)) p q h k inner.0)
 
   pub at-crossed : (x : Mono) → at x (crossed m p q) ≡
       at x p *ℤ pos (b / g) +ℤ at x q *ℤ pos (a / g)
-  at-crossed x = at-weighed x (pos (b / g)) (pos (a / g)) p q h k
+  at-crossed x = at-linear_combination x (pos (b / g)) (pos (a / g)) p q h k
 
   times_back : (z : ℤ) (n : ℕ) → g ∣ n → pos g *ℤ (z *ℤ pos (n / g)) ≡ pos n *ℤ z
   times_back z n d =
@@ -169,10 +174,10 @@ module _ (m : Mono) (p q : Combination) (h : good p ≡ true) (k : good q ≡ tr
 
   -- each coefficient of the joint one, times the factor
   pub cross : (x : Mono) → pos 0 <ℤ at m p → pos 0 <ℤ neg_ℤ (at m q) →
-      factor m p q *ℤ at x (joined m p q) ≡ neg_ℤ (at m q) *ℤ at x p +ℤ at m p *ℤ at x q
+      factor m p q *ℤ at x (resolvent m p q) ≡ neg_ℤ (at m q) *ℤ at x p +ℤ at m p *ℤ at x q
   cross x up down =
-      mul-assoc-int (pos g) (pos (common (crossed m p q))) (at x (joined m p q))
-      ∙ ap (λ z. pos g *ℤ z) (back-reduced x (crossed m p q)) ∙ crossed_times x up down
+      mul-assoc-int (pos g) (pos (common_divisor (crossed m p q))) (at x (resolvent m p q))
+      ∙ ap (λ z. pos g *ℤ z) (back-primitive_part x (crossed m p q)) ∙ crossed_times x up down
 
   -- the monomial cancels
   pub crossed_vanishes : pos 0 <ℤ at m p → pos 0 <ℤ neg_ℤ (at m q) → pos g *ℤ at m (crossed m p q) ≡

@@ -3,7 +3,7 @@
 use Rattle.std.proofs.Common.{◌≡◌, ◌∙◌, ap, Bool, true, false, cond, refl, sym, List, [], ◌∷◌, map, filter, length, length-append, ◌+◌, ◌*◌, arith}
 use Rattle.std.proofs.lemmas.Bool.{and_from}
 use Rattle.std.specs.List.{list_all}
-use Rattle.rx_fm.specs.Elimination.{joined, negative, next, pairs, positive, without}
+use Rattle.rx_fm.specs.Elimination.{resolvent, negative, stage, pairs, positive, without}
 use Rattle.rx_fm.specs.declared.combination.Combination.{Combination}
 use Rattle.rx_poly.specs.declared.body.Mono.{Mono}
 
@@ -15,14 +15,14 @@ length-pairs : (m : Mono) (ps qs : List Combination) → length (pairs m ps qs) 
     length ps * length qs
 length-pairs m [] qs = omega arith
 length-pairs m (p ∷ ps) qs =
-    let one : length (map (joined m p) qs) ≡ length qs = length-mapped (joined m p) qs in
+    let one : length (map (resolvent m p) qs) ≡ length qs = length-mapped (resolvent m p) qs in
     let rest = length-pairs m ps qs in
-    let both = length-append (map (joined m p) qs) (pairs m ps qs) in
+    let both = length-append (map (resolvent m p) qs) (pairs m ps qs) in
     omega arith
 
 -- how many come of it, by how many there are of each kind
 pub count_is : (m : Mono) (cs : List Combination) {w p n : List Combination} → w ≡ without m cs →
-    p ≡ positive m cs → n ≡ negative m cs → length w + length p * length n ≡ length (next m cs)
+    p ≡ positive m cs → n ≡ negative m cs → length w + length p * length n ≡ length (stage m cs)
 count_is m cs {w} {p} {n} e f g =
     (λ i. length (e i) + length (f i) * length (g i))
     ∙ ap (λ k. length (without m cs) + k) (sym (length-pairs m (positive m cs) (negative m cs)))

@@ -16,13 +16,13 @@ use Rattle.rx_poly.specs.Terms.{is_zero}
 use Rattle.rx_poly.specs.Value.{quotient}
 use Rattle.rx_poly.specs.declared.body.Body.{Body, out-Body}
 use Rattle.rx_poly.specs.declared.body.Mono.{Mono}
-use Rattle.rx_fm.specs.Elimination.{Outcome, at, beyond, common, eliminated, first_negative, found, found_or, given, given_from, is_below_zero, is_negative, elimination, joined, joined_within, monomials, negative, next, next_within, nothing, pairs, pairs_within, positive, unit, without}
+use Rattle.rx_fm.specs.Elimination.{EliminationEnd, at, Large, common_divisor, eliminate, first_negative, found, found_or, given, given_from, is_below_zero, is_negative, elimination, resolvent, resolvent_within, monomials, negative, stage, stage_within, nothing, pairs, pairs_within, positive, unit, without}
 use Rattle.rx_fm.specs.Numbers.{combined, divides_all, gcd, quotients}
 use Rattle.rx_fm.specs.Witness.{IsWitness, one, total}
 use Rattle.rx_fm.specs.declared.combination.Combination.{Combination}
 use Rattle.rx_fm.proofs.Coefficients.{divides_coefficient, only_number}
 use Rattle.rx_fm.proofs.Dividing.{common_divides, divides, exact, quotient_is}
-use Rattle.rx_fm.proofs.Joined.{at-crossed, at-reduced, crossed, joined_good}
+use Rattle.rx_fm.proofs.Joined.{at-crossed, at-primitive_part, crossed, joined_good}
 use Rattle.rx_fm.proofs.Sums.{product_not_negative}
 
 abbrev pub NotNegative : ℤ → Type 0
@@ -138,8 +138,8 @@ pub record Tracked (ps : List Body) (c : Combination) : Type 0 where
   pub same : (x : Mono) → at x c ≡ total x ps c.multipliers
 
 -- two that are joined
-joined_tracked : (ps : List Body) (m : Mono) (p q : Combination) → joined_within m p q ≡ true →
-    Tracked ps p → Tracked ps q → Tracked ps (joined m p q)
+joined_tracked : (ps : List Body) (m : Mono) (p q : Combination) → resolvent_within m p q ≡ true →
+    Tracked ps p → Tracked ps q → Tracked ps (resolvent m p q)
 joined_tracked ps m p q w t u =
     let g = gcd (unsigned_abs (at m p)) (unsigned_abs (at m q)) in
     let k = pos (unsigned_abs (at m q) / g) in
@@ -152,14 +152,15 @@ joined_tracked ps m p q w t u =
     let long = length-combined k l p.multipliers q.multipliers (t.one_each ∙ sym u.one_each) in
     record {
       good = joined_good m p q t.good u.good w;
-      one_each = length-quotients (common c) c.multipliers ∙ long ∙ t.one_each;
+      one_each = length-quotients (common_divisor c) c.multipliers ∙ long ∙ t.one_each;
       none_negative =
-          quotients_not_negative (common c) c.multipliers
+          quotients_not_negative (common_divisor c) c.multipliers
           (combined_not_negative k l (omega (arith, ints)) (omega (arith, ints)) p.multipliers
           q.multipliers t.none_negative u.none_negative);
       same =
-          λ x. at-reduced x c ∙ divided_total x ps (common c) c.multipliers (at x c) divisors.1
-          (divides_coefficient x (common c) (out-Body c.poly).terms divisors.0) (same x);
+          λ x. at-primitive_part x c ∙ divided_total x ps (common_divisor c) c.multipliers (at x c)
+          divisors.1
+          (divides_coefficient x (common_divisor c) (out-Body c.poly).terms divisors.0) (same x);
     }
 
 -- ---- all that are there
@@ -184,27 +185,27 @@ tracked-filter ps test [] h = tt
 tracked-filter ps test (c ∷ cs) h =
     by_test ps c (filter test cs) h.0 (tracked-filter ps test cs h.1) (test c)
 
-tracked-joined : (ps : List Body) (m : Mono) (p : Combination) (qs : List Combination) →
-    list_all (joined_within m p) qs ≡ true → Tracked ps p → AllTracked ps qs →
-    AllTracked ps (map (joined m p) qs)
-tracked-joined ps m p [] w t h = tt
-tracked-joined ps m p (q ∷ qs) w t h =
-    let parts = and_parts (joined_within m p q) (list_all (joined_within m p) qs) w in
-    (joined_tracked ps m p q parts.0 t h.0, tracked-joined ps m p qs parts.1 t h.1)
+tracked-resolvent : (ps : List Body) (m : Mono) (p : Combination) (qs : List Combination) →
+    list_all (resolvent_within m p) qs ≡ true → Tracked ps p → AllTracked ps qs →
+    AllTracked ps (map (resolvent m p) qs)
+tracked-resolvent ps m p [] w t h = tt
+tracked-resolvent ps m p (q ∷ qs) w t h =
+    let parts = and_parts (resolvent_within m p q) (list_all (resolvent_within m p) qs) w in
+    (joined_tracked ps m p q parts.0 t h.0, tracked-resolvent ps m p qs parts.1 t h.1)
 
 tracked-pairs : (ps : List Body) (m : Mono) (firsts seconds : List Combination) →
     pairs_within m firsts seconds ≡ true → AllTracked ps firsts → AllTracked ps seconds →
     AllTracked ps (pairs m firsts seconds)
 tracked-pairs ps m [] qs w h g = tt
 tracked-pairs ps m (p ∷ firsts) qs w h g =
-    let parts = and_parts (list_all (joined_within m p) qs) (pairs_within m firsts qs) w in
-    tracked-append ps (map (joined m p) qs) (pairs m firsts qs)
-    (tracked-joined ps m p qs parts.0 h.0 g) (tracked-pairs ps m firsts qs parts.1 h.1 g)
+    let parts = and_parts (list_all (resolvent_within m p) qs) (pairs_within m firsts qs) w in
+    tracked-append ps (map (resolvent m p) qs) (pairs m firsts qs)
+    (tracked-resolvent ps m p qs parts.0 h.0 g) (tracked-pairs ps m firsts qs parts.1 h.1 g)
 
-tracked-next : (ps : List Body) (limit : ℕ) (m : Mono) (cs : List Combination) →
-    next_within limit m cs ≡ true → AllTracked ps cs → AllTracked ps (next m cs)
-tracked-next ps limit m cs w h =
-    let parts = and_parts (nat_le (length (next m cs)) limit)
+tracked-stage : (ps : List Body) (limit : ℕ) (m : Mono) (cs : List Combination) →
+    stage_within limit m cs ≡ true → AllTracked ps cs → AllTracked ps (stage m cs)
+tracked-stage ps limit m cs w h =
+    let parts = and_parts (nat_le (length (stage m cs)) limit)
     (pairs_within m (positive m cs) (negative m cs)) w in
     tracked-append ps (without m cs) (pairs m (positive m cs) (negative m cs))
     (tracked-filter ps (λ c. is_zero (at m c)) cs h)
@@ -300,32 +301,33 @@ negative_shows ps (c ∷ cs) ms h e =
 some_found : (ms ns : List ℤ) → found ms ≡ found ns → ms ≡ ns
 some_found ms ns e = cc
 
-by_first : (ps : List Body) (cs : List Combination) (ms : List ℤ) (further : Outcome) →
+by_first : (ps : List Body) (cs : List Combination) (ms : List ℤ) (further : EliminationEnd) →
     AllTracked ps cs → (further ≡ found ms → IsWitness ps ms) → (o : Option (List ℤ)) →
     first_negative cs ≡ o → found_or o further ≡ found ms → IsWitness ps ms
 by_first ps cs ms further h rest None e g = rest g
 by_first ps cs ms further h rest (Some ns) e g =
     negative_shows ps cs ms h (e ∙ ap Some (some_found ns ms g))
 
-by_within : (ps : List Body) (ms : List ℤ) (further : Outcome) (b : Bool) →
-    (b ≡ true → further ≡ found ms → IsWitness ps ms) → cond b further beyond ≡ found ms →
+by_within : (ps : List Body) (ms : List ℤ) (further : EliminationEnd) (b : Bool) →
+    (b ≡ true → further ≡ found ms → IsWitness ps ms) → cond b further Large ≡ found ms →
     IsWitness ps ms
 by_within ps ms further true rest e = rest refl e
 by_within ps ms further false rest e = cc
 
 found_shows : (ps : List Body) (limit : ℕ) (monos : List Mono) (cs : List Combination) (ms : List ℤ)
-    → AllTracked ps cs → eliminated limit monos cs ≡ found ms → IsWitness ps ms
+    → AllTracked ps cs → eliminate limit monos cs ≡ found ms → IsWitness ps ms
 found_shows ps limit [] cs ms h e = by_first ps cs ms nothing h (λ g. cc) (first_negative cs) refl e
 found_shows ps limit (m ∷ monos) cs ms h e =
-    let further : Outcome = cond (next_within limit m cs) (eliminated limit monos (next m cs))
-    beyond in
+    let further : EliminationEnd = cond (stage_within limit m cs)
+    (eliminate limit monos (stage m cs))
+    Large in
     by_first ps cs ms further h
-    (λ g. by_within ps ms (eliminated limit monos (next m cs)) (next_within limit m cs)
-    (λ w k. found_shows ps limit monos (next m cs) ms (tracked-next ps limit m cs w h) k) g)
+    (λ g. by_within ps ms (eliminate limit monos (stage m cs)) (stage_within limit m cs)
+    (λ w k. found_shows ps limit monos (stage m cs) ms (tracked-stage ps limit m cs w h) k) g)
     (first_negative cs) refl e
 
-by_count : (ps : List Body) (ms : List ℤ) (further : Outcome) (b : Bool) →
-    (further ≡ found ms → IsWitness ps ms) → cond b further beyond ≡ found ms → IsWitness ps ms
+by_count : (ps : List Body) (ms : List ℤ) (further : EliminationEnd) (b : Bool) →
+    (further ≡ found ms → IsWitness ps ms) → cond b further Large ≡ found ms → IsWitness ps ms
 by_count ps ms further true rest e = rest e
 by_count ps ms further false rest e = cc
 
@@ -333,5 +335,5 @@ by_count ps ms further false rest e = cc
 pub witness : (limit : ℕ) (ps : List Body) (ms : List ℤ) → list_all is_poly ps ≡ true →
     elimination limit ps ≡ found ms → IsWitness ps ms
 witness limit ps ms h e =
-    by_count ps ms (eliminated limit (monomials ps) (given ps)) (nat_le (length ps) limit)
+    by_count ps ms (eliminate limit (monomials ps) (given ps)) (nat_le (length ps) limit)
     (λ g. found_shows ps limit (monomials ps) (given ps) ms (tracked-given ps h) g) e

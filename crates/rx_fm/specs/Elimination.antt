@@ -4,7 +4,7 @@ use Rattle.std.specs.Prelude.{ℕ, suc, ◌/◌, nat_le, Bool, true, false, ◌&
 use Rattle.std.specs.List.{list_all}
 use Rattle.std.specs.declared.cmp.Ordering.{Ordering}
 use Rattle.std.specs.declared.cmp.Ordering.TheVariants.{Less, Equal, Greater}
-use Rattle.rx_poly.specs.Limits.{added, is_within, of_terms, scaled_by}
+use Rattle.rx_poly.specs.Limits.{body_sum, is_within, of_terms, scaled_by}
 use Rattle.rx_poly.specs.Normal.{is_empty}
 use Rattle.rx_poly.specs.Order.{mono_cmp}
 use Rattle.rx_poly.specs.Reading.{coefficient, constant_of}
@@ -57,58 +57,62 @@ abbrev pub coefficients : Body → List ℤ
 coefficients p = map (λ (t : Mono × ℤ). t.1) (out-Body p).terms
 
 -- k times the first plus l times the second, the multipliers likewise
-abbrev pub weighed : ℤ → Combination → ℤ → Combination → Combination
-weighed k p l q =
+abbrev pub linear_combination : ℤ → Combination → ℤ → Combination → Combination
+linear_combination k p l q =
     record {
-      poly = added (scaled_by k p.poly) (scaled_by l q.poly);
+      poly = body_sum (scaled_by k p.poly) (scaled_by l q.poly);
       multipliers =
           combined k p.multipliers l q.multipliers;
     }
 
 -- whether the two multiples, their sum, and all that is formed for the multipliers keep the limits
-abbrev pub weighed_within : ℤ → Combination → ℤ → Combination → Bool
-weighed_within k p l q =
+abbrev pub linear_combination_within : ℤ → Combination → ℤ → Combination → Bool
+linear_combination_within k p l q =
     is_within (scaled_by k p.poly)
     && (is_within (scaled_by l q.poly) && (is_within
-    (added (scaled_by k p.poly) (scaled_by l q.poly)) &&
+    (body_sum (scaled_by k p.poly) (scaled_by l q.poly)) &&
     combined_within k p.multipliers l q.multipliers))
 
 -- the two weighed so that coefficients of the sizes a and b and of opposite signs cancel, by the
 -- least such weights
-abbrev pub cancelled : ℕ → ℕ → Combination → Combination → Combination
-cancelled a b p q = weighed (pos (b / gcd a b)) p (pos (a / gcd a b)) q
+abbrev pub eliminant : ℕ → ℕ → Combination → Combination → Combination
+eliminant a b p q = linear_combination (pos (b / gcd a b)) p (pos (a / gcd a b)) q
 
-abbrev pub cancelled_within : ℕ → ℕ → Combination → Combination → Bool
-cancelled_within a b p q = weighed_within (pos (b / gcd a b)) p (pos (a / gcd a b)) q
+abbrev pub eliminant_within : ℕ → ℕ → Combination → Combination → Bool
+eliminant_within a b p q = linear_combination_within (pos (b / gcd a b)) p (pos (a / gcd a b)) q
 
 -- the greatest common divisor of all coefficients and multipliers
-abbrev pub common : Combination → ℕ
-common c = gcd_with (gcd_with 0 (coefficients c.poly)) c.multipliers
+abbrev pub common_divisor : Combination → ℕ
+common_divisor c = gcd_with (gcd_with 0 (coefficients c.poly)) c.multipliers
 
 -- whether all their sizes are numbers of i128
-abbrev pub common_within : Combination → Bool
-common_within c = sizes_fit (coefficients c.poly) && sizes_fit c.multipliers
+abbrev pub common_divisor_within : Combination → Bool
+common_divisor_within c = sizes_fit (coefficients c.poly) && sizes_fit c.multipliers
 
 -- the polynomial with each coefficient divided by d
 abbrev pub divided : ℕ → Body → Body
 divided d p = of_terms (map (λ (t : Mono × ℤ). (t.0, quotient t.1 (pos d))) (out-Body p).terms)
 
 -- all coefficients and multipliers divided by their greatest common divisor
-abbrev pub reduced : Combination → Combination
-reduced c =
-    record { poly = divided (common c) c.poly; multipliers = quotients (common c) c.multipliers }
+abbrev pub primitive_part : Combination → Combination
+primitive_part c =
+    record {
+      poly = divided (common_divisor c) c.poly;
+      multipliers =
+          quotients (common_divisor c) c.multipliers;
+    }
 
 -- the two joined so that the monomial cancels, where its coefficients have opposite signs
-abbrev pub joined : Mono → Combination → Combination → Combination
-joined m p q = reduced (cancelled (unsigned_abs (at m p)) (unsigned_abs (at m q)) p q)
+abbrev pub resolvent : Mono → Combination → Combination → Combination
+resolvent m p q = primitive_part (eliminant (unsigned_abs (at m p)) (unsigned_abs (at m q)) p q)
 
 -- whether all that is formed on the way to that keeps the limits; the coefficient of q is the
 -- negative one
-abbrev pub joined_within : Mono → Combination → Combination → Bool
-joined_within m p q =
+abbrev pub resolvent_within : Mono → Combination → Combination → Bool
+resolvent_within m p q =
     size_fits (at m q)
-    && (cancelled_within (unsigned_abs (at m p)) (unsigned_abs (at m q)) p q
-    && common_within (cancelled (unsigned_abs (at m p)) (unsigned_abs (at m q)) p q))
+    && (eliminant_within (unsigned_abs (at m p)) (unsigned_abs (at m q)) p q
+    && common_divisor_within (eliminant (unsigned_abs (at m p)) (unsigned_abs (at m q)) p q))
 
 -- ---- one stage
 
@@ -125,31 +129,31 @@ negative m cs = filter (λ c. int_lt (at m c) (pos 0)) cs
 -- each of the first joined with each of the second, in order
 abbrev pub pairs : Mono → List Combination → List Combination → List Combination
 pairs m [] qs = []
-pairs m (p ∷ ps) qs = map (joined m p) qs ++ pairs m ps qs
+pairs m (p ∷ ps) qs = map (resolvent m p) qs ++ pairs m ps qs
 
 abbrev pub pairs_within : Mono → List Combination → List Combination → Bool
 pairs_within m [] qs = true
-pairs_within m (p ∷ ps) qs = list_all (joined_within m p) qs && pairs_within m ps qs
+pairs_within m (p ∷ ps) qs = list_all (resolvent_within m p) qs && pairs_within m ps qs
 
 -- those without the monomial, then each positive one joined with each negative one
-abbrev pub next : Mono → List Combination → List Combination
-next m cs = without m cs ++ pairs m (positive m cs) (negative m cs)
+abbrev pub stage : Mono → List Combination → List Combination
+stage m cs = without m cs ++ pairs m (positive m cs) (negative m cs)
 
 -- whether all that is formed keeps the limits, and no more than `limit` are there
-abbrev pub next_within : ℕ → Mono → List Combination → Bool
-next_within limit m cs =
-    nat_le (length (next m cs)) limit && pairs_within m (positive m cs) (negative m cs)
+abbrev pub stage_within : ℕ → Mono → List Combination → Bool
+stage_within limit m cs =
+    nat_le (length (stage m cs)) limit && pairs_within m (positive m cs) (negative m cs)
 
 -- ---- the elimination
 
 -- what an elimination ends with
-pub data Outcome : Type 0 where
+pub data EliminationEnd : Type 0 where
   -- something passes the limits
-  beyond : Outcome
+  Large : EliminationEnd
   -- no monomial is left, and no polynomial is a negative number
-  nothing : Outcome
+  nothing : EliminationEnd
   -- the multipliers of the first polynomial that is a negative number
-  found : List ℤ → Outcome
+  found : List ℤ → EliminationEnd
 
 -- the sum is a negative number
 abbrev pub is_below_zero : Option ℤ → Bool
@@ -166,17 +170,17 @@ first_negative [] = None
 first_negative (c ∷ cs) = if is_negative c then Some c.multipliers else first_negative cs
 
 -- the multipliers that were found, or how it ends otherwise
-abbrev pub found_or : Option (List ℤ) → Outcome → Outcome
+abbrev pub found_or : Option (List ℤ) → EliminationEnd → EliminationEnd
 found_or None further = further
 found_or (Some ms) further = found ms
 
 -- the monomials are eliminated one after the other, and before each it is seen whether a negative
 -- number is there; where no polynomial has the monomial any more nothing changes
-abbrev pub eliminated : ℕ → List Mono → List Combination → Outcome
-eliminated limit [] cs = found_or (first_negative cs) nothing
-eliminated limit (m ∷ ms) cs =
-    found_or (first_negative cs) (if next_within limit m cs then
-    eliminated limit ms (next m cs) else beyond)
+abbrev pub eliminate : ℕ → List Mono → List Combination → EliminationEnd
+eliminate limit [] cs = found_or (first_negative cs) nothing
+eliminate limit (m ∷ ms) cs =
+    found_or (first_negative cs) (if stage_within limit m cs then
+    eliminate limit ms (stage m cs) else Large)
 
 -- `count` multipliers that are 0, but 1 at that place
 abbrev pub unit : ℕ → ℕ → List ℤ
@@ -193,6 +197,6 @@ given ps = given_from 0 (length ps) ps
 
 -- the elimination of all monomials, with at most `limit` polynomials at the beginning and after
 -- each stage
-abbrev pub elimination : ℕ → List Body → Outcome
+abbrev pub elimination : ℕ → List Body → EliminationEnd
 elimination limit ps =
-    if nat_le (length ps) limit then eliminated limit (monomials ps) (given ps) else beyond
+    if nat_le (length ps) limit then eliminate limit (monomials ps) (given ps) else Large

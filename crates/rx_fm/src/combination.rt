@@ -5,7 +5,7 @@ ghost use Rattle.rx_poly.specs.Reading.{coefficient};
 ghost use Rattle.rx_poly.specs.Value.{quotient};
 ghost use Rattle.rx_poly.specs.declared.body.Body.{out-Body};
 ghost use Rattle.rx_poly.specs.declared.body.Mono.{Mono};
-ghost use Rattle.rx_fm.specs.Elimination.{at, cancelled, cancelled_within, coefficients, common, common_within, divided, joined, joined_within, reduced, weighed, weighed_within};
+ghost use Rattle.rx_fm.specs.Elimination.{at, eliminant, eliminant_within, coefficients, common_divisor, common_divisor_within, divided, resolvent, resolvent_within, primitive_part, linear_combination, linear_combination_within};
 ghost use Rattle.rx_fm.specs.Numbers.{divides_all, gcd, gcd_with, size_fits, sizes_fit};
 
 use crate::fm_end::FmEnd;
@@ -39,10 +39,10 @@ fn weighed(
     l: &i128,
     second: &Combination,
 ) -> Result<Combination, FmEnd>
-    ensures same { IfOk result (λ c. c ≡ weighed k.now first.now l.now second.now) }
-    ensures within { OnOk result (weighed_within k.now first.now l.now second.now ≡ true) }
+    ensures same { IfOk result (λ c. c ≡ linear_combination k.now first.now l.now second.now) }
+    ensures within { OnOk result (linear_combination_within k.now first.now l.now second.now ≡ true) }
     ensures large { IfErr result (λ e. e ≡ FmEnd.Large →
-        weighed_within k.now first.now l.now second.now ≡ false) }
+        linear_combination_within k.now first.now l.now second.now ≡ false) }
 {
     let left = first.poly.scale(alloc, *k)?;
     let right = second.poly.scale(alloc, *l)?;
@@ -67,12 +67,12 @@ fn cancelled(
 ) -> Result<Combination, FmEnd>
     requires positive { pos 0 <ℤ positive.now }
     requires negative { pos 0 <ℤ negative.now }
-    ensures same { IfOk result (λ c. c ≡ cancelled (unsigned_abs positive.now)
+    ensures same { IfOk result (λ c. c ≡ eliminant (unsigned_abs positive.now)
         (unsigned_abs negative.now) first.now second.now) }
-    ensures within { OnOk result (cancelled_within (unsigned_abs positive.now)
+    ensures within { OnOk result (eliminant_within (unsigned_abs positive.now)
         (unsigned_abs negative.now) first.now second.now ≡ true) }
     ensures large { IfErr result (λ e. e ≡ FmEnd.Large →
-        cancelled_within (unsigned_abs positive.now) (unsigned_abs negative.now) first.now
+        eliminant_within (unsigned_abs positive.now) (unsigned_abs negative.now) first.now
         second.now ≡ false) }
 {
     let common = gcd(positive, negative);
@@ -98,7 +98,8 @@ fn gcd_of_terms(first: &i128, terms: &[(Mono, i128)]) -> Option<i128>
 /// The greatest common divisor of all coefficients and multipliers; None where the size of one of
 /// them leaves i128.
 fn common(combination: &Combination) -> Option<i128>
-    ensures { SomeIff result (common_within combination.now ≡ true) (pos (common combination.now)) }
+    ensures { SomeIff result (common_divisor_within combination.now ≡ true)
+        (pos (common_divisor combination.now)) }
 {
     let terms = combination.poly.body().terms.as_slice();
     let of_terms = gcd_of_terms(&0, terms)?;
@@ -136,9 +137,9 @@ fn divided_poly(alloc: Global, poly: &Poly, by: &i128) -> Result<Poly, AllocErro
 /// All coefficients and multipliers divided by their greatest common divisor. Large exactly where
 /// the size of one of them leaves i128.
 fn reduced(alloc: Global, combination: Combination) -> Result<Combination, FmEnd>
-    ensures same { IfOk result (λ c. c ≡ reduced combination) }
-    ensures within { OnOk result (common_within combination ≡ true) }
-    ensures large { IfErr result (λ e. e ≡ FmEnd.Large → common_within combination ≡ false) }
+    ensures same { IfOk result (λ c. c ≡ primitive_part combination) }
+    ensures within { OnOk result (common_divisor_within combination ≡ true) }
+    ensures large { IfErr result (λ e. e ≡ FmEnd.Large → common_divisor_within combination ≡ false) }
 {
     let Some(by) = common(&combination) else {
         return Err(FmEnd::Large);
@@ -161,10 +162,10 @@ pub(crate) fn joined(
 ) -> Result<Combination, FmEnd>
     requires positive { pos 0 <ℤ at mono.now first.now }
     requires negative { at mono.now second.now <ℤ pos 0 }
-    ensures same { IfOk result (λ c. c ≡ joined mono.now first.now second.now) }
-    ensures within { OnOk result (joined_within mono.now first.now second.now ≡ true) }
+    ensures same { IfOk result (λ c. c ≡ resolvent mono.now first.now second.now) }
+    ensures within { OnOk result (resolvent_within mono.now first.now second.now ≡ true) }
     ensures large { IfErr result (λ e. e ≡ FmEnd.Large →
-        joined_within mono.now first.now second.now ≡ false) }
+        resolvent_within mono.now first.now second.now ≡ false) }
 {
     let positive = first.coeff(mono);
     let Some(negative) = size(&second.coeff(mono)) else {

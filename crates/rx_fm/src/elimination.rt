@@ -1,7 +1,7 @@
 //! The elimination of all monomials, and the multipliers that it finds.
 ghost use Rattle.std.specs.Prelude.{◌≡◌, ◌<◌, None, Some, length, List, ℤ, MatchOption, IfOk, IfErr, IfSome, IsNone};
 ghost use Rattle.rx_fm.specs.Witness.{IsWitness};
-ghost use Rattle.rx_fm.specs.Elimination.{beyond, eliminated, elimination, first_negative, found, given, given_from, is_negative, nothing, unit};
+ghost use Rattle.rx_fm.specs.Elimination.{Large, eliminate, elimination, first_negative, found, given, given_from, is_negative, nothing, unit};
 
 use crate::combination::Combination;
 use crate::fm_end::FmEnd;
@@ -64,9 +64,9 @@ fn eliminated(
     given: Items<Combination>,
     limit: u32,
 ) -> Result<Option<Vec<i128>>, FmEnd>
-    ensures exact { IfOk result (λ a. MatchOption a (eliminated limit monos.now given ≡ nothing)
-        (λ ms. eliminated limit monos.now given ≡ found ms.items)) }
-    ensures large { IfErr result (λ e. e ≡ FmEnd.Large → eliminated limit monos.now given ≡ beyond) }
+    ensures exact { IfOk result (λ a. MatchOption a (eliminate limit monos.now given ≡ nothing)
+        (λ ms. eliminate limit monos.now given ≡ found ms.items)) }
+    ensures large { IfErr result (λ e. e ≡ FmEnd.Large → eliminate limit monos.now given ≡ Large) }
 {
     let mut standing = given;
     for mono in monos {
@@ -94,7 +94,7 @@ pub fn farkas(alloc: Global, polys: &[Poly], limit: u32) -> Result<Option<Vec<i1
         (λ ms. elimination limit polys.now ≡ found ms.items)) }
     ensures witness { IfOk result (λ a. IfSome a (λ ms. IsWitness polys.now ms.items)) }
     ensures none { IfOk result (λ a. IsNone a → (ms : List ℤ) → ¬ (IsWitness polys.now ms)) }
-    ensures large { IfErr result (λ e. e ≡ FmEnd.Large → elimination limit polys.now ≡ beyond) }
+    ensures large { IfErr result (λ e. e ≡ FmEnd.Large → elimination limit polys.now ≡ Large) }
 {
     if polys.len() > limit as usize {
         return Err(FmEnd::Large);

@@ -1,7 +1,7 @@
 //! One stage: a monomial is eliminated.
 ghost use Rattle.std.specs.Prelude.{◌≡◌, ◌<ℤ◌, ◌≤◌, ◌+◌, ◌*◌, ◌++◌, [], ◌∷◌, pos, true, false, int_lt, length, map, nat_le, IfOk, IfErr, OnOk};
 ghost use Rattle.std.specs.List.{list_all};
-ghost use Rattle.rx_fm.specs.Elimination.{at, joined, joined_within, negative, next, next_within, pairs, pairs_within, positive, without};
+ghost use Rattle.rx_fm.specs.Elimination.{at, resolvent, resolvent_within, negative, stage, stage_within, pairs, pairs_within, positive, without};
 
 use crate::combination::{Combination, joined};
 use crate::fm_end::FmEnd;
@@ -66,10 +66,10 @@ fn push_joined(
 ) -> Result<(), FmEnd>
     requires first { int_lt (pos 0) (at mono.now first.now) ≡ true }
     requires seconds { list_all (λ c. int_lt (at mono.now c) (pos 0)) seconds.now ≡ true }
-    ensures ok { OnOk result (made.new ≡ made.old ++ map (joined mono.now first.now) seconds.now) }
-    ensures within { OnOk result (list_all (joined_within mono.now first.now) seconds.now ≡ true) }
+    ensures ok { OnOk result (made.new ≡ made.old ++ map (resolvent mono.now first.now) seconds.now) }
+    ensures within { OnOk result (list_all (resolvent_within mono.now first.now) seconds.now ≡ true) }
     ensures large { IfErr result (λ e. e ≡ FmEnd.Large →
-        list_all (joined_within mono.now first.now) seconds.now ≡ false) }
+        list_all (resolvent_within mono.now first.now) seconds.now ≡ false) }
 {
     for second in seconds {
         let both = joined(alloc, mono, first, second)?;
@@ -118,9 +118,9 @@ pub(crate) fn stage(
     mono: &Mono,
     limit: u32,
 ) -> Result<Items<Combination>, FmEnd>
-    ensures same { IfOk result (λ cs. cs ≡ next mono.now combinations) }
-    ensures within { OnOk result (next_within limit mono.now combinations ≡ true) }
-    ensures large { IfErr result (λ e. e ≡ FmEnd.Large → next_within limit mono.now combinations ≡
+    ensures same { IfOk result (λ cs. cs ≡ stage mono.now combinations) }
+    ensures within { OnOk result (stage_within limit mono.now combinations ≡ true) }
+    ensures large { IfErr result (λ e. e ≡ FmEnd.Large → stage_within limit mono.now combinations ≡
         false) }
 {
     let split = split(alloc, combinations, mono)?;

@@ -3,7 +3,7 @@ use Rattle.std.proofs.Common.{◌≡◌, ◌∙◌, ap, refl, Bool, true, false,
 use Rattle.std.specs.Prelude.{slice_get}
 use Rattle.rx_plain.specs.Formed.{Formed}
 use Rattle.rx_term.specs.Meaning.{redex_of}
-use Rattle.rx_term.specs.Stacks.{behind}
+use Rattle.rx_term.specs.Stacks.{suffix_at}
 use Rattle.rx_term.specs.declared.rule.Equation.{Equation}
 use Rattle.rx_term.specs.declared.rule.Rule.{Rule}
 use Rattle.rx_term.specs.declared.rule_set.RuleParts.{RuleParts}
@@ -95,8 +95,8 @@ module _ (parts : RuleParts) (hypotheses : List Rule) (goal : Equation) where
       (numbered (slice_get parts.rules number)) (λ rule.
       tested (have_one_shape rule.left redex) _ (kept (simplified_by goal side redex rule))))
   never_on (step.Hyp side place number ws certs) =
-      after (found_or WrongShape (behind place (side_of side goal))) _
-      (part (behind place (side_of side goal))) (λ place.
+      after (found_or WrongShape (suffix_at place (side_of side goal))) _
+      (part (suffix_at place (side_of side goal))) (λ place.
       after (provided (is_substitution ws) (found_or NoSuchRule (slice_get hypotheses number))) _
       (tested (is_substitution ws) _ (numbered (slice_get hypotheses number))) (λ rule.
       tested (have_one_shape place rule.left) _ (kept _)))
@@ -119,8 +119,9 @@ module _ (parts : RuleParts) (hypotheses : List Rule) (goal : Equation) where
       after (found_or WrongShape (top_frame goal.right)) _ (part (top_frame goal.right)) (λ other.
       tested _ _ (kept (decomposed_by goal one.arguments other.arguments one.inner other.inner))))
   never_on (step.Results left right certs) =
-      after (found_or WrongShape (behind left goal.left)) _ (part (behind left goal.left)) (λ one.
-      after (found_or WrongShape (behind right goal.right)) _ (part (behind right goal.right))
+      after (found_or WrongShape (suffix_at left goal.left)) _ (part (suffix_at left goal.left))
+      (λ one.
+      after (found_or WrongShape (suffix_at right goal.right)) _ (part (suffix_at right goal.right))
       (λ other.
       tested _ _ (kept (resulting_by parts.fails goal left right one other))))
 

@@ -5,7 +5,7 @@ use Rattle.std.proofs.lemmas.Bool.{eqb-true}
 use Rattle.std.proofs.lemmas.List.{take_all}
 use Rattle.std.proofs.lemmas.List.Elements.{All-cons, All-nil}
 use Rattle.rx_cert.specs.Conditions.{asked_for, conditions, in_order}
-use Rattle.rx_cert.specs.Examination.{finding}
+use Rattle.rx_cert.specs.Examination.{verdict}
 use Rattle.rx_cert.specs.Findings.{Said, Yes, No, Beyond}
 use Rattle.rx_cert.specs.declared.cert.Cert.{Cert}
 use Rattle.rx_cert.specs.declared.conditions.ConditionsAnswer.{ConditionsAnswer}
@@ -104,5 +104,5 @@ module _ (old new : List Row) where
   pub shown_refuted : (certs : List Cert) → judged old new Refuted certs ≡ Shown → (a : ℕ → ℤ) →
       AllHold a old → ⊥
   shown_refuted [] e = cc
-  shown_refuted (cert ∷ []) e = refuted old cert (said_so (finding old cert) e)
+  shown_refuted (cert ∷ []) e = refuted old cert (said_so (verdict old cert) e)
   shown_refuted (cert ∷ other ∷ certs) e = cc

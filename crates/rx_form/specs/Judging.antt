@@ -2,7 +2,7 @@
 -- given.
 use Rattle.std.specs.Prelude.{ℕ, ◌+◌, ◌==◌, if◌then◌else◌, Option, Some, None, List, [], ◌∷◌, length, take, drop}
 use Rattle.rx_cert.specs.Conditions.{asked_for, in_order}
-use Rattle.rx_cert.specs.Examination.{finding}
+use Rattle.rx_cert.specs.Examination.{verdict}
 use Rattle.rx_cert.specs.Findings.{Said, Yes, No, Beyond}
 use Rattle.rx_cert.specs.declared.cert.Cert.{Cert}
 use Rattle.rx_cert.specs.declared.conditions.ConditionsAnswer.{ConditionsAnswer}
@@ -119,7 +119,7 @@ of_said Beyond = Fault Large
 -- one certificate refutes the rows
 abbrev pub refutation : List Row → List Cert → Judgement
 refutation rows [] = Fault WrongShape
-refutation rows (cert ∷ []) = of_said (finding rows cert)
+refutation rows (cert ∷ []) = of_said (verdict rows cert)
 refutation rows (cert ∷ other ∷ certs) = Fault WrongShape
 
 -- what is asked under the rows of the goal, and of the first new one

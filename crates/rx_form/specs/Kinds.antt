@@ -6,7 +6,7 @@ use Rattle.rx_row.specs.Variables.{row_bound}
 use Rattle.rx_row.specs.declared.row.Row.{Row}
 use Rattle.rx_term.specs.Bounds.{equation_bound}
 use Rattle.rx_term.specs.Meaning.{redex_of}
-use Rattle.rx_term.specs.Stacks.{behind, ends_in_call}
+use Rattle.rx_term.specs.Stacks.{suffix_at, ends_in_call}
 use Rattle.rx_term.specs.declared.rule.Equation.{Equation}
 use Rattle.rx_term.specs.declared.rule.Rule.{Rule}
 use Rattle.rx_term.specs.declared.rule_set.RuleParts.{RuleParts}
@@ -36,7 +36,7 @@ simplified rules goal side number = do
 -- has the part's shape
 abbrev pub used : List Rule → Equation → Side → ℕ → ℕ → List (ℕ × Body) → Forming FormedStep
 used hypotheses goal side place number ws = do
-  part ← found_or WrongShape (behind place (side_of side goal))
+  part ← found_or WrongShape (suffix_at place (side_of side goal))
   hypothesis ← provided (is_substitution ws) (found_or NoSuchRule (slice_get hypotheses number))
   provided (have_one_shape part hypothesis.left)
       (limited (used_by goal side place (hypothesis_with ws part hypothesis)))
@@ -99,8 +99,8 @@ are_common one other left right =
 -- below the limit
 abbrev pub resulting : ℕ → Equation → ℕ → ℕ → Forming FormedStep
 resulting fails goal left right = do
-  one ← found_or WrongShape (behind left goal.left)
-  other ← found_or WrongShape (behind right goal.right)
+  one ← found_or WrongShape (suffix_at left goal.left)
+  other ← found_or WrongShape (suffix_at right goal.right)
   provided (are_common one other left right && nat_lt (equation_bound goal) variable_limit)
       (limited (resulting_by fails goal left right one other))
 

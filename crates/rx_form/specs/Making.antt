@@ -13,7 +13,7 @@ use Rattle.rx_term.specs.Differences.{term_differences}
 use Rattle.rx_term.specs.Meaning.{matched}
 use Rattle.rx_term.specs.Paired.{rules_of_shape}
 use Rattle.rx_term.specs.Shapes.{shape_of}
-use Rattle.rx_term.specs.Stacks.{replace_redex, replaced}
+use Rattle.rx_term.specs.Stacks.{replace_redex, replace_at}
 use Rattle.rx_term.specs.Substitution.{term_with}
 use Rattle.rx_term.specs.declared.rule.Equation.{Equation}
 use Rattle.rx_term.specs.declared.rule.Rule.{Rule}
@@ -45,7 +45,7 @@ hypothesis_with ws part hypothesis = do
 abbrev pub used_by : Equation → Side → ℕ → Formed RuleInstance → Formed FormedStep
 used_by goal side place instance =
     (λ (i : RuleInstance). asking i.rows (with_side side goal
-    (replaced place (side_of side goal) i.right) ∷ [])) <$> instance
+    (replace_at place (side_of side goal) i.right) ∷ [])) <$> instance
 
 -- one rule of the redex's shape: its rows added to the goal's, and its right side in place of the
 -- redex
@@ -142,7 +142,7 @@ results_of fails fresh = Return (variable fresh) ∷ failures fails
 -- the goal with one of them in place of both parts
 abbrev pub with_result : Equation → ℕ → ℕ → Term → Equation
 with_result goal left right end =
-    with_sides goal (replaced left goal.left end) (replaced right goal.right end)
+    with_sides goal (replace_at left goal.left end) (replace_at right goal.right end)
 
 -- new goals, where rows that are formed are asked
 abbrev pub asking_formed : Formed (List Row) → List Equation → Formed FormedStep

@@ -2,7 +2,7 @@
 ghost use Rattle.std.specs.Prelude.{◌≡◌, ◌++◌, List, map, IfOk, OnOk};
 ghost use Rattle.rx_plain.specs.Formed.{Formed, Forms};
 ghost use Rattle.rx_row.specs.declared.row.Row.{Row};
-ghost use Rattle.rx_term.specs.Stacks.{replaced};
+ghost use Rattle.rx_term.specs.Stacks.{replace_at};
 ghost use Rattle.rx_form.specs.Forming.{Gives};
 ghost use Rattle.rx_form.specs.Kinds.{are_common, decomposed, resulting};
 ghost use Rattle.rx_form.specs.Making.{asking_formed, decomposed_by, failures, results_of, with_result, with_sides};
@@ -70,7 +70,7 @@ pub(crate) fn decompose(alloc: Global, goal: &Equation) -> Result<FormedStep, Fo
 
 /// The term with another in place of a part; both are copied.
 fn replaced(alloc: Global, term: &Term, place: u32, inner: &Term) -> Result<Term, AllocError>
-    ensures { IfOk result (λ t. t ≡ replaced place term.now inner.now) }
+    ensures { IfOk result (λ t. t ≡ replace_at place term.now inner.now) }
 {
     let whole = term.try_clone(alloc)?;
     let inner = inner.try_clone(alloc)?;

@@ -3,7 +3,7 @@ ghost use Rattle.std.specs.Prelude.{◌≡◌, ◌∷◌, [], if◌then◌else�
 ghost use Rattle.rx_plain.specs.Formed.{Formed, Forms, map_formed};
 ghost use Rattle.rx_term.specs.Paired.{rules_of_shape};
 ghost use Rattle.rx_term.specs.Shapes.{shape_of};
-ghost use Rattle.rx_term.specs.Stacks.{replace_redex, replaced};
+ghost use Rattle.rx_term.specs.Stacks.{replace_redex, replace_at};
 ghost use Rattle.rx_form.specs.Forming.{Gives};
 ghost use Rattle.rx_form.specs.Kinds.{expanded, simplified, used};
 ghost use Rattle.rx_form.specs.Making.{expanded_by, expanded_by_all, from_side, hypothesis_with, kept_if, simplified_by, used_by};
@@ -101,7 +101,7 @@ fn with_part(
     right: Term,
 ) -> Result<Equation, AllocError>
     ensures { IfOk result (λ e. e ≡ with_side side goal.now
-        (replaced place (side_of side goal.now) right)) }
+        (replace_at place (side_of side goal.now) right)) }
 {
     let term = side_of(goal, side).try_clone(alloc)?.replace(place, right);
     with_side(alloc, goal, side, term)

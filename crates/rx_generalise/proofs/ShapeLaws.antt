@@ -8,15 +8,16 @@ use Rattle.rx_poly.specs.declared.body.Body.{Body}
 use Rattle.rx_row.specs.Naming.{named}
 use Rattle.rx_solve.specs.Attempts.{Tried, applies, beyond, fails}
 use Rattle.rx_term.specs.Bounds.{equation_bound}
-use Rattle.rx_term.specs.Shapes.{Framed, shape_of}
-use Rattle.rx_term.specs.Stacks.{redex_place, replace_redex, replaced}
+use Rattle.rx_term.specs.Shapes.{shape_of}
+use Rattle.rx_term.specs.Shapes as shapes_spec
+use Rattle.rx_term.specs.Stacks.{redex_place, replace_redex, replace_at}
 use Rattle.rx_term.specs.declared.rule.Equation.{Equation}
 use Rattle.rx_term.specs.declared.rule_set.RuleParts.{RuleParts}
 use Rattle.rx_term.specs.declared.term.Sym.{Sym}
 use Rattle.rx_term.specs.declared.term.Term.{Term}
 use Rattle.rx_term.specs.declared.term.Term.TheFolds.{fold_out-Term}
 use Rattle.rx_term.specs.declared.term.Term.TheVariants.{Return, Fail, Call, Frame, outs-Return, outs-Fail, outs-Call, outs-Frame}
-use Rattle.rx_term.proofs.Equations.{induct, redex-Call, redex-Frame, replaced-Frame, shape-Call, shape-Frame}
+use Rattle.rx_term.proofs.Equations.{induct, redex-Call, redex-Frame, replace_at-Frame, shape-Call, shape-Frame}
 use Rattle.rx_form.specs.Pieces.{side_of, other_side}
 use Rattle.rx_form.specs.declared.step.Side.{Side}
 use Rattle.rx_form.specs.declared.step.Side.TheVariants.{Left, Right}
@@ -50,7 +51,7 @@ module _ (c : Applied) (qs : List Body) where
   record Keeping (t : Term) : Type 0 where
     place : ℕ
     there : redex_place t ≡ Some place
-    shape : shape_of (replaced place t (Call c.symbol qs)) ≡ shape_of t
+    shape : shape_of (replace_at place t (Call c.symbol qs)) ≡ shape_of t
 
   abbrev Keeps : Term → Type 0
   Keeps t = call_of t ≡ Some c → Keeping t
@@ -74,9 +75,9 @@ module _ (c : Applied) (qs : List Body) where
             redex-Frame f ps t ∙ ap (λ (o : Option ℕ). Some (option_map_or (λ n. 1 + n) o 0))
             k.there ∙ ap (λ (n : ℕ). Some n) next;
         shape =
-            ap shape_of (replaced-Frame k.place f ps t (Call c.symbol qs)) ∙
-            shape-Frame f ps (replaced k.place t (Call c.symbol qs))
-            ∙ ap (Framed f) k.shape ∙ sym (shape-Frame f ps t);
+            ap shape_of (replace_at-Frame k.place f ps t (Call c.symbol qs)) ∙
+            shape-Frame f ps (replace_at k.place t (Call c.symbol qs))
+            ∙ ap (shapes_spec.Frame f) k.shape ∙ sym (shape-Frame f ps t);
       }
 
   keeps : (t : Term) → Keeps t
@@ -88,7 +89,7 @@ module _ (c : Applied) (qs : List Body) where
       shape_of (replace_redex t (Call c.symbol qs)) ≡ shape_of t
   replacing_keeps t e =
       let k = keeps t e in
-      ap (λ (o : Option ℕ). shape_of (option_map_or (λ n. replaced n t (Call c.symbol qs)) o t))
+      ap (λ (o : Option ℕ). shape_of (option_map_or (λ n. replace_at n t (Call c.symbol qs)) o t))
       k.there ∙ k.shape
 
 shape_with_variable : (place v : ℕ) (t : Term) → shape_of (with_variable place v t) ≡ shape_of t

@@ -4,15 +4,15 @@ use Rattle.rx_plain.specs.Formed.{Formed, pure, ◌>>=◌, ◌<$>◌}
 use Rattle.rx_poly.specs.Substitution.{numbered}
 use Rattle.rx_poly.specs.declared.body.Body.{Body}
 use Rattle.rx_row.specs.Membership.{pushed}
-use Rattle.rx_row.specs.Substitution.{in_row, row_within, rows_with}
+use Rattle.rx_row.specs.Substitution.{subst_row, row_within, rows_with}
 use Rattle.rx_row.specs.declared.row.Row.{Row}
-use Rattle.rx_cert.specs.Findings.{Said, Yes, No, Beyond, within}
+use Rattle.rx_cert.specs.Findings.{Said, Yes, No, Beyond, guard}
 use Rattle.rx_cert.specs.Showing.{shown}
 use Rattle.rx_fm.specs.declared.fm_end.FmEnd.{FmEnd}
 use Rattle.rx_fm.specs.declared.fm_end.FmEnd.TheVariants.{Large}
 use Rattle.rx_solve.specs.Refuter.{refuted}
 use Rattle.rx_term.specs.Paired.{rules_of_shape}
-use Rattle.rx_term.specs.Shapes.{Called}
+use Rattle.rx_term.specs.Shapes.{Call}
 use Rattle.rx_term.specs.declared.rule.Equation.{Equation}
 use Rattle.rx_term.specs.declared.rule.Rule.{Rule}
 use Rattle.rx_generalise.specs.Calls.{Applied, call_of}
@@ -30,7 +30,7 @@ module _ (rules : List Rule) where
   -- those of the rules at a call, with its polynomials in place of their variables
   abbrev pub rows_at : Option Applied → Formed (List Row)
   rows_at None = pure []
-  rows_at (Some call) = rows_by call.arguments (rules_of_shape (Called call.symbol) rules)
+  rows_at (Some call) = rows_by call.arguments (rules_of_shape (Call call.symbol) rules)
 
   -- at both calls, the left one first
   abbrev pub rule_rows : Equation → Formed (List Row)
@@ -43,7 +43,7 @@ module _ (rules : List Rule) where
 module _ (ws : List (ℕ × Body)) (old : List Row) where
   -- whether the old rows show the instance of the row, which is formed first
   unfoldable pub instance_said : Row → Said
-  instance_said r = within (row_within ws r) (shown refuted old (in_row ws r))
+  instance_said r = guard (row_within ws r) (shown refuted old (subst_row ws r))
 
   -- the rows with the row, the rows alone, or none where something passes the limits
   abbrev pub added_if : Said → Row → List Row → Option (List Row)

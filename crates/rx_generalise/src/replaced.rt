@@ -58,7 +58,7 @@ fn replaced_polys(
 
 /// The frames of the first term, its innermost outside, over the other. Takes no memory.
 fn onto(frames: Term, inner: Term) -> Term
-    ensures { result ≡ stacks.onto frames inner }
+    ensures { result ≡ stacks.plug_reversed frames inner }
 {
     let mut upper = frames;
     let mut whole = inner;

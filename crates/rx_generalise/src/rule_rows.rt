@@ -8,7 +8,8 @@ ghost use Rattle.rx_plain.specs.Formed.{Forms};
 ghost use Rattle.rx_solve.specs.Answers.{IsSolver};
 ghost use Rattle.rx_solve.specs.Refuter.{refuted};
 ghost use Rattle.rx_term.specs.Paired.{rules_of_shape};
-ghost use Rattle.rx_term.specs.Shapes.{Called, same_shape, shape_of};
+ghost use Rattle.rx_term.specs.Shapes.{same_shape, shape_of};
+ghost use Rattle.rx_term.specs.Shapes as shape;
 
 use crate::calls::call_of;
 use rx_cert::Cert;
@@ -22,7 +23,7 @@ use std::alloc::Global;
 
 /// Whether the rule's left side is a call of the symbol.
 fn is_of(rule: &Rule, symbol: Sym) -> bool
-    ensures { result ≡ same_shape (shape_of rule.now.left) (Called symbol) }
+    ensures { result ≡ same_shape (shape_of rule.now.left) (shape.Call symbol) }
 {
     match &rule.left {
         Term::Return(_) => false,
@@ -41,7 +42,7 @@ fn rows_of(
     arguments: &[Poly],
 ) -> Result<Items<Row>, PolyEnd>
     ensures forms { Forms PolyEnd.Large result
-        (spec.rows_by arguments.now (rules_of_shape (Called symbol) rules.now)) }
+        (spec.rows_by arguments.now (rules_of_shape (shape.Call symbol) rules.now)) }
 {
     let mut made = Items::new(alloc);
     for rule in rules {

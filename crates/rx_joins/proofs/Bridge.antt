@@ -13,7 +13,7 @@ use Rattle.rx_term.specs.Bounds.{equation_bound}
 use Rattle.rx_term.specs.Fitting.{term_fits}
 use Rattle.rx_term.specs.Meaning.{redex_of}
 use Rattle.rx_term.specs.Shapes.{shape_of}
-use Rattle.rx_term.specs.Stacks.{behind, ends_in_call}
+use Rattle.rx_term.specs.Stacks.{suffix_at, ends_in_call}
 use Rattle.rx_term.specs.declared.rule.Equation.{Equation}
 use Rattle.rx_term.specs.declared.rule.Rule.{Rule}
 use Rattle.rx_term.specs.declared.rule_set.RuleParts.{RuleParts}
@@ -152,7 +152,7 @@ module _ (parts : RuleParts) (hypotheses : List Rule) (goal : Equation) (f : For
       formed_on parts goal hypotheses (step.Hyp side place number ws certs) ≡ Ok f →
       ShownBy certs f → MakesIt f
   used_makes side place number ws certs e shown =
-      let one = first_back (found_or WrongShape (behind place (side_of side goal))) _ f e in
+      let one = first_back (found_or WrongShape (suffix_at place (side_of side goal))) _ f e in
       let part = one.first in
       let two = first_back (provided (is_substitution ws)
       (found_or NoSuchRule (slice_get hypotheses number))) _ f one.rest in
@@ -164,7 +164,7 @@ module _ (parts : RuleParts) (hypotheses : List Rule) (goal : Equation) (f : For
       subst MakesIt is (Used side h ws place part
       (at_place hypotheses number h (found_back NoSuchRule (slice_get hypotheses number) h
       there.1))
-      (found_back WrongShape (behind place (side_of side goal)) part one.is)
+      (found_back WrongShape (suffix_at place (side_of side goal)) part one.is)
       (one_shape part h.left shape) (asked_follow _ _ certs is shown))
 
   expanded_makes : (side : Side) (keep : Bool) →
@@ -249,8 +249,8 @@ module _ (parts : RuleParts) (hypotheses : List Rule) (goal : Equation) (f : For
       formed_on parts goal hypotheses (step.Results left right certs) ≡ Ok f → ShownBy certs f →
       MakesIt f
   results_make left right certs e shown =
-      let one = first_back (found_or WrongShape (behind left goal.left)) _ f e in
-      let two = first_back (found_or WrongShape (behind right goal.right)) _ f one.rest in
+      let one = first_back (found_or WrongShape (suffix_at left goal.left)) _ f e in
+      let two = first_back (found_or WrongShape (suffix_at right goal.right)) _ f one.rest in
       let s = one.first in
       let t = two.first in
       let (tests, limits) = provided_back (are_common s t left right &&
@@ -261,8 +261,8 @@ module _ (parts : RuleParts) (hypotheses : List Rule) (goal : Equation) (f : For
       (ends_in_call s && not (nat_eq left 0 && nat_eq right 0)) common.0 in
       let is = limited_back (resulting_by parts.fails goal left right s t) f limits in
       subst MakesIt is (WithResults left right s t
-      (found_back WrongShape (behind left goal.left) s one.is)
-      (found_back WrongShape (behind right goal.right) t two.is)
+      (found_back WrongShape (suffix_at left goal.left) s one.is)
+      (found_back WrongShape (suffix_at right goal.right) t two.is)
       (one_shape s t shape.0) (asked_follow _ _ certs is shown))
 
   -- what is formed and shown is made

@@ -7,9 +7,9 @@ use Rattle.std.proofs.lemmas.Bool.{and_from}
 use Rattle.std.specs.declared.cmp.Ordering.TheVariants.{Equal as Same}
 use Rattle.rx_plain.specs.Formed.{Formed}
 use Rattle.rx_poly.specs.Constants.{number, variable}
-use Rattle.rx_poly.specs.Limits.{of_atoms, of_terms, subtracted}
+use Rattle.rx_poly.specs.Limits.{of_atoms, of_terms, body_difference}
 use Rattle.rx_poly.specs.Order.{mono_cmp}
-use Rattle.rx_poly.specs.Substitution.{in_body, replaced}
+use Rattle.rx_poly.specs.Substitution.{subst_body, replaced}
 use Rattle.rx_poly.specs.Variables.{uses_below, variables}
 use Rattle.rx_poly.specs.Normal.{is_empty}
 use Rattle.rx_poly.specs.Reading.{constant_of}
@@ -23,19 +23,19 @@ use Rattle.rx_poly.proofs.Unchanged.{unchanged}
 use Rattle.rx_poly_laws.proofs.TestLaws.{passes-number}
 use Rattle.rx_row.specs.declared.row.Row.{Row}
 use Rattle.rx_row.specs.declared.row.Row.TheVariants.{Ge}
-use Rattle.rx_cert.specs.Findings.{Yes, both}
+use Rattle.rx_cert.specs.Findings.{Yes, and_also}
 use Rattle.rx_cert.specs.Conditions.{conditions, is_evident, is_number_with, is_shown}
 use Rattle.rx_cert.specs.declared.conditions.ConditionsAnswer.TheVariants as conditions_answer
 use Rattle.rx_term.specs.Fitting.{term_fits}
-use Rattle.rx_term.specs.Shapes.{Called}
+use Rattle.rx_term.specs.Shapes as shape
 use Rattle.rx_term.specs.WellMade.{IsMade, IsWellMade, OfPoint, width}
 use Rattle.rx_term.specs.declared.term.Sym.{Sym}
 use Rattle.rx_term.specs.declared.term.Term.TheVariants.{Call, Fail}
-use Rattle.rx_term.specs.Stacks.{behind, under_frame}
+use Rattle.rx_term.specs.Stacks.{suffix_at, under_frame}
 use Rattle.rx_term.specs.declared.term.Term.{Term, Term-F}
 use Rattle.rx_term.specs.declared.term.Term.TheVariants.{outs-Call}
 use Rattle.rx_term.proofs.BoundLaws.{bound-Call}
-use Rattle.rx_term.proofs.Equations.{arguments-Call, arguments-Fail, below-Fail, fits-Call, fits-Fail, in_term-Call, in_term-Fail, redex-Call, shape-Call, shape-Fail, within-Call, within-Fail}
+use Rattle.rx_term.proofs.Equations.{arguments-Call, arguments-Fail, below-Fail, fits-Call, fits-Fail, subst_term-Call, subst_term-Fail, redex-Call, shape-Call, shape-Fail, within-Call, within-Fail}
 use Rattle.rx_cover.specs.Covering.{Covers, covering, goes_on}
 use Rattle.rx_cover.specs.Trees.{tree_finding}
 use Rattle.rx_cover.specs.declared.cover_tree.CoverTree.TheVariants.{Use}
@@ -82,15 +82,15 @@ example_made =
     All-cons (IsMade example) (fails f) (fails g ∷ []) (fails_made f f_fits)
     (All-cons (IsMade example) (fails g) [] (fails_made g g_fits) (All-nil (IsMade example)))
 
-f_covered : tree_finding example.rules (Called f) (Use 0 []) [] ≡ Yes
-f_covered = finding_use example.rules (Called f) 0 [] [] ∙ rw (shape-Call f []) refl
+f_covered : tree_finding example.rules (shape.Call f) (Use 0 []) [] ≡ Yes
+f_covered = finding_use example.rules (shape.Call f) 0 [] [] ∙ rw (shape-Call f []) refl
 
-g_covered : tree_finding example.rules (Called g) (Use 1 []) [] ≡ Yes
-g_covered = finding_use example.rules (Called g) 1 [] [] ∙ rw (shape-Call g []) refl
+g_covered : tree_finding example.rules (shape.Call g) (Use 1 []) [] ≡ Yes
+g_covered = finding_use example.rules (shape.Call g) 1 [] [] ∙ rw (shape-Call g []) refl
 
 example_covered : covering example ((Use 0 [] ∷ []) ∷ (Use 1 [] ∷ []) ∷ []) ≡ Covers
 example_covered =
-    (λ i. goes_on 0 (both (f_covered i) Yes) (goes_on 1 (both (g_covered i) Yes) Covers))
+    (λ i. goes_on 0 (and_also (f_covered i) Yes) (goes_on 1 (and_also (g_covered i) Yes) Covers))
 
 -- ---- ranks
 
@@ -101,21 +101,21 @@ all_stay : (vs : List ℕ) → All (λ v. replaced [] v ≡ variable v) vs
 all_stay [] = All-nil (λ v. replaced [] v ≡ variable v)
 all_stay (v ∷ vs) = All-cons (λ v. replaced [] v ≡ variable v) v vs refl (all_stay vs)
 
-in_one : in_body [] (number (pos 1)) ≡ record { form = number (pos 1); within = true }
+in_one : subst_body [] (number (pos 1)) ≡ record { form = number (pos 1); within = true }
 in_one =
     unchanged [] (number (pos 1)) (number_poly (pos 1) refl refl)
     (all_stay (variables (number (pos 1))))
 
-in_zero : in_body [] (number (pos 0)) ≡ record { form = number (pos 0); within = true }
+in_zero : subst_body [] (number (pos 0)) ≡ record { form = number (pos 0); within = true }
 in_zero = unchanged [] (number (pos 0)) zero_poly (all_stay (variables (number (pos 0))))
 
 same_key : mono_cmp (of_atoms []) (of_atoms []) ≡ Same
 same_key = mono_cmp_is (of_atoms []) (of_atoms [])
 
-less_zero : subtracted (number (pos 1)) (number (pos 0)) ≡ number (pos 1)
+less_zero : body_difference (number (pos 1)) (number (pos 0)) ≡ number (pos 1)
 less_zero = rw (terms-of_terms one_term, terms-of_terms []) refl
 
-less_one : subtracted (number (pos 1)) (number (pos 1)) ≡ of_terms []
+less_one : body_difference (number (pos 1)) (number (pos 1)) ≡ of_terms []
 less_one = rw (terms-of_terms one_term, same_key) refl
 
 abbrev the_pair : Pair
@@ -161,7 +161,8 @@ table_lawful = rw (over_nothing 0 (pos 1), over_nothing 0 (pos 0)) refl
 not_under : IsUnder (Call f []) (Call g []) → ⊥
 not_under (k, stands) =
     let no_ : ◌≡◌ {A = Option Term} None (Some (Call g [])) =
-    sym (ap (λ (x : Term-F Term). under_frame x (behind k)) (outs-Call f [])) ∙ stands in absurd cc
+    sym (ap (λ (x : Term-F Term). under_frame x (suffix_at k)) (outs-Call f [])) ∙ stands in
+    absurd cc
 
 pairs_of_fails : (s : Sym) → ArePairs (fails s) []
 pairs_of_fails s = PairsOf (part s []) (OfCall s []) [] (AtFail 1)
@@ -187,13 +188,13 @@ expands =
       shape-Call f [],
       shape-Call g [],
       redex-Call f [],
-      in_term-Fail,
+      subst_term-Fail,
       within-Fail,
     ) refl
 
 simplifies : formed_on example (equal (Fail 1) (Call g [])) (hypothesis ∷ []) (Simplify Right 1 [])
     ≡ Ok (asking [] (equal (Fail 1) (Fail 1) ∷ []))
-simplifies = rw (redex-Call g [], shape-Call g [], in_term-Fail, within-Fail) refl
+simplifies = rw (redex-Call g [], shape-Call g [], subst_term-Fail, within-Fail) refl
 
 deletes : formed_on example (equal (Fail 1) (Fail 1)) (hypothesis ∷ []) (Delete (Equal [])) ≡
     Ok (asking [] [])
@@ -204,8 +205,8 @@ uses : formed_on example alike (hypothesis ∷ []) by_hypothesis ≡
 uses =
     rw (
       shape-Call f [],
-      in_term-Call [] f [],
-      in_term-Call [] g [],
+      subst_term-Call [] f [],
+      subst_term-Call [] g [],
       within-Call [] f [],
       within-Call [] g [],
       arguments-Call f [],

@@ -7,7 +7,7 @@ use Rattle.rx_plain.specs.Formed.{map_formed}
 use Rattle.rx_poly.specs.Constants.{variable}
 use Rattle.rx_poly.specs.declared.body.Body.{Body}
 use Rattle.rx_row.specs.Negation.{negation}
-use Rattle.rx_row.specs.Substitution.{in_rows}
+use Rattle.rx_row.specs.Substitution.{subst_rows}
 use Rattle.rx_row.specs.declared.row.Row.{Row}
 use Rattle.rx_term.specs.Bounds.{equation_bound}
 use Rattle.rx_term.specs.Differences.{term_differences}
@@ -15,8 +15,8 @@ use Rattle.rx_term.specs.Fitting.{is_declared, term_fits}
 use Rattle.rx_term.specs.Meaning.{matched, redex_of}
 use Rattle.rx_term.specs.Paired.{rules_of_shape}
 use Rattle.rx_term.specs.Shapes.{same_shape, shape_of}
-use Rattle.rx_term.specs.Stacks.{replace_redex, replaced}
-use Rattle.rx_term.specs.Substitution.{in_term}
+use Rattle.rx_term.specs.Stacks.{replace_redex, replace_at}
+use Rattle.rx_term.specs.Substitution.{subst_term}
 use Rattle.rx_term.specs.WellMade.{IsWellMade}
 use Rattle.rx_term.specs.declared.rule.Equation.{Equation}
 use Rattle.rx_term.specs.declared.rule.Rule.{Rule}
@@ -45,7 +45,7 @@ module _ (parts : RuleParts) (made : IsWellMade parts) where
 
   replaced_fits : (side : Side) (goal : Equation) (n : ℕ) (t : Term) → IsFitting parts goal →
       term_fits parts t ≡ true → IsFitting parts
-      (with_side side goal (replaced n (side_of side goal) t))
+      (with_side side goal (replace_at n (side_of side goal) t))
   replaced_fits Left goal n t fits t_fits =
       record { left = fits_replaced parts t t_fits n goal.left fits.left; right = fits.right }
   replaced_fits Right goal n t fits t_fits =
@@ -55,10 +55,10 @@ module _ (parts : RuleParts) (made : IsWellMade parts) where
   redex_fits : (side : Side) (goal : Equation) (redex : Term) (rule : Rule) → IsFitting parts goal →
       redex_of (side_of side goal) ≡ Some redex → Contains parts.rules rule
       → IsFitting parts (with_side side goal (replace_redex (side_of side goal)
-      (in_term (matched redex) rule.right)))
+      (subst_term (matched redex) rule.right)))
   redex_fits side goal redex rule fits is among =
       let at = placed (side_of side goal) redex is in
-      let right = in_term (matched redex) rule.right in
+      let right = subst_term (matched redex) rule.right in
       subst (λ u. IsFitting parts (with_side side goal u)) (sym (at.replaces right))
       (replaced_fits side goal at.place right fits
       (fits_in_term (matched redex) parts rule.right ∙
@@ -77,7 +77,7 @@ module _ (parts : RuleParts) (made : IsWellMade parts) where
       All-formed (IsFitting parts) (expanded_by goal side redex)
       (rules_of_shape (shape_of redex) parts.rules) (λ r among.
       more_rows (with_side side goal (replace_redex (side_of side goal)
-      (in_term (matched redex) r.right))) (in_rows (matched redex) r.rows)
+      (subst_term (matched redex) r.right))) (subst_rows (matched redex) r.rows)
       (redex_fits side goal redex r fits is (was_there
       (λ q. same_shape (shape_of q.left) (shape_of redex)) parts.rules r among)))
 
@@ -132,7 +132,7 @@ module _ (parts : RuleParts) (made : IsWellMade parts) where
       (one (redex_fits side goal redex rule fits is among), All-nil (SidesFit parts))
   made_fit hypotheses goal new kept (making.Used side h ws n part among stands shape follows) fits
       rules = (
-        one (replaced_fits side goal n (in_term ws h.right) fits
+        one (replaced_fits side goal n (subst_term ws h.right) fits
             (fits_in_term ws parts h.right ∙ (All-contains (SidesFit parts) hypotheses h rules
             among).1)),
         All-nil (SidesFit parts),

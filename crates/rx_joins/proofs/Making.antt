@@ -4,15 +4,15 @@ use Rattle.rx_plain.specs.Formed.{map_formed}
 use Rattle.rx_poly.specs.declared.body.Body.{Body}
 use Rattle.rx_row.specs.Holds.{AllHold}
 use Rattle.rx_row.specs.Negation.{negation}
-use Rattle.rx_row.specs.Substitution.{in_rows}
+use Rattle.rx_row.specs.Substitution.{subst_rows}
 use Rattle.rx_row.specs.declared.row.Row.{Row}
 use Rattle.rx_term.specs.Bounds.{equation_bound}
 use Rattle.rx_term.specs.Differences.{term_differences}
 use Rattle.rx_term.specs.Meaning.{matched, redex_of}
 use Rattle.rx_term.specs.Paired.{rules_of_shape}
 use Rattle.rx_term.specs.Shapes.{shape_of}
-use Rattle.rx_term.specs.Stacks.{behind, replace_redex, replaced}
-use Rattle.rx_term.specs.Substitution.{in_term}
+use Rattle.rx_term.specs.Stacks.{suffix_at, replace_redex, replace_at}
+use Rattle.rx_term.specs.Substitution.{subst_term}
 use Rattle.rx_term.specs.declared.rule.Equation.{Equation}
 use Rattle.rx_term.specs.declared.rule.Rule.{Rule}
 use Rattle.rx_term.specs.declared.rule_set.RuleParts.{RuleParts}
@@ -33,15 +33,16 @@ pub data Makes (parts : RuleParts) (hypotheses : List Rule) (goal : Equation) : 
     List Rule → Type 0 where
   Simplified : (side : Side) (rule : Rule) (redex : Term) → Contains parts.rules rule →
       redex_of (side_of side goal) ≡ Some redex
-      → shape_of rule.left ≡ shape_of redex → Follow goal.rows (in_rows (matched redex) rule.rows)
+      → shape_of rule.left ≡ shape_of redex →
+      Follow goal.rows (subst_rows (matched redex) rule.rows)
       → Makes parts hypotheses goal (with_side side goal
-      (replace_redex (side_of side goal) (in_term (matched redex) rule.right)) ∷ []) []
+      (replace_redex (side_of side goal) (subst_term (matched redex) rule.right)) ∷ []) []
   Used : (side : Side) (h : Rule) (ws : List (ℕ × Body)) (n : ℕ) (part : Term) →
-      Contains hypotheses h → behind n (side_of side goal) ≡ Some part
+      Contains hypotheses h → suffix_at n (side_of side goal) ≡ Some part
       → shape_of part ≡ shape_of h.left → Follow goal.rows
-      ((equal_arguments part (in_term ws h.left)).form ++ in_rows ws h.rows)
+      ((equal_arguments part (subst_term ws h.left)).form ++ subst_rows ws h.rows)
       → Makes parts hypotheses goal (with_side side goal
-      (replaced n (side_of side goal) (in_term ws h.right)) ∷ []) []
+      (replace_at n (side_of side goal) (subst_term ws h.right)) ∷ []) []
   Expanded : (side : Side) (keep : Bool) (redex : Term) → redex_of (side_of side goal) ≡ Some redex
       → Makes parts hypotheses goal (map_formed (expanded_by goal side redex)
       (rules_of_shape (shape_of redex) parts.rules)).form (kept_if keep side goal)
@@ -65,7 +66,7 @@ pub data Makes (parts : RuleParts) (hypotheses : List Rule) (goal : Equation) : 
       goal.right ≡ Frame g qs t → f ≡ g
       → Follow goal.rows (equal_lists ps qs).form →
       Makes parts hypotheses goal (with_sides goal s t ∷ []) []
-  WithResults : (m n : ℕ) (s t : Term) → behind m goal.left ≡ Some s → behind n goal.right ≡
+  WithResults : (m n : ℕ) (s t : Term) → suffix_at m goal.left ≡ Some s → suffix_at n goal.right ≡
       Some t → shape_of s ≡ shape_of t
       → Follow goal.rows (equal_arguments s t).form
       → Makes parts hypotheses goal (map (with_result goal m n)

@@ -2,10 +2,10 @@
 use Rattle.std.proofs.Common.{◌≡◌, ℕ, List, [], ◌∷◌, length, refl, ℤ, pos, arith}
 use Rattle.std.proofs.lemmas.Int.{ints}
 use Rattle.std.proofs.lemmas.List.Elements.{All-head, All-tail}
-use Rattle.rx_poly.specs.Limits.{subtracted}
+use Rattle.rx_poly.specs.Limits.{body_difference}
 use Rattle.rx_poly.specs.Value.{value}
 use Rattle.rx_poly.specs.declared.body.Body.{Body}
-use Rattle.rx_poly.proofs.PolyLaws.{value-subtracted}
+use Rattle.rx_poly.proofs.PolyLaws.{value-body_difference}
 use Rattle.rx_row.specs.Holds.{AllHold, RowHolds}
 use Rattle.rx_row.specs.Membership.{pushed}
 use Rattle.rx_row.specs.declared.row.Row.{Row}
@@ -22,9 +22,9 @@ all_pushed-hold a rows (r ∷ rs) one two =
     all_pushed-hold a (pushed rows r) rs ((all_hold_pushed a rows r).1
     (one, All-head (RowHolds a) r rs two)) (All-tail (RowHolds a) r rs two)
 
-zero_difference : (a : ℕ → ℤ) (p q : Body) → value a (subtracted p q) ≡ pos 0 → value a p ≡
+zero_difference : (a : ℕ → ℤ) (p q : Body) → value a (body_difference p q) ≡ pos 0 → value a p ≡
     value a q
-zero_difference a p q is = let e = value-subtracted a p q in omega (arith, ints, e, is)
+zero_difference a p q is = let e = value-body_difference a p q in omega (arith, ints, e, is)
 
 -- where all differences are 0 the values are equal, one by one
 pub equal_values : (a : ℕ → ℤ) (ps qs : List Body) → length ps ≡ length qs →
@@ -33,8 +33,8 @@ equal_values a [] [] long holds = refl
 equal_values a [] (q ∷ qs) long holds = absurd (omega (arith, long))
 equal_values a (p ∷ ps) [] long holds = absurd (omega (arith, long))
 equal_values a (p ∷ ps) (q ∷ qs) long holds =
-    let first = zero_difference a p q (All-head (RowHolds a) (Eq (subtracted p q))
+    let first = zero_difference a p q (All-head (RowHolds a) (Eq (body_difference p q))
     (equal_lists ps qs).form holds) in
     let rest = equal_values a ps qs (omega (arith, long))
-    (All-tail (RowHolds a) (Eq (subtracted p q)) (equal_lists ps qs).form holds) in
+    (All-tail (RowHolds a) (Eq (body_difference p q)) (equal_lists ps qs).form holds) in
     (λ i. first i ∷ rest i)

@@ -5,9 +5,9 @@ use Rattle.std.proofs.lemmas.List.Elements.{All-cons, All-head, All-tail, All-ni
 use Rattle.rx_row.specs.Holds.{AllHold}
 use Rattle.rx_row.specs.Negation.{negation}
 use Rattle.rx_rewriting.specs.Terms.{Ground}
-use Rattle.rx_rewriting.specs.Steps.{Step, Joins}
+use Rattle.rx_rewriting.specs.Steps.{Step, Joinable}
 use Rattle.rx_rewriting.specs.Ranks.{Weight, weight_of}
-use Rattle.rx_rewriting.specs.Premises.{EndAlike, EndsInside, IsReplaceable, IsReplaceableHere, Lowers, Stays}
+use Rattle.rx_rewriting.specs.Premises.{HaveConvertibleNormalForms, EndsInside, IsReplaceable, IsReplaceableHere, Lowers, ClosedUnder}
 use Rattle.rx_rewriting.proofs.Chains.{Step-by_rule}
 use Rattle.rx_rewriting.proofs.Conversion.{joined_end_alike}
 use Rattle.rx_rewriting.proofs.Induction.{ends_inside}
@@ -286,7 +286,7 @@ module _ (parts : RuleParts) (goal : Equation) (hypotheses : List Rule) (weight 
       let (first, step, joined) = backed one.rule one.among one.at one.holds in (
         first,
         subst (λ g. Step (Instance parts.rules) g first) (sym one.left) step,
-        subst (Joins (Both parts hypotheses) first) (sym one.right) joined,
+        subst (Joinable (Both parts hypotheses) first) (sym one.right) joined,
       )
 
   replaceable : IsReplaceable (Inside parts) (Instance parts.rules) (Instance hypotheses)
@@ -294,7 +294,7 @@ module _ (parts : RuleParts) (goal : Equation) (hypotheses : List Rule) (weight 
       replaceable_under_frames (Inside parts) (Instance parts.rules) (Instance hypotheses)
       (Fits-inner (signature parts)) here
 
-  stays : Stays (Inside parts) (Both parts hypotheses)
+  stays : ClosedUnder (Inside parts) (Both parts hypotheses)
   stays = right_sides_fit_too parts hypotheses
       (All-weaker (SidesFit parts) (λ rule. term_fits parts rule.right ≡ true) (λ rule fits. fits.1)
       hypotheses (kept_hypotheses_fit parts goal (finished hypotheses) proof.made proof.fits
@@ -302,7 +302,7 @@ module _ (parts : RuleParts) (goal : Equation) (hypotheses : List Rule) (weight 
 
   -- both sides reach results, which are convertible by the rules alone
   pub end_alike : (a : ℕ → ℤ) → AllHold a goal.rows →
-      EndAlike (Inside parts) (Instance parts.rules) (ground_at a goal.left)
+      HaveConvertibleNormalForms (Inside parts) (Instance parts.rules) (ground_at a goal.left)
       (ground_at a goal.right)
   end_alike a holds =
       joined_end_alike weight (Inside parts) (Instance parts.rules) (Instance hypotheses)
@@ -328,7 +328,8 @@ proof_accepted parts goal hypotheses table proof = record {
 
 pub proof_ends_alike : (parts : RuleParts) (goal : Equation) (hypotheses : List Rule)
     (table : RankTable) → IsProof parts goal hypotheses table
-    → (a : ℕ → ℤ) → AllHold a goal.rows → EndAlike (Inside parts) (Instance parts.rules)
+    → (a : ℕ → ℤ) → AllHold a goal.rows → HaveConvertibleNormalForms (Inside parts)
+    (Instance parts.rules)
     (ground_at a goal.left) (ground_at a goal.right)
 proof_ends_alike parts goal hypotheses table proof =
     end_alike parts goal hypotheses (weight_of (rank_of table))

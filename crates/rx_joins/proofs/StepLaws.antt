@@ -6,23 +6,23 @@ use Rattle.std.proofs.lemmas.Bool.{and_parts, eq-eqb, ne_eqb}
 use Rattle.std.proofs.lemmas.List.Elements.{All-cons, All-head, All-tail, All-nil, All-contains, Contains-append_left, Contains-append_right}
 use Rattle.rx_poly.specs.Constants.{variable}
 use Rattle.rx_poly.proofs.Constants.{value-variable}
-use Rattle.rx_poly.specs.Substitution.{worth}
+use Rattle.rx_poly.specs.Substitution.{updated_assignment}
 use Rattle.rx_poly.specs.declared.body.Body.{Body}
 use Rattle.rx_row.specs.Holds.{AllHold, RowHolds}
 use Rattle.rx_row.specs.Negation.{negation}
-use Rattle.rx_row.specs.Substitution.{in_rows}
+use Rattle.rx_row.specs.Substitution.{subst_rows}
 use Rattle.rx_row.specs.Variables.{rows_use_below}
 use Rattle.rx_row.specs.declared.row.Row.{Row}
 use Rattle.rx_row.specs.declared.row.Row.TheVariants.{Eq, Ne}
 use Rattle.rx_row.proofs.Membership.{all_hold_pushed}
 use Rattle.rx_row.proofs.RowLaws.{holds_or_not}
-use Rattle.rx_row.proofs.SubstitutionLaws.{in_rows-hold}
+use Rattle.rx_row.proofs.SubstitutionLaws.{subst_rows-hold}
 use Rattle.rx_rewriting.specs.Terms as stack
-use Rattle.rx_rewriting.specs.Terms.{Ground, Relation, IsResult, under}
-use Rattle.rx_rewriting.specs.Steps.{Step, Reaches, Joins}
+use Rattle.rx_rewriting.specs.Terms.{Ground, Relation, IsResult, in_context}
+use Rattle.rx_rewriting.specs.Steps.{Step, Reaches, Joinable}
 use Rattle.rx_rewriting.specs.Premises.{EndsInside}
-use Rattle.rx_rewriting.proofs.Chains.{Reaches-step, Reaches-by_rule, Step-by_rule, Step-by_hypothesis, Joins-same, Joins-sym, Joins-before_left, Joins-before_right}
-use Rattle.rx_rewriting.proofs.UnderFrames.{Joins-frame, Reaches-under}
+use Rattle.rx_rewriting.proofs.Chains.{Reaches-step, Reaches-by_rule, Step-by_rule, Step-by_hypothesis, Joinable-same, Joinable-sym, Joinable-before_left, Joinable-before_right}
+use Rattle.rx_rewriting.proofs.UnderFrames.{Joinable-frame, Reaches-in_context}
 use Rattle.rx_term.specs.Bounds.{equation_bound}
 use Rattle.rx_term.specs.Covered.{IsCovered}
 use Rattle.rx_term.specs.Differences.{term_differences}
@@ -30,8 +30,8 @@ use Rattle.rx_term.specs.Fitting.{is_declared, term_fits}
 use Rattle.rx_term.specs.Meaning.{Instance, ground_at, matched, outer_frames, redex_of, values}
 use Rattle.rx_term.specs.Paired.{rules_of_shape}
 use Rattle.rx_term.specs.Shapes.{shape_of, same_shape}
-use Rattle.rx_term.specs.Stacks.{behind, redex_place, replace_redex, replaced}
-use Rattle.rx_term.specs.Substitution.{in_term}
+use Rattle.rx_term.specs.Stacks.{suffix_at, redex_place, replace_redex, replace_at}
+use Rattle.rx_term.specs.Substitution.{subst_term}
 use Rattle.rx_term.specs.Variables.{arguments_of, term_uses_below}
 use Rattle.rx_term.specs.WellMade.{IsWellMade}
 use Rattle.rx_term.specs.declared.rule.Equation.{Equation}
@@ -68,16 +68,16 @@ pub record Setting (parts : RuleParts) : Type 0 where
 -- the redex of a term, by its place
 pub record Placed (t part : Term) : Type 0 where
   pub place : ℕ
-  pub stands : behind place t ≡ Some part
-  pub replaces : (inner : Term) → replace_redex t inner ≡ replaced place t inner
+  pub stands : suffix_at place t ≡ Some part
+  pub replaces : (inner : Term) → replace_redex t inner ≡ replace_at place t inner
 
 placed_by : (t part : Term) (o : Option ℕ) → redex_place t ≡ o →
-    option_and_then (λ n. behind n t) o ≡ Some part → Placed t part
+    option_and_then (λ n. suffix_at n t) o ≡ Some part → Placed t part
 placed_by t part None is h = absurd cc
 placed_by t part (Some n) is h = record {
   place = n;
   stands = h;
-  replaces = λ inner. ap (λ (o : Option ℕ). option_map_or (λ n. replaced n t inner) o t) is;
+  replaces = λ inner. ap (λ (o : Option ℕ). option_map_or (λ n. replace_at n t inner) o t) is;
 }
 
 pub placed : (t part : Term) → redex_of t ≡ Some part → Placed t part
@@ -136,14 +136,14 @@ module _ (parts : RuleParts) (hypotheses : List Rule) (setting : Setting parts) 
   -- a step on a side
   stepped : (side : Side) (goal : Equation) (t : Term) (a : ℕ → ℤ) →
       Step RH (ground_at a (side_of side goal)) (ground_at a t)
-      → Joins RH (ground_at a (with_side side goal t).left)
+      → Joinable RH (ground_at a (with_side side goal t).left)
       (ground_at a (with_side side goal t).right) →
-      Joins RH (ground_at a goal.left) (ground_at a goal.right)
+      Joinable RH (ground_at a goal.left) (ground_at a goal.right)
   stepped Left goal t a step joined =
-      Joins-before_left RH (ground_at a goal.left) (ground_at a t) (ground_at a goal.right)
+      Joinable-before_left RH (ground_at a goal.left) (ground_at a t) (ground_at a goal.right)
       (Reaches-step step) joined
   stepped Right goal t a step joined =
-      Joins-before_right RH (ground_at a goal.right) (ground_at a goal.left) (ground_at a t)
+      Joinable-before_right RH (ground_at a goal.right) (ground_at a goal.left) (ground_at a t)
       (Reaches-step step) joined
 
   same_rows : (side : Side) (goal : Equation) (t : Term) → (with_side side goal t).rows ≡ goal.rows
@@ -153,24 +153,25 @@ module _ (parts : RuleParts) (hypotheses : List Rule) (setting : Setting parts) 
   -- a rule steps the redex of a side
   redex_steps : (a : ℕ → ℤ) (rule : Rule) (t redex : Term) → Contains parts.rules rule →
       redex_of t ≡ Some redex → term_fits parts t ≡ true
-      → shape_of rule.left ≡ shape_of redex → AllHold a (in_rows (matched redex) rule.rows)
-      → Step R (ground_at a t) (ground_at a (replace_redex t (in_term (matched redex) rule.right)))
+      → shape_of rule.left ≡ shape_of redex → AllHold a (subst_rows (matched redex) rule.rows)
+      → Step R (ground_at a t) (ground_at a (replace_redex t
+      (subst_term (matched redex) rule.right)))
   redex_steps a rule t redex among is fits shape holds =
       let at = placed t redex is in
       subst (λ u. Step R (ground_at a t) (ground_at a u))
-      (sym (at.replaces (in_term (matched redex) rule.right)))
+      (sym (at.replaces (subst_term (matched redex) rule.right)))
       (rule_steps_inside parts setting.made a rule at.place t redex among at.stands
       (fits_behind parts at.place t redex fits at.stands) shape holds)
 
   pub simplify_good : (side : Side) (goal : Equation) (rule : Rule) (redex : Term) →
       IsFitting parts goal → Contains parts.rules rule
       → redex_of (side_of side goal) ≡ Some redex → shape_of rule.left ≡ shape_of redex →
-      Follow goal.rows (in_rows (matched redex) rule.rows)
+      Follow goal.rows (subst_rows (matched redex) rule.rows)
       → IsGood parts hypotheses (with_side side goal
-      (replace_redex (side_of side goal) (in_term (matched redex) rule.right))) →
+      (replace_redex (side_of side goal) (subst_term (matched redex) rule.right))) →
       IsGood parts hypotheses goal
   simplify_good side goal rule redex fits among is shape follows good a holds =
-      let new = replace_redex (side_of side goal) (in_term (matched redex) rule.right) in
+      let new = replace_redex (side_of side goal) (subst_term (matched redex) rule.right) in
       stepped side goal new a
       (Step-by_rule R (Instance hypotheses) (redex_steps a rule (side_of side goal) redex among is
       (side_fits side goal fits) shape (follows a holds)))
@@ -187,17 +188,17 @@ module _ (parts : RuleParts) (hypotheses : List Rule) (setting : Setting parts) 
 
   pub hyp_good : (side : Side) (goal : Equation) (h : Rule) (ws : List (ℕ × Body)) (n : ℕ)
       (part : Term) → IsFitting parts goal → Contains hypotheses h → term_fits parts h.left ≡ true
-      → behind n (side_of side goal) ≡ Some part → shape_of part ≡ shape_of h.left →
-      Follow goal.rows ((equal_arguments part (in_term ws h.left)).form ++ in_rows ws h.rows)
+      → suffix_at n (side_of side goal) ≡ Some part → shape_of part ≡ shape_of h.left →
+      Follow goal.rows ((equal_arguments part (subst_term ws h.left)).form ++ subst_rows ws h.rows)
       → IsGood parts hypotheses (with_side side goal
-      (replaced n (side_of side goal) (in_term ws h.right))) → IsGood parts hypotheses goal
+      (replace_at n (side_of side goal) (subst_term ws h.right))) → IsGood parts hypotheses goal
   hyp_good side goal h ws n part fits among h_fits stands shape follows good a holds =
       let t = side_of side goal in
-      let new = replaced n t (in_term ws h.right) in
-      let both = All-parts (RowHolds a) (equal_arguments part (in_term ws h.left)).form
-      (in_rows ws h.rows) (follows a holds) in
+      let new = replace_at n t (subst_term ws h.right) in
+      let both = All-parts (RowHolds a) (equal_arguments part (subst_term ws h.left)).form
+      (subst_rows ws h.rows) (follows a holds) in
       let part_fits = fits_behind parts n t part (side_fits side goal fits) stands in
-      let same = equal_grounds part (in_term ws h.left) a part_fits
+      let same = equal_grounds part (subst_term ws h.left) a part_fits
       (fits_in_term ws parts h.left ∙ h_fits) (shape ∙ sym (shape_in_term ws h.left)) both.0 in
       stepped side goal new a
       (Step-by_hypothesis R (Instance hypotheses)
@@ -210,7 +211,7 @@ module _ (parts : RuleParts) (hypotheses : List Rule) (setting : Setting parts) 
 
   abbrev with_new : Side → Equation → Term → Term → Rule → Equation
   with_new side goal redex new r =
-      with_rows (with_side side goal new) (in_rows (matched redex) r.rows)
+      with_rows (with_side side goal new) (subst_rows (matched redex) r.rows)
 
   -- what expanding a side gives at an assignment: one rule step, and then the goal made for that
   -- rule
@@ -220,39 +221,40 @@ module _ (parts : RuleParts) (hypotheses : List Rule) (setting : Setting parts) 
       (rules_of_shape (shape_of redex) parts.rules)
       → (a : ℕ → ℤ) → AllHold a goal.rows → (first : Ground) ×
       Step R (ground_at a (side_of side goal)) first ×
-      Joins RH first (ground_at a (other_side side goal))
+      Joinable RH first (ground_at a (other_side side goal))
   expand_step side goal redex fits is all a holds =
       let t = side_of side goal in
       let at = placed t redex is in
       let redex_fits = fits_behind parts at.place t redex (side_fits side goal fits) at.stands in
       let has = setting.covered (shape_of redex)
-      (redex_shape parts redex (redex_is t redex is) redex_fits) (worth a (matched redex)) tt in
+      (redex_shape parts redex (redex_is t redex is) redex_fits)
+      (updated_assignment a (matched redex)) tt in
       let r = has.rule in
       let good = All-contains (λ q. IsGood parts hypotheses (for_rule side goal redex q))
       (rules_of_shape (shape_of redex) parts.rules) r all has.among in
-      let instances = (in_rows-hold a (matched redex) r.rows).1 has.holds in
-      let new = replace_redex t (in_term (matched redex) r.right) in
+      let instances = (subst_rows-hold a (matched redex) r.rows).1 has.holds in
+      let new = replace_redex t (subst_term (matched redex) r.right) in
       let test : Rule → Bool = λ q. same_shape (shape_of q.left) (shape_of redex) in (
         ground_at a new,
         redex_steps a r t redex (was_there test parts.rules r has.among) is
             (side_fits side goal fits) (told_shape (shape_of r.left) (shape_of redex)
             (passes test parts.rules r has.among)) instances,
         joined side new r (good a (rows side new r
-            (all_pushed-hold a goal.rows (in_rows (matched redex) r.rows) holds instances))),
+            (all_pushed-hold a goal.rows (subst_rows (matched redex) r.rows) holds instances))),
       )
     where
       rows : (side : Side) (new : Term) (r : Rule) →
-          AllHold a (with_rows goal (in_rows (matched redex) r.rows)).rows →
+          AllHold a (with_rows goal (subst_rows (matched redex) r.rows)).rows →
           AllHold a (with_new side goal redex new r).rows
       rows Left new r h = h
       rows Right new r h = h
 
       joined : (side : Side) (new : Term) (r : Rule) →
-          Joins RH (ground_at a (with_new side goal redex new r).left)
+          Joinable RH (ground_at a (with_new side goal redex new r).left)
           (ground_at a (with_new side goal redex new r).right) →
-          Joins RH (ground_at a new) (ground_at a (other_side side goal))
+          Joinable RH (ground_at a new) (ground_at a (other_side side goal))
       joined Left new r h = h
-      joined Right new r h = Joins-sym RH (ground_at a goal.left) (ground_at a new) h
+      joined Right new r h = Joinable-sym RH (ground_at a goal.left) (ground_at a new) h
 
   pub expand_good : (side : Side) (goal : Equation) (redex : Term) → IsFitting parts goal →
       redex_of (side_of side goal) ≡ Some redex
@@ -260,15 +262,15 @@ module _ (parts : RuleParts) (hypotheses : List Rule) (setting : Setting parts) 
       (rules_of_shape (shape_of redex) parts.rules) → IsGood parts hypotheses goal
   expand_good side goal redex fits is all a holds =
       let (first, step, joined) = expand_step side goal redex fits is all a holds in
-      back side (Joins-before_left RH (ground_at a (side_of side goal)) first
+      back side (Joinable-before_left RH (ground_at a (side_of side goal)) first
       (ground_at a (other_side side goal))
       (Reaches-step (Step-by_rule R (Instance hypotheses) step)) joined)
     where
-      back : (side : Side) → Joins RH (ground_at a (side_of side goal))
+      back : (side : Side) → Joinable RH (ground_at a (side_of side goal))
           (ground_at a (other_side side goal)) →
-          Joins RH (ground_at a goal.left) (ground_at a goal.right)
+          Joinable RH (ground_at a goal.left) (ground_at a goal.right)
       back Left h = h
-      back Right h = Joins-sym RH (ground_at a goal.right) (ground_at a goal.left) h
+      back Right h = Joinable-sym RH (ground_at a goal.right) (ground_at a goal.left) h
 
   -- and the hypothesis that is kept is backed
   pub expand_backed : (side : Side) (goal : Equation) (redex : Term) → IsFitting parts goal →
@@ -286,9 +288,9 @@ module _ (parts : RuleParts) (hypotheses : List Rule) (setting : Setting parts) 
       shape_of goal.right → Follow goal.rows (equal_arguments goal.left goal.right).form →
       IsGood parts hypotheses goal
   equal_good goal fits shape follows a holds =
-      subst (Joins RH (ground_at a goal.left))
+      subst (Joinable RH (ground_at a goal.left))
       (equal_grounds goal.left goal.right a fits.left fits.right shape (follows a holds))
-      (Joins-same RH (ground_at a goal.left))
+      (Joinable-same RH (ground_at a goal.left))
 
   -- either all differences are 0, or the goal of one that isn't is good
   pub apart_good : (goal : Equation) → IsFitting parts goal → shape_of goal.left ≡
@@ -299,7 +301,7 @@ module _ (parts : RuleParts) (hypotheses : List Rule) (setting : Setting parts) 
       go (zero_or_one (term_differences goal.left goal.right).form all)
     where
       zero_or_one : (ds : List Body) → All (λ d. IsGood parts hypotheses (differing goal d)) ds →
-          AllHold a (all_zero ds) ⊎ Joins RH (ground_at a goal.left) (ground_at a goal.right)
+          AllHold a (all_zero ds) ⊎ Joinable RH (ground_at a goal.left) (ground_at a goal.right)
       zero_or_one [] each = inl (All-nil (RowHolds a))
       zero_or_one (d ∷ ds) each =
           elim (holds_or_not a (Eq d)) [
@@ -313,12 +315,12 @@ module _ (parts : RuleParts) (hypotheses : List Rule) (setting : Setting parts) 
           ]
 
       go : AllHold a (equal_arguments goal.left goal.right).form ⊎
-          Joins RH (ground_at a goal.left) (ground_at a goal.right) →
-          Joins RH (ground_at a goal.left) (ground_at a goal.right)
+          Joinable RH (ground_at a goal.left) (ground_at a goal.right) →
+          Joinable RH (ground_at a goal.left) (ground_at a goal.right)
       go (inl equal) =
-          subst (Joins RH (ground_at a goal.left))
+          subst (Joinable RH (ground_at a goal.left))
           (equal_grounds goal.left goal.right a fits.left fits.right shape equal)
-          (Joins-same RH (ground_at a goal.left))
+          (Joinable-same RH (ground_at a goal.left))
       go (inr joined) = joined
 
   -- a goal that is an instance of another
@@ -328,21 +330,22 @@ module _ (parts : RuleParts) (hypotheses : List Rule) (setting : Setting parts) 
       → Follow goal.rows (instance_rows ws new goal).form → IsGood parts hypotheses new →
       IsGood parts hypotheses goal
   generalise_good goal new ws fits new_fits shape_left shape_right follows good a holds =
-      let lefts = (equal_arguments (in_term ws new.left) goal.left).form in
-      let rights = (equal_arguments (in_term ws new.right) goal.right).form in
-      let all = All-parts (RowHolds a) (lefts ++ rights) (in_rows ws new.rows) (follows a holds) in
+      let lefts = (equal_arguments (subst_term ws new.left) goal.left).form in
+      let rights = (equal_arguments (subst_term ws new.right) goal.right).form in
+      let all = All-parts (RowHolds a) (lefts ++ rights) (subst_rows ws new.rows) (follows a holds)
+      in
       let sides = All-parts (RowHolds a) lefts rights all.0 in
       let left = sym (ground_in_term a ws new.left) ∙
-      equal_grounds (in_term ws new.left) goal.left a
+      equal_grounds (subst_term ws new.left) goal.left a
       (fits_in_term ws parts new.left ∙ new_fits.left) fits.left
       (shape_in_term ws new.left ∙ shape_left) sides.0 in
       let right = sym (ground_in_term a ws new.right) ∙
-      equal_grounds (in_term ws new.right) goal.right a
+      equal_grounds (subst_term ws new.right) goal.right a
       (fits_in_term ws parts new.right ∙ new_fits.right) fits.right
       (shape_in_term ws new.right ∙ shape_right) sides.1 in
-      let joined = good (worth a ws) ((in_rows-hold a ws new.rows).0 all.1) in
-      subst (λ s. Joins RH s (ground_at a goal.right)) left
-      (subst (Joins RH (ground_at (worth a ws) new.left)) right joined)
+      let joined = good (updated_assignment a ws) ((subst_rows-hold a ws new.rows).0 all.1) in
+      subst (λ s. Joinable RH s (ground_at a goal.right)) left
+      (subst (Joinable RH (ground_at (updated_assignment a ws) new.left)) right joined)
 
   -- a goal by two cases
   pub split_good : (goal : Equation) (row : Row) →
@@ -376,10 +379,11 @@ module _ (parts : RuleParts) (hypotheses : List Rule) (setting : Setting parts) 
       let left = ap (ground_at a) is_left ∙ ground-Frame a f ps s in
       let right = ap (ground_at a) is_right ∙ ground-Frame a f qs t ∙
       ap (λ vs. stack.Frame f.0 vs (ground_at a t)) (sym same) in
-      let joined = Joins-frame RH f.0 (values a ps) (ground_at a s) (ground_at a t) (good a holds)
+      let joined = Joinable-frame RH f.0 (values a ps) (ground_at a s) (ground_at a t)
+      (good a holds)
       in
-      subst (λ g. Joins RH g (ground_at a goal.right)) (sym left)
-      (subst (Joins RH (stack.Frame f.0 (values a ps) (ground_at a s))) (sym right) joined)
+      subst (λ g. Joinable RH g (ground_at a goal.right)) (sym left)
+      (subst (Joinable RH (stack.Frame f.0 (values a ps) (ground_at a s))) (sym right) joined)
 
   -- ---- a common part that reaches a result
 
@@ -397,7 +401,7 @@ module _ (parts : RuleParts) (hypotheses : List Rule) (setting : Setting parts) 
   good_for goal m n result = IsGood parts hypotheses (with_result goal m n result)
 
   pub results_good : (goal : Equation) (m n : ℕ) (s t : Term) → IsFitting parts goal →
-      behind m goal.left ≡ Some s → behind n goal.right ≡ Some t → shape_of s ≡ shape_of t
+      suffix_at m goal.left ≡ Some s → suffix_at n goal.right ≡ Some t → shape_of s ≡ shape_of t
       → Follow goal.rows (equal_arguments s t).form
       → All (λ result. IsGood parts hypotheses (with_result goal m n result))
       (results_of parts.fails (equation_bound goal)) → IsGood parts hypotheses goal
@@ -421,46 +425,51 @@ module _ (parts : RuleParts) (hypotheses : List Rule) (setting : Setting parts) 
 
       -- both sides lead to their frames over the result
       led : (g : Ground) → Reaches R (ground_at a s) g →
-          Joins RH (under (outer_frames a m goal.left) g) (under (outer_frames a n goal.right) g) →
-          Joins RH (ground_at a goal.left) (ground_at a goal.right)
+          Joinable RH (in_context (outer_frames a m goal.left) g)
+          (in_context (outer_frames a n goal.right) g) →
+          Joinable RH (ground_at a goal.left) (ground_at a goal.right)
       led g reached joined =
-          let left : Reaches RH (ground_at a goal.left) (under (outer_frames a m goal.left) g) =
-          subst (λ u. Reaches RH u (under (outer_frames a m goal.left) g))
+          let left : Reaches RH (ground_at a goal.left) (in_context (outer_frames a m goal.left) g)
+          =
+          subst (λ u. Reaches RH u (in_context (outer_frames a m goal.left) g))
           (sym (ground_behind a m goal.left s at_s))
-          (Reaches-under (outer_frames a m goal.left)
+          (Reaches-in_context (outer_frames a m goal.left)
           (Reaches-by_rule R (Instance hypotheses) reached)) in
-          let right : Reaches RH (ground_at a goal.right) (under (outer_frames a n goal.right) g) =
-          subst (λ u. Reaches RH u (under (outer_frames a n goal.right) g))
-          (ap (under (outer_frames a n goal.right)) same ∙
+          let right : Reaches RH (ground_at a goal.right)
+          (in_context (outer_frames a n goal.right) g) =
+          subst (λ u. Reaches RH u (in_context (outer_frames a n goal.right) g))
+          (ap (in_context (outer_frames a n goal.right)) same ∙
           sym (ground_behind a n goal.right t at_t))
-          (Reaches-under (outer_frames a n goal.right)
+          (Reaches-in_context (outer_frames a n goal.right)
           (Reaches-by_rule R (Instance hypotheses) reached)) in
-          Joins-before_left RH (ground_at a goal.left) (under (outer_frames a m goal.left) g)
+          Joinable-before_left RH (ground_at a goal.left)
+          (in_context (outer_frames a m goal.left) g)
           (ground_at a goal.right) left
-          (Joins-before_right RH (ground_at a goal.right) (under (outer_frames a m goal.left) g)
-          (under (outer_frames a n goal.right) g) right joined)
+          (Joinable-before_right RH (ground_at a goal.right)
+          (in_context (outer_frames a m goal.left) g)
+          (in_context (outer_frames a n goal.right) g) right joined)
 
       go : (g : Ground) → Reaches R (ground_at a s) g → IsResult g → Inside parts g →
-          Joins RH (ground_at a goal.left) (ground_at a goal.right)
-      go (stack.Ret k) reached result inside =
+          Joinable RH (ground_at a goal.left) (ground_at a goal.right)
+      go (stack.Return k) reached result inside =
           let v = equation_bound goal in
           let b = put a v k in
           let agree = put_other a v k in
           let good = All-head (good_for goal m n) (Return (variable v)) (failures parts.fails) all b
           (hold_too a b v agree goal.rows bounded.rows holds) in
-          let value_is : ground_at b (Return (variable v)) ≡ stack.Ret k =
-          ground-Return b (variable v) ∙ ap stack.Ret (value-variable b v ∙ put_here a v k) in
+          let value_is : ground_at b (Return (variable v)) ≡ stack.Return k =
+          ground-Return b (variable v) ∙ ap stack.Return (value-variable b v ∙ put_here a v k) in
           let left = ground_replaced b m goal.left (Return (variable v)) ∙
-          (ap (λ fs. under fs (ground_at b (Return (variable v))))
+          (ap (λ fs. in_context fs (ground_at b (Return (variable v))))
           (sym (same_outer a b v agree m goal.left bounded.left)) ∙
-          ap (under (outer_frames a m goal.left)) value_is) in
+          ap (in_context (outer_frames a m goal.left)) value_is) in
           let right = ground_replaced b n goal.right (Return (variable v)) ∙
-          (ap (λ fs. under fs (ground_at b (Return (variable v))))
+          (ap (λ fs. in_context fs (ground_at b (Return (variable v))))
           (sym (same_outer a b v agree n goal.right bounded.right)) ∙
-          ap (under (outer_frames a n goal.right)) value_is) in
-          led (stack.Ret k) reached (subst (λ u.
-          Joins RH u (under (outer_frames a n goal.right) (stack.Ret k))) left
-          (subst (Joins RH (ground_at b (replaced m goal.left (Return (variable v))))) right
+          ap (in_context (outer_frames a n goal.right)) value_is) in
+          led (stack.Return k) reached (subst (λ u.
+          Joinable RH u (in_context (outer_frames a n goal.right) (stack.Return k))) left
+          (subst (Joinable RH (ground_at b (replace_at m goal.left (Return (variable v))))) right
           good))
       go (stack.Fail c) reached result inside =
           let rest = All-tail (good_for goal m n) (Return (variable (equation_bound goal)))
@@ -468,11 +477,11 @@ module _ (parts : RuleParts) (hypotheses : List Rule) (setting : Setting parts) 
           let good = All-contains (good_for goal m n) (failures parts.fails) (Fail c) rest
           (failure_stands parts.fails c inside.0 inside.1) a holds in
           let left = ground_replaced a m goal.left (Fail c) ∙
-          ap (under (outer_frames a m goal.left)) (ground-Fail a c) in
+          ap (in_context (outer_frames a m goal.left)) (ground-Fail a c) in
           let right = ground_replaced a n goal.right (Fail c) ∙
-          ap (under (outer_frames a n goal.right)) (ground-Fail a c) in
+          ap (in_context (outer_frames a n goal.right)) (ground-Fail a c) in
           led (stack.Fail c) reached (subst (λ u.
-          Joins RH u (under (outer_frames a n goal.right) (stack.Fail c))) left
-          (subst (Joins RH (ground_at a (replaced m goal.left (Fail c)))) right good))
+          Joinable RH u (in_context (outer_frames a n goal.right) (stack.Fail c))) left
+          (subst (Joinable RH (ground_at a (replace_at m goal.left (Fail c)))) right good))
       go (stack.Call f xs) reached result inside = absurd result
       go (stack.Frame f xs g) reached result inside = absurd result

@@ -2,7 +2,7 @@
 use Rattle.std.specs.Prelude.{◌≡◌, ℕ, true, List, ℤ}
 use Rattle.rx_row.specs.Holds.{AllHold}
 use Rattle.rx_rewriting.specs.Terms.{Ground, TermSet, Fits}
-use Rattle.rx_rewriting.specs.Steps.{Step, Joins, Either}
+use Rattle.rx_rewriting.specs.Steps.{Step, Joinable, Either}
 use Rattle.rx_term.specs.Fitting.{term_fits}
 use Rattle.rx_term.specs.Meaning.{Instance, ground_at, signature}
 use Rattle.rx_term.specs.declared.rule.Equation.{Equation}
@@ -21,7 +21,7 @@ Both parts hypotheses = Either (Instance parts.rules) (Instance hypotheses)
 -- rows
 abbrev pub IsGood : RuleParts → List Rule → Equation → Type 0
 IsGood parts hypotheses goal =
-    (a : ℕ → ℤ) → AllHold a goal.rows → Joins (Both parts hypotheses) (ground_at a goal.left)
+    (a : ℕ → ℤ) → AllHold a goal.rows → Joinable (Both parts hypotheses) (ground_at a goal.left)
     (ground_at a goal.right)
 
 -- a rule steps from the hypothesis's left side to a term that joins with its right side, at each
@@ -30,7 +30,7 @@ abbrev pub IsBacked : RuleParts → List Rule → Rule → Type 0
 IsBacked parts hypotheses h =
     (a : ℕ → ℤ) → AllHold a h.rows
     → (first : Ground) × Step (Instance parts.rules) (ground_at a h.left) first ×
-    Joins (Both parts hypotheses) first (ground_at a h.right)
+    Joinable (Both parts hypotheses) first (ground_at a h.right)
 
 -- both sides of the goal fit the symbols
 pub record IsFitting (parts : RuleParts) (goal : Equation) : Type 0 where

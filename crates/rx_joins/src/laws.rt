@@ -13,7 +13,7 @@ ghost use Rattle.rx_pairs.specs.Ranks.{bad_rank, rank_of};
 ghost use Rattle.rx_pairs.specs.declared.pair.Pair.{Pair};
 ghost use Rattle.rx_pairs.specs.declared.pair_cert.PairCert.{PairCert};
 ghost use Rattle.rx_pairs.specs.declared.table.RankTable.{RankTable};
-ghost use Rattle.rx_rewriting.specs.Premises.{EndAlike, EndsInside, Lowers};
+ghost use Rattle.rx_rewriting.specs.Premises.{HaveConvertibleNormalForms, EndsInside, Lowers};
 ghost use Rattle.rx_rewriting.specs.Ranks.{Weight, weight_of};
 ghost use Rattle.rx_rewriting.specs.Terms.{Ground};
 ghost use Rattle.rx_row.specs.Holds.{AllHold};
@@ -75,7 +75,7 @@ pub fn accepted_runs_end_alike()
     ensures { (parts : RuleParts) (goal : Equation) (hypotheses : List Rule)
         (weight : Ground → Weight) →
         Accepted parts goal hypotheses weight → (a : ℕ → ℤ) → AllHold a goal.rows →
-        EndAlike (Inside parts) (Instance parts.rules)
+        HaveConvertibleNormalForms (Inside parts) (Instance parts.rules)
         (ground_at a goal.left) (ground_at a goal.right) }
 {}
 
@@ -89,7 +89,7 @@ pub fn proofs_are_accepted()
     ensures alike { (parts : RuleParts) (goal : Equation) (hypotheses : List Rule)
         (table : RankTable) →
         IsProof parts goal hypotheses table → (a : ℕ → ℤ) → AllHold a goal.rows →
-        EndAlike (Inside parts) (Instance parts.rules)
+        HaveConvertibleNormalForms (Inside parts) (Instance parts.rules)
         (ground_at a goal.left) (ground_at a goal.right) }
 {}
 

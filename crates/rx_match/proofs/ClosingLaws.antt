@@ -5,7 +5,7 @@ use Rattle.std.specs.Prelude.{filter, nat_le}
 use Rattle.std.specs.List.{list_all}
 use Rattle.std.proofs.lemmas.Bool.{and_from, and_parts, eqb-true, eq-eqb}
 use Rattle.rx_plain.specs.Formed.{Formed, pure, ◌>>=◌}
-use Rattle.rx_poly.specs.Substitution.{in_body}
+use Rattle.rx_poly.specs.Substitution.{subst_body}
 use Rattle.rx_poly.specs.Variables.{variables}
 use Rattle.rx_poly.specs.declared.body.Body.{Body}
 use Rattle.rx_poly_laws.specs.Tests.{passes}
@@ -177,7 +177,7 @@ module _ (ws : Settings) where
       Closes (set_to_value ws x o).form (Eq p)
   value_closes p x None e = inl refl
   value_closes p x (Some v) e =
-      let q = (in_body ws v).form in
+      let q = (subst_body ws v).form in
       inr (
         set_more x q ws,
         still_open (passes (is_set ws) p) p x refl e,

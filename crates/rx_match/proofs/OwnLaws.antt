@@ -14,24 +14,24 @@ use Rattle.rx_poly.proofs.VariableLaws.{variables_Var}
 use Rattle.rx_poly.specs.Constants.{variable}
 use Rattle.rx_poly.specs.Limits.{of_atoms}
 use Rattle.rx_poly.specs.Reading.{variable_of}
-use Rattle.rx_poly.specs.Substitution.{in_body, replaced}
+use Rattle.rx_poly.specs.Substitution.{subst_body, replaced}
 use Rattle.rx_poly.specs.Variables.{variables}
 use Rattle.rx_poly.specs.declared.body.Atom.TheVariants.{Var}
 use Rattle.rx_poly.specs.declared.body.Body.{Body, out-Body}
 use Rattle.rx_poly_laws.specs.Tests.{passes}
 use Rattle.rx_poly_laws.proofs.InstanceVariables.{instance_passes}
-use Rattle.rx_poly_laws.proofs.TestLaws.{atom_passes, mono_passes, mono_passes_is, passes-of_terms, passes-subtracted, passes-variable}
-use Rattle.rx_row.specs.Substitution.{in_row, in_rows}
+use Rattle.rx_poly_laws.proofs.TestLaws.{atom_passes, mono_passes, mono_passes_is, passes-of_terms, passes-body_difference, passes-variable}
+use Rattle.rx_row.specs.Substitution.{subst_row, subst_rows}
 use Rattle.rx_row.specs.declared.row.Row.{Row}
 use Rattle.rx_row.specs.declared.row.Row.TheVariants.{Ge, Eq, Ne}
 use Rattle.rx_cert.specs.Elimination.{solution}
 use Rattle.rx_cert.specs.Variables.{row_passes, rows_pass}
 use Rattle.rx_solve.proofs.OwnVariables.{solution_passes, with_rows_pass}
-use Rattle.rx_term.proofs.Equations.{Form, AReturn, AFail, ACall, AFrame, arguments-Frame, behind-Frame, form}
+use Rattle.rx_term.proofs.Equations.{Form, AReturn, AFail, ACall, AFrame, arguments-Frame, suffix_at-Frame, form}
 use Rattle.rx_term.proofs.KeepingLaws.{arguments_in_term}
 use Rattle.rx_term.specs.Differences.{difference}
-use Rattle.rx_term.specs.Stacks.{behind, under_frame}
-use Rattle.rx_term.specs.Substitution.{in_polys, in_term}
+use Rattle.rx_term.specs.Stacks.{suffix_at, under_frame}
+use Rattle.rx_term.specs.Substitution.{subst_polys, subst_term}
 use Rattle.rx_term.specs.Variables.{arguments_of}
 use Rattle.rx_term.specs.declared.rule.Equation.{Equation}
 use Rattle.rx_term.specs.declared.rule.Rule.{Rule}
@@ -145,32 +145,32 @@ module _ (test : ℕ → Bool) where
       (and_parts (test w.0) (passes test w.1) parts.0).1 (replaced_passes ws parts.1 n h)
 
   instance_of_passes : (ws : List (ℕ × Body)) (p : Body) → SubstPass ws → passes test p ≡ true →
-      passes test (in_body ws p).form ≡ true
+      passes test (subst_body ws p).form ≡ true
   instance_of_passes ws p s h =
       instance_passes test ws p (All-weaker (λ n. test n ≡ true)
       (λ n. passes test (replaced ws n) ≡ true) (replaced_passes ws s) (variables p)
       (AllPass-from_list_all test (variables p) h))
 
   in_polys_pass : (ws : List (ℕ × Body)) (ps : List Body) → SubstPass ws → polys_pass test ps ≡
-      true → polys_pass test (in_polys ws ps) ≡ true
+      true → polys_pass test (subst_polys ws ps) ≡ true
   in_polys_pass ws [] s h = refl
   in_polys_pass ws (p ∷ ps) s h =
       let parts = and_parts (passes test p) (polys_pass test ps) h in
-      and_from (passes test (in_body ws p).form) (polys_pass test (in_polys ws ps))
+      and_from (passes test (subst_body ws p).form) (polys_pass test (subst_polys ws ps))
       (instance_of_passes ws p s parts.0) (in_polys_pass ws ps s parts.1)
 
   in_row_passes : (ws : List (ℕ × Body)) (row : Row) → SubstPass ws → row_passes test row ≡ true →
-      row_passes test (in_row ws row) ≡ true
+      row_passes test (subst_row ws row) ≡ true
   in_row_passes ws (Ge p) s h = instance_of_passes ws p s h
   in_row_passes ws (Eq p) s h = instance_of_passes ws p s h
   in_row_passes ws (Ne p) s h = instance_of_passes ws p s h
 
   in_rows_pass : (ws : List (ℕ × Body)) (rows : List Row) → SubstPass ws → rows_pass test rows ≡
-      true → rows_pass test (in_rows ws rows) ≡ true
+      true → rows_pass test (subst_rows ws rows) ≡ true
   in_rows_pass ws [] s h = refl
   in_rows_pass ws (row ∷ rows) s h =
       let parts = and_parts (row_passes test row) (rows_pass test rows) h in
-      and_from (row_passes test (in_row ws row)) (rows_pass test (in_rows ws rows))
+      and_from (row_passes test (subst_row ws row)) (rows_pass test (subst_rows ws rows))
       (in_row_passes ws row s parts.0) (in_rows_pass ws rows s parts.1)
 
   -- ---- by equations
@@ -180,7 +180,7 @@ module _ (test : ℕ → Bool) where
   value_passes ws x p None e h s = s
   value_passes ws x p (Some v) e h s =
       let own = solution_passes test x p v h e in
-      set_to_passes x (in_body ws v).form ws own.0 (instance_of_passes ws v s own.1) s
+      set_to_passes x (subst_body ws v).form ws own.0 (instance_of_passes ws v s own.1) s
 
   equation_sets : (ws : List (ℕ × Body)) (p : Body) (o : Option ℕ) → passes test p ≡ true →
       SubstPass ws → SubstPass (set_by_equation ws p o).form
@@ -209,27 +209,29 @@ module _ (test : ℕ → Bool) where
 
   abbrev PartPasses : ℕ → Term → Type 0
   PartPasses n t =
-      (s : Term) → term_passes test t ≡ true → behind n t ≡ Some s → term_passes test s ≡ true
+      (s : Term) → term_passes test t ≡ true → suffix_at n t ≡ Some s → term_passes test s ≡ true
 
   no_part : (s : Term) → ◌≡◌ {A = Option Term} None (Some s) → ⊥
   no_part s e = cc
 
   part_inside : (n : ℕ) → ((u : Term) → PartPasses n u) → (t : Term) → Form t → PartPasses (suc n) t
   part_inside n further _ (AReturn p) s h e =
-      absurd (no_part s (sym (ap (λ (x : Term-F Term). under_frame x (behind n)) (outs-Return p)) ∙
+      absurd (no_part s (sym (ap (λ (x : Term-F Term). under_frame x (suffix_at n)) (outs-Return p))
+      ∙
       e))
   part_inside n further _ (AFail c) s h e =
-      absurd (no_part s (sym (ap (λ (x : Term-F Term). under_frame x (behind n)) (outs-Fail c)) ∙
+      absurd (no_part s (sym (ap (λ (x : Term-F Term). under_frame x (suffix_at n)) (outs-Fail c)) ∙
       e))
   part_inside n further _ (ACall f ps) s h e =
-      absurd (no_part s (sym (ap (λ (x : Term-F Term). under_frame x (behind n)) (outs-Call f ps)) ∙
+      absurd (no_part s (sym (ap (λ (x : Term-F Term). under_frame x (suffix_at n))
+      (outs-Call f ps)) ∙
       e))
   part_inside n further _ (AFrame f ps t) s h e =
       let all : polys_pass test (ps ++ arguments_of t) ≡ true =
       sym (ap (polys_pass test) (arguments-Frame f ps t)) ∙ h in
       let both = and_parts (polys_pass test ps) (polys_pass test (arguments_of t))
       (sym (list_all-append (passes test) ps (arguments_of t)) ∙ all) in
-      further t s both.1 (sym (behind-Frame n f ps t) ∙ e)
+      further t s both.1 (sym (suffix_at-Frame n f ps t) ∙ e)
 
   part_passes : (n : ℕ) (t : Term) → PartPasses n t
   part_passes zero t =
@@ -279,25 +281,26 @@ module _ (test : ℕ → Bool) where
   differences_pass (pair ∷ pairs) h =
       let parts = and_parts (passes test pair.0 && passes test pair.1) (pairs_pass pairs) h in
       let both = and_parts (passes test pair.0) (passes test pair.1) parts.0 in
-      and_from _ _ (passes-subtracted test pair.0 pair.1 both.0 both.1)
+      and_from _ _ (passes-body_difference test pair.0 pair.1 both.0 both.1)
       (differences_pass pairs parts.1)
 
   asked_pass : (ws : List (ℕ × Body)) (part : Term) (r : Rule) → SubstPass ws →
       term_passes test part ≡ true → rule_passes test r ≡ true
       → rows_pass test (asked_rows ws part r).form ≡ true
   asked_pass ws part r s k h =
-      let left : polys_pass test (arguments_of (in_term ws r.left)) ≡ true =
+      let left : polys_pass test (arguments_of (subst_term ws r.left)) ≡ true =
       ap (polys_pass test) (arguments_in_term ws r.left) ∙
       in_polys_pass ws (arguments_of r.left) s (left_passes r h) in
-      let pairs = zip (arguments_of part) (arguments_of (in_term ws r.left)) in
-      with_rows_pass test (all_zero (map_formed difference pairs).form) (in_rows ws r.rows)
-      (differences_pass pairs (zip_passes (arguments_of part) (arguments_of (in_term ws r.left)) k
+      let pairs = zip (arguments_of part) (arguments_of (subst_term ws r.left)) in
+      with_rows_pass test (all_zero (map_formed difference pairs).form) (subst_rows ws r.rows)
+      (differences_pass pairs (zip_passes (arguments_of part) (arguments_of (subst_term ws r.left))
+      k
       left))
       (in_rows_pass ws r.rows s (rule_rows_pass r h))
 
 -- a use that is shown at a part has no variables but those of the goal and of the hypothesis
 pub own_use : (goal : Equation) (hypothesis : Rule) (side : Side) (place : ℕ) (part : Term) →
-    behind place (side_of side goal) ≡ Some part
+    suffix_at place (side_of side goal) ≡ Some part
     → (u : Use) → IsShownAt goal hypothesis part (matching hypothesis part).form u →
     HasOwnVariables goal hypothesis u
 own_use goal hypothesis side place part at u s =

@@ -2,7 +2,7 @@
 use Rattle.std.proofs.Common.{◌≡◌, ◌∙◌, ap, subst, sym, refl, inl, inr, ◌⊎◌, ℕ, zero, suc, ◌+◌, ◌-◌, ◌<◌, ◌≤◌, true, false, Option, Some, None, List, [], ◌∷◌, length, arith}
 use Rattle.rx_plain.specs.Formed.{Formed, pure, ◌>>=◌}
 use Rattle.rx_plain.proofs.Forming.{then_false, then_true}
-use Rattle.rx_poly.specs.Substitution.{in_body}
+use Rattle.rx_poly.specs.Substitution.{subst_body}
 use Rattle.rx_poly.specs.declared.body.Body.{Body}
 use Rattle.rx_row.specs.declared.row.Row.{Row}
 use Rattle.rx_row.specs.declared.row.Row.TheVariants.{Ge, Eq, Ne}
@@ -25,7 +25,7 @@ further us vs ws (inr h) (inr k) = inr (omega arith)
 value_grows : (ws : List (ℕ × Body)) (x : ℕ) (o : Option Body) → Grows ws (set_to_value ws x o).form
 value_grows ws x None = inl refl
 value_grows ws x (Some p) =
-    let longer = length-set_to x (in_body ws p).form ws in inr (omega (arith, longer))
+    let longer = length-set_to x (subst_body ws p).form ws in inr (omega (arith, longer))
 
 equation_grows : (ws : List (ℕ × Body)) (p : Body) (o : Option ℕ) →
     Grows ws (set_by_equation ws p o).form

@@ -5,8 +5,8 @@ use Rattle.std.specs.Option.{option_map_or}
 use Rattle.rx_term.proofs.Equations.{induct, depth-Return, depth-Fail, depth-Call, depth-Frame, shape-Return, shape-Fail, shape-Call, shape-Frame}
 use Rattle.rx_term.proofs.KeepingLaws.{depth_behind}
 use Rattle.rx_term.proofs.RuleLaws.{told_shape}
-use Rattle.rx_term.specs.Shapes.{Shape, Value, Failure, Called, Framed, shape_of}
-use Rattle.rx_term.specs.Stacks.{behind, depth_of}
+use Rattle.rx_term.specs.Shapes.{Shape, Return, Fail, Call, Frame, shape_of}
+use Rattle.rx_term.specs.Stacks.{suffix_at, depth_of}
 use Rattle.rx_term.specs.declared.rule.Equation.{Equation}
 use Rattle.rx_term.specs.declared.rule.Rule.{Rule}
 use Rattle.rx_term.specs.declared.term.Term.{Term}
@@ -16,10 +16,10 @@ use Rattle.rx_match.specs.Matching.{is_place}
 
 -- how many frames a shape has
 abbrev frames : Shape → ℕ
-frames Value = 0
-frames (Failure c) = 0
-frames (Called f) = 0
-frames (Framed f s) = 1 + frames s
+frames Return = 0
+frames (Fail c) = 0
+frames (Call f) = 0
+frames (Frame f s) = 1 + frames s
 
 frames_of : (t : Term) → depth_of t ≡ frames (shape_of t)
 frames_of = induct (λ t. depth_of t ≡ frames (shape_of t))
@@ -35,7 +35,7 @@ one_depth s t h =
     frames_of s ∙ ap frames (told_shape (shape_of s) (shape_of t) h) ∙ sym (frames_of t)
 
 module _ (goal : Equation) (hypothesis : Rule) (side : Side) where
-  by_part : (n : ℕ) (o : Option Term) → behind n (side_of side goal) ≡ o
+  by_part : (n : ℕ) (o : Option Term) → suffix_at n (side_of side goal) ≡ o
       → option_map_or (λ part. have_one_shape part hypothesis.left) o false ≡ true
       → depth_of (side_of side goal) ≡ n + depth_of hypothesis.left
   by_part n None e h = cc
@@ -45,10 +45,10 @@ module _ (goal : Equation) (hypothesis : Rule) (side : Side) where
   -- n frames are over the part
   pub place_is : (n : ℕ) → is_place goal hypothesis side n ≡ true → depth_of (side_of side goal) ≡
       n + depth_of hypothesis.left
-  place_is n h = by_part n (behind n (side_of side goal)) refl h
+  place_is n h = by_part n (suffix_at n (side_of side goal)) refl h
 
   -- whether it is a place is whether the part there has the shape
-  pub place_by : (n : ℕ) (part : Term) → behind n (side_of side goal) ≡ Some part
+  pub place_by : (n : ℕ) (part : Term) → suffix_at n (side_of side goal) ≡ Some part
       → is_place goal hypothesis side n ≡ have_one_shape part hypothesis.left
   place_by n part e =
       ap (λ (o : Option Term). option_map_or (λ u. have_one_shape u hypothesis.left) o false) e

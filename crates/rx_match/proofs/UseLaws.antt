@@ -7,7 +7,7 @@ use Rattle.rx_poly.specs.declared.body.Body.{Body}
 use Rattle.rx_row.specs.declared.row.Row.{Row}
 use Rattle.rx_cert.specs.Showing.{all_shown}
 use Rattle.rx_fm.specs.declared.fm_end.FmEnd.{FmEnd}
-use Rattle.rx_term.specs.Stacks.{behind}
+use Rattle.rx_term.specs.Stacks.{suffix_at}
 use Rattle.rx_term.specs.declared.rule.Equation.{Equation}
 use Rattle.rx_term.specs.declared.rule.Rule.{Rule}
 use Rattle.rx_term.specs.declared.term.Term.{Term}
@@ -20,7 +20,7 @@ use Rattle.rx_form.specs.Pieces.{have_one_shape, is_substitution, side_of, with_
 use Rattle.rx_form.specs.declared.form_end.FormEnd.TheVariants.{Large, NoSuchRule, WrongShape}
 use Rattle.rx_form.specs.declared.formed_step.FormedStep.{FormedStep}
 use Rattle.rx_form.specs.declared.step.Side.{Side}
-use Rattle.rx_term.specs.Stacks.{replaced}
+use Rattle.rx_term.specs.Stacks.{replace_at}
 use Rattle.rx_match.specs.Matching.{asked_rows, is_matched, matching, use_at, use_with, where_within}
 use Rattle.rx_match.specs.Settings.{is_set}
 use Rattle.rx_match.specs.Uses.{IsLawful, IsShown, IsShownAt, UseAnswers}
@@ -155,7 +155,7 @@ module _ (goal : Equation) (hypothesis : Rule) (side : Side) (place : ℕ) (part
       with_hypothesis t
 
   -- the step is formed at the part
-  pub step_formed : behind place (side_of side goal) ≡ Some part → is_substitution ws ≡ true →
+  pub step_formed : suffix_at place (side_of side goal) ≡ Some part → is_substitution ws ≡ true →
       have_one_shape part hypothesis.left ≡ true
       → (hypothesis_with ws part hypothesis).within ≡ true →
       used (hypothesis ∷ []) goal side place 0 ws ≡ Ok made.form
@@ -167,13 +167,13 @@ module _ (goal : Equation) (hypothesis : Rule) (side : Side) (place : ℕ) (part
       ∙ ap (λ b. cond b (Ok made.form) (Err Large)) within
 
   -- a use that is shown there is lawful
-  pub lawful_at : behind place (side_of side goal) ≡ Some part → (u : Use) →
+  pub lawful_at : suffix_at place (side_of side goal) ≡ Some part → (u : Use) →
       IsShownAt goal hypothesis part ws u
       → have_one_shape part hypothesis.left ≡ true → IsLawful goal hypothesis side place u
   lawful_at at u s shape = record {
     rows = (hypothesis_with ws part hypothesis).form.rows;
     new =
-        with_side side goal (replaced place (side_of side goal)
+        with_side side goal (replace_at place (side_of side goal)
         (hypothesis_with ws part hypothesis).form.right);
     formed = ap (used (hypothesis ∷ []) goal side place 0) s.shown.same
         ∙ step_formed at (and_parts (rule_passes (is_set ws) hypothesis) (is_substitution ws)

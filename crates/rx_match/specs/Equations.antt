@@ -2,7 +2,7 @@
 use Rattle.std.specs.Prelude.{ℕ, zero, suc, ◌==◌, not, if◌then◌else◌, Option, Some, None, List, [], ◌∷◌, filter}
 use Rattle.std.specs.List.{list_all}
 use Rattle.rx_plain.specs.Formed.{Formed, fold_formed, pure, ◌>>=◌, ◌<$>◌}
-use Rattle.rx_poly.specs.Substitution.{in_body}
+use Rattle.rx_poly.specs.Substitution.{subst_body}
 use Rattle.rx_poly.specs.Variables.{variables}
 use Rattle.rx_poly.specs.declared.body.Body.{Body}
 use Rattle.rx_row.specs.declared.row.Row.{Row}
@@ -22,7 +22,7 @@ only_one (x ∷ xs) = if list_all (λ y. y == x) xs then Some x else None
 -- the variable is set to the instance of its value, where it has one
 abbrev pub set_to_value : List (ℕ × Body) → ℕ → Option Body → Formed (List (ℕ × Body))
 set_to_value ws x None = pure ws
-set_to_value ws x (Some p) = (λ q. set_to x q ws) <$> in_body ws p
+set_to_value ws x (Some p) = (λ q. set_to x q ws) <$> subst_body ws p
 
 -- its value is the one that p = 0 gives it: there it occurs once, alone, with coefficient 1 or -1
 abbrev pub set_by_equation : List (ℕ × Body) → Body → Option ℕ → Formed (List (ℕ × Body))

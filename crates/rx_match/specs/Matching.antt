@@ -7,7 +7,7 @@ use Rattle.rx_plain.specs.Formed.{Formed, ◌<$>◌}
 use Rattle.rx_poly.specs.declared.body.Body.{Body}
 use Rattle.rx_row.specs.declared.row.Row.{Row}
 use Rattle.rx_cert.specs.Showing.{all_shown}
-use Rattle.rx_term.specs.Stacks.{behind}
+use Rattle.rx_term.specs.Stacks.{suffix_at}
 use Rattle.rx_term.specs.declared.rule.Equation.{Equation}
 use Rattle.rx_term.specs.declared.rule.Rule.{Rule}
 use Rattle.rx_term.specs.declared.term.Term.{Term}
@@ -62,12 +62,13 @@ use_at goal hypothesis part =
 -- at the part under n frames of a side, if there is one
 abbrev pub use_of : Equation → Rule → Side → ℕ → Tried (List (ℕ × Body))
 use_of goal hypothesis side place =
-    option_map_or (use_at goal hypothesis) (behind place (side_of side goal)) fails
+    option_map_or (use_at goal hypothesis) (suffix_at place (side_of side goal)) fails
 
 -- ---- where
 
 -- the part under n frames of the side has the shape of the hypothesis's left side
 abbrev pub is_place : Equation → Rule → Side → ℕ → Bool
 is_place goal hypothesis side place =
-    option_map_or (λ part. have_one_shape part hypothesis.left) (behind place (side_of side goal))
+    option_map_or (λ part. have_one_shape part hypothesis.left)
+    (suffix_at place (side_of side goal))
     false

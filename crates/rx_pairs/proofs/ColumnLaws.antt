@@ -6,12 +6,12 @@ use Rattle.std.proofs.lemmas.List.Elements.{All-cons, All-head, All-nil, All-tai
 use Rattle.std.proofs.lemmas.Bool.Decides.{leb_tells}
 use Rattle.rx_poly.proofs.Constants.{value-number}
 use Rattle.rx_poly.proofs.DivisionLaws.{constant_worth}
-use Rattle.rx_poly.proofs.PolyLaws.{value-subtracted}
-use Rattle.rx_poly.proofs.SubstitutedValue.{value-in_body}
+use Rattle.rx_poly.proofs.PolyLaws.{value-body_difference}
+use Rattle.rx_poly.proofs.SubstitutedValue.{value-subst_body}
 use Rattle.rx_poly.specs.Constants.{number}
-use Rattle.rx_poly.specs.Limits.{subtracted}
+use Rattle.rx_poly.specs.Limits.{body_difference}
 use Rattle.rx_poly.specs.Reading.{constant_of}
-use Rattle.rx_poly.specs.Substitution.{numbered, worth}
+use Rattle.rx_poly.specs.Substitution.{numbered, updated_assignment}
 use Rattle.rx_poly.specs.Value.{value}
 use Rattle.rx_poly.specs.declared.body.Body.{Body, out-Body}
 use Rattle.rx_row.specs.Holds.{AllHold, RowHolds}
@@ -51,21 +51,22 @@ below_zero_column (negsuc n) h = refl
 module _ (a : ℕ → ℤ) (pair : Pair) where
   -- the value of a column's polynomial on the left, and on the right
   abbrev on_left : Body → ℤ
-  on_left p = value (worth a (numbered pair.left_args)) p
+  on_left p = value (updated_assignment a (numbered pair.left_args)) p
 
   abbrev on_right : Body → ℤ
-  on_right q = value (worth a (numbered pair.right_args)) q
+  on_right q = value (updated_assignment a (numbered pair.right_args)) q
 
   left_value : (p : Body) → value a (at_left pair p).form ≡ on_left p
-  left_value p = value-in_body a (numbered pair.left_args) p
+  left_value p = value-subst_body a (numbered pair.left_args) p
 
   right_value : (q : Body) → value a (at_right pair q).form ≡ on_right q
-  right_value q = value-in_body a (numbered pair.right_args) q
+  right_value q = value-subst_body a (numbered pair.right_args) q
 
-  difference : (p q : Body) → value a (subtracted (at_left pair p).form (at_right pair q).form) ≡
+  difference : (p q : Body) → value a (body_difference (at_left pair p).form (at_right pair q).form)
+      ≡
       on_left p -ℤ on_right q
   difference p q =
-      value-subtracted a (at_left pair p).form (at_right pair q).form ∙
+      value-body_difference a (at_left pair p).form (at_right pair q).form ∙
       (λ i. left_value p i -ℤ right_value q i)
 
   -- a number below 0 on the right
@@ -87,7 +88,7 @@ module _ (a : ℕ → ℤ) (pair : Pair) where
         → column (on_right q) ≤ column (on_left p)
     by_test true is rows = let none = number_below q is in omega (arith, none)
     by_test false is rows =
-        let row = All-head (RowHolds a) (Ge (subtracted (at_left pair p).form
+        let row = All-head (RowHolds a) (Ge (body_difference (at_left pair p).form
         (at_right pair q).form)) [] rows in
         column_at_most (on_left p) (on_right q) (subst (λ z. pos 0 ≤ℤ z) (difference p q) row)
 
@@ -96,11 +97,11 @@ module _ (a : ℕ → ℤ) (pair : Pair) where
       column (on_left p)
   column_falls p q rows =
       let l = (at_left pair p).form in
-      let d = subtracted l (at_right pair q).form in
-      let low = All-head (RowHolds a) (Ge l) (Ge (subtracted d (number (pos 1))) ∷ []) rows in
-      let rest = All-head (RowHolds a) (Ge (subtracted d (number (pos 1)))) []
-      (All-tail (RowHolds a) (Ge l) (Ge (subtracted d (number (pos 1))) ∷ []) rows) in
-      let less = value-subtracted a d (number (pos 1)) ∙
+      let d = body_difference l (at_right pair q).form in
+      let low = All-head (RowHolds a) (Ge l) (Ge (body_difference d (number (pos 1))) ∷ []) rows in
+      let rest = All-head (RowHolds a) (Ge (body_difference d (number (pos 1)))) []
+      (All-tail (RowHolds a) (Ge l) (Ge (body_difference d (number (pos 1))) ∷ []) rows) in
+      let less = value-body_difference a d (number (pos 1)) ∙
       (λ i. difference p q i -ℤ value-number a (pos 1) i) in
       column_below (on_left p) (on_right q) (subst (λ z. pos 0 ≤ℤ z) (left_value p) low)
       (subst (λ z. pos 0 ≤ℤ z) less rest)

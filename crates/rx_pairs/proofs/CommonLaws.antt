@@ -3,11 +3,11 @@ use Rattle.std.proofs.Common.{◌≡◌, ◌∙◌, inl, inr, ap, sym, subst, re
 use Rattle.std.proofs.lemmas.Option.{none-some, same_Some}
 use Rattle.std.proofs.lemmas.Bool.{cases_lt}
 use Rattle.rx_poly.specs.declared.body.Body.{Body}
-use Rattle.rx_term.specs.Stacks.{behind, depth_of, under_frame}
+use Rattle.rx_term.specs.Stacks.{suffix_at, depth_of, under_frame}
 use Rattle.rx_term.specs.declared.term.Sym.{Sym}
 use Rattle.rx_term.specs.declared.term.Term.{Term, Term-F, out-Term}
 use Rattle.rx_term.specs.declared.term.Term.TheVariants.{Frame, outs-Return, outs-Fail, outs-Call, outs-Frame}
-use Rattle.rx_term.proofs.Equations.{Form, AReturn, AFail, ACall, AFrame, form, behind-Frame, depth-Return, depth-Fail, depth-Call, depth-Frame}
+use Rattle.rx_term.proofs.Equations.{Form, AReturn, AFail, ACall, AFrame, form, suffix_at-Frame, depth-Return, depth-Fail, depth-Call, depth-Frame}
 use Rattle.rx_term.proofs.KeepingLaws.{depth_behind}
 use Rattle.rx_pairs.specs.Common.{IsCommon, IsLargest, IsPart}
 
@@ -19,24 +19,26 @@ whole_part t = (0, refl)
 
 -- what is under its frame is one
 pub inner_part : (f : Sym) (ps : List Body) (t : Term) → IsPart (Frame f ps t) t
-inner_part f ps t = (1, behind-Frame 0 f ps t)
+inner_part f ps t = (1, suffix_at-Frame 0 f ps t)
 
 abbrev Further : ℕ → Term → Type 0
-Further n t = (s u : Term) → behind n t ≡ Some s → IsPart s u → IsPart t u
+Further n t = (s u : Term) → suffix_at n t ≡ Some s → IsPart s u → IsPart t u
 
 further : (n : ℕ) → ((u : Term) → Further n u) → (t : Term) → Form t → Further (suc n) t
 further n inner _ (AReturn p) s u h in_s =
-    absurd (none-some s (sym (ap (λ (x : Term-F Term). under_frame x (behind n)) (outs-Return p)) ∙
+    absurd (none-some s (sym (ap (λ (x : Term-F Term). under_frame x (suffix_at n)) (outs-Return p))
+    ∙
     h))
 further n inner _ (AFail c) s u h in_s =
-    absurd (none-some s (sym (ap (λ (x : Term-F Term). under_frame x (behind n)) (outs-Fail c)) ∙
+    absurd (none-some s (sym (ap (λ (x : Term-F Term). under_frame x (suffix_at n)) (outs-Fail c)) ∙
     h))
 further n inner _ (ACall f ps) s u h in_s =
-    absurd (none-some s (sym (ap (λ (x : Term-F Term). under_frame x (behind n)) (outs-Call f ps)) ∙
+    absurd (none-some s (sym (ap (λ (x : Term-F Term). under_frame x (suffix_at n))
+    (outs-Call f ps)) ∙
     h))
 further n inner _ (AFrame f ps t) s u h in_s =
-    let (k, is) = inner t s u (sym (behind-Frame n f ps t) ∙ h) in_s in
-    (suc k, behind-Frame k f ps t ∙ is)
+    let (k, is) = inner t s u (sym (suffix_at-Frame n f ps t) ∙ h) in_s in
+    (suc k, suffix_at-Frame k f ps t ∙ is)
 
 along : (n : ℕ) (t : Term) → Further n t
 along zero t = λ s u h in_s. subst (λ w. IsPart w u) (sym (same_Some t s h)) in_s
@@ -56,32 +58,35 @@ one_part t s u (n, h) (m, g) same =
     let d = depth_behind n t s h in
     let e = depth_behind m t u g in
     let places : n ≡ m = omega (arith, d, e, same) in
-    same_Some s u (sym h ∙ ap (λ k. behind k t) places ∙ g)
+    same_Some s u (sym h ∙ ap (λ k. suffix_at k t) places ∙ g)
 
 -- under fewer frames is what more frames lead to
 abbrev Behind : ℕ → Term → Type 0
 Behind n t =
-    (m : ℕ) (s u : Term) → behind n t ≡ Some s → behind (n + m) t ≡ Some u → behind m s ≡ Some u
+    (m : ℕ) (s u : Term) → suffix_at n t ≡ Some s → suffix_at (n + m) t ≡ Some u → suffix_at m s ≡
+    Some u
 
 behind_one : (n : ℕ) → ((u : Term) → Behind n u) → (t : Term) → Form t → Behind (suc n) t
 behind_one n inner _ (AReturn p) m s u h g =
-    absurd (none-some s (sym (ap (λ (x : Term-F Term). under_frame x (behind n)) (outs-Return p)) ∙
+    absurd (none-some s (sym (ap (λ (x : Term-F Term). under_frame x (suffix_at n)) (outs-Return p))
+    ∙
     h))
 behind_one n inner _ (AFail c) m s u h g =
-    absurd (none-some s (sym (ap (λ (x : Term-F Term). under_frame x (behind n)) (outs-Fail c)) ∙
+    absurd (none-some s (sym (ap (λ (x : Term-F Term). under_frame x (suffix_at n)) (outs-Fail c)) ∙
     h))
 behind_one n inner _ (ACall f ps) m s u h g =
-    absurd (none-some s (sym (ap (λ (x : Term-F Term). under_frame x (behind n)) (outs-Call f ps)) ∙
+    absurd (none-some s (sym (ap (λ (x : Term-F Term). under_frame x (suffix_at n))
+    (outs-Call f ps)) ∙
     h))
 behind_one n inner _ (AFrame f ps t) m s u h g =
     let more : suc n + m ≡ suc (n + m) = omega arith in
-    inner t m s u (sym (behind-Frame n f ps t) ∙ h)
-    (sym (behind-Frame (n + m) f ps t) ∙ ap (λ k. behind k (Frame f ps t)) (sym more) ∙ g)
+    inner t m s u (sym (suffix_at-Frame n f ps t) ∙ h)
+    (sym (suffix_at-Frame (n + m) f ps t) ∙ ap (λ k. suffix_at k (Frame f ps t)) (sym more) ∙ g)
 
 behind_more : (n : ℕ) (t : Term) → Behind n t
 behind_more zero t = λ m s u h g.
     let none : 0 + m ≡ m = omega arith in
-    ap (behind m) (sym (same_Some t s h)) ∙ ap (λ k. behind k t) (sym none) ∙ g
+    ap (suffix_at m) (sym (same_Some t s h)) ∙ ap (λ k. suffix_at k t) (sym none) ∙ g
 behind_more (suc n) t = behind_one n (λ u. behind_more n u) t (form t)
 
 -- of two parts the less deep is a part of the other
@@ -90,7 +95,7 @@ part_below t s u (n, h) (m, g) most =
     let d = depth_behind n t s h in
     let e = depth_behind m t u g in
     let places : m ≡ n + (m - n) = omega (arith, d, e, most) in
-    (m - n, behind_more n t (m - n) s u h (ap (λ k. behind k t) (sym places) ∙ g))
+    (m - n, behind_more n t (m - n) s u h (ap (λ k. suffix_at k t) (sym places) ∙ g))
 
 -- ---- frames
 

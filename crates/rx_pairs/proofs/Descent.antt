@@ -2,11 +2,11 @@
 use Rattle.std.proofs.Common.{◌≡◌, ℕ, suc, inl, Option, Some, None, List, [], ◌∷◌, ◌++◌, map, refl, sym, ap, subst, ◌∙◌, ℤ, All}
 use Rattle.std.proofs.lemmas.List.{append-nil}
 use Rattle.std.proofs.lemmas.List.Elements.{All-head, All-tail}
-use Rattle.rx_rewriting.specs.Terms.{under}
+use Rattle.rx_rewriting.specs.Terms.{in_context}
 use Rattle.rx_rewriting.specs.Ranks.{Rank, Weight, AllBelow, Smaller, weight_of, ranks_of}
-use Rattle.rx_rewriting.proofs.SmallerWeights.{Smaller-exchange, weight_of-under}
+use Rattle.rx_rewriting.proofs.SmallerWeights.{Smaller-exchange, weight_of-in_context}
 use Rattle.rx_term.specs.Meaning.{values, ground_at, outer_frames}
-use Rattle.rx_term.specs.Stacks.{behind, under_frame}
+use Rattle.rx_term.specs.Stacks.{suffix_at, under_frame}
 use Rattle.rx_term.specs.declared.term.Term.{Term, Term-F}
 use Rattle.rx_term.specs.declared.term.Term.TheVariants.{outs-Call}
 use Rattle.rx_term.proofs.Equations.{ground-Return, ground-Fail, ground-Call, ground-Frame, outer-Frame}
@@ -46,16 +46,16 @@ module _ (table : RankTable) (a : ℕ → ℤ) (rule : Rule) (root : Part)
       let (others, is) = from_root left is_root in
       record { others = others; whole = is ∙ sym (append-nil (top ∷ others)) }
 
-  outer_root : (k : ℕ) (l t : Term) → IsRoot l root → behind (suc k) l ≡ Some t →
+  outer_root : (k : ℕ) (l t : Term) → IsRoot l root → suffix_at (suc k) l ≡ Some t →
       (others : Weight) × (ranks_of rank (outer_frames a (suc k) l) ≡ top ∷ others)
   outer_root k _ t (OfCall f ps) stands =
       let no_ : ◌≡◌ {A = Option Term} None (Some t) =
-      sym (ap (λ (x : Term-F Term). under_frame x (behind k)) (outs-Call f ps)) ∙ stands in
+      sym (ap (λ (x : Term-F Term). under_frame x (suffix_at k)) (outs-Call f ps)) ∙ stands in
       absurd cc
   outer_root k _ t (OfFrame f ps u) stands =
       (ranks_of rank (outer_frames a k u), ap (ranks_of rank) (outer-Frame a k f ps u))
 
-  part_kept : (k : ℕ) (t : Term) → behind (suc k) left ≡ Some t →
+  part_kept : (k : ℕ) (t : Term) → suffix_at (suc k) left ≡ Some t →
       Taken (weight_of rank (ground_at a t))
   part_kept k t stands =
       let (others, is) = outer_root k left t is_root stands in
@@ -63,7 +63,7 @@ module _ (table : RankTable) (a : ℕ → ℤ) (rule : Rule) (root : Part)
         others = others;
         whole =
             ap (weight_of rank) (ground_behind a (suc k) left t stands) ∙
-            (weight_of-under rank (outer_frames a (suc k) left) (ground_at a t) ∙
+            (weight_of-in_context rank (outer_frames a (suc k) left) (ground_at a t) ∙
             ap (λ w. w ++ weight_of rank (ground_at a t)) is);
       }
 

@@ -6,9 +6,9 @@ use Rattle.std.specs.Option.{option_map_or}
 use Rattle.std.specs.Prelude.{All}
 use lib.Pointwise.{pointwise_decides}
 use Rattle.rx_graph.proofs.GraphLaws.{or_cases, or_left, or_right}
-use Rattle.rx_poly.proofs.Same.{told_itself, told_same}
+use Rattle.rx_poly.proofs.Same.{body_eq-refl, body_eq-sound}
 use Rattle.rx_poly.specs.declared.body.Body.{Body}
-use Rattle.rx_term.specs.Stacks.{behind, depth_of, is_result}
+use Rattle.rx_term.specs.Stacks.{suffix_at, depth_of, is_result}
 use Rattle.rx_term.specs.declared.rule.Rule.{Rule}
 use Rattle.rx_term.specs.declared.term.Sym.{Sym}
 use Rattle.rx_term.specs.declared.term.Term.{Term, Term-F, out-Term}
@@ -25,7 +25,7 @@ use Rattle.rx_pairs.proofs.PairsLaws.{any_root, one_pairs, result_call, result_f
 
 arguments_same : (ps qs : List Body) → (same_arguments ps qs ≡ true → ps ≡ qs) ×
     (ps ≡ qs → same_arguments ps qs ≡ true)
-arguments_same = pointwise_decides (λ p q. (told_same p q, told_itself p q))
+arguments_same = pointwise_decides (λ p q. (body_eq-sound p q, body_eq-refl p q))
 
 abbrev Level : Type 0
 Level = Term-F (Term → Bool)
@@ -64,7 +64,7 @@ told level t u other is out e = sym (ap (same_level level) out) ∙ sym is ∙ e
 
 from_return : (p : Body) (u : Term) → Form u → is_same_term (Return p) u ≡ true → Return p ≡ u
 from_return p _ (AReturn q) e =
-    ap Return (told_same p q (told (Term-F.Return p) (Return p) (Return q) (Term-F.Return q)
+    ap Return (body_eq-sound p q (told (Term-F.Return p) (Return p) (Return q) (Term-F.Return q)
     (same-Return p (Return q)) (outs-Return q) e))
 from_return p _ (AFail c) e =
     absurd (false≢true (told (Term-F.Return p) (Return p) (Fail c) (Term-F.Fail c)
@@ -140,7 +140,7 @@ same_sound = induct (λ t. (u : Term) → is_same_term t u ≡ true → t ≡ u)
 pub same_itself : (t : Term) → is_same_term t t ≡ true
 same_itself = induct (λ t. is_same_term t t ≡ true)
     (λ p. same-Return p (Return p) ∙ ap (same_level (Term-F.Return p)) (outs-Return p) ∙
-    told_itself p p refl)
+    body_eq-refl p p refl)
     (λ c. same-Fail c (Fail c) ∙ ap (same_level (Term-F.Fail c)) (outs-Fail c) ∙ eq-eqb c c refl)
     (λ f ps. same-Call f ps (Call f ps) ∙ ap (same_level (Term-F.Call f ps)) (outs-Call f ps)
     ∙ and_from (f.0 == f.0) (same_arguments ps ps) (eq-eqb f.0 f.0 refl)
@@ -157,7 +157,8 @@ module _ (left t : Term) where
   abbrev is_here : Option Term → Bool
   is_here found = option_map_or (λ u. is_same_term u t) found false
 
-  found_here : (k : ℕ) (found : Option Term) → behind (suc k) left ≡ found → is_here found ≡ true →
+  found_here : (k : ℕ) (found : Option Term) → suffix_at (suc k) left ≡ found → is_here found ≡
+      true →
       IsUnder left t
   found_here k None is e = absurd (false≢true e)
   found_here k (Some u) is e = (k, is ∙ ap Some (same_sound u t e))
@@ -165,19 +166,19 @@ module _ (left t : Term) where
   under_found : (n : ℕ) → is_under_most n left t ≡ true → IsUnder left t
   under_found zero e = absurd (false≢true e)
   under_found (suc n) e =
-      elim (or_cases (is_here (behind (suc n) left)) (is_under_most n left t) e) [
-        | inl here ↦ found_here n (behind (suc n) left) refl here
+      elim (or_cases (is_here (suffix_at (suc n) left)) (is_under_most n left t) e) [
+        | inl here ↦ found_here n (suffix_at (suc n) left) refl here
         | inr less ↦ under_found n less
       ]
 
-  under_seen : (n k : ℕ) → k < n → behind (suc k) left ≡ Some t → is_under_most n left t ≡ true
+  under_seen : (n k : ℕ) → k < n → suffix_at (suc k) left ≡ Some t → is_under_most n left t ≡ true
   under_seen zero k less is = absurd (omega (arith, less))
   under_seen (suc n) k less is = elim (cases_order k n) [
     | inl same ↦
-        or_left (is_here (behind (suc n) left)) (is_under_most n left t)
-        (ap is_here (ap (λ i. behind (suc i) left) (sym same) ∙ is) ∙ same_itself t)
+        or_left (is_here (suffix_at (suc n) left)) (is_under_most n left t)
+        (ap is_here (ap (λ i. suffix_at (suc i) left) (sym same) ∙ is) ∙ same_itself t)
     | inr apart ↦
-        or_right (is_here (behind (suc n) left)) (is_under_most n left t)
+        or_right (is_here (suffix_at (suc n) left)) (is_under_most n left t)
         (under_seen n k (elim apart [ inl lesser ↦ lesser | inr more ↦ omega (arith, less, more) ])
         is)
   ]

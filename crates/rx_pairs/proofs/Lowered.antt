@@ -8,7 +8,7 @@ use Rattle.std.proofs.lemmas.Bool.{and_parts, eqb-true, leb-true, ltb-true}
 use Rattle.std.proofs.lemmas.List.{length-map}
 use Rattle.std.proofs.lemmas.List.Elements.{All-append, All-cons, All-contains, All-head, All-nil, All-tail, All-weaker}
 use Rattle.std.proofs.lemmas.Option.{none-some, same_Some}
-use Rattle.rx_poly.specs.Substitution.{numbered, worth}
+use Rattle.rx_poly.specs.Substitution.{numbered, updated_assignment}
 use Rattle.rx_poly.specs.Value.{value}
 use Rattle.rx_poly.specs.Variables.{uses_below}
 use Rattle.rx_poly.specs.declared.body.Body.{Body}
@@ -27,7 +27,7 @@ use Rattle.rx_rewriting.proofs.UnderFrames.{Fits-inner}
 use Rattle.rx_rewriting.specs.Premises.{Lowers}
 use Rattle.rx_rewriting.specs.Steps.{Either}
 use Rattle.rx_rewriting.specs.Terms.{Fits, Ground}
-use Rattle.rx_term.proofs.AssignedLaws.{worth-arguments}
+use Rattle.rx_term.proofs.AssignedLaws.{updated_assignment-arguments}
 use Rattle.rx_term.proofs.Equations.{fits-Call, fits-Frame}
 use Rattle.rx_term.proofs.Kept.{first_or_other}
 use Rattle.rx_term.proofs.TogetherLaws.{numbered_in_order, of_either_list}
@@ -54,15 +54,16 @@ use Rattle.rx_pairs.proofs.Descent.{rule_lowers}
 
 -- the columns of a lawful rank have at its arguments the values that they have as instances
 columns_at : (a : ℕ → ℤ) (args ps : List Body) → list_all (uses_below (length args)) ps ≡ true
-    → map (λ p. column (value (worth a (numbered args)) p)) ps ≡
+    → map (λ p. column (value (updated_assignment a (numbered args)) p)) ps ≡
     map (λ p. column (value (assigned (values a args)) p)) ps
 columns_at a args [] below = refl
 columns_at a args (p ∷ ps) below =
     let both = and_parts (uses_below (length args) p) (list_all (uses_below (length args)) ps) below
     in
-    let here = ap (λ ws. value (worth a ws) p) (numbered_in_order args)
-    ∙ same_value_below (worth a (enumerate_from 0 args)) (assigned (values a args)) (length args) p
-    (worth-arguments a args) both.0 in
+    let here = ap (λ ws. value (updated_assignment a ws) p) (numbered_in_order args)
+    ∙ same_value_below (updated_assignment a (enumerate_from 0 args)) (assigned (values a args))
+    (length args) p
+    (updated_assignment-arguments a args) both.0 in
     (λ i. column (here i) ∷ columns_at a args ps both.1 i)
 
 -- both symbols of a pair have lawful ranks at its arguments
@@ -120,7 +121,7 @@ module _ (table : RankTable) (pair : Pair) (ranked : IsRanked table pair) (a : �
         subst (λ (ys : List ℕ). FirstLess (rank_of table pair.right.0 (values a pair.right_args))
             ys) (columns_at a pair.left_args ps left_parts.1)
             (subst (λ (xs : List ℕ). FirstLess xs
-            (map (λ p. column (value (worth a (numbered pair.left_args)) p)) ps))
+            (map (λ p. column (value (updated_assignment a (numbered pair.left_args)) p)) ps))
             (columns_at a pair.right_args qs right_parts.1) less),
       )
 

@@ -6,14 +6,14 @@ use Rattle.std.proofs.lemmas.Option.{none-some, same_Some}
 use Rattle.std.specs.Prelude.{All}
 use Rattle.rx_poly.specs.Constants.{variable}
 use Rattle.rx_poly.specs.declared.body.Body.{Body}
-use Rattle.rx_term.specs.Stacks.{behind, is_result, is_result_level, under_frame}
+use Rattle.rx_term.specs.Stacks.{suffix_at, is_result, is_result_level, under_frame}
 use Rattle.rx_term.specs.WellMade.{IsLeft, IsMade, OfPoint, OverFail, OverReturn, variables_from}
 use Rattle.rx_term.specs.declared.rule.Rule.{Rule}
 use Rattle.rx_term.specs.declared.rule_set.RuleParts.{RuleParts}
 use Rattle.rx_term.specs.declared.term.Sym.{Sym}
 use Rattle.rx_term.specs.declared.term.Term.{Term, Term-F, out-Term}
 use Rattle.rx_term.specs.declared.term.Term.TheVariants.{Return, Fail, Call, Frame, outs-Return, outs-Fail, outs-Call, outs-Frame}
-use Rattle.rx_term.proofs.Equations.{Form, AReturn, AFail, ACall, AFrame, form, induct, behind-Frame}
+use Rattle.rx_term.proofs.Equations.{Form, AReturn, AFail, ACall, AFrame, form, induct, suffix_at-Frame}
 use Rattle.rx_pairs.specs.Common.{IsPart}
 use Rattle.rx_pairs.specs.Listed.{root_part_level, root_part_of}
 use Rattle.rx_pairs.specs.Pairs.{AreAllPairs, AreParts, ArePairs, AtCall, AtFail, AtFrame, AtReturn, Common, HasRoot, IsRoot, IsUnder, NoRules, OfCall, OfFrame, OneMore, PairsOf, Part, pair_of, part}
@@ -132,9 +132,9 @@ module _ (left : Term) where
 -- ---- whether one stack is under another can be decided
 
 abbrev Ends : Term → Type 0
-Ends u = (k : ℕ) → behind (suc k) u ≡ None
+Ends u = (k : ℕ) → suffix_at (suc k) u ≡ None
 
-not_deeper : (u t : Term) → Ends u → (u ≡ t → ⊥) → (k : ℕ) → behind k u ≡ Some t → ⊥
+not_deeper : (u t : Term) → Ends u → (u ≡ t → ⊥) → (k : ℕ) → suffix_at k u ≡ Some t → ⊥
 not_deeper u t ends apart zero is = apart (same_Some u t is)
 not_deeper u t ends apart (suc k) is = none-some t (sym (ends k) ∙ is)
 
@@ -145,18 +145,18 @@ only_whole u ends t = elim (same_term u t) [
 ]
 
 deeper : (f : Sym) (ps : List Body) (v t : Term) → (Frame f ps v ≡ t → ⊥) → (IsPart v t → ⊥) →
-    (k : ℕ) → behind k (Frame f ps v) ≡ Some t → ⊥
+    (k : ℕ) → suffix_at k (Frame f ps v) ≡ Some t → ⊥
 deeper f ps v t apart clear zero is = apart (same_Some (Frame f ps v) t is)
-deeper f ps v t apart clear (suc k) is = clear (k, sym (behind-Frame k f ps v) ∙ is)
+deeper f ps v t apart clear (suc k) is = clear (k, sym (suffix_at-Frame k f ps v) ∙ is)
 
 ends_return : (p : Body) → Ends (Return p)
-ends_return p k = ap (λ (x : Term-F Term). under_frame x (behind k)) (outs-Return p)
+ends_return p k = ap (λ (x : Term-F Term). under_frame x (suffix_at k)) (outs-Return p)
 
 ends_fail : (c : ℕ) → Ends (Fail c)
-ends_fail c k = ap (λ (x : Term-F Term). under_frame x (behind k)) (outs-Fail c)
+ends_fail c k = ap (λ (x : Term-F Term). under_frame x (suffix_at k)) (outs-Fail c)
 
 ends_call : (f : Sym) (ps : List Body) → Ends (Call f ps)
-ends_call f ps k = ap (λ (x : Term-F Term). under_frame x (behind k)) (outs-Call f ps)
+ends_call f ps k = ap (λ (x : Term-F Term). under_frame x (suffix_at k)) (outs-Call f ps)
 
 decide_part : (u t : Term) → Either (IsPart u t)
 decide_part = induct (λ u. (t : Term) → Either (IsPart u t))
@@ -166,7 +166,7 @@ decide_part = induct (λ u. (t : Term) → Either (IsPart u t))
     (λ f ps v inner t. elim (same_term (Frame f ps v) t) [
       | inl same ↦ inl (0, ap Some same)
       | inr apart ↦ elim (inner t) [
-        | inl part ↦ inl (suc part.0, behind-Frame part.0 f ps v ∙ part.1)
+        | inl part ↦ inl (suc part.0, suffix_at-Frame part.0 f ps v ∙ part.1)
         | inr clear ↦ inr (λ part. deeper f ps v t apart clear part.0 part.1)
       ]
     ])

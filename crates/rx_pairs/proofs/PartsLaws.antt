@@ -3,11 +3,11 @@ use Rattle.std.proofs.Common.{◌≡◌, ◌∙◌, ap, sym, subst, refl, arith,
 use Rattle.std.proofs.lemmas.List.{append-nil, map-append}
 use Rattle.std.proofs.lemmas.Option.{none-some, same_Some}
 use Rattle.rx_poly.specs.declared.body.Body.{Body}
-use Rattle.rx_term.specs.Stacks.{behind, depth_of, under_frame}
+use Rattle.rx_term.specs.Stacks.{suffix_at, depth_of, under_frame}
 use Rattle.rx_term.specs.declared.term.Sym.{Sym}
 use Rattle.rx_term.specs.declared.term.Term.{Term, Term-F}
 use Rattle.rx_term.specs.declared.term.Term.TheVariants.{Return, Fail, Call, Frame, outs-Return, outs-Fail, outs-Call, outs-Frame}
-use Rattle.rx_term.proofs.Equations.{Form, AReturn, AFail, ACall, AFrame, form, behind-Frame, depth-Frame}
+use Rattle.rx_term.proofs.Equations.{Form, AReturn, AFail, ACall, AFrame, form, suffix_at-Frame, depth-Frame}
 use Rattle.rx_term.proofs.KeepingLaws.{depth_behind}
 use Rattle.rx_pairs.specs.Common.{IsCommon, IsPart}
 use Rattle.rx_pairs.specs.Lent.{IsKept, IsLargestUnder, all_lent, lent, outer_level, outer_parts}
@@ -34,10 +34,10 @@ frame_root t f ps qs inner is same =
 
 -- what is under a frame is a part of what the frame is over
 pub under_inner : (f : Sym) (ps : List Body) (t u : Term) → IsUnder (Frame f ps t) u → IsPart t u
-under_inner f ps t u (k, is) = (k, sym (behind-Frame k f ps t) ∙ is)
+under_inner f ps t u (k, is) = (k, sym (suffix_at-Frame k f ps t) ∙ is)
 
 pub inner_under : (f : Sym) (ps : List Body) (t u : Term) → IsPart t u → IsUnder (Frame f ps t) u
-inner_under f ps t u (k, is) = (k, behind-Frame k f ps t ∙ is)
+inner_under f ps t u (k, is) = (k, suffix_at-Frame k f ps t ∙ is)
 
 -- so the largest common part with that is the largest that is under the frame
 kept_inner : (f : Sym) (ps : List Body) (t right : Term) (found : Option Term) →
@@ -121,21 +121,24 @@ module _ (left : Term) where
 
   abbrev Along : ℕ → Term → Type 0
   Along n t =
-      (s : Term) (rest : List Part) → behind n t ≡ Some s → Clear t s → AreParts left s rest →
+      (s : Term) (rest : List Part) → suffix_at n t ≡ Some s → Clear t s → AreParts left s rest →
       AreParts left t (outer_parts n t ++ rest)
 
   along_one : (n : ℕ) → ((u : Term) → Along n u) → (t : Term) → Form t → Along (suc n) t
   along_one n inner _ (AReturn p) s rest h clear are =
-      absurd (none-some s (sym (ap (λ (x : Term-F Term). under_frame x (behind n)) (outs-Return p))
+      absurd (none-some s (sym (ap (λ (x : Term-F Term). under_frame x (suffix_at n))
+      (outs-Return p))
       ∙ h))
   along_one n inner _ (AFail c) s rest h clear are =
-      absurd (none-some s (sym (ap (λ (x : Term-F Term). under_frame x (behind n)) (outs-Fail c)) ∙
+      absurd (none-some s (sym (ap (λ (x : Term-F Term). under_frame x (suffix_at n)) (outs-Fail c))
+      ∙
       h))
   along_one n inner _ (ACall f ps) s rest h clear are =
-      absurd (none-some s (sym (ap (λ (x : Term-F Term). under_frame x (behind n)) (outs-Call f ps))
+      absurd (none-some s (sym (ap (λ (x : Term-F Term). under_frame x (suffix_at n))
+      (outs-Call f ps))
       ∙ h))
   along_one n inner _ (AFrame f ps t) s rest h clear are =
-      let there = sym (behind-Frame n f ps t) ∙ h in
+      let there = sym (suffix_at-Frame n f ps t) ∙ h in
       let most = part_depth t s (n, there) in
       let deeper = depth-Frame f ps t in
       let under = inner t s rest there (λ u in_t.
@@ -157,7 +160,7 @@ module _ (left : Term) where
       let d = depth_behind n right kept is in
       let places : n ≡ depth_of count = omega (arith, d, deep) in
       subst (AreParts left right) (append-nil (outer_parts (depth_of count) right))
-      (along (depth_of count) right kept [] (ap (λ k. behind k right) (sym places) ∙ is)
+      (along (depth_of count) right kept [] (ap (λ k. suffix_at k right) (sym places) ∙ is)
       (λ u in_right deeper under. let most = one.largest u under in_right in
       omega (arith, most, deeper))
       (Common kept one.under))
@@ -182,7 +185,7 @@ module _ (left : Term) where
   all_over right end rest none (n, is) deep last =
       let d = depth_behind n right end is in
       let places : n ≡ depth_of right = omega (arith, d, deep) in
-      along (depth_of right) right end rest (ap (λ k. behind k right) (sym places) ∙ is)
+      along (depth_of right) right end rest (ap (λ k. suffix_at k right) (sym places) ∙ is)
       (λ u in_right deeper under. none u under in_right)
       (at_end end rest (λ under. none end under (n, is)) last)
 

@@ -2,9 +2,9 @@
 use Rattle.std.specs.Prelude.{Bool, false, if◌then◌else◌, Option, Some, None, List, [], ◌∷◌, ℤ, pos, int_lt}
 use Rattle.rx_plain.specs.Formed.{Formed, pure, kept, ◌>>=◌, ◌<$>◌}
 use Rattle.rx_poly.specs.Constants.{number}
-use Rattle.rx_poly.specs.Limits.{is_within, subtracted}
+use Rattle.rx_poly.specs.Limits.{is_within, body_difference}
 use Rattle.rx_poly.specs.Reading.{constant_of}
-use Rattle.rx_poly.specs.Substitution.{in_body, numbered}
+use Rattle.rx_poly.specs.Substitution.{subst_body, numbered}
 use Rattle.rx_poly.specs.declared.body.Body.{Body, out-Body}
 use Rattle.rx_row.specs.declared.row.Row.{Row}
 use Rattle.rx_row.specs.declared.row.Row.TheVariants.{Ge}
@@ -12,10 +12,10 @@ use Rattle.rx_pairs.specs.declared.pair.Pair.{Pair}
 
 -- a column's polynomial at the arguments on the left, and on the right
 abbrev pub at_left : Pair → Body → Formed Body
-at_left pair p = in_body (numbered pair.left_args) p
+at_left pair p = subst_body (numbered pair.left_args) p
 
 abbrev pub at_right : Pair → Body → Formed Body
-at_right pair q = in_body (numbered pair.right_args) q
+at_right pair q = subst_body (numbered pair.right_args) q
 
 -- the polynomial is a number below 0
 abbrev pub is_below : Option ℤ → Bool
@@ -29,7 +29,7 @@ is_below_zero p = is_below (constant_of (out-Body p).terms)
 abbrev pub not_greater : Pair → Body → Body → Formed (List Row)
 not_greater pair p r = do
   l ← at_left pair p
-  (λ d. Ge d ∷ []) <$> kept is_within (subtracted l r)
+  (λ d. Ge d ∷ []) <$> kept is_within (body_difference l r)
 
 -- the one or the other
 abbrev pub choose : {A : Type 0} → Bool → Formed A → Formed A → Formed A
@@ -46,8 +46,8 @@ holds_rows pair p q = do
 -- l - r - 1
 abbrev pub one_less : Body → Body → Formed Body
 one_less l r = do
-  d ← kept is_within (subtracted l r)
-  kept is_within (subtracted d (number (pos 1)))
+  d ← kept is_within (body_difference l r)
+  kept is_within (body_difference d (number (pos 1)))
 
 -- a column falls: l >= 0 and l - r - 1 >= 0, for its instances
 abbrev pub falls_rows : Pair → Body → Body → Formed (List Row)

@@ -1,11 +1,11 @@
 -- What two stacks have in common: the parts of both.
 use Rattle.std.specs.Prelude.{◌≡◌, ◌≤◌, ℕ, Option, Some, None}
-use Rattle.rx_term.specs.Stacks.{behind, depth_of}
+use Rattle.rx_term.specs.Stacks.{suffix_at, depth_of}
 use Rattle.rx_term.specs.declared.term.Term.{Term}
 
 -- the term is the whole, or is under some of its frames
 abbrev pub IsPart : Term → Term → Type 0
-IsPart whole t = (k : ℕ) × (behind k whole ≡ Some t)
+IsPart whole t = (k : ℕ) × (suffix_at k whole ≡ Some t)
 
 -- the largest part of both
 pub record IsLargest (a b t : Term) : Type 0 where

@@ -4,7 +4,7 @@ use Rattle.std.specs.Cmp.Lexicographic.{pointwise}
 use Rattle.std.specs.Option.{option_map_or}
 use Rattle.rx_poly.specs.contracts.body.BodyPartialEq.TheImpl as body_equal
 use Rattle.rx_poly.specs.declared.body.Body.{Body}
-use Rattle.rx_term.specs.Stacks.{behind, depth_of}
+use Rattle.rx_term.specs.Stacks.{suffix_at, depth_of}
 use Rattle.rx_term.specs.declared.rule.Rule.{Rule}
 use Rattle.rx_term.specs.declared.term.Term.{Term, Term-F, fold-Term, out-Term}
 use Rattle.rx_pairs.specs.Pairs.{Part, pair_of, part}
@@ -30,7 +30,7 @@ is_same_term = fold-Term (Term → Bool) (λ level other. same_level level (out-
 abbrev pub is_under_most : ℕ → Term → Term → Bool
 is_under_most zero left t = false
 is_under_most (suc n) left t =
-    option_map_or (λ under. is_same_term under t) (behind (suc n) left) false ||
+    option_map_or (λ under. is_same_term under t) (suffix_at (suc n) left) false ||
     is_under_most n left t
 
 -- it is a proper part of the left side

@@ -3,7 +3,7 @@ use Rattle.std.specs.Prelude.{Bool, ◌&&◌, if◌then◌else◌, ◌+◌, ℕ,
 use Rattle.rx_plain.specs.Formed.{Formed, pure, ◌>>=◌, ◌<$>◌}
 use Rattle.rx_poly.specs.declared.body.Body.{Body}
 use Rattle.rx_cert.specs.Conditions.{conditions, is_shown}
-use Rattle.rx_cert.specs.Findings.{Said, Yes, No, Beyond, within}
+use Rattle.rx_cert.specs.Findings.{Said, Yes, No, Beyond, guard}
 use Rattle.rx_cert.specs.declared.cert.Cert.{Cert}
 use Rattle.rx_row.specs.declared.row.Row.{Row}
 use Rattle.rx_rewriting.specs.Ranks.{RankLess}
@@ -35,7 +35,7 @@ lower_rows pair (suc (suc j)) (p ∷ ps) (q ∷ qs) = do
 -- all rows are formed first, and then shown under the pair's
 abbrev pub rows_finding : Pair → Formed (List Row) → List Cert → Said
 rows_finding pair rows certs =
-    within rows.within (is_shown (conditions pair.phi (Some rows.form) certs))
+    guard rows.within (is_shown (conditions pair.phi (Some rows.form) certs))
 
 -- the pair is lower by a column of columns on the left and on the right
 abbrev pub column_finding : Pair → ℕ → List Body → List Body → List Cert → Said

@@ -4,7 +4,7 @@
 use Rattle.std.specs.Prelude.{◌≡◌, true, false, ℕ, suc, Some, List, [], ◌∷◌, ◌++◌, map}
 use Rattle.rx_poly.specs.declared.body.Body.{Body}
 use Rattle.rx_term.specs.Fitting.{term_fits}
-use Rattle.rx_term.specs.Stacks.{behind, is_result}
+use Rattle.rx_term.specs.Stacks.{suffix_at, is_result}
 use Rattle.rx_term.specs.declared.rule.Rule.{Rule}
 use Rattle.rx_term.specs.declared.rule_set.RuleParts.{RuleParts}
 use Rattle.rx_term.specs.declared.term.Sym.{Sym}
@@ -27,7 +27,7 @@ pub data IsRoot : Term → Part → Type 0 where
 
 -- the term is a proper part of the left side: what is under some of its frames
 abbrev pub IsUnder : Term → Term → Type 0
-IsUnder left t = (k : ℕ) × (behind (suc k) left ≡ Some t)
+IsUnder left t = (k : ℕ) × (suffix_at (suc k) left ≡ Some t)
 
 -- the frames and the call of a right side, from outer to inner, down to the first part that is also
 -- under the left side

@@ -3,9 +3,9 @@ use Rattle.std.proofs.Common.{◌≡◌, ◌∙◌, ap, Bool, true, false, not, 
 use Rattle.std.proofs.lemmas.Bool.{and_parts, and_from}
 use Rattle.std.specs.List.{list_all}
 use Rattle.std.specs.Ordering.{is_le, is_lt}
-use Rattle.rx_poly.specs.Normal.{is_sorted, is_first, leads}
+use Rattle.rx_poly.specs.Normal.{is_sorted, is_first, precedes}
 use Rattle.rx_poly.specs.Order.{atom_cmp, mono_cmp}
-use Rattle.rx_poly.specs.Terms.{is_zero, is_listed, is_before}
+use Rattle.rx_poly.specs.Terms.{is_zero, is_sparse_sorted, is_before}
 use Rattle.rx_poly.proofs.OrderLemmas.{atom_total, mono_total}
 use Rattle.rx_poly.proofs.Same.{same_mono}
 use Rattle.rx_poly.proofs.SortedLaws.{all-weaker, le_trans}
@@ -45,17 +45,17 @@ and_assoc true q s = refl
 and_assoc false q s = refl
 
 -- listed where the first leads the next, and the others are listed
-pub listed_step : (t : Mono × ℤ) (ts : List (Mono × ℤ)) → is_listed mono_cmp (t ∷ ts) ≡
-    (leads mono_cmp t ts && is_listed mono_cmp ts)
+pub listed_step : (t : Mono × ℤ) (ts : List (Mono × ℤ)) → is_sparse_sorted mono_cmp (t ∷ ts) ≡
+    (precedes mono_cmp t ts && is_sparse_sorted mono_cmp ts)
 listed_step t [] = and_assoc (not (is_zero t.1)) true true
 listed_step t (u ∷ us) =
     ap (λ b. not (is_zero t.1) && b) (same_before (is_before mono_cmp t.0 (u ∷ us))
-    (is_lt (mono_cmp t.0 u.0)) (is_listed mono_cmp (u ∷ us)) (λ s.
+    (is_lt (mono_cmp t.0 u.0)) (is_sparse_sorted mono_cmp (u ∷ us)) (λ s.
     both_same (is_before mono_cmp t.0 (u ∷ us)) (is_lt (mono_cmp t.0 u.0))
     (λ h. (and_parts (is_lt (mono_cmp t.0 u.0)) (is_before mono_cmp t.0 us) h).0)
     (λ h. and_from (is_lt (mono_cmp t.0 u.0)) (is_before mono_cmp t.0 us) h
     (before_trans mono_cmp mono_total same_mono t.0 u.0 us (lt_is (mono_cmp t.0 u.0) h)
-    (and_parts (is_before mono_cmp u.0 us) (is_listed mono_cmp us)
-    (and_parts (not (is_zero u.1)) (is_before mono_cmp u.0 us && is_listed mono_cmp us)
+    (and_parts (is_before mono_cmp u.0 us) (is_sparse_sorted mono_cmp us)
+    (and_parts (not (is_zero u.1)) (is_before mono_cmp u.0 us && is_sparse_sorted mono_cmp us)
     s).1).0))))
-    ∙ and_assoc (not (is_zero t.1)) (is_lt (mono_cmp t.0 u.0)) (is_listed mono_cmp (u ∷ us))
+    ∙ and_assoc (not (is_zero t.1)) (is_lt (mono_cmp t.0 u.0)) (is_sparse_sorted mono_cmp (u ∷ us))

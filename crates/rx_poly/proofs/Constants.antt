@@ -18,7 +18,7 @@ use Rattle.rx_poly.specs.Value.{value, mono_value, atom_value, product_of}
 use Rattle.rx_poly.proofs.Levels.{atoms-of_atoms, mono_size_is, mono_depth_is, mono_value_is, var_value}
 use Rattle.rx_poly.proofs.PolyLaws.{normal_of_terms, within_terms, poly_of_terms, zero_poly, size-of_terms, depth-of_terms, value-of_terms}
 use Rattle.rx_poly.proofs.ProductLaws.{normal_of_atoms}
-use Rattle.rx_poly.proofs.TermLaws.{put-nonzero, zero_is, by_false}
+use Rattle.rx_poly.proofs.TermLaws.{cons_nonzero-nonzero, zero_is, by_false}
 use Rattle.rx_poly.specs.declared.body.Atom.{Atom, Atom-F, out-Atom, roll-Atom, fold_out-Atom, para-roll-Atom}
 use Rattle.rx_poly.specs.declared.body.Atom.TheVariants.{Var}
 use Rattle.rx_poly.specs.declared.body.Mono.{Mono}
@@ -115,7 +115,7 @@ one_value : (a : ℕ → ℤ) → mono_value a (of_atoms []) ≡ pos 1
 one_value a = mono_value_is a (of_atoms []) ∙ ap (product_of (atom_value a)) (atoms-of_atoms [])
 
 pub number-nonzero : (k : ℤ) → is_zero k ≡ false → number k ≡ of_terms ((of_atoms [], k) ∷ [])
-number-nonzero k z = ap of_terms (put-nonzero (of_atoms []) k [] z)
+number-nonzero k z = ap of_terms (cons_nonzero-nonzero (of_atoms []) k [] z)
 
 -- one number that isn't 0 is a polynomial
 pub number_poly : (k : ℤ) → is_zero k ≡ false → fits_i128 k ≡ true →

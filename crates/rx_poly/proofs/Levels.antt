@@ -7,7 +7,7 @@ use denote.Hole.Carrier
 use Rattle.rx_poly.specs.Limits.{of_terms, of_atoms, atom_size, mono_size, body_size, atom_size_level, mono_size_level, body_size_level, greatest, atom_depth, mono_depth, body_depth, atom_depth_level, mono_depth_level, body_depth_level, fits_i128, is_small}
 use Rattle.rx_poly.specs.Normal.{is_sorted, is_open, is_normal_atom, is_normal_mono, is_normal, atom_normal_level, mono_normal_level, body_normal_level}
 use Rattle.rx_poly.specs.Order.{atom_cmp, mono_cmp}
-use Rattle.rx_poly.specs.Terms.{is_listed}
+use Rattle.rx_poly.specs.Terms.{is_sparse_sorted}
 use Rattle.rx_poly.specs.Value.{sum_terms, product_of, atom_level, mono_level, body_level, atom_value, mono_value, value}
 use Rattle.rx_poly.specs.declared.body.Atom.{Atom, Atom-F, out-Atom, roll-Atom, roll-out-Atom, fold_out-Atom, para-roll-Atom}
 use Rattle.rx_poly.specs.declared.body.Atom.TheVariants.{Var, Div, Mod, outs-Var, outs-Div, outs-Mod}
@@ -131,13 +131,13 @@ is_normal_mono_is m =
 -- a sum is normal where its monomials are, its coefficients fit and its terms are listed
 pub is_normal_is : (b : Body) → is_normal b ≡
     (list_all (λ (t : Mono × ℤ). is_normal_mono t.0 && fits_i128 t.1) (out-Body b).terms &&
-    is_listed mono_cmp (out-Body b).terms)
+    is_sparse_sorted mono_cmp (out-Body b).terms)
 is_normal_is b =
     ap is_normal (sym (roll-out-Body b))
     ∙ para-roll-Body Bool Bool Bool atom_normal_level body_normal_level mono_normal_level
     (out-Body b)
     ∙ (λ i. passed_terms (out-Body b).terms i &&
-    is_listed mono_cmp (told_terms (out-Body b).terms i))
+    is_sparse_sorted mono_cmp (told_terms (out-Body b).terms i))
 
 -- ---- atoms
 

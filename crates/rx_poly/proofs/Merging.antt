@@ -9,7 +9,7 @@ use Rattle.std.specs.declared.cmp.Ordering.TheVariants.{Less, Equal, Greater}
 use Rattle.rx_poly.specs.Limits.{all_fit, fits_i128, is_sum}
 use Rattle.rx_poly.specs.Order.{mono_cmp}
 use Rattle.rx_poly.specs.Signs.{signed, with_sign}
-use Rattle.rx_poly.specs.Terms.{put, is_zero, add_terms, is_before, is_listed}
+use Rattle.rx_poly.specs.Terms.{cons_nonzero, is_zero, add_terms, is_before, is_sparse_sorted}
 use Rattle.rx_poly.proofs.OrderLemmas.{mono_total}
 use Rattle.rx_poly.proofs.Same.{same_mono}
 use Rattle.rx_poly.proofs.TermLaws.{Listed, listed_parts, listed_from, before_trans, add-left, add-right, add-both, put_cases, zero_is, by_false}
@@ -25,19 +25,19 @@ pub record First (t : Mono × ℤ) (ts : List (Mono × ℤ)) : Type 0 where
 
 pub first_of : (t : Mono × ℤ) (ts : List (Mono × ℤ)) → is_sum (t ∷ ts) ≡ true → First t ts
 first_of t ts h =
-    let p = and_parts (is_listed mono_cmp (t ∷ ts)) (all_fit (t ∷ ts)) h in
+    let p = and_parts (is_sparse_sorted mono_cmp (t ∷ ts)) (all_fit (t ∷ ts)) h in
     let l = listed_parts mono_cmp mono_total same_mono t ts p.0 in
     let f = and_parts (fits_i128 t.1) (all_fit ts) p.1 in
     record {
       listed = l;
       fits = f.0;
-      rest = and_from (is_listed mono_cmp ts) (all_fit ts) l.rest f.1;
+      rest = and_from (is_sparse_sorted mono_cmp ts) (all_fit ts) l.rest f.1;
     }
 
 -- what of the whole is in `sum`, and what `left` and `right` still add to it
 pub record Merging (sum left right whole : List (Mono × ℤ)) : Type 0 where
   pub left_sum : is_sum left ≡ true
-  pub right_listed : is_listed mono_cmp right ≡ true
+  pub right_listed : is_sparse_sorted mono_cmp right ≡ true
   pub made : sum ++ add_terms mono_cmp left right ≡ whole
   pub fits : all_fit sum ≡ true
 
@@ -49,7 +49,8 @@ module _ (sum whole : List (Mono × ℤ)) where
       and_from (all_fit sum) (fits_i128 t.1 && true) h (and_from (fits_i128 t.1) true f refl)
 
   push : (t : Mono × ℤ) (left right ts us : List (Mono × ℤ)) → add_terms mono_cmp left right ≡ t ∷
-      add_terms mono_cmp ts us → is_sum ts ≡ true → is_listed mono_cmp us ≡ true → fits_i128 t.1 ≡
+      add_terms mono_cmp ts us → is_sum ts ≡ true → is_sparse_sorted mono_cmp us ≡ true →
+      fits_i128 t.1 ≡
       true → Merging sum left right whole → Merging (sum ++ t ∷ []) ts us whole
   push t left right ts us e p q f m = record {
     left_sum = p;
@@ -106,34 +107,35 @@ module _ (sum whole : List (Mono × ℤ)) where
       list_all-append (λ (v : Mono × ℤ). fits_i128 v.1) sum (u ∷ rest)
       ∙ and_right (all_fit sum) (all_fit (u ∷ rest)) (and_left (fits_i128 u.1) (all_fit rest) f)
 
-  pub put_apart : (k : Mono) (c : ℤ) (ts : List (Mono × ℤ)) → put k c [] ++ ts ≡ put k c ts
+  pub put_apart : (k : Mono) (c : ℤ) (ts : List (Mono × ℤ)) → cons_nonzero k c [] ++ ts ≡
+      cons_nonzero k c ts
   put_apart k c ts = by (is_zero c) refl
     where
-      by : (b : Bool) → is_zero c ≡ b → put k c [] ++ ts ≡ put k c ts
+      by : (b : Bool) → is_zero c ≡ b → cons_nonzero k c [] ++ ts ≡ cons_nonzero k c ts
       by true e = rw e refl
       by false e = rw e refl
 
   both_made : (t u : Mono × ℤ) (ts us : List (Mono × ℤ)) → mono_cmp t.0 u.0 ≡ Equal →
-      Merging sum (t ∷ ts) (u ∷ us) whole → (sum ++ put t.0 (t.1 +ℤ u.1) []) ++
+      Merging sum (t ∷ ts) (u ∷ us) whole → (sum ++ cons_nonzero t.0 (t.1 +ℤ u.1) []) ++
       add_terms mono_cmp ts us ≡ whole
   both_made t u ts us e m =
       let a = first_of t ts m.left_sum in
-      append_assoc sum (put t.0 (t.1 +ℤ u.1) []) (add_terms mono_cmp ts us)
+      append_assoc sum (cons_nonzero t.0 (t.1 +ℤ u.1) []) (add_terms mono_cmp ts us)
       ∙ ap (λ xs. sum ++ xs) (put_apart t.0 (t.1 +ℤ u.1) (add_terms mono_cmp ts us) ∙
       sym (add-both mono_cmp mono_total same_mono t u ts us a.listed e)) ∙ m.made
 
   fits_put : (k : Mono) (c : ℤ) → all_fit sum ≡ true → fits_i128 c ≡ true →
-      all_fit (sum ++ put k c []) ≡ true
+      all_fit (sum ++ cons_nonzero k c []) ≡ true
   fits_put k c h f =
-      list_all-append (λ (u : Mono × ℤ). fits_i128 u.1) sum (put k c []) ∙
-      and_from (all_fit sum) (all_fit (put k c [])) h
+      list_all-append (λ (u : Mono × ℤ). fits_i128 u.1) sum (cons_nonzero k c []) ∙
+      and_from (all_fit sum) (all_fit (cons_nonzero k c [])) h
       (put_cases (λ us. all_fit us ≡ true) k c [] (λ _. refl)
       (λ _. and_from (fits_i128 c) true f refl))
 
   -- both are of one monomial
   pub push_both : (t u : Mono × ℤ) (ts us : List (Mono × ℤ)) → mono_cmp t.0 u.0 ≡ Equal →
       fits_i128 (t.1 +ℤ u.1) ≡ true → Merging sum (t ∷ ts) (u ∷ us) whole →
-      Merging (sum ++ put t.0 (t.1 +ℤ u.1) []) ts us whole
+      Merging (sum ++ cons_nonzero t.0 (t.1 +ℤ u.1) []) ts us whole
   push_both t u ts us e f m = record {
     left_sum = (first_of t ts m.left_sum).rest;
     right_listed = (listed_parts mono_cmp mono_total same_mono u us m.right_listed).rest;
@@ -142,12 +144,12 @@ module _ (sum whole : List (Mono × ℤ)) where
   }
 
   unfit_put : (k : Mono) (c : ℤ) (ts : List (Mono × ℤ)) → fits_i128 c ≡ false →
-      all_fit ((sum ++ put k c []) ++ ts) ≡ false
+      all_fit ((sum ++ cons_nonzero k c []) ++ ts) ≡ false
   unfit_put k c ts f =
-      list_all-append (λ (u : Mono × ℤ). fits_i128 u.1) (sum ++ put k c []) ts
-      ∙ and_left (all_fit (sum ++ put k c [])) (all_fit ts)
-      (list_all-append (λ (u : Mono × ℤ). fits_i128 u.1) sum (put k c [])
-      ∙ and_right (all_fit sum) (all_fit (put k c []))
+      list_all-append (λ (u : Mono × ℤ). fits_i128 u.1) (sum ++ cons_nonzero k c []) ts
+      ∙ and_left (all_fit (sum ++ cons_nonzero k c [])) (all_fit ts)
+      (list_all-append (λ (u : Mono × ℤ). fits_i128 u.1) sum (cons_nonzero k c [])
+      ∙ and_right (all_fit sum) (all_fit (cons_nonzero k c []))
       (put_cases (λ us. all_fit us ≡ false) k c [] (λ e. none e)
       (λ _. and_left (fits_i128 c) true f)))
     where
@@ -188,8 +190,8 @@ before-with_sign s k [] = refl
 before-with_sign s k (u ∷ us) = ap (λ b. is_lt (mono_cmp k u.0) && b) (before-with_sign s k us)
 
 -- a listed sum with a sign is listed
-pub listed-with_sign : (s : Sign) (us : List (Mono × ℤ)) → is_listed mono_cmp us ≡ true →
-    is_listed mono_cmp (with_sign s us) ≡ true
+pub listed-with_sign : (s : Sign) (us : List (Mono × ℤ)) → is_sparse_sorted mono_cmp us ≡ true →
+    is_sparse_sorted mono_cmp (with_sign s us) ≡ true
 listed-with_sign s [] h = refl
 listed-with_sign s (u ∷ us) h =
     let l = listed_parts mono_cmp mono_total same_mono u us h in
@@ -214,7 +216,7 @@ pub begin : (s : Sign) (left right : List (Mono × ℤ)) → is_sum left ≡ tru
 begin s left right h g = record {
   left_sum = h;
   right_listed =
-      listed-with_sign s right (and_parts (is_listed mono_cmp right) (all_fit right) g).0;
+      listed-with_sign s right (and_parts (is_sparse_sorted mono_cmp right) (all_fit right) g).0;
   made = refl;
   fits = refl;
 }
@@ -264,7 +266,8 @@ module _ (s : Sign) {sum left : List (Mono × ℤ)} (right : List (Mono × ℤ))
         unfit_right sum whole t v ts (with_sign s us) (sym e) f (at_left (v ∷ with_sign s us) is)
 
     pub after_both : {next : List (Mono × ℤ)} → Equal ≡ mono_cmp t.0 u.0 →
-        fits_i128 (t.1 +ℤ signed s u.1) ≡ true → next ≡ sum ++ put t.0 (t.1 +ℤ signed s u.1) [] →
+        fits_i128 (t.1 +ℤ signed s u.1) ≡ true → next ≡ sum ++
+        cons_nonzero t.0 (t.1 +ℤ signed s u.1) [] →
         Merging next ts (with_sign s us) whole
     after_both e f n =
         subst (λ x. Merging x ts (with_sign s us) whole) (sym n)

@@ -7,7 +7,7 @@ use Rattle.std.specs.declared.vec.IntoIter.{IntoIter}
 use Rattle.std.specs.declared.cmp.Ordering.TheVariants.{Less, Equal, Greater}
 use Rattle.rx_poly.specs.Limits.{all_fit, fits_i128, is_sum}
 use Rattle.rx_poly.specs.Order.{mono_cmp}
-use Rattle.rx_poly.specs.Terms.{put, add_terms, first_and_rest, is_listed}
+use Rattle.rx_poly.specs.Terms.{cons_nonzero, add_terms, first_and_rest, is_sparse_sorted}
 use Rattle.rx_poly.proofs.Merging.{Merging, no_length, push_last, push_left, push_right, push_both, unfit_both, merged}
 use Rattle.rx_poly.specs.declared.body.Mono.{Mono}
 
@@ -25,7 +25,7 @@ pub record Moving (sum left right whole : List (Mono × ℤ)) : Type 0 where
 pub begin : (left right : List (Mono × ℤ)) {ls rs : List (Mono × ℤ)} → ls ≡ left → rs ≡ right →
     is_sum left ≡ true → is_sum right ≡ true → Moving [] ls rs (add_terms mono_cmp left right)
 begin left right {ls} {rs} l r h g =
-    let p = and_parts (is_listed mono_cmp right) (all_fit right) g in
+    let p = and_parts (is_sparse_sorted mono_cmp right) (all_fit right) g in
     subst (λ xs. Moving [] xs rs (add_terms mono_cmp left right)) (sym l)
     (subst (λ ys. Moving [] left ys (add_terms mono_cmp left right)) (sym r) (record {
       merging = record { left_sum = h; right_listed = p.0; made = refl; fits = refl };
@@ -76,7 +76,8 @@ module _ {sum ts us whole : List (Mono × ℤ)} {t u : Mono × ℤ}
 
   -- both are of one monomial
   pub after_both : {next ls rs : List (Mono × ℤ)} → Equal ≡ mono_cmp t.0 u.0 →
-      (next ≡ sum ++ put t.0 (t.1 +ℤ u.1) []) × (fits_i128 (t.1 +ℤ u.1) ≡ true) → ls ≡ ts → rs ≡
+      (next ≡ sum ++ cons_nonzero t.0 (t.1 +ℤ u.1) []) × (fits_i128 (t.1 +ℤ u.1) ≡ true) → ls ≡ ts →
+      rs ≡
       us → Moving next ls rs whole
   after_both {next} {ls} {rs} e n l r =
       subst (λ xs. Moving next ls xs whole) (sym r) (subst (λ xs. Moving next xs us whole) (sym l)

@@ -3,10 +3,10 @@
 use Rattle.std.proofs.Common.{◌≡◌, ◌∙◌, ap, Bool, true, false, ◌&&◌, Option, Some, None, refl, sym, List, [], ◌∷◌, cond, ℤ, pos}
 use Rattle.std.proofs.lemmas.Bool.{and_parts, and_from}
 use Rattle.rx_plain.proofs.Integers.{one-mul-int}
-use Rattle.rx_poly.specs.Limits.{of_terms, of_atoms, added, is_within, all_fit, is_small}
+use Rattle.rx_poly.specs.Limits.{of_terms, of_atoms, body_sum, is_within, all_fit, is_small}
 use Rattle.rx_poly.specs.Normal.{is_empty, is_number, is_normal, is_poly}
 use Rattle.rx_poly.specs.Order.{atom_cmp, mono_cmp}
-use Rattle.rx_poly.specs.Products.{join_sorted, mono_times, scaled, multiplied, mul_within, running, running_within}
+use Rattle.rx_poly.specs.Products.{join_sorted, mono_times, term_product, body_product, mul_within, sum_of_products, sum_of_products_within}
 use Rattle.rx_poly.specs.Reading.{constant_of}
 use Rattle.rx_poly.specs.Terms.{add_terms}
 use Rattle.rx_poly.proofs.Levels.{atoms-of_atoms}
@@ -51,7 +51,7 @@ one_times m =
     roll-out-Mono m
 
 -- 1 times each of the terms
-one_scaled : (us : List (Mono × ℤ)) → scaled (of_atoms [], pos 1) us ≡ us
+one_scaled : (us : List (Mono × ℤ)) → term_product (of_atoms [], pos 1) us ≡ us
 one_scaled [] = refl
 one_scaled (u ∷ us) = λ i. (one_times u.0 i, one-mul-int u.1 i) ∷ one_scaled us i
 
@@ -63,14 +63,14 @@ poly_within q h =
 
 -- 1 times a polynomial
 pub one_product : (p q : Body) → (out-Body p).terms ≡ one → is_poly q ≡ true →
-    (q ≡ multiplied p q) × (mul_within p q ≡ true)
+    (q ≡ body_product p q) × (mul_within p q ≡ true)
 one_product p q terms h =
     let us = (out-Body q).terms in
-    let form : multiplied p q ≡ q =
-    (λ i. of_terms (running [] (terms i) us)) ∙ (λ i. of_terms (one_scaled us i)) ∙
+    let form : body_product p q ≡ q =
+    (λ i. of_terms (sum_of_products [] (terms i) us)) ∙ (λ i. of_terms (one_scaled us i)) ∙
     roll-out-Body q in
     let within : mul_within p q ≡ true =
-    (λ i. running_within [] (terms i) us)
+    (λ i. sum_of_products_within [] (terms i) us)
     ∙ (λ i. is_within (of_terms (one_scaled us i)) && (is_within (of_terms (one_scaled us i)) &&
     true))
     ∙ (λ i. is_within (roll-out-Body q i) && (is_within (roll-out-Body q i) && true))
@@ -79,8 +79,8 @@ one_product p q terms h =
 
 -- 0 plus a polynomial
 pub zero_sum : (p q : Body) → (out-Body p).terms ≡ [] → is_poly q ≡ true →
-    (q ≡ added p q) × (is_within (added p q) ≡ true)
+    (q ≡ body_sum p q) × (is_within (body_sum p q) ≡ true)
 zero_sum p q none h =
-    let whole : added p q ≡ q =
+    let whole : body_sum p q ≡ q =
     (λ i. of_terms (add_terms mono_cmp (none i) (out-Body q).terms)) ∙ roll-out-Body q in
     (sym whole, ap is_within whole ∙ poly_within q h)

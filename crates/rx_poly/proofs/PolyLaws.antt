@@ -11,15 +11,15 @@ use Rattle.rx_poly.specs.declared.sign.Sign.{Sign}
 use Rattle.rx_poly.specs.declared.sign.Sign.TheVariants.{Plus, Minus}
 use Rattle.std.proofs.lemmas.Bool.{and_parts, and_from}
 use Rattle.std.specs.List.{list_all}
-use Rattle.rx_poly.specs.Limits.{of_terms, added, subtracted, scaled_by, all_fit, fits_i128, is_sum, is_small, is_within, body_size, mono_size, body_depth, mono_depth, greatest}
+use Rattle.rx_poly.specs.Limits.{of_terms, body_sum, body_difference, scaled_by, all_fit, fits_i128, is_sum, is_small, is_within, body_size, mono_size, body_depth, mono_depth, greatest}
 use Rattle.rx_poly.specs.Normal.{is_normal, is_normal_mono, is_poly}
 use Rattle.rx_poly.specs.Order.{mono_cmp}
-use Rattle.rx_poly.specs.Terms.{add_terms, is_listed, all_keys, times_number}
+use Rattle.rx_poly.specs.Terms.{add_terms, is_sparse_sorted, all_keys, times_number}
 use Rattle.rx_poly.specs.Value.{value, mono_value, sum_terms}
 use Rattle.rx_poly.proofs.Levels.{terms-of_terms, value_is, is_normal_is, body_size_is, body_depth_is}
 use Rattle.rx_poly.proofs.OrderLemmas.{mono_total}
 use Rattle.rx_poly.proofs.Same.{same_mono}
-use Rattle.rx_poly.proofs.TermLaws.{sum-add, sum-put, listed-add, listed-put, listed_parts, all_keys-add, all_keys-put}
+use Rattle.rx_poly.proofs.TermLaws.{sum-add, sum-cons_nonzero, listed-add, listed-cons_nonzero, listed_parts, all_keys-add, all_keys-cons_nonzero}
 use Rattle.rx_poly.specs.declared.body.Mono.{Mono}
 use Rattle.rx_poly.specs.declared.body.Body.{Body, out-Body}
 
@@ -41,7 +41,7 @@ neg-mul-int c x = same_in (neg_ℤ c *ℤ x) (neg_ℤ (c *ℤ x)) (omega (
 pub record NormalTerms (ts : List (Mono × ℤ)) : Type 0 where
   pub keys : all_keys is_normal_mono ts ≡ true
   pub fits : all_fit ts ≡ true
-  pub listed : is_listed mono_cmp ts ≡ true
+  pub listed : is_sparse_sorted mono_cmp ts ≡ true
 
 both_tests : (ts : List (Mono × ℤ)) → list_all
     (λ (t : Mono × ℤ). is_normal_mono t.0 && fits_i128 t.1) ts ≡ true →
@@ -69,7 +69,7 @@ from_tests (t ∷ ts) h g =
 pub normal_terms : (b : Body) → is_normal b ≡ true → NormalTerms (out-Body b).terms
 normal_terms b h =
     let p = and_parts (list_all (λ (t : Mono × ℤ). is_normal_mono t.0 && fits_i128 t.1)
-    (out-Body b).terms) (is_listed mono_cmp (out-Body b).terms) (sym (is_normal_is b) ∙ h) in
+    (out-Body b).terms) (is_sparse_sorted mono_cmp (out-Body b).terms) (sym (is_normal_is b) ∙ h) in
     let q = both_tests (out-Body b).terms p.0 in
     record { keys = q.0; fits = q.1; listed = p.1 }
 
@@ -78,9 +78,9 @@ pub normal_of_terms : (ts : List (Mono × ℤ)) → NormalTerms ts → is_normal
 normal_of_terms ts n =
     is_normal_is (of_terms ts)
     ∙ ap (λ us. list_all (λ (t : Mono × ℤ). is_normal_mono t.0 && fits_i128 t.1) us &&
-    is_listed mono_cmp us) (terms-of_terms ts)
+    is_sparse_sorted mono_cmp us) (terms-of_terms ts)
     ∙ and_from (list_all (λ (t : Mono × ℤ). is_normal_mono t.0 && fits_i128 t.1) ts)
-    (is_listed mono_cmp ts) (from_tests ts n.keys n.fits) n.listed
+    (is_sparse_sorted mono_cmp ts) (from_tests ts n.keys n.fits) n.listed
 
 pub poly_terms : (b : Body) → is_poly b ≡ true → NormalTerms (out-Body b).terms
 poly_terms b h = normal_terms b (and_parts (is_normal b) (is_small b) h).0
@@ -88,7 +88,7 @@ poly_terms b h = normal_terms b (and_parts (is_normal b) (is_small b) h).0
 -- the terms of a polynomial can be merged
 pub poly_sum : (b : Body) → is_poly b ≡ true → is_sum (out-Body b).terms ≡ true
 poly_sum b h =
-    let n = poly_terms b h in and_from (is_listed mono_cmp (out-Body b).terms)
+    let n = poly_terms b h in and_from (is_sparse_sorted mono_cmp (out-Body b).terms)
     (all_fit (out-Body b).terms) n.listed n.fits
 
 -- what keeps the limits, and what doesn't
@@ -120,7 +120,7 @@ combined_terms s ts us n m f = record {
 }
 
 -- added, the second polynomial is as it is
-pub combined_plus : (p q : Body) → combined Plus p q ≡ added p q
+pub combined_plus : (p q : Body) → combined Plus p q ≡ body_sum p q
 combined_plus p q =
     ap (λ us. of_terms (add_terms mono_cmp (out-Body p).terms us)) (with_plus (out-Body q).terms)
 
@@ -143,11 +143,12 @@ value-combined a s p q =
     ∙ (λ i. sym (value_is a p) i +ℤ (sum-with_sign (mono_value a) s (out-Body q).terms ∙
     ap (signed s) (sym (value_is a q))) i)
 
-pub value-added : (a : ℕ → ℤ) (p q : Body) → value a (added p q) ≡ value a p +ℤ value a q
-value-added a p q = ap (value a) (sym (combined_plus p q)) ∙ value-combined a Plus p q
+pub value-body_sum : (a : ℕ → ℤ) (p q : Body) → value a (body_sum p q) ≡ value a p +ℤ value a q
+value-body_sum a p q = ap (value a) (sym (combined_plus p q)) ∙ value-combined a Plus p q
 
-pub value-subtracted : (a : ℕ → ℤ) (p q : Body) → value a (subtracted p q) ≡ value a p -ℤ value a q
-value-subtracted a p q = value-combined a Minus p q ∙ omega (arith, ints)
+pub value-body_difference : (a : ℕ → ℤ) (p q : Body) → value a (body_difference p q) ≡
+    value a p -ℤ value a q
+value-body_difference a p q = value-combined a Minus p q ∙ omega (arith, ints)
 
 -- the same, of lists that are known to be the terms
 pub merged_normal : (s : Sign) (p q : Body) {ls rs ts : List (Mono × ℤ)} → ls ≡ (out-Body p).terms →
@@ -175,14 +176,15 @@ pub keys-times_number : (test : Mono → Bool) (k : ℤ) (ts : List (Mono × ℤ
 keys-times_number test k [] h = refl
 keys-times_number test k (t ∷ ts) h =
     let p = and_parts (test t.0) (all_keys test ts) h in
-    all_keys-put test t.0 (t.1 *ℤ k) (times_number k ts) p.0 (keys-times_number test k ts p.1)
+    all_keys-cons_nonzero test t.0 (t.1 *ℤ k) (times_number k ts) p.0
+    (keys-times_number test k ts p.1)
 
-pub listed-times_number : (k : ℤ) (ts : List (Mono × ℤ)) → is_listed mono_cmp ts ≡ true →
-    is_listed mono_cmp (times_number k ts) ≡ true
+pub listed-times_number : (k : ℤ) (ts : List (Mono × ℤ)) → is_sparse_sorted mono_cmp ts ≡ true →
+    is_sparse_sorted mono_cmp (times_number k ts) ≡ true
 listed-times_number k [] h = refl
 listed-times_number k (t ∷ ts) h =
     let l = listed_parts mono_cmp mono_total same_mono t ts h in
-    listed-put mono_cmp mono_total same_mono t.0 (t.1 *ℤ k) (times_number k ts)
+    listed-cons_nonzero mono_cmp mono_total same_mono t.0 (t.1 *ℤ k) (times_number k ts)
     (keys-times_number (λ x. is_lt (mono_cmp t.0 x)) k ts l.before)
     (listed-times_number k ts l.rest)
 
@@ -190,7 +192,7 @@ sum-times_number : (f : Mono → ℤ) (k : ℤ) (ts : List (Mono × ℤ)) → su
     k *ℤ sum_terms f ts
 sum-times_number f k [] = sym (mul-zero-int k)
 sum-times_number f k (t ∷ ts) =
-    sum-put f t.0 (t.1 *ℤ k) (times_number k ts)
+    sum-cons_nonzero f t.0 (t.1 *ℤ k) (times_number k ts)
     ∙ (λ i. (ap (λ n. n *ℤ f t.0) (*ℤ_comm t.1 k) ∙ mul-assoc-int k t.1 (f t.0)) i +ℤ
     sum-times_number f k ts i)
     ∙ sym (mul-add-int k (t.1 *ℤ f t.0) (sum_terms f ts))

@@ -11,7 +11,7 @@ use Rattle.rx_poly.specs.Limits.{of_terms, of_atoms, all_fit, is_within, is_smal
 use Rattle.rx_poly.specs.Normal.{is_sorted}
 use Rattle.rx_poly.specs.Order.{atom_cmp, mono_cmp}
 use Rattle.rx_poly.specs.Products.{join_sorted}
-use Rattle.rx_poly.specs.Terms.{add_terms, is_before, is_listed}
+use Rattle.rx_poly.specs.Terms.{add_terms, is_before, is_sparse_sorted}
 use Rattle.rx_poly.proofs.Levels.{atoms-of_atoms, mono_size_is, mono_depth_is}
 use Rattle.rx_poly.proofs.OrderLemmas.{atom_total, mono_total}
 use Rattle.rx_poly.proofs.PolyLaws.{within_terms, size-of_terms, depth-of_terms}
@@ -101,13 +101,13 @@ term_within xs k s f =
 
 -- terms of a polynomial
 pub record SmallTerms (ts : List (Mono × ℤ)) : Type 0 where
-  pub listed : is_listed mono_cmp ts ≡ true
+  pub listed : is_sparse_sorted mono_cmp ts ≡ true
   pub fits : all_fit ts ≡ true
   pub size : sum_by (λ (t : Mono × ℤ). mono_size t.0) ts ≤ 4096
   pub depth : greatest (λ (t : Mono × ℤ). mono_depth t.0) ts ≤ 64
 
-listed-prefix : (ts us : List (Mono × ℤ)) → is_listed mono_cmp (ts ++ us) ≡ true →
-    is_listed mono_cmp ts ≡ true
+listed-prefix : (ts us : List (Mono × ℤ)) → is_sparse_sorted mono_cmp (ts ++ us) ≡ true →
+    is_sparse_sorted mono_cmp ts ≡ true
 listed-prefix [] us h = refl
 listed-prefix (t ∷ ts) us h =
     let l = listed_parts mono_cmp mono_total same_mono t (ts ++ us) h in
@@ -129,7 +129,8 @@ terms-prefix ts us s =
     }
 
 -- a term that comes after all others is added to them at the end
-pub add-last : (ts : List (Mono × ℤ)) (u : Mono × ℤ) → is_listed mono_cmp (ts ++ u ∷ []) ≡ true →
+pub add-last : (ts : List (Mono × ℤ)) (u : Mono × ℤ) → is_sparse_sorted mono_cmp (ts ++ u ∷ []) ≡
+    true →
     add_terms mono_cmp ts (u ∷ []) ≡ ts ++ u ∷ []
 add-last [] u h = refl
 add-last (t ∷ ts) u h =

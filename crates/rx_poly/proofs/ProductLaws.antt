@@ -10,8 +10,8 @@ use Rattle.rx_plain.specs.Graded.{graded_cmp}
 use Rattle.rx_poly.specs.Limits.{of_terms, of_atoms, all_fit}
 use Rattle.rx_poly.specs.Normal.{is_sorted, is_normal_atom, is_normal_mono, is_normal, is_poly}
 use Rattle.rx_poly.specs.Order.{atom_cmp, mono_cmp}
-use Rattle.rx_poly.specs.Products.{join_sorted, mono_times, scaled, running, multiplied}
-use Rattle.rx_poly.specs.Terms.{is_zero, add_terms, is_before, is_listed, all_keys}
+use Rattle.rx_poly.specs.Products.{join_sorted, mono_times, term_product, sum_of_products, body_product}
+use Rattle.rx_poly.specs.Terms.{is_zero, add_terms, is_before, is_sparse_sorted, all_keys}
 use Rattle.rx_poly.specs.Value.{sum_terms, product_of, atom_value, mono_value, value}
 use Rattle.rx_poly.proofs.Levels.{atoms-of_atoms, mono_value_is, value_is, is_normal_mono_is}
 use Rattle.rx_poly.proofs.OrderLemmas.{atom_total, mono_total, mono_cmp_is}
@@ -75,14 +75,15 @@ normal-mono_times m n h g =
 
 -- ---- one term times a sum
 
-before-scaled : (t : Mono × ℤ) (k : Mono) (us : List (Mono × ℤ)) → is_before mono_cmp k us ≡ true →
-    is_before mono_cmp (mono_times t.0 k) (scaled t us) ≡ true
-before-scaled t k [] h = refl
-before-scaled t k (u ∷ us) h =
+before-term_product : (t : Mono × ℤ) (k : Mono) (us : List (Mono × ℤ)) → is_before mono_cmp k us ≡
+    true →
+    is_before mono_cmp (mono_times t.0 k) (term_product t us) ≡ true
+before-term_product t k [] h = refl
+before-term_product t k (u ∷ us) h =
     let p = and_parts (is_lt (mono_cmp k u.0)) (is_before mono_cmp k us) h in
     and_from (is_lt (mono_cmp (mono_times t.0 k) (mono_times t.0 u.0)))
-    (is_before mono_cmp (mono_times t.0 k) (scaled t us))
-    (ap is_lt (cmp-mono_times t.0 k u.0) ∙ p.0) (before-scaled t k us p.1)
+    (is_before mono_cmp (mono_times t.0 k) (term_product t us))
+    (ap is_lt (cmp-mono_times t.0 k u.0) ∙ p.0) (before-term_product t k us p.1)
 
 nonzero : (c : ℤ) → is_zero c ≡ false → c ≡ pos 0 → ⊥
 nonzero c h e = let k : true ≡ false = ap is_zero (sym e) ∙ h in cc
@@ -101,25 +102,25 @@ nonzero-mul : (c d : ℤ) → is_zero c ≡ false → is_zero d ≡ false → is
 nonzero-mul c d h g =
     by_false (is_zero (c *ℤ d)) (λ e. no_zero c d (nonzero c h) (nonzero d g) (zero_is (c *ℤ d) e))
 
-pub listed-scaled : (t : Mono × ℤ) (us : List (Mono × ℤ)) → is_zero t.1 ≡ false →
-    is_listed mono_cmp us ≡ true → is_listed mono_cmp (scaled t us) ≡ true
-listed-scaled t [] z h = refl
-listed-scaled t (u ∷ us) z h =
+pub listed-term_product : (t : Mono × ℤ) (us : List (Mono × ℤ)) → is_zero t.1 ≡ false →
+    is_sparse_sorted mono_cmp us ≡ true → is_sparse_sorted mono_cmp (term_product t us) ≡ true
+listed-term_product t [] z h = refl
+listed-term_product t (u ∷ us) z h =
     let l = listed_parts mono_cmp mono_total same_mono u us h in
-    listed_from mono_cmp mono_total same_mono (mono_times t.0 u.0, t.1 *ℤ u.1) (scaled t us)
+    listed_from mono_cmp mono_total same_mono (mono_times t.0 u.0, t.1 *ℤ u.1) (term_product t us)
     (record {
       nonzero = nonzero-mul t.1 u.1 z l.nonzero;
-      before = before-scaled t u.0 us l.before;
-      rest = listed-scaled t us z l.rest;
+      before = before-term_product t u.0 us l.before;
+      rest = listed-term_product t us z l.rest;
     })
 
-pub keys-scaled : (t : Mono × ℤ) (us : List (Mono × ℤ)) → is_normal_mono t.0 ≡ true →
-    all_keys is_normal_mono us ≡ true → all_keys is_normal_mono (scaled t us) ≡ true
-keys-scaled t [] h g = refl
-keys-scaled t (u ∷ us) h g =
+pub keys-term_product : (t : Mono × ℤ) (us : List (Mono × ℤ)) → is_normal_mono t.0 ≡ true →
+    all_keys is_normal_mono us ≡ true → all_keys is_normal_mono (term_product t us) ≡ true
+keys-term_product t [] h g = refl
+keys-term_product t (u ∷ us) h g =
     let p = and_parts (is_normal_mono u.0) (all_keys is_normal_mono us) g in
-    and_from (is_normal_mono (mono_times t.0 u.0)) (all_keys is_normal_mono (scaled t us))
-    (normal-mono_times t.0 u.0 h p.0) (keys-scaled t us h p.1)
+    and_from (is_normal_mono (mono_times t.0 u.0)) (all_keys is_normal_mono (term_product t us))
+    (normal-mono_times t.0 u.0 h p.0) (keys-term_product t us h p.1)
 
 -- the middle two of four factors change places
 cross_factors : (c d x y : ℤ) → (c *ℤ d) *ℤ (x *ℤ y) ≡ (c *ℤ x) *ℤ (d *ℤ y)
@@ -129,12 +130,13 @@ cross_factors c d x y =
     sym (mul-assoc-int c x (d *ℤ y))
 
 -- one term times a sum has the product as value
-pub sum-scaled : (a : ℕ → ℤ) (t : Mono × ℤ) (us : List (Mono × ℤ)) →
-    sum_terms (mono_value a) (scaled t us) ≡ (t.1 *ℤ mono_value a t.0) *ℤ sum_terms (mono_value a)
+pub sum-term_product : (a : ℕ → ℤ) (t : Mono × ℤ) (us : List (Mono × ℤ)) →
+    sum_terms (mono_value a) (term_product t us) ≡
+    (t.1 *ℤ mono_value a t.0) *ℤ sum_terms (mono_value a)
     us
-sum-scaled a t [] = sym (mul-zero-int (t.1 *ℤ mono_value a t.0))
-sum-scaled a t (u ∷ us) =
-    (λ i. (t.1 *ℤ u.1) *ℤ value-mono_times a t.0 u.0 i +ℤ sum-scaled a t us i)
+sum-term_product a t [] = sym (mul-zero-int (t.1 *ℤ mono_value a t.0))
+sum-term_product a t (u ∷ us) =
+    (λ i. (t.1 *ℤ u.1) *ℤ value-mono_times a t.0 u.0 i +ℤ sum-term_product a t us i)
     ∙ ap (λ n. n +ℤ (t.1 *ℤ mono_value a t.0) *ℤ sum_terms (mono_value a) us)
     (cross_factors t.1 u.1 (mono_value a t.0) (mono_value a u.0))
     ∙ sym (mul-add-int (t.1 *ℤ mono_value a t.0) (u.1 *ℤ mono_value a u.0)
@@ -142,39 +144,42 @@ sum-scaled a t (u ∷ us) =
 
 -- a term that isn't 0 times a polynomial is normal
 pub scaled_normal : (t : Mono × ℤ) (p : Body) {ts us : List (Mono × ℤ)} → is_normal_mono t.0 ≡
-    true → is_zero t.1 ≡ false → is_poly p ≡ true → ts ≡ (out-Body p).terms → us ≡ scaled t ts →
-    all_fit (scaled t ts) ≡ true → is_normal (of_terms us) ≡ true
+    true → is_zero t.1 ≡ false → is_poly p ≡ true → ts ≡ (out-Body p).terms → us ≡
+    term_product t ts →
+    all_fit (term_product t ts) ≡ true → is_normal (of_terms us) ≡ true
 scaled_normal t p {ts} {us} k z h is made f =
     let n = subst NormalTerms (sym is) (poly_terms p h) in
     ap (λ vs. is_normal (of_terms vs)) made
-    ∙ normal_of_terms (scaled t ts) (record {
-      keys = keys-scaled t ts k n.keys;
+    ∙ normal_of_terms (term_product t ts) (record {
+      keys = keys-term_product t ts k n.keys;
       fits = f;
       listed =
-          listed-scaled t ts z n.listed;
+          listed-term_product t ts z n.listed;
     })
 
 -- ---- the running sum
 
-pub sum-running : (a : ℕ → ℤ) (sum ts us : List (Mono × ℤ)) →
-    sum_terms (mono_value a) (running sum ts us) ≡
+pub sum-sum_of_products : (a : ℕ → ℤ) (sum ts us : List (Mono × ℤ)) →
+    sum_terms (mono_value a) (sum_of_products sum ts us) ≡
     sum_terms (mono_value a) sum +ℤ sum_terms (mono_value a) ts *ℤ sum_terms (mono_value a) us
-sum-running a sum [] us =
+sum-sum_of_products a sum [] us =
     let f = sum_terms (mono_value a) in
     sym (ap (λ n. f sum +ℤ n) (zero-mul-int (f us)) ∙ add-zero-int (f sum))
-sum-running a sum (t ∷ ts) us =
+sum-sum_of_products a sum (t ∷ ts) us =
     let f = sum_terms (mono_value a) in
-    sum-running a (add_terms mono_cmp sum (scaled t us)) ts us
-    ∙ ap (λ n. n +ℤ f ts *ℤ f us) (sum-add (mono_value a) mono_cmp same_mono sum (scaled t us) ∙
-    ap (λ n. f sum +ℤ n) (sum-scaled a t us))
+    sum-sum_of_products a (add_terms mono_cmp sum (term_product t us)) ts us
+    ∙ ap (λ n. n +ℤ f ts *ℤ f us) (sum-add (mono_value a) mono_cmp same_mono sum (term_product t us)
+    ∙
+    ap (λ n. f sum +ℤ n) (sum-term_product a t us))
     ∙ +ℤ_assoc (f sum) ((t.1 *ℤ mono_value a t.0) *ℤ f us) (f ts *ℤ f us)
     ∙ ap (λ n. f sum +ℤ n) (sym (add-mul-int (t.1 *ℤ mono_value a t.0) (f ts) (f us)))
 
 -- the product of two polynomials has the product as value
-pub value-multiplied : (a : ℕ → ℤ) (p q : Body) → value a (multiplied p q) ≡ value a p *ℤ value a q
-value-multiplied a p q =
-    value-of_terms a (running [] (out-Body p).terms (out-Body q).terms)
-    ∙ sum-running a [] (out-Body p).terms (out-Body q).terms
+pub value-body_product : (a : ℕ → ℤ) (p q : Body) → value a (body_product p q) ≡
+    value a p *ℤ value a q
+value-body_product a p q =
+    value-of_terms a (sum_of_products [] (out-Body p).terms (out-Body q).terms)
+    ∙ sum-sum_of_products a [] (out-Body p).terms (out-Body q).terms
     ∙ zero-add-int (sum_terms (mono_value a) (out-Body p).terms *ℤ sum_terms (mono_value a)
     (out-Body q).terms)
     ∙ (λ i. sym (value_is a p) i *ℤ sym (value_is a q) i)

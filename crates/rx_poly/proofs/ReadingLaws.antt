@@ -13,7 +13,7 @@ use Rattle.rx_poly.specs.Limits.{of_atoms}
 use Rattle.rx_poly.specs.Normal.{is_empty, is_poly}
 use Rattle.rx_poly.specs.Order.{mono_cmp}
 use Rattle.rx_poly.specs.Reading.{coefficient, found, variable_of, variable_of_atom, variable_of_atoms}
-use Rattle.rx_poly.specs.Terms.{is_before, is_listed}
+use Rattle.rx_poly.specs.Terms.{is_before, is_sparse_sorted}
 use Rattle.rx_poly.proofs.Levels.{atoms-of_atoms, terms-of_terms}
 use Rattle.rx_poly.proofs.OrderLemmas.{mono_total}
 use Rattle.rx_poly.proofs.PolyLaws.{poly_terms}
@@ -145,21 +145,21 @@ nowhere k ts i h s = ap (coefficient k) (sym (drop_of_length-le ts h)) ∙ s
 
 -- the terms that are left are listed, and decide
 pub record Seeking (k : Mono) (rest whole : List (Mono × ℤ)) : Type 0 where
-  pub listed : is_listed mono_cmp rest ≡ true
+  pub listed : is_sparse_sorted mono_cmp rest ≡ true
   pub same : coefficient k rest ≡ coefficient k whole
 
 pub begin : (k : Mono) (b : Body) {ts : List (Mono × ℤ)} → ts ≡ (out-Body b).terms → is_poly b ≡
     true → Seeking k (drop 0 ts) ts
 begin k b is h =
-    record { listed = ap (is_listed mono_cmp) is ∙ (poly_terms b h).listed; same = refl }
+    record { listed = ap (is_sparse_sorted mono_cmp) is ∙ (poly_terms b h).listed; same = refl }
 
 module _ (k : Mono) (ts : List (Mono × ℤ)) (i : ℕ) {t : Mono × ℤ} (h : i < length ts)
     (is : t ≡ get_or ts i t) (s : Seeking k (drop i ts) ts) where
   rest_is : drop i ts ≡ t ∷ drop (suc i) ts
   rest_is = drop-cons ts i t h ∙ ap (λ u. u ∷ drop (suc i) ts) (sym is)
 
-  all_listed : is_listed mono_cmp (t ∷ drop (suc i) ts) ≡ true
-  all_listed = ap (is_listed mono_cmp) (sym rest_is) ∙ s.listed
+  all_listed : is_sparse_sorted mono_cmp (t ∷ drop (suc i) ts) ≡ true
+  all_listed = ap (is_sparse_sorted mono_cmp) (sym rest_is) ∙ s.listed
 
   pub later : mono_cmp k t.0 ≡ Less → pos 0 ≡ coefficient k ts
   later e =

@@ -2,11 +2,11 @@
 use Rattle.std.proofs.Common.{◌≡◌, ◌∙◌, ap, subst, Bool, true, false, ◌&&◌, sym, ℕ, suc, ◌+◌, ◌<◌, ◌≤◌, List, [], ◌∷◌, length, drop, get_or, drop_of_length-le, add-one, ℤ}
 use Rattle.std.proofs.Math.Seq.{drop-cons}
 use Rattle.std.proofs.lemmas.Bool.{and_parts, and_left, and_right}
-use Rattle.rx_poly.specs.Limits.{of_terms, added, is_within}
+use Rattle.rx_poly.specs.Limits.{of_terms, body_sum, is_within}
 use Rattle.rx_poly.specs.Normal.{is_normal_mono, is_poly}
 use Rattle.rx_poly.specs.Order.{mono_cmp}
-use Rattle.rx_poly.specs.Products.{scaled, running, running_within, mul_within, multiplied}
-use Rattle.rx_poly.specs.Terms.{add_terms, is_listed, all_keys, is_zero}
+use Rattle.rx_poly.specs.Products.{term_product, sum_of_products, sum_of_products_within, mul_within, body_product}
+use Rattle.rx_poly.specs.Terms.{add_terms, is_sparse_sorted, all_keys, is_zero}
 use Rattle.rx_poly.proofs.Levels.{terms-of_terms}
 use Rattle.rx_poly.proofs.OrderLemmas.{mono_total}
 use Rattle.rx_poly.proofs.PolyLaws.{NormalTerms, poly_terms}
@@ -18,12 +18,13 @@ use Rattle.rx_poly.specs.declared.body.Body.{Body, out-Body, roll-out-Body}
 -- the terms that are left, and what they still decide
 pub record Running (sum : Body) (rest us whole : List (Mono × ℤ)) (within : Bool) : Type 0 where
   pub keys : all_keys is_normal_mono rest ≡ true
-  pub listed : is_listed mono_cmp rest ≡ true
-  pub made : running (out-Body sum).terms rest us ≡ whole
-  pub limits : running_within (out-Body sum).terms rest us ≡ within
+  pub listed : is_sparse_sorted mono_cmp rest ≡ true
+  pub made : sum_of_products (out-Body sum).terms rest us ≡ whole
+  pub limits : sum_of_products_within (out-Body sum).terms rest us ≡ within
 
 pub begin : (sum p : Body) (ts us : List (Mono × ℤ)) → ts ≡ (out-Body p).terms → sum ≡ of_terms [] →
-    is_poly p ≡ true → Running sum (drop 0 ts) us (running [] ts us) (running_within [] ts us)
+    is_poly p ≡ true → Running sum (drop 0 ts) us (sum_of_products [] ts us)
+    (sum_of_products_within [] ts us)
 begin sum p ts us is e h =
     let n = subst NormalTerms (sym is) (poly_terms p h) in
     let none : (out-Body sum).terms ≡ [] = ap (λ (b : Body). (out-Body b).terms) e ∙
@@ -31,8 +32,8 @@ begin sum p ts us is e h =
     record {
       keys = n.keys;
       listed = n.listed;
-      made = ap (λ s. running s ts us) none;
-      limits = ap (λ s. running_within s ts us) none;
+      made = ap (λ s. sum_of_products s ts us) none;
+      limits = ap (λ s. sum_of_products_within s ts us) none;
     }
 
 module _ {sum : Body} {whole : List (Mono × ℤ)} {within : Bool} (ts us : List (Mono × ℤ)) (i : ℕ)
@@ -53,41 +54,45 @@ module _ {sum : Body} {whole : List (Mono × ℤ)} {within : Bool} (ts us : List
       (listed_parts mono_cmp mono_total same_mono t (drop (suc i) ts) opened.listed).nonzero
 
   abbrev next_sum : List (Mono × ℤ)
-  next_sum = add_terms mono_cmp (out-Body sum).terms (scaled t us)
+  next_sum = add_terms mono_cmp (out-Body sum).terms (term_product t us)
 
-  limits_are : (is_within (of_terms (scaled t us)) &&
-      (is_within (of_terms next_sum) && running_within next_sum (drop (suc i) ts) us)) ≡ within
+  limits_are : (is_within (of_terms (term_product t us)) &&
+      (is_within (of_terms next_sum) && sum_of_products_within next_sum (drop (suc i) ts) us)) ≡
+      within
   limits_are = opened.limits
 
   -- a product that passes the limits decides
-  pub no_product : is_within (of_terms (scaled t us)) ≡ false → within ≡ false
+  pub no_product : is_within (of_terms (term_product t us)) ≡ false → within ≡ false
   no_product f =
-      sym limits_are ∙ and_left (is_within (of_terms (scaled t us)))
-      (is_within (of_terms next_sum) && running_within next_sum (drop (suc i) ts) us) f
+      sym limits_are ∙ and_left (is_within (of_terms (term_product t us)))
+      (is_within (of_terms next_sum) && sum_of_products_within next_sum (drop (suc i) ts) us) f
 
-  module _ {product : Body} (same : product ≡ of_terms (scaled t us)) where
-    added_is : added sum product ≡ of_terms next_sum
+  module _ {product : Body} (same : product ≡ of_terms (term_product t us)) where
+    added_is : body_sum sum product ≡ of_terms next_sum
     added_is =
         ap (λ xs. of_terms (add_terms mono_cmp (out-Body sum).terms xs))
-        (ap (λ (b : Body). (out-Body b).terms) same ∙ terms-of_terms (scaled t us))
+        (ap (λ (b : Body). (out-Body b).terms) same ∙ terms-of_terms (term_product t us))
 
     -- so does a sum
-    pub no_sum : is_within (added sum product) ≡ false → within ≡ false
+    pub no_sum : is_within (body_sum sum product) ≡ false → within ≡ false
     no_sum f =
-        sym limits_are ∙ and_right (is_within (of_terms (scaled t us)))
-        (is_within (of_terms next_sum) && running_within next_sum (drop (suc i) ts) us)
-        (and_left (is_within (of_terms next_sum)) (running_within next_sum (drop (suc i) ts) us)
+        sym limits_are ∙ and_right (is_within (of_terms (term_product t us)))
+        (is_within (of_terms next_sum) && sum_of_products_within next_sum (drop (suc i) ts) us)
+        (and_left (is_within (of_terms next_sum))
+        (sum_of_products_within next_sum (drop (suc i) ts) us)
         (ap is_within (sym added_is) ∙ f))
 
     -- both keep the limits: the rest decides
-    pub after_sum : {next : Body} → next ≡ added sum product → is_within (of_terms (scaled t us)) ≡
-        true → is_within (added sum product) ≡ true → Running next (drop (i + 1) ts) us whole within
+    pub after_sum : {next : Body} → next ≡ body_sum sum product →
+        is_within (of_terms (term_product t us)) ≡
+        true → is_within (body_sum sum product) ≡ true →
+        Running next (drop (i + 1) ts) us whole within
     after_sum {next} e f g =
         let terms : (out-Body next).terms ≡ next_sum =
         ap (λ (b : Body). (out-Body b).terms) (e ∙ added_is) ∙ terms-of_terms next_sum in
         let kept : is_within (of_terms next_sum) ≡ true = ap is_within (sym added_is) ∙ g in
-        let rest : running_within next_sum (drop (suc i) ts) us ≡ within =
-        (λ j. sym f j && (sym kept j && running_within next_sum (drop (suc i) ts) us)) ∙
+        let rest : sum_of_products_within next_sum (drop (suc i) ts) us ≡ within =
+        (λ j. sym f j && (sym kept j && sum_of_products_within next_sum (drop (suc i) ts) us)) ∙
         limits_are in
         subst (λ n. Running next (drop n ts) us whole within) (sym (add-one i)) (record {
           keys =
@@ -95,8 +100,8 @@ module _ {sum : Body} {whole : List (Mono × ℤ)} {within : Bool} (ts us : List
               opened.keys).1;
           listed =
               (listed_parts mono_cmp mono_total same_mono t (drop (suc i) ts) opened.listed).rest;
-          made = ap (λ s. running s (drop (suc i) ts) us) terms ∙ opened.made;
-          limits = ap (λ s. running_within s (drop (suc i) ts) us) terms ∙ rest;
+          made = ap (λ s. sum_of_products s (drop (suc i) ts) us) terms ∙ opened.made;
+          limits = ap (λ s. sum_of_products_within s (drop (suc i) ts) us) terms ∙ rest;
         })
 
 -- nothing is left
@@ -107,17 +112,19 @@ done_is ts us whole within sum i h r =
     (sym (roll-out-Body sum) ∙ (λ j. of_terms (all.made j)), sym all.limits)
 
 pub finished : (p q sum : Body) {ts : List (Mono × ℤ)} (i : ℕ) → ts ≡ (out-Body p).terms →
-    length ts ≤ i → Running sum (drop i ts) (out-Body q).terms (running [] ts (out-Body q).terms)
-    (running_within [] ts (out-Body q).terms) → sum ≡ multiplied p q
+    length ts ≤ i → Running sum (drop i ts) (out-Body q).terms
+    (sum_of_products [] ts (out-Body q).terms)
+    (sum_of_products_within [] ts (out-Body q).terms) → sum ≡ body_product p q
 finished p q sum {ts} i is h r =
-    (done_is ts (out-Body q).terms (running [] ts (out-Body q).terms)
-    (running_within [] ts (out-Body q).terms) sum i h r).0
-    ∙ ap (λ us. of_terms (running [] us (out-Body q).terms)) is
+    (done_is ts (out-Body q).terms (sum_of_products [] ts (out-Body q).terms)
+    (sum_of_products_within [] ts (out-Body q).terms) sum i h r).0
+    ∙ ap (λ us. of_terms (sum_of_products [] us (out-Body q).terms)) is
 
 pub within_finished : (p q sum : Body) {ts : List (Mono × ℤ)} (i : ℕ) → ts ≡ (out-Body p).terms →
-    length ts ≤ i → Running sum (drop i ts) (out-Body q).terms (running [] ts (out-Body q).terms)
-    (running_within [] ts (out-Body q).terms) → mul_within p q ≡ true
+    length ts ≤ i → Running sum (drop i ts) (out-Body q).terms
+    (sum_of_products [] ts (out-Body q).terms)
+    (sum_of_products_within [] ts (out-Body q).terms) → mul_within p q ≡ true
 within_finished p q sum {ts} i is h r =
-    ap (λ us. running_within [] us (out-Body q).terms) (sym is)
-    ∙ (done_is ts (out-Body q).terms (running [] ts (out-Body q).terms)
-    (running_within [] ts (out-Body q).terms) sum i h r).1
+    ap (λ us. sum_of_products_within [] us (out-Body q).terms) (sym is)
+    ∙ (done_is ts (out-Body q).terms (sum_of_products [] ts (out-Body q).terms)
+    (sum_of_products_within [] ts (out-Body q).terms) sum i h r).1

@@ -139,10 +139,10 @@ pub same_body : (p q : Body) → body_cmp p q ≡ Equal → p ≡ q
 same_body = ind-Body SameAtom SameBody SameMono atom_step body_step mono_step
 
 -- `==` holds of sums that are one, and of no others
-pub told_same : (p q : Body) → body_eq p q ≡ true → p ≡ q
-told_same p q e =
+pub body_eq-sound : (p q : Body) → body_eq p q ≡ true → p ≡ q
+body_eq-sound p q e =
     same_body p q ((Equal-is (body_cmp p q)).0 (sym (body_laws.matches_eq-law p q) ∙ e))
 
-pub told_itself : (p q : Body) → p ≡ q → body_eq p q ≡ true
-told_itself p q e =
+pub body_eq-refl : (p q : Body) → p ≡ q → body_eq p q ≡ true
+body_eq-refl p q e =
     ap (body_eq p) (sym e) ∙ body_laws.matches_eq-law p p ∙ ap is_eq (tied_itself body_total p)

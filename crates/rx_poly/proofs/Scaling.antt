@@ -6,14 +6,14 @@ use Rattle.std.proofs.lemmas.List.{append-nil}
 use Rattle.std.proofs.lemmas.List.Folds.{list_all-append}
 use Rattle.rx_poly.specs.Limits.{all_fit, fits_i128}
 use Rattle.rx_poly.specs.Normal.{is_normal_mono}
-use Rattle.rx_poly.specs.Products.{mono_times, scaled}
+use Rattle.rx_poly.specs.Products.{mono_times, term_product}
 use Rattle.rx_poly.specs.Terms.{all_keys}
 use Rattle.rx_poly.specs.declared.body.Mono.{Mono}
 
 -- the products that are there already, and the terms that are left
 pub record Scaling (t : Mono × ℤ) (done rest whole : List (Mono × ℤ)) : Type 0 where
   pub keys : all_keys is_normal_mono rest ≡ true
-  pub made : done ++ scaled t rest ≡ whole
+  pub made : done ++ term_product t rest ≡ whole
   pub fits : all_fit done ≡ true
 
 -- the product of two terms
@@ -32,8 +32,8 @@ module _ {t : Mono × ℤ} {done whole : List (Mono × ℤ)} (us : List (Mono ×
   next_key =
       (and_parts (is_normal_mono u.0) (all_keys is_normal_mono (drop (suc i) us)) opened.keys).0
 
-  apart : (done ++ product t u ∷ []) ++ scaled t (drop (suc i) us) ≡ whole
-  apart = append_assoc done (product t u ∷ []) (scaled t (drop (suc i) us)) ∙ opened.made
+  apart : (done ++ product t u ∷ []) ++ term_product t (drop (suc i) us) ≡ whole
+  apart = append_assoc done (product t u ∷ []) (term_product t (drop (suc i) us)) ∙ opened.made
 
   -- its product comes after the others
   pub after_product : {next : List (Mono × ℤ)} → next ≡ done ++ product t u ∷ [] →
@@ -56,12 +56,12 @@ module _ {t : Mono × ℤ} {done whole : List (Mono × ℤ)} (us : List (Mono ×
   pub no_product : fits_i128 (t.1 *ℤ u.1) ≡ false → all_fit whole ≡ false
   no_product f =
       ap all_fit (sym opened.made) ∙ list_all-append (λ (v : Mono × ℤ). fits_i128 v.1) done
-      (scaled t (u ∷ drop (suc i) us))
-      ∙ and_right (all_fit done) (all_fit (scaled t (u ∷ drop (suc i) us)))
-      (and_left (fits_i128 (t.1 *ℤ u.1)) (all_fit (scaled t (drop (suc i) us))) f)
+      (term_product t (u ∷ drop (suc i) us))
+      ∙ and_right (all_fit done) (all_fit (term_product t (u ∷ drop (suc i) us)))
+      (and_left (fits_i128 (t.1 *ℤ u.1)) (all_fit (term_product t (drop (suc i) us))) f)
 
 pub begin : (t : Mono × ℤ) (us : List (Mono × ℤ)) → all_keys is_normal_mono us ≡ true →
-    Scaling t [] (drop 0 us) (scaled t us)
+    Scaling t [] (drop 0 us) (term_product t us)
 begin t us h = record { keys = h; made = refl; fits = refl }
 
 -- nothing is left

@@ -4,16 +4,16 @@ use Rattle.std.proofs.Common.{◌≡◌, ◌∙◌, ap, subst, ℕ, sym, List, [
 use lib.IntN.{+ℤ_assoc}
 use Rattle.rx_plain.proofs.Integers.{mul-one-int, mul-assoc-int, zero-add-int, add-zero-int}
 use Rattle.rx_poly.specs.Constants.{number}
-use Rattle.rx_poly.specs.Limits.{of_terms, added, is_within}
+use Rattle.rx_poly.specs.Limits.{of_terms, body_sum, is_within}
 use Rattle.rx_plain.specs.Formed.{Formed}
-use Rattle.rx_poly.specs.Products.{multiplied, mul_within}
-use Rattle.rx_poly.specs.Substitution.{worth, times_all, plus_all, in_atom, in_mono, in_body}
+use Rattle.rx_poly.specs.Products.{body_product, mul_within}
+use Rattle.rx_poly.specs.Substitution.{updated_assignment, times_all, plus_all, subst_atom, subst_mono, subst_body}
 use Rattle.rx_poly.specs.Value.{value, atom_value, mono_value, sum_terms, product_of, quotient, remainder}
 use Rattle.rx_poly.proofs.Constants.{value-number}
 use Rattle.rx_poly.proofs.DivisionLaws.{value-quotient_of, value-remainder_of, value-Div, value-Mod}
 use Rattle.rx_poly.proofs.Levels.{value_is, mono_value_is, var_value}
-use Rattle.rx_poly.proofs.PolyLaws.{value-of_terms, value-added}
-use Rattle.rx_poly.proofs.ProductLaws.{value-multiplied}
+use Rattle.rx_poly.proofs.PolyLaws.{value-of_terms, value-body_sum}
+use Rattle.rx_poly.proofs.ProductLaws.{value-body_product}
 use Rattle.rx_poly.proofs.Substituting.{well, term_in, in_Var, in_Div, in_Mod, in_mono_is, in_body_is}
 use Rattle.rx_poly.specs.declared.body.Atom.{Atom, Atom-F, roll-Atom, map-Atom}
 use Rattle.rx_poly.specs.declared.body.Atom.TheVariants.{rolls-Var, rolls-Div, rolls-Mod}
@@ -22,13 +22,14 @@ use Rattle.rx_poly.specs.declared.body.Body.{Body, Body-F, out-Body, roll-Body, 
 
 module _ (a : ℕ → ℤ) (ws : List (ℕ × Body)) where
   abbrev WorthAtom : Atom → Type 0
-  WorthAtom x = value a (in_atom ws x).form ≡ atom_value (worth a ws) x
+  WorthAtom x = value a (subst_atom ws x).form ≡ atom_value (updated_assignment a ws) x
 
   abbrev WorthBody : Body → Type 0
-  WorthBody b = value a (in_body ws b).form ≡ value (worth a ws) b
+  WorthBody b = value a (subst_body ws b).form ≡ value (updated_assignment a ws) b
 
   abbrev WorthMono : Mono → Type 0
-  WorthMono m = (k : ℤ) → value a (in_mono ws m k).form ≡ k *ℤ mono_value (worth a ws) m
+  WorthMono m =
+      (k : ℤ) → value a (subst_mono ws m k).form ≡ k *ℤ mono_value (updated_assignment a ws) m
 
   abbrev PartAtom : Type 0
   PartAtom = (x : Atom) × WorthAtom x
@@ -55,35 +56,37 @@ module _ (a : ℕ → ℤ) (ws : List (ℕ × Body)) where
   atom_level : (y : Atom-F PartAtom PartBody PartMono) → WorthAtom (roll-Atom (bare_atom y))
   atom_level (Atom-F.Var n) =
       subst WorthAtom (sym (rolls-Var n)) (ap form_worth (in_Var ws n) ∙
-      sym (var_value (worth a ws) n))
+      sym (var_value (updated_assignment a ws) n))
   atom_level (Atom-F.Div p q) = subst WorthAtom (sym (rolls-Div p.0 q.0))
-      (ap form_worth (in_Div ws p.0 q.0) ∙ value-quotient_of a (in_body ws p.0).form
-      (in_body ws q.0).form ∙ (λ i. quotient (p.1 i) (q.1 i)) ∙
-      sym (value-Div (worth a ws) p.0 q.0))
+      (ap form_worth (in_Div ws p.0 q.0) ∙ value-quotient_of a (subst_body ws p.0).form
+      (subst_body ws q.0).form ∙ (λ i. quotient (p.1 i) (q.1 i)) ∙
+      sym (value-Div (updated_assignment a ws) p.0 q.0))
   atom_level (Atom-F.Mod p q) = subst WorthAtom (sym (rolls-Mod p.0 q.0))
-      (ap form_worth (in_Mod ws p.0 q.0) ∙ value-remainder_of a (in_body ws p.0).form
-      (in_body ws q.0).form ∙ (λ i. remainder (p.1 i) (q.1 i)) ∙
-      sym (value-Mod (worth a ws) p.0 q.0))
+      (ap form_worth (in_Mod ws p.0 q.0) ∙ value-remainder_of a (subst_body ws p.0).form
+      (subst_body ws q.0).form ∙ (λ i. remainder (p.1 i) (q.1 i)) ∙
+      sym (value-Mod (updated_assignment a ws) p.0 q.0))
 
   atom_step : (x : Atom-F Atom Body Mono) (y : Atom-F PartAtom PartBody PartMono) → bare_atom y ≡
       x → WorthAtom (roll-Atom x)
   atom_step x y is = subst (λ z. WorthAtom (roll-Atom z)) is (atom_level y)
 
   times_worth : (ps : List PartAtom) (done : Formed Body) →
-      form_worth (times_all done (map (in_atom ws) (map (λ (p : PartAtom). p.0) ps))) ≡
-      form_worth done *ℤ product_of (atom_value (worth a ws)) (map (λ (p : PartAtom). p.0) ps)
+      form_worth (times_all done (map (subst_atom ws) (map (λ (p : PartAtom). p.0) ps))) ≡
+      form_worth done *ℤ product_of (atom_value (updated_assignment a ws))
+      (map (λ (p : PartAtom). p.0) ps)
   times_worth [] done = sym (mul-one-int (form_worth done))
   times_worth (p ∷ ps) done =
-      let x = in_atom ws p.0 in
-      let rest = product_of (atom_value (worth a ws)) (map (λ (p : PartAtom). p.0) ps) in
+      let x = subst_atom ws p.0 in
+      let rest = product_of (atom_value (updated_assignment a ws)) (map (λ (p : PartAtom). p.0) ps)
+      in
       times_worth ps (record {
-        form = multiplied done.form x.form;
+        form = body_product done.form x.form;
         within = done.within &&
             (x.within && mul_within done.form x.form);
       })
-      ∙ ap (λ n. n *ℤ rest) (value-multiplied a done.form x.form ∙
+      ∙ ap (λ n. n *ℤ rest) (value-body_product a done.form x.form ∙
       ap (λ n. form_worth done *ℤ n) p.1)
-      ∙ mul-assoc-int (form_worth done) (atom_value (worth a ws) p.0) rest
+      ∙ mul-assoc-int (form_worth done) (atom_value (updated_assignment a ws) p.0) rest
 
   mono_step : (x : Mono-F Atom Body Mono) (y : Mono-F PartAtom PartBody PartMono) → bare_mono y ≡
       x → WorthMono (roll-Mono x)
@@ -92,29 +95,29 @@ module _ (a : ℕ → ℤ) (ws : List (ℕ × Body)) where
       let atoms : (out-Mono m).atoms ≡ (bare_mono y).atoms =
       ap (λ (z : Mono-F Atom Body Mono). z.atoms) (out-roll-Mono (bare_mono y)) in
       ap form_worth (in_mono_is ws m k) ∙ (λ i.
-      form_worth (times_all (well (number k)) (map (in_atom ws) (atoms i))))
+      form_worth (times_all (well (number k)) (map (subst_atom ws) (atoms i))))
       ∙ times_worth y.atoms (well (number k))
-      ∙ (λ i. value-number a k i *ℤ product_of (atom_value (worth a ws)) (sym atoms i))
-      ∙ ap (λ n. k *ℤ n) (sym (mono_value_is (worth a ws) m)))
+      ∙ (λ i. value-number a k i *ℤ product_of (atom_value (updated_assignment a ws)) (sym atoms i))
+      ∙ ap (λ n. k *ℤ n) (sym (mono_value_is (updated_assignment a ws) m)))
 
   abbrev bare_term : PartMono × ℤ → Mono × ℤ
   bare_term t = ((t.0).0, t.1)
 
   plus_worth : (ps : List (PartMono × ℤ)) (done : Formed Body) →
       form_worth (plus_all done (map (term_in ws) (map bare_term ps))) ≡
-      form_worth done +ℤ sum_terms (mono_value (worth a ws)) (map bare_term ps)
+      form_worth done +ℤ sum_terms (mono_value (updated_assignment a ws)) (map bare_term ps)
   plus_worth [] done = sym (add-zero-int (form_worth done))
   plus_worth (p ∷ ps) done =
-      let x = in_mono ws (p.0).0 p.1 in
-      let rest = sum_terms (mono_value (worth a ws)) (map bare_term ps) in
+      let x = subst_mono ws (p.0).0 p.1 in
+      let rest = sum_terms (mono_value (updated_assignment a ws)) (map bare_term ps) in
       plus_worth ps (record {
-        form = added done.form x.form;
+        form = body_sum done.form x.form;
         within = done.within &&
-            (x.within && is_within (added done.form x.form));
+            (x.within && is_within (body_sum done.form x.form));
       })
-      ∙ ap (λ n. n +ℤ rest) (value-added a done.form x.form ∙
+      ∙ ap (λ n. n +ℤ rest) (value-body_sum a done.form x.form ∙
       ap (λ n. form_worth done +ℤ n) ((p.0).1 p.1))
-      ∙ +ℤ_assoc (form_worth done) (p.1 *ℤ mono_value (worth a ws) (p.0).0) rest
+      ∙ +ℤ_assoc (form_worth done) (p.1 *ℤ mono_value (updated_assignment a ws) (p.0).0) rest
 
   body_step : (x : Body-F Atom Body Mono) (y : Body-F PartAtom PartBody PartMono) → bare_body y ≡
       x → WorthBody (roll-Body x)
@@ -125,11 +128,13 @@ module _ (a : ℕ → ℤ) (ws : List (ℕ × Body)) where
       ap form_worth (in_body_is ws b) ∙ (λ i.
       form_worth (plus_all (well (of_terms [])) (map (term_in ws) (terms i))))
       ∙ plus_worth y.terms (well (of_terms []))
-      ∙ (λ i. value-of_terms a [] i +ℤ sum_terms (mono_value (worth a ws)) (sym terms i))
-      ∙ zero-add-int (sum_terms (mono_value (worth a ws)) (out-Body b).terms)
-      ∙ sym (value_is (worth a ws) b))
+      ∙ (λ i. value-of_terms a [] i +ℤ sum_terms (mono_value (updated_assignment a ws))
+      (sym terms i))
+      ∙ zero-add-int (sum_terms (mono_value (updated_assignment a ws)) (out-Body b).terms)
+      ∙ sym (value_is (updated_assignment a ws) b))
 
   -- a polynomial with replaced variables has the value that it had where these have the values of
   -- their replacements
-  pub value-in_body : (b : Body) → value a (in_body ws b).form ≡ value (worth a ws) b
-  value-in_body = ind-Body WorthAtom WorthBody WorthMono atom_step body_step mono_step
+  pub value-subst_body : (b : Body) → value a (subst_body ws b).form ≡
+      value (updated_assignment a ws) b
+  value-subst_body = ind-Body WorthAtom WorthBody WorthMono atom_step body_step mono_step

@@ -5,10 +5,10 @@ use Rattle.std.proofs.Math.Seq.{drop-cons}
 use Rattle.std.proofs.lemmas.Bool.{and_left, and_right}
 use Rattle.rx_poly.specs.Constants.{number}
 use Rattle.rx_poly.specs.Division.{quotient_of, remainder_of}
-use Rattle.rx_poly.specs.Limits.{of_terms, added, is_within}
+use Rattle.rx_poly.specs.Limits.{of_terms, body_sum, is_within}
 use Rattle.rx_plain.specs.Formed.{Formed}
-use Rattle.rx_poly.specs.Products.{multiplied, mul_within}
-use Rattle.rx_poly.specs.Substitution.{replaced, times_all, plus_all, in_atom, in_mono, in_body, atom_substituted, mono_substituted, body_substituted}
+use Rattle.rx_poly.specs.Products.{body_product, mul_within}
+use Rattle.rx_poly.specs.Substitution.{replaced, times_all, plus_all, subst_atom, subst_mono, subst_body, atom_substituted, mono_substituted, body_substituted}
 use Rattle.rx_poly.specs.declared.body.Atom.{Atom, fold_out-Atom}
 use Rattle.rx_poly.specs.declared.body.Atom.TheVariants.{Var, Div, Mod, outs-Var, outs-Div, outs-Mod}
 use Rattle.rx_poly.specs.declared.body.Mono.{Mono, out-Mono, fold_out-Mono}
@@ -21,43 +21,43 @@ well b = record { form = b; within = true }
 -- ---- by parts
 
 module _ (ws : List (ℕ × Body)) where
-  pub in_Var : (n : ℕ) → in_atom ws (Var n) ≡ well (replaced ws n)
+  pub in_Var : (n : ℕ) → subst_atom ws (Var n) ≡ well (replaced ws n)
   in_Var n =
       fold_out-Atom (Formed Body) (Formed Body) (ℤ → Formed Body) (atom_substituted ws)
       (body_substituted ws) (mono_substituted ws) (Var n) ∙ rw (outs-Var n) refl
 
-  pub in_Div : (p q : Body) → in_atom ws (Div p q) ≡
+  pub in_Div : (p q : Body) → subst_atom ws (Div p q) ≡
       record {
-        form = quotient_of (in_body ws p).form (in_body ws q).form;
+        form = quotient_of (subst_body ws p).form (subst_body ws q).form;
         within =
-            (in_body ws p).within && ((in_body ws q).within &&
-            is_within (quotient_of (in_body ws p).form (in_body ws q).form));
+            (subst_body ws p).within && ((subst_body ws q).within &&
+            is_within (quotient_of (subst_body ws p).form (subst_body ws q).form));
       }
   in_Div p q =
       fold_out-Atom (Formed Body) (Formed Body) (ℤ → Formed Body) (atom_substituted ws)
       (body_substituted ws) (mono_substituted ws) (Div p q) ∙ rw (outs-Div p q) refl
 
-  pub in_Mod : (p q : Body) → in_atom ws (Mod p q) ≡
+  pub in_Mod : (p q : Body) → subst_atom ws (Mod p q) ≡
       record {
-        form = remainder_of (in_body ws p).form (in_body ws q).form;
+        form = remainder_of (subst_body ws p).form (subst_body ws q).form;
         within =
-            (in_body ws p).within && ((in_body ws q).within &&
-            is_within (remainder_of (in_body ws p).form (in_body ws q).form));
+            (subst_body ws p).within && ((subst_body ws q).within &&
+            is_within (remainder_of (subst_body ws p).form (subst_body ws q).form));
       }
   in_Mod p q =
       fold_out-Atom (Formed Body) (Formed Body) (ℤ → Formed Body) (atom_substituted ws)
       (body_substituted ws) (mono_substituted ws) (Mod p q) ∙ rw (outs-Mod p q) refl
 
-  pub in_mono_is : (m : Mono) (k : ℤ) → in_mono ws m k ≡
-      times_all (well (number k)) (map (in_atom ws) (out-Mono m).atoms)
+  pub in_mono_is : (m : Mono) (k : ℤ) → subst_mono ws m k ≡
+      times_all (well (number k)) (map (subst_atom ws) (out-Mono m).atoms)
   in_mono_is m k =
       ap (λ (g : ℤ → Formed Body). g k) (fold_out-Mono (Formed Body) (Formed Body) (ℤ → Formed Body)
       (atom_substituted ws) (body_substituted ws) (mono_substituted ws) m)
 
   abbrev pub term_in : Mono × ℤ → (ℤ → Formed Body) × ℤ
-  term_in t = (in_mono ws t.0, t.1)
+  term_in t = (subst_mono ws t.0, t.1)
 
-  pub in_body_is : (b : Body) → in_body ws b ≡
+  pub in_body_is : (b : Body) → subst_body ws b ≡
       plus_all (well (of_terms [])) (map term_in (out-Body b).terms)
   in_body_is b =
       fold_out-Body (Formed Body) (Formed Body) (ℤ → Formed Body) (atom_substituted ws)
@@ -69,7 +69,7 @@ pub times_false : (xs : List (Formed Body)) (done : Formed Body) → done.within
 times_false [] done h = h
 times_false (x ∷ xs) done h =
     times_false xs (record {
-      form = multiplied done.form x.form;
+      form = body_product done.form x.form;
       within = done.within &&
           (x.within && mul_within done.form x.form);
     })
@@ -80,34 +80,34 @@ plus_false : (ts : List ((ℤ → Formed Body) × ℤ)) (done : Formed Body) →
 plus_false [] done h = h
 plus_false (t ∷ ts) done h =
     plus_false ts (record {
-      form = added done.form (t.0 t.1).form;
+      form = body_sum done.form (t.0 t.1).form;
       within = done.within &&
-          ((t.0 t.1).within && is_within (added done.form (t.0 t.1).form));
+          ((t.0 t.1).within && is_within (body_sum done.form (t.0 t.1).form));
     })
-    (and_left done.within ((t.0 t.1).within && is_within (added done.form (t.0 t.1).form)) h)
+    (and_left done.within ((t.0 t.1).within && is_within (body_sum done.form (t.0 t.1).form)) h)
 
 -- ---- products
 
 -- the product so far, times the atoms that are left, is the whole
 pub record Multiplying (ws : List (ℕ × Body)) (product : Body) (rest : List Atom)
     (whole : Formed Body) : Type 0 where
-  pub made : times_all (well product) (map (in_atom ws) rest) ≡ whole
+  pub made : times_all (well product) (map (subst_atom ws) rest) ≡ whole
 
 module _ (ws : List (ℕ × Body)) {product : Body} {whole : Formed Body} (xs : List Atom) (i : ℕ)
     {x : Atom} (h : i < length xs) (is : x ≡ get_or xs i x)
     (m : Multiplying ws product (drop i xs) whole) where
   abbrev next_atom : Formed Body
-  next_atom = in_atom ws x
+  next_atom = subst_atom ws x
 
   abbrev next_product : Formed Body
   next_product =
       record {
-        form = multiplied product next_atom.form;
+        form = body_product product next_atom.form;
         within = true &&
             (next_atom.within && mul_within product next_atom.form);
       }
 
-  opened_atom : times_all next_product (map (in_atom ws) (drop (suc i) xs)) ≡ whole
+  opened_atom : times_all next_product (map (subst_atom ws) (drop (suc i) xs)) ≡ whole
   opened_atom =
       (subst (λ rest. Multiplying ws product rest whole)
       (drop-cons xs i x h ∙ ap (λ y. y ∷ drop (suc i) xs) (sym is)) m).made
@@ -115,36 +115,36 @@ module _ (ws : List (ℕ × Body)) {product : Body} {whole : Formed Body} (xs : 
   pub no_factor : next_atom.within ≡ false → whole.within ≡ false
   no_factor f =
       ap (λ (w : Formed Body). w.within) (sym opened_atom) ∙
-      times_false (map (in_atom ws) (drop (suc i) xs)) next_product
+      times_false (map (subst_atom ws) (drop (suc i) xs)) next_product
       (and_left next_atom.within (mul_within product next_atom.form) f)
 
   pub no_times : {factor : Body} → factor ≡ next_atom.form → mul_within product factor ≡ false →
       whole.within ≡ false
   no_times e f =
       ap (λ (w : Formed Body). w.within) (sym opened_atom) ∙
-      times_false (map (in_atom ws) (drop (suc i) xs)) next_product
+      times_false (map (subst_atom ws) (drop (suc i) xs)) next_product
       (and_right next_atom.within (mul_within product next_atom.form)
       (ap (mul_within product) (sym e) ∙ f))
 
   pub after_times : {factor next : Body} → factor ≡ next_atom.form → next_atom.within ≡ true →
-      next ≡ multiplied product factor → mul_within product factor ≡ true →
+      next ≡ body_product product factor → mul_within product factor ≡ true →
       Multiplying ws next (drop (i + 1) xs) whole
   after_times {factor} {next} e f g k =
       subst (λ n. Multiplying ws next (drop n xs) whole) (sym (add-one i)) (record {
         made =
             (λ j. times_all (record {
-              form = (g ∙ ap (multiplied product) e) j;
+              form = (g ∙ ap (body_product product) e) j;
               within =
                   sym (λ l. f l && (ap (mul_within product) (sym e) ∙ k) l) j;
             })
-            (map (in_atom ws) (drop (suc i) xs))) ∙ opened_atom;
+            (map (subst_atom ws) (drop (suc i) xs))) ∙ opened_atom;
       })
 
 pub times_begin : (ws : List (ℕ × Body)) (m : Mono) (k : ℤ) {product : Body} {xs : List Atom} → xs ≡
-    (out-Mono m).atoms → product ≡ number k → Multiplying ws product (drop 0 xs) (in_mono ws m k)
+    (out-Mono m).atoms → product ≡ number k → Multiplying ws product (drop 0 xs) (subst_mono ws m k)
 times_begin ws m k {product} {xs} is e =
     record {
-      made = (λ j. times_all (well (e j)) (map (in_atom ws) (is j))) ∙
+      made = (λ j. times_all (well (e j)) (map (subst_atom ws) (is j))) ∙
           sym (in_mono_is ws m k);
     }
 
@@ -164,14 +164,14 @@ module _ (ws : List (ℕ × Body)) {sum : Body} {whole : Formed Body} (ts : List
     {t : Mono × ℤ} (h : i < length ts) (is : t ≡ get_or ts i t)
     (m : Adding ws sum (drop i ts) whole) where
   abbrev next_term : Formed Body
-  next_term = in_mono ws t.0 t.1
+  next_term = subst_mono ws t.0 t.1
 
   abbrev next_sum : Formed Body
   next_sum =
       record {
-        form = added sum next_term.form;
+        form = body_sum sum next_term.form;
         within = true &&
-            (next_term.within && is_within (added sum next_term.form));
+            (next_term.within && is_within (body_sum sum next_term.form));
       }
 
   opened_term : plus_all next_sum (map (term_in ws) (drop (suc i) ts)) ≡ whole
@@ -183,32 +183,32 @@ module _ (ws : List (ℕ × Body)) {sum : Body} {whole : Formed Body} (ts : List
   no_term f =
       ap (λ (w : Formed Body). w.within) (sym opened_term) ∙
       plus_false (map (term_in ws) (drop (suc i) ts)) next_sum
-      (and_left next_term.within (is_within (added sum next_term.form)) f)
+      (and_left next_term.within (is_within (body_sum sum next_term.form)) f)
 
-  pub no_plus : {product : Body} → product ≡ next_term.form → is_within (added sum product) ≡
+  pub no_plus : {product : Body} → product ≡ next_term.form → is_within (body_sum sum product) ≡
       false → whole.within ≡ false
   no_plus e f =
       ap (λ (w : Formed Body). w.within) (sym opened_term) ∙
       plus_false (map (term_in ws) (drop (suc i) ts)) next_sum
-      (and_right next_term.within (is_within (added sum next_term.form))
-      (ap (λ p. is_within (added sum p)) (sym e) ∙ f))
+      (and_right next_term.within (is_within (body_sum sum next_term.form))
+      (ap (λ p. is_within (body_sum sum p)) (sym e) ∙ f))
 
   pub after_plus : {product next : Body} → product ≡ next_term.form → next_term.within ≡ true →
-      next ≡ added sum product → is_within (added sum product) ≡ true →
+      next ≡ body_sum sum product → is_within (body_sum sum product) ≡ true →
       Adding ws next (drop (i + 1) ts) whole
   after_plus {product} {next} e f g k =
       subst (λ n. Adding ws next (drop n ts) whole) (sym (add-one i)) (record {
         made =
             (λ j. plus_all (record {
-              form = (g ∙ ap (added sum) e) j;
+              form = (g ∙ ap (body_sum sum) e) j;
               within =
-                  sym (λ l. f l && (ap (λ p. is_within (added sum p)) (sym e) ∙ k) l) j;
+                  sym (λ l. f l && (ap (λ p. is_within (body_sum sum p)) (sym e) ∙ k) l) j;
             })
             (map (term_in ws) (drop (suc i) ts))) ∙ opened_term;
       })
 
 pub plus_begin : (ws : List (ℕ × Body)) (b : Body) {sum : Body} {ts : List (Mono × ℤ)} → ts ≡
-    (out-Body b).terms → sum ≡ of_terms [] → Adding ws sum (drop 0 ts) (in_body ws b)
+    (out-Body b).terms → sum ≡ of_terms [] → Adding ws sum (drop 0 ts) (subst_body ws b)
 plus_begin ws b is e =
     record { made = (λ j. plus_all (well (e j)) (map (term_in ws) (is j))) ∙ sym (in_body_is ws b) }
 

@@ -8,7 +8,7 @@ use Rattle.std.specs.Ordering.{is_lt, ordering_reverse}
 use Rattle.std.specs.declared.cmp.Ordering.{Ordering}
 use Rattle.std.specs.declared.cmp.Ordering.TheVariants.{Less, Equal, Greater}
 use Rattle.rx_plain.proofs.Integers.{zero-mul-int, add-mul-int}
-use Rattle.rx_poly.specs.Terms.{is_zero, put, placed, insert_term, add_terms, is_before, is_listed, all_keys}
+use Rattle.rx_poly.specs.Terms.{is_zero, cons_nonzero, insert_by, insert_term, add_terms, is_before, is_sparse_sorted, all_keys}
 use Rattle.rx_poly.specs.Value.{sum_terms}
 
 -- a test that answers `Less` has seen `Less`
@@ -36,36 +36,39 @@ module _ {K : Type 0} where
 
   -- a term in front is there, or it is 0 and isn't
   pub put_cases : (P : List (K × ℤ) → Type 0) (k : K) (c : ℤ) (ts : List (K × ℤ)) →
-      (is_zero c ≡ true → P ts) → (is_zero c ≡ false → P ((k, c) ∷ ts)) → P (put k c ts)
+      (is_zero c ≡ true → P ts) → (is_zero c ≡ false → P ((k, c) ∷ ts)) → P (cons_nonzero k c ts)
   put_cases P k c ts f g = by_put P k c ts f g (is_zero c) refl
 
-  pub put-nonzero : (k : K) (c : ℤ) (ts : List (K × ℤ)) → is_zero c ≡ false → put k c ts ≡ (k, c) ∷
+  pub cons_nonzero-nonzero : (k : K) (c : ℤ) (ts : List (K × ℤ)) → is_zero c ≡ false →
+      cons_nonzero k c ts ≡ (k, c) ∷
       ts
-  put-nonzero k c ts e = ap (λ b. cond b ts ((k, c) ∷ ts)) e
+  cons_nonzero-nonzero k c ts e = ap (λ b. cond b ts ((k, c) ∷ ts)) e
 
   -- ---- the keys of a sum come from its parts
 
-  pub all_keys-put : (test : K → Bool) (k : K) (c : ℤ) (ts : List (K × ℤ)) → test k ≡ true →
-      all_keys test ts ≡ true → all_keys test (put k c ts) ≡ true
-  all_keys-put test k c ts h g =
+  pub all_keys-cons_nonzero : (test : K → Bool) (k : K) (c : ℤ) (ts : List (K × ℤ)) → test k ≡
+      true →
+      all_keys test ts ≡ true → all_keys test (cons_nonzero k c ts) ≡ true
+  all_keys-cons_nonzero test k c ts h g =
       put_cases (λ us. all_keys test us ≡ true) k c ts (λ _. g)
       (λ _. and_from (test k) (all_keys test ts) h g)
 
-  all_keys-placed : (test : K → Bool) (r : Ordering) (k : K) (c : ℤ) (u : K × ℤ)
+  all_keys-insert_by : (test : K → Bool) (r : Ordering) (k : K) (c : ℤ) (u : K × ℤ)
       (us further : List (K × ℤ)) → test k ≡ true → test u.0 ≡ true → all_keys test us ≡ true →
-      all_keys test further ≡ true → all_keys test (placed r k c u us further) ≡ true
-  all_keys-placed test Less k c u us further h g w f =
-      all_keys-put test k c (u ∷ us) h (and_from (test u.0) (all_keys test us) g w)
-  all_keys-placed test Equal k c u us further h g w f = all_keys-put test k (c +ℤ u.1) us h w
-  all_keys-placed test Greater k c u us further h g w f =
+      all_keys test further ≡ true → all_keys test (insert_by r k c u us further) ≡ true
+  all_keys-insert_by test Less k c u us further h g w f =
+      all_keys-cons_nonzero test k c (u ∷ us) h (and_from (test u.0) (all_keys test us) g w)
+  all_keys-insert_by test Equal k c u us further h g w f =
+      all_keys-cons_nonzero test k (c +ℤ u.1) us h w
+  all_keys-insert_by test Greater k c u us further h g w f =
       and_from (test u.0) (all_keys test further) g f
 
   pub all_keys-insert : (test : K → Bool) (R : K → K → Ordering) (k : K) (c : ℤ) (us : List (K × ℤ))
       → test k ≡ true → all_keys test us ≡ true → all_keys test (insert_term R k c us) ≡ true
-  all_keys-insert test R k c [] h g = all_keys-put test k c [] h refl
+  all_keys-insert test R k c [] h g = all_keys-cons_nonzero test k c [] h refl
   all_keys-insert test R k c (u ∷ us) h g =
       let parts = and_parts (test u.0) (all_keys test us) g in
-      all_keys-placed test (R k u.0) k c u us (insert_term R k c us) h parts.0 parts.1
+      all_keys-insert_by test (R k u.0) k c u us (insert_term R k c us) h parts.0 parts.1
       (all_keys-insert test R k c us h parts.1)
 
   pub all_keys-add : (test : K → Bool) (R : K → K → Ordering) (ts us : List (K × ℤ)) →
@@ -86,33 +89,35 @@ module _ {K : Type 0} where
 
   -- ---- the value of a sum
 
-  pub sum-put : (f : K → ℤ) (k : K) (c : ℤ) (ts : List (K × ℤ)) → sum_terms f (put k c ts) ≡
+  pub sum-cons_nonzero : (f : K → ℤ) (k : K) (c : ℤ) (ts : List (K × ℤ)) →
+      sum_terms f (cons_nonzero k c ts) ≡
       c *ℤ f k +ℤ sum_terms f ts
-  sum-put f k c ts = put_cases (λ us. sum_terms f us ≡ c *ℤ f k +ℤ sum_terms f ts) k c ts
+  sum-cons_nonzero f k c ts = put_cases (λ us. sum_terms f us ≡ c *ℤ f k +ℤ sum_terms f ts) k c ts
       (λ e. let nothing : c *ℤ f k ≡ pos 0 = (λ i. zero_is c e i *ℤ f k) ∙ zero-mul-int (f k) in
       omega (arith, ints))
       (λ _. refl)
 
-  sum-placed : (f : K → ℤ) (R : K → K → Ordering) (same : (x y : K) → R x y ≡ Equal → x ≡ y) (k : K)
+  sum-insert_by : (f : K → ℤ) (R : K → K → Ordering) (same : (x y : K) → R x y ≡ Equal → x ≡ y)
+      (k : K)
       (c : ℤ) (u : K × ℤ) (us further : List (K × ℤ)) → sum_terms f further ≡
       c *ℤ f k +ℤ sum_terms f us → (r : Ordering) → R k u.0 ≡ r →
-      sum_terms f (placed r k c u us further) ≡ c *ℤ f k +ℤ (u.1 *ℤ f u.0 +ℤ sum_terms f us)
-  sum-placed f R same k c u us further h Less e = sum-put f k c (u ∷ us)
-  sum-placed f R same k c u us further h Equal e =
+      sum_terms f (insert_by r k c u us further) ≡ c *ℤ f k +ℤ (u.1 *ℤ f u.0 +ℤ sum_terms f us)
+  sum-insert_by f R same k c u us further h Less e = sum-cons_nonzero f k c (u ∷ us)
+  sum-insert_by f R same k c u us further h Equal e =
       let one : f k ≡ f u.0 = ap f (same k u.0 e) in
       let split : (c +ℤ u.1) *ℤ f k ≡ c *ℤ f k +ℤ u.1 *ℤ f u.0 = add-mul-int c u.1 (f k) ∙
       (λ i. c *ℤ f k +ℤ u.1 *ℤ one i) in
-      let whole = sum-put f k (c +ℤ u.1) us in
+      let whole = sum-cons_nonzero f k (c +ℤ u.1) us in
       omega (arith, ints)
-  sum-placed f R same k c u us further h Greater e = omega (arith, ints)
+  sum-insert_by f R same k c u us further h Greater e = omega (arith, ints)
 
   -- a term that is inserted adds its value
   pub sum-insert : (f : K → ℤ) (R : K → K → Ordering) (same : (x y : K) → R x y ≡ Equal → x ≡ y)
       (k : K) (c : ℤ) (us : List (K × ℤ)) → sum_terms f (insert_term R k c us) ≡
       c *ℤ f k +ℤ sum_terms f us
-  sum-insert f R same k c [] = sum-put f k c []
+  sum-insert f R same k c [] = sum-cons_nonzero f k c []
   sum-insert f R same k c (u ∷ us) =
-      sum-placed f R same k c u us (insert_term R k c us) (sum-insert f R same k c us) (R k u.0)
+      sum-insert_by f R same k c u us (insert_term R k c us) (sum-insert f R same k c us) (R k u.0)
       refl
 
   -- the sum of two sums has the value of both together
@@ -141,43 +146,49 @@ module _ {K : Type 0} where
           all_keys-weaker (λ x. is_lt (R k x)) (λ x. is_lt (R j x)) us
           (λ x g. ap is_lt (o.trans j k x e (lt_is (R k x) g))) h
 
-      pub listed-put : (k : K) (c : ℤ) (ts : List (K × ℤ)) → is_before R k ts ≡ true →
-          is_listed R ts ≡ true → is_listed R (put k c ts) ≡ true
-      listed-put k c ts h g = put_cases (λ us. is_listed R us ≡ true) k c ts (λ _. g)
-          (λ e. and_from (not (is_zero c)) (is_before R k ts && is_listed R ts) (ap not e)
-          (and_from (is_before R k ts) (is_listed R ts) h g))
+      pub listed-cons_nonzero : (k : K) (c : ℤ) (ts : List (K × ℤ)) → is_before R k ts ≡ true →
+          is_sparse_sorted R ts ≡ true → is_sparse_sorted R (cons_nonzero k c ts) ≡ true
+      listed-cons_nonzero k c ts h g =
+          put_cases (λ us. is_sparse_sorted R us ≡ true) k c ts (λ _. g)
+          (λ e. and_from (not (is_zero c)) (is_before R k ts && is_sparse_sorted R ts) (ap not e)
+          (and_from (is_before R k ts) (is_sparse_sorted R ts) h g))
 
       -- the three facts of a listed sum that has a first term
       pub record Listed (t : K × ℤ) (ts : List (K × ℤ)) : Type 0 where
         pub nonzero : is_zero t.1 ≡ false
         pub before : is_before R t.0 ts ≡ true
-        pub rest : is_listed R ts ≡ true
+        pub rest : is_sparse_sorted R ts ≡ true
 
       not_true : (b : Bool) → not b ≡ true → b ≡ false
       not_true true e = cc
       not_true false e = refl
 
-      pub listed_parts : (t : K × ℤ) (ts : List (K × ℤ)) → is_listed R (t ∷ ts) ≡ true → Listed t ts
+      pub listed_parts : (t : K × ℤ) (ts : List (K × ℤ)) → is_sparse_sorted R (t ∷ ts) ≡ true →
+          Listed t ts
       listed_parts t ts h =
-          let p = and_parts (not (is_zero t.1)) (is_before R t.0 ts && is_listed R ts) h in
-          let q = and_parts (is_before R t.0 ts) (is_listed R ts) p.1 in
+          let p = and_parts (not (is_zero t.1)) (is_before R t.0 ts && is_sparse_sorted R ts) h in
+          let q = and_parts (is_before R t.0 ts) (is_sparse_sorted R ts) p.1 in
           record { nonzero = not_true (is_zero t.1) p.0; before = q.0; rest = q.1 }
 
-      pub listed_from : (t : K × ℤ) (ts : List (K × ℤ)) → Listed t ts → is_listed R (t ∷ ts) ≡ true
+      pub listed_from : (t : K × ℤ) (ts : List (K × ℤ)) → Listed t ts →
+          is_sparse_sorted R (t ∷ ts) ≡ true
       listed_from t ts l =
-          and_from (not (is_zero t.1)) (is_before R t.0 ts && is_listed R ts) (ap not l.nonzero)
-          (and_from (is_before R t.0 ts) (is_listed R ts) l.before l.rest)
+          and_from (not (is_zero t.1)) (is_before R t.0 ts && is_sparse_sorted R ts)
+          (ap not l.nonzero)
+          (and_from (is_before R t.0 ts) (is_sparse_sorted R ts) l.before l.rest)
 
-      listed-placed : (k : K) (c : ℤ) (u : K × ℤ) (us : List (K × ℤ)) → Listed u us →
-          is_listed R (insert_term R k c us) ≡ true → (r : Ordering) → R k u.0 ≡ r →
-          is_listed R (placed r k c u us (insert_term R k c us)) ≡ true
-      listed-placed k c u us l h Less e =
-          listed-put k c (u ∷ us) (and_from (is_lt (R k u.0)) (is_before R k us) (ap is_lt e)
+      listed-insert_by : (k : K) (c : ℤ) (u : K × ℤ) (us : List (K × ℤ)) → Listed u us →
+          is_sparse_sorted R (insert_term R k c us) ≡ true → (r : Ordering) → R k u.0 ≡ r →
+          is_sparse_sorted R (insert_by r k c u us (insert_term R k c us)) ≡ true
+      listed-insert_by k c u us l h Less e =
+          listed-cons_nonzero k c (u ∷ us) (and_from (is_lt (R k u.0)) (is_before R k us)
+          (ap is_lt e)
           (before_trans k u.0 us e l.before)) (listed_from u us l)
-      listed-placed k c u us l h Equal e =
-          listed-put k (c +ℤ u.1) us (subst (λ x. is_before R x us ≡ true) (sym (same k u.0 e))
+      listed-insert_by k c u us l h Equal e =
+          listed-cons_nonzero k (c +ℤ u.1) us
+          (subst (λ x. is_before R x us ≡ true) (sym (same k u.0 e))
           l.before) l.rest
-      listed-placed k c u us l h Greater e =
+      listed-insert_by k c u us l h Greater e =
           listed_from u (insert_term R k c us) (record {
             nonzero = l.nonzero;
             before = all_keys-insert (λ x. is_lt (R u.0 x)) R k c us
@@ -186,26 +197,26 @@ module _ {K : Type 0} where
           })
 
       -- a listed sum stays listed where a term is inserted
-      pub listed-insert : (k : K) (c : ℤ) (us : List (K × ℤ)) → is_listed R us ≡ true →
-          is_listed R (insert_term R k c us) ≡ true
-      listed-insert k c [] h = listed-put k c [] refl refl
+      pub listed-insert : (k : K) (c : ℤ) (us : List (K × ℤ)) → is_sparse_sorted R us ≡ true →
+          is_sparse_sorted R (insert_term R k c us) ≡ true
+      listed-insert k c [] h = listed-cons_nonzero k c [] refl refl
       listed-insert k c (u ∷ us) h =
-          let l = listed_parts u us h in listed-placed k c u us l (listed-insert k c us l.rest)
+          let l = listed_parts u us h in listed-insert_by k c u us l (listed-insert k c us l.rest)
           (R k u.0) refl
 
       -- the sum of two listed sums is listed
-      pub listed-add : (ts us : List (K × ℤ)) → is_listed R us ≡ true →
-          is_listed R (add_terms R ts us) ≡ true
+      pub listed-add : (ts us : List (K × ℤ)) → is_sparse_sorted R us ≡ true →
+          is_sparse_sorted R (add_terms R ts us) ≡ true
       listed-add [] us h = h
       listed-add (t ∷ ts) us h = listed-insert t.0 t.1 (add_terms R ts us) (listed-add ts us h)
 
       -- ---- merging from the front
 
       insert-before : (k : K) (c : ℤ) (us : List (K × ℤ)) → is_before R k us ≡ true →
-          insert_term R k c us ≡ put k c us
+          insert_term R k c us ≡ cons_nonzero k c us
       insert-before k c [] h = refl
       insert-before k c (u ∷ us) h =
-          ap (λ r. placed r k c u us (insert_term R k c us))
+          ap (λ r. insert_by r k c u us (insert_term R k c us))
           (lt_is (R k u.0) (and_parts (is_lt (R k u.0)) (is_before R k us) h).0)
 
       -- a first term of the left sum that comes before all others leads the sum
@@ -214,7 +225,7 @@ module _ {K : Type 0} where
       add-left t ts us l h =
           insert-before t.0 t.1 (add_terms R ts us)
           (all_keys-add (λ x. is_lt (R t.0 x)) R ts us l.before h) ∙
-          put-nonzero t.0 t.1 (add_terms R ts us) l.nonzero
+          cons_nonzero-nonzero t.0 t.1 (add_terms R ts us) l.nonzero
 
       -- so does such a term of the right sum
       pub add-right : (u : K × ℤ) (ts us : List (K × ℤ)) → is_before R u.0 ts ≡ true →
@@ -223,14 +234,14 @@ module _ {K : Type 0} where
       add-right u (t ∷ ts) us h =
           let p = and_parts (is_lt (R u.0 t.0)) (is_before R u.0 ts) h in
           ap (insert_term R t.0 t.1) (add-right u ts us p.1)
-          ∙ ap (λ r. placed r t.0 t.1 u (add_terms R ts us)
+          ∙ ap (λ r. insert_by r t.0 t.1 u (add_terms R ts us)
           (insert_term R t.0 t.1 (add_terms R ts us))) (turned u.0 t.0 (lt_is (R u.0 t.0) p.0))
 
       -- two first terms of one key are added
       pub add-both : (t u : K × ℤ) (ts us : List (K × ℤ)) → Listed t ts → R t.0 u.0 ≡ Equal →
-          add_terms R (t ∷ ts) (u ∷ us) ≡ put t.0 (t.1 +ℤ u.1) (add_terms R ts us)
+          add_terms R (t ∷ ts) (u ∷ us) ≡ cons_nonzero t.0 (t.1 +ℤ u.1) (add_terms R ts us)
       add-both t u ts us l e =
           ap (insert_term R t.0 t.1) (add-right u ts us
           (subst (λ x. is_before R x ts ≡ true) (same t.0 u.0 e) l.before))
-          ∙ ap (λ r. placed r t.0 t.1 u (add_terms R ts us)
+          ∙ ap (λ r. insert_by r t.0 t.1 u (add_terms R ts us)
           (insert_term R t.0 t.1 (add_terms R ts us))) e

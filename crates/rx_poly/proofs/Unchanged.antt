@@ -11,14 +11,14 @@ use Rattle.std.proofs.lemmas.List.Sums.{sum_by-append, sum_by-cons}
 use Rattle.rx_plain.proofs.Integers.{mul-one-int}
 use Rattle.rx_poly.specs.Constants.{variable}
 use Rattle.rx_poly.specs.Division.{parts, parts_of, by_number, atom_alone, division, quotient_of, remainder_of}
-use Rattle.rx_poly.specs.Limits.{of_terms, of_atoms, added, is_within, atom_size, mono_size, body_size, atom_depth, mono_depth, body_depth, fits_i128, all_fit, is_small}
+use Rattle.rx_poly.specs.Limits.{of_terms, of_atoms, body_sum, is_within, atom_size, mono_size, body_size, atom_depth, mono_depth, body_depth, fits_i128, all_fit, is_small}
 use Rattle.rx_plain.specs.Formed.{Formed}
 use Rattle.rx_poly.specs.Normal.{is_normal, is_normal_atom, is_normal_mono, is_open, is_empty, is_number, is_poly, is_sorted}
 use Rattle.rx_poly.specs.Order.{atom_cmp, mono_cmp}
-use Rattle.rx_poly.specs.Products.{join_sorted, multiplied, mul_within, running, running_within}
+use Rattle.rx_poly.specs.Products.{join_sorted, body_product, mul_within, sum_of_products, sum_of_products_within}
 use Rattle.rx_poly.specs.Reading.{constant_of}
-use Rattle.rx_poly.specs.Substitution.{replaced, times_all, plus_all, in_atom, in_mono, in_body}
-use Rattle.rx_poly.specs.Terms.{add_terms, all_keys, is_listed, is_zero}
+use Rattle.rx_poly.specs.Substitution.{replaced, times_all, plus_all, subst_atom, subst_mono, subst_body}
+use Rattle.rx_poly.specs.Terms.{add_terms, all_keys, is_sparse_sorted, is_zero}
 use Rattle.rx_poly.proofs.Constants.{number-nonzero}
 use Rattle.rx_poly.proofs.Levels.{terms-of_terms, atoms-of_atoms, mono_size_is, mono_depth_is, body_size_is, body_depth_is, is_normal_mono_is, div_is_normal, mod_is_normal, size_Div, size_Mod, depth_Div, depth_Mod, small_parts}
 use Rattle.rx_poly.proofs.OrderLemmas.{mono_total}
@@ -38,7 +38,7 @@ use Rattle.rx_poly.proofs.VariableLaws.{variables_Var, variables_Div, variables_
 -- ---- a division that no rule computes stays an atom
 
 -- a first term that is listed isn't 0
-first_nonzero : (t : Mono × ℤ) (ts : List (Mono × ℤ)) → is_listed mono_cmp (t ∷ ts) ≡ true →
+first_nonzero : (t : Mono × ℤ) (ts : List (Mono × ℤ)) → is_sparse_sorted mono_cmp (t ∷ ts) ≡ true →
     is_zero t.1 ≡ false
 first_nonzero t ts h = (listed_parts mono_cmp mono_total same_mono t ts h).nonzero
 
@@ -51,7 +51,7 @@ no_constant : (ts : List (Mono × ℤ)) → is_number ts ≡ false → constant_
 no_constant [] e = cc
 no_constant (t ∷ ts) e = ap (λ b. cond b (Some t.1) None) e
 
-by_divisor : (ps qs : List (Mono × ℤ)) → is_listed mono_cmp qs ≡ true → is_empty qs ≡ false →
+by_divisor : (ps qs : List (Mono × ℤ)) → is_sparse_sorted mono_cmp qs ≡ true → is_empty qs ≡ false →
     (b : Bool) → is_number qs ≡ b → (is_number ps && b) ≡ false →
     parts_of (constant_of ps) (constant_of qs) ≡ parts_of None None
 by_divisor ps qs l e false n h = ap (parts_of (constant_of ps)) (no_constant qs n)
@@ -93,7 +93,8 @@ record Last (t : Mono × ℤ) : Type 0 where
   pub size : mono_size t.0 ≤ 4096
   pub depth : mono_depth t.0 ≤ 64
 
-last_nonzero : (ts : List (Mono × ℤ)) (t : Mono × ℤ) → is_listed mono_cmp (ts ++ t ∷ []) ≡ true →
+last_nonzero : (ts : List (Mono × ℤ)) (t : Mono × ℤ) → is_sparse_sorted mono_cmp (ts ++ t ∷ []) ≡
+    true →
     is_zero t.1 ≡ false
 last_nonzero [] t h = first_nonzero t [] h
 last_nonzero (u ∷ us) t h =
@@ -150,17 +151,17 @@ module _ (ws : List (ℕ × Body)) where
   abbrev KeptAtom : Atom → Type 0
   KeptAtom x =
       Stay (atom_variables x) → is_normal_atom x ≡ true → 1 + atom_size x ≤ 4096 → atom_depth x ≤
-      64 → in_atom ws x ≡ well (atom_alone x)
+      64 → subst_atom ws x ≡ well (atom_alone x)
 
   abbrev KeptBody : Body → Type 0
   KeptBody p =
       Stay (variables p) → is_normal p ≡ true → body_size p ≤ 4096 → body_depth p ≤ 64 →
-      in_body ws p ≡ well p
+      subst_body ws p ≡ well p
 
   abbrev KeptMono : Mono → Type 0
   KeptMono m =
       (k : ℤ) → Stay (mono_variables m) → is_normal_mono m ≡ true → is_zero k ≡ false →
-      fits_i128 k ≡ true → mono_size m ≤ 4096 → mono_depth m ≤ 64 → in_mono ws m k ≡
+      fits_i128 k ≡ true → mono_size m ≤ 4096 → mono_depth m ≤ 64 → subst_mono ws m k ≡
       well (of_terms ((m, k) ∷ []))
 
   abbrev PartAtom : Type 0
@@ -186,7 +187,7 @@ module _ (ws : List (ℕ × Body)) where
   both : (p q : PartBody) → Stay (variables p.0 ++ variables q.0) →
       ((is_normal p.0 && is_normal q.0) && is_open p.0 q.0) ≡ true → body_size p.0 + body_size q.0 ≤
       4095 → max (body_depth p.0) (body_depth q.0) ≤ 63
-      → (in_body ws p.0 ≡ well p.0) × (in_body ws q.0 ≡ well q.0) ×
+      → (subst_body ws p.0 ≡ well p.0) × (subst_body ws q.0 ≡ well q.0) ×
       (parts p.0 q.0 ≡ parts_of None None)
   both p q st n s d =
       let v = all_parts (λ v. replaced ws v ≡ variable v) (variables p.0) (variables q.0) st in
@@ -212,7 +213,7 @@ module _ (ws : List (ℕ × Body)) where
         within = (e.0 i).within &&
             ((e.1 i).within && is_within (quotient_of (e.0 i).form (e.1 i).form));
       })
-      ∙ divided int_div (Div p.0 q.0) p.0 q.0 (in_body ws p.0) (in_body ws q.0) e.0 e.1 e.2
+      ∙ divided int_div (Div p.0 q.0) p.0 q.0 (subst_body ws p.0) (subst_body ws q.0) e.0 e.1 e.2
       (alone_within (Div p.0 q.0) s d))
   atom_level (Atom-F.Mod p q) = subst KeptAtom (sym (rolls-Mod p.0 q.0)) (λ st h s d.
       let size = size_Mod p.0 q.0 in
@@ -225,7 +226,7 @@ module _ (ws : List (ℕ × Body)) where
         within = (e.0 i).within &&
             ((e.1 i).within && is_within (remainder_of (e.0 i).form (e.1 i).form));
       })
-      ∙ divided int_rem (Mod p.0 q.0) p.0 q.0 (in_body ws p.0) (in_body ws q.0) e.0 e.1 e.2
+      ∙ divided int_rem (Mod p.0 q.0) p.0 q.0 (subst_body ws p.0) (subst_body ws q.0) e.0 e.1 e.2
       (alone_within (Mod p.0 q.0) s d))
 
   atom_step : (x : Atom-F Atom Body Mono) (y : Atom-F PartAtom PartBody PartMono) → bare_atom y ≡
@@ -238,7 +239,7 @@ module _ (ws : List (ℕ × Body)) where
   times_one : (done : List Atom) (x : Atom) (k : ℤ) → SmallAtoms (done ++ x ∷ []) → fits_i128 k ≡
       true
       → record {
-        form = multiplied (of_terms ((of_atoms done, k) ∷ [])) (atom_alone x);
+        form = body_product (of_terms ((of_atoms done, k) ∷ [])) (atom_alone x);
         within =
             true && (true && mul_within (of_terms ((of_atoms done, k) ∷ [])) (atom_alone x));
       } ≡
@@ -252,8 +253,8 @@ module _ (ws : List (ℕ × Body)) where
       join-last done x s.sorted in
       let w = term_within (done ++ x ∷ []) k s f in
       (λ i. record {
-        form = of_terms (running [] (terms-of_terms left i) (terms-of_terms right i));
-        within = running_within [] (terms-of_terms left i) (terms-of_terms right i);
+        form = of_terms (sum_of_products [] (terms-of_terms left i) (terms-of_terms right i));
+        within = sum_of_products_within [] (terms-of_terms left i) (terms-of_terms right i);
       })
       ∙ (λ i. record {
         form = of_terms ((of_atoms (made i), mul-one-int k i) ∷ []);
@@ -273,7 +274,8 @@ module _ (ws : List (ℕ × Body)) where
   times_kept : (ps : List PartAtom) (done : List Atom) (k : ℤ) →
       Stay (flat_map atom_variables (bare_atoms ps)) → list_all is_normal_atom (bare_atoms ps) ≡
       true → SmallAtoms (done ++ bare_atoms ps) → fits_i128 k ≡ true
-      → times_all (well (of_terms ((of_atoms done, k) ∷ []))) (map (in_atom ws) (bare_atoms ps)) ≡
+      → times_all (well (of_terms ((of_atoms done, k) ∷ []))) (map (subst_atom ws) (bare_atoms ps))
+      ≡
       well (of_terms ((of_atoms (done ++ bare_atoms ps), k) ∷ []))
   times_kept [] done k st n s f =
       ap (λ xs. well (of_terms ((of_atoms xs, k) ∷ []))) (sym (append-nil done))
@@ -290,12 +292,12 @@ module _ (ws : List (ℕ × Body)) where
       let last = last_small done p.0 first in
       let factor = p.1 v.0 m.0 last.0 last.1 in
       (λ i. times_all (record {
-        form = multiplied (of_terms ((of_atoms done, k) ∷ [])) (factor i).form;
+        form = body_product (of_terms ((of_atoms done, k) ∷ [])) (factor i).form;
         within =
             true && ((factor i).within && mul_within (of_terms ((of_atoms done, k) ∷ []))
             (factor i).form);
-      }) (map (in_atom ws) (bare_atoms ps)))
-      ∙ ap (λ w. times_all w (map (in_atom ws) (bare_atoms ps))) (times_one done p.0 k first f)
+      }) (map (subst_atom ws) (bare_atoms ps)))
+      ∙ ap (λ w. times_all w (map (subst_atom ws) (bare_atoms ps))) (times_one done p.0 k first f)
       ∙ times_kept ps (done ++ p.0 ∷ []) k v.1 m.1 whole f
       ∙ ap (λ xs. well (of_terms ((of_atoms xs, k) ∷ []))) together
 
@@ -313,7 +315,7 @@ module _ (ws : List (ℕ × Body)) where
         depth = subst (λ j. j ≤ 64) (mono_depth_is m) d;
       } in
       in_mono_is ws m k
-      ∙ (λ i. times_all (well (number-nonzero k z i)) (map (in_atom ws) (atoms i)))
+      ∙ (λ i. times_all (well (number-nonzero k z i)) (map (subst_atom ws) (atoms i)))
       ∙ times_kept y.atoms [] k (subst Stay (mono_variables_is m ∙
       ap (flat_map atom_variables) atoms) st)
       (sym (ap (list_all is_normal_atom) atoms) ∙ normal.0) (subst SmallAtoms atoms small) f
@@ -334,9 +336,9 @@ module _ (ws : List (ℕ × Body)) where
   -- a listed sum, plus one term after it
   plus_one : (done : List (Mono × ℤ)) (t : Mono × ℤ) → SmallTerms (done ++ t ∷ [])
       → record {
-        form = added (of_terms done) (of_terms (t ∷ []));
+        form = body_sum (of_terms done) (of_terms (t ∷ []));
         within = true &&
-            (true && is_within (added (of_terms done) (of_terms (t ∷ []))));
+            (true && is_within (body_sum (of_terms done) (of_terms (t ∷ []))));
       } ≡
       well (of_terms (done ++ t ∷ []))
   plus_one done t s =
@@ -371,8 +373,9 @@ module _ (ws : List (ℕ × Body)) where
       let last = last_term done t first in
       let product = (p.0).1 p.1 v.0 m.0 last.nonzero last.fits last.size last.depth in
       (λ i. plus_all (record {
-        form = added (of_terms done) (product i).form;
-        within = true && ((product i).within && is_within (added (of_terms done) (product i).form));
+        form = body_sum (of_terms done) (product i).form;
+        within =
+            true && ((product i).within && is_within (body_sum (of_terms done) (product i).form));
       }) (map (term_in ws) (bare_terms ps)))
       ∙ ap (λ w. plus_all w (map (term_in ws) (bare_terms ps))) (plus_one done t first)
       ∙ plus_kept ps (done ++ t ∷ []) v.1 m.1 whole
@@ -403,16 +406,16 @@ module _ (ws : List (ℕ × Body)) where
   -- where each variable of a polynomial stays what it is, so does the polynomial, and nothing
   -- passes the limits
   pub unchanged : (p : Body) → is_poly p ≡ true →
-      All (λ v. replaced ws v ≡ variable v) (variables p) → in_body ws p ≡ well p
+      All (λ v. replaced ws v ≡ variable v) (variables p) → subst_body ws p ≡ well p
   unchanged p h st =
       let n = and_parts (is_normal p) (is_small p) h in
       let s = small_parts p n.1 in
       kept p st n.0 s.0 s.1
 
   pub same_form : (p : Body) → is_poly p ≡ true →
-      All (λ v. replaced ws v ≡ variable v) (variables p) → (in_body ws p).form ≡ p
+      All (λ v. replaced ws v ≡ variable v) (variables p) → (subst_body ws p).form ≡ p
   same_form p h st = ap (λ (w : Formed Body). w.form) (unchanged p h st)
 
   pub all_within : (p : Body) → is_poly p ≡ true →
-      All (λ v. replaced ws v ≡ variable v) (variables p) → (in_body ws p).within ≡ true
+      All (λ v. replaced ws v ≡ variable v) (variables p) → (subst_body ws p).within ≡ true
   all_within p h st = ap (λ (w : Formed Body). w.within) (unchanged p h st)

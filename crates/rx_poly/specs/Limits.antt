@@ -3,7 +3,7 @@
 use Rattle.std.specs.Prelude.{ℕ, ◌+◌, ◌^◌, max, Bool, ◌&&◌, nat_lt, nat_le, List, [], ◌∷◌, sum_by, sum, ℤ, pos, negsuc}
 use Rattle.std.specs.List.{list_all}
 use Rattle.rx_poly.specs.Order.{mono_cmp}
-use Rattle.rx_poly.specs.Terms.{add_terms, is_listed, negated, times_number}
+use Rattle.rx_poly.specs.Terms.{add_terms, is_sparse_sorted, negated, times_number}
 use Rattle.rx_poly.specs.declared.body.Atom.{Atom, Atom-F, fold-Atom}
 use Rattle.rx_poly.specs.declared.body.Mono.{Mono, Mono-F, fold-Mono, roll-Mono}
 use Rattle.rx_poly.specs.declared.body.Body.{Body, Body-F, fold-Body, roll-Body, out-Body}
@@ -99,18 +99,18 @@ is_within b = all_fit (out-Body b).terms && is_small b
 -- ---- the sum of two polynomials
 
 -- the terms of both, added
-abbrev pub added : Body → Body → Body
-added p q = of_terms (add_terms mono_cmp (out-Body p).terms (out-Body q).terms)
+abbrev pub body_sum : Body → Body → Body
+body_sum p q = of_terms (add_terms mono_cmp (out-Body p).terms (out-Body q).terms)
 
 -- the terms are listed, and their coefficients are numbers of i128
 abbrev pub is_sum : List (Mono × ℤ) → Bool
-is_sum ts = is_listed mono_cmp ts && all_fit ts
+is_sum ts = is_sparse_sorted mono_cmp ts && all_fit ts
 
 -- ---- the difference of two polynomials, and one times a number
 
 -- the terms of the first, and those of the second with reversed signs
-abbrev pub subtracted : Body → Body → Body
-subtracted p q = of_terms (add_terms mono_cmp (out-Body p).terms (negated (out-Body q).terms))
+abbrev pub body_difference : Body → Body → Body
+body_difference p q = of_terms (add_terms mono_cmp (out-Body p).terms (negated (out-Body q).terms))
 
 -- each term times the number
 abbrev pub scaled_by : ℤ → Body → Body

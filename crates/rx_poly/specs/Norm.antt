@@ -2,7 +2,7 @@
 -- the limits.
 use Rattle.std.specs.Prelude.{ℕ, Bool, ℤ, negsuc, ◌+ℤ◌, ◌*ℤ◌, neg_ℤ}
 use Rattle.rx_plain.specs.Formed.{Formed, pure, kept, ◌>>=◌}
-use Rattle.rx_poly.specs.Limits.{added, scaled_by, is_within}
+use Rattle.rx_poly.specs.Limits.{body_sum, scaled_by, is_within}
 use Rattle.rx_poly.specs.Products.{product_formed}
 use Rattle.rx_poly.specs.Constants.{number, variable}
 use Rattle.rx_poly.specs.Division.{quotient_of, remainder_of}
@@ -31,7 +31,7 @@ norm_level (ITerm-F.Lit k) = pure (number k)
 norm_level (ITerm-F.Add l r) = do
   p ← l
   q ← r
-  kept is_within (added p q)
+  kept is_within (body_sum p q)
 norm_level (ITerm-F.Mul l r) = do
   p ← l
   q ← r

@@ -6,7 +6,7 @@ use Rattle.std.specs.Ordering.{is_le, is_lt}
 use Rattle.std.specs.declared.cmp.Ordering.{Ordering}
 use Rattle.rx_poly.specs.Limits.{fits_i128, is_small}
 use Rattle.rx_poly.specs.Order.{atom_cmp, mono_cmp}
-use Rattle.rx_poly.specs.Terms.{is_listed, is_zero}
+use Rattle.rx_poly.specs.Terms.{is_sparse_sorted, is_zero}
 use Rattle.rx_poly.specs.declared.body.Atom.{Atom, Atom-F, para-Atom}
 use Rattle.rx_poly.specs.declared.body.Mono.{Mono, Mono-F, para-Mono, out-Mono}
 use Rattle.rx_poly.specs.declared.body.Body.{Body, Body-F, para-Body, out-Body}
@@ -22,9 +22,9 @@ is_first R x [] = true
 is_first R x (y ∷ ys) = is_le (R x y)
 
 -- the term isn't 0, and its key comes before that of the first of the others
-abbrev pub leads : {K : Type 0} → (K → K → Ordering) → K × ℤ → List (K × ℤ) → Bool
-leads R t [] = not (is_zero t.1) && true
-leads R t (u ∷ us) = not (is_zero t.1) && is_lt (R t.0 u.0)
+abbrev pub precedes : {K : Type 0} → (K → K → Ordering) → K × ℤ → List (K × ℤ) → Bool
+precedes R t [] = not (is_zero t.1) && true
+precedes R t (u ∷ us) = not (is_zero t.1) && is_lt (R t.0 u.0)
 
 -- there is no element
 abbrev pub is_empty : {A : Type 0} → List A → Bool
@@ -58,7 +58,7 @@ mono_normal_level m =
 abbrev pub body_normal_level : Body-F (Atom × Bool) (Body × Bool) (Mono × Bool) → Bool
 body_normal_level b =
     list_all (λ (t : (Mono × Bool) × ℤ). (t.0).1 && fits_i128 t.1) b.terms
-    && is_listed mono_cmp (map (λ (t : (Mono × Bool) × ℤ). ((t.0).0, t.1)) b.terms)
+    && is_sparse_sorted mono_cmp (map (λ (t : (Mono × Bool) × ℤ). ((t.0).0, t.1)) b.terms)
 
 -- an atom that is normal at every level
 abbrev pub is_normal_atom : Atom → Bool

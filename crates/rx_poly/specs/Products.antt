@@ -26,29 +26,30 @@ mono_times m n = of_atoms (join_sorted atom_cmp (out-Mono m).atoms (out-Mono n).
 
 -- one term times each of the others; different monomials times one monomial stay different, so
 -- nothing is summed
-abbrev pub scaled : Mono × ℤ → List (Mono × ℤ) → List (Mono × ℤ)
-scaled t us = map (λ u. (mono_times t.0 u.0, t.1 *ℤ u.1)) us
+abbrev pub term_product : Mono × ℤ → List (Mono × ℤ) → List (Mono × ℤ)
+term_product t us = map (λ u. (mono_times t.0 u.0, t.1 *ℤ u.1)) us
 
 -- a sum to which each term of a factor adds its product with the other factor
-abbrev pub running : List (Mono × ℤ) → List (Mono × ℤ) → List (Mono × ℤ) → List (Mono × ℤ)
-running sum [] us = sum
-running sum (t ∷ ts) us = running (add_terms mono_cmp sum (scaled t us)) ts us
+abbrev pub sum_of_products : List (Mono × ℤ) → List (Mono × ℤ) → List (Mono × ℤ) → List (Mono × ℤ)
+sum_of_products sum [] us = sum
+sum_of_products sum (t ∷ ts) us = sum_of_products (add_terms mono_cmp sum (term_product t us)) ts us
 
 -- whether each of those products, and the sum after each, keeps the limits
-abbrev pub running_within : List (Mono × ℤ) → List (Mono × ℤ) → List (Mono × ℤ) → Bool
-running_within sum [] us = true
-running_within sum (t ∷ ts) us =
-    let next = add_terms mono_cmp sum (scaled t us) in
-    is_within (of_terms (scaled t us)) && (is_within (of_terms next) && running_within next ts us)
+abbrev pub sum_of_products_within : List (Mono × ℤ) → List (Mono × ℤ) → List (Mono × ℤ) → Bool
+sum_of_products_within sum [] us = true
+sum_of_products_within sum (t ∷ ts) us =
+    let next = add_terms mono_cmp sum (term_product t us) in
+    is_within (of_terms (term_product t us)) &&
+    (is_within (of_terms next) && sum_of_products_within next ts us)
 
 -- the product of two polynomials: the terms of the first in order, each times the whole second
-abbrev pub multiplied : Body → Body → Body
-multiplied p q = of_terms (running [] (out-Body p).terms (out-Body q).terms)
+abbrev pub body_product : Body → Body → Body
+body_product p q = of_terms (sum_of_products [] (out-Body p).terms (out-Body q).terms)
 
 -- whether all that is formed on the way to it keeps the limits
 abbrev pub mul_within : Body → Body → Bool
-mul_within p q = running_within [] (out-Body p).terms (out-Body q).terms
+mul_within p q = sum_of_products_within [] (out-Body p).terms (out-Body q).terms
 
 -- both at once
 abbrev pub product_formed : Body → Body → Formed Body
-product_formed p q = record { form = multiplied p q; within = mul_within p q }
+product_formed p q = record { form = body_product p q; within = mul_within p q }

@@ -3,7 +3,7 @@
 use Rattle.std.specs.Prelude.{ℕ, ◌+◌, ◌==◌, if◌then◌else◌, List, [], ◌∷◌, ℤ}
 use Rattle.rx_poly.specs.Constants.{number, variable}
 use Rattle.rx_poly.specs.Division.{quotient_of, remainder_of}
-use Rattle.rx_poly.specs.Limits.{of_terms, added, is_within}
+use Rattle.rx_poly.specs.Limits.{of_terms, body_sum, is_within}
 use Rattle.rx_plain.specs.Formed.{Formed, pure, kept, ◌>>=◌}
 use Rattle.rx_poly.specs.Products.{product_formed}
 use Rattle.rx_poly.specs.Value.{value}
@@ -26,8 +26,8 @@ abbrev pub numbered : List Body → List (ℕ × Body)
 numbered ps = numbered_from 0 ps
 
 -- the values of the variables then
-abbrev pub worth : (ℕ → ℤ) → List (ℕ × Body) → ℕ → ℤ
-worth a ws n = value a (replaced ws n)
+abbrev pub updated_assignment : (ℕ → ℤ) → List (ℕ × Body) → ℕ → ℤ
+updated_assignment a ws n = value a (replaced ws n)
 
 -- a product, times each of the factors in order
 abbrev pub times_all : Formed Body → List (Formed Body) → Formed Body
@@ -43,7 +43,7 @@ plus_all done [] = done
 plus_all done (t ∷ ts) = plus_all (do
   p ← done
   q ← t.0 t.1
-  kept is_within (added p q)) ts
+  kept is_within (body_sum p q)) ts
 
 module _ (ws : List (ℕ × Body)) where
   -- a variable is replaced, a quotient or remainder formed anew of its replaced parts
@@ -68,19 +68,19 @@ module _ (ws : List (ℕ × Body)) where
   body_substituted b = plus_all (pure (of_terms [])) b.terms
 
   -- an atom with its variables replaced
-  abbrev pub in_atom : Atom → Formed Body
-  in_atom =
+  abbrev pub subst_atom : Atom → Formed Body
+  subst_atom =
       fold-Atom (Formed Body) (Formed Body) (ℤ → Formed Body) atom_substituted body_substituted
       mono_substituted
 
   -- a number times a monomial with its variables replaced
-  abbrev pub in_mono : Mono → ℤ → Formed Body
-  in_mono =
+  abbrev pub subst_mono : Mono → ℤ → Formed Body
+  subst_mono =
       fold-Mono (Formed Body) (Formed Body) (ℤ → Formed Body) atom_substituted body_substituted
       mono_substituted
 
   -- a sum with its variables replaced
-  abbrev pub in_body : Body → Formed Body
-  in_body =
+  abbrev pub subst_body : Body → Formed Body
+  subst_body =
       fold-Body (Formed Body) (Formed Body) (ℤ → Formed Body) atom_substituted body_substituted
       mono_substituted

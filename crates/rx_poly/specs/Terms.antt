@@ -17,20 +17,20 @@ first_and_rest (Some x) xs = x ∷ xs
 
 module _ {K : Type 0} where
   -- the term in front of others, or these alone where its coefficient is 0
-  abbrev pub put : K → ℤ → List (K × ℤ) → List (K × ℤ)
-  put k c ts = if is_zero c then ts else (k, c) ∷ ts
+  abbrev pub cons_nonzero : K → ℤ → List (K × ℤ) → List (K × ℤ)
+  cons_nonzero k c ts = if is_zero c then ts else (k, c) ∷ ts
 
   -- a term inserted into u ∷ us, by how its key compares to that of u; `further` is the term
   -- inserted into us
-  abbrev pub placed : Ordering → K → ℤ → K × ℤ → List (K × ℤ) → List (K × ℤ) → List (K × ℤ)
-  placed Less k c u us further = put k c (u ∷ us)
-  placed Equal k c u us further = put k (c +ℤ u.1) us
-  placed Greater k c u us further = u ∷ further
+  abbrev pub insert_by : Ordering → K → ℤ → K × ℤ → List (K × ℤ) → List (K × ℤ) → List (K × ℤ)
+  insert_by Less k c u us further = cons_nonzero k c (u ∷ us)
+  insert_by Equal k c u us further = cons_nonzero k (c +ℤ u.1) us
+  insert_by Greater k c u us further = u ∷ further
 
   -- a term inserted into a listed sum: at its place, or added to the coefficient that its key has
   abbrev pub insert_term : (K → K → Ordering) → K → ℤ → List (K × ℤ) → List (K × ℤ)
-  insert_term R k c [] = put k c []
-  insert_term R k c (u ∷ us) = placed (R k u.0) k c u us (insert_term R k c us)
+  insert_term R k c [] = cons_nonzero k c []
+  insert_term R k c (u ∷ us) = insert_by (R k u.0) k c u us (insert_term R k c us)
 
   -- the sum of two listed sums, listed
   abbrev pub add_terms : (K → K → Ordering) → List (K × ℤ) → List (K × ℤ) → List (K × ℤ)
@@ -42,9 +42,9 @@ module _ {K : Type 0} where
   is_before R k ts = list_all (λ u. is_lt (R k u.0)) ts
 
   -- each key comes before all keys after it, and no coefficient is 0
-  abbrev pub is_listed : (K → K → Ordering) → List (K × ℤ) → Bool
-  is_listed R [] = true
-  is_listed R (t ∷ ts) = not (is_zero t.1) && (is_before R t.0 ts && is_listed R ts)
+  abbrev pub is_sparse_sorted : (K → K → Ordering) → List (K × ℤ) → Bool
+  is_sparse_sorted R [] = true
+  is_sparse_sorted R (t ∷ ts) = not (is_zero t.1) && (is_before R t.0 ts && is_sparse_sorted R ts)
 
   -- the keys of a sum pass a test
   abbrev pub all_keys : (K → Bool) → List (K × ℤ) → Bool
@@ -53,7 +53,7 @@ module _ {K : Type 0} where
   -- a sum times a number, listed where the sum is
   abbrev pub times_number : ℤ → List (K × ℤ) → List (K × ℤ)
   times_number k [] = []
-  times_number k (t ∷ ts) = put t.0 (t.1 *ℤ k) (times_number k ts)
+  times_number k (t ∷ ts) = cons_nonzero t.0 (t.1 *ℤ k) (times_number k ts)
 
   -- the same terms with their signs reversed
   abbrev pub negated : List (K × ℤ) → List (K × ℤ)

@@ -3,7 +3,7 @@ ghost use Rattle.std.specs.Prelude.{◌≡◌, ◌+◌, ◌<◌, [], ◌∷◌, 
 ghost use Rattle.rx_poly.specs.Limits.{all_fit, fits_i128, is_sum};
 ghost use Rattle.rx_poly.specs.Order.{mono_cmp};
 ghost use Rattle.rx_poly.specs.Signs.{signed, with_sign};
-ghost use Rattle.rx_poly.specs.Terms.{add_terms, put, times_number};
+ghost use Rattle.rx_poly.specs.Terms.{add_terms, cons_nonzero, times_number};
 
 use crate::body::Mono;
 use crate::poly_end::PolyEnd;
@@ -54,7 +54,7 @@ fn push_sum(
     sign: Sign,
 ) -> Result<(), PolyEnd>
     ensures ok { OnOk result (terms.new ≡ terms.old ++
-        put left.now.0 (left.now.1 +ℤ signed sign right.now.1) []) }
+        cons_nonzero left.now.0 (left.now.1 +ℤ signed sign right.now.1) []) }
     ensures within { OnOk result (fits_i128 (left.now.1 +ℤ signed sign right.now.1) ≡ true) }
     ensures large { IfErr result (λ e. e ≡ PolyEnd.Large →
         fits_i128 (left.now.1 +ℤ signed sign right.now.1) ≡ false) }

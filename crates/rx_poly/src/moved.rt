@@ -4,7 +4,7 @@ ghost use Rattle.std.specs.Vec.Iter.{into_iter_items};
 ghost use Rattle.rx_plain.specs.Formed.{Forms, FormsAs, kept};
 ghost use Rattle.rx_poly.specs.Limits.{all_fit, fits_i128, is_sum};
 ghost use Rattle.rx_poly.specs.Order.{mono_cmp};
-ghost use Rattle.rx_poly.specs.Terms.{add_terms, first_and_rest, put};
+ghost use Rattle.rx_poly.specs.Terms.{add_terms, first_and_rest, cons_nonzero};
 
 use crate::body::Mono;
 use crate::poly_end::PolyEnd;
@@ -21,7 +21,7 @@ fn push_added(
 ) -> Result<(), PolyEnd>
     ensures forms { FormsAs (λ _. terms.new) PolyEnd.Large result
         (record {
-          form = terms.old ++ put term.0 (term.1 +ℤ number.now) [];
+          form = terms.old ++ cons_nonzero term.0 (term.1 +ℤ number.now) [];
           within =
               fits_i128 (term.1 +ℤ number.now);
         }) }

@@ -1,7 +1,7 @@
 //! A sum times a number.
 ghost use Rattle.std.specs.Prelude.{◌≡◌, [], ◌++◌, true, false, ◌*ℤ◌, IfOk, IfErr, OnOk};
 ghost use Rattle.rx_poly.specs.Limits.{all_fit, fits_i128};
-ghost use Rattle.rx_poly.specs.Terms.{put, times_number};
+ghost use Rattle.rx_poly.specs.Terms.{cons_nonzero, times_number};
 
 use crate::body::Mono;
 use crate::poly_end::PolyEnd;
@@ -15,7 +15,8 @@ fn push_multiple(
     term: &(Mono, i128),
     by: &i128,
 ) -> Result<(), PolyEnd>
-    ensures ok { OnOk result (terms.new ≡ terms.old ++ put term.now.0 (term.now.1 *ℤ by.now) []) }
+    ensures ok { OnOk result (terms.new ≡ terms.old ++
+        cons_nonzero term.now.0 (term.now.1 *ℤ by.now) []) }
     ensures within { OnOk result (fits_i128 (term.now.1 *ℤ by.now) ≡ true) }
     ensures large { IfErr result (λ e. e ≡ PolyEnd.Large → fits_i128 (term.now.1 *ℤ by.now) ≡ false) }
 {

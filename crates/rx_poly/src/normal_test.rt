@@ -3,8 +3,8 @@
 ghost use Rattle.std.specs.Prelude.{◌≡◌, ◌&&◌, not, true, false};
 ghost use Rattle.rx_poly.specs.Normal.{is_sorted, is_number, is_open, is_normal_atom, is_normal_mono, is_normal};
 ghost use Rattle.rx_poly.specs.Order.{atom_cmp, mono_cmp};
-ghost use Rattle.rx_poly.specs.Terms.{is_listed, is_zero};
-ghost use Rattle.rx_poly.specs.Normal.{is_first, leads};
+ghost use Rattle.rx_poly.specs.Terms.{is_sparse_sorted, is_zero};
+ghost use Rattle.rx_poly.specs.Normal.{is_first, precedes};
 ghost use Rattle.rx_poly.specs.declared.body.Body.{out-Body};
 
 use crate::body::{Atom, Body, Mono};
@@ -35,7 +35,7 @@ fn are_sorted(atoms: &[Atom]) -> bool
 
 /// Whether the term isn't 0 and comes before the first of the others.
 fn comes_before(term: &(Mono, i128), others: &[(Mono, i128)]) -> bool
-    ensures { result ≡ leads mono_cmp term.now others.now }
+    ensures { result ≡ precedes mono_cmp term.now others.now }
 {
     if term.1 == 0 {
         return false;
@@ -48,7 +48,7 @@ fn comes_before(term: &(Mono, i128), others: &[(Mono, i128)]) -> bool
 
 /// Whether the monomials rise and no coefficient is 0.
 fn are_listed(terms: &[(Mono, i128)]) -> bool
-    ensures { result ≡ is_listed mono_cmp terms.now }
+    ensures { result ≡ is_sparse_sorted mono_cmp terms.now }
 {
     let mut rest = terms;
     while let Some((term, behind)) = rest.split_first() {

@@ -2,12 +2,12 @@
 ghost use Rattle.std.specs.Prelude.{◌≡◌, ◌↔◌, ◌+ℤ◌, ◌-ℤ◌, ◌*ℤ◌, ℕ, ℤ, true, false, IsTrue, IfOk, IfSome, IsSome};
 ghost use Rattle.std.specs.Prelude.{[]};
 ghost use Rattle.rx_plain.specs.Formed.{Forms, kept};
-ghost use Rattle.rx_poly.specs.Limits.{added, of_terms, is_small, is_within, scaled_by, subtracted};
+ghost use Rattle.rx_poly.specs.Limits.{body_sum, of_terms, is_small, is_within, scaled_by, body_difference};
 ghost use Rattle.rx_poly.specs.Normal.{is_normal, is_normal_atom, is_normal_mono, is_poly};
 ghost use Rattle.rx_poly.specs.Constants.{number, variable};
 ghost use Rattle.rx_poly.specs.Digest.{digest_of};
 ghost use Rattle.rx_poly.specs.Division.{atom_alone, quotient_of, remainder_of};
-ghost use Rattle.rx_poly.specs.Products.{scaled, product_formed};
+ghost use Rattle.rx_poly.specs.Products.{term_product, product_formed};
 ghost use Rattle.rx_poly.specs.Reading.{coefficient, constant_of};
 ghost use Rattle.rx_poly.specs.Signs.{combined};
 ghost use Rattle.rx_poly.specs.Terms.{is_zero};
@@ -175,7 +175,7 @@ impl Poly {
 
     /// The sum of the two; Large exactly where the sum passes the limits.
     pub fn add(&self, alloc: Global, other: &Poly) -> Result<Poly, PolyEnd>
-        ensures forms { Forms PolyEnd.Large result (kept is_within (added self.now other.now)) }
+        ensures forms { Forms PolyEnd.Large result (kept is_within (body_sum self.now other.now)) }
         ensures value { IfOk result (λ p. (a : ℕ → ℤ) → value a p ≡
             value a self.now +ℤ value a other.now) }
     {
@@ -185,7 +185,8 @@ impl Poly {
     /// This polynomial minus the other, coefficient by coefficient; Large exactly where the
     /// difference passes the limits. A polynomial minus itself is always 0.
     pub fn sub(&self, alloc: Global, other: &Poly) -> Result<Poly, PolyEnd>
-        ensures forms { Forms PolyEnd.Large result (kept is_within (subtracted self.now other.now)) }
+        ensures forms { Forms PolyEnd.Large result
+            (kept is_within (body_difference self.now other.now)) }
         ensures value { IfOk result (λ p. (a : ℕ → ℤ) → value a p ≡
             value a self.now -ℤ value a other.now) }
     {
@@ -261,7 +262,7 @@ fn own_body(alloc: Global, poly: Poly) -> Result<Body, AllocError>
 
 /// The sum of the two, of their own terms; Large exactly where the sum passes the limits.
 pub(crate) fn plus(alloc: Global, left: Poly, right: Poly) -> Result<Poly, PolyEnd>
-    ensures forms { Forms PolyEnd.Large result (kept is_within (added left right)) }
+    ensures forms { Forms PolyEnd.Large result (kept is_within (body_sum left right)) }
 {
     if left.body().terms.is_empty() {
         let _ = right.as_normal();
@@ -278,7 +279,7 @@ fn times_term(alloc: Global, term: &(Mono, i128), factor: &Poly) -> Result<Poly,
     requires normal { is_normal_mono term.now.0 ≡ true }
     requires nonzero { is_zero term.now.1 ≡ false }
     ensures forms { Forms PolyEnd.Large result
-        (kept is_within (of_terms (scaled term.now (out-Body factor.now).terms))) }
+        (kept is_within (of_terms (term_product term.now (out-Body factor.now).terms))) }
 {
     let terms = scale(alloc, term, factor.body().terms.as_slice())?;
     within_limits(alloc, Body { terms })

@@ -3,7 +3,7 @@ ghost use Rattle.std.specs.Prelude.{◌≡◌, ◌+◌, ◌<◌, [], ◌∷◌, 
 ghost use Rattle.rx_poly.specs.Limits.{all_fit, fits_i128};
 ghost use Rattle.rx_poly.specs.Normal.{is_sorted, is_normal_mono};
 ghost use Rattle.rx_poly.specs.Order.{atom_cmp};
-ghost use Rattle.rx_poly.specs.Products.{join_sorted, mono_times, scaled};
+ghost use Rattle.rx_poly.specs.Products.{join_sorted, mono_times, term_product};
 ghost use Rattle.rx_poly.specs.Terms.{all_keys};
 
 use crate::body::{Atom, Mono};
@@ -97,9 +97,10 @@ pub(crate) fn scale(
 ) -> Result<Items<(Mono, i128)>, PolyEnd>
     requires term { is_normal_mono term.now.0 ≡ true }
     requires terms { all_keys is_normal_mono terms.now ≡ true }
-    ensures terms { IfOk result (λ us. us ≡ scaled term.now terms.now) }
-    ensures within { OnOk result (all_fit (scaled term.now terms.now) ≡ true) }
-    ensures large { IfErr result (λ e. e ≡ PolyEnd.Large → all_fit (scaled term.now terms.now) ≡
+    ensures terms { IfOk result (λ us. us ≡ term_product term.now terms.now) }
+    ensures within { OnOk result (all_fit (term_product term.now terms.now) ≡ true) }
+    ensures large { IfErr result (λ e. e ≡ PolyEnd.Large →
+        all_fit (term_product term.now terms.now) ≡
         false) }
 {
     let mut products = Items::new(alloc);

@@ -3,7 +3,7 @@ ghost use Rattle.std.specs.Prelude.{◌≡◌, map, slice_get, ◌*ℤ◌, ℕ, 
 ghost use Rattle.std.specs.Bool.{OnTrue};
 ghost use Rattle.std.specs.Option.{option_copied};
 ghost use Rattle.rx_plain.specs.Formed.{Forms, pure};
-ghost use Rattle.rx_poly.specs.Substitution.{in_atom, in_mono, in_body, numbered, replaced, times_all, worth};
+ghost use Rattle.rx_poly.specs.Substitution.{subst_atom, subst_mono, subst_body, numbered, replaced, times_all, updated_assignment};
 ghost use Rattle.rx_poly.specs.Constants.{variable};
 ghost use Rattle.rx_poly.specs.Products.{product_formed};
 ghost use Rattle.rx_poly.specs.Replacements.{replacements, stay};
@@ -125,7 +125,7 @@ fn body_stays(body: &Body, with: Replacements) -> bool
 /// The atom with its variables replaced.
 #[cycle(substituted)]
 fn atom_with(alloc: Global, atom: &Atom, with: Replacements) -> Result<Poly, PolyEnd>
-    ensures forms { Forms PolyEnd.Large result (in_atom (replacements with.entry) atom.now) }
+    ensures forms { Forms PolyEnd.Large result (subst_atom (replacements with.entry) atom.now) }
 {
     match atom {
         Atom::Var(number) => Ok(in_place_of(alloc, *number, with)?),
@@ -164,7 +164,7 @@ fn times_atoms(
     with: Replacements,
 ) -> Result<Poly, PolyEnd>
     ensures forms { Forms PolyEnd.Large result
-        (times_all (pure start) (map (in_atom (replacements with.entry)) atoms.now)) }
+        (times_all (pure start) (map (subst_atom (replacements with.entry)) atoms.now)) }
 {
     let mut product = start;
     for atom in atoms {
@@ -177,7 +177,8 @@ fn times_atoms(
 /// The number times the monomial with its variables replaced.
 #[cycle(substituted)]
 fn mono_with(alloc: Global, mono: &Mono, by: &i128, with: Replacements) -> Result<Poly, PolyEnd>
-    ensures forms { Forms PolyEnd.Large result (in_mono (replacements with.entry) mono.now by.now) }
+    ensures forms { Forms PolyEnd.Large result
+        (subst_mono (replacements with.entry) mono.now by.now) }
 {
     let atoms = mono.atoms.as_slice();
     if *by == 1 {
@@ -194,7 +195,7 @@ fn mono_with(alloc: Global, mono: &Mono, by: &i128, with: Replacements) -> Resul
 /// The sum with its variables replaced.
 #[cycle(substituted)]
 fn body_with(alloc: Global, body: &Body, with: Replacements) -> Result<Poly, PolyEnd>
-    ensures forms { Forms PolyEnd.Large result (in_body (replacements with.entry) body.now) }
+    ensures forms { Forms PolyEnd.Large result (subst_body (replacements with.entry) body.now) }
 {
     let start = zero(alloc)?;
     let mut sum = start;
@@ -207,7 +208,7 @@ fn body_with(alloc: Global, body: &Body, with: Replacements) -> Result<Poly, Pol
 
 /// What is substituted for the polynomial, where it is one variable that doesn't stay.
 fn alone_with<'a>(poly: &Poly, with: Replacements<'a>) -> Option<&'a Poly>
-    ensures { IfSome result (λ p. in_body (replacements with.entry) poly.now ≡ pure p.now) }
+    ensures { IfSome result (λ p. subst_body (replacements with.entry) poly.now ≡ pure p.now) }
 {
     let found = replacement(poly.as_variable()?, with)?;
     Some(found.as_normal())
@@ -216,7 +217,7 @@ fn alone_with<'a>(poly: &Poly, with: Replacements<'a>) -> Option<&'a Poly>
 /// The polynomial with its variables replaced: what is in place of it where it is one variable, a
 /// copy where all variables stay.
 fn poly_with(alloc: Global, poly: &Poly, with: Replacements) -> Result<Poly, PolyEnd>
-    ensures forms { Forms PolyEnd.Large result (in_body (replacements with.entry) poly.now) }
+    ensures forms { Forms PolyEnd.Large result (subst_body (replacements with.entry) poly.now) }
 {
     if let Some(found) = alone_with(poly, with) {
         return Ok(found.try_clone(alloc)?);
@@ -233,9 +234,9 @@ impl Poly {
     /// in each the coefficient is multiplied with the replaced atoms from left to right, and the
     /// results are summed.
     pub fn subst(&self, alloc: Global, with: &[(u32, Poly)]) -> Result<Poly, PolyEnd>
-        ensures forms { Forms PolyEnd.Large result (in_body with.now self.now) }
+        ensures forms { Forms PolyEnd.Large result (subst_body with.now self.now) }
         ensures value { IfOk result (λ p. (a : ℕ → ℤ) → value a p ≡
-            value (worth a with.now) self.now) }
+            value (updated_assignment a with.now) self.now) }
     {
         poly_with(alloc, self, Replacements::Listed(with))
     }
@@ -243,9 +244,9 @@ impl Poly {
     /// The polynomial with the first of those polynomials in place of v0, the second in place of
     /// v1, and so on; the other variables stay. Large exactly where `subst` is, for that list.
     pub fn at_args(&self, alloc: Global, args: &[Poly]) -> Result<Poly, PolyEnd>
-        ensures forms { Forms PolyEnd.Large result (in_body (numbered args.now) self.now) }
+        ensures forms { Forms PolyEnd.Large result (subst_body (numbered args.now) self.now) }
         ensures value { IfOk result (λ p. (a : ℕ → ℤ) → value a p ≡
-            value (worth a (numbered args.now)) self.now) }
+            value (updated_assignment a (numbered args.now)) self.now) }
     {
         poly_with(alloc, self, Replacements::InOrder(args))
     }

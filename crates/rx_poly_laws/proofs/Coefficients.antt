@@ -7,7 +7,7 @@ use Rattle.std.specs.declared.cmp.Ordering.TheVariants.{Less, Equal, Greater}
 use Rattle.rx_poly.specs.Normal.{is_poly}
 use Rattle.rx_poly.specs.Order.{mono_cmp}
 use Rattle.rx_poly.specs.Reading.{coefficient, found}
-use Rattle.rx_poly.specs.Terms.{is_zero, is_before, is_listed}
+use Rattle.rx_poly.specs.Terms.{is_zero, is_before, is_sparse_sorted}
 use Rattle.rx_poly.proofs.OrderLemmas.{mono_total}
 use Rattle.rx_poly.proofs.PolyLaws.{poly_terms}
 use Rattle.rx_poly.proofs.Same.{same_mono}
@@ -77,7 +77,8 @@ module _ (t u : Mono × ℤ) (ts us : List (Mono × ℤ)) (l : Listed mono_cmp m
       (before_trans mono_cmp mono_total same_mono u.0 t.0 ts back l.before))))
 
 -- listed sums with the same coefficients are one
-pub same_terms : (ts us : List (Mono × ℤ)) → is_listed mono_cmp ts ≡ true → is_listed mono_cmp us ≡
+pub same_terms : (ts us : List (Mono × ℤ)) → is_sparse_sorted mono_cmp ts ≡ true →
+    is_sparse_sorted mono_cmp us ≡
     true → ((m : Mono) → coefficient m ts ≡ coefficient m us) → ts ≡ us
 same_terms [] [] h g e = refl
 same_terms [] (u ∷ us) h g e =

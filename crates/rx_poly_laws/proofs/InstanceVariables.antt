@@ -3,10 +3,10 @@ use Rattle.std.proofs.Common.{◌≡◌, ◌∙◌, ap, subst, ℕ, Bool, true, 
 use Rattle.std.specs.List.{All, flat_map}
 use Rattle.std.proofs.lemmas.List.Elements.{All-head}
 use Rattle.rx_poly.specs.Constants.{number}
-use Rattle.rx_poly.specs.Limits.{of_terms, added, is_within}
+use Rattle.rx_poly.specs.Limits.{of_terms, body_sum, is_within}
 use Rattle.rx_plain.specs.Formed.{Formed}
-use Rattle.rx_poly.specs.Products.{multiplied, mul_within}
-use Rattle.rx_poly.specs.Substitution.{in_atom, in_body, in_mono, plus_all, replaced, times_all}
+use Rattle.rx_poly.specs.Products.{body_product, mul_within}
+use Rattle.rx_poly.specs.Substitution.{subst_atom, subst_body, subst_mono, plus_all, replaced, times_all}
 use Rattle.rx_poly.proofs.Substituting.{in_Var, in_Div, in_Mod, in_mono_is, in_body_is, term_in, well}
 use Rattle.rx_poly.specs.declared.body.Atom.{Atom, Atom-F, roll-Atom, map-Atom}
 use Rattle.rx_poly.specs.declared.body.Atom.TheVariants.{rolls-Var, rolls-Div, rolls-Mod}
@@ -15,7 +15,7 @@ use Rattle.rx_poly.specs.declared.body.Body.{Body, Body-F, out-Body, roll-Body, 
 use Rattle.rx_poly_laws.specs.Tests.{passes}
 use Rattle.rx_poly.specs.Variables.{atom_variables, mono_variables, variables}
 use Rattle.rx_poly.proofs.Pieces.{all_parts}
-use Rattle.rx_poly_laws.proofs.TestLaws.{passes-added, passes-multiplied, passes-number, passes-of_terms, passes-quotient_of, passes-remainder_of}
+use Rattle.rx_poly_laws.proofs.TestLaws.{passes-body_sum, passes-body_product, passes-number, passes-of_terms, passes-quotient_of, passes-remainder_of}
 use Rattle.rx_poly.proofs.VariableLaws.{variables_Var, variables_Div, variables_Mod, mono_variables_is, variables_is}
 
 module _ (test : ℕ → Bool) (ws : List (ℕ × Body)) where
@@ -23,13 +23,14 @@ module _ (test : ℕ → Bool) (ws : List (ℕ × Body)) where
   Replacements vs = All (λ v. passes test (replaced ws v) ≡ true) vs
 
   abbrev PassAtom : Atom → Type 0
-  PassAtom x = Replacements (atom_variables x) → passes test (in_atom ws x).form ≡ true
+  PassAtom x = Replacements (atom_variables x) → passes test (subst_atom ws x).form ≡ true
 
   abbrev PassBody : Body → Type 0
-  PassBody p = Replacements (variables p) → passes test (in_body ws p).form ≡ true
+  PassBody p = Replacements (variables p) → passes test (subst_body ws p).form ≡ true
 
   abbrev PassMono : Mono → Type 0
-  PassMono m = Replacements (mono_variables m) → (k : ℤ) → passes test (in_mono ws m k).form ≡ true
+  PassMono m =
+      Replacements (mono_variables m) → (k : ℤ) → passes test (subst_mono ws m k).form ≡ true
 
   abbrev PartAtom : Type 0
   PartAtom = (x : Atom) × PassAtom x
@@ -54,7 +55,7 @@ module _ (test : ℕ → Bool) (ws : List (ℕ × Body)) where
   form_passes f = passes test f.form
 
   both_pass : (p q : PartBody) → Replacements (variables p.0 ++ variables q.0) →
-      (form_passes (in_body ws p.0) ≡ true) × (form_passes (in_body ws q.0) ≡ true)
+      (form_passes (subst_body ws p.0) ≡ true) × (form_passes (subst_body ws q.0) ≡ true)
   both_pass p q h =
       let g = all_parts (λ v. passes test (replaced ws v) ≡ true) (variables p.0) (variables q.0) h
       in (p.1 g.0, q.1 g.1)
@@ -65,12 +66,12 @@ module _ (test : ℕ → Bool) (ws : List (ℕ × Body)) where
       (subst Replacements (variables_Var n) h))
   atom_level (Atom-F.Div p q) = subst PassAtom (sym (rolls-Div p.0 q.0))
       (λ h. let e = both_pass p q (subst Replacements (variables_Div p.0 q.0) h) in
-      ap form_passes (in_Div ws p.0 q.0) ∙ passes-quotient_of test (in_body ws p.0).form
-      (in_body ws q.0).form e.0 e.1)
+      ap form_passes (in_Div ws p.0 q.0) ∙ passes-quotient_of test (subst_body ws p.0).form
+      (subst_body ws q.0).form e.0 e.1)
   atom_level (Atom-F.Mod p q) = subst PassAtom (sym (rolls-Mod p.0 q.0))
       (λ h. let e = both_pass p q (subst Replacements (variables_Mod p.0 q.0) h) in
-      ap form_passes (in_Mod ws p.0 q.0) ∙ passes-remainder_of test (in_body ws p.0).form
-      (in_body ws q.0).form e.0 e.1)
+      ap form_passes (in_Mod ws p.0 q.0) ∙ passes-remainder_of test (subst_body ws p.0).form
+      (subst_body ws q.0).form e.0 e.1)
 
   atom_step : (x : Atom-F Atom Body Mono) (y : Atom-F PartAtom PartBody PartMono) → bare_atom y ≡
       x → PassAtom (roll-Atom x)
@@ -79,18 +80,18 @@ module _ (test : ℕ → Bool) (ws : List (ℕ × Body)) where
   times_pass : (ps : List PartAtom) (done : Formed Body) →
       Replacements (flat_map atom_variables (map (λ (p : PartAtom). p.0) ps)) → form_passes done ≡
       true
-      → form_passes (times_all done (map (in_atom ws) (map (λ (p : PartAtom). p.0) ps))) ≡ true
+      → form_passes (times_all done (map (subst_atom ws) (map (λ (p : PartAtom). p.0) ps))) ≡ true
   times_pass [] done h d = d
   times_pass (p ∷ ps) done h d =
       let g = all_parts (λ v. passes test (replaced ws v) ≡ true) (atom_variables p.0)
       (flat_map atom_variables (map (λ (p : PartAtom). p.0) ps)) h in
-      let x = in_atom ws p.0 in
+      let x = subst_atom ws p.0 in
       times_pass ps (record {
-        form = multiplied done.form x.form;
+        form = body_product done.form x.form;
         within = done.within &&
             (x.within && mul_within done.form x.form);
       }) g.1
-      (passes-multiplied test done.form x.form d (p.1 g.0))
+      (passes-body_product test done.form x.form d (p.1 g.0))
 
   mono_step : (x : Mono-F Atom Body Mono) (y : Mono-F PartAtom PartBody PartMono) → bare_mono y ≡
       x → PassMono (roll-Mono x)
@@ -99,7 +100,7 @@ module _ (test : ℕ → Bool) (ws : List (ℕ × Body)) where
       let atoms : (out-Mono m).atoms ≡ (bare_mono y).atoms =
       ap (λ (z : Mono-F Atom Body Mono). z.atoms) (out-roll-Mono (bare_mono y)) in
       ap form_passes (in_mono_is ws m k) ∙ ap
-      (λ xs. form_passes (times_all (well (number k)) (map (in_atom ws) xs))) atoms
+      (λ xs. form_passes (times_all (well (number k)) (map (subst_atom ws) xs))) atoms
       ∙ times_pass y.atoms (well (number k)) (subst Replacements
       (mono_variables_is m ∙ ap (flat_map atom_variables) atoms) h) (passes-number test k))
 
@@ -116,13 +117,13 @@ module _ (test : ℕ → Bool) (ws : List (ℕ × Body)) where
   plus_pass (p ∷ ps) done h d =
       let g = all_parts (λ v. passes test (replaced ws v) ≡ true) (mono_variables (p.0).0)
       (flat_map of_term (map bare_term ps)) h in
-      let x = in_mono ws (p.0).0 p.1 in
+      let x = subst_mono ws (p.0).0 p.1 in
       plus_pass ps (record {
-        form = added done.form x.form;
+        form = body_sum done.form x.form;
         within = done.within &&
-            (x.within && is_within (added done.form x.form));
+            (x.within && is_within (body_sum done.form x.form));
       }) g.1
-      (passes-added test done.form x.form d ((p.0).1 g.0 p.1))
+      (passes-body_sum test done.form x.form d ((p.0).1 g.0 p.1))
 
   body_step : (x : Body-F Atom Body Mono) (y : Body-F PartAtom PartBody PartMono) → bare_body y ≡
       x → PassBody (roll-Body x)
@@ -138,5 +139,5 @@ module _ (test : ℕ → Bool) (ws : List (ℕ × Body)) where
 
   -- where the replacement of each variable passes a test, the instance does
   pub instance_passes : (p : Body) → All (λ v. passes test (replaced ws v) ≡ true) (variables p) →
-      passes test (in_body ws p).form ≡ true
+      passes test (subst_body ws p).form ≡ true
   instance_passes = ind-Body PassAtom PassBody PassMono atom_step body_step mono_step

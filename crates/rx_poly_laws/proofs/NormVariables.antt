@@ -6,7 +6,7 @@ use Rattle.rx_poly.specs.Norm.{formed, norm_level, norm_of}
 use Rattle.rx_poly.specs.declared.body.Body.{Body}
 use Rattle.rx_poly.specs.declared.iterm.ITerm.{ITerm, ITerm-F, roll-ITerm, map-ITerm, fold-roll-ITerm, ind-ITerm}
 use Rattle.rx_poly_laws.specs.Tests.{passes, term_passes, term_passes_level}
-use Rattle.rx_poly_laws.proofs.TestLaws.{passes-added, passes-multiplied, passes-number, passes-quotient_of, passes-remainder_of, passes-scaled_by, passes-variable}
+use Rattle.rx_poly_laws.proofs.TestLaws.{passes-body_sum, passes-body_product, passes-number, passes-quotient_of, passes-remainder_of, passes-scaled_by, passes-variable}
 
 module _ (test : ℕ → Bool) where
   abbrev Passes : ITerm → Type 0
@@ -26,10 +26,10 @@ module _ (test : ℕ → Bool) where
   level (ITerm-F.Lit k) h = passes-number test k
   level (ITerm-F.Add l r) h =
       let both = and_parts (term_passes test l.0) (term_passes test r.0) h in
-      passes-added test (norm_of l.0) (norm_of r.0) (l.1 both.0) (r.1 both.1)
+      passes-body_sum test (norm_of l.0) (norm_of r.0) (l.1 both.0) (r.1 both.1)
   level (ITerm-F.Mul l r) h =
       let both = and_parts (term_passes test l.0) (term_passes test r.0) h in
-      passes-multiplied test (norm_of l.0) (norm_of r.0) (l.1 both.0) (r.1 both.1)
+      passes-body_product test (norm_of l.0) (norm_of r.0) (l.1 both.0) (r.1 both.1)
   level (ITerm-F.Neg t) h = passes-scaled_by test (negsuc 0) (norm_of t.0) (t.1 h)
   level (ITerm-F.Div l r) h =
       let both = and_parts (term_passes test l.0) (term_passes test r.0) h in

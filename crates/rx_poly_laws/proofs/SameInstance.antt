@@ -4,9 +4,9 @@ use Rattle.std.specs.List.{All, flat_map}
 use Rattle.std.proofs.lemmas.List.Elements.{All-head}
 use Rattle.rx_poly.specs.Constants.{number}
 use Rattle.rx_poly.specs.Division.{quotient_of, remainder_of}
-use Rattle.rx_poly.specs.Limits.{of_terms, added, is_within}
+use Rattle.rx_poly.specs.Limits.{of_terms, body_sum, is_within}
 use Rattle.rx_plain.specs.Formed.{Formed}
-use Rattle.rx_poly.specs.Substitution.{in_atom, in_body, in_mono, plus_all, replaced, times_all}
+use Rattle.rx_poly.specs.Substitution.{subst_atom, subst_body, subst_mono, plus_all, replaced, times_all}
 use Rattle.rx_poly.proofs.Substituting.{in_Var, in_Div, in_Mod, in_mono_is, in_body_is, term_in, well}
 use Rattle.rx_poly.specs.declared.body.Atom.{Atom, Atom-F, roll-Atom, map-Atom}
 use Rattle.rx_poly.specs.declared.body.Atom.TheVariants.{rolls-Var, rolls-Div, rolls-Mod}
@@ -21,13 +21,13 @@ module _ (ws us : List (ℕ × Body)) where
   Same v = replaced ws v ≡ replaced us v
 
   abbrev SameAtom : Atom → Type 0
-  SameAtom x = All Same (atom_variables x) → in_atom ws x ≡ in_atom us x
+  SameAtom x = All Same (atom_variables x) → subst_atom ws x ≡ subst_atom us x
 
   abbrev SameBody : Body → Type 0
-  SameBody p = All Same (variables p) → in_body ws p ≡ in_body us p
+  SameBody p = All Same (variables p) → subst_body ws p ≡ subst_body us p
 
   abbrev SameMono : Mono → Type 0
-  SameMono m = All Same (mono_variables m) → (k : ℤ) → in_mono ws m k ≡ in_mono us m k
+  SameMono m = All Same (mono_variables m) → (k : ℤ) → subst_mono ws m k ≡ subst_mono us m k
 
   abbrev PartAtom : Type 0
   PartAtom = (x : Atom) × SameAtom x
@@ -49,7 +49,7 @@ module _ (ws us : List (ℕ × Body)) where
   bare_mono = map-Mono PartAtom PartBody PartMono Atom Body Mono (λ p. p.0) (λ p. p.0) (λ p. p.0)
 
   both_same : (p q : PartBody) → All Same (variables p.0 ++ variables q.0) →
-      (in_body ws p.0 ≡ in_body us p.0) × (in_body ws q.0 ≡ in_body us q.0)
+      (subst_body ws p.0 ≡ subst_body us p.0) × (subst_body ws q.0 ≡ subst_body us q.0)
   both_same p q h = let g = all_parts Same (variables p.0) (variables q.0) h in (p.1 g.0, q.1 g.1)
 
   abbrev divided : (Body → Body → Body) → Formed Body → Formed Body → Formed Body
@@ -77,8 +77,8 @@ module _ (ws us : List (ℕ × Body)) where
 
   atoms_same : (ps : List PartAtom) → All Same
       (flat_map atom_variables (map (λ (p : PartAtom). p.0) ps))
-      → map (in_atom ws) (map (λ (p : PartAtom). p.0) ps) ≡
-      map (in_atom us) (map (λ (p : PartAtom). p.0) ps)
+      → map (subst_atom ws) (map (λ (p : PartAtom). p.0) ps) ≡
+      map (subst_atom us) (map (λ (p : PartAtom). p.0) ps)
   atoms_same [] h = refl
   atoms_same (p ∷ ps) h =
       let g = all_parts Same (atom_variables p.0)
@@ -94,7 +94,7 @@ module _ (ws us : List (ℕ × Body)) where
       let same = atoms_same y.atoms (subst (All Same)
       (mono_variables_is m ∙ ap (flat_map atom_variables) atoms) h) in
       in_mono_is ws m k ∙ ap (times_all (well (number k)))
-      (ap (map (in_atom ws)) atoms ∙ same ∙ ap (map (in_atom us)) (sym atoms)) ∙
+      (ap (map (subst_atom ws)) atoms ∙ same ∙ ap (map (subst_atom us)) (sym atoms)) ∙
       sym (in_mono_is us m k))
 
   abbrev bare_term : PartMono × ℤ → Mono × ℤ
@@ -113,11 +113,11 @@ module _ (ws us : List (ℕ × Body)) where
       let one = (p.0).1 g.0 p.1 in
       let next : Formed Body → Formed Body = λ x.
       record {
-        form = added done.form x.form;
+        form = body_sum done.form x.form;
         within = done.within &&
-            (x.within && is_within (added done.form x.form));
+            (x.within && is_within (body_sum done.form x.form));
       } in
-      sums_same ps (next (in_mono ws (p.0).0 p.1)) g.1 ∙
+      sums_same ps (next (subst_mono ws (p.0).0 p.1)) g.1 ∙
       ap (λ x. plus_all (next x) (map (term_in us) (map bare_term ps))) one
 
   body_step : (x : Body-F Atom Body Mono) (y : Body-F PartAtom PartBody PartMono) → bare_body y ≡
@@ -135,5 +135,5 @@ module _ (ws us : List (ℕ × Body)) where
   -- where the variables of a polynomial are replaced by the same, its instances are the same, and
   -- both or neither keep the limits
   pub same_instance : (p : Body) → All (λ v. replaced ws v ≡ replaced us v) (variables p) →
-      in_body ws p ≡ in_body us p
+      subst_body ws p ≡ subst_body us p
   same_instance = ind-Body SameAtom SameBody SameMono atom_step body_step mono_step

@@ -6,11 +6,11 @@ use Rattle.std.specs.Ordering.{is_lt, ordering_reverse}
 use Rattle.std.specs.declared.cmp.Ordering.{Ordering}
 use Rattle.std.specs.declared.cmp.Ordering.TheVariants.{Less, Equal, Greater}
 use Rattle.rx_plain.proofs.Integers.{zero-mul-int, add-mul-int, add-zero-int, zero-add-int}
-use Rattle.rx_poly.specs.Limits.{added, is_small, is_within, of_terms, scaled_by, subtracted}
+use Rattle.rx_poly.specs.Limits.{body_sum, is_small, is_within, of_terms, scaled_by, body_difference}
 use Rattle.rx_poly.specs.Normal.{is_normal, is_poly}
 use Rattle.rx_poly.specs.Order.{mono_cmp}
 use Rattle.rx_poly.specs.Reading.{coefficient, found}
-use Rattle.rx_poly.specs.Terms.{add_terms, insert_term, is_before, is_listed, is_zero, negated, placed, put, times_number}
+use Rattle.rx_poly.specs.Terms.{add_terms, insert_term, is_before, is_sparse_sorted, is_zero, negated, insert_by, cons_nonzero, times_number}
 use Rattle.rx_poly.proofs.Levels.{terms-of_terms}
 use Rattle.rx_poly.proofs.OrderLemmas.{mono_total}
 use Rattle.rx_poly.proofs.PolyLaws.{keys-times_number, poly_terms, within_terms, zero_poly}
@@ -45,9 +45,10 @@ front : (m k : Mono) (c : ℤ) (ts : List (Mono × ℤ)) → is_before mono_cmp 
     coefficient m ((k, c) ∷ ts) ≡ share m k c +ℤ coefficient m ts
 front m k c ts h = by_place m k c ts h (mono_cmp m k) refl
 
-coefficient-put : (m k : Mono) (c : ℤ) (ts : List (Mono × ℤ)) → is_before mono_cmp k ts ≡ true →
-    coefficient m (put k c ts) ≡ share m k c +ℤ coefficient m ts
-coefficient-put m k c ts h =
+coefficient-cons_nonzero : (m k : Mono) (c : ℤ) (ts : List (Mono × ℤ)) → is_before mono_cmp k ts ≡
+    true →
+    coefficient m (cons_nonzero k c ts) ≡ share m k c +ℤ coefficient m ts
+coefficient-cons_nonzero m k c ts h =
     put_cases (λ us. coefficient m us ≡ share m k c +ℤ coefficient m ts) k c ts
     (λ e. let none : share m k c ≡ pos 0 = ap (share m k) (zero_is c e) ∙
     found_zero (mono_cmp m k) in omega (arith, ints))
@@ -65,15 +66,15 @@ module _ (m k : Mono) (c : ℤ) (u : Mono × ℤ) (us : List (Mono × ℤ))
     (l : Listed mono_cmp mono_total same_mono u us) where
   by_order : (further : List (Mono × ℤ)) → coefficient m further ≡ share m k c +ℤ coefficient m us →
       (mono_cmp u.0 k ≡ Less → is_before mono_cmp u.0 further ≡ true) → (r : Ordering) →
-      mono_cmp k u.0 ≡ r → coefficient m (placed r k c u us further) ≡
+      mono_cmp k u.0 ≡ r → coefficient m (insert_by r k c u us further) ≡
       share m k c +ℤ coefficient m (u ∷ us)
-  by_order further h b Less e = coefficient-put m k c (u ∷ us)
+  by_order further h b Less e = coefficient-cons_nonzero m k c (u ∷ us)
       (and_from (is_lt (mono_cmp k u.0)) (is_before mono_cmp k us) (ap is_lt e)
       (before_trans mono_cmp mono_total same_mono k u.0 us e l.before))
   by_order further h b Equal e =
       let one = same_mono k u.0 e in
       let before = subst (λ x. is_before mono_cmp x us ≡ true) (sym one) l.before in
-      let all = coefficient-put m k (c +ℤ u.1) us before in
+      let all = coefficient-cons_nonzero m k (c +ℤ u.1) us before in
       let both = share_sum (mono_cmp m k) c u.1 in
       let head = front m u.0 u.1 us l.before in
       let other : share m k u.1 ≡ share m u.0 u.1 = ap (λ x. share m x u.1) one in
@@ -83,9 +84,10 @@ module _ (m k : Mono) (c : ℤ) (u : Mono × ℤ) (us : List (Mono × ℤ))
       let old = front m u.0 u.1 us l.before in
       omega (arith, ints)
 
-coefficient-insert : (m k : Mono) (c : ℤ) (us : List (Mono × ℤ)) → is_listed mono_cmp us ≡ true →
+coefficient-insert : (m k : Mono) (c : ℤ) (us : List (Mono × ℤ)) → is_sparse_sorted mono_cmp us ≡
+    true →
     coefficient m (insert_term mono_cmp k c us) ≡ share m k c +ℤ coefficient m us
-coefficient-insert m k c [] h = coefficient-put m k c [] refl
+coefficient-insert m k c [] h = coefficient-cons_nonzero m k c [] refl
 coefficient-insert m k c (u ∷ us) h =
     let l = listed_parts mono_cmp mono_total same_mono u us h in
     by_order m k c u us l (insert_term mono_cmp k c us) (coefficient-insert m k c us l.rest)
@@ -93,8 +95,8 @@ coefficient-insert m k c (u ∷ us) h =
     (mono_cmp k u.0) refl
 
 -- the coefficient in a sum is the sum of those in both
-pub coefficient-add : (m : Mono) (ts us : List (Mono × ℤ)) → is_listed mono_cmp ts ≡ true →
-    is_listed mono_cmp us ≡ true → coefficient m (add_terms mono_cmp ts us) ≡
+pub coefficient-add : (m : Mono) (ts us : List (Mono × ℤ)) → is_sparse_sorted mono_cmp ts ≡ true →
+    is_sparse_sorted mono_cmp us ≡ true → coefficient m (add_terms mono_cmp ts us) ≡
     coefficient m ts +ℤ coefficient m us
 coefficient-add m [] us h g = sym (zero-add-int (coefficient m us))
 coefficient-add m (t ∷ ts) us h g =
@@ -112,13 +114,14 @@ share_times Less c k = sym (zero-mul-int k)
 share_times Equal c k = refl
 share_times Greater c k = sym (zero-mul-int k)
 
-pub coefficient-times : (m : Mono) (k : ℤ) (ts : List (Mono × ℤ)) → is_listed mono_cmp ts ≡ true →
+pub coefficient-times : (m : Mono) (k : ℤ) (ts : List (Mono × ℤ)) → is_sparse_sorted mono_cmp ts ≡
+    true →
     coefficient m (times_number k ts) ≡ coefficient m ts *ℤ k
 coefficient-times m k [] h = sym (zero-mul-int k)
 coefficient-times m k (t ∷ ts) h =
     let l = listed_parts mono_cmp mono_total same_mono t ts h in
     let rest = coefficient-times m k ts l.rest in
-    let put_in = coefficient-put m t.0 (t.1 *ℤ k) (times_number k ts)
+    let put_in = coefficient-cons_nonzero m t.0 (t.1 *ℤ k) (times_number k ts)
     (keys-times_number (λ x. is_lt (mono_cmp t.0 x)) k ts l.before) in
     let one = share_times (mono_cmp m t.0) t.1 k in
     let both = add-mul-int (share m t.0 t.1) (coefficient m ts) k in
@@ -148,8 +151,8 @@ nonzero-negated c h = by_false (is_zero (neg_ℤ c)) (λ e.
     let wrong : is_zero c ≡ true = ap is_zero none in
     cc)
 
-listed-negated : (ts : List (Mono × ℤ)) → is_listed mono_cmp ts ≡ true →
-    is_listed mono_cmp (negated ts) ≡ true
+listed-negated : (ts : List (Mono × ℤ)) → is_sparse_sorted mono_cmp ts ≡ true →
+    is_sparse_sorted mono_cmp (negated ts) ≡ true
 listed-negated [] h = refl
 listed-negated (t ∷ ts) h =
     let l = listed_parts mono_cmp mono_total same_mono t ts h in
@@ -159,7 +162,7 @@ listed-negated (t ∷ ts) h =
       rest = listed-negated ts l.rest;
     })
 
-pub coefficient-negated : (m : Mono) (ts : List (Mono × ℤ)) → is_listed mono_cmp ts ≡ true →
+pub coefficient-negated : (m : Mono) (ts : List (Mono × ℤ)) → is_sparse_sorted mono_cmp ts ≡ true →
     coefficient m (negated ts) ≡ neg_ℤ (coefficient m ts)
 coefficient-negated m [] h = refl
 coefficient-negated m (t ∷ ts) h =
@@ -172,17 +175,17 @@ coefficient-negated m (t ∷ ts) h =
 
 -- ---- polynomials
 
-pub coefficient-added : (m : Mono) (p q : Body) → is_poly p ≡ true → is_poly q ≡ true
-    → coefficient m (out-Body (added p q)).terms ≡
+pub coefficient-body_sum : (m : Mono) (p q : Body) → is_poly p ≡ true → is_poly q ≡ true
+    → coefficient m (out-Body (body_sum p q)).terms ≡
     coefficient m (out-Body p).terms +ℤ coefficient m (out-Body q).terms
-coefficient-added m p q h g =
+coefficient-body_sum m p q h g =
     ap (coefficient m) (terms-of_terms _) ∙ coefficient-add m (out-Body p).terms (out-Body q).terms
     (poly_terms p h).listed (poly_terms q g).listed
 
-pub coefficient-subtracted : (m : Mono) (p q : Body) → is_poly p ≡ true → is_poly q ≡ true
-    → coefficient m (out-Body (subtracted p q)).terms ≡
+pub coefficient-body_difference : (m : Mono) (p q : Body) → is_poly p ≡ true → is_poly q ≡ true
+    → coefficient m (out-Body (body_difference p q)).terms ≡
     coefficient m (out-Body p).terms -ℤ coefficient m (out-Body q).terms
-coefficient-subtracted m p q h g =
+coefficient-body_difference m p q h g =
     let sum = coefficient-add m (out-Body p).terms (negated (out-Body q).terms)
     (poly_terms p h).listed (listed-negated (out-Body q).terms (poly_terms q g).listed) in
     let other = coefficient-negated m (out-Body q).terms (poly_terms q g).listed in
@@ -199,7 +202,7 @@ coefficient-scaled_by m k p h =
 zero_sum : (c : ℤ) → is_zero (c +ℤ neg_ℤ c) ≡ true
 zero_sum c = let none : c +ℤ neg_ℤ c ≡ pos 0 = omega (arith, ints) in ap is_zero none
 
-nothing_left : (ts : List (Mono × ℤ)) → is_listed mono_cmp ts ≡ true →
+nothing_left : (ts : List (Mono × ℤ)) → is_sparse_sorted mono_cmp ts ≡ true →
     add_terms mono_cmp ts (negated ts) ≡ []
 nothing_left [] h = refl
 nothing_left (t ∷ ts) h =
@@ -209,7 +212,7 @@ nothing_left (t ∷ ts) h =
     ((t.0, t.1 +ℤ neg_ℤ t.1) ∷ add_terms mono_cmp ts (negated ts))) (zero_sum t.1)
     ∙ nothing_left ts l.rest
 
-pub minus_itself : (p : Body) → is_poly p ≡ true → subtracted p p ≡ of_terms []
+pub minus_itself : (p : Body) → is_poly p ≡ true → body_difference p p ≡ of_terms []
 minus_itself p h = ap of_terms (nothing_left (out-Body p).terms (poly_terms p h).listed)
 
 -- 0 keeps the limits

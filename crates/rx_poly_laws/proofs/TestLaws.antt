@@ -5,15 +5,15 @@ use Rattle.std.proofs.lemmas.Bool.{and_from, and_parts}
 use Rattle.std.proofs.lemmas.List.Folds.{list_all-append}
 use Rattle.rx_poly.specs.Constants.{number, variable}
 use Rattle.rx_poly.specs.Division.{atom_alone, quotient_of, remainder_of}
-use Rattle.rx_poly.specs.Limits.{of_terms, of_atoms, added, subtracted, scaled_by}
+use Rattle.rx_poly.specs.Limits.{of_terms, of_atoms, body_sum, body_difference, scaled_by}
 use Rattle.rx_poly.specs.Order.{atom_cmp, mono_cmp}
-use Rattle.rx_poly.specs.Products.{mono_times, multiplied, running, scaled}
+use Rattle.rx_poly.specs.Products.{mono_times, body_product, sum_of_products, term_product}
 use Rattle.rx_poly.specs.Terms.{add_terms, all_keys, negated}
 use Rattle.rx_poly.proofs.DivisionCases.{quotient_cases, remainder_cases}
 use Rattle.rx_poly.proofs.Levels.{terms-of_terms, atoms-of_atoms}
 use Rattle.rx_poly.proofs.PolyLaws.{keys-times_number}
 use Rattle.rx_poly.proofs.SortedLaws.{all-join}
-use Rattle.rx_poly.proofs.TermLaws.{all_keys-add, all_keys-put}
+use Rattle.rx_poly.proofs.TermLaws.{all_keys-add, all_keys-cons_nonzero}
 use Rattle.rx_poly.specs.declared.body.Atom.{Atom}
 use Rattle.rx_poly.specs.declared.body.Atom.TheVariants.{Var, Div, Mod}
 use Rattle.rx_poly.specs.declared.body.Mono.{Mono, out-Mono}
@@ -56,7 +56,8 @@ module _ (test : ℕ → Bool) where
 
   pub passes-number : (k : ℤ) → passes test (number k) ≡ true
   passes-number k =
-      passes-of_terms _ ∙ all_keys-put mono_passes (of_atoms []) k [] (mono_passes-of_atoms []) refl
+      passes-of_terms _ ∙ all_keys-cons_nonzero mono_passes (of_atoms []) k []
+      (mono_passes-of_atoms []) refl
 
   atom_alone_passes : (x : Atom) → atom_passes x ≡ true → passes test (atom_alone x) ≡ true
   atom_alone_passes x h =
@@ -71,9 +72,9 @@ module _ (test : ℕ → Bool) where
 
   -- ---- sums
 
-  pub passes-added : (p q : Body) → passes test p ≡ true → passes test q ≡ true →
-      passes test (added p q) ≡ true
-  passes-added p q h g =
+  pub passes-body_sum : (p q : Body) → passes test p ≡ true → passes test q ≡ true →
+      passes test (body_sum p q) ≡ true
+  passes-body_sum p q h g =
       passes-of_terms _ ∙ all_keys-add mono_passes mono_cmp (out-Body p).terms (out-Body q).terms
       (keys_of p h) (keys_of q g)
 
@@ -82,9 +83,9 @@ module _ (test : ℕ → Bool) where
   keys-negated [] = refl
   keys-negated (t ∷ ts) = ap (λ b. mono_passes t.0 && b) (keys-negated ts)
 
-  pub passes-subtracted : (p q : Body) → passes test p ≡ true → passes test q ≡ true →
-      passes test (subtracted p q) ≡ true
-  passes-subtracted p q h g =
+  pub passes-body_difference : (p q : Body) → passes test p ≡ true → passes test q ≡ true →
+      passes test (body_difference p q) ≡ true
+  passes-body_difference p q h g =
       passes-of_terms _
       ∙ all_keys-add mono_passes mono_cmp (out-Body p).terms (negated (out-Body q).terms)
       (keys_of p h) (keys-negated (out-Body q).terms ∙ keys_of q g)
@@ -103,28 +104,30 @@ module _ (test : ℕ → Bool) where
       ∙ all-join atom_cmp atom_passes (out-Mono m).atoms (out-Mono n).atoms
       (sym (mono_passes_is m) ∙ h) (sym (mono_passes_is n) ∙ g)
 
-  keys-scaled : (t : Mono × ℤ) (us : List (Mono × ℤ)) → mono_passes t.0 ≡ true →
-      all_keys mono_passes us ≡ true → all_keys mono_passes (scaled t us) ≡ true
-  keys-scaled t [] h g = refl
-  keys-scaled t (u ∷ us) h g =
+  keys-term_product : (t : Mono × ℤ) (us : List (Mono × ℤ)) → mono_passes t.0 ≡ true →
+      all_keys mono_passes us ≡ true → all_keys mono_passes (term_product t us) ≡ true
+  keys-term_product t [] h g = refl
+  keys-term_product t (u ∷ us) h g =
       let both = and_parts (mono_passes u.0) (all_keys mono_passes us) g in
-      and_from (mono_passes (mono_times t.0 u.0)) (all_keys mono_passes (scaled t us))
-      (mono_times_passes t.0 u.0 h both.0) (keys-scaled t us h both.1)
+      and_from (mono_passes (mono_times t.0 u.0)) (all_keys mono_passes (term_product t us))
+      (mono_times_passes t.0 u.0 h both.0) (keys-term_product t us h both.1)
 
-  keys-running : (sum ts us : List (Mono × ℤ)) → all_keys mono_passes sum ≡ true →
+  keys-sum_of_products : (sum ts us : List (Mono × ℤ)) → all_keys mono_passes sum ≡ true →
       all_keys mono_passes ts ≡ true → all_keys mono_passes us ≡ true →
-      all_keys mono_passes (running sum ts us) ≡ true
-  keys-running sum [] us s h g = s
-  keys-running sum (t ∷ ts) us s h g =
+      all_keys mono_passes (sum_of_products sum ts us) ≡ true
+  keys-sum_of_products sum [] us s h g = s
+  keys-sum_of_products sum (t ∷ ts) us s h g =
       let both = and_parts (mono_passes t.0) (all_keys mono_passes ts) h in
-      keys-running (add_terms mono_cmp sum (scaled t us)) ts us
-      (all_keys-add mono_passes mono_cmp sum (scaled t us) s (keys-scaled t us both.0 g)) both.1
+      keys-sum_of_products (add_terms mono_cmp sum (term_product t us)) ts us
+      (all_keys-add mono_passes mono_cmp sum (term_product t us) s
+      (keys-term_product t us both.0 g)) both.1
       g
 
-  pub passes-multiplied : (p q : Body) → passes test p ≡ true → passes test q ≡ true →
-      passes test (multiplied p q) ≡ true
-  passes-multiplied p q h g =
-      passes-of_terms _ ∙ keys-running [] (out-Body p).terms (out-Body q).terms refl (keys_of p h)
+  pub passes-body_product : (p q : Body) → passes test p ≡ true → passes test q ≡ true →
+      passes test (body_product p q) ≡ true
+  passes-body_product p q h g =
+      passes-of_terms _ ∙ keys-sum_of_products [] (out-Body p).terms (out-Body q).terms refl
+      (keys_of p h)
       (keys_of q g)
 
   -- ---- quotients and remainders

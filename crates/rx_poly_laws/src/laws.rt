@@ -3,11 +3,11 @@ ghost use Rattle.std.specs.Prelude.{◌≡◌, ◌↔◌, ◌<◌, ◌≤◌, �
 ghost use Rattle.rx_poly.specs.Normal.{is_poly};
 ghost use Rattle.rx_poly.specs.Constants.{number, variable};
 ghost use Rattle.rx_poly.specs.Division.{quotient_of, remainder_of};
-ghost use Rattle.rx_poly.specs.Limits.{added, is_within, scaled_by, subtracted};
+ghost use Rattle.rx_poly.specs.Limits.{body_sum, is_within, scaled_by, body_difference};
 ghost use Rattle.rx_poly.specs.Norm.{norm_of};
-ghost use Rattle.rx_poly.specs.Products.{multiplied};
+ghost use Rattle.rx_poly.specs.Products.{body_product};
 ghost use Rattle.rx_poly.specs.Reading.{coefficient};
-ghost use Rattle.rx_poly.specs.Substitution.{in_body, replaced};
+ghost use Rattle.rx_poly.specs.Substitution.{subst_body, replaced};
 ghost use Rattle.rx_poly.specs.Value.{value};
 ghost use Rattle.rx_poly.specs.declared.body.Body.{Body, out-Body};
 ghost use Rattle.rx_poly.specs.declared.body.Mono.{Mono};
@@ -45,9 +45,9 @@ pub fn inner_polynomials_keep_the_limits()
 #[tactic(auto, using(crate::proofs::Unchanged::same_form, crate::proofs::Unchanged::all_within))]
 pub fn unchanged_variables_keep_the_polynomial()
     ensures same { (ws : List (ℕ × Body)) (p : Body) → is_poly p ≡ true →
-        All (λ v. replaced ws v ≡ variable v) (variables p) → (in_body ws p).form ≡ p }
+        All (λ v. replaced ws v ≡ variable v) (variables p) → (subst_body ws p).form ≡ p }
     ensures within { (ws : List (ℕ × Body)) (p : Body) → is_poly p ≡ true →
-        All (λ v. replaced ws v ≡ variable v) (variables p) → (in_body ws p).within ≡ true }
+        All (λ v. replaced ws v ≡ variable v) (variables p) → (subst_body ws p).within ≡ true }
 {}
 
 /// What is formed of polynomials has no variables but theirs: where the variables of the parts, at
@@ -57,14 +57,14 @@ pub fn results_have_the_variables_of_their_parts()
     ensures number { (test : ℕ → Bool) (k : ℤ) → passes test (number k) ≡ true }
     ensures variable { (test : ℕ → Bool) (n : ℕ) → test n ≡ true → passes test (variable n) ≡ true }
     ensures sum { (test : ℕ → Bool) (p q : Body) → passes test p ≡ true → passes test q ≡ true →
-        passes test (added p q) ≡ true }
+        passes test (body_sum p q) ≡ true }
     ensures difference { (test : ℕ → Bool) (p q : Body) → passes test p ≡ true → passes test q ≡
         true →
-        passes test (subtracted p q) ≡ true }
+        passes test (body_difference p q) ≡ true }
     ensures multiple { (test : ℕ → Bool) (k : ℤ) (p : Body) → passes test p ≡ true →
         passes test (scaled_by k p) ≡ true }
     ensures product { (test : ℕ → Bool) (p q : Body) → passes test p ≡ true → passes test q ≡ true →
-        passes test (multiplied p q) ≡ true }
+        passes test (body_product p q) ≡ true }
     ensures quotient { (test : ℕ → Bool) (p q : Body) → passes test p ≡ true → passes test q ≡
         true →
         passes test (quotient_of p q) ≡ true }
@@ -79,30 +79,30 @@ pub fn results_have_the_variables_of_their_parts()
 pub fn instances_have_the_variables_of_their_replacements()
     ensures { (test : ℕ → Bool) (ws : List (ℕ × Body)) (p : Body) →
         All (λ v. passes test (replaced ws v) ≡ true) (variables p) →
-        passes test (in_body ws p).form ≡ true }
+        passes test (subst_body ws p).form ≡ true }
 {}
 
 /// What a polynomial becomes by a substitution depends only on what its own variables are replaced
 /// by; so does whether all that is formed on the way keeps the limits.
 pub fn an_instance_depends_on_what_its_variables_are_replaced_by()
     ensures { (ws us : List (ℕ × Body)) (p : Body) →
-        All (λ v. replaced ws v ≡ replaced us v) (variables p) → in_body ws p ≡ in_body us p }
+        All (λ v. replaced ws v ≡ replaced us v) (variables p) → subst_body ws p ≡ subst_body us p }
 {}
 
 /// A polynomial minus itself is 0, which passes no limit.
 pub fn a_polynomial_minus_itself_is_zero()
-    ensures same { (p : Body) → is_poly p ≡ true → subtracted p p ≡ number (pos 0) }
-    ensures within { (p : Body) → is_poly p ≡ true → is_within (subtracted p p) ≡ true }
+    ensures same { (p : Body) → is_poly p ≡ true → body_difference p p ≡ number (pos 0) }
+    ensures within { (p : Body) → is_poly p ≡ true → is_within (body_difference p p) ≡ true }
 {}
 
 /// The coefficient of a monomial in a sum is the sum of its coefficients in both, in a difference
 /// their difference, and in a multiple the product with the number.
 pub fn coefficients_are_combined_one_by_one()
     ensures sum { (m : Mono) (p q : Body) → is_poly p ≡ true → is_poly q ≡ true →
-        coefficient m (out-Body (added p q)).terms ≡
+        coefficient m (out-Body (body_sum p q)).terms ≡
         coefficient m (out-Body p).terms +ℤ coefficient m (out-Body q).terms }
     ensures difference { (m : Mono) (p q : Body) → is_poly p ≡ true → is_poly q ≡ true →
-        coefficient m (out-Body (subtracted p q)).terms ≡
+        coefficient m (out-Body (body_difference p q)).terms ≡
         coefficient m (out-Body p).terms -ℤ coefficient m (out-Body q).terms }
     ensures multiple { (m : Mono) (k : ℤ) (p : Body) → is_poly p ≡ true →
         coefficient m (out-Body (scaled_by k p)).terms ≡ coefficient m (out-Body p).terms *ℤ k }

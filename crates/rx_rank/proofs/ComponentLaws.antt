@@ -5,7 +5,7 @@ use Rattle.std.proofs.lemmas.Bool.{and_parts}
 use Rattle.std.proofs.lemmas.List.Elements.{All-cons, All-contains, All-filter, All-head, All-nil, All-tail, All-take, All-weaker, filter_passes}
 use Rattle.std.specs.List.{All, AllZip, filter, find, list_all}
 use Rattle.std.specs.Option.{IfSome, option_map}
-use Rattle.rx_poly.specs.Substitution.{in_body, numbered, numbered_from, replaced}
+use Rattle.rx_poly.specs.Substitution.{subst_body, numbered, numbered_from, replaced}
 use Rattle.rx_poly.specs.Variables.{uses_below, variables}
 use Rattle.rx_poly.specs.declared.body.Body.{Body}
 use Rattle.rx_poly_laws.specs.Tests.{passes}
@@ -89,7 +89,7 @@ all_replaced test ps (v ∷ vs) h t =
 
 -- an instance has the variables of the arguments and of the polynomial
 pub instance_own : (test : ℕ → Bool) (ps : List Body) (q : Body) → list_all (passes test) ps ≡
-    true → passes test q ≡ true → passes test (in_body (numbered ps) q).form ≡ true
+    true → passes test q ≡ true → passes test (subst_body (numbered ps) q).form ≡ true
 instance_own test ps q h t =
     instance_passes test (numbered ps) q (all_replaced test ps (variables q) h t)
 

@@ -7,7 +7,7 @@ use Rattle.rx_poly.specs.declared.body.Body.{Body}
 use Rattle.rx_row.specs.declared.row.Row.{Row}
 use Rattle.rx_row.specs.declared.row.Row.TheVariants.{Ge}
 use Rattle.rx_cert.specs.Depth.{cert_depth}
-use Rattle.rx_cert.specs.Findings.{Said, Yes, No, Beyond, both, within}
+use Rattle.rx_cert.specs.Findings.{Said, Yes, No, Beyond, and_also, guard}
 use Rattle.rx_cert.specs.Showing.{all_shown, shown}
 use Rattle.rx_cert.specs.Variables.{cert_passes}
 use Rattle.rx_cert.specs.declared.cert.Cert.{Cert}
@@ -22,7 +22,7 @@ use Rattle.rx_rank.proofs.Certified.{certificates_append}
 use Rattle.rx_rank.specs.Answers.{IsProved, IsTold, joined}
 use Rattle.rx_rank.specs.PairTests.{falls, less_by_one, not_negative, row_said}
 
-both_last : (s : Said) → both s Yes ≡ s
+both_last : (s : Said) → and_also s Yes ≡ s
 both_last Yes = refl
 both_last No = refl
 both_last Beyond = refl
@@ -31,17 +31,17 @@ module _ (pair : Pair) where
   -- rows that keep the limits
   pub told_rows : (rows : Formed (List Row)) (list : List Row) (a : AllShown) → list ≡ rows.form →
       rows.within ≡ true → IsAllShown pair.phi list a
-      → IsTold (within rows.within (all_shown refuted pair.phi rows.form)) pair rows a
+      → IsTold (guard rows.within (all_shown refuted pair.phi rows.form)) pair rows a
   told_rows rows list (Shown certs) is keeps told =
       let t = subst (λ rs. IsAllShown pair.phi rs (Shown certs)) is told in (
-        ap (λ b. within b (all_shown refuted pair.phi rows.form)) keeps ∙ t.0,
+        ap (λ b. guard b (all_shown refuted pair.phi rows.form)) keeps ∙ t.0,
         record { within = keeps; certified = t.1 },
       )
   told_rows rows list NotShown is keeps told =
-      ap (λ b. within b (all_shown refuted pair.phi rows.form)) keeps ∙
+      ap (λ b. guard b (all_shown refuted pair.phi rows.form)) keeps ∙
       subst (λ rs. all_shown refuted pair.phi rs ≡ No) is told
   told_rows rows list TooLarge is keeps told =
-      ap (λ b. within b (all_shown refuted pair.phi rows.form)) keeps ∙
+      ap (λ b. guard b (all_shown refuted pair.phi rows.form)) keeps ∙
       subst (λ rs. all_shown refuted pair.phi rs ≡ Beyond) is told
 
   -- no rows
@@ -53,24 +53,24 @@ module _ (pair : Pair) where
   }
 
   pub told_none : (rows : Formed (List Row)) → [] ≡ rows.form → rows.within ≡ true →
-      IsTold (within rows.within (all_shown refuted pair.phi rows.form)) pair rows (Shown [])
+      IsTold (guard rows.within (all_shown refuted pair.phi rows.form)) pair rows (Shown [])
   told_none rows is keeps = told_rows rows [] (Shown []) is keeps (refl, no_certificates)
 
   -- rows that pass them
   pub beyond_rows : (rows : Formed (List Row)) → rows.within ≡ false →
-      within rows.within (all_shown refuted pair.phi rows.form) ≡ Beyond
-  beyond_rows rows passes = ap (λ b. within b (all_shown refuted pair.phi rows.form)) passes
+      guard rows.within (all_shown refuted pair.phi rows.form) ≡ Beyond
+  beyond_rows rows passes = ap (λ b. guard b (all_shown refuted pair.phi rows.form)) passes
 
   -- one row
   pub told_row : (row : Formed Row) (it : Row) (a : AllShown) → it ≡ row.form → row.within ≡ true →
       IsAllShown pair.phi (it ∷ []) a → IsTold (row_said pair row) pair (one_formed row) a
   told_row row it a is keeps told =
-      subst (λ s. IsTold (within row.within s) pair (one_formed row) a)
+      subst (λ s. IsTold (guard row.within s) pair (one_formed row) a)
       (both_last (shown refuted pair.phi row.form))
       (told_rows (one_formed row) (it ∷ []) a (ap (λ r. r ∷ []) is) keeps told)
 
   pub beyond_row : (row : Formed Row) → row.within ≡ false → row_said pair row ≡ Beyond
-  beyond_row row passes = ap (λ b. within b (shown refuted pair.phi row.form)) passes
+  beyond_row row passes = ap (λ b. guard b (shown refuted pair.phi row.form)) passes
 
   module _ (p q : Body) where
     abbrev first : Formed Row
@@ -82,12 +82,12 @@ module _ (pair : Pair) where
     -- the first row isn't shown
     pub not_first : (s : Said) → row_said pair first ≡ s → (s ≡ Yes → ⊥) → falls pair p q ≡ s
     not_first Yes is other = absurd (other refl)
-    not_first No is other = ap (λ s. both s (row_said pair second)) is
-    not_first Beyond is other = ap (λ s. both s (row_said pair second)) is
+    not_first No is other = ap (λ s. and_also s (row_said pair second)) is
+    not_first Beyond is other = ap (λ s. and_also s (row_said pair second)) is
 
     -- it is, and the second decides
     pub falls_second : row_said pair first ≡ Yes → falls pair p q ≡ row_said pair second
-    falls_second is = ap (λ s. both s (row_said pair second)) is
+    falls_second is = ap (λ s. and_also s (row_said pair second)) is
 
     pub told_falls : (certs : List Cert) (later : AllShown) → row_said pair first ≡ Yes →
         IsProved pair (one_formed first) certs →

@@ -5,10 +5,10 @@ use Rattle.std.specs.List.{AllZip, filter, find, list_any, range_with_len}
 use Rattle.std.specs.Option.{is_some, option_map, option_map_or}
 use Rattle.std.proofs.lemmas.List.{map-append, take_more}
 use denote.Ref.{Bor}
-use Rattle.rx_poly.proofs.Same.{body_eq, told_itself, told_same}
+use Rattle.rx_poly.proofs.Same.{body_eq, body_eq-refl, body_eq-sound}
 use Rattle.rx_poly.proofs.TermLaws.{by_false}
 use Rattle.rx_poly.specs.declared.body.Body.{Body}
-use Rattle.rx_cert.specs.Findings.{Said, Yes, No, Beyond, both}
+use Rattle.rx_cert.specs.Findings.{Said, Yes, No, Beyond, and_also}
 use Rattle.rx_cert.specs.declared.cert.Cert.{Cert}
 use Rattle.rx_solve.specs.Attempts.{Tried}
 use Rattle.rx_pairs.specs.declared.pair.Pair.{Pair}
@@ -89,9 +89,9 @@ module _ (names : List ℕ) (c i name : ℕ) (done whole : List ℕ) (h : i < le
 -- ---- polynomials among others
 
 told_poly : (b : Bool) (p q : Body) → ((b ≡ true) ↔ (q ≡ p)) → body_eq q p ≡ b
-told_poly true p q tells = told_itself q p (tells.0 refl)
+told_poly true p q tells = body_eq-refl q p (tells.0 refl)
 told_poly false p q tells =
-    by_false (body_eq q p) (λ e. let wrong : false ≡ true = tells.1 (told_same q p e) in cc)
+    by_false (body_eq q p) (λ e. let wrong : false ≡ true = tells.1 (body_eq-sound q p e) in cc)
 
 pub next_same : (b : Bool) (ps : List Body) (p q : Body) (i : ℕ) → slice_get ps i ≡ Some q →
     ((b ≡ true) ↔ (q ≡ p))
@@ -138,12 +138,12 @@ module _ (total turn : ℕ) (pairs : List Pair) (waiting done : List ℕ) (whole
 
 -- ---- pairs that hold
 
-pub stops : (s later : Said) → is_yes s ≡ false → both s later ≡ s
+pub stops : (s later : Said) → is_yes s ≡ false → and_also s later ≡ s
 stops Yes later e = cc
 stops No later e = refl
 stops Beyond later e = refl
 
-pub goes_on : (s later : Said) → is_yes s ≡ true → both s later ≡ later
+pub goes_on : (s later : Said) → is_yes s ≡ true → and_also s later ≡ later
 goes_on Yes later e = refl
 goes_on No later e = cc
 goes_on Beyond later e = cc
@@ -153,19 +153,19 @@ pub next_with : (values : List (Option Body)) (p : Body) (refs : List (Bor Pair)
     (r : Bor Pair) → i < length refs → r ≡ get_or refs i r
     → (s : Said) → s ≡ tested (holds r.now) (Some p) (polynomial_of values r.now.right.0)
     → hold_with values p (pairs_at (drop i refs)) ≡
-    both s (hold_with values p (pairs_at (drop (i + 1) refs)))
+    and_also s (hold_with values p (pairs_at (drop (i + 1) refs)))
 next_with values p refs i r h is s found =
     ap (hold_with values p) (refs_from refs i r h is) ∙
-    ap (λ t. both t (hold_with values p (pairs_at (drop (i + 1) refs)))) (sym found)
+    ap (λ t. and_also t (hold_with values p (pairs_at (drop (i + 1) refs)))) (sym found)
 
 -- one pair more, with the polynomials of its symbols
 pub next_hold : (values : List (Option Body)) (refs : List (Bor Pair)) (i : ℕ) (r : Bor Pair) → i <
     length refs → r ≡ get_or refs i r
     → (s : Said) → holds_by values r.now ≡ s → all_hold values (pairs_at (drop i refs)) ≡
-    both s (all_hold values (pairs_at (drop (i + 1) refs)))
+    and_also s (all_hold values (pairs_at (drop (i + 1) refs)))
 next_hold values refs i r h is s found =
     ap (all_hold values) (refs_from refs i r h is) ∙
-    ap (λ t. both t (all_hold values (pairs_at (drop (i + 1) refs)))) found
+    ap (λ t. and_also t (all_hold values (pairs_at (drop (i + 1) refs)))) found
 
 -- ---- fits
 
@@ -187,10 +187,10 @@ module _ {A : Type 0} (made : Option A) (noted : Bool) (s : Said)
 
     -- where none are, the whole isn't shown either
     pub made_not : (later : Said) → made ≡ None → record { made = None; noted = noted } ≡
-        only_shown (both s later)
+        only_shown (and_also s later)
     made_not later e = by s is where
       by : (t : Said) → record { made = option_map {U = Unit {0}} (λ x. tt) made; noted = noted } ≡
-          only_shown t → record { made = None; noted = noted } ≡ only_shown (both t later)
+          only_shown t → record { made = None; noted = noted } ≡ only_shown (and_also t later)
       by Yes f =
           let none = ap (λ (t : Tried (Unit {0})). t.made) f in let some =
           ap (option_map {U = Unit {0}} (λ x. tt)) e in cc

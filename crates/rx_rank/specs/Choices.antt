@@ -6,7 +6,7 @@ use Rattle.std.specs.List.{filter, find, flat_map, list_all, list_any}
 use Rattle.std.specs.Option.{option_map}
 use Rattle.rx_poly.specs.Variables.{uses_below}
 use Rattle.rx_poly.specs.declared.body.Body.{Body}
-use Rattle.rx_cert.specs.Findings.{Said, Yes, No, Beyond, both}
+use Rattle.rx_cert.specs.Findings.{Said, Yes, No, Beyond, and_also}
 use Rattle.rx_solve.specs.Attempts.{Tried, applies, fails, first_applying, where_shown}
 use Rattle.rx_term.specs.declared.rule_set.SymInfo.{SymInfo}
 use Rattle.rx_pairs.specs.Columns.{at_right}
@@ -86,7 +86,7 @@ order_of pairs others = order_by (length others) pairs others
 abbrev pub hold_with : List (Option Body) → Body → List Pair → Said
 hold_with values p [] = Yes
 hold_with values p (pair ∷ pairs) =
-    both (tested (holds pair) (Some p) (polynomial_of values pair.right.0))
+    and_also (tested (holds pair) (Some p) (polynomial_of values pair.right.0))
     (hold_with values p pairs)
 
 -- p serves where it is over n arguments and all of them hold with it
@@ -120,7 +120,7 @@ filled infos pairs values (f ∷ fs) =
 -- all pairs hold
 abbrev pub all_hold : List (Option Body) → List Pair → Said
 all_hold values [] = Yes
-all_hold values (pair ∷ pairs) = both (holds_by values pair) (all_hold values pairs)
+all_hold values (pair ∷ pairs) = and_also (holds_by values pair) (all_hold values pairs)
 
 -- what is said is yes, or beyond the limits
 abbrev pub is_yes : Said → Bool

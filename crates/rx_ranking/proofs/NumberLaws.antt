@@ -7,18 +7,18 @@ use Rattle.std.proofs.lemmas.Int.{ints}
 use Rattle.std.proofs.lemmas.List.Elements.{All-nil}
 use Rattle.rx_plain.specs.Formed.{Formed}
 use Rattle.rx_poly.specs.Constants.{number}
-use Rattle.rx_poly.specs.Limits.{added, is_within, of_atoms, of_terms, subtracted}
+use Rattle.rx_poly.specs.Limits.{body_sum, is_within, of_atoms, of_terms, body_difference}
 use Rattle.rx_poly.specs.Normal.{is_empty}
 use Rattle.rx_poly.specs.Order.{mono_cmp}
 use Rattle.rx_poly.specs.Reading.{constant_of}
-use Rattle.rx_poly.specs.Substitution.{in_atom, in_body, numbered, plus_all, times_all}
-use Rattle.rx_poly.specs.Terms.{add_terms, insert_term, is_zero, negated, placed, put}
+use Rattle.rx_poly.specs.Substitution.{subst_atom, subst_body, numbered, plus_all, times_all}
+use Rattle.rx_poly.specs.Terms.{add_terms, insert_term, is_zero, negated, insert_by, cons_nonzero}
 use Rattle.rx_poly.specs.declared.body.Body.{Body, out-Body}
 use Rattle.rx_poly.specs.declared.body.Mono.{Mono}
 use Rattle.rx_poly.proofs.Constants.{number_within}
 use Rattle.rx_poly.proofs.Levels.{atoms-of_atoms, terms-of_terms}
 use Rattle.rx_poly.proofs.Substituting.{in_body_is, in_mono_is, term_in, well}
-use Rattle.rx_poly.proofs.TermLaws.{by_false, put-nonzero, zero_is}
+use Rattle.rx_poly.proofs.TermLaws.{by_false, cons_nonzero-nonzero, zero_is}
 use Rattle.rx_poly_laws.proofs.Coefficients.{itself}
 use Rattle.rx_row.specs.declared.row.Row.{Row}
 use Rattle.rx_row.specs.declared.row.Row.TheVariants.{Ge}
@@ -38,7 +38,7 @@ abbrev one : Mono
 one = of_atoms []
 
 abbrev terms_of : ℤ → List (Mono × ℤ)
-terms_of k = put one k []
+terms_of k = cons_nonzero one k []
 
 number_terms : (k : ℤ) → (out-Body (number k)).terms ≡ terms_of k
 number_terms k = terms-of_terms (terms_of k)
@@ -53,25 +53,26 @@ in_terms ws k true e fits =
 in_terms ws k false e fits =
     ap (λ c. plus_all (well (of_terms [])) (map (term_in ws) (cond c [] ((one, k) ∷ [])))) e
     ∙ ap (λ (f : Formed Body). plus_one f) (in_mono_is ws one k ∙
-    ap (λ xs. times_all (well (number k)) (map (in_atom ws) xs)) (atoms-of_atoms []))
+    ap (λ xs. times_all (well (number k)) (map (subst_atom ws) xs)) (atoms-of_atoms []))
     ∙ (λ i. kept_sum (sum i) (is_within (sum i)))
     ∙ ap (λ c. kept_sum (number k) c) fits
   where
     plus_one : Formed Body → Formed Body
     plus_one f =
         record {
-          form = added (of_terms []) f.form;
+          form = body_sum (of_terms []) f.form;
           within = true &&
-              (f.within && is_within (added (of_terms []) f.form));
+              (f.within && is_within (body_sum (of_terms []) f.form));
         }
 
     kept_sum : Body → Bool → Formed Body
     kept_sum b c = record { form = b; within = c }
 
-    sum : added (of_terms []) (number k) ≡ number k
+    sum : body_sum (of_terms []) (number k) ≡ number k
     sum = (λ i. of_terms (add_terms mono_cmp (terms-of_terms [] i) (number_terms k i)))
 
-in_number : (ws : List (ℕ × Body)) (k : ℤ) → is_within (number k) ≡ true → in_body ws (number k) ≡
+in_number : (ws : List (ℕ × Body)) (k : ℤ) → is_within (number k) ≡ true →
+    subst_body ws (number k) ≡
     well (number k)
 in_number ws k fits =
     in_body_is ws (number k) ∙ ap (λ ts. plus_all (well (of_terms [])) (map (term_in ws) ts))
@@ -87,14 +88,16 @@ join_terms a b true true za zb h =
 join_terms a b true false za zb h = let e = h refl in cc
 join_terms a b false true za zb h =
     (λ i. add_terms mono_cmp (terms_of a) (negated (terms_of (zero_is b zb i))))
-    ∙ ap (λ ts. add_terms mono_cmp ts []) (put-nonzero one a [] za)
+    ∙ ap (λ ts. add_terms mono_cmp ts []) (cons_nonzero-nonzero one a [] za)
     ∙ ap terms_of (let e : a ≡ a +ℤ neg_ℤ (pos 0) = omega (arith, ints) in e)
     ∙ sym (λ i. terms_of (a +ℤ neg_ℤ (zero_is b zb i)))
 join_terms a b false false za zb h =
-    (λ i. add_terms mono_cmp (put-nonzero one a [] za i) (negated (put-nonzero one b [] zb i)))
-    ∙ ap (λ r. placed r one a (one, neg_ℤ b) [] (insert_term mono_cmp one a [])) (itself one)
+    (λ i. add_terms mono_cmp (cons_nonzero-nonzero one a [] za i)
+    (negated (cons_nonzero-nonzero one b [] zb i)))
+    ∙ ap (λ r. insert_by r one a (one, neg_ℤ b) [] (insert_term mono_cmp one a [])) (itself one)
 
-difference : (a b : ℤ) → (is_zero a ≡ true → is_zero b ≡ true) → subtracted (number a) (number b) ≡
+difference : (a b : ℤ) → (is_zero a ≡ true → is_zero b ≡ true) →
+    body_difference (number a) (number b) ≡
     number (a +ℤ neg_ℤ b)
 difference a b h =
     (λ i. of_terms (add_terms mono_cmp (number_terms a i) (negated (number_terms b i))))
@@ -108,18 +111,18 @@ pos_nonzero m more =
 not_zero : (m : ℕ) (b : ℤ) → 0 < m → is_zero (pos m) ≡ true → is_zero b ≡ true
 not_zero m b more e = let f = pos_nonzero m more in cc
 
-positive_difference : (m n : ℕ) → n < m → subtracted (number (pos m)) (number (pos n)) ≡
+positive_difference : (m n : ℕ) → n < m → body_difference (number (pos m)) (number (pos n)) ≡
     number (pos (m - n))
 positive_difference m n less =
     difference (pos m) (pos n) (not_zero m (pos n) (omega (arith, less)))
     ∙ ap number (let e : pos m +ℤ neg_ℤ (pos n) ≡ pos (m - n) = omega (arith, ints, less) in e)
 
-no_difference : (m : ℕ) → subtracted (number (pos m)) (number (pos m)) ≡ number (pos 0)
+no_difference : (m : ℕ) → body_difference (number (pos m)) (number (pos m)) ≡ number (pos 0)
 no_difference m =
     difference (pos m) (pos m) (λ e. e) ∙ ap number
     (let e : pos m +ℤ neg_ℤ (pos m) ≡ pos 0 = omega (arith, ints) in e)
 
-less_by_one : (m n : ℕ) → n < m → subtracted (number (pos (m - n))) (number (pos 1)) ≡
+less_by_one : (m n : ℕ) → n < m → body_difference (number (pos (m - n))) (number (pos 1)) ≡
     number (pos (m - n - 1))
 less_by_one m n less =
     difference (pos (m - n)) (pos 1) (not_zero (m - n) (pos 1) (omega (arith, less)))
@@ -186,33 +189,33 @@ rows_if a b c = record { form = Ge a ∷ Ge b ∷ []; within = c }
 abbrev not_less_at : Bool → Body → Body → Formed (List Row)
 not_less_at c l r =
     record {
-      form = cond c [] (Ge (subtracted l r) ∷ []);
+      form = cond c [] (Ge (body_difference l r) ∷ []);
       within =
-          cond c true (is_within (subtracted l r));
+          cond c true (is_within (body_difference l r));
     }
 
 abbrev hold_at : Formed Body → Formed Body → Formed (List Row)
 hold_at l r = record {
-  form = cond (is_below_zero r.form) [] (Ge (subtracted l.form r.form) ∷ []);
+  form = cond (is_below_zero r.form) [] (Ge (body_difference l.form r.form) ∷ []);
   within =
       r.within && cond (is_below_zero r.form) true
-      (l.within && is_within (subtracted l.form r.form));
+      (l.within && is_within (body_difference l.form r.form));
 }
 
 abbrev less_at : Body → Body → Formed (List Row)
 less_at l d =
     record {
-      form = Ge l ∷ Ge (subtracted d (number (pos 1))) ∷ [];
+      form = Ge l ∷ Ge (body_difference d (number (pos 1))) ∷ [];
       within = is_within d &&
-          is_within (subtracted d (number (pos 1)));
+          is_within (body_difference d (number (pos 1)));
     }
 
 abbrev fall_at : Formed Body → Formed Body → Formed (List Row)
 fall_at l r = record {
-  form = Ge l.form ∷ Ge (subtracted (subtracted l.form r.form) (number (pos 1))) ∷ [];
+  form = Ge l.form ∷ Ge (body_difference (body_difference l.form r.form) (number (pos 1))) ∷ [];
   within =
-      l.within && (r.within && (is_within (subtracted l.form r.form) &&
-      is_within (subtracted (subtracted l.form r.form) (number (pos 1)))));
+      l.within && (r.within && (is_within (body_difference l.form r.form) &&
+      is_within (body_difference (body_difference l.form r.form) (number (pos 1)))));
 }
 
 module _ (pair : Pair) where

@@ -10,7 +10,7 @@ use Rattle.rx_poly.specs.declared.body.Body.{Body}
 use Rattle.rx_row.specs.declared.row.Row.{Row}
 use Rattle.rx_cert.specs.Conditions.{is_shown}
 use Rattle.rx_cert.specs.Depth.{cert_depth}
-use Rattle.rx_cert.specs.Findings.{Yes, No, within}
+use Rattle.rx_cert.specs.Findings.{Yes, No, guard}
 use Rattle.rx_cert.specs.declared.cert.Cert.{Cert}
 use Rattle.rx_solve.specs.Answers.{AreCertificates}
 use Rattle.rx_solve.specs.Bounds.{most_deep}
@@ -146,7 +146,7 @@ module _ (pair : Pair) where
 
   found_proved : (rows : Formed (List Row)) (certs : List Cert) → IsProved pair rows certs →
       rows_finding pair rows certs ≡ Yes
-  found_proved rows certs is = λ k. within (is.within k) (is_shown (is.certified.shows k))
+  found_proved rows certs is = λ k. guard (is.within k) (is_shown (is.certified.shows k))
 
   pub fallen_last : (ps qs : List Body) (p q : Body) (certs more : List Cert) → length ps ≡
       length qs → IsProved pair (held_rows pair ps qs) certs

@@ -1,7 +1,7 @@
 -- Chains of steps: joined, reversed, counted, and taken from one relation to a wider one.
 use Rattle.std.proofs.Common.{◌≡◌, ℕ, zero, suc, ◌+◌, ◌⊎◌, inl, inr, arith, subst, List, ℤ}
 use Rattle.rx_rewriting.specs.Terms.{Ground, Frame, Relation}
-use Rattle.rx_rewriting.specs.Steps.{Step, Here, Under, Reaches, Stop, Go, ReachesIn, NoStep, OneMore, Convertible, Same, Forth, Back, Joins, Either}
+use Rattle.rx_rewriting.specs.Steps.{Step, Here, Under, Reaches, Stop, Go, ReachesIn, NoStep, OneMore, Convertible, Same, Forth, Back, Joinable, Either}
 
 -- one chain after another
 pub Reaches-trans : {R : Relation} {s t u : Ground} → Reaches R s t → Reaches R t u → Reaches R s u
@@ -53,20 +53,22 @@ Reaches-convertible Stop = Same
 Reaches-convertible (Go step rest) = Forth step (Reaches-convertible rest)
 
 -- a term joins with itself
-pub Joins-same : (R : Relation) (s : Ground) → Joins R s s
-Joins-same R s = (s, Stop, Stop)
+pub Joinable-same : (R : Relation) (s : Ground) → Joinable R s s
+Joinable-same R s = (s, Stop, Stop)
 
 -- joining does not see which of the two comes first
-pub Joins-sym : (R : Relation) (s t : Ground) → Joins R s t → Joins R t s
-Joins-sym R s t (u, left, right) = (u, right, left)
+pub Joinable-sym : (R : Relation) (s t : Ground) → Joinable R s t → Joinable R t s
+Joinable-sym R s t (u, left, right) = (u, right, left)
 
 -- a chain added before the left side
-pub Joins-before_left : (R : Relation) (r s t : Ground) → Reaches R r s → Joins R s t → Joins R r t
-Joins-before_left R r s t chain (u, left, right) = (u, Reaches-trans chain left, right)
+pub Joinable-before_left : (R : Relation) (r s t : Ground) → Reaches R r s → Joinable R s t →
+    Joinable R r t
+Joinable-before_left R r s t chain (u, left, right) = (u, Reaches-trans chain left, right)
 
 -- a chain added before the right side
-pub Joins-before_right : (R : Relation) (r s t : Ground) → Reaches R r t → Joins R s t → Joins R s r
-Joins-before_right R r s t chain (u, left, right) = (u, left, Reaches-trans chain right)
+pub Joinable-before_right : (R : Relation) (r s t : Ground) → Reaches R r t → Joinable R s t →
+    Joinable R s r
+Joinable-before_right R r s t chain (u, left, right) = (u, left, Reaches-trans chain right)
 
 -- a step by a relation is one by any wider relation
 pub Step-wider : {R Q : Relation} → ((s t : Ground) → R s t → Q s t) → {s t : Ground} → Step R s t →
@@ -104,7 +106,7 @@ pub Reaches-by_rule : (R H : Relation) {s t : Ground} → Reaches R s t → Reac
 Reaches-by_rule R H chain = Reaches-wider (λ s t one. inl one) chain
 
 -- terms that join by a relation join by any wider one
-pub Joins-wider : (R Q : Relation) → ((s t : Ground) → R s t → Q s t) → (s t : Ground) →
-    Joins R s t → Joins Q s t
-Joins-wider R Q wider s t (u, left, right) =
+pub Joinable-wider : (R Q : Relation) → ((s t : Ground) → R s t → Q s t) → (s t : Ground) →
+    Joinable R s t → Joinable Q s t
+Joinable-wider R Q wider s t (u, left, right) =
     (u, Reaches-wider wider left, Reaches-wider wider right)

@@ -2,9 +2,9 @@
 -- Toyama.
 use Rattle.std.proofs.Common.{◌⊎◌, inl, inr}
 use Rattle.rx_rewriting.specs.Terms.{Ground, Relation, TermSet}
-use Rattle.rx_rewriting.specs.Steps.{Step, Reaches, Stop, Go, Convertible, Same, Forth, Back, Joins, Either}
+use Rattle.rx_rewriting.specs.Steps.{Step, Reaches, Stop, Go, Convertible, Same, Forth, Back, Joinable, Either}
 use Rattle.rx_rewriting.specs.Ranks.{Weight, Smaller}
-use Rattle.rx_rewriting.specs.Premises.{Lowers, Stays, Moves, IsReplaceable, EndAlike}
+use Rattle.rx_rewriting.specs.Premises.{Lowers, ClosedUnder, Reducible, IsReplaceable, HaveConvertibleNormalForms}
 use Rattle.rx_rewriting.proofs.Induction.{induction_on, ends_inside}
 use Rattle.rx_rewriting.proofs.Chains.{Step-by_rule, Step-by_hypothesis, Step-either, Convertible-trans, Convertible-sym, Reaches-convertible, Reaches-step}
 
@@ -17,7 +17,7 @@ IsConvertedFrom inside R H s =
 -- whatever is reached from an inside term by rules and hypotheses is convertible with it by the
 -- rules
 pub reached_convertible : (weight : Ground → Weight) (inside : TermSet) (R H : Relation)
-    → Lowers weight inside (Either R H) → Stays inside (Either R H) → IsReplaceable inside R H
+    → Lowers weight inside (Either R H) → ClosedUnder inside (Either R H) → IsReplaceable inside R H
     → (s : Ground) → IsConvertedFrom inside R H s
 reached_convertible weight inside R H lowers stays replaceable =
     induction_on weight (IsConvertedFrom inside R H)
@@ -51,8 +51,8 @@ reached_convertible weight inside R H lowers stays replaceable =
 
 -- two inside terms that join by rules and hypotheses are convertible by the rules
 pub joined_convertible : (weight : Ground → Weight) (inside : TermSet) (R H : Relation)
-    → Lowers weight inside (Either R H) → Stays inside (Either R H) → IsReplaceable inside R H
-    → (s t : Ground) → inside s → inside t → Joins (Either R H) s t → Convertible R s t
+    → Lowers weight inside (Either R H) → ClosedUnder inside (Either R H) → IsReplaceable inside R H
+    → (s t : Ground) → inside s → inside t → Joinable (Either R H) s t → Convertible R s t
 joined_convertible weight inside R H lowers stays replaceable s t in_s in_t (u, left, right) =
     let converted = reached_convertible weight inside R H lowers stays replaceable in
     Convertible-trans (converted s in_s u left) (Convertible-sym (converted t in_t u right))
@@ -60,9 +60,11 @@ joined_convertible weight inside R H lowers stays replaceable s t in_s in_t (u, 
 -- and where what is inside and no result has a rule step, they reach results that are convertible
 -- by the rules
 pub joined_end_alike : (weight : Ground → Weight) (inside : TermSet) (R H : Relation)
-    → Lowers weight inside (Either R H) → Stays inside (Either R H) → IsReplaceable inside R H →
-    Moves inside R
-    → (s t : Ground) → inside s → inside t → Joins (Either R H) s t → EndAlike inside R s t
+    → Lowers weight inside (Either R H) → ClosedUnder inside (Either R H) →
+    IsReplaceable inside R H →
+    Reducible inside R
+    → (s t : Ground) → inside s → inside t → Joinable (Either R H) s t →
+    HaveConvertibleNormalForms inside R s t
 joined_end_alike weight inside R H lowers stays replaceable moves s t in_s in_t joined =
     let ends = ends_inside weight inside R
     (λ a b in_a step. lowers a b in_a (Step-by_rule R H step))
@@ -81,7 +83,7 @@ joined_end_alike weight inside R H lowers stays replaceable moves s t in_s in_t 
 
 -- where all terms are inside, conversion by rules and hypotheses is conversion by the rules
 pub conversion : (weight : Ground → Weight) (inside : TermSet) (R H : Relation)
-    → Lowers weight inside (Either R H) → Stays inside (Either R H) → IsReplaceable inside R H
+    → Lowers weight inside (Either R H) → ClosedUnder inside (Either R H) → IsReplaceable inside R H
     → ((u : Ground) → inside u)
     → (s t : Ground) → Convertible (Either R H) s t → Convertible R s t
 conversion weight inside R H lowers stays replaceable all s t chain = go s t chain

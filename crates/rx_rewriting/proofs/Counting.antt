@@ -1,6 +1,6 @@
 -- Weights as multisets: counting a rank, taking one out, and weights that are alike.
 use Rattle.std.proofs.Common.{◌≡◌, ◌+◌, ◌<◌, Bool, true, false, ◌&&◌, if◌then◌else◌, nat_eq, [], ◌∷◌, ◌++◌, refl, ap₂, sym, ◌∙◌, arith, eqb-true, true≢false}
-use Rattle.rx_rewriting.specs.Ranks.{Rank, same_rank, Weight, times, Alike}
+use Rattle.rx_rewriting.specs.Ranks.{Rank, same_rank, Weight, times, IsPermutation}
 
 -- a conjunction that is true has true parts
 and-true : (a b : Bool) → (a && b) ≡ true → (a ≡ true) × (b ≡ true)
@@ -36,25 +36,27 @@ without r [] = []
 without r (x ∷ w) = if same_rank r x then w else x ∷ without r w
 
 -- a rank that is there can be moved to the front
-pub Alike-without : (a : Rank) (w : Weight) → 0 < times a w → Alike w (a ∷ without a w)
-Alike-without a [] there = λ r. omega arith
-Alike-without a (x ∷ w) there = go (same_rank a x) refl (Alike-without a w)
+pub IsPermutation-without : (a : Rank) (w : Weight) → 0 < times a w →
+    IsPermutation w (a ∷ without a w)
+IsPermutation-without a [] there = λ r. omega arith
+IsPermutation-without a (x ∷ w) there = go (same_rank a x) refl (IsPermutation-without a w)
   where
-    go : (b : Bool) → same_rank a x ≡ b → (0 < times a w → Alike w (a ∷ without a w))
-        → Alike (x ∷ w) (a ∷ without a (x ∷ w))
+    go : (b : Bool) → same_rank a x ≡ b → (0 < times a w → IsPermutation w (a ∷ without a w))
+        → IsPermutation (x ∷ w) (a ∷ without a (x ∷ w))
     go true e further = rw (e, same_rank-true a x e) (λ r. refl)
     go false e further =
         let later : 0 < times a w = omega (arith, rw e at there) in
         rw e (λ r. omega (arith, further later r))
 
 -- being one multiset is symmetric
-pub Alike-sym : (v w : Weight) → Alike v w → Alike w v
-Alike-sym v w same = λ r. sym (same r)
+pub IsPermutation-sym : (v w : Weight) → IsPermutation v w → IsPermutation w v
+IsPermutation-sym v w same = λ r. sym (same r)
 
 -- being one multiset is transitive
-pub Alike-trans : (u v w : Weight) → Alike u v → Alike v w → Alike u w
-Alike-trans u v w one other = λ r. one r ∙ other r
+pub IsPermutation-trans : (u v w : Weight) → IsPermutation u v → IsPermutation v w →
+    IsPermutation u w
+IsPermutation-trans u v w one other = λ r. one r ∙ other r
 
 -- no weight with a rank in it is empty
-pub not_Alike-nil : (a : Rank) (w : Weight) → Alike [] (a ∷ w) → ⊥
+pub not_Alike-nil : (a : Rank) (w : Weight) → IsPermutation [] (a ∷ w) → ⊥
 not_Alike-nil a w same = omega (arith, same a, times-first a w)

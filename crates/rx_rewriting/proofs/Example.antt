@@ -1,13 +1,13 @@
 -- The example meets all premises, and what the laws then say of it.
 use Rattle.std.proofs.Common.{◌≡◌, ℕ, zero, suc, Bool, true, false, true≢false, inl, inr, List, [], ◌∷◌, ℤ, pos, negsuc, ◌+ℤ◌, Option, Some, None, refl, ap, sym, subst, arith}
 use Rattle.std.proofs.lemmas.List.Elements.{All-cons, All-head, All-nil}
-use Rattle.rx_rewriting.specs.Terms.{Ground, Ret, Fail, Call, Frame, IsResult, Symbol, Fits}
-use Rattle.rx_rewriting.specs.Steps.{Step, Here, Under, Reaches, Stop, Go, Joins, Either}
+use Rattle.rx_rewriting.specs.Terms.{Ground, Return, Fail, Call, Frame, IsResult, Symbol, Fits}
+use Rattle.rx_rewriting.specs.Steps.{Step, Here, Under, Reaches, Stop, Go, Joinable, Either}
 use Rattle.rx_rewriting.specs.Ranks.{Rank, RankLess, Smaller, weight_of}
-use Rattle.rx_rewriting.specs.Premises.{KeepsInner, ResultsRest, LowersHere, IsReplaceableHere}
+use Rattle.rx_rewriting.specs.Premises.{ClosedUnderSubterms, ResultsAreNormal, LowersHere, IsReplaceableHere}
 use Rattle.rx_rewriting.specs.Example.{symbols, down, copy, one_more, Rules, DownEnds, DownTurns, CopyEnds, CopyTurns, Adds, Passes, Hypothesis, CopyIsDown, above, rank, AtLeastZero, CallsCount, IsInside, PremisesHold, negative_call}
 use Rattle.rx_rewriting.proofs.UnderFrames.{replaceable_under_frames, single_valued_under_frames, results_rest_under_frames, stays_under_frames, moves_under_frames}
-use Rattle.rx_rewriting.proofs.Chains.{Step-by_rule, Reaches-step, Joins-before_left}
+use Rattle.rx_rewriting.proofs.Chains.{Step-by_rule, Reaches-step, Joinable-before_left}
 use Rattle.rx_rewriting.proofs.SmallerWeights.{lowers_under_frames}
 use Rattle.rx_rewriting.proofs.Conversion.{joined_end_alike}
 use Rattle.rx_rewriting.proofs.UniqueResults.{convertible_results_equal}
@@ -106,25 +106,25 @@ no_rule_at_result s t result (Adds k) = result
 no_rule_at_result s t result (Passes c) = result
 
 -- no step starts at a result
-results_rest : ResultsRest Rules
+results_rest : ResultsAreNormal Rules
 results_rest = results_rest_under_frames Rules no_rule_at_result
 
 -- where a rule rewrites a frame, nothing below that frame steps
 nothing_below : (f : ℕ) (xs : List ℤ) (s t u : Ground) → Rules (Frame f xs s) t → Step Rules s u → ⊥
-nothing_below f xs s t u (Adds k) step = results_rest (Ret k) u tt step
+nothing_below f xs s t u (Adds k) step = results_rest (Return k) u tt step
 nothing_below f xs s t u (Passes c) step = results_rest (Fail c) u tt step
 
 -- down steps at each integer
 down_steps : (x : ℤ) → (t : Ground) × Step Rules (down x) t
-down_steps (pos zero) = (Ret (pos 0), Here (DownEnds (pos zero) tt))
+down_steps (pos zero) = (Return (pos 0), Here (DownEnds (pos zero) tt))
 down_steps (pos (suc k)) = (one_more (down (pos k)), Here (DownTurns k))
-down_steps (negsuc k) = (Ret (pos 0), Here (DownEnds (negsuc k) tt))
+down_steps (negsuc k) = (Return (pos 0), Here (DownEnds (negsuc k) tt))
 
 -- copy steps at each integer
 copy_steps : (x : ℤ) → (t : Ground) × Step Rules (copy x) t
-copy_steps (pos zero) = (Ret (pos 0), Here (CopyEnds (pos zero) tt))
+copy_steps (pos zero) = (Return (pos 0), Here (CopyEnds (pos zero) tt))
 copy_steps (pos (suc k)) = (one_more (copy (pos k)), Here (CopyTurns k))
-copy_steps (negsuc k) = (Ret (pos 0), Here (CopyEnds (negsuc k) tt))
+copy_steps (negsuc k) = (Return (pos 0), Here (CopyEnds (negsuc k) tt))
 
 -- what a declaration says, also of a symbol that is not declared
 abbrev pub arity_of : Option Symbol → ℕ
@@ -156,7 +156,7 @@ frames_step : (f : ℕ) (xs : List ℤ) (s : Ground) → Fits symbols (Frame f x
     → (t : Ground) × Step Rules (Frame f xs s) t
 frames_step zero xs s fits result = absurd (true≢false (sym (ap stands_as_frame fits.0)))
 frames_step (suc zero) xs s fits result = absurd (true≢false (sym (ap stands_as_frame fits.0)))
-frames_step (suc (suc zero)) [] (Ret k) fits result = (Ret (k +ℤ pos 1), Here (Adds k))
+frames_step (suc (suc zero)) [] (Return k) fits result = (Return (k +ℤ pos 1), Here (Adds k))
 frames_step (suc (suc zero)) [] (Fail c) fits result = (Fail c, Here (Passes c))
 frames_step (suc (suc zero)) [] (Call f xs) fits result = absurd result
 frames_step (suc (suc zero)) [] (Frame f xs s) fits result = absurd result
@@ -165,11 +165,12 @@ frames_step (suc (suc (suc f))) xs s fits result = absurd (true≢false (sym (ap
 
 -- a rule step from copy leads to a term that joins with down at the same integer
 copy_joins_down : (x : ℤ)
-    → (first : Ground) × Step Rules (copy x) first × Joins (Either Rules Hypothesis) first (down x)
+    → (first : Ground) × Step Rules (copy x) first ×
+    Joinable (Either Rules Hypothesis) first (down x)
 copy_joins_down (pos zero) = (
-  Ret (pos 0),
+  Return (pos 0),
   Here (CopyEnds (pos zero) tt),
-  (Ret (pos 0), Stop, Go (Here (inl (DownEnds (pos zero) tt))) Stop),
+  (Return (pos 0), Stop, Go (Here (inl (DownEnds (pos zero) tt))) Stop),
 )
 copy_joins_down (pos (suc k)) = (
   one_more (copy (pos k)),
@@ -181,9 +182,9 @@ copy_joins_down (pos (suc k)) = (
   ),
 )
 copy_joins_down (negsuc k) = (
-  Ret (pos 0),
+  Return (pos 0),
   Here (CopyEnds (negsuc k) tt),
-  (Ret (pos 0), Stop, Go (Here (inl (DownEnds (negsuc k) tt))) Stop),
+  (Return (pos 0), Stop, Go (Here (inl (DownEnds (negsuc k) tt))) Stop),
 )
 
 -- the hypothesis, with no frames over it, can be replaced
@@ -191,7 +192,7 @@ replaceable_here : IsReplaceableHere IsInside Rules Hypothesis
 replaceable_here s t in_s (CopyIsDown x) = copy_joins_down x
 
 -- the inner part of an inside term is inside, and another inside term may be in its place
-inside_inner : KeepsInner IsInside
+inside_inner : ClosedUnderSubterms IsInside
 inside_inner f xs s whole = (whole.0.1, whole.1)
 
 inside_exchange : (f : ℕ) (xs : List ℤ) (s t : Ground) → IsInside (Frame f xs s) → IsInside t →
@@ -233,7 +234,7 @@ copy_is_down x =
     let ends = joined_end_alike (weight_of rank) IsInside Rules Hypothesis p.lowers p.stays
     p.replaceable p.moves
     (copy (pos x)) (down (pos x)) (refl, count) (refl, count)
-    (Joins-before_left (Either Rules Hypothesis) (copy (pos x)) first (down (pos x))
+    (Joinable-before_left (Either Rules Hypothesis) (copy (pos x)) first (down (pos x))
     (Reaches-step (Step-by_rule Rules Hypothesis leads)) joined) in
     let left = ends.left in
     let right = ends.right in

@@ -4,7 +4,7 @@ use mathlib.Core.WellFounded.{Acc}
 use Rattle.rx_rewriting.specs.Ranks.{Weight, Smaller}
 use Rattle.rx_rewriting.specs.Terms.{Ground, IsResult, Relation, TermSet}
 use Rattle.rx_rewriting.specs.Steps.{Step, Stop, Go}
-use Rattle.rx_rewriting.specs.Premises.{IsInductive, Lowers, Stays, Moves, EndsInside}
+use Rattle.rx_rewriting.specs.Premises.{IsInductive, Lowers, ClosedUnder, Reducible, EndsInside}
 use Rattle.rx_rewriting.proofs.MultisetOrder.{weight_accessible}
 
 -- an inductive property holds of what is accessible
@@ -27,7 +27,7 @@ induction_on {A = A} weight Q step a =
 -- where steps from inside lower the weight and stay inside, and each inside term that is no result
 -- has one, every inside term reaches a result
 pub ends_inside : (weight : Ground → Weight) (inside : TermSet) (R : Relation)
-    → Lowers weight inside R → Stays inside R → Moves inside R → (s : Ground) → inside s →
+    → Lowers weight inside R → ClosedUnder inside R → Reducible inside R → (s : Ground) → inside s →
     EndsInside inside R s
 ends_inside weight inside R lowers stays moves =
     induction_on weight (λ s. inside s → EndsInside inside R s)

@@ -3,8 +3,8 @@
 use Rattle.std.proofs.Common.{◌≡◌, ◌<◌, Bool, true, false, inl, inr, [], ◌∷◌, ◌++◌, refl, ap, arith}
 use mathlib.Core.WellFounded.{Acc}
 use mathlib.Core.WellFounded.Acc
-use Rattle.rx_rewriting.specs.Ranks.{Rank, RankLess, same_rank, Weight, times, Alike, AllBelow, Smaller}
-use Rattle.rx_rewriting.proofs.Counting.{same_rank-true, times-append, times-first, without, Alike-without, Alike-trans, not_Alike-nil}
+use Rattle.rx_rewriting.specs.Ranks.{Rank, RankLess, same_rank, Weight, times, IsPermutation, AllBelow, Smaller}
+use Rattle.rx_rewriting.proofs.Counting.{same_rank-true, times-append, times-first, without, IsPermutation-without, IsPermutation-trans, not_Alike-nil}
 use Rattle.rx_rewriting.proofs.RankOrder.{rank_accessible}
 
 -- each of these ranks is below the one rank
@@ -17,18 +17,18 @@ pub record OneOut (v w : Weight) : Type 0 where
   pub out : Rank
   pub kept : Weight
   pub put : Weight
-  pub old : Alike w (out ∷ kept)
-  pub new : Alike v (put ++ kept)
+  pub old : IsPermutation w (out ∷ kept)
+  pub new : IsPermutation v (put ++ kept)
   pub below : BelowThis out put
 
 -- accessibility does not see the order of a list
-same_accessible : (v w : Weight) → Alike v w → Acc OneOut v → Acc OneOut w
+same_accessible : (v w : Weight) → IsPermutation v w → Acc OneOut v → Acc OneOut w
 same_accessible v w same (Acc.intro at smaller) =
     Acc.intro w (λ u one. smaller u (record {
       out = one.out;
       kept = one.kept;
       put = one.put;
-      old = Alike-trans at w (one.out ∷ one.kept) same one.old;
+      old = IsPermutation-trans at w (one.out ∷ one.kept) same one.old;
       new = one.new;
       below = one.below;
     }))
@@ -66,7 +66,7 @@ on_top a lesser w (Acc.intro at smaller) =
         let there : 0 < times one.out at =
         omega (arith, rw e at (one.old one.out), times-first one.out one.kept) in
         let rest : Weight = without one.out at in
-        let moved : Alike at (one.out ∷ rest) = Alike-without one.out at there in
+        let moved : IsPermutation at (one.out ∷ rest) = IsPermutation-without one.out at there in
         same_accessible (a ∷ (one.put ++ rest)) v
         (λ r. omega (
           arith,
@@ -115,7 +115,7 @@ exchanges_accessible w (Acc.intro at smaller) =
 pub record Split (first : Rank) (others put : Weight) : Type 0 where
   pub mine : Weight
   pub theirs : Weight
-  pub together : Alike put (mine ++ theirs)
+  pub together : IsPermutation put (mine ++ theirs)
   pub below_first : BelowThis first mine
   pub below_others : AllBelow others theirs
 
@@ -154,8 +154,8 @@ none_below [] below = refl
 none_below (r ∷ put) below = absurd below.0
 
 -- taking out some ranks and inserting lower ones is a row of single exchanges
-row : (first : Rank) (others kept put v w : Weight) → Alike w ((first ∷ others) ++ kept) →
-    Alike v (put ++ kept)
+row : (first : Rank) (others kept put v w : Weight) → IsPermutation w ((first ∷ others) ++ kept) →
+    IsPermutation v (put ++ kept)
     → AllBelow (first ∷ others) put → Exchanges v w
 row first [] kept put v w old new below =
     let s = split first [] put below in

@@ -1,19 +1,19 @@
 -- Smaller weights: equal ranks added on both sides, weights under frames, and smaller weights along
 -- a chain.
 use Rattle.std.proofs.Common.{◌≡◌, ℕ, zero, suc, ◌<◌, ◌≤◌, Bool, true, false, inl, inr, List, [], ◌∷◌, ◌++◌, ℤ, refl, ap, sym, ◌∙◌, arith}
-use Rattle.rx_rewriting.specs.Terms.{Ground, Frame, StackFrame, under, Relation, TermSet, Ret, Fail, Call, IsResult}
+use Rattle.rx_rewriting.specs.Terms.{Ground, Frame, StackFrame, in_context, Relation, TermSet, Return, Fail, Call, IsResult}
 use Rattle.rx_rewriting.specs.Steps.{Step, Here, Under, ReachesIn, NoStep, OneMore}
-use Rattle.rx_rewriting.specs.Ranks.{Rank, RankLess, same_rank, Weight, times, Alike, IsBelowOne, AllBelow, Smaller, weight_of, ranks_of}
-use Rattle.rx_rewriting.specs.Premises.{Lowers, Stays, KeepsInner, LowersHere}
-use Rattle.rx_rewriting.proofs.Counting.{same_rank-true, times-append, times-first, without, Alike-without, not_Alike-nil}
+use Rattle.rx_rewriting.specs.Ranks.{Rank, RankLess, same_rank, Weight, times, IsPermutation, IsBelowOne, AllBelow, Smaller, weight_of, ranks_of}
+use Rattle.rx_rewriting.specs.Premises.{Lowers, ClosedUnder, ClosedUnderSubterms, LowersHere}
+use Rattle.rx_rewriting.proofs.Counting.{same_rank-true, times-append, times-first, without, IsPermutation-without, not_Alike-nil}
 use Rattle.rx_rewriting.proofs.RankOrder.{RankLess-trans}
 
 -- the weight of a term under frames: the frames' ranks beside the term's weight
-pub weight_of-under : (rank : ℕ → List ℤ → Rank) (fs : List StackFrame) (s : Ground)
-    → weight_of rank (under fs s) ≡ ranks_of rank fs ++ weight_of rank s
-weight_of-under rank [] s = refl
-weight_of-under rank (f ∷ fs) s =
-    ap (λ w. rank f.symbol f.arguments ∷ w) (weight_of-under rank fs s)
+pub weight_of-in_context : (rank : ℕ → List ℤ → Rank) (fs : List StackFrame) (s : Ground)
+    → weight_of rank (in_context fs s) ≡ ranks_of rank fs ++ weight_of rank s
+weight_of-in_context rank [] s = refl
+weight_of-in_context rank (f ∷ fs) s =
+    ap (λ w. rank f.symbol f.arguments ∷ w) (weight_of-in_context rank fs s)
 
 -- the ranks of one stack of frames over another
 pub ranks_of-append : (rank : ℕ → List ℤ → Rank) (fs gs : List StackFrame)
@@ -29,16 +29,17 @@ not_Smaller-nil v less = not_Alike-nil less.first (less.others ++ less.kept) les
 -- so where steps lower the weight, none starts at an inside result
 pub lowered_results_rest : (rank : ℕ → List ℤ → Rank) (inside : TermSet) (R : Relation)
     → Lowers (weight_of rank) inside R → (s t : Ground) → inside s → IsResult s → Step R s t → ⊥
-lowered_results_rest rank inside R lowers (Ret k) t in_s result step =
-    not_Smaller-nil (weight_of rank t) (lowers (Ret k) t in_s step)
+lowered_results_rest rank inside R lowers (Return k) t in_s result step =
+    not_Smaller-nil (weight_of rank t) (lowers (Return k) t in_s step)
 lowered_results_rest rank inside R lowers (Fail c) t in_s result step =
     not_Smaller-nil (weight_of rank t) (lowers (Fail c) t in_s step)
 lowered_results_rest rank inside R lowers (Call f xs) t in_s result step = result
 lowered_results_rest rank inside R lowers (Frame f xs s) t in_s result step = result
 
 -- the order of weights does not see the order of a list
-pub Smaller-Alike : (v w v' w' : Weight) → Alike v' v → Alike w' w → Smaller v w → Smaller v' w'
-Smaller-Alike v w v' w' left right less =
+pub Smaller-IsPermutation : (v w v' w' : Weight) → IsPermutation v' v → IsPermutation w' w →
+    Smaller v w → Smaller v' w'
+Smaller-IsPermutation v w v' w' left right less =
     record {
       first = less.first;
       others = less.others;
@@ -95,14 +96,15 @@ Smaller-add_left u v w less =
 -- the same ranks added at the end on both sides keep smaller
 pub Smaller-add_right : (u v w : Weight) → Smaller v w → Smaller (v ++ u) (w ++ u)
 Smaller-add_right u v w less =
-    Smaller-Alike (u ++ v) (u ++ w) (v ++ u) (w ++ u)
+    Smaller-IsPermutation (u ++ v) (u ++ w) (v ++ u) (w ++ u)
     (λ r. omega (arith, times-append r u v, times-append r v u))
     (λ r. omega (arith, times-append r u w, times-append r w u))
     (Smaller-add_left u v w less)
 
 -- where a step with no frames over it lowers the weight, so does each step
 pub lowers_under_frames : (rank : ℕ → List ℤ → Rank) (inside : TermSet) (R : Relation)
-    → KeepsInner inside → LowersHere (weight_of rank) inside R → Lowers (weight_of rank) inside R
+    → ClosedUnderSubterms inside → LowersHere (weight_of rank) inside R →
+    Lowers (weight_of rank) inside R
 lowers_under_frames rank inside R inner here s t in_s (Here one) = here s t in_s one
 lowers_under_frames rank inside R inner here s t in_s (Under {s = s'} {t = t'} f xs step) =
     Smaller-add_left (rank f xs ∷ []) (weight_of rank t') (weight_of rank s')
@@ -157,13 +159,14 @@ pub record Parts (one one_rest other other_rest : Weight) : Type 0 where
   pub only_one : Weight
   pub only_other : Weight
   pub neither : Weight
-  pub one_is : Alike one (shared ++ only_one)
-  pub other_is : Alike other (shared ++ only_other)
-  pub one_rest_is : Alike one_rest (only_other ++ neither)
-  pub other_rest_is : Alike other_rest (only_one ++ neither)
+  pub one_is : IsPermutation one (shared ++ only_one)
+  pub other_is : IsPermutation other (shared ++ only_other)
+  pub one_rest_is : IsPermutation one_rest (only_other ++ neither)
+  pub other_rest_is : IsPermutation other_rest (only_one ++ neither)
 
 -- where the two ways give one multiset there are such parts
-pub parts : (one one_rest other other_rest : Weight) → Alike (one ++ one_rest) (other ++ other_rest)
+pub parts : (one one_rest other other_rest : Weight) →
+    IsPermutation (one ++ one_rest) (other ++ other_rest)
     → Parts one one_rest other other_rest
 parts [] one_rest other other_rest same =
     record {
@@ -180,14 +183,14 @@ parts (x ∷ one) one_rest other other_rest same =
     go (times x other) refl (λ o q s. parts one one_rest o q s)
   where
     go : (n : ℕ) → times x other ≡ n
-        → ((o q : Weight) → Alike (one ++ one_rest) (o ++ q) → Parts one one_rest o q)
+        → ((o q : Weight) → IsPermutation (one ++ one_rest) (o ++ q) → Parts one one_rest o q)
         → Parts (x ∷ one) one_rest other other_rest
     go zero e again =
         let there : 0 < times x other_rest =
         omega (arith, same x, e, times-append x other other_rest, times-first x (one ++ one_rest))
         in
         let less = without x other_rest in
-        let moved = Alike-without x other_rest there in
+        let moved = IsPermutation-without x other_rest there in
         let p = again other less (λ r. omega (
           arith,
           same r,
@@ -213,7 +216,7 @@ parts (x ∷ one) one_rest other other_rest same =
     go (suc n) e again =
         let there : 0 < times x other = omega (arith, e) in
         let less = without x other in
-        let moved = Alike-without x other there in
+        let moved = IsPermutation-without x other there in
         let p = again less other_rest (λ r. omega (
           arith,
           same r,
@@ -332,7 +335,7 @@ Smaller-trans u v w low high =
 -- where each step from inside lowers the weight and stays inside, so does each chain of at least
 -- one step
 pub chain_lowers : (weight : Ground → Weight) (inside : TermSet) (R : Relation)
-    → Lowers weight inside R → Stays inside R
+    → Lowers weight inside R → ClosedUnder inside R
     → (m : ℕ) (s t : Ground) → inside s → ReachesIn R (suc m) s t → Smaller (weight t) (weight s)
 chain_lowers weight inside R lowers stays zero s t in_s (OneMore step NoStep) = lowers s t in_s step
 chain_lowers weight inside R lowers stays (suc m) s t in_s (OneMore {t = u} step rest) =
@@ -341,7 +344,7 @@ chain_lowers weight inside R lowers stays (suc m) s t in_s (OneMore {t = u} step
     (lowers s u in_s step)
 
 -- where each step from inside stays inside, so does each chain
-pub chain_stays : (inside : TermSet) (R : Relation) → Stays inside R
+pub chain_stays : (inside : TermSet) (R : Relation) → ClosedUnder inside R
     → (m : ℕ) (s t : Ground) → inside s → ReachesIn R m s t → inside t
 chain_stays inside R stays m s t in_s NoStep = in_s
 chain_stays inside R stays m s t in_s (OneMore {m = n} {t = u} step rest) =

@@ -3,7 +3,7 @@ use Rattle.std.proofs.Common.{◌⊎◌, inl, inr}
 use Rattle.rx_rewriting.specs.Terms.{Ground, Frame, Relation, TermSet}
 use Rattle.rx_rewriting.specs.Steps.{Step, Here, Under, Either}
 use Rattle.rx_rewriting.specs.Ranks.{Weight}
-use Rattle.rx_rewriting.specs.Premises.{Lowers, Stays}
+use Rattle.rx_rewriting.specs.Premises.{Lowers, ClosedUnder}
 
 module _ (R H : Relation) where
   -- a step of the union is a step of the one or of the other
@@ -24,8 +24,8 @@ module _ (R H : Relation) where
     | inr hypothesis ↦ hypotheses s t in_s hypothesis
   ]
 
-  pub stays_either : (inside : TermSet) → Stays inside R → Stays inside H →
-      Stays inside (Either R H)
+  pub stays_either : (inside : TermSet) → ClosedUnder inside R → ClosedUnder inside H →
+      ClosedUnder inside (Either R H)
   stays_either inside rules hypotheses s t in_s step = elim (Step-either s t step) [
     | inl rule ↦ rules s t in_s rule
     | inr hypothesis ↦ hypotheses s t in_s hypothesis

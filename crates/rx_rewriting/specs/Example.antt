@@ -5,10 +5,10 @@
 --   copy(x) -> 0 [x <= 0]      copy(x) -> one_more(copy(x - 1)) [x >= 1]      copy(x) = down(x), the hypothesis
 --   one_more over a result k -> k + 1,   over a failure -> that failure
 use Rattle.std.specs.Prelude.{ℕ, zero, suc, true, false, List, [], ◌∷◌, All, ℤ, pos, negsuc, ◌+ℤ◌}
-use Rattle.rx_rewriting.specs.Terms.{Ground, Ret, Fail, Call, Frame, Symbol, Symbols, Fits, Relation, TermSet}
+use Rattle.rx_rewriting.specs.Terms.{Ground, Return, Fail, Call, Frame, Symbol, Signature, Fits, Relation, TermSet}
 use Rattle.rx_rewriting.specs.Steps.{Either, IsSingleValued}
 use Rattle.rx_rewriting.specs.Ranks.{Rank, Weight}
-use Rattle.rx_rewriting.specs.Premises.{Lowers, Stays, Moves, IsReplaceable, KeepsInner, ResultsRest}
+use Rattle.rx_rewriting.specs.Premises.{Lowers, ClosedUnder, Reducible, IsReplaceable, ClosedUnderSubterms, ResultsAreNormal}
 
 -- a symbol that is called with one argument
 abbrev pub called : Symbol
@@ -16,7 +16,7 @@ called = record { arity = 1; is_frame = false }
 
 -- the signature: down and copy are called with one argument, one_more is a frame with none, and
 -- there is one failure
-abbrev pub symbols : Symbols
+abbrev pub symbols : Signature
 symbols = record {
   declared = called ∷ called ∷ record { arity = 0; is_frame = true } ∷ [];
   fails = 1;
@@ -42,11 +42,11 @@ AtMostZero (negsuc k) = Unit {0}
 
 -- the rule list, a constructor for each rule
 pub data Rules : Ground → Ground → Type 0 where
-  DownEnds : (x : ℤ) → AtMostZero x → Rules (Call 0 (x ∷ [])) (Ret (pos 0))
+  DownEnds : (x : ℤ) → AtMostZero x → Rules (Call 0 (x ∷ [])) (Return (pos 0))
   DownTurns : (k : ℕ) → Rules (Call 0 (pos (suc k) ∷ [])) (Frame 2 [] (Call 0 (pos k ∷ [])))
-  CopyEnds : (x : ℤ) → AtMostZero x → Rules (Call 1 (x ∷ [])) (Ret (pos 0))
+  CopyEnds : (x : ℤ) → AtMostZero x → Rules (Call 1 (x ∷ [])) (Return (pos 0))
   CopyTurns : (k : ℕ) → Rules (Call 1 (pos (suc k) ∷ [])) (Frame 2 [] (Call 1 (pos k ∷ [])))
-  Adds : (k : ℤ) → Rules (Frame 2 [] (Ret k)) (Ret (k +ℤ pos 1))
+  Adds : (k : ℤ) → Rules (Frame 2 [] (Return k)) (Return (k +ℤ pos 1))
   Passes : (c : ℕ) → Rules (Frame 2 [] (Fail c)) (Fail c)
 
 -- the hypothesis
@@ -71,7 +71,7 @@ AtLeastZero (negsuc k) = ⊥
 
 -- the call of a term, if it has one, is at integers that are at least 0
 abbrev pub CallsCount : Ground → Type 0
-CallsCount (Ret k) = Unit {0}
+CallsCount (Return k) = Unit {0}
 CallsCount (Fail c) = Unit {0}
 CallsCount (Call f xs) = All AtLeastZero xs
 CallsCount (Frame f xs s) = CallsCount s
@@ -87,10 +87,10 @@ negative_call = down (negsuc 0)
 -- all premises of the laws
 pub record PremisesHold (weight : Ground → Weight) (inside : TermSet) (R H : Relation) : Type 0
   where
-    pub inner : KeepsInner inside
+    pub inner : ClosedUnderSubterms inside
     pub lowers : Lowers weight inside (Either R H)
-    pub stays : Stays inside (Either R H)
+    pub stays : ClosedUnder inside (Either R H)
     pub replaceable : IsReplaceable inside R H
-    pub moves : Moves inside R
+    pub moves : Reducible inside R
     pub single : IsSingleValued R
-    pub rest : ResultsRest R
+    pub rest : ResultsAreNormal R

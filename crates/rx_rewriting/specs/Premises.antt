@@ -2,7 +2,7 @@
 -- they are to hold.
 use Rattle.std.specs.Prelude.{ℕ, ◌⊎◌, List, ℤ}
 use Rattle.rx_rewriting.specs.Terms.{Ground, Frame, IsResult, Relation, TermSet}
-use Rattle.rx_rewriting.specs.Steps.{Step, Reaches, Convertible, Joins, Either}
+use Rattle.rx_rewriting.specs.Steps.{Step, Reaches, Convertible, Joinable, Either}
 use Rattle.rx_rewriting.specs.Ranks.{Weight, Smaller}
 
 -- the property holds of a weight whenever it holds of every smaller weight
@@ -14,23 +14,23 @@ abbrev pub Lowers : (Ground → Weight) → TermSet → Relation → Type 0
 Lowers weight inside R = (s t : Ground) → inside s → Step R s t → Smaller (weight t) (weight s)
 
 -- each step from an inside term stays inside
-abbrev pub Stays : TermSet → Relation → Type 0
-Stays inside R = (s t : Ground) → inside s → Step R s t → inside t
+abbrev pub ClosedUnder : TermSet → Relation → Type 0
+ClosedUnder inside R = (s t : Ground) → inside s → Step R s t → inside t
 
 -- each inside term that is no result has a step
-abbrev pub Moves : TermSet → Relation → Type 0
-Moves inside R = (s : Ground) → inside s → IsResult s ⊎ ((t : Ground) × Step R s t)
+abbrev pub Reducible : TermSet → Relation → Type 0
+Reducible inside R = (s : Ground) → inside s → IsResult s ⊎ ((t : Ground) × Step R s t)
 
 -- where a hypothesis steps from an inside s to t, a rule steps from s to a term that joins with t
 -- by both together
 abbrev pub IsReplaceable : TermSet → Relation → Relation → Type 0
 IsReplaceable inside R H =
     (s t : Ground) → inside s → Step H s t → (first : Ground) × Step R s first ×
-    Joins (Either R H) first t
+    Joinable (Either R H) first t
 
 -- no step starts at a result
-abbrev pub ResultsRest : Relation → Type 0
-ResultsRest R = (s t : Ground) → IsResult s → Step R s t → ⊥
+abbrev pub ResultsAreNormal : Relation → Type 0
+ResultsAreNormal R = (s t : Ground) → IsResult s → Step R s t → ⊥
 
 -- the term reaches a result by the rules, and that result is inside
 pub record EndsInside (inside : TermSet) (R : Relation) (s : Ground) : Type 0 where
@@ -40,14 +40,15 @@ pub record EndsInside (inside : TermSet) (R : Relation) (s : Ground) : Type 0 wh
   pub is_inside : inside end
 
 -- the two terms reach inside results by the rules, and these results are convertible by the rules
-pub record EndAlike (inside : TermSet) (R : Relation) (s t : Ground) : Type 0 where
-  pub left : EndsInside inside R s
-  pub right : EndsInside inside R t
-  pub convertible : Convertible R left.end right.end
+pub record HaveConvertibleNormalForms (inside : TermSet) (R : Relation) (s t : Ground) : Type 0
+  where
+    pub left : EndsInside inside R s
+    pub right : EndsInside inside R t
+    pub convertible : Convertible R left.end right.end
 
 -- the inner part of an inside term is inside
-abbrev pub KeepsInner : TermSet → Type 0
-KeepsInner inside = (f : ℕ) (xs : List ℤ) (s : Ground) → inside (Frame f xs s) → inside s
+abbrev pub ClosedUnderSubterms : TermSet → Type 0
+ClosedUnderSubterms inside = (f : ℕ) (xs : List ℤ) (s : Ground) → inside (Frame f xs s) → inside s
 
 -- each step from an inside term with no frames over it gives a smaller weight
 abbrev pub LowersHere : (Ground → Weight) → TermSet → Relation → Type 0
@@ -57,4 +58,4 @@ LowersHere weight inside R = (s t : Ground) → inside s → R s t → Smaller (
 abbrev pub IsReplaceableHere : TermSet → Relation → Relation → Type 0
 IsReplaceableHere inside R H =
     (s t : Ground) → inside s → H s t → (first : Ground) × Step R s first ×
-    Joins (Either R H) first t
+    Joinable (Either R H) first t

@@ -1,6 +1,6 @@
 -- Ranks, weights, and the multiset order on weights (Dershowitz and Manna 1979).
 use Rattle.std.specs.Prelude.{◌≡◌, ℕ, ◌+◌, ◌<◌, Bool, true, false, ◌&&◌, ◌⊎◌, if◌then◌else◌, nat_eq, List, [], ◌∷◌, ◌++◌, length, ℤ}
-use Rattle.rx_rewriting.specs.Terms.{Ground, Ret, Fail, Call, Frame, StackFrame}
+use Rattle.rx_rewriting.specs.Terms.{Ground, Return, Fail, Call, Frame, StackFrame}
 
 -- a rank: the columns' values
 abbrev pub Rank : Type 0
@@ -33,8 +33,8 @@ times r [] = 0
 times r (x ∷ w) = (if same_rank r x then 1 else 0) + times r w
 
 -- the two lists are one multiset: they have each rank equally often
-abbrev pub Alike : Weight → Weight → Type 0
-Alike v w = (r : Rank) → times r v ≡ times r w
+abbrev pub IsPermutation : Weight → Weight → Type 0
+IsPermutation v w = (r : Rank) → times r v ≡ times r w
 
 -- the rank is below one of these
 abbrev pub IsBelowOne : Weight → Rank → Type 0
@@ -53,14 +53,14 @@ pub record Smaller (v w : Weight) : Type 0 where
   pub others : Weight
   pub kept : Weight
   pub put : Weight
-  pub old : Alike w ((first ∷ others) ++ kept)
-  pub new : Alike v (put ++ kept)
+  pub old : IsPermutation w ((first ∷ others) ++ kept)
+  pub new : IsPermutation v (put ++ kept)
   pub below : AllBelow (first ∷ others) put
 
 -- the weight of a ground term: the ranks of its frames and of its call, for a rank of each symbol
 -- at its arguments
 abbrev pub weight_of : (ℕ → List ℤ → Rank) → Ground → Weight
-weight_of rank (Ret k) = []
+weight_of rank (Return k) = []
 weight_of rank (Fail c) = []
 weight_of rank (Call f xs) = rank f xs ∷ []
 weight_of rank (Frame f xs s) = rank f xs ∷ weight_of rank s

@@ -1,6 +1,6 @@
 -- Steps of a relation on ground terms, taken under frames, and what chains of them lead to.
 use Rattle.std.specs.Prelude.{◌≡◌, ℕ, zero, suc, List, ℤ, ◌⊎◌}
-use Rattle.rx_rewriting.specs.Terms.{Ground, Frame, Relation, StackFrame, under}
+use Rattle.rx_rewriting.specs.Terms.{Ground, Frame, Relation, StackFrame, in_context}
 
 -- a step: the relation replaces the term, or the inner part of it under some frames
 pub data Step (R : Relation) : Ground → Ground → Type 0 where
@@ -13,8 +13,8 @@ pub record ReplacesInner (R : Relation) (s t : Ground) : Type 0 where
   pub kept : List StackFrame
   pub before : Ground
   pub after : Ground
-  pub old : s ≡ under kept before
-  pub new : t ≡ under kept after
+  pub old : s ≡ in_context kept before
+  pub new : t ≡ in_context kept after
   pub related : R before after
 
 -- reach: any number of steps forwards
@@ -34,8 +34,8 @@ pub data Convertible (R : Relation) : Ground → Ground → Type 0 where
   Back : {s t u : Ground} → Step R t s → Convertible R t u → Convertible R s u
 
 -- the two terms join: some term is reached from both
-abbrev pub Joins : Relation → Ground → Ground → Type 0
-Joins R s t = (u : Ground) × Reaches R s u × Reaches R t u
+abbrev pub Joinable : Relation → Ground → Ground → Type 0
+Joinable R s t = (u : Ground) × Reaches R s u × Reaches R t u
 
 -- the union of two relations: by the one or by the other
 abbrev pub Either : Relation → Relation → Ground → Ground → Type 0

@@ -4,7 +4,7 @@ use Rattle.std.specs.Prelude.{◌≡◌, ℕ, ◌≤◌, Bool, true, false, List
 -- a returned integer, a failure with its code, a call of a symbol with integers, or such a frame
 -- over a term
 pub data Ground : Type 0 where
-  Ret : ℤ → Ground
+  Return : ℤ → Ground
   Fail : ℕ → Ground
   Call : ℕ → List ℤ → Ground
   Frame : ℕ → List ℤ → Ground → Ground
@@ -19,7 +19,7 @@ TermSet = Ground → Type 0
 
 -- a result: a returned integer or a failure, with no frame over it
 abbrev pub IsResult : Ground → Type 0
-IsResult (Ret k) = Unit {0}
+IsResult (Return k) = Unit {0}
 IsResult (Fail c) = Unit {0}
 IsResult (Call f xs) = ⊥
 IsResult (Frame f xs s) = ⊥
@@ -30,9 +30,9 @@ pub record StackFrame : Type 0 where
   pub arguments : List ℤ
 
 -- the term under frames, the outermost frame first (a ground context around it)
-abbrev pub under : List StackFrame → Ground → Ground
-under [] s = s
-under (f ∷ fs) s = Frame f.symbol f.arguments (under fs s)
+abbrev pub in_context : List StackFrame → Ground → Ground
+in_context [] s = s
+in_context (f ∷ fs) s = Frame f.symbol f.arguments (in_context fs s)
 
 -- what a symbol is declared as: the number of its arguments, and whether it is a frame or is called
 pub record Symbol : Type 0 where
@@ -40,19 +40,19 @@ pub record Symbol : Type 0 where
   pub is_frame : Bool
 
 -- a signature: the symbols by their numbers, and the greatest failure code
-pub record Symbols : Type 0 where
+pub record Signature : Type 0 where
   pub declared : List Symbol
   pub fails : ℕ
 
 -- the signature declares the symbol so
-abbrev pub Declares : Symbols → ℕ → Bool → ℕ → Type 0
+abbrev pub Declares : Signature → ℕ → Bool → ℕ → Type 0
 Declares symbols f is_frame arity =
     slice_get symbols.declared f ≡ Some (record { arity = arity; is_frame = is_frame })
 
 -- the term fits the signature: symbols and numbers of arguments as declared, failure codes from 1
 -- to the greatest
-abbrev pub Fits : Symbols → Ground → Type 0
-Fits symbols (Ret k) = Unit {0}
+abbrev pub Fits : Signature → Ground → Type 0
+Fits symbols (Return k) = Unit {0}
 Fits symbols (Fail c) = (1 ≤ c) × (c ≤ symbols.fails)
 Fits symbols (Call f xs) = Declares symbols f false (length xs)
 Fits symbols (Frame f xs s) = Declares symbols f true (length xs) × Fits symbols s

@@ -4,11 +4,11 @@
 ghost use Rattle.std.specs.Prelude.{◌≡◌, ℕ, pos, ◌-◌, ◌≤◌};
 ghost use Rattle.rx_rewriting.specs.Example.{Hypothesis, IsInside, PremisesHold, Rules, copy, down, negative_call, rank, symbols};
 ghost use Rattle.rx_rewriting.specs.Terms.{Fits, Ground, Relation, TermSet, IsResult};
-ghost use Rattle.rx_rewriting.specs.Steps.{Reaches, ReachesIn, Convertible, Joins, Either};
+ghost use Rattle.rx_rewriting.specs.Steps.{Reaches, ReachesIn, Convertible, Joinable, Either};
 ghost use Rattle.rx_rewriting.specs.Steps.{IsSingleValued};
 ghost use Rattle.rx_rewriting.specs.Ranks.{Weight, weight_of};
-ghost use Rattle.rx_rewriting.specs.Premises.{Lowers, Stays, Moves, IsReplaceable, ResultsRest};
-ghost use Rattle.rx_rewriting.specs.Premises.{EndsInside, EndAlike};
+ghost use Rattle.rx_rewriting.specs.Premises.{Lowers, ClosedUnder, Reducible, IsReplaceable, ResultsAreNormal};
+ghost use Rattle.rx_rewriting.specs.Premises.{EndsInside, HaveConvertibleNormalForms};
 
 /// Rules and hypotheses, as relations between terms with no frames over them, a weight of each
 /// term, and the terms that are inside.
@@ -26,8 +26,8 @@ pub trait System {
 /// that is no result has one, every inside term reaches a result.
 pub fn inside_terms_reach_results<S: System>()
     requires lowers { Lowers S.weight S.inside S.rule }
-    requires stays { Stays S.inside S.rule }
-    requires moves { Moves S.inside S.rule }
+    requires stays { ClosedUnder S.inside S.rule }
+    requires moves { Reducible S.inside S.rule }
     ensures { (s : Ground) → S.inside s → EndsInside S.inside S.rule s }
 {}
 
@@ -38,12 +38,12 @@ pub fn inside_terms_reach_results<S: System>()
 /// by rules and hypotheses is so by the rules.
 pub fn reached_terms_are_convertible<S: System>()
     requires lowers { Lowers S.weight S.inside (Either S.rule S.hypothesis) }
-    requires stays { Stays S.inside (Either S.rule S.hypothesis) }
+    requires stays { ClosedUnder S.inside (Either S.rule S.hypothesis) }
     requires replaceable { IsReplaceable S.inside S.rule S.hypothesis }
     ensures reached { (s t : Ground) → S.inside s →
         Reaches (Either S.rule S.hypothesis) s t → Convertible S.rule s t }
     ensures joined { (s t : Ground) → S.inside s → S.inside t →
-        Joins (Either S.rule S.hypothesis) s t → Convertible S.rule s t }
+        Joinable (Either S.rule S.hypothesis) s t → Convertible S.rule s t }
     ensures everywhere { ((u : Ground) → S.inside u) → (s t : Ground) →
         Convertible (Either S.rule S.hypothesis) s t → Convertible S.rule s t }
 {}
@@ -52,11 +52,11 @@ pub fn reached_terms_are_convertible<S: System>()
 /// inside terms that join reach results that are convertible by the rules.
 pub fn joined_terms_reach_convertible_results<S: System>()
     requires lowers { Lowers S.weight S.inside (Either S.rule S.hypothesis) }
-    requires stays { Stays S.inside (Either S.rule S.hypothesis) }
+    requires stays { ClosedUnder S.inside (Either S.rule S.hypothesis) }
     requires replaceable { IsReplaceable S.inside S.rule S.hypothesis }
-    requires moves { Moves S.inside S.rule }
+    requires moves { Reducible S.inside S.rule }
     ensures { (s t : Ground) → S.inside s → S.inside t →
-        Joins (Either S.rule S.hypothesis) s t → EndAlike S.inside S.rule s t }
+        Joinable (Either S.rule S.hypothesis) s t → HaveConvertibleNormalForms S.inside S.rule s t }
 {}
 
 /// Where the rules are single-valued and no step starts at a result: convertible results are
@@ -65,7 +65,7 @@ pub fn joined_terms_reach_convertible_results<S: System>()
 /// left.
 pub fn single_valued_rules_give_one_result<S: System>()
     requires single { IsSingleValued S.rule }
-    requires rest { ResultsRest S.rule }
+    requires rest { ResultsAreNormal S.rule }
     ensures equal { (s t : Ground) → IsResult s → IsResult t → Convertible S.rule s t → s ≡ t }
     ensures found { (s t : Ground) → IsResult t → Convertible S.rule s t → Reaches S.rule s t }
     ensures left { (s t u : Ground) (m i : ℕ) → IsResult t → ReachesIn S.rule m s t →
@@ -77,8 +77,8 @@ pub fn single_valued_rules_give_one_result<S: System>()
 pub fn unions_keep_what_both_have<S: System>()
     ensures lowers { Lowers S.weight S.inside S.rule → Lowers S.weight S.inside S.hypothesis →
         Lowers S.weight S.inside (Either S.rule S.hypothesis) }
-    ensures stays { Stays S.inside S.rule → Stays S.inside S.hypothesis →
-        Stays S.inside (Either S.rule S.hypothesis) }
+    ensures stays { ClosedUnder S.inside S.rule → ClosedUnder S.inside S.hypothesis →
+        ClosedUnder S.inside (Either S.rule S.hypothesis) }
 {}
 
 /// All these premises can be met at once: by the rules and the hypothesis of the example, inside a

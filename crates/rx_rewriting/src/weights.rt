@@ -3,10 +3,10 @@
 
 ghost use mathlib.Core.WellFounded.{Acc};
 ghost use Rattle.std.specs.Prelude.{◌≡◌, ℕ, suc, List, ◌++◌, ℤ};
-ghost use Rattle.rx_rewriting.specs.Terms.{Ground, StackFrame, under};
+ghost use Rattle.rx_rewriting.specs.Terms.{Ground, StackFrame, in_context};
 ghost use Rattle.rx_rewriting.specs.Steps.{ReachesIn};
 ghost use Rattle.rx_rewriting.specs.Ranks.{Rank, Weight, Smaller, weight_of, ranks_of};
-ghost use Rattle.rx_rewriting.specs.Premises.{IsInductive, Lowers, Stays};
+ghost use Rattle.rx_rewriting.specs.Premises.{IsInductive, Lowers, ClosedUnder};
 
 use crate::laws::System;
 
@@ -30,7 +30,7 @@ pub fn induction_over_weights_is_sound<P: Property>()
 /// The weight of a term under frames is the frames' ranks beside the term's weight.
 pub fn frames_add_their_ranks()
     ensures { (rank : ℕ → List ℤ → Rank) (fs : List StackFrame) (s : Ground) →
-        weight_of rank (under fs s) ≡ ranks_of rank fs ++ weight_of rank s }
+        weight_of rank (in_context fs s) ≡ ranks_of rank fs ++ weight_of rank s }
 {}
 
 /// The same ranks added on both sides keep smaller.
@@ -48,7 +48,7 @@ pub fn smaller_is_transitive()
 /// if it has a step at all.
 pub fn chains_lower_the_weight<S: System>()
     requires lowers { Lowers S.weight S.inside S.rule }
-    requires stays { Stays S.inside S.rule }
+    requires stays { ClosedUnder S.inside S.rule }
     ensures smaller { (m : ℕ) (s t : Ground) → S.inside s → ReachesIn S.rule (suc m) s t →
         Smaller (S.weight t) (S.weight s) }
     ensures within { (m : ℕ) (s t : Ground) → S.inside s → ReachesIn S.rule m s t → S.inside t }

@@ -5,8 +5,8 @@ use Rattle.std.proofs.lemmas.Bool.{and_parts}
 use Rattle.std.proofs.lemmas.Option.{get_or_from_slice_get, slice_get_within}
 use Rattle.rx_plain.proofs.Integers.{mul-zero-int}
 use Rattle.rx_poly.proofs.Constants.{value-number}
-use Rattle.rx_poly.proofs.PolyLaws.{value-added, value-scaled_by}
-use Rattle.rx_poly.specs.Limits.{added, scaled_by}
+use Rattle.rx_poly.proofs.PolyLaws.{value-body_sum, value-scaled_by}
+use Rattle.rx_poly.specs.Limits.{body_sum, scaled_by}
 use Rattle.rx_poly.specs.Constants.{number}
 use Rattle.rx_poly.specs.Value.{value}
 use Rattle.rx_poly.specs.declared.body.Body.{Body}
@@ -39,9 +39,9 @@ sum_step a rows at by sum (Some row) is h holds g =
     let here : RowHolds a row = subst (RowHolds a) (get_or_from_slice_get rows at row row is)
     (holds at row (slice_get_within rows at row is)) in
     let more = taken_multiple a row by h here in
-    let e : value a (added sum (scaled_by by (poly_of row))) ≡
+    let e : value a (body_sum sum (scaled_by by (poly_of row))) ≡
     value a sum +ℤ (by *ℤ value a (poly_of row)) =
-    value-added a sum (scaled_by by (poly_of row)) ∙
+    value-body_sum a sum (scaled_by by (poly_of row)) ∙
     (λ i. value a sum +ℤ value-scaled_by a by (poly_of row) i) in
     omega (arith, ints)
 

@@ -5,7 +5,7 @@ use Rattle.std.proofs.lemmas.Int.{ints}
 use Rattle.std.proofs.lemmas.List.Elements.{All-contains, All-contains_itself, All-push, All-weaker, Contains-append_left, Contains-push}
 use mathlib.Core.Logic.{inl, inr}
 use Rattle.rx_poly.proofs.Constants.{value-number}
-use Rattle.rx_poly.proofs.PolyLaws.{value-scaled_by, value-subtracted}
+use Rattle.rx_poly.proofs.PolyLaws.{value-scaled_by, value-body_difference}
 use Rattle.rx_poly.specs.Constants.{number}
 use Rattle.rx_poly.specs.Value.{value}
 use Rattle.rx_poly.specs.declared.body.Body.{Body}
@@ -18,7 +18,7 @@ use Rattle.rx_row.specs.declared.row.Row.TheVariants.{Ge, Eq, Ne}
 pub value-minus_one_more : (a : ℕ → ℤ) (p : Body) → value a (minus_one_more p) ≡
     (negsuc 0 *ℤ value a p) -ℤ pos 1
 value-minus_one_more a p =
-    value-subtracted a (opposite p) (number (pos 1)) ∙
+    value-body_difference a (opposite p) (number (pos 1)) ∙
     (λ i. value-scaled_by a (negsuc 0) p i -ℤ value-number a (pos 1) i)
 
 -- a number is below 0 exactly where -z - 1 isn't

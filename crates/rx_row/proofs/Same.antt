@@ -2,7 +2,7 @@
 use Rattle.std.proofs.Common.{◌≡◌, ap, Bool, true, refl, List, [], ◌∷◌}
 use Rattle.std.proofs.lemmas.Bool.{and_parts, and_from}
 use Rattle.std.specs.Cmp.Lexicographic.{pointwise}
-use Rattle.rx_poly.proofs.Same.{told_same, told_itself}
+use Rattle.rx_poly.proofs.Same.{body_eq-sound, body_eq-refl}
 use Rattle.rx_row.specs.contracts.row.RowPartialEq.TheImpl as row_equal
 use Rattle.rx_row.specs.declared.row.Row.{Row}
 use Rattle.rx_row.specs.declared.row.Row.TheVariants.{Ge, Eq, Ne}
@@ -12,20 +12,20 @@ abbrev pub row_eq : Row → Row → Bool
 row_eq = (row_equal.ghosts).eq
 
 pub told_same_row : (r s : Row) → row_eq r s ≡ true → r ≡ s
-told_same_row (Ge p) (Ge q) e = ap Ge (told_same p q e)
+told_same_row (Ge p) (Ge q) e = ap Ge (body_eq-sound p q e)
 told_same_row (Ge p) (Eq q) e = cc
 told_same_row (Ge p) (Ne q) e = cc
 told_same_row (Eq p) (Ge q) e = cc
-told_same_row (Eq p) (Eq q) e = ap Eq (told_same p q e)
+told_same_row (Eq p) (Eq q) e = ap Eq (body_eq-sound p q e)
 told_same_row (Eq p) (Ne q) e = cc
 told_same_row (Ne p) (Ge q) e = cc
 told_same_row (Ne p) (Eq q) e = cc
-told_same_row (Ne p) (Ne q) e = ap Ne (told_same p q e)
+told_same_row (Ne p) (Ne q) e = ap Ne (body_eq-sound p q e)
 
 pub told_itself_row : (r : Row) → row_eq r r ≡ true
-told_itself_row (Ge p) = told_itself p p refl
-told_itself_row (Eq p) = told_itself p p refl
-told_itself_row (Ne p) = told_itself p p refl
+told_itself_row (Ge p) = body_eq-refl p p refl
+told_itself_row (Eq p) = body_eq-refl p p refl
+told_itself_row (Ne p) = body_eq-refl p p refl
 
 pub told_same_rows : (rs ss : List Row) → pointwise row_eq rs ss ≡ true → rs ≡ ss
 told_same_rows [] [] e = refl

@@ -5,12 +5,12 @@ use Rattle.std.proofs.Math.Seq.{drop-cons}
 use Rattle.std.proofs.lemmas.Bool.{and_left}
 use Rattle.std.proofs.lemmas.List.{append-nil}
 use Rattle.rx_poly.specs.declared.body.Body.{Body}
-use Rattle.rx_row.specs.Substitution.{in_row, in_rows, row_within, rows_within}
+use Rattle.rx_row.specs.Substitution.{subst_row, subst_rows, row_within, rows_within}
 use Rattle.rx_row.specs.declared.row.Row.{Row}
 
 -- the rows that are there already, and those that are left
 pub record Substituting (ws : List (ℕ × Body)) (done rest whole : List Row) : Type 0 where
-  pub made : done ++ in_rows ws rest ≡ in_rows ws whole
+  pub made : done ++ subst_rows ws rest ≡ subst_rows ws whole
   pub limits : rows_within ws rest ≡ rows_within ws whole
 
 pub begin : (ws : List (ℕ × Body)) (rows : List Row) → Substituting ws [] (drop 0 rows) rows
@@ -29,19 +29,21 @@ module _ {ws : List (ℕ × Body)} {done : List Row} (rows : List Row) (i : ℕ)
   no_row f = sym opened.limits ∙ and_left (row_within ws row) (rows_within ws (drop (suc i) rows)) f
 
   -- one within them leaves it to the rest
-  pub after_row : {next : List Row} → next ≡ done ++ in_row ws row ∷ [] → row_within ws row ≡ true →
+  pub after_row : {next : List Row} → next ≡ done ++ subst_row ws row ∷ [] → row_within ws row ≡
+      true →
       Substituting ws next (drop (i + 1) rows) rows
   after_row {next} e f =
       subst (λ n. Substituting ws next (drop n rows) rows) (sym (add-one i))
       (subst (λ rs. Substituting ws rs (drop (suc i) rows) rows) (sym e) (record {
         made =
-            append_assoc done (in_row ws row ∷ []) (in_rows ws (drop (suc i) rows)) ∙ opened.made;
+            append_assoc done (subst_row ws row ∷ []) (subst_rows ws (drop (suc i) rows)) ∙
+            opened.made;
         limits = ap (λ b. b && rows_within ws (drop (suc i) rows)) (sym f) ∙ opened.limits;
       }))
 
 -- nothing is left
 pub finished : (ws : List (ℕ × Body)) (done rows : List Row) (i : ℕ) → length rows ≤ i →
-    Substituting ws done (drop i rows) rows → (done ≡ in_rows ws rows) ×
+    Substituting ws done (drop i rows) rows → (done ≡ subst_rows ws rows) ×
     (rows_within ws rows ≡ true)
 finished ws done rows i h s =
     let all = subst (λ rest. Substituting ws done rest rows) (drop_of_length-le rows h) s in

@@ -12,13 +12,13 @@ use Rattle.rx_poly.specs.Constants.{number}
 use Rattle.rx_poly.specs.Limits.{of_atoms}
 use Rattle.rx_poly.specs.Normal.{is_empty, is_poly}
 use Rattle.rx_poly.specs.Order.{atom_cmp, mono_cmp}
-use Rattle.rx_poly.specs.Terms.{add_terms, is_before, is_listed, is_zero, negated, placed, put, times_number}
+use Rattle.rx_poly.specs.Terms.{add_terms, is_before, is_sparse_sorted, is_zero, negated, insert_by, cons_nonzero, times_number}
 use Rattle.rx_poly.proofs.Levels.{atoms-of_atoms, terms-of_terms}
 use Rattle.rx_poly.proofs.OrderLemmas.{mono_cmp_is, mono_total}
 use Rattle.rx_poly.proofs.PolyLaws.{listed-times_number, poly_terms}
 use Rattle.rx_poly.proofs.ReadingLaws.{itself}
 use Rattle.rx_poly.proofs.Same.{same_mono}
-use Rattle.rx_poly.proofs.TermLaws.{add-left, by_false, Listed, listed_parts, lt_is, put-nonzero, zero_is}
+use Rattle.rx_poly.proofs.TermLaws.{add-left, by_false, Listed, listed_parts, lt_is, cons_nonzero-nonzero, zero_is}
 use Rattle.rx_poly.specs.declared.body.Atom.{Atom}
 use Rattle.rx_poly.specs.declared.body.Mono.{Mono, out-Mono, roll-Mono, roll-out-Mono}
 use Rattle.rx_poly.specs.declared.body.Body.{Body, out-Body, roll-Body, roll-out-Body}
@@ -94,8 +94,8 @@ first_term t ts before listed rest true e =
     let equal : mono_cmp t.0 one ≡ Equal = ap (λ m. mono_cmp m one) (one_is t.0 e) ∙ itself one in
     let sum : c +ℤ negsuc 0 ≡ negsuc 0 -ℤ t.1 = omega (arith, ints) in
     ap (λ us. add_terms mono_cmp (turned t ∷ times_number (negsuc 0) us) last_one) nothing
-    ∙ ap (λ r. placed r t.0 c (one, negsuc 0) [] (put t.0 c [])) equal
-    ∙ (λ i. put (one_is t.0 e i) (sum i) [])
+    ∙ ap (λ r. insert_by r t.0 c (one, negsuc 0) [] (cons_nonzero t.0 c [])) equal
+    ∙ (λ i. cons_nonzero (one_is t.0 e i) (sum i) [])
     ∙ ap (λ b. if b then number_terms (negsuc 0 -ℤ t.1) else turned t ∷ one_less_turned ts) (sym e)
 first_term t ts before listed rest false e =
     let after : is_before mono_cmp t.0 last_one ≡ true =
@@ -105,15 +105,16 @@ first_term t ts before listed rest false e =
     ∙ ap (λ us. turned t ∷ us) rest
     ∙ ap (λ b. if b then number_terms (negsuc 0 -ℤ t.1) else turned t ∷ one_less_turned ts) (sym e)
 
-sum_is : (ts : List (Mono × ℤ)) → is_listed mono_cmp ts ≡ true →
+sum_is : (ts : List (Mono × ℤ)) → is_sparse_sorted mono_cmp ts ≡ true →
     add_terms mono_cmp (times_number (negsuc 0) ts) last_one ≡ one_less_turned ts
 sum_is [] h = refl
 sum_is (t ∷ ts) h =
     let l = listed_parts mono_cmp mono_total same_mono t ts h in
     let c = t.1 *ℤ negsuc 0 in
     let opened : times_number (negsuc 0) (t ∷ ts) ≡ (t.0, c) ∷ times_number (negsuc 0) ts =
-    put-nonzero t.0 c (times_number (negsuc 0) ts) (nonzero_turned t.1 l.nonzero) in
-    let listed = ap (is_listed mono_cmp) (sym opened) ∙ listed-times_number (negsuc 0) (t ∷ ts) h in
+    cons_nonzero-nonzero t.0 c (times_number (negsuc 0) ts) (nonzero_turned t.1 l.nonzero) in
+    let listed = ap (is_sparse_sorted mono_cmp) (sym opened) ∙
+    listed-times_number (negsuc 0) (t ∷ ts) h in
     ap (λ xs. add_terms mono_cmp xs last_one) opened ∙
     first_term t ts l.before (listed_parts mono_cmp mono_total same_mono (t.0, c)
     (times_number (negsuc 0) ts) listed) (sum_is ts l.rest) (is_one t.0) refl

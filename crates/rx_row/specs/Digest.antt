@@ -3,7 +3,7 @@
 use Rattle.std.specs.Prelude.{◌≡◌, true, ℕ, ◌+◌, ◌%◌, ◌^◌, List}
 use Rattle.std.specs.Hash as fed
 use Rattle.std.proofs.Common.{ap}
-use Rattle.rx_poly.proofs.Same.{told_same}
+use Rattle.rx_poly.proofs.Same.{body_eq-sound}
 use Rattle.rx_poly.specs.Digest.{digest_of}
 use Rattle.rx_poly.specs.declared.body.Body.{Body, out-Body}
 use Rattle.rx_row.specs.contracts.row.RowPartialEq.TheImpl as row_equal
@@ -23,9 +23,10 @@ abbrev pub fed_of : Row → List (List ℕ)
 fed_of r = fed.u128 (row_digest r)
 
 -- what a polynomial's `==` finds equal is raised alike
-alike : (p q : Body) (by : ℕ) → (row_equal.ghosts).eq (Ge p) (Ge q) ≡ true → fed.u128 (raised p by) ≡
+alike : (p q : Body) (by : ℕ) → (row_equal.ghosts).eq (Ge p) (Ge q) ≡ true →
+    fed.u128 (raised p by) ≡
     fed.u128 (raised q by)
-alike p q by e = ap (λ b. fed.u128 (raised b by)) (told_same p q e)
+alike p q by e = ap (λ b. fed.u128 (raised b by)) (body_eq-sound p q e)
 
 pub fed_alike : (r s : Row) → (row_equal.ghosts).eq r s ≡ true → fed_of r ≡ fed_of s
 fed_alike (Ge p) (Ge q) e = alike p q 0 e

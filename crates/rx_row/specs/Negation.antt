@@ -1,7 +1,7 @@
 -- The negation of a row, and what must keep the limits on the way to it.
 use Rattle.std.specs.Prelude.{Bool, true, ◌&&◌, pos, negsuc}
 use Rattle.rx_plain.specs.Formed.{Formed}
-use Rattle.rx_poly.specs.Limits.{is_within, scaled_by, subtracted}
+use Rattle.rx_poly.specs.Limits.{is_within, scaled_by, body_difference}
 use Rattle.rx_poly.specs.Constants.{number}
 use Rattle.rx_poly.specs.declared.body.Body.{Body}
 use Rattle.rx_row.specs.declared.row.Row.{Row}
@@ -13,7 +13,7 @@ opposite p = scaled_by (negsuc 0) p
 
 -- -p - 1
 abbrev pub minus_one_more : Body → Body
-minus_one_more p = subtracted (opposite p) (number (pos 1))
+minus_one_more p = body_difference (opposite p) (number (pos 1))
 
 -- -p, and then -p - 1, keep the limits
 abbrev pub minus_one_more_within : Body → Bool

@@ -2,12 +2,12 @@
 use Rattle.std.specs.Prelude.{if◌then◌else◌, List, [], ◌∷◌, ℤ, negsuc, ◌-ℤ◌, ◌*ℤ◌}
 use Rattle.rx_poly.specs.Limits.{of_atoms}
 use Rattle.rx_poly.specs.Normal.{is_empty}
-use Rattle.rx_poly.specs.Terms.{put}
+use Rattle.rx_poly.specs.Terms.{cons_nonzero}
 use Rattle.rx_poly.specs.declared.body.Mono.{Mono, out-Mono}
 
 -- the terms of one number
 abbrev pub number_terms : ℤ → List (Mono × ℤ)
-number_terms c = put (of_atoms []) c []
+number_terms c = cons_nonzero (of_atoms []) c []
 
 -- the term with its sign reversed
 abbrev pub turned : Mono × ℤ → Mono × ℤ

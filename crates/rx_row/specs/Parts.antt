@@ -1,7 +1,7 @@
 -- Sums of multiples of rows. A part is the number of a row, counted from 0, with a multiplier.
 use Rattle.std.specs.Prelude.{ℕ, ◌+◌, nat_le, Bool, true, false, not, ◌&&◌, if◌then◌else◌, Option, Some, None, List, [], ◌∷◌, slice_get, ℤ, pos, int_lt}
 use Rattle.rx_plain.specs.Formed.{Formed}
-use Rattle.rx_poly.specs.Limits.{added, is_within, scaled_by}
+use Rattle.rx_poly.specs.Limits.{body_sum, is_within, scaled_by}
 use Rattle.rx_poly.specs.Constants.{number}
 use Rattle.rx_poly.specs.Terms.{is_zero}
 use Rattle.rx_poly.specs.declared.body.Body.{Body}
@@ -38,13 +38,13 @@ are_lawful rows ps = lawful_from 0 rows ps
 -- a sum that a row's polynomial times the multiplier is added to; a missing row adds nothing
 abbrev pub with_multiple : Body → Option Row → ℤ → Body
 with_multiple sum None by = sum
-with_multiple sum (Some row) by = added sum (scaled_by by (poly_of row))
+with_multiple sum (Some row) by = body_sum sum (scaled_by by (poly_of row))
 
 -- the multiple, and the sum with it, keep the limits
 abbrev pub multiple_within : Body → Option Row → ℤ → Bool
 multiple_within sum None by = true
 multiple_within sum (Some row) by =
-    is_within (scaled_by by (poly_of row)) && is_within (added sum (scaled_by by (poly_of row)))
+    is_within (scaled_by by (poly_of row)) && is_within (body_sum sum (scaled_by by (poly_of row)))
 
 -- a sum to which each part adds its multiple, in order
 abbrev pub sum_from : Body → List Row → List (ℕ × ℤ) → Body

@@ -4,7 +4,7 @@ ghost use Rattle.rx_plain.specs.Formed.{Forms, FormsAs};
 ghost use Rattle.rx_row.specs.Holds.{AllHold, RowHolds};
 ghost use Rattle.rx_row.specs.Membership.{pushed};
 ghost use Rattle.rx_row.specs.Substitution.{pushed_with, rows_with};
-ghost use Rattle.rx_poly.specs.Substitution.{numbered, worth};
+ghost use Rattle.rx_poly.specs.Substitution.{numbered, updated_assignment};
 
 use crate::row::Row;
 use rx_plain::{Items, NoMemory};
@@ -158,7 +158,7 @@ impl Constraint {
     pub fn subst(&self, alloc: Global, with: &[(u32, Poly)]) -> Result<Constraint, PolyEnd>
         ensures forms { Forms PolyEnd.Large result (rows_with with.now self.now) }
         ensures holds { IfOk result (λ c. (a : ℕ → ℤ) →
-            AllHold a c ↔ AllHold (worth a with.now) self.now) }
+            AllHold a c ↔ AllHold (updated_assignment a with.now) self.now) }
     {
         let rows = subst_rows(alloc, self.rows.as_slice(), with)?;
         Ok(Constraint {
@@ -191,7 +191,7 @@ impl Constraint {
     pub fn at_args(&self, alloc: Global, args: &[Poly]) -> Result<Constraint, PolyEnd>
         ensures forms { Forms PolyEnd.Large result (rows_with (numbered args.now) self.now) }
         ensures holds { IfOk result (λ c. (a : ℕ → ℤ) →
-            AllHold a c ↔ AllHold (worth a (numbered args.now)) self.now) }
+            AllHold a c ↔ AllHold (updated_assignment a (numbered args.now)) self.now) }
     {
         let rows = rows_at_args(alloc, self.rows.as_slice(), args)?;
         Ok(Constraint {

@@ -6,7 +6,7 @@ ghost use Rattle.rx_row.specs.Naming.{named};
 ghost use Rattle.rx_row.specs.Negation.{less_one_more, negated};
 ghost use Rattle.rx_row.specs.Parts.{poly_of};
 ghost use Rattle.rx_row.specs.Substitution.{row_with};
-ghost use Rattle.rx_poly.specs.Substitution.{numbered, worth};
+ghost use Rattle.rx_poly.specs.Substitution.{numbered, updated_assignment};
 
 use rx_poly::{Poly, PolyEnd};
 use std::alloc::{AllocError, Global};
@@ -81,7 +81,7 @@ impl Row {
     pub fn subst(&self, alloc: Global, with: &[(u32, Poly)]) -> Result<Row, PolyEnd>
         ensures forms { Forms PolyEnd.Large result (row_with with.now self.now) }
         ensures holds { IfOk result (λ r. (a : ℕ → ℤ) →
-            RowHolds a r ↔ RowHolds (worth a with.now) self.now) }
+            RowHolds a r ↔ RowHolds (updated_assignment a with.now) self.now) }
     {
         match self {
             Row::Ge(poly) => Ok(Row::Ge(poly.subst(alloc, with)?)),
@@ -95,7 +95,7 @@ impl Row {
     pub fn at_args(&self, alloc: Global, args: &[Poly]) -> Result<Row, PolyEnd>
         ensures forms { Forms PolyEnd.Large result (row_with (numbered args.now) self.now) }
         ensures holds { IfOk result (λ r. (a : ℕ → ℤ) →
-            RowHolds a r ↔ RowHolds (worth a (numbered args.now)) self.now) }
+            RowHolds a r ↔ RowHolds (updated_assignment a (numbered args.now)) self.now) }
     {
         match self {
             Row::Ge(poly) => Ok(Row::Ge(poly.at_args(alloc, args)?)),

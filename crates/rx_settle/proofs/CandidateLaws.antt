@@ -7,7 +7,7 @@ use Rattle.rx_poly.specs.declared.body.Body.{Body}
 use Rattle.rx_fm.specs.declared.fm_end.FmEnd.{FmEnd}
 use Rattle.rx_fm.specs.declared.fm_end.FmEnd.TheVariants as fm_end
 use Rattle.rx_solve.specs.Attempts.{Tried, applies, beyond, fails, first_applying, made_or}
-use Rattle.rx_term.specs.Stacks.{behind, depth_of}
+use Rattle.rx_term.specs.Stacks.{suffix_at, depth_of}
 use Rattle.rx_term.specs.declared.rule.Equation.{Equation}
 use Rattle.rx_term.specs.declared.rule.Rule.{Rule}
 use Rattle.rx_term.specs.declared.rule_set.RuleParts.{RuleParts}
@@ -115,7 +115,7 @@ module _ (goal : Equation) (hypothesis : Rule) (side : Side) (place : ℕ) where
   pub elsewhere : is_place goal hypothesis side place ≡ false →
       (parts : RuleParts) (state : State) (number : ℕ) →
       using_at parts state goal number hypothesis side place ≡ fails
-  elsewhere h = by_use fails (no_use_by (behind place (side_of side goal)) h)
+  elsewhere h = by_use fails (no_use_by (suffix_at place (side_of side goal)) h)
 
 -- ---- on a side
 

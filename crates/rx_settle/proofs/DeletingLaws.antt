@@ -3,7 +3,7 @@ use Rattle.std.proofs.Common.{◌≡◌, ◌∙◌, ap, subst, sym, ◌≤◌, t
 use Rattle.std.specs.Prelude.{All, IfOk, OnOk, Result, slice_get}
 use Rattle.std.proofs.lemmas.List.Elements.{All-cons, All-nil}
 use Rattle.rx_cert.specs.Depth.{cert_depth}
-use Rattle.rx_cert.specs.Examination.{finding}
+use Rattle.rx_cert.specs.Examination.{verdict}
 use Rattle.rx_cert.specs.Findings.{Said, Yes, No, Beyond}
 use Rattle.rx_cert.specs.declared.cert.Cert.{Cert}
 use Rattle.rx_fm.specs.declared.fm_end.FmEnd.{FmEnd}
@@ -78,8 +78,8 @@ module _ (parts : RuleParts) (old : State) where
       abbrev the_step : Step
       the_step = step.Delete (delete.Absurd cert)
 
-      found_yes : finding (first_rows old.goals) cert ≡ Yes
-      found_yes = subst (λ rows. finding rows cert ≡ Yes) same_rows of.1.refutes
+      found_yes : verdict (first_rows old.goals) cert ≡ Yes
+      found_yes = subst (λ rows. verdict rows cert ≡ Yes) same_rows of.1.refutes
 
       makes : applied parts old the_step ≡ Ok dropped
       makes = shown_taken parts old the_step (record { asked = Refuted; goals = []; kept = [] })

@@ -9,7 +9,7 @@ use Rattle.rx_cert.specs.Findings.{Said, Yes, No, Beyond}
 use Rattle.rx_solve.specs.Attempts.{Tried, first_applying, made_or, where_shown}
 use Rattle.rx_term.specs.Bounds.{equation_bound}
 use Rattle.rx_term.specs.Meaning.{redex_of}
-use Rattle.rx_term.specs.Stacks.{behind, depth_of}
+use Rattle.rx_term.specs.Stacks.{suffix_at, depth_of}
 use Rattle.rx_term.specs.declared.rule.Equation.{Equation}
 use Rattle.rx_term.specs.declared.rule.Rule.{Rule}
 use Rattle.rx_term.specs.declared.rule_set.RuleParts.{RuleParts}
@@ -73,7 +73,7 @@ module _ (parts : RuleParts) (hypotheses : List Rule) where
       KeepsNothing (formed parts goal hypotheses (step_of (Hyp side place number ws)))
   hyp_keeps None side place number ws = refused form_end.NoGoal
   hyp_keeps (Some goal) side place number ws =
-      after (found_or form_end.WrongShape (behind place (side_of side goal))) _ (λ part.
+      after (found_or form_end.WrongShape (suffix_at place (side_of side goal))) _ (λ part.
       after (provided (is_substitution ws) (found_or form_end.NoSuchRule
       (slice_get hypotheses number))) _ (λ hypothesis. tested _ _ (within _ refl)))
 
@@ -102,8 +102,8 @@ module _ (parts : RuleParts) (hypotheses : List Rule) where
       KeepsNothing (formed parts goal hypotheses (step_of (Results left right)))
   results_keep None left right = refused form_end.NoGoal
   results_keep (Some goal) left right =
-      after (found_or form_end.WrongShape (behind left goal.left)) _ (λ one.
-      after (found_or form_end.WrongShape (behind right goal.right)) _
+      after (found_or form_end.WrongShape (suffix_at left goal.left)) _ (λ one.
+      after (found_or form_end.WrongShape (suffix_at right goal.right)) _
       (λ other. tested _ _ (within _ refl)))
 
 -- ---- moves that keep the hypotheses

@@ -3,7 +3,7 @@ use Rattle.std.proofs.Common.{◌≡◌, ◌∙◌, ap, subst, sym, refl, true, 
 use Rattle.std.specs.Prelude.{IfOk, Result, Ok, Err, slice_get}
 use Rattle.std.proofs.lemmas.List.Elements.{All-nil}
 use Rattle.rx_cert.specs.Depth.{cert_depth}
-use Rattle.rx_cert.specs.Findings.{Said, Yes, No, Beyond, both}
+use Rattle.rx_cert.specs.Findings.{Said, Yes, No, Beyond, and_also}
 use Rattle.rx_cert.specs.Showing.{all_shown}
 use Rattle.rx_cert.specs.declared.cert.Cert.{Cert}
 use Rattle.rx_row.specs.declared.row.Row.{Row}
@@ -22,7 +22,7 @@ use Rattle.rx_settle.specs.Parts.{IsAskedShown, ShownBy}
 use Rattle.rx_settle.specs.Trying.{asked_shown, groups_shown}
 
 -- nothing more is asked
-and_yes : (s : Said) → both s Yes ≡ s
+and_yes : (s : Said) → and_also s Yes ≡ s
 and_yes Yes = refl
 and_yes No = refl
 and_yes Beyond = refl

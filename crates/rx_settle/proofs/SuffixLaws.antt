@@ -2,7 +2,7 @@
 use Rattle.std.proofs.Common.{◌≡◌, ◌≢◌, ◌∙◌, ap, subst, sym, refl, cond, ℕ, suc, ◌+◌, ◌-◌, ◌==◌, Bool, true, false, ◌&&◌, List, [], ◌∷◌, ◌++◌, length, map, reverse, zip, arith, add-zero, add_assoc, zero-add}
 use Rattle.std.specs.Prelude.{IfOk, Result, Ok, Err}
 use Rattle.std.proofs.lemmas.List.{map-append, reverse-append, length-append}
-use Rattle.rx_cert.specs.Findings.{Said, Yes, No, Beyond, both}
+use Rattle.rx_cert.specs.Findings.{Said, Yes, No, Beyond, and_also}
 use Rattle.rx_cert.specs.Showing.{all_shown, shown}
 use Rattle.rx_poly.specs.declared.body.Body.{Body}
 use Rattle.rx_row.specs.declared.row.Row.{Row}
@@ -33,7 +33,7 @@ equality_of (all.Shown certs) = equality.Shown
 equality_of all.NotShown = equality.NotShown
 equality_of all.TooLarge = equality.TooLarge
 
-nothing_more : (s : Said) → both s Yes ≡ s
+nothing_more : (s : Said) → and_also s Yes ≡ s
 nothing_more Yes = refl
 nothing_more No = refl
 nothing_more Beyond = refl
@@ -85,7 +85,7 @@ module _ (given : List Row) (rest others : List Body) where
   module _ (p q : Body) (more further : List Body) (left : rest ≡ p ∷ more)
       (right : others ≡ q ∷ further) where
     one_pair : equals_shown given (zip rest others) ≡
-        both (equal_shown given (p, q)) (equals_shown given (zip more further))
+        and_also (equal_shown given (p, q)) (equals_shown given (zip more further))
     one_pair =
         ap (λ ps. equals_shown given (zip ps others)) left ∙
         ap (λ qs. equals_shown given (zip (p ∷ more) qs)) right
@@ -93,15 +93,15 @@ module _ (given : List Row) (rest others : List Body) where
     -- a pair is shown equal, and the others decide
     pub pair_shown : equal_shown given (p, q) ≡ Yes → equals_shown given (zip rest others) ≡
         equals_shown given (zip more further)
-    pair_shown e = one_pair ∙ ap (λ s. both s (equals_shown given (zip more further))) e
+    pair_shown e = one_pair ∙ ap (λ s. and_also s (equals_shown given (zip more further))) e
 
     -- or it decides
     pub pair_not : equal_shown given (p, q) ≡ No → equals_shown given (zip rest others) ≡ No
-    pair_not e = one_pair ∙ ap (λ s. both s (equals_shown given (zip more further))) e
+    pair_not e = one_pair ∙ ap (λ s. and_also s (equals_shown given (zip more further))) e
 
     pub pair_beyond : equal_shown given (p, q) ≡ Beyond → equals_shown given (zip rest others) ≡
         Beyond
-    pair_beyond e = one_pair ∙ ap (λ s. both s (equals_shown given (zip more further))) e
+    pair_beyond e = one_pair ∙ ap (λ s. and_also s (equals_shown given (zip more further))) e
 
 -- ---- parts
 

@@ -2,7 +2,7 @@
 -- innermost part outwards.
 use Rattle.std.specs.Prelude.{ℕ, ◌+◌, ◌==◌, ◌&&◌, true, false, if◌then◌else◌, List, [], ◌∷◌, reverse}
 use Rattle.std.specs.List.{zip}
-use Rattle.rx_cert.specs.Findings.{Said, Yes, No, Beyond, both, within}
+use Rattle.rx_cert.specs.Findings.{Said, Yes, No, Beyond, and_also, guard}
 use Rattle.rx_cert.specs.Showing.{shown}
 use Rattle.rx_poly.specs.declared.body.Body.{Body}
 use Rattle.rx_row.specs.declared.row.Row.{Row}
@@ -31,12 +31,12 @@ inwards = fold-Term (List Part) inwards_level
 -- the two polynomials are shown equal
 abbrev pub equal_shown : List Row → Body × Body → Said
 equal_shown given pair =
-    within (difference pair).within (shown refuted given (row.Eq (difference pair).form))
+    guard (difference pair).within (shown refuted given (row.Eq (difference pair).form))
 
 -- pair by pair, each difference being formed when it is asked
 abbrev pub equals_shown : List Row → List (Body × Body) → Said
 equals_shown given [] = Yes
-equals_shown given (pair ∷ pairs) = both (equal_shown given pair) (equals_shown given pairs)
+equals_shown given (pair ∷ pairs) = and_also (equal_shown given pair) (equals_shown given pairs)
 
 -- no more parts are common
 abbrev pub ended : Common

@@ -1,7 +1,7 @@
 -- What comes of trying a move: it applies where it is formed and the refuter shows what it asks.
 -- Where something passes the limits it doesn't, and that is noted.
 use Rattle.std.specs.Prelude.{◌||◌, Bool, Option, Some, None, Ok, Err, List, [], ◌∷◌, slice_get}
-use Rattle.rx_cert.specs.Findings.{Said, Yes, both}
+use Rattle.rx_cert.specs.Findings.{Said, Yes, and_also}
 use Rattle.rx_cert.specs.Showing.{all_shown}
 use Rattle.rx_row.specs.declared.row.Row.{Row}
 use Rattle.rx_solve.specs.Attempts.{Tried, beyond, fails, where_shown}
@@ -27,7 +27,7 @@ pub record Next : Type 0 where
 abbrev pub groups_shown : List Row → List Row → List Group → Said
 groups_shown old new [] = Yes
 groups_shown old new (g ∷ gs) =
-    both (all_shown refuted (given_to old new g.under) g.rows) (groups_shown old new gs)
+    and_also (all_shown refuted (given_to old new g.under) g.rows) (groups_shown old new gs)
 
 -- what a step asks is shown, under the rows of the goal and of the first new one
 unfoldable pub asked_shown : List Row → List Row → Asked → Said

@@ -11,13 +11,13 @@ use Rattle.rx_poly.proofs.Levels.{body_depth_is, body_size_is, terms-of_terms}
 use Rattle.rx_poly.proofs.OrderLemmas.{mono_total}
 use Rattle.rx_poly.proofs.PolyLaws.{depth-of_terms, poly_terms, size-of_terms, within_terms}
 use Rattle.rx_poly.proofs.Same.{same_mono}
-use Rattle.rx_poly.proofs.TermLaws.{listed_parts, lt_is, put-nonzero}
+use Rattle.rx_poly.proofs.TermLaws.{listed_parts, lt_is, cons_nonzero-nonzero}
 use Rattle.rx_poly.specs.Constants.{variable}
-use Rattle.rx_poly.specs.Limits.{added, all_fit, body_depth, body_size, fits_i128, greatest, is_small, is_within, mono_depth, mono_size, of_atoms, of_terms, subtracted}
+use Rattle.rx_poly.specs.Limits.{body_sum, all_fit, body_depth, body_size, fits_i128, greatest, is_small, is_within, mono_depth, mono_size, of_atoms, of_terms, body_difference}
 use Rattle.rx_poly.specs.Normal.{is_normal, is_poly}
 use Rattle.rx_poly.specs.Order.{mono_cmp}
 use Rattle.rx_poly.specs.Reading.{coefficient, found}
-use Rattle.rx_poly.specs.Terms.{add_terms, insert_term, is_before, is_listed, is_zero, negated, placed}
+use Rattle.rx_poly.specs.Terms.{add_terms, insert_term, is_before, is_sparse_sorted, is_zero, negated, insert_by}
 use Rattle.rx_poly.specs.declared.body.Atom.TheVariants.{Var}
 use Rattle.rx_poly.specs.declared.body.Mono.{Mono}
 use Rattle.rx_poly.specs.declared.body.Body.{Body, out-Body}
@@ -26,12 +26,12 @@ use Rattle.rx_cert.specs.Elimination.{coefficient_of}
 -- a term that comes before all others is added first
 insert_first : (t : Mono × ℤ) (us : List (Mono × ℤ)) → is_zero t.1 ≡ false →
     is_before mono_cmp t.0 us ≡ true → insert_term mono_cmp t.0 t.1 us ≡ t ∷ us
-insert_first t [] z h = put-nonzero t.0 t.1 [] z
+insert_first t [] z h = cons_nonzero-nonzero t.0 t.1 [] z
 insert_first t (u ∷ us) z h =
     let less = lt_is (mono_cmp t.0 u.0) (and_parts (is_lt (mono_cmp t.0 u.0))
     (is_before mono_cmp t.0 us) h).0 in
-    ap (λ r. placed r t.0 t.1 u us (insert_term mono_cmp t.0 t.1 us)) less ∙
-    put-nonzero t.0 t.1 (u ∷ us) z
+    ap (λ r. insert_by r t.0 t.1 u us (insert_term mono_cmp t.0 t.1 us)) less ∙
+    cons_nonzero-nonzero t.0 t.1 (u ∷ us) z
 
 -- the terms without that of the monomial
 abbrev pub removed_by : Ordering → Mono × ℤ → List (Mono × ℤ) → List (Mono × ℤ) → List (Mono × ℤ)
@@ -58,7 +58,8 @@ removed_all p k (t ∷ ts) h = by (mono_cmp k t.0) (removed_all p k ts parts.1)
     by Greater g = and_from (p t) (list_all p (removed k ts)) parts.0 g
 
 module _ (k : Mono) (d : ℤ) where
-  put_after : (ts : List (Mono × ℤ)) → is_listed mono_cmp ts ≡ true → is_before mono_cmp k ts ≡
+  put_after : (ts : List (Mono × ℤ)) → is_sparse_sorted mono_cmp ts ≡ true →
+      is_before mono_cmp k ts ≡
       true → add_terms mono_cmp ts ((k, d) ∷ []) ≡ (k, d) ∷ ts
   put_after [] l h = refl
   put_after (t ∷ ts) l h =
@@ -67,10 +68,11 @@ module _ (k : Mono) (d : ℤ) where
       let greater : mono_cmp t.0 k ≡ Greater = mono_total.antisymm t.0 k ∙
       ap ordering_reverse (lt_is (mono_cmp k t.0) q.0) in
       ap (insert_term mono_cmp t.0 t.1) (put_after ts p.rest q.1)
-      ∙ ap (λ r. placed r t.0 t.1 (k, d) ts (insert_term mono_cmp t.0 t.1 ts)) greater
+      ∙ ap (λ r. insert_by r t.0 t.1 (k, d) ts (insert_term mono_cmp t.0 t.1 ts)) greater
       ∙ ap (λ us. (k, d) ∷ us) (insert_first t ts p.nonzero p.before)
 
-  cancel_by : (t : Mono × ℤ) (ts : List (Mono × ℤ)) (c : ℤ) → is_listed mono_cmp (t ∷ ts) ≡ true →
+  cancel_by : (t : Mono × ℤ) (ts : List (Mono × ℤ)) (c : ℤ) → is_sparse_sorted mono_cmp (t ∷ ts) ≡
+      true →
       c +ℤ d ≡ pos 0 →
       (coefficient k ts ≡ c → add_terms mono_cmp ts ((k, d) ∷ []) ≡ removed k ts) → (r : Ordering) →
       mono_cmp k t.0 ≡ r → found r t.1 (coefficient k ts) ≡ c →
@@ -88,7 +90,7 @@ module _ (k : Mono) (d : ℤ) where
       let none : is_zero (t.1 +ℤ d) ≡ true = ap is_zero (ap (λ z. z +ℤ d) f ∙ zero) in
       ap (insert_term mono_cmp t.0 t.1) (put_after ts p.rest
       (subst (λ m. is_before mono_cmp m ts ≡ true) (sym same) p.before))
-      ∙ ap (λ r. placed r t.0 t.1 (k, d) ts (insert_term mono_cmp t.0 t.1 ts)) equal
+      ∙ ap (λ r. insert_by r t.0 t.1 (k, d) ts (insert_term mono_cmp t.0 t.1 ts)) equal
       ∙ ap (λ b. cond b ts ((t.0, t.1 +ℤ d) ∷ ts)) none
   cancel_by t ts c l zero rest Greater e f =
       let p = listed_parts mono_cmp mono_total same_mono t ts l in
@@ -97,7 +99,7 @@ module _ (k : Mono) (d : ℤ) where
       (removed_all (λ u. is_lt (mono_cmp t.0 u.0)) k ts p.before)
 
   -- a term is cancelled by its opposite
-  cancel : (ts : List (Mono × ℤ)) (c : ℤ) → is_listed mono_cmp ts ≡ true → c +ℤ d ≡ pos 0 →
+  cancel : (ts : List (Mono × ℤ)) (c : ℤ) → is_sparse_sorted mono_cmp ts ≡ true → c +ℤ d ≡ pos 0 →
       (c ≡ pos 0 → ⊥) → coefficient k ts ≡ c → add_terms mono_cmp ts ((k, d) ∷ []) ≡ removed k ts
   cancel [] c l zero n f = absurd (n (sym f))
   cancel (t ∷ ts) c l zero n f =
@@ -172,7 +174,7 @@ module _ (x : ℕ) (p : Body) (poly : is_poly p ≡ true) where
   variable_terms = terms-of_terms ((alone, pos 1) ∷ [])
 
   -- where the coefficient is 1 the variable may be subtracted
-  pub plus_within : coefficient_of x p ≡ pos 1 → is_within (subtracted p (variable x)) ≡ true
+  pub plus_within : coefficient_of x p ≡ pos 1 → is_within (body_difference p (variable x)) ≡ true
   plus_within one =
       ap (λ us. is_within (of_terms (add_terms mono_cmp (out-Body p).terms (negated us))))
       variable_terms
@@ -181,7 +183,7 @@ module _ (x : ℕ) (p : Body) (poly : is_poly p ≡ true) where
       ∙ removed_within alone p poly
 
   -- and added where it is -1
-  pub minus_within : coefficient_of x p ≡ negsuc 0 → is_within (added p (variable x)) ≡ true
+  pub minus_within : coefficient_of x p ≡ negsuc 0 → is_within (body_sum p (variable x)) ≡ true
   minus_within one =
       ap (λ us. is_within (of_terms (add_terms mono_cmp (out-Body p).terms us))) variable_terms
       ∙ ap (λ us. is_within (of_terms us)) (cancel alone (pos 1) (out-Body p).terms (negsuc 0)

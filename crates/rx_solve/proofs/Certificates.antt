@@ -7,14 +7,14 @@ use Rattle.rx_poly.specs.declared.body.Body.{Body, out-Body}
 use Rattle.rx_poly_laws.specs.Tests.{passes}
 use Rattle.rx_row.specs.Negation.{negation, negation_within}
 use Rattle.rx_row.specs.Parts.{parts_within, sum_of}
-use Rattle.rx_row.specs.Substitution.{in_rows, rows_within}
+use Rattle.rx_row.specs.Substitution.{subst_rows, rows_within}
 use Rattle.rx_row.specs.declared.row.Row.{Row}
 use Rattle.rx_row.specs.declared.row.Row.TheVariants.{Ge, Eq, Ne}
 use Rattle.rx_cert.specs.Differences.{differ_finding, disequal, one_less}
 use Rattle.rx_cert.specs.DivisionFacts.{at_least_zero_within, below_zero_within, rows_at_least_zero, rows_below_zero}
 use Rattle.rx_cert.specs.Elimination.{are_opposite, of_opposites, replaced_finding, solution, solution_within, solve_finding, zero_of, zero_polynomial}
 use Rattle.rx_cert.specs.Examination.{examined}
-use Rattle.rx_cert.specs.Findings.{Said, Yes, No, both, with_row, within}
+use Rattle.rx_cert.specs.Findings.{Said, Yes, No, and_also, with_row, guard}
 use Rattle.rx_cert.specs.Rounding.{rounding_row}
 use Rattle.rx_cert.specs.Sums.{sum_finding}
 use Rattle.rx_cert.specs.Variables.{cert_passes, rows_pass}
@@ -25,12 +25,12 @@ use Rattle.rx_solve.specs.Answers.{IsCertificate}
 use Rattle.rx_solve.proofs.OwnVariables.{at_passes, facts_below_pass, facts_pass, in_rows_pass, less_one_passes, negation_passes, rounding_passes, solution_passes, with_row_passes, with_rows_pass}
 
 -- what is found after what keeps the limits
-pub within_yes : {b : Bool} {later : Said} → b ≡ true → later ≡ Yes → within b later ≡ Yes
-within_yes {b} {later} e h = ap (λ c. within c later) e ∙ h
+pub within_yes : {b : Bool} {later : Said} → b ≡ true → later ≡ Yes → guard b later ≡ Yes
+within_yes {b} {later} e h = ap (λ c. guard c later) e ∙ h
 
 -- and of two parts
-pub both_yes : {before later : Said} → before ≡ Yes → later ≡ Yes → both before later ≡ Yes
-both_yes {before} {later} e h = ap (λ c. both c later) e ∙ h
+pub both_yes : {before later : Said} → before ≡ Yes → later ≡ Yes → and_also before later ≡ Yes
+both_yes {before} {later} e h = ap (λ c. and_also c later) e ∙ h
 
 -- room to spare does no harm
 pub wider : {few many : ℕ} {rows : List Row} {cert : Cert} → few ≤ many →
@@ -132,7 +132,7 @@ module _ (most : ℕ) (rows : List Row) where
   pub solve_certificate : (i j x : ℕ) (p v : Body) (rest : Cert) → zero_polynomial rows i j ≡
       Some p → solution_within x p ≡ true → solution x p ≡ Some v → rows_within ((x, v) ∷ []) rows ≡
       true →
-      IsCertificate most (in_rows ((x, v) ∷ []) rows) rest →
+      IsCertificate most (subst_rows ((x, v) ∷ []) rows) rest →
       IsCertificate (most + 1) rows (Solve i j x rest)
   solve_certificate i j x p v rest zero keeps value keeps_too c =
       let deep = depth_solve i j x rest in
@@ -161,9 +161,9 @@ module _ (most : ℕ) (rows : List Row) where
       let less_too = b.deep in
       record {
         refutes = finding_division rows num d first second
-            ∙ ap (λ c. cond c No (both (within (at_least_zero_within num d)
+            ∙ ap (λ c. cond c No (and_also (guard (at_least_zero_within num d)
             (examined first (rows ++ rows_at_least_zero num d)))
-            (within (below_zero_within num d)
+            (guard (below_zero_within num d)
             (examined second (rows ++ rows_below_zero num d))))) is
             ∙ both_yes (within_yes keeps a.refutes) (within_yes keeps_too b.refutes);
         deep = omega (arith, deep, less, less_too);

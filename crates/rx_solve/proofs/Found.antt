@@ -9,14 +9,14 @@ use Rattle.rx_poly.specs.Terms.{is_zero}
 use Rattle.rx_poly.specs.declared.body.Body.{Body}
 use Rattle.rx_row.specs.Negation.{negation, negation_within}
 use Rattle.rx_row.specs.Parts.{parts_within, sum_of}
-use Rattle.rx_row.specs.Substitution.{in_rows, rows_within}
+use Rattle.rx_row.specs.Substitution.{subst_rows, rows_within}
 use Rattle.rx_row.specs.declared.row.Row.{Row}
 use Rattle.rx_row.specs.declared.row.Row.TheVariants.{Ge}
 use Rattle.rx_cert.specs.Differences.{differ_finding, disequal, one_less}
 use Rattle.rx_cert.specs.DivisionFacts.{at_least_zero_within, below_zero_within, rows_at_least_zero, rows_below_zero}
 use Rattle.rx_cert.specs.Elimination.{replaced_finding, solution, solution_within, solve_finding, zero_polynomial}
 use Rattle.rx_cert.specs.Examination.{level}
-use Rattle.rx_cert.specs.Findings.{Said, Yes, No, both, with_row, within}
+use Rattle.rx_cert.specs.Findings.{Said, Yes, No, and_also, with_row, guard}
 use Rattle.rx_cert.specs.Rounding.{rounding_row}
 use Rattle.rx_cert.specs.Variables.{row_passes, rows_pass}
 use Rattle.rx_cert.specs.declared.cert.Cert.{Cert, Cert-F}
@@ -27,7 +27,7 @@ use Rattle.rx_cert.proofs.ConditionLaws.{conditions_hold}
 use Rattle.rx_cert.proofs.FindingLaws.{both_parts, within_parts}
 use Rattle.rx_cert.proofs.Law.{refuted as unmet}
 use Rattle.rx_cert.proofs.ShowingLaws.{shown_have_certificates}
-use Rattle.rx_fm.specs.Elimination.{Outcome, beyond, nothing, found, elimination}
+use Rattle.rx_fm.specs.Elimination.{EliminationEnd, Large, nothing, found, elimination}
 use Rattle.rx_solve.specs.Answers.{IsCertificate}
 use Rattle.rx_solve.specs.Disequalities.{disequalities_from}
 use Rattle.rx_solve.specs.Divisions.{all_ratios, ratio_passes}
@@ -65,8 +65,8 @@ sum_finds rows e =
     (within_parts (list_all opposite_within rows)
     (sum_found rows (elimination 4096 (all_nonnegative rows))) e).1
   where
-    by : (o : Outcome) → sum_found rows o ≡ Yes → Certified 1 rows
-    by beyond h = cc
+    by : (o : EliminationEnd) → sum_found rows o ≡ Yes → Certified 1 rows
+    by Large h = cc
     by nothing h = cc
     by (found ms) h = (Sum (parts_from 0 rows ms), sum_certificate rows (parts_from 0 rows ms) h)
 
@@ -129,16 +129,16 @@ dividing_by_finds (r ∷ rs) rows own e =
         (dividing_by rs (rows ++ rows_below_zero r.num r.den) ≡ Yes →
         Certified (length rs + 65) (rows ++ rows_below_zero r.num r.den)) →
         (b : Bool) → is_zero r.den ≡ b →
-        cond b No (both (within (at_least_zero_within r.num r.den)
+        cond b No (and_also (guard (at_least_zero_within r.num r.den)
         (dividing_by rs (rows ++ rows_at_least_zero r.num r.den)))
-        (within (below_zero_within r.num r.den)
+        (guard (below_zero_within r.num r.den)
         (dividing_by rs (rows ++ rows_below_zero r.num r.den)))) ≡ Yes →
         Certified (length (r ∷ rs) + 65) rows
     by f g true z h = cc
     by f g false z h =
-        let two = both_parts (within (at_least_zero_within r.num r.den)
+        let two = both_parts (guard (at_least_zero_within r.num r.den)
         (dividing_by rs (rows ++ rows_at_least_zero r.num r.den)))
-        (within (below_zero_within r.num r.den)
+        (guard (below_zero_within r.num r.den)
         (dividing_by rs (rows ++ rows_below_zero r.num r.den))) h in
         let first = within_parts (at_least_zero_within r.num r.den)
         (dividing_by rs (rows ++ rows_at_least_zero r.num r.den)) two.0 in
@@ -170,8 +170,8 @@ differ_finds most says next i rows e = by (disequal (slice_get rows i)) refl e
         Yes → Certified (most + 1) rows
     by None is h = cc
     by (Some p) is h =
-        let two = both_parts (within (is_within (one_less p)) (says (rows ++ Ge (one_less p) ∷ [])))
-        (within (negation_within (Ge p)) (says (rows ++ negation (Ge p) ∷ []))) h in
+        let two = both_parts (guard (is_within (one_less p)) (says (rows ++ Ge (one_less p) ∷ [])))
+        (guard (negation_within (Ge p)) (says (rows ++ negation (Ge p) ∷ []))) h in
         let first = within_parts (is_within (one_less p)) (says (rows ++ Ge (one_less p) ∷ []))
         two.0 in
         let second = within_parts (negation_within (Ge p)) (says (rows ++ negation (Ge p) ∷ []))
@@ -210,8 +210,8 @@ solve_finds most says next i j x rows e = by (zero_polynomial rows i j) refl e
         by_value None value g = cc
         by_value (Some v) value g =
             let then = within_parts (rows_within ((x, v) ∷ []) rows)
-            (says (in_rows ((x, v) ∷ []) rows)) g in
-            let c = next (in_rows ((x, v) ∷ []) rows) then.1 in
+            (says (subst_rows ((x, v) ∷ []) rows)) g in
+            let c = next (subst_rows ((x, v) ∷ []) rows) then.1 in
             (Solve i j x c.0, solve_certificate most rows i j x p v c.0 is parts.0 value then.0 c.1)
 
 pub solving_none : (rows : List Row) → solving 0 rows ≡ differing rows

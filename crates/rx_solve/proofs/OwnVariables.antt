@@ -13,9 +13,9 @@ use Rattle.std.specs.Ordering.{int_eq}
 use Rattle.std.specs.declared.cmp.Ordering.{Ordering}
 use Rattle.std.specs.declared.cmp.Ordering.TheVariants.{Less, Equal, Greater}
 use Rattle.rx_poly.proofs.Same.{same_mono}
-use Rattle.rx_poly.proofs.TermLaws.{all_keys-put}
+use Rattle.rx_poly.proofs.TermLaws.{all_keys-cons_nonzero}
 use Rattle.rx_poly.specs.Constants.{number, variable}
-use Rattle.rx_poly.specs.Limits.{added, of_atoms, scaled_by, subtracted}
+use Rattle.rx_poly.specs.Limits.{body_sum, of_atoms, scaled_by, body_difference}
 use Rattle.rx_poly.specs.Order.{mono_cmp}
 use Rattle.rx_poly.specs.Reading.{coefficient, found}
 use Rattle.rx_poly.specs.Substitution.{replaced}
@@ -28,10 +28,10 @@ use Rattle.rx_poly_laws.specs.Tests.{passes}
 use Rattle.rx_poly.proofs.Levels.{atoms-of_atoms}
 use Rattle.rx_poly.proofs.VariableLaws.{variables_Var}
 use Rattle.rx_poly_laws.proofs.InstanceVariables.{instance_passes}
-use Rattle.rx_poly_laws.proofs.TestLaws.{atom_passes, mono_passes, mono_passes_is, passes_is, passes-added, passes-number, passes-of_terms, passes-quotient_of, passes-remainder_of, passes-scaled_by, passes-subtracted, passes-variable}
+use Rattle.rx_poly_laws.proofs.TestLaws.{atom_passes, mono_passes, mono_passes_is, passes_is, passes-body_sum, passes-number, passes-of_terms, passes-quotient_of, passes-remainder_of, passes-scaled_by, passes-body_difference, passes-variable}
 use Rattle.rx_row.specs.Negation.{negation, opposite}
 use Rattle.rx_row.specs.Parts.{are_lawful, poly_of, sum_from, sum_of, with_multiple}
-use Rattle.rx_row.specs.Substitution.{in_row, in_rows}
+use Rattle.rx_row.specs.Substitution.{subst_row, subst_rows}
 use Rattle.rx_row.specs.declared.row.Row.{Row}
 use Rattle.rx_row.specs.declared.row.Row.TheVariants.{Ge, Eq, Ne}
 use Rattle.rx_cert.specs.Differences.{one_less}
@@ -67,7 +67,8 @@ module _ (test : ℕ → Bool) where
   -- ---- negations
 
   pub less_one_passes : (p : Body) → passes test p ≡ true → passes test (one_less p) ≡ true
-  less_one_passes p h = passes-subtracted test p (number (pos 1)) h (passes-number test (pos 1))
+  less_one_passes p h =
+      passes-body_difference test p (number (pos 1)) h (passes-number test (pos 1))
 
   opposite_passes : (p : Body) → passes test p ≡ true → passes test (opposite p) ≡ true
   opposite_passes p h = passes-scaled_by test (negsuc 0) p h
@@ -75,7 +76,7 @@ module _ (test : ℕ → Bool) where
   pub negation_passes : (row : Row) → row_passes test row ≡ true → row_passes test (negation row) ≡
       true
   negation_passes (Ge p) h =
-      passes-subtracted test (opposite p) (number (pos 1)) (opposite_passes p h)
+      passes-body_difference test (opposite p) (number (pos 1)) (opposite_passes p h)
       (passes-number test (pos 1))
   negation_passes (Eq p) h = h
   negation_passes (Ne p) h = h
@@ -87,7 +88,7 @@ module _ (test : ℕ → Bool) where
       passes test (with_multiple sum row by) ≡ true
   multiple_passes sum None by h g = h
   multiple_passes sum (Some row) by h g =
-      passes-added test sum (scaled_by by (poly_of row)) h
+      passes-body_sum test sum (scaled_by by (poly_of row)) h
       (passes-scaled_by test by (poly_of row) (g row refl))
 
   sum_passes : (rows : List Row) (ps : List (ℕ × ℤ)) (sum : Body) → rows_pass test rows ≡ true →
@@ -102,7 +103,7 @@ module _ (test : ℕ → Bool) where
   rounded_keys d [] h = refl
   rounded_keys d (t ∷ ts) h =
       let p = and_parts (mono_passes test t.0) (all_keys (mono_passes test) ts) h in
-      all_keys-put (mono_passes test) t.0 (int_div_euclid t.1 d) (rounded_terms d ts) p.0
+      all_keys-cons_nonzero (mono_passes test) t.0 (int_div_euclid t.1 d) (rounded_terms d ts) p.0
       (rounded_keys d ts p.1)
 
   rounded_passes : (d : ℤ) (p : Body) → passes test p ≡ true → passes test (rounded d p) ≡ true
@@ -144,8 +145,8 @@ module _ (test : ℕ → Bool) where
   nothing_left_passes : (num : Body) (d : ℤ) → passes test num ≡ true →
       passes test (nothing_left num d) ≡ true
   nothing_left_passes num d h =
-      passes-subtracted test (without_quotient num d) (remainder_by num d)
-      (passes-subtracted test num (scaled_by d (quotient_by num d)) h
+      passes-body_difference test (without_quotient num d) (remainder_by num d)
+      (passes-body_difference test num (scaled_by d (quotient_by num d)) h
       (passes-scaled_by test d (quotient_by num d) (quotient_passes num d h)))
       (remainder_passes num d h)
 
@@ -165,19 +166,19 @@ module _ (test : ℕ → Bool) where
       rows_pass test (rows_at_least_zero num d) ≡ true
   facts_pass num d h =
       four_pass (Ge num) (Eq (nothing_left num d)) (Ge (remainder_by num d))
-      (Ge (subtracted (greatest_remainder d) (remainder_by num d)))
+      (Ge (body_difference (greatest_remainder d) (remainder_by num d)))
       h (nothing_left_passes num d h) (remainder_passes num d h)
-      (passes-subtracted test (greatest_remainder d) (remainder_by num d) (bound_passes d)
+      (passes-body_difference test (greatest_remainder d) (remainder_by num d) (bound_passes d)
       (remainder_passes num d h))
 
   pub facts_below_pass : (num : Body) (d : ℤ) → passes test num ≡ true →
       rows_pass test (rows_below_zero num d) ≡ true
   facts_below_pass num d h =
       four_pass (negation (Ge num)) (Eq (nothing_left num d)) (Ge (opposite (remainder_by num d)))
-      (Ge (added (greatest_remainder d) (remainder_by num d)))
+      (Ge (body_sum (greatest_remainder d) (remainder_by num d)))
       (negation_passes (Ge num) h) (nothing_left_passes num d h)
       (opposite_passes (remainder_by num d) (remainder_passes num d h))
-      (passes-added test (greatest_remainder d) (remainder_by num d) (bound_passes d)
+      (passes-body_sum test (greatest_remainder d) (remainder_by num d) (bound_passes d)
       (remainder_passes num d h))
 
   -- ---- a variable that is replaced
@@ -240,16 +241,16 @@ module _ (test : ℕ → Bool) where
     where
       by : (b : Bool) → int_eq (coefficient_of x p) (pos 1) ≡ b → (c : Bool) →
           int_eq (coefficient_of x p) (negsuc 0) ≡ c →
-          cond b (solution_plus x (subtracted p (variable x)))
-          (cond c (solution_minus x (added p (variable x))) None) ≡ Some v → (test x ≡ true) ×
+          cond b (solution_plus x (body_difference p (variable x)))
+          (cond c (solution_minus x (body_sum p (variable x))) None) ≡ Some v → (test x ≡ true) ×
           (passes test v ≡ true)
       by true is c other f =
           let one : coefficient_of x p ≡ pos 1 =
           (signed_Decides (coefficient_of x p) (pos 1)).0 is in
           let own = variable_passes x p h (λ zero. let no : pos 1 ≡ pos 0 = sym one ∙ zero in cc) in (
             own,
-            plus_passes x (subtracted p (variable x)) v
-                (passes-subtracted test p (variable x) h (passes-variable test x own)) f,
+            plus_passes x (body_difference p (variable x)) v
+                (passes-body_difference test p (variable x) h (passes-variable test x own)) f,
           )
       by false other true is f =
           let one : coefficient_of x p ≡ negsuc 0 =
@@ -257,8 +258,8 @@ module _ (test : ℕ → Bool) where
           let own = variable_passes x p h (λ zero. let no : negsuc 0 ≡ pos 0 = sym one ∙ zero in cc)
           in (
             own,
-            minus_passes x (added p (variable x)) v
-                (passes-added test p (variable x) h (passes-variable test x own)) f,
+            minus_passes x (body_sum p (variable x)) v
+                (passes-body_sum test p (variable x) h (passes-variable test x own)) f,
           )
       by false other false neither f = cc
 
@@ -271,7 +272,7 @@ module _ (test : ℕ → Bool) where
       by false = passes-variable test n g
 
   in_row_passes : (x : ℕ) (v : Body) → passes test v ≡ true → (row : Row) → row_passes test row ≡
-      true → row_passes test (in_row ((x, v) ∷ []) row) ≡ true
+      true → row_passes test (subst_row ((x, v) ∷ []) row) ≡ true
   in_row_passes x v h (Ge p) g =
       instance_passes test ((x, v) ∷ []) p (All-weaker (λ n. test n ≡ true)
       (λ n. passes test (replaced ((x, v) ∷ []) n) ≡ true) (replaced_passes x v h) (variables p)
@@ -287,10 +288,10 @@ module _ (test : ℕ → Bool) where
 
   -- rows with a value in place of a variable
   pub in_rows_pass : (x : ℕ) (v : Body) → passes test v ≡ true → (rows : List Row) →
-      rows_pass test rows ≡ true → rows_pass test (in_rows ((x, v) ∷ []) rows) ≡ true
+      rows_pass test rows ≡ true → rows_pass test (subst_rows ((x, v) ∷ []) rows) ≡ true
   in_rows_pass x v h [] g = refl
   in_rows_pass x v h (row ∷ rows) g =
       let p = and_parts (row_passes test row) (rows_pass test rows) g in
-      and_from (row_passes test (in_row ((x, v) ∷ []) row))
-      (rows_pass test (in_rows ((x, v) ∷ []) rows)) (in_row_passes x v h row p.0)
+      and_from (row_passes test (subst_row ((x, v) ∷ []) row))
+      (rows_pass test (subst_rows ((x, v) ∷ []) rows)) (in_row_passes x v h row p.0)
       (in_rows_pass x v h rows p.1)

@@ -4,7 +4,7 @@ use Rattle.std.proofs.Common.{◌≡◌, ◌∙◌, ap, subst, sym, arith, cond,
 use Rattle.std.proofs.lemmas.Bool.{and_from, and_parts}
 use Rattle.std.specs.List.{list_all}
 use Rattle.rx_plain.specs.Formed.{Formed}
-use Rattle.rx_poly.specs.Limits.{added, is_within, subtracted}
+use Rattle.rx_poly.specs.Limits.{body_sum, is_within, body_difference}
 use Rattle.rx_poly.specs.Terms.{is_zero}
 use Rattle.rx_poly.specs.declared.body.Body.{Body}
 use Rattle.rx_row.specs.Negation.{negation, negation_within, opposite}
@@ -13,9 +13,9 @@ use Rattle.rx_row.specs.declared.row.Row.TheVariants.{Ge}
 use Rattle.rx_cert.specs.DivisionFacts.{at_least_zero_within, below_zero_within, division_formed, division_within, facts_at_least_zero, facts_below_zero, greatest_remainder, remainder_by, rows_at_least_zero, rows_below_zero}
 use Rattle.rx_cert.proofs.FindingLaws.{solve_found, within_parts}
 use Rattle.rx_cert.specs.Elimination.{solution, solution_within, zero_polynomial}
-use Rattle.rx_cert.specs.Examination.{finding, level}
+use Rattle.rx_cert.specs.Examination.{verdict, level}
 use Rattle.rx_cert.specs.declared.cert.Cert.TheOpen.{Cert-F}
-use Rattle.rx_row.specs.Substitution.{in_rows, rows_within}
+use Rattle.rx_row.specs.Substitution.{subst_rows, rows_within}
 use Rattle.rx_row.specs.Holds.{AllHold, RowHolds}
 use Rattle.rx_cert.proofs.Law.{refuted as unmet, shown_holds}
 use Rattle.rx_cert.specs.Showing.{negation_said}
@@ -25,7 +25,7 @@ use Rattle.rx_solve.specs.Pivots.{first_pivot}
 use Rattle.rx_solve.specs.declared.pivots.Pivot.{Pivot}
 use Rattle.rx_row.specs.Parts.{parts_within, sum_of}
 use Rattle.rx_row.specs.declared.row.Row.{Row}
-use Rattle.rx_cert.specs.Findings.{Said, Yes, No, both, with_row, within}
+use Rattle.rx_cert.specs.Findings.{Said, Yes, No, and_also, with_row, guard}
 use Rattle.rx_cert.specs.Rounding.{rounding_row}
 use Rattle.rx_cert.specs.declared.cert.Cert.{Cert}
 use Rattle.rx_cert.specs.declared.cert.Cert.TheVariants.{Cut, Differ, DivFacts, Solve}
@@ -56,7 +56,7 @@ module _ (r : Rounding) (rest : List Rounding) (rows : List Row) (row : Row) whe
   rounded_found : parts_within rows part ≡ true → rounding_row r.divisor (sum_of rows part) ≡
       Some row → rounding_by (r ∷ rest) rows ≡ rounding_by rest (rows ++ row ∷ [])
   rounded_found keeps made =
-      ap (λ b. within b (with_row rows (rounding_row r.divisor (sum_of rows part))
+      ap (λ b. guard b (with_row rows (rounding_row r.divisor (sum_of rows part))
       (rounding_by rest))) keeps
       ∙ ap (λ o. with_row rows o (rounding_by rest)) made
 
@@ -99,7 +99,7 @@ rounding_answers rows lent rs r is keeps same a =
     let few = few_taken 64 (roundings_from 0 rows) in
     let count : length rs ≤ 64 = subst (λ (xs : List Rounding). length xs ≤ 64) (sym is) few in
     same_answers (rounding_by rs) rounding (length rs + 1) 65 rows r
-    (ap (λ xs. rounding_by xs rows) is ∙ ap (λ b. within b (rounding_by (roundings rows) rows))
+    (ap (λ xs. rounding_by xs rows) is ∙ ap (λ b. guard b (rounding_by (roundings rows) rows))
     (sym keeps)) (omega (arith, count))
     (subst (λ (xs : List Row). AnswersFor (rounding_by rs) (length rs + 1) xs r) same a)
 
@@ -126,9 +126,9 @@ module _ (num : Body) (d : ℤ) (rest : List Ratio) (rows : List Row) where
       (dividing_by (ratio ∷ rest) rows ≡ Yes) ×
       IsCertificate (length rest + 66) rows (DivFacts num d pos neg)
   both_sides pos neg own zero keeps a b =
-      let above = is_within (subtracted (greatest_remainder d) (remainder_by num d)) in
+      let above = is_within (body_difference (greatest_remainder d) (remainder_by num d)) in
       let below = is_within (opposite (remainder_by num d)) &&
-      is_within (added (greatest_remainder d) (remainder_by num d)) in
+      is_within (body_sum (greatest_remainder d) (remainder_by num d)) in
       let first = within_parts above (dividing_by rest (rows ++ rows_at_least_zero num d)) a.0 in
       let second = within_parts (negation_within (Ge num) && below)
       (dividing_by rest (rows ++ rows_below_zero num d)) b.0 in
@@ -138,9 +138,9 @@ module _ (num : Body) (d : ℤ) (rest : List Ratio) (rows : List Row) where
       let second_keeps : below_zero_within num d ≡ true =
       and_from (negation_within (Ge num)) (division_within num d && below) parts.0
       (and_from (division_within num d) below keeps parts.1) in (
-        ap (λ c. cond c No (both (within (at_least_zero_within num d)
+        ap (λ c. cond c No (and_also (guard (at_least_zero_within num d)
             (dividing_by rest (rows ++ rows_at_least_zero num d)))
-            (within (below_zero_within num d) (dividing_by rest (rows ++ rows_below_zero num d)))))
+            (guard (below_zero_within num d) (dividing_by rest (rows ++ rows_below_zero num d)))))
             zero
             ∙ both_yes (within_yes first_keeps first.1) (within_yes second_keeps second.1),
         wider (omega arith) (division_certificate (length rest + 65) rows num d pos neg zero
@@ -262,7 +262,7 @@ module _ (i j x : ℕ) (says : List Row → Said) (most : ℕ) (rows : List Row)
     (ws : List (ℕ × Body)) (changed : List Row) where
   pub replaced_found : zero_polynomial rows i j ≡ Some p → solution x p ≡ Some v →
       solution_within x p ≡ true → ws ≡ (x, v) ∷ [] → rows_within ws rows ≡ true → changed ≡
-      in_rows ws rows → level (Cert-F.Solve i j x says) rows ≡ says changed
+      subst_rows ws rows → level (Cert-F.Solve i j x says) rows ≡ says changed
   replaced_found is value keeps with_is made changed_is =
       solve_found x (zero_polynomial rows i j) p v ws rows changed says is value keeps with_is made
       changed_is
@@ -270,7 +270,7 @@ module _ (i j x : ℕ) (says : List Row → Said) (most : ℕ) (rows : List Row)
   pub replaced_certificate : (many : ℕ) → most + 1 ≤ many →
       (found : Option Cert) (cert whole : Cert) → zero_polynomial rows i j ≡ Some p → solution x p ≡
       Some v → solution_within x p ≡ true → ws ≡ (x, v) ∷ [] → rows_within ws rows ≡ true →
-      changed ≡ in_rows ws rows →
+      changed ≡ subst_rows ws rows →
       found ≡ Some cert → whole ≡ Solve i j x cert → AnswersFor says most changed (Ok found) →
       (level (Cert-F.Solve i j x says) rows ≡ Yes) × IsCertificate many rows whole
   replaced_certificate many spare found cert whole is value keeps with_is made changed_is found_is
@@ -279,9 +279,9 @@ module _ (i j x : ℕ) (says : List Row → Said) (most : ℕ) (rows : List Row)
       subst (λ (f : Option Cert). AnswersFor says most changed (Ok f)) found_is a in
       let made_too : rows_within ((x, v) ∷ []) rows ≡ true =
       ap (λ (us : List (ℕ × Body)). rows_within us rows) (sym with_is) ∙ made in
-      let list : changed ≡ in_rows ((x, v) ∷ []) rows = changed_is ∙
-      ap (λ (us : List (ℕ × Body)). in_rows us rows) with_is in
-      let c : IsCertificate most (in_rows ((x, v) ∷ []) rows) cert =
+      let list : changed ≡ subst_rows ((x, v) ∷ []) rows = changed_is ∙
+      ap (λ (us : List (ℕ × Body)). subst_rows us rows) with_is in
+      let c : IsCertificate most (subst_rows ((x, v) ∷ []) rows) cert =
       subst (λ (rs : List Row). IsCertificate most rs cert) list inner.1 in (
         replaced_found is value keeps with_is made changed_is ∙ inner.0,
         subst (λ (w : Cert). IsCertificate many rows w) (sym whole_is)
@@ -309,5 +309,5 @@ negation_shows rows row o cert is h a holds =
     IsCertificate most_deep (rows ++ negation row ∷ []) cert =
     subst (λ (f : Option Cert). NegationAnswers rows row (Ok f)) is h in
     let keeps = within_parts (negation_within row) (refuted (rows ++ negation row ∷ [])) c.0 in
-    shown_holds rows row cert (ap (λ b. within b (finding (rows ++ negation row ∷ []) cert)) keeps.0
+    shown_holds rows row cert (ap (λ b. guard b (verdict (rows ++ negation row ∷ []) cert)) keeps.0
     ∙ c.1.refutes) a holds

@@ -8,8 +8,8 @@ use Rattle.rx_row.specs.Negation.{negation, negation_within}
 use Rattle.rx_row.specs.declared.row.Row.{Row}
 use Rattle.rx_cert.specs.Conditions.{is_plain_row}
 use Rattle.rx_cert.specs.Depth.{cert_depth}
-use Rattle.rx_cert.specs.Examination.{finding}
-use Rattle.rx_cert.specs.Findings.{Said, Yes, No, Beyond, both, within}
+use Rattle.rx_cert.specs.Examination.{verdict}
+use Rattle.rx_cert.specs.Findings.{Said, Yes, No, Beyond, and_also, guard}
 use Rattle.rx_cert.specs.Showing.{all_shown, negation_said, shown}
 use Rattle.rx_cert.specs.Variables.{cert_passes, row_passes, rows_pass}
 use Rattle.rx_cert.specs.declared.cert.Cert.{Cert}
@@ -50,9 +50,10 @@ module _ (given rows : List Row) where
   module _ (i : ℕ) (row : Row) (rest : List Row) (certs : List Cert)
       (p : Proving i (row ∷ rest) certs) where
     -- what is found of the row, and then of the rest, is what is found of all
-    found_first : (s : Said) → shown refuted given row ≡ s → both s (all_shown refuted given rest) ≡
+    found_first : (s : Said) → shown refuted given row ≡ s →
+        and_also s (all_shown refuted given rest) ≡
         all_shown refuted given rows
-    found_first s e = ap (λ f. both f (all_shown refuted given rest)) (sym e) ∙ p.decides
+    found_first s e = ap (λ f. and_also f (all_shown refuted given rest)) (sym e) ∙ p.decides
 
     pub plain_next : is_plain_row given row ≡ true → Proving (i + 1) rest certs
     plain_next e = record {
@@ -79,7 +80,7 @@ module _ (given rows : List Row) where
           decides = found_first Yes (asked e Yes f);
           meeting =
               after_shown given rows i row rest certs cert e
-              (ap (λ b. within b (finding (given ++ negation row ∷ []) cert)) keeps.0 ∙ c.refutes)
+              (ap (λ b. guard b (verdict (given ++ negation row ∷ []) cert)) keeps.0 ∙ c.refutes)
               p.meeting;
           deep =
               All-append IsDeep certs (cert ∷ []) p.deep

@@ -6,8 +6,8 @@ use Rattle.rx_plain.specs.Formed.{Formed}
 use Rattle.rx_row.specs.declared.row.Row.{Row}
 use Rattle.rx_cert.specs.Conditions.{conditions}
 use Rattle.rx_cert.specs.Depth.{cert_depth}
-use Rattle.rx_cert.specs.Examination.{finding}
-use Rattle.rx_cert.specs.Findings.{Said, Yes, No, Beyond, within}
+use Rattle.rx_cert.specs.Examination.{verdict}
+use Rattle.rx_cert.specs.Findings.{Said, Yes, No, Beyond, guard}
 use Rattle.rx_cert.specs.Variables.{cert_passes, rows_pass}
 use Rattle.rx_cert.specs.declared.cert.Cert.{Cert}
 use Rattle.rx_cert.specs.declared.conditions.ConditionsAnswer.TheVariants.{Shown}
@@ -21,7 +21,7 @@ use Rattle.rx_solve.specs.Refuter.{refuted}
 -- it refutes the rows, is at most that deep, and has no variables but theirs: it passes each test
 -- that they pass
 pub record IsCertificate (most : ℕ) (rows : List Row) (cert : Cert) : Type 0 where
-  pub refutes : finding rows cert ≡ Yes
+  pub refutes : verdict rows cert ≡ Yes
   pub deep : cert_depth cert ≤ most
   pub own_variables : (test : ℕ → Bool) → rows_pass test rows ≡ true → cert_passes test cert ≡ true
 
@@ -47,7 +47,7 @@ one_formed row = record { form = row.form ∷ []; within = row.within }
 
 -- what is found of the rows with formed ones after them
 abbrev pub formed_said : (List Row → Said) → List Row → Formed (List Row) → Said
-formed_said says rows more = within more.within (says (rows ++ more.form))
+formed_said says rows more = guard more.within (says (rows ++ more.form))
 
 -- an answer that says so
 abbrev pub BranchAnswers : (List Row → Said) → ℕ → List Row → Formed (List Row) →

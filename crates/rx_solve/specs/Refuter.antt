@@ -5,7 +5,7 @@
 use Rattle.std.specs.Prelude.{ℕ, zero, suc, Option, Some, None, List, [], ◌∷◌, take}
 use Rattle.rx_row.specs.declared.row.Row.{Row}
 use Rattle.rx_cert.specs.Examination.{level}
-use Rattle.rx_cert.specs.Findings.{Said, within}
+use Rattle.rx_cert.specs.Findings.{Said, guard}
 use Rattle.rx_cert.specs.declared.cert.Cert.TheOpen.{Cert-F}
 use Rattle.rx_solve.specs.Bounds.{most_disequalities, most_ratios, most_solved}
 use Rattle.rx_solve.specs.Disequalities.{disequalities_from}
@@ -26,7 +26,7 @@ rounding_by (r ∷ rs) rows = level (Cert-F.Cut ((r.at, r.by) ∷ []) r.divisor 
 
 -- by the roundings of the rows as they are before the first
 abbrev pub rounding : List Row → Said
-rounding rows = within (roundings_within rows) (rounding_by (roundings rows) rows)
+rounding rows = guard (roundings_within rows) (rounding_by (roundings rows) rows)
 
 -- ---- ratios
 

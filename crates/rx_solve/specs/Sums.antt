@@ -10,10 +10,10 @@ use Rattle.rx_row.specs.Negation.{opposite}
 use Rattle.rx_row.specs.declared.row.Row.{Row}
 use Rattle.rx_row.specs.declared.row.Row.TheVariants.{Ge, Eq, Ne}
 use Rattle.rx_cert.specs.Examination.{level}
-use Rattle.rx_cert.specs.Findings.{Said, No, Beyond, within}
+use Rattle.rx_cert.specs.Findings.{Said, No, Beyond, guard}
 use Rattle.rx_cert.specs.declared.cert.Cert.TheOpen.{Cert-F}
 use Rattle.rx_solve.specs.Bounds.{most_polynomials}
-use Rattle.rx_fm.specs.Elimination.{Outcome, beyond, nothing, found, elimination}
+use Rattle.rx_fm.specs.Elimination.{EliminationEnd, Large, nothing, found, elimination}
 
 -- ---- the elimination
 
@@ -67,13 +67,13 @@ parts_from i [] ms = []
 parts_from i (row ∷ rows) ms = parts_with i (next_multiplier row ms) (parts_from (suc i) rows)
 
 -- what is found with the multipliers, where there are some
-abbrev pub sum_found : List Row → Outcome → Said
-sum_found rows beyond = Beyond
+abbrev pub sum_found : List Row → EliminationEnd → Said
+sum_found rows Large = Beyond
 sum_found rows nothing = No
 sum_found rows (found ms) = level (Cert-F.Sum (parts_from 0 rows ms)) rows
 
 -- what is found of the rows by a sum; the elimination holds at most 4,096 polynomials
 abbrev pub summing : List Row → Said
 summing rows =
-    within (list_all opposite_within rows) (sum_found rows
+    guard (list_all opposite_within rows) (sum_found rows
     (elimination most_polynomials (all_nonnegative rows)))

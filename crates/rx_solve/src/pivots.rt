@@ -3,7 +3,7 @@ ghost use Rattle.std.specs.Prelude.{◌≡◌, ◌+◌, ◌<◌, ◌^◌, length
 ghost use Rattle.std.specs.Option.{is_some};
 ghost use Rattle.rx_cert.specs.Elimination.{coefficient_of, solution};
 ghost use Rattle.rx_poly.specs.Constants.{variable};
-ghost use Rattle.rx_poly.specs.Limits.{added, subtracted};
+ghost use Rattle.rx_poly.specs.Limits.{body_sum, body_difference};
 ghost use Rattle.rx_poly.specs.Normal.{is_poly};
 ghost use Rattle.rx_poly.specs.Reading.{variable_of_atoms};
 ghost use Rattle.rx_poly.specs.declared.body.Mono.{out-Mono};
@@ -44,7 +44,7 @@ fn lone_variable(mono: &Mono) -> Option<u32>
 fn minus_variable(alloc: Global, poly: &Poly, var: u32) -> Result<Poly, AllocError>
     requires normal { is_poly poly.now ≡ true }
     requires one { coefficient_of var poly.now ≡ pos 1 }
-    ensures { IfOk result (λ p. p ≡ subtracted poly.now (variable var)) }
+    ensures { IfOk result (λ p. p ≡ body_difference poly.now (variable var)) }
 {
     let alone = Poly::variable(alloc, var)?;
     match poly.sub(alloc, &alone) {
@@ -58,7 +58,7 @@ fn minus_variable(alloc: Global, poly: &Poly, var: u32) -> Result<Poly, AllocErr
 fn plus_variable(alloc: Global, poly: &Poly, var: u32) -> Result<Poly, AllocError>
     requires normal { is_poly poly.now ≡ true }
     requires one { coefficient_of var poly.now ≡ negsuc 0 }
-    ensures { IfOk result (λ p. p ≡ added poly.now (variable var)) }
+    ensures { IfOk result (λ p. p ≡ body_sum poly.now (variable var)) }
 {
     let alone = Poly::variable(alloc, var)?;
     match poly.add(alloc, &alone) {

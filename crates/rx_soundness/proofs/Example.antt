@@ -6,9 +6,9 @@ use Rattle.std.proofs.lemmas.Bool.{and_from}
 use Rattle.std.proofs.lemmas.List.Elements.{All-cons, All-nil}
 use Rattle.rx_plain.specs.Formed.{Formed}
 use Rattle.rx_poly.specs.Constants.{number, variable}
-use Rattle.rx_poly.specs.Limits.{of_terms, subtracted}
+use Rattle.rx_poly.specs.Limits.{of_terms, body_difference}
 use Rattle.rx_poly.specs.Reading.{constant_of}
-use Rattle.rx_poly.specs.Substitution.{in_body, replaced}
+use Rattle.rx_poly.specs.Substitution.{subst_body, replaced}
 use Rattle.rx_poly.specs.Terms.{is_zero}
 use Rattle.rx_poly.specs.Variables.{uses_below, variables}
 use Rattle.rx_poly.proofs.Constants.{zero_within}
@@ -19,15 +19,15 @@ use Rattle.rx_poly_laws.proofs.TestLaws.{passes-number}
 use Rattle.rx_row.specs.declared.row.Row.{Row}
 use Rattle.rx_row.specs.declared.row.Row.TheVariants.{Eq}
 use Rattle.rx_cert.specs.Conditions.{is_evident, is_number_with}
-use Rattle.rx_cert.specs.Findings.{Yes, both as and_also}
+use Rattle.rx_cert.specs.Findings.{Yes, and_also}
 use Rattle.rx_term.specs.Fitting.{term_fits}
-use Rattle.rx_term.specs.Shapes.{Called}
+use Rattle.rx_term.specs.Shapes as shape
 use Rattle.rx_term.specs.WellMade.{IsMade, IsWellMade, OfPoint, width}
 use Rattle.rx_term.specs.declared.rule.Equation.{Equation}
 use Rattle.rx_term.specs.declared.term.Sym.{Sym}
 use Rattle.rx_term.specs.declared.term.Term.{Term}
 use Rattle.rx_term.specs.declared.term.Term.TheVariants.{Call, Return}
-use Rattle.rx_term.proofs.Equations.{arguments-Call, arguments-Return, below-Return, fits-Call, fits-Return, in_term-Return, redex-Call, shape-Call, shape-Return, within-Return}
+use Rattle.rx_term.proofs.Equations.{arguments-Call, arguments-Return, below-Return, fits-Call, fits-Return, subst_term-Return, redex-Call, shape-Call, shape-Return, within-Return}
 use Rattle.rx_term.proofs.Kept.{first_one, first_or_other, other_one}
 use Rattle.c_ast.specs.Scoped.{is_scoped}
 use Rattle.c_ast.specs.declared.program.Function.{Function}
@@ -199,17 +199,21 @@ example_made =
     (All-cons (IsMade parts) (returns (symbol 3)) []
     (returns_made (symbol 3) (fits-Call parts (symbol 3) [])) (All-nil (IsMade parts)))))
 
-covered_0 : tree_finding parts.rules (Called (symbol 0)) (Use 0 []) [] ≡ Yes
-covered_0 = finding_use parts.rules (Called (symbol 0)) 0 [] [] ∙ rw (shape-Call (symbol 0) []) refl
+covered_0 : tree_finding parts.rules (shape.Call (symbol 0)) (Use 0 []) [] ≡ Yes
+covered_0 =
+    finding_use parts.rules (shape.Call (symbol 0)) 0 [] [] ∙ rw (shape-Call (symbol 0) []) refl
 
-covered_1 : tree_finding parts.rules (Called (symbol 1)) (Use 1 []) [] ≡ Yes
-covered_1 = finding_use parts.rules (Called (symbol 1)) 1 [] [] ∙ rw (shape-Call (symbol 1) []) refl
+covered_1 : tree_finding parts.rules (shape.Call (symbol 1)) (Use 1 []) [] ≡ Yes
+covered_1 =
+    finding_use parts.rules (shape.Call (symbol 1)) 1 [] [] ∙ rw (shape-Call (symbol 1) []) refl
 
-covered_2 : tree_finding parts.rules (Called (symbol 2)) (Use 2 []) [] ≡ Yes
-covered_2 = finding_use parts.rules (Called (symbol 2)) 2 [] [] ∙ rw (shape-Call (symbol 2) []) refl
+covered_2 : tree_finding parts.rules (shape.Call (symbol 2)) (Use 2 []) [] ≡ Yes
+covered_2 =
+    finding_use parts.rules (shape.Call (symbol 2)) 2 [] [] ∙ rw (shape-Call (symbol 2) []) refl
 
-covered_3 : tree_finding parts.rules (Called (symbol 3)) (Use 3 []) [] ≡ Yes
-covered_3 = finding_use parts.rules (Called (symbol 3)) 3 [] [] ∙ rw (shape-Call (symbol 3) []) refl
+covered_3 : tree_finding parts.rules (shape.Call (symbol 3)) (Use 3 []) [] ≡ Yes
+covered_3 =
+    finding_use parts.rules (shape.Call (symbol 3)) 3 [] [] ∙ rw (shape-Call (symbol 3) []) refl
 
 abbrev trees : List (List CoverTree)
 trees = (Use 0 [] ∷ []) ∷ (Use 1 [] ∷ []) ∷ (Use 2 [] ∷ []) ∷ (Use 3 [] ∷ []) ∷ []
@@ -248,10 +252,10 @@ all_stay : (vs : List ℕ) → All (λ v. replaced [] v ≡ variable v) vs
 all_stay [] = All-nil (λ v. replaced [] v ≡ variable v)
 all_stay (v ∷ vs) = All-cons (λ v. replaced [] v ≡ variable v) v vs refl (all_stay vs)
 
-in_zero : in_body [] (number (pos 0)) ≡ record { form = number (pos 0); within = true }
+in_zero : subst_body [] (number (pos 0)) ≡ record { form = number (pos 0); within = true }
 in_zero = unchanged [] (number (pos 0)) zero_poly (all_stay (variables (number (pos 0))))
 
-less_zero : subtracted (number (pos 0)) (number (pos 0)) ≡ of_terms []
+less_zero : body_difference (number (pos 0)) (number (pos 0)) ≡ of_terms []
 less_zero = rw (terms-of_terms []) refl
 
 zero_evident : is_evident (Eq (of_terms [])) ≡ true
@@ -278,7 +282,7 @@ simplifies_left =
       redex-Call first [],
       shape-Call first [],
       arguments-Call first [],
-      in_term-Return [] (number (pos 0)),
+      subst_term-Return [] (number (pos 0)),
       within-Return [] (number (pos 0)),
       in_zero,
     ) refl
@@ -290,7 +294,7 @@ simplifies_right =
       redex-Call second [],
       shape-Call second [],
       arguments-Call second [],
-      in_term-Return [] (number (pos 0)),
+      subst_term-Return [] (number (pos 0)),
       within-Return [] (number (pos 0)),
       in_zero,
     ) refl

@@ -3,7 +3,7 @@ use Rattle.std.proofs.Common.{◌≡◌, ◌∙◌, ap, subst, ℕ, ℤ, true, L
 use Rattle.std.specs.Prelude.{slice_get}
 use Rattle.c_ast.specs.Scoped.{is_scoped, parameter_counts}
 use Rattle.c_ast.specs.declared.program.Resolved.{Resolved}
-use Rattle.rx_rewriting.specs.Premises.{EndAlike}
+use Rattle.rx_rewriting.specs.Premises.{HaveConvertibleNormalForms}
 use Rattle.rx_rewriting.specs.Steps.{Reaches}
 use Rattle.rx_rewriting.specs.Terms as stack
 use Rattle.rx_rewriting.specs.Terms.{Ground}
@@ -35,7 +35,8 @@ entry_at f xs =
 
 -- results that are convertible, reached from what two terms are equal to
 reached_from : (parts : RuleParts) (s t u v : Ground) → s ≡ u → t ≡ v →
-    EndAlike (Inside parts) (Instance parts.rules) s t → ReachConvertible parts.rules u v
+    HaveConvertibleNormalForms (Inside parts) (Instance parts.rules) s t →
+    ReachConvertible parts.rules u v
 reached_from parts s t u v is_u is_v ends = record {
   left = ends.left.end;
   right = ends.right.end;

@@ -6,7 +6,7 @@ use Rattle.rx_cert.specs.Conditions.{conditions}
 use Rattle.rx_cert.specs.declared.cert.Cert.{Cert}
 use Rattle.rx_row.specs.declared.row.Row.{Row}
 use Rattle.rx_term.specs.Meaning.{redex_of}
-use Rattle.rx_term.specs.Stacks.{behind}
+use Rattle.rx_term.specs.Stacks.{suffix_at}
 use Rattle.rx_term.specs.declared.rule.Equation.{Equation}
 use Rattle.rx_term.specs.declared.rule.Rule.{Rule}
 use Rattle.rx_term.specs.declared.rule_set.RuleParts.{RuleParts}
@@ -61,7 +61,7 @@ module _ (parts : RuleParts) (hypotheses : List Rule) (goal : Equation) where
       after (found_or NoSuchRule (slice_get parts.rules number)) _
       (λ rule. tested _ _ (kept _ refl)))
   alone_on (step.Hyp side place number ws certs) =
-      after (found_or WrongShape (behind place (side_of side goal))) _ (λ place.
+      after (found_or WrongShape (suffix_at place (side_of side goal))) _ (λ place.
       after (provided (is_substitution ws) (found_or NoSuchRule (slice_get hypotheses number))) _
       (λ rule. tested _ _ (kept _ refl)))
   alone_on (step.Expand side keep) =
@@ -76,8 +76,9 @@ module _ (parts : RuleParts) (hypotheses : List Rule) (goal : Equation) where
       after (found_or WrongShape (top_frame goal.left)) _ (λ one.
       after (found_or WrongShape (top_frame goal.right)) _ (λ other. tested _ _ (kept _ refl)))
   alone_on (step.Results left right certs) =
-      after (found_or WrongShape (behind left goal.left)) _ (λ one.
-      after (found_or WrongShape (behind right goal.right)) _ (λ other. tested _ _ (kept _ refl)))
+      after (found_or WrongShape (suffix_at left goal.left)) _ (λ one.
+      after (found_or WrongShape (suffix_at right goal.right)) _
+      (λ other. tested _ _ (kept _ refl)))
 
 -- a formed step asks rows under those of the goal alone, or that the goal is refuted
 pub formed_alone : (parts : RuleParts) (goal : Option Equation) (hypotheses : List Rule) (s : Step)

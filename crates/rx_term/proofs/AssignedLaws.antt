@@ -3,7 +3,7 @@ use Rattle.std.proofs.Common.{◌≡◌, ◌∙◌, ap, refl, Bool, ℕ, zero, s
 use Rattle.std.specs.List.{enumerate_from}
 use Rattle.std.proofs.lemmas.Bool.{eq-eqb, ne_eqb}
 use Rattle.rx_poly.specs.Constants.{variable}
-use Rattle.rx_poly.specs.Substitution.{replaced, worth}
+use Rattle.rx_poly.specs.Substitution.{replaced, updated_assignment}
 use Rattle.rx_poly.specs.Value.{value}
 use Rattle.rx_poly.specs.declared.body.Body.{Body}
 use Rattle.rx_poly.proofs.Constants.{value-variable}
@@ -25,7 +25,7 @@ values-assigned xs = values_from (assigned xs) 0 xs (λ i. ap (assigned xs) (ome
 
 -- a variable that is replaced by an argument has that argument's value
 worth_from : (a : ℕ → ℤ) (k : ℕ) (ps : List Body) (i : ℕ) → i < length ps →
-    worth a (enumerate_from k ps) (k + i) ≡ assigned (values a ps) i
+    updated_assignment a (enumerate_from k ps) (k + i) ≡ assigned (values a ps) i
 worth_from a k [] i h = absurd (omega (arith, h))
 worth_from a k (p ∷ ps) zero h =
     let same : k ≡ k + 0 = omega arith in
@@ -35,9 +35,10 @@ worth_from a k (p ∷ ps) (suc i) h =
     let other : (k ≡ k + suc i) → ⊥ = λ e. omega (arith, e) in
     ap (λ (t : Bool). value a (cond t p (replaced (enumerate_from (k + 1) ps) (k + suc i))))
     (ne_eqb k (k + suc i) other)
-    ∙ ap (λ v. worth a (enumerate_from (k + 1) ps) v) (omega arith)
+    ∙ ap (λ v. updated_assignment a (enumerate_from (k + 1) ps) v) (omega arith)
     ∙ worth_from a (k + 1) ps i (omega (arith, h))
 
-pub worth-arguments : (a : ℕ → ℤ) (ps : List Body) (v : ℕ) → v < length ps →
-    worth a (enumerate_from 0 ps) v ≡ assigned (values a ps) v
-worth-arguments a ps v h = ap (worth a (enumerate_from 0 ps)) (omega arith) ∙ worth_from a 0 ps v h
+pub updated_assignment-arguments : (a : ℕ → ℤ) (ps : List Body) (v : ℕ) → v < length ps →
+    updated_assignment a (enumerate_from 0 ps) v ≡ assigned (values a ps) v
+updated_assignment-arguments a ps v h =
+    ap (updated_assignment a (enumerate_from 0 ps)) (omega arith) ∙ worth_from a 0 ps v h

@@ -6,16 +6,16 @@ use Rattle.rx_poly.specs.Constants.{number}
 use Rattle.rx_rewriting.specs.Terms as stack
 use Rattle.rx_rewriting.specs.Terms.{Ground, Fits, IsResult, TermSet}
 use Rattle.rx_rewriting.specs.Steps.{Step, Here}
-use Rattle.rx_rewriting.specs.Premises.{KeepsInner, Moves}
+use Rattle.rx_rewriting.specs.Premises.{ClosedUnderSubterms, Reducible}
 use Rattle.rx_rewriting.proofs.UnderFrames.{Fits-inner, moves_under_frames}
-use Rattle.rx_row.proofs.SubstitutionLaws.{in_rows-hold}
-use Rattle.rx_poly.specs.Substitution.{worth}
+use Rattle.rx_row.proofs.SubstitutionLaws.{subst_rows-hold}
+use Rattle.rx_poly.specs.Substitution.{updated_assignment}
 use Rattle.rx_term.specs.Covered.{HasRule, Domains, IsCoveredOver, IsCovered, everywhere, KeepsDomains, CanStep}
 use Rattle.rx_term.specs.Fitting.{term_fits}
 use Rattle.rx_term.specs.Meaning.{Instance, IsRedex, CallRedex, ground_at, matched, signature}
 use Rattle.rx_term.specs.Paired.{rules_of_shape}
 use Rattle.rx_term.specs.Shapes.{same_shape, shape_of}
-use Rattle.rx_term.specs.Substitution.{in_term}
+use Rattle.rx_term.specs.Substitution.{subst_term}
 use Rattle.rx_term.specs.WellMade.{IsWellMade}
 use Rattle.rx_term.specs.declared.rule.Rule.{Rule}
 use Rattle.rx_term.specs.declared.rule_set.RuleParts.{RuleParts}
@@ -26,7 +26,7 @@ use Rattle.rx_term.proofs.Written.{symbol, written, ground-written, written_fits
 
 -- a rule of the redex's shape that holds at the redex's arguments is one that steps it
 pub rule_for : (rules : List Rule) (t : Term) (a : ℕ → ℤ) →
-    HasRule rules (shape_of t) (worth a (matched t)) → CanStep rules t a
+    HasRule rules (shape_of t) (updated_assignment a (matched t)) → CanStep rules t a
 rule_for rules t a has =
     let test = λ (r : Rule). same_shape (shape_of r.left) (shape_of t) in
     let passes = All-contains (λ (x : Rule). test x ≡ true) (rules_of_shape (shape_of t) rules)
@@ -34,16 +34,16 @@ rule_for rules t a has =
       rule = has.rule;
       among = was_there test rules has.rule has.among;
       shape = told_shape (shape_of has.rule.left) (shape_of t) passes;
-      holds = (in_rows-hold a (matched t) has.rule.rows).1 has.holds;
+      holds = (subst_rows-hold a (matched t) has.rule.rows).1 has.holds;
     }
 
 module _ (parts : RuleParts) (domains : Domains) (covered : IsCoveredOver domains parts) where
   -- a fitting redex whose arguments are of its domain has one
   pub can_step : (t : Term) (a : ℕ → ℤ) → IsRedex t → term_fits parts t ≡ true →
-      domains (shape_of t) (worth a (matched t)) → CanStep parts.rules t a
+      domains (shape_of t) (updated_assignment a (matched t)) → CanStep parts.rules t a
   can_step t a is fits domain =
       rule_for parts.rules t a (covered (shape_of t) (redex_shape parts t is fits)
-      (worth a (matched t)) domain)
+      (updated_assignment a (matched t)) domain)
 
   module _ (made : IsWellMade parts) (inside : TermSet)
       (fitting : (s : Ground) → inside s → Fits (signature parts) s)
@@ -62,13 +62,13 @@ module _ (parts : RuleParts) (domains : Domains) (covered : IsCoveredOver domain
         (keeps (written s) is at_zero (subst inside (sym means) in_s)) in
         let step = rule_steps parts made at_zero one.rule (written s) one.among fits one.shape
         one.holds in (
-          ground_at at_zero (in_term (matched (written s)) one.rule.right),
+          ground_at at_zero (subst_term (matched (written s)) one.rule.right),
           Here (subst (λ x. Instance parts.rules x
-              (ground_at at_zero (in_term (matched (written s)) one.rule.right))) means step),
+              (ground_at at_zero (subst_term (matched (written s)) one.rule.right))) means step),
         )
 
     -- each inside term that is no result has a step
-    pub covered_moves : KeepsInner inside → Moves inside (Instance parts.rules)
+    pub covered_moves : ClosedUnderSubterms inside → Reducible inside (Instance parts.rules)
     covered_moves inner = moves_under_frames inside (Instance parts.rules) inner
         (λ f xs in_s. written_goes (stack.Call f xs) in_s (CallRedex (symbol f) (map number xs)))
         (λ f xs s in_s result. written_goes (stack.Frame f xs s) in_s
@@ -76,7 +76,7 @@ module _ (parts : RuleParts) (domains : Domains) (covered : IsCoveredOver domain
 
 -- where all arguments are allowed, each fitting term that is no result has a step
 pub covered_moves_everywhere : (parts : RuleParts) → IsWellMade parts → IsCovered parts →
-    Moves (Fits (signature parts)) (Instance parts.rules)
+    Reducible (Fits (signature parts)) (Instance parts.rules)
 covered_moves_everywhere parts made covered =
     covered_moves parts everywhere covered made (Fits (signature parts)) (λ s fits. fits)
     (λ t is a fits. tt) (Fits-inner (signature parts))

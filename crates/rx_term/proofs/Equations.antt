@@ -1,7 +1,7 @@
 -- Induction over stacks, and what each definition by recursion on a stack says of each form of it.
 use Rattle.std.proofs.Common.{◌≡◌, ◌∙◌, ap, sym, subst, refl, Bool, true, false, ◌&&◌, length, ℕ, suc, ◌+◌, Option, Some, None, List, [], ◌∷◌, ◌++◌, ℤ}
 use Rattle.std.specs.Option.{option_map_or}
-use Rattle.rx_poly.specs.Substitution.{in_body}
+use Rattle.rx_poly.specs.Substitution.{subst_body}
 use Rattle.rx_poly.specs.Value.{value}
 use Rattle.rx_poly.specs.declared.body.Body.{Body}
 use Rattle.rx_rewriting.specs.Terms as stack
@@ -12,13 +12,14 @@ use Rattle.rx_term.specs.declared.term.Term.TheViews.{roll-Term, rolls-Return, r
 use Rattle.rx_term.specs.declared.term.Term.TheFolds.{fold_out-Term, ind-Term, map-Term}
 use Rattle.rx_term.specs.declared.term.Term.TheVariants.{Return, Fail, Call, Frame, outs-Return, outs-Fail, outs-Call, outs-Frame}
 use Rattle.rx_term.specs.Meaning.{values, ground_at, ground_level, outer_frames, outer_level}
-use Rattle.rx_term.specs.Stacks.{behind, depth_of, depth_level, onto, onto_level, redex_place, redex_place_level, replaced, turned, turned_level, under_frame, over_frame}
+use Rattle.rx_term.specs.Stacks.{suffix_at, depth_of, depth_level, plug_reversed, plug_reversed_level, redex_place, redex_place_level, replace_at, unwind, unwind_level, under_frame, over_frame}
 use Rattle.rx_poly.specs.Variables.{uses_below}
 use Rattle.rx_term.specs.Fitting.{code_fits, fits_level, is_declared, term_fits}
-use Rattle.rx_term.specs.Shapes.{Shape, Value, Failure, Called, Framed, shape_level, shape_of}
+use Rattle.rx_term.specs.Shapes.{Shape, shape_level, shape_of}
+use Rattle.rx_term.specs.Shapes as shape
 use Rattle.rx_term.specs.Variables.{arguments_level, arguments_of, polys_use_below, term_below_level, term_uses_below}
 use Rattle.rx_term.specs.declared.rule_set.RuleParts.{RuleParts}
-use Rattle.rx_term.specs.Substitution.{in_polys, polys_within, in_term, in_term_level, term_within, term_within_level}
+use Rattle.rx_term.specs.Substitution.{subst_polys, polys_within, subst_term, subst_term_level, term_within, term_within_level}
 
 -- what holds of each result and call, and of a frame where it holds of the part under it, holds of
 -- each term
@@ -53,37 +54,42 @@ pub depth-Frame : (f : Sym) (ps : List Body) (t : Term) → depth_of (Frame f ps
 depth-Frame f ps t = fold_out-Term ℕ depth_level (Frame f ps t) ∙ rw (outs-Frame f ps t) refl
 
 -- one stack over another
-pub onto-Return : (p : Body) (inner : Term) → onto (Return p) inner ≡ inner
-onto-Return p inner =
-    ap (λ (g : Term → Term). g inner) (fold_out-Term (Term → Term) onto_level (Return p)) ∙
+pub plug_reversed-Return : (p : Body) (inner : Term) → plug_reversed (Return p) inner ≡ inner
+plug_reversed-Return p inner =
+    ap (λ (g : Term → Term). g inner) (fold_out-Term (Term → Term) plug_reversed_level (Return p)) ∙
     rw (outs-Return p) refl
 
-pub onto-Frame : (f : Sym) (ps : List Body) (t inner : Term) → onto (Frame f ps t) inner ≡
-    onto t (Frame f ps inner)
-onto-Frame f ps t inner =
-    ap (λ (g : Term → Term). g inner) (fold_out-Term (Term → Term) onto_level (Frame f ps t)) ∙
+pub plug_reversed-Frame : (f : Sym) (ps : List Body) (t inner : Term) →
+    plug_reversed (Frame f ps t) inner ≡
+    plug_reversed t (Frame f ps inner)
+plug_reversed-Frame f ps t inner =
+    ap (λ (g : Term → Term). g inner) (fold_out-Term (Term → Term) plug_reversed_level
+    (Frame f ps t)) ∙
     rw (outs-Frame f ps t) refl
 
 -- polynomials in place of variables
-pub in_term-Return : (ws : List (ℕ × Body)) (p : Body) → in_term ws (Return p) ≡
-    Return (in_body ws p).form
-in_term-Return ws p = fold_out-Term Term (in_term_level ws) (Return p) ∙ rw (outs-Return p) refl
+pub subst_term-Return : (ws : List (ℕ × Body)) (p : Body) → subst_term ws (Return p) ≡
+    Return (subst_body ws p).form
+subst_term-Return ws p =
+    fold_out-Term Term (subst_term_level ws) (Return p) ∙ rw (outs-Return p) refl
 
-pub in_term-Fail : (ws : List (ℕ × Body)) (c : ℕ) → in_term ws (Fail c) ≡ Fail c
-in_term-Fail ws c = fold_out-Term Term (in_term_level ws) (Fail c) ∙ rw (outs-Fail c) refl
+pub subst_term-Fail : (ws : List (ℕ × Body)) (c : ℕ) → subst_term ws (Fail c) ≡ Fail c
+subst_term-Fail ws c = fold_out-Term Term (subst_term_level ws) (Fail c) ∙ rw (outs-Fail c) refl
 
-pub in_term-Call : (ws : List (ℕ × Body)) (f : Sym) (ps : List Body) → in_term ws (Call f ps) ≡
-    Call f (in_polys ws ps)
-in_term-Call ws f ps = fold_out-Term Term (in_term_level ws) (Call f ps) ∙ rw (outs-Call f ps) refl
+pub subst_term-Call : (ws : List (ℕ × Body)) (f : Sym) (ps : List Body) →
+    subst_term ws (Call f ps) ≡
+    Call f (subst_polys ws ps)
+subst_term-Call ws f ps =
+    fold_out-Term Term (subst_term_level ws) (Call f ps) ∙ rw (outs-Call f ps) refl
 
-pub in_term-Frame : (ws : List (ℕ × Body)) (f : Sym) (ps : List Body) (t : Term) →
-    in_term ws (Frame f ps t) ≡ Frame f (in_polys ws ps) (in_term ws t)
-in_term-Frame ws f ps t =
-    fold_out-Term Term (in_term_level ws) (Frame f ps t) ∙ rw (outs-Frame f ps t) refl
+pub subst_term-Frame : (ws : List (ℕ × Body)) (f : Sym) (ps : List Body) (t : Term) →
+    subst_term ws (Frame f ps t) ≡ Frame f (subst_polys ws ps) (subst_term ws t)
+subst_term-Frame ws f ps t =
+    fold_out-Term Term (subst_term_level ws) (Frame f ps t) ∙ rw (outs-Frame f ps t) refl
 
 -- whether they keep the limits
 pub within-Return : (ws : List (ℕ × Body)) (p : Body) → term_within ws (Return p) ≡
-    (in_body ws p).within
+    (subst_body ws p).within
 within-Return ws p = fold_out-Term Bool (term_within_level ws) (Return p) ∙ rw (outs-Return p) refl
 
 pub within-Fail : (ws : List (ℕ × Body)) (c : ℕ) → term_within ws (Fail c) ≡ true
@@ -100,7 +106,7 @@ within-Frame ws f ps t =
     fold_out-Term Bool (term_within_level ws) (Frame f ps t) ∙ rw (outs-Frame f ps t) refl
 
 -- the ground term
-pub ground-Return : (a : ℕ → ℤ) (p : Body) → ground_at a (Return p) ≡ stack.Ret (value a p)
+pub ground-Return : (a : ℕ → ℤ) (p : Body) → ground_at a (Return p) ≡ stack.Return (value a p)
 ground-Return a p = fold_out-Term Ground (ground_level a) (Return p) ∙ rw (outs-Return p) refl
 
 pub ground-Fail : (a : ℕ → ℤ) (c : ℕ) → ground_at a (Fail c) ≡ stack.Fail c
@@ -131,18 +137,20 @@ redex-Frame f ps t =
     fold_out-Term (Option ℕ) redex_place_level (Frame f ps t) ∙ rw (outs-Frame f ps t) refl
 
 -- one step of the walks by number
-pub behind-Frame : (n : ℕ) (f : Sym) (ps : List Body) (t : Term) → behind (suc n) (Frame f ps t) ≡
-    behind n t
-behind-Frame n f ps t = ap (λ (x : Term-F Term). under_frame x (behind n)) (outs-Frame f ps t)
+pub suffix_at-Frame : (n : ℕ) (f : Sym) (ps : List Body) (t : Term) →
+    suffix_at (suc n) (Frame f ps t) ≡
+    suffix_at n t
+suffix_at-Frame n f ps t = ap (λ (x : Term-F Term). under_frame x (suffix_at n)) (outs-Frame f ps t)
 
-pub replaced-Frame : (n : ℕ) (f : Sym) (ps : List Body) (t inner : Term) →
-    replaced (suc n) (Frame f ps t) inner ≡ Frame f ps (replaced n t inner)
-replaced-Frame n f ps t inner =
-    ap (λ (x : Term-F Term). over_frame x inner (λ rest. replaced n rest inner)) (outs-Frame f ps t)
+pub replace_at-Frame : (n : ℕ) (f : Sym) (ps : List Body) (t inner : Term) →
+    replace_at (suc n) (Frame f ps t) inner ≡ Frame f ps (replace_at n t inner)
+replace_at-Frame n f ps t inner =
+    ap (λ (x : Term-F Term). over_frame x inner (λ rest. replace_at n rest inner))
+    (outs-Frame f ps t)
 
-pub turned-Frame : (f : Sym) (ps : List Body) (t upper : Term) → turned (Frame f ps t) upper ≡
+pub unwind-Frame : (f : Sym) (ps : List Body) (t upper : Term) → unwind (Frame f ps t) upper ≡
     (Frame f ps upper, Some t)
-turned-Frame f ps t upper = ap (λ (x : Term-F Term). turned_level x upper) (outs-Frame f ps t)
+unwind-Frame f ps t upper = ap (λ (x : Term-F Term). unwind_level x upper) (outs-Frame f ps t)
 
 -- the polynomials
 pub arguments-Return : (p : Body) → arguments_of (Return p) ≡ p ∷ []
@@ -194,17 +202,17 @@ fits-Frame parts f ps t =
     fold_out-Term Bool (fits_level parts) (Frame f ps t) ∙ rw (outs-Frame f ps t) refl
 
 -- the shape
-pub shape-Return : (p : Body) → shape_of (Return p) ≡ Value
+pub shape-Return : (p : Body) → shape_of (Return p) ≡ shape.Return
 shape-Return p = fold_out-Term Shape shape_level (Return p) ∙ rw (outs-Return p) refl
 
-pub shape-Fail : (c : ℕ) → shape_of (Fail c) ≡ Failure c
+pub shape-Fail : (c : ℕ) → shape_of (Fail c) ≡ shape.Fail c
 shape-Fail c = fold_out-Term Shape shape_level (Fail c) ∙ rw (outs-Fail c) refl
 
-pub shape-Call : (f : Sym) (ps : List Body) → shape_of (Call f ps) ≡ Called f
+pub shape-Call : (f : Sym) (ps : List Body) → shape_of (Call f ps) ≡ shape.Call f
 shape-Call f ps = fold_out-Term Shape shape_level (Call f ps) ∙ rw (outs-Call f ps) refl
 
 pub shape-Frame : (f : Sym) (ps : List Body) (t : Term) → shape_of (Frame f ps t) ≡
-    Framed f (shape_of t)
+    shape.Frame f (shape_of t)
 shape-Frame f ps t = fold_out-Term Shape shape_level (Frame f ps t) ∙ rw (outs-Frame f ps t) refl
 
 -- the outer frames

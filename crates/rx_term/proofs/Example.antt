@@ -5,22 +5,23 @@ use Rattle.std.specs.List.{enumerate_from}
 use Rattle.std.proofs.lemmas.Bool.{and_from, and_parts, eq-eqb, leb-true}
 use Rattle.std.proofs.lemmas.List.Elements.{All-cons, All-head, All-nil}
 use Rattle.rx_poly.specs.Constants.{number, variable}
-use Rattle.rx_poly.specs.Limits.{added}
-use Rattle.rx_poly.specs.Substitution.{worth}
+use Rattle.rx_poly.specs.Limits.{body_sum}
+use Rattle.rx_poly.specs.Substitution.{updated_assignment}
 use Rattle.rx_poly.specs.Value.{value}
 use Rattle.rx_poly.specs.Variables.{uses_below}
 use Rattle.rx_poly.specs.declared.body.Body.{Body}
-use Rattle.rx_poly_laws.proofs.TestLaws.{passes-added, passes-number, passes-variable}
+use Rattle.rx_poly_laws.proofs.TestLaws.{passes-body_sum, passes-number, passes-variable}
 use Rattle.rx_rewriting.specs.Terms as stack
 use Rattle.rx_rewriting.specs.Terms.{Ground, Declares, Fits, Symbol}
-use Rattle.rx_rewriting.specs.Premises.{KeepsInner, Moves}
+use Rattle.rx_rewriting.specs.Premises.{ClosedUnderSubterms, Reducible}
 use Rattle.rx_row.specs.declared.row.Row.TheVariants.{Eq}
 use Rattle.rx_term.specs.Covered.{IsCoveredOver, KeepsDomains}
 use Rattle.rx_term.specs.Example.{f, g, ends, goes_on, adds, fails, example, AtLeastZero, IsInside, counting, negative_call}
 use Rattle.rx_term.specs.Fitting.{code_fits, term_fits}
 use Rattle.rx_term.specs.Meaning.{Instance, CallRedex, ReturnRedex, FailRedex, matched, signature, values}
 use Rattle.rx_term.specs.Paired.{PointShape, ReturnShape, FailShape, IsPair, One, Two, IsPaired}
-use Rattle.rx_term.specs.Shapes.{Value, Failure, Called, Framed, same_shape, shape_of}
+use Rattle.rx_term.specs.Shapes.{same_shape, shape_of}
+use Rattle.rx_term.specs.Shapes as shapes
 use Rattle.rx_row.specs.Variables.{rows_use_below}
 use Rattle.rx_term.specs.Variables.{polys_use_below, term_uses_below}
 use Rattle.rx_term.specs.WellMade.{OfPoint, OverReturn, OverFail, IsMade, IsWellMade, width}
@@ -100,11 +101,11 @@ adds_made = record {
   form = OverReturn g 1;
   few = omega (arith, value_width);
   left_fits = fits-Frame example g x0 (Return (variable 1)) ∙ fits-Return example (variable 1);
-  right_fits = fits-Return example (added (variable 0) (variable 1));
+  right_fits = fits-Return example (body_sum (variable 0) (variable 1));
   right_variables =
       ap (λ n. term_uses_below n adds.right) value_width ∙
-      below-Return 2 (added (variable 0) (variable 1))
-      ∙ passes-added (λ w. nat_lt w 2) (variable 0) (variable 1) (below-variable 2 0 refl)
+      below-Return 2 (body_sum (variable 0) (variable 1))
+      ∙ passes-body_sum (λ w. nat_lt w 2) (variable 0) (variable 1) (below-variable 2 0 refl)
       (below-variable 2 1 refl);
   row_variables = refl;
 }
@@ -160,29 +161,30 @@ picked {a} {b} {c} {d} a' b' c' d' ea eb ec ed pair =
     subst (λ x. Picked x b c d) (sym ea) (subst (λ x. Picked a' x c d) (sym eb)
     (subst (λ x. Picked a' b' x d) (sym ec) (subst (Picked a' b' c') (sym ed) pair)))
 
-shape-value : shape_of adds.left ≡ Framed g Value
-shape-value = shape-Frame g x0 (Return (variable 1)) ∙ ap (Framed g) (shape-Return (variable 1))
+shape-value : shape_of adds.left ≡ shapes.Frame g shapes.Return
+shape-value =
+    shape-Frame g x0 (Return (variable 1)) ∙ ap (shapes.Frame g) (shape-Return (variable 1))
 
-shape-failure : shape_of fails.left ≡ Framed g (Failure 1)
-shape-failure = shape-Frame g x0 (Fail 1) ∙ ap (Framed g) (shape-Fail 1)
+shape-failure : shape_of fails.left ≡ shapes.Frame g (shapes.Fail 1)
+shape-failure = shape-Frame g x0 (Fail 1) ∙ ap (shapes.Frame g) (shape-Fail 1)
 
 pub example_paired : IsPaired example
 example_paired _ (PointShape s n h) =
-    let point : same_shape (shape_of (Call f x0)) (Called s) ≡ true =
-    ap (λ z. same_shape z (Called s)) (shape-Call f x0) ∙ eq-eqb 0 s.0 (one_point s.0 n h) in
-    let value = ap (λ z. same_shape z (Called s)) shape-value in
-    let failure = ap (λ z. same_shape z (Called s)) shape-failure in
+    let point : same_shape (shape_of (Call f x0)) (shapes.Call s) ≡ true =
+    ap (λ z. same_shape z (shapes.Call s)) (shape-Call f x0) ∙ eq-eqb 0 s.0 (one_point s.0 n h) in
+    let value = ap (λ z. same_shape z (shapes.Call s)) shape-value in
+    let failure = ap (λ z. same_shape z (shapes.Call s)) shape-failure in
     picked true true false false point point value failure
     (Two ends goes_on (Eq (variable 0)) refl refl refl)
 example_paired _ (ReturnShape s n h) =
-    let shape = Framed s Value in
+    let shape = shapes.Frame s shapes.Return in
     let point = ap (λ z. same_shape z shape) (shape-Call f x0) in
     let same : nat_eq 1 s.0 ≡ true = eq-eqb 1 s.0 (one_frame s.0 n h) in
     let value = ap (λ z. same_shape z shape) shape-value ∙ ap (λ b. b && true) same in
     let failure = ap (λ z. same_shape z shape) shape-failure ∙ ap (λ b. b && false) same in
     picked false false true false point point value failure (One adds refl)
 example_paired _ (FailShape s n c h k) =
-    let shape = Framed s (Failure c) in
+    let shape = shapes.Frame s (shapes.Fail c) in
     let point = ap (λ z. same_shape z shape) (shape-Call f x0) in
     let same : nat_eq 1 s.0 ≡ true = eq-eqb 1 s.0 (one_frame s.0 n h) in
     let code : nat_eq 1 c ≡ true = eq-eqb 1 c (one_code c k) in
@@ -195,7 +197,7 @@ example_paired _ (FailShape s n c h k) =
 pub inside_fits : (s : Ground) → IsInside s → Fits (signature example) s
 inside_fits s in_s = in_s.0
 
-pub inside_inner : KeepsInner IsInside
+pub inside_inner : ClosedUnderSubterms IsInside
 inside_inner s xs t whole = (whole.0.1, whole.1)
 
 -- what a declaration says, also of a symbol that is not declared
@@ -218,20 +220,21 @@ no_argument (suc zero) fits = true≢false (ap stands_as_frame fits)
 no_argument (suc (suc k)) fits = true≢false (sym (ap is_there fits))
 
 call_counts : (a : ℕ → ℤ) (s : Sym) (ps : List Body) → IsInside (stack.Call s.0 (values a ps)) →
-    AtLeastZero (worth a (enumerate_from 0 ps) 0)
+    AtLeastZero (updated_assignment a (enumerate_from 0 ps) 0)
 call_counts a s [] in_s = absurd (no_argument s.0 in_s.0)
 call_counts a s (p ∷ ps) in_s = All-head AtLeastZero (value a p) (values a ps) in_s.1
 
 pub inside_domains : KeepsDomains IsInside counting
 inside_domains _ (CallRedex s ps) a in_s =
-    subst (λ z. counting z (worth a (matched (Call s ps)))) (sym (shape-Call s ps))
-    (subst (λ qs. AtLeastZero (worth a (enumerate_from 0 qs) 0)) (sym (arguments-Call s ps))
+    subst (λ z. counting z (updated_assignment a (matched (Call s ps)))) (sym (shape-Call s ps))
+    (subst (λ qs. AtLeastZero (updated_assignment a (enumerate_from 0 qs) 0))
+    (sym (arguments-Call s ps))
     (call_counts a s ps (subst IsInside (ground-Call a s ps) in_s)))
 inside_domains _ (ReturnRedex s ps p) a in_s =
-    subst (λ z. counting z (worth a (matched (Frame s ps (Return p)))))
+    subst (λ z. counting z (updated_assignment a (matched (Frame s ps (Return p)))))
     (sym (shape-Frame s ps (Return p))) tt
 inside_domains _ (FailRedex s ps c) a in_s =
-    subst (λ z. counting z (worth a (matched (Frame s ps (Fail c)))))
+    subst (λ z. counting z (updated_assignment a (matched (Frame s ps (Fail c)))))
     (sym (shape-Frame s ps (Fail c))) tt
 
 -- ---- what the laws then say
@@ -242,7 +245,7 @@ example_covered shape is a domain = paired_covers example example_paired shape i
 pub negative_outside : Fits (signature example) negative_call × (IsInside negative_call → ⊥)
 negative_outside = (refl, λ in_s. All-head AtLeastZero (negsuc 0) [] in_s.1)
 
-pub inside_moves : Moves IsInside (Instance example.rules)
+pub inside_moves : Reducible IsInside (Instance example.rules)
 inside_moves =
     covered_moves example counting example_covered example_made IsInside inside_fits inside_domains
     inside_inner

@@ -41,7 +41,7 @@ module _ (a b : ℕ → ℤ) (n : ℕ) (agree : (v : ℕ) → v < n → a v ≡ 
   -- two assignments that agree on the variables of a term give it one ground term
   pub same_ground_below : (t : Term) → Agrees t
   same_ground_below = induct Agrees
-      (λ p h. ground-Return a p ∙ ap stack.Ret
+      (λ p h. ground-Return a p ∙ ap stack.Return
       (same_value_below a b n p agree (sym (below-Return n p) ∙ h)) ∙ sym (ground-Return b p))
       (λ c h. ground-Fail a c ∙ sym (ground-Fail b c))
       (λ f ps h. ground-Call a f ps ∙ ap (stack.Call f.0)

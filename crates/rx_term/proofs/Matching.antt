@@ -5,7 +5,7 @@ use Rattle.std.specs.List.{enumerate_from}
 use Rattle.std.proofs.lemmas.Bool.{eq-eqb, ne_eqb}
 use Rattle.std.proofs.lemmas.List.{append-nil}
 use Rattle.rx_poly.specs.Constants.{variable}
-use Rattle.rx_poly.specs.Substitution.{replaced, worth}
+use Rattle.rx_poly.specs.Substitution.{replaced, updated_assignment}
 use Rattle.rx_poly.specs.Value.{value}
 use Rattle.rx_poly.specs.declared.body.Body.{Body}
 use Rattle.rx_poly.proofs.Constants.{value-variable}
@@ -49,7 +49,7 @@ left_arguments _ (OverFail f n c) =
 
 -- the variables from a number on have the values of the polynomials that are listed for them
 pub listed_values : (a b : ℕ → ℤ) (k : ℕ) (ps : List Body) →
-    ((v : ℕ) → k ≤ v → b v ≡ worth a (enumerate_from k ps) v) →
+    ((v : ℕ) → k ≤ v → b v ≡ updated_assignment a (enumerate_from k ps) v) →
     values b (variables_from k (length ps)) ≡ values a ps
 listed_values a b k [] is = refl
 listed_values a b k (p ∷ ps) is =
@@ -57,7 +57,7 @@ listed_values a b k (p ∷ ps) is =
     value-variable b k ∙ is k (omega arith) ∙
     ap (λ (t : Bool). value a (if t then p else replaced (enumerate_from (k + 1) ps) k))
     (eq-eqb k k refl) in
-    let further : (v : ℕ) → k + 1 ≤ v → b v ≡ worth a (enumerate_from (k + 1) ps) v =
+    let further : (v : ℕ) → k + 1 ≤ v → b v ≡ updated_assignment a (enumerate_from (k + 1) ps) v =
     λ v h. is v (omega arith) ∙ ap (λ (t : Bool).
     value a (if t then p else replaced (enumerate_from (k + 1) ps) v))
     (ne_eqb k v (λ e. omega (arith, e))) in
@@ -67,10 +67,10 @@ listed_values a b k (p ∷ ps) is =
 -- a rule's left side of the shape of a term, both fitting, at the values of the term's polynomials
 pub left_matches : (parts : RuleParts) (a : ℕ → ℤ) (left t : Term) → IsLeft left →
     term_fits parts left ≡ true → term_fits parts t ≡ true → shape_of left ≡ shape_of t →
-    ground_at (worth a (matched t)) left ≡ ground_at a t
+    ground_at (updated_assignment a (matched t)) left ≡ ground_at a t
 left_matches parts a left t form fits also shape =
     let same = aligned parts left t fits also shape in
-    let b = worth a (matched t) in
+    let b = updated_assignment a (matched t) in
     let count : width left ≡ length (arguments_of t) = same_count left t same in
     let first = ap (values b) (left_arguments left form ∙ ap (variables_from 0) count) in
     same_ground b a left t same (first ∙ listed_values a b 0 (arguments_of t) (λ v h. refl))

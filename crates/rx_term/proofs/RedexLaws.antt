@@ -4,46 +4,48 @@ use Rattle.std.specs.Prelude.{unwrap_or, option_and_then}
 use Rattle.std.specs.Option.{option_map, option_map_or}
 use Rattle.rx_poly.specs.declared.body.Body.{Body}
 use Rattle.rx_rewriting.specs.Terms as stack
-use Rattle.rx_rewriting.specs.Terms.{Ground, under, StackFrame}
+use Rattle.rx_rewriting.specs.Terms.{Ground, in_context, StackFrame}
 use Rattle.rx_term.specs.Meaning.{values, ground_at, ground_redex, outer_frames, outer_level, redex_of, IsRedex, CallRedex, ReturnRedex, FailRedex}
-use Rattle.rx_term.specs.Stacks.{behind, redex_place, replaced, over_frame, under_frame}
+use Rattle.rx_term.specs.Stacks.{suffix_at, redex_place, replace_at, over_frame, under_frame}
 use Rattle.rx_term.specs.declared.term.Sym.{Sym}
 use Rattle.rx_term.specs.declared.term.Term.{Term, Term-F}
 use Rattle.rx_term.specs.declared.term.Term.TheVariants.{Return, Fail, Call, Frame, outs-Return, outs-Fail, outs-Call}
-use Rattle.rx_term.proofs.Equations.{induct, Form, AReturn, AFail, ACall, AFrame, form, behind-Frame, replaced-Frame, outer-Frame, ground-Return, ground-Fail, ground-Call, ground-Frame, redex-Return, redex-Fail, redex-Call, redex-Frame}
+use Rattle.rx_term.proofs.Equations.{induct, Form, AReturn, AFail, ACall, AFrame, form, suffix_at-Frame, replace_at-Frame, outer-Frame, ground-Return, ground-Fail, ground-Call, ground-Frame, redex-Return, redex-Fail, redex-Call, redex-Frame}
 
 -- ---- parts under outer frames
 
 module _ (a : ℕ → ℤ) (n : ℕ) (inner : Term) where
   abbrev Stands : Term → Type 0
   Stands u =
-      ground_at a (replaced (suc n) u inner) ≡ under (outer_frames a (suc n) u) (ground_at a inner)
+      ground_at a (replace_at (suc n) u inner) ≡
+      in_context (outer_frames a (suc n) u) (ground_at a inner)
 
-  stands : ((u : Term) → ground_at a (replaced n u inner) ≡
-      under (outer_frames a n u) (ground_at a inner)) → (t : Term) → Form t → Stands t
+  stands : ((u : Term) → ground_at a (replace_at n u inner) ≡
+      in_context (outer_frames a n u) (ground_at a inner)) → (t : Term) → Form t → Stands t
   stands further _ (AReturn p) =
-      ap (λ (x : Term-F Term). ground_at a (over_frame x inner (λ rest. replaced n rest inner)))
+      ap (λ (x : Term-F Term). ground_at a (over_frame x inner (λ rest. replace_at n rest inner)))
       (outs-Return p)
-      ∙ sym (ap (λ (x : Term-F Term). under (outer_level a x (outer_frames a n))
+      ∙ sym (ap (λ (x : Term-F Term). in_context (outer_level a x (outer_frames a n))
       (ground_at a inner)) (outs-Return p))
   stands further _ (AFail c) =
-      ap (λ (x : Term-F Term). ground_at a (over_frame x inner (λ rest. replaced n rest inner)))
+      ap (λ (x : Term-F Term). ground_at a (over_frame x inner (λ rest. replace_at n rest inner)))
       (outs-Fail c)
-      ∙ sym (ap (λ (x : Term-F Term). under (outer_level a x (outer_frames a n))
+      ∙ sym (ap (λ (x : Term-F Term). in_context (outer_level a x (outer_frames a n))
       (ground_at a inner)) (outs-Fail c))
   stands further _ (ACall f ps) =
-      ap (λ (x : Term-F Term). ground_at a (over_frame x inner (λ rest. replaced n rest inner)))
+      ap (λ (x : Term-F Term). ground_at a (over_frame x inner (λ rest. replace_at n rest inner)))
       (outs-Call f ps)
-      ∙ sym (ap (λ (x : Term-F Term). under (outer_level a x (outer_frames a n))
+      ∙ sym (ap (λ (x : Term-F Term). in_context (outer_level a x (outer_frames a n))
       (ground_at a inner)) (outs-Call f ps))
   stands further _ (AFrame f ps u) =
-      ap (ground_at a) (replaced-Frame n f ps u inner) ∙ ground-Frame a f ps (replaced n u inner)
+      ap (ground_at a) (replace_at-Frame n f ps u inner) ∙
+      ground-Frame a f ps (replace_at n u inner)
       ∙ ap (stack.Frame f.0 (values a ps)) (further u)
-      ∙ sym (ap (λ fs. under fs (ground_at a inner)) (outer-Frame a n f ps u))
+      ∙ sym (ap (λ fs. in_context fs (ground_at a inner)) (outer-Frame a n f ps u))
 
 -- what replaces the part under outer frames is under the same frames
-pub ground_replaced : (a : ℕ → ℤ) (n : ℕ) (t inner : Term) → ground_at a (replaced n t inner) ≡
-    under (outer_frames a n t) (ground_at a inner)
+pub ground_replaced : (a : ℕ → ℤ) (n : ℕ) (t inner : Term) → ground_at a (replace_at n t inner) ≡
+    in_context (outer_frames a n t) (ground_at a inner)
 ground_replaced a zero t inner = refl
 ground_replaced a (suc n) t inner = stands a n inner (λ u. ground_replaced a n u inner) t (form t)
 
@@ -51,26 +53,28 @@ no_part : (s : Term) → ◌≡◌ {A = Option Term} None (Some s) → ⊥
 no_part s e = cc
 
 module _ (a : ℕ → ℤ) (n : ℕ) (s : Term) where
-  stands_behind : ((u : Term) → behind n u ≡ Some s → ground_at a u ≡
-      under (outer_frames a n u) (ground_at a s)) → (t : Term) → Form t → behind (suc n) t ≡
-      Some s → ground_at a t ≡ under (outer_frames a (suc n) t) (ground_at a s)
+  stands_behind : ((u : Term) → suffix_at n u ≡ Some s → ground_at a u ≡
+      in_context (outer_frames a n u) (ground_at a s)) → (t : Term) → Form t → suffix_at (suc n) t ≡
+      Some s → ground_at a t ≡ in_context (outer_frames a (suc n) t) (ground_at a s)
   stands_behind further _ (AReturn p) h =
-      absurd (no_part s (sym (ap (λ (x : Term-F Term). under_frame x (behind n)) (outs-Return p)) ∙
+      absurd (no_part s (sym (ap (λ (x : Term-F Term). under_frame x (suffix_at n)) (outs-Return p))
+      ∙
       h))
   stands_behind further _ (AFail c) h =
-      absurd (no_part s (sym (ap (λ (x : Term-F Term). under_frame x (behind n)) (outs-Fail c)) ∙
+      absurd (no_part s (sym (ap (λ (x : Term-F Term). under_frame x (suffix_at n)) (outs-Fail c)) ∙
       h))
   stands_behind further _ (ACall f ps) h =
-      absurd (no_part s (sym (ap (λ (x : Term-F Term). under_frame x (behind n)) (outs-Call f ps)) ∙
+      absurd (no_part s (sym (ap (λ (x : Term-F Term). under_frame x (suffix_at n))
+      (outs-Call f ps)) ∙
       h))
   stands_behind further _ (AFrame f ps u) h =
       ground-Frame a f ps u ∙ ap (stack.Frame f.0 (values a ps))
-      (further u (sym (behind-Frame n f ps u) ∙ h))
-      ∙ sym (ap (λ fs. under fs (ground_at a s)) (outer-Frame a n f ps u))
+      (further u (sym (suffix_at-Frame n f ps u) ∙ h))
+      ∙ sym (ap (λ fs. in_context fs (ground_at a s)) (outer-Frame a n f ps u))
 
 -- the part under outer frames is under them
-pub ground_behind : (a : ℕ → ℤ) (n : ℕ) (t s : Term) → behind n t ≡ Some s → ground_at a t ≡
-    under (outer_frames a n t) (ground_at a s)
+pub ground_behind : (a : ℕ → ℤ) (n : ℕ) (t s : Term) → suffix_at n t ≡ Some s → ground_at a t ≡
+    in_context (outer_frames a n t) (ground_at a s)
 ground_behind a zero t s h = let same : t ≡ s = cc in ap (ground_at a) same
 ground_behind a (suc n) t s h = stands_behind a n s (λ u. ground_behind a n u s) t (form t) h
 
@@ -86,7 +90,7 @@ pub record Found (t : Term) : Type 0 where
   pub place : ℕ
   pub part : Term
   pub at : redex_place t ≡ Some place
-  pub stands : behind place t ≡ Some part
+  pub stands : suffix_at place t ≡ Some part
   pub is : IsRedex part
   pub means : (a : ℕ → ℤ) → ground_redex (ground_at a t) ≡ Some (ground_at a part)
 
@@ -133,7 +137,7 @@ found_frame f ps t (inr found) =
       at =
           redex-Frame f ps t ∙ ap (λ (o : Option ℕ). Some (option_map_or (λ n. 1 + n) o 0)) found.at
           ∙ ap Some q;
-      stands = behind-Frame found.place f ps t ∙ found.stands;
+      stands = suffix_at-Frame found.place f ps t ∙ found.stands;
       is = found.is;
       means =
           λ a. ap ground_redex (ground-Frame a f ps t) ∙
@@ -152,10 +156,11 @@ find_redex = induct (λ t. IsEnd t ⊎ Found t)
 by_cases : (a : ℕ → ℤ) (t : Term) → IsEnd t ⊎ Found t → option_map (ground_at a) (redex_of t) ≡
     ground_redex (ground_at a t)
 by_cases a t (inl end) =
-    ap (λ (o : Option ℕ). option_map (ground_at a) (option_and_then (λ n. behind n t) o))
+    ap (λ (o : Option ℕ). option_map (ground_at a) (option_and_then (λ n. suffix_at n t) o))
     (end_place t end) ∙ sym (end_means a t end)
 by_cases a t (inr found) =
-    ap (λ (o : Option ℕ). option_map (ground_at a) (option_and_then (λ n. behind n t) o)) found.at
+    ap (λ (o : Option ℕ). option_map (ground_at a) (option_and_then (λ n. suffix_at n t) o))
+    found.at
     ∙ ap (option_map (ground_at a)) found.stands ∙ sym (found.means a)
 
 -- the redex of the ground term is the ground term of the redex
@@ -165,10 +170,10 @@ redex_ground a t = by_cases a t (find_redex t)
 
 chosen : (t s : Term) → IsEnd t ⊎ Found t → redex_of t ≡ Some s → IsRedex s
 chosen t s (inl end) h =
-    absurd (no_part s (sym (ap (option_and_then (λ n. behind n t)) (end_place t end)) ∙ h))
+    absurd (no_part s (sym (ap (option_and_then (λ n. suffix_at n t)) (end_place t end)) ∙ h))
 chosen t s (inr found) h =
     let both : Some found.part ≡ Some s = sym found.stands ∙
-    sym (ap (option_and_then (λ n. behind n t)) found.at) ∙ h in
+    sym (ap (option_and_then (λ n. suffix_at n t)) found.at) ∙ h in
     let same : found.part ≡ s = cc in
     subst IsRedex same found.is
 

@@ -4,11 +4,11 @@ use Rattle.std.specs.Prelude.{option_and_then}
 use Rattle.std.specs.Option.{option_map_or}
 use Rattle.rx_poly.specs.declared.body.Body.{Body}
 use Rattle.rx_term.specs.Meaning.{redex_of}
-use Rattle.rx_term.specs.Stacks.{behind, depth_of, is_redex, is_redex_level, is_result, is_result_level, onto, redex_place, replace_redex, replaced, turned, turned_level}
+use Rattle.rx_term.specs.Stacks.{suffix_at, depth_of, is_redex, is_redex_level, is_result, is_result_level, plug_reversed, redex_place, replace_redex, replace_at, unwind, unwind_level}
 use Rattle.rx_term.specs.declared.term.Sym.{Sym}
 use Rattle.rx_term.specs.declared.term.Term.{Term, Term-F}
 use Rattle.rx_term.specs.declared.term.Term.TheVariants.{Call, Frame, outs-Return, outs-Fail, outs-Call, outs-Frame}
-use Rattle.rx_term.proofs.Equations.{Form, AReturn, AFail, ACall, AFrame, form, behind-Frame, depth-Frame, onto-Frame, redex-Return, redex-Fail, redex-Call, redex-Frame, replaced-Frame, turned-Frame}
+use Rattle.rx_term.proofs.Equations.{Form, AReturn, AFail, ACall, AFrame, form, suffix_at-Frame, depth-Frame, plug_reversed-Frame, redex-Return, redex-Fail, redex-Call, redex-Frame, replace_at-Frame, unwind-Frame}
 
 -- a frame is no result
 pub result-Frame : (f : Sym) (ps : List Body) (t : Term) → is_result (Frame f ps t) ≡ false
@@ -52,10 +52,10 @@ inner_place f ps t n e =
 -- ---- the redex
 
 pub redex_of_result : (t : Term) → is_result t ≡ true → redex_of t ≡ None
-redex_of_result t h = ap (option_and_then (λ n. behind n t)) (result_place t (form t) h)
+redex_of_result t h = ap (option_and_then (λ n. suffix_at n t)) (result_place t (form t) h)
 
 at_start : (t : Term) → redex_place t ≡ Some 0 → redex_of t ≡ Some t
-at_start t e = ap (option_and_then (λ n. behind n t)) e
+at_start t e = ap (option_and_then (λ n. suffix_at n t)) e
 
 redex_place_here : (t : Term) → Form t → is_redex t ≡ true → redex_place t ≡ Some 0
 redex_place_here _ (AReturn p) h = clash (sym h ∙ ap is_redex_level (outs-Return p))
@@ -77,8 +77,8 @@ pub redex_further : (f : Sym) (ps : List Body) (t : Term) → is_result t ≡ fa
     redex_of (Frame f ps t) ≡ redex_of t
 redex_further f ps t h =
     let (n, e) = going_place t (form t) h in
-    ap (option_and_then (λ n. behind n (Frame f ps t))) (inner_place f ps t n e)
-    ∙ behind-Frame n f ps t ∙ sym (ap (option_and_then (λ n. behind n t)) e)
+    ap (option_and_then (λ n. suffix_at n (Frame f ps t))) (inner_place f ps t n e)
+    ∙ suffix_at-Frame n f ps t ∙ sym (ap (option_and_then (λ n. suffix_at n t)) e)
 
 -- a call is one, and a term that is no frame and no result is a call
 pub redex_of_call : (t : Term) → ((f : Sym) (ps : List Body) (u : Term) → t ≡ Frame f ps u → ⊥) →
@@ -108,28 +108,28 @@ found_further f ps here t whole is h s = record {
 
 pub replace_redex_result : (t inner : Term) → is_result t ≡ true → replace_redex t inner ≡ t
 replace_redex_result t inner h =
-    ap (λ (o : Option ℕ). option_map_or (λ n. replaced n t inner) o t) (result_place t (form t) h)
+    ap (λ (o : Option ℕ). option_map_or (λ n. replace_at n t inner) o t) (result_place t (form t) h)
 
 pub replace_redex_here : (t inner : Term) → is_redex t ≡ true → replace_redex t inner ≡ inner
 replace_redex_here t inner h =
-    ap (λ (o : Option ℕ). option_map_or (λ n. replaced n t inner) o t)
+    ap (λ (o : Option ℕ). option_map_or (λ n. replace_at n t inner) o t)
     (redex_place_here t (form t) h)
 
 pub replace_redex_further : (f : Sym) (ps : List Body) (t inner : Term) → is_result t ≡ false →
     replace_redex (Frame f ps t) inner ≡ Frame f ps (replace_redex t inner)
 replace_redex_further f ps t inner h =
     let (n, e) = going_place t (form t) h in
-    ap (λ (o : Option ℕ). option_map_or (λ n. replaced n (Frame f ps t) inner) o (Frame f ps t))
+    ap (λ (o : Option ℕ). option_map_or (λ n. replace_at n (Frame f ps t) inner) o (Frame f ps t))
     (inner_place f ps t n e)
-    ∙ replaced-Frame n f ps t inner
-    ∙ sym (ap (λ (o : Option ℕ). Frame f ps (option_map_or (λ n. replaced n t inner) o t)) e)
+    ∙ replace_at-Frame n f ps t inner
+    ∙ sym (ap (λ (o : Option ℕ). Frame f ps (option_map_or (λ n. replace_at n t inner) o t)) e)
 
 -- ---- frames that are taken over one by one
 
 -- what is left to be done: the frames that were taken, over the rest with its redex replaced, are
 -- the whole
 pub record Replacing (upper rest inner whole : Term) : Type 0 where
-  pub makes : onto upper (replace_redex rest inner) ≡ whole
+  pub makes : plug_reversed upper (replace_redex rest inner) ≡ whole
   pub going : is_result rest ≡ false
 
 no_part : {A : Type 0} (b : Term) → ◌≡◌ {A = Option Term} None (Some b) → A
@@ -143,19 +143,19 @@ pub record Taken (rest upper inner whole below : Term) (next : Term) : Type 0 wh
   pub less : depth_of below < depth_of rest
 
 module _ (inner whole upper below : Term) (r : Term × Option Term) where
-  take : (rest : Term) → Form rest → r ≡ turned rest upper → r.1 ≡ Some below → is_redex rest ≡
+  take : (rest : Term) → Form rest → r ≡ unwind rest upper → r.1 ≡ Some below → is_redex rest ≡
       false → Replacing upper rest inner whole → Taken rest upper inner whole below r.0
   take _ (AReturn p) is some h s =
       no_part below (sym (ap (λ (x : Term × Option Term). x.1)
-      (is ∙ ap (λ (x : Term-F Term). turned_level x upper) (outs-Return p))) ∙ some)
+      (is ∙ ap (λ (x : Term-F Term). unwind_level x upper) (outs-Return p))) ∙ some)
   take _ (AFail c) is some h s =
       no_part below (sym (ap (λ (x : Term × Option Term). x.1)
-      (is ∙ ap (λ (x : Term-F Term). turned_level x upper) (outs-Fail c))) ∙ some)
+      (is ∙ ap (λ (x : Term-F Term). unwind_level x upper) (outs-Fail c))) ∙ some)
   take _ (ACall f ps) is some h s =
       no_part below (sym (ap (λ (x : Term × Option Term). x.1)
-      (is ∙ ap (λ (x : Term-F Term). turned_level x upper) (outs-Call f ps))) ∙ some)
+      (is ∙ ap (λ (x : Term-F Term). unwind_level x upper) (outs-Call f ps))) ∙ some)
   take _ (AFrame f ps t) is some h s =
-      let e : r ≡ (Frame f ps upper, Some t) = is ∙ turned-Frame f ps t upper in
+      let e : r ≡ (Frame f ps upper, Some t) = is ∙ unwind-Frame f ps t upper in
       let first : r.0 ≡ Frame f ps upper = ap (λ (p : Term × Option Term). p.0) e in
       let second : Some below ≡ Some t = sym some ∙ ap (λ (p : Term × Option Term). p.1) e in
       let same : below ≡ t = cc in
@@ -164,31 +164,32 @@ module _ (inner whole upper below : Term) (r : Term × Option Term) where
       let level : depth_of below ≡ depth_of t = ap depth_of same in record {
         on = record {
           makes =
-              ap (λ (x : Term). onto x (replace_redex below inner)) first
-              ∙ ap (λ (x : Term). onto (Frame f ps upper) (replace_redex x inner)) same
-              ∙ onto-Frame f ps upper (replace_redex t inner)
-              ∙ ap (onto upper) (sym (replace_redex_further f ps t inner inside)) ∙ s.makes;
+              ap (λ (x : Term). plug_reversed x (replace_redex below inner)) first
+              ∙ ap (λ (x : Term). plug_reversed (Frame f ps upper) (replace_redex x inner)) same
+              ∙ plug_reversed-Frame f ps upper (replace_redex t inner)
+              ∙ ap (plug_reversed upper) (sym (replace_redex_further f ps t inner inside)) ∙
+              s.makes;
           going = ap is_result same ∙ inside;
         };
         less = omega (arith, deeper, level);
       }
 
-  pub frame_taken : (rest : Term) → r ≡ turned rest upper → r.1 ≡ Some below → is_redex rest ≡
+  pub frame_taken : (rest : Term) → r ≡ unwind rest upper → r.1 ≡ Some below → is_redex rest ≡
       false → Replacing upper rest inner whole → Taken rest upper inner whole below r.0
   frame_taken rest = take rest (form rest)
 
 -- a term that is no result and no redex has a frame to be taken
 pub no_frame_taken : (upper rest inner whole : Term) (r : Term × Option Term) → r ≡
-    turned rest upper → r.1 ≡ None → is_redex rest ≡ false → Replacing upper rest inner whole → ⊥
+    unwind rest upper → r.1 ≡ None → is_redex rest ≡ false → Replacing upper rest inner whole → ⊥
 no_frame_taken upper rest inner whole r is none h s = by (form rest) is h s.going where
   some_none : (b : Term) → ◌≡◌ {A = Option Term} (Some b) None → ⊥
   some_none b e = cc
 
-  by : {rest : Term} → Form rest → r ≡ turned rest upper → is_redex rest ≡ false → is_result rest ≡
+  by : {rest : Term} → Form rest → r ≡ unwind rest upper → is_redex rest ≡ false → is_result rest ≡
       false → ⊥
   by (AReturn p) is h g = clash (sym (ap is_result_level (outs-Return p)) ∙ g)
   by (AFail c) is h g = clash (sym (ap is_result_level (outs-Fail c)) ∙ g)
   by (ACall f ps) is h g = clash (sym (ap is_redex_level (outs-Call f ps)) ∙ h)
   by (AFrame f ps t) is h g =
-      some_none t (sym (ap (λ (x : Term × Option Term). x.1) (is ∙ turned-Frame f ps t upper)) ∙
+      some_none t (sym (ap (λ (x : Term × Option Term). x.1) (is ∙ unwind-Frame f ps t upper)) ∙
       none)

@@ -4,21 +4,22 @@ use Rattle.std.specs.Prelude.{Contains, nat_eq}
 use Rattle.std.proofs.lemmas.Bool.{and_parts, and_from, eqb-true, eq-eqb}
 use Rattle.std.proofs.lemmas.List.Elements.{All-contains}
 use Rattle.rx_poly.specs.Constants.{variable}
-use Rattle.rx_poly.specs.Substitution.{worth}
+use Rattle.rx_poly.specs.Substitution.{updated_assignment}
 use Rattle.rx_poly.specs.declared.body.Body.{Body}
 use Rattle.rx_rewriting.specs.Terms.{Ground, Fits, IsResult}
 use Rattle.rx_rewriting.specs.Steps.{Step, Here}
-use Rattle.rx_rewriting.specs.Premises.{Stays, ResultsRest}
-use Rattle.rx_rewriting.proofs.UnderFrames.{Fits-exchange, Fits-inner, Step-under, results_rest_under_frames, stays_under_frames}
+use Rattle.rx_rewriting.specs.Premises.{ClosedUnder, ResultsAreNormal}
+use Rattle.rx_rewriting.proofs.UnderFrames.{Fits-exchange, Fits-inner, Step-in_context, results_rest_under_frames, stays_under_frames}
 use Rattle.rx_row.specs.Holds.{AllHold}
-use Rattle.rx_row.specs.Substitution.{in_rows}
-use Rattle.rx_row.proofs.SubstitutionLaws.{in_rows-hold}
+use Rattle.rx_row.specs.Substitution.{subst_rows}
+use Rattle.rx_row.proofs.SubstitutionLaws.{subst_rows-hold}
 use Rattle.rx_term.specs.Fitting.{is_declared, term_fits}
 use Rattle.rx_term.specs.Meaning.{Instance, IsRedex, CallRedex, ReturnRedex, FailRedex, ground_at, matched, outer_frames, signature}
 use Rattle.rx_term.specs.Paired.{IsRedexShape, PointShape, ReturnShape, FailShape}
-use Rattle.rx_term.specs.Shapes.{Shape, Value, Failure, Called, Framed, same_shape, shape_of}
-use Rattle.rx_term.specs.Stacks.{behind, replaced}
-use Rattle.rx_term.specs.Substitution.{in_term}
+use Rattle.rx_term.specs.Shapes.{Shape, same_shape, shape_of}
+use Rattle.rx_term.specs.Shapes as shapes
+use Rattle.rx_term.specs.Stacks.{suffix_at, replace_at}
+use Rattle.rx_term.specs.Substitution.{subst_term}
 use Rattle.rx_term.specs.WellMade.{IsLeft, OfPoint, OverReturn, OverFail, IsMade, IsWellMade, variables_from}
 use Rattle.rx_term.specs.declared.rule.Rule.{Rule}
 use Rattle.rx_term.specs.declared.rule_set.RuleParts.{RuleParts}
@@ -47,70 +48,73 @@ redex_shape parts _ (CallRedex f ps) fits =
 redex_shape parts _ (ReturnRedex f ps p) fits =
     let both = and_parts (is_declared parts.symbols f true (length ps)) (term_fits parts (Return p))
     (sym (fits-Frame parts f ps (Return p)) ∙ fits) in
-    subst (IsRedexShape parts) (sym (shape-Frame f ps (Return p) ∙ ap (Framed f) (shape-Return p)))
+    subst (IsRedexShape parts) (sym (shape-Frame f ps (Return p) ∙
+    ap (shapes.Frame f) (shape-Return p)))
     (ReturnShape f (length ps) both.0)
 redex_shape parts _ (FailRedex f ps c) fits =
     let both = and_parts (is_declared parts.symbols f true (length ps)) (term_fits parts (Fail c))
     (sym (fits-Frame parts f ps (Fail c)) ∙ fits) in
-    subst (IsRedexShape parts) (sym (shape-Frame f ps (Fail c) ∙ ap (Framed f) (shape-Fail c)))
+    subst (IsRedexShape parts) (sym (shape-Frame f ps (Fail c) ∙
+    ap (shapes.Frame f) (shape-Fail c)))
     (FailShape f (length ps) c both.0 (sym (fits-Fail parts c) ∙ both.1))
 
 -- the test says whether two shapes are one
 pub told_shape : (s t : Shape) → same_shape s t ≡ true → s ≡ t
-told_shape Value Value h = refl
-told_shape Value (Failure d) h = cc
-told_shape Value (Called g) h = cc
-told_shape Value (Framed g t) h = cc
-told_shape (Failure c) Value h = cc
-told_shape (Failure c) (Failure d) h = ap Failure (eqb-true c d h)
-told_shape (Failure c) (Called g) h = cc
-told_shape (Failure c) (Framed g t) h = cc
-told_shape (Called f) Value h = cc
-told_shape (Called f) (Failure d) h = cc
-told_shape (Called f) (Called g) h =
-    let e = eqb-true f.0 g.0 h in (λ i. Called (record { 0 = e i }))
-told_shape (Called f) (Framed g t) h = cc
-told_shape (Framed f s) Value h = cc
-told_shape (Framed f s) (Failure d) h = cc
-told_shape (Framed f s) (Called g) h = cc
-told_shape (Framed f s) (Framed g t) h =
+told_shape shapes.Return shapes.Return h = refl
+told_shape shapes.Return (shapes.Fail d) h = cc
+told_shape shapes.Return (shapes.Call g) h = cc
+told_shape shapes.Return (shapes.Frame g t) h = cc
+told_shape (shapes.Fail c) shapes.Return h = cc
+told_shape (shapes.Fail c) (shapes.Fail d) h = ap shapes.Fail (eqb-true c d h)
+told_shape (shapes.Fail c) (shapes.Call g) h = cc
+told_shape (shapes.Fail c) (shapes.Frame g t) h = cc
+told_shape (shapes.Call f) shapes.Return h = cc
+told_shape (shapes.Call f) (shapes.Fail d) h = cc
+told_shape (shapes.Call f) (shapes.Call g) h =
+    let e = eqb-true f.0 g.0 h in (λ i. shapes.Call (record { 0 = e i }))
+told_shape (shapes.Call f) (shapes.Frame g t) h = cc
+told_shape (shapes.Frame f s) shapes.Return h = cc
+told_shape (shapes.Frame f s) (shapes.Fail d) h = cc
+told_shape (shapes.Frame f s) (shapes.Call g) h = cc
+told_shape (shapes.Frame f s) (shapes.Frame g t) h =
     let both = and_parts (nat_eq f.0 g.0) (same_shape s t) h in
     let e = eqb-true f.0 g.0 both.0 in
     let rest = told_shape s t both.1 in
-    (λ i. Framed (record { 0 = e i }) (rest i))
+    (λ i. shapes.Frame (record { 0 = e i }) (rest i))
 
 pub shape_itself : (s : Shape) → same_shape s s ≡ true
-shape_itself Value = refl
-shape_itself (Failure c) = eq-eqb c c refl
-shape_itself (Called f) = eq-eqb f.0 f.0 refl
-shape_itself (Framed f s) =
+shape_itself shapes.Return = refl
+shape_itself (shapes.Fail c) = eq-eqb c c refl
+shape_itself (shapes.Call f) = eq-eqb f.0 f.0 refl
+shape_itself (shapes.Frame f s) =
     and_from (nat_eq f.0 f.0) (same_shape s s) (eq-eqb f.0 f.0 refl) (shape_itself s)
 
 -- ---- steps
 
 module _ (rules : List Rule) (a : ℕ → ℤ) (rule : Rule) (ws : List (ℕ × Body)) (t : Term)
     (among : Contains rules rule)
-    (left : ground_at a (in_term ws rule.left) ≡ ground_at a t)
-    (holds : AllHold a (in_rows ws rule.rows)) where
+    (left : ground_at a (subst_term ws rule.left) ≡ ground_at a t)
+    (holds : AllHold a (subst_rows ws rule.rows)) where
   -- a rule steps a term that means what its left side does, with polynomials in place of variables,
   -- where its rows hold so
-  pub instance_steps : Instance rules (ground_at a t) (ground_at a (in_term ws rule.right))
+  pub instance_steps : Instance rules (ground_at a t) (ground_at a (subst_term ws rule.right))
   instance_steps = record {
     rule = rule;
     among = among;
-    at = worth a ws;
-    holds = (in_rows-hold a ws rule.rows).0 holds;
+    at = updated_assignment a ws;
+    holds = (subst_rows-hold a ws rule.rows).0 holds;
     left = sym left ∙ ground_in_term a ws rule.left;
     right = ground_in_term a ws rule.right;
   }
 
   -- so it does under frames
-  pub instance_steps_inside : (n : ℕ) (whole : Term) → behind n whole ≡ Some t
+  pub instance_steps_inside : (n : ℕ) (whole : Term) → suffix_at n whole ≡ Some t
       → Step (Instance rules) (ground_at a whole)
-      (ground_at a (replaced n whole (in_term ws rule.right)))
+      (ground_at a (replace_at n whole (subst_term ws rule.right)))
   instance_steps_inside n whole stands =
-      let step = Step-under (outer_frames a n whole) (Here instance_steps) in
-      rw (ground_behind a n whole t stands, ground_replaced a n whole (in_term ws rule.right)) step
+      let step = Step-in_context (outer_frames a n whole) (Here instance_steps) in
+      rw (ground_behind a n whole t stands, ground_replaced a n whole (subst_term ws rule.right))
+      step
 
 module _ (parts : RuleParts) (made : IsWellMade parts) where
   -- a rule of the set is well made
@@ -121,31 +125,31 @@ module _ (parts : RuleParts) (made : IsWellMade parts) where
   -- term's polynomials, steps it
   pub rule_steps : (a : ℕ → ℤ) (rule : Rule) (t : Term) → Contains parts.rules rule →
       term_fits parts t ≡ true → shape_of rule.left ≡ shape_of t
-      → AllHold a (in_rows (matched t) rule.rows) →
-      Instance parts.rules (ground_at a t) (ground_at a (in_term (matched t) rule.right))
+      → AllHold a (subst_rows (matched t) rule.rows) →
+      Instance parts.rules (ground_at a t) (ground_at a (subst_term (matched t) rule.right))
   rule_steps a rule t among fits shape holds =
       let is = rule_made rule among in record {
         rule = rule;
         among = among;
-        at = worth a (matched t);
-        holds = (in_rows-hold a (matched t) rule.rows).0 holds;
+        at = updated_assignment a (matched t);
+        holds = (subst_rows-hold a (matched t) rule.rows).0 holds;
         left = sym (left_matches parts a rule.left t is.form is.left_fits fits shape);
         right = ground_in_term a (matched t) rule.right;
       }
 
   -- so it does under frames
   pub rule_steps_inside : (a : ℕ → ℤ) (rule : Rule) (n : ℕ) (t part : Term) →
-      Contains parts.rules rule → behind n t ≡ Some part → term_fits parts part ≡ true
-      → shape_of rule.left ≡ shape_of part → AllHold a (in_rows (matched part) rule.rows)
+      Contains parts.rules rule → suffix_at n t ≡ Some part → term_fits parts part ≡ true
+      → shape_of rule.left ≡ shape_of part → AllHold a (subst_rows (matched part) rule.rows)
       → Step (Instance parts.rules) (ground_at a t)
-      (ground_at a (replaced n t (in_term (matched part) rule.right)))
+      (ground_at a (replace_at n t (subst_term (matched part) rule.right)))
   rule_steps_inside a rule n t part among stands fits shape holds =
-      let step = Step-under (outer_frames a n t)
+      let step = Step-in_context (outer_frames a n t)
       (Here (rule_steps a rule part among fits shape holds)) in
       rw (
         ground_behind a n t part stands,
         ground_replaced a n t
-            (in_term (matched part) rule.right),
+            (subst_term (matched part) rule.right),
       ) step
 
   pub instance_fits : (s t : Ground) → Fits (signature parts) s → Instance parts.rules s t →
@@ -155,7 +159,7 @@ module _ (parts : RuleParts) (made : IsWellMade parts) where
       (ground_fits parts one.at one.rule.right (rule_made one.rule one.among).right_fits)
 
   -- steps lead from fitting terms to fitting terms
-  pub steps_fit : Stays (Fits (signature parts)) (Instance parts.rules)
+  pub steps_fit : ClosedUnder (Fits (signature parts)) (Instance parts.rules)
   steps_fit =
       stays_under_frames (Fits (signature parts)) (Instance parts.rules)
       (Fits-inner (signature parts)) (Fits-exchange (signature parts)) instance_fits
@@ -172,5 +176,5 @@ module _ (parts : RuleParts) (made : IsWellMade parts) where
       one.at (subst IsResult one.left result)
 
   -- no step starts at a result
-  pub results_rest : ResultsRest (Instance parts.rules)
+  pub results_rest : ResultsAreNormal (Instance parts.rules)
   results_rest = results_rest_under_frames (Instance parts.rules) no_instance

@@ -11,7 +11,8 @@ use Rattle.rx_poly.specs.declared.body.Body.{Body}
 use Rattle.rx_rewriting.specs.Terms as stack
 use Rattle.rx_term.specs.Fitting.{is_alike, is_declared, term_fits}
 use Rattle.rx_term.specs.Meaning.{values, ground_at}
-use Rattle.rx_term.specs.Shapes.{Value, Failure, Called, Framed, shape_of}
+use Rattle.rx_term.specs.Shapes.{shape_of}
+use Rattle.rx_term.specs.Shapes as shapes
 use Rattle.rx_term.specs.Variables.{arguments_of}
 use Rattle.rx_term.specs.declared.rule_set.RuleParts.{RuleParts}
 use Rattle.rx_term.specs.declared.rule_set.SymInfo.{SymInfo}
@@ -80,32 +81,34 @@ module _ (parts : RuleParts) where
       SameParts (Return p) t
   return_aligns p _ (AReturn q) h = SameReturn p q
   return_aligns p _ (AFail c) h =
-      let e : Value ≡ Failure c = sym (shape-Return p) ∙ h ∙ shape-Fail c in cc
+      let e : shapes.Return ≡ shapes.Fail c = sym (shape-Return p) ∙ h ∙ shape-Fail c in cc
   return_aligns p _ (ACall f qs) h =
-      let e : Value ≡ Called f = sym (shape-Return p) ∙ h ∙ shape-Call f qs in cc
+      let e : shapes.Return ≡ shapes.Call f = sym (shape-Return p) ∙ h ∙ shape-Call f qs in cc
   return_aligns p _ (AFrame f qs t) h =
-      let e : Value ≡ Framed f (shape_of t) = sym (shape-Return p) ∙ h ∙ shape-Frame f qs t in cc
+      let e : shapes.Return ≡ shapes.Frame f (shape_of t) = sym (shape-Return p) ∙ h ∙
+      shape-Frame f qs t in cc
 
   fail_aligns : (c : ℕ) (t : Term) → Form t → shape_of (Fail c) ≡ shape_of t → SameParts (Fail c) t
   fail_aligns c _ (AReturn q) h =
-      let e : Failure c ≡ Value = sym (shape-Fail c) ∙ h ∙ shape-Return q in cc
+      let e : shapes.Fail c ≡ shapes.Return = sym (shape-Fail c) ∙ h ∙ shape-Return q in cc
   fail_aligns c _ (AFail d) h =
-      let e : Failure c ≡ Failure d = sym (shape-Fail c) ∙ h ∙ shape-Fail d in
+      let e : shapes.Fail c ≡ shapes.Fail d = sym (shape-Fail c) ∙ h ∙ shape-Fail d in
       let same : c ≡ d = cc in
       subst (λ k. SameParts (Fail c) (Fail k)) same (SameFail c)
   fail_aligns c _ (ACall f qs) h =
-      let e : Failure c ≡ Called f = sym (shape-Fail c) ∙ h ∙ shape-Call f qs in cc
+      let e : shapes.Fail c ≡ shapes.Call f = sym (shape-Fail c) ∙ h ∙ shape-Call f qs in cc
   fail_aligns c _ (AFrame f qs t) h =
-      let e : Failure c ≡ Framed f (shape_of t) = sym (shape-Fail c) ∙ h ∙ shape-Frame f qs t in cc
+      let e : shapes.Fail c ≡ shapes.Frame f (shape_of t) = sym (shape-Fail c) ∙ h ∙
+      shape-Frame f qs t in cc
 
   call_aligns : (f : Sym) (ps : List Body) (t : Term) → Form t → term_fits parts (Call f ps) ≡
       true → term_fits parts t ≡ true → shape_of (Call f ps) ≡ shape_of t → SameParts (Call f ps) t
   call_aligns f ps _ (AReturn q) fits also h =
-      let e : Called f ≡ Value = sym (shape-Call f ps) ∙ h ∙ shape-Return q in cc
+      let e : shapes.Call f ≡ shapes.Return = sym (shape-Call f ps) ∙ h ∙ shape-Return q in cc
   call_aligns f ps _ (AFail c) fits also h =
-      let e : Called f ≡ Failure c = sym (shape-Call f ps) ∙ h ∙ shape-Fail c in cc
+      let e : shapes.Call f ≡ shapes.Fail c = sym (shape-Call f ps) ∙ h ∙ shape-Fail c in cc
   call_aligns f ps _ (ACall g qs) fits also h =
-      let e : Called f ≡ Called g = sym (shape-Call f ps) ∙ h ∙ shape-Call g qs in
+      let e : shapes.Call f ≡ shapes.Call g = sym (shape-Call f ps) ∙ h ∙ shape-Call g qs in
       let same : f ≡ g = cc in
       let first = sym (fits-Call parts f ps) ∙ fits in
       let second = ap (λ k. is_declared parts.symbols k false (length qs)) same ∙
@@ -113,21 +116,26 @@ module _ (parts : RuleParts) where
       let count = declared_once parts.symbols f false false (length ps) (length qs) first second in
       subst (λ k. SameParts (Call f ps) (Call k qs)) same (SameCall f ps qs count)
   call_aligns f ps _ (AFrame g qs t) fits also h =
-      let e : Called f ≡ Framed g (shape_of t) = sym (shape-Call f ps) ∙ h ∙ shape-Frame g qs t in
+      let e : shapes.Call f ≡ shapes.Frame g (shape_of t) = sym (shape-Call f ps) ∙ h ∙
+      shape-Frame g qs t in
       cc
 
   frame_aligns : (f : Sym) (ps : List Body) (s : Term) → Aligns s → (t : Term) → Form t →
       term_fits parts (Frame f ps s) ≡ true → term_fits parts t ≡ true → shape_of (Frame f ps s) ≡
       shape_of t → SameParts (Frame f ps s) t
   frame_aligns f ps s inner _ (AReturn q) fits also h =
-      let e : Framed f (shape_of s) ≡ Value = sym (shape-Frame f ps s) ∙ h ∙ shape-Return q in cc
+      let e : shapes.Frame f (shape_of s) ≡ shapes.Return = sym (shape-Frame f ps s) ∙ h ∙
+      shape-Return q in cc
   frame_aligns f ps s inner _ (AFail c) fits also h =
-      let e : Framed f (shape_of s) ≡ Failure c = sym (shape-Frame f ps s) ∙ h ∙ shape-Fail c in cc
+      let e : shapes.Frame f (shape_of s) ≡ shapes.Fail c = sym (shape-Frame f ps s) ∙ h ∙
+      shape-Fail c in cc
   frame_aligns f ps s inner _ (ACall g qs) fits also h =
-      let e : Framed f (shape_of s) ≡ Called g = sym (shape-Frame f ps s) ∙ h ∙ shape-Call g qs in
+      let e : shapes.Frame f (shape_of s) ≡ shapes.Call g = sym (shape-Frame f ps s) ∙ h ∙
+      shape-Call g qs in
       cc
   frame_aligns f ps s inner _ (AFrame g qs t) fits also h =
-      let e : Framed f (shape_of s) ≡ Framed g (shape_of t) = sym (shape-Frame f ps s) ∙ h ∙
+      let e : shapes.Frame f (shape_of s) ≡ shapes.Frame g (shape_of t) = sym (shape-Frame f ps s) ∙
+      h ∙
       shape-Frame g qs t in
       let same : f ≡ g = cc in
       let below : shape_of s ≡ shape_of t = cc in
@@ -184,7 +192,7 @@ one_value a b p q e = cc
 pub same_ground : (a b : ℕ → ℤ) (s t : Term) → SameParts s t → values a (arguments_of s) ≡
     values b (arguments_of t) → ground_at a s ≡ ground_at b t
 same_ground a b _ _ (SameReturn p q) e =
-    ground-Return a p ∙ ap stack.Ret (one_value a b p q
+    ground-Return a p ∙ ap stack.Return (one_value a b p q
     (sym (ap (values a) (arguments-Return p)) ∙ e ∙ ap (values b) (arguments-Return q))) ∙
     sym (ground-Return b q)
 same_ground a b _ _ (SameFail c) e = ground-Fail a c ∙ sym (ground-Fail b c)
@@ -209,7 +217,7 @@ same_parts_shape _ _ (SameReturn p q) = shape-Return p ∙ sym (shape-Return q)
 same_parts_shape _ _ (SameFail c) = refl
 same_parts_shape _ _ (SameCall f ps qs count) = shape-Call f ps ∙ sym (shape-Call f qs)
 same_parts_shape _ _ (SameFrame f ps qs s t count inner) =
-    shape-Frame f ps s ∙ ap (Framed f) (same_parts_shape s t inner) ∙ sym (shape-Frame f qs t)
+    shape-Frame f ps s ∙ ap (shapes.Frame f) (same_parts_shape s t inner) ∙ sym (shape-Frame f qs t)
 
 module _ (a b : ℕ → ℤ) where
   -- the two terms differ in their polynomials alone, and these have equal values
@@ -226,7 +234,7 @@ module _ (a b : ℕ → ℤ) where
   back_return : (p : Body) (t : Term) → Form t → ground_at a (Return p) ≡ ground_at b t →
       Alike (Return p) t
   back_return p _ (AReturn q) h =
-      let e : stack.Ret (value a p) ≡ stack.Ret (value b q) = sym (ground-Return a p) ∙ h ∙
+      let e : stack.Return (value a p) ≡ stack.Return (value b q) = sym (ground-Return a p) ∙ h ∙
       ground-Return b q in
       let same : value a p ≡ value b q = cc in
       record {
@@ -235,18 +243,19 @@ module _ (a b : ℕ → ℤ) where
             (λ i. same i ∷ []) ∙ sym (ap (values b) (arguments-Return q));
       }
   back_return p _ (AFail c) h =
-      let e : stack.Ret (value a p) ≡ stack.Fail c = sym (ground-Return a p) ∙ h ∙
+      let e : stack.Return (value a p) ≡ stack.Fail c = sym (ground-Return a p) ∙ h ∙
       ground-Fail b c in cc
   back_return p _ (ACall g qs) h =
-      let e : stack.Ret (value a p) ≡ stack.Call g.0 (values b qs) = sym (ground-Return a p) ∙ h ∙
+      let e : stack.Return (value a p) ≡ stack.Call g.0 (values b qs) = sym (ground-Return a p) ∙
+      h ∙
       ground-Call b g qs in cc
   back_return p _ (AFrame g qs t) h =
-      let e : stack.Ret (value a p) ≡ stack.Frame g.0 (values b qs) (ground_at b t) =
+      let e : stack.Return (value a p) ≡ stack.Frame g.0 (values b qs) (ground_at b t) =
       sym (ground-Return a p) ∙ h ∙ ground-Frame b g qs t in cc
 
   back_fail : (c : ℕ) (t : Term) → Form t → ground_at a (Fail c) ≡ ground_at b t → Alike (Fail c) t
   back_fail c _ (AReturn q) h =
-      let e : stack.Fail c ≡ stack.Ret (value b q) = sym (ground-Fail a c) ∙ h ∙
+      let e : stack.Fail c ≡ stack.Return (value b q) = sym (ground-Fail a c) ∙ h ∙
       ground-Return b q in cc
   back_fail c _ (AFail d) h =
       let e : stack.Fail c ≡ stack.Fail d = sym (ground-Fail a c) ∙ h ∙ ground-Fail b d in
@@ -270,7 +279,8 @@ module _ (a b : ℕ → ℤ) where
   back_call : (f : Sym) (ps : List Body) (t : Term) → Form t → ground_at a (Call f ps) ≡
       ground_at b t → Alike (Call f ps) t
   back_call f ps _ (AReturn q) h =
-      let e : stack.Call f.0 (values a ps) ≡ stack.Ret (value b q) = sym (ground-Call a f ps) ∙ h ∙
+      let e : stack.Call f.0 (values a ps) ≡ stack.Return (value b q) = sym (ground-Call a f ps) ∙
+      h ∙
       ground-Return b q in cc
   back_call f ps _ (AFail d) h =
       let e : stack.Call f.0 (values a ps) ≡ stack.Fail d = sym (ground-Call a f ps) ∙ h ∙
@@ -293,7 +303,7 @@ module _ (a b : ℕ → ℤ) where
   back_frame : (f : Sym) (ps : List Body) (s : Term) → Back s → (t : Term) → Form t →
       ground_at a (Frame f ps s) ≡ ground_at b t → Alike (Frame f ps s) t
   back_frame f ps s inner _ (AReturn q) h =
-      let e : stack.Frame f.0 (values a ps) (ground_at a s) ≡ stack.Ret (value b q) =
+      let e : stack.Frame f.0 (values a ps) (ground_at a s) ≡ stack.Return (value b q) =
       sym (ground-Frame a f ps s) ∙ h ∙ ground-Return b q in cc
   back_frame f ps s inner _ (AFail d) h =
       let e : stack.Frame f.0 (values a ps) (ground_at a s) ≡ stack.Fail d =

@@ -6,12 +6,12 @@ use Rattle.rx_poly.specs.declared.body.Body.{Body}
 use Rattle.rx_term.specs.declared.term.Sym.{Sym}
 use Rattle.rx_term.specs.declared.term.Term.{Term}
 use Rattle.rx_term.specs.declared.term.Term.TheVariants.{Frame}
-use Rattle.rx_term.specs.Stacks.{onto}
-use Rattle.rx_term.specs.Substitution.{in_polys, polys_within, in_term, term_within}
-use Rattle.rx_term.proofs.Equations.{onto-Frame, in_term-Frame, within-Frame}
+use Rattle.rx_term.specs.Stacks.{plug_reversed}
+use Rattle.rx_term.specs.Substitution.{subst_polys, polys_within, subst_term, term_within}
+use Rattle.rx_term.proofs.Equations.{plug_reversed-Frame, subst_term-Frame, within-Frame}
 
 pub record Substituting (ws : List (ℕ × Body)) (upper here whole : Term) : Type 0 where
-  pub made : onto upper (in_term ws here) ≡ in_term ws whole
+  pub made : plug_reversed upper (subst_term ws here) ≡ subst_term ws whole
   pub limits : term_within ws here ≡ term_within ws whole
 
 module _ {ws : List (ℕ × Body)} {upper whole : Term} (f : Sym) (ps : List Body) (inner : Term)
@@ -24,11 +24,11 @@ module _ {ws : List (ℕ × Body)} {upper whole : Term} (f : Sym) (ps : List Bod
 
   -- one within them leaves it to the part under it
   pub after_frame : polys_within ws ps ≡ true →
-      Substituting ws (Frame f (in_polys ws ps) upper) inner whole
+      Substituting ws (Frame f (subst_polys ws ps) upper) inner whole
   after_frame e = record {
     made =
-        onto-Frame f (in_polys ws ps) upper (in_term ws inner) ∙
-        ap (onto upper) (sym (in_term-Frame ws f ps inner)) ∙ s.made;
+        plug_reversed-Frame f (subst_polys ws ps) upper (subst_term ws inner) ∙
+        ap (plug_reversed upper) (sym (subst_term-Frame ws f ps inner)) ∙ s.made;
     limits =
         ap (λ b. b && term_within ws inner) (sym e) ∙ sym (within-Frame ws f ps inner) ∙ s.limits;
   }

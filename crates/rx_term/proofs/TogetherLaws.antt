@@ -6,7 +6,7 @@ use Rattle.std.proofs.lemmas.List.Elements.{All-contains, Contains-append_cases,
 use Rattle.rx_poly.specs.Substitution.{numbered, numbered_from}
 use Rattle.rx_poly.specs.declared.body.Body.{Body}
 use Rattle.rx_rewriting.specs.Terms.{Ground, Fits}
-use Rattle.rx_rewriting.specs.Premises.{Stays}
+use Rattle.rx_rewriting.specs.Premises.{ClosedUnder}
 use Rattle.rx_rewriting.specs.Steps.{Either}
 use Rattle.rx_rewriting.proofs.UnderFrames.{Fits-exchange, Fits-inner, stays_under_frames}
 use Rattle.rx_term.specs.Fitting.{term_fits}
@@ -83,7 +83,7 @@ module _ (parts : RuleParts) (rules : List Rule)
       (All-contains (λ rule. term_fits parts rule.right ≡ true) rules one.rule fit one.among))
 
   -- rules whose right sides fit lead from fitting terms to fitting terms
-  pub right_sides_fit : Stays (Fits (signature parts)) (Instance rules)
+  pub right_sides_fit : ClosedUnder (Fits (signature parts)) (Instance rules)
   right_sides_fit =
       stays_under_frames (Fits (signature parts)) (Instance rules) (Fits-inner (signature parts))
       (Fits-exchange (signature parts)) step_fits
@@ -95,7 +95,7 @@ module _ (parts : RuleParts) (rules : List Rule)
 
   -- and so together with those of a well made set
   pub right_sides_fit_too : IsWellMade parts →
-      Stays (Fits (signature parts)) (Either (Instance parts.rules) (Instance rules))
+      ClosedUnder (Fits (signature parts)) (Either (Instance parts.rules) (Instance rules))
   right_sides_fit_too made =
       stays_under_frames (Fits (signature parts)) (Either (Instance parts.rules) (Instance rules))
       (Fits-inner (signature parts)) (Fits-exchange (signature parts)) (either_fits made)

@@ -5,58 +5,59 @@ use Rattle.rx_poly.specs.declared.body.Body.{Body}
 use Rattle.rx_term.specs.declared.term.Sym.{Sym}
 use Rattle.rx_term.specs.declared.term.Term.{Term, Term-F}
 use Rattle.rx_term.specs.declared.term.Term.TheVariants.{Frame, outs-Return, outs-Fail, outs-Call}
-use Rattle.rx_term.specs.Stacks.{behind, onto, redex_place, replaced, turned, turned_level}
-use Rattle.rx_term.proofs.Equations.{induct, behind-Frame, onto-Frame, replaced-Frame, turned-Frame, redex-Frame}
+use Rattle.rx_term.specs.Stacks.{suffix_at, plug_reversed, redex_place, replace_at, unwind, unwind_level}
+use Rattle.rx_term.proofs.Equations.{induct, suffix_at-Frame, plug_reversed-Frame, replace_at-Frame, unwind-Frame, redex-Frame}
 
 -- the part under n frames is that under one less of what the first frame is over
-pub behind-frame : (n : ℕ) (f : Sym) (ps : List Body) (t : Term) → 0 < n → behind n (Frame f ps t) ≡
-    behind (n - 1) t
-behind-frame zero f ps t h = absurd (omega arith)
-behind-frame (suc n) f ps t h =
+pub suffix_at-frame : (n : ℕ) (f : Sym) (ps : List Body) (t : Term) → 0 < n →
+    suffix_at n (Frame f ps t) ≡
+    suffix_at (n - 1) t
+suffix_at-frame zero f ps t h = absurd (omega arith)
+suffix_at-frame (suc n) f ps t h =
     let q : n ≡ suc n - 1 = omega arith in
-    behind-Frame n f ps t ∙ ap (λ (k : ℕ). behind k t) q
+    suffix_at-Frame n f ps t ∙ ap (λ (k : ℕ). suffix_at k t) q
 
 -- one frame more kept is the frame over one less kept
-pub replaced-frame : (n : ℕ) (f : Sym) (ps : List Body) (t inner : Term) → 0 < n →
-    replaced n (Frame f ps t) inner ≡ Frame f ps (replaced (n - 1) t inner)
-replaced-frame zero f ps t inner h = absurd (omega arith)
-replaced-frame (suc n) f ps t inner h =
+pub replace_at-frame : (n : ℕ) (f : Sym) (ps : List Body) (t inner : Term) → 0 < n →
+    replace_at n (Frame f ps t) inner ≡ Frame f ps (replace_at (n - 1) t inner)
+replace_at-frame zero f ps t inner h = absurd (omega arith)
+replace_at-frame (suc n) f ps t inner h =
     let q : n ≡ suc n - 1 = omega arith in
-    replaced-Frame n f ps t inner ∙ ap (λ (k : ℕ). Frame f ps (replaced k t inner)) q
+    replace_at-Frame n f ps t inner ∙ ap (λ (k : ℕ). Frame f ps (replace_at k t inner)) q
 
 -- a term that is reversed frame by frame has one
 abbrev Turns : Term → Type 0
 Turns t =
-    (n : ℕ) (u b inner : Term) (r : Term × Option Term) → 0 < n → r ≡ turned t u → r.1 ≡ Some b
-    → onto r.0 (replaced (n - 1) b inner) ≡ onto u (replaced n t inner)
+    (n : ℕ) (u b inner : Term) (r : Term × Option Term) → 0 < n → r ≡ unwind t u → r.1 ≡ Some b
+    → plug_reversed r.0 (replace_at (n - 1) b inner) ≡ plug_reversed u (replace_at n t inner)
 
 no_part : (b : Term) → ◌≡◌ {A = Option Term} None (Some b) → ⊥
 no_part b e = cc
 
 turns-Frame : (f : Sym) (ps : List Body) (t : Term) → Turns t → Turns (Frame f ps t)
 turns-Frame f ps t further n u b inner r h is some =
-    let e : r ≡ (Frame f ps u, Some t) = is ∙ turned-Frame f ps t u in
+    let e : r ≡ (Frame f ps u, Some t) = is ∙ unwind-Frame f ps t u in
     let first : r.0 ≡ Frame f ps u = ap (λ (p : Term × Option Term). p.0) e in
     let second : Some b ≡ Some t = sym some ∙ ap (λ (p : Term × Option Term). p.1) e in
     let same : b ≡ t = cc in
-    let left = onto-Frame f ps u (replaced (n - 1) t inner) in
-    let right = replaced-frame n f ps t inner h in
-    ap (λ (x : Term). onto x (replaced (n - 1) b inner)) first ∙
-    ap (λ (x : Term). onto (Frame f ps u) (replaced (n - 1) x inner)) same ∙ left ∙
-    ap (onto u) (sym right)
+    let left = plug_reversed-Frame f ps u (replace_at (n - 1) t inner) in
+    let right = replace_at-frame n f ps t inner h in
+    ap (λ (x : Term). plug_reversed x (replace_at (n - 1) b inner)) first ∙
+    ap (λ (x : Term). plug_reversed (Frame f ps u) (replace_at (n - 1) x inner)) same ∙ left ∙
+    ap (plug_reversed u) (sym right)
 
 -- what was reversed is over the rest as it was before
-pub turned-on : (t : Term) → Turns t
-turned-on = induct Turns
+pub unwind-on : (t : Term) → Turns t
+unwind-on = induct Turns
     (λ p n u b inner r h is some. absurd (no_part b
     (sym (ap (λ (x : Term × Option Term). x.1)
-    (is ∙ ap (λ (x : Term-F Term). turned_level x u) (outs-Return p))) ∙ some)))
+    (is ∙ ap (λ (x : Term-F Term). unwind_level x u) (outs-Return p))) ∙ some)))
     (λ c n u b inner r h is some. absurd (no_part b
     (sym (ap (λ (x : Term × Option Term). x.1)
-    (is ∙ ap (λ (x : Term-F Term). turned_level x u) (outs-Fail c))) ∙ some)))
+    (is ∙ ap (λ (x : Term-F Term). unwind_level x u) (outs-Fail c))) ∙ some)))
     (λ f ps n u b inner r h is some. absurd (no_part b
     (sym (ap (λ (x : Term × Option Term). x.1)
-    (is ∙ ap (λ (x : Term-F Term). turned_level x u) (outs-Call f ps))) ∙ some)))
+    (is ∙ ap (λ (x : Term-F Term). unwind_level x u) (outs-Call f ps))) ∙ some)))
     turns-Frame
 
 -- the redex's place, where n frames are over the term

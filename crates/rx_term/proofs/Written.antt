@@ -25,7 +25,7 @@ symbol f = record { 0 = f }
 
 -- the ground term as a term
 abbrev pub written : Ground → Term
-written (stack.Ret k) = Return (number k)
+written (stack.Return k) = Return (number k)
 written (stack.Fail c) = Fail c
 written (stack.Call f xs) = Call (symbol f) (map number xs)
 written (stack.Frame f xs s) = Frame (symbol f) (map number xs) (written s)
@@ -36,7 +36,7 @@ values-numbers a (x ∷ xs) = (λ i. value-number a x i ∷ values-numbers a xs 
 
 -- they mean the ground term that they were written from
 pub ground-written : (a : ℕ → ℤ) (s : Ground) → ground_at a (written s) ≡ s
-ground-written a (stack.Ret k) = ground-Return a (number k) ∙ ap stack.Ret (value-number a k)
+ground-written a (stack.Return k) = ground-Return a (number k) ∙ ap stack.Return (value-number a k)
 ground-written a (stack.Fail c) = ground-Fail a c
 ground-written a (stack.Call f xs) =
     ground-Call a (symbol f) (map number xs) ∙ ap (stack.Call f) (values-numbers a xs)
@@ -70,7 +70,7 @@ declared_back parts f b xs h =
 -- and fit where it does
 pub written_fits : (parts : RuleParts) (s : Ground) → Fits (signature parts) s →
     term_fits parts (written s) ≡ true
-written_fits parts (stack.Ret k) fits = fits-Return parts (number k)
+written_fits parts (stack.Return k) fits = fits-Return parts (number k)
 written_fits parts (stack.Fail c) fits =
     fits-Fail parts c ∙ and_from (nat_le 1 c) (nat_le c parts.fails) (le-leb 1 c fits.0)
     (le-leb c parts.fails fits.1)
@@ -85,7 +85,7 @@ written_fits parts (stack.Frame f xs s) fits =
 -- over a result it is a redex
 pub written_over_result : (f : ℕ) (xs : List ℤ) (s : Ground) → IsResult s →
     IsRedex (written (stack.Frame f xs s))
-written_over_result f xs (stack.Ret k) result = ReturnRedex (symbol f) (map number xs) (number k)
+written_over_result f xs (stack.Return k) result = ReturnRedex (symbol f) (map number xs) (number k)
 written_over_result f xs (stack.Fail c) result = FailRedex (symbol f) (map number xs) c
 written_over_result f xs (stack.Call g ys) result = absurd result
 written_over_result f xs (stack.Frame g ys s) result = absurd result

@@ -1,9 +1,9 @@
 -- Covered rule sets: at each redex, whatever its arguments are, a rule of its shape applies.
 use Rattle.std.specs.Prelude.{◌≡◌, ℕ, List, Contains, ℤ}
-use Rattle.rx_poly.specs.Substitution.{worth}
+use Rattle.rx_poly.specs.Substitution.{updated_assignment}
 use Rattle.rx_rewriting.specs.Terms.{TermSet}
 use Rattle.rx_row.specs.Holds.{AllHold}
-use Rattle.rx_row.specs.Substitution.{in_rows}
+use Rattle.rx_row.specs.Substitution.{subst_rows}
 use Rattle.rx_term.specs.Meaning.{IsRedex, ground_at, matched}
 use Rattle.rx_term.specs.Paired.{IsRedexShape, rules_of_shape}
 use Rattle.rx_term.specs.Shapes.{Shape, shape_of}
@@ -39,7 +39,7 @@ IsCovered parts = IsCoveredOver everywhere parts
 abbrev pub KeepsDomains : TermSet → Domains → Type 0
 KeepsDomains inside domains =
     (t : Term) → IsRedex t → (a : ℕ → ℤ) → inside (ground_at a t)
-    → domains (shape_of t) (worth a (matched t))
+    → domains (shape_of t) (updated_assignment a (matched t))
 
 -- a rule of the redex's shape whose rows hold, with the redex's arguments in place of its
 -- variables; in a well made set such a rule steps the redex
@@ -47,4 +47,4 @@ pub record CanStep (rules : List Rule) (t : Term) (a : ℕ → ℤ) : Type 0 whe
   pub rule : Rule
   pub among : Contains rules rule
   pub shape : shape_of rule.left ≡ shape_of t
-  pub holds : AllHold a (in_rows (matched t) rule.rows)
+  pub holds : AllHold a (subst_rows (matched t) rule.rows)

@@ -7,13 +7,13 @@
 --   3  g(v0; fail(1)) -> fail(1)
 use Rattle.std.specs.Prelude.{true, false, [], ◌∷◌, All, ℤ, pos, negsuc}
 use Rattle.rx_poly.specs.Constants.{number, variable}
-use Rattle.rx_poly.specs.Limits.{added}
+use Rattle.rx_poly.specs.Limits.{body_sum}
 use Rattle.rx_row.specs.declared.row.Row.TheVariants.{Eq, Ne}
 use Rattle.rx_rewriting.specs.Terms as stack
 use Rattle.rx_rewriting.specs.Terms.{Ground, Fits, TermSet}
 use Rattle.rx_term.specs.Covered.{Domains}
 use Rattle.rx_term.specs.Meaning.{signature}
-use Rattle.rx_term.specs.Shapes.{Value, Failure, Called, Framed}
+use Rattle.rx_term.specs.Shapes as shape
 use Rattle.rx_term.specs.declared.rule.Rule.{Rule}
 use Rattle.rx_term.specs.declared.rule_set.RuleParts.{RuleParts}
 use Rattle.rx_term.specs.declared.term.Sym.{Sym}
@@ -45,7 +45,7 @@ goes_on = record {
 abbrev pub adds : Rule
 adds = record {
   left = Frame g (variable 0 ∷ []) (Return (variable 1));
-  right = Return (added (variable 0) (variable 1));
+  right = Return (body_sum (variable 0) (variable 1));
   rows = [];
 }
 
@@ -67,7 +67,7 @@ AtLeastZero (negsuc k) = ⊥
 
 -- the call of a term, if it has one, is at integers that are at least 0
 abbrev pub CallsCount : Ground → Type 0
-CallsCount (stack.Ret k) = Unit {0}
+CallsCount (stack.Return k) = Unit {0}
 CallsCount (stack.Fail c) = Unit {0}
 CallsCount (stack.Call s xs) = All AtLeastZero xs
 CallsCount (stack.Frame s xs t) = CallsCount t
@@ -82,7 +82,7 @@ negative_call = stack.Call 0 (negsuc 0 ∷ [])
 
 -- the arguments that redexes have there
 abbrev pub counting : Domains
-counting Value a = Unit {0}
-counting (Failure c) a = Unit {0}
-counting (Called s) a = AtLeastZero (a 0)
-counting (Framed s inner) a = Unit {0}
+counting shape.Return a = Unit {0}
+counting (shape.Fail c) a = Unit {0}
+counting (shape.Call s) a = AtLeastZero (a 0)
+counting (shape.Frame s inner) a = Unit {0}

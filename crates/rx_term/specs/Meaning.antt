@@ -5,8 +5,8 @@ use Rattle.rx_poly.specs.Value.{value}
 use Rattle.rx_poly.specs.declared.body.Body.{Body}
 use Rattle.rx_row.specs.Holds.{AllHold}
 use Rattle.rx_rewriting.specs.Terms as stack
-use Rattle.rx_rewriting.specs.Terms.{Ground, StackFrame, Symbol, Symbols}
-use Rattle.rx_term.specs.Stacks.{behind, redex_place}
+use Rattle.rx_rewriting.specs.Terms.{Ground, StackFrame, Symbol, Signature}
+use Rattle.rx_term.specs.Stacks.{suffix_at, redex_place}
 use Rattle.rx_term.specs.Variables.{arguments_of}
 use Rattle.rx_term.specs.declared.rule.Rule.{Rule}
 use Rattle.rx_term.specs.declared.rule_set.RuleParts.{RuleParts}
@@ -21,7 +21,7 @@ values a ps = map (value a) ps
 
 -- the ground term of a term: the same stack with the value of each polynomial
 abbrev pub ground_level : (ℕ → ℤ) → Term-F Ground → Ground
-ground_level a (Term-F.Return p) = stack.Ret (value a p)
+ground_level a (Term-F.Return p) = stack.Return (value a p)
 ground_level a (Term-F.Fail c) = stack.Fail c
 ground_level a (Term-F.Call f ps) = stack.Call f.0 (values a ps)
 ground_level a (Term-F.Frame f ps inner) = stack.Frame f.0 (values a ps) inner
@@ -43,7 +43,7 @@ pub record Instance (rules : List Rule) (s t : Ground) : Type 0 where
 abbrev pub symbol_of : SymInfo → Symbol
 symbol_of s = record { arity = s.arity; is_frame = s.frame }
 
-abbrev pub signature : RuleParts → Symbols
+abbrev pub signature : RuleParts → Signature
 signature parts = record { declared = map symbol_of parts.symbols; fails = parts.fails }
 
 -- n outer frames of a term, or all where there are fewer, at an assignment
@@ -60,7 +60,7 @@ outer_frames a (suc n) t = outer_level a (out-Term t) (outer_frames a n)
 
 -- the redex of a term: the part under the frames that are over it
 abbrev pub redex_of : Term → Option Term
-redex_of t = option_and_then (λ n. behind n t) (redex_place t)
+redex_of t = option_and_then (λ n. suffix_at n t) (redex_place t)
 
 -- a call, or a frame over a returned value or over a failure
 pub data IsRedex : Term → Type 0 where
@@ -71,7 +71,7 @@ pub data IsRedex : Term → Type 0 where
 -- the redex of a ground term: its call, or its innermost frame where that is over a result; a
 -- result has none
 abbrev pub ground_redex : Ground → Option Ground
-ground_redex (stack.Ret k) = None
+ground_redex (stack.Return k) = None
 ground_redex (stack.Fail c) = None
 ground_redex (stack.Call f xs) = Some (stack.Call f xs)
 ground_redex (stack.Frame f xs s) = Some (unwrap_or (ground_redex s) (stack.Frame f xs s))

@@ -4,7 +4,7 @@ use Rattle.std.specs.Prelude.{◌≡◌, ℕ, true, false, List, [], ◌∷◌, 
 use Rattle.rx_row.specs.Negation.{negation, negation_within}
 use Rattle.rx_row.specs.declared.row.Row.{Row}
 use Rattle.rx_term.specs.Fitting.{code_fits, is_declared}
-use Rattle.rx_term.specs.Shapes.{Shape, Value, Failure, Called, Framed, same_shape, shape_of}
+use Rattle.rx_term.specs.Shapes.{Shape, Return, Fail, Call, Frame, same_shape, shape_of}
 use Rattle.rx_term.specs.declared.rule.Rule.{Rule}
 use Rattle.rx_term.specs.declared.rule_set.RuleParts.{RuleParts}
 use Rattle.rx_term.specs.declared.term.Sym.{Sym}
@@ -12,11 +12,11 @@ use Rattle.rx_term.specs.declared.term.Sym.{Sym}
 -- the shapes of redexes that fit: a point, or a frame over a returned value or over a failure code
 pub data IsRedexShape (parts : RuleParts) : Shape → Type 0 where
   PointShape : (f : Sym) (n : ℕ) → is_declared parts.symbols f false n ≡ true →
-      IsRedexShape parts (Called f)
+      IsRedexShape parts (Call f)
   ReturnShape : (f : Sym) (n : ℕ) → is_declared parts.symbols f true n ≡ true →
-      IsRedexShape parts (Framed f Value)
+      IsRedexShape parts (Frame f Return)
   FailShape : (f : Sym) (n c : ℕ) → is_declared parts.symbols f true n ≡ true →
-      code_fits parts.fails c ≡ true → IsRedexShape parts (Framed f (Failure c))
+      code_fits parts.fails c ≡ true → IsRedexShape parts (Frame f (Fail c))
 
 -- the rules whose left side has the shape, in order
 abbrev pub rules_of_shape : Shape → List Rule → List Rule

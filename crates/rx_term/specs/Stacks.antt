@@ -74,19 +74,19 @@ under_frame (Term-F.Call f ps) find = None
 under_frame (Term-F.Frame f ps inner) find = find inner
 
 -- the part under n frames, if there are n
-abbrev pub behind : ℕ → Term → Option Term
-behind zero t = Some t
-behind (suc n) t = under_frame (out-Term t) (behind n)
+abbrev pub suffix_at : ℕ → Term → Option Term
+suffix_at zero t = Some t
+suffix_at (suc n) t = under_frame (out-Term t) (suffix_at n)
 
 -- the frames of the first, its innermost outside, over the second
-abbrev pub onto_level : Term-F (Term → Term) → Term → Term
-onto_level (Term-F.Return p) = λ inner. inner
-onto_level (Term-F.Fail c) = λ inner. inner
-onto_level (Term-F.Call f ps) = λ inner. inner
-onto_level (Term-F.Frame f ps upper) = λ inner. upper (Frame f ps inner)
+abbrev pub plug_reversed_level : Term-F (Term → Term) → Term → Term
+plug_reversed_level (Term-F.Return p) = λ inner. inner
+plug_reversed_level (Term-F.Fail c) = λ inner. inner
+plug_reversed_level (Term-F.Call f ps) = λ inner. inner
+plug_reversed_level (Term-F.Frame f ps upper) = λ inner. upper (Frame f ps inner)
 
-abbrev pub onto : Term → Term → Term
-onto = fold-Term (Term → Term) onto_level
+abbrev pub plug_reversed : Term → Term → Term
+plug_reversed = fold-Term (Term → Term) plug_reversed_level
 
 -- the outermost frame kept over what `change` makes of the part under it; without a frame, `end`
 abbrev pub over_frame : Term-F Term → Term → (Term → Term) → Term
@@ -96,21 +96,21 @@ over_frame (Term-F.Call f ps) end change = end
 over_frame (Term-F.Frame f ps inner) end change = Frame f ps (change inner)
 
 -- n outer frames, or all where there are fewer, over the other term
-abbrev pub replaced : ℕ → Term → Term → Term
-replaced zero t inner = inner
-replaced (suc n) t inner = over_frame (out-Term t) inner (λ rest. replaced n rest inner)
+abbrev pub replace_at : ℕ → Term → Term → Term
+replace_at zero t inner = inner
+replace_at (suc n) t inner = over_frame (out-Term t) inner (λ rest. replace_at n rest inner)
 
 -- the other term in place of the redex; a result stays as it is
 abbrev pub replace_redex : Term → Term → Term
-replace_redex t inner = option_map_or (λ n. replaced n t inner) (redex_place t) t
+replace_redex t inner = option_map_or (λ n. replace_at n t inner) (redex_place t) t
 
 -- the outermost frame over the other term, and what that frame was over; without a frame, the other
 -- term
-abbrev pub turned_level : Term-F Term → Term → Term × Option Term
-turned_level (Term-F.Return p) upper = (upper, None)
-turned_level (Term-F.Fail c) upper = (upper, None)
-turned_level (Term-F.Call f ps) upper = (upper, None)
-turned_level (Term-F.Frame f ps inner) upper = (Frame f ps upper, Some inner)
+abbrev pub unwind_level : Term-F Term → Term → Term × Option Term
+unwind_level (Term-F.Return p) upper = (upper, None)
+unwind_level (Term-F.Fail c) upper = (upper, None)
+unwind_level (Term-F.Call f ps) upper = (upper, None)
+unwind_level (Term-F.Frame f ps inner) upper = (Frame f ps upper, Some inner)
 
-abbrev pub turned : Term → Term → Term × Option Term
-turned t upper = turned_level (out-Term t) upper
+abbrev pub unwind : Term → Term → Term × Option Term
+unwind t upper = unwind_level (out-Term t) upper

@@ -1,7 +1,7 @@
 //! Lists of polynomials: what a call, a frame or a result holds.
 ghost use Rattle.std.specs.Prelude.{◌≡◌, ◌↔◌, true, false, IsTrue, IfOk};
 ghost use Rattle.rx_plain.specs.Formed.{Forms};
-ghost use Rattle.rx_poly.specs.Substitution.{in_body};
+ghost use Rattle.rx_poly.specs.Substitution.{subst_body};
 ghost use Rattle.rx_term.specs.Differences.{differences};
 ghost use Rattle.rx_term.specs.Replacements.{replacements};
 ghost use Rattle.rx_term.specs.Substitution.{polys_with};
@@ -34,7 +34,7 @@ pub(crate) enum Replacements<'a> {
 /// The polynomial with its variables replaced; Large exactly where one on the way to it passes the
 /// limits.
 pub(crate) fn instance(alloc: Global, poly: &Poly, with: Replacements) -> Result<Poly, PolyEnd>
-    ensures forms { Forms PolyEnd.Large result (in_body (replacements with.entry) poly.now) }
+    ensures forms { Forms PolyEnd.Large result (subst_body (replacements with.entry) poly.now) }
 {
     match with {
         Replacements::Listed(pairs) => poly.subst(alloc, pairs),

@@ -2,15 +2,15 @@
 ghost use Rattle.std.specs.Prelude.{◌&&◌, ◌≡◌, ◌↔◌, ◌<◌, ◌≤◌, ◌⊎◌, ◌++◌, ℕ, ℤ, true, Some, List, All, Contains, length};
 ghost use Rattle.std.specs.List.{enumerate_from};
 ghost use Rattle.std.specs.Option.{option_map};
-ghost use Rattle.rx_poly.specs.Substitution.{numbered, worth};
+ghost use Rattle.rx_poly.specs.Substitution.{numbered, updated_assignment};
 ghost use Rattle.rx_poly.specs.Value.{value};
 ghost use Rattle.rx_poly.specs.declared.body.Body.{Body};
 ghost use Rattle.rx_poly.specs.Variables.{uses_below};
-ghost use Rattle.rx_rewriting.specs.Premises.{KeepsInner, Moves, ResultsRest, Stays};
+ghost use Rattle.rx_rewriting.specs.Premises.{ClosedUnderSubterms, Reducible, ResultsAreNormal, ClosedUnder};
 ghost use Rattle.rx_rewriting.specs.Steps.{Either, IsSingleValued, Step};
-ghost use Rattle.rx_rewriting.specs.Terms.{Fits, Ground, TermSet, under};
+ghost use Rattle.rx_rewriting.specs.Terms.{Fits, Ground, TermSet, in_context};
 ghost use Rattle.rx_row.specs.Holds.{AllHold};
-ghost use Rattle.rx_row.specs.Substitution.{in_rows};
+ghost use Rattle.rx_row.specs.Substitution.{subst_rows};
 ghost use Rattle.rx_row.specs.Variables.{rows_bound, rows_use_below};
 ghost use Rattle.rx_row.specs.declared.row.Row.{Row};
 ghost use Rattle.rx_term.specs.Assigned.{assigned};
@@ -21,8 +21,8 @@ ghost use Rattle.rx_term.specs.Fitting.{term_fits};
 ghost use Rattle.rx_term.specs.Meaning.{Instance, IsRedex, ground_at, ground_redex, matched, outer_frames, redex_of, signature, values};
 ghost use Rattle.rx_term.specs.Paired.{IsPaired};
 ghost use Rattle.rx_term.specs.Shapes.{shape_of};
-ghost use Rattle.rx_term.specs.Stacks.{behind, replaced};
-ghost use Rattle.rx_term.specs.Substitution.{in_polys, in_term};
+ghost use Rattle.rx_term.specs.Stacks.{suffix_at, replace_at};
+ghost use Rattle.rx_term.specs.Substitution.{subst_polys, subst_term};
 ghost use Rattle.rx_term.specs.Variables.{arguments_of, term_uses_below};
 ghost use Rattle.rx_term.specs.WellMade.{IsWellMade, variables_from};
 ghost use Rattle.rx_term.specs.declared.rule.Equation.{Equation};
@@ -34,26 +34,26 @@ ghost use Rattle.rx_term.specs.declared.term.Term.{Term};
 /// has the value of its polynomial.
 pub fn substitution_and_values_commute()
     ensures { (a : ℕ → ℤ) (ws : List (ℕ × Body)) (t : Term) →
-        ground_at a (in_term ws t) ≡ ground_at (worth a ws) t }
+        ground_at a (subst_term ws t) ≡ ground_at (updated_assignment a ws) t }
 {}
 
 /// With polynomials in place of its variables a term keeps its shape, its polynomials in order,
 /// each changed, and whether it fits.
 #[tactic(auto, using(crate::proofs::KeepingLaws::arguments_in_term))]
 pub fn substitution_keeps_the_stack()
-    ensures shape { (ws : List (ℕ × Body)) (t : Term) → shape_of (in_term ws t) ≡ shape_of t }
+    ensures shape { (ws : List (ℕ × Body)) (t : Term) → shape_of (subst_term ws t) ≡ shape_of t }
     ensures arguments { (ws : List (ℕ × Body)) (t : Term) →
-        arguments_of (in_term ws t) ≡ in_polys ws (arguments_of t) }
+        arguments_of (subst_term ws t) ≡ subst_polys ws (arguments_of t) }
     ensures fits { (ws : List (ℕ × Body)) (parts : RuleParts) (t : Term) →
-        term_fits parts (in_term ws t) ≡ term_fits parts t }
+        term_fits parts (subst_term ws t) ≡ term_fits parts t }
 {}
 
 /// The parts of a fitting term fit, and a fitting term in place of one makes a fitting term.
 pub fn replacing_keeps_fitting()
     ensures behind { (parts : RuleParts) (n : ℕ) (t s : Term) →
-        term_fits parts t ≡ true → behind n t ≡ Some s → term_fits parts s ≡ true }
+        term_fits parts t ≡ true → suffix_at n t ≡ Some s → term_fits parts s ≡ true }
     ensures replaced { (parts : RuleParts) (inner : Term) → term_fits parts inner ≡ true →
-        (n : ℕ) (t : Term) → term_fits parts t ≡ true → term_fits parts (replaced n t inner) ≡
+        (n : ℕ) (t : Term) → term_fits parts t ≡ true → term_fits parts (replace_at n t inner) ≡
         true }
 {}
 
@@ -69,10 +69,10 @@ pub fn equal_values_make_one_ground_term()
 /// replaces it.
 #[tactic(auto, using(crate::proofs::RedexLaws::ground_behind, crate::proofs::RedexLaws::ground_replaced))]
 pub fn parts_stand_under_ground_frames()
-    ensures behind { (a : ℕ → ℤ) (n : ℕ) (t s : Term) → behind n t ≡ Some s →
-        ground_at a t ≡ under (outer_frames a n t) (ground_at a s) }
+    ensures behind { (a : ℕ → ℤ) (n : ℕ) (t s : Term) → suffix_at n t ≡ Some s →
+        ground_at a t ≡ in_context (outer_frames a n t) (ground_at a s) }
     ensures replaced { (a : ℕ → ℤ) (n : ℕ) (t inner : Term) →
-        ground_at a (replaced n t inner) ≡ under (outer_frames a n t) (ground_at a inner) }
+        ground_at a (replace_at n t inner) ≡ in_context (outer_frames a n t) (ground_at a inner) }
 {}
 
 /// The redex of a term is a call, or a frame over a result, and means the redex of the ground term;
@@ -95,16 +95,16 @@ pub fn fitting_terms_have_fitting_ground_terms()
 /// said of any list of rules, and so of hypotheses too.
 pub fn rules_step_their_instances()
     ensures here { (rules : List Rule) (a : ℕ → ℤ) (rule : Rule) (ws : List (ℕ × Body)) (t : Term) →
-        Contains rules rule → ground_at a (in_term ws rule.left) ≡ ground_at a t →
-        AllHold a (in_rows ws rule.rows) →
-        Instance rules (ground_at a t) (ground_at a (in_term ws rule.right)) }
+        Contains rules rule → ground_at a (subst_term ws rule.left) ≡ ground_at a t →
+        AllHold a (subst_rows ws rule.rows) →
+        Instance rules (ground_at a t) (ground_at a (subst_term ws rule.right)) }
     ensures inside { (rules : List Rule) (a : ℕ → ℤ) (rule : Rule) (ws : List (ℕ × Body)) (t : Term)
         →
-        Contains rules rule → ground_at a (in_term ws rule.left) ≡ ground_at a t →
-        AllHold a (in_rows ws rule.rows) →
-        (n : ℕ) (whole : Term) → behind n whole ≡ Some t →
+        Contains rules rule → ground_at a (subst_term ws rule.left) ≡ ground_at a t →
+        AllHold a (subst_rows ws rule.rows) →
+        (n : ℕ) (whole : Term) → suffix_at n whole ≡ Some t →
         Step (Instance rules) (ground_at a whole)
-        (ground_at a (replaced n whole (in_term ws rule.right))) }
+        (ground_at a (replace_at n whole (subst_term ws rule.right))) }
 {}
 
 /// A rule of a well made set steps each fitting term of its shape at which its rows hold, with the
@@ -112,22 +112,23 @@ pub fn rules_step_their_instances()
 pub fn rules_step_terms_of_their_shape()
     ensures here { (parts : RuleParts) → IsWellMade parts → (a : ℕ → ℤ) (rule : Rule) (t : Term) →
         Contains parts.rules rule → term_fits parts t ≡ true → shape_of rule.left ≡ shape_of t →
-        AllHold a (in_rows (matched t) rule.rows) →
-        Instance parts.rules (ground_at a t) (ground_at a (in_term (matched t) rule.right)) }
+        AllHold a (subst_rows (matched t) rule.rows) →
+        Instance parts.rules (ground_at a t) (ground_at a (subst_term (matched t) rule.right)) }
     ensures inside { (parts : RuleParts) → IsWellMade parts →
         (a : ℕ → ℤ) (rule : Rule) (n : ℕ) (t part : Term) →
-        Contains parts.rules rule → behind n t ≡ Some part → term_fits parts part ≡ true →
-        shape_of rule.left ≡ shape_of part → AllHold a (in_rows (matched part) rule.rows) →
+        Contains parts.rules rule → suffix_at n t ≡ Some part → term_fits parts part ≡ true →
+        shape_of rule.left ≡ shape_of part → AllHold a (subst_rows (matched part) rule.rows) →
         Step (Instance parts.rules) (ground_at a t)
-        (ground_at a (replaced n t (in_term (matched part) rule.right))) }
+        (ground_at a (replace_at n t (subst_term (matched part) rule.right))) }
 {}
 
 /// Steps by a well made set lead from fitting terms to fitting terms, and none starts at a result.
 #[tactic(auto, using(crate::proofs::RuleLaws::steps_fit, crate::proofs::RuleLaws::results_rest))]
 pub fn well_made_sets_keep_fitting()
     ensures fit { (parts : RuleParts) → IsWellMade parts →
-        Stays (Fits (signature parts)) (Instance parts.rules) }
-    ensures rest { (parts : RuleParts) → IsWellMade parts → ResultsRest (Instance parts.rules) }
+        ClosedUnder (Fits (signature parts)) (Instance parts.rules) }
+    ensures rest { (parts : RuleParts) → IsWellMade parts →
+        ResultsAreNormal (Instance parts.rules) }
 {}
 
 /// A paired set is single-valued and covered, and has a step at every fitting term that is no
@@ -138,7 +139,7 @@ pub fn paired_sets_step_once()
         IsSingleValued (Instance parts.rules) }
     ensures covered { (parts : RuleParts) → IsPaired parts → IsCovered parts }
     ensures moves { (parts : RuleParts) → IsWellMade parts → IsPaired parts →
-        Moves (Fits (signature parts)) (Instance parts.rules) }
+        Reducible (Fits (signature parts)) (Instance parts.rules) }
 {}
 
 /// In a covered set each fitting redex has, at all values of its arguments, a rule of its shape
@@ -148,7 +149,7 @@ pub fn covered_sets_step()
     ensures rule { (parts : RuleParts) → IsCovered parts → (t : Term) (a : ℕ → ℤ) →
         IsRedex t → term_fits parts t ≡ true → CanStep parts.rules t a }
     ensures moves { (parts : RuleParts) → IsWellMade parts → IsCovered parts →
-        Moves (Fits (signature parts)) (Instance parts.rules) }
+        Reducible (Fits (signature parts)) (Instance parts.rules) }
 {}
 
 /// Terms that are inside, and the arguments that a redex of each shape may have there.
@@ -161,11 +162,11 @@ pub trait Inside {
 /// The same inside a set of fitting terms that has the inner part of each of its terms: there the
 /// rules need to cover no more than the arguments that its redexes have.
 pub fn covered_sets_step_inside<I: Inside>()
-    requires inner { KeepsInner I.inside }
+    requires inner { ClosedUnderSubterms I.inside }
     requires domains { KeepsDomains I.inside I.domains }
     ensures { (parts : RuleParts) → IsWellMade parts → IsCoveredOver I.domains parts →
         ((s : Ground) → I.inside s → Fits (signature parts) s) →
-        Moves I.inside (Instance parts.rules) }
+        Reducible I.inside (Instance parts.rules) }
 {}
 
 /// Two assignments that agree below a number give a term all of whose variables are below it one
@@ -186,10 +187,11 @@ pub fn variables_alone_decide_the_ground_term()
 pub fn arguments_are_assignments()
     ensures variables { (xs : List ℤ) → values (assigned xs) (variables_from 0 (length xs)) ≡ xs }
     ensures value { (a : ℕ → ℤ) (ps : List Body) (p : Body) → uses_below (length ps) p ≡ true →
-        value (worth a (enumerate_from 0 ps)) p ≡ value (assigned (values a ps)) p }
+        value (updated_assignment a (enumerate_from 0 ps)) p ≡ value (assigned (values a ps)) p }
     ensures rows { (a : ℕ → ℤ) (ps : List Body) (rows : List Row) →
         rows_use_below (length ps) rows ≡ true →
-        AllHold (worth a (enumerate_from 0 ps)) rows ↔ AllHold (assigned (values a ps)) rows }
+        AllHold (updated_assignment a (enumerate_from 0 ps)) rows ↔ AllHold (assigned (values a ps))
+        rows }
 {}
 
 /// The premises of these laws can be met at once: by a rule set with rows, a frame and a failure,
@@ -199,11 +201,11 @@ pub fn the_premises_can_be_met()
     ensures made { IsWellMade example }
     ensures paired { IsPaired example }
     ensures covered { IsCoveredOver counting example }
-    ensures inner { KeepsInner IsInside }
+    ensures inner { ClosedUnderSubterms IsInside }
     ensures domains { KeepsDomains IsInside counting }
     ensures fitting { (s : Ground) → IsInside s → Fits (signature example) s }
     ensures outside { Fits (signature example) negative_call × (IsInside negative_call → ⊥) }
-    ensures moves { Moves IsInside (Instance example.rules) }
+    ensures moves { Reducible IsInside (Instance example.rules) }
 {}
 
 /// All variables of a term, of rows, or of both sides and the rows of an equation are below a
@@ -237,8 +239,8 @@ pub fn two_lists_step_as_one_does()
 pub fn fitting_right_sides_keep_fitting()
     ensures alone { (parts : RuleParts) (rules : List Rule) →
         All (λ rule. term_fits parts rule.right ≡ true) rules →
-        Stays (Fits (signature parts)) (Instance rules) }
+        ClosedUnder (Fits (signature parts)) (Instance rules) }
     ensures together { (parts : RuleParts) (rules : List Rule) →
         All (λ rule. term_fits parts rule.right ≡ true) rules → IsWellMade parts →
-        Stays (Fits (signature parts)) (Either (Instance parts.rules) (Instance rules)) }
+        ClosedUnder (Fits (signature parts)) (Either (Instance parts.rules) (Instance rules)) }
 {}

@@ -1,11 +1,11 @@
 //! Terms as stacks: frames outside, then a call or a result.
 ghost use Rattle.std.specs.Prelude.{◌≡◌, ◌↔◌, ◌<◌, ◌^◌, ℕ, ℤ, true, false, IsNone, IsTrue, IfOk};
 ghost use Rattle.std.specs.Option.{option_copied};
-ghost use Rattle.rx_poly.specs.Substitution.{numbered, worth};
+ghost use Rattle.rx_poly.specs.Substitution.{numbered, updated_assignment};
 ghost use Rattle.rx_term.specs.Meaning.{ground_at, redex_of};
 ghost use Rattle.rx_term.specs.Replacements.{replacements};
 ghost use Rattle.rx_term.specs.Shapes.{shape_of};
-ghost use Rattle.rx_term.specs.Stacks.{behind, depth_of, ends_in_call, is_redex, is_result, onto, redex_place, replace_redex, replaced, root_of, turned};
+ghost use Rattle.rx_term.specs.Stacks.{suffix_at, depth_of, ends_in_call, is_redex, is_result, plug_reversed, redex_place, replace_redex, replace_at, root_of, unwind};
 ghost use Rattle.rx_plain.specs.Formed.{Forms};
 ghost use Rattle.rx_term.specs.Substitution.{term_with};
 ghost use Rattle.rx_term.specs.Variables.{arguments_of, term_uses_below};
@@ -63,7 +63,7 @@ impl Term {
     /// memory.
     #[tactic(auto, using(crate::proofs::KeepingLaws::behind_ends))]
     pub fn suffix(&self, place: u32) -> Option<&Term>
-        ensures part { option_copied result ≡ behind place self.now }
+        ensures part { option_copied result ≡ suffix_at place self.now }
         ensures fewer { IsNone result ↔ (depth_of self.now < place) }
     {
         let mut here = self;
@@ -183,7 +183,7 @@ impl Term {
 
     /// The frames of this term, its innermost outside, over the other. Takes no memory.
     fn onto(self, inner: Term) -> Term
-        ensures { result ≡ onto self inner }
+        ensures { result ≡ plug_reversed self inner }
     {
         let mut upper = self;
         let mut whole = inner;
@@ -200,7 +200,7 @@ impl Term {
     /// The outermost frame over `upper`, and what that frame was over. Without a frame, `upper`
     /// alone.
     fn turn(self, upper: Term) -> (Term, Option<Term>)
-        ensures { result ≡ turned self upper }
+        ensures { result ≡ unwind self upper }
     {
         let mut whole = self;
         let below = match &mut whole {
@@ -212,7 +212,7 @@ impl Term {
 
     /// The `place` outer frames, or all where there are fewer, over `inner`. Takes no memory.
     pub fn replace(self, place: u32, inner: Term) -> Term
-        ensures { result ≡ replaced place self inner }
+        ensures { result ≡ replace_at place self inner }
     {
         let mut rest = self;
         let mut upper = Term::Fail(0);
@@ -381,7 +381,7 @@ impl Term {
     pub fn subst(&self, alloc: Global, with: &[(u32, Poly)]) -> Result<Term, PolyEnd>
         ensures forms { Forms PolyEnd.Large result (term_with with.now self.now) }
         ensures value { IfOk result (λ t. (a : ℕ → ℤ) → ground_at a t ≡
-            ground_at (worth a with.now) self.now) }
+            ground_at (updated_assignment a with.now) self.now) }
     {
         self.instance(alloc, Replacements::Listed(with))
     }
@@ -391,7 +391,7 @@ impl Term {
     pub fn at_args(&self, alloc: Global, args: &[Poly]) -> Result<Term, PolyEnd>
         ensures forms { Forms PolyEnd.Large result (term_with (numbered args.now) self.now) }
         ensures value { IfOk result (λ t. (a : ℕ → ℤ) → ground_at a t ≡
-            ground_at (worth a (numbered args.now)) self.now) }
+            ground_at (updated_assignment a (numbered args.now)) self.now) }
     {
         self.instance(alloc, Replacements::InOrder(args))
     }

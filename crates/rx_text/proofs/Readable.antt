@@ -6,7 +6,7 @@ use Rattle.std.specs.List.{list_all}
 use Rattle.rx_poly.specs.Limits.{all_fit, atom_depth, body_depth, fits_i128, greatest, is_small, mono_depth}
 use Rattle.rx_poly.specs.Normal.{is_normal, is_normal_atom, is_normal_mono, is_open, is_poly, is_sorted}
 use Rattle.rx_poly.specs.Order.{atom_cmp, mono_cmp}
-use Rattle.rx_poly.specs.Terms.{all_keys, is_before, is_listed, is_zero}
+use Rattle.rx_poly.specs.Terms.{all_keys, is_before, is_sparse_sorted, is_zero}
 use Rattle.rx_poly.specs.Variables.{atom_uses_below, mono_uses_below, uses_below}
 use Rattle.rx_poly.specs.declared.body.Atom.{Atom, Atom-F, out-Atom, roll-Atom, roll-out-Atom}
 use Rattle.rx_poly.specs.declared.body.Atom.TheVariants.{Div, Mod, rolls-Var, rolls-Div, rolls-Mod}
@@ -129,7 +129,7 @@ module _ (inner : Body → Bool) (n : ℕ) (ih : Parts inner n) where
       (subst (λ k. k ≤ n) (mono_depth_is m) d)
 
   terms_plain : (ts : List (Mono × ℤ)) → all_keys is_normal_mono ts ≡ true → all_fit ts ≡ true
-      → is_listed mono_cmp ts ≡ true
+      → is_sparse_sorted mono_cmp ts ≡ true
       → list_all (λ (t : Mono × ℤ). mono_uses_below 1000000 t.0) ts ≡ true
       → greatest (λ (t : Mono × ℤ). mono_depth t.0) ts ≤ n
       → list_all (is_plain_term inner) ts ≡ true
@@ -138,8 +138,8 @@ module _ (inner : Body → Bool) (n : ℕ) (ih : Parts inner n) where
       let normal = and_parts (is_normal_mono t.0) (all_keys is_normal_mono ts) a in
       let fits = and_parts (fits_i128 t.1) (all_fit ts) f in
       let listed =
-      and_parts (not (is_zero t.1)) (is_before mono_cmp t.0 ts && is_listed mono_cmp ts) l in
-      let others = and_parts (is_before mono_cmp t.0 ts) (is_listed mono_cmp ts) listed.1 in
+      and_parts (not (is_zero t.1)) (is_before mono_cmp t.0 ts && is_sparse_sorted mono_cmp ts) l in
+      let others = and_parts (is_before mono_cmp t.0 ts) (is_sparse_sorted mono_cmp ts) listed.1 in
       let below =
       and_parts (mono_uses_below 1000000 t.0)
       (list_all (λ (u : Mono × ℤ). mono_uses_below 1000000 u.0) ts) b in

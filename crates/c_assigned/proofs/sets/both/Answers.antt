@@ -1,6 +1,6 @@
 -- The flags are met slot by slot.
 use Rattle.std.proofs.Common.{◌≡◌, ◌∙◌, ap, sym, subst, length, take, List, Bool, arith}
-use Rattle.c_assigned.specs.Sets.{both}
+use Rattle.c_assigned.specs.Sets.{intersection}
 use Rattle.c_assigned.proofs.Meets.{Meeting, met_none, met_next, met_both, as_long}
 use Rattle.c_assigned.proofs.sets.both.Goals as goal
 
@@ -33,4 +33,4 @@ returns c =
     c.from_vec.ensures
     ∙ met_both c.args.left c.as_slice-others.result.now c.loop-slot.flags.items c.loop-slot.slot
     c.loop-slot.invariant (omega (arith, c.len.ensures, c.loop-slot-test.false))
-    ∙ ap (both c.args.left) c.as_slice-others.ensures
+    ∙ ap (intersection c.args.left) c.as_slice-others.ensures

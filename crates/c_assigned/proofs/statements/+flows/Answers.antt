@@ -2,8 +2,8 @@
 use Rattle.std.proofs.Common.{◌≡◌, ◌∙◌, ap, arith, length, [], None, option_map, if◌then◌else◌}
 use Rattle.c_ast.specs.Variables.{variables}
 use Rattle.std.specs.Option.{option_or}
-use Rattle.c_assigned.specs.Sets.{cut, first_unset}
-use Rattle.c_assigned.specs.Flows.{passing, inside_optional, unset_in_test, stmt_flow}
+use Rattle.c_assigned.specs.Sets.{restrict, first_unset}
+use Rattle.c_assigned.specs.Flows.{fall_through, nested_optional, unset_in_test, stmt_flow}
 use Rattle.c_assigned.proofs.FlowLaws.{going_on}
 use Rattle.c_assigned.proofs.FlowEquations.{if_walked, for_walked}
 use Rattle.c_assigned.proofs.statements.+flows.Goals as goal
@@ -49,7 +49,7 @@ stmt_flow-returns-in_ok-changed-in-For-clause-flow t c =
     let outside : c.len-outside.result ≡ length c.args.scope.now.items =
     omega (arith, c.len-outside.ensures) in
     c.for_behind.ensures
-    ∙ (λ k. (passing [] (cut (outside k) (if c.is_endless.ensures k then turn.breaks else
+    ∙ (λ k. (fall_through [] (restrict (outside k) (if c.is_endless.ensures k then turn.breaks else
     begun.behind)) (option_or begun.unset (unset k))).flow)
     ∙ for_walked names c.args.scope.now.items c.args.set c.args.stmt.now f.first f.test f.change
     f.inner f.is begun turn changed
@@ -59,5 +59,5 @@ stmt_flow-returns-in_ok-changed-in-For-clause-flow t c =
     c.get-in-For.ensures c.in_ok-turned-in-For.ensures c.in_ok-turn-in-For.ensures.flow
     c.in_ok-turn-in-For.ensures.scope
     (c.in_ok-changed-in-For.ensures.flow ∙ ap
-    (λ set. inside_optional (option_map (stmt_flow names) f.change)
+    (λ set. nested_optional (option_map (stmt_flow names) f.change)
     c.inside-in-For.new.scope.items set) c.meet-going.ensures)

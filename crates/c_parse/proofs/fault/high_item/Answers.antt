@@ -1,5 +1,5 @@
 use Rattle.std.proofs.Common.{Some, None, length}
-use Rattle.c_expr.specs.Readers.{Gives, Low}
+use Rattle.c_expr.specs.Readers.{Gives, IsNoHigher}
 use Rattle.c_stmt.specs.Heights.{list_height}
 use Rattle.c_stmt.specs.Statements.{BlockItem}
 use Rattle.c_parse.proofs.HighLemmas.{seeking_begins, seeking_goes, seeking_stops}
@@ -11,13 +11,14 @@ items-init c = seeking_begins c.args.tokens.now c.args.at c.requires.inside c.re
 pub returns-in_default : goal.returns-in_default
 returns-in_default c =
     let ts = c.args.tokens.now in
-    let read : Gives (Low list_height 200 (BlockItem ts c.items.end)) c.items.end (length ts) None =
+    let read : Gives (IsNoHigher list_height 200 (BlockItem ts c.items.end)) c.items.end (length ts)
+    None =
     rw c.in_default.is at c.in_ok-read.ensures in
     seeking_stops ts c.args.at c.items.end c.items.invariant read
 
 pub items-preserved : goal.items-preserved
 items-preserved c =
     let ts = c.args.tokens.now in
-    let read : Gives (Low list_height 200 (BlockItem ts c.items.end)) c.items.end (length ts)
+    let read : Gives (IsNoHigher list_height 200 (BlockItem ts c.items.end)) c.items.end (length ts)
     (Some c.in-Some.read) = rw c.in-Some.is at c.in_ok-read.ensures in
     seeking_goes ts c.args.at c.items.end c.in-Some.read c.items.invariant read

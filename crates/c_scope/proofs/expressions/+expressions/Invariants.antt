@@ -1,6 +1,6 @@
 use Rattle.std.proofs.Common.{◌≡◌, map, drop}
 use Rattle.c_scope.specs.Expressions.{resolved_expr}
-use Rattle.c_scope.specs.Steps.{all_found}
+use Rattle.c_scope.specs.Steps.{sequence}
 use Rattle.c_scope.proofs.Lists.{onto}
 use Rattle.c_scope.proofs.expressions.+expressions.Given as goal
 
@@ -8,7 +8,7 @@ use Rattle.c_scope.proofs.expressions.+expressions.Given as goal
 abbrev pub invariant-resolve_arguments-loop-argument :
     goal.invariant-resolve_arguments-loop-argument
 invariant-resolve_arguments-loop-argument l =
-    onto l.resolved (all_found (map (resolved_expr l.definitions.names.now
+    onto l.resolved (sequence (map (resolved_expr l.definitions.names.now
     l.definitions.functions.now l.scope.names) (drop l.argument-index l.argument-items)))
-    ≡ all_found (map (resolved_expr l.definitions.names.now l.definitions.functions.now
+    ≡ sequence (map (resolved_expr l.definitions.names.now l.definitions.functions.now
     l.scope.names) l.argument-items)

@@ -1,7 +1,7 @@
 -- One function more: it is resolved, and has few parameters.
 use Rattle.std.proofs.Common.{◌∙◌, ap, ◌+◌, map, drop}
 use Rattle.c_scope.specs.Functions.{HasFewParams, resolved_function, resolved_functions}
-use Rattle.c_scope.specs.Steps.{all_found}
+use Rattle.c_scope.specs.Steps.{sequence}
 use Rattle.c_scope.proofs.Lists.{onto, found-turn, hold-more}
 use Rattle.c_scope.proofs.functions.resolve_functions.Goals as goal
 
@@ -13,7 +13,7 @@ loop-function-preserved c =
     let step = resolved_function names functions in
     let here = c.loop-function-test.true in
     let function = c.function-item in (
-      ap (λ fs. onto fs (all_found (map step (drop (i + 1) functions)))) c.in_ok-push.ensures.ok
+      ap (λ fs. onto fs (sequence (map step (drop (i + 1) functions)))) c.in_ok-push.ensures.ok
           ∙ found-turn step functions i here function.result function.is c.loop-function.resolved
           c.in_ok-resolve_function.field-0 (resolved_functions names functions)
           c.loop-function.invariant.0 c.in_ok-resolve_function.ensures.answer,

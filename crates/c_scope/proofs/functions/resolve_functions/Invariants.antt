@@ -1,7 +1,7 @@
 use Rattle.std.proofs.Common.{◌≡◌, ℕ, ◌<◌, map, drop, get_or}
 use Rattle.c_ast.specs.declared.program.Function.{Function}
 use Rattle.c_scope.specs.Functions.{HasFewParams, resolved_function}
-use Rattle.c_scope.specs.Steps.{all_found}
+use Rattle.c_scope.specs.Steps.{sequence}
 use Rattle.c_scope.proofs.Lists.{onto}
 use Rattle.c_scope.proofs.functions.resolve_functions.Given as goal
 
@@ -9,8 +9,8 @@ use Rattle.c_scope.proofs.functions.resolve_functions.Given as goal
 -- were resolved have few parameters
 abbrev pub invariant-loop-function : goal.invariant-loop-function
 invariant-loop-function l =
-    (onto l.resolved (all_found (map (resolved_function l.definitions.names.now
+    (onto l.resolved (sequence (map (resolved_function l.definitions.names.now
     l.definitions.functions.now) (drop l.function-index l.function-items)))
-    ≡ all_found (map (resolved_function l.definitions.names.now l.definitions.functions.now)
+    ≡ sequence (map (resolved_function l.definitions.names.now l.definitions.functions.now)
     l.function-items))
     × ((k : ℕ) (d : Function) → k < l.function-index → HasFewParams (get_or l.function-items k d))

@@ -5,7 +5,7 @@ use Rattle.c_ast.specs.declared.stmt.Stmt.TheVariants.{Assign}
 use Rattle.c_ast.specs.Height.{expr_height, stmt_height}
 use Rattle.c_expr.specs.Grammar.{UpTo}
 use Rattle.c_stmt.specs.Statements.{Change, updated, update}
-use Rattle.c_expr.specs.Readers.{Gives, Low}
+use Rattle.c_expr.specs.Readers.{Gives, IsNoHigher}
 use Rattle.c_expr.proofs.Lookahead.{kind_within}
 use Rattle.c_expr.proofs.Building.{built_none, built_some}
 use Rattle.c_stmt.proofs.ChangeLemmas.{changing_within, builds_value, builds_update}
@@ -46,36 +46,39 @@ up_to-requires-2-clause-inside c =
 pub returns-then-stands : goal.returns-then-stands
 returns-then-stands c =
     let ts = c.args.tokens.now in
-    let value : Gives (Low expr_height (c.args.room - 1) (UpTo c.args.mark ts (c.args.at + 2)))
+    let value : Gives (IsNoHigher expr_height (c.args.room - 1)
+    (UpTo c.args.mark ts (c.args.at + 2)))
     (c.args.at + 2) (length ts) (Some c.in-Some.value) =
     rw c.saturating_sub.ensures at (rw c.in-Some.is at c.in_ok-value.ensures) in
-    built_some (Assign c.args.at) (Low expr_height (c.args.room - 1)
+    built_some (Assign c.args.at) (IsNoHigher expr_height (c.args.room - 1)
     (UpTo c.args.mark ts (c.args.at + 2)))
-    (Low stmt_height c.args.room (Change c.args.mark ts c.args.at))
+    (IsNoHigher stmt_height c.args.room (Change c.args.mark ts c.args.at))
     (builds_value c.args.mark ts c.args.at c.args.room c.requires.named c.if-stands.ensures)
     c.args.at (c.args.at + 2) (length ts) (omega arith) c.in-Some.value _ value refl refl
 
 pub returns-in_default-2 : goal.returns-in_default-2
 returns-in_default-2 c =
     let ts = c.args.tokens.now in
-    let value : Gives (Low expr_height (c.args.room - 2) (UpTo c.args.mark ts (c.args.at + 2)))
+    let value : Gives (IsNoHigher expr_height (c.args.room - 2)
+    (UpTo c.args.mark ts (c.args.at + 2)))
     (c.args.at + 2) (length ts) None = rw c.saturating_sub-2.ensures at
     (rw c.in_default-2.is at c.in_ok-value-2.ensures) in
     built_none (updated c.args.at c.in-Some-update_at.op)
-    (Low expr_height (c.args.room - 2) (UpTo c.args.mark ts (c.args.at + 2)))
-    (Low stmt_height c.args.room (Change c.args.mark ts c.args.at))
+    (IsNoHigher expr_height (c.args.room - 2) (UpTo c.args.mark ts (c.args.at + 2)))
+    (IsNoHigher stmt_height c.args.room (Change c.args.mark ts c.args.at))
     (builds_update c.args.mark ts c.args.at c.args.room c.in-Some-update_at.op c.requires.named
     c.in-Some-update_at.ensures) c.args.at (c.args.at + 2) (length ts) value
 
 pub returns : goal.returns
 returns c =
     let ts = c.args.tokens.now in
-    let value : Gives (Low expr_height (c.args.room - 2) (UpTo c.args.mark ts (c.args.at + 2)))
+    let value : Gives (IsNoHigher expr_height (c.args.room - 2)
+    (UpTo c.args.mark ts (c.args.at + 2)))
     (c.args.at + 2) (length ts) (Some c.in-Some-2.value) =
     rw c.saturating_sub-2.ensures at (rw c.in-Some-2.is at c.in_ok-value-2.ensures) in
     built_some (updated c.args.at c.in-Some-update_at.op)
-    (Low expr_height (c.args.room - 2) (UpTo c.args.mark ts (c.args.at + 2)))
-    (Low stmt_height c.args.room (Change c.args.mark ts c.args.at))
+    (IsNoHigher expr_height (c.args.room - 2) (UpTo c.args.mark ts (c.args.at + 2)))
+    (IsNoHigher stmt_height c.args.room (Change c.args.mark ts c.args.at))
     (builds_update c.args.mark ts c.args.at c.args.room c.in-Some-update_at.op c.requires.named
     c.in-Some-update_at.ensures) c.args.at (c.args.at + 2) (length ts) (omega arith)
     c.in-Some-2.value _ value

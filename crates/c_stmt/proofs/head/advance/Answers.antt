@@ -3,7 +3,7 @@ use Rattle.c_lex.specs.declared.token.Mark.TheVariants.{RightParen}
 use Rattle.c_ast.specs.declared.stmt.Stmt.{Stmt}
 use Rattle.c_ast.specs.Height.{of_option, stmt_height}
 use Rattle.c_stmt.specs.Statements.{Change, ForStep}
-use Rattle.c_expr.specs.Readers.{Gives, Low}
+use Rattle.c_expr.specs.Readers.{Gives, IsNoHigher}
 use Rattle.c_expr.proofs.Building.{built_some}
 use Rattle.c_stmt.proofs.HeadLemmas.{advance_none, advance_builds}
 use Rattle.c_stmt.proofs.head.advance.Goals as goal
@@ -15,9 +15,10 @@ returns-then-stands c =
 pub returns : goal.returns
 returns c =
     let ts = c.args.tokens.now in
-    let read : Gives (Low stmt_height c.args.room (Change RightParen ts c.args.at)) c.args.at
+    let read : Gives (IsNoHigher stmt_height c.args.room (Change RightParen ts c.args.at)) c.args.at
     (length ts) (Some c.in-Some.read) = rw c.in-Some.is at c.in_ok-read.ensures in
-    built_some (λ (s : Stmt). Some s) (Low stmt_height c.args.room (Change RightParen ts c.args.at))
-    (Low (of_option stmt_height) c.args.room (ForStep ts c.args.at))
+    built_some (λ (s : Stmt). Some s) (IsNoHigher stmt_height c.args.room
+    (Change RightParen ts c.args.at))
+    (IsNoHigher (of_option stmt_height) c.args.room (ForStep ts c.args.at))
     (advance_builds ts c.args.at c.args.room c.if-stands.ensures) c.args.at c.args.at (length ts)
     (omega arith) c.in-Some.read _ read (ap (λ (s : Stmt). Some s) c.in_ok-new.ensures) refl

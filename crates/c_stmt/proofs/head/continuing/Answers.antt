@@ -4,7 +4,7 @@ use Rattle.c_ast.specs.declared.expr.Expr.{Expr}
 use Rattle.c_ast.specs.Height.{of_option, expr_height}
 use Rattle.c_expr.specs.Grammar.{UpTo}
 use Rattle.c_stmt.specs.Statements.{ForTest}
-use Rattle.c_expr.specs.Readers.{Gives, Low}
+use Rattle.c_expr.specs.Readers.{Gives, IsNoHigher}
 use Rattle.c_expr.proofs.Building.{built_some}
 use Rattle.c_stmt.proofs.HeadLemmas.{test_none, test_builds}
 use Rattle.c_stmt.proofs.head.continuing.Goals as goal
@@ -16,9 +16,10 @@ returns-then-stands c =
 pub returns : goal.returns
 returns c =
     let ts = c.args.tokens.now in
-    let read : Gives (Low expr_height c.args.room (UpTo Semicolon ts c.args.at)) c.args.at
+    let read : Gives (IsNoHigher expr_height c.args.room (UpTo Semicolon ts c.args.at)) c.args.at
     (length ts) (Some c.in-Some.read) = rw c.in-Some.is at c.in_ok-read.ensures in
-    built_some (λ (e : Expr). Some e) (Low expr_height c.args.room (UpTo Semicolon ts c.args.at))
-    (Low (of_option expr_height) c.args.room (ForTest ts c.args.at))
+    built_some (λ (e : Expr). Some e) (IsNoHigher expr_height c.args.room
+    (UpTo Semicolon ts c.args.at))
+    (IsNoHigher (of_option expr_height) c.args.room (ForTest ts c.args.at))
     (test_builds ts c.args.at c.args.room c.if-stands.ensures) c.args.at c.args.at (length ts)
     (omega arith) c.in-Some.read _ read refl refl

@@ -4,7 +4,7 @@ use Rattle.c_ast.specs.declared.stmt.Stmt.{Stmt}
 use Rattle.c_ast.specs.Height.{stmt_height}
 use Rattle.c_stmt.specs.Statements.{Change, ForInit}
 use Rattle.c_stmt.specs.Heights.{list_height}
-use Rattle.c_expr.specs.Readers.{Gives, Low}
+use Rattle.c_expr.specs.Readers.{Gives, IsNoHigher}
 use Rattle.c_expr.proofs.Building.{built_some}
 use Rattle.c_stmt.proofs.HeadLemmas.{start_none, start_declared, start_builds}
 use Rattle.c_stmt.proofs.head.start.Goals as goal
@@ -20,11 +20,12 @@ returns-then-says c =
 pub returns : goal.returns
 returns c =
     let ts = c.args.tokens.now in
-    let read : Gives (Low stmt_height c.args.room (Change Semicolon ts c.args.at)) c.args.at
+    let read : Gives (IsNoHigher stmt_height c.args.room (Change Semicolon ts c.args.at)) c.args.at
     (length ts) (Some c.in-Some.read) = rw c.in-Some.is at c.in_ok-read.ensures in
     let one : c.push.new.self ≡ c.in-Some.read.value ∷ [] =
     rw c.new-one.ensures at c.in_ok-push.ensures.ok in
-    built_some (λ (s : Stmt). s ∷ []) (Low stmt_height c.args.room (Change Semicolon ts c.args.at))
-    (Low list_height c.args.room (ForInit ts c.args.at))
+    built_some (λ (s : Stmt). s ∷ []) (IsNoHigher stmt_height c.args.room
+    (Change Semicolon ts c.args.at))
+    (IsNoHigher list_height c.args.room (ForInit ts c.args.at))
     (start_builds ts c.args.at c.args.room c.if-stands.ensures c.if-says.ensures) c.args.at
     c.args.at (length ts) (omega arith) c.in-Some.read _ read one refl

@@ -6,7 +6,7 @@ use Rattle.c_ast.specs.declared.stmt.Stmt.TheVariants.{Return}
 use Rattle.c_ast.specs.Height.{expr_height, stmt_height}
 use Rattle.c_expr.specs.Grammar.{UpTo}
 use Rattle.c_stmt.specs.Statements.{Statement}
-use Rattle.c_expr.specs.Readers.{Gives, Low}
+use Rattle.c_expr.specs.Readers.{Gives, IsNoHigher}
 use Rattle.c_expr.proofs.Lookahead.{kind_within}
 use Rattle.c_expr.proofs.Building.{built_some}
 use Rattle.c_stmt.proofs.Forms.{reads_nothing, reads_break, reads_continue, builds_return, reads_change}
@@ -35,11 +35,11 @@ up_to-requires-clause-inside c =
 pub returns-then-says-3 : goal.returns-then-says-3
 returns-then-says-3 c =
     let ts = c.args.tokens.now in
-    let value : Gives (Low expr_height (c.args.room - 1) (UpTo Semicolon ts (c.args.at + 1)))
+    let value : Gives (IsNoHigher expr_height (c.args.room - 1) (UpTo Semicolon ts (c.args.at + 1)))
     (c.args.at + 1) (length ts) (Some c.in-Some.value) =
     rw c.in-Some.is at c.in_ok-value.ensures in
-    built_some Return (Low expr_height (c.args.room - 1) (UpTo Semicolon ts (c.args.at + 1)))
-    (Low stmt_height c.args.room (Statement ts c.args.at))
+    built_some Return (IsNoHigher expr_height (c.args.room - 1) (UpTo Semicolon ts (c.args.at + 1)))
+    (IsNoHigher stmt_height c.args.room (Statement ts c.args.at))
     (builds_return ts c.args.at c.args.room c.requires.some c.if-says-3.ensures) c.args.at
     (c.args.at + 1) (length ts) (omega arith) c.in-Some.value _ value refl refl
 

@@ -3,7 +3,7 @@ use Rattle.std.proofs.Common.{◌≡◌, None, Option, Some, inl, map, rules, st
 use Rattle.std.proofs.lemmas.Result.{IfOk-weaker}
 use Rattle.rx_command.specs.Commands.{Command, Compare, Demo, command_of, command_view, comparison_view}
 use Rattle.rx_io.specs.Outside.{Rose}
-use Rattle.rx_cli.specs.Answers.{IsAnswered}
+use Rattle.rx_cli.specs.Answers.{AnswersOrFails}
 use Rattle.rx_cli.proofs.AnswerLemmas.{answers_usage}
 use Rattle.rx_cli.proofs.Equals.{answered_different, answered_equal}
 use Rattle.rx_cli.proofs.Asked.{command_allowed}
@@ -48,7 +48,7 @@ returns-in-Some-Demo-clause-answer g c =
     rw c.in-Some-Demo.field-0-is at (rw c.in-Some-Demo.is at c.in_ok-command_of.ensures.command)
     in
     IfOk-weaker c.judge_demo.result _ _
-    (λ answer to. subst (λ o. IsAnswered (g.F.Files.held c.args.files.now)
+    (λ answer to. subst (λ o. AnswersOrFails (g.F.Files.held c.args.files.now)
     (Rose (g.F.Files.faults c.args.files.now) (g.F.Files.faults c.args.files.now)) o answer)
     said (inl to))
     (c.judge_demo.ensures.answer (g.F.Files.held c.args.files.now))
@@ -65,7 +65,7 @@ returns-in-Some-Demo-clause-sound g c =
     (λ answer to. answered_equal (g.F.Files.held c.args.files.now)
     (map string_bytes c.args.words.now)
     (Rose (g.F.Files.faults c.args.files.now) (g.F.Files.faults c.args.files.now)) answer
-    (subst (λ o. IsAnswered (g.F.Files.held c.args.files.now)
+    (subst (λ o. AnswersOrFails (g.F.Files.held c.args.files.now)
     (Rose (g.F.Files.faults c.args.files.now) (g.F.Files.faults c.args.files.now)) o answer)
     said (inl to)))
     (c.judge_demo.ensures.answer (g.F.Files.held c.args.files.now))
@@ -81,7 +81,7 @@ returns-in-Some-Compare-clause-sound g c =
     (map string_bytes c.args.words.now)
     (Rose (g.F.Files.faults c.args.files.now) (g.F.Files.faults c.judge_comparison.new.files))
     answer
-    (subst (λ o. IsAnswered (g.F.Files.held c.args.files.now)
+    (subst (λ o. AnswersOrFails (g.F.Files.held c.args.files.now)
     (Rose (g.F.Files.faults c.args.files.now) (g.F.Files.faults c.judge_comparison.new.files)) o
     answer) said answered))
     c.judge_comparison.ensures.answer
@@ -95,7 +95,7 @@ returns-in-Some-Demo-clause-different g c =
     (λ answer to. answered_different (g.F.Files.held c.args.files.now)
     (map string_bytes c.args.words.now)
     (Rose (g.F.Files.faults c.args.files.now) (g.F.Files.faults c.args.files.now)) answer
-    (subst (λ o. IsAnswered (g.F.Files.held c.args.files.now)
+    (subst (λ o. AnswersOrFails (g.F.Files.held c.args.files.now)
     (Rose (g.F.Files.faults c.args.files.now) (g.F.Files.faults c.args.files.now)) o answer)
     said (inl to)))
     (c.judge_demo.ensures.answer (g.F.Files.held c.args.files.now))
@@ -111,7 +111,7 @@ returns-in-Some-Compare-clause-different g c =
     (map string_bytes c.args.words.now)
     (Rose (g.F.Files.faults c.args.files.now) (g.F.Files.faults c.judge_comparison.new.files))
     answer
-    (subst (λ o. IsAnswered (g.F.Files.held c.args.files.now)
+    (subst (λ o. AnswersOrFails (g.F.Files.held c.args.files.now)
     (Rose (g.F.Files.faults c.args.files.now) (g.F.Files.faults c.judge_comparison.new.files)) o
     answer) said answered))
     c.judge_comparison.ensures.answer

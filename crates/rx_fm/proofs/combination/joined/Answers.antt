@@ -3,7 +3,7 @@ use Rattle.std.proofs.Common.{rules, ◌≡◌, ◌∙◌, ap, FitsSigned, to_z,
 use Rattle.std.specs.Int.{w128}
 use Rattle.std.proofs.lemmas.Int.{to_z-of_z}
 use Rattle.std.proofs.lemmas.Result.{IfOk-weaker}
-use Rattle.rx_fm.specs.Elimination.{at, cancelled, reduced}
+use Rattle.rx_fm.specs.Elimination.{at, eliminant, primitive_part}
 use Rattle.rx_fm.proofs.combination.joined.Goals as goal
 
 pub returns-clause-same : goal.returns-clause-same
@@ -19,5 +19,5 @@ returns-clause-same c =
     ap unsigned_abs (to_z-of_z w128 c.in-Some.negative n ∙ c.in-Some.ensures.1) ∙
     ap unsigned_abs (to_z-of_z w128 c.coeff.result q ∙ c.coeff.ensures) in
     IfOk-weaker c.reduced.result _ _ (λ r e. e ∙
-    ap reduced (c.in_ok-sum.ensures.same ∙
-    (λ i. cancelled (a i) (b i) c.args.first.now c.args.second.now))) c.reduced.ensures.same
+    ap primitive_part (c.in_ok-sum.ensures.same ∙
+    (λ i. eliminant (a i) (b i) c.args.first.now c.args.second.now))) c.reduced.ensures.same

@@ -2,7 +2,7 @@
 use Rattle.std.proofs.Common.{◌∙◌, ap, sym, length, nat_le, pos, int_lt, List}
 use Rattle.std.proofs.lemmas.Bool.{and_from, and_left}
 use Rattle.std.specs.List.{list_all}
-use Rattle.rx_fm.specs.Elimination.{at, negative, next, pairs_within, positive}
+use Rattle.rx_fm.specs.Elimination.{at, negative, stage, pairs_within, positive}
 use Rattle.rx_fm.specs.declared.combination.Combination.{Combination}
 use Rattle.rx_fm.proofs.Stages.{count_is, all_filtered}
 use Rattle.rx_fm.proofs.stage.stage.Goals as goal
@@ -13,7 +13,7 @@ returns-then-not-are_few-clause-large c = λ _.
     let cs = c.args.combinations in
     let count = count_is m cs c.in_ok-split.ensures.without c.in_ok-split.ensures.positive
     c.in_ok-split.ensures.negative in
-    and_left (nat_le (length (next m cs)) c.args.limit)
+    and_left (nat_le (length (stage m cs)) c.args.limit)
     (pairs_within m (positive m cs) (negative m cs))
     (ap (λ n. nat_le n c.args.limit) (sym count) ∙ sym c.are_few.ensures ∙ c.if-not-are_few.true)
 
@@ -35,7 +35,7 @@ returns-clause-within c =
     let cs = c.args.combinations in
     let count = count_is m cs c.in_ok-split.ensures.without c.in_ok-split.ensures.positive
     c.in_ok-split.ensures.negative in
-    and_from (nat_le (length (next m cs)) c.args.limit)
+    and_from (nat_le (length (stage m cs)) c.args.limit)
     (pairs_within m (positive m cs) (negative m cs))
     (ap (λ n. nat_le n c.args.limit) (sym count) ∙ sym c.are_few.ensures ∙ c.if-not-are_few.false)
     ((λ i. pairs_within m (sym (c.as_slice.ensures ∙ c.in_ok-split.ensures.positive) i)

@@ -2,12 +2,12 @@
 use Rattle.std.proofs.Common.{◌≡◌, ◌++◌, drop}
 use Rattle.rx_plain.specs.Formed.{◌<$>◌}
 use Rattle.rx_term.specs.Paired.{rules_of_shape}
-use Rattle.rx_term.specs.Shapes.{Called}
+use Rattle.rx_term.specs.Shapes.{Call}
 use Rattle.rx_generalise.specs.RuleRows.{rows_by}
 use Rattle.rx_generalise.proofs.rule_rows.rows_of.Given as goal
 
 abbrev pub invariant-loop-rule : goal.invariant-loop-rule
 invariant-loop-rule l =
     ((λ more. l.made ++ more) <$> rows_by l.arguments
-    (rules_of_shape (Called l.symbol) (drop l.rule-index l.rules)))
-    ≡ rows_by l.arguments (rules_of_shape (Called l.symbol) l.rules)
+    (rules_of_shape (Call l.symbol) (drop l.rule-index l.rules)))
+    ≡ rows_by l.arguments (rules_of_shape (Call l.symbol) l.rules)

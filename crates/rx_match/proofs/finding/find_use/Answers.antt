@@ -1,7 +1,7 @@
 -- A use at the part is the step there, and has no variables but those of the goal and the
 -- hypothesis.
 use Rattle.std.proofs.Common.{rules, ◌≡◌, true, Some}
-use Rattle.rx_term.specs.Stacks.{behind}
+use Rattle.rx_term.specs.Stacks.{suffix_at}
 use Rattle.rx_form.specs.Pieces.{have_one_shape, side_of}
 use Rattle.rx_match.specs.Matching.{matching}
 use Rattle.rx_match.specs.Uses.{HasOwnVariables, IsLawful, IsShownAt}
@@ -14,7 +14,7 @@ returns-in-Some-clause-lawful g c =
     let a = c.args in
     let part = c.in-Some.part.now in
     let ws = (matching a.hypothesis.now part).form in
-    let at : behind a.place (side_of a.side a.goal.now) ≡ Some part = search rules in
+    let at : suffix_at a.place (side_of a.side a.goal.now) ≡ Some part = search rules in
     if_use_both (IsShownAt a.goal.now a.hypothesis.now part ws)
     (λ u. have_one_shape part a.hypothesis.now.left ≡ true)
     (IsLawful a.goal.now a.hypothesis.now a.side a.place) c.use_at.result
@@ -26,7 +26,7 @@ returns-in-Some-clause-own_variables g c =
     let a = c.args in
     let part = c.in-Some.part.now in
     let ws = (matching a.hypothesis.now part).form in
-    let at : behind a.place (side_of a.side a.goal.now) ≡ Some part = search rules in
+    let at : suffix_at a.place (side_of a.side a.goal.now) ≡ Some part = search rules in
     if_use_then (IsShownAt a.goal.now a.hypothesis.now part ws)
     (HasOwnVariables a.goal.now a.hypothesis.now) c.use_at.result
     (own_use a.goal.now a.hypothesis.now a.side a.place part at) c.use_at.ensures.shown

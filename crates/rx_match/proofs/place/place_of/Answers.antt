@@ -1,6 +1,6 @@
 -- At a place the depths of the side and of the left side differ by the frames over the part.
 use Rattle.std.proofs.Common.{◌≡◌, ◌∙◌, ap, sym, subst, rules, ℕ, ◌-◌, ◌<◌, true, false, Some, arith}
-use Rattle.rx_term.specs.Stacks.{behind, depth_of}
+use Rattle.rx_term.specs.Stacks.{suffix_at, depth_of}
 use Rattle.rx_form.specs.Pieces.{have_one_shape, side_of}
 use Rattle.rx_match.specs.Matching.{is_place}
 use Rattle.rx_match.proofs.PlaceLaws.{place_by, place_is}
@@ -25,7 +25,8 @@ returns-then-has_left_shape c = λ place.
     c.depth-whole.ensures ∙ ap depth_of c.side_of-term.ensures in
     let left : c.depth-left.result ≡ depth_of a.hypothesis.now.left = c.depth-left.ensures in
     let at : ℕ = c.depth-whole.result - c.depth-left.result in
-    let part : behind at (side_of a.side a.goal.now) ≡ Some c.in_ok-part.part.now = search rules in
+    let part : suffix_at at (side_of a.side a.goal.now) ≡ Some c.in_ok-part.part.now =
+    search rules in
     let shape : have_one_shape c.in_ok-part.part.now a.hypothesis.now.left ≡ true =
     sym c.has_left_shape.ensures ∙ c.if-has_left_shape.true in
     let here : is_place a.goal.now a.hypothesis.now a.side at ≡ true =
@@ -46,7 +47,8 @@ returns-else-has_left_shape c = λ place.
     c.depth-whole.ensures ∙ ap depth_of c.side_of-term.ensures in
     let left : c.depth-left.result ≡ depth_of a.hypothesis.now.left = c.depth-left.ensures in
     let at : ℕ = c.depth-whole.result - c.depth-left.result in
-    let part : behind at (side_of a.side a.goal.now) ≡ Some c.in_ok-part.part.now = search rules in
+    let part : suffix_at at (side_of a.side a.goal.now) ≡ Some c.in_ok-part.part.now =
+    search rules in
     let shape : have_one_shape c.in_ok-part.part.now a.hypothesis.now.left ≡ false =
     sym c.has_left_shape.ensures ∙ c.if-has_left_shape.false in
     let here : is_place a.goal.now a.hypothesis.now a.side at ≡ false =

@@ -7,7 +7,7 @@ use Rattle.rx_poly.proofs.Walks.{one_fails, all_pass}
 use Rattle.rx_poly.specs.Limits.{fits_i128}
 use Rattle.rx_poly.specs.Normal.{is_normal_atom, is_normal_mono, is_sorted}
 use Rattle.rx_poly.specs.Order.{atom_cmp, mono_cmp}
-use Rattle.rx_poly.specs.Terms.{is_listed}
+use Rattle.rx_poly.specs.Terms.{is_sparse_sorted}
 use Rattle.rx_poly.specs.declared.body.Mono.{Mono, out-Mono}
 use Rattle.rx_poly.specs.declared.body.Body.{out-Body}
 use Rattle.rx_poly.proofs.normal_test.+normal.Goals as goal
@@ -24,7 +24,7 @@ body_is_normal-returns-then-not-mono_is_normal t c =
     (and_left (is_normal_mono c.term-item.result.0) (fits_i128 c.term-item.result.1)
     (sym c.mono_is_normal.ensures ∙ c.if-not-mono_is_normal.true)) c.loop-term.invariant in
     sym (is_normal_is c.args.body.now ∙ and_left (list_all passes (out-Body c.args.body.now).terms)
-    (is_listed mono_cmp (out-Body c.args.body.now).terms)
+    (is_sparse_sorted mono_cmp (out-Body c.args.body.now).terms)
     (ap (list_all passes) (sym items.ensures) ∙ fails))
 
 pub body_is_normal-returns : goal.body_is_normal-returns
@@ -32,8 +32,8 @@ body_is_normal-returns t c =
     let items = c.as_slice-term-items in
     let all = all_pass passes items.result.now c.loop-term.term-index c.loop-term-test.false
     c.loop-term.invariant in
-    c.are_listed.ensures ∙ ap (is_listed mono_cmp) c.as_slice.ensures
-    ∙ ap (λ b. b && is_listed mono_cmp (out-Body c.args.body.now).terms)
+    c.are_listed.ensures ∙ ap (is_sparse_sorted mono_cmp) c.as_slice.ensures
+    ∙ ap (λ b. b && is_sparse_sorted mono_cmp (out-Body c.args.body.now).terms)
     (sym all ∙ ap (list_all passes) items.ensures) ∙ sym (is_normal_is c.args.body.now)
 
 pub mono_is_normal-returns-then-not-atom_is_normal :

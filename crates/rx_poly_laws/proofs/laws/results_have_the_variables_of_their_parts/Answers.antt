@@ -1,5 +1,5 @@
 use Rattle.rx_poly_laws.proofs.NormVariables.{norm_passes}
-use Rattle.rx_poly_laws.proofs.TestLaws.{passes-number, passes-variable, passes-added, passes-subtracted, passes-scaled_by, passes-multiplied, passes-quotient_of, passes-remainder_of}
+use Rattle.rx_poly_laws.proofs.TestLaws.{passes-number, passes-variable, passes-body_sum, passes-body_difference, passes-scaled_by, passes-body_product, passes-quotient_of, passes-remainder_of}
 use Rattle.rx_poly_laws.proofs.laws.results_have_the_variables_of_their_parts.Goals as goal
 
 pub returns-clause-number : goal.returns-clause-number
@@ -9,16 +9,16 @@ pub returns-clause-variable : goal.returns-clause-variable
 returns-clause-variable c = passes-variable
 
 pub returns-clause-sum : goal.returns-clause-sum
-returns-clause-sum c = passes-added
+returns-clause-sum c = passes-body_sum
 
 pub returns-clause-difference : goal.returns-clause-difference
-returns-clause-difference c = passes-subtracted
+returns-clause-difference c = passes-body_difference
 
 pub returns-clause-multiple : goal.returns-clause-multiple
 returns-clause-multiple c = passes-scaled_by
 
 pub returns-clause-product : goal.returns-clause-product
-returns-clause-product c = passes-multiplied
+returns-clause-product c = passes-body_product
 
 pub returns-clause-quotient : goal.returns-clause-quotient
 returns-clause-quotient c = passes-quotient_of

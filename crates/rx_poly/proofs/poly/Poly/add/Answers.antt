@@ -8,7 +8,7 @@ use Rattle.rx_poly.specs.Value.{value}
 use Rattle.rx_poly.specs.declared.body.Body.{Body}
 use Rattle.rx_poly.specs.declared.poly_end.PolyEnd.TheVariants.{Large}
 use Rattle.rx_poly.specs.declared.sign.Sign.TheVariants.{Plus}
-use Rattle.rx_poly.proofs.PolyLaws.{combined_plus, value-added}
+use Rattle.rx_poly.proofs.PolyLaws.{combined_plus, value-body_sum}
 use Rattle.rx_poly.proofs.poly.Poly.add.Goals as goal
 
 pub returns-clause-forms : goal.returns-clause-forms
@@ -21,4 +21,4 @@ returns-clause-value c =
     value_formed Large (kept is_within (combined Plus c.args.self.now c.args.other.now))
     c.combine.result _
     (λ a. ap (value a) (combined_plus c.args.self.now c.args.other.now) ∙
-    value-added a c.args.self.now c.args.other.now) c.combine.ensures.forms
+    value-body_sum a c.args.self.now c.args.other.now) c.combine.ensures.forms

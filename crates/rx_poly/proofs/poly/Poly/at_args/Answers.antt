@@ -1,12 +1,12 @@
 -- What is formed has the value of the polynomial where its variables have the values of their
 -- replacements.
 use Rattle.rx_plain.proofs.Forming.{value_formed}
-use Rattle.rx_poly.specs.Substitution.{in_body, numbered}
+use Rattle.rx_poly.specs.Substitution.{subst_body, numbered}
 use Rattle.rx_poly.specs.declared.poly_end.PolyEnd.TheVariants.{Large}
-use Rattle.rx_poly.proofs.SubstitutedValue.{value-in_body}
+use Rattle.rx_poly.proofs.SubstitutedValue.{value-subst_body}
 use Rattle.rx_poly.proofs.poly.Poly.at_args.Goals as goal
 
 pub returns-clause-value : goal.returns-clause-value
 returns-clause-value c =
-    value_formed Large (in_body (numbered c.args.args.now) c.args.self.now) c.poly_with.result _
-    (λ a. value-in_body a (numbered c.args.args.now) c.args.self.now) c.poly_with.ensures.forms
+    value_formed Large (subst_body (numbered c.args.args.now) c.args.self.now) c.poly_with.result _
+    (λ a. value-subst_body a (numbered c.args.args.now) c.args.self.now) c.poly_with.ensures.forms

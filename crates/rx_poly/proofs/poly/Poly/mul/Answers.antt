@@ -1,9 +1,9 @@
 -- Each turn adds one product; what is left still decides the whole product and its limits.
 use Rattle.std.proofs.Common.{[], ap, sym, ◌∙◌}
 use Rattle.std.proofs.lemmas.Result.{err_from_is_err_and}
-use Rattle.rx_poly.proofs.ProductLaws.{value-multiplied}
+use Rattle.rx_poly.proofs.ProductLaws.{value-body_product}
 use Rattle.rx_poly.proofs.Running.{begin, no_sum, after_sum, finished, within_finished}
-use Rattle.rx_poly.specs.Products.{running_within}
+use Rattle.rx_poly.specs.Products.{sum_of_products_within}
 use Rattle.rx_poly.specs.Normal.{is_poly}
 use Rattle.rx_poly.specs.Value.{value}
 use Rattle.rx_poly.specs.declared.body.Body.{out-Body}
@@ -20,7 +20,7 @@ returns-in_err-sum-clause-forms c =
     let p = err_from_is_err_and c.from_residual-in_err-sum.result
     c.from_residual-in_err-sum.ensures.1 in
     rw (p.1, p.2, ← c.body.ensures.body) (λ h.
-    ap (λ ts. running_within [] ts (out-Body c.args.other.now).terms)
+    ap (λ ts. sum_of_products_within [] ts (out-Body c.args.other.now).terms)
     (sym c.as_slice-term-items.ensures)
     ∙ no_sum c.as_slice-term-items.result.now (out-Body c.args.other.now).terms
     c.loop-term.term-index c.loop-term-test.true c.term-item.is c.loop-term.invariant
@@ -46,4 +46,4 @@ returns-clause-value c = rw (← c.body.ensures.body) (λ a.
     ap (value a) (finished c.body.result.now c.args.other.now c.loop-term.sum
     c.loop-term.term-index c.as_slice-term-items.ensures c.loop-term-test.false
     c.loop-term.invariant)
-    ∙ value-multiplied a c.body.result.now c.args.other.now)
+    ∙ value-body_product a c.body.result.now c.args.other.now)

@@ -1,6 +1,6 @@
 use Rattle.c_expr.proofs.NamedVariables.{whole_named}
 use Rattle.c_parse.proofs.PreLemmas.{no_whole}
-use Rattle.c_parse.proofs.precondition.judged.Goals as goal
+use Rattle.c_parse.proofs.precondition.checked_form.Goals as goal
 
 pub pre_syntax_error-requires-clause-unspelled : goal.pre_syntax_error-requires-clause-unspelled
 pre_syntax_error-requires-clause-unspelled c =
