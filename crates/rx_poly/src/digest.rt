@@ -19,8 +19,8 @@ fn number_of(atom: &Atom) -> u128
     }
 }
 
-/// What was there, and then the next number.
-fn after(before: u128, next: u128) -> u128
+/// What was there, and then the next number: one number made of both, for hash functions.
+pub fn digest_with(before: u128, next: u128) -> u128
     ensures { result ≡ then before next }
 {
     before.wrapping_mul(FACTOR).wrapping_add(next)
@@ -32,7 +32,7 @@ fn after_atoms(before: u128, atoms: &[Atom]) -> u128
 {
     let mut digest = before;
     for atom in atoms {
-        digest = after(digest, number_of(atom));
+        digest = digest_with(digest, number_of(atom));
     }
     digest
 }
@@ -42,7 +42,7 @@ fn after_term(before: u128, term: &(Mono, i128)) -> u128
     ensures { result ≡ with_term before term.now }
 {
     after_atoms(
-        after(before, term.1.cast_unsigned()),
+        digest_with(before, term.1.cast_unsigned()),
         term.0.atoms.as_slice(),
     )
 }

@@ -20,6 +20,7 @@ mod substitution;
 mod variables;
 
 pub use body::{Atom, Body, Mono};
+pub use digest::digest_with;
 pub use iterm::ITerm;
 pub use normal_form::norm;
 pub use poly::Poly;

@@ -1,6 +1,7 @@
 //! Lists of rows, all of which are to hold.
 ghost use Rattle.std.specs.Prelude.{◌≡◌, ◌↔◌, true, false, ℕ, ℤ, [], ◌∷◌, ◌++◌, take, Contains, IsTrue, IsOk, IfOk, OnOk, OnErr};
 ghost use Rattle.rx_plain.specs.Formed.{Forms, FormsAs};
+ghost use Rattle.rx_row.specs.Digest.{rows_digest};
 ghost use Rattle.rx_row.specs.Holds.{AllHold, RowHolds};
 ghost use Rattle.rx_row.specs.Membership.{pushed};
 ghost use Rattle.rx_row.specs.Substitution.{pushed_with, rows_with};
@@ -8,12 +9,13 @@ ghost use Rattle.rx_poly.specs.Substitution.{numbered, updated_assignment};
 
 use crate::row::Row;
 use rx_plain::{Items, NoMemory};
-use rx_poly::{Poly, PolyEnd};
+use rx_poly::{Poly, PolyEnd, digest_with};
 use std::alloc::{AllocError, Global};
+use std::hash::{Hash, Hasher};
 use std::marker::Model;
 
 /// A list of rows, all of which are to hold.
-#[derive(Debug, Drop, PartialEq, Eq, PartialOrd, Ord, Hash)]
+#[derive(Debug, Drop, PartialEq, Eq, PartialOrd, Ord)]
 pub struct Constraint {
     rows: Items<Row>,
 }
@@ -31,6 +33,30 @@ impl Model for Constraint {
     ghost view = { λ c. c.rows };
 
     ghost inverse = { λ rows. record { rows = rows } };
+}
+
+/// One number made of the rows in order.
+fn rows_digest(rows: &[Row]) -> u128
+    ensures { result ≡ rows_digest rows.now }
+{
+    let mut digest = 0;
+    for row in rows {
+        digest = digest_with(digest, row.digest());
+    }
+    digest
+}
+
+/// The rows feed a hash function one number.
+impl Hash for Constraint {
+    ghost use Rattle.rx_row.specs.Digest.{fed_of_rows, rows_fed_alike};
+
+    ghost hash_input = { fed_of_rows };
+
+    ghost respects_eq = { rows_fed_alike };
+
+    fn hash<H: Hasher>(&self, state: &mut H) {
+        state.write_u128(rows_digest(self.rows.as_slice()));
+    }
 }
 
 /// Adds the row after the others, with those polynomials in place of their variables.
@@ -53,7 +79,7 @@ fn push_substituted(
 pub fn subst_rows(alloc: Global, rows: &[Row], with: &[(u32, Poly)]) -> Result<Vec<Row>, PolyEnd>
     ensures forms { FormsAs (λ v. v.items) PolyEnd.Large result (rows_with with.now rows.now) }
 {
-    let mut changed = Vec::new(alloc);
+    let mut changed = Vec::with_capacity(alloc, rows.len())?;
     for row in rows {
         push_substituted(&mut changed, alloc, row, with)?;
     }
@@ -75,7 +101,7 @@ fn push_at_args(rows: &mut Vec<Row>, alloc: Global, row: &Row, args: &[Poly]) ->
 pub fn rows_at_args(alloc: Global, rows: &[Row], args: &[Poly]) -> Result<Vec<Row>, PolyEnd>
     ensures { FormsAs (λ v. v.items) PolyEnd.Large result (rows_with (numbered args.now) rows.now) }
 {
-    let mut instances = Vec::new(alloc);
+    let mut instances = Vec::with_capacity(alloc, rows.len())?;
     for row in rows {
         push_at_args(&mut instances, alloc, row, args)?;
     }
@@ -177,7 +203,7 @@ impl Constraint {
     pub fn try_clone(&self, alloc: Global) -> Result<Constraint, AllocError>
         ensures { IfOk result (λ c. c ≡ self.now) }
     {
-        let mut copies = Vec::new(alloc);
+        let mut copies = Vec::with_capacity(alloc, self.rows.len())?;
         for row in self.rows.as_slice() {
             copies.push(row.try_clone(alloc)?)?;
         }

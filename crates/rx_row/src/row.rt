@@ -1,6 +1,7 @@
 //! Rows: a polynomial with what is said of it.
 ghost use Rattle.std.specs.Prelude.{◌≡◌, ◌↔◌, ℕ, ℤ, false, IsTrue, IfOk};
 ghost use Rattle.rx_plain.specs.Formed.{Forms};
+ghost use Rattle.rx_row.specs.Digest.{row_digest};
 ghost use Rattle.rx_row.specs.Holds.{RowHolds};
 ghost use Rattle.rx_row.specs.Naming.{named};
 ghost use Rattle.rx_row.specs.Negation.{less_one_more, negated};
@@ -32,12 +33,7 @@ impl Hash for Row {
     ghost respects_eq = { fed_alike };
 
     fn hash<H: Hasher>(&self, state: &mut H) {
-        let number = match self {
-            Row::Ge(poly) => poly.digest().wrapping_add(0),
-            Row::Eq(poly) => poly.digest().wrapping_add(1),
-            Row::Ne(poly) => poly.digest().wrapping_add(2),
-        };
-        state.write_u128(number);
+        state.write_u128(self.digest());
     }
 }
 
@@ -101,6 +97,18 @@ impl Row {
             Row::Ge(poly) => Ok(Row::Ge(poly.at_args(alloc, args)?)),
             Row::Eq(poly) => Ok(Row::Eq(poly.at_args(alloc, args)?)),
             Row::Ne(poly) => Ok(Row::Ne(poly.at_args(alloc, args)?)),
+        }
+    }
+
+    /// One number made of the row: equal rows have one. Two others may have the same, but seldom.
+    /// Takes no memory.
+    pub(crate) fn digest(&self) -> u128
+        ensures { result ≡ row_digest self.now }
+    {
+        match self {
+            Row::Ge(poly) => poly.digest().wrapping_add(0),
+            Row::Eq(poly) => poly.digest().wrapping_add(1),
+            Row::Ne(poly) => poly.digest().wrapping_add(2),
         }
     }
 
