@@ -16,7 +16,7 @@ fn own_labels(alloc: Global, vertices: usize) -> Result<Vec<u32>, NoMemory>
     ensures count { IfOk result (λ labels. length labels.items ≡ vertices) }
     ensures own { IfOk result (λ labels. (a : ℕ) → a < vertices → slice_index labels.items a ≡ a) }
 {
-    let mut labels = Vec::new(alloc);
+    let mut labels = Vec::with_capacity(alloc, vertices)?;
     for vertex in 0..vertices {
         labels.push(vertex as u32)?;
     }

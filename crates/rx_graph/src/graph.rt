@@ -18,7 +18,7 @@ pub struct Graph {
 fn empty_rows(alloc: Global, vertices: usize) -> Result<Vec<Vec<u32>>, NoMemory>
     ensures { IfOk result (λ rows. IsGraphOf vertices [] (rows_of rows.items)) }
 {
-    let mut rows = Vec::new(alloc);
+    let mut rows = Vec::with_capacity(alloc, vertices)?;
     for _row in 0..vertices {
         rows.push(Vec::new(alloc))?;
     }

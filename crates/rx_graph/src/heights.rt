@@ -42,7 +42,7 @@ fn named_heights(alloc: Global, labels: &[u32], heights: &[u32]) -> Result<Vec<u
     ensures named { IfOk result (λ named. (a : ℕ) → a < length labels.now →
         slice_index named.items a ≡ slice_index heights.now (slice_index labels.now a)) }
 {
-    let mut named = Vec::new(alloc);
+    let mut named = Vec::with_capacity(alloc, labels.len())?;
     for label in labels {
         named.push(heights[*label as usize])?;
     }
@@ -76,7 +76,7 @@ impl Graph {
             (a : ℕ) → a < length self.now.rows.items →
             IsReachCount (length self.now.rows.items) edges a (slice_index counts.items a)) }
     {
-        let mut counts = Vec::new(alloc);
+        let mut counts = Vec::with_capacity(alloc, self.rows.len())?;
         for vertex in 0..self.rows.len() {
             counts.push(self.reach_count(alloc, vertex as u32)?)?;
         }

@@ -36,7 +36,7 @@ impl Graph {
             MarksReached edges start marks.items) }
     {
         let mut marks = vec![in alloc; false; self.rows.len()]?;
-        let mut reached = Vec::new(alloc);
+        let mut reached = Vec::with_capacity(alloc, self.rows.len())?;
         mark(
             &mut marks,
             &mut reached,

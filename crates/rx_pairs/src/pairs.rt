@@ -16,7 +16,7 @@ use std::alloc::Global;
 fn copied(alloc: Global, arguments: &[Poly]) -> Result<Items<Poly>, NoMemory>
     ensures { IfOk result (λ made. made ≡ arguments.now) }
 {
-    let mut made = Items::new(alloc);
+    let mut made = Items::with_capacity(alloc, arguments.len())?;
     for argument in arguments {
         made.push(argument.try_clone(alloc)?)?;
     }
@@ -51,7 +51,7 @@ fn pairs_with(
     ensures { IfOk result (λ pairs.
         pairs.items ≡ map (pair_of rule.now (lent root.entry)) (all_lent parts.now)) }
 {
-    let mut pairs = Vec::new(alloc);
+    let mut pairs = Vec::with_capacity(alloc, parts.len())?;
     for part in parts {
         pairs.push(pair(alloc, rule, root, *part)?)?;
     }

@@ -15,7 +15,7 @@ use std::alloc::{AllocError, Global};
 pub(crate) fn copied(alloc: Global, args: &[Poly]) -> Result<Items<Poly>, AllocError>
     ensures { IfOk result (λ made. made ≡ args.now) }
 {
-    let mut made = Items::new(alloc);
+    let mut made = Items::with_capacity(alloc, args.len())?;
     for arg in args {
         made.push(arg.try_clone(alloc)?)?;
     }
@@ -51,7 +51,7 @@ pub(crate) fn substituted(
 ) -> Result<Items<Poly>, PolyEnd>
     ensures forms { Forms PolyEnd.Large result (polys_with (replacements with.entry) polys.now) }
 {
-    let mut made = Items::new(alloc);
+    let mut made = Items::with_capacity(alloc, polys.len())?;
     for poly in polys {
         let changed = instance(alloc, poly, with)?;
         made.push(changed)?;

@@ -20,7 +20,7 @@ loop-next-init c =
     let read = row_read rows.items c.args.start c.index.result.now c.as_slice.result.now
     c.requires.start c.index.ensures c.as_slice.ensures.value in
     let marking = c.in_ok-mark.ensures in
-    let none = c.new-reached.ensures.items in
+    let none = c.in_ok-reached.ensures.items in
     let blank = c.in_ok-marks.ensures.items_if_clones_equal (λ y e. e) ∙
     ap (λ k. replicate k false) (c.len.ensures ∙ rows.ok.0) in
     record {
@@ -35,14 +35,14 @@ loop-next-init c =
           );
       within = λ b.
           more_within (length rows.items) c.in_ok-marks.marks.items c.mark.new.marks.items
-          c.new-reached.result.items c.mark.new.reached.items c.as_slice.result.now
-          (λ d among. absurd (none_in c.new-reached.result.items none d among))
+          c.in_ok-reached.reached.items c.mark.new.reached.items c.as_slice.result.now
+          (λ d among. absurd (none_in c.in_ok-reached.reached.items none d among))
           (row_within rows.items c.args.start c.as_slice.result.now c.requires.closed read)
           marking b;
       walked = λ edges graph.
           first_walked (length rows.items) edges (rows_of rows.items) graph c.args.start
           c.in_ok-marks.marks.items c.mark.new.marks.items
-          c.new-reached.result.items c.as_slice.result.now c.mark.new.reached.items blank none read
+          c.in_ok-reached.reached.items c.as_slice.result.now c.mark.new.reached.items blank none read
           marking;
     }
 
