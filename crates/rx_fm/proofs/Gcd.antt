@@ -2,6 +2,7 @@
 use Rattle.std.proofs.Common.{◌≡◌, ◌∙◌, ap, Bool, true, false, cond, refl, sym, ℕ, zero, suc, ◌%◌, ◌≤◌, nat_eq, ℤ, pos, negsuc, ◌≤ℤ◌, ◌<ℤ◌, int_rem, unsigned_abs, arith}
 use Rattle.std.proofs.lemmas.Int.{ints}
 use Rattle.std.proofs.lemmas.Nat.Gcd.{IsGcd-from_zero, IsGcd-from_mod, same_from_IsGcd}
+use Rattle.std.proofs.Math.Nat.{eq-one_of_dvd-one}
 use Rattle.std.specs.Int.{IsGcd}
 use Rattle.rx_fm.specs.Numbers.{euclid, gcd}
 
@@ -28,6 +29,10 @@ gcd_step a b =
 
 pub gcd_end : (a b : ℕ) → b ≡ 0 → gcd a b ≡ a
 gcd_end a b e = same_from_IsGcd a b (gcd a b) a (gcd_is a b) (IsGcd-from_zero a b e)
+
+-- nothing but 1 divides 1
+gcd_of_one : (b : ℕ) → gcd 1 b ≡ 1
+gcd_of_one b = eq-one_of_dvd-one (gcd_is 1 b).0
 
 -- ---- the same of integers that are not negative
 
@@ -56,3 +61,8 @@ pub gcd_found : (x y : ℤ) {whole : ℕ} → pos 0 ≤ℤ x → y ≡ pos 0 →
     gcd (unsigned_abs x) (unsigned_abs y) ≡ whole → x ≡ pos whole
 gcd_found x y h e w =
     size_is x h ∙ ap pos (sym (gcd_end (unsigned_abs x) (unsigned_abs y) (ap unsigned_abs e)) ∙ w)
+
+-- its end before the first turn
+pub one_found : (x y : ℤ) → x ≡ pos 1 → pos 1 ≡ pos (gcd (unsigned_abs x) (unsigned_abs y))
+one_found x y e =
+    ap pos (sym (ap (λ z. gcd (unsigned_abs z) (unsigned_abs y)) e ∙ gcd_of_one (unsigned_abs y)))

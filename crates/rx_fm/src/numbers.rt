@@ -29,12 +29,15 @@ fn remainder(number: &i128, by: &i128) -> i128
     *number % *by
 }
 
-/// The greatest common divisor.
+/// The greatest common divisor. Where the first is 1, nothing is divided.
 pub(crate) fn gcd(left: &i128, right: &i128) -> i128
     requires left { pos 0 ≤ℤ left.now }
     requires right { pos 0 ≤ℤ right.now }
     ensures { result ≡ pos (gcd (unsigned_abs left.now) (unsigned_abs right.now)) }
 {
+    if *left == 1 {
+        return 1;
+    }
     let mut x = *left;
     let mut y = *right;
     while y != 0 {

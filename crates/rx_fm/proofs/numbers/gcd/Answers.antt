@@ -1,9 +1,14 @@
--- Each turn keeps the greatest common divisor; at the end it is the first of the two.
+-- Each turn keeps the greatest common divisor; at the end it is the first of the two. Of 1 and
+-- another number it is 1.
 use Rattle.std.proofs.Common.{rules, ◌≡◌, ◌∙◌, pos, FitsSigned, arith, to_z}
 use Rattle.std.specs.Int.{w128}
 use Rattle.std.proofs.lemmas.Int.{ints, to_z-of_z}
-use Rattle.rx_fm.proofs.Gcd.{gcd_turn, gcd_found, not_negative}
+use Rattle.rx_fm.proofs.Gcd.{gcd_turn, gcd_found, not_negative, one_found}
 use Rattle.rx_fm.proofs.numbers.gcd.Goals as goal
+
+pub returns-then-left-eq1 : goal.returns-then-left-eq1
+returns-then-left-eq1 c =
+    one_found c.args.left.now c.args.right.now (omega (arith, ints))
 
 pub loop-y-preserved : goal.loop-y-preserved
 loop-y-preserved c =
