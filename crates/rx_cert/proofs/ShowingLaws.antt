@@ -98,6 +98,25 @@ module _ (given : List Row) where
       met rows certs (ap (in_order 0 given rows) (sym (append-nil certs)) ∙ sym (m.order []))
       (omega (arith, whole))
 
+  -- ---- no certificates, and none asked for
+
+  none_asked : (rows : List Row) (i : ℕ) → asked_for given rows ≡ 0 → in_order i given rows [] ≡
+      Some Shown
+  none_asked [] i e = refl
+  none_asked (row ∷ rows) i e = by (none_asked rows (i + 1)) (is_plain_row given row) refl
+    where
+      by : (asked_for given rows ≡ 0 → in_order (i + 1) given rows [] ≡ Some Shown) → (b : Bool) →
+          is_plain_row given row ≡ b → in_order i given (row ∷ rows) [] ≡ Some Shown
+      by further true plain =
+          plain_step i row rows [] plain ∙ further (sym (asked_plain row rows plain) ∙ e)
+      by further false plain =
+          let asked = asked_shown row rows plain in absurd (omega (arith, asked, e))
+
+  pub none_met : (rows : List Row) (certs : List Cert) → length certs ≡ asked_for given rows →
+      length certs ≡ 0 → conditions given (Some rows) certs ≡ Some Shown
+  none_met rows [] e none = met rows [] (none_asked rows 0 (sym e)) e
+  none_met rows (cert ∷ certs) e none = absurd (omega arith)
+
   -- ---- rows that are shown
 
   module _ (says : List Row → Said) (certified : HasCertificates says) where

@@ -81,10 +81,10 @@ fn examine_in_order(
 }
 
 /// Whether the rows follow from the given ones, with one certificate for each that isn't plain. The
-/// number of certificates is looked at first, then the rows are taken in order. Large exactly where
-/// a certificate, or the negation of its row, comes to a polynomial that passes the limits before
-/// another answer is found. A caller that forms the rows answers Large first where one of them
-/// passes the limits.
+/// number of certificates is looked at first, then the rows are taken in order; the given rows are
+/// copied only where there is a certificate to examine. Large exactly where a certificate, or the
+/// negation of its row, comes to a polynomial that passes the limits before another answer is
+/// found. A caller that forms the rows answers Large first where one of them passes the limits.
 pub fn check_conditions(
     alloc: Global,
     given: &Constraint,
@@ -99,6 +99,9 @@ pub fn check_conditions(
 {
     if certs.len() != count_asked(given, rows) {
         return Ok(ConditionsAnswer::WrongCount);
+    }
+    if certs.is_empty() {
+        return Ok(ConditionsAnswer::Shown);
     }
     examine_in_order(alloc, given, rows, certs)
 }
