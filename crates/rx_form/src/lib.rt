@@ -20,7 +20,9 @@ pub use laws::{
     certificates_are_not_looked_at, forming_never_runs_out_of_memory,
     one_group_is_a_condition_list, shown_steps_are_taken, what_is_shown_follows,
 };
-pub use pieces::{RuleInstance, is_equation, is_substitution, side_of};
-pub use rewriting::hypothesis_at;
+pub use pieces::{
+    RuleInstance, asking_for, have_one_shape, is_equation, is_substitution, rule_at, side_of,
+};
+pub use rewriting::{hypothesis_at, rewritten};
 pub use rx_plain::NoMemory;
 pub use step::{Delete, Side, Step};

@@ -1,11 +1,12 @@
 //! The parts of which steps are formed.
-ghost use Rattle.std.specs.Prelude.{◌≡◌, ◌∷◌, [], IfOk, OnOk};
+ghost use Rattle.std.specs.Prelude.{◌≡◌, ◌∷◌, [], IfOk, IfSome, OnOk};
 ghost use Rattle.std.specs.List.{list_all};
 ghost use Rattle.rx_plain.specs.Formed.{Formed, Forms};
 ghost use Rattle.rx_poly.specs.Substitution.{numbered};
 ghost use Rattle.rx_row.specs.Membership.{pushed};
 ghost use Rattle.rx_term.specs.Differences.{term_differences};
 ghost use Rattle.rx_term.specs.Meaning.{matched};
+ghost use Rattle.rx_term.specs.Variables.{arguments_of};
 ghost use Rattle.rx_form.specs.Forming.{Gives, limited};
 ghost use Rattle.rx_form.specs.Pieces.{all_pushed, all_zero, have_one_shape, asking, asking_nothing, equal_arguments, equal_lists, is_equation, is_replacement, is_substitution, other_side, rises, rule_with, side_of, with_rows, with_side};
 
@@ -30,8 +31,9 @@ pub struct RuleInstance {
     pub right: Term,
 }
 
-/// Whether the two terms have one shape.
-pub(crate) fn have_one_shape(left: &Term, right: &Term) -> bool
+/// Whether the two terms have one shape: they are one stack, their polynomials left out. Takes no
+/// memory.
+pub fn have_one_shape(left: &Term, right: &Term) -> bool
     ensures { result ≡ have_one_shape left.now right.now }
 {
     left.has_shape_of(right)
@@ -145,6 +147,25 @@ pub(crate) fn equal_lists(
     Ok(all_zero(alloc, polys)?)
 }
 
+/// The polynomials of a call, borrowed; other terms have none that can be.
+fn call_arguments(term: &Term) -> Option<&[Poly]>
+    ensures { IfSome result (λ args. args.now ≡ arguments_of term.now) }
+{
+    match term {
+        Term::Call(_, args) => Some(args.as_slice()),
+        _ => None,
+    }
+}
+
+/// The differences of copies of the polynomials of the two terms, one by one.
+fn copied_differences(alloc: Global, left: &Term, right: &Term) -> Result<Items<Poly>, PolyEnd>
+    ensures forms { Forms PolyEnd.Large result (term_differences left.now right.now) }
+{
+    let lefts = left.arguments(alloc)?;
+    let rights = right.arguments(alloc)?;
+    differences(alloc, lefts.as_slice(), rights.as_slice())
+}
+
 /// The differences of the polynomials of the two terms, one by one.
 pub(crate) fn term_differences(
     alloc: Global,
@@ -153,9 +174,12 @@ pub(crate) fn term_differences(
 ) -> Result<Items<Poly>, PolyEnd>
     ensures forms { Forms PolyEnd.Large result (term_differences left.now right.now) }
 {
-    let lefts = left.arguments(alloc)?;
-    let rights = right.arguments(alloc)?;
-    differences(alloc, lefts.as_slice(), rights.as_slice())
+    if let Some(lefts) = call_arguments(left) {
+        if let Some(rights) = call_arguments(right) {
+            return differences(alloc, lefts, rights);
+        }
+    }
+    copied_differences(alloc, left, right)
 }
 
 /// The rows that say that the polynomials of the two terms are equal, one by one.
@@ -182,12 +206,24 @@ fn rule_at_args(alloc: Global, rule: &Rule, args: &[Poly]) -> Result<RuleInstanc
     })
 }
 
-/// The rule with the polynomials of the part in place of its variables.
-pub(crate) fn rule_at(alloc: Global, rule: &Rule, part: &Term) -> Result<RuleInstance, PolyEnd>
+/// The rule with copies of the polynomials of the part in place of its variables.
+fn rule_at_copies(alloc: Global, rule: &Rule, part: &Term) -> Result<RuleInstance, PolyEnd>
     ensures forms { Forms PolyEnd.Large result (rule_with (matched part.now) rule.now) }
 {
     let args = part.arguments(alloc)?;
     rule_at_args(alloc, rule, args.as_slice())
+}
+
+/// The rows and the right side of the rule, with the polynomials of the part in place of its
+/// variables, in order. Large exactly where a polynomial on the way to them passes the limits. The
+/// polynomials of a call are borrowed.
+pub fn rule_at(alloc: Global, rule: &Rule, part: &Term) -> Result<RuleInstance, PolyEnd>
+    ensures forms { Forms PolyEnd.Large result (rule_with (matched part.now) rule.now) }
+{
+    match call_arguments(part) {
+        Some(args) => rule_at_args(alloc, rule, args),
+        None => rule_at_copies(alloc, rule, part),
+    }
 }
 
 /// The rule with those polynomials in place of its variables.
@@ -271,12 +307,9 @@ pub(crate) fn asking(
     })
 }
 
-/// The same with one new goal.
-pub(crate) fn asking_for(
-    alloc: Global,
-    rows: Items<Row>,
-    goal: Equation,
-) -> Result<FormedStep, AllocError>
+/// What a step makes that asks these rows under those of the goal, with one new goal, and that
+/// keeps nothing. Fails only where there is no memory.
+pub fn asking_for(alloc: Global, rows: Items<Row>, goal: Equation) -> Result<FormedStep, AllocError>
     ensures { IfOk result (λ f. f ≡ asking rows (goal ∷ [])) }
 {
     let mut goals = Items::new(alloc);

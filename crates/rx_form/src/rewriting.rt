@@ -22,8 +22,9 @@ use rx_poly::{Poly, PolyEnd};
 use rx_term::{Equation, Rule, Term};
 use std::alloc::{AllocError, Global};
 
-/// The goal with another term in place of the redex of that side.
-fn rewritten(
+/// The goal with another term in place of the redex of that side; what isn't replaced is copied.
+/// Fails only where there is no memory.
+pub fn rewritten(
     alloc: Global,
     goal: &Equation,
     side: Side,

@@ -1,36 +1,31 @@
 -- What comes of a rule at a redex, by its instance and by what is shown of its rows.
-use Rattle.std.proofs.Common.{◌≡◌, ◌∙◌, ap, subst, sym, refl, cond, ℕ, Bool, true, false, Option, Some, None, Ok, Err, List, []}
+use Rattle.std.proofs.Common.{◌≡◌, ◌∙◌, ap, subst, sym, refl, cond, ℕ, Bool, true, false, Option, Some, None, Ok, Err, List, [], ◌∷◌}
 use Rattle.std.specs.Prelude.{IfOk, OnOk, Result, slice_get}
 use Rattle.std.specs.Option.{option_map_or}
 use Rattle.rx_plain.specs.Formed.{Formed}
-use Rattle.rx_poly.specs.Substitution.{numbered}
-use Rattle.rx_poly.specs.declared.body.Body.{Body}
 use Rattle.rx_poly.specs.declared.poly_end.PolyEnd.{PolyEnd}
 use Rattle.rx_poly.specs.declared.poly_end.PolyEnd.TheVariants as poly_end
 use Rattle.rx_cert.specs.declared.cert.Cert.{Cert}
 use Rattle.rx_row.specs.declared.row.Row.{Row}
-use Rattle.rx_term.proofs.Equations.{arguments-Call}
-use Rattle.rx_term.proofs.TogetherLaws.{numbered_in_order}
 use Rattle.rx_term.specs.Meaning.{matched, redex_of}
-use Rattle.rx_term.specs.Variables.{arguments_of}
 use Rattle.rx_term.specs.declared.rule.Equation.{Equation}
 use Rattle.rx_term.specs.declared.rule.Rule.{Rule}
 use Rattle.rx_term.specs.declared.rule_set.RuleParts.{RuleParts}
-use Rattle.rx_term.specs.declared.term.Sym.{Sym}
 use Rattle.rx_term.specs.declared.term.Term.{Term}
-use Rattle.rx_term.specs.declared.term.Term.TheVariants.{Call}
 use Rattle.rx_form.specs.Forming.{Forming, limited, provided}
 use Rattle.rx_form.specs.Kinds.{formed}
 use Rattle.rx_form.specs.Making.{simplified_by}
 use Rattle.rx_form.specs.Pieces.{have_one_shape, rule_with, side_of}
 use Rattle.rx_form.specs.States.{State, taken}
 use Rattle.rx_form.specs.declared.form_end.FormEnd.TheVariants.{Large}
-use Rattle.rx_form.specs.declared.formed_step.Asked.{Asked}
 use Rattle.rx_form.specs.declared.formed_step.FormedStep.{FormedStep}
+use Rattle.rx_form.specs.declared.formed_step.Group.{Group}
+use Rattle.rx_form.specs.declared.formed_step.Under.TheVariants as under
 use Rattle.rx_form.specs.declared.pieces.RuleInstance.{RuleInstance}
 use Rattle.rx_form.specs.declared.step.Side.{Side}
 use Rattle.rx_form.specs.declared.step.Step.{Step}
 use Rattle.rx_form.specs.declared.step.Step.TheVariants as step
+use Rattle.rx_solve.specs.Shown.{IsAllShown}
 use Rattle.rx_solve.specs.declared.showing.AllShown.{AllShown}
 use Rattle.rx_solve.specs.declared.showing.AllShown.TheVariants as all
 use Rattle.rx_settle.specs.Answers.{IsTrial}
@@ -42,17 +37,11 @@ use Rattle.rx_settle.specs.Trying.{attempt}
 use Rattle.rx_settle.specs.declared.trial.Trial.{Trial}
 use Rattle.rx_settle.specs.declared.trying.Outcome.{Outcome}
 use Rattle.rx_settle.specs.declared.trying.Outcome.TheVariants as out
+use Rattle.rx_settle.proofs.ShowingLaws.{group_asked}
 use Rattle.rx_settle.proofs.RedexLaws.{is_at_first, is_at_redex, refused, simplified_at}
 use Rattle.rx_settle.proofs.TryingLaws.{answer_failed, answer_large, answer_taken, large_outcome, outcome_for, shown_follows}
 
 -- ---- the instance
-
--- the polynomials of a call, in place of the first variables
-pub matched_call : (t : Term) (f : Sym) (ps qs : List Body) → t ≡ Call f ps → qs ≡ ps →
-    numbered qs ≡ matched t
-matched_call t f ps qs is same =
-    ap numbered (same ∙ sym (ap arguments_of is ∙ arguments-Call f ps)) ∙
-    numbered_in_order (arguments_of t)
 
 module _ (goal : Equation) (side : Side) (redex : Term) (rule : Rule) where
   abbrev instance : Formed RuleInstance
@@ -93,22 +82,19 @@ module _ (goal : Equation) (side : Side) (redex : Term) (rule : Rule) where
 
 -- ---- its rows
 
--- a step is made of what it asks and of new goals
-pub step_of_parts : {one other : Asked} {goals more : List Equation} → one ≡ other → goals ≡
-    more →
-    (let f : FormedStep = record { asked = one; goals = goals; kept = [] } in f) ≡
-    record { asked = other; goals = more; kept = [] }
-step_of_parts e h = λ i. record { asked = e i; goals = h i; kept = [] }
+module _ (goal : Equation) (side : Side) (i : RuleInstance) (a : AllShown) (rows : List Row)
+    (same : rows ≡ i.rows) (shown : IsAllShown goal.rows rows a) where
+  asked_shown : (new : List Row) → IsAskedShown goal.rows new (rule_made goal side i).asked a
+  asked_shown new =
+      let group : Group = record { under = under.Goal; rows = i.rows } in
+      group_asked goal.rows new (group ∷ []) group a refl refl
+      (subst (λ rs. IsAllShown goal.rows rs a) same shown)
 
-module _ (goal : Equation) (side : Side) (i : RuleInstance) (asked : Asked)
-    (same : asked ≡ (rule_made goal side i).asked) (a : AllShown)
-    (shown : (new : List Row) → IsAskedShown goal.rows new asked a) where
   pub rows_follow : (x : AllShown) → a ≡ x → (state : State) → Some goal ≡
       slice_get state.goals 0 →
       Follows state (rule_made goal side i) (outcome_for (rule_made goal side i) x)
   rows_follow x is state first =
-      shown_follows state (rule_made goal side i) goal a x first
-      (λ new. subst (λ y. IsAskedShown goal.rows new y a) same (shown new)) is
+      shown_follows state (rule_made goal side i) goal a x first asked_shown is
 
   pub shown_made : (certs : List Cert) (made : FormedStep) → a ≡ all.Shown certs → made ≡
       rule_made goal side i → (state : State) → Some goal ≡ slice_get state.goals 0 →

@@ -1,5 +1,5 @@
 -- The polynomials in order are those by number.
-use Rattle.std.proofs.Common.{◌≡◌, ◌∙◌, ap, subst}
+use Rattle.std.proofs.Common.{◌∙◌, ap, subst}
 use Rattle.rx_plain.specs.Formed.{Forms}
 use Rattle.rx_poly.specs.Substitution.{numbered}
 use Rattle.rx_poly.specs.declared.poly_end.PolyEnd.TheVariants.{Large}
@@ -8,11 +8,9 @@ use Rattle.rx_term.proofs.TogetherLaws.{numbered_in_order}
 use Rattle.rx_form.specs.Pieces.{rule_with}
 use Rattle.rx_form.proofs.pieces.rule_at.Goals as goal
 
-pub returns : goal.returns
-returns c =
-    let is : c.as_slice.result.now ≡ arguments_of c.args.part.now = c.as_slice.ensures ∙
-    c.in_ok-args.ensures in
-    let same = ap numbered is ∙ numbered_in_order (arguments_of c.args.part.now) in
+pub returns-in-Some : goal.returns-in-Some
+returns-in-Some c =
+    let same = ap numbered c.in-Some.ensures ∙ numbered_in_order (arguments_of c.args.part.now) in
     record {
       forms = subst (λ ws. Forms Large c.rule_at_args.result (rule_with ws c.args.rule.now))
           same c.rule_at_args.ensures.forms;

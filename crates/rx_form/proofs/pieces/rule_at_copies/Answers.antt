@@ -6,13 +6,13 @@ use Rattle.rx_poly.specs.declared.poly_end.PolyEnd.TheVariants.{Large}
 use Rattle.rx_term.specs.Variables.{arguments_of}
 use Rattle.rx_term.proofs.TogetherLaws.{numbered_in_order}
 use Rattle.rx_form.specs.Pieces.{rule_with}
-use Rattle.rx_settle.proofs.rule_steps.rule_at_copies.Goals as goal
+use Rattle.rx_form.proofs.pieces.rule_at_copies.Goals as goal
 
 pub returns : goal.returns
 returns c =
-    let is : c.as_slice.result.now ≡ arguments_of c.args.redex.now = c.as_slice.ensures ∙
+    let is : c.as_slice.result.now ≡ arguments_of c.args.part.now = c.as_slice.ensures ∙
     c.in_ok-args.ensures in
-    let same = ap numbered is ∙ numbered_in_order (arguments_of c.args.redex.now) in
+    let same = ap numbered is ∙ numbered_in_order (arguments_of c.args.part.now) in
     record {
       forms = subst (λ ws. Forms Large c.rule_at_args.result (rule_with ws c.args.rule.now))
           same c.rule_at_args.ensures.forms;
