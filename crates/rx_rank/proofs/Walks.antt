@@ -1,9 +1,10 @@
--- Lists of references, from a place on and up to a place; and two lists that go together.
-use Rattle.std.proofs.Common.{◌≡◌, ◌∙◌, ap, sym, refl, cond, arith, ℕ, zero, suc, ◌+◌, ◌-◌, ◌==◌, ◌<◌, ◌≤◌, ◌↔◌, Bool, true, false, ◌||◌, not, Option, Some, None, List, [], ◌∷◌, ◌++◌, append_assoc, length, drop, drop_of_length-le, get_or, map, slice_get, take}
+-- Lists from a place on and up to a place; and two lists that go together.
+use Rattle.std.proofs.Common.{◌≡◌, ◌∙◌, ap, sym, subst, refl, cond, arith, ℕ, zero, suc, ◌+◌, ◌-◌, ◌==◌, ◌<◌, ◌≤◌, ◌↔◌, Bool, true, false, ◌||◌, not, Option, Some, None, List, [], ◌∷◌, ◌++◌, append_assoc, length, drop, drop_of_length-le, get_or, map, slice_get, slice_set, take}
 use Rattle.std.proofs.lemmas.Bool.{eq-eqb, ne_eqb}
 use Rattle.std.specs.List.{AllZip, filter, find, list_any, range_with_len}
 use Rattle.std.specs.Option.{is_some, option_map, option_map_or}
-use Rattle.std.proofs.lemmas.List.{map-append, take_more}
+use Rattle.std.proofs.lemmas.List.{set-get_or, take_more}
+use Rattle.std.proofs.lemmas.Option.{slice_get-get_or}
 use denote.Ref.{Bor}
 use Rattle.rx_poly.proofs.Same.{body_eq, body_eq-refl, body_eq-sound}
 use Rattle.rx_poly.proofs.TermLaws.{by_false}
@@ -12,19 +13,21 @@ use Rattle.rx_cert.specs.Findings.{Said, Yes, No, Beyond, and_also}
 use Rattle.rx_cert.specs.declared.cert.Cert.{Cert}
 use Rattle.rx_solve.specs.Attempts.{Tried}
 use Rattle.rx_pairs.specs.declared.pair.Pair.{Pair}
-use Rattle.rx_term.proofs.Places.{at_some, from_place}
-use Rattle.rx_rank.specs.Answers.{IsDecided, only_shown, pairs_at, still_open}
-use Rattle.rx_rank.specs.Choices.{all_hold, falling, falls_by, hold_with, holds_by, is_beyond, is_ready, is_yes, next_first, not_falling, order_by, polynomial_of, tested, with_choice, without, without_polynomials}
+use Rattle.rx_term.proofs.Places.{from_place}
+use Rattle.rx_rank.specs.Answers.{IsDecided, only_shown, still_open}
+use Rattle.rx_rank.specs.Choices.{all_hold, falling, falls_by, hold_with, holds_by, is_beyond, is_ready, is_yes, next_first, not_falling, order_by, pairs_from, polynomial_of, tested, with_choice, without, without_polynomials}
 use Rattle.rx_rank.specs.PairTests.{holds}
 use Rattle.rx_rank.specs.Components.{is_member}
 
 -- from a place on
-pub refs_from : {A : Type 0} (refs : List (Bor A)) (i : ℕ) (r : Bor A) → i < length refs → r ≡
-    get_or refs i r
-    → map (λ (s : Bor A). s.now) (drop i refs) ≡ r.now ∷
-    map (λ (s : Bor A). s.now) (drop (i + 1) refs)
-refs_from {A} refs i r h is =
-    ap (map (λ (s : Bor A). s.now)) (from_place refs i r (at_some refs i r r h is))
+pub next_from : {A : Type 0} (xs : List A) (i : ℕ) (d : A) → i < length xs → drop i xs ≡
+    get_or xs i d ∷ drop (i + 1) xs
+next_from xs i d h = from_place xs i (get_or xs i d) (slice_get-get_or xs i d h)
+
+-- what is put at a place is what is there
+pub put_same : {A : Type 0} (xs : List A) (i : ℕ) (d y : A) → y ≡ get_or xs i d → slice_set xs i y ≡
+    xs
+put_same xs i d y same = ap (slice_set xs i) same ∙ set-get_or xs i d
 
 -- two lists go together, and one more of each
 pub zip_more : {A B : Type 0} (R : A → B → Type 0) (xs : List A) (ys : List B) (x : A) (y : B) →
@@ -33,6 +36,16 @@ zip_more R [] [] x y all r = (r, all)
 zip_more R [] (z ∷ zs) x y all r = absurd all
 zip_more R (w ∷ ws) [] x y all r = absurd all
 zip_more R (w ∷ ws) (z ∷ zs) x y all r = (all.0, zip_more R ws zs x y all.1 r)
+
+-- one more of those up to a place
+pub zip_next : {A B : Type 0} (R : A → B → Type 0) (xs after : List A) (ys more : List B) (i : ℕ)
+    (d : A) (y : B) → i < length xs → after ≡ xs → more ≡ ys ++ y ∷ [] → AllZip R (take i xs) ys →
+    R (get_or xs i d) y → AllZip R (take (i + 1) after) more
+zip_next R xs after ys more i d y h same made all r =
+    subst (λ zs. AllZip R (take (i + 1) zs) more) (sym same)
+    (subst (λ zs. AllZip R zs more) (sym (take_more xs i d h))
+    (subst (AllZip R (take i xs ++ get_or xs i d ∷ [])) (sym made)
+    (zip_more R (take i xs) ys (get_or xs i d) y all r)))
 
 -- where no candidate is left, nothing is given
 pub no_more_choice : (values : List (Option Body)) (fs : List ℕ) (refs : List (Bor Body)) (i : ℕ) →
@@ -148,24 +161,33 @@ goes_on Yes later e = refl
 goes_on No later e = cc
 goes_on Beyond later e = cc
 
--- one pair more, with a polynomial for its symbol
-pub next_with : (values : List (Option Body)) (p : Body) (refs : List (Bor Pair)) (i : ℕ)
-    (r : Bor Pair) → i < length refs → r ≡ get_or refs i r
-    → (s : Said) → s ≡ tested (holds r.now) (Some p) (polynomial_of values r.now.right.0)
-    → hold_with values p (pairs_at (drop i refs)) ≡
-    and_also s (hold_with values p (pairs_at (drop (i + 1) refs)))
-next_with values p refs i r h is s found =
-    ap (hold_with values p) (refs_from refs i r h is) ∙
-    ap (λ t. and_also t (hold_with values p (pairs_at (drop (i + 1) refs)))) (sym found)
+-- a pair is asked where it is of the symbol
+with_one : (values : List (Option Body)) (p : Body) (pair : Pair) (others : List Pair) (b : Bool) →
+    hold_with values p (cond b (pair ∷ others) others) ≡
+    and_also (cond b (tested (holds pair) (Some p) (polynomial_of values pair.right.0)) Yes)
+    (hold_with values p others)
+with_one values p pair others true = refl
+with_one values p pair others false = refl
+
+-- one pair more, with a polynomial for the symbol
+pub next_with : (values : List (Option Body)) (p : Body) (f : ℕ) (pairs : List Pair) (i : ℕ)
+    (d : Pair) → i < length pairs → (s : Said) → s ≡ cond ((get_or pairs i d).left.0 == f)
+    (tested (holds (get_or pairs i d)) (Some p)
+    (polynomial_of values (get_or pairs i d).right.0)) Yes
+    → hold_with values p (pairs_from f (drop i pairs)) ≡
+    and_also s (hold_with values p (pairs_from f (drop (i + 1) pairs)))
+next_with values p f pairs i d h s found =
+    let pair = get_or pairs i d in
+    let later = pairs_from f (drop (i + 1) pairs) in
+    ap (λ ps. hold_with values p (pairs_from f ps)) (next_from pairs i d h) ∙
+    with_one values p pair later (pair.left.0 == f) ∙
+    ap (λ t. and_also t (hold_with values p later)) (sym found)
 
 -- one pair more, with the polynomials of its symbols
-pub next_hold : (values : List (Option Body)) (refs : List (Bor Pair)) (i : ℕ) (r : Bor Pair) → i <
-    length refs → r ≡ get_or refs i r
-    → (s : Said) → holds_by values r.now ≡ s → all_hold values (pairs_at (drop i refs)) ≡
-    and_also s (all_hold values (pairs_at (drop (i + 1) refs)))
-next_hold values refs i r h is s found =
-    ap (all_hold values) (refs_from refs i r h is) ∙
-    ap (λ t. and_also t (all_hold values (pairs_at (drop (i + 1) refs)))) found
+pub next_hold : (values : List (Option Body)) (pairs : List Pair) (i : ℕ) (d : Pair) → i <
+    length pairs → all_hold values (drop i pairs) ≡
+    and_also (holds_by values (get_or pairs i d)) (all_hold values (drop (i + 1) pairs))
+next_hold values pairs i d h = ap (all_hold values) (next_from pairs i d h)
 
 -- ---- fits
 
@@ -198,16 +220,6 @@ module _ {A : Type 0} (made : Option A) (noted : Bool) (s : Said)
           ap (λ n. record { made = None; noted = n }) (ap (λ (t : Tried (Unit {0})). t.noted) f)
       by Beyond f =
           ap (λ n. record { made = None; noted = n }) (ap (λ (t : Tried (Unit {0})). t.noted) f)
-
--- up to a place
-pub refs_until : {A : Type 0} (refs : List (Bor A)) (i : ℕ) (r : Bor A) → i < length refs → r ≡
-    get_or refs i r
-    → map (λ (s : Bor A). s.now) (take (i + 1) refs) ≡ map (λ (s : Bor A). s.now) (take i refs) ++
-    r.now ∷ []
-refs_until {A} refs i r h is =
-    ap (map (λ (s : Bor A). s.now)) (take_more refs i r h ∙
-    ap (λ x. take i refs ++ x ∷ []) (sym is)) ∙
-    map-append (λ (s : Bor A). s.now) (take i refs) (r ∷ [])
 
 module _ (values : List (Option Body)) where
   -- the pairs without certificates are those that don't fall

@@ -1,5 +1,5 @@
--- What a memo keeps of pairs: answers of tests, each of which is right.
-use Rattle.std.specs.Prelude.{◌≡◌, ℕ, Some, All, List, slice_get}
+-- What is kept of a pair: answers of tests, each of which is right.
+use Rattle.std.specs.Prelude.{All, List}
 use Rattle.rx_plain.specs.Formed.{Formed}
 use Rattle.rx_poly.specs.declared.body.Body.{Body}
 use Rattle.rx_row.specs.declared.row.Row.{Row}
@@ -9,10 +9,9 @@ use Rattle.rx_pairs.specs.Columns.{falls_rows, holds_rows}
 use Rattle.rx_pairs.specs.declared.pair.Pair.{Pair}
 use Rattle.rx_rank.specs.Answers.{IsTold}
 use Rattle.rx_rank.specs.PairTests.{falls, holds}
-use Rattle.rx_rank.specs.declared.pair_memo.KnownAnswer.{KnownAnswer}
-use Rattle.rx_rank.specs.declared.pair_memo.KnownPair.{KnownPair}
-use Rattle.rx_rank.specs.declared.pair_memo.PairTest.{PairTest}
-use Rattle.rx_rank.specs.declared.pair_memo.PairTest.TheVariants.{Holds, Falls}
+use Rattle.rx_rank.specs.declared.known_pair.KnownAnswer.{KnownAnswer}
+use Rattle.rx_rank.specs.declared.known_pair.PairTest.{PairTest}
+use Rattle.rx_rank.specs.declared.known_pair.PairTest.TheVariants.{Holds, Falls}
 
 -- what is said of the test by these polynomials of the left and the right symbol
 abbrev pub said_of : PairTest → Pair → Body → Body → Said
@@ -34,13 +33,3 @@ IsRight pair known = Tells known.test pair known.left known.right known.answer
 
 abbrev pub AreRight : Pair → List KnownAnswer → Type 0
 AreRight pair answers = All (IsRight pair) answers
-
--- so are all that are kept
-abbrev pub AreRightPairs : List KnownPair → Type 0
-AreRightPairs pairs = All (λ (known : KnownPair). AreRight known.pair known.answers.items) pairs
-
--- the pair has that place
-pub record HasPair (pair : Pair) (pairs : List KnownPair) (at : ℕ) : Type 0 where
-  pub known : KnownPair
-  pub there : slice_get pairs at ≡ Some known
-  pub same : known.pair ≡ pair

@@ -1,7 +1,7 @@
 //! What comes of the choices, in order.
 ghost use Rattle.std.specs.Prelude.{◌≡◌, map, take, IfOk, IfSome, List};
 ghost use Rattle.rx_poly.specs.declared.body.Body.{Body};
-ghost use Rattle.rx_rank.specs.Answers.{IsChosen, IsFirstFit, choices_at, lists_in, pairs_at, polys_at, still_open, tried_as};
+ghost use Rattle.rx_rank.specs.Answers.{IsChosen, IsFirstFit, choices_at, lists_in, polys_at, still_open, tried_as};
 ghost use Rattle.rx_rank.specs.Choices.{choosing, products};
 ghost use Rattle.rx_rank.specs.Ranking.{first_fit, most_choices};
 ghost use Rattle.rx_solve.specs.Answers.{IsSolver};
@@ -12,11 +12,10 @@ use crate::attempt::Attempt;
 use crate::choices::choices;
 use crate::filling::filled;
 use crate::fitting::{Fit, fitting};
-use crate::pair_memo::PairMemo;
+use crate::known_pair::KnownPair;
 use crate::values::choice_values;
 use rx_cert::Cert;
 use rx_fm::FmEnd;
-use rx_pairs::Pair;
 use rx_plain::NoMemory;
 use rx_poly::Poly;
 use rx_row::Constraint;
@@ -27,28 +26,28 @@ use std::alloc::Global;
 fn choosing<S: FnMut(&Constraint) -> Result<Option<Cert>, FmEnd>>(
     alloc: Global,
     infos: &[SymInfo],
-    pairs: &[&Pair],
+    pairs: &mut [KnownPair],
     anchors: &[u32],
     order: &[u32],
     choice: &[&Poly],
-    memo: &mut PairMemo,
     solve: &mut S,
 ) -> Result<Attempt<Fit>, NoMemory>
     requires solver { IsSolver S.FnMut solve.old }
     ensures solver { IsSolver S.FnMut solve.new }
+    ensures pairs { pairs.new ≡ pairs.old }
     ensures tried { IfOk result (λ t. tried_as
-        (λ fit. still_open (pairs_at pairs.now) fit.falls.items) t ≡
-        choosing infos.now (pairs_at pairs.now) anchors.now order.now (polys_at choice.now)) }
+        (λ fit. still_open pairs.old fit.falls.items) t ≡
+        choosing infos.now pairs.old anchors.now order.now (polys_at choice.now)) }
     ensures fit { IfOk result (λ t. IfSome t.made
-        (IsChosen infos.now (pairs_at pairs.now) anchors.now order.now (polys_at choice.now))) }
+        (IsChosen infos.now pairs.old anchors.now order.now (polys_at choice.now))) }
 {
     let start = choice_values(alloc, infos.len(), anchors, choice)?;
-    let attempt = filled(alloc, infos, pairs, start, order, memo, solve)?;
+    let attempt = filled(alloc, infos, pairs, start, order, solve)?;
     let noted = attempt.noted;
     let Some(values) = attempt.made else {
         return Ok(Attempt { made: None, noted });
     };
-    let fit = fitting(alloc, values, pairs, memo, solve)?;
+    let fit = fitting(alloc, values, pairs, solve)?;
     Ok(Attempt {
         made: fit.made,
         noted: noted || fit.noted,
@@ -59,21 +58,21 @@ fn choosing<S: FnMut(&Constraint) -> Result<Option<Cert>, FmEnd>>(
 fn first_chosen<S: FnMut(&Constraint) -> Result<Option<Cert>, FmEnd>>(
     alloc: Global,
     infos: &[SymInfo],
-    pairs: &[&Pair],
+    pairs: &mut [KnownPair],
     anchors: &[u32],
     order: &[u32],
     choices: &[Vec<&Poly>],
-    memo: &mut PairMemo,
     solve: &mut S,
 ) -> Result<Attempt<Fit>, NoMemory>
     requires solver { IsSolver S.FnMut solve.old }
     ensures solver { IsSolver S.FnMut solve.new }
+    ensures pairs { pairs.new ≡ pairs.old }
     ensures tried { IfOk result (λ t. tried_as
-        (λ fit. still_open (pairs_at pairs.now) fit.falls.items) t ≡
-        first_applying (map (choosing infos.now (pairs_at pairs.now) anchors.now order.now)
+        (λ fit. still_open pairs.old fit.falls.items) t ≡
+        first_applying (map (choosing infos.now pairs.old anchors.now order.now)
         (choices_at choices.now))) }
     ensures fit { IfOk result (λ t. IfSome t.made
-        (IsFirstFit infos.now (pairs_at pairs.now) anchors.now order.now (choices_at choices.now))) }
+        (IsFirstFit infos.now pairs.old anchors.now order.now (choices_at choices.now))) }
 {
     let mut noted = false;
     for choice in choices {
@@ -84,7 +83,6 @@ fn first_chosen<S: FnMut(&Constraint) -> Result<Option<Cert>, FmEnd>>(
             anchors,
             order,
             choice.as_slice(),
-            memo,
             solve,
         )?;
         noted = noted || attempt.noted;
@@ -102,31 +100,22 @@ fn first_chosen<S: FnMut(&Constraint) -> Result<Option<Cert>, FmEnd>>(
 pub(crate) fn first_fit<S: FnMut(&Constraint) -> Result<Option<Cert>, FmEnd>>(
     alloc: Global,
     infos: &[SymInfo],
-    pairs: &[&Pair],
+    pairs: &mut [KnownPair],
     anchors: &[u32],
     lists: &[Vec<Poly>],
     order: &[u32],
-    memo: &mut PairMemo,
     solve: &mut S,
 ) -> Result<Attempt<Fit>, NoMemory>
     requires solver { IsSolver S.FnMut solve.old }
     ensures solver { IsSolver S.FnMut solve.new }
+    ensures pairs { pairs.new ≡ pairs.old }
     ensures tried { IfOk result (λ t. tried_as
-        (λ fit. still_open (pairs_at pairs.now) fit.falls.items) t ≡
-        first_fit infos.now (pairs_at pairs.now) anchors.now (lists_in lists.now) (Some order.now)) }
+        (λ fit. still_open pairs.old fit.falls.items) t ≡
+        first_fit infos.now pairs.old anchors.now (lists_in lists.now) (Some order.now)) }
     ensures fit { IfOk result (λ t. IfSome t.made
-        (IsFirstFit infos.now (pairs_at pairs.now) anchors.now order.now
+        (IsFirstFit infos.now pairs.old anchors.now order.now
         (take most_choices (products (lists_in lists.now))))) }
 {
     let all = choices(alloc, lists)?;
-    first_chosen(
-        alloc,
-        infos,
-        pairs,
-        anchors,
-        order,
-        all.as_slice(),
-        memo,
-        solve,
-    )
+    first_chosen(alloc, infos, pairs, anchors, order, all.as_slice(), solve)
 }

@@ -1,7 +1,8 @@
 //! One component of the graph of open pairs.
-ghost use Rattle.std.specs.Prelude.{◌≡◌, IfOk, IfSome};
-ghost use Rattle.rx_rank.specs.Answers.{IsComponentFit, pairs_at, still_open, tried_as};
-ghost use Rattle.rx_rank.specs.Ranking.{component};
+ghost use Rattle.std.specs.Prelude.{◌≡◌, IfOk, IfSome, Some, take};
+ghost use Rattle.rx_rank.specs.Answers.{IsComponentFit, IsFirstFit, lists_in, pairs_at, still_open, tried_as};
+ghost use Rattle.rx_rank.specs.Choices.{products};
+ghost use Rattle.rx_rank.specs.Ranking.{component, first_fit, most_choices};
 ghost use Rattle.rx_solve.specs.Answers.{IsSolver};
 
 use crate::attempt::{Attempt, noted_before};
@@ -15,9 +16,45 @@ use rx_cert::Cert;
 use rx_fm::FmEnd;
 use rx_pairs::Pair;
 use rx_plain::NoMemory;
+use rx_poly::Poly;
 use rx_row::Constraint;
-use rx_term::{Rule, RuleParts};
+use rx_term::{Rule, RuleParts, SymInfo};
 use std::alloc::Global;
+
+/// The first choice of candidates that is fit. What the memo has of the pairs is used, and it keeps
+/// what is found out of them.
+fn first_fit_with<S: FnMut(&Constraint) -> Result<Option<Cert>, FmEnd>>(
+    alloc: Global,
+    infos: &[SymInfo],
+    pairs: &[&Pair],
+    anchors: &[u32],
+    lists: &[Vec<Poly>],
+    order: &[u32],
+    memo: &mut PairMemo,
+    solve: &mut S,
+) -> Result<Attempt<Fit>, NoMemory>
+    requires solver { IsSolver S.FnMut solve.old }
+    ensures solver { IsSolver S.FnMut solve.new }
+    ensures tried { IfOk result (λ t. tried_as
+        (λ fit. still_open (pairs_at pairs.now) fit.falls.items) t ≡
+        first_fit infos.now (pairs_at pairs.now) anchors.now (lists_in lists.now) (Some order.now)) }
+    ensures fit { IfOk result (λ t. IfSome t.made
+        (IsFirstFit infos.now (pairs_at pairs.now) anchors.now order.now
+        (take most_choices (products (lists_in lists.now))))) }
+{
+    let mut known = memo.take(alloc, pairs)?;
+    let fit = first_fit(
+        alloc,
+        infos,
+        known.as_mut_slice(),
+        anchors,
+        lists,
+        order,
+        solve,
+    )?;
+    memo.put_back(known)?;
+    Ok(fit)
+}
 
 /// The first fit choice of the component with that name, whose pairs these are: the polynomials of
 /// its symbols, with the certificates by which all pairs hold and some fall. All candidates are
@@ -53,7 +90,7 @@ pub fn fit_component<S: FnMut(&Constraint) -> Result<Option<Cert>, FmEnd>>(
         }),
         Some(order) => {
             let lists = all.lists.as_slice();
-            let fit = first_fit(
+            let fit = first_fit_with(
                 alloc,
                 infos,
                 pairs,

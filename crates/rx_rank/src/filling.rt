@@ -1,16 +1,18 @@
 //! The polynomials of the symbols that are no anchors: each takes one from those that its pairs
 //! lead to.
-ghost use Rattle.std.specs.Prelude.{◌≡◌, IfOk, Some};
-ghost use Rattle.rx_rank.specs.Answers.{found, pairs_at, tried, tried_as};
+ghost use Rattle.std.specs.Prelude.{◌≡◌, ◌==◌, IfOk, Some, if◌then◌else◌};
+ghost use Rattle.rx_cert.specs.Findings.{Yes};
+ghost use Rattle.rx_rank.specs.Answers.{found, tried, tried_as};
 ghost use Rattle.rx_rank.specs.Candidates.{arity_of};
-ghost use Rattle.rx_rank.specs.Choices.{filled, first_serving, from_target, hold_with, pairs_from, polynomial_of, serving, tested};
+ghost use Rattle.rx_rank.specs.Choices.{filled, first_serving, hold_with, instance_on, pairs_from, polynomial_of, serving, tested};
 ghost use Rattle.rx_rank.specs.PairTests.{holds};
+ghost use Rattle.rx_rank.specs.Tries.{and_then};
 ghost use Rattle.rx_solve.specs.Answers.{IsSolver};
+ghost use Rattle.rx_solve.specs.Attempts.{fails};
 
-use crate::attempt::{Attempt, Finding};
+use crate::attempt::{Attempt, Finding, noted_before};
+use crate::known_pair::KnownPair;
 use crate::members::arity_of;
-use crate::order::pairs_from;
-use crate::pair_memo::PairMemo;
 use crate::values::{polynomial_of, put_polynomial};
 use rx_cert::Cert;
 use rx_fm::FmEnd;
@@ -21,41 +23,49 @@ use rx_row::Constraint;
 use rx_term::SymInfo;
 use std::alloc::Global;
 
-/// Whether a column holds at the pair, with that polynomial for its left symbol.
+/// Whether a column holds at the pair, with that polynomial for this symbol, where it is the pair's
+/// left one; at pairs of other symbols nothing is asked.
 fn holds_with<S: FnMut(&Constraint) -> Result<Option<Cert>, FmEnd>>(
     alloc: Global,
     values: &[Option<Poly>],
+    symbol: u32,
     poly: &Poly,
-    pair: &Pair,
-    memo: &mut PairMemo,
+    known: &mut KnownPair,
     solve: &mut S,
 ) -> Result<Finding, NoMemory>
     requires solver { IsSolver S.FnMut solve.old }
     ensures solver { IsSolver S.FnMut solve.new }
-    ensures found { IfOk result (λ f. found f ≡
-        tested (holds pair.now) (Some poly.now) (polynomial_of values.now pair.now.right.0)) }
+    ensures pair { known.new ≡ known.old }
+    ensures found { IfOk result (λ f. found f ≡ (if known.old.left.0 == symbol then
+        tested (holds known.old) (Some poly.now) (polynomial_of values.now known.old.right.0)
+        else Yes)) }
 {
-    let Some(target) = polynomial_of(values, pair.right.0) else {
+    if known.pair().left.0 != symbol {
+        return Ok(Finding::Shown);
+    }
+    let Some(target) = polynomial_of(values, known.pair().right.0) else {
         return Ok(Finding::NotShown);
     };
-    memo.is_held(alloc, pair, poly, target, solve)
+    known.is_held(alloc, poly, target, solve)
 }
 
-/// Whether a column holds at these pairs of one symbol, with that polynomial for it.
+/// Whether a column holds at all pairs of the symbol, with that polynomial for it.
 fn all_hold_with<S: FnMut(&Constraint) -> Result<Option<Cert>, FmEnd>>(
     alloc: Global,
     values: &[Option<Poly>],
+    symbol: u32,
     poly: &Poly,
-    pairs: &[&Pair],
-    memo: &mut PairMemo,
+    pairs: &mut [KnownPair],
     solve: &mut S,
 ) -> Result<Finding, NoMemory>
     requires solver { IsSolver S.FnMut solve.old }
     ensures solver { IsSolver S.FnMut solve.new }
-    ensures found { IfOk result (λ f. found f ≡ hold_with values.now poly.now (pairs_at pairs.now)) }
+    ensures pairs { pairs.new ≡ pairs.old }
+    ensures found { IfOk result (λ f. found f ≡
+        hold_with values.now poly.now (pairs_from symbol pairs.old)) }
 {
-    for pair in pairs {
-        let finding = holds_with(alloc, values, poly, *pair, memo, solve)?;
+    for known in pairs.iter_mut() {
+        let finding = holds_with(alloc, values, symbol, poly, known, solve)?;
         if !finding.is_shown() {
             return Ok(finding);
         }
@@ -63,20 +73,22 @@ fn all_hold_with<S: FnMut(&Constraint) -> Result<Option<Cert>, FmEnd>>(
     Ok(Finding::Shown)
 }
 
-/// The polynomial for a symbol with that many arguments and these pairs, where it serves: it is
-/// over these arguments, and a column holds at all of them with it.
+/// The polynomial for the symbol, which has that many arguments, where it serves: it is over these
+/// arguments, and a column holds at all pairs of the symbol with it.
 fn serving<S: FnMut(&Constraint) -> Result<Option<Cert>, FmEnd>>(
     alloc: Global,
     arity: u32,
     values: &[Option<Poly>],
-    pairs: &[&Pair],
+    symbol: u32,
+    pairs: &mut [KnownPair],
     poly: Poly,
-    memo: &mut PairMemo,
     solve: &mut S,
 ) -> Result<Attempt<Poly>, NoMemory>
     requires solver { IsSolver S.FnMut solve.old }
     ensures solver { IsSolver S.FnMut solve.new }
-    ensures tried { IfOk result (λ t. tried t ≡ serving arity values.now (pairs_at pairs.now) poly) }
+    ensures pairs { pairs.new ≡ pairs.old }
+    ensures tried { IfOk result (λ t. tried t ≡
+        serving arity values.now (pairs_from symbol pairs.old) poly) }
 {
     if !uses_below(&poly, arity) {
         return Ok(Attempt {
@@ -84,7 +96,7 @@ fn serving<S: FnMut(&Constraint) -> Result<Option<Cert>, FmEnd>>(
             noted: false,
         });
     }
-    match all_hold_with(alloc, values, &poly, pairs, memo, solve)? {
+    match all_hold_with(alloc, values, symbol, &poly, pairs, solve)? {
         Finding::Shown => Ok(Attempt {
             made: Some(poly),
             noted: false,
@@ -100,21 +112,22 @@ fn serving<S: FnMut(&Constraint) -> Result<Option<Cert>, FmEnd>>(
     }
 }
 
-/// The instance of the polynomial that the pair leads to, where it serves.
-fn from_target<S: FnMut(&Constraint) -> Result<Option<Cert>, FmEnd>>(
+/// The instance of the polynomial that the pair leads to, where this symbol is the pair's left one.
+fn instance_from(
     alloc: Global,
-    arity: u32,
     values: &[Option<Poly>],
-    pairs: &[&Pair],
+    symbol: u32,
     pair: &Pair,
-    memo: &mut PairMemo,
-    solve: &mut S,
 ) -> Result<Attempt<Poly>, NoMemory>
-    requires solver { IsSolver S.FnMut solve.old }
-    ensures solver { IsSolver S.FnMut solve.new }
-    ensures tried { IfOk result (λ t. tried t ≡
-        from_target arity values.now (pairs_at pairs.now) pair.now) }
+    ensures { IfOk result (λ t. tried t ≡ (if pair.now.left.0 == symbol then
+        instance_on pair.now (polynomial_of values.now pair.now.right.0) else fails)) }
 {
+    if pair.left.0 != symbol {
+        return Ok(Attempt {
+            made: None,
+            noted: false,
+        });
+    }
     let Some(target) = polynomial_of(values, pair.right.0) else {
         return Ok(Attempt {
             made: None,
@@ -122,7 +135,10 @@ fn from_target<S: FnMut(&Constraint) -> Result<Option<Cert>, FmEnd>>(
         });
     };
     match on_right(alloc, pair, target) {
-        Ok(poly) => serving(alloc, arity, values, pairs, poly, memo, solve),
+        Ok(poly) => Ok(Attempt {
+            made: Some(poly),
+            noted: false,
+        }),
         Err(PolyEnd::Large) => Ok(Attempt {
             made: None,
             noted: true,
@@ -131,22 +147,49 @@ fn from_target<S: FnMut(&Constraint) -> Result<Option<Cert>, FmEnd>>(
     }
 }
 
-/// The first that serves, in the order of the symbol's pairs.
-fn first_serving<S: FnMut(&Constraint) -> Result<Option<Cert>, FmEnd>>(
+/// The instance, where there is one and it serves.
+fn serving_instance<S: FnMut(&Constraint) -> Result<Option<Cert>, FmEnd>>(
     alloc: Global,
     arity: u32,
     values: &[Option<Poly>],
-    pairs: &[&Pair],
-    memo: &mut PairMemo,
+    symbol: u32,
+    pairs: &mut [KnownPair],
+    instance: Attempt<Poly>,
     solve: &mut S,
 ) -> Result<Attempt<Poly>, NoMemory>
     requires solver { IsSolver S.FnMut solve.old }
     ensures solver { IsSolver S.FnMut solve.new }
-    ensures tried { IfOk result (λ t. tried t ≡ first_serving arity values.now (pairs_at pairs.now)) }
+    ensures pairs { pairs.new ≡ pairs.old }
+    ensures tried { IfOk result (λ t. tried t ≡
+        and_then (tried instance) (serving arity values.now (pairs_from symbol pairs.old))) }
+{
+    let noted = instance.noted;
+    let Some(poly) = instance.made else {
+        return Ok(Attempt { made: None, noted });
+    };
+    let attempt = serving(alloc, arity, values, symbol, pairs, poly, solve)?;
+    Ok(noted_before(noted, attempt))
+}
+
+/// The first instance that serves, in the order of the symbol's pairs.
+fn first_serving<S: FnMut(&Constraint) -> Result<Option<Cert>, FmEnd>>(
+    alloc: Global,
+    arity: u32,
+    values: &[Option<Poly>],
+    symbol: u32,
+    pairs: &mut [KnownPair],
+    solve: &mut S,
+) -> Result<Attempt<Poly>, NoMemory>
+    requires solver { IsSolver S.FnMut solve.old }
+    ensures solver { IsSolver S.FnMut solve.new }
+    ensures pairs { pairs.new ≡ pairs.old }
+    ensures tried { IfOk result (λ t. tried t ≡
+        first_serving arity values.now (pairs_from symbol pairs.old)) }
 {
     let mut noted = false;
-    for pair in pairs {
-        let attempt = from_target(alloc, arity, values, pairs, *pair, memo, solve)?;
+    for at in 0..pairs.len() {
+        let instance = instance_from(alloc, values, symbol, pairs[at].pair())?;
+        let attempt = serving_instance(alloc, arity, values, symbol, pairs, instance, solve)?;
         noted = noted || attempt.noted;
         if attempt.made.is_some() {
             return Ok(Attempt {
@@ -158,54 +201,26 @@ fn first_serving<S: FnMut(&Constraint) -> Result<Option<Cert>, FmEnd>>(
     Ok(Attempt { made: None, noted })
 }
 
-/// The polynomial of one symbol.
-fn symbol_polynomial<S: FnMut(&Constraint) -> Result<Option<Cert>, FmEnd>>(
-    alloc: Global,
-    infos: &[SymInfo],
-    pairs: &[&Pair],
-    values: &[Option<Poly>],
-    symbol: u32,
-    memo: &mut PairMemo,
-    solve: &mut S,
-) -> Result<Attempt<Poly>, NoMemory>
-    requires solver { IsSolver S.FnMut solve.old }
-    ensures solver { IsSolver S.FnMut solve.new }
-    ensures tried { IfOk result (λ t. tried t ≡
-        first_serving (arity_of infos.now symbol) values.now
-        (pairs_from symbol (pairs_at pairs.now))) }
-{
-    let own = pairs_from(alloc, pairs, symbol)?;
-    let arity = arity_of(infos, symbol);
-    first_serving(alloc, arity, values, own.as_slice(), memo, solve)
-}
-
 /// The polynomials with those of the symbols in order, up to the first without one.
 pub(crate) fn filled<S: FnMut(&Constraint) -> Result<Option<Cert>, FmEnd>>(
     alloc: Global,
     infos: &[SymInfo],
-    pairs: &[&Pair],
+    pairs: &mut [KnownPair],
     start: Vec<Option<Poly>>,
     order: &[u32],
-    memo: &mut PairMemo,
     solve: &mut S,
 ) -> Result<Attempt<Vec<Option<Poly>>>, NoMemory>
     requires solver { IsSolver S.FnMut solve.old }
     ensures solver { IsSolver S.FnMut solve.new }
+    ensures pairs { pairs.new ≡ pairs.old }
     ensures tried { IfOk result (λ t. tried_as (λ v. v.items) t ≡
-        filled infos.now (pairs_at pairs.now) start.items order.now) }
+        filled infos.now pairs.old start.items order.now) }
 {
     let mut values = start;
     let mut noted = false;
     for symbol in order {
-        let attempt = symbol_polynomial(
-            alloc,
-            infos,
-            pairs,
-            values.as_slice(),
-            *symbol,
-            memo,
-            solve,
-        )?;
+        let arity = arity_of(infos, *symbol);
+        let attempt = first_serving(alloc, arity, values.as_slice(), *symbol, pairs, solve)?;
         noted = noted || attempt.noted;
         let Some(poly) = attempt.made else {
             return Ok(Attempt { made: None, noted });

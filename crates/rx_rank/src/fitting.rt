@@ -1,16 +1,15 @@
 //! Whether a choice is fit: all pairs of the component hold, and one falls.
 ghost use Rattle.std.specs.Prelude.{◌≡◌, IfOk, IfSome, is_some};
 ghost use Rattle.std.specs.List.{AllZip, list_any};
-ghost use Rattle.rx_rank.specs.Answers.{IsDecided, IsFit, IsHeld, TellsFalls, TellsHolds, only_shown, pairs_at, still_open, tried_as, tried_only};
+ghost use Rattle.rx_rank.specs.Answers.{IsDecided, IsFit, IsHeld, TellsFalls, TellsHolds, only_shown, still_open, tried_as, tried_only};
 ghost use Rattle.rx_rank.specs.Choices.{all_hold, falling, falls_by, fitting, holds_by, is_beyond};
 ghost use Rattle.rx_solve.specs.Answers.{IsSolver};
 
 use crate::attempt::Attempt;
-use crate::pair_memo::PairMemo;
+use crate::known_pair::KnownPair;
 use crate::values::polynomial_of;
 use rx_cert::Cert;
 use rx_fm::FmEnd;
-use rx_pairs::Pair;
 use rx_plain::{Items, NoMemory};
 use rx_poly::Poly;
 use rx_row::Constraint;
@@ -32,58 +31,58 @@ pub struct Fit {
 fn holds_by<S: FnMut(&Constraint) -> Result<Option<Cert>, FmEnd>>(
     alloc: Global,
     values: &[Option<Poly>],
-    pair: &Pair,
-    memo: &mut PairMemo,
+    known: &mut KnownPair,
     solve: &mut S,
 ) -> Result<AllShown, NoMemory>
     requires solver { IsSolver S.FnMut solve.old }
     ensures solver { IsSolver S.FnMut solve.new }
-    ensures answer { IfOk result (TellsHolds values.now pair.now) }
+    ensures pair { known.new ≡ known.old }
+    ensures answer { IfOk result (TellsHolds values.now known.old) }
 {
-    let Some(left) = polynomial_of(values, pair.left.0) else {
+    let Some(left) = polynomial_of(values, known.pair().left.0) else {
         return Ok(AllShown::NotShown);
     };
-    let Some(right) = polynomial_of(values, pair.right.0) else {
+    let Some(right) = polynomial_of(values, known.pair().right.0) else {
         return Ok(AllShown::NotShown);
     };
-    memo.holds(alloc, pair, left, right, solve)
+    known.holds(alloc, left, right, solve)
 }
 
 /// Whether it falls there.
 fn falls_by<S: FnMut(&Constraint) -> Result<Option<Cert>, FmEnd>>(
     alloc: Global,
     values: &[Option<Poly>],
-    pair: &Pair,
-    memo: &mut PairMemo,
+    known: &mut KnownPair,
     solve: &mut S,
 ) -> Result<AllShown, NoMemory>
     requires solver { IsSolver S.FnMut solve.old }
     ensures solver { IsSolver S.FnMut solve.new }
-    ensures answer { IfOk result (TellsFalls values.now pair.now) }
+    ensures pair { known.new ≡ known.old }
+    ensures answer { IfOk result (TellsFalls values.now known.old) }
 {
-    let Some(left) = polynomial_of(values, pair.left.0) else {
+    let Some(left) = polynomial_of(values, known.pair().left.0) else {
         return Ok(AllShown::NotShown);
     };
-    let Some(right) = polynomial_of(values, pair.right.0) else {
+    let Some(right) = polynomial_of(values, known.pair().right.0) else {
         return Ok(AllShown::NotShown);
     };
-    memo.falls(alloc, pair, left, right, solve)
+    known.falls(alloc, left, right, solve)
 }
 
 /// The certificates by which the pair holds.
 fn held<S: FnMut(&Constraint) -> Result<Option<Cert>, FmEnd>>(
     alloc: Global,
     values: &[Option<Poly>],
-    pair: &Pair,
-    memo: &mut PairMemo,
+    known: &mut KnownPair,
     solve: &mut S,
 ) -> Result<Attempt<Items<Cert>>, NoMemory>
     requires solver { IsSolver S.FnMut solve.old }
     ensures solver { IsSolver S.FnMut solve.new }
-    ensures tried { IfOk result (λ t. tried_only t ≡ only_shown (holds_by values.now pair.now)) }
-    ensures held { IfOk result (λ t. IfSome t.made (IsHeld values.now pair.now)) }
+    ensures pair { known.new ≡ known.old }
+    ensures tried { IfOk result (λ t. tried_only t ≡ only_shown (holds_by values.now known.old)) }
+    ensures held { IfOk result (λ t. IfSome t.made (IsHeld values.now known.old)) }
 {
-    match holds_by(alloc, values, pair, memo, solve)? {
+    match holds_by(alloc, values, known, solve)? {
         AllShown::Shown(certs) => Ok(Attempt {
             made: Some(certs),
             noted: false,
@@ -103,20 +102,20 @@ fn held<S: FnMut(&Constraint) -> Result<Option<Cert>, FmEnd>>(
 fn all_held<S: FnMut(&Constraint) -> Result<Option<Cert>, FmEnd>>(
     alloc: Global,
     values: &[Option<Poly>],
-    pairs: &[&Pair],
-    memo: &mut PairMemo,
+    pairs: &mut [KnownPair],
     solve: &mut S,
 ) -> Result<Attempt<Vec<Items<Cert>>>, NoMemory>
     requires solver { IsSolver S.FnMut solve.old }
     ensures solver { IsSolver S.FnMut solve.new }
+    ensures pairs { pairs.new ≡ pairs.old }
     ensures tried { IfOk result (λ t. tried_only t ≡
-        only_shown (all_hold values.now (pairs_at pairs.now))) }
+        only_shown (all_hold values.now pairs.old)) }
     ensures held { IfOk result (λ t. IfSome t.made
-        (λ v. AllZip (IsHeld values.now) (pairs_at pairs.now) v.items)) }
+        (λ v. AllZip (IsHeld values.now) pairs.old v.items)) }
 {
     let mut all = Vec::new(alloc);
-    for pair in pairs {
-        let attempt = held(alloc, values, *pair, memo, solve)?;
+    for known in pairs.iter_mut() {
+        let attempt = held(alloc, values, known, solve)?;
         let noted = attempt.noted;
         match attempt.made {
             Some(certs) => all.push(certs)?,
@@ -142,16 +141,16 @@ struct Decision {
 fn decide<S: FnMut(&Constraint) -> Result<Option<Cert>, FmEnd>>(
     alloc: Global,
     values: &[Option<Poly>],
-    pair: &Pair,
-    memo: &mut PairMemo,
+    known: &mut KnownPair,
     solve: &mut S,
 ) -> Result<Decision, NoMemory>
     requires solver { IsSolver S.FnMut solve.old }
     ensures solver { IsSolver S.FnMut solve.new }
-    ensures certs { IfOk result (λ d. IsDecided values.now pair.now d.certs) }
-    ensures noted { IfOk result (λ d. d.noted ≡ is_beyond (falls_by values.now pair.now)) }
+    ensures pair { known.new ≡ known.old }
+    ensures certs { IfOk result (λ d. IsDecided values.now known.old d.certs) }
+    ensures noted { IfOk result (λ d. d.noted ≡ is_beyond (falls_by values.now known.old)) }
 {
-    match falls_by(alloc, values, pair, memo, solve)? {
+    match falls_by(alloc, values, known, solve)? {
         AllShown::Shown(certs) => Ok(Decision {
             certs: Some(certs),
             noted: false,
@@ -180,21 +179,21 @@ struct Falls {
 fn falling<S: FnMut(&Constraint) -> Result<Option<Cert>, FmEnd>>(
     alloc: Global,
     values: &[Option<Poly>],
-    pairs: &[&Pair],
-    memo: &mut PairMemo,
+    pairs: &mut [KnownPair],
     solve: &mut S,
 ) -> Result<Falls, NoMemory>
     requires solver { IsSolver S.FnMut solve.old }
     ensures solver { IsSolver S.FnMut solve.new }
-    ensures certs { IfOk result (λ f. AllZip (IsDecided values.now) (pairs_at pairs.now)
+    ensures pairs { pairs.new ≡ pairs.old }
+    ensures certs { IfOk result (λ f. AllZip (IsDecided values.now) pairs.old
         f.certs.items) }
     ensures noted { IfOk result (λ f. f.noted ≡
-        list_any (λ pair. is_beyond (falls_by values.now pair)) (pairs_at pairs.now)) }
+        list_any (λ pair. is_beyond (falls_by values.now pair)) pairs.old) }
 {
     let mut certs = Vec::new(alloc);
     let mut noted = false;
-    for pair in pairs {
-        let decision = decide(alloc, values, *pair, memo, solve)?;
+    for known in pairs.iter_mut() {
+        let decision = decide(alloc, values, known, solve)?;
         noted = noted || decision.noted;
         certs.push(decision.certs)?;
     }
@@ -218,19 +217,19 @@ fn fit_falling<S: FnMut(&Constraint) -> Result<Option<Cert>, FmEnd>>(
     alloc: Global,
     values: Vec<Option<Poly>>,
     held: Vec<Items<Cert>>,
-    pairs: &[&Pair],
-    memo: &mut PairMemo,
+    pairs: &mut [KnownPair],
     solve: &mut S,
 ) -> Result<Attempt<Fit>, NoMemory>
     requires solver { IsSolver S.FnMut solve.old }
-    requires held { AllZip (IsHeld values.items) (pairs_at pairs.now) held.items }
+    requires held { AllZip (IsHeld values.items) pairs.old held.items }
     ensures solver { IsSolver S.FnMut solve.new }
+    ensures pairs { pairs.new ≡ pairs.old }
     ensures tried { IfOk result (λ t. tried_as
-        (λ fit. still_open (pairs_at pairs.now) fit.falls.items) t ≡
-        falling values.items (pairs_at pairs.now)) }
-    ensures fit { IfOk result (λ t. IfSome t.made (IsFit values.items (pairs_at pairs.now))) }
+        (λ fit. still_open pairs.old fit.falls.items) t ≡
+        falling values.items pairs.old) }
+    ensures fit { IfOk result (λ t. IfSome t.made (IsFit values.items pairs.old)) }
 {
-    let falls = falling(alloc, values.as_slice(), pairs, memo, solve)?;
+    let falls = falling(alloc, values.as_slice(), pairs, solve)?;
     let noted = falls.noted;
     if !some_falls(falls.certs.as_slice()) {
         return Ok(Attempt { made: None, noted });
@@ -250,21 +249,21 @@ fn fit_falling<S: FnMut(&Constraint) -> Result<Option<Cert>, FmEnd>>(
 pub(crate) fn fitting<S: FnMut(&Constraint) -> Result<Option<Cert>, FmEnd>>(
     alloc: Global,
     values: Vec<Option<Poly>>,
-    pairs: &[&Pair],
-    memo: &mut PairMemo,
+    pairs: &mut [KnownPair],
     solve: &mut S,
 ) -> Result<Attempt<Fit>, NoMemory>
     requires solver { IsSolver S.FnMut solve.old }
     ensures solver { IsSolver S.FnMut solve.new }
+    ensures pairs { pairs.new ≡ pairs.old }
     ensures tried { IfOk result (λ t. tried_as
-        (λ fit. still_open (pairs_at pairs.now) fit.falls.items) t ≡
-        fitting (pairs_at pairs.now) values.items) }
-    ensures fit { IfOk result (λ t. IfSome t.made (IsFit values.items (pairs_at pairs.now))) }
+        (λ fit. still_open pairs.old fit.falls.items) t ≡
+        fitting pairs.old values.items) }
+    ensures fit { IfOk result (λ t. IfSome t.made (IsFit values.items pairs.old)) }
 {
-    let attempt = all_held(alloc, values.as_slice(), pairs, memo, solve)?;
+    let attempt = all_held(alloc, values.as_slice(), pairs, solve)?;
     let noted = attempt.noted;
     let Some(held) = attempt.made else {
         return Ok(Attempt { made: None, noted });
     };
-    fit_falling(alloc, values, held, pairs, memo, solve)
+    fit_falling(alloc, values, held, pairs, solve)
 }

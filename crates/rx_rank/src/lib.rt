@@ -8,6 +8,7 @@ mod choices;
 mod component;
 mod filling;
 mod fitting;
+mod known_pair;
 mod members;
 mod order;
 mod pair_memo;

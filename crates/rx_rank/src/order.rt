@@ -3,28 +3,11 @@ ghost use Rattle.std.specs.Prelude.{◌≡◌, ◌==◌, IfOk};
 ghost use Rattle.std.specs.List.{find, list_any};
 ghost use Rattle.std.specs.Option.{option_copied, option_map};
 ghost use Rattle.rx_rank.specs.Answers.{pairs_at};
-ghost use Rattle.rx_rank.specs.Choices.{is_ready, order_of, pairs_from, without};
+ghost use Rattle.rx_rank.specs.Choices.{is_ready, order_of, without};
 
 use rx_pairs::Pair;
 use rx_plain::NoMemory;
 use std::alloc::Global;
-
-/// The pairs of the symbol.
-pub(crate) fn pairs_from<'a>(
-    alloc: Global,
-    pairs: &[&'a Pair],
-    symbol: u32,
-) -> Result<Vec<&'a Pair>, NoMemory>
-    ensures { IfOk result (λ v. pairs_at v.items ≡ pairs_from symbol (pairs_at pairs.now)) }
-{
-    let mut own = Vec::new(alloc);
-    for pair in pairs {
-        if pair.left.0 == symbol {
-            own.push(*pair)?;
-        }
-    }
-    Ok(own)
-}
 
 /// Whether the symbol is one of them.
 fn is_among(symbols: &[u32], symbol: u32) -> bool

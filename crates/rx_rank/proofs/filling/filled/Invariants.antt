@@ -1,7 +1,6 @@
 -- The polynomials so far, with those of the symbols that are left, and with what was noted so far.
 use Rattle.std.proofs.Common.{◌≡◌, drop}
 use Rattle.rx_solve.specs.Answers.{IsSolver}
-use Rattle.rx_rank.specs.Answers.{pairs_at}
 use Rattle.rx_rank.specs.Choices.{filled}
 use Rattle.rx_rank.specs.Tries.{noting}
 use Rattle.rx_rank.proofs.filling.filled.Given as goal
@@ -9,8 +8,8 @@ use Rattle.rx_rank.proofs.filling.filled.Given as goal
 abbrev pub invariant-loop-symbol : goal.invariant-loop-symbol
 invariant-loop-symbol g l = record {
   solver : IsSolver g.S.FnMut l.solve;
+  same : l.pairs ≡ l.fn.pairs;
   decides :
-      noting l.noted (filled l.infos (pairs_at l.pairs) l.values.items
-      (drop l.symbol-index l.order))
-      ≡ filled l.infos (pairs_at l.pairs) l.fn.start.items l.order;
+      noting l.noted (filled l.infos l.fn.pairs l.values.items (drop l.symbol-index l.order)) ≡
+      filled l.infos l.fn.pairs l.fn.start.items l.order;
 }

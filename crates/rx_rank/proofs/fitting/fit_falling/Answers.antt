@@ -2,14 +2,14 @@
 use Rattle.std.proofs.Common.{◌∙◌, ap, sym, subst}
 use Rattle.std.specs.List.{AllZip, list_any}
 use Rattle.std.specs.Option.{is_some}
-use Rattle.rx_rank.specs.Answers.{IsDecided, pairs_at}
+use Rattle.rx_rank.specs.Answers.{IsDecided}
 use Rattle.rx_rank.specs.Choices.{falls_by, is_beyond}
 use Rattle.rx_rank.proofs.Walks.{none_falls, one_falls}
 use Rattle.rx_rank.proofs.fitting.fit_falling.Goals as goal
 
 pub returns-then-not-some_falls-clause-tried : goal.returns-then-not-some_falls-clause-tried
 returns-then-not-some_falls-clause-tried g c =
-    let pairs = pairs_at c.args.pairs.now in
+    let pairs = c.args.pairs.now in
     let all = subst (λ vs. AllZip (IsDecided vs) pairs c.in_ok-falls.falls.certs.items)
     c.as_slice.ensures.value c.in_ok-falls.ensures.certs in
     let noted = c.in_ok-falls.ensures.noted ∙
@@ -21,7 +21,7 @@ returns-then-not-some_falls-clause-tried g c =
 
 pub returns-clause-tried : goal.returns-clause-tried
 returns-clause-tried g c =
-    let pairs = pairs_at c.args.pairs.now in
+    let pairs = c.args.pairs.now in
     let all = subst (λ vs. AllZip (IsDecided vs) pairs c.in_ok-falls.falls.certs.items)
     c.as_slice.ensures.value c.in_ok-falls.ensures.certs in
     let noted = c.in_ok-falls.ensures.noted ∙

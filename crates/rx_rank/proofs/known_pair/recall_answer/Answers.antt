@@ -2,14 +2,16 @@
 use Rattle.std.proofs.Common.{IfSome, option_copied, subst, sym}
 use Rattle.rx_rank.proofs.MemoLaws.{of_copy}
 use Rattle.rx_rank.specs.Memo.{AreRight, Tells}
-use Rattle.rx_rank.proofs.pair_memo.recall_answer.Goals as goal
+use Rattle.rx_rank.proofs.known_pair.recall_answer.Goals as goal
 
 pub returns-in-Some-clause-answer : goal.returns-in-Some-clause-answer
 returns-in-Some-clause-answer g c =
     let a = c.args in
-    let pair = a.known.now.pair in
+    let pair = c.known.inside.pair in
     let tells = Tells a.test pair a.left.now a.right.now in
-    let right = subst (AreRight pair) (sym c.as_slice.ensures.value) c.requires.right in
+    let right = subst (AreRight pair) (sym c.as_slice.ensures.value) c.known.invariant in
     let told = subst (λ o. IfSome (option_copied o) tells) c.in-Some.is
     (c.find_answer.ensures pair right) in
-    of_copy tells c.in-Some.answer.now c.copied_answer.result c.copied_answer.ensures told
+    of_copy (Tells a.test a.known.now a.left.now a.right.now) c.in-Some.answer.now
+    c.copied_answer.result c.copied_answer.ensures
+    (subst (λ p. Tells a.test p a.left.now a.right.now c.in-Some.answer.now) c.known.view_is told)
