@@ -26,6 +26,7 @@ use Rattle.rx_ranking.specs.Fits.{AreFits}
 use Rattle.rx_ranking.specs.Rounds.{IsGrown}
 use Rattle.rx_ranking.specs.Tables.{Column, IsOpenBy, IsSplit, columns_in, has_number, pairs_open, value_at}
 use Rattle.rx_ranking.specs.declared.fits.Fits.{Fits}
+use Rattle.rx_ranking.specs.declared.column.FoundColumn.TheVariants.{Polynomials}
 use Rattle.rx_ranking.specs.declared.open_pair.OpenPair.{OpenPair}
 use Rattle.rx_ranking.specs.declared.progress.Progress.{Progress}
 
@@ -236,21 +237,21 @@ module _ (n : ℕ) where
 
 module _ (infos : List SymInfo) (before after : Progress) (fits : Fits)
     (are : AreFits infos before.entries.items fits)
-    (pushed : after.columns.items ≡ before.columns.items ++ fits.column ∷ [])
+    (pushed : after.columns.items ≡ before.columns.items ++ Polynomials fits.column ∷ [])
     (staying : after.entries.items ≡ left_open
     (fitted fits.entries.items fits.holds.items fits.falls.items))
     (leaving : after.closed.items ≡ close_all (length after.columns.items) before.closed.items
     (fallen (fitted fits.entries.items fits.holds.items fits.falls.items))) where
   pub fits_grown : IsGrown infos before after
   fits_grown = record {
-    count = count_pushed before after fits.column pushed;
+    count = count_pushed before after (Polynomials fits.column) pushed;
     split = λ pairs split.
-        split_pushed before after fits.column pushed pairs
+        split_pushed before after (Polynomials fits.column) pushed pairs
         (left_open (fitted fits.entries.items fits.holds.items fits.falls.items))
         (fallen (fitted fits.entries.items fits.holds.items fits.falls.items)) staying leaving
         (fits_split infos pairs (columns_in before.columns.items) before.entries.items
         before.closed.items fits are split);
-    lawful = lawful_pushed before after fits.column pushed infos are.lawful;
+    lawful = lawful_pushed before after (Polynomials fits.column) pushed infos are.lawful;
     over = λ within.
         subst (λ (es : List OpenPair). IsOver (length infos) (edges_of (pairs_open es)))
         (sym staying) (fits_over (length infos) infos before.entries.items fits are within);

@@ -1,9 +1,8 @@
 -- A column of heights in memory: one column more, over which the pairs are split anew.
-use Rattle.std.proofs.Common.{◌≡◌, ◌∙◌, ap, sym, subst, refl, cond, ℕ, suc, ◌<◌, ◌≤◌, ◌^◌, Bool, true, false, Option, Some, None, Vec, List, [], ◌∷◌, ◌++◌, get_or, length, slice_get, pos}
+use Rattle.std.proofs.Common.{◌≡◌, ◌∙◌, ap, sym, subst, refl, cond, ℕ, suc, ◌<◌, ◌≤◌, ◌^◌, Bool, true, false, Option, Some, None, List, [], ◌∷◌, ◌++◌, get_or, length, slice_get, pos}
 use Rattle.std.specs.List.{filter}
 use Rattle.std.specs.Option.{option_map}
 use Rattle.std.specs.Prelude.{nat_lt, option_and_then}
-use Rattle.std.specs.declared.alloc.Global.{Global}
 use Rattle.std.proofs.lemmas.List.Elements.{All-cons, All-head, All-nil, All-tail}
 use Rattle.std.proofs.lemmas.List.FromFn.{length-map-range_with_len}
 use Rattle.std.proofs.lemmas.Option.{none-some, same_Some, slice_get-map}
@@ -22,7 +21,8 @@ use Rattle.rx_rank.specs.Candidates.{arity_of}
 use Rattle.rx_ranking.specs.Closing.{close_all, is_leaving, is_staying}
 use Rattle.rx_rank.specs.Components.{component_of, inside, is_inside, names_of}
 use Rattle.rx_ranking.specs.Rounds.{IsGrown, IsSplitBy}
-use Rattle.rx_ranking.specs.Tables.{Column, IsLawful, IsSplit, columns_in, height_column, pairs_open}
+use Rattle.rx_ranking.specs.Tables.{Column, IsLawful, IsSplit, column_of, columns_in, height_column, pairs_open}
+use Rattle.rx_ranking.specs.declared.column.FoundColumn.{FoundColumn}
 use Rattle.rx_ranking.specs.declared.open_pair.OpenPair.{OpenPair}
 use Rattle.rx_ranking.specs.declared.progress.Progress.{Progress}
 use Rattle.rx_term.specs.declared.rule_set.SymInfo.{SymInfo}
@@ -99,10 +99,10 @@ pub record IsLeveled (n : ℕ) (entries : List OpenPair) (names heights : List �
   pub low : (a : ℕ) → a < n → get_or heights a 0 < n
 
 module _ (n : ℕ) (infos : List SymInfo) (size : n ≡ length infos) (few : n ≤ 2 ^ 32)
-    (before after : Progress) (names heights : List ℕ) (column : Vec (Option Body) Global)
+    (before after : Progress) (names heights : List ℕ) (column : FoundColumn)
     (level : IsLeveled n before.entries.items names heights)
     (over : IsOver n (edges_of (pairs_open before.entries.items)))
-    (made : column.items ≡ height_column heights)
+    (made : column_of column ≡ height_column heights)
     (pushed : after.columns.items ≡ before.columns.items ++ column ∷ [])
     (staying : after.entries.items ≡ filter (is_staying names) before.entries.items)
     (leaving : after.closed.items ≡ close_all (length after.columns.items) before.closed.items

@@ -1,10 +1,8 @@
 -- The ranking of all pairs: they are those of the definition, and what rounds have come to lowers
 -- them all.
-use Rattle.std.proofs.Common.{◌≡◌, ◌∙◌, ap, sym, subst, ℕ, Option, None, Vec, List, [], ◌++◌, length, All}
-use Rattle.std.specs.declared.alloc.Global.{Global}
+use Rattle.std.proofs.Common.{◌≡◌, ◌∙◌, ap, sym, subst, ℕ, None, List, [], ◌++◌, length, All}
 use Rattle.std.proofs.lemmas.List.Elements.{All-append, All-nil, All-weaker}
 use Rattle.rx_graph.specs.Graph.{IsOver}
-use Rattle.rx_poly.specs.declared.body.Body.{Body}
 use Rattle.rx_term.specs.WellMade.{IsMade, IsWellMade}
 use Rattle.rx_term.specs.declared.rule.Rule.{Rule}
 use Rattle.rx_term.specs.declared.rule_set.RuleParts.{RuleParts}
@@ -20,6 +18,7 @@ use Rattle.rx_pairs.specs.declared.pair.Pair.{Pair}
 use Rattle.rx_ranking.specs.Found.{LowersAll}
 use Rattle.rx_ranking.specs.Rounds.{IsBegun, IsRanked}
 use Rattle.rx_ranking.specs.Tables.{IsDeepPair, IsLawful, IsSplit, columns_in, pairs_open}
+use Rattle.rx_ranking.specs.declared.column.FoundColumn.{FoundColumn}
 use Rattle.rx_ranking.specs.declared.progress.Progress.{Progress}
 use Rattle.rx_ranking.specs.declared.ranking.Ranking.{Ranking}
 
@@ -62,7 +61,7 @@ module _ (parts lent : RuleParts) (hypotheses rules : List Rule) (same : lent �
       -- the table of the columns at last lowers all pairs
       module _ (after : Progress) (ranked : IsRanked lent.symbols start after) (symbols : ℕ)
           (count : symbols ≡ length lent.symbols)
-          (columns : List (Vec (Option Body) Global)) (columns_are : columns ≡ after.columns.items)
+          (columns : List FoundColumn) (columns_are : columns ≡ after.columns.items)
           (found : Ranking) where
         abbrev Lawful : Type 0
         Lawful =

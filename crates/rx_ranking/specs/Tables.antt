@@ -1,7 +1,6 @@
 -- The columns of a table as they are found, and the pairs that are open or closed by them.
-use Rattle.std.specs.Prelude.{◌≡◌, ◌≤◌, ◌==◌, ℕ, Bool, true, Option, Some, None, List, [], ◌∷◌, All, Vec, negsuc, pos, length, map, slice_get, unwrap_or}
+use Rattle.std.specs.Prelude.{◌≡◌, ◌≤◌, ◌==◌, ℕ, Bool, true, Option, Some, None, List, [], ◌∷◌, All, negsuc, pos, length, map, slice_get, unwrap_or}
 use Rattle.std.specs.List.{list_any}
-use Rattle.std.specs.declared.alloc.Global.{Global}
 use Rattle.rx_plain.specs.Formed.{Formed, pure, ◌>>=◌}
 use Rattle.rx_poly.specs.Constants.{number}
 use Rattle.rx_poly.specs.Variables.{uses_below}
@@ -19,6 +18,8 @@ use Rattle.rx_pairs.specs.declared.pair_cert.PairCert.{PairCert}
 use Rattle.rx_rank.specs.Answers.{IsProved}
 use Rattle.rx_rank.specs.Candidates.{arity_of}
 use Rattle.rx_rank.specs.Choices.{polynomial_of}
+use Rattle.rx_ranking.specs.declared.column.FoundColumn.{FoundColumn}
+use Rattle.rx_ranking.specs.declared.column.FoundColumn.TheVariants.{Heights, Polynomials}
 use Rattle.rx_ranking.specs.declared.open_pair.OpenPair.{OpenPair}
 
 -- ---- columns
@@ -35,10 +36,6 @@ value_at f column = unwrap_or (polynomial_of column f) (number (negsuc 0))
 abbrev pub rank_at : List Column → ℕ → List Body
 rank_at columns f = map (value_at f) columns
 
--- the columns in memory
-abbrev pub columns_in : List (Vec (Option Body) Global) → List Column
-columns_in columns = map (λ v. v.items) columns
-
 -- each polynomial is over the arguments of its symbol
 abbrev pub IsLawful : List SymInfo → Column → Type 0
 IsLawful infos column =
@@ -47,6 +44,14 @@ IsLawful infos column =
 -- the column of heights by symbol
 abbrev pub height_column : List ℕ → Column
 height_column heights = map (λ height. Some (number (pos height))) heights
+
+-- the columns as they are found
+abbrev pub column_of : FoundColumn → Column
+column_of (Heights heights) = height_column heights.items
+column_of (Polynomials values) = values.items
+
+abbrev pub columns_in : List FoundColumn → List Column
+columns_in columns = map column_of columns
 
 -- ---- pairs
 

@@ -3,26 +3,13 @@ ghost use Rattle.std.specs.Prelude.{◌≡◌, IfOk, OnOk};
 ghost use Rattle.std.specs.List.{filter};
 ghost use Rattle.rx_ranking.specs.Closing.{close_all, is_leaving, is_staying};
 ghost use Rattle.rx_rank.specs.Components.{is_inside};
-ghost use Rattle.rx_ranking.specs.Tables.{height_column};
 
 use crate::closing::close_entry;
 use crate::open_pair::OpenPair;
 use rx_pairs::{Pair, PairCert};
 use rx_plain::NoMemory;
-use rx_poly::Poly;
 use rx_rank::is_member;
 use std::alloc::Global;
-
-/// The column of the heights of the symbols.
-pub(crate) fn column_of(alloc: Global, heights: &[u32]) -> Result<Vec<Option<Poly>>, NoMemory>
-    ensures { IfOk result (λ column. column.items ≡ height_column heights.now) }
-{
-    let mut column = Vec::new(alloc);
-    for height in heights {
-        column.push(Some(Poly::constant(alloc, i128::from(*height))?))?;
-    }
-    Ok(column)
-}
 
 /// Whether both symbols of the pair are of one component.
 fn is_inside(names: &[u32], pair: &Pair) -> bool

@@ -3,6 +3,7 @@
 #![tactic(auto)]
 
 mod closing;
+mod column;
 mod components;
 mod fits;
 mod groups;

@@ -9,6 +9,7 @@ ghost use Rattle.rx_ranking.specs.Tables.{pairs_open};
 ghost use Rattle.rx_solve.specs.Answers.{IsSolver};
 
 use crate::closing::close_fallen;
+use crate::column::FoundColumn;
 use crate::fits::{Fits, fit_all};
 use crate::progress::Progress;
 use rx_cert::Cert;
@@ -56,7 +57,7 @@ pub(crate) fn add_polynomials<S: FnMut(&Constraint) -> Result<Option<Cert>, FmEn
         holds,
         falls,
     } = fits;
-    columns.push(column)?;
+    columns.push(FoundColumn::Polynomials(column))?;
     let number = columns.len() as u32;
     let left = close_fallen(alloc, number, entries, holds, falls, &mut closed)?;
     let after = Progress {

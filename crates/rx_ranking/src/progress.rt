@@ -8,19 +8,19 @@ ghost use Rattle.rx_ranking.specs.Rounds.{IsBegun, IsGrown};
 ghost use Rattle.rx_ranking.specs.Tables.{pairs_open};
 ghost use Rattle.rx_term.specs.declared.rule_set.SymInfo.{SymInfo};
 
-use crate::heights::{close_between, column_of};
+use crate::column::FoundColumn;
+use crate::heights::close_between;
 use crate::names::find_levels;
 use crate::open_pair::OpenPair;
 use rx_pairs::{Pair, PairCert};
 use rx_plain::{Items, NoMemory};
-use rx_poly::Poly;
 use std::alloc::Global;
 
 /// The columns so far, the pairs that are open, and the certificates of those that are closed.
 #[derive(Debug, Drop)]
 pub(crate) struct Progress {
-    /// The columns: polynomials by symbol.
-    pub(crate) columns: Vec<Vec<Option<Poly>>>,
+    /// The columns.
+    pub(crate) columns: Vec<FoundColumn>,
     /// The open pairs.
     pub(crate) entries: Vec<OpenPair>,
     /// For each pair that is closed its certificate.
@@ -80,8 +80,7 @@ pub(crate) fn add_heights(
     let mut columns = columns;
     let mut closed = closed;
     let levels = find_levels(alloc, symbols, entries.as_slice())?;
-    let column = column_of(alloc, levels.heights.as_slice())?;
-    columns.push(column)?;
+    columns.push(FoundColumn::Heights(levels.heights))?;
     let number = columns.len() as u32;
     let left = close_between(alloc, levels.names.as_slice(), number, entries, &mut closed)?;
     Ok(Progress {

@@ -8,36 +8,22 @@ ghost use Rattle.rx_pairs.specs.declared.pair.Pair.{Pair};
 ghost use Rattle.rx_ranking.specs.Closing.{cert_of};
 ghost use Rattle.rx_term.specs.declared.rule_set.RuleParts.{RuleParts};
 ghost use Rattle.rx_rank.specs.Components.{symbols_of};
-ghost use Rattle.rx_ranking.specs.Tables.{IsDeepPair, IsLawful, IsSplit, columns_in, rank_at, value_at};
+ghost use Rattle.rx_ranking.specs.Tables.{IsDeepPair, IsLawful, IsSplit, columns_in, rank_at};
 
+use crate::column::{FoundColumn, value_at};
 use crate::ranking::Ranking;
 use rx_pairs::{PairCert, RankTable};
 use rx_plain::{Items, NoMemory};
 use rx_poly::Poly;
-use rx_rank::polynomial_of;
 use std::alloc::Global;
 
-/// The symbol's polynomial in the column, -1 where it has none.
-fn value_at(alloc: Global, column: &[Option<Poly>], symbol: u32) -> Result<Poly, NoMemory>
-    ensures { IfOk result (λ poly. poly ≡ value_at symbol column.now) }
-{
-    match polynomial_of(column, symbol) {
-        Some(poly) => Ok(poly.try_clone(alloc)?),
-        None => Ok(Poly::constant(alloc, -1)?),
-    }
-}
-
-/// The rank of a symbol: its polynomials in all columns.
-fn rank_of(
-    alloc: Global,
-    columns: &[Vec<Option<Poly>>],
-    symbol: u32,
-) -> Result<Items<Poly>, NoMemory>
+/// The rank of a symbol: what it has in all columns.
+fn rank_of(alloc: Global, columns: &[FoundColumn], symbol: u32) -> Result<Items<Poly>, NoMemory>
     ensures { IfOk result (λ rank. rank ≡ rank_at (columns_in columns.now) symbol) }
 {
     let mut rank = Items::new(alloc);
     for column in columns {
-        rank.push(value_at(alloc, column.as_slice(), symbol)?)?;
+        rank.push(value_at(alloc, column, symbol)?)?;
     }
     Ok(rank)
 }
@@ -45,7 +31,7 @@ fn rank_of(
 /// The ranks of n symbols.
 fn ranks_of(
     alloc: Global,
-    columns: &[Vec<Option<Poly>>],
+    columns: &[FoundColumn],
     symbols: usize,
 ) -> Result<Items<Items<Poly>>, NoMemory>
     requires { symbols ≤ 2 ^ 32 }
@@ -79,7 +65,7 @@ fn certs_of(alloc: Global, closed: Vec<Option<PairCert>>) -> Result<Items<PairCe
 /// The ranks of n symbols by the columns, where no pair is open, and why all pairs are lower.
 pub(crate) fn ranking_of(
     alloc: Global,
-    columns: &[Vec<Option<Poly>>],
+    columns: &[FoundColumn],
     symbols: usize,
     closed: Vec<Option<PairCert>>,
 ) -> Result<Ranking, NoMemory>

@@ -8,6 +8,7 @@ use Rattle.rx_ranking.proofs.FallLaws.{fits_grown, pairs_left}
 use Rattle.rx_ranking.specs.Closing.{close_all, fallen, fitted, left_open}
 use Rattle.rx_ranking.specs.Fits.{AreFits}
 use Rattle.rx_ranking.specs.Tables.{pairs_open}
+use Rattle.rx_ranking.specs.declared.column.FoundColumn.TheVariants.{Polynomials}
 use Rattle.rx_ranking.specs.declared.fits.Fits.{Fits}
 use Rattle.rx_ranking.specs.declared.open_pair.OpenPair.{OpenPair}
 use Rattle.rx_ranking.proofs.polynomials.add_polynomials.Goals as goal
@@ -49,8 +50,8 @@ returns-clause-grown g c =
       closed =
           c.close_fallen.new.closed;
     }) fits are
-    (c.in_ok-push.ensures.items ∙ ap (λ (f : Fits). before.columns.items ++ f.column ∷ [])
-    c.in-Some.fits-is)
+    (c.in_ok-push.ensures.items
+    ∙ ap (λ (f : Fits). before.columns.items ++ Polynomials f.column ∷ []) c.in-Some.fits-is)
     (c.in_ok-left.ensures.staying ∙ ap (λ (f : Fits).
     left_open (fitted f.entries.items f.holds.items f.falls.items)) c.in-Some.fits-is)
     (c.in_ok-left.ensures.leaving

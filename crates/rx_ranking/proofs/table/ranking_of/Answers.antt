@@ -4,14 +4,14 @@ use Rattle.std.proofs.lemmas.List.{length-map}
 use Rattle.rx_pairs.specs.Lowering.{descent_from}
 use Rattle.rx_pairs.specs.declared.pair_cert.PairCert.{PairCert}
 use Rattle.rx_ranking.proofs.Finished.{table_deep, table_descends, table_lawful}
-use Rattle.rx_ranking.specs.Tables.{IsDeepPair, columns_in}
+use Rattle.rx_ranking.specs.Tables.{IsDeepPair, column_of, columns_in}
 use Rattle.rx_ranking.proofs.table.ranking_of.Goals as goal
 
 pub returns-clause-lawful : goal.returns-clause-lawful
 returns-clause-lawful c = λ parts count all.
     table_lawful parts (columns_in c.args.columns.now) c.args.symbols
     (record { columns = length c.args.columns.now; ranks = c.in_ok-ranks.ranks }) count all
-    (sym (length-map c.args.columns.now (λ v. v.items))) c.in_ok-ranks.ensures
+    (sym (length-map c.args.columns.now column_of)) c.in_ok-ranks.ensures
 
 pub returns-clause-lower : goal.returns-clause-lower
 returns-clause-lower c = λ pairs split over.
