@@ -40,8 +40,9 @@ pub(crate) fn keep(
     ensures ok { OnOk result (IsKept rows.now cache.old answer.now cache.new) }
     ensures err { OnErr result (cache.new ≡ cache.old) }
 {
-    let cached = CachedAnswer::from_answer(alloc, answer)?;
     let copy = rows.try_clone(alloc)?;
-    cache.put(copy, cached)?;
+    let cached = CachedAnswer::from_answer(alloc, answer)?;
+    let put = cache.put(copy, cached)?;
+    drop(put);
     Ok(())
 }

@@ -104,6 +104,26 @@ fn unpack_term(bank: &Bank, alloc: Global, term: &PackedTerm) -> Result<Term, No
     unpack_frames(bank, alloc, term.frames.as_slice(), base)
 }
 
+/// Two terms and rows.
+struct Sides {
+    left: Term,
+    right: Term,
+    rows: Constraint,
+}
+
+/// Both terms and the rows with the polynomials.
+fn unpack_sides(bank: &Bank, alloc: Global, packed: &PackedEquation) -> Result<Sides, NoMemory>
+    requires { equation_within (length bank.now) packed.now ≡ true }
+    ensures left { IfOk result (λ s. s.left ≡ term_at bank.now packed.now.left) }
+    ensures right { IfOk result (λ s. s.right ≡ term_at bank.now packed.now.right) }
+    ensures rows { IfOk result (λ s. s.rows ≡ rows_at bank.now packed.now.rows) }
+{
+    let rows = unpack_rows(bank, alloc, packed.rows.as_slice())?;
+    let left = unpack_term(bank, alloc, &packed.left)?;
+    let right = unpack_term(bank, alloc, &packed.right)?;
+    Ok(Sides { left, right, rows })
+}
+
 /// The equation with the polynomials.
 pub(crate) fn unpack_equation(
     bank: &Bank,
@@ -113,11 +133,8 @@ pub(crate) fn unpack_equation(
     requires { equation_within (length bank.now) packed.now ≡ true }
     ensures { IfOk result (λ e. e ≡ equation_at bank.now packed.now) }
 {
-    Ok(Equation {
-        left: unpack_term(bank, alloc, &packed.left)?,
-        right: unpack_term(bank, alloc, &packed.right)?,
-        rows: unpack_rows(bank, alloc, packed.rows.as_slice())?,
-    })
+    let Sides { left, right, rows } = unpack_sides(bank, alloc, packed)?;
+    Ok(Equation { left, right, rows })
 }
 
 /// The rule with the polynomials.
@@ -129,11 +146,8 @@ pub(crate) fn unpack_rule(
     requires { equation_within (length bank.now) packed.now ≡ true }
     ensures { IfOk result (λ r. r ≡ rule_at bank.now packed.now) }
 {
-    Ok(Rule {
-        left: unpack_term(bank, alloc, &packed.left)?,
-        right: unpack_term(bank, alloc, &packed.right)?,
-        rows: unpack_rows(bank, alloc, packed.rows.as_slice())?,
-    })
+    let Sides { left, right, rows } = unpack_sides(bank, alloc, packed)?;
+    Ok(Rule { left, right, rows })
 }
 
 /// The equations with the polynomials, in order.

@@ -13,7 +13,7 @@ ghost use Rattle.rx_row.specs.Negation.{negation, negation_within};
 ghost use Rattle.rx_solve.specs.Answers.{IsSolver};
 ghost use Rattle.rx_term.specs.Paired.{rules_of_shape};
 
-use crate::built::{Built, noted_before};
+use crate::built::{Built, into_noted, noted_before};
 use crate::redex::Redex;
 use crate::splits::find_split_row;
 use crate::uses::{find_use, refute_path};
@@ -92,7 +92,7 @@ fn build_with_negation<S: FnMut(&Constraint) -> Result<Option<Cert>, FmEnd>>(
 fn join(
     alloc: Global,
     row: &Row,
-    yes: CoverTree,
+    yes: Boxed<CoverTree>,
     noted: bool,
     second: Built<CoverTree>,
 ) -> Result<Built<CoverTree>, NoMemory>
@@ -103,13 +103,10 @@ fn join(
     let Some(no) = second.made else {
         return Ok(Built { made: None, noted });
     };
-    let tree = CoverTree::Split {
-        row: row.try_clone(alloc)?,
-        yes: Boxed::new(alloc, yes)?,
-        no: Boxed::new(alloc, no)?,
-    };
+    let no = Boxed::new(alloc, no)?;
+    let row = row.try_clone(alloc)?;
     Ok(Built {
-        made: Some(tree),
+        made: Some(CoverTree::Split { row, yes, no }),
         noted,
     })
 }
@@ -143,6 +140,7 @@ fn build_split<S: FnMut(&Constraint) -> Result<Option<Cert>, FmEnd>>(
     let Some(yes) = made else {
         return Ok(Built { made: None, noted });
     };
+    let yes = Boxed::new(alloc, yes)?;
     let second = build_with_negation(alloc, rules, sym, redex, path, row, left, solve)?;
     join(alloc, row, yes, noted, second)
 }
@@ -200,6 +198,7 @@ pub(crate) fn build<S: FnMut(&Constraint) -> Result<Option<Cert>, FmEnd>>(
     if used.made.is_some() {
         return Ok(used);
     }
+    let noted = into_noted(used);
     let built = build_unless_used(alloc, rules, sym, redex, path, left, solve)?;
-    Ok(noted_before(used.noted, built))
+    Ok(noted_before(noted, built))
 }

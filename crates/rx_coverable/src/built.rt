@@ -22,3 +22,10 @@ pub(crate) fn noted_before<T: Drop>(noted: bool, later: Built<T>) -> Built<T>
         noted: noted || later.noted,
     }
 }
+
+/// Whether something was noted; what was made, if anything, isn't wanted.
+pub(crate) fn into_noted<T: Drop>(built: Built<T>) -> bool
+    ensures { result ≡ built.noted }
+{
+    built.noted
+}

@@ -13,7 +13,7 @@ ghost use Rattle.rx_term.specs.Paired.{rules_of_shape};
 ghost use Rattle.rx_term.specs.Shapes.{Shape};
 ghost use Rattle.rx_term.specs.declared.rule.Rule.{Rule};
 
-use crate::built::Built;
+use crate::built::{Built, into_noted, noted_before};
 use crate::redex::{Redex, is_redex_of};
 use rx_cert::Cert;
 use rx_cover::CoverTree;
@@ -88,13 +88,11 @@ pub(crate) fn find_use<S: FnMut(&Constraint) -> Result<Option<Cert>, FmEnd>>(
             continue;
         }
         let tried = try_use(alloc, path, rule_number(number)?, rule.rows.rows(), solve)?;
-        noted = noted || tried.noted;
         if tried.made.is_some() {
-            return Ok(Built {
-                made: tried.made,
-                noted,
-            });
+            return Ok(noted_before(noted, tried));
         }
+        let also = into_noted(tried);
+        noted = noted || also;
     }
     Ok(Built { made: None, noted })
 }

@@ -1,10 +1,11 @@
 -- A rule is used or not; the two branches of a split make its tree.
-use Rattle.std.proofs.Common.{◌≡◌, ◌∙◌, sym, Some}
+use Rattle.std.proofs.Common.{◌≡◌, ◌∙◌, ap, sym, Some}
 use Rattle.rx_cover.specs.Covering.{symbol}
 use Rattle.rx_term.specs.Paired.{rules_of_shape}
 use Rattle.rx_coverable.proofs.CoverageLaws.{not_used, used_covers}
 use Rattle.rx_coverable.proofs.TreeLaws.{refuted_trees, split_trees}
 use Rattle.rx_coverable.specs.Answers.{outcome}
+use Rattle.rx_coverable.specs.Coverage.{noting}
 use Rattle.rx_coverable.specs.Redexes.{shape_at}
 use Rattle.rx_coverable.proofs.building.+building.Goals as goal
 
@@ -17,6 +18,7 @@ build-returns-then-is_some-clause-coverage g t c =
 pub build-returns-clause-coverage : goal.build-returns-clause-coverage
 build-returns-clause-coverage g t c =
     c.noted_before.ensures.outcome
+    ∙ ap (λ n. noting n (outcome c.in_ok-built.built)) c.into_noted-noted.ensures
     ∙ not_used (rules_of_shape (shape_at (symbol c.args.sym) c.args.redex) c.args.rules.now)
     c.args.left c.args.path.now (outcome c.in_ok-used.used)
     c.in_ok-used.ensures.coverage (sym c.is_some.ensures ∙ c.if-is_some.false)
@@ -24,7 +26,7 @@ build-returns-clause-coverage g t c =
 
 pub build_split-returns-clause-tree : goal.build_split-returns-clause-tree
 build_split-returns-clause-tree g t c =
-    let is : c.in_ok-first.first.made ≡ Some c.in-Some.yes = cc in
+    let is : c.in_ok-first.first.made ≡ Some c.in_ok-yes.yes = cc c.in_ok-yes.ensures in
     split_trees c.args.rules.now (shape_at (symbol c.args.sym) c.args.redex) c.args.left
     c.args.path.now c.in_ok-second.second.made c.join.result
     c.requires.own c.in_ok-same.ensures c.in_ok-first.ensures.kept is c.in_ok-first.ensures.tree
