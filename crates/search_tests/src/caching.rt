@@ -5,13 +5,14 @@ ghost use Rattle.rx_coverable.specs.Coverable.{is_coverable};
 ghost use Rattle.rx_joins.specs.Goals.{IsFitting};
 ghost use Rattle.rx_solve.specs.Answers.{Answers};
 
+use crate::by_solver::{MOST_KEPT, search_by_solver};
 use rx_bank::CachedSolver;
 use rx_cert::Cert;
 use rx_fm::FmEnd;
 use rx_log::Log;
 use rx_plain::NoMemory;
 use rx_row::Constraint;
-use rx_search::{Search, SearchEnd};
+use rx_search::SearchEnd;
 use rx_solve::refutes;
 use rx_term::{Equation, RuleSet};
 use std::alloc::Global;
@@ -33,17 +34,15 @@ where
     requires depth { depth ≤ 12 }
 {
     let mut cached = cached;
-    let mut search = Search::new(
-        move |rows: &Constraint| -> Result<Option<Cert>, FmEnd>
-            requires { IsCachedSolver S.FnMut cached }
-            ensures known { IsCachedSolver S.FnMut cached.exit }
-            ensures answer { Answers rows.now result }
-        { cached.refutes(rows) },
-    );
-    search.search(alloc, set, goal, depth, budget)
+    let solve = move |rows: &Constraint| -> Result<Option<Cert>, FmEnd>
+        requires { IsCachedSolver S.FnMut cached }
+        ensures known { IsCachedSolver S.FnMut cached.exit }
+        ensures answer { Answers rows.now result }
+    { cached.refutes(rows) };
+    search_by_solver(alloc, set, goal, depth, budget, MOST_KEPT, solve)
 }
 
-/// The search for the goal, by the refuter behind a cache that holds so many answers.
+/// The search for the goal, by the refuter behind a cache that holds `capacity` answers.
 pub fn search_behind(
     alloc: Global,
     set: &RuleSet,
@@ -80,8 +79,8 @@ fn ask_all<S: FnMut(&Constraint) -> Result<Option<Cert>, FmEnd>>(
     answered
 }
 
-/// How often a solver is asked behind a cache that holds so many answers, where these rows are
-/// asked for in turn.
+/// How often a solver is asked behind a cache that holds `capacity` answers, where these rows
+/// are asked for in turn.
 pub fn calls_behind(alloc: Global, capacity: u32, questions: &[Constraint]) -> Result<u32, NoMemory>
     requires low { 1 ≤ capacity }
     requires high { capacity ≤ 65536 }

@@ -10,6 +10,7 @@
 #![tactic(auto)]
 
 mod answer;
+mod by_solver;
 mod caching;
 mod lines;
 mod log_calls;

@@ -5,6 +5,7 @@ ghost use Rattle.rx_coverable.specs.Coverable.{is_coverable};
 ghost use Rattle.rx_joins.specs.Goals.{IsFitting};
 
 use crate::answer::{Answer, written};
+use crate::by_solver::{MOST_KEPT, search_by_solver};
 use crate::caching::search_behind;
 use crate::reading::equation;
 use crate::words::Words;
@@ -13,7 +14,7 @@ use rx_log::Log;
 use rx_logwriting::write_log;
 use rx_plain::NoMemory;
 use rx_row::{Constraint, Row};
-use rx_search::{Search, SearchEnd};
+use rx_search::SearchEnd;
 use rx_solve::refutes;
 use rx_term::{Equation, RuleSet};
 use rx_text::push_word;
@@ -49,18 +50,25 @@ fn is_fitting(set: &RuleSet, goal: &Equation) -> bool
     set.fits(&goal.left) && set.fits(&goal.right)
 }
 
-/// The search for the goal, by a solver that counts its calls.
-fn counted(alloc: Global, set: &RuleSet, goal: &Equation, depth: u32, budget: u32) -> Outcome
+/// The search for the goal that keeps at most `most_kept` nodes, by a solver that counts its calls.
+fn counted(
+    alloc: Global,
+    set: &RuleSet,
+    goal: &Equation,
+    depth: u32,
+    budget: u32,
+    most_kept: usize,
+) -> Outcome
     requires coverable { is_coverable set.now ≡ true }
     requires fits { IsFitting set.now goal.now }
     requires depth { depth ≤ 12 }
 {
     let mut calls = 0u64;
-    let end = Search::new(|rows: &Constraint| {
+    let solve = |rows: &Constraint| {
         calls = calls.saturating_add(1);
         refutes(alloc, rows)
-    })
-    .search(alloc, set, goal, depth, budget);
+    };
+    let end = search_by_solver(alloc, set, goal, depth, budget, most_kept, solve);
     Outcome { end, calls }
 }
 
@@ -76,7 +84,7 @@ fn search_for(
     if depth > MOST_DEEP || !is_fitting(set, goal) || !is_covered(alloc, set) {
         return None;
     }
-    Some(counted(alloc, set, goal, depth, budget))
+    Some(counted(alloc, set, goal, depth, budget, MOST_KEPT))
 }
 
 // A word and a number.
@@ -137,7 +145,7 @@ fn read_task(alloc: Global, given: &str) -> Option<Task> {
     })
 }
 
-/// What a search for the equation comes to, to the depth and within the budget behind it: the
+/// What a search for the equation comes to, to the depth and within the budget after it: the
 /// number of the steps of its log, or how it ends without one.
 pub fn searched(alloc: Global, set: &RuleSet, given: &str) -> Option<Answer> {
     let Task {
@@ -171,7 +179,7 @@ fn common_end(alloc: Global, first: &Result<Log, SearchEnd>, others: &[Vec<u8>])
     Some(Answer::Found(out))
 }
 
-/// What searches for the equation come to, to the depth and within the budget behind it, by the
+/// What searches for the equation come to, to the depth and within the budget after it, by the
 /// refuter behind caches that hold 1, 16 and 4,096 answers, where the texts of their logs are the
 /// same bytes.
 pub fn cached(alloc: Global, set: &RuleSet, given: &str) -> Option<Answer> {
@@ -192,25 +200,7 @@ pub fn cached(alloc: Global, set: &RuleSet, given: &str) -> Option<Answer> {
     common_end(alloc, &one, &others)
 }
 
-/// The search for the goal that keeps so many nodes.
-fn search_keeping(
-    alloc: Global,
-    set: &RuleSet,
-    goal: &Equation,
-    depth: u32,
-    budget: u32,
-    most_kept: usize,
-) -> Result<Log, SearchEnd>
-    requires coverable { is_coverable set.now ≡ true }
-    requires fits { IsFitting set.now goal.now }
-    requires depth { depth ≤ 12 }
-{
-    Search::new(|rows: &Constraint| refutes(alloc, rows))
-        .keeping(most_kept)
-        .search(alloc, set, goal, depth, budget)
-}
-
-/// What searches for the equation come to, to the depth and within the budget behind it, that keep
+/// What searches for the equation come to, to the depth and within the budget after it, that keep
 /// 1, 4 and 65,536 nodes, where the texts of their logs are the same bytes.
 pub fn kept(alloc: Global, set: &RuleSet, given: &str) -> Option<Answer> {
     let Task {
@@ -221,9 +211,9 @@ pub fn kept(alloc: Global, set: &RuleSet, given: &str) -> Option<Answer> {
     if depth > MOST_DEEP || !is_fitting(set, &goal) || !is_covered(alloc, set) {
         return None;
     }
-    let one = search_keeping(alloc, set, &goal, depth, budget, 1);
-    let four = search_keeping(alloc, set, &goal, depth, budget, 4);
-    let many = search_keeping(alloc, set, &goal, depth, budget, 65_536);
+    let one = counted(alloc, set, &goal, depth, budget, 1).end;
+    let four = counted(alloc, set, &goal, depth, budget, 4).end;
+    let many = counted(alloc, set, &goal, depth, budget, 65_536).end;
     let mut others = Vec::new(alloc);
     others.push(whole_text(alloc, &four)?).ok()?;
     others.push(whole_text(alloc, &many)?).ok()?;

@@ -79,8 +79,8 @@ fn number_text(alloc: Global, number: u32) -> Result<Vec<u8>, NoMemory> {
     Ok(out)
 }
 
-/// How often the refuter is asked behind a cache that holds so many answers, where the lists of
-/// rows behind the first ` | ` are asked for in turn.
+/// How often the refuter is asked behind a cache of the capacity given, where the lists of rows
+/// after the first ` | ` are asked for in turn.
 pub fn asked_behind(alloc: Global, given: &str) -> Option<Answer> {
     let (capacity, questions) = given.split_once(" | ")?;
     let capacity = capacity.parse::<u32>().ok()?;

@@ -3,5 +3,6 @@ use Rattle.std.proofs.Common.{rules}
 use Rattle.rx_solve.proofs.Calls.{solver_by}
 use Rattle.search_tests.proofs.searching.counted.Goals as goal
 
-pub new-requires : goal.new-requires
-new-requires c = solver_by _ (λ f a. search rules) (λ f a r f' k. search rules) _
+pub search_by_solver-end-requires-clause-solver : goal.search_by_solver-end-requires-clause-solver
+search_by_solver-end-requires-clause-solver c =
+    solver_by _ (λ f a. search rules) (λ f a r f' k. search rules) _
