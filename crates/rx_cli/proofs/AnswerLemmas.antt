@@ -4,9 +4,9 @@ use Rattle.std.proofs.lemmas.Bool.{lt-ltb, le-ltb}
 use Rattle.std.specs.Prelude.{◌+◌, ◌-◌, ◌^◌}
 use Rattle.std.proofs.Math.Nat.{le-min, min-le_left, min-le_right}
 use Rattle.c_front.specs.declared.stages.Next.TheVariants.{Ends, Goes}
-use Rattle.rx_cli.specs.declared.questions.Question.{Question}
+use Rattle.rx_cli.specs.declared.problems.Problem.{Problem}
 use Rattle.rx_cli.specs.Checks.{OnRead, OnText, longest_log}
-use Rattle.rx_cli.specs.Questions.{asked}
+use Rattle.rx_cli.specs.Problems.{asked}
 use Rattle.rx_command.specs.Commands.{Check, Command, Compare, Comparison, Demo, Functions, Prove, Refute}
 use Rattle.rx_command.specs.declared.command.Effort.{Effort}
 use Rattle.rx_io.specs.Outside.{Names, HoldsBytes, IsMissing, Rose}
@@ -50,11 +50,11 @@ log_any held (Refute f extent) = (None, tt)
 
 module _ (held : Option Names) (fault : Type 0) (f : Functions) (source name : List ℕ)
     (verdict : Verdict) where
-  -- a text that is no question
+  -- a text that poses no problem
   pub checks_asked : asked f source (Ends verdict) → ChecksNamed held fault f source name verdict
   checks_asked ended = let any = given_any held name in inl (any.0, any.1, inl ended)
 
-  module _ (question : Question) (found : asked f source (Goes question)) where
+  module _ (problem : Problem) (found : asked f source (Goes problem)) where
     unheld : (h : Option Names) → held ≡ h → IsMissing h name → verdict ≡ Said.ReadFault →
         ChecksNamed held fault f source name verdict
     unheld None told missing is = absurd missing
@@ -62,28 +62,28 @@ module _ (held : Option Names) (fault : Type 0) (f : Functions) (source name : L
         inl (
           None,
           subst (λ h. IsHeld h name None) (sym told) (sym missing),
-          inr (question, found, is),
+          inr (problem, found, is),
         )
 
     -- a log that can't be had
     pub checks_unread : Reads held fault name longest_log Said.LongLog (Ends verdict) →
         ChecksNamed held fault f source name verdict
     checks_unread (inl ((bytes, holds, more), is)) =
-        let on : OnRead question (Some bytes) verdict =
+        let on : OnRead problem (Some bytes) verdict =
         rw (lt-ltb longest_log (length bytes) more) is in
-        inl (Some bytes, given_under held name bytes holds, inr (question, found, on))
+        inl (Some bytes, given_under held name bytes holds, inr (problem, found, on))
     checks_unread (inr (inl failed, is)) = inr (failed, is)
     checks_unread (inr (inr missing, is)) = unheld held refl missing is
 
     -- a log that was read
     pub checks_text : (bytes lent : List ℕ) → HoldsBytes held name bytes → length bytes ≤
-        longest_log → lent ≡ bytes → OnText question lent verdict →
+        longest_log → lent ≡ bytes → OnText problem lent verdict →
         ChecksNamed held fault f source name verdict
     checks_text bytes lent holds fits same on =
-        let read : OnRead question (Some bytes) verdict =
+        let read : OnRead problem (Some bytes) verdict =
         rw (le-ltb longest_log (length bytes) fits)
-        (subst (λ b. OnText question b verdict) same on) in
-        inl (Some bytes, given_under held name bytes holds, inr (question, found, read))
+        (subst (λ b. OnText problem b verdict) same on) in
+        inl (Some bytes, given_under held name bytes holds, inr (problem, found, read))
 
 -- a fault that rose later has risen
 pub rose_later : (a b c : ℕ) → a ≤ b → Rose b c → Rose a c

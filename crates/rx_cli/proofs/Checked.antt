@@ -8,7 +8,7 @@ use Rattle.rx_command.specs.Commands.{Functions}
 use Rattle.rx_log.specs.Acceptance as acceptance
 use Rattle.rx_log.specs.Acceptance.{HasVerdict, IsAccepted}
 use Rattle.rx_log.specs.declared.log.Log.{Log}
-use Rattle.rx_cli.specs.declared.questions.Question.{Question}
+use Rattle.rx_cli.specs.declared.problems.Problem.{Problem}
 use Rattle.rx_cli.specs.declared.ends.Status.TheVariants as Ends
 use Rattle.rx_cli.specs.declared.verdicts.Verdict.{Verdict}
 use Rattle.rx_cli.specs.declared.verdicts.Verdict.TheVariants as Said
@@ -17,9 +17,9 @@ use Rattle.rx_check.specs.declared.check_end.CheckEnd.TheVariants as End
 use Rattle.rx_cli.specs.Agreement.{Agrees}
 use Rattle.rx_cli.specs.Checks.{IsChecked, OnLog, OnRead, OnText, longest_log}
 use Rattle.rx_cli.specs.Ends.{check_status, status_of}
-use Rattle.rx_cli.specs.Questions.{asked}
+use Rattle.rx_cli.specs.Problems.{asked}
 use Rattle.rx_cli.specs.Verdicts.{end_of, verdict_of}
-use Rattle.rx_cli.proofs.Sound.{question_agrees}
+use Rattle.rx_cli.proofs.Sound.{problem_agrees}
 
 -- each refusal has the status of refusals
 pub status_refused : (refusal : Refusal) → status_of (verdict_of refusal) ≡ Ends.Refused
@@ -48,34 +48,34 @@ module _ (verdict : Verdict) (says : status_of verdict ≡ Ends.Equivalent) wher
   status_is other is = sym (ap status_of is) ∙ says
 
   -- the replay accepts
-  pub log_accepted : (question : Question) (log : Log) → OnLog question log verdict →
-      IsAccepted question.rules question.goal log
-  log_accepted question log (acceptance.Accepted, has, is) = has
-  log_accepted question log (acceptance.Fails fault, has, is) =
+  pub log_accepted : (problem : Problem) (log : Log) → OnLog problem log verdict →
+      IsAccepted problem.rules problem.goal log
+  log_accepted problem log (acceptance.Accepted, has, is) = has
+  log_accepted problem log (acceptance.Fails fault, has, is) =
       absurd (no_yes (end_of fault) (status_is (Said.Check (end_of fault)) is))
 
-  text_accepted : (question : Question) (bytes : List ℕ) → OnText question bytes verdict →
-      (log : Log) × IsAccepted question.rules question.goal log
-  text_accepted question bytes (inl (number, bad, is)) =
+  text_accepted : (problem : Problem) (bytes : List ℕ) → OnText problem bytes verdict →
+      (log : Log) × IsAccepted problem.rules problem.goal log
+  text_accepted problem bytes (inl (number, bad, is)) =
       let no : Ends.Refused ≡ Ends.Equivalent = status_is (Said.Line number) is in
       absurd (let none : ⊥ = cc in none)
-  text_accepted question bytes (inr (log, read, on)) = (log, log_accepted question log on)
+  text_accepted problem bytes (inr (log, read, on)) = (log, log_accepted problem log on)
 
-  by_length : (question : Question) (bytes : List ℕ) (long : Bool) →
-      MatchBool long (verdict ≡ Said.LongLog) (OnText question bytes verdict) → (log : Log) ×
-      IsAccepted question.rules question.goal log
-  by_length question bytes true is =
+  by_length : (problem : Problem) (bytes : List ℕ) (long : Bool) →
+      MatchBool long (verdict ≡ Said.LongLog) (OnText problem bytes verdict) → (log : Log) ×
+      IsAccepted problem.rules problem.goal log
+  by_length problem bytes true is =
       let no : Ends.Refused ≡ Ends.Equivalent = status_is Said.LongLog is in
       absurd (let none : ⊥ = cc in none)
-  by_length question bytes false on = text_accepted question bytes on
+  by_length problem bytes false on = text_accepted problem bytes on
 
-  read_accepted : (question : Question) (log : Option (List ℕ)) → OnRead question log verdict →
-      (log : Log) × IsAccepted question.rules question.goal log
-  read_accepted question None is =
+  read_accepted : (problem : Problem) (log : Option (List ℕ)) → OnRead problem log verdict →
+      (log : Log) × IsAccepted problem.rules problem.goal log
+  read_accepted problem None is =
       let no : Ends.ReadFault ≡ Ends.Equivalent = status_is Said.ReadFault is in
       absurd (let none : ⊥ = cc in none)
-  read_accepted question (Some bytes) on =
-      by_length question bytes (nat_lt longest_log (length bytes)) on
+  read_accepted problem (Some bytes) on =
+      by_length problem bytes (nat_lt longest_log (length bytes)) on
 
   -- no text alone is a says
   pub never_asked : (f : Functions) (source : List ℕ) → asked f source (Ends verdict) → ⊥
@@ -90,6 +90,6 @@ module _ (verdict : Verdict) (says : status_of verdict ≡ Ends.Equivalent) wher
   pub checked_agrees : (f : Functions) (source : List ℕ) (log : Option (List ℕ)) →
       IsChecked f source log verdict → Agrees source f
   checked_agrees f source log (inl ended) = absurd (never_asked f source ended)
-  checked_agrees f source log (inr (question, (compared, front, is), on)) =
-      let (read, accepted) = read_accepted question log on in
-      question_agrees f source compared question front is read accepted
+  checked_agrees f source log (inr (problem, (compared, front, is), on)) =
+      let (read, accepted) = read_accepted problem log on in
+      problem_agrees f source compared problem front is read accepted

@@ -15,7 +15,7 @@ use Rattle.rx_cli.specs.declared.ends.Status.TheVariants as Ends
 use Rattle.rx_cli.specs.declared.verdicts.Verdict.{Verdict}
 use Rattle.rx_cli.specs.declared.verdicts.Verdict.TheVariants as Said
 use Rattle.rx_cli.specs.Ends.{found_status, status_in, status_of}
-use Rattle.rx_cli.specs.Questions.{front_stage}
+use Rattle.rx_cli.specs.Problems.{front_stage}
 use Rattle.rx_cli.specs.Refutations.{IsFound, IsRefuted, OnPoints, Refutes, arity_in, most_points, points_in}
 use Rattle.rx_cli.proofs.Checked.{status_refused}
 use Rattle.rx_cli.proofs.Refuted.{difference_refutes}

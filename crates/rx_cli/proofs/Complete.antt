@@ -11,14 +11,14 @@ use Rattle.rx_cli.specs.declared.answers.Answer.{Answer}
 use Rattle.rx_cli.specs.declared.answers.Answer.TheVariants.{Line}
 use Rattle.rx_cli.specs.declared.ends.Status.{Status}
 use Rattle.rx_cli.specs.declared.ends.Status.TheVariants as Said
-use Rattle.rx_cli.specs.declared.questions.Question.{Question}
+use Rattle.rx_cli.specs.declared.problems.Problem.{Problem}
 use Rattle.rx_cli.specs.declared.verdicts.Verdict.TheVariants as verdict
 use Rattle.rx_cli.specs.Answers.{AnswersSoundly, IsDone, OnSource, longest_source}
 use Rattle.rx_cli.specs.Checks.{IsChecked}
 use Rattle.rx_cli.specs.Completeness.{CanShow, Holds, HoldsAccepted, HoldsClosed, SaysYes}
 use Rattle.rx_cli.specs.Ends.{status_in, status_of}
-use Rattle.rx_cli.specs.Proofs.{IsProved, OnQuestion, OnSearched}
-use Rattle.rx_cli.specs.Questions.{asked}
+use Rattle.rx_cli.specs.Problems.{asked}
+use Rattle.rx_cli.specs.Proofs.{IsProved, OnProblem, OnSearched}
 use Rattle.rx_cli.specs.Run.{RunEnds}
 use Rattle.rx_cli.proofs.OneReport.{one_asked, one_checked}
 use Rattle.rx_cli.proofs.Written.{written_accepted}
@@ -50,34 +50,34 @@ module _ (names : Names) (answer : Answer) where
       let (v, checked, answer_is) = on_short (Check f name) is.given.source (Some has.bytes) source
       answer (is.is_given.0 ∙ has.source.held) has.source.short on in
       let passes : IsChecked f source (Some has.bytes) verdict.Equivalent =
-      written_accepted f source has.question has.log has.bytes has.source.asks has.accepted
+      written_accepted f source has.problem has.log has.bytes has.source.asks has.accepted
       has.is has.short in
       ap status_in answer_is ∙ ap status_of (one_checked f source (Some has.bytes) v
       verdict.Equivalent checked passes)
 
-  closed_yes : (question : Question) (effort : Effort) (moves : _) →
-      OnSearched question effort (Closed moves) answer → status_in answer ≡ Said.Equivalent
-  closed_yes question effort moves (text, proof, is) = ap status_in is
+  closed_yes : (problem : Problem) (effort : Effort) (moves : _) →
+      OnSearched problem effort (Closed moves) answer → status_in answer ≡ Said.Equivalent
+  closed_yes problem effort moves (text, proof, is) = ap status_in is
 
-  proved_yes : (f : Functions) (effort : Effort) (source : List ℕ) (question : Question) (moves : _)
-      → asked f source (Goes question)
-      → searched question.rules question.goal effort.depth effort.budget ≡ Closed moves →
+  proved_yes : (f : Functions) (effort : Effort) (source : List ℕ) (problem : Problem) (moves : _)
+      → asked f source (Goes problem)
+      → searched problem.rules problem.goal effort.depth effort.budget ≡ Closed moves →
       IsProved f effort source answer → status_in answer ≡ Said.Equivalent
-  proved_yes f effort source question moves asks closes (inl (v, ends, is)) =
-      absurd (one_asked f source (Ends v) (Goes question) ends asks)
-  proved_yes f effort source question moves asks closes (inr (other, goes, on)) =
-      let same : other ≡ question = one_asked f source (Goes other) (Goes question) goes asks in
-      let here : OnQuestion question effort answer =
-      subst (λ (q : Question). OnQuestion q effort answer) same on in
-      closed_yes question effort moves (subst
-      (λ (s : Searched). OnSearched question effort s answer) closes here)
+  proved_yes f effort source problem moves asks closes (inl (v, ends, is)) =
+      absurd (one_asked f source (Ends v) (Goes problem) ends asks)
+  proved_yes f effort source problem moves asks closes (inr (other, goes, on)) =
+      let same : other ≡ problem = one_asked f source (Goes other) (Goes problem) goes asks in
+      let here : OnProblem problem effort answer =
+      subst (λ (q : Problem). OnProblem q effort answer) same on in
+      closed_yes problem effort moves (subst
+      (λ (s : Searched). OnSearched problem effort s answer) closes here)
 
   -- a search that closes
   search_passes : (f : Functions) (effort : Effort) → HoldsClosed names f effort →
       AnswersSoundly (Some names) (Some (Compare (Prove f effort))) answer → status_in answer ≡
       Said.Equivalent
   search_passes f effort has is =
-      proved_yes f effort has.source.source has.question has.moves has.source.asks has.closes
+      proved_yes f effort has.source.source has.problem has.moves has.source.asks has.closes
       (on_short (Prove f effort) is.given.source is.given.log has.source.source answer
       (is.is_given.0 ∙ has.source.held) has.source.short is.is)
 

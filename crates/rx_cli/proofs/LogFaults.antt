@@ -22,7 +22,7 @@ use Rattle.rx_steps.specs.declared.step_end.StepEnd.TheVariants as Unmet
 use Rattle.rx_term.specs.declared.rule.Equation.{Equation}
 use Rattle.rx_term.specs.declared.rule.Rule.{Rule}
 use Rattle.rx_term.specs.declared.rule_set.RuleParts.{RuleParts}
-use Rattle.rx_cli.specs.declared.questions.Question.{Question}
+use Rattle.rx_cli.specs.declared.problems.Problem.{Problem}
 use Rattle.rx_cli.specs.declared.verdicts.Verdict.TheVariants as Said
 use Rattle.rx_cli.specs.Checks.{OnLog}
 use Rattle.rx_cli.specs.declared.verdicts.Verdict.{Verdict}
@@ -100,42 +100,42 @@ never_large parts goal log k has =
     concludes_none parts log (kept parts goal log) (kept_none parts goal log) k has
 
 -- what an end of a replay says
-pub end_said : (question : Question) (log : Log) (end : CheckEnd) → end ≢ End.NoMemory →
-    Answers (Err end) question.rules question.goal log
-    → OnLog question log (Said.Check end) × IsSayableEnd end
-end_said question log (End.Step k Unmet.NoGoal) other told =
+pub end_said : (problem : Problem) (log : Log) (end : CheckEnd) → end ≢ End.NoMemory →
+    Answers (Err end) problem.rules problem.goal log
+    → OnLog problem log (Said.Check end) × IsSayableEnd end
+end_said problem log (End.Step k Unmet.NoGoal) other told =
     ((acceptance.Fails (acceptance.Refused k judging.NoGoal), told, refl), tt)
-end_said question log (End.Step k Unmet.WrongShape) other told =
+end_said problem log (End.Step k Unmet.WrongShape) other told =
     ((acceptance.Fails (acceptance.Refused k judging.WrongShape), told, refl), tt)
-end_said question log (End.Step k Unmet.NoSuchRule) other told =
+end_said problem log (End.Step k Unmet.NoSuchRule) other told =
     ((acceptance.Fails (acceptance.Refused k judging.NoSuchRule), told, refl), tt)
-end_said question log (End.Step k (Unmet.NotShown i)) other told =
+end_said problem log (End.Step k (Unmet.NotShown i)) other told =
     ((acceptance.Fails (acceptance.Refused k (judging.NotShown i)), told, refl), tt)
-end_said question log (End.Step k Unmet.Large) other told =
-    absurd (never_large question.rules question.goal log k told)
-end_said question log (End.Step k Unmet.NoMemory) other told =
-    absurd (never_large question.rules question.goal log k told)
-end_said question log (End.Unfinished n) other told =
+end_said problem log (End.Step k Unmet.Large) other told =
+    absurd (never_large problem.rules problem.goal log k told)
+end_said problem log (End.Step k Unmet.NoMemory) other told =
+    absurd (never_large problem.rules problem.goal log k told)
+end_said problem log (End.Unfinished n) other told =
     ((acceptance.Fails (acceptance.Unfinished n), told, refl), tt)
-end_said question log (End.NotCovered f) other told =
+end_said problem log (End.NotCovered f) other told =
     ((acceptance.Fails (acceptance.NotCovered f), told, refl), tt)
-end_said question log (End.BadRanks f) other told =
+end_said problem log (End.BadRanks f) other told =
     ((acceptance.Fails (acceptance.BadRanks f), told, refl), tt)
-end_said question log (End.NotLower i) other told =
+end_said problem log (End.NotLower i) other told =
     ((acceptance.Fails (acceptance.NotLower i), told, refl), tt)
-end_said question log (End.Large (At.Cover f)) other told =
+end_said problem log (End.Large (At.Cover f)) other told =
     ((acceptance.Fails (acceptance.PassesLimits (acceptance.AtCover f)), told, refl), tt)
-end_said question log (End.Large (At.Step k)) other told =
+end_said problem log (End.Large (At.Step k)) other told =
     ((acceptance.Fails (acceptance.PassesLimits (acceptance.AtStep k)), told, refl), tt)
-end_said question log (End.Large (At.Pair i)) other told =
+end_said problem log (End.Large (At.Pair i)) other told =
     ((acceptance.Fails (acceptance.PassesLimits (acceptance.AtPair i)), told, refl), tt)
-end_said question log End.NoMemory other told = absurd (other refl)
+end_said problem log End.NoMemory other told = absurd (other refl)
 
 -- so does a verdict that names the end
-pub verdict_said : (question : Question) (log : Log) (end : CheckEnd) (verdict : Verdict) →
+pub verdict_said : (problem : Problem) (log : Log) (end : CheckEnd) (verdict : Verdict) →
     (verdict ≡ Said.Check end) × (end ≢ End.NoMemory) →
-    Answers (Err end) question.rules question.goal log
-    → OnLog question log verdict × IsReportableVerdict verdict
-verdict_said question log end verdict (is, other) told =
-    subst (λ v. OnLog question log v × IsReportableVerdict v) (sym is)
-    (end_said question log end other told)
+    Answers (Err end) problem.rules problem.goal log
+    → OnLog problem log verdict × IsReportableVerdict verdict
+verdict_said problem log end verdict (is, other) told =
+    subst (λ v. OnLog problem log v × IsReportableVerdict v) (sym is)
+    (end_said problem log end other told)

@@ -8,19 +8,19 @@ use Rattle.rx_log.specs.Acceptance as acceptance
 use Rattle.rx_logfile.specs.LogFiles.{OnFile}
 use Rattle.rx_logfile.specs.declared.file_end.FileEnd.{FileEnd}
 use Rattle.rx_logfile.specs.declared.file_end.FileEnd.TheVariants as end
-use Rattle.rx_cli.specs.declared.questions.Question.{Question}
+use Rattle.rx_cli.specs.declared.problems.Problem.{Problem}
 use Rattle.rx_cli.specs.declared.verdicts.Verdict.{Verdict}
 use Rattle.rx_cli.specs.declared.verdicts.Verdict.TheVariants as Said
 use Rattle.rx_cli.specs.Checks.{longest_log}
-use Rattle.rx_cli.specs.Questions.{asked}
+use Rattle.rx_cli.specs.Problems.{asked}
 use Rattle.rx_cli.specs.Steps.{ChecksNamed, ChecksRead, OnNext, Reads, SaysEndOfLog}
 use Rattle.rx_cli.specs.Texts.{IsReportableVerdict}
 use Rattle.rx_cli.proofs.AnswerLemmas.{checks_text, checks_unread}
 use Rattle.rx_cli.proofs.LogFaults.{verdict_said}
 
-module _ (held : Option Names) (fault : Type 0) (name : List ℕ) (question : Question) where
-  pub accepted_said : OnFile held fault name longest_log question.rules question.goal (Ok tt) →
-      ChecksRead held fault name question Said.Equivalent
+module _ (held : Option Names) (fault : Type 0) (name : List ℕ) (problem : Problem) where
+  pub accepted_said : OnFile held fault name longest_log problem.rules problem.goal (Ok tt) →
+      ChecksRead held fault name problem Said.Equivalent
   accepted_said told = record {
     next = Goes told.bytes;
     reads = (told.holds, told.within);
@@ -28,8 +28,8 @@ module _ (held : Option Names) (fault : Type 0) (name : List ℕ) (question : Qu
   }
 
   pub end_said : (why : FileEnd) (verdict : Verdict) → SaysEndOfLog why verdict →
-      OnFile held fault name longest_log question.rules question.goal (Err why)
-      → ChecksRead held fault name question verdict × IsReportableVerdict verdict
+      OnFile held fault name longest_log problem.rules problem.goal (Err why)
+      → ChecksRead held fault name problem verdict × IsReportableVerdict verdict
   end_said end.Failed verdict is told =
       let line : IsReportableVerdict verdict = subst IsReportableVerdict (sym is) tt in
       (record { next = Ends Said.ReadFault; reads = inr (told, refl); on = is }, line)
@@ -47,7 +47,7 @@ module _ (held : Option Names) (fault : Type 0) (name : List ℕ) (question : Qu
         line,
       )
   end_said (end.Check why) verdict is told =
-      let said = verdict_said question told.said.0 why verdict is told.said.1.1 in (
+      let said = verdict_said problem told.said.0 why verdict is told.said.1.1 in (
         record {
           next = Goes told.bytes;
           reads = (told.holds, told.within);
@@ -59,17 +59,17 @@ module _ (held : Option Names) (fault : Type 0) (name : List ℕ) (question : Qu
   end_said end.NoMemory verdict is told = absurd is
 
 module _ (held : Option Names) (fault : Type 0) (f : Functions) (source name : List ℕ)
-    (verdict : Verdict) (question : Question) (found : asked f source (Goes question)) where
+    (verdict : Verdict) (problem : Problem) (found : asked f source (Goes problem)) where
   by_next : (next : Next Verdict (List ℕ)) → Reads held fault name longest_log Said.LongLog next →
-      OnNext question next verdict → ChecksNamed held fault f source name verdict
+      OnNext problem next verdict → ChecksNamed held fault f source name verdict
   by_next (Ends end) reads is =
-      checks_unread held fault f source name verdict question found
+      checks_unread held fault f source name verdict problem found
       (subst (λ v. Reads held fault name longest_log Said.LongLog (Ends v)) (sym is) reads)
   by_next (Goes bytes) reads on =
-      checks_text held fault f source name verdict question found bytes bytes reads.0 reads.1 refl
+      checks_text held fault f source name verdict problem found bytes bytes reads.0 reads.1 refl
       on
 
-  -- what is said of a log that is read is said of the question
-  pub read_said : ChecksRead held fault name question verdict →
+  -- what is said of a log that is read is said of the problem
+  pub read_said : ChecksRead held fault name problem verdict →
       ChecksNamed held fault f source name verdict
   read_said read = by_next read.next read.reads read.on

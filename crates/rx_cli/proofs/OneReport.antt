@@ -21,7 +21,7 @@ use Rattle.rx_cli.specs.declared.answers.Answer.{Answer}
 use Rattle.rx_cli.specs.declared.answers.Answer.TheVariants.{Line, Proof, Found}
 use Rattle.rx_cli.specs.declared.ends.Status.{Status}
 use Rattle.rx_cli.specs.declared.ends.Status.TheVariants as Ends
-use Rattle.rx_cli.specs.declared.questions.Question.{Question}
+use Rattle.rx_cli.specs.declared.problems.Problem.{Problem}
 use Rattle.rx_cli.specs.declared.verdicts.Verdict.{Verdict}
 use Rattle.rx_cli.specs.declared.verdicts.Verdict.TheVariants as Said
 use Rattle.rx_cli.specs.Answers.{AnswersSoundly, IsDone, OnSource, functions_in, longest_source, text_in}
@@ -34,9 +34,9 @@ use Rattle.rx_command.specs.declared.command.Extent.{Extent}
 use Rattle.rx_cli.specs.Refutations.{IsFound, IsRefuted, OnPoints, arity_in, most_points, points_in}
 use Rattle.rx_cli.specs.Examples.{IsShown, IsStatus, IsTally, example_effort, example_functions, example_source, verdict_on, with_status}
 use Rattle.rx_cli.specs.declared.examples.Tally.{Tally}
-use Rattle.rx_cli.specs.Questions.{asked, front_stage, question_stage, rows_of}
+use Rattle.rx_cli.specs.Problems.{asked, front_stage, problem_stage, rows_of}
 use Rattle.rx_cli.specs.Run.{Reports}
-use Rattle.rx_cli.specs.Proofs.{AreOne, AreProofs, IsProofText, IsProved, OnQuestion, OnSearched}
+use Rattle.rx_cli.specs.Proofs.{AreOne, AreProofs, IsProofText, IsProved, OnProblem, OnSearched}
 use Rattle.rx_cli.specs.Verdicts.{of_log_verdict, verdict_of}
 use Rattle.rx_cli.proofs.Ready.{ready}
 
@@ -95,26 +95,26 @@ one_front_stage f source (Goes c) (Goes d) p q =
 no_both : (b : Bool) → b ≡ true → b ≡ false → ⊥
 no_both b holds fails = let e : true ≡ false = sym holds ∙ fails in cc
 
-one_question : IsOne question_stage
-one_question c (Ends v) (Ends w) (inl (beyond, v_is)) (inl (again, w_is)) =
+one_problem : IsOne problem_stage
+one_problem c (Ends v) (Ends w) (inl (beyond, v_is)) (inl (again, w_is)) =
     equal_verdicts v w Said.LargeTranslate v_is w_is
-one_question c (Ends v) (Ends w) (inl (beyond, v_is)) (inr (t, within, w_is)) =
+one_problem c (Ends v) (Ends w) (inl (beyond, v_is)) (inr (t, within, w_is)) =
     absurd (not_beyond c.two.program c.two.first c.two.second t.rules t.first t.second t.is beyond)
-one_question c (Ends v) (Ends w) (inr (t, within, v_is)) (inl (beyond, w_is)) =
+one_problem c (Ends v) (Ends w) (inr (t, within, v_is)) (inl (beyond, w_is)) =
     absurd (not_beyond c.two.program c.two.first c.two.second t.rules t.first t.second t.is beyond)
-one_question c (Ends v) (Ends w) (inr (t, within, v_is)) (inr (u, again, w_is)) =
+one_problem c (Ends v) (Ends w) (inr (t, within, v_is)) (inr (u, again, w_is)) =
     equal_verdicts v w Said.LargePre v_is w_is
-one_question c (Ends v) (Goes q) (inl (beyond, v_is)) is =
+one_problem c (Ends v) (Goes q) (inl (beyond, v_is)) is =
     not_beyond c.two.program c.two.first c.two.second q.rules is.first is.second is.translated
     beyond
-one_question c (Ends v) (Goes q) (inr (t, beyond, v_is)) is =
+one_problem c (Ends v) (Goes q) (inr (t, beyond, v_is)) is =
     no_both (rows_of c.precondition).within is.within beyond
-one_question c (Goes q) (Ends w) is (inl (beyond, w_is)) =
+one_problem c (Goes q) (Ends w) is (inl (beyond, w_is)) =
     not_beyond c.two.program c.two.first c.two.second q.rules is.first is.second is.translated
     beyond
-one_question c (Goes q) (Ends w) is (inr (t, beyond, w_is)) =
+one_problem c (Goes q) (Ends w) is (inr (t, beyond, w_is)) =
     no_both (rows_of c.precondition).within is.within beyond
-one_question c (Goes q) (Goes r) is too =
+one_problem c (Goes q) (Goes r) is too =
     let same = one_translation c.two.program c.two.first c.two.second q.rules r.rules is.first
     is.second too.first too.second is.translated too.translated in
     let goals : q.goal ≡ r.goal = is.goal
@@ -123,25 +123,25 @@ one_question c (Goes q) (Goes r) is too =
     λ i. record { rules = same.parts_same i; goal = goals i }
 
 pub one_asked : (f : Functions) → IsOne (asked f)
-one_asked f = one_before (front_stage f) question_stage (one_front_stage f) one_question
+one_asked f = one_before (front_stage f) problem_stage (one_front_stage f) one_problem
 
 -- ---- logs
 
--- the rules of a question are well made
-question_made : (f : Functions) (source : List ℕ) (question : Question) →
-    asked f source (Goes question) → IsWellMade question.rules
-question_made f source question (c, front, is) =
+-- the rules of a problem are well made
+problem_made : (f : Functions) (source : List ℕ) (problem : Problem) →
+    asked f source (Goes problem) → IsWellMade problem.rules
+problem_made f source problem (c, front, is) =
     translation_made c.two.program (ready source f.first f.second f.precondition c front).scoped
-    c.two.first c.two.second question.rules is.first is.second is.translated
+    c.two.first c.two.second problem.rules is.first is.second is.translated
 
-module _ (question : Question) (made : IsWellMade question.rules) (v w : Verdict) where
-  one_on_log : (log : Log) → OnLog question log v → OnLog question log w → v ≡ w
+module _ (problem : Problem) (made : IsWellMade problem.rules) (v w : Verdict) where
+  one_on_log : (log : Log) → OnLog problem log v → OnLog problem log w → v ≡ w
   one_on_log log (said, has, v_is) (other, too, w_is) =
-      let (verdict, is, only) = one_verdict question.rules question.goal log made in
+      let (verdict, is, only) = one_verdict problem.rules problem.goal log made in
       let same : said ≡ other = only said has ∙ sym (only other too) in
       v_is ∙ (ap of_log_verdict same ∙ sym w_is)
 
-  one_on_text : (bytes : List ℕ) → OnText question bytes v → OnText question bytes w → v ≡ w
+  one_on_text : (bytes : List ℕ) → OnText problem bytes v → OnText problem bytes w → v ≡ w
   one_on_text bytes (inl (m, bad, v_is)) (inl (n, too, w_is)) =
       v_is ∙ (ap Said.Line (one_bad_line bytes m n bad too) ∙ sym w_is)
   one_on_text bytes (inl (m, bad, v_is)) (inr (log, read, on)) =
@@ -149,15 +149,15 @@ module _ (question : Question) (made : IsWellMade question.rules) (v w : Verdict
   one_on_text bytes (inr (log, read, on)) (inl (n, bad, w_is)) =
       absurd (never_both bytes log n read bad)
   one_on_text bytes (inr (log, read, on)) (inr (other, again, too)) =
-      one_on_log other (subst (λ l. OnLog question l v) (one_log bytes log other read again) on) too
+      one_on_log other (subst (λ l. OnLog problem l v) (one_log bytes log other read again) on) too
 
   one_by_length : (bytes : List ℕ) (long : Bool) →
-      MatchBool long (v ≡ Said.LongLog) (OnText question bytes v) →
-      MatchBool long (w ≡ Said.LongLog) (OnText question bytes w) → v ≡ w
+      MatchBool long (v ≡ Said.LongLog) (OnText problem bytes v) →
+      MatchBool long (w ≡ Said.LongLog) (OnText problem bytes w) → v ≡ w
   one_by_length bytes true v_is w_is = equal_verdicts v w Said.LongLog v_is w_is
   one_by_length bytes false on too = one_on_text bytes on too
 
-  one_on_read : (log : Option (List ℕ)) → OnRead question log v → OnRead question log w → v ≡ w
+  one_on_read : (log : Option (List ℕ)) → OnRead problem log v → OnRead problem log w → v ≡ w
   one_on_read None v_is w_is = equal_verdicts v w Said.ReadFault v_is w_is
   one_on_read (Some bytes) on too = one_by_length bytes (nat_lt longest_log (length bytes)) on too
 
@@ -170,40 +170,40 @@ one_checked f source log v w (inr (r, q, on)) (inl p) =
     absurd (one_asked f source (Goes r) (Ends w) q p)
 one_checked f source log v w (inr (q, p, on)) (inr (r, too, other)) =
     let same : q ≡ r = one_asked f source (Goes q) (Goes r) p too in
-    one_on_read r (question_made f source r too) v w log
-    (subst (λ (z : Question). OnRead z log v) same on) other
+    one_on_read r (problem_made f source r too) v w log
+    (subst (λ (z : Problem). OnRead z log v) same on) other
 
 -- ---- proofs
 
--- both texts are those of logs with the same moves, accepted for the question that two functions of
--- a text are
+-- both texts are those of logs with the same moves, accepted for the problem that two functions of
+-- a text pose
 record AreFound (f : Functions) (effort : Effort) (source t v : List ℕ) : Type 0 where
-  pub question : Question
+  pub problem : Problem
   pub moves : List Move
-  pub is_asked : asked f source (Goes question)
-  pub is_closed : searched question.rules question.goal effort.depth effort.budget ≡ Closed moves
-  pub first : IsProofText question moves t
-  pub second : IsProofText question moves v
+  pub is_asked : asked f source (Goes problem)
+  pub is_closed : searched problem.rules problem.goal effort.depth effort.budget ≡ Closed moves
+  pub first : IsProofText problem moves t
+  pub second : IsProofText problem moves v
 
 module _ (f : Functions) (effort : Effort) (source : List ℕ) (a b : Answer) where
   abbrev Proofs : Type 0
   Proofs = AreFound f effort source (text_in a) (text_in b)
 
-  module _ (question : Question) (found : asked f source (Goes question)) where
-    one_searched : (s : Searched) → searched question.rules question.goal effort.depth effort.budget
-        ≡ s → OnSearched question effort s a → OnSearched question effort s b → AreAlike Proofs a b
+  module _ (problem : Problem) (found : asked f source (Goes problem)) where
+    one_searched : (s : Searched) → searched problem.rules problem.goal effort.depth effort.budget
+        ≡ s → OnSearched problem effort s a → OnSearched problem effort s b → AreAlike Proofs a b
     one_searched NoRanks comes a_is b_is = equal_answers Proofs a b (Line Said.NoRanks) a_is b_is
     one_searched (Closed moves) comes (t, p, a_is) (v, q, b_is) = inr (
       subst IsProof (sym a_is) tt,
       (
         subst IsProof (sym b_is) tt,
         record {
-          question = question;
+          problem = problem;
           moves = moves;
           is_asked = found;
           is_closed = comes;
-          first = subst (IsProofText question moves) (sym (ap text_in a_is)) p;
-          second = subst (IsProofText question moves) (sym (ap text_in b_is)) q;
+          first = subst (IsProofText problem moves) (sym (ap text_in a_is)) p;
+          second = subst (IsProofText problem moves) (sym (ap text_in b_is)) q;
         },
       ),
     )
@@ -222,7 +222,7 @@ module _ (f : Functions) (effort : Effort) (source : List ℕ) (a b : Answer) wh
   one_proved (inr (q, p, on)) (inr (r, too, other)) =
       let same : q ≡ r = one_asked f source (Goes q) (Goes r) p too in
       one_searched r too (searched r.rules r.goal effort.depth effort.budget) refl
-      (subst (λ (z : Question). OnQuestion z effort a) same on) other
+      (subst (λ (z : Problem). OnProblem z effort a) same on) other
 
 -- ---- answers
 
@@ -389,7 +389,7 @@ asks_proof names words t v (Prove f effort, asks, (source, held, found)) = recor
   functions = f;
   effort = effort;
   source = source;
-  question = found.question;
+  problem = found.problem;
   moves = found.moves;
   asks = asks;
   held = held;

@@ -19,7 +19,7 @@ use Rattle.c_scope.specs.Expressions.{count_at}
 use Rattle.rx_agreement.proofs.Preconditions.{means_its_rows}
 use Rattle.rx_command.specs.Commands.{Functions}
 use Rattle.rx_cli.specs.Agreement.{Agrees, AreAlike, Meets}
-use Rattle.rx_cli.specs.Questions.{front_stage}
+use Rattle.rx_cli.specs.Problems.{front_stage}
 use Rattle.rx_cli.specs.Refutations.{Refutes, arity_in, points_in}
 use Rattle.rx_cli.specs.Steps.{HasRowForm}
 use Rattle.rx_cli.proofs.Ready.{ready}

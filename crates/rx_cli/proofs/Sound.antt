@@ -23,9 +23,9 @@ use Rattle.rx_log.specs.declared.log.Log.{Log}
 use Rattle.rx_log.specs.Acceptance.{IsAccepted}
 use Rattle.rx_check.proofs.Proofs.{accepted_ends_alike}
 use Rattle.rx_command.specs.Commands.{Functions}
-use Rattle.rx_cli.specs.declared.questions.Question.{Question}
+use Rattle.rx_cli.specs.declared.problems.Problem.{Problem}
 use Rattle.rx_cli.specs.Agreement.{Agrees, AreAlike, Meets}
-use Rattle.rx_cli.specs.Questions.{IsQuestion, front_stage, rows_of}
+use Rattle.rx_cli.specs.Problems.{IsProblem, front_stage, rows_of}
 use Rattle.rx_cli.specs.Steps.{HasRowForm, IsReady, Translates}
 use Rattle.rx_translate.specs.declared.translation.Translation.{Translation}
 use Rattle.rx_row.specs.declared.row.Row.{Row}
@@ -71,53 +71,53 @@ reached parts s t ends = record {
   convertible = ends.convertible;
 }
 
-module _ (compared : Compared) (question : Question) (is_ready : IsReady compared)
-    (is : IsQuestion compared question) where
+module _ (compared : Compared) (problem : Problem) (is_ready : IsReady compared)
+    (is : IsProblem compared problem) where
   abbrev goal : Equation
   goal =
       goal_at is.first is.second (count_in compared.two.program compared.two.first)
       (rows_of compared.precondition).form
 
   -- the goal fits the rules
-  goal_fits : IsFitting question.rules goal
+  goal_fits : IsFitting problem.rules goal
   goal_fits = record {
     left =
         left_fits compared.two.program is_ready.scoped compared.two.first compared.two.second
-        question.rules is.first is.second is.translated
+        problem.rules is.first is.second is.translated
         (count_in compared.two.program compared.two.first) (rows_of compared.precondition).form
         is_ready.first_counts;
     right =
         right_fits compared.two.program is_ready.scoped compared.two.first compared.two.second
-        question.rules is.first is.second is.translated
+        problem.rules is.first is.second is.translated
         (count_in compared.two.program compared.two.first) (rows_of compared.precondition).form
         is_ready.second_counts;
   }
 
-  pub question_fits : IsFitting question.rules question.goal
-  question_fits = subst (IsFitting question.rules) (sym is.goal) goal_fits
+  pub problem_fits : IsFitting problem.rules problem.goal
+  problem_fits = subst (IsFitting problem.rules) (sym is.goal) goal_fits
 
   -- so both functions return alike where a log is accepted
-  pub question_alike : (log : Log) → IsAccepted question.rules question.goal log → AreAlike compared
-  question_alike log accepted arguments long met =
+  pub problem_alike : (log : Log) → IsAccepted problem.rules problem.goal log → AreAlike compared
+  problem_alike log accepted arguments long met =
       goal_alike compared.two.program is_ready.scoped compared.two.first compared.two.second
-      question.rules is.first is.second is.translated
+      problem.rules is.first is.second is.translated
       (count_in compared.two.program compared.two.first) (rows_of compared.precondition).form
       is_ready.first_counts is_ready.second_counts
-      (λ a holds. reached question.rules (ground_at a goal.left) (ground_at a goal.right)
-      (accepted_ends_alike question.rules goal log
+      (λ a holds. reached problem.rules (ground_at a goal.left) (ground_at a goal.right)
+      (accepted_ends_alike problem.rules goal log
       (translation_made compared.two.program is_ready.scoped compared.two.first compared.two.second
-      question.rules is.first is.second is.translated)
-      goal_fits (subst (λ g. IsAccepted question.rules g log) is.goal accepted) a holds))
+      problem.rules is.first is.second is.translated)
+      goal_fits (subst (λ g. IsAccepted problem.rules g log) is.goal accepted) a holds))
       arguments long (meets_rows compared.two.program compared.precondition arguments
       is_ready.row_form met)
 
-pub question_agrees : (f : Functions) (source : List ℕ) (compared : Compared) (question : Question)
-    → front_stage f source (Goes compared) → IsQuestion compared question
-    → (log : Log) → IsAccepted question.rules question.goal log → Agrees source f
-question_agrees f source compared question front is log accepted = record {
+pub problem_agrees : (f : Functions) (source : List ℕ) (compared : Compared) (problem : Problem)
+    → front_stage f source (Goes compared) → IsProblem compared problem
+    → (log : Log) → IsAccepted problem.rules problem.goal log → Agrees source f
+problem_agrees f source compared problem front is log accepted = record {
   compared = compared;
   front = front;
   alike =
-      question_alike compared question (ready source f.first f.second f.precondition compared front)
+      problem_alike compared problem (ready source f.first f.second f.precondition compared front)
       is log accepted;
 }

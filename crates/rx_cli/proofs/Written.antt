@@ -13,26 +13,26 @@ use Rattle.rx_cli.specs.declared.answers.Answer.{Answer}
 use Rattle.rx_cli.specs.declared.answers.Answer.TheVariants.{Line}
 use Rattle.rx_cli.specs.declared.ends.Status.{Status}
 use Rattle.rx_cli.specs.declared.ends.Status.TheVariants as Ends
-use Rattle.rx_cli.specs.declared.questions.Question.{Question}
+use Rattle.rx_cli.specs.declared.problems.Problem.{Problem}
 use Rattle.rx_cli.specs.declared.verdicts.Verdict.TheVariants as Said
 use Rattle.rx_cli.specs.Answers.{AnswersSoundly, IsDone, OnSource, longest_source, text_in}
 use Rattle.rx_cli.specs.Ends.{status_in}
 use Rattle.rx_cli.specs.Checks.{IsChecked, OnRead, longest_log}
+use Rattle.rx_cli.specs.Problems.{asked}
 use Rattle.rx_cli.specs.Proofs.{IsProved}
-use Rattle.rx_cli.specs.Questions.{asked}
 use Rattle.rx_cli.specs.Run.{Reports}
 use Rattle.rx_cli.specs.Texts.{text_of}
 use Rattle.rx_cli.proofs.Proved.{proved_text}
 
--- a log that is accepted for a question is accepted by a check that reads its text
-pub written_accepted : (f : Functions) (source : List ℕ) (question : Question) (log : Log)
-    (text : List ℕ) → asked f source (Goes question) → IsAccepted question.rules question.goal log →
+-- a log that is accepted for a problem is accepted by a check that reads its text
+pub written_accepted : (f : Functions) (source : List ℕ) (problem : Problem) (log : Log)
+    (text : List ℕ) → asked f source (Goes problem) → IsAccepted problem.rules problem.goal log →
     IsLog text log
     → length text ≤ longest_log → IsChecked f source (Some text) Said.Equivalent
-written_accepted f source question log text found accepted is fits =
-    let read : OnRead question (Some text) Said.Equivalent =
+written_accepted f source problem log text found accepted is fits =
+    let read : OnRead problem (Some text) Said.Equivalent =
     rw (le-ltb longest_log (length text) fits) (inr (log, is, (Accepted, accepted, refl))) in
-    inr (question, found, read)
+    inr (problem, found, read)
 
 module _ (f : Functions) (effort : Effort) (name text : List ℕ) (answer : Answer)
     (says : status_in answer ≡ Ends.Equivalent) (same : text ≡ text_in answer)
@@ -41,8 +41,8 @@ module _ (f : Functions) (effort : Effort) (name text : List ℕ) (answer : Answ
   proof_checked : (source : List ℕ) → IsProved f effort source answer →
       IsChecked f source (Some text) Said.Equivalent
   proof_checked source proved =
-      let (question, found, (moves, proof)) = proved_text f source answer says effort proved in
-      written_accepted f source question proof.log text found proof.accepted
+      let (problem, found, (moves, proof)) = proved_text f source answer says effort proved in
+      written_accepted f source problem proof.log text found proof.accepted
       (subst (λ t. IsLog t proof.log) (sym same) proof.is) fits
 
   by_length : (source : List ℕ) (long : Bool) →

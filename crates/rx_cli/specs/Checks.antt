@@ -6,10 +6,10 @@ use Rattle.rx_log.specs.declared.log.Log.{Log}
 use Rattle.rx_log.specs.Acceptance as acceptance
 use Rattle.rx_log.specs.Acceptance.{HasVerdict}
 use Rattle.rx_logtext.specs.Logs.{IsFirstBad, IsLog}
-use Rattle.rx_cli.specs.declared.questions.Question.{Question}
+use Rattle.rx_cli.specs.declared.problems.Problem.{Problem}
 use Rattle.rx_cli.specs.declared.verdicts.Verdict.{Verdict}
 use Rattle.rx_cli.specs.declared.verdicts.Verdict.TheVariants as Said
-use Rattle.rx_cli.specs.Questions.{asked}
+use Rattle.rx_cli.specs.Problems.{asked}
 use Rattle.rx_cli.specs.Verdicts.{of_log_verdict}
 
 -- the most bytes of a log
@@ -17,26 +17,26 @@ abbrev pub longest_log : ℕ
 longest_log = 67108864
 
 -- the verdict of the replay, for the rules and the goal
-abbrev pub OnLog : Question → Log → Verdict → Type 0
-OnLog question log verdict =
-    (said : acceptance.Verdict) × HasVerdict question.rules question.goal log said
+abbrev pub OnLog : Problem → Log → Verdict → Type 0
+OnLog problem log verdict =
+    (said : acceptance.Verdict) × HasVerdict problem.rules problem.goal log said
     × (verdict ≡ of_log_verdict said)
 
 -- bytes with which no log begins are refused at the first such line; the text of a log is replayed
-abbrev pub OnText : Question → List ℕ → Verdict → Type 0
-OnText question bytes verdict =
+abbrev pub OnText : Problem → List ℕ → Verdict → Type 0
+OnText problem bytes verdict =
     ((number : ℕ) × IsFirstBad bytes number × (verdict ≡ Said.Line number))
-    ⊎ ((log : Log) × IsLog bytes log × OnLog question log verdict)
+    ⊎ ((log : Log) × IsLog bytes log × OnLog problem log verdict)
 
 -- what was read in the place of the log: nothing, too much, or other bytes
-abbrev pub OnRead : Question → Option (List ℕ) → Verdict → Type 0
-OnRead question None verdict = verdict ≡ Said.ReadFault
-OnRead question (Some bytes) verdict =
+abbrev pub OnRead : Problem → Option (List ℕ) → Verdict → Type 0
+OnRead problem None verdict = verdict ≡ Said.ReadFault
+OnRead problem (Some bytes) verdict =
     MatchBool (nat_lt longest_log (length bytes)) (verdict ≡ Said.LongLog)
-    (OnText question bytes verdict)
+    (OnText problem bytes verdict)
 
 -- what is said of a text, two functions of it, and what was read in the place of the log
 abbrev pub IsChecked : Functions → List ℕ → Option (List ℕ) → Verdict → Type 0
 IsChecked f source log verdict =
     asked f source (Ends verdict)
-    ⊎ ((question : Question) × asked f source (Goes question) × OnRead question log verdict)
+    ⊎ ((problem : Problem) × asked f source (Goes problem) × OnRead problem log verdict)

@@ -12,36 +12,36 @@ use Rattle.rx_search.specs.Search.{Closed, searched}
 use Rattle.rx_settle.specs.Moves.{Move}
 use Rattle.rx_cli.specs.declared.ends.Status.{Status}
 use Rattle.rx_cli.specs.declared.ends.Status.TheVariants as Ends
-use Rattle.rx_cli.specs.declared.questions.Question.{Question}
+use Rattle.rx_cli.specs.declared.problems.Problem.{Problem}
 use Rattle.rx_cli.specs.Answers.{longest_source}
 use Rattle.rx_cli.specs.Checks.{longest_log}
-use Rattle.rx_cli.specs.Questions.{asked}
+use Rattle.rx_cli.specs.Problems.{asked}
 
 -- the text that is held asks this about two functions of it
-pub record Holds (names : Names) (f : Functions) (question : Question) : Type 0 where
+pub record Holds (names : Names) (f : Functions) (problem : Problem) : Type 0 where
   pub source : List ℕ
   pub held : names f.file ≡ Some source
   pub short : length source ≤ longest_source
-  pub asks : asked f source (Goes question)
+  pub asks : asked f source (Goes problem)
 
 -- the log that is held is accepted for that
 pub record HoldsAccepted (names : Names) (f : Functions) (name : List ℕ) : Type 0 where
-  pub question : Question
-  pub source : Holds names f question
+  pub problem : Problem
+  pub source : Holds names f problem
   pub bytes : List ℕ
   pub held : names name ≡ Some bytes
   pub short : length bytes ≤ longest_log
   pub log : Log
   pub is : IsLog bytes log
-  pub accepted : IsAccepted question.rules question.goal log
+  pub accepted : IsAccepted problem.rules problem.goal log
 
 -- a search of this effort closes for that
 pub record HoldsClosed (names : Names) (f : Functions) (effort : Effort) : Type 0 where
-  pub question : Question
-  pub source : Holds names f question
+  pub problem : Problem
+  pub source : Holds names f problem
   pub moves : List Move
   pub closes :
-      searched question.rules question.goal effort.depth effort.budget ≡ Closed moves
+      searched problem.rules problem.goal effort.depth effort.budget ≡ Closed moves
 
 -- the words ask for a check of a log that is accepted, or for a search that closes
 abbrev pub CanShow : Names → List (List ℕ) → Type 0

@@ -5,8 +5,8 @@ pub mod Completeness
 pub mod Ends
 pub mod Examples
 pub mod InMemory
+pub mod Problems
 pub mod Proofs
-pub mod Questions
 pub mod Refutations
 pub mod Run
 pub mod Steps

@@ -13,53 +13,53 @@ use Rattle.rx_cli.specs.declared.answers.Answer.{Answer}
 use Rattle.rx_cli.specs.declared.answers.Answer.TheVariants.{Line, Proof}
 use Rattle.rx_cli.specs.declared.ends.Status.{Status}
 use Rattle.rx_cli.specs.declared.ends.Status.TheVariants as Ends
-use Rattle.rx_cli.specs.declared.questions.Question.{Question}
+use Rattle.rx_cli.specs.declared.problems.Problem.{Problem}
 use Rattle.rx_cli.specs.declared.verdicts.Verdict.{Verdict}
 use Rattle.rx_cli.specs.declared.verdicts.Verdict.TheVariants as Said
-use Rattle.rx_cli.specs.Questions.{asked}
+use Rattle.rx_cli.specs.Problems.{asked}
 
--- the text of a log that is accepted for the question, and whose steps are these moves
-pub record IsProofText (question : Question) (moves : List Move) (text : List ℕ) : Type 0 where
+-- the text of a log that is accepted for the problem, and whose steps are these moves
+pub record IsProofText (problem : Problem) (moves : List Move) (text : List ℕ) : Type 0 where
   pub log : Log
-  pub accepted : IsAccepted question.rules question.goal log
+  pub accepted : IsAccepted problem.rules problem.goal log
   pub steps : map move_of log.steps ≡ moves
   pub is : IsLog text log
 
 -- the answer where the search comes to this; what shows the moves of a proof is free
-abbrev pub OnSearched : Question → Effort → Searched → Answer → Type 0
-OnSearched question effort NoRanks answer = answer ≡ Line Said.NoRanks
-OnSearched question effort (Closed moves) answer =
-    (text : List ℕ) × IsProofText question moves text × (answer ≡ Proof text)
-OnSearched question effort (Large path rows) answer = answer ≡ Line Said.LargeSearch
-OnSearched question effort Spent answer = answer ≡ Line (Said.Visits effort.budget)
-OnSearched question effort NoPlan answer = answer ≡ Line (Said.Depth effort.depth)
+abbrev pub OnSearched : Problem → Effort → Searched → Answer → Type 0
+OnSearched problem effort NoRanks answer = answer ≡ Line Said.NoRanks
+OnSearched problem effort (Closed moves) answer =
+    (text : List ℕ) × IsProofText problem moves text × (answer ≡ Proof text)
+OnSearched problem effort (Large path rows) answer = answer ≡ Line Said.LargeSearch
+OnSearched problem effort Spent answer = answer ≡ Line (Said.Visits effort.budget)
+OnSearched problem effort NoPlan answer = answer ≡ Line (Said.Depth effort.depth)
 
--- the answer to a question
-abbrev pub OnQuestion : Question → Effort → Answer → Type 0
-OnQuestion question effort answer =
-    OnSearched question effort
-    (searched question.rules question.goal effort.depth effort.budget) answer
+-- the answer to a problem
+abbrev pub OnProblem : Problem → Effort → Answer → Type 0
+OnProblem problem effort answer =
+    OnSearched problem effort
+    (searched problem.rules problem.goal effort.depth effort.budget) answer
 
 -- what is said of a text and two functions of it where a proof is asked for
 abbrev pub IsProved : Functions → Effort → List ℕ → Answer → Type 0
 IsProved f effort source answer =
     ((verdict : Verdict) × asked f source (Ends verdict) × (answer ≡ Line verdict))
-    ⊎ ((question : Question) × asked f source (Goes question) × OnQuestion question effort answer)
+    ⊎ ((problem : Problem) × asked f source (Goes problem) × OnProblem problem effort answer)
 
--- both texts are those of accepted logs, with the same moves and for the same question: the one
--- that the words ask about what is held
+-- both texts are those of accepted logs, with the same moves and for the same problem: the one
+-- that the words pose about what is held
 pub record AreProofs (names : Names) (words : List (List ℕ)) (t v : List ℕ) : Type 0 where
   pub functions : Functions
   pub effort : Effort
   pub source : List ℕ
-  pub question : Question
+  pub problem : Problem
   pub moves : List Move
   pub asks : command_of words ≡ Some (Compare (Prove functions effort))
   pub held : names functions.file ≡ Some source
-  pub is_asked : asked functions source (Goes question)
-  pub is_closed : searched question.rules question.goal effort.depth effort.budget ≡ Closed moves
-  pub first : IsProofText question moves t
-  pub second : IsProofText question moves v
+  pub is_asked : asked functions source (Goes problem)
+  pub is_closed : searched problem.rules problem.goal effort.depth effort.budget ≡ Closed moves
+  pub first : IsProofText problem moves t
+  pub second : IsProofText problem moves v
 
 -- two texts reported with a status are one, but for proofs
 abbrev pub AreOne : Names → List (List ℕ) → Status → List ℕ → List ℕ → Type 0

@@ -15,7 +15,7 @@ use Rattle.rx_cli.specs.declared.answers.Answer.TheVariants.{Line, Found}
 use Rattle.rx_cli.specs.declared.verdicts.Verdict.{Verdict}
 use Rattle.rx_cli.specs.declared.verdicts.Verdict.TheVariants as Said
 use Rattle.rx_cli.specs.Agreement.{Meets}
-use Rattle.rx_cli.specs.Questions.{front_stage}
+use Rattle.rx_cli.specs.Problems.{front_stage}
 
 -- ---- answers
 

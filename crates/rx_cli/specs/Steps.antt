@@ -22,7 +22,7 @@ use Rattle.rx_cli.specs.Answers.{IsHeld}
 use Rattle.rx_check.specs.declared.check_end.CheckEnd.TheVariants as check_end
 use Rattle.rx_logfile.specs.declared.file_end.FileEnd.{FileEnd}
 use Rattle.rx_logfile.specs.declared.file_end.FileEnd.TheVariants as file_end
-use Rattle.rx_cli.specs.declared.questions.Question.{Question}
+use Rattle.rx_cli.specs.declared.problems.Problem.{Problem}
 use Rattle.rx_cli.specs.Checks.{IsChecked, OnText, longest_log}
 use Rattle.rx_cli.specs.Texts.{IsReportableVerdict}
 
@@ -101,17 +101,17 @@ SaysEndOfLog (file_end.Check end) verdict =
 SaysEndOfLog file_end.NoMemory verdict = ⊥
 
 -- what is said of the bytes of a log, or why they can't be had
-abbrev pub OnNext : Question → Next Verdict (List ℕ) → Verdict → Type 0
-OnNext question (Ends end) verdict = verdict ≡ end
-OnNext question (Goes bytes) verdict = OnText question bytes verdict
+abbrev pub OnNext : Problem → Next Verdict (List ℕ) → Verdict → Type 0
+OnNext problem (Ends end) verdict = verdict ≡ end
+OnNext problem (Goes bytes) verdict = OnText problem bytes verdict
 
 -- what is said of the log that is read under a name
-pub record ChecksRead (held : Option Names) (fault : Type 0) (name : List ℕ) (question : Question)
+pub record ChecksRead (held : Option Names) (fault : Type 0) (name : List ℕ) (problem : Problem)
     (verdict : Verdict)
     : Type 0 where
   pub next : Next Verdict (List ℕ)
   pub reads : Reads held fault name longest_log Said.LongLog next
-  pub on : OnNext question next verdict
+  pub on : OnNext problem next verdict
 
 -- what is said of a text and a log that is read under a name, or that a call on the files found a
 -- fault

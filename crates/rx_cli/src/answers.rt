@@ -11,8 +11,8 @@ ghost use Rattle.rx_cli.specs.Texts.{IsReportableVerdict};
 
 use crate::check::on_named;
 use crate::examples::show_examples;
+use crate::problems::ask;
 use crate::proving::prove;
-use crate::questions::ask;
 use crate::refuting::refute;
 use crate::reports::found_line;
 use crate::{NoMemory, Status, Verdict, report};
@@ -96,7 +96,7 @@ fn read_source<F: Files>(
 }
 
 /// What is said of a text and of the log that is read under a name. The log is read only where the
-/// text is a question.
+/// text poses a problem.
 fn check_named<F: Files>(
     alloc: Global,
     source: &[u8],
@@ -115,12 +115,12 @@ fn check_named<F: Files>(
 {
     match ask(alloc, source, functions)? {
         Next::Ends(verdict) => Ok(verdict),
-        Next::Goes(question) => on_named(alloc, question, files, log),
+        Next::Goes(problem) => on_named(alloc, problem, files, log),
     }
 }
 
 /// The answer where a log is to be replayed.
-fn judge_check<F: Files>(
+fn execute_check<F: Files>(
     alloc: Global,
     functions: &Functions<'_>,
     log: &str,
@@ -142,7 +142,7 @@ fn judge_check<F: Files>(
 }
 
 /// The answer where a proof is to be searched for.
-fn judge_prove<F: Files>(
+fn execute_prove<F: Files>(
     alloc: Global,
     functions: &Functions<'_>,
     effort: Effort,
@@ -163,7 +163,7 @@ fn judge_prove<F: Files>(
 }
 
 /// The answer where a counterexample is to be looked for.
-fn judge_refute<F: Files>(
+fn execute_refute<F: Files>(
     alloc: Global,
     functions: &Functions<'_>,
     extent: Extent,
@@ -183,7 +183,7 @@ fn judge_refute<F: Files>(
 }
 
 /// The answer to a comparison, for which it reads the files that it names.
-fn judge_comparison<F: Files>(
+fn execute_comparison<F: Files>(
     alloc: Global,
     comparison: &Comparison<'_>,
     files: &mut F,
@@ -197,14 +197,14 @@ fn judge_comparison<F: Files>(
     ensures reportable { IfOk result IsReportable }
 {
     match comparison {
-        Comparison::Prove(functions, effort) => judge_prove(alloc, functions, *effort, files),
-        Comparison::Check(functions, log) => judge_check(alloc, functions, log, files),
-        Comparison::Refute(functions, extent) => judge_refute(alloc, functions, *extent, files),
+        Comparison::Prove(functions, effort) => execute_prove(alloc, functions, *effort, files),
+        Comparison::Check(functions, log) => execute_check(alloc, functions, log, files),
+        Comparison::Refute(functions, extent) => execute_refute(alloc, functions, *extent, files),
     }
 }
 
 /// The answer where examples are to be shown.
-fn judge_demo(alloc: Global, pairs: u32) -> Result<Answer, NoMemory>
+fn execute_demo(alloc: Global, pairs: u32) -> Result<Answer, NoMemory>
     requires { pairs ≤ 100 }
     ensures answer { (held : Option Names) →
         IfOk result (AnswersSoundly held (Some (Demo pairs))) }
@@ -214,7 +214,7 @@ fn judge_demo(alloc: Global, pairs: u32) -> Result<Answer, NoMemory>
 }
 
 /// The answer to the words, for which it reads the files that they name.
-pub fn judge<F: Files>(alloc: Global, words: &[String], files: &mut F) -> Result<Answer, NoMemory>
+pub fn execute<F: Files>(alloc: Global, words: &[String], files: &mut F) -> Result<Answer, NoMemory>
     ensures reach { F.reaches files.old files.new }
     ensures answer { IfOk result (AnswersOrFails (F.held files.old)
         (Rose (F.faults files.old) (F.faults files.new))
@@ -227,7 +227,7 @@ pub fn judge<F: Files>(alloc: Global, words: &[String], files: &mut F) -> Result
 {
     match command_of(alloc, words)? {
         None => Ok(Answer::Line(Verdict::Usage)),
-        Some(Command::Demo(pairs)) => judge_demo(alloc, pairs),
-        Some(Command::Compare(comparison)) => judge_comparison(alloc, &comparison, files),
+        Some(Command::Demo(pairs)) => execute_demo(alloc, pairs),
+        Some(Command::Compare(comparison)) => execute_comparison(alloc, &comparison, files),
     }
 }

@@ -5,7 +5,7 @@ ghost use Rattle.rx_cli.specs.Steps.{ChecksRead, SaysEndOfLog};
 ghost use Rattle.rx_cli.specs.Texts.{IsReportableVerdict};
 
 use crate::Verdict;
-use crate::questions::Question;
+use crate::problems::Problem;
 use rx_check::CheckEnd;
 use rx_io::Files;
 use rx_logfile::{FileEnd, replay_file};
@@ -50,17 +50,17 @@ const LONGEST_LOG: u32 = 67_108_864;
 /// What is said of the log that is read under a name; it is replayed while it is read.
 pub fn on_named<F: Files>(
     alloc: Global,
-    question: Question,
+    problem: Problem,
     files: &mut F,
     name: &str,
 ) -> Result<Verdict, NoMemory>
     ensures reach { F.reaches files.old files.new }
     ensures later { F.faults files.old ≤ F.faults files.new }
     ensures verdict { IfOk result (ChecksRead (F.held files.old)
-        (Rose (F.faults files.old) (F.faults files.new)) name.now question) }
+        (Rose (F.faults files.old) (F.faults files.new)) name.now problem) }
     ensures line { IfOk result IsReportableVerdict }
 {
-    let Question { rules, goal } = question;
+    let Problem { rules, goal } = problem;
     match replay_file(alloc, &rules, goal, files, name, LONGEST_LOG) {
         Ok(()) => Ok(Verdict::Equivalent),
         Err(end) => verdict_on_file(end),

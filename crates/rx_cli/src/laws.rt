@@ -19,7 +19,7 @@ ghost use Rattle.rx_cli.specs.Texts.{text_of};
 /// Over files whose contents are known, and of which no call finds a fault, words have one status
 /// (`status`), one verdict at most (`verdict`), and one text to be written, but for proofs: what
 /// shows the steps of a proof is free, so two of them may differ, but both are logs with the same
-/// moves that are accepted for the same question (`text`). So `run`'s clauses determine its report
+/// moves that are accepted for the same problem (`text`). So `run`'s clauses determine its report
 /// there: each answer comes exactly where its cause holds. A law; it does nothing.
 pub fn words_have_one_report()
     ensures status { (names : Names) (words : List (List ℕ)) (s u : Status) (t v : List ℕ) →

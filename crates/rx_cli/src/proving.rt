@@ -8,12 +8,12 @@ ghost use Rattle.rx_log.specs.Depth.{is_shallow_log};
 ghost use Rattle.rx_logtext.specs.Logs.{IsLog};
 ghost use Rattle.rx_solve.specs.Answers.{Answers};
 ghost use Rattle.rx_cli.specs.Answers.{IsReportable};
-ghost use Rattle.rx_cli.specs.Proofs.{IsProved, OnQuestion};
+ghost use Rattle.rx_cli.specs.Proofs.{IsProved, OnProblem};
 ghost use Rattle.rx_cli.specs.Steps.{SaysEnd};
 ghost use Rattle.rx_cli.specs.Texts.{IsReportableVerdict};
 
 use crate::answers::Answer;
-use crate::questions::{Question, ask};
+use crate::problems::{Problem, ask};
 use crate::verdicts::Verdict;
 use c_front::Next;
 use rx_bank::CachedSolver;
@@ -57,23 +57,23 @@ fn verdict_on(end: &SearchEnd) -> Result<Verdict, NoMemory>
     }
 }
 
-/// Searches for a proof that answers a question, with the answers of a cached solver.
+/// Searches for a proof that solves a problem, with the answers of a cached solver.
 fn search_with<S: FnMut(&Constraint) -> Result<Option<Cert>, FmEnd>>(
     alloc: Global,
-    question: &Question,
+    problem: &Problem,
     effort: Effort,
     cached: CachedSolver<S>,
 ) -> Result<Answer, NoMemory>
 where
     S: Drop,
     requires known { IsCachedSolver S.FnMut cached }
-    requires fits { IsFitting question.now.rules question.now.goal }
-    requires coverable { is_coverable question.now.rules ≡ true }
+    requires fits { IsFitting problem.now.rules problem.now.goal }
+    requires coverable { is_coverable problem.now.rules ≡ true }
     requires depth { effort.depth ≤ 12 }
-    ensures answer { IfOk result (OnQuestion question.now effort) }
+    ensures answer { IfOk result (OnProblem problem.now effort) }
     ensures reportable { IfOk result IsReportable }
 {
-    let Question { rules, goal } = question;
+    let Problem { rules, goal } = problem;
     let mut cached = cached;
     let mut search = Search::new(
         move |rows: &Constraint| -> Result<Option<Cert>, FmEnd>
@@ -91,17 +91,17 @@ where
 /// How many answers of the refuter are kept.
 const CACHED_ANSWERS: u32 = 4096;
 
-/// Searches for a proof that answers a question.
-fn on_question(alloc: Global, question: &Question, effort: Effort) -> Result<Answer, NoMemory>
-    requires fits { IsFitting question.now.rules question.now.goal }
-    requires coverable { is_coverable question.now.rules ≡ true }
+/// Searches for a proof that solves a problem.
+fn on_problem(alloc: Global, problem: &Problem, effort: Effort) -> Result<Answer, NoMemory>
+    requires fits { IsFitting problem.now.rules problem.now.goal }
+    requires coverable { is_coverable problem.now.rules ≡ true }
     requires depth { effort.depth ≤ 12 }
-    ensures answer { IfOk result (OnQuestion question.now effort) }
+    ensures answer { IfOk result (OnProblem problem.now effort) }
     ensures reportable { IfOk result IsReportable }
 {
     let solve = |rows: &Constraint| refutes(alloc, rows);
     let cached = CachedSolver::new(alloc, solve, CACHED_ANSWERS)?;
-    search_with(alloc, question, effort, cached)
+    search_with(alloc, problem, effort, cached)
 }
 
 /// Searches for a proof that the two named functions of a text return the same, as far as the
@@ -120,6 +120,6 @@ pub fn prove(
 {
     match ask(alloc, source, functions)? {
         Next::Ends(verdict) => Ok(Answer::Line(verdict)),
-        Next::Goes(question) => on_question(alloc, &question, effort),
+        Next::Goes(problem) => on_problem(alloc, &problem, effort),
     }
 }

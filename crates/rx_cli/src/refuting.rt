@@ -5,7 +5,7 @@ ghost use Rattle.rx_cli.specs.Answers.{IsReportable};
 ghost use Rattle.rx_cli.specs.Refutations.{IsRefuted, OnPoints};
 
 use crate::answers::Answer;
-use crate::questions::front_stage;
+use crate::problems::front_stage;
 use crate::verdicts::Verdict;
 use c_front::{Compared, Next};
 use c_refute::{RefuteEnd, compare};

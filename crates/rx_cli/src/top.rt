@@ -6,7 +6,7 @@ ghost use Rattle.rx_cli.specs.Completeness.{CanShow, SaysYes};
 ghost use Rattle.rx_cli.specs.Run.{RunEnds};
 
 use crate::Status;
-use crate::answers::judge;
+use crate::answers::execute;
 use rx_io::{Files, Sink, put_all};
 use std::alloc::Global;
 
@@ -28,7 +28,7 @@ fn report_answer<F: Files, O: Sink>(
     ensures reach_files { F.reaches files.old files.new }
     ensures reach_out { O.reaches out.old out.new }
 {
-    let Ok(answer) = judge(alloc, words, files) else {
+    let Ok(answer) = execute(alloc, words, files) else {
         return Status::NoMemory;
     };
     let status = answer.status();

@@ -2,7 +2,7 @@ use Rattle.std.proofs.Common.{inl, inr, refl}
 use Rattle.std.proofs.lemmas.Result.{IfOk-weaker}
 use Rattle.c_front.specs.declared.stages.Next.TheVariants.{Ends, Goes}
 use Rattle.rx_command.specs.Commands.{functions_view}
-use Rattle.rx_cli.specs.Questions.{asked}
+use Rattle.rx_cli.specs.Problems.{asked}
 use Rattle.rx_cli.proofs.proving.prove.Goals as goal
 
 pub returns-in-Ends-clause-answer : goal.returns-in-Ends-clause-answer
@@ -14,6 +14,6 @@ returns-in-Ends-clause-answer c =
 pub returns-in-Goes-clause-answer : goal.returns-in-Goes-clause-answer
 returns-in-Goes-clause-answer c =
     let found : asked (functions_view c.args.functions.now) c.args.source.now
-    (Goes c.in-Goes.question) = rw c.in-Goes.is at c.in_ok-verdict.ensures.stage in
-    IfOk-weaker c.on_question.result _ _ (λ answer on. inr (c.in-Goes.question, found, on))
-    c.on_question.ensures.answer
+    (Goes c.in-Goes.problem) = rw c.in-Goes.is at c.in_ok-verdict.ensures.stage in
+    IfOk-weaker c.on_problem.result _ _ (λ answer on. inr (c.in-Goes.problem, found, on))
+    c.on_problem.ensures.answer

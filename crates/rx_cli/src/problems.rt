@@ -1,4 +1,4 @@
-//! From a text to the question whether the entries of two functions are equal by rules.
+//! From a text to the problem that two of its functions pose.
 ghost use Rattle.std.specs.Prelude.{◌≡◌, ◌<◌, ◌≤◌, ◌^◌, true, length, IfOk, IfSome};
 ghost use Rattle.c_front.specs.Front.{count_in};
 ghost use Rattle.c_front.specs.Stages.{IfGoes};
@@ -7,8 +7,8 @@ ghost use Rattle.rx_command.specs.Commands.{functions_view, is_short};
 ghost use Rattle.rx_coverable.specs.Coverable.{is_coverable};
 ghost use Rattle.rx_joins.specs.Goals.{IsFitting};
 ghost use Rattle.rx_term.specs.Paired.{IsPaired};
-ghost use Rattle.rx_cli.specs.Questions as spec;
-ghost use Rattle.rx_cli.specs.Questions.{asked, rows_of};
+ghost use Rattle.rx_cli.specs.Problems as spec;
+ghost use Rattle.rx_cli.specs.Problems.{asked, rows_of};
 ghost use Rattle.rx_cli.specs.Steps.{FormsSome, IsReportableNext, HasRowForm, IsReady, Translates};
 
 use crate::Verdict;
@@ -22,9 +22,9 @@ use rx_term::{Equation, RuleSet};
 use rx_translate::{TranslateEnd, Translation, goal_of, rows_of_pre, rules_of};
 use std::alloc::Global;
 
-/// Whether both sides of an equation are equal by rules.
+/// A rule set and a goal: whether both sides of the goal are equal by the rules.
 #[derive(Drop)]
-pub struct Question {
+pub struct Problem {
     /// The rules of both functions.
     pub rules: RuleSet,
     /// Their entries on the same variables, under the rows of the precondition.
@@ -107,9 +107,9 @@ fn parameter_count(two: &TwoFunctions) -> u32
 }
 
 /// The rules and the goal of two functions and a precondition.
-fn question_stage(alloc: Global, compared: Compared) -> Result<Next<Verdict, Question>, NoMemory>
+fn problem_stage(alloc: Global, compared: Compared) -> Result<Next<Verdict, Problem>, NoMemory>
     requires { IsReady compared }
-    ensures stage { IfOk result (spec.question_stage compared) }
+    ensures stage { IfOk result (spec.problem_stage compared) }
     ensures fits { IfOk result (λ next. IfGoes next (λ q. IsFitting q.rules q.goal)) }
     ensures coverable { IfOk result (λ next. IfGoes next (λ q. is_coverable q.rules ≡ true)) }
     ensures line { IfOk result IsReportableNext }
@@ -126,15 +126,15 @@ fn question_stage(alloc: Global, compared: Compared) -> Result<Next<Verdict, Que
         second,
     } = translation;
     let goal = goal_of(alloc, first, second, parameter_count(&compared.two), rows)?;
-    Ok(Next::Goes(Question { rules, goal }))
+    Ok(Next::Goes(Problem { rules, goal }))
 }
 
-/// The question that two functions of a text are, or why there is none.
+/// The problem that two functions of a text pose, or why there is none.
 pub fn ask(
     alloc: Global,
     source: &[u8],
     functions: &Functions<'_>,
-) -> Result<Next<Verdict, Question>, NoMemory>
+) -> Result<Next<Verdict, Problem>, NoMemory>
     requires source { length source.now ≤ 1048576 }
     requires pre { is_short (functions_view functions.now).precondition ≡ true }
     ensures stage { IfOk result (asked (functions_view functions.now) source.now) }
@@ -144,6 +144,6 @@ pub fn ask(
 {
     match front_stage(alloc, source, functions)? {
         Next::Ends(verdict) => Ok(Next::Ends(verdict)),
-        Next::Goes(compared) => question_stage(alloc, compared),
+        Next::Goes(compared) => problem_stage(alloc, compared),
     }
 }

@@ -3,7 +3,7 @@ use Rattle.rx_coverable.proofs.Paired.{paired_coverable}
 use Rattle.rx_term.specs.Paired.{IsPaired}
 use Rattle.rx_cli.specs.Steps.{Translates}
 use Rattle.rx_cli.proofs.Sound.{fits_goal}
-use Rattle.rx_cli.proofs.questions.question_stage.Goals as goal
+use Rattle.rx_cli.proofs.problems.problem_stage.Goals as goal
 
 pub returns-clause-fits : goal.returns-clause-fits
 returns-clause-fits c =

@@ -1,6 +1,6 @@
 use Rattle.std.proofs.Common.{◌∙◌, Err, ap}
 use Rattle.rx_cli.proofs.Ready.{arities_agree}
-use Rattle.rx_cli.proofs.questions.translation.Goals as goal
+use Rattle.rx_cli.proofs.problems.translation.Goals as goal
 
 pub unreachable-requires : goal.unreachable-requires
 unreachable-requires c =

@@ -7,17 +7,17 @@ use Rattle.rx_cli.specs.Answers.{AnswersOrFails}
 use Rattle.rx_cli.proofs.AnswerLemmas.{answers_usage}
 use Rattle.rx_cli.proofs.Equals.{answered_different, answered_equal}
 use Rattle.rx_cli.proofs.Asked.{command_allowed}
-use Rattle.rx_cli.proofs.answers.judge.Goals as goal
+use Rattle.rx_cli.proofs.answers.execute.Goals as goal
 
-pub judge_demo-requires : goal.judge_demo-requires
-judge_demo-requires g c =
+pub execute_demo-requires : goal.execute_demo-requires
+execute_demo-requires g c =
     let said : Some (Demo c.in-Some-Demo.pairs) ≡ command_of (map string_bytes c.args.words.now) =
     rw c.in-Some-Demo.field-0-is at (rw c.in-Some-Demo.is at c.in_ok-command_of.ensures.command)
     in
     command_allowed (map string_bytes c.args.words.now) (Demo c.in-Some-Demo.pairs) said
 
-pub judge_comparison-requires-clause-pre : goal.judge_comparison-requires-clause-pre
-judge_comparison-requires-clause-pre g c =
+pub execute_comparison-requires-clause-pre : goal.execute_comparison-requires-clause-pre
+execute_comparison-requires-clause-pre g c =
     let said : Some (Compare (comparison_view c.in-Some-Compare.comparison)) ≡
     command_of (map string_bytes c.args.words.now) =
     rw c.in-Some-Compare.field-0-is at (rw c.in-Some-Compare.is at
@@ -25,8 +25,8 @@ judge_comparison-requires-clause-pre g c =
     (command_allowed (map string_bytes c.args.words.now)
     (Compare (comparison_view c.in-Some-Compare.comparison)) said).short
 
-pub judge_comparison-requires-clause-depth : goal.judge_comparison-requires-clause-depth
-judge_comparison-requires-clause-depth g c =
+pub execute_comparison-requires-clause-depth : goal.execute_comparison-requires-clause-depth
+execute_comparison-requires-clause-depth g c =
     let said : Some (Compare (comparison_view c.in-Some-Compare.comparison)) ≡
     command_of (map string_bytes c.args.words.now) =
     rw c.in-Some-Compare.field-0-is at (rw c.in-Some-Compare.is at
@@ -47,11 +47,11 @@ returns-in-Some-Demo-clause-answer g c =
     let said : Some (Demo c.in-Some-Demo.pairs) ≡ command_of (map string_bytes c.args.words.now) =
     rw c.in-Some-Demo.field-0-is at (rw c.in-Some-Demo.is at c.in_ok-command_of.ensures.command)
     in
-    IfOk-weaker c.judge_demo.result _ _
+    IfOk-weaker c.execute_demo.result _ _
     (λ answer to. subst (λ o. AnswersOrFails (g.F.Files.held c.args.files.now)
     (Rose (g.F.Files.faults c.args.files.now) (g.F.Files.faults c.args.files.now)) o answer)
     said (inl to))
-    (c.judge_demo.ensures.answer (g.F.Files.held c.args.files.now))
+    (c.execute_demo.ensures.answer (g.F.Files.held c.args.files.now))
 
 pub returns-in-Some-Demo-clause-reach : goal.returns-in-Some-Demo-clause-reach
 returns-in-Some-Demo-clause-reach g c = g.met.F.Files.reaches_same c.args.files.now
@@ -61,14 +61,14 @@ returns-in-Some-Demo-clause-sound g c =
     let said : Some (Demo c.in-Some-Demo.pairs) ≡ command_of (map string_bytes c.args.words.now) =
     rw c.in-Some-Demo.field-0-is at (rw c.in-Some-Demo.is at c.in_ok-command_of.ensures.command)
     in
-    IfOk-weaker c.judge_demo.result _ _
+    IfOk-weaker c.execute_demo.result _ _
     (λ answer to. answered_equal (g.F.Files.held c.args.files.now)
     (map string_bytes c.args.words.now)
     (Rose (g.F.Files.faults c.args.files.now) (g.F.Files.faults c.args.files.now)) answer
     (subst (λ o. AnswersOrFails (g.F.Files.held c.args.files.now)
     (Rose (g.F.Files.faults c.args.files.now) (g.F.Files.faults c.args.files.now)) o answer)
     said (inl to)))
-    (c.judge_demo.ensures.answer (g.F.Files.held c.args.files.now))
+    (c.execute_demo.ensures.answer (g.F.Files.held c.args.files.now))
 
 pub returns-in-Some-Compare-clause-sound : goal.returns-in-Some-Compare-clause-sound
 returns-in-Some-Compare-clause-sound g c =
@@ -76,29 +76,29 @@ returns-in-Some-Compare-clause-sound g c =
     command_of (map string_bytes c.args.words.now) =
     rw c.in-Some-Compare.field-0-is at (rw c.in-Some-Compare.is at
     c.in_ok-command_of.ensures.command) in
-    IfOk-weaker c.judge_comparison.result _ _
+    IfOk-weaker c.execute_comparison.result _ _
     (λ answer answered. answered_equal (g.F.Files.held c.args.files.now)
     (map string_bytes c.args.words.now)
-    (Rose (g.F.Files.faults c.args.files.now) (g.F.Files.faults c.judge_comparison.new.files))
+    (Rose (g.F.Files.faults c.args.files.now) (g.F.Files.faults c.execute_comparison.new.files))
     answer
     (subst (λ o. AnswersOrFails (g.F.Files.held c.args.files.now)
-    (Rose (g.F.Files.faults c.args.files.now) (g.F.Files.faults c.judge_comparison.new.files)) o
+    (Rose (g.F.Files.faults c.args.files.now) (g.F.Files.faults c.execute_comparison.new.files)) o
     answer) said answered))
-    c.judge_comparison.ensures.answer
+    c.execute_comparison.ensures.answer
 
 pub returns-in-Some-Demo-clause-different : goal.returns-in-Some-Demo-clause-different
 returns-in-Some-Demo-clause-different g c =
     let said : Some (Demo c.in-Some-Demo.pairs) ≡ command_of (map string_bytes c.args.words.now) =
     rw c.in-Some-Demo.field-0-is at (rw c.in-Some-Demo.is at c.in_ok-command_of.ensures.command)
     in
-    IfOk-weaker c.judge_demo.result _ _
+    IfOk-weaker c.execute_demo.result _ _
     (λ answer to. answered_different (g.F.Files.held c.args.files.now)
     (map string_bytes c.args.words.now)
     (Rose (g.F.Files.faults c.args.files.now) (g.F.Files.faults c.args.files.now)) answer
     (subst (λ o. AnswersOrFails (g.F.Files.held c.args.files.now)
     (Rose (g.F.Files.faults c.args.files.now) (g.F.Files.faults c.args.files.now)) o answer)
     said (inl to)))
-    (c.judge_demo.ensures.answer (g.F.Files.held c.args.files.now))
+    (c.execute_demo.ensures.answer (g.F.Files.held c.args.files.now))
 
 pub returns-in-Some-Compare-clause-different : goal.returns-in-Some-Compare-clause-different
 returns-in-Some-Compare-clause-different g c =
@@ -106,12 +106,12 @@ returns-in-Some-Compare-clause-different g c =
     command_of (map string_bytes c.args.words.now) =
     rw c.in-Some-Compare.field-0-is at (rw c.in-Some-Compare.is at
     c.in_ok-command_of.ensures.command) in
-    IfOk-weaker c.judge_comparison.result _ _
+    IfOk-weaker c.execute_comparison.result _ _
     (λ answer answered. answered_different (g.F.Files.held c.args.files.now)
     (map string_bytes c.args.words.now)
-    (Rose (g.F.Files.faults c.args.files.now) (g.F.Files.faults c.judge_comparison.new.files))
+    (Rose (g.F.Files.faults c.args.files.now) (g.F.Files.faults c.execute_comparison.new.files))
     answer
     (subst (λ o. AnswersOrFails (g.F.Files.held c.args.files.now)
-    (Rose (g.F.Files.faults c.args.files.now) (g.F.Files.faults c.judge_comparison.new.files)) o
+    (Rose (g.F.Files.faults c.args.files.now) (g.F.Files.faults c.execute_comparison.new.files)) o
     answer) said answered))
-    c.judge_comparison.ensures.answer
+    c.execute_comparison.ensures.answer

@@ -5,7 +5,7 @@ use Rattle.rx_cli.specs.declared.verdicts.Verdict.TheVariants as Said
 use Rattle.rx_cli.specs.Answers.{longest_source}
 use Rattle.rx_cli.specs.Steps.{Reads}
 use Rattle.rx_cli.proofs.AnswerLemmas.{answers_checked, answers_unread, checks_later}
-use Rattle.rx_cli.proofs.answers.judge_check.Goals as goal
+use Rattle.rx_cli.proofs.answers.execute_check.Goals as goal
 
 pub returns-in-Ends-clause-answer : goal.returns-in-Ends-clause-answer
 returns-in-Ends-clause-answer g c =

@@ -1,5 +1,5 @@
--- The front end and the translation as stages: from a text to the question whether the entries of
--- two functions are equal by rules.
+-- The front end and the translation as stages: from a text to the problem that two of its functions
+-- pose, which is their rules and the goal that their entries are equal.
 use Rattle.std.specs.Prelude.{◌≡◌, ◌⊎◌, true, false, ℕ, List, [], Option, Some, None}
 use Rattle.c_ast.specs.declared.expr.Expr.{Expr}
 use Rattle.c_front.specs.declared.pairs.Compared.{Compared}
@@ -16,7 +16,7 @@ use Rattle.rx_term.specs.declared.rule_set.RuleParts.{RuleParts}
 use Rattle.rx_term.specs.declared.term.Sym.{Sym}
 use Rattle.rx_code.specs.Preconditions.{pre_rows}
 use Rattle.rx_code.specs.Translation.{IsBeyond, IsTranslation, goal_at}
-use Rattle.rx_cli.specs.declared.questions.Question.{Question}
+use Rattle.rx_cli.specs.declared.problems.Problem.{Problem}
 use Rattle.rx_cli.specs.declared.verdicts.Verdict.{Verdict}
 use Rattle.rx_cli.specs.declared.verdicts.Verdict.TheVariants as Said
 use Rattle.rx_cli.specs.Verdicts.{verdict_of}
@@ -45,28 +45,28 @@ pub record IsTranslated (compared : Compared) : Type 0 where
 
 -- the rules are the translation of both functions, and the goal says that their entries are equal
 -- on as many variables as they have parameters, under the rows of the precondition
-pub record IsQuestion (compared : Compared) (question : Question) : Type 0 where
+pub record IsProblem (compared : Compared) (problem : Problem) : Type 0 where
   pub first : Sym
   pub second : Sym
   pub translated :
-      IsTranslation compared.two.program compared.two.first compared.two.second question.rules
+      IsTranslation compared.two.program compared.two.first compared.two.second problem.rules
       first second
   pub within : (rows_of compared.precondition).within ≡ true
   pub goal :
-      question.goal
+      problem.goal
       ≡ goal_at first second (count_in compared.two.program compared.two.first)
       (rows_of compared.precondition).form
 
 -- the translation passes the limits; or else the rows of the precondition do; or else that is the
--- question
-abbrev pub question_stage : Compared → Next Verdict Question → Type 0
-question_stage compared (Ends verdict) =
+-- problem
+abbrev pub problem_stage : Compared → Next Verdict Problem → Type 0
+problem_stage compared (Ends verdict) =
     (IsBeyond compared.two.program compared.two.first compared.two.second
     × (verdict ≡ Said.LargeTranslate))
     ⊎ (IsTranslated compared × ((rows_of compared.precondition).within ≡ false)
     × (verdict ≡ Said.LargePre))
-question_stage compared (Goes question) = IsQuestion compared question
+problem_stage compared (Goes problem) = IsProblem compared problem
 
--- the question that two functions of a text are, or why there is none
-abbrev pub asked : Functions → List ℕ → Next Verdict Question → Type 0
-asked f = before (front_stage f) question_stage
+-- the problem that two functions of a text pose, or why there is none
+abbrev pub asked : Functions → List ℕ → Next Verdict Problem → Type 0
+asked f = before (front_stage f) problem_stage

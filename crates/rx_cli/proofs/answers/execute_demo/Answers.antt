@@ -1,5 +1,5 @@
 use Rattle.rx_cli.proofs.AnswerLemmas.{answers_shown}
-use Rattle.rx_cli.proofs.answers.judge_demo.Goals as goal
+use Rattle.rx_cli.proofs.answers.execute_demo.Goals as goal
 
 pub returns-clause-answer : goal.returns-clause-answer
 returns-clause-answer c =

@@ -2,7 +2,7 @@ use Rattle.c_front.specs.Conditions.{whole_front}
 use Rattle.c_front.specs.Steps.{bytes_of}
 use Rattle.c_front.specs.declared.stages.Next.TheVariants.{Goes}
 use Rattle.rx_cli.proofs.Ready.{ready}
-use Rattle.rx_cli.proofs.questions.front_stage.Goals as goal
+use Rattle.rx_cli.proofs.problems.front_stage.Goals as goal
 
 pub returns-in-Goes-clause-ready : goal.returns-in-Goes-clause-ready
 returns-in-Goes-clause-ready c =
