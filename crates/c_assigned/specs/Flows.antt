@@ -1,4 +1,4 @@
--- How statements pass on the set of surely assigned slots: from the set in front of a statement
+-- How statements pass on the set of definitely assigned slots: from the set in front of a statement
 -- come the sets after it and at its `break`s and
 -- `continue`s, and the first variable, in the order of the text, that is read where it may have no
 -- value. After a loop is what is assigned where it is left: a loop whose test always holds is left

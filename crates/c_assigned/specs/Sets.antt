@@ -1,5 +1,5 @@
--- Sets of slots that are surely assigned. A set says of each slot in scope whether it is; none is
--- the set after a place that is never reached, which contains every slot.
+-- Sets of slots that are definitely assigned. A set says of each slot in scope whether it is; none
+-- is the set after a place that is never reached, which contains every slot.
 use Rattle.std.specs.Prelude.{ℕ, Bool, true, false, not, ◌&&◌, nat_eq, List, [], ◌∷◌, ◌++◌, take, Option, Some, None, option_map, unwrap_or, slice_get, slice_set, if◌then◌else◌}
 use Rattle.c_names.specs.Names.{name_at}
 use Rattle.c_names.specs.Slots.{slot_of}

@@ -6,7 +6,7 @@ ghost use Rattle.c_assigned.specs.Flows as spec;
 use crate::sets::{cut, meet};
 use rx_plain::Items;
 
-/// The sets of surely assigned slots after a statement, at its `break`s and at its `continue`s,
+/// The sets of definitely assigned slots after a statement, at its `break`s and at its `continue`s,
 /// where none is what no way reaches, and the token of the first variable that is read where it may
 /// have no value.
 #[derive(Debug, Drop)]

@@ -1,5 +1,5 @@
-//! Sure assignment: which variables surely have a value where they are read, and whether a function
-//! surely returns.
+//! Definite assignment: which variables surely have a value where they are read, and whether a
+//! function surely returns.
 //!
 //! What a reader may rely on: `fault_of` answers the fault that the definitions of `specs/` give,
 //! the first in the order of the text. C leaves both undefined: the value of a variable that was

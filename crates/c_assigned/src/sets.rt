@@ -1,4 +1,4 @@
-//! Sets of slots that are surely assigned: a flag for each slot in scope, or none after a place
+//! Sets of slots that are definitely assigned: a flag for each slot in scope, or none after a place
 //! that is never reached.
 ghost use Rattle.std.specs.Prelude.{◌≡◌, ◌&&◌, IfOk};
 ghost use Rattle.c_assigned.specs.Sets as spec;

@@ -1,4 +1,4 @@
-//! How statements pass the sets of surely assigned slots on, in the order of the text.
+//! How statements pass the sets of definitely assigned slots on, in the order of the text.
 ghost use Rattle.std.specs.Prelude.{◌≡◌, ◌<◌, ◌^◌, ◌++◌, ◌∷◌, [], length, map, take, option_map, Option, if◌then◌else◌, IfOk, OnOk};
 ghost use Rattle.std.specs.Option.{option_or};
 ghost use Rattle.c_ast.specs.declared.expr.Expr.TheViews.{out-Expr};

@@ -1,6 +1,6 @@
 -- A program with its names resolved, or its first fault. There are three passes, and the first that
 -- finds a fault decides: over definitions and prototypes; over all names, counts and scopes; over
--- what is surely assigned, and whether each function surely returns.
+-- what is definitely assigned, and whether each function surely returns.
 use Rattle.std.specs.Prelude.{ℕ, List, [], ◌∷◌, Option, Some, None, Ok, Err}
 use Rattle.c_lex.specs.declared.token.Token.{Token}
 use Rattle.c_ast.specs.declared.program.Function.{Function}

@@ -1,5 +1,5 @@
 -- A resolved statement that reads no variable unset is in order, and both walks, that of names and
--- that of sure assignment, have one scope after it.
+-- that of definite assignment, have one scope after it.
 use Rattle.std.proofs.Common.{◌≡◌, ◌≢◌, ◌∙◌, ap, refl, sym, subst, ℕ, ◌+◌, ◌-◌, ◌<◌, Bool, true, false, not, ◌&&◌, if◌then◌else◌, Option, Some, None, option_map, List, [], ◌∷◌, ◌++◌, length, map, Ok, Err, arith, length-append}
 use Rattle.std.specs.Prelude.{nat_eq, nat_lt, slice_get}
 use Rattle.std.specs.Option.{is_some, option_and_then}
@@ -122,7 +122,8 @@ module _ (names : List ℕ) (functions : List Function) (counts : List ℕ)
   abbrev flow : Stmt → Transfer
   flow = stmt_flow names
 
-  -- a statement that was placed is in order, and so is the scope that sure assignment has after it
+  -- a statement that was placed is in order, and so is the scope that definite assignment has after
+  -- it
   pub record IsFine (before : ℕ) (after : List ℕ) (placed : Scoped Stmt) : Type 0 where
     pub slots : slots_after counts placed.tree before ≡ Some (length placed.scope.names)
     pub scope : after ≡ placed.scope.names

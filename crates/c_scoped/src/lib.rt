@@ -7,7 +7,7 @@
 //! are those of functions.
 //!
 //! The lemmas of `proofs/` are for the crates above. `Statements` joins the two walks over a
-//! function, that of names and scopes (c_scope) and that of sure assignment (c_assigned): after
+//! function, that of names and scopes (c_scope) and that of definite assignment (c_assigned): after
 //! each statement both have the same names in scope.
 #![tactic(auto)]
 

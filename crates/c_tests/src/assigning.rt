@@ -1,4 +1,4 @@
-//! Sure assignment.
+//! Definite assignment.
 use crate::printing::put_debug;
 use crate::texts::{first_of, parse_text};
 use c_assigned::fault_of;

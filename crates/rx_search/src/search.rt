@@ -174,8 +174,8 @@ impl<S: FnMut(&Constraint) -> Result<Option<Cert>, FmEnd>> Search<S> {
         }
     }
 
-    /// The search that keeps at most so many nodes from one list of visits to the next; at first
-    /// these are 32,768. What it answers doesn't depend on that, only its time and its memory do.
+    /// The search that keeps at most `most_kept` nodes from one list of visits to the next, in
+    /// place of 32,768. What it answers doesn't depend on that, only its time and its memory do.
     /// Takes no memory.
     pub fn keeping(self, most_kept: usize) -> Search<S>
         requires { AsksSolver S.FnMut self }

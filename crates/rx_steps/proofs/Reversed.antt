@@ -21,7 +21,7 @@ popped_first (Some last) old new h =
     sym (ap (λ xs. slice_get (reverse xs) 0) h ∙
     ap (λ xs. slice_get xs 0) (reverse-append new (last ∷ [])))
 
--- one that is put behind the last comes first in what is read from the end
+-- one that is added after the last comes first in what is read from the end
 pub pushed : {A : Type 0} (xs : List A) (y : A) → reverse (xs ++ y ∷ []) ≡ y ∷ reverse xs
 pushed xs y = reverse-append xs (y ∷ [])
 
