@@ -165,59 +165,90 @@ fn whole_text(alloc: Global, end: &Result<Log, SearchEnd>) -> Option<Vec<u8>> {
     }
 }
 
-// How the first search ended, where the others came to the same text; otherwise the word `differ`.
-fn common_end(alloc: Global, first: &Result<Log, SearchEnd>, others: &[Vec<u8>]) -> Option<Answer> {
-    let text = whole_text(alloc, first)?;
-    if others
-        .iter()
-        .all(|other| other.as_slice() == text.as_slice())
-    {
-        return written(end_text(alloc, first));
+/// What a search came to: the text of its log, or how it ended without one, and what is said of
+/// that in one line.
+#[derive(Drop)]
+struct Texts {
+    whole: Vec<u8>,
+    end: Vec<u8>,
+}
+
+// The texts of what a search came to; none where memory ran out.
+fn texts_of(alloc: Global, end: &Result<Log, SearchEnd>) -> Option<Texts> {
+    let whole = whole_text(alloc, end)?;
+    let end = end_text(alloc, end).ok()?;
+    Some(Texts { whole, end })
+}
+
+// How the searches ended, where all three came to the same text; otherwise the word `differ`.
+fn common_end(alloc: Global, first: Texts, second: &Texts, third: &Texts) -> Option<Answer> {
+    let Texts { whole, end } = first;
+    if whole.as_slice() == second.whole.as_slice() && whole.as_slice() == third.whole.as_slice() {
+        return Some(Answer::Found(end));
     }
     let mut out = Vec::new(alloc);
     push_word(&mut out, b"differ").ok()?;
     Some(Answer::Found(out))
 }
 
+/// The texts of the search for the goal, by the refuter behind a cache that holds `capacity`
+/// answers.
+fn texts_behind(alloc: Global, set: &RuleSet, task: &Task, capacity: u32) -> Option<Texts>
+    requires coverable { is_coverable set.now ≡ true }
+    requires fits { IsFitting set.now task.now.goal }
+    requires depth { task.now.depth ≤ 12 }
+    requires low { 1 ≤ capacity }
+    requires high { capacity ≤ 65536 }
+{
+    let end = search_behind(alloc, set, &task.goal, task.depth, task.budget, capacity);
+    texts_of(alloc, &end)
+}
+
+// What searches come to by the refuter behind caches that hold 1, 16 and 4,096 answers.
+fn cached_end(alloc: Global, set: &RuleSet, task: &Task) -> Option<Answer> {
+    if task.depth > MOST_DEEP || !is_fitting(set, &task.goal) || !is_covered(alloc, set) {
+        return None;
+    }
+    let one = texts_behind(alloc, set, task, 1)?;
+    let some = texts_behind(alloc, set, task, 16)?;
+    let many = texts_behind(alloc, set, task, 4096)?;
+    common_end(alloc, one, &some, &many)
+}
+
 /// What searches for the equation come to, to the depth and within the budget after it, by the
 /// refuter behind caches that hold 1, 16 and 4,096 answers, where the texts of their logs are the
 /// same bytes.
 pub fn cached(alloc: Global, set: &RuleSet, given: &str) -> Option<Answer> {
-    let Task {
-        goal,
-        depth,
-        budget,
-    } = read_task(alloc, given)?;
-    if depth > MOST_DEEP || !is_fitting(set, &goal) || !is_covered(alloc, set) {
+    let task = read_task(alloc, given)?;
+    cached_end(alloc, set, &task)
+}
+
+/// The texts of the search for the goal that keeps at most `most_kept` nodes.
+fn texts_keeping(alloc: Global, set: &RuleSet, task: &Task, most_kept: usize) -> Option<Texts>
+    requires coverable { is_coverable set.now ≡ true }
+    requires fits { IsFitting set.now task.now.goal }
+    requires depth { task.now.depth ≤ 12 }
+{
+    let found = counted(alloc, set, &task.goal, task.depth, task.budget, most_kept);
+    texts_of(alloc, &found.end)
+}
+
+// What searches come to that keep 1, 4 and 65,536 nodes.
+fn kept_end(alloc: Global, set: &RuleSet, task: &Task) -> Option<Answer> {
+    if task.depth > MOST_DEEP || !is_fitting(set, &task.goal) || !is_covered(alloc, set) {
         return None;
     }
-    let one = search_behind(alloc, set, &goal, depth, budget, 1);
-    let some = search_behind(alloc, set, &goal, depth, budget, 16);
-    let many = search_behind(alloc, set, &goal, depth, budget, 4096);
-    let mut others = Vec::new(alloc);
-    others.push(whole_text(alloc, &some)?).ok()?;
-    others.push(whole_text(alloc, &many)?).ok()?;
-    common_end(alloc, &one, &others)
+    let one = texts_keeping(alloc, set, task, 1)?;
+    let four = texts_keeping(alloc, set, task, 4)?;
+    let many = texts_keeping(alloc, set, task, 65_536)?;
+    common_end(alloc, one, &four, &many)
 }
 
 /// What searches for the equation come to, to the depth and within the budget after it, that keep
 /// 1, 4 and 65,536 nodes, where the texts of their logs are the same bytes.
 pub fn kept(alloc: Global, set: &RuleSet, given: &str) -> Option<Answer> {
-    let Task {
-        goal,
-        depth,
-        budget,
-    } = read_task(alloc, given)?;
-    if depth > MOST_DEEP || !is_fitting(set, &goal) || !is_covered(alloc, set) {
-        return None;
-    }
-    let one = counted(alloc, set, &goal, depth, budget, 1).end;
-    let four = counted(alloc, set, &goal, depth, budget, 4).end;
-    let many = counted(alloc, set, &goal, depth, budget, 65_536).end;
-    let mut others = Vec::new(alloc);
-    others.push(whole_text(alloc, &four)?).ok()?;
-    others.push(whole_text(alloc, &many)?).ok()?;
-    common_end(alloc, &one, &others)
+    let task = read_task(alloc, given)?;
+    kept_end(alloc, set, &task)
 }
 
 // How many calls of the refuter more there are, as a word.
