@@ -10,7 +10,7 @@ use mir.Val.{to_z, of_z}
 use denote.Hole.Carrier
 use Rattle.rx_plain.proofs.Integers.{mul-one-int, one-mul-int, add-zero-int}
 use Rattle.rx_poly.specs.Limits.{is_within, of_terms, of_atoms, fits_i128, is_small, atom_size, mono_size, atom_depth, mono_depth, greatest, atom_size_level, mono_size_level, body_size_level, atom_depth_level, mono_depth_level, body_depth_level}
-use Rattle.rx_poly.specs.Constants.{variable, number}
+use Rattle.rx_poly.specs.Constants.{variable, variable_times, number}
 use Rattle.rx_poly.specs.Division.{atom_alone}
 use Rattle.rx_poly.specs.Normal.{is_normal_atom, is_normal_mono, is_normal, is_poly, atom_normal_level, mono_normal_level, body_normal_level}
 use Rattle.rx_poly.specs.Terms.{is_zero}
@@ -53,9 +53,10 @@ alone_depth n =
     mono_depth_is (alone n) ∙ ap (greatest atom_depth) (atoms-of_atoms (Var n ∷ [])) ∙
     ap (λ k. max k 0) (var_depth n)
 
--- one variable is a polynomial
-pub variable_poly : (n : ℕ) → is_poly (variable n) ≡ true
-variable_poly n = poly_of_terms ((alone n, pos 1) ∷ []) (record {
+-- a number other than 0 times one variable is a polynomial
+pub multiple_poly : (k : ℤ) (n : ℕ) → is_zero k ≡ false → fits_i128 k ≡ true →
+    is_poly (variable_times k n) ≡ true
+multiple_poly k n z f = poly_of_terms ((alone n, k) ∷ []) (record {
   keys =
       and_from (is_normal_mono (alone n)) true
       (normal_of_atoms (Var n ∷ []) (record {
@@ -63,11 +64,15 @@ variable_poly n = poly_of_terms ((alone n, pos 1) ∷ []) (record {
             and_from (is_normal_atom (Var n)) true (var_normal n) refl;
         sorted = refl;
       })) refl;
-  fits = refl;
-  listed = refl;
-}) ((λ i. nat_le (size-of_terms ((alone n, pos 1) ∷ []) i) 4096 &&
-    nat_le (depth-of_terms ((alone n, pos 1) ∷ []) i) 64)
+  fits = and_from (fits_i128 k) true f refl;
+  listed = and_from (not (is_zero k)) true (ap not z) refl;
+}) ((λ i. nat_le (size-of_terms ((alone n, k) ∷ []) i) 4096 &&
+    nat_le (depth-of_terms ((alone n, k) ∷ []) i) 64)
     ∙ (λ i. nat_le (0 + alone_size n i) 4096 && nat_le (max (alone_depth n i) 0) 64))
+
+-- one variable is a polynomial
+pub variable_poly : (n : ℕ) → is_poly (variable n) ≡ true
+variable_poly n = multiple_poly (pos 1) n refl refl
 
 -- and with the value that the variable is given
 pub value-variable : (a : ℕ → ℤ) (n : ℕ) → value a (variable n) ≡ a n

@@ -186,6 +186,11 @@ size_Mod p q =
     fold_out-Atom ℕ ℕ ℕ atom_size_level body_size_level mono_size_level (Mod p q) ∙
     rw (outs-Mod p q) refl
 
+pub depth_Var : (n : ℕ) → atom_depth (Var n) ≡ 0
+depth_Var n =
+    fold_out-Atom ℕ ℕ ℕ atom_depth_level body_depth_level mono_depth_level (Var n) ∙
+    rw (outs-Var n) refl
+
 pub depth_Div : (p q : Body) → atom_depth (Div p q) ≡ 1 + max (body_depth p) (body_depth q)
 depth_Div p q =
     fold_out-Atom ℕ ℕ ℕ atom_depth_level body_depth_level mono_depth_level (Div p q) ∙

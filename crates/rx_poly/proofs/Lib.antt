@@ -10,6 +10,8 @@ pub mod Joining
 pub mod Levels
 pub mod Merging
 pub mod Moving
+pub mod Multiples
+pub mod Nesting
 pub mod Neutral
 pub mod NormLaws
 pub mod Numbering

@@ -1,6 +1,6 @@
 -- 0 plus a polynomial, and 1 times one, are that polynomial, and nothing on the way passes the
 -- limits.
-use Rattle.std.proofs.Common.{◌≡◌, ◌∙◌, ap, Bool, true, false, ◌&&◌, Option, Some, None, refl, sym, List, [], ◌∷◌, cond, ℤ, pos}
+use Rattle.std.proofs.Common.{◌≡◌, ◌∙◌, ap, Bool, true, false, ◌&&◌, Some, None, refl, sym, List, [], ◌∷◌, cond, ℤ, pos}
 use Rattle.std.proofs.lemmas.Bool.{and_parts, and_from}
 use Rattle.rx_plain.proofs.Integers.{one-mul-int}
 use Rattle.rx_poly.specs.Limits.{of_terms, of_atoms, body_sum, is_within, all_fit, is_small}
@@ -11,7 +11,6 @@ use Rattle.rx_poly.specs.Reading.{constant_of}
 use Rattle.rx_poly.specs.Terms.{add_terms}
 use Rattle.rx_poly.proofs.Levels.{atoms-of_atoms}
 use Rattle.rx_poly.proofs.PolyLaws.{poly_terms}
-use Rattle.rx_poly.specs.declared.body.Atom.{Atom}
 use Rattle.rx_poly.specs.declared.body.Mono.{Mono, out-Mono, roll-Mono, roll-out-Mono}
 use Rattle.rx_poly.specs.declared.body.Body.{Body, out-Body, roll-out-Body}
 
@@ -45,7 +44,7 @@ one_terms (t ∷ ts) e = by (is_number (t ∷ ts)) refl e
     by false h f = cc
 
 -- 1 times a monomial
-one_times : (m : Mono) → mono_times (of_atoms []) m ≡ m
+pub one_times : (m : Mono) → mono_times (of_atoms []) m ≡ m
 one_times m =
     (λ i. of_atoms (join_sorted atom_cmp (atoms-of_atoms [] i) (out-Mono m).atoms)) ∙
     roll-out-Mono m
@@ -56,7 +55,7 @@ one_scaled [] = refl
 one_scaled (u ∷ us) = λ i. (one_times u.0 i, one-mul-int u.1 i) ∷ one_scaled us i
 
 -- a polynomial keeps the limits
-poly_within : (q : Body) → is_poly q ≡ true → is_within q ≡ true
+pub poly_within : (q : Body) → is_poly q ≡ true → is_within q ≡ true
 poly_within q h =
     and_from (all_fit (out-Body q).terms) (is_small q) (poly_terms q h).fits
     (and_parts (is_normal q) (is_small q) h).1

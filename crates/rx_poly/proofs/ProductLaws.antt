@@ -98,7 +98,7 @@ no_zero (negsuc m) (pos (suc n)) h g e = omega (arith, ints)
 no_zero (negsuc m) (negsuc n) h g e = omega (arith, ints)
 
 -- a product of two numbers that are not 0 is not 0
-nonzero-mul : (c d : ℤ) → is_zero c ≡ false → is_zero d ≡ false → is_zero (c *ℤ d) ≡ false
+pub nonzero-mul : (c d : ℤ) → is_zero c ≡ false → is_zero d ≡ false → is_zero (c *ℤ d) ≡ false
 nonzero-mul c d h g =
     by_false (is_zero (c *ℤ d)) (λ e. no_zero c d (nonzero c h) (nonzero d g) (zero_is (c *ℤ d) e))
 

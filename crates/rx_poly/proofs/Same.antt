@@ -7,7 +7,9 @@ use Rattle.std.specs.declared.cmp.Ordering.{Ordering}
 use Rattle.std.specs.declared.cmp.Ordering.TheVariants.{Less, Equal, Greater}
 use Rattle.rx_plain.specs.Graded.{graded_cmp}
 use Rattle.rx_poly.specs.Order.{atom_cmp, mono_cmp, body_cmp}
-use Rattle.rx_poly.proofs.OrderLemmas.{mono_cmp_is, body_cmp_is, atom_cmp_is, atom_cmp_level, term_cmp, body_total}
+use Rattle.rx_poly.proofs.OrderLemmas.{mono_cmp_is, body_cmp_is, atom_cmp_is, atom_cmp_level, term_cmp, atom_total, body_total}
+use Rattle.rx_poly.specs.contracts.body.AtomOrd.TheImpl.Laws as atom_laws
+use Rattle.rx_poly.specs.contracts.body.AtomPartialEq.TheImpl as atom_equal
 use Rattle.rx_poly.specs.contracts.body.BodyOrd.TheImpl.Laws as body_laws
 use Rattle.rx_poly.specs.contracts.body.BodyPartialEq.TheImpl as body_equal
 use Rattle.rx_poly.specs.declared.body.Atom.{Atom, Atom-F, out-Atom, roll-Atom, roll-out-Atom, out-roll-Atom, map-Atom, ind-Atom}
@@ -146,3 +148,21 @@ body_eq-sound p q e =
 pub body_eq-refl : (p q : Body) → p ≡ q → body_eq p q ≡ true
 body_eq-refl p q e =
     ap (body_eq p) (sym e) ∙ body_laws.matches_eq-law p p ∙ ap is_eq (tied_itself body_total p)
+
+-- what `==` of two atoms computes
+abbrev pub atom_eq : Atom → Atom → Bool
+atom_eq = (atom_equal.ghosts).eq
+
+-- `==` holds of atoms that are one, and of no others
+pub atom_eq-sound : (x y : Atom) → atom_eq x y ≡ true → x ≡ y
+atom_eq-sound x y e =
+    same_atom x y ((Equal-is (atom_cmp x y)).0 (sym (atom_laws.matches_eq-law x y) ∙ e))
+
+pub atom_eq-refl : (x y : Atom) → x ≡ y → atom_eq x y ≡ true
+atom_eq-refl x y e =
+    ap (atom_eq x) (sym e) ∙ atom_laws.matches_eq-law x x ∙ ap is_eq (tied_itself atom_total x)
+
+-- sums of the same terms are one
+pub sums_of_terms : (p q : Body) → (out-Body p).terms ≡ (out-Body q).terms → p ≡ q
+sums_of_terms p q e =
+    sym (roll-out-Body p) ∙ (λ i. roll-Body (record { terms = e i })) ∙ roll-out-Body q

@@ -12,3 +12,7 @@ number k = of_terms (cons_nonzero (of_atoms []) k [])
 -- one variable
 abbrev pub variable : ℕ → Body
 variable n = of_terms ((of_atoms (Var n ∷ []), pos 1) ∷ [])
+
+-- a number other than 0 times one variable
+abbrev pub variable_times : ℤ → ℕ → Body
+variable_times k n = of_terms ((of_atoms (Var n ∷ []), k) ∷ [])

@@ -4,7 +4,9 @@
 mod body;
 mod digest;
 mod division;
+mod equality;
 mod iterm;
+mod lists;
 mod merge;
 mod moved;
 mod multiple;
@@ -22,6 +24,7 @@ mod variables;
 pub use body::{Atom, Body, Mono};
 pub use digest::digest_with;
 pub use iterm::ITerm;
+pub use lists::{are_same_polys, copied_polys};
 pub use normal_form::norm;
 pub use poly::Poly;
 pub use poly_end::PolyEnd;

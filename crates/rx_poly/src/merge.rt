@@ -1,5 +1,6 @@
 //! The sum or difference of two sums whose monomials rise, merged from the front.
-ghost use Rattle.std.specs.Prelude.{◌≡◌, ◌+◌, ◌<◌, [], ◌∷◌, ◌++◌, true, false, length, ◌+ℤ◌, ◌*ℤ◌, IfOk, IfErr, OnOk};
+ghost use Rattle.std.specs.Prelude.{◌≡◌, ◌+◌, ◌<◌, [], ◌∷◌, ◌++◌, true, length, ◌+ℤ◌, OnOk};
+ghost use Rattle.rx_plain.specs.Formed.{Forms, FormsAs, kept};
 ghost use Rattle.rx_poly.specs.Limits.{all_fit, fits_i128, is_sum};
 ghost use Rattle.rx_poly.specs.Order.{mono_cmp};
 ghost use Rattle.rx_poly.specs.Signs.{signed, with_sign};
@@ -31,10 +32,12 @@ fn push_signed(
     term: &(Mono, i128),
     sign: Sign,
 ) -> Result<(), PolyEnd>
-    ensures ok { OnOk result (terms.new ≡ terms.old ++ (term.now.0, signed sign term.now.1) ∷ []) }
-    ensures within { OnOk result (fits_i128 (signed sign term.now.1) ≡ true) }
-    ensures large { IfErr result (λ e. e ≡ PolyEnd.Large → fits_i128 (signed sign term.now.1) ≡
-        false) }
+    ensures { FormsAs (λ _. terms.new) PolyEnd.Large result
+        (record {
+          form = terms.old ++ (term.now.0, signed sign term.now.1) ∷ [];
+          within =
+              fits_i128 (signed sign term.now.1);
+        }) }
 {
     let Some(number) = with_its_sign(&term.1, sign) else {
         return Err(PolyEnd::Large);
@@ -53,11 +56,12 @@ fn push_sum(
     right: &(Mono, i128),
     sign: Sign,
 ) -> Result<(), PolyEnd>
-    ensures ok { OnOk result (terms.new ≡ terms.old ++
-        cons_nonzero left.now.0 (left.now.1 +ℤ signed sign right.now.1) []) }
-    ensures within { OnOk result (fits_i128 (left.now.1 +ℤ signed sign right.now.1) ≡ true) }
-    ensures large { IfErr result (λ e. e ≡ PolyEnd.Large →
-        fits_i128 (left.now.1 +ℤ signed sign right.now.1) ≡ false) }
+    ensures { FormsAs (λ _. terms.new) PolyEnd.Large result
+        (record {
+          form =
+              terms.old ++ cons_nonzero left.now.0 (left.now.1 +ℤ signed sign right.now.1) [];
+          within = fits_i128 (left.now.1 +ℤ signed sign right.now.1);
+        }) }
 {
     let Some(sum) = sum_of(&left.1, &right.1, sign) else {
         return Err(PolyEnd::Large);
@@ -77,10 +81,11 @@ fn push_all(
     more: &[(Mono, i128)],
     sign: Sign,
 ) -> Result<(), PolyEnd>
-    ensures ok { OnOk result (terms.new ≡ terms.old ++ with_sign sign more.now) }
-    ensures within { OnOk result (all_fit (with_sign sign more.now) ≡ true) }
-    ensures large { IfErr result (λ e. e ≡ PolyEnd.Large → all_fit (with_sign sign more.now) ≡
-        false) }
+    ensures { FormsAs (λ _. terms.new) PolyEnd.Large result
+        (record {
+          form = terms.old ++ with_sign sign more.now;
+          within = all_fit (with_sign sign more.now);
+        }) }
 {
     for term in more {
         push_signed(terms, alloc, term, sign)?;
@@ -97,13 +102,10 @@ pub(crate) fn merge(
 ) -> Result<Items<(Mono, i128)>, PolyEnd>
     requires left { is_sum left.now ≡ true }
     requires right { is_sum right.now ≡ true }
-    ensures terms { IfOk result (λ ts. ts ≡ add_terms mono_cmp left.now (with_sign sign right.now)) }
-    ensures within { OnOk result (all_fit (add_terms mono_cmp left.now (with_sign sign right.now)) ≡
-        true) }
-    ensures large { IfErr result (λ e. e ≡ PolyEnd.Large →
-        all_fit (add_terms mono_cmp left.now (with_sign sign right.now)) ≡ false) }
+    ensures { Forms PolyEnd.Large result
+        (kept all_fit (add_terms mono_cmp left.now (with_sign sign right.now))) }
 {
-    let mut sum = Items::new(alloc);
+    let mut sum = Items::with_capacity(alloc, left.len().saturating_add(right.len()))?;
     let mut ts = left;
     let mut us = right;
     while let Some((t, ts_behind)) = ts.split_first() {

@@ -64,7 +64,7 @@ pub(crate) fn moved_sum(
     requires right { is_sum right ≡ true }
     ensures forms { Forms PolyEnd.Large result (kept all_fit (add_terms mono_cmp left right)) }
 {
-    let mut sum = Items::with_capacity(alloc, left.len())?;
+    let mut sum = Items::with_capacity(alloc, left.len().saturating_add(right.len()))?;
     let mut ts = left.into_vec().into_iter();
     let mut us = right.into_vec().into_iter();
     let mut first = ts.next();

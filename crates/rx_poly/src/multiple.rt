@@ -1,5 +1,6 @@
 //! A sum times a number.
-ghost use Rattle.std.specs.Prelude.{◌≡◌, [], ◌++◌, true, false, ◌*ℤ◌, IfOk, IfErr, OnOk};
+ghost use Rattle.std.specs.Prelude.{[], ◌++◌, ◌*ℤ◌};
+ghost use Rattle.rx_plain.specs.Formed.{Forms, FormsAs, kept};
 ghost use Rattle.rx_poly.specs.Limits.{all_fit, fits_i128};
 ghost use Rattle.rx_poly.specs.Terms.{cons_nonzero, times_number};
 
@@ -15,10 +16,12 @@ fn push_multiple(
     term: &(Mono, i128),
     by: &i128,
 ) -> Result<(), PolyEnd>
-    ensures ok { OnOk result (terms.new ≡ terms.old ++
-        cons_nonzero term.now.0 (term.now.1 *ℤ by.now) []) }
-    ensures within { OnOk result (fits_i128 (term.now.1 *ℤ by.now) ≡ true) }
-    ensures large { IfErr result (λ e. e ≡ PolyEnd.Large → fits_i128 (term.now.1 *ℤ by.now) ≡ false) }
+    ensures { FormsAs (λ _. terms.new) PolyEnd.Large result
+        (record {
+          form = terms.old ++ cons_nonzero term.now.0 (term.now.1 *ℤ by.now) [];
+          within =
+              fits_i128 (term.now.1 *ℤ by.now);
+        }) }
 {
     let Some(product) = term.1.checked_mul(*by) else {
         return Err(PolyEnd::Large);
@@ -37,12 +40,9 @@ pub(crate) fn multiple(
     terms: &[(Mono, i128)],
     by: &i128,
 ) -> Result<Items<(Mono, i128)>, PolyEnd>
-    ensures terms { IfOk result (λ us. us ≡ times_number by.now terms.now) }
-    ensures within { OnOk result (all_fit (times_number by.now terms.now) ≡ true) }
-    ensures large { IfErr result (λ e. e ≡ PolyEnd.Large → all_fit (times_number by.now terms.now) ≡
-        false) }
+    ensures { Forms PolyEnd.Large result (kept all_fit (times_number by.now terms.now)) }
 {
-    let mut multiples = Items::new(alloc);
+    let mut multiples = Items::with_capacity(alloc, terms.len())?;
     for term in terms {
         push_multiple(&mut multiples, alloc, term, by)?;
     }

@@ -4,7 +4,7 @@ ghost use Rattle.std.specs.Prelude.{[]};
 ghost use Rattle.rx_plain.specs.Formed.{Forms, kept};
 ghost use Rattle.rx_poly.specs.Limits.{body_sum, of_terms, is_small, is_within, scaled_by, body_difference};
 ghost use Rattle.rx_poly.specs.Normal.{is_normal, is_normal_atom, is_normal_mono, is_poly};
-ghost use Rattle.rx_poly.specs.Constants.{number, variable};
+ghost use Rattle.rx_poly.specs.Constants.{number, variable, variable_times};
 ghost use Rattle.rx_poly.specs.Digest.{digest_of};
 ghost use Rattle.rx_poly.specs.Division.{atom_alone, quotient_of, remainder_of};
 ghost use Rattle.rx_poly.specs.Products.{term_product, product_formed};
@@ -17,6 +17,7 @@ ghost use Rattle.rx_poly.specs.Value.{quotient, remainder, value};
 use crate::body::{Atom, Body, Mono};
 use crate::digest::digest_of;
 use crate::division::{divide, remainder};
+use crate::equality::is_same_body;
 use crate::merge::merge;
 use crate::moved::moved_sum;
 use crate::multiple::multiple;
@@ -122,7 +123,7 @@ impl Poly {
     pub fn is_same(&self, other: &Poly) -> bool
         ensures { IsTrue result ↔ (self.now ≡ other.now) }
     {
-        self.body == other.body
+        is_same_body(self.body.get(), other.body.get())
     }
 
     /// The number that the polynomial is, where it is one. Takes no memory.
@@ -285,16 +286,24 @@ fn times_term(alloc: Global, term: &(Mono, i128), factor: &Poly) -> Result<Poly,
     within_limits(alloc, Body { terms })
 }
 
-/// The polynomial that is one variable.
-pub(crate) fn of_variable(alloc: Global, at: u32) -> Result<Poly, AllocError>
-    ensures { IfOk result (λ p. p ≡ variable at) }
+/// A number other than 0 times one variable.
+pub(crate) fn of_multiple(alloc: Global, at: u32, by: &i128) -> Result<Poly, AllocError>
+    requires { is_zero by.now ≡ false }
+    ensures { IfOk result (λ p. p ≡ variable_times by.now at) }
 {
     let mut atoms = Graded::new(alloc);
     atoms.push(Atom::Var(at))?;
     let mut terms = Items::new(alloc);
-    terms.push((Mono { atoms }, 1))?;
+    terms.push((Mono { atoms }, *by))?;
     let body = Shared::new(alloc, Body { terms })?;
     Ok(Poly { body })
+}
+
+/// The polynomial that is one variable.
+pub(crate) fn of_variable(alloc: Global, at: u32) -> Result<Poly, AllocError>
+    ensures { IfOk result (λ p. p ≡ variable at) }
+{
+    of_multiple(alloc, at, &1)
 }
 
 /// The polynomial that is one number.
@@ -327,7 +336,7 @@ fn combine(alloc: Global, left: &Poly, right: &Poly, sign: Sign) -> Result<Poly,
 }
 
 /// The polynomial times a number; Large exactly where that passes the limits.
-fn times_number(alloc: Global, poly: &Poly, by: &i128) -> Result<Poly, PolyEnd>
+pub(crate) fn times_number(alloc: Global, poly: &Poly, by: &i128) -> Result<Poly, PolyEnd>
     ensures forms { Forms PolyEnd.Large result (kept is_within (scaled_by by.now poly.now)) }
 {
     let terms = multiple(alloc, poly.body().terms.as_slice(), by)?;

@@ -1,5 +1,6 @@
 //! Products of monomials, and of one term with a whole sum.
-ghost use Rattle.std.specs.Prelude.{◌≡◌, ◌+◌, ◌<◌, [], ◌∷◌, ◌++◌, true, false, length, ◌*ℤ◌, IfOk, IfErr, OnOk};
+ghost use Rattle.std.specs.Prelude.{◌≡◌, ◌+◌, ◌<◌, [], ◌∷◌, ◌++◌, true, length, ◌*ℤ◌, IfOk, OnOk};
+ghost use Rattle.rx_plain.specs.Formed.{Forms, FormsAs, kept};
 ghost use Rattle.rx_poly.specs.Limits.{all_fit, fits_i128};
 ghost use Rattle.rx_poly.specs.Normal.{is_sorted, is_normal_mono};
 ghost use Rattle.rx_poly.specs.Order.{atom_cmp};
@@ -35,7 +36,7 @@ fn join(alloc: Global, left: &[Atom], right: &[Atom]) -> Result<Graded<Atom>, Al
     requires right { is_sorted atom_cmp right.now ≡ true }
     ensures { IfOk result (λ xs. xs ≡ join_sorted atom_cmp left.now right.now) }
 {
-    let mut joined = Graded::new(alloc);
+    let mut joined = Graded::with_capacity(alloc, left.len().saturating_add(right.len()))?;
     let mut xs = left;
     let mut ys = right;
     while let Some((x, xs_behind)) = xs.split_first() {
@@ -75,11 +76,12 @@ fn push_product(
 ) -> Result<(), PolyEnd>
     requires left { is_normal_mono left.now.0 ≡ true }
     requires right { is_normal_mono right.now.0 ≡ true }
-    ensures ok { OnOk result (products.new ≡ products.old ++
-        (mono_times left.now.0 right.now.0, left.now.1 *ℤ right.now.1) ∷ []) }
-    ensures within { OnOk result (fits_i128 (left.now.1 *ℤ right.now.1) ≡ true) }
-    ensures large { IfErr result (λ e. e ≡ PolyEnd.Large → fits_i128 (left.now.1 *ℤ right.now.1) ≡
-        false) }
+    ensures { FormsAs (λ _. products.new) PolyEnd.Large result
+        (record {
+          form =
+              products.old ++ (mono_times left.now.0 right.now.0, left.now.1 *ℤ right.now.1) ∷ [];
+          within = fits_i128 (left.now.1 *ℤ right.now.1);
+        }) }
 {
     let Some(coefficient) = left.1.checked_mul(right.1) else {
         return Err(PolyEnd::Large);
@@ -97,13 +99,9 @@ pub(crate) fn scale(
 ) -> Result<Items<(Mono, i128)>, PolyEnd>
     requires term { is_normal_mono term.now.0 ≡ true }
     requires terms { all_keys is_normal_mono terms.now ≡ true }
-    ensures terms { IfOk result (λ us. us ≡ term_product term.now terms.now) }
-    ensures within { OnOk result (all_fit (term_product term.now terms.now) ≡ true) }
-    ensures large { IfErr result (λ e. e ≡ PolyEnd.Large →
-        all_fit (term_product term.now terms.now) ≡
-        false) }
+    ensures { Forms PolyEnd.Large result (kept all_fit (term_product term.now terms.now)) }
 {
-    let mut products = Items::new(alloc);
+    let mut products = Items::with_capacity(alloc, terms.len())?;
     for other in terms {
         push_product(&mut products, alloc, term, other)?;
     }

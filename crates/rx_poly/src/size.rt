@@ -11,11 +11,15 @@ const LARGEST_SIZE: u32 = 4096;
 /// How deep quotients and remainders may be nested.
 const DEEPEST: u32 = 64;
 
-/// Whether size and depth keep the limits.
+/// Whether size and depth keep the limits. A sum is nested at most as deep as it is large, so that
+/// the depth of a small one isn't looked at.
 pub(crate) fn is_within_limits(body: &Body) -> bool
     ensures { result ≡ is_small body.now }
 {
-    body_after(body, LARGEST_SIZE).is_some() && body_fits_in(body, DEEPEST)
+    match body_after(body, LARGEST_SIZE) {
+        Some(left) => left >= LARGEST_SIZE - DEEPEST || body_fits_in(body, DEEPEST),
+        None => false,
+    }
 }
 
 /// What is left of `budget` once the atom's size is taken from it.

@@ -1,18 +1,22 @@
 //! Polynomials substituted for variables.
-ghost use Rattle.std.specs.Prelude.{◌≡◌, map, slice_get, ◌*ℤ◌, ℕ, ℤ, IfOk, IfSome, MatchOption};
+ghost use Rattle.std.specs.Prelude.{◌≡◌, [], ◌∷◌, true, false, map, slice_get, ◌*ℤ◌, ℕ, ℤ, IfOk, IfSome, MatchOption};
 ghost use Rattle.std.specs.Bool.{OnTrue};
 ghost use Rattle.std.specs.Option.{option_copied};
-ghost use Rattle.rx_plain.specs.Formed.{Forms, pure};
+ghost use Rattle.rx_plain.specs.Formed.{Forms, kept, pure};
 ghost use Rattle.rx_poly.specs.Substitution.{subst_atom, subst_mono, subst_body, numbered, replaced, times_all, updated_assignment};
 ghost use Rattle.rx_poly.specs.Constants.{variable};
+ghost use Rattle.rx_poly.specs.Limits.{is_within, scaled_by};
+ghost use Rattle.rx_poly.specs.Normal.{is_poly};
 ghost use Rattle.rx_poly.specs.Products.{product_formed};
 ghost use Rattle.rx_poly.specs.Replacements.{replacements, stay};
+ghost use Rattle.rx_poly.specs.Terms.{is_zero};
 ghost use Rattle.rx_poly.specs.Variables.{atom_variables, mono_variables, variables};
 ghost use Rattle.rx_poly.specs.Value.{value};
+ghost use Rattle.rx_poly.specs.declared.body.Atom.TheVariants.{Var};
 
 use crate::body::{Atom, Body, Mono};
 use crate::division::{divide, remainder};
-use crate::poly::{Poly, of_number, of_variable, plus, zero};
+use crate::poly::{Poly, of_multiple, of_number, of_variable, plus, times_number, zero};
 use crate::poly_end::PolyEnd;
 use std::alloc::{AllocError, Global};
 
@@ -174,9 +178,9 @@ fn times_atoms(
     Ok(product)
 }
 
-/// The number times the monomial with its variables replaced.
+/// The number times the monomial with its variables replaced, factor by factor.
 #[cycle(substituted)]
-fn mono_with(alloc: Global, mono: &Mono, by: &i128, with: Replacements) -> Result<Poly, PolyEnd>
+fn product_with(alloc: Global, mono: &Mono, by: &i128, with: Replacements) -> Result<Poly, PolyEnd>
     ensures forms { Forms PolyEnd.Large result
         (subst_mono (replacements with.entry) mono.now by.now) }
 {
@@ -190,6 +194,53 @@ fn mono_with(alloc: Global, mono: &Mono, by: &i128, with: Replacements) -> Resul
     }
     let start = of_number(alloc, by)?;
     times_atoms(alloc, start, atoms, with)
+}
+
+/// The variable, where the atoms are one variable.
+fn only_variable(atoms: &[Atom]) -> Option<u32>
+    ensures { IfSome result (λ at. atoms.now ≡ Var at ∷ []) }
+{
+    let (first, others) = atoms.split_first()?;
+    if !others.is_empty() {
+        return None;
+    }
+    match first {
+        Atom::Var(at) => Some(*at),
+        Atom::Div(_, _) => None,
+        Atom::Mod(_, _) => None,
+    }
+}
+
+/// A number other than 0 times what is in place of the variable.
+fn times_replaced(alloc: Global, at: u32, by: &i128, with: Replacements) -> Result<Poly, PolyEnd>
+    requires { is_zero by.now ≡ false }
+    ensures forms { Forms PolyEnd.Large result
+        (kept is_within (scaled_by by.now (replaced (replacements with.entry) at))) }
+    ensures normal { is_poly (replaced (replacements with.entry) at) ≡ true }
+{
+    match replacement(at, with) {
+        Some(poly) => times_number(alloc, poly.as_normal(), by),
+        None => {
+            let multiple = of_multiple(alloc, at, by)?;
+            let _ = multiple.as_normal();
+            Ok(multiple)
+        }
+    }
+}
+
+/// The number times the monomial with its variables replaced. A multiple of a variable is made in
+/// one step.
+#[cycle(substituted)]
+fn mono_with(alloc: Global, mono: &Mono, by: &i128, with: Replacements) -> Result<Poly, PolyEnd>
+    ensures forms { Forms PolyEnd.Large result
+        (subst_mono (replacements with.entry) mono.now by.now) }
+{
+    if *by != 0 && *by != 1 {
+        if let Some(at) = only_variable(mono.atoms.as_slice()) {
+            return times_replaced(alloc, at, by, with);
+        }
+    }
+    product_with(alloc, mono, by, with)
 }
 
 /// The sum with its variables replaced.

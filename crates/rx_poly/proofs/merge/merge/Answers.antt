@@ -5,7 +5,7 @@ use Rattle.rx_poly.proofs.merge.merge.Goals as goal
 
 pub loop-t-init : goal.loop-t-init
 loop-t-init c =
-    rw c.new-sum.ensures (begin c.args.sign c.args.left.now c.args.right.now c.requires.left
+    rw c.in_ok-sum.ensures (begin c.args.sign c.args.left.now c.args.right.now c.requires.left
     c.requires.right)
 
 pub loop-t-preserved-in_default-split_first : goal.loop-t-preserved-in_default-split_first
@@ -18,32 +18,30 @@ loop-t-preserved-in-Less c =
     after_left c.args.sign c.loop-t.us.now c.in-Some.ensures.cases.0 c.loop-t.invariant
     c.in-Some-split_first.ensures.cases.0 c.in-Less.ensures c.in_ok-push_term-in-Less.ensures
 
-pub returns-in_err-push_sum-in-Equal-clause-large :
-    goal.returns-in_err-push_sum-in-Equal-clause-large
-returns-in_err-push_sum-in-Equal-clause-large c =
+pub returns-in_err-push_sum-in-Equal : goal.returns-in_err-push_sum-in-Equal
+returns-in_err-push_sum-in-Equal c =
     let p = err_from_is_err_and c.from_residual-in_err-push_sum-in-Equal.result
     c.from_residual-in_err-push_sum-in-Equal.ensures.1 in
     rw (p.1, p.2) (λ h. no_sum c.args.sign c.loop-t.us.now c.in-Some.ensures.cases.0
     c.loop-t.invariant c.in-Some-split_first.ensures.cases.0 c.in-Equal.ensures
-    (c.in_err-push_sum-in-Equal.ensures.large h))
+    (c.in_err-push_sum-in-Equal.ensures h))
 
 pub loop-t-preserved-in-Equal : goal.loop-t-preserved-in-Equal
 loop-t-preserved-in-Equal c =
     after_both c.args.sign c.loop-t.us.now c.in-Some.ensures.cases.0 c.loop-t.invariant
     c.in-Some-split_first.ensures.cases.0 c.in-Equal.ensures
-    c.in_ok-push_sum-in-Equal.ensures.within c.in_ok-push_sum-in-Equal.ensures.ok
+    c.in_ok-push_sum-in-Equal.ensures.1 c.in_ok-push_sum-in-Equal.ensures.0
 
-pub returns-in_err-push_signed-in-Greater-clause-large :
-    goal.returns-in_err-push_signed-in-Greater-clause-large
-returns-in_err-push_signed-in-Greater-clause-large c =
+pub returns-in_err-push_signed-in-Greater : goal.returns-in_err-push_signed-in-Greater
+returns-in_err-push_signed-in-Greater c =
     let p = err_from_is_err_and c.from_residual-in_err-push_signed-in-Greater.result
     c.from_residual-in_err-push_signed-in-Greater.ensures.1 in
     rw (p.1, p.2) (λ h. no_right c.args.sign c.loop-t.us.now c.in-Some.ensures.cases.0
     c.loop-t.invariant c.in-Some-split_first.ensures.cases.0 c.in-Greater.ensures
-    (c.in_err-push_signed-in-Greater.ensures.large h))
+    (c.in_err-push_signed-in-Greater.ensures h))
 
 pub loop-t-preserved : goal.loop-t-preserved
 loop-t-preserved c =
     after_right c.args.sign c.loop-t.us.now c.in-Some.ensures.cases.0 c.loop-t.invariant
     c.in-Some-split_first.ensures.cases.0 c.in-Greater.ensures
-    c.in_ok-push_signed-in-Greater.ensures.within c.in_ok-push_signed-in-Greater.ensures.ok
+    c.in_ok-push_signed-in-Greater.ensures.1 c.in_ok-push_signed-in-Greater.ensures.0

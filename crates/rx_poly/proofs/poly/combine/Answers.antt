@@ -17,7 +17,7 @@ merge-requires-clause-right c =
 pub within_limits-requires : goal.within_limits-requires
 within_limits-requires c =
     merged_normal c.args.sign c.body.result.now c.body-2.result.now c.as_slice.ensures
-    c.as_slice-2.ensures c.in_ok-terms.ensures.terms
+    c.as_slice-2.ensures c.in_ok-terms.ensures.0
     (ap is_poly c.body.ensures.body ∙ c.body.ensures.normal)
     (ap is_poly c.body-2.ensures.body ∙ c.body-2.ensures.normal)
-    c.in_ok-terms.ensures.within
+    c.in_ok-terms.ensures.1

@@ -14,4 +14,4 @@ pub within_limits-requires : goal.within_limits-requires
 within_limits-requires c =
     scaled_normal c.args.term.now c.body.result.now c.requires.normal c.requires.nonzero
     (ap is_poly c.body.ensures.body ∙ c.body.ensures.normal) c.as_slice.ensures
-    c.in_ok-terms.ensures.terms c.in_ok-terms.ensures.within
+    c.in_ok-terms.ensures.0 c.in_ok-terms.ensures.1

@@ -1,11 +1,13 @@
 -- Each turn takes one atom or one term; what is left still makes the whole, and what passes the
 -- limits decides.
-use Rattle.std.proofs.Common.{rules, ◌≡◌, ◌∙◌, ap, pos, subst, sym}
+use Rattle.std.proofs.Common.{rules, ◌≡◌, ◌∙◌, ap, false, pos, subst, sym}
 use Rattle.std.proofs.lemmas.Result.{err_from_is_err_and}
 use Rattle.rx_plain.specs.Formed.{Formed, Forms}
 use Rattle.rx_poly.specs.Replacements.{replacements}
 use Rattle.rx_poly.specs.declared.body.Body.{Body}
 use Rattle.rx_poly.specs.declared.poly_end.PolyEnd.TheVariants.{Large}
+use Rattle.rx_poly.specs.Terms.{is_zero}
+use Rattle.rx_poly.proofs.Multiples.{multiple_replaced}
 use Rattle.rx_poly.proofs.Alone.{first_fails, first_made, mono_first}
 use Rattle.rx_poly.proofs.Substituting.{no_factor, no_times, after_times, times_end, no_term, no_plus, after_plus}
 use Rattle.rx_poly.proofs.substitution.+substituted.Goals as goal
@@ -79,8 +81,8 @@ times_atoms-returns t c =
       );
     }
 
-pub mono_with-returns-in_err-start : goal.mono_with-returns-in_err-start
-mono_with-returns-in_err-start t c =
+pub product_with-returns-in_err-start : goal.product_with-returns-in_err-start
+product_with-returns-in_err-start t c =
     let ws = replacements c.args.with in
     let p = err_from_is_err_and c.from_residual.result c.from_residual.ensures.1 in
     let is = sym c.as_slice-atoms.ensures ∙ c.in-Some.ensures.cases.0 in
@@ -91,8 +93,8 @@ mono_with-returns-in_err-start t c =
           first_fails ws c.in-Some.first.now c.in-Some.others.now (c.in_err-start.ensures.forms h);
     })
 
-pub mono_with-returns-in-Some : goal.mono_with-returns-in-Some
-mono_with-returns-in-Some t c =
+pub product_with-returns-in-Some : goal.product_with-returns-in-Some
+product_with-returns-in-Some t c =
     let ws = replacements c.args.with in
     let is = sym c.as_slice-atoms.ensures ∙ c.in-Some.ensures.cases.0 in
     let one : c.args.by.now ≡ pos 1 = search rules in
@@ -101,3 +103,16 @@ mono_with-returns-in-Some t c =
     c.as_normal.ensures.normal ∙ sym (mono_first ws c.in-Some.first.now c.in-Some.others.now
     c.args.mono.now c.args.by.now is one) in
     record { forms = subst (Forms Large c.times_atoms.result) whole c.times_atoms.ensures.forms }
+
+pub mono_with-returns-in-Some : goal.mono_with-returns-in-Some
+mono_with-returns-in-Some t c =
+    let ws = replacements c.args.with in
+    let is = sym c.as_slice.ensures ∙ c.in-Some.ensures in
+    let nonzero : is_zero c.args.by.now ≡ false = search rules in
+    record {
+      forms =
+          subst (Forms Large c.times_replaced.result)
+          (sym (multiple_replaced ws c.in-Some.at c.args.mono.now c.args.by.now is nonzero
+          c.times_replaced.ensures.normal))
+          c.times_replaced.ensures.forms;
+    }

@@ -1,11 +1,9 @@
--- What `==` says of two sums is that they are one.
+-- The comparison of the two sums.
 use Rattle.std.proofs.Common.{sym, ◌∙◌}
-use Rattle.rx_poly.proofs.Same.{body_eq-sound, body_eq-refl}
 use Rattle.rx_poly.proofs.poly.Poly.is_same.Goals as goal
 
 pub returns : goal.returns
 returns c = rw (← c.self.view_is, ← c.other.view_is) (
-  λ e. body_eq-sound c.self.inside.body c.other.inside.body (sym c.eq.ensures ∙ e),
-  λ e.
-      c.eq.ensures ∙ body_eq-refl c.self.inside.body c.other.inside.body e,
+  λ e. sym c.get.ensures ∙ c.is_same_body.ensures.0 e ∙ c.get-2.ensures,
+  λ e. c.is_same_body.ensures.1 (c.get.ensures ∙ e ∙ sym c.get-2.ensures),
 )
