@@ -72,6 +72,9 @@ impl Graph {
             return Ok(());
         }
         let forwards = self.reached_from(alloc, vertex)?;
+        if !forwards[vertex as usize] {
+            return Ok(());
+        }
         let backwards = back.reached_from(alloc, vertex)?;
         label_both(
             labels.as_mut_slice(),

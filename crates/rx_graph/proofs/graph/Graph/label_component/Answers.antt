@@ -1,9 +1,10 @@
 -- What is marked both ways gets the label.
-use Rattle.std.proofs.Common.{◌≡◌, ◌∙◌, ap, arith, get_or, length, subst, sym}
+use Rattle.std.proofs.Common.{◌≡◌, ◌∙◌, ap, arith, get_or, length, subst, sym, true, false}
 use Rattle.rx_graph.specs.Graph.{IsGraphOf, MarksReached, reversed_edges, rows_of}
 use Rattle.rx_graph.specs.Marks.{Labelled, Named}
 use Rattle.rx_graph.proofs.ComponentLaws.{label_alone, label_marked, no_path, passed, path_back}
 use Rattle.rx_graph.proofs.Elements.{same_at, written_back}
+use Rattle.rx_graph.proofs.GraphLaws.{path_behind}
 use Rattle.rx_graph.proofs.graph.Graph.label_component.Goals as goal
 use Rattle.rx_graph.proofs.graph.Graph.label_component.Goals.{then-is_end-via-then-is_end, then-is_end-via-else-is_end+then-is_end-2}
 
@@ -20,6 +21,21 @@ returns-then-is_end-clause-named c = λ edges graph back_graph.
           (passed w.is_end-else-is_end.result w.if-is_end-2.true w.is_end-else-is_end.ensures)
           (path_back edges b v here)
     ])
+
+pub returns-then-not-index-clause-named : goal.returns-then-not-index-clause-named
+returns-then-not-index-clause-named c = λ edges graph back_graph.
+    let v = c.args.vertex in
+    let marks = c.in_ok-forwards.forwards.items in
+    let there = c.requires.vertex in
+    let count = c.in_ok-forwards.ensures.count in
+    label_alone edges v c.args.labels.now.items (λ b goes returns.
+    let marked = (c.in_ok-forwards.ensures.exact edges graph v).1
+    (path_behind edges v b v goes returns) in
+    let read : c.index-2.result.now ≡ true =
+    c.index-2.ensures ∙ same_at marks v c.index-2.result.now false (omega (arith, there, count)) ∙
+    marked in
+    let k : true ≡ false = sym read ∙ c.if-not-index.true in
+    cc)
 
 pub returns-clause-count : goal.returns-clause-count
 returns-clause-count c =
