@@ -30,6 +30,13 @@ nothing_left dividend divisor =
 abbrev pub greatest_remainder : ℤ → Body
 greatest_remainder divisor = number (pos (unsigned_abs divisor) -ℤ pos 1)
 
+-- with whether a is a number of i128
+abbrev pub greatest_remainder_formed : ℤ → Formed Body
+greatest_remainder_formed divisor = record {
+  form = greatest_remainder divisor;
+  within = fits_i128 (pos (unsigned_abs divisor));
+}
+
 -- q, r, divisor*q, dividend - divisor*q, dividend - divisor*q - r and a keep the limits
 abbrev pub division_within : Body → ℤ → Bool
 division_within dividend divisor =

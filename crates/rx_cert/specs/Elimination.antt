@@ -66,9 +66,18 @@ abbrev pub solution_plus_within : ℕ → Body → Bool
 solution_plus_within x rest =
     is_within rest && (uses x rest || is_within (scaled_by (negsuc 0) rest))
 
+-- both at once
+abbrev pub solution_plus_formed : ℕ → Body → Formed (Option Body)
+solution_plus_formed x rest =
+    record { form = solution_plus x rest; within = solution_plus_within x rest }
+
 -- p has it with coefficient -1: the variable is the rest
 abbrev pub solution_minus : ℕ → Body → Option Body
 solution_minus x rest = if uses x rest then None else Some rest
+
+-- with whether the rest keeps the limits
+abbrev pub solution_minus_formed : ℕ → Body → Formed (Option Body)
+solution_minus_formed x rest = record { form = solution_minus x rest; within = is_within rest }
 
 -- what the variable is where p = 0; none where it doesn't occur in p once, alone, with coefficient
 -- 1 or -1

@@ -143,3 +143,14 @@ impl Cert {
         }
     }
 }
+
+/// The same certificates once more; fails only when out of memory.
+pub fn copied_certs(alloc: Global, certs: &[Cert]) -> Result<Items<Cert>, AllocError>
+    ensures { IfOk result (λ made. made ≡ certs.now) }
+{
+    let mut made = Items::with_capacity(alloc, certs.len())?;
+    for cert in certs {
+        made.push(cert.try_clone(alloc)?)?;
+    }
+    Ok(made)
+}

@@ -1,8 +1,8 @@
 //! What is known of a dividend, its quotient and its remainder by a number.
-ghost use Rattle.std.specs.Prelude.{◌≡◌, ◌&&◌, ◌∷◌, [], pos, true, false, unsigned_abs, IfOk, IfErr, OnOk};
+ghost use Rattle.std.specs.Prelude.{◌≡◌, ◌∷◌, [], false, IfOk};
 ghost use Rattle.rx_plain.specs.Formed.{Forms, FormsAs, kept};
-ghost use Rattle.rx_cert.specs.DivisionFacts.{division_formed, facts_at_least_zero, facts_below_zero, greatest_remainder, nothing_left, quotient_by, remainder_by};
-ghost use Rattle.rx_poly.specs.Limits.{fits_i128, is_within};
+ghost use Rattle.rx_cert.specs.DivisionFacts.{division_formed, facts_at_least_zero, facts_below_zero, greatest_remainder_formed, quotient_by, remainder_by};
+ghost use Rattle.rx_poly.specs.Limits.{is_within};
 ghost use Rattle.rx_poly.specs.Terms.{is_zero};
 
 use crate::differences::row_below;
@@ -28,10 +28,7 @@ fn remainder(alloc: Global, num: &Poly, den: &i128) -> Result<Poly, PolyEnd>
 
 /// The size of the divisor minus 1; Large exactly where that size leaves i128.
 fn size_minus_one(alloc: Global, den: &i128) -> Result<Poly, PolyEnd>
-    ensures same { IfOk result (λ p. p ≡ greatest_remainder den.now) }
-    ensures within { OnOk result (fits_i128 (pos (unsigned_abs den.now)) ≡ true) }
-    ensures large { IfErr result (λ e. e ≡ PolyEnd.Large → fits_i128 (pos (unsigned_abs den.now)) ≡
-        false) }
+    ensures { Forms PolyEnd.Large result (greatest_remainder_formed den.now) }
 {
     match den.checked_abs() {
         Some(size) => Ok(Poly::constant(alloc, size - 1)?),

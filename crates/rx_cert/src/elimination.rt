@@ -1,11 +1,11 @@
 //! Variables that rows say the value of.
-ghost use Rattle.std.specs.Prelude.{◌≡◌, ◌∷◌, ◌==◌, [], true, false, ◌&&◌, ◌+ℤ◌, IfOk, IfErr, OnOk};
+ghost use Rattle.std.specs.Prelude.{◌≡◌, ◌&&◌, ◌+ℤ◌};
 ghost use Rattle.std.specs.Option.{option_copied};
 ghost use Rattle.std.specs.Ordering.{is_eq};
 ghost use Rattle.rx_plain.specs.Formed.{Forms};
-ghost use Rattle.rx_cert.specs.Elimination.{are_opposite, zero_polynomial, of_opposites, solution_formed, solution_minus, solution_plus, solution_plus_within};
+ghost use Rattle.rx_cert.specs.Elimination.{are_opposite, zero_polynomial, of_opposites, solution_formed, solution_minus_formed, solution_plus_formed};
 ghost use Rattle.rx_poly.specs.Constants.{variable};
-ghost use Rattle.rx_poly.specs.Limits.{body_sum, is_within, body_difference};
+ghost use Rattle.rx_poly.specs.Limits.{body_sum, body_difference};
 ghost use Rattle.rx_poly.specs.Order.{mono_cmp};
 ghost use Rattle.rx_poly.specs.Terms.{is_zero};
 
@@ -74,11 +74,8 @@ pub fn polynomial_at_zero(rows: &[Row], first: u32, second: u32) -> Option<&Poly
 /// The opposite of what is beside the variable, where its coefficient is 1 and it occurs nowhere
 /// else.
 fn solved_plus(alloc: Global, poly: &Poly, alone: &Poly, var: u32) -> Result<Option<Poly>, PolyEnd>
-    ensures value { IfOk result (λ s. s ≡ solution_plus var (body_difference poly.now alone.now)) }
-    ensures within { OnOk result (solution_plus_within var (body_difference poly.now alone.now) ≡
-        true) }
-    ensures large { IfErr result (λ e. e ≡ PolyEnd.Large →
-        solution_plus_within var (body_difference poly.now alone.now) ≡ false) }
+    ensures { Forms PolyEnd.Large result
+        (solution_plus_formed var (body_difference poly.now alone.now)) }
 {
     let rest = poly.sub(alloc, alone)?;
     if uses(&rest, var) {
@@ -89,10 +86,7 @@ fn solved_plus(alloc: Global, poly: &Poly, alone: &Poly, var: u32) -> Result<Opt
 
 /// What is beside the variable, where its coefficient is -1 and it occurs nowhere else.
 fn solved_minus(alloc: Global, poly: &Poly, alone: &Poly, var: u32) -> Result<Option<Poly>, PolyEnd>
-    ensures value { IfOk result (λ s. s ≡ solution_minus var (body_sum poly.now alone.now)) }
-    ensures within { OnOk result (is_within (body_sum poly.now alone.now) ≡ true) }
-    ensures large { IfErr result (λ e. e ≡ PolyEnd.Large → is_within (body_sum poly.now alone.now) ≡
-        false) }
+    ensures { Forms PolyEnd.Large result (solution_minus_formed var (body_sum poly.now alone.now)) }
 {
     let rest = poly.add(alloc, alone)?;
     if uses(&rest, var) {

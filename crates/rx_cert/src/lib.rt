@@ -13,7 +13,7 @@ mod refutation;
 mod rounding;
 mod sums;
 
-pub use cert::{Cert, Parts};
+pub use cert::{Cert, Parts, copied_certs};
 pub use conditions::{ConditionsAnswer, check_conditions, is_plain};
 pub use differences::{row_above, row_below};
 pub use division_facts::{Division, divide, facts_at_least_zero, facts_below_zero};

@@ -4,6 +4,7 @@ use Rattle.std.specs.Prelude.{ℕ, suc, ◌/◌, nat_le, Bool, true, false, ◌&
 use Rattle.std.specs.List.{list_all}
 use Rattle.std.specs.declared.cmp.Ordering.{Ordering}
 use Rattle.std.specs.declared.cmp.Ordering.TheVariants.{Less, Equal, Greater}
+use Rattle.rx_plain.specs.Formed.{Formed}
 use Rattle.rx_poly.specs.Limits.{body_sum, is_within, of_terms, scaled_by}
 use Rattle.rx_poly.specs.Normal.{is_empty}
 use Rattle.rx_poly.specs.Order.{mono_cmp}
@@ -73,6 +74,11 @@ linear_combination_within k p l q =
     (body_sum (scaled_by k p.poly) (scaled_by l q.poly)) &&
     combined_within k p.multipliers l q.multipliers))
 
+-- both at once
+abbrev pub linear_combination_formed : ℤ → Combination → ℤ → Combination → Formed Combination
+linear_combination_formed k p l q =
+    record { form = linear_combination k p l q; within = linear_combination_within k p l q }
+
 -- the two weighed so that coefficients of the sizes a and b and of opposite signs cancel, by the
 -- least such weights
 abbrev pub eliminant : ℕ → ℕ → Combination → Combination → Combination
@@ -80,6 +86,10 @@ eliminant a b p q = linear_combination (pos (b / gcd a b)) p (pos (a / gcd a b))
 
 abbrev pub eliminant_within : ℕ → ℕ → Combination → Combination → Bool
 eliminant_within a b p q = linear_combination_within (pos (b / gcd a b)) p (pos (a / gcd a b)) q
+
+-- both at once
+abbrev pub eliminant_formed : ℕ → ℕ → Combination → Combination → Formed Combination
+eliminant_formed a b p q = linear_combination_formed (pos (b / gcd a b)) p (pos (a / gcd a b)) q
 
 -- the greatest common divisor of all coefficients and multipliers
 abbrev pub common_divisor : Combination → ℕ
@@ -143,6 +153,10 @@ stage m cs = without m cs ++ pairs m (positive m cs) (negative m cs)
 abbrev pub stage_within : ℕ → Mono → List Combination → Bool
 stage_within limit m cs =
     nat_le (length (stage m cs)) limit && pairs_within m (positive m cs) (negative m cs)
+
+-- both at once
+abbrev pub stage_formed : ℕ → Mono → List Combination → Formed (List Combination)
+stage_formed limit m cs = record { form = stage m cs; within = stage_within limit m cs }
 
 -- ---- the elimination
 

@@ -1,11 +1,12 @@
 //! Sums of multiples of the polynomials given, each with its multipliers, and how two are joined.
 ghost use Rattle.std.specs.Prelude.{◌≡◌, ◌<ℤ◌, ◌≤ℤ◌, ◌/◌, ◌++◌, [], ◌∷◌, ℕ, ℤ, pos, true, false, unsigned_abs, All, map, IfOk, IfErr, IfSome, OnOk, SomeIff};
+ghost use Rattle.rx_plain.specs.Formed.{Forms};
 ghost use Rattle.rx_poly.specs.Limits.{of_terms};
 ghost use Rattle.rx_poly.specs.Reading.{coefficient};
 ghost use Rattle.rx_poly.specs.Value.{quotient};
 ghost use Rattle.rx_poly.specs.declared.body.Body.{out-Body};
 ghost use Rattle.rx_poly.specs.declared.body.Mono.{Mono};
-ghost use Rattle.rx_fm.specs.Elimination.{at, eliminant, eliminant_within, coefficients, common_divisor, common_divisor_within, divided, resolvent, resolvent_within, primitive_part, linear_combination, linear_combination_within};
+ghost use Rattle.rx_fm.specs.Elimination.{at, eliminant_formed, coefficients, common_divisor, common_divisor_within, divided, resolvent, resolvent_within, primitive_part, linear_combination_formed};
 ghost use Rattle.rx_fm.specs.Numbers.{divides_all, gcd, gcd_with, size_fits, sizes_fit};
 
 use crate::fm_end::FmEnd;
@@ -15,7 +16,7 @@ use rx_poly::{Body, Mono, Poly};
 use std::alloc::{AllocError, Global};
 
 /// A polynomial, and for each polynomial given the multiplier that it has in it.
-#[derive(Debug, Drop)]
+#[derive(Drop)]
 pub(crate) struct Combination {
     pub(crate) poly: Poly,
     pub(crate) multipliers: Items<i128>,
@@ -39,10 +40,8 @@ fn weighed(
     l: &i128,
     second: &Combination,
 ) -> Result<Combination, FmEnd>
-    ensures same { IfOk result (λ c. c ≡ linear_combination k.now first.now l.now second.now) }
-    ensures within { OnOk result (linear_combination_within k.now first.now l.now second.now ≡ true) }
-    ensures large { IfErr result (λ e. e ≡ FmEnd.Large →
-        linear_combination_within k.now first.now l.now second.now ≡ false) }
+    ensures { Forms FmEnd.Large result
+        (linear_combination_formed k.now first.now l.now second.now) }
 {
     let left = first.poly.scale(alloc, *k)?;
     let right = second.poly.scale(alloc, *l)?;
@@ -67,13 +66,8 @@ fn cancelled(
 ) -> Result<Combination, FmEnd>
     requires positive { pos 0 <ℤ positive.now }
     requires negative { pos 0 <ℤ negative.now }
-    ensures same { IfOk result (λ c. c ≡ eliminant (unsigned_abs positive.now)
+    ensures { Forms FmEnd.Large result (eliminant_formed (unsigned_abs positive.now)
         (unsigned_abs negative.now) first.now second.now) }
-    ensures within { OnOk result (eliminant_within (unsigned_abs positive.now)
-        (unsigned_abs negative.now) first.now second.now ≡ true) }
-    ensures large { IfErr result (λ e. e ≡ FmEnd.Large →
-        eliminant_within (unsigned_abs positive.now) (unsigned_abs negative.now) first.now
-        second.now ≡ false) }
 {
     let common = gcd(positive, negative);
     let k = divided(negative, &common);
@@ -115,7 +109,7 @@ fn divided_terms(
     requires { pos 0 ≤ℤ by.now }
     ensures { IfOk result (λ ts. ts ≡ map (λ (t : Mono × ℤ). (t.0, quotient t.1 by.now)) terms.now) }
 {
-    let mut made = Items::new(alloc);
+    let mut made = Items::with_capacity(alloc, terms.len())?;
     for term in terms {
         let mono = term.0.try_clone(alloc)?;
         made.push((mono, divided(&term.1, by)))?;

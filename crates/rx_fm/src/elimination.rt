@@ -25,7 +25,7 @@ fn unit(alloc: Global, count: usize, place: usize) -> Result<Items<i128>, AllocE
 fn given(alloc: Global, polys: &[Poly]) -> Result<Items<Combination>, AllocError>
     ensures { IfOk result (λ cs. cs ≡ given polys.now) }
 {
-    let mut made = Items::new(alloc);
+    let mut made = Items::with_capacity(alloc, polys.len())?;
     for (place, standing) in polys.iter().enumerate() {
         let poly = standing.try_clone(alloc)?;
         let multipliers = unit(alloc, polys.len(), place)?;

@@ -79,7 +79,7 @@ pub(crate) fn quotients(
     requires { pos 0 ≤ℤ by.now }
     ensures { IfOk result (λ xs. xs ≡ quotients (unsigned_abs by.now) numbers.now) }
 {
-    let mut made = Items::new(alloc);
+    let mut made = Items::with_capacity(alloc, numbers.len())?;
     for number in numbers {
         made.push(divided(number, by))?;
     }
@@ -124,7 +124,7 @@ pub(crate) fn combined(
     ensures large { IfErr result (λ e. e ≡ FmEnd.Large →
         combined_within k.now left.now l.now right.now ≡ false) }
 {
-    let mut made = Items::new(alloc);
+    let mut made = Items::with_capacity(alloc, left.len())?;
     let mut xs = left;
     let mut ys = right;
     while let Some((x, xs_behind)) = xs.split_first() {

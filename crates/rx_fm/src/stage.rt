@@ -1,7 +1,8 @@
 //! One stage: a monomial is eliminated.
 ghost use Rattle.std.specs.Prelude.{◌≡◌, ◌<ℤ◌, ◌≤◌, ◌+◌, ◌*◌, ◌++◌, [], ◌∷◌, pos, true, false, int_lt, length, map, nat_le, IfOk, IfErr, OnOk};
 ghost use Rattle.std.specs.List.{list_all};
-ghost use Rattle.rx_fm.specs.Elimination.{at, resolvent, resolvent_within, negative, stage, stage_within, pairs, pairs_within, positive, without};
+ghost use Rattle.rx_plain.specs.Formed.{Forms};
+ghost use Rattle.rx_fm.specs.Elimination.{at, resolvent, resolvent_within, negative, stage_formed, pairs, pairs_within, positive, without};
 
 use crate::combination::{Combination, joined};
 use crate::fm_end::FmEnd;
@@ -10,7 +11,7 @@ use rx_poly::Mono;
 use std::alloc::{AllocError, Global};
 
 /// Combinations, by the coefficient that one monomial has in them.
-#[derive(Debug, Drop)]
+#[derive(Drop)]
 struct BySign {
     without: Items<Combination>,
     positive: Items<Combination>,
@@ -118,10 +119,7 @@ pub(crate) fn stage(
     mono: &Mono,
     limit: u32,
 ) -> Result<Items<Combination>, FmEnd>
-    ensures same { IfOk result (λ cs. cs ≡ stage mono.now combinations) }
-    ensures within { OnOk result (stage_within limit mono.now combinations ≡ true) }
-    ensures large { IfErr result (λ e. e ≡ FmEnd.Large → stage_within limit mono.now combinations ≡
-        false) }
+    ensures { Forms FmEnd.Large result (stage_formed limit mono.now combinations) }
 {
     let split = split(alloc, combinations, mono)?;
     if !are_few(&split, limit) {

@@ -1,4 +1,4 @@
--- What is shown row by row holds wherever the given rows do, also where no certificate is asked for.
+-- What is shown row by row holds wherever the given rows do, also where no certificate is needed.
 use Rattle.std.proofs.Common.{rules}
 use Rattle.rx_cert.proofs.ConditionLaws.{answer_holds, conditions_hold}
 use Rattle.rx_cert.proofs.ShowingLaws.{none_met}

@@ -19,5 +19,5 @@ returns-clause-same c =
     ap unsigned_abs (to_z-of_z w128 c.in-Some.negative n ∙ c.in-Some.ensures.1) ∙
     ap unsigned_abs (to_z-of_z w128 c.coeff.result q ∙ c.coeff.ensures) in
     IfOk-weaker c.reduced.result _ _ (λ r e. e ∙
-    ap primitive_part (c.in_ok-sum.ensures.same ∙
+    ap primitive_part (c.in_ok-sum.ensures.0 ∙
     (λ i. eliminant (a i) (b i) c.args.first.now c.args.second.now))) c.reduced.ensures.same
