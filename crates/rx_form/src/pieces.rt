@@ -127,7 +127,7 @@ pub(crate) fn with_row(alloc: Global, goal: &Equation, row: Row) -> Result<Equat
 fn all_zero(alloc: Global, polys: Items<Poly>) -> Result<Items<Row>, AllocError>
     ensures { IfOk result (λ rows. rows ≡ all_zero polys) }
 {
-    let mut rows = Items::new(alloc);
+    let mut rows = Items::with_capacity(alloc, polys.len())?;
     for poly in polys.into_vec() {
         rows.push(Row::Eq(poly))?;
     }

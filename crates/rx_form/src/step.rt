@@ -3,7 +3,7 @@ ghost use Rattle.std.specs.Prelude.{◌≡◌, IfOk};
 ghost use Rattle.rx_form.specs.Judging.{certificates};
 ghost use Rattle.rx_form.specs.declared.step.Step.TheVariants as steps;
 
-use rx_cert::Cert;
+use rx_cert::{Cert, copied_certs};
 use rx_plain::{Items, NoMemory};
 use rx_poly::Poly;
 use rx_row::{Constraint, Row};
@@ -109,17 +109,6 @@ pub enum Step {
         /// For the equal polynomials of the two parts.
         certs: Items<Cert>,
     },
-}
-
-/// The same certificates once more.
-fn copied_certs(alloc: Global, certs: &[Cert]) -> Result<Items<Cert>, NoMemory>
-    ensures { IfOk result (λ made. made ≡ certs.now) }
-{
-    let mut made = Items::new(alloc);
-    for cert in certs {
-        made.push(cert.try_clone(alloc)?)?;
-    }
-    Ok(made)
 }
 
 /// The same substitution once more.

@@ -4,7 +4,7 @@ ghost use Rattle.rx_generalise.specs.Calls.{IsCall, call_of, constant, constant_
 ghost use Rattle.rx_poly.specs.Constants.{variable};
 
 use rx_plain::Items;
-use rx_poly::Poly;
+use rx_poly::{Poly, copied_polys};
 use rx_term::{Sym, Term};
 use std::alloc::{AllocError, Global};
 
@@ -63,17 +63,6 @@ pub(crate) fn variable_at(term: &Term, other: &Term, place: usize) -> Option<u32
     other.arguments.get(place)?.as_variable()
 }
 
-/// Copies of the polynomials.
-fn copied(alloc: Global, polys: &[Poly]) -> Result<Vec<Poly>, AllocError>
-    ensures { IfOk result (λ made. made.items ≡ polys.now) }
-{
-    let mut made = Vec::new(alloc);
-    for poly in polys {
-        made.push(poly.try_clone(alloc)?)?;
-    }
-    Ok(made)
-}
-
 /// Copies of the polynomials, with the variable at the place, if there is such a place.
 fn with_variable_among(
     alloc: Global,
@@ -83,7 +72,7 @@ fn with_variable_among(
 ) -> Result<Items<Poly>, AllocError>
     ensures { IfOk result (λ made. made ≡ slice_set polys.now place (variable number)) }
 {
-    let mut made = copied(alloc, polys)?;
+    let mut made = copied_polys(alloc, polys)?.into_vec();
     let replacement = Poly::variable(alloc, number)?;
     if place < made.len() {
         made[place] = replacement;

@@ -4,7 +4,7 @@ ghost use Rattle.std.specs.Option.{option_copied};
 ghost use Rattle.rx_pairs.specs.Common.{IsCommon, IsPart};
 ghost use Rattle.rx_term.specs.Stacks.{depth_of};
 
-use rx_poly::Poly;
+use rx_poly::{Poly, are_same_polys};
 use rx_term::{Sym, Term};
 
 /// What is under as many frames of `term` as `other` has; its innermost part where it has fewer.
@@ -21,30 +21,11 @@ pub(crate) fn beyond<'a>(term: &'a Term, other: &Term) -> &'a Term
     here
 }
 
-/// Whether the two have the same polynomials in the same order.
-fn are_same(left: &[Poly], right: &[Poly]) -> bool
-    ensures { IsTrue result ↔ (left.now ≡ right.now) }
-{
-    let mut rest = left;
-    let mut others = right;
-    while let (Some((one, more)), Some((other, further))) = (
-        rest.split_first(),
-        others.split_first(),
-    ) {
-        if !one.is_same(other) {
-            return false;
-        }
-        rest = more;
-        others = further;
-    }
-    rest.is_empty() && others.is_empty()
-}
-
 /// Whether the two symbols are one, with the same arguments.
 fn is_same_part(f: Sym, args: &[Poly], g: Sym, others: &[Poly]) -> bool
     ensures { IsTrue result ↔ ((f ≡ g) × (args.now ≡ others.now)) }
 {
-    f.0 == g.0 && are_same(args, others)
+    f.0 == g.0 && are_same_polys(args, others)
 }
 
 /// The largest part of both, for two stacks of one depth. Both are walked together; the part begins

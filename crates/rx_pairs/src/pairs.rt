@@ -7,21 +7,10 @@ ghost use Rattle.rx_pairs.specs.Pairs.{AreAllPairs, ArePairs, HasRoot, pair_of};
 
 use crate::pair::Pair;
 use crate::parts::{Application, parts_of, root_part};
-use rx_plain::{Items, NoMemory};
-use rx_poly::Poly;
+use rx_plain::NoMemory;
+use rx_poly::copied_polys;
 use rx_term::Rule;
 use std::alloc::Global;
-
-/// The same polynomials once more.
-fn copied(alloc: Global, arguments: &[Poly]) -> Result<Items<Poly>, NoMemory>
-    ensures { IfOk result (λ made. made ≡ arguments.now) }
-{
-    let mut made = Items::with_capacity(alloc, arguments.len())?;
-    for argument in arguments {
-        made.push(argument.try_clone(alloc)?)?;
-    }
-    Ok(made)
-}
 
 /// The pair of the two under the rule's rows.
 pub(crate) fn pair(
@@ -35,9 +24,9 @@ pub(crate) fn pair(
     Ok(Pair {
         phi: rule.rows.try_clone(alloc)?,
         left: root.symbol,
-        left_args: copied(alloc, root.arguments)?,
+        left_args: copied_polys(alloc, root.arguments)?,
         right: part.symbol,
-        right_args: copied(alloc, part.arguments)?,
+        right_args: copied_polys(alloc, part.arguments)?,
     })
 }
 

@@ -22,7 +22,7 @@ pub fn noted_before<T: Drop>(noted: bool, later: Attempt<T>) -> Attempt<T>
 }
 
 /// What is found of a condition.
-#[derive(Clone, Copy, Debug, PartialEq, Eq)]
+#[derive(Clone, Copy)]
 pub(crate) enum Finding {
     /// It is shown.
     Shown,

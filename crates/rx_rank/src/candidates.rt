@@ -147,7 +147,7 @@ fn push_rule(
 }
 
 /// Candidates, and whether one passes the limits.
-#[derive(Debug, Drop)]
+#[derive(Drop)]
 pub(crate) struct Candidates {
     /// The candidates, each once, in order.
     pub(crate) polys: Vec<Poly>,
@@ -179,7 +179,7 @@ fn anchor_candidates(
 }
 
 /// The candidates of anchors, and whether one passes the limits.
-#[derive(Debug, Drop)]
+#[derive(Drop)]
 pub(crate) struct CandidateLists {
     /// For each anchor its candidates.
     pub(crate) lists: Vec<Vec<Poly>>,

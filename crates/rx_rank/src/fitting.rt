@@ -129,7 +129,7 @@ fn all_held<S: FnMut(&Constraint) -> Result<Option<Cert>, FmEnd>>(
 }
 
 /// Whether a pair falls.
-#[derive(Debug, Drop)]
+#[derive(Drop)]
 struct Decision {
     /// The certificates, where it falls.
     certs: Option<Items<Cert>>,
@@ -167,7 +167,7 @@ fn decide<S: FnMut(&Constraint) -> Result<Option<Cert>, FmEnd>>(
 }
 
 /// Which pairs fall.
-#[derive(Debug, Drop)]
+#[derive(Drop)]
 struct Falls {
     /// For each pair that falls, the certificates.
     certs: Vec<Option<Items<Cert>>>,

@@ -11,11 +11,11 @@ ghost use Rattle.rx_solve.specs.Answers.{IsSolver};
 
 use crate::attempt::Finding;
 use crate::pair_tests::{show_fall, show_hold};
-use rx_cert::Cert;
+use rx_cert::{Cert, copied_certs};
 use rx_fm::FmEnd;
 use rx_pairs::Pair;
-use rx_plain::{Items, NoMemory};
-use rx_poly::Poly;
+use rx_plain::NoMemory;
+use rx_poly::{Poly, copied_polys};
 use rx_row::Constraint;
 use rx_solve::AllShown;
 use std::alloc::Global;
@@ -25,7 +25,7 @@ use std::marker::Model;
 const MOST_ANSWERS: usize = 256;
 
 /// What is asked of a pair.
-#[derive(Clone, Copy, Debug, PartialEq, Eq)]
+#[derive(Clone, Copy, PartialEq, Eq)]
 pub(crate) enum PairTest {
     /// Whether a column holds at it.
     Holds,
@@ -34,7 +34,7 @@ pub(crate) enum PairTest {
 }
 
 /// An answer that is kept.
-#[derive(Debug, Drop)]
+#[derive(Drop)]
 pub(crate) struct KnownAnswer {
     /// What was asked.
     pub(crate) test: PairTest,
@@ -66,28 +66,6 @@ impl Model for KnownPair {
     ghost view = { λ k. k.pair };
 
     ghost invariant = { λ k. AreRight k.pair k.answers.items };
-}
-
-/// The same polynomials once more.
-fn copied_polys(alloc: Global, polys: &[Poly]) -> Result<Items<Poly>, NoMemory>
-    ensures { IfOk result (λ made. made ≡ polys.now) }
-{
-    let mut made = Items::new(alloc);
-    for poly in polys {
-        made.push(poly.try_clone(alloc)?)?;
-    }
-    Ok(made)
-}
-
-/// The same certificates once more.
-fn copied_certs(alloc: Global, certs: &[Cert]) -> Result<Items<Cert>, NoMemory>
-    ensures { IfOk result (λ made. made ≡ certs.now) }
-{
-    let mut made = Items::new(alloc);
-    for cert in certs {
-        made.push(cert.try_clone(alloc)?)?;
-    }
-    Ok(made)
 }
 
 /// The same pair once more.

@@ -131,7 +131,7 @@ fn others_among(
 }
 
 /// The symbols of a component, in order: those that get candidates, and the others.
-#[derive(Debug, Drop)]
+#[derive(Drop)]
 pub(crate) struct Members {
     /// The anchors.
     pub(crate) anchors: Vec<u32>,

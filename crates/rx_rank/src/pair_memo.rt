@@ -6,7 +6,7 @@ ghost use Rattle.rx_rank.specs.Answers.{pairs_at};
 use crate::known_pair::KnownPair;
 use rx_pairs::Pair;
 use rx_plain::NoMemory;
-use rx_poly::Poly;
+use rx_poly::are_same_polys;
 use std::alloc::Global;
 use std::marker::Model;
 
@@ -33,37 +33,6 @@ impl Model for PairMemo {
     ghost invariant = { λ m. length m.known.items ≤ 1024 };
 }
 
-/// Whether both are one polynomial. Variables, which most arguments are, are compared by number.
-fn is_same_argument(first: &Poly, second: &Poly) -> bool
-    ensures { IsTrue result ↔ (first.now ≡ second.now) }
-{
-    if let Some(one) = first.as_variable() {
-        if let Some(other) = second.as_variable() {
-            return one == other;
-        }
-    }
-    first.is_same(second)
-}
-
-/// Whether both are the same polynomials in order.
-fn are_same(first: &[Poly], second: &[Poly]) -> bool
-    ensures { IsTrue result ↔ (first.now ≡ second.now) }
-{
-    let mut rest = first;
-    let mut others = second;
-    while let (Some((one, more)), Some((other, further))) = (
-        rest.split_first(),
-        others.split_first(),
-    ) {
-        if !is_same_argument(one, other) {
-            return false;
-        }
-        rest = more;
-        others = further;
-    }
-    rest.is_empty() && others.is_empty()
-}
-
 /// Whether both are one pair. The arguments on the right differ most often.
 fn is_same_pair(first: &Pair, second: &Pair) -> bool
     ensures { IsTrue result ↔ (first.now ≡ second.now) }
@@ -71,10 +40,10 @@ fn is_same_pair(first: &Pair, second: &Pair) -> bool
     if first.left != second.left || first.right != second.right {
         return false;
     }
-    if !are_same(first.right_args.as_slice(), second.right_args.as_slice()) {
+    if !are_same_polys(first.right_args.as_slice(), second.right_args.as_slice()) {
         return false;
     }
-    if !are_same(first.left_args.as_slice(), second.left_args.as_slice()) {
+    if !are_same_polys(first.left_args.as_slice(), second.left_args.as_slice()) {
         return false;
     }
     first.phi.is_same(&second.phi)

@@ -199,11 +199,11 @@ impl Constraint {
         self.rows == other.rows
     }
 
-    /// The same rows once more; fails only when out of memory.
+    /// The same rows once more, with room for another; fails only when out of memory.
     pub fn try_clone(&self, alloc: Global) -> Result<Constraint, AllocError>
         ensures { IfOk result (λ c. c ≡ self.now) }
     {
-        let mut copies = Vec::with_capacity(alloc, self.rows.len())?;
+        let mut copies = Vec::with_capacity(alloc, self.rows.len().saturating_add(1))?;
         for row in self.rows.as_slice() {
             copies.push(row.try_clone(alloc)?)?;
         }

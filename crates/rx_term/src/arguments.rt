@@ -1,5 +1,5 @@
 //! Lists of polynomials: what a call, a frame or a result holds.
-ghost use Rattle.std.specs.Prelude.{◌≡◌, ◌↔◌, true, false, IsTrue, IfOk};
+ghost use Rattle.std.specs.Prelude.{◌≡◌, true, false, IfOk};
 ghost use Rattle.rx_plain.specs.Formed.{Forms};
 ghost use Rattle.rx_poly.specs.Substitution.{subst_body};
 ghost use Rattle.rx_term.specs.Differences.{differences};
@@ -10,17 +10,6 @@ ghost use Rattle.rx_term.specs.Variables.{polys_use_below};
 use rx_plain::Items;
 use rx_poly::{Poly, PolyEnd, uses_below};
 use std::alloc::{AllocError, Global};
-
-/// The same polynomials once more; fails only when out of memory.
-pub(crate) fn copied(alloc: Global, args: &[Poly]) -> Result<Items<Poly>, AllocError>
-    ensures { IfOk result (λ made. made ≡ args.now) }
-{
-    let mut made = Items::with_capacity(alloc, args.len())?;
-    for arg in args {
-        made.push(arg.try_clone(alloc)?)?;
-    }
-    Ok(made)
-}
 
 /// What variables are replaced by.
 #[derive(Clone, Copy)]
@@ -59,25 +48,6 @@ pub(crate) fn substituted(
     Ok(made)
 }
 
-/// Whether the two have the same polynomials in the same order.
-pub(crate) fn are_same(left: &[Poly], right: &[Poly]) -> bool
-    ensures { IsTrue result ↔ (left.now ≡ right.now) }
-{
-    let mut rest = left;
-    let mut others = right;
-    while let (Some((one, more)), Some((other, further))) = (
-        rest.split_first(),
-        others.split_first(),
-    ) {
-        if !one.is_same(other) {
-            return false;
-        }
-        rest = more;
-        others = further;
-    }
-    rest.is_empty() && others.is_empty()
-}
-
 /// Whether all variables of the polynomials are below the number.
 pub(crate) fn are_below(args: &[Poly], bound: u32) -> bool
     ensures { result ≡ polys_use_below bound args.now }
@@ -95,7 +65,7 @@ pub(crate) fn are_below(args: &[Poly], bound: u32) -> bool
 pub fn differences(alloc: Global, left: &[Poly], right: &[Poly]) -> Result<Items<Poly>, PolyEnd>
     ensures forms { Forms PolyEnd.Large result (differences left.now right.now) }
 {
-    let mut made = Items::new(alloc);
+    let mut made = Items::with_capacity(alloc, left.len())?;
     let mut others = right;
     for one in left {
         let Some((other, more)) = others.split_first() else {

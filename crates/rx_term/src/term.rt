@@ -10,9 +10,9 @@ ghost use Rattle.rx_plain.specs.Formed.{Forms};
 ghost use Rattle.rx_term.specs.Substitution.{term_with};
 ghost use Rattle.rx_term.specs.Variables.{arguments_of, term_uses_below};
 
-use crate::arguments::{Replacements, are_below, are_same, copied, instance, substituted};
+use crate::arguments::{Replacements, are_below, instance, substituted};
 use rx_plain::{Boxed, Items};
-use rx_poly::{Poly, PolyEnd, uses_below};
+use rx_poly::{Poly, PolyEnd, are_same_polys, copied_polys, uses_below};
 use std::alloc::{AllocError, Global};
 
 /// The number of a symbol.
@@ -240,10 +240,10 @@ impl Term {
                 (Term::Return(value), Term::Return(other)) => return value.is_same(other),
                 (Term::Fail(code), Term::Fail(other)) => return *code == *other,
                 (Term::Call(f, args), Term::Call(g, others)) => {
-                    return f.0 == g.0 && are_same(args.as_slice(), others.as_slice());
+                    return f.0 == g.0 && are_same_polys(args.as_slice(), others.as_slice());
                 }
                 (Term::Frame(f, args, inner), Term::Frame(g, others, further)) => {
-                    if f.0 != g.0 || !are_same(args.as_slice(), others.as_slice()) {
+                    if f.0 != g.0 || !are_same_polys(args.as_slice(), others.as_slice()) {
                         return false;
                     }
                     here = inner.get();
@@ -314,11 +314,11 @@ impl Term {
                 }
                 Term::Fail(_) => return Ok(made),
                 Term::Call(_, args) => {
-                    made.append(copied(alloc, args.as_slice())?)?;
+                    made.append(copied_polys(alloc, args.as_slice())?)?;
                     return Ok(made);
                 }
                 Term::Frame(_, args, inner) => {
-                    made.append(copied(alloc, args.as_slice())?)?;
+                    made.append(copied_polys(alloc, args.as_slice())?)?;
                     here = inner.get();
                 }
             }
@@ -338,11 +338,11 @@ impl Term {
                 }
                 Term::Fail(code) => return Ok(upper.onto(Term::Fail(*code))),
                 Term::Call(sym, args) => {
-                    let args = copied(alloc, args.as_slice())?;
+                    let args = copied_polys(alloc, args.as_slice())?;
                     return Ok(upper.onto(Term::Call(*sym, args)));
                 }
                 Term::Frame(sym, args, inner) => {
-                    let args = copied(alloc, args.as_slice())?;
+                    let args = copied_polys(alloc, args.as_slice())?;
                     upper = Term::Frame(*sym, args, Boxed::new(alloc, upper)?);
                     here = inner.get();
                 }

@@ -1,5 +1,0 @@
-use Rattle.std.proofs.Common.{◌≡◌, take}
-use Rattle.rx_form.proofs.step.copied_certs.Given as goal
-
-abbrev pub invariant-loop-cert : goal.invariant-loop-cert
-invariant-loop-cert l = l.made ≡ take l.cert-index l.certs

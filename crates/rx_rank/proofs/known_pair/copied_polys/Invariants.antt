@@ -1,6 +1,0 @@
--- Those so far are the first ones.
-use Rattle.std.proofs.Common.{◌≡◌, take}
-use Rattle.rx_rank.proofs.known_pair.copied_polys.Given as goal
-
-abbrev pub invariant-loop-poly : goal.invariant-loop-poly
-invariant-loop-poly l = l.made ≡ take l.poly-index l.polys
