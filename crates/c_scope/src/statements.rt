@@ -1,9 +1,11 @@
 //! The names of statements, in the order of the text.
-ghost use Rattle.std.specs.Prelude.{◌≡◌, map, option_map};
+ghost use Rattle.std.specs.Prelude.{◌≡◌, true, if◌then◌else◌, map, option_map, Err, Ok};
 ghost use Rattle.c_scope.specs.Statements as spec;
 ghost use Rattle.c_scope.specs.Statements.{GivesScoped, resolved_stmt};
-ghost use Rattle.c_scope.specs.Steps.{Gives};
+ghost use Rattle.c_scope.specs.Slots.{inner_scope};
+ghost use Rattle.c_scope.specs.Steps.{Gives, and_then};
 ghost use Rattle.c_scope.specs.Views.{IsIndexed, model_of};
+ghost use Rattle.c_scope.specs.declared.error.ScopeEnd.TheVariants.{StrayBreak};
 
 use crate::definitions::Definitions;
 use crate::error::ScopeEnd;
@@ -66,12 +68,12 @@ fn assign(
     Ok(Stmt::Assign(slot, value))
 }
 
-// A `break` or a `continue`, whose token this is.
-fn jump(in_loop: bool, jump: Stmt, token: u32) -> Result<Stmt, ScopeEnd>
-    ensures { Gives result (spec.only_in_loops jump token in_loop) }
+// The token of a `break` or a `continue`, which stands in a loop.
+fn jump(in_loop: bool, token: u32) -> Result<u32, ScopeEnd>
+    ensures { result ≡ if in_loop then Ok token else Err (StrayBreak token) }
 {
     if in_loop {
-        Ok(jump)
+        Ok(token)
     } else {
         Err(ScopeEnd::StrayBreak { token })
     }
@@ -113,18 +115,13 @@ pub fn resolve_stmt(
             let first = in_order(alloc, definitions, &mut begun, false, first)?;
             let test = resolve_optional(alloc, definitions, &begun, test)?;
             let change = inside_optional(alloc, definitions, &begun, false, change)?;
-            let within = begun.opened(alloc)?;
-            let inner = inside(alloc, definitions, &within, true, inner)?;
+            let inner = body_of_for(alloc, definitions, &begun, inner)?;
             Ok(Stmt::For(first, test, change, inner))
         }
-        Stmt::Break(token) => jump(in_loop, Stmt::Break(*token), *token),
-        Stmt::Continue(token) => jump(in_loop, Stmt::Continue(*token), *token),
+        Stmt::Break(token) => Ok(Stmt::Break(jump(in_loop, *token)?)),
+        Stmt::Continue(token) => Ok(Stmt::Continue(jump(in_loop, *token)?)),
         Stmt::Return(value) => Ok(Stmt::Return(resolve_expr(alloc, definitions, scope, value)?)),
-        Stmt::Block(inner) => {
-            let mut within = scope.opened(alloc)?;
-            let inner = in_order(alloc, definitions, &mut within, in_loop, inner)?;
-            Ok(Stmt::Block(inner))
-        }
+        Stmt::Block(inner) => Ok(Stmt::Block(in_block(alloc, definitions, scope, in_loop, inner)?)),
     }
 }
 
@@ -168,6 +165,40 @@ fn inside_optional(
             Ok(Some(Boxed::new(alloc, part)?))
         }
     }
+}
+
+// The body of a `for`, in a scope inside the one of its declarations.
+#[cycle(statements)]
+fn body_of_for(
+    alloc: Global,
+    definitions: &Definitions,
+    begun: &Scope,
+    body: &Boxed<Stmt>,
+) -> Result<Boxed<Stmt>, ScopeEnd>
+    requires { IsIndexed definitions.now }
+    ensures { Gives result (spec.nested (resolved_stmt definitions.now.names.now
+        definitions.now.functions.now body.now) (inner_scope (model_of begun.now)) true) }
+{
+    let within = begun.opened(alloc)?;
+    inside(alloc, definitions, &within, true, body)
+}
+
+// The statements of a block, in a scope of their own.
+#[cycle(statements)]
+fn in_block(
+    alloc: Global,
+    definitions: &Definitions,
+    scope: &Scope,
+    in_loop: bool,
+    statements: &Items<Stmt>,
+) -> Result<Items<Stmt>, ScopeEnd>
+    requires { IsIndexed definitions.now }
+    ensures { Gives result (and_then (spec.in_order (map (resolved_stmt definitions.now.names.now
+        definitions.now.functions.now) statements.now) (inner_scope (model_of scope.now)) in_loop)
+        (λ block. Ok block.tree)) }
+{
+    let mut within = scope.opened(alloc)?;
+    in_order(alloc, definitions, &mut within, in_loop, statements)
 }
 
 /// Statements in their order, each in the scope after the one before.
