@@ -24,7 +24,7 @@ use rx_plain::Items;
 use std::alloc::Global;
 
 /// What a run answers.
-#[derive(Debug, Drop)]
+#[derive(Drop)]
 pub enum Answer {
     /// One line.
     Line(Verdict),

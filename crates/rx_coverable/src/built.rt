@@ -4,7 +4,7 @@ ghost use Rattle.rx_coverable.specs.Answers.{outcome};
 ghost use Rattle.rx_coverable.specs.Coverage.{noting};
 
 /// What was made, if anything, and whether something on the way to it passed the limits.
-#[derive(Debug, Drop)]
+#[derive(Drop)]
 pub(crate) struct Built<T> {
     /// What was made.
     pub(crate) made: Option<T>,

@@ -7,7 +7,7 @@ ghost use Rattle.rx_term.specs.Shapes.{Fail, Return, same_shape, shape_of};
 use rx_term::Term;
 
 /// What a redex is, but for its symbol and its arguments.
-#[derive(Clone, Copy, Debug, PartialEq, Eq)]
+#[derive(Clone, Copy)]
 pub(crate) enum Redex {
     /// A call.
     Call,

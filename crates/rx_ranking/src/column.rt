@@ -8,7 +8,7 @@ use rx_rank::polynomial_of;
 use std::alloc::Global;
 
 /// A column as it is found. Heights stay numbers until a table is made of the columns.
-#[derive(Debug, Drop)]
+#[derive(Drop)]
 pub(crate) enum FoundColumn {
     /// By symbol the height of its component.
     Heights(Vec<u32>),

@@ -22,7 +22,7 @@ use rx_term::{Rule, RuleParts};
 use std::alloc::Global;
 
 /// The polynomials that components take, and what they say of the open pairs.
-#[derive(Debug, Drop)]
+#[derive(Drop)]
 pub(crate) struct Fits {
     /// The column: polynomials by symbol.
     pub(crate) column: Vec<Option<Poly>>,

@@ -42,7 +42,7 @@ pub(crate) fn find_names(
 }
 
 /// The components, and how high each is over those that its pairs lead to.
-#[derive(Debug, Drop)]
+#[derive(Drop)]
 pub(crate) struct Levels {
     /// By symbol the least symbol of its component.
     pub(crate) names: Vec<u32>,

@@ -4,7 +4,7 @@ use rx_pairs::Pair;
 use rx_plain::Items;
 
 /// An open pair.
-#[derive(Debug, Drop)]
+#[derive(Drop)]
 pub(crate) struct OpenPair {
     /// Its number among all pairs.
     pub(crate) number: usize,

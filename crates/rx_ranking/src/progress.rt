@@ -17,7 +17,7 @@ use rx_plain::{Items, NoMemory};
 use std::alloc::Global;
 
 /// The columns so far, the pairs that are open, and the certificates of those that are closed.
-#[derive(Debug, Drop)]
+#[derive(Drop)]
 pub(crate) struct Progress {
     /// The columns.
     pub(crate) columns: Vec<FoundColumn>,

@@ -38,7 +38,7 @@ pub(crate) struct Part<'a> {
 }
 
 /// What is found of polynomials that are to be equal.
-#[derive(Clone, Copy, Debug, PartialEq, Eq)]
+#[derive(Clone, Copy)]
 pub(crate) enum Equality {
     /// They are shown equal.
     Shown,
@@ -196,7 +196,7 @@ fn common_parts<S: FnMut(&Constraint) -> Result<Option<Cert>, FmEnd>>(
 }
 
 /// A common suffix of two terms.
-#[derive(Clone, Copy, Debug, PartialEq, Eq)]
+#[derive(Clone, Copy)]
 pub(crate) struct Suffix {
     /// What is common.
     pub(crate) common: Common,

@@ -25,7 +25,7 @@ use std::alloc::{AllocError, Global};
 const MOST_RATIOS: usize = 3;
 
 /// A dividend, and the number that it is divided by.
-#[derive(Debug, Drop)]
+#[derive(Drop)]
 pub struct Ratio {
     /// The dividend.
     pub num: Body,

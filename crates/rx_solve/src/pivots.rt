@@ -15,7 +15,7 @@ use rx_row::Row;
 use std::alloc::{AllocError, Global};
 
 /// Which rows say the value of which variable.
-#[derive(Clone, Copy, Debug)]
+#[derive(Clone, Copy)]
 pub struct Pivot {
     /// The number of an equation, or of a row `p >= 0`.
     pub first: u32,

@@ -18,7 +18,7 @@ use std::alloc::{AllocError, Global};
 const MOST_ROUNDINGS: usize = 64;
 
 /// A row that is to be rounded.
-#[derive(Clone, Copy, Debug)]
+#[derive(Clone, Copy)]
 pub struct Rounding {
     /// The row's number.
     pub at: u32,
