@@ -80,6 +80,20 @@ pub fn ordered(order: Ordering) -> Option<Answer> {
     }))
 }
 
+/// The order of two values, where both could be read.
+pub fn compared<T: Ord + Drop>(first: Option<T>, second: Option<T>) -> Option<Answer> {
+    let first = first?;
+    let second = second?;
+    ordered(first.cmp(&second))
+}
+
+/// Whether two values are equal, where both could be read.
+pub fn equal<T: PartialEq + Drop>(first: Option<T>, second: Option<T>) -> Option<Answer> {
+    let first = first?;
+    let second = second?;
+    told(first == second)
+}
+
 /// That there is no such value.
 pub fn nothing() -> Option<Answer> {
     Some(Answer::Word("none"))

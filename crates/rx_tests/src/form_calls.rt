@@ -14,18 +14,43 @@ fn is_use(step: &Step) -> bool {
     matches!(step, Step::Hyp { .. })
 }
 
-fn formed(
+fn set_of(alloc: Global, given: &str) -> Option<RuleSet> {
+    RuleSet::from_parts(parts(alloc, rules(alloc, given)?)?)
+}
+
+// The use of one of these hypotheses.
+fn used(
     alloc: Global,
-    given: Items<Rule>,
+    hypotheses: &[Rule],
     goal: &Equation,
     step: &Step,
 ) -> Option<Result<FormedStep, FormEnd>> {
-    if is_use(step) {
-        let set = without_rules(alloc)?;
-        return Some(form(alloc, &set, Some(goal), given.as_slice(), step));
-    }
-    let set = RuleSet::from_parts(parts(alloc, given)?)?;
+    let set = without_rules(alloc)?;
+    Some(form(alloc, &set, Some(goal), hypotheses, step))
+}
+
+// A step over the set of these rules.
+fn over_set(
+    alloc: Global,
+    given: &str,
+    goal: &Equation,
+    step: &Step,
+) -> Option<Result<FormedStep, FormEnd>> {
+    let set = set_of(alloc, given)?;
     Some(form(alloc, &set, Some(goal), &[], step))
+}
+
+fn formed(
+    alloc: Global,
+    given: &str,
+    goal: &Equation,
+    step: &Step,
+) -> Option<Result<FormedStep, FormEnd>> {
+    if !is_use(step) {
+        return over_set(alloc, given, goal, step);
+    }
+    let hypotheses = rules(alloc, given)?;
+    used(alloc, hypotheses.as_slice(), goal, step)
 }
 
 // Why the step isn't formed; out of memory is none that a line could want.
@@ -48,13 +73,22 @@ fn rows_of(alloc: Global, groups: Items<Group>) -> Constraint {
     }
 }
 
+fn push_goal(made: &mut Items<Rule>, goal: Equation) -> Option<()> {
+    let Equation { left, right, rows } = goal;
+    made.push(Rule { left, right, rows }).ok()
+}
+
+fn push_goals(made: &mut Items<Rule>, goals: Items<Equation>) -> Option<()> {
+    for goal in goals.into_vec() {
+        push_goal(made, goal)?;
+    }
+    Some(())
+}
+
 // The goals as rules, and then the hypotheses.
 fn made(alloc: Global, goals: Items<Equation>, kept: Items<Rule>) -> Option<Items<Rule>> {
     let mut made = Items::new(alloc);
-    for goal in goals.into_vec() {
-        let Equation { left, right, rows } = goal;
-        made.push(Rule { left, right, rows }).ok()?;
-    }
+    push_goals(&mut made, goals)?;
     made.append(kept).ok()?;
     Some(made)
 }
@@ -70,13 +104,16 @@ fn answered(alloc: Global, formed: FormedStep) -> Option<Answer> {
     }
 }
 
-/// What the step answers.
-pub fn answer_to(alloc: Global, first: &str, second: &str, third: &str) -> Option<Answer> {
-    let given = rules(alloc, first)?;
-    let goal = equation(alloc, second)?;
-    let step = step(alloc, third)?;
-    match formed(alloc, given, &goal, &step)? {
+fn of_step(alloc: Global, given: &str, goal: &Equation, step: &Step) -> Option<Answer> {
+    match formed(alloc, given, goal, step)? {
         Ok(formed) => answered(alloc, formed),
         Err(end) => ended(end),
     }
+}
+
+/// What the step answers.
+pub fn answer_to(alloc: Global, first: &str, second: &str, third: &str) -> Option<Answer> {
+    let goal = equation(alloc, second)?;
+    let step = step(alloc, third)?;
+    of_step(alloc, first, &goal, &step)
 }

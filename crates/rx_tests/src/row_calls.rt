@@ -36,8 +36,7 @@ fn summed(answer: Result<Option<Poly>, PolyEnd>) -> Option<Answer> {
     }
 }
 
-fn of_row(alloc: Global, call: &str, given: &str) -> Option<Answer> {
-    let row = row(alloc, given)?;
+fn of_one(alloc: Global, call: &str, row: &Row) -> Option<Answer> {
     match call {
         "row.negate" => formed(row.negate(alloc)),
         "row.is_ge" => told(row.is_ge()),
@@ -47,19 +46,21 @@ fn of_row(alloc: Global, call: &str, given: &str) -> Option<Answer> {
     }
 }
 
-fn of_two(alloc: Global, call: &str, first: &str, second: &str) -> Option<Answer> {
-    let left = row(alloc, first)?;
-    let right = row(alloc, second)?;
+fn between(call: &str, left: &Row, right: &Row) -> Option<Answer> {
     match call {
-        "row.compare" => ordered(left.cmp(&right)),
-        "row.is_negation_of" => told(left.is_negation_of(&right)),
-        _ => told(left.is_same(&right)),
+        "row.compare" => ordered(left.cmp(right)),
+        "row.is_negation_of" => told(left.is_negation_of(right)),
+        _ => told(left.is_same(right)),
     }
 }
 
-fn substituted(alloc: Global, of: &str, with: &str) -> Option<Answer> {
+fn beside(alloc: Global, call: &str, left: &Row, right: &str) -> Option<Answer> {
+    let right = row(alloc, right)?;
+    between(call, left, &right)
+}
+
+fn substituted(alloc: Global, of: &Row, with: &str) -> Option<Answer> {
     let with = substitution(alloc, with)?;
-    let of = row(alloc, of)?;
     formed(of.subst(alloc, with.as_slice()))
 }
 
@@ -69,94 +70,121 @@ fn named(alloc: Global, var: &str, number: &str) -> Option<Answer> {
     formed(Row::named(alloc, var, integer(number)?))
 }
 
-fn at_args(alloc: Global, of: &str, args: &str) -> Option<Answer> {
+fn at_args(alloc: Global, of: &Row, args: &str) -> Option<Answer> {
     let args = polys(alloc, args)?;
-    let of = row(alloc, of)?;
     formed(of.at_args(alloc, args.as_slice()))
 }
 
-fn with_row(alloc: Global, call: &str, first: &str, second: &str) -> Option<Answer> {
-    let last = row(alloc, second)?;
-    let mut rows = rows(alloc, first)?;
-    if call == "rows.contains" {
-        return told(rows.contains(&last));
+// What a row answers, and what else is given.
+fn of_row(alloc: Global, call: &str, row: &Row, second: &str) -> Option<Answer> {
+    match call {
+        "row.compare" | "row.same" | "row.is_negation_of" => beside(alloc, call, row, second),
+        "row.at_args" => at_args(alloc, row, second),
+        "row.subst" => substituted(alloc, row, second),
+        _ => of_one(alloc, call, row),
     }
-    if call == "rows.push" {
-        rows.push(last).ok()?;
-        return Some(Answer::Rows(rows));
-    }
+}
+
+fn of_read_row(alloc: Global, call: &str, first: &str, second: &str) -> Option<Answer> {
+    let row = row(alloc, first)?;
+    of_row(alloc, call, &row, second)
+}
+
+// Adds a row, and takes it away again where the call says so.
+fn append(alloc: Global, call: &str, rows: &mut Constraint, last: &str) -> Option<()> {
     let before = rows.rows().len();
-    rows.append(last).ok()?;
+    rows.append(row(alloc, last)?).ok()?;
     if call == "rows.append_and_undo" {
         rows.truncate(before);
     }
-    Some(Answer::Rows(rows))
+    Some(())
 }
 
-// What is read from rows, or the first of them, as many as that.
-fn of_rows(alloc: Global, call: &str, of: &str, number: &str) -> Option<Answer> {
-    let mut rows = rows(alloc, of)?;
-    if call == "rows.bound" {
-        return Some(Answer::Number(rows.variable_bound() as i128));
+fn change(alloc: Global, call: &str, rows: &mut Constraint, second: &str) -> Option<()> {
+    match call {
+        "rows.truncate" => rows.truncate(count(second)? as usize),
+        "rows.push" => rows.push(row(alloc, second)?).ok()?,
+        _ => append(alloc, call, rows, second)?,
     }
-    rows.truncate(count(number)? as usize);
+    Some(())
+}
+
+// The rows with one more, or the first of them, as many as that.
+fn changed(alloc: Global, call: &str, first: &str, second: &str) -> Option<Answer> {
+    let mut rows = rows(alloc, first)?;
+    change(alloc, call, &mut rows, second)?;
     Some(Answer::Rows(rows))
 }
 
-fn rows_at(alloc: Global, call: &str, of: &str, args: &str) -> Option<Answer> {
+fn contained(alloc: Global, rows: &Constraint, last: &str) -> Option<Answer> {
+    let last = row(alloc, last)?;
+    told(rows.contains(&last))
+}
+
+fn rows_at(alloc: Global, call: &str, of: &Constraint, args: &str) -> Option<Answer> {
     let args = polys(alloc, args)?;
-    let of = rows(alloc, of)?;
     if call == "rows.at_args" {
         return formed_rows(of.at_args(alloc, args.as_slice()));
     }
     listed(rows_at_args(alloc, of.rows(), args.as_slice()))
 }
 
-fn copy_of_rows(alloc: Global, given: &str) -> Option<Answer> {
-    let rows = rows(alloc, given)?;
-    Some(Answer::Rows(rows.try_clone(alloc).ok()?))
-}
-
-fn same_rows(alloc: Global, first: &str, second: &str) -> Option<Answer> {
-    let left = rows(alloc, first)?;
-    let right = rows(alloc, second)?;
+fn same_rows(alloc: Global, left: &Constraint, right: &str) -> Option<Answer> {
+    let right = rows(alloc, right)?;
     told(left.is_same(&right))
 }
 
-fn substituted_rows(alloc: Global, call: &str, of: &str, with: &str) -> Option<Answer> {
+fn substituted_rows(alloc: Global, call: &str, of: &Constraint, with: &str) -> Option<Answer> {
     let with = substitution(alloc, with)?;
-    let of = rows(alloc, of)?;
     if call == "rows.subst" {
         return formed_rows(of.subst(alloc, with.as_slice()));
     }
     listed(subst_rows(alloc, of.rows(), with.as_slice()))
 }
 
-fn combined(alloc: Global, call: &str, of: &str, by: &str) -> Option<Answer> {
+fn combined(alloc: Global, call: &str, of: &Constraint, by: &str) -> Option<Answer> {
     let by = listed_parts(alloc, by)?;
-    let of = rows(alloc, of)?;
     if call == "rows.combine" {
-        return summed(combine(alloc, &of, by.as_slice()));
+        return summed(combine(alloc, of, by.as_slice()));
     }
     summed(combine_rows(alloc, of.rows(), by.as_slice()))
+}
+
+// What rows answer, and what else is given.
+fn of_rows(alloc: Global, call: &str, rows: &Constraint, second: &str) -> Option<Answer> {
+    match call {
+        "rows.clone" => Some(Answer::Rows(rows.try_clone(alloc).ok()?)),
+        "rows.contains" => contained(alloc, rows, second),
+        "rows.same" => same_rows(alloc, rows, second),
+        "rows.subst" | "rows.subst_borrowed" => substituted_rows(alloc, call, rows, second),
+        "rows.at_args" | "rows.at_args_borrowed" => rows_at(alloc, call, rows, second),
+        "rows.combine" | "rows.combine_borrowed" => combined(alloc, call, rows, second),
+        _ => Some(Answer::Number(rows.variable_bound() as i128)),
+    }
+}
+
+fn of_read_rows(alloc: Global, call: &str, first: &str, second: &str) -> Option<Answer> {
+    let rows = rows(alloc, first)?;
+    of_rows(alloc, call, &rows, second)
 }
 
 /// What the call answers.
 pub fn answer_to(alloc: Global, call: &str, first: &str, second: &str) -> Option<Answer> {
     match call {
-        "row.compare" | "row.same" | "row.is_negation_of" => of_two(alloc, call, first, second),
         "row.named" => named(alloc, first, second),
-        "row.at_args" => at_args(alloc, first, second),
-        "row.subst" => substituted(alloc, first, second),
-        "rows.push" | "rows.append" | "rows.append_and_undo" | "rows.contains" => {
-            with_row(alloc, call, first, second)
+        "rows.push" | "rows.append" | "rows.append_and_undo" | "rows.truncate" => {
+            changed(alloc, call, first, second)
         }
-        "rows.clone" => copy_of_rows(alloc, first),
-        "rows.same" => same_rows(alloc, first, second),
-        "rows.subst" | "rows.subst_borrowed" => substituted_rows(alloc, call, first, second),
-        "rows.at_args" | "rows.at_args_borrowed" => rows_at(alloc, call, first, second),
-        "rows.truncate" | "rows.bound" => of_rows(alloc, call, first, second),
-        "rows.combine" | "rows.combine_borrowed" => combined(alloc, call, first, second),
-        _ => of_row(alloc, call, first),
+        "rows.contains"
+        | "rows.clone"
+        | "rows.same"
+        | "rows.subst"
+        | "rows.subst_borrowed"
+        | "rows.at_args"
+        | "rows.at_args_borrowed"
+        | "rows.bound"
+        | "rows.combine"
+        | "rows.combine_borrowed" => of_read_rows(alloc, call, first, second),
+        _ => of_read_row(alloc, call, first, second),
     }
 }

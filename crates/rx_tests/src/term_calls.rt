@@ -76,10 +76,15 @@ fn zero(alloc: Global, polys: Items<Poly>) -> Option<Answer> {
     Some(Answer::Rows(Constraint::from_rows(rows)))
 }
 
+fn arguments(alloc: Global, text: &str) -> Option<Items<Poly>> {
+    let term = term(alloc, text)?;
+    term.arguments(alloc).ok()
+}
+
 // That the polynomials of the two terms are equal, one by one.
 fn compared(alloc: Global, first: &str, second: &str) -> Option<Answer> {
-    let left = term(alloc, first)?.arguments(alloc).ok()?;
-    let right = term(alloc, second)?.arguments(alloc).ok()?;
+    let left = arguments(alloc, first)?;
+    let right = arguments(alloc, second)?;
     match differences(alloc, left.as_slice(), right.as_slice()) {
         Ok(polys) => zero(alloc, polys),
         Err(end) => ended(end),
@@ -94,39 +99,17 @@ fn root(term: &Term) -> Option<Answer> {
     }
 }
 
-// The redex, or the least number above all variables.
-fn read(alloc: Global, call: &str, given: &str) -> Option<Answer> {
-    let term = term(alloc, given)?;
-    if call == "term.bound" {
-        return Some(Answer::Number(term.variable_bound() as i128));
-    }
+// The redex.
+fn redex(alloc: Global, term: &Term) -> Option<Answer> {
     match term.redex() {
         Some(part) => Some(Answer::Term(part.try_clone(alloc).ok()?)),
         None => nothing(),
     }
 }
 
-fn of_term(alloc: Global, call: &str, first: &str, second: &str) -> Option<Answer> {
-    let term = term(alloc, first)?;
-    match call {
-        "term.suffix" => suffix(alloc, &term, second),
-        "term.uses_below" => told(term.uses_below(count(second)?)),
-        "term.clone" => Some(Answer::Term(term.try_clone(alloc).ok()?)),
-        "term.fits" => told(without_rules(alloc)?.fits(&term)),
-        "term.root" => root(&term),
-        "term.ends_in_call" => told(term.ends_in_call()),
-        _ => walked(call, &term),
-    }
-}
-
-fn of_two(alloc: Global, call: &str, first: &str, second: &str) -> Option<Answer> {
-    let left = term(alloc, first)?;
-    let right = term(alloc, second)?;
-    match call {
-        "term.replace_redex" => Some(Answer::Term(left.replace_redex(right))),
-        "term.same" => told(left.is_same(&right)),
-        _ => told(left.has_shape_of(&right)),
-    }
+fn replaced_redex(alloc: Global, whole: &str, inner: &str) -> Option<Answer> {
+    let inner = term(alloc, inner)?;
+    Some(Answer::Term(term(alloc, whole)?.replace_redex(inner)))
 }
 
 fn replaced(alloc: Global, whole: &str, place: &str, inner: &str) -> Option<Answer> {
@@ -142,16 +125,50 @@ fn formed(answer: Result<Term, PolyEnd>) -> Option<Answer> {
     }
 }
 
-fn at_args(alloc: Global, whole: &str, args: &str) -> Option<Answer> {
+fn at_args(alloc: Global, whole: &Term, args: &str) -> Option<Answer> {
     let args = listed(alloc, args)?;
-    let whole = term(alloc, whole)?;
     formed(whole.at_args(alloc, args.as_slice()))
 }
 
-fn substituted(alloc: Global, whole: &str, with: &str) -> Option<Answer> {
+fn substituted(alloc: Global, whole: &Term, with: &str) -> Option<Answer> {
     let with = substitution(alloc, with)?;
-    let whole = term(alloc, whole)?;
     formed(whole.subst(alloc, with.as_slice()))
+}
+
+fn beside(alloc: Global, call: &str, left: &Term, right: &str) -> Option<Answer> {
+    let right = term(alloc, right)?;
+    if call == "term.same" {
+        return told(left.is_same(&right));
+    }
+    told(left.has_shape_of(&right))
+}
+
+fn fits(alloc: Global, term: &Term) -> Option<Answer> {
+    let set = without_rules(alloc)?;
+    told(set.fits(term))
+}
+
+// What a term answers, and what else is given.
+fn of_term(alloc: Global, call: &str, term: &Term, second: &str) -> Option<Answer> {
+    match call {
+        "term.same" | "term.same_shape" => beside(alloc, call, term, second),
+        "term.redex_itself" => redex(alloc, term),
+        "term.bound" => Some(Answer::Number(term.variable_bound() as i128)),
+        "term.subst" => substituted(alloc, term, second),
+        "term.at_args" => at_args(alloc, term, second),
+        "term.suffix" => suffix(alloc, term, second),
+        "term.uses_below" => told(term.uses_below(count(second)?)),
+        "term.clone" => Some(Answer::Term(term.try_clone(alloc).ok()?)),
+        "term.fits" => fits(alloc, term),
+        "term.root" => root(term),
+        "term.ends_in_call" => told(term.ends_in_call()),
+        _ => walked(call, term),
+    }
+}
+
+fn of_read(alloc: Global, call: &str, first: &str, second: &str) -> Option<Answer> {
+    let term = term(alloc, first)?;
+    of_term(alloc, call, &term, second)
 }
 
 // The rule of two terms under rows.
@@ -188,17 +205,21 @@ fn set_copied(alloc: Global, set: &RuleSet) -> Option<Answer> {
     told(set.is_same(&copy) && !set.is_same(&without_rules(alloc)?))
 }
 
-fn of_parts(alloc: Global, call: &str, parts: RuleParts) -> Option<Answer> {
-    let Some(set) = RuleSet::from_parts(parts) else {
-        return told(false);
-    };
+fn of_set(alloc: Global, call: &str, set: &RuleSet) -> Option<Answer> {
     match call {
         "rule.is_made" => told(true),
         "rule.parts_clone" => parts_copied(alloc, set.parts()),
-        "rule.set_clone" => set_copied(alloc, &set),
+        "rule.set_clone" => set_copied(alloc, set),
         "rule.fails" => Some(Answer::Number(set.fails() as i128)),
         "rule.symbols" => Some(Answer::Number(set.symbols().len() as i128)),
         _ => Some(Answer::Number(set.rules().len() as i128)),
+    }
+}
+
+fn of_parts(alloc: Global, call: &str, parts: RuleParts) -> Option<Answer> {
+    match RuleSet::from_parts(parts) {
+        Some(set) => of_set(alloc, call, &set),
+        None => told(false),
     }
 }
 
@@ -227,14 +248,9 @@ pub fn answer_to(
     third: &str,
 ) -> Option<Answer> {
     match call {
-        "term.same" | "term.same_shape" | "term.replace_redex" => {
-            of_two(alloc, call, first, second)
-        }
-        "term.redex_itself" | "term.bound" => read(alloc, call, first),
+        "term.replace_redex" => replaced_redex(alloc, first, second),
         "term.replace" => replaced(alloc, first, second, third),
-        "term.subst" => substituted(alloc, first, second),
-        "term.at_args" => at_args(alloc, first, second),
         "term.differences" => compared(alloc, first, second),
-        _ => of_term(alloc, call, first, second),
+        _ => of_read(alloc, call, first, second),
     }
 }

@@ -79,33 +79,55 @@ fn next(alloc: Global, kind: &str, words: &mut Vec<&str>, made: &mut Vec<Cert>) 
     }
 }
 
-// The certificates of the text, the first one last, and the words before them, the first one last.
-fn read<'a>(alloc: Global, text: &'a str) -> Option<(Vec<Cert>, Vec<&'a str>)> {
-    let mut words = Vec::new(alloc);
-    let mut made = Vec::new(alloc);
-    for word in text.rsplit(' ') {
-        if is_kind(word) {
-            let cert = next(alloc, word, &mut words, &mut made)?;
-            made.push(cert).ok()?;
-        } else {
-            words.push(word).ok()?;
-        }
+// Reads a word, before which the certificates and the other words were read.
+fn add<'a>(
+    alloc: Global,
+    word: &'a str,
+    words: &mut Vec<&'a str>,
+    made: &mut Vec<Cert>,
+) -> Option<()> {
+    if is_kind(word) {
+        let cert = next(alloc, word, words, made)?;
+        return made.push(cert).ok();
     }
-    Some((made, words))
+    words.push(word).ok()
+}
+
+// The certificates of the text, the first one last, and the words before them, the first one last.
+fn read<'a>(
+    alloc: Global,
+    text: &'a str,
+    words: &mut Vec<&'a str>,
+    made: &mut Vec<Cert>,
+) -> Option<()> {
+    for word in text.rsplit(' ') {
+        add(alloc, word, words, made)?;
+    }
+    Some(())
 }
 
 /// One certificate.
 pub fn cert(alloc: Global, text: &str) -> Option<Cert> {
-    let (mut made, _words) = read(alloc, text)?;
+    let mut words = Vec::new(alloc);
+    let mut made = Vec::new(alloc);
+    read(alloc, text, &mut words, &mut made)?;
     made.pop()
+}
+
+// Reads a list of certificates, the first one last.
+fn read_list<'a>(alloc: Global, text: &'a str, made: &mut Vec<Cert>) -> Option<()> {
+    let mut words = Vec::new(alloc);
+    read(alloc, text, &mut words, made)?;
+    if small(&mut words)? as usize != made.len() {
+        return None;
+    }
+    Some(())
 }
 
 /// A list of certificates.
 pub fn certs(alloc: Global, text: &str) -> Option<Vec<Cert>> {
-    let (mut made, mut words) = read(alloc, text)?;
-    if small(&mut words)? as usize != made.len() {
-        return None;
-    }
+    let mut made = Vec::new(alloc);
+    read_list(alloc, text, &mut made)?;
     made.reverse();
     Some(made)
 }

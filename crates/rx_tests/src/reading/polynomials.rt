@@ -113,17 +113,30 @@ fn read_piece(alloc: Global, open: &mut Vec<Open>, word: &str, mark: char) -> Op
     if mark == ')' { close(open) } else { Some(()) }
 }
 
+fn read_pieces(alloc: Global, open: &mut Vec<Open>, text: &str) -> Option<()> {
+    for piece in text.split_inclusive(['*', '+', ',', '(', ')']) {
+        let word = piece.trim_end_matches(['*', '+', ',', '(', ')']);
+        read_piece(alloc, open, word, piece.chars().next_back()?)?;
+    }
+    Some(())
+}
+
+// Ends the outermost sum, and takes the sums.
+fn taken(alloc: Global, last: &mut Open) -> Option<Vec<Body>> {
+    end_sum(alloc, last)?;
+    Some(mem::replace(&mut last.bodies, Vec::new(alloc)))
+}
+
+fn read_all(alloc: Global, open: &mut Vec<Open>, text: &str) -> Option<Vec<Body>> {
+    open.push(opened(alloc, false)).ok()?;
+    read_pieces(alloc, open, text)?;
+    taken(alloc, open.last_mut()?)
+}
+
 /// The sums of the text, which need not be normal forms.
 pub fn bodies(alloc: Global, text: &str) -> Option<Vec<Body>> {
     let mut open = Vec::new(alloc);
-    open.push(opened(alloc, false)).ok()?;
-    for piece in text.split_inclusive(['*', '+', ',', '(', ')']) {
-        let word = piece.trim_end_matches(['*', '+', ',', '(', ')']);
-        read_piece(alloc, &mut open, word, piece.chars().next_back()?)?;
-    }
-    let mut last = open.pop()?;
-    end_sum(alloc, &mut last)?;
-    Some(last.bodies)
+    read_all(alloc, &mut open, text)
 }
 
 /// One sum, which need not be a normal form.
@@ -147,6 +160,10 @@ pub fn poly(alloc: Global, text: &str) -> Option<Poly> {
     Poly::from_body(alloc, body(alloc, text)?).ok()?
 }
 
+fn push_poly(alloc: Global, made: &mut Items<Poly>, body: Body) -> Option<()> {
+    made.push(Poly::from_body(alloc, body).ok()??).ok()
+}
+
 /// The polynomials between commas.
 pub fn polys(alloc: Global, text: &str) -> Option<Items<Poly>> {
     let mut made = Items::new(alloc);
@@ -154,7 +171,7 @@ pub fn polys(alloc: Global, text: &str) -> Option<Items<Poly>> {
         return Some(made);
     }
     for body in bodies(alloc, text)? {
-        made.push(Poly::from_body(alloc, body).ok()??).ok()?;
+        push_poly(alloc, &mut made, body)?;
     }
     Some(made)
 }
@@ -163,12 +180,16 @@ fn next_poly(alloc: Global, words: &mut Vec<&str>) -> Option<Poly> {
     poly(alloc, words.pop()?)
 }
 
+fn push_next(alloc: Global, words: &mut Vec<&str>, made: &mut Vec<Poly>) -> Option<()> {
+    made.push(next_poly(alloc, words)?).ok()
+}
+
 /// A list of polynomials.
 pub fn listed(alloc: Global, text: &str) -> Option<Vec<Poly>> {
     let mut words = words(alloc, text)?;
     let mut made = Vec::new(alloc);
     for _ in 0..small(&mut words)? {
-        made.push(next_poly(alloc, &mut words)?).ok()?;
+        push_next(alloc, &mut words, &mut made)?;
     }
     Some(made)
 }

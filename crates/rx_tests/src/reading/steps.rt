@@ -45,8 +45,9 @@ fn expand(words: &mut Vec<&str>) -> Option<Step> {
 }
 
 fn generalise(alloc: Global, words: &mut Vec<&str>) -> Option<Step> {
-    let Rule { left, right, rows } = next_rule(alloc, words)?;
+    let rule = next_rule(alloc, words)?;
     let subst = next_substitution(alloc, words)?;
+    let Rule { left, right, rows } = rule;
     Some(Step::Generalise {
         left,
         right,
@@ -86,17 +87,23 @@ fn of_both(alloc: Global, word: &str) -> Option<Step> {
     }
 }
 
+// The step of that name, read from the words after it.
+fn next(alloc: Global, name: &str, words: &mut Vec<&str>) -> Option<Step> {
+    match name {
+        "simplify" => simplify(alloc, words),
+        "hyp" => hypothesis(alloc, words),
+        "expand" => expand(words),
+        "generalise" => generalise(alloc, words),
+        "postulate" => postulate(alloc, words),
+        "split" => split(alloc, words),
+        "results" => results(alloc, words),
+        _ => of_both(alloc, name),
+    }
+}
+
 /// One step.
 pub fn step(alloc: Global, text: &str) -> Option<Step> {
     let mut words = words(alloc, text)?;
-    match words.pop()? {
-        "simplify" => simplify(alloc, &mut words),
-        "hyp" => hypothesis(alloc, &mut words),
-        "expand" => expand(&mut words),
-        "generalise" => generalise(alloc, &mut words),
-        "postulate" => postulate(alloc, &mut words),
-        "split" => split(alloc, &mut words),
-        "results" => results(alloc, &mut words),
-        word => of_both(alloc, word),
-    }
+    let name = words.pop()?;
+    next(alloc, name, &mut words)
 }
