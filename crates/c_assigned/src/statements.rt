@@ -95,7 +95,7 @@ fn assigned(
 }
 
 // After a `for`, with the slots that were in scope outside it.
-fn for_behind(
+fn for_after(
     outside: usize,
     is_endless: bool,
     begun: Flow,
@@ -170,7 +170,7 @@ pub fn stmt_flow(
             let changed = inside_optional(alloc, names, scope, going, change)?;
             scope.truncate(outside);
             let unset = first_of(tested, first_of(changed.unset, turn.unset));
-            Ok(for_behind(outside, is_endless(test), begun, turn.breaks, unset))
+            Ok(for_after(outside, is_endless(test), begun, turn.breaks, unset))
         }
         Stmt::Break(_) => Ok(Flow {
             behind: None,

@@ -15,8 +15,8 @@ use Rattle.c_expr.proofs.Lookahead.{rest_stops, rest_higher}
 data Turned (ts : List Token) (n i k : ℕ) (e : Expr) : Type 0 where
   turned : (j : ℕ) → (a : Expr) → BinaryAt ts n i j a → Operands ts n a j k e → Turned ts n i k e
 
-turned_of : (ts : List Token) (n i k : ℕ) (e : Expr) → BinaryAt ts (suc n) i k e → Turned ts n i k e
-turned_of ts n i k e (chain _ _ _ j _ a _ l r) = turned j a l r
+reversed_of : (ts : List Token) (n i k : ℕ) (e : Expr) → BinaryAt ts (suc n) i k e → Turned ts n i k e
+reversed_of ts n i k e (chain _ _ _ j _ a _ l r) = turned j a l r
 
 -- how a chain goes on after an operand
 pub data Going (ts : List Token) (n : ℕ) (a : Expr) (i k : ℕ) (e : Expr) : Type 0 where
@@ -63,7 +63,7 @@ module _ (ts : List Token) (n at room : ℕ) where
       Turning ts n at room x
   turning_begins x h = record {
     forward = λ j e r. chain ts n at x.end j x.tree e h.found.spelled r;
-    only = λ j e l s fits. begun_only x h j e (turned_of ts n at j e l) s fits;
+    only = λ j e l s fits. begun_only x h j e (reversed_of ts n at j e l) s fits;
     high = h.found.high;
     fits = h.found.fits;
     further = h.found.further;
@@ -80,7 +80,7 @@ module _ (ts : List Token) (n at room : ℕ) where
   pub turning_none : Reads (BinaryAt ts n) ts n at room None →
       Reads (BinaryAt ts (suc n)) ts (suc n) at room None
   turning_none h =
-      record { found = tt; only = λ j e l s fits. none_only h j e (turned_of ts n at j e l) s fits }
+      record { found = tt; only = λ j e l s fits. none_only h j e (reversed_of ts n at j e l) s fits }
 
   ended_only : (x : Read) → ((op : BinOp) → binary_of (kind_at ts x.end) ≡ Some (infixed n op) → ⊥)
       → (j : ℕ) (e : Expr)
@@ -177,7 +177,7 @@ module _ (ts : List Token) (n at room : ℕ) where
       let right : y.height ≡ expr_height y.tree = h.found.high in
       let right_fits : y.height ≤ room - 1 = h.found.fits in
       let further : at < x.end = t.further in
-      let right_further : x.end + 1 < y.end = h.found.further in
+      let right_rest : x.end + 1 < y.end = h.found.further in
       let right_within : y.end ≤ length ts = h.found.within in
       let tree_high : expr_height z.tree ≡ expr_height (Binary op x.tree y.tree) =
       ap expr_height zt in

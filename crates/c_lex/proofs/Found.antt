@@ -10,7 +10,7 @@ use Rattle.c_lex.specs.declared.piece.Piece.{Piece}
 use Rattle.c_lex.specs.declared.piece.Piece.TheVariants.{Blank, Spelled, Bad}
 use Rattle.c_lex.specs.declared.token.Token.{Token}
 use Rattle.c_lex.specs.declared.token.TokenKind.{TokenKind}
-use Rattle.c_lex.specs.Bytes.{fresh_behind}
+use Rattle.c_lex.specs.Bytes.{fresh_after}
 use Rattle.c_lex.specs.Kept.{Keeps}
 use Rattle.c_lex.specs.Pieces.{piece, IsPieceOf, IsSeenAtFront}
 use Rattle.c_lex.specs.Spelling.{Spells}
@@ -39,24 +39,24 @@ put_all_fault (t ∷ ts) e = ap (put t) (put_all_fault ts e)
 
 -- the bytes of a piece are passed over
 pub tokens_from_covered : (n : ℕ) (fresh : Bool) (at : ℕ) (xs : List ℕ) → n ≤ length xs →
-    tokens_from n fresh at xs ≡ tokens_from 0 (fold fresh_behind fresh (take n xs)) (at + n)
+    tokens_from n fresh at xs ≡ tokens_from 0 (fold fresh_after fresh (take n xs)) (at + n)
     (drop n xs)
 unfolding tokens_from
 tokens_from_covered zero fresh at xs h = ap (λ k. tokens_from 0 fresh k xs) (omega arith)
 tokens_from_covered (suc n) fresh at [] h = absurd (omega arith)
 tokens_from_covered (suc n) fresh at (x ∷ xs) h =
-    tokens_from_covered n (fresh_behind fresh x) (suc at) xs (omega arith)
-    ∙ ap (λ k. tokens_from 0 (fold fresh_behind (fresh_behind fresh x) (take n xs)) k (drop n xs))
+    tokens_from_covered n (fresh_after fresh x) (suc at) xs (omega arith)
+    ∙ ap (λ k. tokens_from 0 (fold fresh_after (fresh_after fresh x) (take n xs)) k (drop n xs))
     (omega arith)
 
 -- the answer from a place, by the piece that begins there
 pub tokens_from_piece : (fresh : Bool) (at : ℕ) (xs : List ℕ) → at < length xs →
     tokens_from 0 fresh at (drop at xs) ≡ follow (piece fresh (drop at xs)) at
-    (λ n. tokens_from (n - 1) (fresh_behind fresh (get_or xs at 0)) (suc at) (drop (at + 1) xs))
+    (λ n. tokens_from (n - 1) (fresh_after fresh (get_or xs at 0)) (suc at) (drop (at + 1) xs))
 unfolding tokens_from
 tokens_from_piece fresh at xs h =
     at_drop_more (tokens_from 0 fresh at) xs at 0 h ∙
-    ap (λ p. follow p at (λ n. tokens_from (n - 1) (fresh_behind fresh (get_or xs at 0))
+    ap (λ p. follow p at (λ n. tokens_from (n - 1) (fresh_after fresh (get_or xs at 0))
     (suc at) (drop (at + 1) xs))) (sym (at_drop_more (piece fresh) xs at 0 h))
 
 -- the bytes after the first
@@ -68,18 +68,18 @@ take_more xs at (suc n) some below =
     ap (λ k. get_or xs at 0 ∷ take k (drop (at + 1) xs)) (omega arith)
 
 -- after a piece of n bytes
-pub tokens_from_behind : (fresh : Bool) (at n : ℕ) (xs : List ℕ) → 1 ≤ n → at + n ≤ length xs →
-    IsSeenAtFront (drop at xs) n → tokens_from (n - 1) (fresh_behind fresh (get_or xs at 0))
-    (suc at) (drop (at + 1) xs) ≡ tokens_from 0 (fresh_behind fresh (get_or xs at 0)) (at + n)
+pub tokens_from_after : (fresh : Bool) (at n : ℕ) (xs : List ℕ) → 1 ≤ n → at + n ≤ length xs →
+    IsSeenAtFront (drop at xs) n → tokens_from (n - 1) (fresh_after fresh (get_or xs at 0))
+    (suc at) (drop (at + 1) xs) ≡ tokens_from 0 (fresh_after fresh (get_or xs at 0)) (at + n)
     (drop (at + n) xs)
-tokens_from_behind fresh at n xs some within seen =
-    let first = fresh_behind fresh (get_or xs at 0) in
+tokens_from_after fresh at n xs some within seen =
+    let first = fresh_after fresh (get_or xs at 0) in
     let below : at < length xs = omega arith in
     let front : get_or (drop at xs) 0 0 ≡ get_or xs at 0 = get_or-drop at xs 0 0 ∙
     ap (λ k. get_or xs k 0) (omega arith) in
-    let line : fold fresh_behind first (take (n - 1) (drop (at + 1) xs)) ≡ first =
-    sym (ap (fold fresh_behind fresh) (take_more xs at n some below)) ∙ seen fresh ∙
-    ap (fresh_behind fresh) front in
+    let line : fold fresh_after first (take (n - 1) (drop (at + 1) xs)) ≡ first =
+    sym (ap (fold fresh_after fresh) (take_more xs at n some below)) ∙ seen fresh ∙
+    ap (fresh_after fresh) front in
     tokens_from_covered (n - 1) first (suc at) (drop (at + 1) xs)
     (omega (arith, length-drop (at + 1) xs))
     ∙ ap (λ f. tokens_from 0 f (suc at + (n - 1)) (drop (n - 1) (drop (at + 1) xs))) line
@@ -120,12 +120,12 @@ passed_more ts at n h k d below = omega (arith, h k d below)
 -- after a piece that is not kept the same is known
 found_blank : (xs : List ℕ) (fresh : Bool) (at n : ℕ) (ts : List Token) → Found xs fresh at ts →
     at < length xs → piece fresh (drop at xs) ≡ Blank n → 1 ≤ n → n ≤ length (drop at xs) →
-    IsSeenAtFront (drop at xs) n → Found xs (fresh_behind fresh (get_or xs at 0)) (at + n) ts
+    IsSeenAtFront (drop at xs) n → Found xs (fresh_after fresh (get_or xs at 0)) (at + n) ts
 found_blank xs fresh at n ts f below is some fits seen =
     let within : at + n ≤ length xs = omega (arith, length-drop at xs) in
     let turn = tokens_from_piece fresh at xs below ∙
-    ap (λ p. follow p at (λ n. tokens_from (n - 1) (fresh_behind fresh (get_or xs at 0))
-    (suc at) (drop (at + 1) xs))) is ∙ tokens_from_behind fresh at n xs some within seen in
+    ap (λ p. follow p at (λ n. tokens_from (n - 1) (fresh_after fresh (get_or xs at 0))
+    (suc at) (drop (at + 1) xs))) is ∙ tokens_from_after fresh at n xs some within seen in
     record {
       within = within;
       answer = sym (ap (put_all ts) turn) ∙ f.answer;
@@ -139,15 +139,15 @@ found_blank xs fresh at n ts f below is some fits seen =
 found_spelled : (xs : List ℕ) (fresh : Bool) (at n : ℕ) (kind : TokenKind) (ts : List Token) →
     Found xs fresh at ts → at < length xs → piece fresh (drop at xs) ≡ Spelled kind n → 1 ≤ n → n ≤
     length (drop at xs) → IsSeenAtFront (drop at xs) n → Spells kind (take n (drop at xs)) →
-    Found xs (fresh_behind fresh (get_or xs at 0)) (at + n)
+    Found xs (fresh_after fresh (get_or xs at 0)) (at + n)
     (ts ++ record { kind = kind; at = at; len = n } ∷ [])
 found_spelled xs fresh at n kind ts f below is some fits seen spells =
     let t : Token = record { kind = kind; at = at; len = n } in
     let within : at + n ≤ length xs = omega (arith, length-drop at xs) in
     let turn = tokens_from_piece fresh at xs below ∙
-    ap (λ p. follow p at (λ n. tokens_from (n - 1) (fresh_behind fresh (get_or xs at 0))
+    ap (λ p. follow p at (λ n. tokens_from (n - 1) (fresh_after fresh (get_or xs at 0))
     (suc at) (drop (at + 1) xs))) is ∙ ap (put t)
-    (tokens_from_behind fresh at n xs some within seen) in
+    (tokens_from_after fresh at n xs some within seen) in
     record {
       within = within;
       answer = put_all-push ts t _ ∙ sym (ap (put_all ts) turn) ∙ f.answer;
@@ -162,7 +162,7 @@ found_spelled xs fresh at n kind ts f below is some fits seen spells =
 pub found_turn : (p : Piece) (xs : List ℕ) (fresh : Bool) (at len : ℕ) (ts new : List Token) →
     Found xs fresh at ts → at < length xs → piece fresh (drop at xs) ≡ p →
     IsPieceOf (drop at xs) p → Keeps p at ts new (Ok len) →
-    Found xs (fresh_behind fresh (get_or xs at 0)) (at + len) new
+    Found xs (fresh_after fresh (get_or xs at 0)) (at + len) new
 found_turn (Blank n) xs fresh at len ts new f below is part keeps =
     rw (keeps.0, keeps.1) (found_blank xs fresh at n ts f below is part.0 part.1 part.2)
 found_turn (Spelled kind n) xs fresh at len ts new f below is part keeps =
@@ -171,11 +171,11 @@ found_turn (Spelled kind n) xs fresh at len ts new f below is part keeps =
 found_turn (Bad fault n) xs fresh at len ts new f below is part keeps = absurd keeps
 
 -- and the place is later
-pub found_further : (p : Piece) (rest : List ℕ) (at len : ℕ) (ts new : List Token) →
+pub found_in_rest : (p : Piece) (rest : List ℕ) (at len : ℕ) (ts new : List Token) →
     IsPieceOf rest p → Keeps p at ts new (Ok len) → 1 ≤ len
-found_further (Blank n) rest at len ts new part keeps = omega (arith, part.0, keeps.0)
-found_further (Spelled kind n) rest at len ts new part keeps = omega (arith, part.0, keeps.0)
-found_further (Bad fault n) rest at len ts new part keeps = absurd keeps
+found_in_rest (Blank n) rest at len ts new part keeps = omega (arith, part.0, keeps.0)
+found_in_rest (Spelled kind n) rest at len ts new part keeps = omega (arith, part.0, keeps.0)
+found_in_rest (Bad fault n) rest at len ts new part keeps = absurd keeps
 
 -- at the end of the text what was found is the answer
 pub found_end : (xs : List ℕ) (fresh : Bool) (at : ℕ) (ts : List Token) → Found xs fresh at ts →
@@ -203,7 +203,7 @@ found_fault (Spelled kind n) xs fresh at e ts new f below is keeps =
     subst (λ e. Gives (Err e) (tokens_of xs)) (sym keeps) tt
 found_fault (Bad fault n) xs fresh at e ts new f below is keeps =
     let turn = tokens_from_piece fresh at xs below ∙
-    ap (λ p. follow p at (λ n. tokens_from (n - 1) (fresh_behind fresh (get_or xs at 0))
+    ap (λ p. follow p at (λ n. tokens_from (n - 1) (fresh_after fresh (get_or xs at 0))
     (suc at) (drop (at + 1) xs))) is in
     subst (λ e. Gives (Err e) (tokens_of xs)) (sym keeps)
     (gives_fault fault (at + n) (tokens_of xs)

@@ -5,7 +5,7 @@ use Rattle.std.proofs.lemmas.Bool.Decides.{eqb_tells}
 use Rattle.std.proofs.lemmas.List.Sums.{fold_more}
 use mathlib.Core.Logic.{⊎_elim}
 use Rattle.c_lex.proofs.Scans.{and_false}
-use Rattle.c_lex.specs.Bytes.{fresh_behind, until, at_line_end, at_comment, line_feed, space, tab, slash, hash}
+use Rattle.c_lex.specs.Bytes.{fresh_after, until, at_line_end, at_comment, line_feed, space, tab, slash, hash}
 use Rattle.c_lex.specs.Pieces.{IsSeenAtFront, IsPieceOf, at_include_end}
 use Rattle.c_lex.specs.declared.piece.Piece.TheVariants.{Spelled}
 use Rattle.c_lex.specs.declared.token.TokenKind.TheVariants as kind
@@ -21,7 +21,7 @@ differs p b k not_k is_b =
 
 -- a byte of a class that has no line end, space or tab ends the line's blank front
 pub solid : (p : ℕ → Bool) (b : ℕ) → p line_feed ≡ false → p space ≡ false → p tab ≡ false → p b ≡
-    true → (fresh : Bool) → fresh_behind fresh b ≡ false
+    true → (fresh : Bool) → fresh_after fresh b ≡ false
 solid p b l s t h fresh =
     let e1 : (b == line_feed) ≡ false = differs p b line_feed l h in
     let e2 : (b == space) ≡ false = differs p b space s h in
@@ -29,33 +29,33 @@ solid p b l s t h fresh =
     rw (e1, e2, e3) (and_false fresh)
 
 -- so does a byte that is known
-pub solid_byte : (b k : ℕ) → b ≡ k → ((fresh : Bool) → fresh_behind fresh k ≡ false) →
-    (fresh : Bool) → fresh_behind fresh b ≡ false
-solid_byte b k e h fresh = ap (fresh_behind fresh) e ∙ h fresh
+pub solid_byte : (b k : ℕ) → b ≡ k → ((fresh : Bool) → fresh_after fresh k ≡ false) →
+    (fresh : Bool) → fresh_after fresh b ≡ false
+solid_byte b k e h fresh = ap (fresh_after fresh) e ∙ h fresh
 
 -- a slash ends the blank front of a line
-pub slash_is_solid : (fresh : Bool) → fresh_behind fresh slash ≡ false
+pub slash_is_solid : (fresh : Bool) → fresh_after fresh slash ≡ false
 slash_is_solid fresh = and_false fresh
 
 -- so does a `#`
-pub hash_is_solid : (fresh : Bool) → fresh_behind fresh hash ≡ false
+pub hash_is_solid : (fresh : Bool) → fresh_after fresh hash ≡ false
 hash_is_solid fresh = and_false fresh
 
 -- after n bytes a line is as it is after the last of them
 fold_last : (xs : List ℕ) (n : ℕ) (fresh : Bool) → 1 ≤ n → n ≤ length xs →
-    fold fresh_behind fresh (take n xs) ≡ fresh_behind (fold fresh_behind fresh (take (n - 1) xs))
+    fold fresh_after fresh (take n xs) ≡ fresh_after (fold fresh_after fresh (take (n - 1) xs))
     (get_or xs (n - 1) 0)
 fold_last xs n fresh some fits =
     let whole : n ≡ n - 1 + 1 = omega arith in
-    ap (λ k. fold fresh_behind fresh (take k xs)) whole ∙
-    fold_more fresh_behind fresh xs (n - 1) 0 (omega arith)
+    ap (λ k. fold fresh_after fresh (take k xs)) whole ∙
+    fold_more fresh_after fresh xs (n - 1) 0 (omega arith)
 
 -- a piece whose first and last bytes end the blank front is seen at its first
 pub seen_by_ends : (xs : List ℕ) (n : ℕ) → 1 ≤ n → n ≤ length xs →
-    ((fresh : Bool) → fresh_behind fresh (get_or xs 0 0) ≡ false) →
-    ((fresh : Bool) → fresh_behind fresh (get_or xs (n - 1) 0) ≡ false) → IsSeenAtFront xs n
+    ((fresh : Bool) → fresh_after fresh (get_or xs 0 0) ≡ false) →
+    ((fresh : Bool) → fresh_after fresh (get_or xs (n - 1) 0) ≡ false) → IsSeenAtFront xs n
 seen_by_ends xs n some fits front back fresh =
-    fold_last xs n fresh some fits ∙ back (fold fresh_behind fresh (take (n - 1) xs)) ∙
+    fold_last xs n fresh some fits ∙ back (fold fresh_after fresh (take (n - 1) xs)) ∙
     sym (front fresh)
 
 -- a byte alone is seen
@@ -65,18 +65,18 @@ seen_alone (x ∷ xs) h fresh = refl
 
 -- a byte that is no line end keeps a line that is not blank as it is
 quiet_step : (b : Bool) (x : ℕ) (xs : List ℕ) (k : ℕ) → (b ≡ false → (x == line_feed) ≡ false) →
-    fold fresh_behind false (take k xs) ≡ false →
-    fold fresh_behind false (take (cond b 0 (1 + k)) (x ∷ xs)) ≡ false
+    fold fresh_after false (take k xs) ≡ false →
+    fold fresh_after false (take (cond b 0 (1 + k)) (x ∷ xs)) ≡ false
 quiet_step true x xs k h quiet = refl
 quiet_step false x xs k h quiet =
     let e : 1 + k ≡ suc k = omega arith in
     let l : (x == line_feed) ≡ false = h refl in
-    ap (λ m. fold fresh_behind false (take m (x ∷ xs))) e ∙
-    ap (λ b. fold fresh_behind (b || false) (take k xs)) l ∙ quiet
+    ap (λ m. fold fresh_after false (take m (x ∷ xs))) e ∙
+    ap (λ b. fold fresh_after (b || false) (take k xs)) l ∙ quiet
 
 -- in front of a place that no line end precedes, nothing begins a line anew
 quiet_until : (p : List ℕ → Bool) → ((s : List ℕ) → p s ≡ false → (get_or s 0 0 == line_feed) ≡
-    false) → (xs : List ℕ) → fold fresh_behind false (take (until p xs) xs) ≡ false
+    false) → (xs : List ℕ) → fold fresh_after false (take (until p xs) xs) ≡ false
 unfolding until
 quiet_until p nl [] = refl
 quiet_until p nl (x ∷ xs) =
@@ -84,19 +84,19 @@ quiet_until p nl (x ∷ xs) =
 
 -- after its first byte a line that is not blank stays so
 line_step : (b : Bool) (x : ℕ) (xs : List ℕ) (k : ℕ) → 1 ≤ cond b 0 (1 + k) →
-    ((fresh : Bool) → fresh_behind fresh x ≡ false) → fold fresh_behind false (take k xs) ≡ false →
-    (fresh : Bool) → fold fresh_behind fresh (take (cond b 0 (1 + k)) (x ∷ xs)) ≡
-    fresh_behind fresh x
+    ((fresh : Bool) → fresh_after fresh x ≡ false) → fold fresh_after false (take k xs) ≡ false →
+    (fresh : Bool) → fold fresh_after fresh (take (cond b 0 (1 + k)) (x ∷ xs)) ≡
+    fresh_after fresh x
 line_step true x xs k some front quiet fresh = absurd (omega arith)
 line_step false x xs k some front quiet fresh =
     let e : 1 + k ≡ suc k = omega arith in
-    ap (λ m. fold fresh_behind fresh (take m (x ∷ xs))) e ∙
-    ap (λ b. fold fresh_behind b (take k xs)) (front fresh) ∙ quiet ∙ sym (front fresh)
+    ap (λ m. fold fresh_after fresh (take m (x ∷ xs))) e ∙
+    ap (λ b. fold fresh_after b (take k xs)) (front fresh) ∙ quiet ∙ sym (front fresh)
 
 -- a piece up to such a place is seen at its first byte
 seen_until : (p : List ℕ → Bool) → ((s : List ℕ) → p s ≡ false → (get_or s 0 0 == line_feed) ≡
     false) → (xs : List ℕ) → 1 ≤ until p xs →
-    ((fresh : Bool) → fresh_behind fresh (get_or xs 0 0) ≡ false) → IsSeenAtFront xs (until p xs)
+    ((fresh : Bool) → fresh_after fresh (get_or xs 0 0) ≡ false) → IsSeenAtFront xs (until p xs)
 unfolding until
 seen_until p nl [] some front fresh = absurd (omega arith)
 seen_until p nl (x ∷ xs) some front fresh =
@@ -121,7 +121,7 @@ seen_include_line xs some h =
     (solid_byte (get_or xs 0 0) hash h hash_is_solid)
 
 -- each mark begins with a byte that ends the blank front
-mark_front : (m : Mark) (fresh : Bool) → fresh_behind fresh (get_or (spelling m) 0 0) ≡ false
+mark_front : (m : Mark) (fresh : Bool) → fresh_after fresh (get_or (spelling m) 0 0) ≡ false
 mark_front LeftParen fresh = and_false fresh
 mark_front RightParen fresh = and_false fresh
 mark_front LeftBrace fresh = and_false fresh
@@ -154,7 +154,7 @@ mark_front PlusPlus fresh = and_false fresh
 mark_front MinusMinus fresh = and_false fresh
 
 -- and ends with one
-mark_back : (m : Mark) (fresh : Bool) → fresh_behind fresh
+mark_back : (m : Mark) (fresh : Bool) → fresh_after fresh
     (get_or (spelling m) (length (spelling m) - 1) 0) ≡ false
 mark_back LeftParen fresh = and_false fresh
 mark_back RightParen fresh = and_false fresh
@@ -192,8 +192,8 @@ seen_two : (m : Mark) (xs : List ℕ) → 2 ≤ length xs → get_or xs 0 0 ∷ 
     spelling m → IsSeenAtFront xs 2
 seen_two m xs fits e =
     seen_by_ends xs 2 (omega arith) fits
-    (λ fresh. ap (λ w. fresh_behind fresh (get_or w 0 0)) e ∙ mark_front m fresh)
-    (λ fresh. ap (λ w. fresh_behind fresh (get_or w (length w - 1) 0)) e ∙ mark_back m fresh)
+    (λ fresh. ap (λ w. fresh_after fresh (get_or w 0 0)) e ∙ mark_front m fresh)
+    (λ fresh. ap (λ w. fresh_after fresh (get_or w (length w - 1) 0)) e ∙ mark_back m fresh)
 
 -- no mark has a second byte that is 0
 second_some : (m : Mark) → 1 ≤ get_or (spelling m) 1 1

@@ -60,8 +60,8 @@ abbrev pub is_word_byte : ℕ → Bool
 is_word_byte b = is_letter b || is_digit b
 
 -- whether only spaces and tabs have come since the last line end, after one byte more
-abbrev pub fresh_behind : Bool → ℕ → Bool
-fresh_behind fresh b = b == line_feed || (fresh && is_space b)
+abbrev pub fresh_after : Bool → ℕ → Bool
+fresh_after fresh b = b == line_feed || (fresh && is_space b)
 
 -- the text begins with these two bytes
 abbrev pub begins : ℕ → ℕ → List ℕ → Bool

@@ -9,7 +9,7 @@ use Rattle.c_lex.specs.declared.token.Keyword.{Keyword}
 use Rattle.c_lex.specs.declared.token.Mark.{Mark as TheMark}
 use Rattle.c_lex.specs.declared.token.TokenKind.{TokenKind}
 use Rattle.c_lex.specs.declared.token.TokenKind.TheVariants.{Name, Number, Word, Mark}
-use Rattle.c_lex.specs.Bytes.{is_space, is_separator, is_digit, is_letter, is_word_byte, hash, slash, digit_zero, begins, fresh_behind, at_line_end, at_comment, at_close, at_splice, until}
+use Rattle.c_lex.specs.Bytes.{is_space, is_separator, is_digit, is_letter, is_word_byte, hash, slash, digit_zero, begins, fresh_after, at_line_end, at_comment, at_close, at_splice, until}
 use Rattle.c_lex.specs.Keywords.{keyword_of}
 use Rattle.c_lex.specs.Marks.{one_mark, two_mark}
 use Rattle.c_lex.specs.Spelling.{Spells, value_of}
@@ -88,7 +88,7 @@ piece fresh rest =
 -- after the first n bytes a line is as fresh as after the first of them
 abbrev pub IsSeenAtFront : List ℕ → ℕ → Type 0
 IsSeenAtFront rest n =
-    (fresh : Bool) → fold fresh_behind fresh (take n rest) ≡ fresh_behind fresh (slice_index rest 0)
+    (fresh : Bool) → fold fresh_after fresh (take n rest) ≡ fresh_after fresh (slice_index rest 0)
 
 -- a piece has at least one byte, lies within the text, and its bytes spell its kind
 abbrev pub IsPieceOf : List ℕ → Piece → Type 0

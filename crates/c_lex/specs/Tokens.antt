@@ -8,7 +8,7 @@ use Rattle.c_lex.specs.declared.piece.Fault.TheVariants as fault
 use Rattle.c_lex.specs.declared.piece.Piece.{Piece}
 use Rattle.c_lex.specs.declared.piece.Piece.TheVariants.{Blank, Spelled, Bad}
 use Rattle.c_lex.specs.declared.token.Token.{Token}
-use Rattle.c_lex.specs.Bytes.{fresh_behind}
+use Rattle.c_lex.specs.Bytes.{fresh_after}
 use Rattle.c_lex.specs.Pieces.{piece}
 use Rattle.c_lex.specs.Spelling.{Spells}
 
@@ -36,9 +36,9 @@ follow (Bad fault n) at behind = Err (end_at fault (at + n))
 -- it.
 unfoldable pub tokens_from : ℕ → Bool → ℕ → List ℕ → Result (List Token) LexEnd
 tokens_from covered fresh at [] = Ok []
-tokens_from (suc covered) fresh at (x ∷ xs) = tokens_from covered (fresh_behind fresh x) (suc at) xs
+tokens_from (suc covered) fresh at (x ∷ xs) = tokens_from covered (fresh_after fresh x) (suc at) xs
 tokens_from zero fresh at (x ∷ xs) =
-    follow (piece fresh (x ∷ xs)) at (λ n. tokens_from (n - 1) (fresh_behind fresh x) (suc at) xs)
+    follow (piece fresh (x ∷ xs)) at (λ n. tokens_from (n - 1) (fresh_after fresh x) (suc at) xs)
 
 -- the tokens of a text, or its first fault
 abbrev pub tokens_of : List ℕ → Result (List Token) LexEnd

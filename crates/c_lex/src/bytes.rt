@@ -55,8 +55,8 @@ pub(crate) fn is_word_byte(byte: u8) -> bool
 }
 
 /// Whether only spaces and tabs have come since the last line end, after one byte more.
-pub(crate) fn fresh_behind(fresh: bool, byte: u8) -> bool
-    ensures { result ≡ spec.fresh_behind fresh byte }
+pub(crate) fn fresh_after(fresh: bool, byte: u8) -> bool
+    ensures { result ≡ spec.fresh_after fresh byte }
 {
     byte == b'\n' || (fresh && is_space(byte))
 }

@@ -4,7 +4,7 @@ ghost use Rattle.c_lex.specs.Tokens as spec;
 ghost use Rattle.c_lex.specs.Kept.{EndsBelow, Keeps};
 ghost use Rattle.c_lex.specs.Tokens.{Gives, tokens_of, IsTokenOf, IsBefore};
 
-use crate::bytes::{fresh_behind, rest_from};
+use crate::bytes::{fresh_after, rest_from};
 use crate::error::LexEnd;
 use crate::piece::{Fault, Piece, piece_at_front};
 use crate::token::Token;
@@ -61,7 +61,7 @@ pub fn tokens(alloc: Global, source: &[u8]) -> Result<Vec<Token>, LexEnd>
     let mut fresh = true;
     'pieces: while at < source.len() {
         let len = keep(&mut found, piece_at_front(fresh, rest_from(source, at)), at)?;
-        fresh = fresh_behind(fresh, source[at]);
+        fresh = fresh_after(fresh, source[at]);
         at += len;
     }
     Ok(found)

@@ -32,9 +32,9 @@ sort_begins ts i j o (sort_named h g p q) = h
 sort_begins ts i j o (sort_nameless h g p q) = h
 
 -- a parameter takes a token
-sort_further : (ts : List Token) (i j : ℕ) (o : Option ℕ) → Sort ts i j o → i + 1 ≤ j
-sort_further ts i j o (sort_named h g p q) = omega arith
-sort_further ts i j o (sort_nameless h g p q) = omega arith
+sort_rest : (ts : List Token) (i j : ℕ) (o : Option ℕ) → Sort ts i j o → i + 1 ≤ j
+sort_rest ts i j o (sort_named h g p q) = omega arith
+sort_rest ts i j o (sort_nameless h g p q) = omega arith
 
 -- a parameter and its end are determined by where it begins
 sort_unique : (ts : List Token) (i j k : ℕ) (o r : Option ℕ) → Sort ts i j o → Sort ts i k r →
@@ -97,9 +97,9 @@ listed_begins ts i k os (next_parameter _ _ j _ o rest p h r) =
 listed_short : (ts : List Token) (i k : ℕ) (os : List (Option ℕ)) → Listed ts i k os → i +
     length os ≤ k
 listed_short ts i k os (last_parameter _ _ j o p h) =
-    let further : i + 1 ≤ j = sort_further ts i j o (sort_of ts i j o p) in omega arith
+    let further : i + 1 ≤ j = sort_rest ts i j o (sort_of ts i j o p) in omega arith
 listed_short ts i k os (next_parameter _ _ j l o rest p h r) =
-    let further : i + 1 ≤ j = sort_further ts i j o (sort_of ts i j o p) in
+    let further : i + 1 ≤ j = sort_rest ts i j o (sort_of ts i j o p) in
     let more : j + 1 + length rest ≤ l = listed_short ts (j + 1) l rest r in omega arith
 
 -- parameters and their end are determined by where they begin

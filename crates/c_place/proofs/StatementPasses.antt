@@ -12,7 +12,7 @@ use Rattle.c_ast.specs.declared.expr.Expr.{Expr}
 use Rattle.c_ast.specs.declared.stmt.Stmt.{Stmt}
 use Rattle.c_stmt.specs.declared.tree.Head.{Head}
 use Rattle.c_expr.specs.Grammar.{kind_at, Expression, UpTo, ended, Test}
-use Rattle.c_stmt.specs.Statements.{changing_of, update, step, Change, by_value, by_update, by_step_behind, by_step_before, IsParted, InitDeclarator, bare, valued, InitDeclarators, last_name, next_name, ForInit, no_start, start_change, start_names, ForTest, no_test, a_test, ForStep, no_change, a_change, ForHead, Statement, nothing, block, changes, if_alone, if_else, while_loop, do_loop, for_loop, breaks, continues, returns, BlockItem, statement, declaration, BlockItems, closed, item}
+use Rattle.c_stmt.specs.Statements.{changing_of, update, step, Change, by_value, by_update, by_step_after, by_step_before, IsParted, InitDeclarator, bare, valued, InitDeclarators, last_name, next_name, ForInit, no_start, start_change, start_names, ForTest, no_test, a_test, ForStep, no_change, a_change, ForHead, Statement, nothing, block, changes, if_alone, if_else, while_loop, do_loop, for_loop, breaks, continues, returns, BlockItem, statement, declaration, BlockItems, closed, item}
 use Rattle.c_expr.proofs.Passing.{whole_begins}
 use Rattle.c_place.specs.declared.symbol.Symbol.{Symbol}
 use Rattle.c_place.specs.declared.symbol.Symbol.TheVariants as symbol
@@ -90,7 +90,7 @@ module _ (m : TheMark) (s : Symbol) (stops : called_action (Some (Mark m)) ≡ s
         ∙ (taken ts symbol.Changed (s ∷ ss) (i + 1) o.0 (symbol.Expression ∷ []) o.1.0 o.1.1
         ∙ (ap (fault_at ts (symbol.Expression ∷ s ∷ ss)) (two_on i) ∙
         up_to_passes ts (i + 2) j e u ss))
-    change_passes ts i j c (by_step_behind _ _ _ op h a q) ss =
+    change_passes ts i j c (by_step_after _ _ _ op h a q) ss =
         taken ts r ss i Name (symbol.Changed ∷ s ∷ []) h named
         ∙ (step_passes ts (i + 1) (step_row (kind_at ts (i + 1)) op a) (s ∷ ss)
         ∙ (ap (fault_at ts (s ∷ ss)) (two_on i) ∙
@@ -216,7 +216,7 @@ change_opens : (m : TheMark) (ts : List Token) (i j : ℕ) (s : Stmt) → Change
 unfolding Opening
 change_opens m ts i j s (by_value _ _ _ _ e h a u) = (Name, (h, (refl, λ z. absurd cc)))
 change_opens m ts i j s (by_update _ _ _ _ op e h a u) = (Name, (h, (refl, λ z. absurd cc)))
-change_opens m ts i j s (by_step_behind _ _ _ op h a q) = (Name, (h, (refl, λ z. absurd cc)))
+change_opens m ts i j s (by_step_after _ _ _ op h a q) = (Name, (h, (refl, λ z. absurd cc)))
 change_opens m ts i j s (by_step_before _ _ _ op a h q) =
     step_opens (kind_at ts i) (step_row (kind_at ts i) op a)
 

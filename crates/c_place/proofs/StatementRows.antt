@@ -14,7 +14,7 @@ use Rattle.c_ast.specs.declared.expr.Expr.{Expr}
 use Rattle.c_ast.specs.declared.stmt.Stmt.{Stmt}
 use Rattle.c_ast.specs.declared.stmt.Stmt.TheVariants.{Empty, Declare, Assign, If, While, DoWhile, For, Break, Continue, Return, Block}
 use Rattle.c_expr.specs.Grammar.{kind_at, Expression, ended, Test}
-use Rattle.c_stmt.specs.Statements.{changing_of, step, unit, updated, Change, by_value, by_update, by_step_behind, by_step_before, IsParted, InitDeclarator, bare, valued, InitDeclarators, last_name, next_name, no_start, start_change, start_names, no_test, a_test, no_change, a_change, Statement, nothing, block, changes, if_alone, if_else, while_loop, do_loop, for_loop, breaks, continues, returns, statement, declaration, closed, item}
+use Rattle.c_stmt.specs.Statements.{changing_of, step, unit, updated, Change, by_value, by_update, by_step_after, by_step_before, IsParted, InitDeclarator, bare, valued, InitDeclarators, last_name, next_name, no_start, start_change, start_names, no_test, a_test, no_change, a_change, Statement, nothing, block, changes, if_alone, if_else, while_loop, do_loop, for_loop, breaks, continues, returns, statement, declaration, closed, item}
 use Rattle.c_stmt.specs.declared.tree.External.{External}
 use Rattle.c_stmt.specs.declared.tree.External.TheVariants.{Defined, Declared}
 use Rattle.c_stmt.specs.Programs.{IsHeading, Parameter, named, nameless, Listed, last_parameter, next_parameter, Parameters, unsaid, void, listed, all_names, names_of, ExternalDeclaration, function, prototype, finished, followed}
@@ -44,7 +44,7 @@ change_of_name m ts i j h (updates _ _ _ op e a x) q =
     (updated i op e, by_update m ts i (j + 1) op e h a (ended m ts (i + 2) j e there q))
 change_of_name m ts i j h (steps _ _ op a) q =
     let there : kind_at ts (i + 2) ≡ Some (Mark m) = rw (sym (two_on i)) q in
-    let whole : Change m ts i (i + 3) (updated i op unit) = by_step_behind m ts i op h a there in
+    let whole : Change m ts i (i + 3) (updated i op unit) = by_step_after m ts i op h a there in
     (updated i op unit, rw (three_on i) whole)
 
 -- a step before its name

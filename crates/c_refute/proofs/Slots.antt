@@ -32,9 +32,9 @@ module _ (A : Type 0) where
       ap reverse (sym (take-append-drop (length xs - n) xs)) ∙
       reverse-append (take (length xs - n) xs) (drop (length xs - n) xs)
 
-  length-turned : (xs : List A) (n : ℕ) → n ≤ length xs → n ≡
+  length-reversed : (xs : List A) (n : ℕ) → n ≤ length xs → n ≡
       length (reverse (drop (length xs - n) xs))
-  length-turned xs n le = sym (length-reverse (drop (length xs - n) xs) ∙ length-last xs n le)
+  length-reversed xs n le = sym (length-reverse (drop (length xs - n) xs) ∙ length-last xs n le)
 
   -- all but the last, reversed
   pub reverse-kept : (xs : List A) (n : ℕ) → reverse (take (length xs - n) xs) ≡ drop n (reverse xs)
@@ -42,7 +42,7 @@ module _ (A : Type 0) where
       elim (le_or_less n (length xs)) [
         | inl le ↦ sym (ap (drop n) (turned xs n)
             ∙ (ap (λ (m : ℕ). drop m (reverse (drop (length xs - n) xs) ++
-            reverse (take (length xs - n) xs))) (length-turned xs n le)
+            reverse (take (length xs - n) xs))) (length-reversed xs n le)
             ∙ drop-append_seam (reverse (drop (length xs - n) xs))
             (reverse (take (length xs - n) xs))))
         | inr more ↦
@@ -59,7 +59,7 @@ module _ (A : Type 0) where
         | inl le ↦ ap (λ (ys : List A). reverse (take n ys)) (turned xs n)
             ∙ (ap (λ (m : ℕ). reverse (take m
             (reverse (drop (length xs - n) xs) ++ reverse (take (length xs - n) xs))))
-            (length-turned xs n le)
+            (length-reversed xs n le)
             ∙ (ap reverse (take-append_seam (reverse (drop (length xs - n) xs))
             (reverse (take (length xs - n) xs)))
             ∙ reverse-reverse (drop (length xs - n) xs)))

@@ -15,7 +15,7 @@ use Rattle.c_ast.proofs.Equations.{height-Var, height-Lit, height-Binary, height
 use Rattle.rx_plain.specs.declared.no_memory.NoMemory.{NoMemory}
 use Rattle.c_expr.specs.declared.read.Span.{Span}
 use Rattle.c_expr.specs.Grammar.{kind_at, UpTo}
-use Rattle.c_stmt.specs.Statements.{Changing, update, step, changing_of, unit, updated, Change, by_value, by_update, by_step_behind, by_step_before}
+use Rattle.c_stmt.specs.Statements.{Changing, update, step, changing_of, unit, updated, Change, by_value, by_update, by_step_after, by_step_before}
 use Rattle.c_expr.specs.Readers.{Gives, IsNoHigher}
 use Rattle.c_stmt.specs.Readers.{IsStep}
 use Rattle.c_ast.proofs.StmtEquations.{height-Assign}
@@ -29,7 +29,7 @@ pub data Changed (m : TheMark) (ts : List Token) (i j : ℕ) (s : Stmt) : Type 0
   changed_update : (op : BinOp) → (e : Expr) → kind_at ts i ≡ Some Name →
       changing_of (kind_at ts (i + 1)) ≡ Some (update op) → UpTo m ts (i + 2) j e → s ≡
       updated i op e → Changed m ts i j s
-  changed_behind : (op : BinOp) → kind_at ts i ≡ Some Name → changing_of (kind_at ts (i + 1)) ≡
+  changed_after : (op : BinOp) → kind_at ts i ≡ Some Name → changing_of (kind_at ts (i + 1)) ≡
       Some (step op) → kind_at ts (i + 2) ≡ Some (Mark m) → j ≡ i + 3 → s ≡ updated i op unit →
       Changed m ts i j s
   changed_before : (op : BinOp) → changing_of (kind_at ts i) ≡ Some (step op) → kind_at ts (i + 1) ≡
@@ -40,7 +40,7 @@ pub changed_of : (m : TheMark) (ts : List Token) (i j : ℕ) (s : Stmt) → Chan
     Changed m ts i j s
 changed_of m ts i j s (by_value _ _ _ _ e h a u) = changed_value e h a u refl
 changed_of m ts i j s (by_update _ _ _ _ op e h a u) = changed_update op e h a u refl
-changed_of m ts i j s (by_step_behind _ _ _ op h a c) = changed_behind op h a c refl refl
+changed_of m ts i j s (by_step_after _ _ _ op h a c) = changed_after op h a c refl refl
 changed_of m ts i j s (by_step_before _ _ _ op a h c) = changed_before op a h c refl refl
 
 -- no mark of a change is where another kind of token is
@@ -86,23 +86,23 @@ module _ (m : TheMark) (ts : List Token) (i : ℕ) where
       absurd (unchanging ts i Name (step op) h refl o)
   change_before op o j s (changed_update other e h a u q) =
       absurd (unchanging ts i Name (step op) h refl o)
-  change_before op o j s (changed_behind other h a c p q) =
+  change_before op o j s (changed_after other h a c p q) =
       absurd (unchanging ts i Name (step op) h refl o)
   change_before op o j s (changed_before other a h c p q) =
       let same : op ≡ other = cc in (h, (c, (p, q ∙ ap (λ z. updated (i + 1) z unit) (sym same))))
 
   -- a change that begins with a name
   module _ (named : kind_at ts i ≡ Some Name) where
-    pub change_behind : (op : BinOp) → changing_of (kind_at ts (i + 1)) ≡ Some (step op) →
+    pub change_after : (op : BinOp) → changing_of (kind_at ts (i + 1)) ≡ Some (step op) →
         (j : ℕ) (s : Stmt) → Changed m ts i j s
         → (kind_at ts (i + 2) ≡ Some (Mark m)) × ((j ≡ i + 3) × (s ≡ updated i op unit))
-    change_behind op o j s (changed_value e h a u q) =
+    change_after op o j s (changed_value e h a u q) =
         absurd (unchanging ts (i + 1) (Mark AssignMark) (step op) a refl o)
-    change_behind op o j s (changed_update other e h a u q) =
+    change_after op o j s (changed_update other e h a u q) =
         let contradiction : Some (update other) ≡ Some (step op) = sym a ∙ o in absurd cc
-    change_behind op o j s (changed_behind other h a c p q) =
+    change_after op o j s (changed_after other h a c p q) =
         let same : op ≡ other = cc in (c, (p, q ∙ ap (λ z. updated i z unit) (sym same)))
-    change_behind op o j s (changed_before other a h c p q) =
+    change_after op o j s (changed_before other a h c p q) =
         absurd (unchanging ts i Name (step other) named refl a)
 
     pub change_value : kind_at ts (i + 1) ≡ Some (Mark AssignMark) → (j : ℕ) (s : Stmt) →
@@ -110,7 +110,7 @@ module _ (m : TheMark) (ts : List Token) (i : ℕ) where
     change_value o j s (changed_value e h a u q) = (e, (u, q))
     change_value o j s (changed_update other e h a u q) =
         absurd (unchanging ts (i + 1) (Mark AssignMark) (update other) o refl a)
-    change_value o j s (changed_behind other h a c p q) =
+    change_value o j s (changed_after other h a c p q) =
         absurd (unchanging ts (i + 1) (Mark AssignMark) (step other) o refl a)
     change_value o j s (changed_before other a h c p q) =
         absurd (unchanging ts i Name (step other) named refl a)
@@ -122,7 +122,7 @@ module _ (m : TheMark) (ts : List Token) (i : ℕ) where
         absurd (unchanging ts (i + 1) (Mark AssignMark) (update op) a refl o)
     change_update op o j s (changed_update other e h a u q) =
         let same : op ≡ other = cc in (e, (u, q ∙ ap (λ z. updated i z e) (sym same)))
-    change_update op o j s (changed_behind other h a c p q) =
+    change_update op o j s (changed_after other h a c p q) =
         let contradiction : Some (update op) ≡ Some (step other) = sym o ∙ a in absurd cc
     change_update op o j s (changed_before other a h c p q) =
         absurd (unchanging ts i Name (step other) named refl a)
@@ -175,7 +175,7 @@ pub unchanged : (m : TheMark) (ts : List Token) (i room : ℕ) → kind_at ts i 
 unchanged m ts i room named no_step no_value no_update j s (changed_value e h a u q) = no_value a
 unchanged m ts i room named no_step no_value no_update j s (changed_update op e h a u q) =
     no_update op a
-unchanged m ts i room named no_step no_value no_update j s (changed_behind op h a c p q) =
+unchanged m ts i room named no_step no_value no_update j s (changed_after op h a c p q) =
     no_step op a
 unchanged m ts i room named no_step no_value no_update j s (changed_before op a h c p q) =
     unchanging ts i Name (step op) named refl a
@@ -203,8 +203,8 @@ step_reads m ts name at room op y h some yv ye =
     }
 
 -- two places on
-behind_two : (i : ℕ) → i + 2 + 1 ≡ i + 3
-behind_two i = omega arith
+after_two : (i : ℕ) → i + 2 + 1 ≡ i + 3
+after_two i = omega arith
 
 -- a step in front of its name
 pub steps_before : (m : TheMark) (ts : List Token) (i room : ℕ) (op : BinOp)
@@ -217,26 +217,26 @@ steps_before m ts i room op r o named =
     renamed_ok (IsNoHigher stmt_height room (IsStep m ts (i + 1) op (i + 2)))
     (IsNoHigher stmt_height room (Change m ts i)) i (i + 2) (length ts) r (omega arith)
     (λ j s p. (
-      rw (p.0.behind, behind_two i, p.0.is) (by_step_before m ts i op o named p.0.marked),
+      rw (p.0.behind, after_two i, p.0.is) (by_step_before m ts i op o named p.0.marked),
       p.1,
     ))
     (λ j s q.
     let is = change_before m ts i op o j s (changed_of m ts i j s q.0) in
-    (record { marked = is.1.0; behind = is.1.1.0 ∙ sym (behind_two i); is = is.1.1.1 }, q.1))
+    (record { marked = is.1.0; behind = is.1.1.0 ∙ sym (after_two i); is = is.1.1.1 }, q.1))
 
 -- a step after its name
-pub steps_behind : (m : TheMark) (ts : List Token) (i room : ℕ) (op : BinOp)
+pub steps_after : (m : TheMark) (ts : List Token) (i room : ℕ) (op : BinOp)
     (r : Result (Option (Span Stmt)) NoMemory) → kind_at ts i ≡ Some Name →
     changing_of (kind_at ts (i + 1)) ≡ Some (step op)
     → IfOk r (Gives (IsNoHigher stmt_height room (IsStep m ts i op (i + 2))) (i + 2) (length ts)) →
     IfOk r (Gives (IsNoHigher stmt_height room (Change m ts i)) i (length ts))
-steps_behind m ts i room op r named o =
+steps_after m ts i room op r named o =
     renamed_ok (IsNoHigher stmt_height room (IsStep m ts i op (i + 2)))
     (IsNoHigher stmt_height room (Change m ts i)) i (i + 2) (length ts) r (omega arith)
     (λ j s p. (
-      rw (p.0.behind, behind_two i, p.0.is) (by_step_behind m ts i op named o p.0.marked),
+      rw (p.0.behind, after_two i, p.0.is) (by_step_after m ts i op named o p.0.marked),
       p.1,
     ))
     (λ j s q.
-    let is = change_behind m ts i named op o j s (changed_of m ts i j s q.0) in
-    (record { marked = is.0; behind = is.1.0 ∙ sym (behind_two i); is = is.1.1 }, q.1))
+    let is = change_after m ts i named op o j s (changed_of m ts i j s q.0) in
+    (record { marked = is.0; behind = is.1.0 ∙ sym (after_two i); is = is.1.1 }, q.1))

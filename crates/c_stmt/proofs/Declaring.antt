@@ -47,9 +47,9 @@ declared_of ts i j s (bare _ _ h p) = declared_bare h p refl refl
 declared_of ts i j s (valued _ _ _ e h a w p) = declared_valued e h a w p refl
 
 -- what is after it
-parted_behind : (ts : List Token) (i j : ℕ) (s : Stmt) → Declared ts i j s → IsParted ts j
-parted_behind ts i j s (declared_bare h p q is) = rw q p
-parted_behind ts i j s (declared_valued e h a w p is) = p
+parted_after : (ts : List Token) (i j : ℕ) (s : Stmt) → Declared ts i j s → IsParted ts j
+parted_after ts i j s (declared_bare h p q is) = rw q p
+parted_after ts i j s (declared_valued e h a w p is) = p
 
 module _ (ts : List Token) (at room : ℕ) where
   bare_only : (y : Span Stmt) → IsParted ts (at + 1) → y.value ≡ Declare at None → y.end ≡ at + 1 →
@@ -236,7 +236,7 @@ module _ (ts : List Token) (at room : ℕ) (found : List Stmt) (end : ℕ)
         (found ++ x.value ∷ []) (x.end + 1)
     names_go o =
         let comma : kind_at ts x.end ≡ Some (Mark Comma) =
-        comma_of ts x.end (parted_behind ts end x.end x.value
+        comma_of ts x.end (parted_after ts end x.end x.value
         (declared_of ts end x.end x.value g.found.spelled.0)) o in
         let both : list_height (found ++ x.value ∷ []) ≡
         max (list_height found) (list_height (x.value ∷ [])) =

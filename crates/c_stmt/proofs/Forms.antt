@@ -21,7 +21,7 @@ use Rattle.c_stmt.specs.Readers.{IsSimple, Jumps}
 use Rattle.c_ast.proofs.StmtEquations.{height-Empty, height-alone, height-else, height-While, height-DoWhile, height-For, height-Break, height-Continue, height-Block}
 use Rattle.c_expr.proofs.Lookahead.{kind_within}
 use Rattle.c_expr.proofs.Building.{Built, renamed, renamed_ok}
-use Rattle.c_stmt.proofs.ChangeLemmas.{unchanging, Changed, changed_value, changed_update, changed_behind, changed_before, changed_of}
+use Rattle.c_stmt.proofs.ChangeLemmas.{unchanging, Changed, changed_value, changed_update, changed_after, changed_before, changed_of}
 
 -- a block, by its items
 pub record Filled (ts : List Token) (i j : ℕ) (s : Stmt) : Type 0 where
@@ -109,7 +109,7 @@ changed_start ts i j s k g no_step no_name (changed_value e h a u q) =
     let same : k ≡ Name = cc in no_name same
 changed_start ts i j s k g no_step no_name (changed_update op e h a u q) =
     let same : k ≡ Name = cc in no_name same
-changed_start ts i j s k g no_step no_name (changed_behind op h a c p q) =
+changed_start ts i j s k g no_step no_name (changed_after op h a c p q) =
     let same : k ≡ Name = cc in no_name same
 changed_start ts i j s k g no_step no_name (changed_before op a h c p q) =
     unchanging ts i k (step op) g no_step a

@@ -18,7 +18,7 @@ use Rattle.c_expr.specs.Readers.{IsThat, Gives, IsNoHigher}
 use Rattle.c_expr.proofs.Lookahead.{kind_within}
 use Rattle.c_expr.proofs.Passing.{whole_begins}
 use Rattle.c_expr.proofs.DelimitedLemmas.{ended_of}
-use Rattle.c_stmt.proofs.ChangeLemmas.{unchanging, Changed, changed_value, changed_update, changed_behind, changed_before, changed_of}
+use Rattle.c_stmt.proofs.ChangeLemmas.{unchanging, Changed, changed_value, changed_update, changed_after, changed_before, changed_of}
 use Rattle.c_expr.proofs.Building.{Built, renamed_ok}
 
 -- no change begins with another mark
@@ -26,7 +26,7 @@ pub change_opens : (m here : TheMark) (ts : List Token) (i j : ℕ) (s : Stmt) �
     Some (Mark here) → changing_of (Some (Mark here)) ≡ None → Changed m ts i j s → ⊥
 change_opens m here ts i j s g none (changed_value e h a u q) = cc
 change_opens m here ts i j s g none (changed_update op e h a u q) = cc
-change_opens m here ts i j s g none (changed_behind op h a c p q) = cc
+change_opens m here ts i j s g none (changed_after op h a c p q) = cc
 change_opens m here ts i j s g none (changed_before op a h c p q) =
     unchanging ts i (Mark here) (step op) g none a
 
@@ -35,7 +35,7 @@ pub change_no_int : (m : TheMark) (ts : List Token) (i j : ℕ) (s : Stmt) → k
     Some (Word Int) → Changed m ts i j s → ⊥
 change_no_int m ts i j s g (changed_value e h a u q) = cc
 change_no_int m ts i j s g (changed_update op e h a u q) = cc
-change_no_int m ts i j s g (changed_behind op h a c p q) = cc
+change_no_int m ts i j s g (changed_after op h a c p q) = cc
 change_no_int m ts i j s g (changed_before op a h c p q) =
     unchanging ts i (Word Int) (step op) g refl a
 

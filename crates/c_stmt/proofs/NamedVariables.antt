@@ -11,7 +11,7 @@ use Rattle.c_ast.specs.declared.expr.Expr.TheVariants.{Var, Binary}
 use Rattle.c_ast.specs.declared.stmt.Stmt.{Stmt}
 use Rattle.c_ast.specs.Variables.{variables, list_of_option, stmt_variables}
 use Rattle.c_ast.proofs.Equations.{variables-Lit, variables-Var, variables-Binary, variables-Return}
-use Rattle.c_stmt.specs.Statements.{unit, updated, Change, by_value, by_update, by_step_behind, by_step_before, InitDeclarator, bare, valued, InitDeclarators, last_name, next_name, ForInit, no_start, start_change, start_names, ForTest, no_test, a_test, ForStep, no_change, a_change, Statement, nothing, block, changes, if_alone, if_else, while_loop, do_loop, for_loop, breaks, continues, returns, BlockItem, statement, declaration, BlockItems, closed, item}
+use Rattle.c_stmt.specs.Statements.{unit, updated, Change, by_value, by_update, by_step_after, by_step_before, InitDeclarator, bare, valued, InitDeclarators, last_name, next_name, ForInit, no_start, start_change, start_names, ForTest, no_test, a_test, ForStep, no_change, a_change, Statement, nothing, block, changes, if_alone, if_else, while_loop, do_loop, for_loop, breaks, continues, returns, BlockItem, statement, declaration, BlockItems, closed, item}
 use Rattle.c_expr.specs.Grammar.{UpTo, ended}
 use Rattle.c_expr.specs.Names.{IsName}
 use Rattle.c_ast.proofs.StmtEquations.{variables-Empty, variables-Declare, variables-Assign, variables-alone, variables-else, variables-While, variables-DoWhile, variables-For, variables-Break, variables-Continue, variables-Block}
@@ -55,7 +55,7 @@ change_named m ts i j s (by_value _ _ _ k e h a u) =
     (up_to_named m ts (i + 2) k e u))
 change_named m ts i j s (by_update _ _ _ k op e h a u) =
     updated_named ts i op e h (up_to_named m ts (i + 2) k e u)
-change_named m ts i j s (by_step_behind _ _ _ op h a c) =
+change_named m ts i j s (by_step_after _ _ _ op h a c) =
     updated_named ts i op unit h (unit_named ts)
 change_named m ts i j s (by_step_before _ _ _ op a h c) =
     updated_named ts (i + 1) op unit h (unit_named ts)

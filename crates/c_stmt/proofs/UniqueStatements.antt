@@ -15,7 +15,7 @@ use Rattle.c_expr.proofs.Lookahead.{token_stops}
 use Rattle.c_expr.proofs.Choices.{chosen_of}
 use Rattle.c_expr.proofs.Passing.{whole_begins}
 use Rattle.c_expr.proofs.DelimitedLemmas.{Ended, ended_of}
-use Rattle.c_stmt.proofs.ChangeLemmas.{Changed, changed_value, changed_update, changed_behind, changed_before, changed_of, change_value, change_update, change_behind, change_before}
+use Rattle.c_stmt.proofs.ChangeLemmas.{Changed, changed_value, changed_update, changed_after, changed_before, changed_of, change_value, change_update, change_after, change_before}
 use Rattle.c_stmt.proofs.Declaring.{parted_stops, unassigned, Declared, declared_bare, declared_valued, declared_of, Named, named_last, named_next, named_of}
 use Rattle.c_stmt.proofs.HeadLemmas.{change_opens, change_no_int, Started, started_none, started_change, started_names, started_of, Continued, continued_none, continued_some, continued_of, Advanced, advanced_none, advanced_some, advanced_of}
 use Rattle.c_stmt.proofs.Forms.{Filled, Way, way_alone, way_else, Branching, Looping, Doing, Counting, Jumping, Returning, changed_start, form_of}
@@ -52,8 +52,8 @@ module _ (m : TheMark) (no_operator : binary_of (Some (Mark m)) ≡ None)
       let is = change_update m ts i h op a k t d in
       let same : Same j k e is.0 = up_to_unique ts (i + 2) j k e is.0 u is.1.0 in
       (same.0, q ∙ (ap (updated i op) same.1 ∙ sym is.1.1))
-  change_unique ts i j k s t (changed_behind op h a c p q) d =
-      let is = change_behind m ts i h op a k t d in (p ∙ sym is.1.0, q ∙ sym is.1.1)
+  change_unique ts i j k s t (changed_after op h a c p q) d =
+      let is = change_after m ts i h op a k t d in (p ∙ sym is.1.0, q ∙ sym is.1.1)
   change_unique ts i j k s t (changed_before op a h c p q) d =
       let is = change_before m ts i op a k t d in (p ∙ sym is.1.1.0, q ∙ sym is.1.1.1)
 

@@ -62,7 +62,7 @@ pub data Change : TheMark → List Token → ℕ → ℕ → Stmt → Type 0 whe
   by_update : (m : TheMark) → (ts : List Token) → (i j : ℕ) → (op : BinOp) → (e : Expr)
       → kind_at ts i ≡ Some Name → changing_of (kind_at ts (i + 1)) ≡ Some (update op) →
       UpTo m ts (i + 2) j e → Change m ts i j (updated i op e)
-  by_step_behind : (m : TheMark) → (ts : List Token) → (i : ℕ) → (op : BinOp)
+  by_step_after : (m : TheMark) → (ts : List Token) → (i : ℕ) → (op : BinOp)
       → kind_at ts i ≡ Some Name → changing_of (kind_at ts (i + 1)) ≡ Some (step op) →
       kind_at ts (i + 2) ≡ Some (Mark m) → Change m ts i (i + 3) (updated i op unit)
   by_step_before : (m : TheMark) → (ts : List Token) → (i : ℕ) → (op : BinOp)

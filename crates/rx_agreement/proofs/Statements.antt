@@ -323,10 +323,10 @@ module _ (R : Relation) (entry : ℕ → ℕ) (acts : Actions) (callable : ℕ �
   Turning start n head z B K (Again s) = Runs R w start (at_point head s) × (n ≤ length s)
   Turning start n head z B K (Ends f) = Flowed start n n z B K f
 
-  turned-after : (start middle : Ground) (n : ℕ) (head z B K : Point) → Runs R w start middle →
+  reversed-after : (start middle : Ground) (n : ℕ) (head z B K : Point) → Runs R w start middle →
       (t : Turn) → Turned middle n head z B K t → Turned start n head z B K t
-  turned-after start middle n head z B K run (Again s) there = (run-on R w run there.0, there.1)
-  turned-after start middle n head z B K run (Ends f) there =
+  reversed-after start middle n head z B K run (Again s) there = (run-on R w run there.0, there.1)
+  reversed-after start middle n head z B K run (Ends f) there =
       flowed-after start middle n n z B K run f there
 
   turning-after : (start middle : Ground) (n : ℕ) (head z B K : Point) → Runs R w start middle →
@@ -335,10 +335,10 @@ module _ (R : Relation) (entry : ℕ → ℕ) (acts : Actions) (callable : ℕ �
   turning-after start middle n head z B K run (Ends f) there =
       flowed-after start middle n n z B K run f there
 
-  turned-on : (start middle : Ground) (n : ℕ) (head z B K : Point) → RunsOn R w start middle →
+  reversed-on : (start middle : Ground) (n : ℕ) (head z B K : Point) → RunsOn R w start middle →
       (t : Turn) → Turning middle n head z B K t → Turned start n head z B K t
-  turned-on start middle n head z B K run (Again s) there = (on-then R w run there.0, there.1)
-  turned-on start middle n head z B K run (Ends f) there =
+  reversed-on start middle n head z B K run (Again s) there = (on-then R w run there.0, there.1)
+  reversed-on start middle n head z B K run (Ends f) there =
       flowed-after start middle n n z B K (on-run R w run) f there
 
   -- the body of a loop in a turn: next and continue lead to c, a break to z
@@ -393,7 +393,7 @@ module _ (R : Relation) (entry : ℕ → ℕ) (acts : Actions) (callable : ℕ �
           leads-after R w m h (at_point head s) (at_point y s) (Turning (at_point y s) n head z B K)
           (Turned (at_point head s) n head z B K) (on_value body (after_body rest))
           (on-run R w run)
-          (turned-on (at_point head s) (at_point y s) n head z B K run)
+          (reversed-on (at_point head s) (at_point y s) n head z B K run)
           (after_body_runs (λ g. Turning g n head z B K) m h (at_point y s) n k c z body rest below
           (λ t run fits. (run, fits)) (λ x run. run)
           (λ middle run. turning-after (at_point y s) middle n head z B K run) inner each)
@@ -418,7 +418,7 @@ module _ (R : Relation) (entry : ℕ → ℕ) (acts : Actions) (callable : ℕ �
       (λ t. on_value (o t) (λ x. if is_zero x then Value (Ends (Next t)) else Value (Again t)))
       below
       (λ t run fits. (run, fits)) (λ x run. run)
-      (λ middle run. turned-after (at_point head s) middle n head z B K run) inner
+      (λ middle run. reversed-after (at_point head s) middle n head z B K run) inner
       (λ t enough. test t enough (o t) (each t enough))
     where
       test : (t : State) → n ≤ length t → (o : Outcome ℤ) →

@@ -5,7 +5,7 @@ use Rattle.std.specs.Cmp.Lexicographic.{pointwise}
 use Rattle.std.specs.Map.{lookup, lookup_entry, remove_entry}
 use Rattle.lru.specs.LruCache.{LruCache, promoted, put_entries}
 use Rattle.rx_row.specs.declared.row.Row.{Row}
-use Rattle.rx_row.proofs.Same.{row_eq, told_same_rows, told_themselves}
+use Rattle.rx_row.proofs.Same.{row_eq, known_same_rows, known_themselves}
 use Rattle.rx_bank.specs.Cache.{Entry, IsPromoted, NoneHas}
 use Rattle.rx_bank.specs.declared.cached_answer.CachedAnswer.{CachedAnswer}
 
@@ -28,13 +28,13 @@ module _ (rows : List Row) where
 
   apart : (other : List Row) → same_rows rows other ≡ false → ¬ (other ≡ rows)
   apart other differ e =
-      let same_there : same_rows rows other ≡ true = ap (same_rows rows) e ∙ told_themselves rows in
+      let same_there : same_rows rows other ≡ true = ap (same_rows rows) e ∙ known_themselves rows in
       cc
 
   found_here : (e : Entry) (es : List Entry) (cached : CachedAnswer) → same_rows rows e.0 ≡ true →
       e.1 ≡ cached → Found (e ∷ es) cached
   found_here e es cached same_there value =
-      let same : e ≡ (rows, cached) = λ i. (sym (told_same_rows rows e.0 same_there) i, value i) in
+      let same : e ≡ (rows, cached) = λ i. (sym (known_same_rows rows e.0 same_there) i, value i) in
       record {
         newer = [];
         older = es;
@@ -90,7 +90,7 @@ module _ (rows : List Row) where
   no_entry (e ∷ es) none =
       (elim (same_rows rows e.0) as (λ b. same_rows rows e.0 ≡ b →
       lookup_entry (same_rows rows) (e ∷ es) ≡ None) [
-        | true ↦ λ t. absurd (All-head Other e es none (sym (told_same_rows rows e.0 t)))
+        | true ↦ λ t. absurd (All-head Other e es none (sym (known_same_rows rows e.0 t)))
         | false ↦ λ t. rw t (no_entry es (All-tail Other e es none))
       ]) refl
 

@@ -2,7 +2,7 @@
 use Rattle.std.proofs.Common.{◌≡◌, ◌∙◌, ap, sym, refl, cond, ◌↔◌, ℕ, ◌+◌, ◌==◌, Bool, true, false, not, ◌||◌, Option, Some, None, Result, Ok, Err, IfOk, List, [], ◌∷◌, length, Contains, ℤ, pos, negsuc, ◌≤ℤ◌, int_lt, arith}
 use Rattle.std.proofs.lemmas.Int.{ints}
 use Rattle.std.proofs.lemmas.List.Elements.{All-cons, All-contains, All-nil}
-use Rattle.rx_poly.proofs.DivisionLaws.{constant_worth}
+use Rattle.rx_poly.proofs.DivisionLaws.{constant_value}
 use Rattle.rx_poly.proofs.TermLaws.{zero_is}
 use Rattle.rx_poly.specs.Reading.{constant_of}
 use Rattle.rx_poly.specs.Terms.{is_zero}
@@ -47,13 +47,13 @@ not_zero z e is = let no : false ≡ true = sym (ap (λ k. not (is_zero k)) is) 
 evident_holds : (a : ℕ → ℤ) (row : Row) → is_evident row ≡ true → RowHolds a row
 evident_holds a (Ge p) e =
     not_below (value a p) (told (λ k. not (int_lt k (pos 0))) (constant_of (out-Body p).terms)
-    (value a p) (constant_worth a p) e)
+    (value a p) (constant_value a p) e)
 evident_holds a (Eq p) e =
     zero_is (value a p) (told is_zero (constant_of (out-Body p).terms) (value a p)
-    (constant_worth a p) e)
+    (constant_value a p) e)
 evident_holds a (Ne p) e =
     not_zero (value a p) (told (λ k. not (is_zero k)) (constant_of (out-Body p).terms) (value a p)
-    (constant_worth a p) e)
+    (constant_value a p) e)
 
 -- a plain row holds wherever the given rows do
 pub plain_holds : (a : ℕ → ℤ) (given : List Row) (row : Row) → is_plain_row given row ≡ true →

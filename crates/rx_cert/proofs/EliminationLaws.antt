@@ -98,9 +98,9 @@ zero_holds a rows first second z holds e = by (slice_get rows first) refl e
 -- ---- the variable has the value
 
 -- p = x + rest, so x is -rest
-plus_worth : (a : ℕ → ℤ) (x : ℕ) (p e : Body) → value a p ≡ pos 0 →
+plus_value : (a : ℕ → ℤ) (x : ℕ) (p e : Body) → value a p ≡ pos 0 →
     solution_plus x (body_difference p (variable x)) ≡ Some e → a x ≡ value a e
-plus_worth a x p e zero f =
+plus_value a x p e zero f =
     let rest = body_difference p (variable x) in
     let c = cond_none (uses x rest) (scaled_by (negsuc 0) rest) e f in
     let left : value a rest ≡ value a p -ℤ a x = value-body_difference a p (variable x) ∙
@@ -117,9 +117,9 @@ plus_worth a x p e zero f =
     opposite_of x p r g h = omega (arith, ints)
 
 -- p = -x + rest, so x is the rest
-minus_worth : (a : ℕ → ℤ) (x : ℕ) (p e : Body) → value a p ≡ pos 0 →
+minus_value : (a : ℕ → ℤ) (x : ℕ) (p e : Body) → value a p ≡ pos 0 →
     solution_minus x (body_sum p (variable x)) ≡ Some e → a x ≡ value a e
-minus_worth a x p e zero f =
+minus_value a x p e zero f =
     let rest = body_sum p (variable x) in
     let left : value a rest ≡ value a p +ℤ a x = value-body_sum a p (variable x) ∙
     (λ i. value a p +ℤ value-variable a x i) in
@@ -133,22 +133,22 @@ minus_worth a x p e zero f =
     rest_of : (x p r : ℤ) → p ≡ pos 0 → r ≡ p +ℤ x → x ≡ r
     rest_of x p r g h = omega (arith, ints)
 
-solution_worth : (a : ℕ → ℤ) (x : ℕ) (p e : Body) → value a p ≡ pos 0 → solution x p ≡ Some e →
+solution_value : (a : ℕ → ℤ) (x : ℕ) (p e : Body) → value a p ≡ pos 0 → solution x p ≡ Some e →
     a x ≡ value a e
-solution_worth a x p e zero f =
+solution_value a x p e zero f =
     by (int_eq (coefficient_of x p) (pos 1)) (int_eq (coefficient_of x p) (negsuc 0)) f
   where
     by : (b c : Bool) → cond b (solution_plus x (body_difference p (variable x)))
         (cond c (solution_minus x (body_sum p (variable x))) None) ≡ Some e → a x ≡ value a e
-    by true c g = plus_worth a x p e zero g
-    by false true g = minus_worth a x p e zero g
+    by true c g = plus_value a x p e zero g
+    by false true g = minus_value a x p e zero g
     by false false g = cc
 
 -- an assignment is what it is with a variable's own value in its place
-worth_same : (a : ℕ → ℤ) (x : ℕ) (e : Body) → a x ≡ value a e → (n : ℕ) →
+value_same : (a : ℕ → ℤ) (x : ℕ) (e : Body) → a x ≡ value a e → (n : ℕ) →
     updated_assignment a ((x, e) ∷ []) n ≡
     a n
-worth_same a x e is n = by (x == n) refl
+value_same a x e is n = by (x == n) refl
   where
     by : (b : Bool) → (x == n) ≡ b → value a (cond b e (variable n)) ≡ a n
     by true h = sym is ∙ ap a (eqb-true x n h)
@@ -158,7 +158,7 @@ replaced_hold : (a : ℕ → ℤ) (x : ℕ) (e : Body) (rows : List Row) → a x
     AllHold a rows → AllHold a (subst_rows ((x, e) ∷ []) rows)
 replaced_hold a x e rows is holds =
     (subst_rows-hold a ((x, e) ∷ []) rows).1 (subst (λ (b : ℕ → ℤ). AllHold b rows)
-    (λ i n. sym (worth_same a x e is n) i) holds)
+    (λ i n. sym (value_same a x e is n) i) holds)
 
 -- so where the rows with the value are refuted, so are the rows
 pub solve_refutes : (a : ℕ → ℤ) (rows : List Row) (first second x : ℕ) (rest : List Row → Said) →
@@ -175,5 +175,5 @@ solve_refutes a rows first second x rest f (Some p) is e holds =
     by (Some v) s g =
         f (subst_rows ((x, v) ∷ []) rows) (within_parts (rows_within ((x, v) ∷ []) rows)
         (rest (subst_rows ((x, v) ∷ []) rows)) g).1
-        (replaced_hold a x v rows (solution_worth a x p v
+        (replaced_hold a x v rows (solution_value a x p v
         (zero_holds a rows first second p holds is) s) holds)

@@ -2,7 +2,7 @@
 use Rattle.std.proofs.Common.{◌≡◌, subst, refl, cond, ℕ, Bool, true, false, Option, Some, None, List, ℤ, pos, negsuc, ◌≤ℤ◌, int_lt, arith}
 use Rattle.std.proofs.lemmas.Int.{ints}
 use Rattle.std.proofs.lemmas.Bool.{ltb-true}
-use Rattle.rx_poly.proofs.DivisionLaws.{constant_worth}
+use Rattle.rx_poly.proofs.DivisionLaws.{constant_value}
 use Rattle.rx_poly.specs.Constants.{number}
 use Rattle.rx_poly.specs.Reading.{constant_of}
 use Rattle.rx_poly.specs.Value.{value}
@@ -44,7 +44,7 @@ negative_contradicts : (a : ℕ → ℤ) (o : Option Body) →
     ((p : Body) → o ≡ Some p → pos 0 ≤ℤ value a p) → is_negative o ≡ true → ⊥
 negative_contradicts a None holds h = cc
 negative_contradicts a (Some p) holds h =
-    below_contradicts (constant_of (out-Body p).terms) (value a p) (λ k e. constant_worth a p k e) h
+    below_contradicts (constant_of (out-Body p).terms) (value a p) (λ k e. constant_value a p k e) h
     (holds p refl)
 
 -- rows with a negative sum are met by no assignment

@@ -78,8 +78,8 @@ module _ (log : Log) where
       ∙ ap (λ l. pushed_all l (plain line.Step log.steps)) (covers_pushed blank 0 log.covers)
       ∙ steps_pushed (record blank { covers = log.covers }) log.steps
 
-  behind_pushed : pushed_all so_far (behind_steps log) ≡ log
-  behind_pushed =
+  after_pushed : pushed_all so_far (behind_steps log) ≡ log
+  after_pushed =
       let begun : Log = pushed (line.Ranks log.table.columns) so_far in
       pushed_all-append begun (by_symbol line.Rank 0 log.table.ranks) (plain line.Pair log.pairs)
       ∙ ap (λ l. pushed_all l (plain line.Pair log.pairs)) (ranks_pushed begun 0 log.table.ranks)
@@ -91,7 +91,7 @@ module _ (log : Log) where
       pushed_all-append blank (before_end log) ((line.End, 0) ∷ [])
       ∙ pushed_all-append blank (before_ranks log) (behind_steps log)
       ∙ ap (λ l. pushed_all l (behind_steps log)) before_pushed
-      ∙ behind_pushed
+      ∙ after_pushed
 
 -- ---- where trees and ranks come
 
@@ -100,10 +100,10 @@ cover_test : (next : ℕ) (behind : Place) (b : Bool) →
 cover_test next behind true e = same_Some (InCovers (next + 1)) behind e
 cover_test next behind false e = absurd cc
 
-pub behind_cover : (next : ℕ) (trees : List CoverTree) (symbol : ℕ) (behind : Place) →
+pub after_cover : (next : ℕ) (trees : List CoverTree) (symbol : ℕ) (behind : Place) →
     after (InCovers next) (line.Cover trees, symbol) ≡ Some behind
     → InCovers (next + 1) ≡ behind
-behind_cover next trees symbol behind e = cover_test next behind (symbol == next) e
+after_cover next trees symbol behind e = cover_test next behind (symbol == next) e
 
 rank_test : (columns next : ℕ) (behind : Place) (b c : Bool)
     → (if b then (if c then Some (InRanks columns (next + 1)) else None) else None) ≡ Some behind →
@@ -112,10 +112,10 @@ rank_test columns next behind true true e = same_Some (InRanks columns (next + 1
 rank_test columns next behind true false e = absurd cc
 rank_test columns next behind false c e = absurd cc
 
-pub behind_rank : (columns next : ℕ) (rank : List Body) (symbol : ℕ) (behind : Place) →
+pub after_rank : (columns next : ℕ) (rank : List Body) (symbol : ℕ) (behind : Place) →
     after (InRanks columns next) (line.Rank rank, symbol) ≡ Some behind
     → InRanks columns (next + 1) ≡ behind
-behind_rank columns next rank symbol behind e =
+after_rank columns next rank symbol behind e =
     rank_test columns next behind (symbol == next) (length rank == columns) e
 
 -- ---- logs that go on
@@ -146,7 +146,7 @@ module _ (log whole : Log) (symbol : ℕ) (behind : Place) where
   goes_on_before (InCovers n) (line.Cover trees) e there =
       let on : GoesOn (InCovers (n + 1)) (pushed (line.Cover trees) log) whole =
       subst (λ b. GoesOn b (pushed (line.Cover trees) log) whole)
-      (sym (behind_cover n trees symbol behind e)) there in
+      (sym (after_cover n trees symbol behind e)) there in
       less log.covers trees whole.covers on
   goes_on_before (InCovers n) (line.Step step) e there =
       let on : GoesOn (InSteps) (pushed (line.Step step) log) whole =
@@ -183,7 +183,7 @@ module _ (log whole : Log) (symbol : ℕ) (behind : Place) where
   goes_on_before (InRanks c n) (line.Rank rank) e there =
       let on : GoesOn (InRanks c (n + 1)) (pushed (line.Rank rank) log) whole =
       subst (λ b. GoesOn b (pushed (line.Rank rank) log) whole)
-      (sym (behind_rank c n rank symbol behind e)) there in
+      (sym (after_rank c n rank symbol behind e)) there in
       (on.0, (on.1.0, (on.1.1.0, less log.table.ranks rank whole.table.ranks on.1.1.1)))
   goes_on_before (InRanks c n) (line.Pair pair) e there =
       let on : GoesOn (InPairs) (pushed (line.Pair pair) log) whole =

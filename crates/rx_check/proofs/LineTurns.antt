@@ -34,7 +34,7 @@ use Rattle.rx_check.specs.declared.check_end.CheckEnd.{CheckEnd}
 use Rattle.rx_check.specs.declared.check_end.CheckEnd.TheVariants as end
 use Rattle.rx_check.specs.declared.progress.Progress.{Progress}
 use Rattle.rx_check.proofs.LineFaults.{covers_hold, failed_at, finished, kept_behind, kept_same, pairs_fail, ranks_fail, ranks_hold, refused, uncovered, unfinished}
-use Rattle.rx_check.proofs.LineOrder.{behind_cover, behind_rank, goes_on_before}
+use Rattle.rx_check.proofs.LineOrder.{after_cover, after_rank, goes_on_before}
 use Rattle.rx_check.proofs.Sound.{concluded}
 
 -- ---- the header
@@ -130,7 +130,7 @@ pub cover_judged : (parts : RuleParts) (place : Place) (trees : List CoverTree)
 cover_judged parts AtHeader trees progress failure ends goal log symbol behind holds e = absurd cc
 cover_judged parts (InCovers n) trees progress failure ends goal log symbol behind holds e =
     subst (λ b. Stands parts goal b (pushed (line.Cover trees) log) progress failure)
-    (behind_cover n trees symbol behind e)
+    (after_cover n trees symbol behind e)
     (cover_stands parts n trees goal log progress holds failure (ends n refl))
 cover_judged parts InSteps trees progress failure ends goal log symbol behind holds e = absurd cc
 cover_judged parts (InRanks c n) trees progress failure ends goal log symbol behind holds e =
@@ -347,7 +347,7 @@ rank_stands parts (InCovers n) rank old new is goal log symbol behind holds e = 
 rank_stands parts InSteps rank old new is goal log symbol behind holds e = absurd cc
 rank_stands parts (InRanks c n) rank old new is goal log symbol behind holds e =
     subst (λ b. Holds parts goal b (pushed (line.Rank rank) log) new)
-    (behind_rank c n rank symbol behind e)
+    (after_rank c n rank symbol behind e)
     (subst (λ p. Holds parts goal (InRanks c (n + 1)) (pushed (line.Rank rank) log) p) (sym is)
     (record {
       steps = holds.steps;

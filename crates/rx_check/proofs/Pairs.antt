@@ -13,7 +13,7 @@ use Rattle.rx_pairs.specs.declared.pair.Pair.{Pair}
 use Rattle.rx_pairs.proofs.PairsLaws.{made_roots, one_all, some_all}
 use Rattle.rx_log.specs.Acceptance.{Accepted, Checked, Concludes, Fails, HasVerdict, LogFault, Verdict, kept, of_descent}
 use Rattle.rx_log.specs.declared.log.Log.{Log}
-use Rattle.rx_check.specs.Answers.{Answers, Told, named, verdict_told}
+use Rattle.rx_check.specs.Answers.{Answers, Told, named, verdict_known}
 use Rattle.rx_check.specs.declared.check_end.CheckEnd.{CheckEnd}
 use Rattle.rx_check.proofs.Proofs.{kept_have_roots}
 
@@ -49,7 +49,7 @@ module _ (parts : RuleParts) (goal : Equation) (log : Log) (made : IsWellMade pa
 
   -- the verdict that an answer gives is one of the log
   told : (r : Result (Unit {0}) CheckEnd) (verdict : Verdict) → Answers r parts goal log →
-      verdict_told r ≡ Some verdict
+      verdict_known r ≡ Some verdict
       → HasVerdict parts goal log verdict
   told (Ok done) verdict answers is =
       subst (HasVerdict parts goal log) (same_Some Accepted verdict is) answers
@@ -61,10 +61,10 @@ module _ (parts : RuleParts) (goal : Equation) (log : Log) (made : IsWellMade pa
     by_fault (Some fault) has is =
         subst (HasVerdict parts goal log) (same_Some (Fails fault) verdict is) has
 
-  pub one_told : (one two : Result (Unit {0}) CheckEnd) → Answers one parts goal log →
+  pub one_known : (one two : Result (Unit {0}) CheckEnd) → Answers one parts goal log →
       Answers two parts goal log
-      → (first second : Verdict) → verdict_told one ≡ Some first → verdict_told two ≡ Some second →
+      → (first second : Verdict) → verdict_known one ≡ Some first → verdict_known two ≡ Some second →
       first ≡ second
-  one_told one two has too first second is also =
+  one_known one two has too first second is also =
       let (_, _, only) = one_verdict in
       only first (told one first has is) ∙ sym (only second (told two second too also))

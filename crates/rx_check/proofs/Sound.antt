@@ -20,11 +20,11 @@ use Rattle.rx_check.proofs.Pairs.{pairs_there}
 use Rattle.rx_check.proofs.Proofs.{accepted_ends_alike, kept_have_roots}
 
 -- what is said of a fault means something else of it
-told_too : (o : Option LogFault) (Says Means : LogFault → Type 0) →
+known_too : (o : Option LogFault) (Says Means : LogFault → Type 0) →
     ((fault : LogFault) → Says fault → Means fault)
     → Told o Says → Told o Means
-told_too None Says Means too told = tt
-told_too (Some fault) Says Means too told = too fault told
+known_too None Says Means too told = tt
+known_too (Some fault) Says Means too told = too fault told
 
 -- ---- the verdict
 
@@ -43,7 +43,7 @@ module _ (parts : RuleParts) (goal : Equation) (log : Log) (hypotheses : List Ru
   answered : (r : Result (Unit {0}) CheckEnd) → Decides decided r → Answers r parts goal log
   answered (Ok _) is = concluded _ is
   answered (Err end) told =
-      told_too (named end) (λ fault. decided ≡ Fails fault)
+      known_too (named end) (λ fault. decided ≡ Fails fault)
       (λ fault. HasVerdict parts goal log (Fails fault))
       (λ fault is. concluded (Fails fault) is) told
 

@@ -77,6 +77,6 @@ Answers (Err end) parts goal log =
     Told (named end) (λ fault. HasVerdict parts goal log (Fails fault))
 
 -- the verdict that an answer gives; memory that runs out gives none
-abbrev pub verdict_told : Result (Unit {0}) CheckEnd → Option Verdict
-verdict_told (Ok _) = Some Accepted
-verdict_told (Err end) = option_map Fails (named end)
+abbrev pub verdict_known : Result (Unit {0}) CheckEnd → Option Verdict
+verdict_known (Ok _) = Some Accepted
+verdict_known (Err end) = option_map Fails (named end)

@@ -132,8 +132,8 @@ Stands parts goal place log progress (Some end) = FailsWith parts goal place log
 -- ---- what is kept
 
 -- the place after the lines so far
-abbrev pub place_behind : Replayer → Place
-place_behind replayer = replayer.place
+abbrev pub place_after : Replayer → Place
+place_after replayer = replayer.place
 
 -- no hypothesis that is kept has a result as its left side
 abbrev pub HasRoots : Replayer → Type 0

@@ -1,6 +1,6 @@
 //! What accepted logs are: laws, each a function with an empty body.
 ghost use Rattle.std.specs.Prelude.{◌≡◌, ◌∷◌, [], ℕ, ℤ, All, List, Ok, Result, Some};
-ghost use Rattle.rx_check.specs.Answers.{Answers, verdict_told};
+ghost use Rattle.rx_check.specs.Answers.{Answers, verdict_known};
 ghost use Rattle.rx_check.specs.LineByLine.{log_of};
 ghost use Rattle.rx_check.specs.Results.{EndEqual};
 ghost use Rattle.rx_check.specs.declared.check_end.CheckEnd.{CheckEnd};
@@ -34,7 +34,7 @@ pub fn answers_agree()
     ensures { (parts : RuleParts) (goal : Equation) (log : Log) →
         (one two : Result (Unit {0}) CheckEnd) →
         IsWellMade parts → Answers one parts goal log → Answers two parts goal log →
-        (first second : Verdict) → verdict_told one ≡ Some first → verdict_told two ≡ Some second →
+        (first second : Verdict) → verdict_known one ≡ Some first → verdict_known two ≡ Some second →
         first ≡ second }
 {}
 

@@ -3,7 +3,7 @@ ghost use Rattle.std.specs.Prelude.{◌≡◌, ◌≢◌, ◌+◌, [], ◌∷◌
 ghost use Rattle.std.specs.Prelude.{OnOk, OnErr, IfOk};
 ghost use Rattle.rx_check.specs.Answers.{Answers};
 ghost use Rattle.rx_check.specs.LineByLine.{HasRoots, MayCome, Stands, StandsFor, log_of};
-ghost use Rattle.rx_check.specs.LineByLine.{place_behind};
+ghost use Rattle.rx_check.specs.LineByLine.{place_after};
 ghost use Rattle.rx_joins.specs.Goals.{Inside, IsFitting};
 ghost use Rattle.rx_log.specs.Places.{after};
 ghost use Rattle.rx_log.specs.Reading.{pushed};
@@ -36,7 +36,7 @@ pub struct Replayer {
 }
 
 /// The number after this one; NoMemory where there is none.
-fn symbol_behind(symbol: u64) -> Result<u64, NoMemory>
+fn symbol_after(symbol: u64) -> Result<u64, NoMemory>
     ensures { IfOk result (λ next. next ≡ symbol + 1) }
 {
     match symbol.checked_add(1) {
@@ -46,30 +46,30 @@ fn symbol_behind(symbol: u64) -> Result<u64, NoMemory>
 }
 
 /// The place after the trees or the rank of the symbol that is next.
-fn behind_symbol(place: Place) -> Result<Place, NoMemory>
+fn after_symbol(place: Place) -> Result<Place, NoMemory>
     ensures covers { (next : ℕ) → place ≡ Place.InCovers next →
         IfOk result (λ behind. behind ≡ Place.InCovers (next + 1)) }
     ensures ranks { (columns next : ℕ) → place ≡ Place.InRanks columns next →
         IfOk result (λ behind. behind ≡ Place.InRanks columns (next + 1)) }
 {
     match place {
-        Place::InCovers(next) => Ok(Place::InCovers(symbol_behind(next)?)),
+        Place::InCovers(next) => Ok(Place::InCovers(symbol_after(next)?)),
         Place::InRanks { columns, next } => Ok(Place::InRanks {
             columns,
-            next: symbol_behind(next)?,
+            next: symbol_after(next)?,
         }),
         other => Ok(other),
     }
 }
 
 /// The place after a line that may come at the place.
-fn behind_line(place: Place, line: &Line) -> Result<Place, NoMemory>
+fn after_line(place: Place, line: &Line) -> Result<Place, NoMemory>
     ensures { (symbol : ℕ) (behind : Place) → after place (line.now, symbol) ≡ Some behind →
         IfOk result (λ next. next ≡ behind) }
 {
     match line {
         Line::Header => Ok(Place::InCovers(0)),
-        Line::Cover(_) | Line::Rank(_) => behind_symbol(place),
+        Line::Cover(_) | Line::Rank(_) => after_symbol(place),
         Line::Step(_) => Ok(Place::InSteps),
         Line::Ranks(columns) => Ok(Place::InRanks {
             columns: *columns,
@@ -131,19 +131,19 @@ impl Replayer {
     /// The line must be one that may come after those so far. No kept hypothesis may have a result
     /// as its left side; that is so at the start and after each line.
     pub fn line(&mut self, alloc: Global, rules: &RuleSet, line: Line) -> Result<(), NoMemory>
-        requires comes { MayCome (place_behind self.old) line }
+        requires comes { MayCome (place_after self.old) line }
         requires roots { HasRoots self.old }
         ensures stands { OnOk result ((goal : Equation) (its : List (Line × ℕ)) →
             (symbol : ℕ) (behind : Place) → StandsFor self.old rules.now goal its →
-            after (place_behind self.old) (line, symbol) ≡ Some behind →
+            after (place_after self.old) (line, symbol) ≡ Some behind →
             StandsFor self.new rules.now goal (its ++ (line, symbol) ∷ [])) }
         ensures place { OnOk result ((symbol : ℕ) (behind : Place) →
-            after (place_behind self.old) (line, symbol) ≡ Some behind →
-            place_behind self.new ≡ behind) }
+            after (place_after self.old) (line, symbol) ≡ Some behind →
+            place_after self.new ≡ behind) }
         ensures kept { OnErr result (self.new ≡ self.old) }
         ensures roots { HasRoots self.new }
     {
-        let behind = behind_line(self.place, &line)?;
+        let behind = after_line(self.place, &line)?;
         self.judge(alloc, rules, line)?;
         self.place = behind;
         Ok(())
@@ -154,7 +154,7 @@ impl Replayer {
     ///
     /// The last line of a log must have come.
     pub fn finish(self, rules: &RuleSet) -> Result<(), CheckEnd>
-        requires { place_behind self ≡ Place.Finished }
+        requires { place_after self ≡ Place.Finished }
         ensures exact { (goal : Equation) (its : List (Line × ℕ)) →
             StandsFor self rules.now goal its → Answers result rules.now goal (log_of its) }
         ensures decided { (goal : Equation) (its : List (Line × ℕ)) →

@@ -2,7 +2,7 @@
 use Rattle.std.proofs.Common.{◌≡◌, ◌∙◌, ◌↔◌, ap, sym, subst, refl, cond, ℕ, ◌+◌, Bool, true, false, ◌||◌, Some, List, ◌∷◌, drop, map, slice_get}
 use Rattle.std.specs.List.{find}
 use Rattle.rx_poly.proofs.TermLaws.{by_false}
-use Rattle.rx_row.proofs.Same.{row_eq, told_itself_row, told_same_row}
+use Rattle.rx_row.proofs.Same.{row_eq, known_itself_row, known_same_row}
 use Rattle.rx_row.specs.Membership.{stands_among}
 use Rattle.rx_row.specs.Negation.{negation}
 use Rattle.rx_row.specs.declared.row.Row.{Row}
@@ -13,14 +13,14 @@ use Rattle.rx_term.specs.declared.rule.Rule.{Rule}
 use Rattle.rx_coverable.specs.Coverable.{is_open}
 
 -- a test of whether the row is the negation of the other
-told_negation : (b : Bool) (row other : Row) → ((b ≡ true) ↔ (row ≡ negation other)) →
+known_negation : (b : Bool) (row other : Row) → ((b ≡ true) ↔ (row ≡ negation other)) →
     row_eq (negation other) row ≡ b
-told_negation true row other tells =
+known_negation true row other tells =
     subst (λ r. row_eq (negation other) r ≡ true) (sym (tells.0 refl))
-    (told_itself_row (negation other))
-told_negation false row other tells =
+    (known_itself_row (negation other))
+known_negation false row other tells =
     by_false (row_eq (negation other) row) (λ e. let no : false ≡ true =
-    tells.1 (sym (told_same_row (negation other) row e)) in cc)
+    tells.1 (sym (known_same_row (negation other) row e)) in cc)
 
 -- one turn of the walk over the rows whose negation it may be
 pub next_negation : (b : Bool) (rows : List Row) (row other : Row) (i : ℕ) → slice_get rows i ≡
@@ -30,7 +30,7 @@ pub next_negation : (b : Bool) (rows : List Row) (row other : Row) (i : ℕ) →
 next_negation b rows row other i there tells =
     ap (λ rs. stands_among (map negation rs) row) (from_place rows i other there)
     ∙ ap (λ c. c || stands_among (map negation (drop (i + 1) rows)) row)
-    (told_negation b row other tells)
+    (known_negation b row other tells)
 
 -- one turn of the walk over rows that may be open
 pub next_open : (b : Bool) (path rows : List Row) (row : Row) (i : ℕ) → slice_get rows i ≡

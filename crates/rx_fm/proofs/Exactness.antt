@@ -68,8 +68,8 @@ module _ (m : Mono) where
       stage_of (resolvent m) (factor m) (at m) ts
       (growth (resolvent m) (factor m) (at m) ts (top (resolvent m) (factor m) (at m) ts))
 
-  elements-behind : (ts : List (Combination × ℤ)) → elements (behind ts) ≡ stage m (elements ts)
-  elements-behind ts =
+  elements-after : (ts : List (Combination × ℤ)) → elements (behind ts) ≡ stage m (elements ts)
+  elements-after ts =
       let k = growth (resolvent m) (factor m) (at m) ts (top (resolvent m) (factor m) (at m) ts) in
       elements-append (map (λ (t : Combination × ℤ). (t.0, k *ℤ t.1)) (kept (at m) ts))
       (joined_pairs (resolvent m) (factor m) (above (at m) ts) (below (at m) ts))
@@ -267,7 +267,7 @@ no_weights limit (m ∷ ms) ts e h c r =
     let none = found_none (first_negative (elements ts)) further e in
     let within = within_none (stage_within limit m (elements ts))
     (eliminate limit ms (stage m (elements ts))) none.1 in
-    let same = elements-behind m ts in
+    let same = elements-after m ts in
     let other : is_one m ≡ false = by_not (is_one m)
     (and_parts (not (is_one m)) (list_all (λ x. not (is_one x)) ms) c.none_one).0 in
     no_weights limit ms (behind m ts)

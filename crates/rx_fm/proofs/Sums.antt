@@ -35,18 +35,18 @@ factor_zero (negsuc a) b h g e = absurd (omega (arith, ints))
 -- ---- the sign of a number, as three tests find it
 
 pub data Told (z : ℤ) : Type 0 where
-  told_zero : is_zero z ≡ true → int_lt (pos 0) z ≡ false → int_lt z (pos 0) ≡ false → Told z
-  told_above : is_zero z ≡ false → int_lt (pos 0) z ≡ true → int_lt z (pos 0) ≡ false → Told z
-  told_below : is_zero z ≡ false → int_lt (pos 0) z ≡ false → int_lt z (pos 0) ≡ true → Told z
+  known_zero : is_zero z ≡ true → int_lt (pos 0) z ≡ false → int_lt z (pos 0) ≡ false → Told z
+  known_above : is_zero z ≡ false → int_lt (pos 0) z ≡ true → int_lt z (pos 0) ≡ false → Told z
+  known_below : is_zero z ≡ false → int_lt (pos 0) z ≡ false → int_lt z (pos 0) ≡ true → Told z
 
 pub told : (z : ℤ) → Told z
-told (pos zero) = told_zero refl refl refl
+told (pos zero) = known_zero refl refl refl
 told (pos (suc n)) =
-    told_above (by_false (is_zero (pos (suc n)))
+    known_above (by_false (is_zero (pos (suc n)))
     (λ e. let k : pos (suc n) ≡ pos 0 = zero_is (pos (suc n)) e in omega (arith, ints)))
     (grind (arith, ints)) (grind (arith, ints))
 told (negsuc n) =
-    told_below (by_false (is_zero (negsuc n))
+    known_below (by_false (is_zero (negsuc n))
     (λ e. let k : negsuc n ≡ pos 0 = zero_is (negsuc n) e in cc)) refl refl
 
 pub above_of : (z : ℤ) → int_lt (pos 0) z ≡ true → pos 0 <ℤ z
@@ -74,11 +74,11 @@ module _ {A : Type 0} where
       omega (arith, ints)
 
   -- with reversed signs the sum has a reversed sign
-  pub sum-turned : (f : A → ℤ) (ts : List (A × ℤ)) →
+  pub sum-negated : (f : A → ℤ) (ts : List (A × ℤ)) →
       sum_terms (λ x. neg_ℤ (f x)) ts +ℤ sum_terms f ts ≡ pos 0
-  sum-turned f [] = refl
-  sum-turned f (t ∷ ts) =
-      let rest = sum-turned f ts in
+  sum-negated f [] = refl
+  sum-negated f (t ∷ ts) =
+      let rest = sum-negated f ts in
       let one : t.1 *ℤ neg_ℤ (f t.0) +ℤ t.1 *ℤ f t.0 ≡ pos 0 =
       sym (mul-add-int t.1 (neg_ℤ (f t.0)) (f t.0)) ∙ ap (λ z. t.1 *ℤ z) (omega (arith, ints)) ∙
       mul-zero-int t.1 in
@@ -169,21 +169,21 @@ module _ {A : Type 0} where
       sum_terms f (cond b (t ∷ ts) ts) ≡ sum_terms f ts
   without_it f t ts e = ap (λ b. sum_terms f (cond b (t ∷ ts) ts)) e
 
-  by_told : (a f : A → ℤ) (t : A × ℤ) (ts : List (A × ℤ)) → Told (a t.0) → sum_terms f ts ≡
+  by_known : (a f : A → ℤ) (t : A × ℤ) (ts : List (A × ℤ)) → Told (a t.0) → sum_terms f ts ≡
       sum_terms f (kept a ts) +ℤ (sum_terms f (above a ts) +ℤ sum_terms f (below a ts)) →
       sum_terms f (t ∷ ts) ≡ sum_terms f (kept a (t ∷ ts)) +ℤ
       (sum_terms f (above a (t ∷ ts)) +ℤ sum_terms f (below a (t ∷ ts)))
-  by_told a f t ts (told_zero z p n) e =
+  by_known a f t ts (known_zero z p n) e =
       let k = with_it f t (kept a ts) z in
       let u = without_it f t (above a ts) p in
       let v = without_it f t (below a ts) n in
       omega (arith, ints)
-  by_told a f t ts (told_above z p n) e =
+  by_known a f t ts (known_above z p n) e =
       let k = without_it f t (kept a ts) z in
       let u = with_it f t (above a ts) p in
       let v = without_it f t (below a ts) n in
       omega (arith, ints)
-  by_told a f t ts (told_below z p n) e =
+  by_known a f t ts (known_below z p n) e =
       let k = without_it f t (kept a ts) z in
       let u = without_it f t (above a ts) p in
       let v = with_it f t (below a ts) n in
@@ -193,7 +193,7 @@ module _ {A : Type 0} where
   pub sum_split : (a f : A → ℤ) (ts : List (A × ℤ)) → sum_terms f ts ≡
       sum_terms f (kept a ts) +ℤ (sum_terms f (above a ts) +ℤ sum_terms f (below a ts))
   sum_split a f [] = refl
-  sum_split a f (t ∷ ts) = by_told a f t ts (told (a t.0)) (sum_split a f ts)
+  sum_split a f (t ∷ ts) = by_known a f t ts (told (a t.0)) (sum_split a f ts)
 
   -- ---- the double sum
 
@@ -310,7 +310,7 @@ module _ {A : Type 0} where
         both_same =
             let split = sum_split a a ts in
             let none = kept_zero in
-            let back = sum-turned a (below a ts) in
+            let back = sum-negated a (below a ts) in
             omega (arith, ints)
 
         module _ (f : A → ℤ) (cross : Every (λ p. Every (λ q. Crosswise a f p.0 q.0) (below a ts))

@@ -127,16 +127,16 @@ pub(crate) fn combined(
     let mut made = Items::with_capacity(alloc, left.len())?;
     let mut xs = left;
     let mut ys = right;
-    while let Some((x, xs_behind)) = xs.split_first() {
-        let Some((y, ys_behind)) = ys.split_first() else {
+    while let Some((x, xs_after)) = xs.split_first() {
+        let Some((y, ys_after)) = ys.split_first() else {
             break;
         };
         let Some(sum) = sum_of_products(k, x, l, y) else {
             return Err(FmEnd::Large);
         };
         made.push(sum)?;
-        xs = xs_behind;
-        ys = ys_behind;
+        xs = xs_after;
+        ys = ys_after;
     }
     Ok(made)
 }

@@ -3,7 +3,7 @@ use Rattle.std.proofs.Common.{◌≡◌, sym, subst, refl, Bool, true, false, �
 use Rattle.rx_row.specs.Membership.{pushed}
 use Rattle.rx_row.specs.declared.row.Row.{Row}
 use Rattle.rx_term.specs.Shapes.{Shape, same_shape}
-use Rattle.rx_term.proofs.RuleLaws.{shape_itself, told_shape}
+use Rattle.rx_term.proofs.RuleLaws.{shape_itself, known_shape}
 use Rattle.rx_form.specs.Pieces.{all_pushed}
 
 -- a test of whether two shapes are one is the test by cases
@@ -12,7 +12,7 @@ same_test true s t h = sym (subst (λ x. same_shape s x ≡ true) (h.0 refl) (sh
 same_test false s t h = by (same_shape s t) refl
   where
     by : (b : Bool) → same_shape s t ≡ b → false ≡ b
-    by true is = h.1 (told_shape s t is)
+    by true is = h.1 (known_shape s t is)
     by false is = refl
 
 -- a row after others is added last

@@ -6,7 +6,7 @@ use Rattle.rx_graph.specs.Components.{AreComponents}
 use Rattle.rx_graph.specs.Graph.{IsClosed, IsGraphOf, MarksReached, More, One, Path, below, leads, reaches, reversed_edges, together}
 use Rattle.rx_graph.specs.Marks.{Labelled, Named}
 use Rattle.rx_graph.proofs.Elements.{none_in}
-use Rattle.rx_graph.proofs.GraphLaws.{among_below, one_behind, or_cases, or_left, or_right, path_behind, reaches_path}
+use Rattle.rx_graph.proofs.GraphLaws.{among_below, one_behind, or_cases, or_left, or_right, path_after, reaches_path}
 use Rattle.rx_graph.proofs.RowLaws.{leads_back, leads_forth, leads_within}
 
 -- ---- paths reversed
@@ -36,7 +36,7 @@ pub joined_on : (edges : List (ℕ × ℕ)) (a b c : ℕ) → Joined edges a b �
 joined_on edges a b c (inl same) also = subst (λ k. Joined edges k c) (sym same) also
 joined_on edges a b c (inr paths) (inl same) = subst (Joined edges a) same (inr paths)
 joined_on edges a b c (inr paths) (inr more) =
-    inr (path_behind edges a b c paths.0 more.0, path_behind edges c b a more.1 paths.1)
+    inr (path_after edges a b c paths.0 more.0, path_after edges c b a more.1 paths.1)
 
 module _ (n : ℕ) (edges : List (ℕ × ℕ)) (within : (a b : ℕ) → leads edges a b ≡ true → (a < n) ×
     (b < n)) where

@@ -134,8 +134,8 @@ pub one_behind : (edges : List (ℕ × ℕ)) (a b c : ℕ) → Path edges a b �
 one_behind edges _ _ c (One a b is) also = More a b c is (One b c also)
 one_behind edges _ _ d (More a b c is rest) also = More a b d is (one_behind edges b c d rest also)
 
-pub path_behind : (edges : List (ℕ × ℕ)) (a b c : ℕ) → Path edges a b → Path edges b c →
+pub path_after : (edges : List (ℕ × ℕ)) (a b c : ℕ) → Path edges a b → Path edges b c →
     Path edges a c
-path_behind edges _ _ c (One a b is) also = More a b c is also
-path_behind edges _ _ d (More a b c is rest) also =
-    More a b d is (path_behind edges b c d rest also)
+path_after edges _ _ c (One a b is) also = More a b c is also
+path_after edges _ _ d (More a b c is rest) also =
+    More a b d is (path_after edges b c d rest also)

@@ -10,7 +10,7 @@ use Rattle.rx_graph.specs.Graph.{IsClosed, IsGraphOf, IsMarked, MarksReached, On
 use Rattle.rx_graph.specs.Ranked.{AreRanks, IsReachCount}
 use Rattle.rx_graph.specs.Rows.{HasEdge}
 use Rattle.rx_graph.proofs.ComponentLaws.{Joined, joined_back, joined_same, label_within, no_path, same_joined}
-use Rattle.rx_graph.proofs.GraphLaws.{path_behind}
+use Rattle.rx_graph.proofs.GraphLaws.{path_after}
 use Rattle.rx_graph.proofs.Marking.{marked_within, now_marked, still_marked, was_marked}
 use Rattle.rx_graph.proofs.RowLaws.{from_within, leads_within}
 
@@ -126,12 +126,12 @@ joined_reaches : (edges : List (ℕ × ℕ)) (a b c : ℕ) → Joined edges a b 
     Reaches edges a c
 joined_reaches edges a b c (inl same) also = subst (λ k. Reaches edges k c) (sym same) also
 joined_reaches edges a b c (inr paths) (inl same) = inr (subst (Path edges a) same paths.0)
-joined_reaches edges a b c (inr paths) (inr path) = inr (path_behind edges a b c paths.0 path)
+joined_reaches edges a b c (inr paths) (inr path) = inr (path_after edges a b c paths.0 path)
 
 path_reaches : (edges : List (ℕ × ℕ)) (a b c : ℕ) → Path edges a b → Reaches edges b c →
     Path edges a c
 path_reaches edges a b c path (inl same) = subst (Path edges a) same path
-path_reaches edges a b c path (inr more) = path_behind edges a b c path more
+path_reaches edges a b c path (inr more) = path_after edges a b c path more
 
 -- ---- all vertices
 

@@ -231,8 +231,8 @@ pub record Turned (rows : List (List ℕ)) (i : ℕ) (back : List (List ℕ)) : 
   pub has : (a b : ℕ) → a < i → HasEdge rows a b → HasEdge back b a
   pub only : (a b : ℕ) → HasEdge back b a → (a < i) × HasEdge rows a b
 
-pub begin_turned : (n : ℕ) (rows back : List (List ℕ)) → IsGraphOf n [] back → Turned rows 0 back
-begin_turned n rows back graph = record {
+pub begin_reversed : (n : ℕ) (rows back : List (List ℕ)) → IsGraphOf n [] back → Turned rows 0 back
+begin_reversed n rows back graph = record {
   has = λ a b less has. absurd (omega (arith, less));
   only = λ a b has. absurd (false≢true ((graph.targets b a).0 has));
 }
@@ -283,10 +283,10 @@ leads_forth (e ∷ edges) a b is =
     ]
 
 -- where all vertices were taken, it is the graph of the edges reversed
-pub turned_graph : (n : ℕ) (edges : List (ℕ × ℕ)) (rows back : List (List ℕ)) (i : ℕ) → n ≤ i →
+pub reversed_graph : (n : ℕ) (edges : List (ℕ × ℕ)) (rows back : List (List ℕ)) (i : ℕ) → n ≤ i →
     length back ≡ n → Turned rows i back → IsGraphOf n edges rows
     → IsGraphOf n (reversed_edges edges) back
-turned_graph n edges rows back i all count turned graph = record {
+reversed_graph n edges rows back i all count turned graph = record {
   count = count;
   targets = λ a b. (
     λ has. leads_back edges b a ((graph.targets b a).0 (turned.only b a has).1),
@@ -298,9 +298,9 @@ turned_graph n edges rows back i all count turned graph = record {
   );
 }
 
-pub turned_closed : (rows back : List (List ℕ)) (i : ℕ) → i ≤ length back → Turned rows i back →
+pub reversed_closed : (rows back : List (List ℕ)) (i : ℕ) → i ≤ length back → Turned rows i back →
     IsClosed back
-turned_closed rows back i few turned a b has =
+reversed_closed rows back i few turned a b has =
     let less = (turned.only b a has).0 in omega (arith, less, few)
 
 pub empty_closed : (n : ℕ) (rows : List (List ℕ)) → IsGraphOf n [] rows → IsClosed rows

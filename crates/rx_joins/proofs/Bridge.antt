@@ -22,7 +22,7 @@ use Rattle.rx_term.specs.declared.term.Term.{Term}
 use Rattle.rx_term.specs.declared.term.Term.TheVariants.{Frame, outs-Return, outs-Fail, outs-Call, outs-Frame}
 use Rattle.rx_term.proofs.Equations.{Form, AReturn, AFail, ACall, AFrame, form}
 use Rattle.rx_term.proofs.Places.{at_place}
-use Rattle.rx_term.proofs.RuleLaws.{told_shape}
+use Rattle.rx_term.proofs.RuleLaws.{known_shape}
 use Rattle.rx_form.specs.Forming.{Forming, found_or, limited, provided, ◌>>=◌}
 use Rattle.rx_form.specs.Judging.{Judgement, Shown, Fault, certificates, first_rows, given_to, judged}
 use Rattle.rx_form.specs.Kinds.{are_common, formed_on}
@@ -113,7 +113,7 @@ equation_fits parts e is =
     record { left = both.0; right = both.1 }
 
 one_shape : (s t : Term) → have_one_shape s t ≡ true → shape_of s ≡ shape_of t
-one_shape s t is = told_shape (shape_of s) (shape_of t) is
+one_shape s t is = known_shape (shape_of s) (shape_of t) is
 
 module _ (parts : RuleParts) (hypotheses : List Rule) (goal : Equation) (f : FormedStep) where
   abbrev MakesIt : FormedStep → Type 0

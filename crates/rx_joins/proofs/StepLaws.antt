@@ -43,12 +43,12 @@ use Rattle.rx_term.specs.declared.term.Term.TheVariants.{Return, Fail, Frame}
 use Rattle.rx_term.proofs.BoundLaws.{equation_below}
 use Rattle.rx_term.proofs.Equations.{fits-Frame, ground-Frame, ground-Return, ground-Fail}
 use Rattle.rx_term.proofs.FittingLaws.{ground_fits}
-use Rattle.rx_term.proofs.KeepingLaws.{shape_in_term, fits_in_term, fits_behind}
+use Rattle.rx_term.proofs.KeepingLaws.{shape_in_term, fits_in_term, fits_after}
 use Rattle.rx_term.proofs.Kept.{was_there}
 use Rattle.rx_term.proofs.Locality.{hold_too, same_outer}
 use Rattle.rx_term.proofs.MeaningLaws.{ground_in_term}
-use Rattle.rx_term.proofs.RedexLaws.{ground_behind, ground_replaced, redex_is}
-use Rattle.rx_term.proofs.RuleLaws.{instance_steps_inside, rule_steps_inside, redex_shape, told_shape}
+use Rattle.rx_term.proofs.RedexLaws.{ground_after, ground_replaced, redex_is}
+use Rattle.rx_term.proofs.RuleLaws.{instance_steps_inside, rule_steps_inside, redex_shape, known_shape}
 use Rattle.rx_term.proofs.ShapeLaws.{aligned, declared_once, same_count, one_ground_term}
 use Rattle.rx_form.specs.Making.{differing, expanded_by, failures, from_side, instance_rows, results_of, with_result, with_sides}
 use Rattle.rx_form.specs.Pieces.{all_zero, equal_arguments, equal_lists, other_side, side_of, with_rows, with_side}
@@ -161,7 +161,7 @@ module _ (parts : RuleParts) (hypotheses : List Rule) (setting : Setting parts) 
       subst (λ u. Step R (ground_at a t) (ground_at a u))
       (sym (at.replaces (subst_term (matched redex) rule.right)))
       (rule_steps_inside parts setting.made a rule at.place t redex among at.stands
-      (fits_behind parts at.place t redex fits at.stands) shape holds)
+      (fits_after parts at.place t redex fits at.stands) shape holds)
 
   pub simplify_good : (side : Side) (goal : Equation) (rule : Rule) (redex : Term) →
       IsFitting parts goal → Contains parts.rules rule
@@ -197,7 +197,7 @@ module _ (parts : RuleParts) (hypotheses : List Rule) (setting : Setting parts) 
       let new = replace_at n t (subst_term ws h.right) in
       let both = All-parts (RowHolds a) (equal_arguments part (subst_term ws h.left)).form
       (subst_rows ws h.rows) (follows a holds) in
-      let part_fits = fits_behind parts n t part (side_fits side goal fits) stands in
+      let part_fits = fits_after parts n t part (side_fits side goal fits) stands in
       let same = equal_grounds part (subst_term ws h.left) a part_fits
       (fits_in_term ws parts h.left ∙ h_fits) (shape ∙ sym (shape_in_term ws h.left)) both.0 in
       stepped side goal new a
@@ -225,7 +225,7 @@ module _ (parts : RuleParts) (hypotheses : List Rule) (setting : Setting parts) 
   expand_step side goal redex fits is all a holds =
       let t = side_of side goal in
       let at = placed t redex is in
-      let redex_fits = fits_behind parts at.place t redex (side_fits side goal fits) at.stands in
+      let redex_fits = fits_after parts at.place t redex (side_fits side goal fits) at.stands in
       let has = setting.covered (shape_of redex)
       (redex_shape parts redex (redex_is t redex is) redex_fits)
       (updated_assignment a (matched redex)) tt in
@@ -237,7 +237,7 @@ module _ (parts : RuleParts) (hypotheses : List Rule) (setting : Setting parts) 
       let test : Rule → Bool = λ q. same_shape (shape_of q.left) (shape_of redex) in (
         ground_at a new,
         redex_steps a r t redex (was_there test parts.rules r has.among) is
-            (side_fits side goal fits) (told_shape (shape_of r.left) (shape_of redex)
+            (side_fits side goal fits) (known_shape (shape_of r.left) (shape_of redex)
             (passes test parts.rules r has.among)) instances,
         joined side new r (good a (rows side new r
             (all_pushed-hold a goal.rows (subst_rows (matched redex) r.rows) holds instances))),
@@ -412,10 +412,10 @@ module _ (parts : RuleParts) (hypotheses : List Rule) (setting : Setting parts) 
       bounded = bounded_by_bound goal
 
       s_fits : term_fits parts s ≡ true
-      s_fits = fits_behind parts m goal.left s fits.left at_s
+      s_fits = fits_after parts m goal.left s fits.left at_s
 
       t_fits : term_fits parts t ≡ true
-      t_fits = fits_behind parts n goal.right t fits.right at_t
+      t_fits = fits_after parts n goal.right t fits.right at_t
 
       ends : EndsInside (Inside parts) R (ground_at a s)
       ends = setting.ends (ground_at a s) (ground_fits parts a s s_fits)
@@ -432,14 +432,14 @@ module _ (parts : RuleParts) (hypotheses : List Rule) (setting : Setting parts) 
           let left : Reaches RH (ground_at a goal.left) (in_context (outer_frames a m goal.left) g)
           =
           subst (λ u. Reaches RH u (in_context (outer_frames a m goal.left) g))
-          (sym (ground_behind a m goal.left s at_s))
+          (sym (ground_after a m goal.left s at_s))
           (Reaches-in_context (outer_frames a m goal.left)
           (Reaches-by_rule R (Instance hypotheses) reached)) in
           let right : Reaches RH (ground_at a goal.right)
           (in_context (outer_frames a n goal.right) g) =
           subst (λ u. Reaches RH u (in_context (outer_frames a n goal.right) g))
           (ap (in_context (outer_frames a n goal.right)) same ∙
-          sym (ground_behind a n goal.right t at_t))
+          sym (ground_after a n goal.right t at_t))
           (Reaches-in_context (outer_frames a n goal.right)
           (Reaches-by_rule R (Instance hypotheses) reached)) in
           Joinable-before_left RH (ground_at a goal.left)

@@ -8,7 +8,7 @@ use Rattle.std.specs.Prelude.{◌^◌}
 use Rattle.rx_check.specs.Answers.{Answers}
 use Rattle.rx_check.specs.LineByLine as lines
 use Rattle.rx_check.specs.declared.check_end.CheckEnd.{CheckEnd}
-use Rattle.rx_check.specs.LineByLine.{MayCome, log_of, place_behind}
+use Rattle.rx_check.specs.LineByLine.{MayCome, log_of, place_after}
 use Rattle.rx_check.proofs.LineOrder.{pushed_all-append}
 use Rattle.rx_io.specs.Outside.{HoldsBytes, IsOpenedAt, Names}
 use Rattle.rx_log.specs.Places.{after}
@@ -53,7 +53,7 @@ same_place e = cc
 
 pub starts : {check : LogCheck} {log : Log} (parts : RuleParts) (goal : Equation) →
     text.StandsFor check.reader log [] → lines.StandsFor check.replayer parts goal [] →
-    place_behind check.replayer ≡ place_of check.reader
+    place_after check.replayer ≡ place_of check.reader
 starts {check} {log} parts goal reader replayer =
     same_place (sym replayer.arrives) ∙ sym (at_header check.reader.place log
     (reader.taken.are ∙ no_lines reader.texts reader.left reader.joined))
@@ -80,7 +80,7 @@ stands_first {check} parts goal reader replayer =
 -- ---- a line
 
 pub may_come : {check : LogCheck} (line : Line) (next : Place) → IsInStep check →
-    MayLead (place_of check.reader) line next → MayCome (place_behind check.replayer) line
+    MayLead (place_of check.reader) line next → MayCome (place_after check.replayer) line
 may_come line next step (symbol, leads) =
     (symbol, next, ap (λ (p : Place). after p (line, symbol)) step.place ∙ leads)
 
@@ -105,12 +105,12 @@ pub line_replayed : {old new : LogCheck} {parts : RuleParts} {goal : Equation} {
     MayLead (place_of old.reader) line (place_of new.reader)
     → ((its : List (Line × ℕ)) (symbol : ℕ) (behind : Place) →
     lines.StandsFor old.replayer parts goal its →
-    after (place_behind old.replayer) (line, symbol) ≡ Some behind →
+    after (place_after old.replayer) (line, symbol) ≡ Some behind →
     lines.StandsFor new.replayer parts goal (its ++ (line, symbol) ∷ []))
     → StandsFor new parts goal (bytes ++ up_to_feed piece)
 line_replayed {old} {new} {parts} {goal} {bytes} piece count line h t step (symbol, leads) replays =
     let r = replayed_of h t.0 in
-    let comes : after (place_behind old.replayer) (line, symbol) ≡ Some (place_of new.reader) =
+    let comes : after (place_after old.replayer) (line, symbol) ≡ Some (place_of new.reader) =
     ap (λ (p : Place). after p (line, symbol)) step.place ∙ leads in
     let replayed : IsReplayed new parts goal (pushed line h.log) [] = record {
       its = r.its ++ (line, symbol) ∷ [];

@@ -1,7 +1,7 @@
 -- What is kept of a log that is replayed while it is read.
 use Rattle.std.specs.Prelude.{◌≡◌, ◌≤◌, ⊤, ℕ, Bool, true, false, Option, Some, None, List, [], ◌++◌, length}
 use Rattle.rx_check.specs.LineByLine as lines
-use Rattle.rx_check.specs.LineByLine.{HasRoots, log_of, place_behind}
+use Rattle.rx_check.specs.LineByLine.{HasRoots, log_of, place_after}
 use Rattle.rx_log.specs.declared.line.Line.{Line}
 use Rattle.rx_log.specs.declared.log.Log.{Log}
 use Rattle.rx_logtext.specs.Logs.{up_to_feed}
@@ -18,7 +18,7 @@ lines_in check = text.lines_in check.reader
 -- the reader and the replay are at one place of the log, and no kept hypothesis has a result as its
 -- left side
 pub record IsInStep (check : LogCheck) : Type 0 where
-  pub place : place_behind check.replayer ≡ place_of check.reader
+  pub place : place_after check.replayer ≡ place_of check.reader
   pub roots : HasRoots check.replayer
 
 -- all bytes were looked at, and the lines that they end were replayed

@@ -17,7 +17,7 @@ use rx_term::{Equation, RuleSet};
 use std::alloc::Global;
 
 /// The bytes after the first ones.
-fn bytes_behind(bytes: &[u8], count: usize) -> &[u8]
+fn bytes_after(bytes: &[u8], count: usize) -> &[u8]
     requires { count ≤ length bytes.now }
     ensures { result.now ≡ drop count bytes.now }
 {
@@ -89,7 +89,7 @@ impl LogCheck {
             let Some(count) = self.take_line(alloc, rules, left)? else {
                 return Ok(());
             };
-            left = bytes_behind(left, count);
+            left = bytes_after(left, count);
         }
         Ok(())
     }

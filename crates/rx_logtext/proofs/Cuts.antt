@@ -94,53 +94,53 @@ cut_once (x ∷ xs) (y ∷ ys) more rest p q e =
 
 -- ---- what comes up to the first line feed
 
-found_further : (b : Bool) (x : ℕ) (xs more : List ℕ) → eqb x 10 ≡ b → is_one_line (x ∷ xs) ≡ true →
+found_in_rest : (b : Bool) (x : ℕ) (xs more : List ℕ) → eqb x 10 ≡ b → is_one_line (x ∷ xs) ≡ true →
     (is_one_line xs ≡ true → up_to_feed (xs ++ 10 ∷ more) ≡ xs ++ 10 ∷ [])
     → up_to_feed (x ∷ (xs ++ 10 ∷ more)) ≡ x ∷ (xs ++ 10 ∷ [])
-found_further true x xs more e h rest = absurd (no_line x xs (eqb-true x 10 e) h)
-found_further false x xs more e h rest =
+found_in_rest true x xs more e h rest = absurd (no_line x xs (eqb-true x 10 e) h)
+found_in_rest false x xs more e h rest =
     rw e (ap (λ (ys : List ℕ). x ∷ ys) (rest (tail_line x xs h)))
 
 pub up_to_feed-found : (xs more : List ℕ) → is_one_line xs ≡ true → up_to_feed (xs ++ 10 ∷ more) ≡
     xs ++ 10 ∷ []
 up_to_feed-found [] more h = refl
 up_to_feed-found (x ∷ xs) more h =
-    found_further (eqb x 10) x xs more refl h (up_to_feed-found xs more)
+    found_in_rest (eqb x 10) x xs more refl h (up_to_feed-found xs more)
 
 pub up_to_feed-cut : (piece xs more : List ℕ) → piece ≡ xs ++ 10 ∷ more → is_one_line xs ≡ true →
     up_to_feed piece ≡ xs ++ 10 ∷ []
 up_to_feed-cut piece xs more e h = ap up_to_feed e ∙ up_to_feed-found xs more h
 
-none_further : (b : Bool) (x : ℕ) (xs : List ℕ) → eqb x 10 ≡ b → is_one_line (x ∷ xs) ≡ true →
+none_in_rest : (b : Bool) (x : ℕ) (xs : List ℕ) → eqb x 10 ≡ b → is_one_line (x ∷ xs) ≡ true →
     (is_one_line xs ≡ true → up_to_feed xs ≡ xs) → up_to_feed (x ∷ xs) ≡ x ∷ xs
-none_further true x xs e h rest = absurd (no_line x xs (eqb-true x 10 e) h)
-none_further false x xs e h rest = rw e (ap (λ (ys : List ℕ). x ∷ ys) (rest (tail_line x xs h)))
+none_in_rest true x xs e h rest = absurd (no_line x xs (eqb-true x 10 e) h)
+none_in_rest false x xs e h rest = rw e (ap (λ (ys : List ℕ). x ∷ ys) (rest (tail_line x xs h)))
 
 pub up_to_feed-none : (xs : List ℕ) → is_one_line xs ≡ true → up_to_feed xs ≡ xs
 up_to_feed-none [] h = refl
-up_to_feed-none (x ∷ xs) h = none_further (eqb x 10) x xs refl h (up_to_feed-none xs)
+up_to_feed-none (x ∷ xs) h = none_in_rest (eqb x 10) x xs refl h (up_to_feed-none xs)
 
-drop_further : (b : Bool) (x : ℕ) (xs : List ℕ) → eqb x 10 ≡ b → (more : List ℕ) ×
+drop_rest : (b : Bool) (x : ℕ) (xs : List ℕ) → eqb x 10 ≡ b → (more : List ℕ) ×
     (xs ≡ up_to_feed xs ++ more) → (more : List ℕ) × (x ∷ xs ≡ up_to_feed (x ∷ xs) ++ more)
-drop_further true x xs e rest = (xs, rw e refl)
-drop_further false x xs e rest = (rest.0, rw e (ap (λ (ys : List ℕ). x ∷ ys) rest.1))
+drop_rest true x xs e rest = (xs, rw e refl)
+drop_rest false x xs e rest = (rest.0, rw e (ap (λ (ys : List ℕ). x ∷ ys) rest.1))
 
 -- it begins the bytes
 pub up_to_feed-drop : (xs : List ℕ) → (more : List ℕ) × (xs ≡ up_to_feed xs ++ more)
 up_to_feed-drop [] = ([], refl)
-up_to_feed-drop (x ∷ xs) = drop_further (eqb x 10) x xs refl (up_to_feed-drop xs)
+up_to_feed-drop (x ∷ xs) = drop_rest (eqb x 10) x xs refl (up_to_feed-drop xs)
 
 pub up_to_feed-within : (xs : List ℕ) → length (up_to_feed xs) ≤ length xs
 up_to_feed-within xs =
     let f = up_to_feed-drop xs in omega (arith, ap length f.1, length-append (up_to_feed xs) f.0)
 
-some_further : (b : Bool) (x : ℕ) (xs : List ℕ) → eqb x 10 ≡ b → 0 < length (up_to_feed (x ∷ xs))
-some_further true x xs e = rw e (omega arith)
-some_further false x xs e = rw e (omega arith)
+some_rest : (b : Bool) (x : ℕ) (xs : List ℕ) → eqb x 10 ≡ b → 0 < length (up_to_feed (x ∷ xs))
+some_rest true x xs e = rw e (omega arith)
+some_rest false x xs e = rw e (omega arith)
 
 pub up_to_feed-some : (xs : List ℕ) → (xs ≡ [] → ⊥) → 0 < length (up_to_feed xs)
 up_to_feed-some [] h = absurd (h refl)
-up_to_feed-some (x ∷ xs) h = some_further (eqb x 10) x xs refl
+up_to_feed-some (x ∷ xs) h = some_rest (eqb x 10) x xs refl
 
 -- a line feed ends a line
 pub fed : (xs more : List ℕ) → is_one_line (xs ++ 10 ∷ more) ≡ false

@@ -70,10 +70,10 @@ module _ {A : Type 0} (text : A → List ℕ) (in_range : A → Bool) where
             over_end text in_range xs;
       })
 
-  behind_number : {bytes : List ℕ} {at end m : ℕ} (n : ℕ) (xs : List A) →
+  after_number : {bytes : List ℕ} {at end m : ℕ} (n : ℕ) (xs : List A) →
       StandsAt numbers bytes at m end → numbers.in_range n ≡ true → drop at bytes ≡
       natural_text n ++ each_spaced text xs → drop end bytes ≡ each_spaced text xs
-  behind_number {bytes} {at} {end} {m} n xs s r e =
+  after_number {bytes} {at} {end} {m} n xs s r e =
       (numbers_once (drop at bytes) m n (drop end bytes) (each_spaced text xs) s.begins
       (record { in_range = r; text = e; over = over_end text in_range xs })).1
 
@@ -94,7 +94,7 @@ no_trees_of_cover bytes at end m e s none = λ thing t.
     let o = only_cover (drop at bytes) thing.0 thing.1 (sym e ∙ t.text) in
     let r : is_readable_line (line.Cover o.0) thing.1 ≡ true =
     ap (λ (l : Line). is_readable_line l thing.1) (sym o.1.0) ∙ t.in_range in
-    none o.0 (second _ _ r) (behind_number trees.text trees.in_range thing.1 o.0 s (first _ _ r)
+    none o.0 (second _ _ r) (after_number trees.text trees.in_range thing.1 o.0 s (first _ _ r)
     o.1.1)
 
 pub no_symbol_of_rank : (bytes : List ℕ) (at : ℕ) → bytes ≡ codes "rank s" ++ drop at bytes →
@@ -112,7 +112,7 @@ no_columns_of_rank bytes at end m e s none = λ thing t.
     let o = only_rank (drop at bytes) thing.0 thing.1 (sym e ∙ t.text) in
     let r : is_readable_line (line.Rank o.0) thing.1 ≡ true =
     ap (λ (l : Line). is_readable_line l thing.1) (sym o.1.0) ∙ t.in_range in
-    none o.0 (second _ _ (second _ _ r)) (behind_number polynomials.text polynomials.in_range
+    none o.0 (second _ _ (second _ _ r)) (after_number polynomials.text polynomials.in_range
     thing.1 o.0 s (first _ _ r) o.1.1)
 
 pub no_width_of_rank : IsUnambiguous (words polynomials.text polynomials.in_range) →
@@ -125,7 +125,7 @@ no_width_of_rank once bytes at end m ys e s some wide = λ thing t.
     ap (λ (l : Line). is_readable_line l thing.1) (sym o.1.0) ∙ t.in_range in
     let same : ys ≡ o.0 = each_once polynomials.text polynomials.in_range once ys o.0 some.0
     (second _ _ (second _ _ r)) (sym some.1 ∙
-    behind_number polynomials.text polynomials.in_range thing.1 o.0 s (first _ _ r) o.1.1) in
+    after_number polynomials.text polynomials.in_range thing.1 o.0 s (first _ _ r) o.1.1) in
     let w : is_width (length o.0) ≡ true = first _ _ (second _ _ r) in
     let f : false ≡ true = sym wide ∙ ap (λ (xs : List Body). is_width (length xs)) same ∙ w in
     cc

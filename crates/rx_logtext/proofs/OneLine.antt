@@ -23,9 +23,9 @@ pub spread : {A : Type 0} (text : A → List ℕ) → AreOneLine text → (thing
 spread text one [] = refl
 spread text one (x ∷ xs) = joined (text x) (flat_map text xs) (one x) (spread text one xs)
 
-behind_byte : (byte : ℕ) (bytes : List ℕ) → (byte ≡ 10 → ⊥) → is_one_line bytes ≡ true
+after_byte : (byte : ℕ) (bytes : List ℕ) → (byte ≡ 10 → ⊥) → is_one_line bytes ≡ true
     → is_one_line (byte ∷ bytes) ≡ true
-behind_byte byte bytes other one =
+after_byte byte bytes other one =
     and_from (not (eqb byte 10)) (is_one_line bytes)
     (not_from_false (eqb byte 10) (ne_eqb byte 10 other)) one
 
@@ -49,7 +49,7 @@ digits_one_line zero n bytes one = one
 digits_one_line (suc k) n bytes one =
     let d = digit_glyph false (n % 10) in
     let more : is_one_line (d ∷ bytes) ≡ true =
-    behind_byte d bytes (no_feed_glyph (n % 10)) one in
+    after_byte d bytes (no_feed_glyph (n % 10)) one in
     either (eqb (n / 10) 0) (d ∷ bytes) (digits_onto k 10 false (n / 10) (d ∷ bytes)) more
     (digits_one_line k (n / 10) (d ∷ bytes) more)
 

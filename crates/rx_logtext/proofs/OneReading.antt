@@ -138,8 +138,8 @@ one_log text a b p q =
 module _ {text : List ℕ} {log : Log} {number : ℕ} (a : IsLog text log) (b : IsFirstBad text number)
   where
     -- the log has more lines than those before the bad one, or just these
-    lines_behind : GoesOn b.before (texts_of log) b.left [] → ⊥
-    lines_behind g = by g.more g.whole g.one_by_one g.is
+    lines_after : GoesOn b.before (texts_of log) b.left [] → ⊥
+    lines_after g = by g.more g.whole g.one_by_one g.is
       where
         by : (more : List (List ℕ)) → texts_of log ≡ b.before ++ more
             → list_all is_one_line more ≡ true → b.left ≡ ended more ++ [] → ⊥
@@ -174,6 +174,6 @@ never_both text log number a b =
     let both : ended b.before ++ b.left ≡ ended (texts_of log) ++ [] =
     sym b.joined ∙ whole_text a in
     elim (compared b.before (texts_of log) b.left [] b.one_by_one (texts_one_line log) both) [
-      | inl g ↦ lines_behind a b g
+      | inl g ↦ lines_after a b g
       | inr g ↦ lines_before a b g
     ]

@@ -41,13 +41,13 @@ snoc_first : {A : Type 0} (c new s : List A) (x : A) → new ≡ c ++ x ∷ [] �
     (c ++ s) ++ x ∷ []
 snoc_first c new s x e f = rw (e, f) (simp append-nil)
 
-snoc_behind : {A : Type 0} (b c new s : List A) (r x : A) → new ≡ c ++ x ∷ [] → s ≡ [] → b ++ r ∷
+snoc_after : {A : Type 0} (b c new s : List A) (r x : A) → new ≡ c ++ x ∷ [] → s ≡ [] → b ++ r ∷
     (new ++ s) ≡ (b ++ r ∷ (c ++ s)) ++ x ∷ []
-snoc_behind b c new s r x e f = rw (e, f) (simp (append-nil, append_assoc))
+snoc_after b c new s r x e f = rw (e, f) (simp (append-nil, append_assoc))
 
-alone_behind : {A : Type 0} (b y c s : List A) (r : A) → y ≡ b → c ≡ [] → s ≡ [] → b ++ r ∷
+alone_after : {A : Type 0} (b y c s : List A) (r : A) → y ≡ b → c ≡ [] → s ≡ [] → b ++ r ∷
     (c ++ s) ≡ y ++ r ∷ []
-alone_behind b y c s r e f g = rw (e, f, g) refl
+alone_after b y c s r e f g = rw (e, f, g) refl
 
 -- ---- the lines up to the next place
 
@@ -110,7 +110,7 @@ ranks place log columns at e = record {
   at = (refl, (rw at.0 refl, at.1));
   widths = rw at.0 refl;
   lines =
-      alone_behind (before_ranks log) _ (by_symbol line.Rank 0 log.table.ranks)
+      alone_after (before_ranks log) _ (by_symbol line.Rank 0 log.table.ranks)
       (plain line.Pair log.pairs)
       (line.Ranks columns, 0) e (ap (λ (table : RankTable). by_symbol line.Rank 0 table.ranks) at.0)
       (ap (plain line.Pair) at.1);
@@ -133,7 +133,7 @@ rank log columns n new at w e = record {
       (eq-eqb _ _ (e ∙ at.0));
   lines =
       let k : n ≡ 0 + length log.table.ranks = omega (arith, at.1.0) in
-      snoc_behind (before_ranks log) (by_symbol line.Rank 0 log.table.ranks) _
+      snoc_after (before_ranks log) (by_symbol line.Rank 0 log.table.ranks) _
       (plain line.Pair log.pairs)
       (line.Ranks log.table.columns, 0) (line.Rank new, n)
       (by_symbol-push line.Rank 0 log.table.ranks new n k) (ap (plain line.Pair) at.1.1);

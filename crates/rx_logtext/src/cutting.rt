@@ -24,7 +24,7 @@ pub(crate) fn split_line(text: &[u8]) -> Option<(&[u8], &[u8])>
 }
 
 /// The text after its first bytes.
-pub(crate) fn text_behind(text: &[u8], count: usize) -> &[u8]
+pub(crate) fn text_after(text: &[u8], count: usize) -> &[u8]
     requires { count ≤ length text.now }
     ensures { result.now ≡ drop count text.now }
 {

@@ -4,7 +4,7 @@ ghost use Rattle.rx_log.specs.Reading.{blank, pushed};
 ghost use Rattle.rx_logtext.specs.Logs.{ReadsLog};
 ghost use Rattle.rx_logtext.specs.Readers.{pushed_if};
 
-use crate::cutting::text_behind;
+use crate::cutting::text_after;
 use crate::log_end::LogEnd;
 use crate::reader::LogReader;
 use rx_log::{Line, Log};
@@ -65,7 +65,7 @@ pub fn read_log(alloc: Global, text: &[u8]) -> Result<Log, LogEnd>
     while !left.is_empty() {
         let (count, line) = reader.take(alloc, left)?;
         push_taken(&mut log, line)?;
-        left = text_behind(left, count);
+        left = text_after(left, count);
     }
     reader.finish()?;
     Ok(log)

@@ -207,7 +207,7 @@ fn push_before_ranks(log: &Log, out: &mut Vec<u8>) -> Result<(), NoMemory>
 }
 
 /// The ranks and the pairs.
-fn push_behind_steps(log: &Log, out: &mut Vec<u8>) -> Result<(), NoMemory>
+fn push_after_steps(log: &Log, out: &mut Vec<u8>) -> Result<(), NoMemory>
     ensures { OnOk result (out.new.items
         ≡ out.old.items ++ ended (line_texts (behind_steps log.now))) }
 {
@@ -221,7 +221,7 @@ fn push_log(log: &Log, out: &mut Vec<u8>) -> Result<(), NoMemory>
     ensures { OnOk result (out.new.items ≡ out.old.items ++ log_text log.now) }
 {
     push_before_ranks(log, out)?;
-    push_behind_steps(log, out)?;
+    push_after_steps(log, out)?;
     push_word(out, b"EQUIVALENT\n")
 }
 

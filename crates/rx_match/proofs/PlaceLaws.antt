@@ -3,8 +3,8 @@
 use Rattle.std.proofs.Common.{◌≡◌, ◌∙◌, ap, sym, refl, ℕ, ◌+◌, true, false, Option, Some, None}
 use Rattle.std.specs.Option.{option_map_or}
 use Rattle.rx_term.proofs.Equations.{induct, depth-Return, depth-Fail, depth-Call, depth-Frame, shape-Return, shape-Fail, shape-Call, shape-Frame}
-use Rattle.rx_term.proofs.KeepingLaws.{depth_behind}
-use Rattle.rx_term.proofs.RuleLaws.{told_shape}
+use Rattle.rx_term.proofs.KeepingLaws.{depth_after}
+use Rattle.rx_term.proofs.RuleLaws.{known_shape}
 use Rattle.rx_term.specs.Shapes.{Shape, Return, Fail, Call, Frame, shape_of}
 use Rattle.rx_term.specs.Stacks.{suffix_at, depth_of}
 use Rattle.rx_term.specs.declared.rule.Equation.{Equation}
@@ -32,7 +32,7 @@ frames_of = induct (λ t. depth_of t ≡ frames (shape_of t))
 -- terms of one shape have equally many
 one_depth : (s t : Term) → have_one_shape s t ≡ true → depth_of s ≡ depth_of t
 one_depth s t h =
-    frames_of s ∙ ap frames (told_shape (shape_of s) (shape_of t) h) ∙ sym (frames_of t)
+    frames_of s ∙ ap frames (known_shape (shape_of s) (shape_of t) h) ∙ sym (frames_of t)
 
 module _ (goal : Equation) (hypothesis : Rule) (side : Side) where
   by_part : (n : ℕ) (o : Option Term) → suffix_at n (side_of side goal) ≡ o
@@ -40,7 +40,7 @@ module _ (goal : Equation) (hypothesis : Rule) (side : Side) where
       → depth_of (side_of side goal) ≡ n + depth_of hypothesis.left
   by_part n None e h = cc
   by_part n (Some part) e h =
-      depth_behind n (side_of side goal) part e ∙ ap (λ d. n + d) (one_depth part hypothesis.left h)
+      depth_after n (side_of side goal) part e ∙ ap (λ d. n + d) (one_depth part hypothesis.left h)
 
   -- n frames are over the part
   pub place_is : (n : ℕ) → is_place goal hypothesis side n ≡ true → depth_of (side_of side goal) ≡

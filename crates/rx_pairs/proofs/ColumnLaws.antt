@@ -5,7 +5,7 @@ use Rattle.std.proofs.lemmas.Int.{ints}
 use Rattle.std.proofs.lemmas.List.Elements.{All-cons, All-head, All-nil, All-tail}
 use Rattle.std.proofs.lemmas.Bool.Decides.{leb_tells}
 use Rattle.rx_poly.proofs.Constants.{value-number}
-use Rattle.rx_poly.proofs.DivisionLaws.{constant_worth}
+use Rattle.rx_poly.proofs.DivisionLaws.{constant_value}
 use Rattle.rx_poly.proofs.PolyLaws.{value-body_difference}
 use Rattle.rx_poly.proofs.SubstitutedValue.{value-subst_body}
 use Rattle.rx_poly.specs.Constants.{number}
@@ -76,7 +76,7 @@ module _ (a : ℕ → ℤ) (pair : Pair) where
         is_below o ≡ true → column (on_right q) ≡ 0
     by_number None is h = cc
     by_number (Some k) is h =
-        let same = sym (right_value q) ∙ constant_worth a (at_right pair q).form k is in
+        let same = sym (right_value q) ∙ constant_value a (at_right pair q).form k is in
         ap column same ∙ below_zero_column k h
 
   -- where the rows of a column that is to hold do, its value doesn't rise

@@ -8,7 +8,7 @@ use Rattle.rx_term.specs.declared.term.Sym.{Sym}
 use Rattle.rx_term.specs.declared.term.Term.{Term, Term-F, out-Term}
 use Rattle.rx_term.specs.declared.term.Term.TheVariants.{Frame, outs-Return, outs-Fail, outs-Call, outs-Frame}
 use Rattle.rx_term.proofs.Equations.{Form, AReturn, AFail, ACall, AFrame, form, suffix_at-Frame, depth-Return, depth-Fail, depth-Call, depth-Frame}
-use Rattle.rx_term.proofs.KeepingLaws.{depth_behind}
+use Rattle.rx_term.proofs.KeepingLaws.{depth_after}
 use Rattle.rx_pairs.specs.Common.{IsCommon, IsLargest, IsPart}
 
 -- ---- parts
@@ -50,13 +50,13 @@ part_of_part t s u (n, h) in_s = along n t s u h in_s
 
 -- a part is no deeper
 pub part_depth : (t s : Term) → IsPart t s → depth_of s ≤ depth_of t
-part_depth t s (n, h) = let d = depth_behind n t s h in omega (arith, d)
+part_depth t s (n, h) = let d = depth_after n t s h in omega (arith, d)
 
 -- parts of one depth are one
 pub one_part : (t s u : Term) → IsPart t s → IsPart t u → depth_of s ≡ depth_of u → s ≡ u
 one_part t s u (n, h) (m, g) same =
-    let d = depth_behind n t s h in
-    let e = depth_behind m t u g in
+    let d = depth_after n t s h in
+    let e = depth_after m t u g in
     let places : n ≡ m = omega (arith, d, e, same) in
     same_Some s u (sym h ∙ ap (λ k. suffix_at k t) places ∙ g)
 
@@ -92,8 +92,8 @@ behind_more (suc n) t = behind_one n (λ u. behind_more n u) t (form t)
 -- of two parts the less deep is a part of the other
 pub part_below : (t s u : Term) → IsPart t s → IsPart t u → depth_of u ≤ depth_of s → IsPart s u
 part_below t s u (n, h) (m, g) most =
-    let d = depth_behind n t s h in
-    let e = depth_behind m t u g in
+    let d = depth_after n t s h in
+    let e = depth_after m t u g in
     let places : m ≡ n + (m - n) = omega (arith, d, e, most) in
     (m - n, behind_more n t (m - n) s u h (ap (λ k. suffix_at k t) (sym places) ∙ g))
 
@@ -184,8 +184,8 @@ module _ (a b : Term) (f g : Sym) (ps qs : List Body) (h t start : Term)
   ]
 
   -- after two frames that are the same the start stays
-  pub behind_same : f ≡ g → ps ≡ qs → Walk a b h t start
-  behind_same symbols arguments = record {
+  pub after_same : f ≡ g → ps ≡ qs → Walk a b h t start
+  after_same symbols arguments = record {
     level = level_under;
     first = first_under;
     second = second_under;
@@ -196,8 +196,8 @@ module _ (a b : Term) (f g : Sym) (ps qs : List Body) (h t start : Term)
   }
 
   -- after two that differ is a new one
-  pub behind_different : ((f ≡ g) × (ps ≡ qs) → ⊥) → Walk a b h t t
-  behind_different differ = record {
+  pub after_different : ((f ≡ g) × (ps ≡ qs) → ⊥) → Walk a b h t t
+  after_different differ = record {
     level = level_under;
     first = first_under;
     second = second_under;
@@ -226,13 +226,13 @@ module _ (a b here there h t start : Term) (f g : Sym) (ps qs : List Body) (inne
   next_same same =
       subst (λ x. Walk a b x t start) (sym at)
       (subst (λ y. Walk a b inner y start) (sym to)
-      (behind_same a b f g ps qs inner further start read same.0 same.1))
+      (after_same a b f g ps qs inner further start read same.0 same.1))
 
   pub next_different : ((f ≡ g) × (ps ≡ qs) → ⊥) → Walk a b h t t
   next_different differ =
       subst (λ x. Walk a b x t t) (sym at)
       (subst (λ y. Walk a b inner y y) (sym to)
-      (behind_different a b f g ps qs inner further start read differ))
+      (after_different a b f g ps qs inner further start read differ))
 
 -- it ends where nothing is left of either
 module _ (a b here there start : Term) (w : Walk a b here there start) (none : depth_of here ≡ 0)

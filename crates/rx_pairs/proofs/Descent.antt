@@ -10,7 +10,7 @@ use Rattle.rx_term.specs.Stacks.{suffix_at, under_frame}
 use Rattle.rx_term.specs.declared.term.Term.{Term, Term-F}
 use Rattle.rx_term.specs.declared.term.Term.TheVariants.{outs-Call}
 use Rattle.rx_term.proofs.Equations.{ground-Return, ground-Fail, ground-Call, ground-Frame, outer-Frame}
-use Rattle.rx_term.proofs.RedexLaws.{ground_behind}
+use Rattle.rx_term.proofs.RedexLaws.{ground_after}
 use Rattle.rx_term.specs.declared.rule.Rule.{Rule}
 use Rattle.rx_pairs.specs.Lowering.{IsLower}
 use Rattle.rx_pairs.specs.Pairs.{Part, part, IsRoot, OfCall, OfFrame, AreParts, Common, AtReturn, AtFail, AtCall, AtFrame, ArePairs, PairsOf, pair_of}
@@ -62,7 +62,7 @@ module _ (table : RankTable) (a : ℕ → ℤ) (rule : Rule) (root : Part)
       record {
         others = others;
         whole =
-            ap (weight_of rank) (ground_behind a (suc k) left t stands) ∙
+            ap (weight_of rank) (ground_after a (suc k) left t stands) ∙
             (weight_of-in_context rank (outer_frames a (suc k) left) (ground_at a t) ∙
             ap (λ w. w ++ weight_of rank (ground_at a t)) is);
       }

@@ -15,7 +15,7 @@ use Rattle.rx_term.specs.declared.term.Term.{Term, Term-F, out-Term}
 use Rattle.rx_term.specs.declared.term.Term.TheFolds.{fold_out-Term}
 use Rattle.rx_term.specs.declared.term.Term.TheVariants.{Return, Fail, Call, Frame, outs-Return, outs-Fail, outs-Call, outs-Frame}
 use Rattle.rx_term.proofs.Equations.{Form, AReturn, AFail, ACall, AFrame, form, induct, depth-Frame}
-use Rattle.rx_term.proofs.KeepingLaws.{depth_behind}
+use Rattle.rx_term.proofs.KeepingLaws.{depth_after}
 use Rattle.rx_pairs.specs.Listed.{is_same_term, is_under, is_under_most, pairs_by, pairs_by_all, parts_by, parts_level, same_arguments, same_level}
 use Rattle.rx_pairs.specs.Pairs.{AreAllPairs, AreParts, ArePairs, AtCall, AtFail, AtFrame, AtReturn, Common, HasRoot, IsRoot, IsUnder, NoRules, OfCall, OfFrame, OneMore, PairsOf, Part, pair_of}
 use Rattle.rx_pairs.specs.declared.pair.Pair.{Pair}
@@ -188,7 +188,7 @@ module _ (left t : Term) where
 
   pub under_complete : IsUnder left t → is_under left t ≡ true
   under_complete under =
-      let deep = depth_behind (suc under.0) left t under.1 in
+      let deep = depth_after (suc under.0) left t under.1 in
       under_seen (depth_of left) under.0 (omega (arith, deep)) under.1
 
 -- ---- parts

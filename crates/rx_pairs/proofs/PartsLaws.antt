@@ -8,7 +8,7 @@ use Rattle.rx_term.specs.declared.term.Sym.{Sym}
 use Rattle.rx_term.specs.declared.term.Term.{Term, Term-F}
 use Rattle.rx_term.specs.declared.term.Term.TheVariants.{Return, Fail, Call, Frame, outs-Return, outs-Fail, outs-Call, outs-Frame}
 use Rattle.rx_term.proofs.Equations.{Form, AReturn, AFail, ACall, AFrame, form, suffix_at-Frame, depth-Frame}
-use Rattle.rx_term.proofs.KeepingLaws.{depth_behind}
+use Rattle.rx_term.proofs.KeepingLaws.{depth_after}
 use Rattle.rx_pairs.specs.Common.{IsCommon, IsPart}
 use Rattle.rx_pairs.specs.Lent.{IsKept, IsLargestUnder, all_lent, lent, outer_level, outer_parts}
 use Rattle.rx_pairs.specs.Pairs.{AreParts, AtCall, AtFail, AtFrame, AtReturn, Common, IsRoot, IsUnder, OfCall, OfFrame, Part, part}
@@ -157,7 +157,7 @@ module _ (left : Term) where
       → AreParts left right (outer_parts (depth_of count) right)
   parts_over right kept count one deep =
       let (n, is) = one.part in
-      let d = depth_behind n right kept is in
+      let d = depth_after n right kept is in
       let places : n ≡ depth_of count = omega (arith, d, deep) in
       subst (AreParts left right) (append-nil (outer_parts (depth_of count) right))
       (along (depth_of count) right kept [] (ap (λ k. suffix_at k right) (sym places) ∙ is)
@@ -183,7 +183,7 @@ module _ (left : Term) where
       → IsPart right end → depth_of end ≡ 0 → IsEndPart end rest →
       AreParts left right (outer_parts (depth_of right) right ++ rest)
   all_over right end rest none (n, is) deep last =
-      let d = depth_behind n right end is in
+      let d = depth_after n right end is in
       let places : n ≡ depth_of right = omega (arith, d, deep) in
       along (depth_of right) right end rest (ap (λ k. suffix_at k right) (sym places) ∙ is)
       (λ u in_right deeper under. none u under in_right)

@@ -41,14 +41,14 @@ by_number_test t ts k a true h e = one_term t ts k a h (some_same t.1 k e)
 by_number_test t ts k a false h e = cc
 
 -- a sum that is a number has it as value
-number_worth : (a : ℕ → ℤ) (ts : List (Mono × ℤ)) (k : ℤ) → constant_of ts ≡ Some k →
+number_value : (a : ℕ → ℤ) (ts : List (Mono × ℤ)) (k : ℤ) → constant_of ts ≡ Some k →
     sum_terms (mono_value a) ts ≡ k
-number_worth a [] k e = some_same (pos 0) k e
-number_worth a (t ∷ ts) k e = by_number_test t ts k a (is_number (t ∷ ts)) refl e
+number_value a [] k e = some_same (pos 0) k e
+number_value a (t ∷ ts) k e = by_number_test t ts k a (is_number (t ∷ ts)) refl e
 
-pub constant_worth : (a : ℕ → ℤ) (p : Body) (k : ℤ) → constant_of (out-Body p).terms ≡ Some k →
+pub constant_value : (a : ℕ → ℤ) (p : Body) (k : ℤ) → constant_of (out-Body p).terms ≡ Some k →
     value a p ≡ k
-constant_worth a p k e = value_is a p ∙ number_worth a (out-Body p).terms k e
+constant_value a p k e = value_is a p ∙ number_value a (out-Body p).terms k e
 
 -- a sum that is no number has a term, and isn't found to be one
 no_number_test : (ts : List (Mono × ℤ)) → constant_of ts ≡ None → (is_empty ts ≡ false) ×
@@ -153,13 +153,13 @@ module _ (a : ℕ → ℤ) (f : ℤ → ℤ → ℤ) (p q whole : Body)
       value a (division f whole (cond b ByZero (by_number m z))) ≡ safe f (value a p) (value a q)
   by_zero m z true h g k =
       value-of_terms a [] ∙ ap (λ b. cond b (pos 0) (f (value a p) (value a q)))
-      (sym (ap is_zero (constant_worth a q z k) ∙ h))
+      (sym (ap is_zero (constant_value a q z k) ∙ h))
   by_zero None z false h g k = open_is
   by_zero (Some w) z false h g k =
-      value-number a (f w z) ∙ (λ i. f (sym (constant_worth a p w g) i)
-      (sym (constant_worth a q z k) i))
+      value-number a (f w z) ∙ (λ i. f (sym (constant_value a p w g) i)
+      (sym (constant_value a q z k) i))
       ∙ ap (λ b. cond b (pos 0) (f (value a p) (value a q)))
-      (sym (ap is_zero (constant_worth a q z k) ∙ h))
+      (sym (ap is_zero (constant_value a q z k) ∙ h))
 
   by_parts : (m n : Option ℤ) → constant_of (out-Body p).terms ≡ m →
       constant_of (out-Body q).terms ≡ n → value a (division f whole (parts_of m n)) ≡

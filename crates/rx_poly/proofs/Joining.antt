@@ -7,7 +7,7 @@ use Rattle.rx_poly.specs.Order.{atom_cmp}
 use Rattle.rx_poly.specs.Products.{join_sorted}
 use Rattle.rx_poly.proofs.Merging.{no_length}
 use Rattle.rx_poly.proofs.OrderLemmas.{atom_total}
-use Rattle.rx_poly.proofs.SortedLaws.{sorted_parts, join-left, join-right, before_all, not_behind_all}
+use Rattle.rx_poly.proofs.SortedLaws.{sorted_parts, join-left, join-right, before_all, not_after_all}
 use Rattle.rx_poly.specs.declared.body.Atom.{Atom}
 
 -- what of the whole is in `joined`, and what the two lists still add to it
@@ -40,7 +40,7 @@ module _ (joined whole : List Atom) where
       let s = sorted_parts atom_cmp atom_total x xs j.xs_sorted in
       let t = sorted_parts atom_cmp atom_total y ys j.ys_sorted in
       push x (x ∷ xs) (y ∷ ys) xs (y ∷ ys) (join-left atom_cmp atom_total x xs (y ∷ ys) s
-      (not_behind_all atom_cmp atom_total x y ys e t)) s.rest j.ys_sorted j
+      (not_after_all atom_cmp atom_total x y ys e t)) s.rest j.ys_sorted j
 
   push_right : (x y : Atom) (xs ys : List Atom) → is_gt (atom_cmp x y) ≡ true →
       Joining joined (x ∷ xs) (y ∷ ys) whole → Joining (joined ++ y ∷ []) (x ∷ xs) ys whole

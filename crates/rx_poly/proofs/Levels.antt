@@ -92,28 +92,28 @@ mono_depth_is m =
 
 -- ---- normal forms
 
-abbrev told_atom : Atom → Atom × Bool
-told_atom x = (x, is_normal_atom x)
+abbrev known_atom : Atom → Atom × Bool
+known_atom x = (x, is_normal_atom x)
 
-abbrev told_term : Mono × ℤ → (Mono × Bool) × ℤ
-told_term t = ((t.0, is_normal_mono t.0), t.1)
+abbrev known_term : Mono × ℤ → (Mono × Bool) × ℤ
+known_term t = ((t.0, is_normal_mono t.0), t.1)
 
-told_atoms : (xs : List Atom) → map (λ (x : Atom × Bool). x.0) (map told_atom xs) ≡ xs
-told_atoms [] = refl
-told_atoms (x ∷ xs) = ap (λ ys. x ∷ ys) (told_atoms xs)
+known_atoms : (xs : List Atom) → map (λ (x : Atom × Bool). x.0) (map known_atom xs) ≡ xs
+known_atoms [] = refl
+known_atoms (x ∷ xs) = ap (λ ys. x ∷ ys) (known_atoms xs)
 
-passed_atoms : (xs : List Atom) → list_all (λ (x : Atom × Bool). x.1) (map told_atom xs) ≡
+passed_atoms : (xs : List Atom) → list_all (λ (x : Atom × Bool). x.1) (map known_atom xs) ≡
     list_all is_normal_atom xs
 passed_atoms [] = refl
 passed_atoms (x ∷ xs) = ap (λ s. is_normal_atom x && s) (passed_atoms xs)
 
-told_terms : (ts : List (Mono × ℤ)) → map (λ (t : (Mono × Bool) × ℤ). ((t.0).0, t.1))
-    (map told_term ts) ≡ ts
-told_terms [] = refl
-told_terms (t ∷ ts) = ap (λ us. t ∷ us) (told_terms ts)
+known_terms : (ts : List (Mono × ℤ)) → map (λ (t : (Mono × Bool) × ℤ). ((t.0).0, t.1))
+    (map known_term ts) ≡ ts
+known_terms [] = refl
+known_terms (t ∷ ts) = ap (λ us. t ∷ us) (known_terms ts)
 
 passed_terms : (ts : List (Mono × ℤ)) → list_all
-    (λ (t : (Mono × Bool) × ℤ). (t.0).1 && fits_i128 t.1) (map told_term ts) ≡
+    (λ (t : (Mono × Bool) × ℤ). (t.0).1 && fits_i128 t.1) (map known_term ts) ≡
     list_all (λ (t : Mono × ℤ). is_normal_mono t.0 && fits_i128 t.1) ts
 passed_terms [] = refl
 passed_terms (t ∷ ts) = ap (λ s. (is_normal_mono t.0 && fits_i128 t.1) && s) (passed_terms ts)
@@ -126,7 +126,7 @@ is_normal_mono_is m =
     ∙ para-roll-Mono Bool Bool Bool atom_normal_level body_normal_level mono_normal_level
     (out-Mono m)
     ∙ (λ i. passed_atoms (out-Mono m).atoms i &&
-    is_sorted atom_cmp (told_atoms (out-Mono m).atoms i))
+    is_sorted atom_cmp (known_atoms (out-Mono m).atoms i))
 
 -- a sum is normal where its monomials are, its coefficients fit and its terms are listed
 pub is_normal_is : (b : Body) → is_normal b ≡
@@ -137,7 +137,7 @@ is_normal_is b =
     ∙ para-roll-Body Bool Bool Bool atom_normal_level body_normal_level mono_normal_level
     (out-Body b)
     ∙ (λ i. passed_terms (out-Body b).terms i &&
-    is_sparse_sorted mono_cmp (told_terms (out-Body b).terms i))
+    is_sparse_sorted mono_cmp (known_terms (out-Body b).terms i))
 
 -- ---- atoms
 
@@ -147,19 +147,19 @@ normal_first (Atom-F.Var n) = true
 normal_first (Atom-F.Div p q) = (is_normal p && is_normal q) && is_open p q
 normal_first (Atom-F.Mod p q) = (is_normal p && is_normal q) && is_open p q
 
-told_first : (y : Atom-F Atom Body Mono) → is_normal_atom (roll-Atom y) ≡ normal_first y
-told_first (Atom-F.Var n) =
+known_first : (y : Atom-F Atom Body Mono) → is_normal_atom (roll-Atom y) ≡ normal_first y
+known_first (Atom-F.Var n) =
     para-roll-Atom Bool Bool Bool atom_normal_level body_normal_level mono_normal_level
     (Atom-F.Var n)
-told_first (Atom-F.Div p q) =
+known_first (Atom-F.Div p q) =
     para-roll-Atom Bool Bool Bool atom_normal_level body_normal_level mono_normal_level
     (Atom-F.Div p q)
-told_first (Atom-F.Mod p q) =
+known_first (Atom-F.Mod p q) =
     para-roll-Atom Bool Bool Bool atom_normal_level body_normal_level mono_normal_level
     (Atom-F.Mod p q)
 
 is_normal_atom_is : (x : Atom) → is_normal_atom x ≡ normal_first (out-Atom x)
-is_normal_atom_is x = ap is_normal_atom (sym (roll-out-Atom x)) ∙ told_first (out-Atom x)
+is_normal_atom_is x = ap is_normal_atom (sym (roll-out-Atom x)) ∙ known_first (out-Atom x)
 
 -- a variable is normal
 pub var_is_normal : (n : ℕ) → is_normal_atom (Var n) ≡ true

@@ -27,10 +27,10 @@ pub term_value-Mod : (a : ℕ → ℤ) (l r : ITerm) → term_value a (Mod l r) 
 term_value-Mod a l r = fold_out-ITerm ℤ (term_level a) (Mod l r) ∙ rw (outs-Mod l r) refl
 
 -- what has -1 times the value of the part has the value of its negation
-pub turned_value : {t : ITerm} (term : ITerm) {inner : ITerm} (p : Body) → inner ≡ t →
+pub negated_value : {t : ITerm} (term : ITerm) {inner : ITerm} (p : Body) → inner ≡ t →
     ((a : ℕ → ℤ) → value a p ≡ term_value a inner) → term ≡ Neg t → (b : Body) →
     ((a : ℕ → ℤ) → value a b ≡ negsuc 0 *ℤ value a p) → (a : ℕ → ℤ) → value a b ≡ term_value a term
-turned_value {t} term {inner} p is p_is e b h a =
+negated_value {t} term {inner} p is p_is e b h a =
     let minus : negsuc 0 *ℤ term_value a inner ≡ neg_ℤ (term_value a inner) = omega (arith, ints) in
     h a ∙ ap (λ n. negsuc 0 *ℤ n) (p_is a) ∙ minus ∙ ap (λ u. neg_ℤ (term_value a u)) is ∙
     sym (term_value-Neg a t) ∙ ap (term_value a) (sym e)

@@ -253,9 +253,9 @@ module _ {A : Type 0} (R : A → A → Ordering) where
         over z g =
             ap is_gt (o.antisymm z y ∙ ap ordering_reverse (below x y z h (le_not_gt (R x z) g)))
 
-    pub not_behind_all : (x y : A) (ys : List A) → is_gt (R x y) ≡ false → Sorted y ys →
+    pub not_after_all : (x y : A) (ys : List A) → is_gt (R x y) ≡ false → Sorted y ys →
         list_all (λ z. is_le (R x z)) (y ∷ ys) ≡ true
-    not_behind_all x y ys h s =
+    not_after_all x y ys h s =
         let first = not_gt_is_le (R x y) h in
         and_from (is_le (R x y)) (list_all (λ z. is_le (R x z)) ys) first
         (all-weaker (λ z. is_le (R y z)) (λ z. is_le (R x z)) ys (λ z g. le_trans x y z first g)

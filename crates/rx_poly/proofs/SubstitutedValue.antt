@@ -50,19 +50,19 @@ module _ (a : ℕ → ℤ) (ws : List (ℕ × Body)) where
   abbrev bare_mono : Mono-F PartAtom PartBody PartMono → Mono-F Atom Body Mono
   bare_mono = map-Mono PartAtom PartBody PartMono Atom Body Mono (λ p. p.0) (λ p. p.0) (λ p. p.0)
 
-  abbrev form_worth : Formed Body → ℤ
-  form_worth w = value a w.form
+  abbrev form_value : Formed Body → ℤ
+  form_value w = value a w.form
 
   atom_level : (y : Atom-F PartAtom PartBody PartMono) → WorthAtom (roll-Atom (bare_atom y))
   atom_level (Atom-F.Var n) =
-      subst WorthAtom (sym (rolls-Var n)) (ap form_worth (in_Var ws n) ∙
+      subst WorthAtom (sym (rolls-Var n)) (ap form_value (in_Var ws n) ∙
       sym (var_value (updated_assignment a ws) n))
   atom_level (Atom-F.Div p q) = subst WorthAtom (sym (rolls-Div p.0 q.0))
-      (ap form_worth (in_Div ws p.0 q.0) ∙ value-quotient_of a (subst_body ws p.0).form
+      (ap form_value (in_Div ws p.0 q.0) ∙ value-quotient_of a (subst_body ws p.0).form
       (subst_body ws q.0).form ∙ (λ i. quotient (p.1 i) (q.1 i)) ∙
       sym (value-Div (updated_assignment a ws) p.0 q.0))
   atom_level (Atom-F.Mod p q) = subst WorthAtom (sym (rolls-Mod p.0 q.0))
-      (ap form_worth (in_Mod ws p.0 q.0) ∙ value-remainder_of a (subst_body ws p.0).form
+      (ap form_value (in_Mod ws p.0 q.0) ∙ value-remainder_of a (subst_body ws p.0).form
       (subst_body ws q.0).form ∙ (λ i. remainder (p.1 i) (q.1 i)) ∙
       sym (value-Mod (updated_assignment a ws) p.0 q.0))
 
@@ -71,10 +71,10 @@ module _ (a : ℕ → ℤ) (ws : List (ℕ × Body)) where
   atom_step x y is = subst (λ z. WorthAtom (roll-Atom z)) is (atom_level y)
 
   times_worth : (ps : List PartAtom) (done : Formed Body) →
-      form_worth (times_all done (map (subst_atom ws) (map (λ (p : PartAtom). p.0) ps))) ≡
-      form_worth done *ℤ product_of (atom_value (updated_assignment a ws))
+      form_value (times_all done (map (subst_atom ws) (map (λ (p : PartAtom). p.0) ps))) ≡
+      form_value done *ℤ product_of (atom_value (updated_assignment a ws))
       (map (λ (p : PartAtom). p.0) ps)
-  times_worth [] done = sym (mul-one-int (form_worth done))
+  times_worth [] done = sym (mul-one-int (form_value done))
   times_worth (p ∷ ps) done =
       let x = subst_atom ws p.0 in
       let rest = product_of (atom_value (updated_assignment a ws)) (map (λ (p : PartAtom). p.0) ps)
@@ -85,8 +85,8 @@ module _ (a : ℕ → ℤ) (ws : List (ℕ × Body)) where
             (x.within && mul_within done.form x.form);
       })
       ∙ ap (λ n. n *ℤ rest) (value-body_product a done.form x.form ∙
-      ap (λ n. form_worth done *ℤ n) p.1)
-      ∙ mul-assoc-int (form_worth done) (atom_value (updated_assignment a ws) p.0) rest
+      ap (λ n. form_value done *ℤ n) p.1)
+      ∙ mul-assoc-int (form_value done) (atom_value (updated_assignment a ws) p.0) rest
 
   mono_step : (x : Mono-F Atom Body Mono) (y : Mono-F PartAtom PartBody PartMono) → bare_mono y ≡
       x → WorthMono (roll-Mono x)
@@ -94,8 +94,8 @@ module _ (a : ℕ → ℤ) (ws : List (ℕ × Body)) where
       let m = roll-Mono (bare_mono y) in
       let atoms : (out-Mono m).atoms ≡ (bare_mono y).atoms =
       ap (λ (z : Mono-F Atom Body Mono). z.atoms) (out-roll-Mono (bare_mono y)) in
-      ap form_worth (in_mono_is ws m k) ∙ (λ i.
-      form_worth (times_all (well (number k)) (map (subst_atom ws) (atoms i))))
+      ap form_value (in_mono_is ws m k) ∙ (λ i.
+      form_value (times_all (well (number k)) (map (subst_atom ws) (atoms i))))
       ∙ times_worth y.atoms (well (number k))
       ∙ (λ i. value-number a k i *ℤ product_of (atom_value (updated_assignment a ws)) (sym atoms i))
       ∙ ap (λ n. k *ℤ n) (sym (mono_value_is (updated_assignment a ws) m)))
@@ -103,21 +103,21 @@ module _ (a : ℕ → ℤ) (ws : List (ℕ × Body)) where
   abbrev bare_term : PartMono × ℤ → Mono × ℤ
   bare_term t = ((t.0).0, t.1)
 
-  plus_worth : (ps : List (PartMono × ℤ)) (done : Formed Body) →
-      form_worth (plus_all done (map (term_in ws) (map bare_term ps))) ≡
-      form_worth done +ℤ sum_terms (mono_value (updated_assignment a ws)) (map bare_term ps)
-  plus_worth [] done = sym (add-zero-int (form_worth done))
-  plus_worth (p ∷ ps) done =
+  plus_value : (ps : List (PartMono × ℤ)) (done : Formed Body) →
+      form_value (plus_all done (map (term_in ws) (map bare_term ps))) ≡
+      form_value done +ℤ sum_terms (mono_value (updated_assignment a ws)) (map bare_term ps)
+  plus_value [] done = sym (add-zero-int (form_value done))
+  plus_value (p ∷ ps) done =
       let x = subst_mono ws (p.0).0 p.1 in
       let rest = sum_terms (mono_value (updated_assignment a ws)) (map bare_term ps) in
-      plus_worth ps (record {
+      plus_value ps (record {
         form = body_sum done.form x.form;
         within = done.within &&
             (x.within && is_within (body_sum done.form x.form));
       })
       ∙ ap (λ n. n +ℤ rest) (value-body_sum a done.form x.form ∙
-      ap (λ n. form_worth done +ℤ n) ((p.0).1 p.1))
-      ∙ +ℤ_assoc (form_worth done) (p.1 *ℤ mono_value (updated_assignment a ws) (p.0).0) rest
+      ap (λ n. form_value done +ℤ n) ((p.0).1 p.1))
+      ∙ +ℤ_assoc (form_value done) (p.1 *ℤ mono_value (updated_assignment a ws) (p.0).0) rest
 
   body_step : (x : Body-F Atom Body Mono) (y : Body-F PartAtom PartBody PartMono) → bare_body y ≡
       x → WorthBody (roll-Body x)
@@ -125,9 +125,9 @@ module _ (a : ℕ → ℤ) (ws : List (ℕ × Body)) where
       let b = roll-Body (bare_body y) in
       let terms : (out-Body b).terms ≡ (bare_body y).terms =
       ap (λ (z : Body-F Atom Body Mono). z.terms) (out-roll-Body (bare_body y)) in
-      ap form_worth (in_body_is ws b) ∙ (λ i.
-      form_worth (plus_all (well (of_terms [])) (map (term_in ws) (terms i))))
-      ∙ plus_worth y.terms (well (of_terms []))
+      ap form_value (in_body_is ws b) ∙ (λ i.
+      form_value (plus_all (well (of_terms [])) (map (term_in ws) (terms i))))
+      ∙ plus_value y.terms (well (of_terms []))
       ∙ (λ i. value-of_terms a [] i +ℤ sum_terms (mono_value (updated_assignment a ws))
       (sym terms i))
       ∙ zero-add-int (sum_terms (mono_value (updated_assignment a ws)) (out-Body b).terms)

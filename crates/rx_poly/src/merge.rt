@@ -108,25 +108,25 @@ pub(crate) fn merge(
     let mut sum = Items::with_capacity(alloc, left.len().saturating_add(right.len()))?;
     let mut ts = left;
     let mut us = right;
-    while let Some((t, ts_behind)) = ts.split_first() {
-        let Some((u, us_behind)) = us.split_first() else {
+    while let Some((t, ts_after)) = ts.split_first() {
+        let Some((u, us_after)) = us.split_first() else {
             push_term(&mut sum, alloc, t)?;
-            ts = ts_behind;
+            ts = ts_after;
             continue;
         };
         match t.0.cmp(&u.0) {
             Ordering::Less => {
                 push_term(&mut sum, alloc, t)?;
-                ts = ts_behind;
+                ts = ts_after;
             }
             Ordering::Equal => {
                 push_sum(&mut sum, alloc, t, u, sign)?;
-                ts = ts_behind;
-                us = us_behind;
+                ts = ts_after;
+                us = us_after;
             }
             Ordering::Greater => {
                 push_signed(&mut sum, alloc, u, sign)?;
-                us = us_behind;
+                us = us_after;
             }
         }
     }

@@ -39,18 +39,18 @@ fn join(alloc: Global, left: &[Atom], right: &[Atom]) -> Result<Graded<Atom>, Al
     let mut joined = Graded::with_capacity(alloc, left.len().saturating_add(right.len()))?;
     let mut xs = left;
     let mut ys = right;
-    while let Some((x, xs_behind)) = xs.split_first() {
-        let Some((y, ys_behind)) = ys.split_first() else {
+    while let Some((x, xs_after)) = xs.split_first() {
+        let Some((y, ys_after)) = ys.split_first() else {
             push_atom(&mut joined, alloc, x)?;
-            xs = xs_behind;
+            xs = xs_after;
             continue;
         };
         if x.cmp(y).is_gt() {
             push_atom(&mut joined, alloc, y)?;
-            ys = ys_behind;
+            ys = ys_after;
         } else {
             push_atom(&mut joined, alloc, x)?;
-            xs = xs_behind;
+            xs = xs_after;
         }
     }
     push_atoms(&mut joined, alloc, ys)?;

@@ -29,18 +29,18 @@ both_last Beyond = refl
 
 module _ (pair : Pair) where
   -- rows that keep the limits
-  pub told_rows : (rows : Formed (List Row)) (list : List Row) (a : AllShown) → list ≡ rows.form →
+  pub known_rows : (rows : Formed (List Row)) (list : List Row) (a : AllShown) → list ≡ rows.form →
       rows.within ≡ true → IsAllShown pair.phi list a
       → IsTold (guard rows.within (all_shown refuted pair.phi rows.form)) pair rows a
-  told_rows rows list (Shown certs) is keeps told =
+  known_rows rows list (Shown certs) is keeps told =
       let t = subst (λ rs. IsAllShown pair.phi rs (Shown certs)) is told in (
         ap (λ b. guard b (all_shown refuted pair.phi rows.form)) keeps ∙ t.0,
         record { within = keeps; certified = t.1 },
       )
-  told_rows rows list NotShown is keeps told =
+  known_rows rows list NotShown is keeps told =
       ap (λ b. guard b (all_shown refuted pair.phi rows.form)) keeps ∙
       subst (λ rs. all_shown refuted pair.phi rs ≡ No) is told
-  told_rows rows list TooLarge is keeps told =
+  known_rows rows list TooLarge is keeps told =
       ap (λ b. guard b (all_shown refuted pair.phi rows.form)) keeps ∙
       subst (λ rs. all_shown refuted pair.phi rs ≡ Beyond) is told
 
@@ -52,9 +52,9 @@ module _ (pair : Pair) where
     own_variables = λ test h g. All-nil (λ (cert : Cert). cert_passes test cert ≡ true);
   }
 
-  pub told_none : (rows : Formed (List Row)) → [] ≡ rows.form → rows.within ≡ true →
+  pub known_none : (rows : Formed (List Row)) → [] ≡ rows.form → rows.within ≡ true →
       IsTold (guard rows.within (all_shown refuted pair.phi rows.form)) pair rows (Shown [])
-  told_none rows is keeps = told_rows rows [] (Shown []) is keeps (refl, no_certificates)
+  known_none rows is keeps = known_rows rows [] (Shown []) is keeps (refl, no_certificates)
 
   -- rows that pass them
   pub beyond_rows : (rows : Formed (List Row)) → rows.within ≡ false →
@@ -62,12 +62,12 @@ module _ (pair : Pair) where
   beyond_rows rows passes = ap (λ b. guard b (all_shown refuted pair.phi rows.form)) passes
 
   -- one row
-  pub told_row : (row : Formed Row) (it : Row) (a : AllShown) → it ≡ row.form → row.within ≡ true →
+  pub known_row : (row : Formed Row) (it : Row) (a : AllShown) → it ≡ row.form → row.within ≡ true →
       IsAllShown pair.phi (it ∷ []) a → IsTold (row_said pair row) pair (one_formed row) a
-  told_row row it a is keeps told =
+  known_row row it a is keeps told =
       subst (λ s. IsTold (guard row.within s) pair (one_formed row) a)
       (both_last (shown refuted pair.phi row.form))
-      (told_rows (one_formed row) (it ∷ []) a (ap (λ r. r ∷ []) is) keeps told)
+      (known_rows (one_formed row) (it ∷ []) a (ap (λ r. r ∷ []) is) keeps told)
 
   pub beyond_row : (row : Formed Row) → row.within ≡ false → row_said pair row ≡ Beyond
   beyond_row row passes = ap (λ b. guard b (shown refuted pair.phi row.form)) passes
@@ -89,11 +89,11 @@ module _ (pair : Pair) where
     pub falls_second : row_said pair first ≡ Yes → falls pair p q ≡ row_said pair second
     falls_second is = ap (λ s. and_also s (row_said pair second)) is
 
-    pub told_falls : (certs : List Cert) (later : AllShown) → row_said pair first ≡ Yes →
+    pub known_falls : (certs : List Cert) (later : AllShown) → row_said pair first ≡ Yes →
         IsProved pair (one_formed first) certs →
         IsTold (row_said pair second) pair (one_formed second) later
         → IsTold (falls pair p q) pair (falls_rows pair p q) (joined certs later)
-    told_falls certs (Shown more) is proved told = (
+    known_falls certs (Shown more) is proved told = (
       falls_second is ∙ told.0,
       record {
         within = and_from first.within second.within proved.within told.1.within;
@@ -102,20 +102,20 @@ module _ (pair : Pair) where
             proved.certified told.1.certified;
       },
     )
-    told_falls certs NotShown is proved told = falls_second is ∙ told
-    told_falls certs TooLarge is proved told = falls_second is ∙ told
+    known_falls certs NotShown is proved told = falls_second is ∙ told
+    known_falls certs TooLarge is proved told = falls_second is ∙ told
 
-    pub falls_told : {E : Type 0} (here : Body) (certs : List Cert) (later : AllShown)
+    pub falls_known : {E : Type 0} (here : Body) (certs : List Cert) (later : AllShown)
         (r : Result AllShown E) → here ≡ (at_left pair p).form → (at_left pair p).within ≡ true
         → IsAllShown pair.phi (Ge here ∷ []) (Shown certs) →
         IsTold (row_said pair (less_by_one pair here q)) pair
         (one_formed (less_by_one pair here q)) later
         → IfOk r (λ a. a ≡ joined certs later) →
         IfOk r (IsTold (falls pair p q) pair (falls_rows pair p q))
-    falls_told here certs later (Err e) is keeps one two made = tt
-    falls_told here certs later (Ok a) is keeps one two made =
-        let t = told_row first (Ge here) (Shown certs) (ap Ge is) keeps one in
+    falls_known here certs later (Err e) is keeps one two made = tt
+    falls_known here certs later (Ok a) is keeps one two made =
+        let t = known_row first (Ge here) (Shown certs) (ap Ge is) keeps one in
         subst (IsTold (falls pair p q) pair (falls_rows pair p q)) (sym made)
-        (told_falls certs later t.0 t.1 (subst
+        (known_falls certs later t.0 t.1 (subst
         (λ l. IsTold (row_said pair (less_by_one pair l q)) pair
         (one_formed (less_by_one pair l q)) later) is two))

@@ -101,9 +101,9 @@ module _ (names : List ℕ) (c i name : ℕ) (done whole : List ℕ) (h : i < le
 
 -- ---- polynomials among others
 
-told_poly : (b : Bool) (p q : Body) → ((b ≡ true) ↔ (q ≡ p)) → body_eq q p ≡ b
-told_poly true p q tells = body_eq-refl q p (tells.0 refl)
-told_poly false p q tells =
+known_poly : (b : Bool) (p q : Body) → ((b ≡ true) ↔ (q ≡ p)) → body_eq q p ≡ b
+known_poly true p q tells = body_eq-refl q p (tells.0 refl)
+known_poly false p q tells =
     by_false (body_eq q p) (λ e. let wrong : false ≡ true = tells.1 (body_eq-sound q p e) in cc)
 
 pub next_same : (b : Bool) (ps : List Body) (p q : Body) (i : ℕ) → slice_get ps i ≡ Some q →
@@ -111,7 +111,7 @@ pub next_same : (b : Bool) (ps : List Body) (p q : Body) (i : ℕ) → slice_get
     → list_any (λ r. body_eq r p) (drop i ps) ≡ (b || list_any (λ r. body_eq r p) (drop (i + 1) ps))
 next_same b ps p q i there tells =
     ap (list_any (λ r. body_eq r p)) (from_place ps i q there) ∙
-    ap (λ c. c || list_any (λ r. body_eq r p) (drop (i + 1) ps)) (told_poly b p q tells)
+    ap (λ c. c || list_any (λ r. body_eq r p) (drop (i + 1) ps)) (known_poly b p q tells)
 
 -- ---- orders
 

@@ -115,9 +115,9 @@ module _ (infos : List SymInfo) (before : Progress) where
   }
 
   -- a round, and what comes then
-  ranked_further : (grown next after : Progress) → IsGrown infos before grown →
+  ranked_next : (grown next after : Progress) → IsGrown infos before grown →
       IsGrown infos grown next → IsRanked infos next after → IsRanked infos before after
-  ranked_further grown next after first second rest = record {
+  ranked_next grown next after first second rest = record {
     count = rest.count;
     none = rest.none;
     split = λ pairs split. rest.split pairs (second.split pairs (first.split pairs split));
@@ -129,4 +129,4 @@ module _ (infos : List SymInfo) (before : Progress) where
       → IfSome made (IsRanked infos before)
   ranked_rounds grown next None first second rest = rest
   ranked_rounds grown next (Some after) first second rest =
-      ranked_further grown next after first second rest
+      ranked_next grown next after first second rest

@@ -244,9 +244,9 @@ below_wider taken wider among r below =
     below_one wider r some.over (omega (arith, some.among, among some.over)) some.less
 
 -- a rank below a rank that is below one of the list's is below one of the list's
-pub below_further : (taken : Weight) (r x : Rank) → RankLess r x → IsBelowOne taken x →
+pub below_rest : (taken : Weight) (r x : Rank) → RankLess r x → IsBelowOne taken x →
     IsBelowOne taken r
-below_further taken r x less below =
+below_rest taken r x less below =
     let some = below_some taken x below in
     below_one taken r some.over some.among (RankLess-trans r x some.over less some.less)
 
@@ -309,7 +309,7 @@ Smaller-trans u v w low high =
         ) in
         below_wider top (top ++ p.only_other) (λ q. omega (arith, times-append q top p.only_other))
         r
-        (below_further top r some.over some.less (upper some.over put_in))
+        (below_rest top r some.over some.less (upper some.over put_in))
     over p r some (suc n) e =
         below_one (top ++ p.only_other) r some.over
         (omega (arith, e, times-append some.over top p.only_other)) some.less

@@ -7,23 +7,23 @@ use Rattle.rx_row.specs.Holds.{AllHold, RowHolds}
 use Rattle.rx_row.specs.Membership.{pushed, stands_among}
 use Rattle.rx_row.specs.declared.row.Row.{Row}
 use Rattle.rx_row.proofs.RowLaws.{all_hold-contains, all_hold-push}
-use Rattle.rx_row.proofs.Same.{row_eq, told_itself_row, told_same_row}
+use Rattle.rx_row.proofs.Same.{row_eq, known_itself_row, known_same_row}
 
 behind : (r : Row) (rs : List Row) (row : Row) → Contains rs row → Contains (r ∷ rs) row
 behind r rs row c = Contains-append_right (r ∷ []) rs row c
 
-first_or_behind : (r : Row) (rs : List Row) (row : Row) →
+first_or_after : (r : Row) (rs : List Row) (row : Row) →
     (stands_among rs row ≡ true → Contains rs row) → (b : Bool) → row_eq r row ≡ b →
     (b || stands_among rs row) ≡ true → Contains (r ∷ rs) row
-first_or_behind r rs row later true same h = (0, omega arith, told_same_row r row same)
-first_or_behind r rs row later false same h = behind r rs row (later h)
+first_or_after r rs row later true same h = (0, omega arith, known_same_row r row same)
+first_or_after r rs row later false same h = behind r rs row (later h)
 
 -- the test of the rows says which are among them
 pub stands-contains : (rows : List Row) (row : Row) → stands_among rows row ≡ true →
     Contains rows row
 stands-contains [] row e = cc
 stands-contains (r ∷ rs) row e =
-    first_or_behind r rs row (stands-contains rs row) (row_eq r row) refl e
+    first_or_after r rs row (stands-contains rs row) (row_eq r row) refl e
 
 or_right : (b c : Bool) → c ≡ true → (b || c) ≡ true
 or_right true c e = refl
@@ -38,7 +38,7 @@ pub contains-stands : (rows : List Row) (row : Row) (k : ℕ) → k < length row
 contains-stands [] row k h e = absurd (omega arith)
 contains-stands (r ∷ rs) row zero h e =
     or_left (row_eq r row) (stands_among rs row)
-    (subst (λ x. row_eq r x ≡ true) e (told_itself_row r))
+    (subst (λ x. row_eq r x ≡ true) e (known_itself_row r))
 contains-stands (r ∷ rs) row (suc k) h e =
     or_right (row_eq r row) (stands_among rs row) (contains-stands rs row k (omega arith) e)
 

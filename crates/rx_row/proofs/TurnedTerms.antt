@@ -23,7 +23,7 @@ use Rattle.rx_poly.specs.declared.body.Atom.{Atom}
 use Rattle.rx_poly.specs.declared.body.Mono.{Mono, out-Mono, roll-Mono, roll-out-Mono}
 use Rattle.rx_poly.specs.declared.body.Body.{Body, out-Body, roll-Body, roll-out-Body}
 use Rattle.rx_row.specs.Negation.{minus_one_more, opposite}
-use Rattle.rx_row.specs.Opposites.{number_terms, one_less_turned, turned}
+use Rattle.rx_row.specs.Opposites.{number_terms, one_less_negated, turned}
 
 -- the product of nothing
 abbrev one : Mono
@@ -71,8 +71,8 @@ none_after_one (t ∷ ts) h =
 
 -- ---- the terms of -p - 1
 
-nonzero_turned : (c : ℤ) → is_zero c ≡ false → is_zero (c *ℤ negsuc 0) ≡ false
-nonzero_turned c h = by_false (is_zero (c *ℤ negsuc 0)) (λ e.
+nonzero_negated : (c : ℤ) → is_zero c ≡ false → is_zero (c *ℤ negsuc 0) ≡ false
+nonzero_negated c h = by_false (is_zero (c *ℤ negsuc 0)) (λ e.
     let none : c *ℤ negsuc 0 ≡ pos 0 = zero_is (c *ℤ negsuc 0) e in
     let zero_too : c ≡ pos 0 = omega (arith, ints) in
     let told : is_zero c ≡ true = ap is_zero zero_too in
@@ -83,10 +83,10 @@ last_one = (one, negsuc 0) ∷ []
 
 first_term : (t : Mono × ℤ) (ts : List (Mono × ℤ)) → is_before mono_cmp t.0 ts ≡ true →
     Listed mono_cmp mono_total same_mono (turned t) (times_number (negsuc 0) ts) →
-    add_terms mono_cmp (times_number (negsuc 0) ts) last_one ≡ one_less_turned ts → (b : Bool) →
+    add_terms mono_cmp (times_number (negsuc 0) ts) last_one ≡ one_less_negated ts → (b : Bool) →
     is_one t.0 ≡ b
     → add_terms mono_cmp (turned t ∷ times_number (negsuc 0) ts) last_one ≡
-    (if is_one t.0 then number_terms (negsuc 0 -ℤ t.1) else turned t ∷ one_less_turned ts)
+    (if is_one t.0 then number_terms (negsuc 0 -ℤ t.1) else turned t ∷ one_less_negated ts)
 first_term t ts before listed rest true e =
     let nothing : ts ≡ [] = none_after_one ts
     (subst (λ m. is_before mono_cmp m ts ≡ true) (one_is t.0 e) before) in
@@ -96,23 +96,23 @@ first_term t ts before listed rest true e =
     ap (λ us. add_terms mono_cmp (turned t ∷ times_number (negsuc 0) us) last_one) nothing
     ∙ ap (λ r. insert_by r t.0 c (one, negsuc 0) [] (cons_nonzero t.0 c [])) equal
     ∙ (λ i. cons_nonzero (one_is t.0 e i) (sum i) [])
-    ∙ ap (λ b. if b then number_terms (negsuc 0 -ℤ t.1) else turned t ∷ one_less_turned ts) (sym e)
+    ∙ ap (λ b. if b then number_terms (negsuc 0 -ℤ t.1) else turned t ∷ one_less_negated ts) (sym e)
 first_term t ts before listed rest false e =
     let after : is_before mono_cmp t.0 last_one ≡ true =
     and_from (is_lt (mono_cmp t.0 one)) true (ap is_lt (before_one t.0 e)) refl in
     add-left mono_cmp mono_total same_mono (turned t) (times_number (negsuc 0) ts) last_one listed
     after
     ∙ ap (λ us. turned t ∷ us) rest
-    ∙ ap (λ b. if b then number_terms (negsuc 0 -ℤ t.1) else turned t ∷ one_less_turned ts) (sym e)
+    ∙ ap (λ b. if b then number_terms (negsuc 0 -ℤ t.1) else turned t ∷ one_less_negated ts) (sym e)
 
 sum_is : (ts : List (Mono × ℤ)) → is_sparse_sorted mono_cmp ts ≡ true →
-    add_terms mono_cmp (times_number (negsuc 0) ts) last_one ≡ one_less_turned ts
+    add_terms mono_cmp (times_number (negsuc 0) ts) last_one ≡ one_less_negated ts
 sum_is [] h = refl
 sum_is (t ∷ ts) h =
     let l = listed_parts mono_cmp mono_total same_mono t ts h in
     let c = t.1 *ℤ negsuc 0 in
     let opened : times_number (negsuc 0) (t ∷ ts) ≡ (t.0, c) ∷ times_number (negsuc 0) ts =
-    cons_nonzero-nonzero t.0 c (times_number (negsuc 0) ts) (nonzero_turned t.1 l.nonzero) in
+    cons_nonzero-nonzero t.0 c (times_number (negsuc 0) ts) (nonzero_negated t.1 l.nonzero) in
     let listed = ap (is_sparse_sorted mono_cmp) (sym opened) ∙
     listed-times_number (negsuc 0) (t ∷ ts) h in
     ap (λ xs. add_terms mono_cmp xs last_one) opened ∙
@@ -120,7 +120,7 @@ sum_is (t ∷ ts) h =
     (times_number (negsuc 0) ts) listed) (sum_is ts l.rest) (is_one t.0) refl
 
 minus_terms : (q : Body) → is_poly q ≡ true → (out-Body (minus_one_more q)).terms ≡
-    one_less_turned (out-Body q).terms
+    one_less_negated (out-Body q).terms
 minus_terms q h =
     terms-of_terms (add_terms mono_cmp (out-Body (opposite q)).terms
     (negated (out-Body (number (pos 1))).terms))
@@ -130,7 +130,7 @@ minus_terms q h =
 
 -- a polynomial is -p - 1 exactly where its terms are these
 pub is_minus : (p q : Body) → is_poly q ≡ true →
-    ((out-Body p).terms ≡ one_less_turned (out-Body q).terms) ↔ (p ≡ minus_one_more q)
+    ((out-Body p).terms ≡ one_less_negated (out-Body q).terms) ↔ (p ≡ minus_one_more q)
 is_minus p q h = (
   λ e. sym (roll-out-Body p) ∙ (λ i. roll-Body (record { terms = (e ∙ sym (minus_terms q h)) i })) ∙
       roll-out-Body (minus_one_more q),
@@ -145,9 +145,9 @@ equal_is Equal e = refl
 equal_is Greater e = cc
 
 -- terms of one monomial
-pub turned_coefficient : (x y : Mono × ℤ) {b : Bool} → is_eq (mono_cmp x.0 y.0) ≡ true → b ≡
+pub negated_coefficient : (x y : Mono × ℤ) {b : Bool} → is_eq (mono_cmp x.0 y.0) ≡ true → b ≡
     is_zero (x.1 +ℤ y.1) → IsTrue b ↔ (x ≡ turned y)
-turned_coefficient x y {b} same is = (
+negated_coefficient x y {b} same is = (
   λ e.
       let zero_sum : x.1 +ℤ y.1 ≡ pos 0 = zero_is (x.1 +ℤ y.1) (sym is ∙ e) in
       let opposite_is : x.1 ≡ y.1 *ℤ negsuc 0 = omega (arith, ints) in
@@ -159,9 +159,9 @@ turned_coefficient x y {b} same is = (
 )
 
 -- terms of two
-pub turned_other : (x y : Mono × ℤ) {b : Bool} → is_eq (mono_cmp x.0 y.0) ≡ false → b ≡ false →
+pub negated_other : (x y : Mono × ℤ) {b : Bool} → is_eq (mono_cmp x.0 y.0) ≡ false → b ≡ false →
     IsTrue b ↔ (x ≡ turned y)
-turned_other x y {b} other fails = (
+negated_other x y {b} other fails = (
   λ e. let told : b ≡ true = e in cc,
   λ e.
       let same : is_eq (mono_cmp x.0 y.0) ≡ true =
@@ -171,7 +171,7 @@ turned_other x y {b} other fails = (
 
 -- what is left of both decides
 pub record Comparing (ls rs left right : List (Mono × ℤ)) : Type 0 where
-  pub tells : (ls ≡ one_less_turned rs) ↔ (left ≡ one_less_turned right)
+  pub tells : (ls ≡ one_less_negated rs) ↔ (left ≡ one_less_negated right)
 
 same_first : {x y : Mono × ℤ} {xs ys : List (Mono × ℤ)} → x ∷ xs ≡ y ∷ ys → (x ≡ y) × (xs ≡ ys)
 same_first {x} {y} {xs} {ys} e = (ap (first_or x) e, ap rest_of e)
@@ -195,30 +195,30 @@ module _ {ls left : List (Mono × ℤ)} (right : List (Mono × ℤ)) (i : ℕ) {
     -- the constant is the last
     pub at_one : {b : Bool} → is_one t.0 ≡ true →
         (IsTrue b ↔ (ls ≡ number_terms (negsuc 0 -ℤ t.1))) →
-        IsTrue b ↔ (left ≡ one_less_turned right)
+        IsTrue b ↔ (left ≡ one_less_negated right)
     at_one e f = (
       λ g. opened.tells.0 (f.0 g ∙ ap (λ b. if b then number_terms (negsuc 0 -ℤ t.1) else turned t ∷
-          one_less_turned (drop (suc i) right)) (sym e)),
+          one_less_negated (drop (suc i) right)) (sym e)),
       λ g. f.1 (opened.tells.1 g ∙ ap (λ b. if b then number_terms (negsuc 0 -ℤ t.1) else turned t ∷
-          one_less_turned (drop (suc i) right)) e),
+          one_less_negated (drop (suc i) right)) e),
     )
 
-    other : is_one t.0 ≡ false → left ≡ one_less_turned right → ls ≡ turned t ∷
-        one_less_turned (drop (suc i) right)
+    other : is_one t.0 ≡ false → left ≡ one_less_negated right → ls ≡ turned t ∷
+        one_less_negated (drop (suc i) right)
     other e g =
         opened.tells.1 g ∙ ap (λ b. if b then number_terms (negsuc 0 -ℤ t.1) else turned t ∷
-        one_less_turned (drop (suc i) right)) e
+        one_less_negated (drop (suc i) right)) e
 
     -- a term has none beside it
-    pub no_term : is_one t.0 ≡ false → ls ≡ [] → left ≡ one_less_turned right → ⊥
+    pub no_term : is_one t.0 ≡ false → ls ≡ [] → left ≡ one_less_negated right → ⊥
     no_term e none g =
-        let no : [] ≡ turned t ∷ one_less_turned (drop (suc i) right) = sym none ∙ other e g in cc
+        let no : [] ≡ turned t ∷ one_less_negated (drop (suc i) right) = sym none ∙ other e g in cc
 
     module _ {x : Mono × ℤ} {more : List (Mono × ℤ)} (e : is_one t.0 ≡ false)
         (parts : ls ≡ x ∷ more)
       where
         -- another term is beside it
-        pub no_match : (x ≡ turned t → ⊥) → left ≡ one_less_turned right → ⊥
+        pub no_match : (x ≡ turned t → ⊥) → left ≡ one_less_negated right → ⊥
         no_match n g = n (same_first (sym parts ∙ other e g)).0
 
         -- the right one leaves it to the rest
@@ -228,7 +228,7 @@ module _ {ls left : List (Mono × ℤ)} (right : List (Mono × ℤ)) (i : ℕ) {
               tells = (
                 λ g. opened.tells.0 (parts ∙ (λ j. same j ∷ g j) ∙
                     ap (λ b. if b then number_terms (negsuc 0 -ℤ t.1) else turned t ∷
-                    one_less_turned (drop (suc i) right)) (sym e)),
+                    one_less_negated (drop (suc i) right)) (sym e)),
                 λ g. (same_first (sym parts ∙ other e g)).1,
               );
             })
@@ -236,7 +236,7 @@ module _ {ls left : List (Mono × ℤ)} (right : List (Mono × ℤ)) (i : ℕ) {
 -- nothing is left of the other
 pub last_number : {ls left right : List (Mono × ℤ)} (i : ℕ) {b : Bool} → length right ≤ i →
     Comparing ls (drop i right) left right → (IsTrue b ↔ (ls ≡ number_terms (negsuc 0))) →
-    IsTrue b ↔ (left ≡ one_less_turned right)
+    IsTrue b ↔ (left ≡ one_less_negated right)
 last_number {ls} {left} {right} i h c f =
     let all = subst (λ rest. Comparing ls rest left right) (drop_of_length-le right h) c in
     (λ g. all.tells.0 (f.0 g), λ g. f.1 (all.tells.1 g))

@@ -15,8 +15,8 @@ turned t = (t.0, t.1 *ℤ negsuc 0)
 
 -- the terms with their signs reversed, and 1 less for the constant, which in a normal form is the
 -- last
-abbrev pub one_less_turned : List (Mono × ℤ) → List (Mono × ℤ)
-one_less_turned [] = number_terms (negsuc 0)
-one_less_turned (t ∷ ts) =
+abbrev pub one_less_negated : List (Mono × ℤ) → List (Mono × ℤ)
+one_less_negated [] = number_terms (negsuc 0)
+one_less_negated (t ∷ ts) =
     if is_empty (out-Mono t.0).atoms then number_terms (negsuc 0 -ℤ t.1) else turned t ∷
-    one_less_turned ts
+    one_less_negated ts

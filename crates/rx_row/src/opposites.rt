@@ -2,7 +2,7 @@
 ghost use Rattle.std.specs.Prelude.{◌≡◌, ◌↔◌, ◌+ℤ◌, IsTrue};
 ghost use Rattle.rx_poly.specs.Terms.{is_zero};
 ghost use Rattle.rx_row.specs.Negation.{minus_one_more, negation};
-ghost use Rattle.rx_row.specs.Opposites.{number_terms, one_less_turned, turned};
+ghost use Rattle.rx_row.specs.Opposites.{number_terms, one_less_negated, turned};
 
 use crate::row::Row;
 use rx_poly::{Mono, Poly};
@@ -30,15 +30,15 @@ fn are_opposite(left: &i128, right: &i128) -> bool
 }
 
 /// Whether the one term is the other with its sign reversed.
-fn is_turned(left: &(Mono, i128), right: &(Mono, i128)) -> bool
+fn is_negated(left: &(Mono, i128), right: &(Mono, i128)) -> bool
     ensures { IsTrue result ↔ (left.now ≡ turned right.now) }
 {
     left.0.cmp(&right.0).is_eq() && are_opposite(&left.1, &right.1)
 }
 
 /// Whether the terms are those of `-p - 1`, where the others are those of p.
-fn are_one_less_turned(left: &[(Mono, i128)], right: &[(Mono, i128)]) -> bool
-    ensures { IsTrue result ↔ (left.now ≡ one_less_turned right.now) }
+fn are_one_less_negated(left: &[(Mono, i128)], right: &[(Mono, i128)]) -> bool
+    ensures { IsTrue result ↔ (left.now ≡ one_less_negated right.now) }
 {
     let mut rest = left;
     for term in right {
@@ -48,7 +48,7 @@ fn are_one_less_turned(left: &[(Mono, i128)], right: &[(Mono, i128)]) -> bool
         let Some((first, more)) = rest.split_first() else {
             return false;
         };
-        if !is_turned(first, term) {
+        if !is_negated(first, term) {
             return false;
         }
         rest = more;
@@ -57,10 +57,10 @@ fn are_one_less_turned(left: &[(Mono, i128)], right: &[(Mono, i128)]) -> bool
 }
 
 /// Whether the one polynomial is `-p - 1`, where the other is p.
-fn is_one_less_turned(left: &Poly, right: &Poly) -> bool
+fn is_one_less_negated(left: &Poly, right: &Poly) -> bool
     ensures { IsTrue result ↔ (left.now ≡ minus_one_more right.now) }
 {
-    are_one_less_turned(left.body().terms.as_slice(), right.body().terms.as_slice())
+    are_one_less_negated(left.body().terms.as_slice(), right.body().terms.as_slice())
 }
 
 impl Row {
@@ -70,7 +70,7 @@ impl Row {
         ensures { IsTrue result ↔ (self.now ≡ negation other.now) }
     {
         match (self, other) {
-            (Row::Ge(left), Row::Ge(right)) => is_one_less_turned(left, right),
+            (Row::Ge(left), Row::Ge(right)) => is_one_less_negated(left, right),
             (Row::Ne(left), Row::Eq(right)) => left.is_same(right),
             (Row::Eq(left), Row::Ne(right)) => left.is_same(right),
             _ => false,

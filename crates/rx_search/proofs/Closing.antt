@@ -42,42 +42,42 @@ Visited = Visit search.Node (List Row)
 abbrev IsTold : Visited → Type 0
 IsTold v = v.closed ≡ is_closed v.node.state.goals
 
-either_told : (b : Bool) (xs ys : List Visited) → All IsTold xs → All IsTold ys →
+either_known : (b : Bool) (xs ys : List Visited) → All IsTold xs → All IsTold ys →
     All IsTold (if b then xs else ys)
-either_told true xs ys all more = all
-either_told false xs ys all more = more
+either_known true xs ys all more = all
+either_known false xs ys all more = more
 
-all_told : (f : Choice search.Node → List Visited) (cs : List (Choice search.Node)) →
+all_known : (f : Choice search.Node → List Visited) (cs : List (Choice search.Node)) →
     ((c : Choice search.Node) → All IsTold (f c)) → All IsTold (flat_map f cs)
-all_told f [] each = All-nil IsTold
-all_told f (c ∷ cs) each = All-append IsTold (f c) (flat_map f cs) (each c) (all_told f cs each)
+all_known f [] each = All-nil IsTold
+all_known f (c ∷ cs) each = All-append IsTold (f c) (flat_map f cs) (each c) (all_known f cs each)
 
 module _ (parts : RuleParts) where
-  visits_told : (more : ℕ) (path : List ℕ) (node : search.Node) →
+  visits_known : (more : ℕ) (path : List ℕ) (node : search.Node) →
       All IsTold (visits (settled parts) (menu parts) more path node)
   unfolding visits
-  visits_told zero path node =
+  visits_known zero path node =
       All-cons IsTold (alone path (settled parts node)) [] refl (All-nil IsTold)
-  visits_told (suc more) path node =
+  visits_known (suc more) path node =
       let s = settled parts node in
       let m = menu parts s.node in
-      either_told s.closed _ _
+      either_known s.closed _ _
       (All-cons IsTold (alone path s) [] refl (All-nil IsTold))
       (All-cons IsTold (choosing path s m) (flat_map
       (λ (c : Choice search.Node). visits (settled parts) (menu parts) more
       (path ++ c.number ∷ []) c.node) m.choices) refl
-      (all_told (λ (c : Choice search.Node). visits (settled parts) (menu parts) more
+      (all_known (λ (c : Choice search.Node). visits (settled parts) (menu parts) more
       (path ++ c.number ∷ []) c.node) m.choices
-      (λ c. visits_told more (path ++ c.number ∷ []) c.node)))
+      (λ c. visits_known more (path ++ c.number ∷ []) c.node)))
 
-  lists_told : (n more : ℕ) (node : search.Node) →
+  lists_known : (n more : ℕ) (node : search.Node) →
       All IsTold (lists (settled parts) (menu parts) n more node)
   unfolding lists
-  lists_told zero more node = All-nil IsTold
-  lists_told (suc n) more node =
+  lists_known zero more node = All-nil IsTold
+  lists_known (suc n) more node =
       All-append IsTold (visits (settled parts) (menu parts) more [] node)
       (lists (settled parts) (menu parts) n (suc more) node)
-      (visits_told more [] node) (lists_told n (suc more) node)
+      (visits_known more [] node) (lists_known n (suc more) node)
 
 found_by : (v w : Visited) (vs : List Visited) (b : Bool) → v.closed ≡ b →
     (find (λ (v : Visited). v.closed) vs ≡ Some w → (w.closed ≡ true) × IsTold w)
@@ -123,7 +123,7 @@ pub no_goal_left : (parts : RuleParts) (depth budget : ℕ) (first node : search
 no_goal_left parts depth budget first node e =
     let vs = take budget (all_visits (settled parts) (menu parts) depth first) in
     let told = All-take IsTold budget (all_visits (settled parts) (menu parts) depth first)
-    (lists_told parts (suc depth) 0 first) in
+    (lists_known parts (suc depth) 0 first) in
     closed_by (first_closed vs) _ node e (open_by (first_note vs) _ node)
     (λ v is. found vs v told is)
 

@@ -24,21 +24,21 @@ pub values-assigned : (xs : List ℤ) → values (assigned xs) (variables_from 0
 values-assigned xs = values_from (assigned xs) 0 xs (λ i. ap (assigned xs) (omega arith))
 
 -- a variable that is replaced by an argument has that argument's value
-worth_from : (a : ℕ → ℤ) (k : ℕ) (ps : List Body) (i : ℕ) → i < length ps →
+value_from : (a : ℕ → ℤ) (k : ℕ) (ps : List Body) (i : ℕ) → i < length ps →
     updated_assignment a (enumerate_from k ps) (k + i) ≡ assigned (values a ps) i
-worth_from a k [] i h = absurd (omega (arith, h))
-worth_from a k (p ∷ ps) zero h =
+value_from a k [] i h = absurd (omega (arith, h))
+value_from a k (p ∷ ps) zero h =
     let same : k ≡ k + 0 = omega arith in
     ap (λ (t : Bool). value a (cond t p (replaced (enumerate_from (k + 1) ps) (k + 0))))
     (eq-eqb k (k + 0) same)
-worth_from a k (p ∷ ps) (suc i) h =
+value_from a k (p ∷ ps) (suc i) h =
     let other : (k ≡ k + suc i) → ⊥ = λ e. omega (arith, e) in
     ap (λ (t : Bool). value a (cond t p (replaced (enumerate_from (k + 1) ps) (k + suc i))))
     (ne_eqb k (k + suc i) other)
     ∙ ap (λ v. updated_assignment a (enumerate_from (k + 1) ps) v) (omega arith)
-    ∙ worth_from a (k + 1) ps i (omega (arith, h))
+    ∙ value_from a (k + 1) ps i (omega (arith, h))
 
 pub updated_assignment-arguments : (a : ℕ → ℤ) (ps : List Body) (v : ℕ) → v < length ps →
     updated_assignment a (enumerate_from 0 ps) v ≡ assigned (values a ps) v
 updated_assignment-arguments a ps v h =
-    ap (updated_assignment a (enumerate_from 0 ps)) (omega arith) ∙ worth_from a 0 ps v h
+    ap (updated_assignment a (enumerate_from 0 ps)) (omega arith) ∙ value_from a 0 ps v h

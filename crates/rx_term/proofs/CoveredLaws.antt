@@ -21,7 +21,7 @@ use Rattle.rx_term.specs.declared.rule.Rule.{Rule}
 use Rattle.rx_term.specs.declared.rule_set.RuleParts.{RuleParts}
 use Rattle.rx_term.specs.declared.term.Term.{Term}
 use Rattle.rx_term.proofs.Kept.{was_there}
-use Rattle.rx_term.proofs.RuleLaws.{redex_shape, rule_steps, told_shape}
+use Rattle.rx_term.proofs.RuleLaws.{redex_shape, rule_steps, known_shape}
 use Rattle.rx_term.proofs.Written.{symbol, written, ground-written, written_fits, written_over_result}
 
 -- a rule of the redex's shape that holds at the redex's arguments is one that steps it
@@ -33,7 +33,7 @@ rule_for rules t a has =
     has.rule (filter_passes test rules) has.among in record {
       rule = has.rule;
       among = was_there test rules has.rule has.among;
-      shape = told_shape (shape_of has.rule.left) (shape_of t) passes;
+      shape = known_shape (shape_of has.rule.left) (shape_of t) passes;
       holds = (subst_rows-hold a (matched t) has.rule.rows).1 has.holds;
     }
 

@@ -117,9 +117,9 @@ ends n further _ (AFrame f ps t) =
       λ h. suffix_at-Frame n f ps t ∙ inner.1 (omega arith),
     )
 
-pub behind_ends : (n : ℕ) (t : Term) → Ends n t
-behind_ends zero t = (λ e. absurd (a_part t e), λ h. absurd (omega arith))
-behind_ends (suc n) t = ends n (λ u. behind_ends n u) t (form t)
+pub after_ends : (n : ℕ) (t : Term) → Ends n t
+after_ends zero t = (λ e. absurd (a_part t e), λ h. absurd (omega arith))
+after_ends (suc n) t = ends n (λ u. after_ends n u) t (form t)
 
 module _ (parts : RuleParts) where
   abbrev Part : ℕ → Term → Type 0
@@ -144,10 +144,10 @@ module _ (parts : RuleParts) where
       further t s both.1 (sym (suffix_at-Frame n f ps t) ∙ h)
 
   -- a part of a fitting term fits
-  pub fits_behind : (n : ℕ) (t : Term) → Part n t
-  fits_behind zero t =
+  pub fits_after : (n : ℕ) (t : Term) → Part n t
+  fits_after zero t =
       λ s fits h. let same : t ≡ s = cc in subst (λ u. term_fits parts u ≡ true) same fits
-  fits_behind (suc n) t = part_fits n (λ u. fits_behind n u) t (form t)
+  fits_after (suc n) t = part_fits n (λ u. fits_after n u) t (form t)
 
   module _ (inner : Term) (inner_fits : term_fits parts inner ≡ true) where
     abbrev Stays : ℕ → Term → Type 0
@@ -223,6 +223,6 @@ counted n further _ (AFrame f ps t) s h =
     omega arith
 
 -- the part under n frames has n fewer
-pub depth_behind : (n : ℕ) (t : Term) → Counted n t
-depth_behind zero t = λ s h. let same : t ≡ s = cc in let e = ap depth_of same in omega arith
-depth_behind (suc n) t = counted n (λ u. depth_behind n u) t (form t)
+pub depth_after : (n : ℕ) (t : Term) → Counted n t
+depth_after zero t = λ s h. let same : t ≡ s = cc in let e = ap depth_of same in omega arith
+depth_after (suc n) t = counted n (λ u. depth_after n u) t (form t)

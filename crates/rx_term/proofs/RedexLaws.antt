@@ -53,30 +53,30 @@ no_part : (s : Term) → ◌≡◌ {A = Option Term} None (Some s) → ⊥
 no_part s e = cc
 
 module _ (a : ℕ → ℤ) (n : ℕ) (s : Term) where
-  stands_behind : ((u : Term) → suffix_at n u ≡ Some s → ground_at a u ≡
+  stands_after : ((u : Term) → suffix_at n u ≡ Some s → ground_at a u ≡
       in_context (outer_frames a n u) (ground_at a s)) → (t : Term) → Form t → suffix_at (suc n) t ≡
       Some s → ground_at a t ≡ in_context (outer_frames a (suc n) t) (ground_at a s)
-  stands_behind further _ (AReturn p) h =
+  stands_after further _ (AReturn p) h =
       absurd (no_part s (sym (ap (λ (x : Term-F Term). under_frame x (suffix_at n)) (outs-Return p))
       ∙
       h))
-  stands_behind further _ (AFail c) h =
+  stands_after further _ (AFail c) h =
       absurd (no_part s (sym (ap (λ (x : Term-F Term). under_frame x (suffix_at n)) (outs-Fail c)) ∙
       h))
-  stands_behind further _ (ACall f ps) h =
+  stands_after further _ (ACall f ps) h =
       absurd (no_part s (sym (ap (λ (x : Term-F Term). under_frame x (suffix_at n))
       (outs-Call f ps)) ∙
       h))
-  stands_behind further _ (AFrame f ps u) h =
+  stands_after further _ (AFrame f ps u) h =
       ground-Frame a f ps u ∙ ap (stack.Frame f.0 (values a ps))
       (further u (sym (suffix_at-Frame n f ps u) ∙ h))
       ∙ sym (ap (λ fs. in_context fs (ground_at a s)) (outer-Frame a n f ps u))
 
 -- the part under outer frames is under them
-pub ground_behind : (a : ℕ → ℤ) (n : ℕ) (t s : Term) → suffix_at n t ≡ Some s → ground_at a t ≡
+pub ground_after : (a : ℕ → ℤ) (n : ℕ) (t s : Term) → suffix_at n t ≡ Some s → ground_at a t ≡
     in_context (outer_frames a n t) (ground_at a s)
-ground_behind a zero t s h = let same : t ≡ s = cc in ap (ground_at a) same
-ground_behind a (suc n) t s h = stands_behind a n s (λ u. ground_behind a n u s) t (form t) h
+ground_after a zero t s h = let same : t ≡ s = cc in ap (ground_at a) same
+ground_after a (suc n) t s h = stands_after a n s (λ u. ground_after a n u s) t (form t) h
 
 -- ---- the redex
 

@@ -73,9 +73,9 @@ pub redex_over_result : (f : Sym) (ps : List Body) (t : Term) → is_result t �
 redex_over_result f ps t h = at_start (Frame f ps t) (frame_place f ps t h)
 
 -- over another term it is that term's
-pub redex_further : (f : Sym) (ps : List Body) (t : Term) → is_result t ≡ false →
+pub redex_rest : (f : Sym) (ps : List Body) (t : Term) → is_result t ≡ false →
     redex_of (Frame f ps t) ≡ redex_of t
-redex_further f ps t h =
+redex_rest f ps t h =
     let (n, e) = going_place t (form t) h in
     ap (option_and_then (λ n. suffix_at n (Frame f ps t))) (inner_place f ps t n e)
     ∙ suffix_at-Frame n f ps t ∙ sym (ap (option_and_then (λ n. suffix_at n t)) e)
@@ -97,10 +97,10 @@ pub record Finding (here whole : Term) : Type 0 where
   pub result : is_result here ≡ is_result whole
 
 -- one frame deeper
-pub found_further : (f : Sym) (ps : List Body) (here t whole : Term) → here ≡ Frame f ps t →
+pub found_in_rest : (f : Sym) (ps : List Body) (here t whole : Term) → here ≡ Frame f ps t →
     is_result t ≡ false → Finding here whole → Finding t whole
-found_further f ps here t whole is h s = record {
-  redex = sym (redex_further f ps t h) ∙ ap redex_of (sym is) ∙ s.redex;
+found_in_rest f ps here t whole is h s = record {
+  redex = sym (redex_rest f ps t h) ∙ ap redex_of (sym is) ∙ s.redex;
   result = h ∙ sym (result-Frame f ps t) ∙ ap is_result (sym is) ∙ s.result;
 }
 
@@ -115,9 +115,9 @@ replace_redex_here t inner h =
     ap (λ (o : Option ℕ). option_map_or (λ n. replace_at n t inner) o t)
     (redex_place_here t (form t) h)
 
-pub replace_redex_further : (f : Sym) (ps : List Body) (t inner : Term) → is_result t ≡ false →
+pub replace_redex_rest : (f : Sym) (ps : List Body) (t inner : Term) → is_result t ≡ false →
     replace_redex (Frame f ps t) inner ≡ Frame f ps (replace_redex t inner)
-replace_redex_further f ps t inner h =
+replace_redex_rest f ps t inner h =
     let (n, e) = going_place t (form t) h in
     ap (λ (o : Option ℕ). option_map_or (λ n. replace_at n (Frame f ps t) inner) o (Frame f ps t))
     (inner_place f ps t n e)
@@ -167,7 +167,7 @@ module _ (inner whole upper below : Term) (r : Term × Option Term) where
               ap (λ (x : Term). plug_reversed x (replace_redex below inner)) first
               ∙ ap (λ (x : Term). plug_reversed (Frame f ps upper) (replace_redex x inner)) same
               ∙ plug_reversed-Frame f ps upper (replace_redex t inner)
-              ∙ ap (plug_reversed upper) (sym (replace_redex_further f ps t inner inside)) ∙
+              ∙ ap (plug_reversed upper) (sym (replace_redex_rest f ps t inner inside)) ∙
               s.makes;
           going = ap is_result same ∙ inside;
         };

@@ -29,7 +29,7 @@ use Rattle.rx_term.proofs.Equations.{shape-Return, shape-Fail, shape-Call, shape
 use Rattle.rx_term.proofs.FittingLaws.{ground_fits}
 use Rattle.rx_term.proofs.Matching.{left_matches}
 use Rattle.rx_term.proofs.MeaningLaws.{ground_in_term}
-use Rattle.rx_term.proofs.RedexLaws.{ground_behind, ground_replaced}
+use Rattle.rx_term.proofs.RedexLaws.{ground_after, ground_replaced}
 
 -- ---- shapes
 
@@ -59,27 +59,27 @@ redex_shape parts _ (FailRedex f ps c) fits =
     (FailShape f (length ps) c both.0 (sym (fits-Fail parts c) ∙ both.1))
 
 -- the test says whether two shapes are one
-pub told_shape : (s t : Shape) → same_shape s t ≡ true → s ≡ t
-told_shape shapes.Return shapes.Return h = refl
-told_shape shapes.Return (shapes.Fail d) h = cc
-told_shape shapes.Return (shapes.Call g) h = cc
-told_shape shapes.Return (shapes.Frame g t) h = cc
-told_shape (shapes.Fail c) shapes.Return h = cc
-told_shape (shapes.Fail c) (shapes.Fail d) h = ap shapes.Fail (eqb-true c d h)
-told_shape (shapes.Fail c) (shapes.Call g) h = cc
-told_shape (shapes.Fail c) (shapes.Frame g t) h = cc
-told_shape (shapes.Call f) shapes.Return h = cc
-told_shape (shapes.Call f) (shapes.Fail d) h = cc
-told_shape (shapes.Call f) (shapes.Call g) h =
+pub known_shape : (s t : Shape) → same_shape s t ≡ true → s ≡ t
+known_shape shapes.Return shapes.Return h = refl
+known_shape shapes.Return (shapes.Fail d) h = cc
+known_shape shapes.Return (shapes.Call g) h = cc
+known_shape shapes.Return (shapes.Frame g t) h = cc
+known_shape (shapes.Fail c) shapes.Return h = cc
+known_shape (shapes.Fail c) (shapes.Fail d) h = ap shapes.Fail (eqb-true c d h)
+known_shape (shapes.Fail c) (shapes.Call g) h = cc
+known_shape (shapes.Fail c) (shapes.Frame g t) h = cc
+known_shape (shapes.Call f) shapes.Return h = cc
+known_shape (shapes.Call f) (shapes.Fail d) h = cc
+known_shape (shapes.Call f) (shapes.Call g) h =
     let e = eqb-true f.0 g.0 h in (λ i. shapes.Call (record { 0 = e i }))
-told_shape (shapes.Call f) (shapes.Frame g t) h = cc
-told_shape (shapes.Frame f s) shapes.Return h = cc
-told_shape (shapes.Frame f s) (shapes.Fail d) h = cc
-told_shape (shapes.Frame f s) (shapes.Call g) h = cc
-told_shape (shapes.Frame f s) (shapes.Frame g t) h =
+known_shape (shapes.Call f) (shapes.Frame g t) h = cc
+known_shape (shapes.Frame f s) shapes.Return h = cc
+known_shape (shapes.Frame f s) (shapes.Fail d) h = cc
+known_shape (shapes.Frame f s) (shapes.Call g) h = cc
+known_shape (shapes.Frame f s) (shapes.Frame g t) h =
     let both = and_parts (nat_eq f.0 g.0) (same_shape s t) h in
     let e = eqb-true f.0 g.0 both.0 in
-    let rest = told_shape s t both.1 in
+    let rest = known_shape s t both.1 in
     (λ i. shapes.Frame (record { 0 = e i }) (rest i))
 
 pub shape_itself : (s : Shape) → same_shape s s ≡ true
@@ -113,7 +113,7 @@ module _ (rules : List Rule) (a : ℕ → ℤ) (rule : Rule) (ws : List (ℕ × 
       (ground_at a (replace_at n whole (subst_term ws rule.right)))
   instance_steps_inside n whole stands =
       let step = Step-in_context (outer_frames a n whole) (Here instance_steps) in
-      rw (ground_behind a n whole t stands, ground_replaced a n whole (subst_term ws rule.right))
+      rw (ground_after a n whole t stands, ground_replaced a n whole (subst_term ws rule.right))
       step
 
 module _ (parts : RuleParts) (made : IsWellMade parts) where
@@ -147,7 +147,7 @@ module _ (parts : RuleParts) (made : IsWellMade parts) where
       let step = Step-in_context (outer_frames a n t)
       (Here (rule_steps a rule part among fits shape holds)) in
       rw (
-        ground_behind a n t part stands,
+        ground_after a n t part stands,
         ground_replaced a n t
             (subst_term (matched part) rule.right),
       ) step

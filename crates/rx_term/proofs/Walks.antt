@@ -61,30 +61,30 @@ unwind-on = induct Turns
     turns-Frame
 
 -- the redex's place, where n frames are over the term
-abbrev pub further_in : ℕ → Option ℕ → Option ℕ
-further_in zero r = r
-further_in (suc n) None = Some n
-further_in (suc n) (Some k) = Some (suc n + k)
+abbrev pub rest_in : ℕ → Option ℕ → Option ℕ
+rest_in zero r = r
+rest_in (suc n) None = Some n
+rest_in (suc n) (Some k) = Some (suc n + k)
 
-pub further-none : (n : ℕ) → 0 < n → further_in n None ≡ Some (n - 1)
-further-none zero h = absurd (omega arith)
-further-none (suc n) h = let q : n ≡ suc n - 1 = omega arith in ap Some q
+pub rest-none : (n : ℕ) → 0 < n → rest_in n None ≡ Some (n - 1)
+rest-none zero h = absurd (omega arith)
+rest-none (suc n) h = let q : n ≡ suc n - 1 = omega arith in ap Some q
 
-pub further-here : (n : ℕ) → further_in n (Some 0) ≡ Some n
-further-here zero = refl
-further-here (suc n) = let q : suc n + 0 ≡ suc n = omega arith in ap Some q
+pub rest-here : (n : ℕ) → rest_in n (Some 0) ≡ Some n
+rest-here zero = refl
+rest-here (suc n) = let q : suc n + 0 ≡ suc n = omega arith in ap Some q
 
-further-more : (n : ℕ) (r : Option ℕ) → further_in n (Some (option_map_or (λ k. 1 + k) r 0)) ≡
-    further_in (suc n) r
-further-more zero None = refl
-further-more zero (Some k) = refl
-further-more (suc n) None = let q : suc n + 0 ≡ suc n = omega arith in ap Some q
-further-more (suc n) (Some k) = let q : suc n + (1 + k) ≡ suc (suc n) + k = omega arith in ap Some q
+rest-more : (n : ℕ) (r : Option ℕ) → rest_in n (Some (option_map_or (λ k. 1 + k) r 0)) ≡
+    rest_in (suc n) r
+rest-more zero None = refl
+rest-more zero (Some k) = refl
+rest-more (suc n) None = let q : suc n + 0 ≡ suc n = omega arith in ap Some q
+rest-more (suc n) (Some k) = let q : suc n + (1 + k) ≡ suc (suc n) + k = omega arith in ap Some q
 
 -- one frame deeper
-pub further-frame : (n : ℕ) (f : Sym) (ps : List Body) (t : Term) →
-    further_in n (redex_place (Frame f ps t)) ≡ further_in (n + 1) (redex_place t)
-further-frame n f ps t =
+pub rest-frame : (n : ℕ) (f : Sym) (ps : List Body) (t : Term) →
+    rest_in n (redex_place (Frame f ps t)) ≡ rest_in (n + 1) (redex_place t)
+rest-frame n f ps t =
     let q : suc n ≡ n + 1 = omega arith in
-    ap (further_in n) (redex-Frame f ps t) ∙ further-more n (redex_place t) ∙
-    ap (λ (k : ℕ). further_in k (redex_place t)) q
+    ap (rest_in n) (redex-Frame f ps t) ∙ rest-more n (redex_place t) ∙
+    ap (λ (k : ℕ). rest_in k (redex_place t)) q

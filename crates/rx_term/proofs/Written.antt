@@ -49,10 +49,10 @@ alike_itself : (b : Bool) → is_alike b b ≡ true
 alike_itself true = refl
 alike_itself false = refl
 
-told_back : (o : Option SymInfo) (b : Bool) (n : ℕ) → option_map symbol_of o ≡
+known_back : (o : Option SymInfo) (b : Bool) (n : ℕ) → option_map symbol_of o ≡
     Some (record { arity = n; is_frame = b }) → declared_so o b n ≡ true
-told_back None b n h = cc
-told_back (Some s) b n h =
+known_back None b n h = cc
+known_back (Some s) b n h =
     let whole : symbol_of s ≡ record { arity = n; is_frame = b } = cc in
     let arity : s.arity ≡ n = ap (λ (x : Symbol). x.arity) whole in
     let frame : s.frame ≡ b = ap (λ (x : Symbol). x.is_frame) whole in
@@ -64,7 +64,7 @@ declared_back : (parts : RuleParts) (f : ℕ) (b : Bool) (xs : List ℤ) →
     is_declared parts.symbols (symbol f) b (length (map number xs)) ≡ true
 declared_back parts f b xs h =
     ap (is_declared parts.symbols (symbol f) b) (length-map xs number)
-    ∙ told_back (slice_get parts.symbols f) b (length xs)
+    ∙ known_back (slice_get parts.symbols f) b (length xs)
     (sym (slice_get-map symbol_of parts.symbols f) ∙ h)
 
 -- and fit where it does

@@ -67,7 +67,7 @@ pub fn equal_values_make_one_ground_term()
 
 /// The part under outer frames means what is under the same ground frames, and so does what
 /// replaces it.
-#[tactic(auto, using(crate::proofs::RedexLaws::ground_behind, crate::proofs::RedexLaws::ground_replaced))]
+#[tactic(auto, using(crate::proofs::RedexLaws::ground_after, crate::proofs::RedexLaws::ground_replaced))]
 pub fn parts_stand_under_ground_frames()
     ensures behind { (a : ℕ → ℤ) (n : ℕ) (t s : Term) → suffix_at n t ≡ Some s →
         ground_at a t ≡ in_context (outer_frames a n t) (ground_at a s) }

@@ -61,7 +61,7 @@ impl Term {
 
     /// The part under `place` frames, borrowed; None exactly where there are fewer. Takes no
     /// memory.
-    #[tactic(auto, using(crate::proofs::KeepingLaws::behind_ends))]
+    #[tactic(auto, using(crate::proofs::KeepingLaws::after_ends))]
     pub fn suffix(&self, place: u32) -> Option<&Term>
         ensures part { option_copied result ≡ suffix_at place self.now }
         ensures fewer { IsNone result ↔ (depth_of self.now < place) }

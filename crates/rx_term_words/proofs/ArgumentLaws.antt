@@ -161,10 +161,10 @@ polys_before {bytes} {left} {closer} {p} {ps} b = record {
   over = closer_ends closer left;
 }
 
-closer_behind : {bytes left rest : List ℕ} {ps : List Body} {closer : Closer} →
+closer_after : {bytes left rest : List ℕ} {ps : List Body} {closer : Closer} →
     BeginsWith arguments bytes (ps, closer) left → rest ≡ closer_text closer ++ left →
     BeginsWith closers rest closer left
-closer_behind b e = record { in_range = refl; text = e; over = b.over }
+closer_after b e = record { in_range = refl; text = e; over = b.over }
 
 pub arguments_once : IsUnambiguous arguments
 arguments_once bytes ([], x) ([], y) left right b c =
@@ -177,8 +177,8 @@ arguments_once bytes (p ∷ ps, x) ([], y) left right b c =
 arguments_once bytes (p ∷ ps, x) (q ∷ qs, y) left right b c =
     let s = some_once bytes (p ∷ ps) (q ∷ qs) (closer_text x ++ left) (closer_text y ++ right)
     (polys_before b) (polys_before c) in
-    let t = closers_once (closer_text x ++ left) x y left right (closer_behind b refl)
-    (closer_behind c s.1) in
+    let t = closers_once (closer_text x ++ left) x y left right (closer_after b refl)
+    (closer_after c s.1) in
     ((λ i. (s.0 i, t.0 i)), t.1)
 
 pub no_polys : (bytes : List ℕ) (at : ℕ) → Reads closers bytes at None →
@@ -192,7 +192,7 @@ pub no_closer : (bytes : List ℕ) (at : ℕ) {middle : ℕ} {ps : List Body} �
     → Reads closers bytes middle None → Reads arguments bytes at None
 no_closer bytes at none s never ([], closer) left b = none closer left (closer_alone b)
 no_closer bytes at none s never (p ∷ ps, closer) left b =
-    never closer left (closer_behind b (only_that some_once s (polys_before b)).1)
+    never closer left (closer_after b (only_that some_once s (polys_before b)).1)
 
 pub arguments_stand : (bytes : List ℕ) (at : ℕ) {middle end : ℕ} {ps : List Body} {closer : Closer}
     → StandsAt some_polys bytes at ps middle

@@ -32,7 +32,7 @@ module _ {A : Type 0} (before : List ℕ) (format : Format A) (behind : List ℕ
       (between b (whole_text b)) (between c (whole_text b)) in
       (same.0, append_cancel_left behind left right same.1)
 
-  pub no_behind : (bytes : List ℕ) (at : ℕ) {inside middle : ℕ} {x : A} → IsUnambiguous format
+  pub no_after : (bytes : List ℕ) (at : ℕ) {inside middle : ℕ} {x : A} → IsUnambiguous format
       → Skips before bytes at (Some inside) → StandsAt format bytes inside x middle
       → Skips behind bytes middle None → Reads (bracketed before format behind) bytes at None
-  no_behind bytes at one k s never y left b = never left (only_that one s (between b k.1.1)).1
+  no_after bytes at one k s never y left b = never left (only_that one s (between b k.1.1)).1

@@ -42,10 +42,10 @@ no_left bytes at never =
     no_parts bytes at (no_first terms.text terms.in_range (pairs terms row_lists).text
     (pairs terms row_lists).in_range bytes at never)
 
-pub no_space_behind : (bytes : List ℕ) (at : ℕ) {middle : ℕ} {t : Term} →
+pub no_space_after : (bytes : List ℕ) (at : ℕ) {middle : ℕ} {t : Term} →
     StandsAt terms bytes at t middle → Skips (32 ∷ []) bytes middle None →
     Reads equations bytes at None
-no_space_behind bytes at s k =
+no_space_after bytes at s k =
     no_parts bytes at (no_middle terms.text terms.in_range (pairs terms row_lists).text
     (pairs terms row_lists).in_range terms_once s k)
 

@@ -85,24 +85,24 @@ record Further (frames all : Frames) (last : Layer) (bytes left : List ℕ) : Ty
   pub whole : all ≡ frames ++ more
   pub stands : BeginsWith open_terms bytes (more, last) left
 
-goes_further : (frames all : Frames) (last : Layer) (start bytes left : List ℕ) →
+goes_onward : (frames all : Frames) (last : Layer) (start bytes left : List ℕ) →
     list_all is_readable_frame frames ≡ true
     → start ≡ openings frames ++ bytes → BeginsWith open_terms start (all, last) left →
     Further frames all last bytes left
-goes_further [] all last start bytes left h e b = record {
+goes_onward [] all last start bytes left h e b = record {
   more = all;
   whole = refl;
   stands = subst (λ (s : List ℕ). BeginsWith open_terms s (all, last) left) e b;
 }
-goes_further (f ∷ fs) [] last start bytes left h e b =
+goes_onward (f ∷ fs) [] last start bytes left h e b =
     let s = layers_once start (frame_layer f) last (openings fs ++ bytes) left
     (outermost bytes f fs h e) (last_begins b) in
     absurd (no_frame f last (is_its_last b) s.0)
-goes_further (f ∷ fs) (g ∷ gs) last start bytes left h e b =
+goes_onward (f ∷ fs) (g ∷ gs) last start bytes left h e b =
     let s = layers_once start (frame_layer f) (frame_layer g) (openings fs ++ bytes)
     (openings gs ++ (layer_text last ++ left))
     (outermost bytes f fs h e) (frame_begins b) in
-    let inner = goes_further fs gs last (openings fs ++ bytes) bytes left
+    let inner = goes_onward fs gs last (openings fs ++ bytes) bytes left
     (and_parts (is_readable_frame f) (list_all is_readable_frame fs) h).1 refl (further b s.1) in
     record {
       more = inner.more;
@@ -115,7 +115,7 @@ pub open_once : IsUnambiguous open_terms
 open_once bytes (fs, x) (gs, y) left right b c =
     let parts = and_parts (list_all is_readable_frame fs) (is_last x && is_readable_layer x)
     b.in_range in
-    let f = goes_further fs gs y bytes (layer_text x ++ left) right parts.0
+    let f = goes_onward fs gs y bytes (layer_text x ++ left) right parts.0
     (b.text ∙ append_assoc (openings fs) (layer_text x) left) c in
     by f.more f.whole f.stands (and_parts (is_last x) (is_readable_layer x) parts.1).1
   where
@@ -190,7 +190,7 @@ pub no_layer : (bytes : List ℕ) (start : ℕ) {at : ℕ} {frames : Frames} →
     FramesSoFar bytes start frames at → Reads layers bytes at None
     → Reads open_terms bytes start None
 no_layer bytes start {at} {frames} s never (all, last) left b =
-    let f = goes_further frames all last (drop start bytes) (drop at bytes) left s.readable s.text b
+    let f = goes_onward frames all last (drop start bytes) (drop at bytes) left s.readable s.text b
     in
     by f.more f.stands
   where
@@ -207,12 +207,12 @@ pub to_front : (frames : Frames) (rest : List ℕ) → closings frames ++ (41 �
 to_front [] rest = refl
 to_front (f ∷ fs) rest = ap (λ b. 41 ∷ b) (to_front fs rest)
 
-closings_turned : (outer : Frames) (f : Sym × List Body) (more : Frames) →
+closings_reversed : (outer : Frames) (f : Sym × List Body) (more : Frames) →
     closings (outer ++ f ∷ more) ≡ closings more ++ (41 ∷ closings outer)
-closings_turned [] f more =
+closings_reversed [] f more =
     ap (λ b. 41 ∷ b) (sym (append-nil (closings more))) ∙ sym (to_front more [])
-closings_turned (g ∷ outer) f more =
-    ap (λ b. 41 ∷ b) (closings_turned outer f more) ∙ sym (to_front more (41 ∷ closings outer))
+closings_reversed (g ∷ outer) f more =
+    ap (λ b. 41 ∷ b) (closings_reversed outer f more) ∙ sym (to_front more (41 ∷ closings outer))
 
 pub record ClosedSoFar (bytes : List ℕ) (start : ℕ) (frames : Frames) (inner : Term)
     (outer : Frames) (whole : Term) (at : ℕ) : Type 0 where
@@ -260,7 +260,7 @@ not_closed bytes start {frames} {outer} {inner} {whole} {at} rest f s e never le
     append_assoc rest (f ∷ []) s.more in
     never (closings rest ++ left)
     (append_cancel_left (closings s.more) (drop at bytes) (41 ∷ (closings rest ++ left))
-    (sym s.text ∙ h ∙ ap (λ b. b ++ left) (ap closings all ∙ closings_turned rest f s.more)
+    (sym s.text ∙ h ∙ ap (λ b. b ++ left) (ap closings all ∙ closings_reversed rest f s.more)
     ∙ append_assoc (closings s.more) (41 ∷ closings rest) left))
 
 pub all_closed : (bytes : List ℕ) (start : ℕ) {frames outer : Frames} {inner whole : Term} {at : ℕ}

@@ -65,8 +65,8 @@ innermost_Frame f ps t =
 -- ---- the whole
 
 -- one more closing parenthesis, before or after
-closed_behind : (t : Term) → closing_text t ++ (41 ∷ []) ≡ 41 ∷ closing_text t
-closed_behind = induct (λ t. closing_text t ++ (41 ∷ []) ≡ 41 ∷ closing_text t)
+closed_after : (t : Term) → closing_text t ++ (41 ∷ []) ≡ 41 ∷ closing_text t
+closed_after = induct (λ t. closing_text t ++ (41 ∷ []) ≡ 41 ∷ closing_text t)
     (λ p. rw (closing_Return p) refl)
     (λ c. rw (closing_Fail c) refl)
     (λ f ps. rw (closing_Call f ps) refl)
@@ -93,7 +93,7 @@ in_three = induct InThree
         let m = term_text (innermost_of t) in
         let c = closing_text t in
         let closed : o ++ (m ++ (41 ∷ c)) ≡ term_text t ++ (41 ∷ []) =
-        ap (λ b. o ++ (m ++ b)) (sym (closed_behind t))
+        ap (λ b. o ++ (m ++ b)) (sym (closed_after t))
         ∙ ap (λ b. o ++ b) (sym (append_assoc m c (41 ∷ [])))
         ∙ sym (append_assoc o (m ++ c) (41 ∷ []))
         ∙ ap (λ b. b ++ (41 ∷ [])) inner in

@@ -61,12 +61,12 @@ depth_of : (tree : CoverTree) →
 depth_of tree = fold_out-CoverTree ℕ depth_level tree
 
 -- its text is the word with the contents after it
-pub text_behind : (kind : TreeKind) (x : Contents kind) →
+pub text_after : (kind : TreeKind) (x : Contents kind) →
     tree_text (tree_of kind x) ≡ tree_word kind ++ contents_text kind x
-text_behind TreeKind.Use x = text_of (made.Use x.0 x.1) ∙ rw (made.outs-Use x.0 x.1) refl
-text_behind TreeKind.Split x =
+text_after TreeKind.Use x = text_of (made.Use x.0 x.1) ∙ rw (made.outs-Use x.0 x.1) refl
+text_after TreeKind.Split x =
     text_of (made.Split x.0 x.1.0 x.1.1) ∙ rw (made.outs-Split x.0 x.1.0 x.1.1) refl
-text_behind TreeKind.Absurd x = text_of (made.Absurd x) ∙ rw (made.outs-Absurd x) refl
+text_after TreeKind.Absurd x = text_of (made.Absurd x) ∙ rw (made.outs-Absurd x) refl
 
 one_deep : (n : ℕ) → nat_le 1 (n + 1) ≡ true
 one_deep n = le-leb 1 (n + 1) (omega arith)
@@ -150,28 +150,28 @@ pub each_has_kind : (tree : CoverTree) → HasKind tree
 each_has_kind tree = subst HasKind (roll-out-CoverTree tree) (by_level (out-CoverTree tree))
 
 -- the kind whose word a first byte begins
-abbrev told_kind : List ℕ → TreeKind
-told_kind [] = TreeKind.Use
-told_kind (byte ∷ bytes) =
+abbrev known_kind : List ℕ → TreeKind
+known_kind [] = TreeKind.Use
+known_kind (byte ∷ bytes) =
     cond (byte == 115) TreeKind.Split (cond (byte == 97) TreeKind.Absurd TreeKind.Use)
 
-told : (kind : TreeKind) (rest : List ℕ) → told_kind (tree_word kind ++ rest) ≡ kind
+told : (kind : TreeKind) (rest : List ℕ) → known_kind (tree_word kind ++ rest) ≡ kind
 told TreeKind.Use rest = refl
 told TreeKind.Split rest = refl
 told TreeKind.Absurd rest = refl
 
 same_kind : (j k : TreeKind) (s t : List ℕ) → tree_word j ++ s ≡ tree_word k ++ t → j ≡ k
-same_kind j k s t e = sym (told j s) ∙ ap told_kind e ∙ told k t
+same_kind j k s t e = sym (told j s) ∙ ap known_kind e ∙ told k t
 
 module _ (n : ℕ) where
   -- the bytes after the word of a tree's kind begin with its contents
-  behind_word : {bytes left rest : List ℕ} (kind : TreeKind) (x : Contents kind) →
+  after_word : {bytes left rest : List ℕ} (kind : TreeKind) (x : Contents kind) →
       BeginsWith (trees_within (n + 1)) bytes (tree_of kind x) left →
       bytes ≡ tree_word kind ++ rest → BeginsWith (contents n kind) rest x left
-  behind_word {bytes} {left} {rest} kind x b e = record {
+  after_word {bytes} {left} {rest} kind x b e = record {
     in_range = sym (in_range_of n kind x) ∙ b.in_range;
     text = append_cancel_left (tree_word kind) rest (contents_text kind x ++ left)
-        (sym e ∙ b.text ∙ ap (λ s. s ++ left) (text_behind kind x) ∙
+        (sym e ∙ b.text ∙ ap (λ s. s ++ left) (text_after kind x) ∙
         append_assoc (tree_word kind) (contents_text kind x) left);
     over = b.over;
   }
@@ -180,7 +180,7 @@ module _ (n : ℕ) where
       BeginsWith (trees_within (n + 1)) bytes (tree_of kind x) left →
       bytes ≡ tree_word kind ++ (contents_text kind x ++ left)
   whole_text {bytes} {left} kind x b =
-      b.text ∙ ap (λ s. s ++ left) (text_behind kind x)
+      b.text ∙ ap (λ s. s ++ left) (text_after kind x)
       ∙ append_assoc (tree_word kind) (contents_text kind x) left
 
   abbrev Begins : List ℕ → List ℕ → CoverTree → Type 0
@@ -207,7 +207,7 @@ module _ (n : ℕ) where
       (sym (whole_text t.0 t.1 c) ∙ k.1.1) in
       subst (λ (j : TreeKind). (y : Contents j) → Begins (drop at bytes) left (tree_of j y) → ⊥)
       (sym same)
-      (λ y d. h y left (behind_word kind y d k.1.1)) t.1 c
+      (λ y d. h y left (after_word kind y d k.1.1)) t.1 c
   reads_tree kind bytes at next (Some r) k h = record {
     forward = omega (arith, h.forward, k.0);
     inside = h.inside;
@@ -216,7 +216,7 @@ module _ (n : ℕ) where
       text =
           k.1.1 ∙ ap (λ s. tree_word kind ++ s) h.begins.text
           ∙ sym (append_assoc (tree_word kind) (contents_text kind r.0) (drop r.1 bytes))
-          ∙ ap (λ s. s ++ drop r.1 bytes) (sym (text_behind kind r.0));
+          ∙ ap (λ s. s ++ drop r.1 bytes) (sym (text_after kind r.0));
       over = h.begins.over;
     };
   }
@@ -248,8 +248,8 @@ module _ (n : ℕ) where
       let same =
       same_kind j.0 k.0 rest (contents_text k.0 k.1 ++ right) (sym w ∙ whole_text k.0 k.1 e) in
       let alone : Alone bytes left right (tree_of j.0 j.1) j.0 =
-      (λ z f. let s = contents_once once j.0 rest j.1 z left right (behind_word j.0 j.1 d w)
-      (behind_word j.0 z f w) in (ap (tree_of j.0) s.0, s.1)) in
+      (λ z f. let s = contents_once once j.0 rest j.1 z left right (after_word j.0 j.1 d w)
+      (after_word j.0 z f w) in (ap (tree_of j.0) s.0, s.1)) in
       let t = subst (Alone bytes left right (tree_of j.0 j.1)) same alone k.1 e in
       (sym j.2 ∙ t.0 ∙ k.2, t.1)
 

@@ -9,13 +9,13 @@ use Rattle.rx_tree_words.specs.Branches.{tree_word, uses}
 use Rattle.rx_words.specs.Certificates.{cert_text}
 use Rattle.rx_tree_words.specs.Trees.{tree_text}
 use Rattle.rx_tree_words.specs.declared.trees.TreeKind.{TreeKind}
-use Rattle.rx_tree_words.proofs.TreeWords.{text_behind}
+use Rattle.rx_tree_words.proofs.TreeWords.{text_after}
 
 module _ (out : List ℕ) where
   pub use_written : (rule : ℕ) (certs : List Cert) →
       out ++ (tree_word TreeKind.Use ++ uses.text (rule, certs)) ≡ out ++
       tree_text (made.Use rule certs)
-  use_written rule certs = ap (λ s. out ++ s) (sym (text_behind TreeKind.Use (rule, certs)))
+  use_written rule certs = ap (λ s. out ++ s) (sym (text_after TreeKind.Use (rule, certs)))
 
   pub split_written : (row : Row) (x y : CoverTree) →
       ((out ++ (tree_word TreeKind.Split ++ row_text row)) ++ (32 ∷ tree_text x)) ++
@@ -27,8 +27,8 @@ module _ (out : List ℕ) where
       (32 ∷ (tree_text x ++ (32 ∷ tree_text y)))
       ∙ ap (λ s. out ++ s) (append_assoc (tree_word TreeKind.Split) (row_text row)
       (32 ∷ (tree_text x ++ (32 ∷ tree_text y))))
-      ∙ ap (λ s. out ++ s) (sym (text_behind TreeKind.Split (row, (x, y))))
+      ∙ ap (λ s. out ++ s) (sym (text_after TreeKind.Split (row, (x, y))))
 
   pub absurd_written : (cert : Cert) →
       out ++ (tree_word TreeKind.Absurd ++ cert_text cert) ≡ out ++ tree_text (made.Absurd cert)
-  absurd_written cert = ap (λ s. out ++ s) (sym (text_behind TreeKind.Absurd cert))
+  absurd_written cert = ap (λ s. out ++ s) (sym (text_after TreeKind.Absurd cert))

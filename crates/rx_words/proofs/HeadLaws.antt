@@ -16,36 +16,36 @@ use Rattle.rx_words.proofs.Once.{numbers_once, integers_once, part_lists_once, p
 use Rattle.rx_words.proofs.Joined.{pairs_once}
 
 -- the kind whose word the first three bytes begin, and what comes after the word
-abbrev told_s : ℕ → List ℕ → Kind × List ℕ
-told_s b rest =
+abbrev known_s : ℕ → List ℕ → Kind × List ℕ
+known_s b rest =
     cond (b == 117) (Kind.Sum, drop 1 rest) (cond (b == 112) (Kind.Split, drop 3 rest)
     (Kind.Solve, drop 3 rest))
 
-abbrev told_d : ℕ → List ℕ → Kind × List ℕ
-told_d c rest = cond (c == 102) (Kind.Differ, drop 4 rest) (Kind.DivFacts, drop 1 rest)
+abbrev known_d : ℕ → List ℕ → Kind × List ℕ
+known_d c rest = cond (c == 102) (Kind.Differ, drop 4 rest) (Kind.DivFacts, drop 1 rest)
 
 abbrev told : ℕ → ℕ → ℕ → List ℕ → Kind × List ℕ
 told a b c rest =
-    cond (a == 99) (Kind.Cut, drop 1 rest) (cond (a == 100) (told_d c rest) (told_s b rest))
+    cond (a == 99) (Kind.Cut, drop 1 rest) (cond (a == 100) (known_d c rest) (known_s b rest))
 
-abbrev told_from : List ℕ → Kind × List ℕ
-told_from [] = (Kind.Sum, [])
-told_from (a ∷ []) = (Kind.Sum, [])
-told_from (a ∷ b ∷ []) = (Kind.Sum, [])
-told_from (a ∷ b ∷ c ∷ rest) = told a b c rest
+abbrev known_from : List ℕ → Kind × List ℕ
+known_from [] = (Kind.Sum, [])
+known_from (a ∷ []) = (Kind.Sum, [])
+known_from (a ∷ b ∷ []) = (Kind.Sum, [])
+known_from (a ∷ b ∷ c ∷ rest) = told a b c rest
 
-told_kind : (kind : Kind) (rest : List ℕ) → told_from (kind_word kind ++ rest) ≡ (kind, rest)
-told_kind Kind.Sum rest = refl
-told_kind Kind.Cut rest = refl
-told_kind Kind.Split rest = refl
-told_kind Kind.Differ rest = refl
-told_kind Kind.Solve rest = refl
-told_kind Kind.DivFacts rest = refl
+known_kind : (kind : Kind) (rest : List ℕ) → known_from (kind_word kind ++ rest) ≡ (kind, rest)
+known_kind Kind.Sum rest = refl
+known_kind Kind.Cut rest = refl
+known_kind Kind.Split rest = refl
+known_kind Kind.Differ rest = refl
+known_kind Kind.Solve rest = refl
+known_kind Kind.DivFacts rest = refl
 
 -- bytes begin with the word of one kind
 kinds_apart : (j k : Kind) (s t : List ℕ) → kind_word j ++ s ≡ kind_word k ++ t → (j ≡ k) × (s ≡ t)
 kinds_apart j k s t e =
-    let same : (j, s) ≡ (k, t) = sym (told_kind j s) ∙ ap told_from e ∙ told_kind k t in
+    let same : (j, s) ≡ (k, t) = sym (known_kind j s) ∙ ap known_from e ∙ known_kind k t in
     (ap (λ (p : Kind × List ℕ). p.0) same, ap (λ (p : Kind × List ℕ). p.1) same)
 
 of_its_kind : (head : Head) → is_of (kind_of head) head ≡ true
@@ -181,10 +181,10 @@ each_once Kind.DivFacts =
     polynomials_once integers_once)
 
 -- after the word of the kind come the fields
-behind_word : {bytes left rest : List ℕ} {head : Head} (kind : Kind) →
+after_word : {bytes left rest : List ℕ} {head : Head} (kind : Kind) →
     BeginsWith heads bytes head left → bytes ≡ kind_word kind ++ rest →
     BeginsWith (fields kind) rest head left
-behind_word {bytes} {left} {rest} {head} kind b e =
+after_word {bytes} {left} {rest} {head} kind b e =
     let apart = kinds_apart (kind_of head) kind (fields_text head ++ left) rest
     (sym (append_assoc (kind_word (kind_of head)) (fields_text head) left) ∙ sym b.text ∙ e) in
     record {
@@ -212,7 +212,7 @@ is_its_kind Kind.DivFacts head e = ap kind_of (only_division head e).1
 pub reads_head : (bytes : List ℕ) (at next : ℕ) (kind : Kind) (r : Option (Head × ℕ)) →
     ReadsKind bytes at (Some (kind, next)) → Reads (fields kind) bytes next r →
     Reads heads bytes at r
-reads_head bytes at next kind None k h = λ head left b. h head left (behind_word kind b k.1.1)
+reads_head bytes at next kind None k h = λ head left b. h head left (after_word kind b k.1.1)
 reads_head bytes at next kind (Some r) k h =
     let parts = and_parts (is_of kind r.0) (is_readable_head r.0) h.begins.in_range in
     record {
@@ -234,5 +234,5 @@ pub heads_once : IsUnambiguous heads
 heads_once bytes x y left right b c =
     let rest = fields_text x ++ left in
     let e = b.text ∙ append_assoc (kind_word (kind_of x)) (fields_text x) left in
-    each_once (kind_of x) rest x y left right (behind_word (kind_of x) b e)
-    (behind_word (kind_of x) c e)
+    each_once (kind_of x) rest x y left right (after_word (kind_of x) b e)
+    (after_word (kind_of x) c e)

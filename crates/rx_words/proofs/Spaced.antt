@@ -28,9 +28,9 @@ module _ {A : Type 0} (text : A → List ℕ) (in_range : A → Bool)
   abbrev Each : Format A
   Each = words text in_range
 
-  behind_space : (x : A) (xs : List A) (s rest : List ℕ) → 32 ∷ s ≡ each_spaced text (x ∷ xs) ++
+  after_space : (x : A) (xs : List A) (s rest : List ℕ) → 32 ∷ s ≡ each_spaced text (x ∷ xs) ++
       rest → s ≡ text x ++ (each_spaced text xs ++ rest)
-  behind_space x xs s rest e =
+  after_space x xs s rest e =
       let tails : s ≡ (text x ++ each_spaced text xs) ++ rest = cc in
       tails ∙ append_assoc (text x) (each_spaced text xs) rest
 
@@ -46,7 +46,7 @@ module _ {A : Type 0} (text : A → List ℕ) (in_range : A → Bool)
   begins_longer (x ∷ xs) (y ∷ ys) rest left p q o l le e =
       let bytes = text x ++ (each_spaced text xs ++ rest) in
       let other : bytes ≡ text y ++ (each_spaced text ys ++ left) =
-      behind_space y ys bytes left (sym (ap (λ s. 32 ∷ s)
+      after_space y ys bytes left (sym (ap (λ s. 32 ∷ s)
       (append_assoc (text x) (each_spaced text xs) rest)) ∙ e) in
       let here : BeginsWith Each bytes x (each_spaced text xs ++ rest) =
       record {

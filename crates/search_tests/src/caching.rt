@@ -43,7 +43,7 @@ where
 }
 
 /// The search for the goal, by the refuter behind a cache that holds `capacity` answers.
-pub fn search_behind(
+pub fn search_after(
     alloc: Global,
     set: &RuleSet,
     goal: &Equation,
@@ -81,7 +81,7 @@ fn ask_all<S: FnMut(&Constraint) -> Result<Option<Cert>, FmEnd>>(
 
 /// How often a solver is asked behind a cache that holds `capacity` answers, where these rows
 /// are asked for in turn.
-pub fn calls_behind(alloc: Global, capacity: u32, questions: &[Constraint]) -> Result<u32, NoMemory>
+pub fn calls_after(alloc: Global, capacity: u32, questions: &[Constraint]) -> Result<u32, NoMemory>
     requires low { 1 ≤ capacity }
     requires high { capacity ≤ 65536 }
 {

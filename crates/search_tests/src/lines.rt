@@ -53,7 +53,7 @@ impl Lines {
     fn is_solved(alloc: Global, call: &str, given: &str, wanted: &str) -> Option<bool> {
         let answer = match call {
             "refutes" => solve_calls::refuted(alloc, given)?,
-            "calls" => solve_calls::asked_behind(alloc, given)?,
+            "calls" => solve_calls::asked_after(alloc, given)?,
             "unpacked" => packing::unpacked(alloc, given)?,
             _ => solve_calls::entailed(alloc, given)?,
         };

@@ -6,7 +6,7 @@ ghost use Rattle.rx_joins.specs.Goals.{IsFitting};
 
 use crate::answer::{Answer, written};
 use crate::by_solver::{MOST_KEPT, search_by_solver};
-use crate::caching::search_behind;
+use crate::caching::search_after;
 use crate::reading::equation;
 use crate::words::Words;
 use rx_coverable::find_cover;
@@ -193,14 +193,14 @@ fn common_end(alloc: Global, first: Texts, second: &Texts, third: &Texts) -> Opt
 
 /// The texts of the search for the goal, by the refuter behind a cache that holds `capacity`
 /// answers.
-fn texts_behind(alloc: Global, set: &RuleSet, task: &Task, capacity: u32) -> Option<Texts>
+fn texts_after(alloc: Global, set: &RuleSet, task: &Task, capacity: u32) -> Option<Texts>
     requires coverable { is_coverable set.now ≡ true }
     requires fits { IsFitting set.now task.now.goal }
     requires depth { task.now.depth ≤ 12 }
     requires low { 1 ≤ capacity }
     requires high { capacity ≤ 65536 }
 {
-    let end = search_behind(alloc, set, &task.goal, task.depth, task.budget, capacity);
+    let end = search_after(alloc, set, &task.goal, task.depth, task.budget, capacity);
     texts_of(alloc, &end)
 }
 
@@ -209,9 +209,9 @@ fn cached_end(alloc: Global, set: &RuleSet, task: &Task) -> Option<Answer> {
     if task.depth > MOST_DEEP || !is_fitting(set, &task.goal) || !is_covered(alloc, set) {
         return None;
     }
-    let one = texts_behind(alloc, set, task, 1)?;
-    let some = texts_behind(alloc, set, task, 16)?;
-    let many = texts_behind(alloc, set, task, 4096)?;
+    let one = texts_after(alloc, set, task, 1)?;
+    let some = texts_after(alloc, set, task, 16)?;
+    let many = texts_after(alloc, set, task, 4096)?;
     common_end(alloc, one, &some, &many)
 }
 

@@ -1,6 +1,6 @@
 //! The calls of the refuter.
 use crate::answer::{Answer, ended, written};
-use crate::caching::calls_behind;
+use crate::caching::calls_after;
 use rx_cert::Cert;
 use rx_plain::NoMemory;
 use rx_row::{Constraint, Row};
@@ -81,7 +81,7 @@ fn number_text(alloc: Global, number: u32) -> Result<Vec<u8>, NoMemory> {
 
 /// How often the refuter is asked behind a cache of the capacity given, where the lists of rows
 /// after the first ` | ` are asked for in turn.
-pub fn asked_behind(alloc: Global, given: &str) -> Option<Answer> {
+pub fn asked_after(alloc: Global, given: &str) -> Option<Answer> {
     let (capacity, questions) = given.split_once(" | ")?;
     let capacity = capacity.parse::<u32>().ok()?;
     if capacity < 1 || capacity > 65_536 {
@@ -90,6 +90,6 @@ pub fn asked_behind(alloc: Global, given: &str) -> Option<Answer> {
     let text = questions.as_bytes();
     let (count, first) = read_number(text, 0)?;
     let questions = lists_at(alloc, text, first, count)?;
-    let calls = calls_behind(alloc, capacity, &questions).ok()?;
+    let calls = calls_after(alloc, capacity, &questions).ok()?;
     written(number_text(alloc, calls))
 }

@@ -48,7 +48,7 @@ stmt_flow-returns-in_ok-changed-in-For-clause-flow t c =
     let unset = c.first_of-unset.ensures ∙ (λ k. option_or (tested k) (c.first_of.ensures k)) in
     let outside : c.len-outside.result ≡ length c.args.scope.now.items =
     omega (arith, c.len-outside.ensures) in
-    c.for_behind.ensures
+    c.for_after.ensures
     ∙ (λ k. (fall_through [] (restrict (outside k) (if c.is_endless.ensures k then turn.breaks else
     begun.behind)) (option_or begun.unset (unset k))).flow)
     ∙ for_walked names c.args.scope.now.items c.args.set c.args.stmt.now f.first f.test f.change

@@ -11,7 +11,7 @@ pieces-preserved c =
     let part : IsPieceOf (drop c.pieces.at c.args.source.now) c.piece_at_front.result =
     subst (λ rest. IsPieceOf rest c.piece_at_front.result) c.rest_from.ensures
     c.piece_at_front.ensures.part in
-    rw c.fresh_behind-fresh.ensures
+    rw c.fresh_after-fresh.ensures
     (found_turn c.piece_at_front.result c.args.source.now c.pieces.fresh c.pieces.at c.in_ok-len.len
     c.pieces.found.items c.keep.new.found.items c.pieces.invariant (omega arith) is part
     c.in_ok-len.ensures)

@@ -1,7 +1,7 @@
 use Rattle.std.proofs.Common.{◌+◌, ◌<◌, length, arith}
 use Rattle.c_lex.specs.declared.token.TokenKind.TheVariants.{Name}
 use Rattle.c_expr.proofs.Lookahead.{kind_within}
-use Rattle.c_stmt.proofs.ChangeLemmas.{steps_before, steps_behind}
+use Rattle.c_stmt.proofs.ChangeLemmas.{steps_before, steps_after}
 use Rattle.c_stmt.proofs.changes.change.Goals as goal
 
 pub overflow_cast-at : goal.overflow_cast-at
@@ -16,5 +16,5 @@ returns-in-Some c =
 
 pub returns-in-Some-step_at : goal.returns-in-Some-step_at
 returns-in-Some-step_at c =
-    steps_behind c.args.mark c.args.tokens.now c.args.at c.args.room c.in-Some-step_at.op _
+    steps_after c.args.mark c.args.tokens.now c.args.at c.args.room c.in-Some-step_at.op _
     c.if-not-names-2.ensures c.in-Some-step_at.ensures c.stepped-in-Some-step_at.ensures

@@ -50,7 +50,7 @@ returns c =
 pub loop-left-preserved : goal.loop-left-preserved
 loop-left-preserved c =
     subst (λ (left : List ℕ). ReadSoFar c.args.text.now left c.take.new.self c.push_taken.new.log)
-    (sym c.text_behind-left.ensures)
+    (sym c.text_after-left.ensures)
     (piece_read c.in_ok-count.count c.in_ok-count.line c.take.new.self c.push_taken.new.log
     c.loop-left.invariant c.in_ok-count.ensures.count
     (some_left c.loop-left.left.now (sym c.loop-left-test.ensures))
@@ -63,13 +63,13 @@ loop-left-smaller c =
     let some : 0 < length (up_to_feed c.loop-left.left.now) =
     up_to_feed-some c.loop-left.left.now (some_left c.loop-left.left.now
     (sym c.loop-left-test.ensures)) in
-    let fewer : length c.text_behind-left.result.now < length c.loop-left.left.now =
+    let fewer : length c.text_after-left.result.now < length c.loop-left.left.now =
     omega (
       arith,
       some,
       c.in_ok-count.ensures.count,
       c.in_ok-count.ensures.within,
-      ap length c.text_behind-left.ensures,
+      ap length c.text_after-left.ensures,
       length-drop c.in_ok-count.count c.loop-left.left.now,
     )
     in

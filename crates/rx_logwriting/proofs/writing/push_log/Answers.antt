@@ -10,7 +10,7 @@ use Rattle.rx_logwriting.proofs.writing.push_log.Goals as goal
 pub returns : goal.returns
 returns c =
     let log = c.args.log.now in
-    let both = c.in_ok-push_behind_steps.ensures
+    let both = c.in_ok-push_after_steps.ensures
     ∙ ap (λ text. text ++ ended (line_texts (behind_steps log))) c.in_ok-push_before_ranks.ensures
     in
     on_ok_weaker c.push_word.result

@@ -1,6 +1,6 @@
 -- What has as value the sum or product of both parts has the value of the term.
 use Rattle.std.proofs.lemmas.Result.{IfOk-weaker}
-use Rattle.rx_poly.proofs.NormLaws.{sum_value, product_value, turned_value, quotient_value, remainder_value}
+use Rattle.rx_poly.proofs.NormLaws.{sum_value, product_value, negated_value, quotient_value, remainder_value}
 use Rattle.rx_poly.proofs.DivisionLaws.{value-quotient_of, value-remainder_of}
 use Rattle.rx_plain.proofs.Forming.{value_formed}
 use Rattle.rx_plain.specs.Formed.{kept}
@@ -26,7 +26,7 @@ returns-in_ok-right-in-Mul-clause-value t c =
 pub returns-in_ok-norm-in-Neg-clause-value : goal.returns-in_ok-norm-in-Neg-clause-value
 returns-in_ok-norm-in-Neg-clause-value t c =
     IfOk-weaker c.scale-in-Neg.result _ _ (λ b e.
-    turned_value c.args.term.now c.in_ok-norm-in-Neg.field-0 c.get-in-Neg.ensures
+    negated_value c.args.term.now c.in_ok-norm-in-Neg.field-0 c.get-in-Neg.ensures
     c.in_ok-norm-in-Neg.ensures.value c.in-Neg.is b e) c.scale-in-Neg.ensures.value
 
 pub returns-in_ok-right-in-Div-clause-value : goal.returns-in_ok-right-in-Div-clause-value

@@ -1,11 +1,11 @@
 use Rattle.std.proofs.Common.{refl, codes, ◌-◌, ◌^◌}
 use Rattle.rx_text.specs.Numbers.{naturals}
-use Rattle.rx_term_words.proofs.Bracketed.{no_behind}
+use Rattle.rx_term_words.proofs.Bracketed.{no_after}
 use Rattle.rx_term_words.proofs.LayerLaws.{names_once}
 use Rattle.rx_term_words.proofs.layers.read_symbol.Goals as goal
 
 pub returns-in-None : goal.returns-in-None
 returns-in-None c =
-    no_behind (codes "s") (naturals (2 ^ 32 - 1))
+    no_after (codes "s") (naturals (2 ^ 32 - 1))
     (codes "(") (λ left. refl) c.args.bytes.now c.args.at names_once c.in-Some.ensures
     c.in-Some-read_natural.ensures c.in-None.ensures

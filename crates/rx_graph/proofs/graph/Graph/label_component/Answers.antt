@@ -4,7 +4,7 @@ use Rattle.rx_graph.specs.Graph.{IsGraphOf, MarksReached, reversed_edges, rows_o
 use Rattle.rx_graph.specs.Marks.{Labelled, Named}
 use Rattle.rx_graph.proofs.ComponentLaws.{label_alone, label_marked, no_path, passed, path_back}
 use Rattle.rx_graph.proofs.Elements.{same_at, written_back}
-use Rattle.rx_graph.proofs.GraphLaws.{path_behind}
+use Rattle.rx_graph.proofs.GraphLaws.{path_after}
 use Rattle.rx_graph.proofs.graph.Graph.label_component.Goals as goal
 use Rattle.rx_graph.proofs.graph.Graph.label_component.Goals.{then-is_end-via-then-is_end, then-is_end-via-else-is_end+then-is_end-2}
 
@@ -30,7 +30,7 @@ returns-then-not-index-clause-named c = λ edges graph back_graph.
     let count = c.in_ok-forwards.ensures.count in
     label_alone edges v c.args.labels.now.items (λ b goes returns.
     let marked = (c.in_ok-forwards.ensures.exact edges graph v).1
-    (path_behind edges v b v goes returns) in
+    (path_after edges v b v goes returns) in
     let read : c.index-2.result.now ≡ true =
     c.index-2.ensures ∙ same_at marks v c.index-2.result.now false (omega (arith, there, count)) ∙
     marked in

@@ -3,7 +3,7 @@ use Rattle.std.proofs.Common.{◌∙◌, ◌<◌, arith, length}
 use Rattle.std.proofs.lemmas.List.{length-map}
 use Rattle.rx_graph.specs.Graph.{rows_of}
 use Rattle.rx_graph.proofs.Marking.{row_read, row_within}
-use Rattle.rx_graph.proofs.RowLaws.{begin_turned, same_count, turn_more, turned_closed, turned_graph}
+use Rattle.rx_graph.proofs.RowLaws.{begin_reversed, same_count, turn_more, reversed_closed, reversed_graph}
 use Rattle.rx_graph.proofs.graph.Graph.reversed.Goals as goal
 
 pub add_from_all-requires : goal.add_from_all-requires
@@ -34,7 +34,7 @@ loop-vertex-init c =
     record {
       count = omega (arith, count, mapped, size, held);
       turned =
-          begin_turned c.len.result (rows_of rows.items) (rows_of c.in_ok-back.back.rows.items)
+          begin_reversed c.len.result (rows_of rows.items) (rows_of c.in_ok-back.back.rows.items)
           made;
     }
 
@@ -70,10 +70,10 @@ returns c =
     record {
       count = count;
       edges = λ edges graph.
-          turned_graph (length rows.items) edges (rows_of rows.items) (rows_of back.items)
+          reversed_graph (length rows.items) edges (rows_of rows.items) (rows_of back.items)
           c.loop-vertex.vertex (omega (arith, end, size, held)) (mapped ∙ count)
           c.loop-vertex.invariant.turned graph;
       closed =
-          turned_closed (rows_of rows.items) (rows_of back.items) c.loop-vertex.vertex
+          reversed_closed (rows_of rows.items) (rows_of back.items) c.loop-vertex.vertex
           (omega (arith, upto, size, held, count, mapped)) c.loop-vertex.invariant.turned;
     }

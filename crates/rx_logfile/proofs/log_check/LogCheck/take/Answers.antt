@@ -13,8 +13,8 @@ loop-left-smaller c =
     let count : IsCount c.loop-left.left.now c.in-Some.count =
     subst (λ (o : Option ℕ). IfSome o (IsCount c.loop-left.left.now)) c.in-Some.is
     c.in_ok-count.ensures.count in
-    let fewer : length c.bytes_behind-left.result.now < length c.loop-left.left.now =
-    subst (λ (l : List ℕ). length l < length c.loop-left.left.now) (sym c.bytes_behind-left.ensures)
+    let fewer : length c.bytes_after-left.result.now < length c.loop-left.left.now =
+    subst (λ (l : List ℕ). length l < length c.loop-left.left.now) (sym c.bytes_after-left.ensures)
     (fewer_left c.loop-left.left.now c.in-Some.count
     (some_left c.loop-left.left.now (sym c.loop-left-test.ensures)) count) in
     fewer
@@ -25,7 +25,7 @@ loop-left-preserved c =
     subst (λ (o : Option ℕ). IfSome o (IsCount c.loop-left.left.now)) c.in-Some.is
     c.in_ok-count.ensures.count in
     subst (λ (left : List ℕ). TakenSoFar c.args.self.now c.take_line.new.self c.args.rules.now
-    c.args.piece.now left) (sym c.bytes_behind-left.ensures)
+    c.args.piece.now left) (sym c.bytes_after-left.ensures)
     (line_taken c.in-Some.count c.take_line.new.self c.loop-left.invariant
     (some_left c.loop-left.left.now (sym c.loop-left-test.ensures)) count
     (λ target bytes h. subst (λ (o : Option ℕ).
