@@ -36,7 +36,7 @@ pub fn frames_add_their_ranks()
 /// The same ranks added on both sides keep smaller.
 pub fn equal_ranks_keep_smaller()
     ensures in_front { (u v w : Weight) → Smaller v w → Smaller (u ++ v) (u ++ w) }
-    ensures behind { (u v w : Weight) → Smaller v w → Smaller (v ++ u) (w ++ u) }
+    ensures after { (u v w : Weight) → Smaller v w → Smaller (v ++ u) (w ++ u) }
 {}
 
 /// Smaller than smaller is smaller.

@@ -50,7 +50,7 @@ pub fn substitution_keeps_the_stack()
 
 /// The parts of a fitting term fit, and a fitting term in place of one makes a fitting term.
 pub fn replacing_keeps_fitting()
-    ensures behind { (parts : RuleParts) (n : ℕ) (t s : Term) →
+    ensures after { (parts : RuleParts) (n : ℕ) (t s : Term) →
         term_fits parts t ≡ true → suffix_at n t ≡ Some s → term_fits parts s ≡ true }
     ensures replaced { (parts : RuleParts) (inner : Term) → term_fits parts inner ≡ true →
         (n : ℕ) (t : Term) → term_fits parts t ≡ true → term_fits parts (replace_at n t inner) ≡
@@ -69,7 +69,7 @@ pub fn equal_values_make_one_ground_term()
 /// replaces it.
 #[tactic(auto, using(crate::proofs::RedexLaws::ground_after, crate::proofs::RedexLaws::ground_replaced))]
 pub fn parts_stand_under_ground_frames()
-    ensures behind { (a : ℕ → ℤ) (n : ℕ) (t s : Term) → suffix_at n t ≡ Some s →
+    ensures after { (a : ℕ → ℤ) (n : ℕ) (t s : Term) → suffix_at n t ≡ Some s →
         ground_at a t ≡ in_context (outer_frames a n t) (ground_at a s) }
     ensures replaced { (a : ℕ → ℤ) (n : ℕ) (t inner : Term) →
         ground_at a (replace_at n t inner) ≡ in_context (outer_frames a n t) (ground_at a inner) }
