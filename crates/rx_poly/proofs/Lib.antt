@@ -13,6 +13,7 @@ pub mod Moving
 pub mod Multiples
 pub mod Nesting
 pub mod Neutral
+pub mod Nodes
 pub mod NormLaws
 pub mod Numbering
 pub mod OrderLemmas
@@ -23,6 +24,7 @@ pub mod ProductLaws
 pub mod ReadingLaws
 pub mod Pushing
 pub mod Running
+pub mod Runs
 pub mod Same
 pub mod Scaling
 pub mod SortedLaws

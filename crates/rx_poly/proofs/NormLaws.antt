@@ -35,40 +35,27 @@ negated_value {t} term {inner} p is p_is e b h a =
     h a ∙ ap (λ n. negsuc 0 *ℤ n) (p_is a) ∙ minus ∙ ap (λ u. neg_ℤ (term_value a u)) is ∙
     sym (term_value-Neg a t) ∙ ap (term_value a) (sym e)
 
-module _ {l r : ITerm} (term : ITerm) {left right : ITerm} (p q : Body) (left_is : left ≡ l)
-    (right_is : right ≡ r) (p_is : (a : ℕ → ℤ) → value a p ≡ term_value a left)
-    (q_is : (a : ℕ → ℤ) → value a q ≡ term_value a right) where
+module _ (term l r : ITerm) where
   -- what has the sum of the values of both parts has the value of their sum
-  pub sum_value : term ≡ Add l r → (b : Body) → ((a : ℕ → ℤ) → value a b ≡ value a p +ℤ value a q) →
-      (a : ℕ → ℤ) → value a b ≡ term_value a term
-  sum_value is b e a =
-      e a ∙ (λ i. p_is a i +ℤ q_is a i) ∙ (λ i.
-      term_value a (left_is i) +ℤ term_value a (right_is i)) ∙ sym (term_value-Add a l r) ∙
-      ap (term_value a) (sym is)
+  pub sum_value : term ≡ Add l r → (b : Body) →
+      ((a : ℕ → ℤ) → value a b ≡ term_value a l +ℤ term_value a r) → (a : ℕ → ℤ) → value a b ≡
+      term_value a term
+  sum_value is b e a = e a ∙ sym (term_value-Add a l r) ∙ ap (term_value a) (sym is)
 
   -- so of the product
   pub product_value : term ≡ Mul l r → (b : Body) →
-      ((a : ℕ → ℤ) → value a b ≡ value a p *ℤ value a q) → (a : ℕ → ℤ) → value a b ≡
+      ((a : ℕ → ℤ) → value a b ≡ term_value a l *ℤ term_value a r) → (a : ℕ → ℤ) → value a b ≡
       term_value a term
-  product_value is b e a =
-      e a ∙ (λ i. p_is a i *ℤ q_is a i) ∙ (λ i.
-      term_value a (left_is i) *ℤ term_value a (right_is i)) ∙ sym (term_value-Mul a l r) ∙
-      ap (term_value a) (sym is)
+  product_value is b e a = e a ∙ sym (term_value-Mul a l r) ∙ ap (term_value a) (sym is)
 
   -- of the quotient
   pub quotient_value : term ≡ Div l r → (b : Body) →
-      ((a : ℕ → ℤ) → value a b ≡ quotient (value a p) (value a q)) → (a : ℕ → ℤ) → value a b ≡
-      term_value a term
-  quotient_value is b e a =
-      e a ∙ (λ i. quotient (p_is a i) (q_is a i)) ∙
-      (λ i. quotient (term_value a (left_is i)) (term_value a (right_is i))) ∙
-      sym (term_value-Div a l r) ∙ ap (term_value a) (sym is)
+      ((a : ℕ → ℤ) → value a b ≡ quotient (term_value a l) (term_value a r)) → (a : ℕ → ℤ) →
+      value a b ≡ term_value a term
+  quotient_value is b e a = e a ∙ sym (term_value-Div a l r) ∙ ap (term_value a) (sym is)
 
   -- and of the remainder
   pub remainder_value : term ≡ Mod l r → (b : Body) →
-      ((a : ℕ → ℤ) → value a b ≡ remainder (value a p) (value a q)) → (a : ℕ → ℤ) → value a b ≡
-      term_value a term
-  remainder_value is b e a =
-      e a ∙ (λ i. remainder (p_is a i) (q_is a i)) ∙
-      (λ i. remainder (term_value a (left_is i)) (term_value a (right_is i))) ∙
-      sym (term_value-Mod a l r) ∙ ap (term_value a) (sym is)
+      ((a : ℕ → ℤ) → value a b ≡ remainder (term_value a l) (term_value a r)) → (a : ℕ → ℤ) →
+      value a b ≡ term_value a term
+  remainder_value is b e a = e a ∙ sym (term_value-Mod a l r) ∙ ap (term_value a) (sym is)

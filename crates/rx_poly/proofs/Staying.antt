@@ -1,6 +1,8 @@
 -- Parts whose variables stay: what of a list is left decides.
-use Rattle.std.proofs.Common.{◌≡◌, ◌∙◌, ap, subst, Bool, true, false, ℕ, suc, ◌+◌, ◌<◌, ◌≤◌, sym, List, ◌∷◌, length, drop, get_or, drop_of_length-le, add-one}
+use Rattle.std.proofs.Common.{◌≡◌, ◌∙◌, ap, subst, Bool, true, false, ℕ, suc, ◌+◌, ◌<◌, ◌≤◌, sym, List, ◌∷◌, length, drop, get_or, drop_of_length-le, add-one, [], ◌++◌, take}
 use Rattle.std.proofs.Math.Seq.{drop-cons}
+use Rattle.std.proofs.lemmas.List.{take_more}
+use Rattle.std.proofs.lemmas.List.Concat.{flat_map-append}
 use Rattle.std.proofs.lemmas.List.Elements.{All-nil, All-append}
 use Rattle.std.specs.Bool.{OnTrue}
 use Rattle.std.specs.List.{flat_map}
@@ -40,3 +42,15 @@ finished ws f xs i h s =
 pub passed : {P : Type 0} (b : Bool) → b ≡ true → OnTrue b P → P
 passed true e h = h
 passed false e h = cc
+
+-- one more of the first elements stays
+pub one_more : {X : Type 0} (ws : List (ℕ × Body)) (f : X → List ℕ) (xs : List X) (i : ℕ) {x : X} →
+    i < length xs → x ≡ get_or xs i x → stay ws (f x) → stay ws (flat_map f (take i xs)) →
+    stay ws (flat_map f (take (i + 1) xs))
+one_more ws f xs i {x} h is st before =
+    let P : ℕ → Type 0 = λ v. replaced ws v ≡ variable v in
+    let next : take (i + 1) xs ≡ take i xs ++ x ∷ [] =
+    take_more xs i x h ∙ ap (λ y. take i xs ++ y ∷ []) (sym is) in
+    subst (stay ws) (sym (ap (flat_map f) next ∙ flat_map-append f (take i xs) (x ∷ [])))
+    (All-append P (flat_map f (take i xs)) (f x ++ []) before
+    (All-append P (f x) [] st (All-nil P)))

@@ -75,7 +75,7 @@ times_false (x ∷ xs) done h =
     })
     (and_left done.within (x.within && mul_within done.form x.form) h)
 
-plus_false : (ts : List ((ℤ → Formed Body) × ℤ)) (done : Formed Body) → done.within ≡ false →
+pub plus_false : (ts : List ((ℤ → Formed Body) × ℤ)) (done : Formed Body) → done.within ≡ false →
     (plus_all done ts).within ≡ false
 plus_false [] done h = h
 plus_false (t ∷ ts) done h =

@@ -28,7 +28,7 @@ use Rattle.rx_poly.proofs.Substituting.{well, term_in, in_Var, in_Div, in_Mod, i
 use Rattle.rx_poly.proofs.TermLaws.{listed_parts}
 use Rattle.rx_poly.specs.declared.body.Atom.{Atom, Atom-F, roll-Atom, map-Atom}
 use Rattle.rx_poly.specs.declared.body.Atom.TheVariants.{Div, Mod, rolls-Var, rolls-Div, rolls-Mod}
-use Rattle.rx_poly.specs.declared.body.Mono.{Mono, Mono-F, out-Mono, roll-Mono, roll-out-Mono, out-roll-Mono, map-Mono}
+use Rattle.rx_poly.specs.declared.body.Mono.{Mono, Mono-F, out-Mono, roll-Mono, roll-out-Mono, out-roll-Mono, map-Mono, ind-Mono}
 use Rattle.rx_poly.specs.declared.body.Body.{Body, Body-F, out-Body, roll-Body, roll-out-Body, out-roll-Body, map-Body, ind-Body}
 use Rattle.rx_poly.specs.Variables.{atom_variables, mono_variables, variables}
 use Rattle.rx_poly.proofs.Pieces.{all_parts}
@@ -402,6 +402,12 @@ module _ (ws : List (ℕ × Body)) where
 
   kept : (p : Body) → KeptBody p
   kept = ind-Body KeptAtom KeptBody KeptMono atom_step body_step mono_step
+
+  -- a number times a monomial whose variables stay is one term
+  pub term_stays : (m : Mono) (k : ℤ) → All (λ v. replaced ws v ≡ variable v) (mono_variables m) →
+      is_normal_mono m ≡ true → is_zero k ≡ false → fits_i128 k ≡ true → mono_size m ≤ 4096 →
+      mono_depth m ≤ 64 → subst_mono ws m k ≡ well (of_terms ((m, k) ∷ []))
+  term_stays = ind-Mono KeptAtom KeptBody KeptMono atom_step body_step mono_step
 
   -- where each variable of a polynomial stays what it is, so does the polynomial, and nothing
   -- passes the limits

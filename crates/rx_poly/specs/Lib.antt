@@ -14,3 +14,4 @@ pub mod Constants
 pub mod Digest
 pub mod Division
 pub mod Norm
+pub mod Operations

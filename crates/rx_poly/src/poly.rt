@@ -2,7 +2,7 @@
 ghost use Rattle.std.specs.Prelude.{◌≡◌, ◌↔◌, ◌+ℤ◌, ◌-ℤ◌, ◌*ℤ◌, ℕ, ℤ, true, false, IsTrue, IfOk, IfSome, IsSome};
 ghost use Rattle.std.specs.Prelude.{[]};
 ghost use Rattle.rx_plain.specs.Formed.{Forms, kept};
-ghost use Rattle.rx_poly.specs.Limits.{body_sum, of_terms, is_small, is_within, scaled_by, body_difference};
+ghost use Rattle.rx_poly.specs.Limits.{body_sum, is_sum, of_terms, is_small, is_within, scaled_by, body_difference};
 ghost use Rattle.rx_poly.specs.Normal.{is_normal, is_normal_atom, is_normal_mono, is_poly};
 ghost use Rattle.rx_poly.specs.Constants.{number, variable, variable_times};
 ghost use Rattle.rx_poly.specs.Digest.{digest_of};
@@ -10,7 +10,7 @@ ghost use Rattle.rx_poly.specs.Division.{atom_alone, quotient_of, remainder_of};
 ghost use Rattle.rx_poly.specs.Products.{term_product, product_formed};
 ghost use Rattle.rx_poly.specs.Reading.{coefficient, constant_of};
 ghost use Rattle.rx_poly.specs.Signs.{combined};
-ghost use Rattle.rx_poly.specs.Terms.{is_zero};
+ghost use Rattle.rx_poly.specs.Terms.{all_keys, is_zero};
 ghost use Rattle.rx_poly.specs.declared.body.Body.{out-Body};
 ghost use Rattle.rx_poly.specs.Value.{quotient, remainder, value};
 
@@ -272,6 +272,17 @@ pub(crate) fn plus(alloc: Global, left: Poly, right: Poly) -> Result<Poly, PolyE
     let first = own_body(alloc, left)?;
     let second = own_body(alloc, right)?;
     let terms = moved_sum(alloc, first.terms, second.terms)?;
+    within_limits(alloc, Body { terms })
+}
+
+/// The sum, plus terms of a polynomial; Large exactly where that passes the limits.
+pub(crate) fn plus_terms(alloc: Global, sum: &Poly, terms: &[(Mono, i128)]) -> Result<Poly, PolyEnd>
+    requires sum { is_sum terms.now ≡ true }
+    requires normal { all_keys is_normal_mono terms.now ≡ true }
+    ensures forms { Forms PolyEnd.Large result
+        (kept is_within (body_sum sum.now (of_terms terms.now))) }
+{
+    let terms = merge(alloc, sum.body().terms.as_slice(), terms, Sign::Plus)?;
     within_limits(alloc, Body { terms })
 }
 

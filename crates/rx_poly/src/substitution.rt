@@ -1,5 +1,6 @@
 //! Polynomials substituted for variables.
-ghost use Rattle.std.specs.Prelude.{◌≡◌, [], ◌∷◌, true, false, map, slice_get, ◌*ℤ◌, ℕ, ℤ, IfOk, IfSome, MatchOption};
+ghost use Rattle.std.specs.Prelude.{◌≡◌, ◌≤◌, [], ◌∷◌, true, false, length, map, take, slice_get, ◌*ℤ◌, ℕ, ℤ, IfOk, IfSome, MatchOption};
+ghost use Rattle.std.specs.List.{flat_map};
 ghost use Rattle.std.specs.Bool.{OnTrue};
 ghost use Rattle.std.specs.Option.{option_copied};
 ghost use Rattle.rx_plain.specs.Formed.{Forms, kept, pure};
@@ -13,11 +14,15 @@ ghost use Rattle.rx_poly.specs.Terms.{is_zero};
 ghost use Rattle.rx_poly.specs.Variables.{atom_variables, mono_variables, variables};
 ghost use Rattle.rx_poly.specs.Value.{value};
 ghost use Rattle.rx_poly.specs.declared.body.Atom.TheVariants.{Var};
+ghost use Rattle.rx_poly.specs.declared.body.Mono.{Mono};
 
 use crate::body::{Atom, Body, Mono};
 use crate::division::{divide, remainder};
-use crate::poly::{Poly, of_multiple, of_number, of_variable, plus, times_number, zero};
+use crate::poly::{
+    Poly, of_multiple, of_number, of_variable, plus, plus_terms, times_number, zero,
+};
 use crate::poly_end::PolyEnd;
+use crate::size::fit_together;
 use std::alloc::{AllocError, Global};
 
 /// What variables are replaced by.
@@ -257,6 +262,44 @@ fn body_with(alloc: Global, body: &Body, with: Replacements) -> Result<Poly, Pol
     Ok(sum)
 }
 
+/// How many of the first terms have no variable that doesn't stay.
+fn count_staying(terms: &[(Mono, i128)], with: Replacements) -> usize
+    ensures few { result ≤ length terms.now }
+    ensures stay { stay (replacements with.entry)
+        (flat_map (λ (t : Mono × ℤ). mono_variables t.0) (take result terms.now)) }
+{
+    let mut count = 0;
+    for term in terms {
+        if !mono_stays(&term.0, with) {
+            return count;
+        }
+        count += 1;
+    }
+    count
+}
+
+/// The polynomial with its variables replaced. Terms that stay are added together, as many as
+/// follow one another, unless the sum may then be larger than the limit.
+fn sum_with(alloc: Global, poly: &Poly, with: Replacements) -> Result<Poly, PolyEnd>
+    ensures forms { Forms PolyEnd.Large result (subst_body (replacements with.entry) poly.now) }
+{
+    let start = zero(alloc)?;
+    let mut sum = start;
+    let mut rest = poly.body().terms.as_slice();
+    while let Some((term, after)) = rest.split_first() {
+        let (run, others) = rest.split_at(count_staying(rest, with));
+        if !run.is_empty() && fit_together(sum.body(), run) {
+            sum = plus_terms(alloc, &sum, run)?;
+            rest = others;
+        } else {
+            let product = mono_with(alloc, &term.0, &term.1, with)?;
+            sum = plus(alloc, sum, product)?;
+            rest = after;
+        }
+    }
+    Ok(sum)
+}
+
 /// What is substituted for the polynomial, where it is one variable that doesn't stay.
 fn alone_with<'a>(poly: &Poly, with: Replacements<'a>) -> Option<&'a Poly>
     ensures { IfSome result (λ p. subst_body (replacements with.entry) poly.now ≡ pure p.now) }
@@ -276,7 +319,7 @@ fn poly_with(alloc: Global, poly: &Poly, with: Replacements) -> Result<Poly, Pol
     if body_stays(poly.body(), with) {
         return Ok(poly.try_clone(alloc)?);
     }
-    body_with(alloc, poly.body(), with)
+    sum_with(alloc, poly, with)
 }
 
 impl Poly {

@@ -1,8 +1,21 @@
 -- Each turn moves the first term of one sum, or of both; what is left still adds up to the whole.
-use Rattle.std.proofs.Common.{refl}
+use Rattle.std.proofs.Common.{◌≡◌, ◌∙◌, refl}
 use Rattle.std.proofs.lemmas.Result.{err_from_is_err_and}
-use Rattle.rx_poly.proofs.Moving.{step, opened, after_last, after_left, after_right, after_both, no_sum, finished}
+use Rattle.std.specs.Vec.Iter.{into_iter_items}
+use Rattle.rx_poly.proofs.Moving.{begin, step, opened, after_last, after_left, after_right, after_both, no_sum, finished}
 use Rattle.rx_poly.proofs.moved.moved_sum.Goals as goal
+
+pub loop-first-init : goal.loop-first-init
+loop-first-init c =
+    let l : into_iter_items c.into_iter-ts.result ≡ c.args.left =
+    c.into_iter-ts.ensures.rest ∙ c.into_vec.ensures in
+    let r : into_iter_items c.into_iter-us.result ≡ c.args.right =
+    c.into_iter-us.ensures.rest ∙ c.into_vec-2.ensures in
+    rw c.in_ok-sum.ensures (begin c.args.left c.args.right
+    (step c.into_iter-ts.result c.next-first.result c.next-first.new.self
+    c.next-first.ensures.cases ∙ l)
+    (step c.into_iter-us.result c.next-second.result c.next-second.new.self
+    c.next-second.ensures.cases ∙ r) c.requires.left c.requires.right)
 
 pub loop-first-preserved-in_default-second : goal.loop-first-preserved-in_default-second
 loop-first-preserved-in_default-second c =
