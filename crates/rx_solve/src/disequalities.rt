@@ -1,16 +1,15 @@
 //! What is not 0 is above it or below it.
 ghost use Rattle.std.specs.Prelude.{◌≡◌, [], ◌∷◌, ◌++◌, ◌+◌, length, slice_get, take, Some, IfOk, OnOk};
 ghost use Rattle.rx_cert.specs.Differences.{above, below, disequal};
-ghost use Rattle.rx_cert.specs.declared.cert.Cert.TheVariants.{Differ};
 ghost use Rattle.rx_solve.specs.Answers.{AnswersFor, BranchAnswers, one_formed};
 ghost use Rattle.rx_solve.specs.Bounds.{most_disequalities};
 ghost use Rattle.rx_solve.specs.Disequalities.{disequalities_from};
 ghost use Rattle.rx_solve.specs.Refuter.{differing, differing_at};
 
 use crate::divisions::refute_by_dividing;
+use crate::sides::both_boxed;
 use rx_cert::{Cert, row_above, row_below};
 use rx_fm::FmEnd;
-use rx_plain::Boxed;
 use rx_poly::Poly;
 use rx_row::Row;
 use std::alloc::{AllocError, Global};
@@ -52,15 +51,6 @@ fn disequal_at(alloc: Global, rows: &[Row], at: u32) -> Result<Option<Poly>, All
         Some(Row::Ne(poly)) => Ok(Some(poly.try_clone(alloc)?)),
         _ => Ok(None),
     }
-}
-
-/// The certificate that both signs are looked at.
-fn difference(alloc: Global, at: u32, pos: Cert, neg: Cert) -> Result<Cert, AllocError>
-    ensures { IfOk result (λ c. c ≡ Differ at pos neg) }
-{
-    let pos = Boxed::new(alloc, pos)?;
-    let neg = Boxed::new(alloc, neg)?;
-    Ok(Cert::Differ { at, pos, neg })
 }
 
 /// What is found of the rows with one more after them. The rows are the same again after it.
@@ -131,10 +121,11 @@ fn differ_both(
     let Some(pos) = differ_above(alloc, rows, poly, rest)? else {
         return Ok(None);
     };
-    let Some(neg) = differ_below(alloc, rows, poly, rest)? else {
+    let neg = differ_below(alloc, rows, poly, rest);
+    let Some((pos, neg)) = both_boxed(alloc, pos, neg)? else {
         return Ok(None);
     };
-    Ok(Some(difference(alloc, at, pos, neg)?))
+    Ok(Some(Cert::Differ { at, pos, neg }))
 }
 
 /// What is found with the disequality, and then the others.

@@ -14,6 +14,7 @@ ghost use Rattle.rx_solve.specs.Divisions.{AreRatiosOf, all_ratios, atom_ratios,
 ghost use Rattle.rx_solve.specs.Refuter.{dividing, dividing_by};
 
 use crate::roundings::refute_by_rounding;
+use crate::sides::both_boxed;
 use rx_cert::{Cert, Division, divide, facts_at_least_zero, facts_below_zero};
 use rx_fm::FmEnd;
 use rx_plain::Boxed;
@@ -177,19 +178,11 @@ fn first_ratios(alloc: Global, rows: &[Row]) -> Result<Vec<Ratio>, AllocError>
 }
 
 /// The certificate that both signs of the dividend are looked at.
-fn division_cert(
-    alloc: Global,
-    num: Poly,
-    den: &i128,
-    pos: Cert,
-    neg: Cert,
-) -> Result<Cert, AllocError>
-    ensures { IfOk result (λ c. c ≡ DivFacts num den.now pos neg) }
+fn division_cert(num: Poly, den: &i128, pos: Boxed<Cert>, neg: Boxed<Cert>) -> Cert
+    ensures { result ≡ DivFacts num den.now pos neg }
 {
-    let pos = Boxed::new(alloc, pos)?;
-    let neg = Boxed::new(alloc, neg)?;
     let den = *den;
-    Ok(Cert::DivFacts { num, den, pos, neg })
+    Cert::DivFacts { num, den, pos, neg }
 }
 
 /// The dividend as a polynomial.
@@ -281,10 +274,11 @@ fn divide_both(
     let Some(pos) = divide_above(alloc, rows, &num, known, rest)? else {
         return Ok(None);
     };
-    let Some(neg) = divide_below(alloc, rows, &num, known, rest)? else {
+    let neg = divide_below(alloc, rows, &num, known, rest);
+    let Some((pos, neg)) = both_boxed(alloc, pos, neg)? else {
         return Ok(None);
     };
-    Ok(Some(division_cert(alloc, num, den, pos, neg)?))
+    Ok(Some(division_cert(num, den, pos, neg)))
 }
 
 /// What is found with the ratio, and then the others.

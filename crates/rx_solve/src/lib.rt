@@ -10,6 +10,7 @@ mod pivots;
 mod refuter;
 mod roundings;
 mod showing;
+mod sides;
 mod sums;
 
 pub use asking::ask;

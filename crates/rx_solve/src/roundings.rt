@@ -7,10 +7,11 @@ ghost use Rattle.rx_solve.specs.Bounds.{most_roundings};
 ghost use Rattle.rx_solve.specs.Refuter.{rounding, rounding_by};
 ghost use Rattle.rx_solve.specs.Roundings.{roundings_after, roundings_formed, roundings_with};
 
+use crate::sides::with_boxed;
 use crate::sums::refute_by_sum;
-use rx_cert::{Cert, rounded_row};
+use rx_cert::{Cert, Parts, rounded_row};
 use rx_fm::{FmEnd, content};
-use rx_plain::{Boxed, Items};
+use rx_plain::Items;
 use rx_row::Row;
 use std::alloc::{AllocError, Global};
 
@@ -92,19 +93,23 @@ fn roundings(alloc: Global, rows: &[Row]) -> Result<Vec<Rounding>, FmEnd>
     Ok(found)
 }
 
+/// The row's part in the sum that is rounded, alone.
+fn own_part(alloc: Global, rounding: &Rounding) -> Result<Parts, AllocError>
+    ensures { IfOk result (λ ps. ps ≡ (rounding.now.at, rounding.now.by) ∷ []) }
+{
+    let mut parts = Items::new(alloc);
+    parts.push((rounding.at, rounding.by))?;
+    Ok(parts)
+}
+
 /// The certificate that a row is rounded, and then what refutes the rows with the rounded one.
 fn cut(alloc: Global, rounding: &Rounding, rest: Cert) -> Result<Cert, AllocError>
     ensures { IfOk result (λ c. c ≡ Cut ((rounding.now.at, rounding.now.by) ∷ [])
         rounding.now.divisor rest) }
 {
-    let mut parts = Items::new(alloc);
-    parts.push((rounding.at, rounding.by))?;
-    let rest = Boxed::new(alloc, rest)?;
-    Ok(Cert::Cut {
-        parts,
-        div: rounding.divisor,
-        rest,
-    })
+    let (parts, rest) = with_boxed(alloc, own_part(alloc, rounding), rest)?;
+    let div = rounding.divisor;
+    Ok(Cert::Cut { parts, div, rest })
 }
 
 /// What a sum finds of the rows, once they are rounded one after the other. The rows are the same
