@@ -1,7 +1,6 @@
 //! The definitions of a program: which function a name denotes.
 ghost use Rattle.std.specs.Prelude.{◌≡◌, ◌<◌, ◌^◌, length, IfOk};
 ghost use Rattle.c_scope.specs.Expressions.{definition_of, IsIndexOf};
-ghost use Rattle.c_scope.specs.Views.{IsIndexed};
 
 use c_ast::Function;
 use c_names::name_at;
@@ -18,6 +17,7 @@ pub struct Definitions<'a> {
     pub functions: &'a [Function],
     /// For each name of a function the place of its first definition.
     pub places: &'a IndexMap<u32, u32>,
+    ghost indexed: { IsIndexOf names.now functions.now places.now.entries },
 }
 
 /// A table with the place of the first definition of each name; fails only when out of memory.
@@ -38,7 +38,6 @@ pub fn places_of(
 
 /// The place of the first definition of a name, none where no function has it. Takes no memory.
 pub fn find_definition(definitions: &Definitions, name: u32) -> Option<u32>
-    requires { IsIndexed definitions.now }
     ensures { result ≡ definition_of definitions.now.names.now definitions.now.functions.now name }
 {
     definitions.places.get(&name).copied()

@@ -5,7 +5,6 @@ ghost use Rattle.c_names.specs.Slots as slot_spec;
 ghost use Rattle.c_scope.specs.Expressions as spec;
 ghost use Rattle.c_scope.specs.Expressions.{resolved_expr};
 ghost use Rattle.c_scope.specs.Steps.{Gives, sequence};
-ghost use Rattle.c_scope.specs.Views.{IsIndexed};
 
 use crate::definitions::{Definitions, find_definition};
 use crate::error::ScopeEnd;
@@ -43,7 +42,6 @@ fn called(
     token: u32,
     arguments: &Items<Expr>,
 ) -> Result<u32, ScopeEnd>
-    requires { IsIndexed definitions.now }
     ensures { Gives result (spec.callee_of definitions.now.names.now definitions.now.functions.now
         token (length arguments.now) (slot_spec.slot_of scope.now.names
         (name_spec.name_at definitions.now.names.now token))) }
@@ -66,14 +64,12 @@ fn called(
 
 /// An expression with its names resolved, or its first fault, from left to right.
 #[cycle(expressions)]
-#[tactic(auto, using(crate::proofs::Equations::resolved_call))]
 pub fn resolve_expr(
     alloc: Global,
     definitions: &Definitions,
     scope: &Scope,
     e: &Expr,
 ) -> Result<Expr, ScopeEnd>
-    requires { IsIndexed definitions.now }
     ensures { Gives result (resolved_expr definitions.now.names.now definitions.now.functions.now
         scope.now.names e.now) }
 {
@@ -107,7 +103,6 @@ fn resolve_boxed(
     scope: &Scope,
     e: &Boxed<Expr>,
 ) -> Result<Boxed<Expr>, ScopeEnd>
-    requires { IsIndexed definitions.now }
     ensures { Gives result (resolved_expr definitions.now.names.now definitions.now.functions.now
         scope.now.names e.now) }
 {
@@ -123,7 +118,6 @@ fn resolve_arguments(
     scope: &Scope,
     arguments: &Items<Expr>,
 ) -> Result<Items<Expr>, ScopeEnd>
-    requires { IsIndexed definitions.now }
     ensures { Gives result (sequence (map (resolved_expr definitions.now.names.now
         definitions.now.functions.now scope.now.names) arguments.now)) }
 {

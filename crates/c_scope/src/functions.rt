@@ -4,7 +4,7 @@ ghost use Rattle.c_scope.specs.Functions as spec;
 ghost use Rattle.c_scope.specs.Functions.{HasFewParams, slots_from, with_params};
 ghost use Rattle.c_scope.specs.Slots.{GivesScope};
 ghost use Rattle.c_scope.specs.Steps.{Gives};
-ghost use Rattle.c_scope.specs.Views.{IsIndexed, model_of};
+ghost use Rattle.c_scope.specs.Views.{model_of};
 
 use crate::definitions::Definitions;
 use crate::error::ScopeEnd;
@@ -40,7 +40,6 @@ fn resolve_function(
     definitions: &Definitions,
     function: &Function,
 ) -> Result<Function, ScopeEnd>
-    requires { IsIndexed definitions.now }
     ensures answer { Gives result (spec.resolved_function definitions.now.names.now
         definitions.now.functions.now function.now) }
     ensures few { OnOk result (HasFewParams function.now) }
@@ -65,7 +64,6 @@ pub fn resolve_functions(
     alloc: Global,
     definitions: &Definitions,
 ) -> Result<Items<Function>, ScopeEnd>
-    requires { IsIndexed definitions.now }
     ensures answer { Gives result (spec.resolved_functions definitions.now.names.now
         definitions.now.functions.now) }
     ensures few { OnOk result (All HasFewParams definitions.now.functions.now) }

@@ -1,7 +1,8 @@
 //! A program with its names resolved.
-ghost use Rattle.std.specs.Prelude.{◌≡◌, ◌<◌, ◌^◌, length};
+ghost use Rattle.std.specs.Prelude.{◌≡◌, ◌<◌, ◌^◌, length, All};
 ghost use Rattle.c_names.specs.Names as name_spec;
 ghost use Rattle.c_names.specs.Spellings.{IsWithin};
+ghost use Rattle.c_scope.specs.Functions.{HasFewParams};
 ghost use Rattle.c_scope.specs.Programs as spec;
 ghost use Rattle.c_scope.specs.Programs.{scope_of};
 ghost use Rattle.c_scope.specs.Definitions as definition_spec;
@@ -12,10 +13,30 @@ use crate::definitions::{Definitions, places_of};
 use crate::error::ScopeEnd;
 use crate::functions::resolve_functions;
 use crate::prototypes::definition_fault;
-use c_ast::{Program, Resolved};
+use c_ast::{Function, Program, Resolved};
 use c_lex::Token;
 use c_names::names_of;
+use rx_plain::Items;
 use std::alloc::Global;
+
+// The program of the resolved functions, or the first fault of assignment of those that were read.
+fn after_names(
+    alloc: Global,
+    names: &[u32],
+    functions: &[Function],
+    resolved: Items<Function>,
+) -> Result<Resolved, ScopeEnd>
+    requires { All HasFewParams functions.now }
+    ensures { Gives result (spec.after_names (spec.assigned_fault names.now functions.now)
+        resolved) }
+{
+    match assigned_fault(alloc, names, functions)? {
+        None => Ok(Resolved {
+            functions: resolved,
+        }),
+        Some(fault) => Err(fault),
+    }
+}
 
 // A program with its names resolved, or its first fault, where these are the names of its tokens.
 fn resolve_named(alloc: Global, names: &[u32], program: &Program) -> Result<Resolved, ScopeEnd>
@@ -35,12 +56,7 @@ fn resolve_named(alloc: Global, names: &[u32], program: &Program) -> Result<Reso
         return Err(fault);
     }
     let resolved = resolve_functions(alloc, &definitions)?;
-    if let Some(fault) = assigned_fault(alloc, names, functions)? {
-        return Err(fault);
-    }
-    Ok(Resolved {
-        functions: resolved,
-    })
+    after_names(alloc, names, functions, resolved)
 }
 
 /// A program with its names resolved, or its first fault; fails otherwise only when out of memory.

@@ -4,7 +4,6 @@ ghost use Rattle.std.specs.Prelude.{◌≡◌, ◌<◌, ◌^◌, length};
 ghost use Rattle.c_names.specs.Names as name_spec;
 ghost use Rattle.c_scope.specs.Definitions as spec;
 ghost use Rattle.c_scope.specs.Expressions.{definition_of};
-ghost use Rattle.c_scope.specs.Views.{IsIndexed};
 
 use crate::definitions::{Definitions, find_definition};
 use crate::error::ScopeEnd;
@@ -14,7 +13,6 @@ use c_names::name_at;
 
 // Whether another definition of the name of this token is in front of this place.
 fn is_second(definitions: &Definitions, token: u32, place: u32) -> bool
-    requires { IsIndexed definitions.now }
     ensures { result ≡ spec.is_second place (definition_of definitions.now.names.now
         definitions.now.functions.now (name_spec.name_at definitions.now.names.now token)) }
 {
@@ -26,7 +24,6 @@ fn is_second(definitions: &Definitions, token: u32, place: u32) -> bool
 
 // The name of the first function that was defined before.
 fn second_definition(definitions: &Definitions) -> Option<u32>
-    requires known { IsIndexed definitions.now }
     requires few { length definitions.now.functions.now < 2 ^ 32 }
     ensures { result ≡ spec.second_definition definitions.now.names.now
         definitions.now.functions.now 0 definitions.now.functions.now }
@@ -43,7 +40,6 @@ fn second_definition(definitions: &Definitions) -> Option<u32>
 
 // Whether a prototype says another number of parameters than the definition.
 fn differs(definitions: &Definitions, prototype: &Prototype) -> bool
-    requires { IsIndexed definitions.now }
     ensures { result ≡ spec.differs definitions.now.names.now definitions.now.functions.now
         prototype.now.params (definition_of definitions.now.names.now definitions.now.functions.now
         (name_spec.name_at definitions.now.names.now prototype.now.name)) }
@@ -62,7 +58,6 @@ fn differs(definitions: &Definitions, prototype: &Prototype) -> bool
 
 // The name of the first prototype that does.
 fn wrong_prototype(definitions: &Definitions, prototypes: &[Prototype]) -> Option<u32>
-    requires { IsIndexed definitions.now }
     ensures { result ≡ spec.wrong_prototype definitions.now.names.now definitions.now.functions.now
         prototypes.now }
 {
@@ -94,7 +89,6 @@ fn first_of(second: Option<u32>, wrong: Option<u32>) -> Option<ScopeEnd>
 
 /// The first fault of the definitions and prototypes.
 pub fn definition_fault(definitions: &Definitions, prototypes: &[Prototype]) -> Option<ScopeEnd>
-    requires known { IsIndexed definitions.now }
     requires few { length definitions.now.functions.now < 2 ^ 32 }
     ensures { result ≡ spec.definition_fault definitions.now.names.now definitions.now.functions.now
         prototypes.now }

@@ -1,10 +1,12 @@
 //! The names of statements, in the order of the text.
-ghost use Rattle.std.specs.Prelude.{◌≡◌, true, if◌then◌else◌, map, option_map, Err, Ok};
+ghost use Rattle.std.specs.Prelude.{◌≡◌, Bool, true, if◌then◌else◌, map, option_map};
+ghost use Rattle.std.specs.Prelude.{Err, Ok, IfErr, IfOk};
+ghost use Rattle.c_ast.specs.declared.stmt.Stmt.TheVariants.{If, While, DoWhile, For};
 ghost use Rattle.c_scope.specs.Statements as spec;
 ghost use Rattle.c_scope.specs.Statements.{GivesScoped, resolved_stmt};
 ghost use Rattle.c_scope.specs.Slots.{inner_scope};
 ghost use Rattle.c_scope.specs.Steps.{Gives, and_then};
-ghost use Rattle.c_scope.specs.Views.{IsIndexed, model_of};
+ghost use Rattle.c_scope.specs.Views.{model_of};
 ghost use Rattle.c_scope.specs.declared.error.ScopeEnd.TheVariants.{StrayBreak};
 
 use crate::definitions::Definitions;
@@ -22,7 +24,6 @@ fn resolve_optional(
     scope: &Scope,
     e: &Option<Expr>,
 ) -> Result<Option<Expr>, ScopeEnd>
-    requires { IsIndexed definitions.now }
     ensures { Gives result (spec.resolved_optional definitions.now.names.now
         definitions.now.functions.now (model_of scope.now) e.now) }
 {
@@ -40,7 +41,6 @@ fn declare(
     token: u32,
     value: &Option<Expr>,
 ) -> Result<Stmt, ScopeEnd>
-    requires { IsIndexed definitions.now }
     ensures { GivesScoped result (model_of scope.new)
         (spec.declaration_of definitions.now.names.now definitions.now.functions.now token value.now
         (model_of scope.old)) }
@@ -58,7 +58,6 @@ fn assign(
     token: u32,
     value: &Expr,
 ) -> Result<Stmt, ScopeEnd>
-    requires { IsIndexed definitions.now }
     ensures { GivesScoped result (model_of scope.now)
         (spec.assignment_of definitions.now.names.now definitions.now.functions.now token value.now
         (model_of scope.now)) }
@@ -79,6 +78,19 @@ fn jump(in_loop: bool, token: u32) -> Result<u32, ScopeEnd>
     }
 }
 
+// Both parts, where there is the second. It knows nothing of what they are, so that no more than a
+// value has to be let go of where the second has a fault.
+fn both<A: Drop, B>(first: A, second: Result<B, ScopeEnd>) -> Result<(A, B), ScopeEnd>
+    ensures first { IfOk result (λ parts. parts.0 ≡ first) }
+    ensures second { IfOk result (λ parts. second ≡ Ok parts.1) }
+    ensures fault { IfErr result (λ fault. second ≡ Err fault) }
+{
+    match second {
+        Ok(second) => Ok((first, second)),
+        Err(fault) => Err(fault),
+    }
+}
+
 /// A statement with its names resolved, or its first fault. What it declares is in scope after it.
 #[cycle(statements)]
 pub fn resolve_stmt(
@@ -88,7 +100,6 @@ pub fn resolve_stmt(
     in_loop: bool,
     s: &Stmt,
 ) -> Result<Stmt, ScopeEnd>
-    requires { IsIndexed definitions.now }
     ensures { GivesScoped result (model_of scope.new)
         (resolved_stmt definitions.now.names.now definitions.now.functions.now s.now
         (model_of scope.old) in_loop) }
@@ -97,32 +108,113 @@ pub fn resolve_stmt(
         Stmt::Empty => Ok(Stmt::Empty),
         Stmt::Declare(token, value) => declare(alloc, definitions, scope, *token, value),
         Stmt::Assign(token, value) => assign(alloc, definitions, scope, *token, value),
-        Stmt::If(test, inner, other) => Ok(Stmt::If(
-            resolve_expr(alloc, definitions, scope, test)?,
-            inside(alloc, definitions, scope, in_loop, inner)?,
-            inside_optional(alloc, definitions, scope, in_loop, other)?,
-        )),
-        Stmt::While(test, inner) => Ok(Stmt::While(
-            resolve_expr(alloc, definitions, scope, test)?,
-            inside(alloc, definitions, scope, true, inner)?,
-        )),
-        Stmt::DoWhile(inner, test) => Ok(Stmt::DoWhile(
-            inside(alloc, definitions, scope, true, inner)?,
-            resolve_expr(alloc, definitions, scope, test)?,
-        )),
+        Stmt::If(test, inner, other) => {
+            branch(alloc, definitions, scope, in_loop, s, test, inner, other)
+        }
+        Stmt::While(test, inner) => while_loop(alloc, definitions, scope, s, test, inner),
+        Stmt::DoWhile(inner, test) => do_loop(alloc, definitions, scope, s, inner, test),
         Stmt::For(first, test, change, inner) => {
-            let mut begun = scope.opened(alloc)?;
-            let first = in_order(alloc, definitions, &mut begun, false, first)?;
-            let test = resolve_optional(alloc, definitions, &begun, test)?;
-            let change = inside_optional(alloc, definitions, &begun, false, change)?;
-            let inner = body_of_for(alloc, definitions, &begun, inner)?;
-            Ok(Stmt::For(first, test, change, inner))
+            for_loop(alloc, definitions, scope, s, first, test, change, inner)
         }
         Stmt::Break(token) => Ok(Stmt::Break(jump(in_loop, *token)?)),
         Stmt::Continue(token) => Ok(Stmt::Continue(jump(in_loop, *token)?)),
         Stmt::Return(value) => Ok(Stmt::Return(resolve_expr(alloc, definitions, scope, value)?)),
         Stmt::Block(inner) => Ok(Stmt::Block(in_block(alloc, definitions, scope, in_loop, inner)?)),
     }
+}
+
+// An `if`. The whole statement is there for its height, by which the recursion ends; so it is in
+// the loops below.
+#[cycle(statements)]
+fn branch(
+    alloc: Global,
+    definitions: &Definitions,
+    scope: &Scope,
+    in_loop: bool,
+    whole: &Stmt,
+    test: &Expr,
+    inner: &Boxed<Stmt>,
+    other: &Option<Boxed<Stmt>>,
+) -> Result<Stmt, ScopeEnd>
+    requires parts { whole.now ≡ If test.now inner.now other.now }
+    ensures { GivesScoped result (model_of scope.now)
+        (resolved_stmt definitions.now.names.now definitions.now.functions.now whole.now
+        (model_of scope.now) in_loop) }
+{
+    let test = resolve_expr(alloc, definitions, scope, test)?;
+    let parts = both(test, inside(alloc, definitions, scope, in_loop, inner))?;
+    let other = inside_optional(alloc, definitions, scope, in_loop, other);
+    let ((test, inner), other) = both(parts, other)?;
+    Ok(Stmt::If(test, inner, other))
+}
+
+// A `while`.
+#[cycle(statements)]
+fn while_loop(
+    alloc: Global,
+    definitions: &Definitions,
+    scope: &Scope,
+    whole: &Stmt,
+    test: &Expr,
+    inner: &Boxed<Stmt>,
+) -> Result<Stmt, ScopeEnd>
+    requires parts { whole.now ≡ While test.now inner.now }
+    ensures { (in_loop : Bool) → GivesScoped result (model_of scope.now)
+        (resolved_stmt definitions.now.names.now definitions.now.functions.now whole.now
+        (model_of scope.now) in_loop) }
+{
+    let test = resolve_expr(alloc, definitions, scope, test)?;
+    let (test, inner) = both(test, inside(alloc, definitions, scope, true, inner))?;
+    Ok(Stmt::While(test, inner))
+}
+
+// A `do`.
+#[cycle(statements)]
+fn do_loop(
+    alloc: Global,
+    definitions: &Definitions,
+    scope: &Scope,
+    whole: &Stmt,
+    inner: &Boxed<Stmt>,
+    test: &Expr,
+) -> Result<Stmt, ScopeEnd>
+    requires parts { whole.now ≡ DoWhile inner.now test.now }
+    ensures { (in_loop : Bool) → GivesScoped result (model_of scope.now)
+        (resolved_stmt definitions.now.names.now definitions.now.functions.now whole.now
+        (model_of scope.now) in_loop) }
+{
+    let inner = inside(alloc, definitions, scope, true, inner)?;
+    let (inner, test) = both(inner, resolve_expr(alloc, definitions, scope, test))?;
+    Ok(Stmt::DoWhile(inner, test))
+}
+
+// A `for`.
+#[cycle(statements)]
+fn for_loop(
+    alloc: Global,
+    definitions: &Definitions,
+    scope: &Scope,
+    whole: &Stmt,
+    first: &Items<Stmt>,
+    test: &Option<Expr>,
+    change: &Option<Boxed<Stmt>>,
+    inner: &Boxed<Stmt>,
+) -> Result<Stmt, ScopeEnd>
+    requires parts { whole.now ≡ For first.now test.now change.now inner.now }
+    ensures { (in_loop : Bool) → GivesScoped result (model_of scope.now)
+        (resolved_stmt definitions.now.names.now definitions.now.functions.now whole.now
+        (model_of scope.now) in_loop) }
+{
+    let mut begun = scope.opened(alloc)?;
+    let first = in_order(alloc, definitions, &mut begun, false, first)?;
+    let parts = both(first, resolve_optional(alloc, definitions, &begun, test))?;
+    let parts = both(
+        parts,
+        inside_optional(alloc, definitions, &begun, false, change),
+    )?;
+    let inner = body_of_for(alloc, definitions, &begun, inner);
+    let (((first, test), change), inner) = both(parts, inner)?;
+    Ok(Stmt::For(first, test, change, inner))
 }
 
 // A part of a statement: what it declares is gone after it.
@@ -134,7 +226,6 @@ fn inside(
     in_loop: bool,
     part: &Boxed<Stmt>,
 ) -> Result<Boxed<Stmt>, ScopeEnd>
-    requires { IsIndexed definitions.now }
     ensures { Gives result (spec.nested (resolved_stmt definitions.now.names.now
         definitions.now.functions.now part.now) (model_of scope.now) in_loop) }
 {
@@ -152,7 +243,6 @@ fn inside_optional(
     in_loop: bool,
     part: &Option<Boxed<Stmt>>,
 ) -> Result<Option<Boxed<Stmt>>, ScopeEnd>
-    requires { IsIndexed definitions.now }
     ensures { Gives result (spec.nested_optional
         (option_map (resolved_stmt definitions.now.names.now definitions.now.functions.now)
         part.now) (model_of scope.now) in_loop) }
@@ -175,7 +265,6 @@ fn body_of_for(
     begun: &Scope,
     body: &Boxed<Stmt>,
 ) -> Result<Boxed<Stmt>, ScopeEnd>
-    requires { IsIndexed definitions.now }
     ensures { Gives result (spec.nested (resolved_stmt definitions.now.names.now
         definitions.now.functions.now body.now) (inner_scope (model_of begun.now)) true) }
 {
@@ -192,7 +281,6 @@ fn in_block(
     in_loop: bool,
     statements: &Items<Stmt>,
 ) -> Result<Items<Stmt>, ScopeEnd>
-    requires { IsIndexed definitions.now }
     ensures { Gives result (and_then (spec.in_order (map (resolved_stmt definitions.now.names.now
         definitions.now.functions.now) statements.now) (inner_scope (model_of scope.now)) in_loop)
         (λ block. Ok block.tree)) }
@@ -210,7 +298,6 @@ pub fn in_order(
     in_loop: bool,
     statements: &Items<Stmt>,
 ) -> Result<Items<Stmt>, ScopeEnd>
-    requires { IsIndexed definitions.now }
     ensures { GivesScoped result (model_of scope.new)
         (spec.in_order (map (resolved_stmt definitions.now.names.now definitions.now.functions.now)
         statements.now) (model_of scope.old) in_loop) }
