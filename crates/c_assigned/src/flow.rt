@@ -3,7 +3,7 @@ ghost use Rattle.std.specs.Prelude.{◌≡◌, []};
 ghost use Rattle.std.specs.Option.{option_or};
 ghost use Rattle.c_assigned.specs.Flows as spec;
 
-use crate::sets::{cut, meet};
+use crate::sets::{meet, restrict};
 use rx_plain::Items;
 
 /// The sets of definitely assigned slots after a statement, at its `break`s and at its `continue`s,
@@ -22,7 +22,7 @@ pub struct Flow {
 }
 
 /// What passes to the next statement alone.
-pub fn passing(behind: Option<Items<bool>>, unset: Option<u32>) -> Flow
+pub fn fall_through(behind: Option<Items<bool>>, unset: Option<u32>) -> Flow
     ensures { result ≡ (spec.fall_through [] behind unset).flow }
 {
     Flow {
@@ -44,7 +44,7 @@ pub fn first_of(first: Option<u32>, second: Option<u32>) -> Option<u32>
 }
 
 /// A flow that goes on with another after it.
-pub fn joined(first: Flow, rest: Flow) -> Flow
+pub fn sequence(first: Flow, rest: Flow) -> Flow
     ensures { result ≡ spec.sequence first rest }
 {
     Flow {
@@ -60,15 +60,15 @@ pub fn leave(slots: usize, flow: Flow) -> Flow
     ensures { result ≡ spec.leave slots flow }
 {
     Flow {
-        behind: cut(slots, flow.behind),
-        breaks: cut(slots, flow.breaks),
-        continues: cut(slots, flow.continues),
+        behind: restrict(slots, flow.behind),
+        breaks: restrict(slots, flow.breaks),
+        continues: restrict(slots, flow.continues),
         unset: flow.unset,
     }
 }
 
 /// Two branches, after a test.
-pub fn branched(tested: Option<u32>, holds: Flow, fails: Flow) -> Flow
+pub fn after_branches(tested: Option<u32>, holds: Flow, fails: Flow) -> Flow
     ensures { result ≡ spec.branch tested holds fails }
 {
     Flow {

@@ -14,7 +14,7 @@ fn both_hold(left: bool, right: bool) -> bool
 }
 
 // The slots that are in both.
-fn both(left: Items<bool>, right: &Items<bool>) -> Items<bool>
+fn intersection(left: Items<bool>, right: &Items<bool>) -> Items<bool>
     ensures { result ≡ spec.intersection left right.now }
 {
     let mut flags = left.into_vec();
@@ -36,13 +36,13 @@ pub fn meet(left: Option<Items<bool>>, right: Option<Items<bool>>) -> Option<Ite
         None => right,
         Some(left) => match right {
             None => Some(left),
-            Some(right) => Some(both(left, &right)),
+            Some(right) => Some(intersection(left, &right)),
         },
     }
 }
 
 /// The set of the first n slots.
-pub fn cut(slots: usize, set: Option<Items<bool>>) -> Option<Items<bool>>
+pub fn restrict(slots: usize, set: Option<Items<bool>>) -> Option<Items<bool>>
     ensures { result ≡ spec.restrict slots set }
 {
     match set {

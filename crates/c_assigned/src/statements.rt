@@ -7,9 +7,9 @@ ghost use Rattle.c_assigned.specs.Sets as spec_sets;
 ghost use Rattle.c_names.specs.Names as names_spec;
 ghost use Rattle.c_names.specs.Slots as slots_spec;
 
-use crate::flow::{Flow, branched, first_of, joined, leave, passing};
+use crate::flow::{Flow, after_branches, fall_through, first_of, leave, sequence};
 use crate::reads::first_unset;
-use crate::sets::{copy, cut, meet, with_assigned, with_slot};
+use crate::sets::{copy, meet, restrict, with_assigned, with_slot};
 use c_ast::{Expr, Stmt};
 use c_names::{name_at, slot_of};
 use rx_plain::{Boxed, Items, NoMemory};
@@ -64,12 +64,12 @@ fn declared(
     ensures { IfOk result (λ f. f ≡ (spec.declaration_flow names.now scope.now set value.now).flow) }
 {
     match value {
-        None => Ok(passing(with_slot(false, set)?, None)),
+        None => Ok(fall_through(with_slot(false, set)?, None)),
         Some(value) => {
             let own = (scope.len() - 1) as u32;
             let reading = with_slot(false, copy(alloc, &set)?)?;
             let unset = first_unset(names, scope, &reading, Some(own), value);
-            Ok(passing(with_slot(true, set)?, unset))
+            Ok(fall_through(with_slot(true, set)?, unset))
         }
     }
 }
@@ -89,8 +89,8 @@ fn assigned(
 {
     let unset = first_unset(names, scope, &set, None, value);
     match slot_of(scope, name_at(names, token)) {
-        None => passing(set, unset),
-        Some(slot) => passing(with_assigned(slot, set), unset),
+        None => fall_through(set, unset),
+        Some(slot) => fall_through(with_assigned(slot, set), unset),
     }
 }
 
@@ -107,9 +107,9 @@ fn for_after(
 {
     let unset = first_of(begun.unset, unset);
     if is_endless {
-        passing(cut(outside, breaks), unset)
+        fall_through(restrict(outside, breaks), unset)
     } else {
-        passing(cut(outside, begun.behind), unset)
+        fall_through(restrict(outside, begun.behind), unset)
     }
 }
 
@@ -145,7 +145,7 @@ pub fn stmt_flow(
     ensures few { OnOk result (length scope.new.items < 2 ^ 32) }
 {
     match stmt {
-        Stmt::Empty => Ok(passing(set, None)),
+        Stmt::Empty => Ok(fall_through(set, None)),
         Stmt::Declare(token, value) => {
             bring_in(scope, name_at(names, *token))?;
             declared(alloc, names, scope.as_slice(), set, value)
@@ -156,7 +156,7 @@ pub fn stmt_flow(
             let held = copy(alloc, &set)?;
             let holds = inside(alloc, names, scope, held, inner.get())?;
             let fails = inside_optional(alloc, names, scope, set, other)?;
-            Ok(branched(tested, holds, fails))
+            Ok(after_branches(tested, holds, fails))
         }
         Stmt::While(test, inner) => while_flow(alloc, names, scope, set, inner.get(), test),
         Stmt::DoWhile(inner, test) => do_flow(alloc, names, scope, set, inner.get(), test),
@@ -186,7 +186,7 @@ pub fn stmt_flow(
         }),
         Stmt::Return(value) => {
             let unset = first_unset(names, scope.as_slice(), &set, None, value);
-            Ok(passing(None, unset))
+            Ok(fall_through(None, unset))
         }
         Stmt::Block(inner) => block_flow(alloc, names, scope, set, inner.as_slice()),
     }
@@ -227,7 +227,7 @@ fn inside_optional(
     ensures scope { OnOk result (scope.new.items ≡ scope.old.items) }
 {
     match part {
-        None => Ok(passing(set, None)),
+        None => Ok(fall_through(set, None)),
         Some(part) => inside(alloc, names, scope, set, part.get()),
     }
 }
@@ -249,11 +249,11 @@ pub fn in_order(
     ensures kept { OnOk result (take (length scope.old.items) scope.new.items ≡ scope.old.items) }
     ensures few { OnOk result (length scope.new.items < 2 ^ 32) }
 {
-    let mut flow = passing(set, None);
+    let mut flow = fall_through(set, None);
     for statement in statements {
         let behind = flow.behind.take();
         let next = stmt_flow(alloc, names, scope, behind, statement)?;
-        flow = joined(flow, next);
+        flow = sequence(flow, next);
     }
     Ok(flow)
 }
@@ -280,9 +280,9 @@ fn while_flow(
     let turn = inside(alloc, names, scope, turned, inner)?;
     let unset = first_of(tested, turn.unset);
     if is_above_zero(test) {
-        Ok(passing(turn.breaks, unset))
+        Ok(fall_through(turn.breaks, unset))
     } else {
-        Ok(passing(set, unset))
+        Ok(fall_through(set, unset))
     }
 }
 
@@ -308,9 +308,9 @@ fn do_flow(
         first_unset(names, scope.as_slice(), &tested, None, test),
     );
     if is_above_zero(test) {
-        Ok(passing(turn.breaks, unset))
+        Ok(fall_through(turn.breaks, unset))
     } else {
-        Ok(passing(meet(tested, turn.breaks), unset))
+        Ok(fall_through(meet(tested, turn.breaks), unset))
     }
 }
 

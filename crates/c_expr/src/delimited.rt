@@ -6,7 +6,7 @@ ghost use Rattle.c_expr.specs.Readers.{Gives, IsNoHigher};
 
 use crate::expr::whole;
 use crate::read::Span;
-use crate::token::stands;
+use crate::token::has_mark;
 use c_ast::Expr;
 use c_lex::{Mark, Token, TokenKind};
 use rx_plain::NoMemory;
@@ -34,7 +34,7 @@ pub fn up_to(
     let Some(read) = whole(alloc, tokens, at, room)? else {
         return Ok(None);
     };
-    if stands(tokens, read.end, mark) {
+    if has_mark(tokens, read.end, mark) {
         Ok(Some(Span {
             value: read.tree,
             end: read.end + 1,
@@ -56,7 +56,7 @@ pub fn test(
     ensures { IfOk result (Gives (IsNoHigher expr_height room (Test tokens.now at)) at
         (length tokens.now)) }
 {
-    if !stands(tokens, at, Mark::LeftParen) {
+    if !has_mark(tokens, at, Mark::LeftParen) {
         return Ok(None);
     }
     up_to(alloc, tokens, at + 1, room, Mark::RightParen)

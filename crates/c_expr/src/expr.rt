@@ -9,7 +9,7 @@ ghost use Rattle.c_expr.specs.Grammar.{Expression, BinaryAt, PrimaryExpression, 
 ghost use Rattle.c_expr.specs.Readers.{Reads, ReadsList};
 
 use crate::read::{Read, ReadArguments};
-use crate::token::{kind_at, operator_at, sign_at, stands};
+use crate::token::{has_mark, kind_at, operator_at, sign_at};
 use c_ast::{BinOp, Expr, UnOp};
 use c_lex::{Mark, Token, TokenKind};
 use rx_plain::{Boxed, Items, NoMemory};
@@ -34,7 +34,7 @@ pub fn whole(
     let Some(test) = level(alloc, tokens, LEVELS, at, room)? else {
         return Ok(None);
     };
-    if !stands(tokens, test.end, Mark::Question) {
+    if !has_mark(tokens, test.end, Mark::Question) {
         return Ok(Some(test));
     }
     if test.height >= room {
@@ -43,7 +43,7 @@ pub fn whole(
     let Some(first) = whole(alloc, tokens, test.end + 1, room - 1)? else {
         return Ok(None);
     };
-    if !stands(tokens, first.end, Mark::Colon) {
+    if !has_mark(tokens, first.end, Mark::Colon) {
         return Ok(None);
     }
     let Some(other) = whole(alloc, tokens, first.end + 1, room - 1)? else {
@@ -199,7 +199,7 @@ fn primary(alloc: Global, tokens: &[Token], at: usize, room: u32) -> Result<Opti
     match kind_at(tokens, at) {
         Some(TokenKind::Number(value)) => Ok(Some(leaf(Expr::Lit(value), at))),
         Some(TokenKind::Name) => {
-            if stands(tokens, at + 1, Mark::LeftParen) {
+            if has_mark(tokens, at + 1, Mark::LeftParen) {
                 let Some(read) = arguments(alloc, tokens, at + 2, room - 1)? else {
                     return Ok(None);
                 };
@@ -215,7 +215,7 @@ fn primary(alloc: Global, tokens: &[Token], at: usize, room: u32) -> Result<Opti
             let Some(inner) = whole(alloc, tokens, at + 1, room)? else {
                 return Ok(None);
             };
-            if stands(tokens, inner.end, Mark::RightParen) {
+            if has_mark(tokens, inner.end, Mark::RightParen) {
                 Ok(Some(Read {
                     tree: inner.tree,
                     end: inner.end + 1,
@@ -243,7 +243,7 @@ fn arguments(
     ensures { IfOk result (ReadsList tokens.now at room) }
 {
     let mut found = Items::new(alloc);
-    if stands(tokens, at, Mark::RightParen) {
+    if has_mark(tokens, at, Mark::RightParen) {
         return Ok(Some(ReadArguments {
             arguments: found,
             end: at + 1,
@@ -259,7 +259,7 @@ fn arguments(
     let mut end = first.end;
     let mut height = first.height;
     found.push(first.tree)?;
-    'next: while stands(tokens, end, Mark::Comma) {
+    'next: while has_mark(tokens, end, Mark::Comma) {
         let Some(read) = whole(alloc, tokens, end + 1, room)? else {
             return Ok(None);
         };
@@ -267,7 +267,7 @@ fn arguments(
         height = height.max(read.height);
         found.push(read.tree)?;
     }
-    if stands(tokens, end, Mark::RightParen) {
+    if has_mark(tokens, end, Mark::RightParen) {
         Ok(Some(ReadArguments {
             arguments: found,
             end: end + 1,

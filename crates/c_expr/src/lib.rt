@@ -15,4 +15,4 @@ pub use depth::too_deep;
 pub use expr::whole;
 pub use read::{Read, Span};
 pub use rx_plain::NoMemory;
-pub use token::{kind_at, names, says, stands};
+pub use token::{has_keyword, has_mark, has_name, kind_at};

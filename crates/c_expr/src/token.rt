@@ -18,7 +18,7 @@ pub fn kind_at(tokens: &[Token], at: usize) -> Option<TokenKind>
 }
 
 // Whether the mark is at `at`.
-pub fn stands(tokens: &[Token], at: usize, mark: Mark) -> bool
+pub fn has_mark(tokens: &[Token], at: usize, mark: Mark) -> bool
     ensures { MatchBool result (kind_at tokens.now at ≡ Some (TokenKind.Mark mark))
         (kind_at tokens.now at ≡ Some (TokenKind.Mark mark) → ⊥) }
 {
@@ -29,7 +29,7 @@ pub fn stands(tokens: &[Token], at: usize, mark: Mark) -> bool
 }
 
 // Whether the keyword is at `at`.
-pub fn says(tokens: &[Token], at: usize, word: Keyword) -> bool
+pub fn has_keyword(tokens: &[Token], at: usize, word: Keyword) -> bool
     ensures { MatchBool result (kind_at tokens.now at ≡ Some (TokenKind.Word word))
         (kind_at tokens.now at ≡ Some (TokenKind.Word word) → ⊥) }
 {
@@ -40,7 +40,7 @@ pub fn says(tokens: &[Token], at: usize, word: Keyword) -> bool
 }
 
 // Whether a name is at `at`.
-pub fn names(tokens: &[Token], at: usize) -> bool
+pub fn has_name(tokens: &[Token], at: usize) -> bool
     ensures { MatchBool result (kind_at tokens.now at ≡ Some TokenKind.Name)
         (kind_at tokens.now at ≡ Some TokenKind.Name → ⊥) }
 {

@@ -10,7 +10,7 @@ ghost use Rattle.c_expr.specs.Readers.{Gives, IsNoHigher};
 ghost use Rattle.c_parse.specs.Readers.{LowExternal};
 
 use c_ast::{Function, Prototype, Stmt};
-use c_expr::{Span, names, says, stands};
+use c_expr::{Span, has_keyword, has_mark, has_name};
 use c_lex::{Keyword, Mark, Token, TokenKind};
 use c_stmt::{External, inner};
 use rx_plain::{Items, NoMemory};
@@ -39,7 +39,7 @@ pub fn external(
     let Some(params) = parameters(alloc, tokens, at + 3)? else {
         return Ok(None);
     };
-    if stands(tokens, params.end, Mark::Semicolon) {
+    if has_mark(tokens, params.end, Mark::Semicolon) {
         return Ok(Some(prototype(tokens, at, &params)));
     }
     function(alloc, tokens, at, &params)
@@ -135,9 +135,9 @@ fn is_heading(tokens: &[Token], at: usize) -> bool
     requires inside { at ≤ length tokens.now }
     ensures { MatchBool result (IsHeading tokens.now at) (IsHeading tokens.now at → ⊥) }
 {
-    says(tokens, at, Keyword::Int)
-        && names(tokens, at + 1)
-        && stands(tokens, at + 2, Mark::LeftParen)
+    has_keyword(tokens, at, Keyword::Int)
+        && has_name(tokens, at + 1)
+        && has_mark(tokens, at + 2, Mark::LeftParen)
 }
 
 // Whether `void` and a closing parenthesis are at `at`.
@@ -145,7 +145,7 @@ fn is_void(tokens: &[Token], at: usize) -> bool
     requires { at < 2 ^ 33 }
     ensures { MatchBool result (IsVoid tokens.now at) (IsVoid tokens.now at → ⊥) }
 {
-    says(tokens, at, Keyword::Void) && stands(tokens, at + 1, Mark::RightParen)
+    has_keyword(tokens, at, Keyword::Void) && has_mark(tokens, at + 1, Mark::RightParen)
 }
 
 // The parameters after the opening parenthesis, up to and with the closing one.
@@ -158,7 +158,7 @@ pub fn parameters(
     requires inside { at ≤ length tokens.now }
     ensures { IfOk result (Gives (Parameters tokens.now at) at (length tokens.now)) }
 {
-    if stands(tokens, at, Mark::RightParen) {
+    if has_mark(tokens, at, Mark::RightParen) {
         return Ok(Some(Span {
             value: None,
             end: at + 1,
@@ -196,13 +196,13 @@ fn parameter_list(
             return Ok(None);
         };
         found.push(read.value)?;
-        if stands(tokens, read.end, Mark::RightParen) {
+        if has_mark(tokens, read.end, Mark::RightParen) {
             return Ok(Some(Span {
                 value: found,
                 end: read.end + 1,
             }));
         }
-        if !stands(tokens, read.end, Mark::Comma) {
+        if !has_mark(tokens, read.end, Mark::Comma) {
             return Ok(None);
         }
         end = read.end + 1;
@@ -215,10 +215,10 @@ fn parameter(tokens: &[Token], at: usize) -> Option<Span<Option<u32>>>
     requires inside { at ≤ length tokens.now }
     ensures { Gives (Parameter tokens.now at) at (length tokens.now) result }
 {
-    if !says(tokens, at, Keyword::Int) {
+    if !has_keyword(tokens, at, Keyword::Int) {
         return None;
     }
-    if names(tokens, at + 1) {
+    if has_name(tokens, at + 1) {
         return Some(Span {
             value: Some((at + 1) as u32),
             end: at + 2,
@@ -237,7 +237,7 @@ fn block(alloc: Global, tokens: &[Token], at: usize) -> Result<Option<Span<Items
     ensures { IfOk result (Gives (IsNoHigher list_height 200 (CompoundStatement tokens.now at)) at
         (length tokens.now)) }
 {
-    if !stands(tokens, at, Mark::LeftBrace) {
+    if !has_mark(tokens, at, Mark::LeftBrace) {
         return Ok(None);
     }
     inner(alloc, tokens, at + 1, MAX_HEIGHT)

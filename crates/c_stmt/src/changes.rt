@@ -9,7 +9,7 @@ ghost use Rattle.c_stmt.specs.Readers.{IsStep};
 
 use crate::update::{step_at, update_at};
 use c_ast::{BinOp, Expr, Stmt};
-use c_expr::{Span, names, stands, up_to};
+use c_expr::{Span, has_mark, has_name, up_to};
 use c_lex::{Mark, Token, TokenKind};
 use rx_plain::{Boxed, NoMemory};
 use std::alloc::Global;
@@ -44,7 +44,7 @@ fn stepped(
     if room < STEP_HEIGHT {
         return Ok(None);
     }
-    if !stands(tokens, at, mark) {
+    if !has_mark(tokens, at, mark) {
         return Ok(None);
     }
     Ok(Some(Span {
@@ -71,7 +71,7 @@ fn assigned(
     ensures { IfOk result (Gives (IsNoHigher stmt_height room (Change mark tokens.now at)) at
         (length tokens.now)) }
 {
-    if stands(tokens, at + 1, Mark::Assign) {
+    if has_mark(tokens, at + 1, Mark::Assign) {
         let Some(value) = up_to(alloc, tokens, at + 2, room.saturating_sub(1), mark)? else {
             return Ok(None);
         };
@@ -109,12 +109,12 @@ pub fn change(
         (length tokens.now)) }
 {
     if let Some(op) = step_at(tokens, at) {
-        if !names(tokens, at + 1) {
+        if !has_name(tokens, at + 1) {
             return Ok(None);
         }
         return stepped(alloc, tokens, (at + 1) as u32, op, at + 2, room, mark);
     }
-    if !names(tokens, at) {
+    if !has_name(tokens, at) {
         return Ok(None);
     }
     if let Some(op) = step_at(tokens, at + 1) {

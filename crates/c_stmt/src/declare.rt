@@ -7,7 +7,7 @@ ghost use Rattle.c_stmt.specs.Heights.{list_height};
 ghost use Rattle.c_expr.specs.Readers.{Gives, IsNoHigher};
 
 use c_ast::Stmt;
-use c_expr::{Span, names, says, stands, whole};
+use c_expr::{Span, has_keyword, has_mark, has_name, whole};
 use c_lex::{Keyword, Mark, Token, TokenKind};
 use rx_plain::{Items, NoMemory};
 use std::alloc::Global;
@@ -16,7 +16,7 @@ use std::alloc::Global;
 fn is_parted(tokens: &[Token], at: usize) -> bool
     ensures { MatchBool result (IsParted tokens.now at) (IsParted tokens.now at → ⊥) }
 {
-    stands(tokens, at, Mark::Comma) || stands(tokens, at, Mark::Semicolon)
+    has_mark(tokens, at, Mark::Comma) || has_mark(tokens, at, Mark::Semicolon)
 }
 
 // The declaration of the name at `at`.
@@ -31,7 +31,7 @@ fn declarator(
     ensures { IfOk result (Gives (IsNoHigher stmt_height room (InitDeclarator tokens.now at)) at
         (length tokens.now)) }
 {
-    if !names(tokens, at) {
+    if !has_name(tokens, at) {
         return Ok(None);
     }
     if room == 0 {
@@ -43,14 +43,14 @@ fn declarator(
             end: at + 1,
         }));
     }
-    if !stands(tokens, at + 1, Mark::Assign) {
+    if !has_mark(tokens, at + 1, Mark::Assign) {
         return Ok(None);
     }
-    valued(alloc, tokens, at, room)
+    initialized(alloc, tokens, at, room)
 }
 
 // The declaration of the name at `at` with the value after it.
-fn valued(
+fn initialized(
     alloc: Global,
     tokens: &[Token],
     at: usize,
@@ -97,7 +97,7 @@ fn declarators(
         };
         found.push(read.value)?;
         end = read.end + 1;
-        if stands(tokens, read.end, Mark::Semicolon) {
+        if has_mark(tokens, read.end, Mark::Semicolon) {
             return Ok(Some(Span { value: found, end }));
         }
     }
@@ -115,7 +115,7 @@ pub fn declaration(
     ensures { IfOk result (Gives (IsNoHigher list_height room (Declaration tokens.now at)) at
         (length tokens.now)) }
 {
-    if !says(tokens, at, Keyword::Int) {
+    if !has_keyword(tokens, at, Keyword::Int) {
         return Ok(None);
     }
     declarators(alloc, tokens, at + 1, room)

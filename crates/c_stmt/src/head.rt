@@ -9,13 +9,13 @@ use crate::changes::change;
 use crate::declare::declaration;
 use crate::tree::Head;
 use c_ast::{Expr, Stmt};
-use c_expr::{Span, says, stands, up_to};
+use c_expr::{Span, has_keyword, has_mark, up_to};
 use c_lex::{Keyword, Mark, Token};
 use rx_plain::{Boxed, Items, NoMemory};
 use std::alloc::Global;
 
 // The part before the test, with the semicolon.
-fn start(
+fn for_init(
     alloc: Global,
     tokens: &[Token],
     at: usize,
@@ -26,13 +26,13 @@ fn start(
     ensures { IfOk result (Gives (IsNoHigher list_height room (ForInit tokens.now at)) at
         (length tokens.now)) }
 {
-    if stands(tokens, at, Mark::Semicolon) {
+    if has_mark(tokens, at, Mark::Semicolon) {
         return Ok(Some(Span {
             value: Items::new(alloc),
             end: at + 1,
         }));
     }
-    if says(tokens, at, Keyword::Int) {
+    if has_keyword(tokens, at, Keyword::Int) {
         return declaration(alloc, tokens, at, room);
     }
     let Some(read) = change(alloc, tokens, at, room, Mark::Semicolon)? else {
@@ -47,7 +47,7 @@ fn start(
 }
 
 // The test, with the semicolon.
-fn continuing(
+fn for_test(
     alloc: Global,
     tokens: &[Token],
     at: usize,
@@ -59,7 +59,7 @@ fn continuing(
         at
         (length tokens.now)) }
 {
-    if stands(tokens, at, Mark::Semicolon) {
+    if has_mark(tokens, at, Mark::Semicolon) {
         return Ok(Some(Span {
             value: None,
             end: at + 1,
@@ -75,7 +75,7 @@ fn continuing(
 }
 
 // The change after the test, with the closing parenthesis.
-fn advance(
+fn for_step(
     alloc: Global,
     tokens: &[Token],
     at: usize,
@@ -87,7 +87,7 @@ fn advance(
         at
         (length tokens.now)) }
 {
-    if stands(tokens, at, Mark::RightParen) {
+    if has_mark(tokens, at, Mark::RightParen) {
         return Ok(Some(Span {
             value: None,
             end: at + 1,
@@ -114,16 +114,16 @@ pub fn head(
     ensures { IfOk result (Gives (IsNoHigher head_height room (ForHead tokens.now at)) at
         (length tokens.now)) }
 {
-    if !stands(tokens, at, Mark::LeftParen) {
+    if !has_mark(tokens, at, Mark::LeftParen) {
         return Ok(None);
     }
-    let Some(first) = start(alloc, tokens, at + 1, room)? else {
+    let Some(first) = for_init(alloc, tokens, at + 1, room)? else {
         return Ok(None);
     };
-    let Some(test) = continuing(alloc, tokens, first.end, room)? else {
+    let Some(test) = for_test(alloc, tokens, first.end, room)? else {
         return Ok(None);
     };
-    let Some(change) = advance(alloc, tokens, test.end, room)? else {
+    let Some(change) = for_step(alloc, tokens, test.end, room)? else {
         return Ok(None);
     };
     Ok(Some(Span {

@@ -14,7 +14,7 @@ use crate::changes::change;
 use crate::declare::declaration;
 use crate::head::head;
 use c_ast::Stmt;
-use c_expr::{Span, says, stands, test, up_to};
+use c_expr::{Span, has_keyword, has_mark, test, up_to};
 use c_lex::{Keyword, Mark, Token, TokenKind};
 use rx_plain::{Boxed, Items, NoMemory};
 use std::alloc::Global;
@@ -35,19 +35,19 @@ fn statement(
     if room == 0 {
         return Ok(None);
     }
-    if stands(tokens, at, Mark::LeftBrace) {
+    if has_mark(tokens, at, Mark::LeftBrace) {
         return block(alloc, tokens, at, room);
     }
-    if says(tokens, at, Keyword::If) {
+    if has_keyword(tokens, at, Keyword::If) {
         return branch(alloc, tokens, at, room);
     }
-    if says(tokens, at, Keyword::While) {
+    if has_keyword(tokens, at, Keyword::While) {
         return while_loop(alloc, tokens, at, room);
     }
-    if says(tokens, at, Keyword::Do) {
+    if has_keyword(tokens, at, Keyword::Do) {
         return do_loop(alloc, tokens, at, room);
     }
-    if says(tokens, at, Keyword::For) {
+    if has_keyword(tokens, at, Keyword::For) {
         return for_loop(alloc, tokens, at, room);
     }
     simple(alloc, tokens, at, room)
@@ -118,7 +118,7 @@ fn branch(
     let Some(then) = part(alloc, tokens, test.end, room - 1)? else {
         return Ok(None);
     };
-    if !says(tokens, then.end, Keyword::Else) {
+    if !has_keyword(tokens, then.end, Keyword::Else) {
         return Ok(Some(Span {
             value: Stmt::If(test.value, then.value, None),
             end: then.end,
@@ -176,13 +176,13 @@ fn do_loop(
     let Some(body) = part(alloc, tokens, at + 1, room - 1)? else {
         return Ok(None);
     };
-    if !says(tokens, body.end, Keyword::While) {
+    if !has_keyword(tokens, body.end, Keyword::While) {
         return Ok(None);
     }
     let Some(test) = test(alloc, tokens, body.end + 1, room - 1)? else {
         return Ok(None);
     };
-    if !stands(tokens, test.end, Mark::Semicolon) {
+    if !has_mark(tokens, test.end, Mark::Semicolon) {
         return Ok(None);
     }
     Ok(Some(Span {
@@ -238,7 +238,7 @@ pub fn inner(
 {
     let mut found = Items::new(alloc);
     let mut end = at;
-    'items: while !stands(tokens, end, Mark::RightBrace) {
+    'items: while !has_mark(tokens, end, Mark::RightBrace) {
         let Some(read) = item(alloc, tokens, end, room)? else {
             return Ok(None);
         };
@@ -264,7 +264,7 @@ pub fn item(
     ensures { IfOk result (Gives (IsNoHigher list_height room (BlockItem tokens.now at)) at
         (length tokens.now)) }
 {
-    if says(tokens, at, Keyword::Int) {
+    if has_keyword(tokens, at, Keyword::Int) {
         return declaration(alloc, tokens, at, room);
     }
     let Some(read) = statement(alloc, tokens, at, room)? else {
@@ -279,11 +279,11 @@ pub fn item(
 }
 
 // The statement that is the keyword at `at` and the semicolon after it.
-fn jump(tokens: &[Token], at: usize, value: Stmt) -> Option<Span<Stmt>>
+fn jump_statement(tokens: &[Token], at: usize, value: Stmt) -> Option<Span<Stmt>>
     requires { at < 2 ^ 32 }
     ensures { Jumps tokens.now at value result }
 {
-    if stands(tokens, at + 1, Mark::Semicolon) {
+    if has_mark(tokens, at + 1, Mark::Semicolon) {
         Some(Span { value, end: at + 2 })
     } else {
         None
@@ -304,19 +304,19 @@ fn simple(
     ensures { IfOk result (Gives (IsNoHigher stmt_height room (Statement tokens.now at)) at
         (length tokens.now)) }
 {
-    if stands(tokens, at, Mark::Semicolon) {
+    if has_mark(tokens, at, Mark::Semicolon) {
         return Ok(Some(Span {
             value: Stmt::Empty,
             end: at + 1,
         }));
     }
-    if says(tokens, at, Keyword::Break) {
-        return Ok(jump(tokens, at, Stmt::Break(at as u32)));
+    if has_keyword(tokens, at, Keyword::Break) {
+        return Ok(jump_statement(tokens, at, Stmt::Break(at as u32)));
     }
-    if says(tokens, at, Keyword::Continue) {
-        return Ok(jump(tokens, at, Stmt::Continue(at as u32)));
+    if has_keyword(tokens, at, Keyword::Continue) {
+        return Ok(jump_statement(tokens, at, Stmt::Continue(at as u32)));
     }
-    if says(tokens, at, Keyword::Return) {
+    if has_keyword(tokens, at, Keyword::Return) {
         let Some(value) = up_to(alloc, tokens, at + 1, room - 1, Mark::Semicolon)? else {
             return Ok(None);
         };

@@ -11,7 +11,7 @@ use Rattle.c_assigned.proofs.statements.+flows.Goals as goal
 pub stmt_flow-returns-in_ok-fails-in-If-clause-flow :
     goal.stmt_flow-returns-in_ok-fails-in-If-clause-flow
 stmt_flow-returns-in_ok-fails-in-If-clause-flow t c =
-    c.branched.ensures
+    c.after_branches.ensures
     ∙ if_walked c.args.names.now c.args.scope.now.items c.args.set c.args.stmt.now c.in-If.test
     c.in-If.inner c.in-If.other c.in-If.is
     c.first_unset-tested.result c.in_ok-holds-in-If.holds c.in_ok-fails-in-If.fails c.get.result.now
@@ -33,7 +33,7 @@ in_order-loop-statement-preserved t c =
     c.loop-statement-test.true s c.statement-item.is c.in_ok-next.next c.stmt_flow.new.scope.items
     (c.in_ok-next.ensures.flow ∙ ap (λ set. (stmt_flow names s l.scope.items set).flow) behind)
     (c.in_ok-next.ensures.scope ∙ ap (λ set. (stmt_flow names s l.scope.items set).scope) behind)
-    c.in_ok-next.ensures.kept c.in_ok-next.ensures.few c.joined-flow.result c.joined-flow.ensures
+    c.in_ok-next.ensures.kept c.in_ok-next.ensures.few c.sequence-flow.result c.sequence-flow.ensures
 
 pub stmt_flow-returns-in_ok-changed-in-For-clause-flow :
     goal.stmt_flow-returns-in_ok-changed-in-For-clause-flow

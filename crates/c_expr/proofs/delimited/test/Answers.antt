@@ -7,5 +7,5 @@ use Rattle.c_expr.proofs.delimited.test.Goals as goal
 pub up_to-requires-clause-inside : goal.up_to-requires-clause-inside
 up_to-requires-clause-inside c =
     let within : c.args.at < length c.args.tokens.now =
-    kind_within c.args.tokens.now c.args.at (Mark LeftParen) c.if-not-stands.ensures in
+    kind_within c.args.tokens.now c.args.at (Mark LeftParen) c.if-not-has_mark.ensures in
     omega arith

@@ -69,9 +69,9 @@ chain-returns t c =
     turning_ends c.args.tokens.now c.args.n c.args.at c.args.room c.more.left c.more.invariant
     c.in_default-operator_at.ensures
 
-pub arguments-returns-then-stands : goal.arguments-returns-then-stands
-arguments-returns-then-stands t c =
-    list_empty c.args.tokens.now c.args.at c.args.room _ c.if-stands.ensures c.new-found.ensures
+pub arguments-returns-then-has_mark : goal.arguments-returns-then-has_mark
+arguments-returns-then-has_mark t c =
+    list_empty c.args.tokens.now c.args.at c.args.room _ c.if-has_mark.ensures c.new-found.ensures
     refl refl
 
 pub arguments-returns-in_default : goal.arguments-returns-in_default
@@ -79,7 +79,7 @@ arguments-returns-in_default t c =
     let ts = c.args.tokens.now in
     let first : Reads (Expression ts) ts (suc levels) c.args.at c.args.room None =
     rw c.in_default.is at c.in_ok-first.ensures in
-    list_missing ts c.args.at c.args.room c.if-stands.ensures first
+    list_missing ts c.args.at c.args.room c.if-has_mark.ensures first
 
 pub arguments-next-init : goal.arguments-next-init
 arguments-next-init t c =
@@ -88,7 +88,7 @@ arguments-next-init t c =
     rw c.in-Some.is at c.in_ok-first.ensures in
     let pushed : c.push.new.self ≡ c.in-Some.first.tree ∷ [] =
     rw c.new-found.ensures at c.in_ok-push.ensures.ok in
-    rw pushed (passing_begins ts c.args.at c.args.room c.if-stands.ensures c.in-Some.first first)
+    rw pushed (passing_begins ts c.args.at c.args.room c.if-has_mark.ensures c.in-Some.first first)
 
 pub arguments-whole-requires-in-next : goal.arguments-whole-requires-in-next
 arguments-whole-requires-in-next t c =
@@ -114,29 +114,29 @@ arguments-next-preserved t c =
     (passing_goes ts c.args.at c.args.room c.next.found c.next.end c.next.height c.in-Some-2.read
     c.next.invariant c.next-test.ensures read)
 
-pub arguments-returns-then-stands-2 : goal.arguments-returns-then-stands-2
-arguments-returns-then-stands-2 t c =
+pub arguments-returns-then-has_mark-2 : goal.arguments-returns-then-has_mark-2
+arguments-returns-then-has_mark-2 t c =
     passing_ends c.args.tokens.now c.args.at c.args.room c.next.found c.next.end c.next.height _
-    c.next.invariant c.if-stands-2.ensures refl refl refl
+    c.next.invariant c.if-has_mark-2.ensures refl refl refl
 
-pub arguments-returns-else-stands-2 : goal.arguments-returns-else-stands-2
-arguments-returns-else-stands-2 t c =
+pub arguments-returns-else-has_mark-2 : goal.arguments-returns-else-has_mark-2
+arguments-returns-else-has_mark-2 t c =
     passing_stops c.args.tokens.now c.args.at c.args.room c.next.found c.next.end c.next.height
-    c.next.invariant c.next-test.ensures c.if-stands-2.ensures
+    c.next.invariant c.next-test.ensures c.if-has_mark-2.ensures
 
 pub primary-arguments-requires : goal.primary-arguments-requires
 primary-arguments-requires t c =
     let within : c.args.at + 1 < length c.args.tokens.now =
-    kind_within c.args.tokens.now (c.args.at + 1) (Mark LeftParen) c.if-stands.ensures in
+    kind_within c.args.tokens.now (c.args.at + 1) (Mark LeftParen) c.if-has_mark.ensures in
     (omega (arith, c.decreases), (omega arith, omega arith))
 
-pub primary-returns-then-stands : goal.primary-returns-then-stands
-primary-returns-then-stands t c =
+pub primary-returns-then-has_mark : goal.primary-returns-then-has_mark
+primary-returns-then-has_mark t c =
     let ts = c.args.tokens.now in
     let here : kind_at ts c.args.at ≡ Some Name = cc in
     let read : ReadsList ts (c.args.at + 2) (c.args.room - 1) (Some c.in-Some.read) =
     rw c.in-Some.is at c.in_ok-read-in-Some-Name.ensures in
-    reads_call ts c.args.at c.args.room c.in-Some.read _ here c.if-stands.ensures c.requires.some
+    reads_call ts c.args.at c.args.room c.in-Some.read _ here c.if-has_mark.ensures c.requires.some
     read refl refl refl
 
 pub primary-whole-requires : goal.primary-whole-requires
@@ -160,24 +160,24 @@ primary-returns-in-Some-Number t c =
     (ap (λ (y : Read). y.end) c.leaf.ensures) tree
     (ap (λ (y : Read). y.height) c.leaf.ensures)
 
-pub primary-returns-else-stands : goal.primary-returns-else-stands
-primary-returns-else-stands t c =
+pub primary-returns-else-has_mark : goal.primary-returns-else-has_mark
+primary-returns-else-has_mark t c =
     let ts = c.args.tokens.now in
     let x = c.leaf-in-Some-Name.result in
     let here : kind_at ts c.args.at ≡ Some Name = cc in
-    reads_name ts c.args.at c.args.room x here c.if-stands.ensures c.requires.some
+    reads_name ts c.args.at c.args.room x here c.if-has_mark.ensures c.requires.some
     (ap (λ (y : Read). y.end) c.leaf-in-Some-Name.ensures)
     (ap (λ (y : Read). y.tree) c.leaf-in-Some-Name.ensures)
     (ap (λ (y : Read). y.height) c.leaf-in-Some-Name.ensures)
 
-pub primary-returns-then-stands-2 : goal.primary-returns-then-stands-2
-primary-returns-then-stands-2 t c =
+pub primary-returns-then-has_mark-2 : goal.primary-returns-then-has_mark-2
+primary-returns-then-has_mark-2 t c =
     let ts = c.args.tokens.now in
     let here : kind_at ts c.args.at ≡ Some (Mark LeftParen) = cc in
     let inner : Reads (Expression ts) ts (suc levels) (c.args.at + 1) c.args.room
     (Some c.in-Some-2.inner) = rw c.in-Some-2.is at c.in_ok-inner-in-Some-Mark-LeftParen.ensures
     in
-    reads_parens ts c.args.at c.args.room c.in-Some-2.inner _ here inner c.if-stands-2.ensures refl
+    reads_parens ts c.args.at c.args.room c.in-Some-2.inner _ here inner c.if-has_mark-2.ensures refl
     refl refl
 
 pub signed-returns-in_default : goal.signed-returns-in_default
@@ -223,19 +223,19 @@ whole-returns-in_default t c =
     rw c.in_default.is at c.in_ok-test.ensures in
     whole_none ts c.args.at c.args.room test
 
-pub whole-returns-then-not-stands : goal.whole-returns-then-not-stands
-whole-returns-then-not-stands t c =
+pub whole-returns-then-not-has_mark : goal.whole-returns-then-not-has_mark
+whole-returns-then-not-has_mark t c =
     let ts = c.args.tokens.now in
     let test : Reads (BinaryAt ts levels) ts levels c.args.at c.args.room (Some c.in-Some.test) =
     rw c.in-Some.is at c.in_ok-test.ensures in
-    whole_plain ts c.args.at c.args.room c.in-Some.test test c.if-not-stands.ensures
+    whole_plain ts c.args.at c.args.room c.in-Some.test test c.if-not-has_mark.ensures
 
 pub whole-returns-then-test-room : goal.whole-returns-then-test-room
 whole-returns-then-test-room t c =
     let ts = c.args.tokens.now in
     let test : Reads (BinaryAt ts levels) ts levels c.args.at c.args.room (Some c.in-Some.test) =
     rw c.in-Some.is at c.in_ok-test.ensures in
-    whole_full ts c.args.at c.args.room c.in-Some.test test c.if-not-stands.ensures
+    whole_full ts c.args.at c.args.room c.in-Some.test test c.if-not-has_mark.ensures
     c.if-test-room.true
 
 pub whole-whole-requires : goal.whole-whole-requires
@@ -248,7 +248,7 @@ whole-whole-requires t c =
     let some : 1 ≤ expr_height c.in-Some.test.tree = height-positive c.in-Some.test.tree in
     let low : c.in-Some.test.height < c.args.room = c.if-test-room.false in
     let within : c.in-Some.test.end < length ts =
-    kind_within ts c.in-Some.test.end (Mark Question) c.if-not-stands.ensures in
+    kind_within ts c.in-Some.test.end (Mark Question) c.if-not-has_mark.ensures in
     (omega (arith, c.decreases), (omega arith, (omega arith, omega arith)))
 
 pub whole-returns-in_default-2 : goal.whole-returns-in_default-2
@@ -258,17 +258,17 @@ whole-returns-in_default-2 t c =
     rw c.in-Some.is at c.in_ok-test.ensures in
     let first : Reads (Expression ts) ts (suc levels) (c.in-Some.test.end + 1) (c.args.room - 1)
     None = rw c.in_default-2.is at c.in_ok-first.ensures in
-    whole_valueless ts c.args.at c.args.room c.in-Some.test test c.if-not-stands.ensures first
+    whole_valueless ts c.args.at c.args.room c.in-Some.test test c.if-not-has_mark.ensures first
 
-pub whole-returns-then-not-stands-2 : goal.whole-returns-then-not-stands-2
-whole-returns-then-not-stands-2 t c =
+pub whole-returns-then-not-has_mark-2 : goal.whole-returns-then-not-has_mark-2
+whole-returns-then-not-has_mark-2 t c =
     let ts = c.args.tokens.now in
     let test : Reads (BinaryAt ts levels) ts levels c.args.at c.args.room (Some c.in-Some.test) =
     rw c.in-Some.is at c.in_ok-test.ensures in
     let first : Reads (Expression ts) ts (suc levels) (c.in-Some.test.end + 1) (c.args.room - 1)
     (Some c.in-Some-2.first) = rw c.in-Some-2.is at c.in_ok-first.ensures in
-    whole_open ts c.args.at c.args.room c.in-Some.test test c.if-not-stands.ensures
-    c.in-Some-2.first first c.if-not-stands-2.ensures
+    whole_open ts c.args.at c.args.room c.in-Some.test test c.if-not-has_mark.ensures
+    c.in-Some-2.first first c.if-not-has_mark-2.ensures
 
 pub whole-whole-requires-2 : goal.whole-whole-requires-2
 whole-whole-requires-2 t c =
@@ -283,7 +283,7 @@ whole-whole-requires-2 t c =
     let some : 1 ≤ expr_height c.in-Some.test.tree = height-positive c.in-Some.test.tree in
     let low : c.in-Some.test.height < c.args.room = c.if-test-room.false in
     let within : c.in-Some-2.first.end < length ts =
-    kind_within ts c.in-Some-2.first.end (Mark Colon) c.if-not-stands-2.ensures in
+    kind_within ts c.in-Some-2.first.end (Mark Colon) c.if-not-has_mark-2.ensures in
     (omega (arith, c.decreases), (omega arith, (omega arith, omega arith)))
 
 pub whole-returns-in_default-3 : goal.whole-returns-in_default-3
@@ -295,7 +295,7 @@ whole-returns-in_default-3 t c =
     (Some c.in-Some-2.first) = rw c.in-Some-2.is at c.in_ok-first.ensures in
     let other : Reads (Expression ts) ts (suc levels) (c.in-Some-2.first.end + 1) (c.args.room - 1)
     None = rw c.in_default-3.is at c.in_ok-other.ensures in
-    whole_halved ts c.args.at c.args.room c.in-Some.test test c.if-not-stands.ensures
+    whole_halved ts c.args.at c.args.room c.in-Some.test test c.if-not-has_mark.ensures
     c.in-Some-2.first first other
 
 pub whole-returns : goal.whole-returns
@@ -307,7 +307,7 @@ whole-returns t c =
     (Some c.in-Some-2.first) = rw c.in-Some-2.is at c.in_ok-first.ensures in
     let other : Reads (Expression ts) ts (suc levels) (c.in-Some-2.first.end + 1) (c.args.room - 1)
     (Some c.in-Some-3.other) = rw c.in-Some-3.is at c.in_ok-other.ensures in
-    whole_choice ts c.args.at c.args.room c.in-Some.test test c.if-not-stands.ensures
-    c.in-Some-2.first first c.in-Some-3.other _ c.if-not-stands-2.ensures c.if-test-room.false
+    whole_choice ts c.args.at c.args.room c.in-Some.test test c.if-not-has_mark.ensures
+    c.in-Some-2.first first c.in-Some-3.other _ c.if-not-has_mark-2.ensures c.if-test-room.false
     other
     c.in_ok-chosen.ensures.tree c.in_ok-chosen.ensures.end c.in_ok-chosen.ensures.height

@@ -7,5 +7,5 @@ use Rattle.c_parse.proofs.external.block.Goals as goal
 pub inner-requires-clause-inside : goal.inner-requires-clause-inside
 inner-requires-clause-inside c =
     let within : c.args.at < length c.args.tokens.now =
-    kind_within c.args.tokens.now c.args.at (Mark LeftBrace) c.if-not-stands.ensures in
+    kind_within c.args.tokens.now c.args.at (Mark LeftBrace) c.if-not-has_mark.ensures in
     omega arith

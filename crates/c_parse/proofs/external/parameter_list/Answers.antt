@@ -15,21 +15,21 @@ returns-in_default c =
     c.in_default.ensures in
     listing_stops ts c.args.at c.parameters.found c.parameters.end c.parameters.invariant read
 
-pub returns-then-stands : goal.returns-then-stands
-returns-then-stands c =
+pub returns-then-has_mark : goal.returns-then-has_mark
+returns-then-has_mark c =
     let ts = c.args.tokens.now in
     let read : Gives (Parameter ts c.parameters.end) c.parameters.end (length ts)
     (Some c.in-Some.read) = c.in-Some.ensures in
     listing_ends ts c.args.at c.parameters.found c.parameters.end c.parameters.invariant
-    c.in-Some.read read _ c.if-stands.ensures c.in_ok-push.ensures.ok refl
+    c.in-Some.read read _ c.if-has_mark.ensures c.in_ok-push.ensures.ok refl
 
-pub returns-then-not-stands : goal.returns-then-not-stands
-returns-then-not-stands c =
+pub returns-then-not-has_mark : goal.returns-then-not-has_mark
+returns-then-not-has_mark c =
     let ts = c.args.tokens.now in
     let read : Gives (Parameter ts c.parameters.end) c.parameters.end (length ts)
     (Some c.in-Some.read) = c.in-Some.ensures in
     listing_breaks ts c.args.at c.parameters.found c.parameters.end c.parameters.invariant
-    c.in-Some.read read c.if-stands.ensures c.if-not-stands.ensures
+    c.in-Some.read read c.if-has_mark.ensures c.if-not-has_mark.ensures
 
 pub parameters-preserved : goal.parameters-preserved
 parameters-preserved c =
@@ -38,4 +38,4 @@ parameters-preserved c =
     (Some c.in-Some.read) = c.in-Some.ensures in
     rw c.in_ok-push.ensures.ok
     (listing_goes ts c.args.at c.parameters.found c.parameters.end c.parameters.invariant
-    c.in-Some.read read c.if-not-stands.ensures)
+    c.in-Some.read read c.if-not-has_mark.ensures)

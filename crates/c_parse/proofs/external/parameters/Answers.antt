@@ -5,8 +5,8 @@ use Rattle.c_expr.proofs.Building.{built_some}
 use Rattle.c_parse.proofs.Lists.{reads_unsaid, reads_void, builds_listed}
 use Rattle.c_parse.proofs.external.parameters.Goals as goal
 
-pub returns-then-stands : goal.returns-then-stands
-returns-then-stands c = reads_unsaid c.args.tokens.now c.args.at _ c.if-stands.ensures refl refl
+pub returns-then-has_mark : goal.returns-then-has_mark
+returns-then-has_mark c = reads_unsaid c.args.tokens.now c.args.at _ c.if-has_mark.ensures refl refl
 
 pub returns-then-is_void : goal.returns-then-is_void
 returns-then-is_void c =
@@ -19,5 +19,5 @@ returns c =
     let read : Gives (Listed ts c.args.at) c.args.at (length ts) (Some c.in-Some.read) =
     rw c.in-Some.is at c.in_ok-read.ensures in
     built_some (λ (os : List (Option ℕ)). Some os) (Listed ts c.args.at) (Parameters ts c.args.at)
-    (builds_listed ts c.args.at c.if-stands.ensures c.if-is_void.ensures) c.args.at c.args.at
+    (builds_listed ts c.args.at c.if-has_mark.ensures c.if-is_void.ensures) c.args.at c.args.at
     (length ts) (omega arith) c.in-Some.read _ read refl refl

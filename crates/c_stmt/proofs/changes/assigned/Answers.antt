@@ -16,15 +16,15 @@ overflow_add-at c =
     let within : c.args.at < length c.args.tokens.now =
     kind_within c.args.tokens.now c.args.at Name c.requires.named in omega arith
 
-pub overflow_add-at-then-stands : goal.overflow_add-at-then-stands
-overflow_add-at-then-stands c =
+pub overflow_add-at-then-has_mark : goal.overflow_add-at-then-has_mark
+overflow_add-at-then-has_mark c =
     let within : c.args.at < length c.args.tokens.now =
     kind_within c.args.tokens.now c.args.at Name c.requires.named in omega arith
 
 pub up_to-requires-clause-inside : goal.up_to-requires-clause-inside
 up_to-requires-clause-inside c =
     let within : c.args.at + 1 < length c.args.tokens.now =
-    kind_within c.args.tokens.now (c.args.at + 1) (Mark AssignMark) c.if-stands.ensures in
+    kind_within c.args.tokens.now (c.args.at + 1) (Mark AssignMark) c.if-has_mark.ensures in
     omega arith
 
 pub overflow_add-at-2 : goal.overflow_add-at-2
@@ -43,8 +43,8 @@ up_to-requires-2-clause-inside c =
     changing_within c.args.tokens.now (c.args.at + 1) (update c.in-Some-update_at.op)
     c.in-Some-update_at.ensures in omega arith
 
-pub returns-then-stands : goal.returns-then-stands
-returns-then-stands c =
+pub returns-then-has_mark : goal.returns-then-has_mark
+returns-then-has_mark c =
     let ts = c.args.tokens.now in
     let value : Gives (IsNoHigher expr_height (c.args.room - 1)
     (UpTo c.args.mark ts (c.args.at + 2)))
@@ -53,7 +53,7 @@ returns-then-stands c =
     built_some (Assign c.args.at) (IsNoHigher expr_height (c.args.room - 1)
     (UpTo c.args.mark ts (c.args.at + 2)))
     (IsNoHigher stmt_height c.args.room (Change c.args.mark ts c.args.at))
-    (builds_value c.args.mark ts c.args.at c.args.room c.requires.named c.if-stands.ensures)
+    (builds_value c.args.mark ts c.args.at c.args.room c.requires.named c.if-has_mark.ensures)
     c.args.at (c.args.at + 2) (length ts) (omega arith) c.in-Some.value _ value refl refl
 
 pub returns-in_default-2 : goal.returns-in_default-2

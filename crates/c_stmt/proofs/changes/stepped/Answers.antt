@@ -5,4 +5,4 @@ use Rattle.c_stmt.proofs.changes.stepped.Goals as goal
 pub returns : goal.returns
 returns c =
     step_reads c.args.mark c.args.tokens.now c.args.name c.args.at c.args.room c.args.op _
-    c.if-not-stands.ensures (omega arith) c.in_ok-updating.ensures refl
+    c.if-not-has_mark.ensures (omega arith) c.in_ok-updating.ensures refl

@@ -7,4 +7,4 @@ use Rattle.c_stmt.proofs.declare.declaration.Goals as goal
 pub declarators-requires-clause-inside : goal.declarators-requires-clause-inside
 declarators-requires-clause-inside c =
     let within : c.args.at < length c.args.tokens.now =
-    kind_within c.args.tokens.now c.args.at (Word Int) c.if-not-says.ensures in omega arith
+    kind_within c.args.tokens.now c.args.at (Word Int) c.if-not-has_keyword.ensures in omega arith

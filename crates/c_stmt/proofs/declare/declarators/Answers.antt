@@ -13,14 +13,14 @@ returns-in_default c =
     (length ts) None = rw c.in_default.is at c.in_ok-read.ensures in
     names_end ts c.args.at c.args.room c.names.found c.names.end c.names.invariant read
 
-pub returns-then-stands : goal.returns-then-stands
-returns-then-stands c =
+pub returns-then-has_mark : goal.returns-then-has_mark
+returns-then-has_mark c =
     let ts = c.args.tokens.now in
     let read : Gives (IsNoHigher stmt_height c.args.room (InitDeclarator ts c.names.end))
     c.names.end
     (length ts) (Some c.in-Some.read) = rw c.in-Some.is at c.in_ok-read.ensures in
     names_last ts c.args.at c.args.room c.names.found c.names.end c.names.invariant c.in-Some.read
-    read _ c.if-stands.ensures c.in_ok-push.ensures.ok refl
+    read _ c.if-has_mark.ensures c.in_ok-push.ensures.ok refl
 
 pub names-preserved : goal.names-preserved
 names-preserved c =
@@ -30,4 +30,4 @@ names-preserved c =
     (length ts) (Some c.in-Some.read) = rw c.in-Some.is at c.in_ok-read.ensures in
     rw c.in_ok-push.ensures.ok
     (names_go ts c.args.at c.args.room c.names.found c.names.end c.names.invariant c.in-Some.read
-    read c.if-stands.ensures)
+    read c.if-has_mark.ensures)

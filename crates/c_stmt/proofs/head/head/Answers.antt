@@ -9,10 +9,10 @@ use Rattle.c_expr.proofs.Lookahead.{kind_within}
 use Rattle.c_stmt.proofs.HeadLemmas.{head_startless, head_testless, head_changeless, head_reads}
 use Rattle.c_stmt.proofs.head.head.Goals as goal
 
-pub start-requires-clause-inside : goal.start-requires-clause-inside
-start-requires-clause-inside c =
+pub for_init-requires-clause-inside : goal.for_init-requires-clause-inside
+for_init-requires-clause-inside c =
     let within : c.args.at < length c.args.tokens.now =
-    kind_within c.args.tokens.now c.args.at (Mark LeftParen) c.if-not-stands.ensures in
+    kind_within c.args.tokens.now c.args.at (Mark LeftParen) c.if-not-has_mark.ensures in
     omega arith
 
 pub returns-in_default : goal.returns-in_default
@@ -64,4 +64,4 @@ returns c =
     c.in-Some-2.test.end (length ts) (Some c.in-Some-3.change) =
     rw c.in-Some-3.is at c.in_ok-change.ensures in
     head_reads ts c.args.at c.args.room c.in-Some.first first c.in-Some-2.test test
-    c.in-Some-3.change _ c.if-not-stands.ensures change refl refl
+    c.in-Some-3.change _ c.if-not-has_mark.ensures change refl refl

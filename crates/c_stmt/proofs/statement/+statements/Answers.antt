@@ -165,19 +165,19 @@ do_loop-returns-in_default t c =
     (c.args.at + 1) (length ts) None = rw c.in_default.is at c.in_ok-body.ensures in
     do_bodiless ts c.args.at c.args.room c.requires.some c.requires.here body
 
-pub do_loop-returns-then-not-says : goal.do_loop-returns-then-not-says
-do_loop-returns-then-not-says t c =
+pub do_loop-returns-then-not-has_keyword : goal.do_loop-returns-then-not-has_keyword
+do_loop-returns-then-not-has_keyword t c =
     let ts = c.args.tokens.now in
     let body : Gives (IsNoHigher stmt_height (c.args.room - 1) (Statement ts (c.args.at + 1)))
     (c.args.at + 1) (length ts) (Some c.in-Some.body) =
     rw c.in-Some.is at c.in_ok-body.ensures in
     do_whileless ts c.args.at c.args.room c.requires.some c.requires.here c.in-Some.body body
-    c.if-not-says.ensures
+    c.if-not-has_keyword.ensures
 
 pub do_loop-test-requires-clause-inside : goal.do_loop-test-requires-clause-inside
 do_loop-test-requires-clause-inside t c =
     let within : c.in-Some.body.end < length c.args.tokens.now =
-    kind_within c.args.tokens.now c.in-Some.body.end (Word While) c.if-not-says.ensures in
+    kind_within c.args.tokens.now c.in-Some.body.end (Word While) c.if-not-has_keyword.ensures in
     omega arith
 
 pub do_loop-returns-in_default-2 : goal.do_loop-returns-in_default-2
@@ -190,8 +190,8 @@ do_loop-returns-in_default-2 t c =
     (c.in-Some.body.end + 1) (length ts) None = rw c.in_default-2.is at c.in_ok-test.ensures in
     do_testless ts c.args.at c.args.room c.requires.some c.requires.here c.in-Some.body body test
 
-pub do_loop-returns-then-not-stands : goal.do_loop-returns-then-not-stands
-do_loop-returns-then-not-stands t c =
+pub do_loop-returns-then-not-has_mark : goal.do_loop-returns-then-not-has_mark
+do_loop-returns-then-not-has_mark t c =
     let ts = c.args.tokens.now in
     let body : Gives (IsNoHigher stmt_height (c.args.room - 1) (Statement ts (c.args.at + 1)))
     (c.args.at + 1) (length ts) (Some c.in-Some.body) =
@@ -200,7 +200,7 @@ do_loop-returns-then-not-stands t c =
     (c.in-Some.body.end + 1) (length ts) (Some c.in-Some-2.test) =
     rw c.in-Some-2.is at c.in_ok-test.ensures in
     do_endless ts c.args.at c.args.room c.requires.some c.requires.here c.in-Some.body body
-    c.in-Some-2.test test c.if-not-stands.ensures
+    c.in-Some-2.test test c.if-not-has_mark.ensures
 
 pub do_loop-returns : goal.do_loop-returns
 do_loop-returns t c =
@@ -212,7 +212,7 @@ do_loop-returns t c =
     (c.in-Some.body.end + 1) (length ts) (Some c.in-Some-2.test) =
     rw c.in-Some-2.is at c.in_ok-test.ensures in
     reads_do ts c.args.at c.args.room c.requires.some c.requires.here c.in-Some.body body
-    c.in-Some-2.test test _ c.if-not-says.ensures c.if-not-stands.ensures refl refl
+    c.in-Some-2.test test _ c.if-not-has_keyword.ensures c.if-not-has_mark.ensures refl refl
 
 pub branch-test-requires-clause-inside : goal.branch-test-requires-clause-inside
 branch-test-requires-clause-inside t c =
@@ -237,8 +237,8 @@ branch-returns-in_default-2 t c =
     c.in-Some.test.end (length ts) None = rw c.in_default-2.is at c.in_ok-then.ensures in
     if_thenless ts c.args.at c.args.room c.requires.some c.requires.here c.in-Some.test test taken
 
-pub branch-returns-then-not-says : goal.branch-returns-then-not-says
-branch-returns-then-not-says t c =
+pub branch-returns-then-not-has_keyword : goal.branch-returns-then-not-has_keyword
+branch-returns-then-not-has_keyword t c =
     let ts = c.args.tokens.now in
     let test : Gives (IsNoHigher expr_height (c.args.room - 1) (Test ts (c.args.at + 1)))
     (c.args.at + 1)
@@ -247,7 +247,7 @@ branch-returns-then-not-says t c =
     c.in-Some.test.end (length ts) (Some c.in-Some-2.then) =
     rw c.in-Some-2.is at c.in_ok-then.ensures in
     reads_alone ts c.args.at c.args.room c.requires.some c.requires.here c.in-Some.test test
-    c.in-Some-2.then taken _ c.if-not-says.ensures refl refl
+    c.in-Some-2.then taken _ c.if-not-has_keyword.ensures refl refl
 
 pub branch-part-requires-2 : goal.branch-part-requires-2
 branch-part-requires-2 t c =
@@ -261,7 +261,7 @@ branch-part-requires-2 t c =
     let further : c.args.at + 1 < c.in-Some.test.end = test.found.further in
     let again : c.in-Some.test.end < c.in-Some-2.then.end = taken.found.further in
     let within : c.in-Some-2.then.end < length ts =
-    kind_within ts c.in-Some-2.then.end (Word Else) c.if-not-says.ensures in
+    kind_within ts c.in-Some-2.then.end (Word Else) c.if-not-has_keyword.ensures in
     (omega (arith, c.decreases), (omega arith, omega arith))
 
 pub branch-returns-in_default-3 : goal.branch-returns-in_default-3
@@ -281,7 +281,7 @@ branch-returns-in_default-3 t c =
     (IsNoHigher stmt_height (c.args.room - 1) (Statement ts (c.in-Some-2.then.end + 1)))
     (IsNoHigher stmt_height c.args.room (Statement ts c.args.at))
     (builds_else ts c.args.at c.args.room c.requires.some c.requires.here c.in-Some.test test
-    c.in-Some-2.then taken c.if-not-says.ensures) c.args.at (c.in-Some-2.then.end + 1)
+    c.in-Some-2.then taken c.if-not-has_keyword.ensures) c.args.at (c.in-Some-2.then.end + 1)
     (length ts) other
 
 pub branch-returns : goal.branch-returns
@@ -303,7 +303,7 @@ branch-returns t c =
     (IsNoHigher stmt_height (c.args.room - 1) (Statement ts (c.in-Some-2.then.end + 1)))
     (IsNoHigher stmt_height c.args.room (Statement ts c.args.at))
     (builds_else ts c.args.at c.args.room c.requires.some c.requires.here c.in-Some.test test
-    c.in-Some-2.then taken c.if-not-says.ensures) c.args.at (c.in-Some-2.then.end + 1)
+    c.in-Some-2.then taken c.if-not-has_keyword.ensures) c.args.at (c.in-Some-2.then.end + 1)
     (length ts) (omega arith) c.in-Some-3.other _ other refl refl
 
 pub inner-returns-in_default : goal.inner-returns-in_default
@@ -328,10 +328,10 @@ inner-returns t c =
     inner_ends ts c.args.at c.args.room c.items.found c.items.end c.items.invariant _
     c.items-test.ensures refl refl
 
-pub item-returns-then-says : goal.item-returns-then-says
-item-returns-then-says t c =
+pub item-returns-then-has_keyword : goal.item-returns-then-has_keyword
+item-returns-then-has_keyword t c =
     let ts = c.args.tokens.now in
-    item_names ts c.args.at c.args.room _ c.if-says.ensures c.declaration.ensures
+    item_names ts c.args.at c.args.room _ c.if-has_keyword.ensures c.declaration.ensures
 
 pub item-returns : goal.item-returns
 item-returns t c =
@@ -343,5 +343,5 @@ item-returns t c =
     rw c.new-one.ensures at c.in_ok-push.ensures.ok in
     built_some (λ (s : Stmt). s ∷ []) (IsNoHigher stmt_height c.args.room (Statement ts c.args.at))
     (IsNoHigher list_height c.args.room (BlockItem ts c.args.at))
-    (item_builds ts c.args.at c.args.room c.if-says.ensures) c.args.at c.args.at (length ts)
+    (item_builds ts c.args.at c.args.room c.if-has_keyword.ensures) c.args.at c.args.at (length ts)
     (omega arith) c.in-Some.read _ read one refl

@@ -12,38 +12,38 @@ use Rattle.c_expr.proofs.Building.{built_some}
 use Rattle.c_stmt.proofs.Forms.{reads_nothing, reads_break, reads_continue, builds_return, reads_change}
 use Rattle.c_stmt.proofs.statement.simple.Goals as goal
 
-pub returns-then-stands : goal.returns-then-stands
-returns-then-stands c =
-    reads_nothing c.args.tokens.now c.args.at c.args.room c.requires.some _ c.if-stands.ensures refl
+pub returns-then-has_mark : goal.returns-then-has_mark
+returns-then-has_mark c =
+    reads_nothing c.args.tokens.now c.args.at c.args.room c.requires.some _ c.if-has_mark.ensures refl
     refl
 
-pub returns-then-says : goal.returns-then-says
-returns-then-says c =
-    reads_break c.args.tokens.now c.args.at c.args.room c.requires.some _ c.if-says.ensures
-    c.jump.ensures
+pub returns-then-has_keyword : goal.returns-then-has_keyword
+returns-then-has_keyword c =
+    reads_break c.args.tokens.now c.args.at c.args.room c.requires.some _ c.if-has_keyword.ensures
+    c.jump_statement.ensures
 
-pub returns-then-says-2 : goal.returns-then-says-2
-returns-then-says-2 c =
-    reads_continue c.args.tokens.now c.args.at c.args.room c.requires.some _ c.if-says-2.ensures
-    c.jump-then-says-2.ensures
+pub returns-then-has_keyword-2 : goal.returns-then-has_keyword-2
+returns-then-has_keyword-2 c =
+    reads_continue c.args.tokens.now c.args.at c.args.room c.requires.some _ c.if-has_keyword-2.ensures
+    c.jump_statement-then-has_keyword-2.ensures
 
 pub up_to-requires-clause-inside : goal.up_to-requires-clause-inside
 up_to-requires-clause-inside c =
     let within : c.args.at < length c.args.tokens.now =
-    kind_within c.args.tokens.now c.args.at (Word ReturnWord) c.if-says-3.ensures in omega arith
+    kind_within c.args.tokens.now c.args.at (Word ReturnWord) c.if-has_keyword-3.ensures in omega arith
 
-pub returns-then-says-3 : goal.returns-then-says-3
-returns-then-says-3 c =
+pub returns-then-has_keyword-3 : goal.returns-then-has_keyword-3
+returns-then-has_keyword-3 c =
     let ts = c.args.tokens.now in
     let value : Gives (IsNoHigher expr_height (c.args.room - 1) (UpTo Semicolon ts (c.args.at + 1)))
     (c.args.at + 1) (length ts) (Some c.in-Some.value) =
     rw c.in-Some.is at c.in_ok-value.ensures in
     built_some Return (IsNoHigher expr_height (c.args.room - 1) (UpTo Semicolon ts (c.args.at + 1)))
     (IsNoHigher stmt_height c.args.room (Statement ts c.args.at))
-    (builds_return ts c.args.at c.args.room c.requires.some c.if-says-3.ensures) c.args.at
+    (builds_return ts c.args.at c.args.room c.requires.some c.if-has_keyword-3.ensures) c.args.at
     (c.args.at + 1) (length ts) (omega arith) c.in-Some.value _ value refl refl
 
 pub returns : goal.returns
 returns c =
     reads_change c.args.tokens.now c.args.at c.args.room c.requires.some _ c.requires.simple
-    c.if-stands.ensures c.if-says.ensures c.if-says-2.ensures c.if-says-3.ensures c.change.ensures
+    c.if-has_mark.ensures c.if-has_keyword.ensures c.if-has_keyword-2.ensures c.if-has_keyword-3.ensures c.change.ensures

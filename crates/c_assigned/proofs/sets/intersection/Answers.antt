@@ -2,7 +2,7 @@
 use Rattle.std.proofs.Common.{◌≡◌, ◌∙◌, ap, sym, subst, length, take, List, Bool, arith}
 use Rattle.c_assigned.specs.Sets.{intersection}
 use Rattle.c_assigned.proofs.Meets.{Meeting, met_none, met_next, met_both, as_long}
-use Rattle.c_assigned.proofs.sets.both.Goals as goal
+use Rattle.c_assigned.proofs.sets.intersection.Goals as goal
 
 pub loop-slot-init : goal.loop-slot-init
 loop-slot-init c =

@@ -7,15 +7,15 @@ use Rattle.c_stmt.specs.Heights.{list_height}
 use Rattle.c_expr.specs.Readers.{Gives, IsNoHigher}
 use Rattle.c_expr.proofs.Building.{built_some}
 use Rattle.c_stmt.proofs.HeadLemmas.{start_none, start_declared, start_builds}
-use Rattle.c_stmt.proofs.head.start.Goals as goal
+use Rattle.c_stmt.proofs.head.for_init.Goals as goal
 
-pub returns-then-stands : goal.returns-then-stands
-returns-then-stands c =
-    start_none c.args.tokens.now c.args.at c.args.room _ c.if-stands.ensures c.new.ensures refl
+pub returns-then-has_mark : goal.returns-then-has_mark
+returns-then-has_mark c =
+    start_none c.args.tokens.now c.args.at c.args.room _ c.if-has_mark.ensures c.new.ensures refl
 
-pub returns-then-says : goal.returns-then-says
-returns-then-says c =
-    start_declared c.args.tokens.now c.args.at c.args.room _ c.if-says.ensures c.declaration.ensures
+pub returns-then-has_keyword : goal.returns-then-has_keyword
+returns-then-has_keyword c =
+    start_declared c.args.tokens.now c.args.at c.args.room _ c.if-has_keyword.ensures c.declaration.ensures
 
 pub returns : goal.returns
 returns c =
@@ -27,5 +27,5 @@ returns c =
     built_some (λ (s : Stmt). s ∷ []) (IsNoHigher stmt_height c.args.room
     (Change Semicolon ts c.args.at))
     (IsNoHigher list_height c.args.room (ForInit ts c.args.at))
-    (start_builds ts c.args.at c.args.room c.if-stands.ensures c.if-says.ensures) c.args.at
+    (start_builds ts c.args.at c.args.room c.if-has_mark.ensures c.if-has_keyword.ensures) c.args.at
     c.args.at (length ts) (omega arith) c.in-Some.read _ read one refl

@@ -5,7 +5,7 @@ use Rattle.c_expr.specs.Grammar.{Expression, levels}
 use Rattle.c_expr.specs.Readers.{Reads}
 use Rattle.c_expr.proofs.Lookahead.{kind_within}
 use Rattle.c_stmt.proofs.Declaring.{valued_reads, valued_misses}
-use Rattle.c_stmt.proofs.declare.valued.Goals as goal
+use Rattle.c_stmt.proofs.declare.initialized.Goals as goal
 
 pub overflow_add-at : goal.overflow_add-at
 overflow_add-at c =

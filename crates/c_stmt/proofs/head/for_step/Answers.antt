@@ -6,11 +6,11 @@ use Rattle.c_stmt.specs.Statements.{Change, ForStep}
 use Rattle.c_expr.specs.Readers.{Gives, IsNoHigher}
 use Rattle.c_expr.proofs.Building.{built_some}
 use Rattle.c_stmt.proofs.HeadLemmas.{advance_none, advance_builds}
-use Rattle.c_stmt.proofs.head.advance.Goals as goal
+use Rattle.c_stmt.proofs.head.for_step.Goals as goal
 
-pub returns-then-stands : goal.returns-then-stands
-returns-then-stands c =
-    advance_none c.args.tokens.now c.args.at c.args.room _ c.if-stands.ensures refl refl
+pub returns-then-has_mark : goal.returns-then-has_mark
+returns-then-has_mark c =
+    advance_none c.args.tokens.now c.args.at c.args.room _ c.if-has_mark.ensures refl refl
 
 pub returns : goal.returns
 returns c =
@@ -20,5 +20,5 @@ returns c =
     built_some (λ (s : Stmt). Some s) (IsNoHigher stmt_height c.args.room
     (Change RightParen ts c.args.at))
     (IsNoHigher (of_option stmt_height) c.args.room (ForStep ts c.args.at))
-    (advance_builds ts c.args.at c.args.room c.if-stands.ensures) c.args.at c.args.at (length ts)
+    (advance_builds ts c.args.at c.args.room c.if-has_mark.ensures) c.args.at c.args.at (length ts)
     (omega arith) c.in-Some.read _ read (ap (λ (s : Stmt). Some s) c.in_ok-new.ensures) refl

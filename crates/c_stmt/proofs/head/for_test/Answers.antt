@@ -7,11 +7,11 @@ use Rattle.c_stmt.specs.Statements.{ForTest}
 use Rattle.c_expr.specs.Readers.{Gives, IsNoHigher}
 use Rattle.c_expr.proofs.Building.{built_some}
 use Rattle.c_stmt.proofs.HeadLemmas.{test_none, test_builds}
-use Rattle.c_stmt.proofs.head.continuing.Goals as goal
+use Rattle.c_stmt.proofs.head.for_test.Goals as goal
 
-pub returns-then-stands : goal.returns-then-stands
-returns-then-stands c =
-    test_none c.args.tokens.now c.args.at c.args.room _ c.if-stands.ensures refl refl
+pub returns-then-has_mark : goal.returns-then-has_mark
+returns-then-has_mark c =
+    test_none c.args.tokens.now c.args.at c.args.room _ c.if-has_mark.ensures refl refl
 
 pub returns : goal.returns
 returns c =
@@ -21,5 +21,5 @@ returns c =
     built_some (λ (e : Expr). Some e) (IsNoHigher expr_height c.args.room
     (UpTo Semicolon ts c.args.at))
     (IsNoHigher (of_option expr_height) c.args.room (ForTest ts c.args.at))
-    (test_builds ts c.args.at c.args.room c.if-stands.ensures) c.args.at c.args.at (length ts)
+    (test_builds ts c.args.at c.args.room c.if-has_mark.ensures) c.args.at c.args.at (length ts)
     (omega arith) c.in-Some.read _ read refl refl
