@@ -6,10 +6,12 @@ mod boxed;
 mod graded;
 mod items;
 mod no_memory;
+mod parts;
 mod shared;
 
 pub use boxed::Boxed;
 pub use graded::Graded;
 pub use items::Items;
 pub use no_memory::NoMemory;
+pub use parts::both;
 pub use shared::Shared;
