@@ -3,6 +3,7 @@ use Rattle.std.proofs.Common.{◌≡◌, ◌∙◌, ap, Bool, true, false, not, 
 use Rattle.std.proofs.lemmas.Bool.{and_parts, and_from}
 use Rattle.std.specs.List.{list_all}
 use Rattle.std.specs.Ordering.{is_le, is_lt}
+use Rattle.rx_plain.proofs.Booleans.{and_grouped}
 use Rattle.rx_poly.specs.Normal.{is_sorted, is_first, precedes}
 use Rattle.rx_poly.specs.Order.{atom_cmp, mono_cmp}
 use Rattle.rx_poly.specs.Terms.{is_zero, is_sparse_sorted, is_before}
@@ -40,14 +41,10 @@ sorted_step x (y ∷ ys) =
     (λ z g. le_trans atom_cmp atom_total x y z h g)
     (and_parts (list_all (λ z. is_le (atom_cmp y z)) ys) (is_sorted atom_cmp ys) s).0)))
 
-and_assoc : (p q s : Bool) → (p && (q && s)) ≡ ((p && q) && s)
-and_assoc true q s = refl
-and_assoc false q s = refl
-
 -- listed where the first leads the next, and the others are listed
 pub listed_step : (t : Mono × ℤ) (ts : List (Mono × ℤ)) → is_sparse_sorted mono_cmp (t ∷ ts) ≡
     (precedes mono_cmp t ts && is_sparse_sorted mono_cmp ts)
-listed_step t [] = and_assoc (not (is_zero t.1)) true true
+listed_step t [] = and_grouped (not (is_zero t.1)) true true
 listed_step t (u ∷ us) =
     ap (λ b. not (is_zero t.1) && b) (same_before (is_before mono_cmp t.0 (u ∷ us))
     (is_lt (mono_cmp t.0 u.0)) (is_sparse_sorted mono_cmp (u ∷ us)) (λ s.
@@ -58,4 +55,4 @@ listed_step t (u ∷ us) =
     (and_parts (is_before mono_cmp u.0 us) (is_sparse_sorted mono_cmp us)
     (and_parts (not (is_zero u.1)) (is_before mono_cmp u.0 us && is_sparse_sorted mono_cmp us)
     s).1).0))))
-    ∙ and_assoc (not (is_zero t.1)) (is_lt (mono_cmp t.0 u.0)) (is_sparse_sorted mono_cmp (u ∷ us))
+    ∙ and_grouped (not (is_zero t.1)) (is_lt (mono_cmp t.0 u.0)) (is_sparse_sorted mono_cmp (u ∷ us))

@@ -1,7 +1,7 @@
 -- One variable and one number, as polynomials: normal, within the limits, and with the value that
 -- they say.
 use Rattle.std.proofs.Common.{◌≡◌, ◌∙◌, ap, ℕ, ◌+◌, max, Bool, true, false, not, ◌&&◌, nat_le, sum_by, refl, sym, [], ◌∷◌, ℤ, pos, negsuc, ◌*ℤ◌, arith}
-use Rattle.std.proofs.lemmas.Bool.{and_parts, and_from}
+use Rattle.std.proofs.lemmas.Bool.{and_from, and_parts, false_from_ne_true}
 use Rattle.std.proofs.lemmas.Int.{to_z-of_z}
 use Rattle.std.proofs.lemmas.Bool.Decides.{nat_tests}
 use Rattle.std.specs.Int.{w128}
@@ -18,7 +18,7 @@ use Rattle.rx_poly.specs.Value.{value, mono_value, atom_value, product_of}
 use Rattle.rx_poly.proofs.Levels.{atoms-of_atoms, mono_size_is, mono_depth_is, mono_value_is, var_value}
 use Rattle.rx_poly.proofs.PolyLaws.{normal_of_terms, within_terms, poly_of_terms, zero_poly, size-of_terms, depth-of_terms, value-of_terms}
 use Rattle.rx_poly.proofs.ProductLaws.{normal_of_atoms}
-use Rattle.rx_poly.proofs.TermLaws.{cons_nonzero-nonzero, zero_is, by_false}
+use Rattle.rx_poly.proofs.TermLaws.{cons_nonzero-nonzero, zero_is}
 use Rattle.rx_poly.specs.declared.body.Atom.{Atom, Atom-F, out-Atom, roll-Atom, fold_out-Atom, para-roll-Atom}
 use Rattle.rx_poly.specs.declared.body.Atom.TheVariants.{Var}
 use Rattle.rx_poly.specs.declared.body.Mono.{Mono}
@@ -174,7 +174,7 @@ value-number a k = by (is_zero k) refl
 
 -- ---- a number that was read
 
-fits_signed : (z : ℤ) → FitsSigned w128 z → fits_i128 z ≡ true
+pub fits_signed : (z : ℤ) → FitsSigned w128 z → fits_i128 z ≡ true
 fits_signed (pos n) f = let b = f.sfits in grind (arith, nat_tests)
 fits_signed (negsuc n) f = let b = f.sfits in grind (arith, nat_tests)
 
@@ -184,4 +184,4 @@ read_fits z f = ap fits_i128 (to_z-of_z w128 z f) ∙ fits_signed z f
 pub read_nonzero : (z : ℤ) → FitsSigned w128 z → (of_z w128 z ≡ 0 → ⊥) →
     is_zero (to_z w128 (of_z w128 z)) ≡ false
 read_nonzero z f h =
-    ap is_zero (to_z-of_z w128 z f) ∙ by_false (is_zero z) (λ e. h (ap (of_z w128) (zero_is z e)))
+    ap is_zero (to_z-of_z w128 z f) ∙ false_from_ne_true (is_zero z) (λ e. h (ap (of_z w128) (zero_is z e)))

@@ -2,6 +2,8 @@
 -- atom is normal.
 use Rattle.std.proofs.Common.{◌≡◌, ◌∙◌, ap, ℕ, Bool, true, false, not, ◌&&◌, Option, Some, None, refl, sym, List, [], ◌∷◌, cond, ℤ, pos, ◌*ℤ◌, int_div, int_rem}
 use Rattle.std.proofs.lemmas.Bool.{and_parts, and_from, and_right}
+use Rattle.std.proofs.lemmas.Option.{same_Some}
+use Rattle.rx_poly.proofs.Emptiness.{empty_is}
 use Rattle.rx_plain.proofs.Integers.{mul-one-int, add-zero-int}
 use Rattle.rx_poly.specs.Division.{by_number, parts_of, parts, division, atom_alone, quotient_of, remainder_of}
 use Rattle.rx_poly.specs.Normal.{is_empty, is_number, is_open, is_normal, is_normal_atom, is_poly}
@@ -12,38 +14,31 @@ use Rattle.rx_poly.specs.Value.{value, quotient, remainder, atom_value, mono_val
 use Rattle.rx_poly.proofs.Constants.{value-alone, value-number}
 use Rattle.rx_poly.proofs.Levels.{value_is, mono_value_is, div_is_normal, mod_is_normal}
 use Rattle.rx_poly.proofs.PolyLaws.{value-of_terms}
-use Rattle.rx_poly.specs.declared.body.Atom.{Atom, fold_out-Atom}
+use Rattle.rx_poly.specs.declared.body.Atom.{fold_out-Atom}
 use Rattle.rx_poly.specs.declared.body.Atom.TheVariants.{Div, Mod, outs-Div, outs-Mod}
 use Rattle.rx_poly.specs.declared.body.Mono.{Mono, out-Mono}
 use Rattle.rx_poly.specs.declared.body.Body.{Body, out-Body}
 use Rattle.rx_poly.specs.declared.division.Parts.TheVariants.{ByZero, Numbers, Open}
 
-some_same : (x y : ℤ) → Some x ≡ Some y → x ≡ y
-some_same x y e = cc
-
 -- ---- the number that a sum is
-
-no_atoms : (xs : List Atom) → is_empty xs ≡ true → xs ≡ []
-no_atoms [] e = refl
-no_atoms (x ∷ xs) e = cc
 
 one_term : (t : Mono × ℤ) (ts : List (Mono × ℤ)) (k : ℤ) (a : ℕ → ℤ) → is_number (t ∷ ts) ≡ true →
     t.1 ≡ k → sum_terms (mono_value a) (t ∷ ts) ≡ k
 one_term t [] k a h e =
     let one : mono_value a t.0 ≡ pos 1 = mono_value_is a t.0 ∙
-    ap (product_of (atom_value a)) (no_atoms (out-Mono t.0).atoms h) in
+    ap (product_of (atom_value a)) (empty_is (out-Mono t.0).atoms h) in
     add-zero-int (t.1 *ℤ mono_value a t.0) ∙ ap (λ v. t.1 *ℤ v) one ∙ mul-one-int t.1 ∙ e
 one_term t (u ∷ us) k a h e = cc
 
 by_number_test : (t : Mono × ℤ) (ts : List (Mono × ℤ)) (k : ℤ) (a : ℕ → ℤ) (b : Bool) →
     is_number (t ∷ ts) ≡ b → cond b (Some t.1) None ≡ Some k → sum_terms (mono_value a) (t ∷ ts) ≡ k
-by_number_test t ts k a true h e = one_term t ts k a h (some_same t.1 k e)
+by_number_test t ts k a true h e = one_term t ts k a h (same_Some t.1 k e)
 by_number_test t ts k a false h e = cc
 
 -- a sum that is a number has it as value
 number_value : (a : ℕ → ℤ) (ts : List (Mono × ℤ)) (k : ℤ) → constant_of ts ≡ Some k →
     sum_terms (mono_value a) ts ≡ k
-number_value a [] k e = some_same (pos 0) k e
+number_value a [] k e = same_Some (pos 0) k e
 number_value a (t ∷ ts) k e = by_number_test t ts k a (is_number (t ∷ ts)) refl e
 
 pub constant_value : (a : ℕ → ℤ) (p : Body) (k : ℤ) → constant_of (out-Body p).terms ≡ Some k →
@@ -64,7 +59,7 @@ no_number_test (t ∷ ts) e = (refl, by (is_number (t ∷ ts)) refl e)
 -- a number that isn't 0 has a term
 nonzero_term : (ts : List (Mono × ℤ)) (k : ℤ) → constant_of ts ≡ Some k → is_zero k ≡ false →
     is_empty ts ≡ false
-nonzero_term [] k e z = let no : true ≡ false = ap is_zero (some_same (pos 0) k e) ∙ z in cc
+nonzero_term [] k e z = let no : true ≡ false = ap is_zero (same_Some (pos 0) k e) ∙ z in cc
 nonzero_term (t ∷ ts) k e z = refl
 
 -- ---- the three cases

@@ -2,10 +2,10 @@
 -- the rest still adds.
 use Rattle.std.proofs.Common.{◌≡◌, ◌∙◌, ap, subst, true, false, refl, sym, List, [], ◌∷◌, ◌++◌, length, append_assoc}
 use Rattle.std.specs.Ordering.{is_gt}
+use Rattle.rx_plain.proofs.Lists.{empty_by_length}
 use Rattle.rx_poly.specs.Normal.{is_sorted}
 use Rattle.rx_poly.specs.Order.{atom_cmp}
 use Rattle.rx_poly.specs.Products.{join_sorted}
-use Rattle.rx_poly.proofs.Merging.{no_length}
 use Rattle.rx_poly.proofs.OrderLemmas.{atom_total}
 use Rattle.rx_poly.proofs.SortedLaws.{sorted_parts, join-left, join-right, before_all, not_after_all}
 use Rattle.rx_poly.specs.declared.body.Atom.{Atom}
@@ -62,8 +62,8 @@ module _ {joined xs ys whole : List Atom} {x : Atom} {xs' : List Atom} (xs_is : 
       Joining next xs' ys whole
   after_last e n =
       subst (λ s. Joining s xs' ys whole) (sym n)
-      (subst (λ r. Joining (joined ++ x ∷ []) xs' r whole) (sym (no_length ys e))
-      (push_last joined whole x xs' (at_both [] (no_length ys e))))
+      (subst (λ r. Joining (joined ++ x ∷ []) xs' r whole) (sym (empty_by_length ys e))
+      (push_last joined whole x xs' (at_both [] (empty_by_length ys e))))
 
   module _ {y : Atom} {ys' : List Atom} (ys_is : ys ≡ y ∷ ys') where
     pub after_left : {next : List Atom} → is_gt (atom_cmp x y) ≡ false → next ≡ joined ++ x ∷ [] →

@@ -1,11 +1,15 @@
 -- Lemmas on the definitions of specs/.
 pub mod Adjacent
+pub mod Agreeing
 pub mod Alone
+pub mod Budgets
 pub mod Constants
+pub mod Copies
 pub mod Depths
 pub mod Digesting
 pub mod DivisionCases
 pub mod DivisionLaws
+pub mod Emptiness
 pub mod Joining
 pub mod Levels
 pub mod Merging
@@ -21,16 +25,16 @@ pub mod Pieces
 pub mod PolyLaws
 pub mod Prefixes
 pub mod ProductLaws
-pub mod ReadingLaws
 pub mod Pushing
+pub mod ReadingLaws
 pub mod Running
 pub mod Runs
 pub mod Same
 pub mod Scaling
 pub mod SortedLaws
 pub mod Staying
-pub mod Substituting
 pub mod SubstitutedValue
+pub mod Substituting
 pub mod TermLaws
 pub mod Unchanged
 pub mod VariableLaws

@@ -2,17 +2,18 @@
 -- adds.
 use Rattle.std.proofs.Common.{◌≡◌, ◌∙◌, ap, subst, Bool, true, false, ◌&&◌, refl, sym, List, [], ◌∷◌, ◌++◌, ℤ, ◌+ℤ◌, pos, negsuc, zero, suc, length, append_assoc, arith}
 use Rattle.std.proofs.lemmas.Int.{ints}
-use Rattle.std.proofs.lemmas.Bool.{and_parts, and_from, and_left, and_right}
+use Rattle.std.proofs.lemmas.Bool.{and_from, and_left, and_parts, and_right, false_from_ne_true}
 use Rattle.std.proofs.lemmas.List.Folds.{list_all-append}
 use Rattle.std.specs.Ordering.{is_lt, ordering_reverse}
 use Rattle.std.specs.declared.cmp.Ordering.TheVariants.{Less, Equal, Greater}
+use Rattle.rx_plain.proofs.Lists.{empty_by_length}
 use Rattle.rx_poly.specs.Limits.{all_fit, fits_i128, is_sum}
 use Rattle.rx_poly.specs.Order.{mono_cmp}
 use Rattle.rx_poly.specs.Signs.{signed, with_sign}
 use Rattle.rx_poly.specs.Terms.{cons_nonzero, is_zero, add_terms, is_before, is_sparse_sorted}
 use Rattle.rx_poly.proofs.OrderLemmas.{mono_total}
 use Rattle.rx_poly.proofs.Same.{same_mono}
-use Rattle.rx_poly.proofs.TermLaws.{Listed, listed_parts, listed_from, before_trans, add-left, add-right, add-both, put_cases, zero_is, by_false}
+use Rattle.rx_poly.proofs.TermLaws.{Listed, listed_parts, listed_from, before_trans, add-left, add-right, add-both, put_cases, zero_is}
 use Rattle.rx_poly.specs.declared.body.Mono.{Mono}
 use Rattle.rx_poly.specs.declared.sign.Sign.{Sign}
 use Rattle.rx_poly.specs.declared.sign.Sign.TheVariants.{Plus, Minus}
@@ -179,9 +180,9 @@ zero_signed : (s : Sign) (c : ℤ) → is_zero c ≡ false → is_zero (signed s
 zero_signed Plus c h = h
 zero_signed Minus (pos zero) h = h
 zero_signed Minus (pos (suc n)) h =
-    by_false (is_zero (negsuc n)) (λ e. let k : negsuc n ≡ pos 0 = zero_is (negsuc n) e in cc)
+    false_from_ne_true (is_zero (negsuc n)) (λ e. let k : negsuc n ≡ pos 0 = zero_is (negsuc n) e in cc)
 zero_signed Minus (negsuc n) h =
-    by_false (is_zero (pos (suc n))) (λ e. let k : pos (suc n) ≡ pos 0 = zero_is (pos (suc n)) e in
+    false_from_ne_true (is_zero (pos (suc n))) (λ e. let k : pos (suc n) ≡ pos 0 = zero_is (pos (suc n)) e in
     omega (arith, ints))
 
 before-with_sign : (s : Sign) (k : Mono) (us : List (Mono × ℤ)) →
@@ -207,10 +208,6 @@ pub with_plus : (us : List (Mono × ℤ)) → with_sign Plus us ≡ us
 with_plus [] = refl
 with_plus (u ∷ us) = ap (λ vs. u ∷ vs) (with_plus us)
 
-pub no_length : {X : Type 0} (xs : List X) → length xs ≡ 0 → xs ≡ []
-no_length [] e = refl
-no_length (x ∷ xs) e = absurd (omega arith)
-
 pub begin : (s : Sign) (left right : List (Mono × ℤ)) → is_sum left ≡ true → is_sum right ≡ true →
     Merging [] left (with_sign s right) (add_terms mono_cmp left (with_sign s right))
 begin s left right h g = record {
@@ -233,7 +230,7 @@ module _ (s : Sign) {sum left : List (Mono × ℤ)} (right : List (Mono × ℤ))
   pub after_last : {next : List (Mono × ℤ)} → length right ≡ 0 → next ≡ sum ++ t ∷ [] →
       Merging next ts (with_sign s right) whole
   after_last e n =
-      let none : with_sign s right ≡ [] = ap (with_sign s) (no_length right e) in
+      let none : with_sign s right ≡ [] = ap (with_sign s) (empty_by_length right e) in
       subst (λ x. Merging x ts (with_sign s right) whole) (sym n)
       (subst (λ r. Merging (sum ++ t ∷ []) ts r whole) (sym none)
       (push_last sum whole t ts (at_left [] none)))

@@ -5,16 +5,17 @@ use Rattle.std.proofs.lemmas.Bool.{and_parts}
 use Rattle.std.specs.Vec.Iter.{into_iter_items, into_iter_steps}
 use Rattle.std.specs.declared.vec.IntoIter.{IntoIter}
 use Rattle.std.specs.declared.cmp.Ordering.TheVariants.{Less, Equal, Greater}
+use Rattle.rx_plain.proofs.Lists.{empty_by_length}
 use Rattle.rx_poly.specs.Limits.{all_fit, fits_i128, is_sum}
 use Rattle.rx_poly.specs.Order.{mono_cmp}
 use Rattle.rx_poly.specs.Terms.{cons_nonzero, add_terms, first_and_rest, is_sparse_sorted}
-use Rattle.rx_poly.proofs.Merging.{Merging, no_length, push_last, push_left, push_right, push_both, unfit_both, merged}
+use Rattle.rx_poly.proofs.Merging.{Merging, push_last, push_left, push_right, push_both, unfit_both, merged}
 use Rattle.rx_poly.specs.declared.body.Mono.{Mono}
 
 -- a step of an iterator gives the first of what is left
 pub step : {X Z : Type 0} (s : IntoIter X Z) (r : Option X) (t : IntoIter X Z) →
     into_iter_steps s r t → first_and_rest r (into_iter_items t) ≡ into_iter_items s
-step s None t h = sym (no_length (into_iter_items s) (sym s.rest.ok.0 ∙ h.0))
+step s None t h = sym (empty_by_length (into_iter_items s) (sym s.rest.ok.0 ∙ h.0))
 step s (Some x) t h = sym h.0
 
 -- what of the whole is in `sum`, and what `left` and `right` still add to it

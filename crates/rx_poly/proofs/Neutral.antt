@@ -2,9 +2,11 @@
 -- limits.
 use Rattle.std.proofs.Common.{◌≡◌, ◌∙◌, ap, Bool, true, false, ◌&&◌, Some, None, refl, sym, List, [], ◌∷◌, cond, ℤ, pos}
 use Rattle.std.proofs.lemmas.Bool.{and_parts, and_from}
+use Rattle.std.proofs.lemmas.Option.{same_Some}
+use Rattle.rx_poly.proofs.Emptiness.{empty_is}
 use Rattle.rx_plain.proofs.Integers.{one-mul-int}
 use Rattle.rx_poly.specs.Limits.{of_terms, of_atoms, body_sum, is_within, all_fit, is_small}
-use Rattle.rx_poly.specs.Normal.{is_empty, is_number, is_normal, is_poly}
+use Rattle.rx_poly.specs.Normal.{is_number, is_normal, is_poly}
 use Rattle.rx_poly.specs.Order.{atom_cmp, mono_cmp}
 use Rattle.rx_poly.specs.Products.{join_sorted, mono_times, term_product, body_product, mul_within, sum_of_products, sum_of_products_within}
 use Rattle.rx_poly.specs.Reading.{constant_of}
@@ -18,19 +20,12 @@ use Rattle.rx_poly.specs.declared.body.Body.{Body, out-Body, roll-out-Body}
 abbrev pub one : List (Mono × ℤ)
 one = (of_atoms [], pos 1) ∷ []
 
-no_elements : {A : Type 0} (xs : List A) → is_empty xs ≡ true → xs ≡ []
-no_elements [] e = refl
-no_elements (x ∷ xs) e = cc
-
-some_same : (x y : ℤ) → Some x ≡ Some y → x ≡ y
-some_same x y e = cc
-
 one_term : (t : Mono × ℤ) (ts : List (Mono × ℤ)) → is_number (t ∷ ts) ≡ true → t.1 ≡ pos 1 →
     t ∷ ts ≡ one
 one_term t [] h e =
     let mono : t.0 ≡ of_atoms [] =
     sym (roll-out-Mono t.0) ∙
-    (λ i. roll-Mono (record { atoms = no_elements (out-Mono t.0).atoms h i })) in
+    (λ i. roll-Mono (record { atoms = empty_is (out-Mono t.0).atoms h i })) in
     λ i. (mono i, e i) ∷ []
 one_term t (u ∷ us) h e = cc
 
@@ -40,7 +35,7 @@ one_terms [] e = cc
 one_terms (t ∷ ts) e = by (is_number (t ∷ ts)) refl e
   where
     by : (b : Bool) → is_number (t ∷ ts) ≡ b → cond b (Some t.1) None ≡ Some (pos 1) → t ∷ ts ≡ one
-    by true h f = one_term t ts h (some_same t.1 (pos 1) f)
+    by true h f = one_term t ts h (same_Some t.1 (pos 1) f)
     by false h f = cc
 
 -- 1 times a monomial

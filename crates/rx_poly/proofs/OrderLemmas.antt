@@ -1,10 +1,10 @@
 -- The order of atoms, monomials and sums, one level at a time, and that it is a total order.
-use Rattle.std.proofs.Common.{◌≡◌, ◌∙◌, ℤ, sym}
+use Rattle.std.proofs.Common.{◌≡◌, ◌∙◌, ℤ, sym, refl, true}
 use Rattle.std.specs.Cmp.{IsTotalOrder}
 use Rattle.std.specs.Cmp.Lexicographic.{slice_cmp}
-use Rattle.std.specs.Ordering.{nat_cmp, int_cmp, ordering_then}
+use Rattle.std.specs.Ordering.{nat_cmp, int_cmp, is_eq, ordering_reverse, ordering_then}
 use Rattle.std.specs.declared.cmp.Ordering.{Ordering}
-use Rattle.std.specs.declared.cmp.Ordering.TheVariants.{Less, Greater}
+use Rattle.std.specs.declared.cmp.Ordering.TheVariants.{Less, Equal, Greater}
 use denote.Hole.Carrier
 use Rattle.rx_plain.specs.Graded.{graded_cmp}
 use Rattle.rx_poly.specs.Order.{atom_cmp, mono_cmp, body_cmp}
@@ -14,6 +14,18 @@ use Rattle.rx_poly.specs.contracts.body.BodyOrd.TheImpl.Laws as body_laws
 use Rattle.rx_poly.specs.declared.body.Atom.{Atom, Atom-F, out-Atom, roll-Atom, roll-out-Atom}
 use Rattle.rx_poly.specs.declared.body.Mono.{Mono, out-Mono}
 use Rattle.rx_poly.specs.declared.body.Body.{Body, out-Body}
+
+-- what is as when turned round is level
+pub reversed_itself : (r : Ordering) → r ≡ ordering_reverse r → r ≡ Equal
+reversed_itself Less e = cc
+reversed_itself Equal e = refl
+reversed_itself Greater e = cc
+
+-- what the test for level answers says
+pub equal_is : (r : Ordering) → is_eq r ≡ true → r ≡ Equal
+equal_is Less e = cc
+equal_is Equal e = refl
+equal_is Greater e = cc
 
 pub atom_total : IsTotalOrder atom_cmp
 atom_total = atom_laws.total-law

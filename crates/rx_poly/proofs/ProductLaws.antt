@@ -1,7 +1,7 @@
 -- Laws of products of monomials and sums: their order, their value, and that they stay normal.
 use Rattle.std.proofs.Common.{◌≡◌, ◌∙◌, ap, subst, ℕ, zero, suc, true, false, ◌&&◌, refl, sym, List, [], ◌∷◌, ℤ, pos, negsuc, ◌+ℤ◌, ◌*ℤ◌, arith}
 use Rattle.std.proofs.lemmas.Int.{ints}
-use Rattle.std.proofs.lemmas.Bool.{and_parts, and_from}
+use Rattle.std.proofs.lemmas.Bool.{and_from, and_parts, false_from_ne_true}
 use Rattle.std.specs.List.{list_all}
 use Rattle.std.specs.Ordering.{is_lt}
 use lib.IntN.{*ℤ_comm, +ℤ_assoc}
@@ -18,7 +18,7 @@ use Rattle.rx_poly.proofs.OrderLemmas.{atom_total, mono_total, mono_cmp_is}
 use Rattle.rx_poly.proofs.PolyLaws.{NormalTerms, poly_terms, normal_of_terms, value-of_terms}
 use Rattle.rx_poly.proofs.Same.{same_mono}
 use Rattle.rx_poly.proofs.SortedLaws.{product-join, all-join, sorted-join, graded-join}
-use Rattle.rx_poly.proofs.TermLaws.{listed_parts, listed_from, sum-add, zero_is, by_false}
+use Rattle.rx_poly.proofs.TermLaws.{listed_parts, listed_from, sum-add, zero_is}
 use Rattle.rx_poly.specs.declared.body.Atom.{Atom}
 use Rattle.rx_poly.specs.declared.body.Mono.{Mono, out-Mono}
 use Rattle.rx_poly.specs.declared.body.Body.{Body, out-Body}
@@ -85,7 +85,7 @@ before-term_product t k (u ∷ us) h =
     (is_before mono_cmp (mono_times t.0 k) (term_product t us))
     (ap is_lt (cmp-mono_times t.0 k u.0) ∙ p.0) (before-term_product t k us p.1)
 
-nonzero : (c : ℤ) → is_zero c ≡ false → c ≡ pos 0 → ⊥
+pub nonzero : (c : ℤ) → is_zero c ≡ false → c ≡ pos 0 → ⊥
 nonzero c h e = let k : true ≡ false = ap is_zero (sym e) ∙ h in cc
 
 no_zero : (c d : ℤ) → (c ≡ pos 0 → ⊥) → (d ≡ pos 0 → ⊥) → c *ℤ d ≡ pos 0 → ⊥
@@ -100,7 +100,7 @@ no_zero (negsuc m) (negsuc n) h g e = omega (arith, ints)
 -- a product of two numbers that are not 0 is not 0
 pub nonzero-mul : (c d : ℤ) → is_zero c ≡ false → is_zero d ≡ false → is_zero (c *ℤ d) ≡ false
 nonzero-mul c d h g =
-    by_false (is_zero (c *ℤ d)) (λ e. no_zero c d (nonzero c h) (nonzero d g) (zero_is (c *ℤ d) e))
+    false_from_ne_true (is_zero (c *ℤ d)) (λ e. no_zero c d (nonzero c h) (nonzero d g) (zero_is (c *ℤ d) e))
 
 pub listed-term_product : (t : Mono × ℤ) (us : List (Mono × ℤ)) → is_zero t.1 ≡ false →
     is_sparse_sorted mono_cmp us ≡ true → is_sparse_sorted mono_cmp (term_product t us) ≡ true

@@ -5,9 +5,10 @@ use Rattle.std.proofs.Math.Seq.{drop-cons}
 use Rattle.std.proofs.lemmas.Bool.{and_parts, and_from}
 use Rattle.std.proofs.lemmas.Option.{same_Some}
 use Rattle.std.specs.Cmp.{signed_Decides}
-use Rattle.std.specs.Ordering.{int_eq, is_lt, ordering_reverse}
+use Rattle.std.specs.Ordering.{int_eq, is_lt}
 use Rattle.std.specs.declared.cmp.Ordering.{Ordering}
 use Rattle.std.specs.declared.cmp.Ordering.TheVariants.{Less, Equal, Greater}
+use Rattle.rx_poly.proofs.Emptiness.{empty_is}
 use Rattle.rx_poly.specs.Constants.{variable}
 use Rattle.rx_poly.specs.Limits.{of_atoms}
 use Rattle.rx_poly.specs.Normal.{is_empty, is_poly}
@@ -15,7 +16,7 @@ use Rattle.rx_poly.specs.Order.{mono_cmp}
 use Rattle.rx_poly.specs.Reading.{coefficient, found, variable_of, variable_of_atom, variable_of_atoms}
 use Rattle.rx_poly.specs.Terms.{is_before, is_sparse_sorted}
 use Rattle.rx_poly.proofs.Levels.{atoms-of_atoms, terms-of_terms}
-use Rattle.rx_poly.proofs.OrderLemmas.{mono_total}
+use Rattle.rx_poly.proofs.OrderLemmas.{mono_total, reversed_itself}
 use Rattle.rx_poly.proofs.PolyLaws.{poly_terms}
 use Rattle.rx_poly.proofs.Same.{same_mono}
 use Rattle.rx_poly.proofs.TermLaws.{lt_is, before_trans, listed_parts}
@@ -39,10 +40,6 @@ chosen : {X : Type 0} (b : Bool) (o : Option X) (x : X) → (if b then o else No
     (b ≡ true) × (o ≡ Some x)
 chosen true o x e = (refl, e)
 chosen false o x e = cc
-
-empty_is : {X : Type 0} (xs : List X) → is_empty xs ≡ true → xs ≡ []
-empty_is [] e = refl
-empty_is (x ∷ xs) e = cc
 
 atoms_are : (xs : List Atom) (n : ℕ) → variable_of_atoms xs ≡ Some n → xs ≡ Var n ∷ []
 atoms_are [] n e = cc
@@ -98,12 +95,7 @@ absent k (t ∷ ts) h =
     ap (λ r. found r t.1 (coefficient k ts)) (lt_is (mono_cmp k t.0) p.0) ∙ absent k ts p.1
 
 pub itself : (k : Mono) → mono_cmp k k ≡ Equal
-itself k = own (mono_cmp k k) (mono_total.antisymm k k)
-  where
-    own : (r : Ordering) → r ≡ ordering_reverse r → r ≡ Equal
-    own Less e = cc
-    own Equal e = refl
-    own Greater e = cc
+itself k = reversed_itself (mono_cmp k k) (mono_total.antisymm k k)
 
 -- a term of the monomial has its coefficient
 taken : (k : Mono) (t : Mono × ℤ) (ts : List (Mono × ℤ)) → t.0 ≡ k → coefficient k (t ∷ ts) ≡ t.1

@@ -1,7 +1,7 @@
 -- A run of terms whose variables stay is added at once: the sum is that of its terms added one by
 -- one, and where all sizes together keep the limit, nothing on the way passes the limits unless
 -- the sum does.
-use Rattle.std.proofs.Common.{◌≡◌, ◌∙◌, ap, subst, ℕ, ◌+◌, ◌≤◌, max, Bool, true, false, ◌&&◌, refl, sym, List, [], ◌∷◌, ◌++◌, map, cond, ℤ, ◌+ℤ◌, arith, length}
+use Rattle.std.proofs.Common.{◌≡◌, ◌∙◌, ap, subst, ℕ, ◌+◌, ◌≤◌, Bool, true, false, ◌&&◌, refl, sym, List, [], ◌∷◌, ◌++◌, map, ℤ, ◌+ℤ◌, arith, length}
 use Rattle.std.specs.Prelude.{nat_le, sum_by}
 use Rattle.std.specs.List.{flat_map}
 use Rattle.std.specs.Ordering.{is_lt, ordering_reverse}
@@ -9,7 +9,8 @@ use Rattle.std.specs.declared.cmp.Ordering.{Ordering}
 use Rattle.std.specs.declared.cmp.Ordering.TheVariants.{Less, Equal, Greater}
 use Rattle.std.proofs.lemmas.Bool.{and_parts, and_from, and_left, le-leb}
 use Rattle.std.proofs.lemmas.List.Sums.{sum_by-cons}
-use Rattle.rx_poly.proofs.Merging.{no_length, with_plus}
+use Rattle.rx_plain.proofs.Lists.{empty_by_length}
+use Rattle.rx_poly.proofs.Merging.{with_plus}
 use Rattle.std.proofs.lemmas.List.Folds.{list_all-append}
 use Rattle.std.proofs.lemmas.List.{map-append}
 use Rattle.rx_poly.specs.Constants.{variable}
@@ -17,7 +18,6 @@ use Rattle.rx_poly.specs.Limits.{of_terms, body_sum, is_within, is_small, all_fi
 use Rattle.rx_plain.specs.Formed.{Formed, kept}
 use Rattle.rx_poly.specs.Normal.{is_normal, is_normal_mono, is_poly}
 use Rattle.rx_poly.specs.Order.{mono_cmp}
-use Rattle.rx_poly.specs.Replacements.{stay}
 use Rattle.rx_poly.specs.Signs.{with_sign}
 use Rattle.rx_poly.specs.Substitution.{replaced, plus_all, subst_mono, subst_body}
 use Rattle.rx_poly.specs.Terms.{add_terms, all_keys, cons_nonzero, insert_by, insert_term, is_before, is_sparse_sorted, is_zero}
@@ -31,7 +31,7 @@ use Rattle.rx_poly.proofs.Prefixes.{SmallTerms, terms-prefix}
 use Rattle.rx_poly.proofs.Same.{same_mono}
 use Rattle.rx_poly.proofs.Substituting.{Adding, well, term_in, plus_false, after_plus, no_plus, no_term, plus_begin}
 use Rattle.rx_poly.proofs.TermLaws.{Listed, listed_parts, listed_from, listed-add, all_keys-add, before_trans, add-left, add-right, add-both, put_cases, cons_nonzero-nonzero}
-use Rattle.rx_poly.proofs.Unchanged.{term_stays}
+use Rattle.rx_poly.proofs.Unchanged.{Stay, term_stays}
 use Rattle.rx_poly.specs.declared.body.Mono.{Mono}
 use Rattle.rx_poly.specs.declared.body.Body.{Body, out-Body, roll-out-Body}
 use Rattle.rx_poly.specs.declared.sign.Sign.TheVariants.{Plus}
@@ -310,7 +310,7 @@ module _ (ws : List (ℕ × Body)) where
   names t = mono_variables t.0
 
   -- one term, added
-  one_added : (p : Body) (t : Mono × ℤ) (us : Terms) → stay ws (mono_variables t.0) → FirstOf t us →
+  one_added : (p : Body) (t : Mono × ℤ) (us : Terms) → Stay ws (mono_variables t.0) → FirstOf t us →
       plus_all (well p) (map (term_in ws) (t ∷ us)) ≡
       plus_all (record {
         form = of_terms (sum_of (out-Body p).terms (t ∷ []));
@@ -373,7 +373,7 @@ module _ (ws : List (ℕ × Body)) where
       (le-leb (body_depth q) 64 (omega (arith, depth, depths)))
 
   -- where the sum with the run fits, it is what its terms make one by one
-  pub run_made : (us : Terms) (p : Body) → is_poly p ≡ true → Run us → stay ws (flat_map names us) →
+  pub run_made : (us : Terms) (p : Body) → is_poly p ≡ true → Run us → Stay ws (flat_map names us) →
       body_size p + sum_by size_of us ≤ 4096 → all_fit (sum_of (out-Body p).terms us) ≡ true →
       plus_all (well p) (map (term_in ws) us) ≡ well (of_terms (sum_of (out-Body p).terms us))
   run_made [] p h r st together fit =
@@ -403,7 +403,7 @@ module _ (ws : List (ℕ × Body)) where
 
   -- where it passes the limits, so does something on that way
   pub run_fails : (us : Terms) (p : Body) → is_poly p ≡ true → Run us →
-      stay ws (flat_map names us) → is_within (of_terms (sum_of (out-Body p).terms us)) ≡ false →
+      Stay ws (flat_map names us) → is_within (of_terms (sum_of (out-Body p).terms us)) ≡ false →
       (plus_all (well p) (map (term_in ws) us)).within ≡ false
   run_fails [] p h r st fails =
       let same : is_within (of_terms (sum_of (out-Body p).terms [])) ≡ true =
@@ -521,7 +521,7 @@ begin ws p h is e = record {
 pub finished : (ws : List (ℕ × Body)) {sum : Body} {rest : Terms} {whole : Formed Body} →
     length rest ≡ 0 → Left ws sum rest whole → well sum ≡ whole
 finished ws {sum} {rest} {whole} e l =
-    (subst (λ ts. Left ws sum ts whole) (no_length rest e) l).adding.made
+    (subst (λ ts. Left ws sum ts whole) (empty_by_length rest e) l).adding.made
 
 module _ (ws : List (ℕ × Body)) {sum : Body} {whole : Formed Body} {rest after : Terms}
     {t : Mono × ℤ} (is : rest ≡ t ∷ after) (l : Left ws sum rest whole) where
@@ -555,7 +555,7 @@ plus-append done (t ∷ ts) us =
 
 module _ (ws : List (ℕ × Body)) {sum : Body} {whole : Formed Body} {rest : Terms}
     (run others : Terms) (is : rest ≡ run ++ others) (l : Left ws sum rest whole)
-    (st : stay ws (flat_map (names ws) run)) (h : is_poly sum ≡ true) where
+    (st : Stay ws (flat_map (names ws) run)) (h : is_poly sum ≡ true) where
   split : Left ws sum (run ++ others) whole
   split = subst (λ ts. Left ws sum ts whole) is l
 

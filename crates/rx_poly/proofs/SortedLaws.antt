@@ -10,6 +10,7 @@ use Rattle.std.specs.Ordering.{is_le, is_gt, ordering_reverse, ordering_then, na
 use Rattle.std.specs.declared.cmp.Ordering.{Ordering}
 use Rattle.std.specs.declared.cmp.Ordering.TheVariants.{Less, Equal, Greater}
 use lib.IntN.{*ℤ_comm}
+use Rattle.rx_poly.proofs.OrderLemmas.{reversed_itself}
 use Rattle.rx_plain.proofs.Integers.{mul-assoc-int, one-mul-int}
 use Rattle.rx_plain.specs.Graded.{graded_cmp}
 use Rattle.rx_poly.proofs.Same.{nat_same}
@@ -143,12 +144,7 @@ module _ {A : Type 0} (R : A → A → Ordering) where
     first_greater r s e = ap (λ q. ordering_then q s) e
 
     itself : (x : A) (s : Ordering) → ordering_then (R x x) s ≡ s
-    itself x s = ap (λ q. ordering_then q s) (own (R x x) (o.antisymm x x))
-      where
-        own : (r : Ordering) → r ≡ ordering_reverse r → r ≡ Equal
-        own Less e = cc
-        own Equal e = refl
-        own Greater e = cc
+    itself x s = ap (λ q. ordering_then q s) (reversed_itself (R x x) (o.antisymm x x))
 
     -- y comes before x, and x not after z: so y comes before z
     below : (x y z : A) → is_gt (R x y) ≡ true → is_gt (R x z) ≡ false → R y z ≡ Less

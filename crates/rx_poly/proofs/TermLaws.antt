@@ -2,7 +2,7 @@
 -- are merged from the front.
 use Rattle.std.proofs.Common.{◌≡◌, ◌∙◌, ap, subst, Bool, true, false, not, ◌&&◌, cond, refl, sym, List, [], ◌∷◌, ℤ, pos, ◌+ℤ◌, ◌*ℤ◌, arith}
 use Rattle.std.proofs.lemmas.Int.{ints}
-use Rattle.std.proofs.lemmas.Bool.{and_parts, and_from}
+use Rattle.std.proofs.lemmas.Bool.{and_from, and_parts, not-true}
 use Rattle.std.specs.Cmp.{IsTotalOrder, signed_Decides}
 use Rattle.std.specs.Ordering.{is_lt, ordering_reverse}
 use Rattle.std.specs.declared.cmp.Ordering.{Ordering}
@@ -19,11 +19,6 @@ lt_is Greater e = cc
 
 pub zero_is : (c : ℤ) → is_zero c ≡ true → c ≡ pos 0
 zero_is c e = (signed_Decides c (pos 0)).0 e
-
--- what isn't true is false
-pub by_false : (b : Bool) → (b ≡ true → ⊥) → b ≡ false
-by_false true h = absurd (h refl)
-by_false false h = refl
 
 module _ {K : Type 0} where
   -- ---- a term in front
@@ -159,16 +154,12 @@ module _ {K : Type 0} where
         pub before : is_before R t.0 ts ≡ true
         pub rest : is_sparse_sorted R ts ≡ true
 
-      not_true : (b : Bool) → not b ≡ true → b ≡ false
-      not_true true e = cc
-      not_true false e = refl
-
       pub listed_parts : (t : K × ℤ) (ts : List (K × ℤ)) → is_sparse_sorted R (t ∷ ts) ≡ true →
           Listed t ts
       listed_parts t ts h =
           let p = and_parts (not (is_zero t.1)) (is_before R t.0 ts && is_sparse_sorted R ts) h in
           let q = and_parts (is_before R t.0 ts) (is_sparse_sorted R ts) p.1 in
-          record { nonzero = not_true (is_zero t.1) p.0; before = q.0; rest = q.1 }
+          record { nonzero = not-true (is_zero t.1) p.0; before = q.0; rest = q.1 }
 
       pub listed_from : (t : K × ℤ) (ts : List (K × ℤ)) → Listed t ts →
           is_sparse_sorted R (t ∷ ts) ≡ true

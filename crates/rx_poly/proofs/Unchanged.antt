@@ -3,7 +3,7 @@
 use Rattle.std.proofs.Common.{◌≡◌, ◌∙◌, ap, subst, ℕ, ◌+◌, ◌≤◌, max, Bool, true, false, not, ◌&&◌, refl, sym, List, [], ◌∷◌, ◌++◌, map, append_assoc, Some, None, cond, ℤ, pos, arith}
 use Rattle.std.specs.Prelude.{sum_by, int_div, int_rem}
 use Rattle.std.specs.List.{All, flat_map, list_all}
-use Rattle.std.proofs.lemmas.Bool.{and_parts}
+use Rattle.std.proofs.lemmas.Bool.{and_parts, not-true}
 use Rattle.std.proofs.lemmas.List.{append-nil}
 use Rattle.std.proofs.lemmas.List.Elements.{All-head}
 use Rattle.std.proofs.lemmas.List.Folds.{list_all-append}
@@ -42,10 +42,6 @@ first_nonzero : (t : Mono × ℤ) (ts : List (Mono × ℤ)) → is_sparse_sorted
     is_zero t.1 ≡ false
 first_nonzero t ts h = (listed_parts mono_cmp mono_total same_mono t ts h).nonzero
 
-not_false : (b : Bool) → not b ≡ true → b ≡ false
-not_false true e = cc
-not_false false e = refl
-
 -- a sum that is no number has no number
 no_constant : (ts : List (Mono × ℤ)) → is_number ts ≡ false → constant_of ts ≡ None
 no_constant [] e = cc
@@ -73,8 +69,8 @@ stays_open p q n h =
     let g = and_parts (not (is_empty (out-Body q).terms))
     (not (is_number (out-Body p).terms && is_number (out-Body q).terms)) h in
     by_divisor (out-Body p).terms (out-Body q).terms (normal_terms q n).listed
-    (not_false (is_empty (out-Body q).terms) g.0)
-    (is_number (out-Body q).terms) refl (not_false
+    (not-true (is_empty (out-Body q).terms) g.0)
+    (is_number (out-Body q).terms) refl (not-true
     (is_number (out-Body p).terms && is_number (out-Body q).terms) g.1)
 
 -- the last of small atoms is small
@@ -145,7 +141,7 @@ divided f x p q P Q pe qe o w =
 
 module _ (ws : List (ℕ × Body)) where
   -- these variables stay what they are
-  abbrev Stay : List ℕ → Type 0
+  abbrev pub Stay : List ℕ → Type 0
   Stay vs = All (λ v. replaced ws v ≡ variable v) vs
 
   abbrev KeptAtom : Atom → Type 0

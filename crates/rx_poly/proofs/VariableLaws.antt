@@ -2,12 +2,14 @@
 use Rattle.std.proofs.Common.{◌≡◌, ◌∙◌, ap, ℕ, suc, ◌+◌, ◌<◌, ◌≤◌, ◌==◌, max, Bool, true, false, ◌&&◌, ◌||◌, refl, sym, List, [], ◌∷◌, ◌++◌, drop, get_or, length, drop_of_length-le, add-one, ℤ, arith}
 use Rattle.std.specs.Prelude.{nat_lt}
 use Rattle.std.specs.List.{flat_map, list_all, list_any}
+use Rattle.rx_plain.proofs.Booleans.{and_true, or_false}
 use Rattle.rx_poly.specs.Limits.{greatest}
 use Rattle.std.proofs.lemmas.List.{append-nil}
 use Rattle.std.proofs.lemmas.List.Folds.{list_all-append, list_any-append}
 use Rattle.std.proofs.Math.Nat.{zero-max}
 use Rattle.std.proofs.Math.Seq.{drop-cons}
-use Rattle.rx_poly.specs.Variables.{atom_variables_level, mono_variables_level, body_variables_level, atom_variables, mono_variables, variables, atom_uses_below, mono_uses_below, uses_below, all_below, is_one_of, atom_uses, mono_uses, uses, bound_of, atom_bound, mono_bound, variable_bound}
+use Rattle.std.proofs.lemmas.Bool.{or_left}
+use Rattle.rx_poly.specs.Variables.{atom_variables_level, mono_variables_level, body_variables_level, atom_variables, mono_variables, variables, atom_uses_below, mono_uses_below, uses_below, is_one_of, atom_uses, mono_uses, uses, bound_of, atom_bound, mono_bound, variable_bound}
 use Rattle.rx_poly.proofs.Pieces.{list_all-flat_map, flat_map-map}
 use Rattle.rx_poly.specs.declared.body.Atom.{fold_out-Atom}
 use Rattle.rx_poly.specs.declared.body.Atom.TheVariants.{Var, Div, Mod, outs-Var, outs-Div, outs-Mod}
@@ -51,38 +53,50 @@ listed_end f xs i so_far before h all =
     sym (append-nil so_far) ∙ ap (λ ys. so_far ++ flat_map f ys) (sym (drop_of_length-le xs h)) ∙
     all
 
+-- ---- a test of all variables
+
+pub all_Var : (p : ℕ → Bool) (v : ℕ) → list_all p (atom_variables (Var v)) ≡ p v
+all_Var p v = ap (list_all p) (variables_Var v) ∙ and_true (p v)
+
+pub all_Div : (p : ℕ → Bool) (l r : Body) → list_all p (atom_variables (Div l r)) ≡
+    (list_all p (variables l) && list_all p (variables r))
+all_Div p l r = ap (list_all p) (variables_Div l r) ∙ list_all-append p (variables l) (variables r)
+
+pub all_Mod : (p : ℕ → Bool) (l r : Body) → list_all p (atom_variables (Mod l r)) ≡
+    (list_all p (variables l) && list_all p (variables r))
+all_Mod p l r = ap (list_all p) (variables_Mod l r) ∙ list_all-append p (variables l) (variables r)
+
+pub all_mono_is : (p : ℕ → Bool) (m : Mono) → list_all p (mono_variables m) ≡
+    list_all (λ x. list_all p (atom_variables x)) (out-Mono m).atoms
+all_mono_is p m =
+    ap (list_all p) (mono_variables_is m) ∙ list_all-flat_map p atom_variables (out-Mono m).atoms
+
+pub all_body_is : (p : ℕ → Bool) (b : Body) → list_all p (variables b) ≡
+    list_all (λ (t : Mono × ℤ). list_all p (mono_variables t.0)) (out-Body b).terms
+all_body_is p b =
+    ap (list_all p) (variables_is b) ∙ list_all-flat_map p (λ (t : Mono × ℤ). mono_variables t.0)
+    (out-Body b).terms
+
 -- ---- below a number
 
 pub below_Var : (n v : ℕ) → atom_uses_below n (Var v) ≡ nat_lt v n
-below_Var n v = ap (all_below n) (variables_Var v) ∙ by (nat_lt v n)
-  where
-    by : (b : Bool) → (b && true) ≡ b
-    by true = refl
-    by false = refl
+below_Var n v = all_Var (λ v. nat_lt v n) v
 
 pub below_Div : (n : ℕ) (p q : Body) → atom_uses_below n (Div p q) ≡
     (uses_below n p && uses_below n q)
-below_Div n p q =
-    ap (all_below n) (variables_Div p q) ∙ list_all-append (λ v. nat_lt v n) (variables p)
-    (variables q)
+below_Div n p q = all_Div (λ v. nat_lt v n) p q
 
 pub below_Mod : (n : ℕ) (p q : Body) → atom_uses_below n (Mod p q) ≡
     (uses_below n p && uses_below n q)
-below_Mod n p q =
-    ap (all_below n) (variables_Mod p q) ∙ list_all-append (λ v. nat_lt v n) (variables p)
-    (variables q)
+below_Mod n p q = all_Mod (λ v. nat_lt v n) p q
 
 pub mono_below_is : (n : ℕ) (m : Mono) → mono_uses_below n m ≡
     list_all (atom_uses_below n) (out-Mono m).atoms
-mono_below_is n m =
-    ap (all_below n) (mono_variables_is m) ∙ list_all-flat_map (λ v. nat_lt v n) atom_variables
-    (out-Mono m).atoms
+mono_below_is n m = all_mono_is (λ v. nat_lt v n) m
 
 pub below_is : (n : ℕ) (b : Body) → uses_below n b ≡
     list_all (λ (t : Mono × ℤ). mono_uses_below n t.0) (out-Body b).terms
-below_is n b =
-    ap (all_below n) (variables_is b) ∙ list_all-flat_map (λ v. nat_lt v n)
-    (λ (t : Mono × ℤ). mono_variables t.0) (out-Body b).terms
+below_is n b = all_body_is (λ v. nat_lt v n) b
 
 -- ---- whether a variable is one of them
 
@@ -94,11 +108,7 @@ list_any-flat_map p f (x ∷ xs) =
     ap (λ b. list_any p (f x) || b) (list_any-flat_map p f xs)
 
 pub uses_Var : (x v : ℕ) → atom_uses x (Var v) ≡ (v == x)
-uses_Var x v = ap (is_one_of x) (variables_Var v) ∙ by (v == x)
-  where
-    by : (b : Bool) → (b || false) ≡ b
-    by true = refl
-    by false = refl
+uses_Var x v = ap (is_one_of x) (variables_Var v) ∙ or_false (v == x)
 
 pub uses_Div : (x : ℕ) (p q : Body) → atom_uses x (Div p q) ≡ (uses x p || uses x q)
 uses_Div x p q =
@@ -118,16 +128,12 @@ uses_is x b =
     ap (is_one_of x) (variables_is b) ∙ list_any-flat_map (λ v. v == x)
     (λ (t : Mono × ℤ). mono_variables t.0) (out-Body b).terms
 
-or_true : (b c : Bool) → b ≡ true → (b || c) ≡ true
-or_true true c e = refl
-or_true false c e = cc
-
 -- where the rest decides and its first element passes, some does
 pub one_passes : {X : Type 0} (p : X → Bool) (xs : List X) (i : ℕ) (x : X) → i < length xs → x ≡
     get_or xs i x → p x ≡ true → list_any p (drop i xs) ≡ list_any p xs → list_any p xs ≡ true
 one_passes p xs i x h is passes decides =
     sym decides ∙ ap (list_any p) (drop-cons xs i x h)
-    ∙ or_true (p (get_or xs i x)) (list_any p (drop (suc i) xs)) (ap p (sym is) ∙ passes)
+    ∙ or_left (p (get_or xs i x)) (list_any p (drop (suc i) xs)) (ap p (sym is) ∙ passes)
 
 -- where the rest decides and nothing is left, none does
 pub none_passes : {X : Type 0} (p : X → Bool) (xs : List X) (i : ℕ) → length xs ≤ i →

@@ -11,7 +11,7 @@ use crate::poly_end::PolyEnd;
 use std::alloc::Global;
 
 /// What two polynomials are to a division.
-#[derive(Clone, Copy, Debug, PartialEq, Eq)]
+#[derive(Clone, Copy)]
 pub(crate) enum Parts {
     /// The divisor is the number 0.
     ByZero,

@@ -4,7 +4,7 @@ ghost use Rattle.rx_poly.specs.Limits.{fits_i128};
 ghost use Rattle.rx_poly.specs.Signs.{signed};
 
 /// Whether a sum is added or subtracted.
-#[derive(Clone, Copy, Debug, PartialEq, Eq)]
+#[derive(Clone, Copy)]
 pub(crate) enum Sign {
     /// It is added.
     Plus,

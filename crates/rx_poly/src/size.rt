@@ -1,7 +1,6 @@
 //! Whether a sum keeps the limits on size and depth. Both walks stop as soon as the answer is
 //! known, so neither counts past its limit, whatever tree it is given.
 ghost use Rattle.std.specs.Prelude.{◌≡◌, ◌+◌, ◌-◌, ◌≤◌, ℤ, nat_le, sum_by, SomeIff};
-ghost use Rattle.std.specs.Bool.{OnTrue};
 ghost use Rattle.rx_poly.specs.declared.body.Mono.{Mono};
 ghost use Rattle.rx_poly.specs.Limits.{atom_size, mono_size, body_size, atom_depth, mono_depth, body_depth, is_small};
 
@@ -63,8 +62,8 @@ fn body_after(body: &Body, budget: u32) -> Option<u32>
 
 /// Whether the sum and those terms together keep the limit on size.
 pub(crate) fn fit_together(sum: &Body, terms: &[(Mono, i128)]) -> bool
-    ensures { OnTrue result
-        (body_size sum.now + sum_by (λ (t : Mono × ℤ). mono_size t.0) terms.now ≤ 4096) }
+    ensures { result ≡
+        nat_le (body_size sum.now + sum_by (λ (t : Mono × ℤ). mono_size t.0) terms.now) 4096 }
 {
     let Some(rest) = body_after(sum, LARGEST_SIZE) else {
         return false;

@@ -1,7 +1,6 @@
 //! Polynomials substituted for variables.
-ghost use Rattle.std.specs.Prelude.{◌≡◌, ◌≤◌, [], ◌∷◌, true, false, length, map, take, slice_get, ◌*ℤ◌, ℕ, ℤ, IfOk, IfSome, MatchOption};
-ghost use Rattle.std.specs.List.{flat_map};
-ghost use Rattle.std.specs.Bool.{OnTrue};
+ghost use Rattle.std.specs.Prelude.{◌≡◌, [], ◌∷◌, true, false, map, slice_get, ◌*ℤ◌, ℕ, ℤ, IfOk, IfSome, MatchOption};
+ghost use Rattle.std.specs.List.{prefix_len};
 ghost use Rattle.std.specs.Option.{option_copied};
 ghost use Rattle.rx_plain.specs.Formed.{Forms, kept, pure};
 ghost use Rattle.rx_poly.specs.Substitution.{subst_atom, subst_mono, subst_body, numbered, replaced, times_all, updated_assignment};
@@ -9,9 +8,8 @@ ghost use Rattle.rx_poly.specs.Constants.{variable};
 ghost use Rattle.rx_poly.specs.Limits.{is_within, scaled_by};
 ghost use Rattle.rx_poly.specs.Normal.{is_poly};
 ghost use Rattle.rx_poly.specs.Products.{product_formed};
-ghost use Rattle.rx_poly.specs.Replacements.{replacements, stay};
+ghost use Rattle.rx_poly.specs.Replacements.{replacements, variable_stays, atom_stays, mono_stays, body_stays};
 ghost use Rattle.rx_poly.specs.Terms.{is_zero};
-ghost use Rattle.rx_poly.specs.Variables.{atom_variables, mono_variables, variables};
 ghost use Rattle.rx_poly.specs.Value.{value};
 ghost use Rattle.rx_poly.specs.declared.body.Atom.TheVariants.{Var};
 ghost use Rattle.rx_poly.specs.declared.body.Mono.{Mono};
@@ -85,7 +83,7 @@ fn in_place_of(alloc: Global, at: u32, with: Replacements) -> Result<Poly, Alloc
 
 /// Whether nothing is in place of the variable, or the variable itself is.
 fn variable_stays(at: u32, with: Replacements) -> bool
-    ensures { OnTrue result (replaced (replacements with.entry) at ≡ variable at) }
+    ensures { result ≡ variable_stays (replacements with.entry) at }
 {
     match replacement(at, with) {
         Some(poly) => poly.as_variable() == Some(at),
@@ -95,8 +93,9 @@ fn variable_stays(at: u32, with: Replacements) -> bool
 
 /// Whether the atom's variables stay.
 #[cycle(stays)]
+#[tactic(auto, using(crate::proofs::Staying::stays_Var, crate::proofs::Staying::stays_Div, crate::proofs::Staying::stays_Mod))]
 fn atom_stays(atom: &Atom, with: Replacements) -> bool
-    ensures { OnTrue result (stay (replacements with.entry) (atom_variables atom.now)) }
+    ensures { result ≡ atom_stays (replacements with.entry) atom.now }
 {
     match atom {
         Atom::Var(number) => variable_stays(*number, with),
@@ -108,7 +107,7 @@ fn atom_stays(atom: &Atom, with: Replacements) -> bool
 /// Whether the monomial's variables stay.
 #[cycle(stays)]
 fn mono_stays(mono: &Mono, with: Replacements) -> bool
-    ensures { OnTrue result (stay (replacements with.entry) (mono_variables mono.now)) }
+    ensures { result ≡ mono_stays (replacements with.entry) mono.now }
 {
     for atom in mono.atoms.as_slice() {
         if !atom_stays(atom, with) {
@@ -121,7 +120,7 @@ fn mono_stays(mono: &Mono, with: Replacements) -> bool
 /// Whether the sum's variables stay.
 #[cycle(stays)]
 fn body_stays(body: &Body, with: Replacements) -> bool
-    ensures { OnTrue result (stay (replacements with.entry) (variables body.now)) }
+    ensures { result ≡ body_stays (replacements with.entry) body.now }
 {
     for term in body.terms.as_slice() {
         if !mono_stays(&term.0, with) {
@@ -262,11 +261,10 @@ fn body_with(alloc: Global, body: &Body, with: Replacements) -> Result<Poly, Pol
     Ok(sum)
 }
 
-/// How many of the first terms have no variable that doesn't stay.
+/// How many terms come before the first one with a variable that doesn't stay.
 fn count_staying(terms: &[(Mono, i128)], with: Replacements) -> usize
-    ensures few { result ≤ length terms.now }
-    ensures stay { stay (replacements with.entry)
-        (flat_map (λ (t : Mono × ℤ). mono_variables t.0) (take result terms.now)) }
+    ensures { result ≡
+        prefix_len (λ (t : Mono × ℤ). mono_stays (replacements with.entry) t.0) terms.now }
 {
     let mut count = 0;
     for term in terms {

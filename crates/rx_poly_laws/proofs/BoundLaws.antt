@@ -1,7 +1,7 @@
 -- Which variables are used, and the least number above all of them.
 use Rattle.std.proofs.Common.{◌≡◌, ◌↔◌, refl, ℕ, zero, suc, ◌<◌, ◌≤◌, ◌==◌, Bool, true, false, ◌||◌, List, [], ◌∷◌, length, get_or, Contains, arith}
 use Rattle.std.specs.Prelude.{nat_lt}
-use Rattle.std.proofs.lemmas.Bool.{and_parts, and_from}
+use Rattle.std.proofs.lemmas.Bool.{and_from, and_parts, or_left, or_right}
 use Rattle.std.proofs.lemmas.Bool.Decides.{nat_tests}
 use Rattle.std.proofs.lemmas.List.Elements.{Contains-append_right}
 use Rattle.rx_poly.specs.Variables.{all_below, bound_of, is_one_of, uses, uses_below, variable_bound, variables}
@@ -25,14 +25,6 @@ below_bound n (v ∷ vs) =
 
 pub below_the_bound : (n : ℕ) (p : Body) → (uses_below n p ≡ true) ↔ (variable_bound p ≤ n)
 below_the_bound n p = below_bound n (variables p)
-
-or_right : (b c : Bool) → c ≡ true → (b || c) ≡ true
-or_right true c e = refl
-or_right false c e = e
-
-or_left : (b c : Bool) → b ≡ true → (b || c) ≡ true
-or_left true c e = refl
-or_left false c e = cc
 
 first_or_later : (x v : ℕ) (vs : List ℕ) → (is_one_of x vs ≡ true → Contains vs x) → (b : Bool) →
     (v == x) ≡ b → (b || is_one_of x vs) ≡ true → Contains (v ∷ vs) x

@@ -1,9 +1,10 @@
 -- A normal form is determined by its coefficients.
 use Rattle.std.proofs.Common.{◌≡◌, ◌∙◌, ap, subst, true, false, refl, sym, List, [], ◌∷◌, ℤ, pos}
-use Rattle.std.proofs.lemmas.Bool.{and_parts, and_from}
+use Rattle.std.proofs.lemmas.Bool.{and_from}
 use Rattle.std.specs.Ordering.{is_lt, ordering_reverse}
 use Rattle.std.specs.declared.cmp.Ordering.{Ordering}
 use Rattle.std.specs.declared.cmp.Ordering.TheVariants.{Less, Equal, Greater}
+use Rattle.rx_poly.proofs.ReadingLaws.{absent, itself}
 use Rattle.rx_poly.specs.Normal.{is_poly}
 use Rattle.rx_poly.specs.Order.{mono_cmp}
 use Rattle.rx_poly.specs.Reading.{coefficient, found}
@@ -11,26 +12,9 @@ use Rattle.rx_poly.specs.Terms.{is_zero, is_before, is_sparse_sorted}
 use Rattle.rx_poly.proofs.OrderLemmas.{mono_total}
 use Rattle.rx_poly.proofs.PolyLaws.{poly_terms}
 use Rattle.rx_poly.proofs.Same.{same_mono}
-use Rattle.rx_poly.proofs.TermLaws.{lt_is, before_trans, Listed, listed_parts}
+use Rattle.rx_poly.proofs.TermLaws.{before_trans, Listed, listed_parts}
 use Rattle.rx_poly.specs.declared.body.Mono.{Mono}
 use Rattle.rx_poly.specs.declared.body.Body.{Body, out-Body, roll-Body, roll-out-Body}
-
--- a monomial that comes before all of a sum has the coefficient 0 there
-pub absent : (k : Mono) (ts : List (Mono × ℤ)) → is_before mono_cmp k ts ≡ true → coefficient k ts ≡
-    pos 0
-absent k [] h = refl
-absent k (t ∷ ts) h =
-    let p = and_parts (is_lt (mono_cmp k t.0)) (is_before mono_cmp k ts) h in
-    ap (λ r. found r t.1 (coefficient k ts)) (lt_is (mono_cmp k t.0) p.0) ∙ absent k ts p.1
-
--- a monomial is level with itself
-pub itself : (k : Mono) → mono_cmp k k ≡ Equal
-itself k = own (mono_cmp k k) (mono_total.antisymm k k)
-  where
-    own : (r : Ordering) → r ≡ ordering_reverse r → r ≡ Equal
-    own Less e = cc
-    own Equal e = refl
-    own Greater e = cc
 
 -- the first monomial has the first coefficient
 pub first_coefficient : (t : Mono × ℤ) (ts : List (Mono × ℤ)) → coefficient t.0 (t ∷ ts) ≡ t.1

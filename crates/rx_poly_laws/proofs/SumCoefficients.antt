@@ -1,10 +1,11 @@
 -- The coefficients of a sum, a difference and a multiple of sums.
 use Rattle.std.proofs.Common.{◌≡◌, ◌∙◌, ap, subst, cond, Bool, true, false, refl, sym, List, [], ◌∷◌, ℤ, pos, ◌+ℤ◌, ◌-ℤ◌, ◌*ℤ◌, neg_ℤ, arith}
 use Rattle.std.proofs.lemmas.Int.{ints}
-use Rattle.std.proofs.lemmas.Bool.{and_parts, and_from}
+use Rattle.std.proofs.lemmas.Bool.{and_from, and_parts, false_from_ne_true}
 use Rattle.std.specs.Ordering.{is_lt, ordering_reverse}
 use Rattle.std.specs.declared.cmp.Ordering.{Ordering}
 use Rattle.std.specs.declared.cmp.Ordering.TheVariants.{Less, Equal, Greater}
+use Rattle.rx_poly.proofs.ReadingLaws.{absent, itself}
 use Rattle.rx_plain.proofs.Integers.{zero-mul-int, add-mul-int, add-zero-int, zero-add-int}
 use Rattle.rx_poly.specs.Limits.{body_sum, is_small, is_within, of_terms, scaled_by, body_difference}
 use Rattle.rx_poly.specs.Normal.{is_normal, is_poly}
@@ -15,8 +16,7 @@ use Rattle.rx_poly.proofs.Levels.{terms-of_terms}
 use Rattle.rx_poly.proofs.OrderLemmas.{mono_total}
 use Rattle.rx_poly.proofs.PolyLaws.{keys-times_number, poly_terms, within_terms, zero_poly}
 use Rattle.rx_poly.proofs.Same.{same_mono}
-use Rattle.rx_poly.proofs.TermLaws.{Listed, add-both, all_keys-insert, before_trans, listed-add, listed_from, listed_parts, put_cases, zero_is, by_false}
-use Rattle.rx_poly_laws.proofs.Coefficients.{absent, itself}
+use Rattle.rx_poly.proofs.TermLaws.{Listed, add-both, all_keys-insert, before_trans, listed-add, listed_from, listed_parts, put_cases, zero_is}
 use Rattle.rx_poly.specs.declared.body.Mono.{Mono}
 use Rattle.rx_poly.specs.declared.body.Body.{Body, out-Body}
 
@@ -145,7 +145,7 @@ before-negated k (t ∷ ts) h =
     (before-negated k ts both.1)
 
 nonzero-negated : (c : ℤ) → is_zero c ≡ false → is_zero (neg_ℤ c) ≡ false
-nonzero-negated c h = by_false (is_zero (neg_ℤ c)) (λ e.
+nonzero-negated c h = false_from_ne_true (is_zero (neg_ℤ c)) (λ e.
     let zero_neg = zero_is (neg_ℤ c) e in
     let none : c ≡ pos 0 = omega (arith, ints) in
     let wrong : is_zero c ≡ true = ap is_zero none in

@@ -1,5 +1,5 @@
 -- The terms can be merged, and what they make is the sum.
-use Rattle.std.proofs.Common.{◌∙◌, ap, subst, sym}
+use Rattle.std.proofs.Common.{◌∙◌, ap, subst}
 use Rattle.std.proofs.lemmas.Result.{err_from_is_err_and}
 use Rattle.rx_plain.specs.Formed.{Forms}
 use Rattle.rx_poly.specs.Normal.{is_poly}
