@@ -1,13 +1,14 @@
 -- What is in order reads slots in scope and calls functions that are there, and a statement leaves
 -- the slots that it found, but for the one that it declares.
-use Rattle.std.proofs.Common.{◌≡◌, ◌∙◌, ap, refl, sym, subst, ℕ, zero, suc, ◌+◌, ◌≤◌, ◌<◌, Bool, true, false, ◌&&◌, Option, Some, None, List, [], ◌∷◌, ◌++◌, length, map, arith}
+use Rattle.std.proofs.Common.{◌≡◌, refl, sym, subst, ℕ, ◌+◌, ◌≤◌, ◌<◌, Bool, true, false, ◌&&◌, Option, Some, None, List, [], ◌∷◌, ◌++◌, length, map, arith}
 use Rattle.std.specs.Prelude.{nat_eq, nat_lt, slice_get}
 use Rattle.std.specs.List.{All, concat, list_all}
 use Rattle.std.specs.Option.{is_some, option_and_then}
-use Rattle.std.proofs.lemmas.Bool.{ltb-true}
+use Rattle.std.proofs.lemmas.Bool.{and_parts, ltb-true}
 use Rattle.std.proofs.lemmas.List.{length-map}
 use Rattle.std.proofs.lemmas.List.Elements.{All-append, All-cons, All-nil}
 use Rattle.std.proofs.lemmas.Option.{none-some, same_Some, slice_get_within}
+use Rattle.rx_plain.proofs.Lists.{all_at}
 use Rattle.c_ast.specs.Calls.{calls, calls_level, calls_in, calls_in_level}
 use Rattle.c_ast.specs.Variables.{list_of_option, variables, variables_level}
 use Rattle.c_ast.specs.Scoped.{passes_if_there, takes, SlotStep, slots_in_order, is_fine, is_fine_turn, only_if, is_scoped_level, is_scoped_expr, slots_level, slots_after, is_scoped_function, parameter_counts, is_scoped}
@@ -21,11 +22,6 @@ use Rattle.c_ast.specs.declared.stmt.Stmt.TheFolds.{map-Stmt, fold_out-Stmt, fol
 use Rattle.c_ast.specs.declared.stmt.Stmt.TheViews.{out-Stmt, roll-Stmt}
 use Rattle.c_ast.specs.declared.program.Function.{Function}
 use Rattle.c_ast.specs.declared.program.Resolved.{Resolved}
-
--- where both pass, each does
-pub both_pass : (a b : Bool) → (a && b) ≡ true → (a ≡ true) × (b ≡ true)
-both_pass true b is = (refl, is)
-both_pass false b is = absurd (let no : ⊥ = cc in no)
 
 -- what leaves slots was in order, and leaves these
 pub only_if_is : (fine : Bool) (n m : ℕ) → only_if fine n ≡ Some m → (fine ≡ true) × (n ≡ m)
@@ -96,14 +92,14 @@ module _ (counts : List ℕ) where
     binary_named : (a b : Bool) (us vs fs gs : List ℕ) → Names a us fs → Names b vs gs →
         Names (a && b) (us ++ vs) (fs ++ gs)
     binary_named a b us vs fs gs left right is =
-        let h = both_pass a b is in both_named us vs fs gs (left h.0) (right h.1)
+        let h = and_parts a b is in both_named us vs fs gs (left h.0) (right h.1)
 
     choose_named : (c a b : Bool) (ts us vs es fs gs : List ℕ) → Names c ts es → Names a us fs →
         Names b vs gs
         → Names (c && (a && b)) (ts ++ us ++ vs) (es ++ fs ++ gs)
     choose_named c a b ts us vs es fs gs test left right is =
-        let h = both_pass c (a && b) is in
-        let k = both_pass a b h.1 in
+        let h = and_parts c (a && b) is in
+        let k = and_parts a b h.1 in
         both_named (ts ++ us) vs (es ++ fs) gs (both_named ts us es fs (test h.0) (left k.0))
         (right k.1)
 
@@ -120,7 +116,7 @@ module _ (counts : List ℕ) where
         (concat (map variables (trees ps))) (concat (map calls (trees ps)))
     arguments_named [] is = no_names
     arguments_named (p ∷ ps) is =
-        let h = both_pass (fine p.0) (list_all (λ a. a) (map fine (trees ps))) is in
+        let h = and_parts (fine p.0) (list_all (λ a. a) (map fine (trees ps))) is in
         both_named (variables p.0) (concat (map variables (trees ps))) (calls p.0)
         (concat (map calls (trees ps))) (p.1 h.0) (arguments_named ps h.1)
 
@@ -129,7 +125,7 @@ module _ (counts : List ℕ) where
         list_all (λ a. a) (map fine (trees ps)))
         (concat (map variables (trees ps))) (f ∷ concat (map calls (trees ps)))
     call_named f ps is =
-        let h = both_pass (takes (slice_get counts f) (length (map fine (trees ps))))
+        let h = and_parts (takes (slice_get counts f) (length (map fine (trees ps))))
         (list_all (λ a. a) (map fine (trees ps))) is in
         let arguments = arguments_named ps h.1 in
         let here = taken_within counts f (length (map fine (trees ps))) (slice_get counts f) refl
@@ -277,36 +273,36 @@ module _ (counts : List ℕ) where
   declare_called : (slot : ℕ) (value : Option Expr) →
       Calls (slots_level counts (Stmt-F.Declare slot value)) (list_of_option calls value)
   declare_called slot value n m is =
-      let h = both_pass (nat_eq slot n) (passes_if_there (is_scoped_expr counts n) value)
+      let h = and_parts (nat_eq slot n) (passes_if_there (is_scoped_expr counts n) value)
       (only_if_is _ (n + 1) m is).0 in
       optional_there n value h.1
 
   assign_called : (slot : ℕ) (value : Expr) →
       Calls (slots_level counts (Stmt-F.Assign slot value)) (calls value)
   assign_called slot value n m is =
-      let h = both_pass (nat_lt slot n) (is_scoped_expr counts n value) (only_if_is _ n m is).0 in
+      let h = and_parts (nat_lt slot n) (is_scoped_expr counts n value) (only_if_is _ n m is).0 in
       calls_there n value h.1
 
   if_called : (test : Expr) (t : SlotStep) (o : Option SlotStep) (fs gs : List ℕ) → Calls t fs →
       CallsPart o gs
       → Calls (slots_level counts (Stmt-F.If test t o)) (calls test ++ fs ++ gs)
   if_called test t o fs gs there others n m is =
-      let h = both_pass (is_scoped_expr counts n test)
+      let h = and_parts (is_scoped_expr counts n test)
       (is_fine t n && passes_if_there (λ u. is_fine u n) o) (only_if_is _ n m is).0 in
-      let k = both_pass (is_fine t n) (passes_if_there (λ u. is_fine u n) o) h.1 in
+      let k = and_parts (is_fine t n) (passes_if_there (λ u. is_fine u n) o) h.1 in
       both_there (calls test ++ fs) gs (both_there (calls test) fs (calls_there n test h.0)
       (inner_there t fs there n k.0)) (others n k.1)
 
   while_called : (test : Expr) (t : SlotStep) (fs : List ℕ) → Calls t fs →
       Calls (slots_level counts (Stmt-F.While test t)) (calls test ++ fs)
   while_called test t fs there n m is =
-      let h = both_pass (is_scoped_expr counts n test) (is_fine t n) (only_if_is _ n m is).0 in
+      let h = and_parts (is_scoped_expr counts n test) (is_fine t n) (only_if_is _ n m is).0 in
       both_there (calls test) fs (calls_there n test h.0) (inner_there t fs there n h.1)
 
   do_called : (t : SlotStep) (test : Expr) (fs : List ℕ) → Calls t fs →
       Calls (slots_level counts (Stmt-F.DoWhile t test)) (fs ++ calls test)
   do_called t test fs there n m is =
-      let h = both_pass (is_fine t n) (is_scoped_expr counts n test) (only_if_is _ n m is).0 in
+      let h = and_parts (is_fine t n) (is_scoped_expr counts n test) (only_if_is _ n m is).0 in
       both_there fs (calls test) (inner_there t fs there n h.0) (calls_there n test h.1)
 
   for_called : (first : List SlotStep) (test : Option Expr) (change : Option SlotStep)
@@ -317,9 +313,9 @@ module _ (counts : List ℕ) where
   for_called first test change t es fs gs before step_there there n m is =
       let h = then_is (λ i. only_if (is_fine_turn counts test change t i) n)
       (slots_in_order first n) m is in
-      let k = both_pass (passes_if_there (is_scoped_expr counts h.0) test)
+      let k = and_parts (passes_if_there (is_scoped_expr counts h.0) test)
       (passes_if_there (λ u. is_fine u h.0) change && is_fine t h.0) (only_if_is _ n m h.2).0 in
-      let l = both_pass (passes_if_there (λ u. is_fine u h.0) change) (is_fine t h.0) k.1 in
+      let l = and_parts (passes_if_there (λ u. is_fine u h.0) change) (is_fine t h.0) k.1 in
       let tested = both_there es (list_of_option calls test) (before n h.0 h.1)
       (optional_there h.0 test k.0) in
       let changed = both_there (es ++ list_of_option calls test) fs tested (step_there h.0 l.0) in
@@ -406,21 +402,12 @@ module _ (counts : List ℕ) where
       more_called (after t) (map after ts) (calls_in t) (concat (map calls_in ts))
       (calls_in_there t) (list_calls_there ts)
 
--- each function of a list that passes a test does
-all_pass : {A : Type 0} (test : A → Bool) (xs : List A) (i : ℕ) (x : A) → list_all test xs ≡ true →
-    slice_get xs i ≡ Some x → test x ≡ true
-all_pass test [] i x is there = absurd (none-some x there)
-all_pass test (y ∷ ys) zero x is there =
-    ap test (sym (same_Some y x there)) ∙ (both_pass (test y) (list_all test ys) is).0
-all_pass test (y ∷ ys) (suc i) x is there =
-    all_pass test ys i x (both_pass (test y) (list_all test ys) is).1 there
-
 module _ (program : Resolved) (is : is_scoped program ≡ true) (place : ℕ) (f : Function)
     (there : slice_get program.functions place ≡ Some f) where
   -- each function of a program in order is in order
   pub function_in_order : is_scoped_function (parameter_counts program.functions) f ≡ true
   function_in_order =
-      all_pass (is_scoped_function (parameter_counts program.functions)) program.functions place f
+      all_at (is_scoped_function (parameter_counts program.functions)) program.functions place f
       is there
 
   -- and calls functions of the program

@@ -4,6 +4,7 @@ use Rattle.std.proofs.Common.{◌≡◌, ◌∙◌, ap, refl, sym, subst, ℕ, B
 use Rattle.std.specs.Prelude.{nat_lt}
 use Rattle.std.specs.List.{list_all}
 use Rattle.std.proofs.lemmas.List.Folds.{list_all-append}
+use Rattle.rx_plain.proofs.Booleans.{and_exchange}
 use Rattle.c_ast.specs.Forms as over_parameters
 use Rattle.c_ast.specs.Forms.{is_sign, is_sum_or_product}
 use Rattle.c_ast.specs.RowForms.{Forms, forms_level, forms, is_straight}
@@ -35,13 +36,7 @@ module _ (count : ℕ) where
       (sum && (a && b)) ≡ ((sum && (left && right)) && (us && vs))
   binary_says false a b left right us vs is_a is_b = refl
   binary_says true a b left right us vs is_a is_b =
-      (λ i. is_a i && is_b i) ∙ regrouped left us right vs
-    where
-      regrouped : (l u r v : Bool) → ((l && u) && (r && v)) ≡ ((l && r) && (u && v))
-      regrouped false u r v = refl
-      regrouped true true r v = refl
-      regrouped true false true v = refl
-      regrouped true false false v = refl
+      (λ i. is_a i && is_b i) ∙ and_exchange left us right vs
 
   abbrev whole : Expr → Bool
   whole = over_parameters.is_straight count

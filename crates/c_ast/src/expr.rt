@@ -3,7 +3,8 @@ ghost use Rattle.std.specs.Prelude.{◌≡◌, ◌<◌, ◌^◌, ◌++◌, IfOk,
 ghost use Rattle.c_ast.specs.Calls.{calls};
 ghost use Rattle.c_ast.specs.Height.{expr_height};
 
-use rx_plain::{Boxed, Items, NoMemory};
+use crate::parts::{extended, in_box};
+use rx_plain::{Boxed, Items, NoMemory, both};
 use std::alloc::Global;
 
 /// An operator of one operand.
@@ -130,17 +131,16 @@ impl Expr {
             Expr::Lit(n) => Ok(Expr::Lit(*n)),
             Expr::Var(v) => Ok(Expr::Var(*v)),
             Expr::Unary(op, a) => Ok(Expr::Unary(*op, copy(alloc, a)?)),
-            Expr::Binary(op, a, b) => Ok(Expr::Binary(*op, copy(alloc, a)?, copy(alloc, b)?)),
+            Expr::Binary(op, a, b) => {
+                let (a, b) = both(copy(alloc, a)?, copy(alloc, b))?;
+                Ok(Expr::Binary(*op, a, b))
+            }
             Expr::Choose(c, a, b) => {
-                Ok(Expr::Choose(copy(alloc, c)?, copy(alloc, a)?, copy(alloc, b)?))
+                let parts = both(copy(alloc, c)?, copy(alloc, a))?;
+                let ((c, a), b) = both(parts, copy(alloc, b))?;
+                Ok(Expr::Choose(c, a, b))
             }
-            Expr::Apply(name, arguments) => {
-                let mut copies = Items::new(alloc);
-                for argument in arguments.as_slice() {
-                    copies.push(argument.try_clone(alloc)?)?;
-                }
-                Ok(Expr::Apply(*name, copies))
-            }
+            Expr::Apply(name, arguments) => Ok(Expr::Apply(*name, copy_all(alloc, arguments)?)),
         }
     }
 }
@@ -150,6 +150,17 @@ impl Expr {
 fn copy(alloc: Global, e: &Boxed<Expr>) -> Result<Boxed<Expr>, NoMemory>
     ensures { IfOk result (λ copied. copied ≡ e.now) }
 {
-    let inner = e.get().try_clone(alloc)?;
-    Ok(Boxed::new(alloc, inner)?)
+    in_box(alloc, e.get().try_clone(alloc))
+}
+
+// A copy of each expression, in order.
+#[cycle(clones)]
+fn copy_all(alloc: Global, expressions: &Items<Expr>) -> Result<Items<Expr>, NoMemory>
+    ensures { IfOk result (λ copied. copied ≡ expressions.now) }
+{
+    let mut copies = Items::new(alloc);
+    for expression in expressions.as_slice() {
+        copies = extended(copies, expression.try_clone(alloc))?;
+    }
+    Ok(copies)
 }

@@ -10,6 +10,7 @@
 mod expr;
 mod forms;
 pub mod laws;
+mod parts;
 mod program;
 mod stmt;
 

@@ -3,6 +3,7 @@ ghost use Rattle.std.specs.Prelude.{◌≡◌, ◌++◌, IfOk, OnOk};
 ghost use Rattle.std.specs.List.{flat_map};
 ghost use Rattle.c_ast.specs.Calls.{calls_in};
 
+use crate::parts::extended;
 use crate::stmt::{Stmt, copy_all, push_calls_of_all};
 use rx_plain::{Items, NoMemory};
 use std::alloc::Global;
@@ -98,7 +99,7 @@ fn copy_functions(alloc: Global, functions: &Items<Function>) -> Result<Items<Fu
 {
     let mut copies = Items::new(alloc);
     for function in functions.as_slice() {
-        copies.push(function.try_clone(alloc)?)?;
+        copies = extended(copies, function.try_clone(alloc))?;
     }
     Ok(copies)
 }

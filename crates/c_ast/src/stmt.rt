@@ -2,11 +2,13 @@
 ghost use Rattle.std.specs.Prelude.{◌≡◌, ◌<◌, ◌^◌, ◌++◌, IfOk, OnOk, map};
 ghost use Rattle.std.specs.List.{concat};
 ghost use Rattle.c_ast.specs.Calls.{calls, calls_in};
+ghost use Rattle.c_ast.specs.declared.stmt.Stmt.TheVariants.{For, If};
 ghost use Rattle.c_ast.specs.Variables.{list_of_option};
 ghost use Rattle.c_ast.specs.Height.{stmt_height, expr_height, of_option, greatest};
 
 use crate::expr::{Expr, expr_height};
-use rx_plain::{Boxed, Items, NoMemory};
+use crate::parts::{extended, in_box};
+use rx_plain::{Boxed, Items, NoMemory, both};
 use std::alloc::Global;
 
 /// A statement, or a declaration of one name.
@@ -178,21 +180,18 @@ impl Stmt {
             Stmt::Empty => Ok(Stmt::Empty),
             Stmt::Declare(name, value) => Ok(Stmt::Declare(*name, copy_option(alloc, value)?)),
             Stmt::Assign(name, value) => Ok(Stmt::Assign(*name, value.try_clone(alloc)?)),
-            Stmt::If(test, then, other) => Ok(Stmt::If(
-                test.try_clone(alloc)?,
-                copy(alloc, then)?,
-                copy_other(alloc, other)?,
-            )),
-            Stmt::While(test, body) => Ok(Stmt::While(test.try_clone(alloc)?, copy(alloc, body)?)),
-            Stmt::DoWhile(body, test) => {
-                Ok(Stmt::DoWhile(copy(alloc, body)?, test.try_clone(alloc)?))
+            Stmt::If(test, then, other) => copy_branch(alloc, self, test, then, other),
+            Stmt::While(test, body) => {
+                let (test, body) = copy_guarded(alloc, body, test)?;
+                Ok(Stmt::While(test, body))
             }
-            Stmt::For(first, test, change, body) => Ok(Stmt::For(
-                copy_all(alloc, first)?,
-                copy_option(alloc, test)?,
-                copy_other(alloc, change)?,
-                copy(alloc, body)?,
-            )),
+            Stmt::DoWhile(body, test) => {
+                let (test, body) = copy_guarded(alloc, body, test)?;
+                Ok(Stmt::DoWhile(body, test))
+            }
+            Stmt::For(first, test, change, body) => {
+                copy_for(alloc, self, first, test, change, body)
+            }
             Stmt::Break(token) => Ok(Stmt::Break(*token)),
             Stmt::Continue(token) => Ok(Stmt::Continue(*token)),
             Stmt::Return(value) => Ok(Stmt::Return(value.try_clone(alloc)?)),
@@ -201,13 +200,62 @@ impl Stmt {
     }
 }
 
+// A copy of an `if`. The whole statement is there for its height, by which the recursion ends; so
+// it is in `copy_for`.
+#[cycle(clones)]
+fn copy_branch(
+    alloc: Global,
+    whole: &Stmt,
+    test: &Expr,
+    then: &Boxed<Stmt>,
+    other: &Option<Boxed<Stmt>>,
+) -> Result<Stmt, NoMemory>
+    requires parts { whole.now ≡ If test.now then.now other.now }
+    ensures { IfOk result (λ s. s ≡ whole.now) }
+{
+    let parts = copy_guarded(alloc, then, test)?;
+    let ((test, then), other) = both(parts, copy_other(alloc, other))?;
+    Ok(Stmt::If(test, then, other))
+}
+
+// A copy of a `for`.
+#[cycle(clones)]
+fn copy_for(
+    alloc: Global,
+    whole: &Stmt,
+    first: &Items<Stmt>,
+    test: &Option<Expr>,
+    change: &Option<Boxed<Stmt>>,
+    body: &Boxed<Stmt>,
+) -> Result<Stmt, NoMemory>
+    requires parts { whole.now ≡ For first.now test.now change.now body.now }
+    ensures { IfOk result (λ s. s ≡ whole.now) }
+{
+    let parts = both(copy_all(alloc, first)?, copy_option(alloc, test))?;
+    let parts = both(parts, copy_other(alloc, change))?;
+    let (((first, test), change), body) = both(parts, copy(alloc, body))?;
+    Ok(Stmt::For(first, test, change, body))
+}
+
+// A copy of a test and of the statement under it.
+#[cycle(clones)]
+fn copy_guarded(
+    alloc: Global,
+    body: &Boxed<Stmt>,
+    test: &Expr,
+) -> Result<(Expr, Boxed<Stmt>), NoMemory>
+    ensures test { IfOk result (λ copied. copied.0 ≡ test.now) }
+    ensures body { IfOk result (λ copied. copied.1 ≡ body.now) }
+{
+    both(test.try_clone(alloc)?, copy(alloc, body))
+}
+
 // A copy of what the box holds, in a box of its own.
 #[cycle(clones)]
 fn copy(alloc: Global, s: &Boxed<Stmt>) -> Result<Boxed<Stmt>, NoMemory>
     ensures { IfOk result (λ copied. copied ≡ s.now) }
 {
-    let inner = s.get().try_clone(alloc)?;
-    Ok(Boxed::new(alloc, inner)?)
+    in_box(alloc, s.get().try_clone(alloc))
 }
 
 // A copy of the part that may be left out.
@@ -217,10 +265,7 @@ fn copy_other(alloc: Global, s: &Option<Boxed<Stmt>>) -> Result<Option<Boxed<Stm
 {
     match s {
         None => Ok(None),
-        Some(s) => {
-            let inner = s.get().try_clone(alloc)?;
-            Ok(Some(Boxed::new(alloc, inner)?))
-        }
+        Some(s) => Ok(Some(in_box(alloc, s.get().try_clone(alloc))?)),
     }
 }
 
@@ -231,7 +276,7 @@ pub fn copy_all(alloc: Global, statements: &Items<Stmt>) -> Result<Items<Stmt>, 
 {
     let mut copies = Items::new(alloc);
     for statement in statements.as_slice() {
-        copies.push(statement.try_clone(alloc)?)?;
+        copies = extended(copies, statement.try_clone(alloc))?;
     }
     Ok(copies)
 }

@@ -19,7 +19,7 @@ use Rattle.c_scope.specs.declared.error.ScopeEnd.{ScopeEnd}
 abbrev pub counted : Option Function → Option ℕ
 counted = option_map (λ (f : Function). length f.params)
 
-numbered_length : {A : Type 0} (slot : ℕ) (xs : List A) → length (slots_from slot xs) ≡ length xs
+pub numbered_length : {A : Type 0} (slot : ℕ) (xs : List A) → length (slots_from slot xs) ≡ length xs
 numbered_length slot [] = refl
 numbered_length slot (x ∷ xs) = ap suc (numbered_length (slot + 1) xs)
 

@@ -11,7 +11,7 @@ use crate::error::ScopeEnd;
 use crate::slots::Scope;
 use c_ast::{Expr, Function};
 use c_names::{name_at, slot_of};
-use rx_plain::{Boxed, Items};
+use rx_plain::{Boxed, Items, both};
 use std::alloc::Global;
 
 /// The slot of a variable.
@@ -36,7 +36,7 @@ pub fn count_at(functions: &[Function], place: u32) -> usize
 }
 
 // The place of the function that is called with n arguments.
-fn called(
+fn resolve_callee(
     definitions: &Definitions,
     scope: &Scope,
     token: u32,
@@ -77,18 +77,19 @@ pub fn resolve_expr(
         Expr::Lit(n) => Ok(Expr::Lit(*n)),
         Expr::Var(token) => Ok(Expr::Var(slot_at(definitions.names, scope, *token)?)),
         Expr::Unary(op, a) => Ok(Expr::Unary(*op, resolve_boxed(alloc, definitions, scope, a)?)),
-        Expr::Binary(op, a, b) => Ok(Expr::Binary(
-            *op,
-            resolve_boxed(alloc, definitions, scope, a)?,
-            resolve_boxed(alloc, definitions, scope, b)?,
-        )),
-        Expr::Choose(c, a, b) => Ok(Expr::Choose(
-            resolve_boxed(alloc, definitions, scope, c)?,
-            resolve_boxed(alloc, definitions, scope, a)?,
-            resolve_boxed(alloc, definitions, scope, b)?,
-        )),
+        Expr::Binary(op, a, b) => {
+            let a = resolve_boxed(alloc, definitions, scope, a)?;
+            let (a, b) = both(a, resolve_boxed(alloc, definitions, scope, b))?;
+            Ok(Expr::Binary(*op, a, b))
+        }
+        Expr::Choose(c, a, b) => {
+            let c = resolve_boxed(alloc, definitions, scope, c)?;
+            let parts = both(c, resolve_boxed(alloc, definitions, scope, a))?;
+            let ((c, a), b) = both(parts, resolve_boxed(alloc, definitions, scope, b))?;
+            Ok(Expr::Choose(c, a, b))
+        }
         Expr::Apply(token, arguments) => {
-            let place = called(definitions, scope, *token, arguments)?;
+            let place = resolve_callee(definitions, scope, *token, arguments)?;
             let resolved = resolve_arguments(alloc, definitions, scope, arguments)?;
             Ok(Expr::Apply(place, resolved))
         }

@@ -9,7 +9,7 @@ use crate::error::ScopeEnd;
 use c_ast::{Expr, Function};
 use c_lex::Token;
 use c_names::{find_spelling, spelling_at};
-use rx_plain::Boxed;
+use rx_plain::{Boxed, both};
 use std::alloc::Global;
 
 /// A precondition of a function, with the slots of the parameters for their names, or `UnknownName`
@@ -83,16 +83,17 @@ fn resolve_part(alloc: Global, names: &Params, e: &Expr) -> Result<Expr, ScopeEn
         Expr::Lit(n) => Ok(Expr::Lit(*n)),
         Expr::Var(token) => Ok(Expr::Var(slot_at(names, *token)?)),
         Expr::Unary(op, a) => Ok(Expr::Unary(*op, resolve_boxed(alloc, names, a)?)),
-        Expr::Binary(op, a, b) => Ok(Expr::Binary(
-            *op,
-            resolve_boxed(alloc, names, a)?,
-            resolve_boxed(alloc, names, b)?,
-        )),
-        Expr::Choose(c, a, b) => Ok(Expr::Choose(
-            resolve_boxed(alloc, names, c)?,
-            resolve_boxed(alloc, names, a)?,
-            resolve_boxed(alloc, names, b)?,
-        )),
+        Expr::Binary(op, a, b) => {
+            let a = resolve_boxed(alloc, names, a)?;
+            let (a, b) = both(a, resolve_boxed(alloc, names, b))?;
+            Ok(Expr::Binary(*op, a, b))
+        }
+        Expr::Choose(c, a, b) => {
+            let c = resolve_boxed(alloc, names, c)?;
+            let parts = both(c, resolve_boxed(alloc, names, a))?;
+            let ((c, a), b) = both(parts, resolve_boxed(alloc, names, b))?;
+            Ok(Expr::Choose(c, a, b))
+        }
         Expr::Apply(token, _) => Err(ScopeEnd::UnknownName { token: *token }),
     }
 }

@@ -48,7 +48,7 @@ impl Scope {
     }
 
     /// A scope that begins inside this one; fails only when out of memory.
-    pub fn opened(&self, alloc: Global) -> Result<Scope, NoMemory>
+    pub fn inner_scope(&self, alloc: Global) -> Result<Scope, NoMemory>
         ensures { IfOk result (λ s. model_of s ≡ spec.inner_scope (model_of self.now)) }
     {
         Ok(Scope {

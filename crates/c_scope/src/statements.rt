@@ -1,6 +1,6 @@
 //! The names of statements, in the order of the text.
 ghost use Rattle.std.specs.Prelude.{◌≡◌, Bool, true, if◌then◌else◌, map, option_map};
-ghost use Rattle.std.specs.Prelude.{Err, Ok, IfErr, IfOk};
+ghost use Rattle.std.specs.Prelude.{Err, Ok};
 ghost use Rattle.c_ast.specs.declared.stmt.Stmt.TheVariants.{If, While, DoWhile, For};
 ghost use Rattle.c_scope.specs.Statements as spec;
 ghost use Rattle.c_scope.specs.Statements.{GivesScoped, resolved_stmt};
@@ -14,7 +14,7 @@ use crate::error::ScopeEnd;
 use crate::expressions::{resolve_expr, slot_at};
 use crate::slots::Scope;
 use c_ast::{Expr, Stmt};
-use rx_plain::{Boxed, Items};
+use rx_plain::{Boxed, Items, both};
 use std::alloc::Global;
 
 // An expression that may be left out.
@@ -78,19 +78,6 @@ fn jump(in_loop: bool, token: u32) -> Result<u32, ScopeEnd>
     }
 }
 
-// Both parts, where there is the second. It knows nothing of what they are, so that no more than a
-// value has to be let go of where the second has a fault.
-fn both<A: Drop, B>(first: A, second: Result<B, ScopeEnd>) -> Result<(A, B), ScopeEnd>
-    ensures first { IfOk result (λ parts. parts.0 ≡ first) }
-    ensures second { IfOk result (λ parts. second ≡ Ok parts.1) }
-    ensures fault { IfErr result (λ fault. second ≡ Err fault) }
-{
-    match second {
-        Ok(second) => Ok((first, second)),
-        Err(fault) => Err(fault),
-    }
-}
-
 /// A statement with its names resolved, or its first fault. What it declares is in scope after it.
 #[cycle(statements)]
 pub fn resolve_stmt(
@@ -109,12 +96,12 @@ pub fn resolve_stmt(
         Stmt::Declare(token, value) => declare(alloc, definitions, scope, *token, value),
         Stmt::Assign(token, value) => assign(alloc, definitions, scope, *token, value),
         Stmt::If(test, inner, other) => {
-            branch(alloc, definitions, scope, in_loop, s, test, inner, other)
+            if_statement(alloc, definitions, scope, in_loop, test, inner, other)
         }
-        Stmt::While(test, inner) => while_loop(alloc, definitions, scope, s, test, inner),
-        Stmt::DoWhile(inner, test) => do_loop(alloc, definitions, scope, s, inner, test),
+        Stmt::While(test, inner) => while_loop(alloc, definitions, scope, test, inner),
+        Stmt::DoWhile(inner, test) => do_loop(alloc, definitions, scope, inner, test),
         Stmt::For(first, test, change, inner) => {
-            for_loop(alloc, definitions, scope, s, first, test, change, inner)
+            for_loop(alloc, definitions, scope, first, test, change, inner)
         }
         Stmt::Break(token) => Ok(Stmt::Break(jump(in_loop, *token)?)),
         Stmt::Continue(token) => Ok(Stmt::Continue(jump(in_loop, *token)?)),
@@ -123,27 +110,25 @@ pub fn resolve_stmt(
     }
 }
 
-// An `if`. The whole statement is there for its height, by which the recursion ends; so it is in
-// the loops below.
+// An `if`.
 #[cycle(statements)]
-fn branch(
+fn if_statement(
     alloc: Global,
     definitions: &Definitions,
     scope: &Scope,
     in_loop: bool,
-    whole: &Stmt,
     test: &Expr,
     inner: &Boxed<Stmt>,
     other: &Option<Boxed<Stmt>>,
 ) -> Result<Stmt, ScopeEnd>
-    requires parts { whole.now ≡ If test.now inner.now other.now }
     ensures { GivesScoped result (model_of scope.now)
-        (resolved_stmt definitions.now.names.now definitions.now.functions.now whole.now
-        (model_of scope.now) in_loop) }
+        (resolved_stmt definitions.now.names.now definitions.now.functions.now
+        (If test.now inner.now other.now) (model_of scope.now) in_loop) }
 {
     let test = resolve_expr(alloc, definitions, scope, test)?;
-    let parts = both(test, inside(alloc, definitions, scope, in_loop, inner))?;
-    let other = inside_optional(alloc, definitions, scope, in_loop, other);
+    let inner = resolve_substatement(alloc, definitions, scope, in_loop, inner);
+    let parts = both(test, inner)?;
+    let other = resolve_optional_substatement(alloc, definitions, scope, in_loop, other);
     let ((test, inner), other) = both(parts, other)?;
     Ok(Stmt::If(test, inner, other))
 }
@@ -154,17 +139,16 @@ fn while_loop(
     alloc: Global,
     definitions: &Definitions,
     scope: &Scope,
-    whole: &Stmt,
     test: &Expr,
     inner: &Boxed<Stmt>,
 ) -> Result<Stmt, ScopeEnd>
-    requires parts { whole.now ≡ While test.now inner.now }
     ensures { (in_loop : Bool) → GivesScoped result (model_of scope.now)
-        (resolved_stmt definitions.now.names.now definitions.now.functions.now whole.now
-        (model_of scope.now) in_loop) }
+        (resolved_stmt definitions.now.names.now definitions.now.functions.now
+        (While test.now inner.now) (model_of scope.now) in_loop) }
 {
     let test = resolve_expr(alloc, definitions, scope, test)?;
-    let (test, inner) = both(test, inside(alloc, definitions, scope, true, inner))?;
+    let inner = resolve_substatement(alloc, definitions, scope, true, inner);
+    let (test, inner) = both(test, inner)?;
     Ok(Stmt::While(test, inner))
 }
 
@@ -174,16 +158,14 @@ fn do_loop(
     alloc: Global,
     definitions: &Definitions,
     scope: &Scope,
-    whole: &Stmt,
     inner: &Boxed<Stmt>,
     test: &Expr,
 ) -> Result<Stmt, ScopeEnd>
-    requires parts { whole.now ≡ DoWhile inner.now test.now }
     ensures { (in_loop : Bool) → GivesScoped result (model_of scope.now)
-        (resolved_stmt definitions.now.names.now definitions.now.functions.now whole.now
-        (model_of scope.now) in_loop) }
+        (resolved_stmt definitions.now.names.now definitions.now.functions.now
+        (DoWhile inner.now test.now) (model_of scope.now) in_loop) }
 {
-    let inner = inside(alloc, definitions, scope, true, inner)?;
+    let inner = resolve_substatement(alloc, definitions, scope, true, inner)?;
     let (inner, test) = both(inner, resolve_expr(alloc, definitions, scope, test))?;
     Ok(Stmt::DoWhile(inner, test))
 }
@@ -194,24 +176,20 @@ fn for_loop(
     alloc: Global,
     definitions: &Definitions,
     scope: &Scope,
-    whole: &Stmt,
     first: &Items<Stmt>,
     test: &Option<Expr>,
     change: &Option<Boxed<Stmt>>,
     inner: &Boxed<Stmt>,
 ) -> Result<Stmt, ScopeEnd>
-    requires parts { whole.now ≡ For first.now test.now change.now inner.now }
     ensures { (in_loop : Bool) → GivesScoped result (model_of scope.now)
-        (resolved_stmt definitions.now.names.now definitions.now.functions.now whole.now
-        (model_of scope.now) in_loop) }
+        (resolved_stmt definitions.now.names.now definitions.now.functions.now
+        (For first.now test.now change.now inner.now) (model_of scope.now) in_loop) }
 {
-    let mut begun = scope.opened(alloc)?;
+    let mut begun = scope.inner_scope(alloc)?;
     let first = in_order(alloc, definitions, &mut begun, false, first)?;
     let parts = both(first, resolve_optional(alloc, definitions, &begun, test))?;
-    let parts = both(
-        parts,
-        inside_optional(alloc, definitions, &begun, false, change),
-    )?;
+    let change = resolve_optional_substatement(alloc, definitions, &begun, false, change);
+    let parts = both(parts, change)?;
     let inner = body_of_for(alloc, definitions, &begun, inner);
     let (((first, test), change), inner) = both(parts, inner)?;
     Ok(Stmt::For(first, test, change, inner))
@@ -219,7 +197,7 @@ fn for_loop(
 
 // A part of a statement: what it declares is gone after it.
 #[cycle(statements)]
-fn inside(
+fn resolve_substatement(
     alloc: Global,
     definitions: &Definitions,
     scope: &Scope,
@@ -236,7 +214,7 @@ fn inside(
 
 // Such a part that may be left out.
 #[cycle(statements)]
-fn inside_optional(
+fn resolve_optional_substatement(
     alloc: Global,
     definitions: &Definitions,
     scope: &Scope,
@@ -268,8 +246,8 @@ fn body_of_for(
     ensures { Gives result (spec.nested (resolved_stmt definitions.now.names.now
         definitions.now.functions.now body.now) (inner_scope (model_of begun.now)) true) }
 {
-    let within = begun.opened(alloc)?;
-    inside(alloc, definitions, &within, true, body)
+    let within = begun.inner_scope(alloc)?;
+    resolve_substatement(alloc, definitions, &within, true, body)
 }
 
 // The statements of a block, in a scope of their own.
@@ -285,7 +263,7 @@ fn in_block(
         definitions.now.functions.now) statements.now) (inner_scope (model_of scope.now)) in_loop)
         (λ block. Ok block.tree)) }
 {
-    let mut within = scope.opened(alloc)?;
+    let mut within = scope.inner_scope(alloc)?;
     in_order(alloc, definitions, &mut within, in_loop, statements)
 }
 

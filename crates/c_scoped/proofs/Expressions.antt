@@ -1,10 +1,11 @@
 -- A resolved expression that reads no variable unset reads slots in scope alone, and calls
 -- functions with as many arguments as they have parameters.
-use Rattle.std.proofs.Common.{◌≡◌, ◌∙◌, ap, refl, sym, subst, ℕ, zero, suc, ◌<◌, ℤ, Bool, true, false, if◌then◌else◌, Option, Some, None, List, [], ◌∷◌, ◌++◌, length, map, Ok, Err, arith}
+use Rattle.std.proofs.Common.{◌≡◌, ◌∙◌, ap, refl, sym, subst, ℕ, suc, ◌<◌, ℤ, Bool, true, false, if◌then◌else◌, Option, Some, None, List, [], ◌∷◌, ◌++◌, length, map, Ok, Err}
 use Rattle.std.specs.Prelude.{nat_eq, slice_get}
 use Rattle.std.specs.List.{concat, list_all}
-use Rattle.std.proofs.lemmas.Bool.{lt-ltb, eqb-true, eq-eqb}
+use Rattle.std.proofs.lemmas.Bool.{and_from, eq-eqb, eqb-true, lt-ltb}
 use Rattle.std.proofs.lemmas.Option.{none-some}
+use Rattle.rx_plain.proofs.Lists.{element_within}
 use Rattle.c_ast.specs.Scoped.{takes, is_scoped_expr}
 use Rattle.c_ast.specs.Variables.{variables, variables_level}
 use Rattle.c_ast.proofs.ScopedEquations.{scoped-Lit, scoped-Var, scoped-Unary, scoped-Binary, scoped-Choose, scoped-Apply}
@@ -24,20 +25,13 @@ use Rattle.c_scope.specs.Expressions.{ok_or_unknown, count_at, callee_of, slot_a
 use Rattle.c_scope.specs.Steps.{Checked, and_then, sequence}
 use Rattle.c_scope.specs.declared.error.ScopeEnd.TheVariants.{WrongCount}
 use Rattle.c_scope.proofs.ResolvedPrograms.{counted}
-use Rattle.c_scoped.proofs.Steps.{same_Ok, no_fault, found, none_first, none_second, both_true}
+use Rattle.c_scoped.proofs.Steps.{same_Ok, no_fault, found, none_first, none_second}
 use Rattle.c_scoped.proofs.Places.{definition_within}
 
 -- a name that is known is found
 pub known_is : (token place : ℕ) (o : Option ℕ) → ok_or_unknown token o ≡ Ok place → o ≡ Some place
 known_is token place None is = no_fault _ place is
 known_is token place (Some k) is = ap Some (same_Ok k place is)
-
--- there is a function at each place in the list
-element_within : {A : Type 0} (xs : List A) (i : ℕ) → i < length xs → (x : A) ×
-    (slice_get xs i ≡ Some x)
-element_within [] i h = absurd (omega (arith, h))
-element_within (x ∷ xs) zero h = (x, refl)
-element_within (x ∷ xs) (suc i) h = element_within xs i (omega (arith, h))
 
 -- a place with the right count is the one that is answered
 right_count : (token here place : ℕ) (is_right : Bool) →
@@ -125,7 +119,7 @@ module _ (names : List ℕ) (functions : List Function) (counts : List ℕ)
         let parted = sym (unset-append names scope set own us vs) ∙ none in
         let h = found _ _ x is in
         let g = found _ _ x h.2 in
-        let fine = both_true _ _ (left h.0 h.1 (none_first _ _ parted))
+        let fine = and_from _ _ (left h.0 h.1 (none_first _ _ parted))
         (right g.0 g.1 (none_second _ _ parted)) in
         subst IsFine (same_Ok (Binary op h.0 g.0) x g.2) (scoped-Binary counts n op h.0 g.0 ∙ fine)
 
@@ -138,9 +132,9 @@ module _ (names : List ℕ) (functions : List Function) (counts : List ℕ)
         let k = found _ _ x is in
         let h = found _ _ x k.2 in
         let g = found _ _ x h.2 in
-        let branches = both_true _ _ (left h.0 h.1 (none_second _ _ front))
+        let branches = and_from _ _ (left h.0 h.1 (none_second _ _ front))
         (right g.0 g.1 (none_second _ _ parted)) in
-        let fine = both_true _ _ (test k.0 k.1 (none_first _ _ front)) branches in
+        let fine = and_from _ _ (test k.0 k.1 (none_first _ _ front)) branches in
         subst IsFine (same_Ok (Choose k.0 h.0 g.0) x g.2)
         (scoped-Choose counts n k.0 h.0 g.0 ∙ fine)
 
@@ -160,7 +154,7 @@ module _ (names : List ℕ) (functions : List Function) (counts : List ℕ)
         let first = found _ _ xs is in
         let rest = found _ _ xs first.2 in
         let others = arguments_fine ps rest.0 rest.1 (none_second _ _ parted) in
-        let fine = both_true _ _ (p.1 first.0 first.1 (none_first _ _ parted)) others.fine in
+        let fine = and_from _ _ (p.1 first.0 first.1 (none_first _ _ parted)) others.fine in
         subst (λ ys. Arguments ys (length (map resolved (trees (p ∷ ps)))))
         (same_Ok (first.0 ∷ rest.0) xs rest.2)
         (record { fine = fine; number = ap suc others.number })
@@ -178,7 +172,7 @@ module _ (names : List ℕ) (functions : List Function) (counts : List ℕ)
         let takes_all = called_takes token count h.0 (slot_of scope (name_at names token)) h.1 in
         let right = subst (λ m. takes (slice_get counts h.0) m ≡ true) arguments.number takes_all in
         subst IsFine (same_Ok (Apply h.0 g.0) x g.2)
-        (scoped-Apply counts n h.0 g.0 ∙ both_true _ _ right arguments.fine)
+        (scoped-Apply counts n h.0 g.0 ∙ and_from _ _ right arguments.fine)
 
     level : (y : Expr-F Part) → Reads (expr_level names functions scope
         (map-Expr Expr (Checked Expr) resolved (map-Expr Part Expr (λ p. p.0) y)))

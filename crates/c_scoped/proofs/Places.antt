@@ -1,10 +1,10 @@
 -- Places that were found are in their lists.
 use Rattle.std.proofs.Common.{◌≡◌, ℕ, ◌+◌, ◌<◌, Bool, true, false, cond, if◌then◌else◌, Option, Some, None, List, [], ◌∷◌, length, map, arith}
 use Rattle.std.specs.Prelude.{nat_eq}
-use Rattle.std.specs.List.{position_from}
 use Rattle.std.specs.Option.{option_or}
 use Rattle.std.proofs.lemmas.List.{length-map}
 use Rattle.std.proofs.lemmas.Option.{none-some, same_Some}
+use Rattle.rx_plain.proofs.Lists.{position_within}
 use Rattle.c_lex.specs.declared.token.Token.{Token}
 use Rattle.c_ast.specs.declared.program.Function.{Function}
 use Rattle.c_names.specs.Slots.{slot_from, slot_of}
@@ -37,14 +37,6 @@ first_place : (i k m : ℕ) (rest : Option ℕ) (here : Bool) →
     ((j : ℕ) → rest ≡ Some j → j < i + 1 + m) → cond here (Some i) rest ≡ Some k → k < i + 1 + m
 first_place i k m rest true below is = let e : i ≡ k = same_Some i k is in omega (arith, e)
 first_place i k m rest false below is = below k is
-
-position_within : {K : Type 0} (test : K → Bool) (i : ℕ) (xs : List K) (k : ℕ) →
-    position_from test i xs ≡ Some k → k < i + length xs
-position_within test i [] k is = absurd (none-some k is)
-position_within test i (x ∷ xs) k is =
-    let h : k < i + 1 + length xs = first_place i k (length xs) (position_from test (i + 1) xs)
-    (test x) (position_within test (i + 1) xs) is in
-    omega (arith, h)
 
 -- the first place of a spelling is one in the list
 pub place_within : (words : List (List ℕ)) (word : List ℕ) (k : ℕ) → place_of words word ≡ Some k →

@@ -1,10 +1,11 @@
 -- A program with its names resolved is in order.
-use Rattle.std.proofs.Common.{◌≡◌, ◌∙◌, ap, refl, sym, subst, ℕ, suc, ◌+◌, true, false, Option, Some, None, List, [], ◌∷◌, ◌++◌, length, map, replicate, append_assoc, Ok}
+use Rattle.std.proofs.Common.{◌≡◌, ◌∙◌, ap, refl, sym, subst, ℕ, ◌+◌, true, false, Option, Some, None, List, [], ◌∷◌, ◌++◌, length, map, replicate, append_assoc, Ok}
 use Rattle.std.specs.Prelude.{slice_get}
 use Rattle.std.specs.List.{list_all}
 use Rattle.std.specs.Option.{is_some}
 use Rattle.std.proofs.lemmas.List.{length-map, append-nil}
 use Rattle.std.proofs.lemmas.Option.{slice_get-map}
+use Rattle.std.proofs.lemmas.Bool.{and_from}
 use Rattle.c_lex.specs.declared.token.Token.{Token}
 use Rattle.c_ast.specs.Scoped.{slots_in_order, slots_after, is_scoped_function, parameter_counts, is_scoped}
 use Rattle.c_ast.specs.declared.stmt.Stmt.{Stmt}
@@ -25,13 +26,9 @@ use Rattle.c_scope.specs.Statements as Scoping
 use Rattle.c_scope.specs.Statements.{Scoped, resolved_stmt}
 use Rattle.c_scope.specs.Steps.{sequence}
 use Rattle.c_scope.specs.declared.error.ScopeEnd.{ScopeEnd}
-use Rattle.c_scope.proofs.ResolvedPrograms.{counted, counts_kept}
-use Rattle.c_scoped.proofs.Steps.{same_Ok, no_fault, found, both_true}
+use Rattle.c_scope.proofs.ResolvedPrograms.{counted, counts_kept, numbered_length}
+use Rattle.c_scoped.proofs.Steps.{same_Ok, no_fault, found}
 use Rattle.c_scoped.proofs.Statements.{declared_names, list_kept}
-
-numbered_length : {A : Type 0} (slot : ℕ) (xs : List A) → length (slots_from slot xs) ≡ length xs
-numbered_length slot [] = refl
-numbered_length slot (x ∷ xs) = ap suc (numbered_length (slot + 1) xs)
 
 -- the names of parameters are in their order, after those that were in scope
 params_in_scope : (names tokens : List ℕ) (s after : Scope) → with_params names tokens s ≡
@@ -152,7 +149,7 @@ module _ (names : List ℕ) (functions : List Function) (counts : List ℕ)
       let h = found _ _ gs is in
       let g = found _ _ gs h.2 in
       subst (λ ks. list_all (is_scoped_function counts) ks ≡ true) (same_Ok (h.0 ∷ g.0) gs g.2)
-      (both_true _ _ (function_fine f h.0 h.1 flaws.0) (functions_fine fs g.0 g.1 flaws.1))
+      (and_from _ _ (function_fine f h.0 h.1 flaws.0) (functions_fine fs g.0 g.1 flaws.1))
 
 -- a program with its names resolved is in order
 pub resolved_is_scoped : (source : List ℕ) (tokens : List Token) (p : Program) (r : Resolved) →

@@ -3,7 +3,8 @@
 use Rattle.std.proofs.Common.{◌≡◌, ◌≢◌, ◌∙◌, ap, refl, sym, subst, ℕ, ◌+◌, ◌-◌, ◌<◌, Bool, true, false, not, ◌&&◌, if◌then◌else◌, Option, Some, None, option_map, List, [], ◌∷◌, ◌++◌, length, map, Ok, Err, arith, length-append}
 use Rattle.std.specs.Prelude.{nat_eq, nat_lt, slice_get}
 use Rattle.std.specs.Option.{is_some, option_and_then}
-use Rattle.std.proofs.lemmas.Bool.{lt-ltb, eq-eqb, eqb-false}
+use Rattle.std.proofs.lemmas.Bool.{and_from, eq-eqb, eqb-false, lt-ltb, not-true}
+use Rattle.rx_plain.proofs.Booleans.{and_first}
 use Rattle.c_ast.specs.Scoped.{passes_if_there, slots_in_order, is_fine, only_if, is_scoped_expr, slots_after}
 use Rattle.c_ast.proofs.ScopedEquations.{slots-Empty, slots-Declare, slots-Assign, slots-If, slots-While, slots-DoWhile, slots-For, slots-Break, slots-Continue, slots-Return, slots-Block}
 use Rattle.c_ast.specs.declared.expr.Expr.{Expr}
@@ -25,7 +26,7 @@ use Rattle.c_scope.specs.Statements.{Scoped, Resolver, pure, only_in_loops, reso
 use Rattle.c_scope.specs.Steps.{Checked, and_then, optional}
 use Rattle.c_scope.specs.declared.error.ScopeEnd.{ScopeEnd}
 use Rattle.c_scope.proofs.ResolvedPrograms.{counted}
-use Rattle.c_scoped.proofs.Steps.{same_Ok, no_fault, found, none_first, none_second, both_true, first_true}
+use Rattle.c_scoped.proofs.Steps.{same_Ok, no_fault, found, none_first, none_second}
 use Rattle.c_scoped.proofs.Places.{slot_in_scope}
 use Rattle.c_scoped.proofs.Expressions.{known_is, expr_fine}
 
@@ -48,15 +49,11 @@ declared_names token name s after is =
     (record { names = s.names ++ name ∷ []; outer = s.outer }) after (is_declared s name)
     (nat_lt (length s.names) 64) is)
 
-not_true : (b : Bool) → not b ≡ true → b ≡ false
-not_true true is = sym is
-not_true false is = refl
-
 -- a variable that may be read isn't the one whose initial value is read
 another : (set : Assigned) (own slot : ℕ) → may_read set (Some own) (Some slot) ≡ true → own ≢ slot
 another set own slot is =
-    eqb-false own slot (not_true (nat_eq own slot)
-    (first_true (not (nat_eq own slot)) (is_assigned set slot) is))
+    eqb-false own slot (not-true (nat_eq own slot)
+    (and_first (not (nat_eq own slot)) (is_assigned set slot) is))
 
 module _ (names : List ℕ) (functions : List Function) (counts : List ℕ)
     (counts_are : (i : ℕ) → slice_get counts i ≡ counted (slice_get functions i)) where
@@ -240,7 +237,7 @@ module _ (names : List ℕ) (functions : List Function) (counts : List ℕ)
       (same_Ok (record { tree = Declare n g.0; scope = h.0 }) placed g.2)
       (record {
         slots =
-            slots-Declare counts n g.0 n ∙ passed _ (n + 1) (both_true _ _ (eq-eqb n n refl) fine) ∙
+            slots-Declare counts n g.0 n ∙ passed _ (n + 1) (and_from _ _ (eq-eqb n n refl) fine) ∙
             ap Some size;
         scope = scope_after s.names name set e ∙ after;
       })
@@ -253,7 +250,7 @@ module _ (names : List ℕ) (functions : List Function) (counts : List ℕ)
       let h = found _ _ placed is in
       let g = found _ _ placed h.2 in
       let there = slot_in_scope s.names (name_at names token) h.0 (known_is token h.0 _ h.1) in
-      let fine = both_true _ _ (lt-ltb h.0 n there) (plain s.names set e g.0 g.1 none) in
+      let fine = and_from _ _ (lt-ltb h.0 n there) (plain s.names set e g.0 g.1 none) in
       in_place (Assign h.0 g.0) s placed (slots-Assign counts h.0 g.0 n ∙ passed _ n fine) g.2
 
   if_kept : (e : Expr) (t : Resolver) (way : Transfer) (o : Option Resolver)
@@ -269,8 +266,8 @@ module _ (names : List ℕ) (functions : List Function) (counts : List ℕ)
       let branches = none_second _ _ none in
       let inner = inside_kept t way kept s set in_loop g.0 g.1 (none_first _ _ branches) in
       let others = part_kept s set in_loop k.0 k.1 (none_second _ _ branches) in
-      let fine = both_true _ _ (plain s.names set e h.0 h.1 (none_first _ _ none))
-      (both_true _ _ inner others) in
+      let fine = and_from _ _ (plain s.names set e h.0 h.1 (none_first _ _ none))
+      (and_from _ _ inner others) in
       in_place (If h.0 g.0 k.0) s placed (slots-If counts h.0 g.0 k.0 n ∙ passed _ n fine) k.2
 
   while_kept : (e : Expr) (t : Resolver) (way : Transfer) → Kept t way →
@@ -280,7 +277,7 @@ module _ (names : List ℕ) (functions : List Function) (counts : List ℕ)
       let n = length s.names in
       let h = found _ _ placed is in
       let g = found _ _ placed h.2 in
-      let fine = both_true _ _ (plain s.names set e h.0 h.1 (none_first _ _ none))
+      let fine = and_from _ _ (plain s.names set e h.0 h.1 (none_first _ _ none))
       (inside_kept t way kept s set true g.0 g.1 (none_second _ _ none)) in
       in_place (While h.0 g.0) s placed (slots-While counts h.0 g.0 n ∙ passed _ n fine) g.2
 
@@ -292,7 +289,7 @@ module _ (names : List ℕ) (functions : List Function) (counts : List ℕ)
       let turn = Assigning.nested way s.names set in
       let h = found _ _ placed is in
       let g = found _ _ placed h.2 in
-      let fine = both_true _ _ (inside_kept t way kept s set true h.0 h.1 (none_first _ _ none))
+      let fine = and_from _ _ (inside_kept t way kept s set true h.0 h.1 (none_first _ _ none))
       (plain s.names (meet turn.behind turn.continues) e g.0 g.1 (none_second _ _ none)) in
       in_place (DoWhile h.0 g.0) s placed (slots-DoWhile counts h.0 g.0 n ∙ passed _ n fine) g.2
 
@@ -335,7 +332,7 @@ module _ (names : List ℕ) (functions : List Function) (counts : List ℕ)
       let inner = inside_kept t way kept (inner_scope h.0.scope) begun.flow.behind true b.0 b.1
       no_body
       in
-      let fine = both_true _ _ tested (both_true _ _ changed inner) in
+      let fine = and_from _ _ tested (and_from _ _ changed inner) in
       in_place (For h.0.tree g.0 k.0 b.0) s placed
       (for_slots h.0.tree g.0 k.0 b.0 n (length h.0.scope.names) started.slots fine) b.2
 

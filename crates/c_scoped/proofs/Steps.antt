@@ -1,5 +1,5 @@
 -- Steps of which each found something, and tests of which each passed.
-use Rattle.std.proofs.Common.{◌≡◌, Bool, true, false, ◌&&◌, ℕ, Option, Some, None, Ok, Err, refl}
+use Rattle.std.proofs.Common.{◌≡◌, ℕ, Option, Some, None, Ok, Err, refl}
 use Rattle.std.specs.Option.{option_or}
 use Rattle.c_scope.specs.Steps.{Checked, and_then}
 use Rattle.c_scope.specs.declared.error.ScopeEnd.{ScopeEnd}
@@ -27,12 +27,3 @@ none_first (Some a) y is = is
 pub none_second : (x y : Option ℕ) → option_or x y ≡ None → y ≡ None
 none_second None y is = is
 none_second (Some a) y is = absurd (let no : ⊥ = cc in no)
-
--- where both of two tests pass, both are true, and the other way round
-pub both_true : (a b : Bool) → a ≡ true → b ≡ true → (a && b) ≡ true
-both_true true b is_a is_b = is_b
-both_true false b is_a is_b = is_a
-
-pub first_true : (a b : Bool) → (a && b) ≡ true → a ≡ true
-first_true true b is = refl
-first_true false b is = is

@@ -1,5 +1,5 @@
 use Rattle.std.proofs.Common.{◌≡◌, take}
 use Rattle.c_ast.proofs.expr.+clones.Given as goal
 
-abbrev pub invariant-Expr::try_clone-loop-argument : goal.invariant-Expr::try_clone-loop-argument
-invariant-Expr::try_clone-loop-argument l = l.copies ≡ take l.argument-index l.argument-items
+abbrev pub invariant-copy_all-loop-expression : goal.invariant-copy_all-loop-expression
+invariant-copy_all-loop-expression l = l.copies ≡ take l.expression-index l.expression-items
