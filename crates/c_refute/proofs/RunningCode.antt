@@ -285,6 +285,18 @@ made-to rs back s run x y kept new left given plain same =
     ap (λ (r : Run ℤ). on_value r (sink_to rs back s kept)) (given left)
     ∙ rw (plain, same) refl
 
+-- what is kept after a value is made is what its sink finds
+pub kept-same : (x : Result ℤ Stop) (run : ℕ → Run ℤ) (rs : List Rest) (back : Back) (s : Sink)
+    (kept new : Kept) (left : ℕ)
+    → GivesNumber run x → OnOk x (new ≡ kept) →
+    on_value (run left) (sink_to rs back s kept) ≡ on_value (run left) (sink_to rs back s new)
+kept-same (Ok x) run rs back s kept new left given same =
+    ap (λ (k : Kept). on_value (run left) (sink_to rs back s k)) (sym same)
+kept-same (Err stop.DivisionError) run rs back s kept new left given same = rw (given left) refl
+kept-same (Err stop.More) run rs back s kept new left given same = rw (given left) refl
+kept-same (Err stop.Over) run rs back s kept new left given same = rw (given left) refl
+kept-same (Err stop.NoMemory) run rs back s kept new left given same = absurd given
+
 -- what is the same leads to the same
 pub steps-same : (here : ℕ) (program : Resolved) (ops : List Op) (run other : Run ℤ)
     (result : Result Reached Stop) (callers : List Caller) (k : Kept) (left : ℕ)
@@ -298,6 +310,21 @@ steps-same here program ops run other (Err stop.DivisionError) callers k left sa
 steps-same here program ops run other (Err stop.More) callers k left same is = same ∙ is
 steps-same here program ops run other (Err stop.Over) callers k left same is = same ∙ is
 steps-same here program ops run other (Err stop.NoMemory) callers k left same is = tt
+
+-- a step by an op leads where the op's run leads
+pub op-steps : (program : Resolved) (ops : List Op) (callers : List Caller) (here : ℕ) (o p : Op)
+    (k : Kept) (left : ℕ) (run : Run ℤ) (result : Result Reached Stop) (waiting : List Caller)
+    (new : Kept)
+    → slice_get ops here ≡ Some o → o ≡ p
+    → op_to (counted program) (back_to (counted program) ops callers)
+    (rests (counted program) (back_to (counted program) ops callers) (take here ops)) p k left ≡ run
+    → Steps here program ops run result waiting new left →
+    Steps here program ops (machine_run program ops callers here k left) result waiting new left
+op-steps program ops callers here o p k left run result waiting new found is same steps =
+    let back : Back = back_to (counted program) ops callers in
+    let there = found ∙ ap (λ (q : Op). Some q) is in
+    steps-same here program ops _ run result waiting new left
+    (ap (λ (r : Rest). r k left) (op-found (counted program) back ops here p there) ∙ same) steps
 
 -- how much is left to do: rounds and callers count more than positions
 abbrev pub left_to_do : (rounds callers size p : ℕ) → ℕ

@@ -393,25 +393,33 @@ next-within m n le exits p below within =
     record { next = below; broken = omega arith; continued = omega arith; scopes = omega arith }
 
 -- `while`, `do` and `for` as their turns
-pub while-leads : (old new : List Op) (exits : Exits) (p : ℕ) (e : Expr) (body : Stmt)
-    → Leads old new p (flow_run old exits (λ calls. loop (turn_of calls (syntax.While e body)))) →
-    Leads old new p (stmt_run old exits (syntax.While e body))
-while-leads old new exits p e body leads =
-    leads-as old new p _ (stmt_run old exits (syntax.While e body)) leads
+pub while-leads : (old new : List Op) (exits : Exits) (p : ℕ) (s : Stmt) (e : Expr) (body : Stmt)
+    → s ≡ syntax.While e body
+    → Leads old new p (flow_run old exits (λ calls. loop (turn_of calls s))) →
+    Leads old new p (stmt_run old exits s)
+while-leads old new exits p s e body is leads =
+    in-form old new exits p s (syntax.While e body) is
+    (leads-as old new p _ (stmt_run old exits (syntax.While e body))
+    (subst (λ (t : Stmt). Leads old new p (flow_run old exits (λ calls. loop (turn_of calls t))))
+    is leads)
     (λ calls back k left. sym (ap (λ (r : Run Flow).
     on_value r (flow_to (rests calls back old) back exits k))
     (stmt-While calls e body left k.state
-    ∙ ap (λ (t : ℕ → State → Run Turn). loop t left k.state) (sym (turn-While calls e body)))))
+    ∙ ap (λ (t : ℕ → State → Run Turn). loop t left k.state) (sym (turn-While calls e body))))))
 
-pub do-leads : (old new : List Op) (exits : Exits) (p : ℕ) (e : Expr) (body : Stmt)
-    → Leads old new p (flow_run old exits (λ calls. loop (turn_of calls (syntax.DoWhile body e)))) →
-    Leads old new p (stmt_run old exits (syntax.DoWhile body e))
-do-leads old new exits p e body leads =
-    leads-as old new p _ (stmt_run old exits (syntax.DoWhile body e)) leads
+pub do-leads : (old new : List Op) (exits : Exits) (p : ℕ) (s : Stmt) (e : Expr) (body : Stmt)
+    → s ≡ syntax.DoWhile body e
+    → Leads old new p (flow_run old exits (λ calls. loop (turn_of calls s))) →
+    Leads old new p (stmt_run old exits s)
+do-leads old new exits p s e body is leads =
+    in-form old new exits p s (syntax.DoWhile body e) is
+    (leads-as old new p _ (stmt_run old exits (syntax.DoWhile body e))
+    (subst (λ (t : Stmt). Leads old new p (flow_run old exits (λ calls. loop (turn_of calls t))))
+    is leads)
     (λ calls back k left. sym (ap (λ (r : Run Flow).
     on_value r (flow_to (rests calls back old) back exits k))
     (stmt-DoWhile calls body e left k.state
-    ∙ ap (λ (t : ℕ → State → Run Turn). loop t left k.state) (sym (turn-DoWhile calls body e)))))
+    ∙ ap (λ (t : ℕ → State → Run Turn). loop t left k.state) (sym (turn-DoWhile calls body e))))))
 
 for-equation : (calls : Calls) (first : List Stmt) (test : Option Expr) (change : Option Stmt)
     (body : Stmt) (left : ℕ) (s : State)

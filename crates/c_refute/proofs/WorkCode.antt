@@ -1,19 +1,24 @@
 -- The code of an expression whose value is made at once.
-use Rattle.std.proofs.Common.{◌≡◌, ℕ, Option, None, ℤ, List, ap, refl, ◌∙◌, sym}
+use Rattle.std.proofs.Common.{◌≡◌, ℕ, Bool, true, false, if◌then◌else◌, Option, Some, None, IfSome, ℤ, List, ap, refl, ◌∙◌, sym, arith}
+use Rattle.std.proofs.lemmas.Bool.Decides.{nat_tests}
+use Rattle.std.specs.Prelude.{not, int_lt, int_le, pos, negsuc}
+use Rattle.c_meaning.specs.Expressions.{is_zero, truth}
 use Rattle.c_ast.specs.declared.expr.BinOp.{BinOp}
+use Rattle.c_ast.specs.declared.expr.BinOp.TheVariants.{Lt, Le, Gt, Ge}
 use Rattle.c_ast.specs.declared.expr.Expr.{Expr}
 use Rattle.c_ast.specs.declared.expr.Expr.TheVariants.{Binary}
 use Rattle.c_refute.specs.Runs.{Run, Value, on_value}
 use Rattle.c_refute.specs.Expressions.{Calls, apply, short_circuit, unless_known, with_left, expr}
 use Rattle.c_refute.specs.Stores.{Kept}
-use Rattle.c_refute.specs.Flat.{read, after, leaf_value, inner_run, made, op_to, rests, sink_to}
-use Rattle.c_refute.specs.Flat.{IsInner, IsLeaf, Leads, Makes, expr_run, right_run}
+use Rattle.c_refute.specs.Flat.{Rest, Back, at, read, after, leaf_value, inner_run, made, do_to, less_to, op_to, rests, sink_to}
+use Rattle.c_refute.specs.Flat.{IsInner, IsLeaf, IsOp, Leads, Makes, expr_run, right_run}
 use Rattle.c_refute.specs.declared.code.Leaf.{Leaf}
 use Rattle.c_refute.specs.declared.code.Inner.{Inner}
 use Rattle.c_refute.specs.declared.code.Operand.{Operand}
 use Rattle.c_refute.specs.declared.code.Work.{Work}
-use Rattle.c_refute.specs.declared.code.Work.TheVariants.{Left, Right}
+use Rattle.c_refute.specs.declared.code.Work.TheVariants.{Alone, Left, Right}
 use Rattle.c_refute.specs.declared.code.Sink.{Sink}
+use Rattle.c_refute.specs.declared.code.Sink.TheVariants as sink
 use Rattle.c_refute.specs.declared.code.Op.{Op}
 use Rattle.c_refute.specs.declared.code.Op.TheVariants as op
 use Rattle.c_refute.proofs.Equations.{expr-Binary}
@@ -76,3 +81,85 @@ right-inner-leads old new s f a b inner p is leads =
     (sink_to (rests calls back old) back s (after a k))
     ∙ ap (λ (r : Run ℤ). on_value r (λ y n. on_value (apply f (read a k) y n)
     (sink_to (rests calls back old) back s (after a k)))) (sym (is calls k left)))
+
+-- where a run goes on after the test of a truth value
+test-holds : (b : Bool) (rs : List Rest) (fails holds : ℕ) (k : Kept) (left : ℕ) →
+    at rs (if b then holds else fails) k left ≡
+    (if is_zero (truth b) then at rs fails k left else at rs holds k left)
+test-holds true rs fails holds k left = refl
+test-holds false rs fails holds k left = refl
+
+test-not : (b : Bool) (rs : List Rest) (fails holds : ℕ) (k : Kept) (left : ℕ) →
+    at rs (if b then fails else holds) k left ≡
+    (if is_zero (truth (not b)) then at rs fails k left else at rs holds k left)
+test-not true rs fails holds k left = refl
+test-not false rs fails holds k left = refl
+
+not-less : (x y : ℤ) → not (int_lt x y) ≡ int_le y x
+not-less (pos a) (pos b) = grind (arith, nat_tests)
+not-less (pos a) (negsuc b) = refl
+not-less (negsuc a) (pos b) = refl
+not-less (negsuc a) (negsuc b) = grind (arith, nat_tests)
+
+-- the same, where the value is 0 just when the first number is less
+test-fails : (x y : ℤ) (rs : List Rest) (fails holds : ℕ) (k : Kept) (left : ℕ) →
+    at rs (if int_lt x y then fails else holds) k left ≡
+    (if is_zero (truth (int_le y x)) then at rs fails k left else at rs holds k left)
+test-fails x y rs fails holds k left =
+    test-not (int_lt x y) rs fails holds k left
+    ∙ ap (λ (b : Bool). if is_zero (truth b) then at rs fails k left else at rs holds k left)
+    (not-less x y)
+
+-- the op that compares two leaves tests an operator between them, where both go on alike
+test-op : (r : Option Op) (inner : Inner) (f : BinOp) (x y : Leaf) (less more fails holds : ℕ) →
+    inner.op ≡ f
+    → ((rs : List Rest) (back : Back) (k : Kept) (left : ℕ) → less_to rs x y less more k left ≡
+    on_value (apply f (leaf_value inner.left k) (leaf_value inner.right k) left)
+    (sink_to rs back (sink.Branch fails holds) k))
+    → IfSome r (λ o. IsOp o (λ calls back rs. less_to rs x y less more))
+    → IfSome r (λ o. IsOp o (λ calls back rs.
+    do_to rs back (Alone inner) (sink.Branch fails holds)))
+test-op None inner f x y less more fails holds is same found = tt
+test-op (Some o) inner f x y less more fails holds is same found = record {
+  plain = found.plain;
+  comes = λ calls back rs k left. found.comes calls back rs k left ∙ (same rs back k left ∙
+      ap (λ (g : BinOp).
+      on_value (apply g (leaf_value inner.left k) (leaf_value inner.right k) left)
+      (sink_to rs back (sink.Branch fails holds) k)) (sym is));
+}
+
+pub less-op : (r : Option Op) (inner : Inner) (fails holds : ℕ) → inner.op ≡ Lt →
+    IfSome r (λ o. IsOp o (λ calls back rs. less_to rs inner.left inner.right holds fails))
+    → IfSome r (λ o. IsOp o (λ calls back rs.
+    do_to rs back (Alone inner) (sink.Branch fails holds)))
+less-op r inner fails holds is found =
+    test-op r inner Lt inner.left inner.right holds fails fails holds is
+    (λ rs back k left. test-holds (int_lt (leaf_value inner.left k) (leaf_value inner.right k)) rs
+    fails holds k left) found
+
+pub greater-op : (r : Option Op) (inner : Inner) (fails holds : ℕ) → inner.op ≡ Gt →
+    IfSome r (λ o. IsOp o (λ calls back rs. less_to rs inner.right inner.left holds fails))
+    → IfSome r (λ o. IsOp o (λ calls back rs.
+    do_to rs back (Alone inner) (sink.Branch fails holds)))
+greater-op r inner fails holds is found =
+    test-op r inner Gt inner.right inner.left holds fails fails holds is
+    (λ rs back k left. test-holds (int_lt (leaf_value inner.right k) (leaf_value inner.left k)) rs
+    fails holds k left) found
+
+pub at_least-op : (r : Option Op) (inner : Inner) (fails holds : ℕ) → inner.op ≡ Ge →
+    IfSome r (λ o. IsOp o (λ calls back rs. less_to rs inner.left inner.right fails holds))
+    → IfSome r (λ o. IsOp o (λ calls back rs.
+    do_to rs back (Alone inner) (sink.Branch fails holds)))
+at_least-op r inner fails holds is found =
+    test-op r inner Ge inner.left inner.right fails holds fails holds is
+    (λ rs back k left. test-fails (leaf_value inner.left k) (leaf_value inner.right k) rs
+    fails holds k left) found
+
+pub at_most-op : (r : Option Op) (inner : Inner) (fails holds : ℕ) → inner.op ≡ Le →
+    IfSome r (λ o. IsOp o (λ calls back rs. less_to rs inner.right inner.left fails holds))
+    → IfSome r (λ o. IsOp o (λ calls back rs.
+    do_to rs back (Alone inner) (sink.Branch fails holds)))
+at_most-op r inner fails holds is found =
+    test-op r inner Le inner.right inner.left fails holds fails holds is
+    (λ rs back k left. test-fails (leaf_value inner.right k) (leaf_value inner.left k) rs
+    fails holds k left) found

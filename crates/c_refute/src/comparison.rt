@@ -79,7 +79,7 @@ fn finding(
 }
 
 // How many points were found alike, and how many undecided.
-#[derive(Clone, Copy, Debug)]
+#[derive(Clone, Copy)]
 struct Tally {
     alike: u32,
     undecided: u32,

@@ -8,7 +8,7 @@ ghost use Rattle.c_ast.specs.declared.expr.BinOp.TheVariants as binary;
 ghost use Rattle.c_refute.specs.Flat.{Back, IsCode, Rest, between, inner_run, kept_after, made, op_to, rests, sink_to, three, times};
 ghost use Rattle.c_refute.specs.Machines.{Falls, Sinks, Steps, back_to, machine_run};
 ghost use Rattle.c_refute.specs.Points.{precondition_at};
-ghost use Rattle.c_refute.specs.Runs.{Run};
+ghost use Rattle.c_refute.specs.Runs.{Run, on_value};
 ghost use Rattle.c_refute.specs.Stores.{Kept};
 ghost use Rattle.c_refute.specs.declared.code.Op.{Op};
 ghost use Rattle.c_refute.specs.declared.code.Op.TheVariants as op;
@@ -253,6 +253,22 @@ impl Machine {
         }
     }
 
+    /// Does something with a value, if it could be made.
+    #[inline(always)]
+    fn give_made(&mut self, made: Result<i128, Stop>, sink: &Sink) -> Result<Reached, Stop>
+        ensures steps { (program : Resolved) (ops : List Op) (at left : ℕ) (run : ℕ → Run ℤ) →
+            GivesNumber run made → Steps at program ops (on_value (run left)
+            (sink_to (rests (counted program)
+            (back_to (counted program) ops self.old.callers.items) (take at ops))
+            (back_to (counted program) ops self.old.callers.items) sink.now self.old.store))
+            result self.new.callers.items self.new.store left }
+        ensures falls { (size left : ℕ) → Falls size result (length self.old.callers.items)
+            (length self.new.callers.items) left }
+    {
+        let x = made?;
+        self.give(x, sink)
+    }
+
     /// Begins a function.
     #[inline(always)]
     fn invoke(
@@ -305,16 +321,16 @@ impl Machine {
     {
         match op {
             Op::Do(work, sink) => {
-                let x = value_of(&mut self.store, work)?;
-                self.give(x, sink)
+                let x = value_of(&mut self.store, work);
+                self.give_made(x, sink)
             }
             Op::Test(inner, zero, other) => {
-                let x = inner_value(&self.store, inner)?;
-                self.give(x, &Sink::Branch(*zero, *other))
+                let x = inner_value(&self.store, inner);
+                self.give_made(x, &Sink::Branch(*zero, *other))
             }
             Op::Set(inner, slot, next) => {
-                let x = inner_value(&self.store, inner)?;
-                self.give(x, &Sink::Assign(*slot, *next))
+                let x = inner_value(&self.store, inner);
+                self.give_made(x, &Sink::Assign(*slot, *next))
             }
             Op::LessSlot(a, b, less, other) => {
                 let x = Leaf::Slot(*a);
@@ -335,36 +351,36 @@ impl Machine {
                 Ok(Reached::On(next))
             }
             Op::Raise(slot, c, next) => {
-                let x = sum_value(&self.store, *slot, &Leaf::Constant(*c))?;
-                self.give(x, &Sink::Assign(*slot, *next))
+                let x = sum_value(&self.store, *slot, &Leaf::Constant(*c));
+                self.give_made(x, &Sink::Assign(*slot, *next))
             }
             Op::Add(a, b, slot, next) => {
-                let x = sum_value(&self.store, *a, &Leaf::Slot(*b))?;
-                self.give(x, &Sink::Assign(*slot, *next))
+                let x = sum_value(&self.store, *a, &Leaf::Slot(*b));
+                self.give_made(x, &Sink::Assign(*slot, *next))
             }
             Op::AddThree(a, b, c, slot, next) => {
-                let x = three_value(&self.store, *a, *b, *c)?;
-                self.give(x, &Sink::Assign(*slot, *next))
+                let x = three_value(&self.store, *a, *b, *c);
+                self.give_made(x, &Sink::Assign(*slot, *next))
             }
             Op::AddTimes(a, c, b, slot, next) => {
-                let x = times_value(&self.store, *a, *c, *b)?;
-                self.give(x, &Sink::Assign(*slot, *next))
+                let x = times_value(&self.store, *a, *c, *b);
+                self.give_made(x, &Sink::Assign(*slot, *next))
             }
             Op::SetLeft(op, inner, leaf, slot, next) => {
-                let x = left_value(&self.store, op, inner, leaf)?;
-                self.give(x, &Sink::Assign(*slot, *next))
+                let x = left_value(&self.store, op, inner, leaf);
+                self.give_made(x, &Sink::Assign(*slot, *next))
             }
             Op::SetRight(op, a, inner, slot, next) => {
-                let x = right_value(&self.store, op, *a, inner)?;
-                self.give(x, &Sink::Assign(*slot, *next))
+                let x = right_value(&self.store, op, *a, inner);
+                self.give_made(x, &Sink::Assign(*slot, *next))
             }
             Op::PushInner(inner, next) => {
-                let x = inner_value(&self.store, inner)?;
-                self.give(x, &Sink::Push(*next))
+                let x = inner_value(&self.store, inner);
+                self.give_made(x, &Sink::Push(*next))
             }
             Op::Give(op, a, b, scopes) => {
-                let x = between_value(&mut self.store, op, a, b)?;
-                self.give(x, &Sink::Return(*scopes))
+                let x = between_value(&mut self.store, op, a, b);
+                self.give_made(x, &Sink::Return(*scopes))
             }
             Op::Call(f, count, next) => self.invoke(code, *f, *count, *next, at, left),
             Op::Turn(_, _, begin) => begin_turn(*begin, left),

@@ -169,6 +169,36 @@ fn compile_do<'a>(
     Ok(turn)
 }
 
+/// The code of a `for`, whose declarations are in a scope of its own.
+#[cycle(executes)]
+fn compile_for<'a>(
+    ops: &mut Vec<Op<'a>>,
+    whole: &'a Stmt,
+    first: &'a Items<Stmt>,
+    test: &Option<Expr>,
+    change: &'a Option<Boxed<Stmt>>,
+    body: &'a Stmt,
+    exits: Exits,
+) -> Result<usize, NoMemory>
+    requires within { ExitsWithin (length ops.old.items) exits }
+    requires parts { whole.now ≡ syntax.For first.now test.now change.now body.now }
+    ensures { IfOk result (λ p. Leads ops.old.items ops.new.items p
+        (stmt_run ops.old.items exits whole.now)) }
+{
+    let inner = scoped(ops, exits)?;
+    let turn = emit(ops, Op::Turn(whole, inner, 0))?;
+    let again = Exits {
+        next: turn,
+        ..inner
+    };
+    let changed = compile_other(ops, change, again)?;
+    let holds = compile_stmt(ops, body, inside(inner, changed))?;
+    let begin = compile_condition(ops, test, inner.next, holds)?;
+    close(ops, turn, whole, inner, begin);
+    let begun = compile_sequence(ops, first.as_slice(), again)?;
+    emit(ops, Op::Enter(begun))
+}
+
 /// The code of a block. Where its statements add no slot, it needs no scope.
 #[cycle(executes)]
 fn compile_block<'a>(
@@ -211,28 +241,7 @@ pub(crate) fn compile_stmt<'a>(
         Stmt::While(test, body) => compile_while(ops, body.get(), test, statement, exits),
         Stmt::DoWhile(body, test) => compile_do(ops, body.get(), test, statement, exits),
         Stmt::For(first, test, change, body) => {
-            let inner = scoped(ops, exits)?;
-            let turn = emit(ops, Op::Turn(statement, inner, 0))?;
-            let changed = compile_other(
-                ops,
-                change,
-                Exits {
-                    next: turn,
-                    ..inner
-                },
-            )?;
-            let holds = compile_stmt(ops, body.get(), inside(inner, changed))?;
-            let begin = compile_condition(ops, test, inner.next, holds)?;
-            close(ops, turn, statement, inner, begin);
-            let begun = compile_sequence(
-                ops,
-                first.as_slice(),
-                Exits {
-                    next: turn,
-                    ..inner
-                },
-            )?;
-            emit(ops, Op::Enter(begun))
+            compile_for(ops, statement, first, test, change, body.get(), exits)
         }
         Stmt::Break(_) => Ok(exits.broken),
         Stmt::Continue(_) => Ok(exits.continued),

@@ -1,5 +1,7 @@
-use Rattle.std.proofs.Common.{◌≡◌, ◌<◌, ◌∷◌, ◌++◌, ◌+◌, [], take, length, refl, arith, rules}
+use Rattle.std.proofs.Common.{◌≡◌, ◌<◌, ◌∷◌, ◌++◌, ◌+◌, [], List, take, length, refl, subst, ◌∙◌, arith, rules}
+use Rattle.std.proofs.lemmas.List.{take_all}
 use Rattle.c_ast.specs.declared.program.Function.{Function}
+use Rattle.c_refute.specs.Flat.{FunctionsLead}
 use Rattle.c_refute.proofs.ProgramCode.{no-functions, one-function, take-one}
 use Rattle.c_refute.proofs.compiling.compile_functions.Goals as goal
 
@@ -20,3 +22,12 @@ loop-function-preserved c =
     c.loop-function.entries.items c.push.new.self.items
     (take i fs) (take (i + 1) fs) f c.in_ok-entry.entry c.loop-function.invariant
     c.in_ok-entry.ensures more (take-one Function fs i f below c.function-item.is)
+
+pub returns : goal.returns
+returns c =
+    let fs = c.as_slice-function-items.result.now in
+    let i = c.loop-function.function-index in
+    let P : List Function → Type 0 = λ gs. FunctionsLead c.args.ops.now.items
+    c.loop-function.ops.items c.loop-function.entries.items gs in
+    subst P (take_all i fs (omega arith) ∙ c.as_slice-function-items.ensures)
+    c.loop-function.invariant

@@ -1,17 +1,17 @@
-use Rattle.std.proofs.Common.{◌≡◌, ◌∙◌, ℕ, Option, None, Some, List, length, drop, refl, sym, ap, subst, arith, rules}
+use Rattle.std.proofs.Common.{◌∙◌, ℕ, Option, None, Some, List, length, drop, refl, sym, ap, subst, arith, rules}
 use Rattle.std.proofs.Math.Seq.{drop-length}
 use Rattle.std.specs.Option.{option_map}
 use Rattle.std.specs.Prelude.{IfOk}
 use Rattle.c_ast.specs.declared.stmt.Stmt.{Stmt}
 use Rattle.c_ast.specs.declared.stmt.Stmt.TheVariants as syntax
-use Rattle.c_refute.specs.Statements.{optional, stmt}
+use Rattle.c_refute.specs.Statements.{loop, optional, stmt}
 use Rattle.c_refute.specs.Scopes.{AddNoSlots}
 use Rattle.c_refute.specs.Flat.{Leads, expr_run, flow_run, for_loop, sequence_run, stmt_run, turn_of}
 use Rattle.c_refute.specs.declared.code.Sink.TheVariants as sink
 use Rattle.c_refute.specs.declared.code.Op.TheVariants as op
 use Rattle.c_refute.proofs.Leading.{emit-then, if_ok-mapped, longer-length, exits-below}
 use Rattle.c_refute.proofs.LoopCode.{loop-leads, while-turn-leads, no-change, do-turn-leads}
-use Rattle.c_refute.proofs.StatementCode.{inside-within, one-longer, nothing-leads, sequence-none, sequence-leads, block-leads, for-leads, if-leads, empty-leads, break-leads, continue-leads, assign-leads, for-all-leads, turn-For, in-form, drop-one}
+use Rattle.c_refute.proofs.StatementCode.{inside-within, one-longer, nothing-leads, sequence-none, sequence-leads, block-leads, do-leads, while-leads, for-leads, if-leads, empty-leads, break-leads, continue-leads, assign-leads, for-all-leads, turn-For, in-form, drop-one}
 use Rattle.c_refute.proofs.Unscoped.{plain-block-leads}
 use Rattle.c_refute.proofs.statements.+executes.Goals as goal
 
@@ -189,48 +189,160 @@ compile_stmt-returns-in_ok-taken-in-If t c =
     c.in_ok-taken-in-If.taken p c.in_ok-other-in-If.ensures c.in_ok-taken-in-If.ensures last))
     c.compile_expr-in-If.ensures
 
-pub compile_stmt-returns-in_ok-begun-in-For : goal.compile_stmt-returns-in_ok-begun-in-For
-compile_stmt-returns-in_ok-begun-in-For t c =
+pub compile_for-returns : goal.compile_for-returns
+compile_for-returns t c =
     let old = c.args.ops.now.items in
     let m1 = c.scoped.new.ops.items in
     let m2 = c.emit.new.ops.items in
-    let m3 = c.compile_other-in-For.new.ops.items in
-    let m4 = c.compile_stmt-in-For.new.ops.items in
+    let m3 = c.compile_other.new.ops.items in
+    let m4 = c.compile_stmt.new.ops.items in
     let m5 = c.compile_condition.new.ops.items in
     let m6 = c.close.new.ops.items in
     let m7 = c.compile_sequence.new.ops.items in
-    let new = c.emit-in-For.new.ops.items in
+    let new = c.emit-2.new.ops.items in
     let exits = c.args.exits in
-    let whole = c.args.statement in
-    let inner = c.in_ok-inner-in-For.inner in
-    let scope = c.in_ok-inner-in-For.ensures in
-    let turn = c.in_ok-turn-in-For.turn in
-    let first = c.in-For.first in
-    let test = c.in-For.test in
-    let change = c.in-For.change in
-    let body = c.get-in-For.result.now in
-    let is : whole.now ≡ syntax.For first test change body =
-    c.in-For.is ∙ ap (λ (s : Stmt). syntax.For first test change s) (sym c.get-in-For.ensures) in
-    let one = one-longer m1 m2 (op.Turn whole inner 0) c.in_ok-turn-in-For.ensures.added in
+    let whole = c.args.whole in
+    let inner = c.in_ok-inner.inner in
+    let scope = c.in_ok-inner.ensures in
+    let turn = c.in_ok-turn.turn in
+    let first = c.args.first.now in
+    let test = c.args.test.now in
+    let change = c.args.change.now in
+    let body = c.args.body.now in
+    let is = c.requires.parts in
+    let one = one-longer m1 m2 (op.Turn whole inner 0) c.in_ok-turn.ensures.added in
     let same = c.inside.ensures in
-    let held = rw same at c.in_ok-holds-in-For.ensures in
-    let turns = loop-leads m1 m2 m5 m6 whole inner scope.within turn c.in_ok-begin-in-For.begin
-    c.in_ok-turn-in-For.ensures.position c.in_ok-turn-in-For.ensures.added
+    let held = rw same at c.in_ok-holds.ensures in
+    let turns = loop-leads m1 m2 m5 m6 whole inner scope.within turn c.in_ok-begin.begin
+    c.in_ok-turn.ensures.position c.in_ok-turn.ensures.added
     (while-turn-leads m2 m3 m4 m5 turn inner (exits-below (length m1) (length m2) (omega arith)
     inner scope.within)
     test change body whole.now (λ calls. ap (turn_of calls) is ∙
     turn-For calls first test change body)
-    c.in_ok-changed-in-For.changed c.in_ok-holds-in-For.holds c.in_ok-begin-in-For.begin
-    c.in_ok-changed-in-For.ensures held c.in_ok-begin-in-For.ensures)
+    c.in_ok-changed.changed c.in_ok-holds.holds c.in_ok-begin.begin
+    c.in_ok-changed.ensures held c.in_ok-begin.ensures)
     c.close.ensures in
     let all = c.as_slice.ensures in
-    let begun = rw all at c.in_ok-begun-in-For.ensures in
-    emit-then c.emit-in-For.result m7 new (op.Enter c.in_ok-begun-in-For.begun)
+    let begun = rw all at c.in_ok-begun.ensures in
+    emit-then c.emit-2.result m7 new (op.Enter c.in_ok-begun.begun)
     (λ p. Leads old new p (stmt_run old exits whole.now)) tt
     (λ p four. in-form old new exits p whole.now (syntax.For first test change body) is
     (for-all-leads old new exits p first test change body
     (subst (λ (s : Stmt). Leads old new p (flow_run old exits
     (λ calls. for_loop calls first (turn_of calls s)))) is
-    (for-leads old m1 exits inner scope m6 m7 new whole.now first turn c.in_ok-begun-in-For.begun p
+    (for-leads old m1 exits inner scope m6 m7 new whole.now first turn c.in_ok-begun.begun p
     turns begun four))))
-    c.emit-in-For.ensures.position c.emit-in-For.ensures.added
+    c.emit-2.ensures.position c.emit-2.ensures.added
+
+pub compile_stmt-returns-in-While : goal.compile_stmt-returns-in-While
+compile_stmt-returns-in-While t c =
+    let old = c.args.ops.now.items in
+    let new = c.compile_while.new.ops.items in
+    let is = c.in-While.is ∙ ap (λ (s : Stmt). syntax.While c.in-While.test s)
+    (sym c.get-in-While.ensures) in
+    if_ok-mapped c.compile_while.result
+    (λ p. Leads old new p (flow_run old c.args.exits
+    (λ calls. loop (turn_of calls c.args.statement.now))))
+    (λ p. Leads old new p (stmt_run old c.args.exits c.args.statement.now))
+    (λ p leads. while-leads old new c.args.exits p c.args.statement.now c.in-While.test
+    c.get-in-While.result.now is leads)
+    c.compile_while.ensures
+
+pub compile_stmt-returns-in-DoWhile : goal.compile_stmt-returns-in-DoWhile
+compile_stmt-returns-in-DoWhile t c =
+    let old = c.args.ops.now.items in
+    let new = c.compile_do.new.ops.items in
+    let is = c.in-DoWhile.is ∙ ap (λ (s : Stmt). syntax.DoWhile s c.in-DoWhile.test)
+    (sym c.get-in-DoWhile.ensures) in
+    if_ok-mapped c.compile_do.result
+    (λ p. Leads old new p (flow_run old c.args.exits
+    (λ calls. loop (turn_of calls c.args.statement.now))))
+    (λ p. Leads old new p (stmt_run old c.args.exits c.args.statement.now))
+    (λ p leads. do-leads old new c.args.exits p c.args.statement.now c.in-DoWhile.test
+    c.get-in-DoWhile.result.now is leads)
+    c.compile_do.ensures
+
+pub compile_for-compile_condition-requires-clause-ended :
+    goal.compile_for-compile_condition-requires-clause-ended
+compile_for-compile_condition-requires-clause-ended t c =
+    let m1 = c.scoped.new.ops.items in
+    let m2 = c.emit.new.ops.items in
+    let m3 = c.compile_other.new.ops.items in
+    let m4 = c.compile_stmt.new.ops.items in
+    let inner = c.in_ok-inner.inner in
+    let one = one-longer m1 m2 (op.Turn c.args.whole inner 0) c.in_ok-turn.ensures.added in
+    let changed = c.in_ok-changed.ensures in
+    let two = longer-length m2 changed.more m3 changed.longer in
+    let holds = c.in_ok-holds.ensures in
+    let three = longer-length m3 holds.more m4 holds.longer in
+    let within = c.in_ok-inner.ensures.within.next in
+    omega arith
+
+pub compile_for-compile_condition-requires-clause-holds :
+    goal.compile_for-compile_condition-requires-clause-holds
+compile_for-compile_condition-requires-clause-holds t c = c.in_ok-holds.ensures.within
+
+pub compile_for-close-requires : goal.compile_for-close-requires
+compile_for-close-requires t c =
+    let m2 = c.emit.new.ops.items in
+    let m3 = c.compile_other.new.ops.items in
+    let m4 = c.compile_stmt.new.ops.items in
+    let m5 = c.compile_condition.new.ops.items in
+    let changed = c.in_ok-changed.ensures in
+    let two = longer-length m2 changed.more m3 changed.longer in
+    let holds = c.in_ok-holds.ensures in
+    let three = longer-length m3 holds.more m4 holds.longer in
+    let begin = c.in_ok-begin.ensures in
+    let four = longer-length m4 begin.more m5 begin.longer in
+    let within = c.in_ok-turn.ensures.within in
+    omega arith
+
+pub compile_while-close-requires : goal.compile_while-close-requires
+compile_while-close-requires t c =
+    let m1 = c.emit.new.ops.items in
+    let m3 = c.compile_stmt.new.ops.items in
+    let m4 = c.compile_expr.new.ops.items in
+    let holds = c.in_ok-holds.ensures in
+    let three = longer-length m1 holds.more m3 holds.longer in
+    let begin = c.in_ok-begin.ensures in
+    let four = longer-length m3 begin.more m4 begin.longer in
+    let within = c.in_ok-turn.ensures.within in
+    omega arith
+
+pub compile_do-close-requires : goal.compile_do-close-requires
+compile_do-close-requires t c =
+    let m1 = c.emit.new.ops.items in
+    let m2 = c.compile_expr.new.ops.items in
+    let m3 = c.compile_stmt.new.ops.items in
+    let tested = c.in_ok-tested.ensures in
+    let two = longer-length m1 tested.more m2 tested.longer in
+    let begin = c.in_ok-begin.ensures in
+    let three = longer-length m2 begin.more m3 begin.longer in
+    let within = c.in_ok-turn.ensures.within in
+    omega arith
+
+pub compile_stmt-compile_expr-requires-in-If : goal.compile_stmt-compile_expr-requires-in-If
+compile_stmt-compile_expr-requires-in-If t c =
+    let other = c.in_ok-other-in-If.ensures.within in
+    let taken = c.in_ok-taken-in-If.ensures in
+    let longer = longer-length c.compile_other.new.ops.items taken.more
+    c.compile_stmt.new.ops.items taken.longer in
+    (omega arith, taken.within)
+
+pub compile_while-compile_expr-requires : goal.compile_while-compile_expr-requires
+compile_while-compile_expr-requires t c =
+    let old = c.args.ops.now.items in
+    let m1 = c.emit.new.ops.items in
+    let one = one-longer old m1 (op.Turn c.args.whole c.args.exits 0) c.in_ok-turn.ensures.added in
+    let holds = c.in_ok-holds.ensures in
+    let longer = longer-length m1 holds.more c.compile_stmt.new.ops.items holds.longer in
+    let next = c.requires.within.next in
+    (omega arith, holds.within)
+
+pub compile_do-compile_expr-requires : goal.compile_do-compile_expr-requires
+compile_do-compile_expr-requires t c =
+    let old = c.args.ops.now.items in
+    let m1 = c.emit.new.ops.items in
+    let one = one-longer old m1 (op.Turn c.args.whole c.args.exits 0) c.in_ok-turn.ensures.added in
+    let next = c.requires.within.next in
+    (omega arith, c.in_ok-turn.ensures.within)

@@ -1,20 +1,21 @@
-use Rattle.std.proofs.Common.{◌≡◌, ◌∙◌, ℕ, ℤ, Some, Err, List, take, refl, ap, sym, subst, arith, rules}
+use Rattle.std.proofs.Common.{◌≡◌, ◌∙◌, ℕ, ℤ, Some, length, take, refl, ap, sym, subst, arith, rules}
 use Rattle.std.proofs.lemmas.Grind.{common_steps}
-use mir.Syntax.{w64, w128}
+use mir.Syntax.{w64}
 use mir.Val.{of_z, to_z}
 use Rattle.c_refute.specs.Counted.{counted}
-use Rattle.c_refute.specs.Flat.{Back, Rest, at, between, kept_after, made, rests, sink_to, three, times}
-use Rattle.c_refute.specs.Ends.{EndsBy, GivesNumber}
-use Rattle.c_refute.specs.Machines.{back_to, machine_run}
+use Rattle.c_refute.specs.Flat.{Back, Rest, at, between, kept_after, made, rests, three, times}
+use Rattle.c_refute.specs.Ends.{GivesNumber}
+use Rattle.c_refute.specs.Machines.{back_to}
 use Rattle.c_refute.specs.Stores.{Kept}
 use Rattle.c_ast.specs.declared.expr.BinOp.TheVariants.{Add}
 use Rattle.c_refute.specs.declared.code.Leaf.TheVariants as leaf
 use Rattle.c_refute.specs.declared.code.Operand.TheVariants.{Slot}
 use Rattle.c_refute.specs.declared.code.Sink.TheVariants as sink
+use Rattle.c_refute.specs.declared.code.Work.{Work}
 use Rattle.c_refute.specs.declared.code.Work.TheVariants.{Alone, Between, Left, Right}
 use Rattle.c_refute.specs.declared.code.Op.{Op}
 use Rattle.c_refute.specs.declared.code.Op.TheVariants as op
-use Rattle.c_refute.proofs.RunningCode.{ends-with, made-to, op-found, steps-same, turn-steps}
+use Rattle.c_refute.proofs.RunningCode.{kept-same, op-found, op-steps, steps-same, turn-steps}
 use Rattle.c_refute.proofs.machine.Machine.advance.Goals as goal
 
 pub returns-in-Call-clause-steps : goal.returns-in-Call-clause-steps
@@ -117,414 +118,194 @@ returns-in-LiteralLess-clause-steps c =
     same ∙ ap (λ (q : ℕ). at (rests (counted program) back (take c.args.at ops)) q k left)
     (sym compared)
 
-pub returns-in_ok-x-in-Do-clause-steps : goal.returns-in_ok-x-in-Do-clause-steps
-returns-in_ok-x-in-Do-clause-steps c =
+pub returns-in-Do-clause-steps : goal.returns-in-Do-clause-steps
+returns-in-Do-clause-steps c =
     let program = c.args.code.now.program.now in
     let ops = c.args.code.now.ops.items in
-    let left = c.args.left in
     let k = c.args.self.now.store in
+    let work = c.in-Do.work in
     let back : Back = back_to (counted program) ops c.args.self.now.callers.items in
-    let rs : List Rest = rests (counted program) back (take c.args.at ops) in
-    let found = c.requires.found ∙ ap (λ (o : Op). Some o) c.in-Do.is in
-    let same = ap (λ (r : Rest). r k left) (op-found (counted program) back ops c.args.at
-    (op.Do c.in-Do.work c.in-Do.sink) found) in
-    let x = c.in_ok-x-in-Do.x in
-    let plain : to_z w128 (of_z w128 x) ≡ x =
-    first_of (search rules, grind (arith, common_steps)) in
-    let moved = made-to rs back c.in-Do.sink (made c.in-Do.work k) x (to_z w128 (of_z w128 x))
-    (kept_after c.in-Do.work k) c.value_of.new.store left c.in_ok-x-in-Do.ensures.number plain c.in_ok-x-in-Do.ensures.kept in
-    steps-same c.args.at program ops _ _ c.give.result c.give.new.self.callers.items
-    c.give.new.self.store left (same ∙ moved) (c.give.ensures.steps program ops c.args.at left)
+    let same = kept-same c.value_of-x.result (made work k)
+    (rests (counted program) back (take c.args.at ops)) back (c.in-Do.sink) (kept_after work k)
+    c.value_of-x.new.store c.args.left c.value_of-x.ensures.number c.value_of-x.ensures.kept in
+    op-steps program ops c.args.self.now.callers.items c.args.at c.args.op.now _ k c.args.left _
+    c.give_made.result c.give_made.new.self.callers.items c.give_made.new.self.store
+    c.requires.found c.in-Do.is same
+    (c.give_made.ensures.steps program ops c.args.at c.args.left (made work k)
+    c.value_of-x.ensures.number)
 
-pub returns-in_err-x-in-Do-clause-steps : goal.returns-in_err-x-in-Do-clause-steps
-returns-in_err-x-in-Do-clause-steps c =
+pub returns-in-Test-clause-steps : goal.returns-in-Test-clause-steps
+returns-in-Test-clause-steps c =
     let program = c.args.code.now.program.now in
     let ops = c.args.code.now.ops.items in
-    let left = c.args.left in
     let k = c.args.self.now.store in
-    let back : Back = back_to (counted program) ops c.args.self.now.callers.items in
-    let rs : List Rest = rests (counted program) back (take c.args.at ops) in
-    let found = c.requires.found ∙ ap (λ (o : Op). Some o) c.in-Do.is in
-    let same = ap (λ (r : Rest). r k left) (op-found (counted program) back ops c.args.at
-    (op.Do c.in-Do.work c.in-Do.sink) found) in
-    let is : EndsBy c.in_err-x-in-Do.field-0.0
-    (machine_run program ops c.args.self.now.callers.items c.args.at k left) =
-    ends-with c.in_err-x-in-Do.field-0.0 (made c.in-Do.work k) (sink_to rs back c.in-Do.sink (kept_after c.in-Do.work k)) _
-    left c.in_err-x-in-Do.ensures.number same in
-    search rules
+    let work = Alone c.in-Test.inner in
+    op-steps program ops c.args.self.now.callers.items c.args.at c.args.op.now _ k c.args.left _
+    c.give_made-in-Test.result c.give_made-in-Test.new.self.callers.items c.give_made-in-Test.new.self.store
+    c.requires.found c.in-Test.is refl
+    (c.give_made-in-Test.ensures.steps program ops c.args.at c.args.left (made work k)
+    c.inner_value-x.ensures)
 
-pub returns-in_ok-x-in-Test-clause-steps : goal.returns-in_ok-x-in-Test-clause-steps
-returns-in_ok-x-in-Test-clause-steps c =
+pub returns-in-Set-clause-steps : goal.returns-in-Set-clause-steps
+returns-in-Set-clause-steps c =
     let program = c.args.code.now.program.now in
     let ops = c.args.code.now.ops.items in
-    let left = c.args.left in
     let k = c.args.self.now.store in
-    let back : Back = back_to (counted program) ops c.args.self.now.callers.items in
-    let rs : List Rest = rests (counted program) back (take c.args.at ops) in
-    let found = c.requires.found ∙ ap (λ (o : Op). Some o) c.in-Test.is in
-    let same = ap (λ (r : Rest). r k left) (op-found (counted program) back ops c.args.at
-    (op.Test c.in-Test.inner c.in-Test.zero c.in-Test.other) found) in
-    let x = c.in_ok-x-in-Test.x in
-    let plain : to_z w128 (of_z w128 x) ≡ x =
-    first_of (search rules, grind (arith, common_steps)) in
-    let moved = made-to rs back (sink.Branch c.in-Test.zero c.in-Test.other) (made (Alone c.in-Test.inner) k) x (to_z w128 (of_z w128 x))
-    (kept_after (Alone c.in-Test.inner) k) k left c.in_ok-x-in-Test.ensures plain refl in
-    steps-same c.args.at program ops _ _ c.give-in-Test.result c.give-in-Test.new.self.callers.items
-    c.give-in-Test.new.self.store left (same ∙ moved) (c.give-in-Test.ensures.steps program ops c.args.at left)
+    let work = Alone c.in-Set.inner in
+    op-steps program ops c.args.self.now.callers.items c.args.at c.args.op.now _ k c.args.left _
+    c.give_made-in-Set.result c.give_made-in-Set.new.self.callers.items c.give_made-in-Set.new.self.store
+    c.requires.found c.in-Set.is refl
+    (c.give_made-in-Set.ensures.steps program ops c.args.at c.args.left (made work k)
+    c.inner_value-x-in-Set.ensures)
 
-pub returns-in_err-x-in-Test-clause-steps : goal.returns-in_err-x-in-Test-clause-steps
-returns-in_err-x-in-Test-clause-steps c =
+pub returns-in-Raise-clause-steps : goal.returns-in-Raise-clause-steps
+returns-in-Raise-clause-steps c =
     let program = c.args.code.now.program.now in
     let ops = c.args.code.now.ops.items in
-    let left = c.args.left in
     let k = c.args.self.now.store in
-    let back : Back = back_to (counted program) ops c.args.self.now.callers.items in
-    let rs : List Rest = rests (counted program) back (take c.args.at ops) in
-    let found = c.requires.found ∙ ap (λ (o : Op). Some o) c.in-Test.is in
-    let same = ap (λ (r : Rest). r k left) (op-found (counted program) back ops c.args.at
-    (op.Test c.in-Test.inner c.in-Test.zero c.in-Test.other) found) in
-    let is : EndsBy c.in_err-x-in-Test.field-0.0
-    (machine_run program ops c.args.self.now.callers.items c.args.at k left) =
-    ends-with c.in_err-x-in-Test.field-0.0 (made (Alone c.in-Test.inner) k) (sink_to rs back (sink.Branch c.in-Test.zero c.in-Test.other) (kept_after (Alone c.in-Test.inner) k)) _
-    left c.in_err-x-in-Test.ensures same in
-    search rules
-
-pub returns-in_ok-x-in-Set-clause-steps : goal.returns-in_ok-x-in-Set-clause-steps
-returns-in_ok-x-in-Set-clause-steps c =
-    let program = c.args.code.now.program.now in
-    let ops = c.args.code.now.ops.items in
-    let left = c.args.left in
-    let k = c.args.self.now.store in
-    let back : Back = back_to (counted program) ops c.args.self.now.callers.items in
-    let rs : List Rest = rests (counted program) back (take c.args.at ops) in
-    let found = c.requires.found ∙ ap (λ (o : Op). Some o) c.in-Set.is in
-    let same = ap (λ (r : Rest). r k left) (op-found (counted program) back ops c.args.at
-    (op.Set c.in-Set.inner c.in-Set.slot c.in-Set.next) found) in
-    let x = c.in_ok-x-in-Set.x in
-    let plain : to_z w128 (of_z w128 x) ≡ x =
-    first_of (search rules, grind (arith, common_steps)) in
-    let moved = made-to rs back (sink.Assign c.in-Set.slot c.in-Set.next) (made (Alone c.in-Set.inner) k) x (to_z w128 (of_z w128 x))
-    (kept_after (Alone c.in-Set.inner) k) k left c.in_ok-x-in-Set.ensures plain refl in
-    steps-same c.args.at program ops _ _ c.give-in-Set.result c.give-in-Set.new.self.callers.items
-    c.give-in-Set.new.self.store left (same ∙ moved) (c.give-in-Set.ensures.steps program ops c.args.at left)
-
-pub returns-in_err-x-in-Set-clause-steps : goal.returns-in_err-x-in-Set-clause-steps
-returns-in_err-x-in-Set-clause-steps c =
-    let program = c.args.code.now.program.now in
-    let ops = c.args.code.now.ops.items in
-    let left = c.args.left in
-    let k = c.args.self.now.store in
-    let back : Back = back_to (counted program) ops c.args.self.now.callers.items in
-    let rs : List Rest = rests (counted program) back (take c.args.at ops) in
-    let found = c.requires.found ∙ ap (λ (o : Op). Some o) c.in-Set.is in
-    let same = ap (λ (r : Rest). r k left) (op-found (counted program) back ops c.args.at
-    (op.Set c.in-Set.inner c.in-Set.slot c.in-Set.next) found) in
-    let is : EndsBy c.in_err-x-in-Set.field-0.0
-    (machine_run program ops c.args.self.now.callers.items c.args.at k left) =
-    ends-with c.in_err-x-in-Set.field-0.0 (made (Alone c.in-Set.inner) k) (sink_to rs back (sink.Assign c.in-Set.slot c.in-Set.next) (kept_after (Alone c.in-Set.inner) k)) _
-    left c.in_err-x-in-Set.ensures same in
-    search rules
-
-pub returns-in_ok-x-in-Raise-clause-steps : goal.returns-in_ok-x-in-Raise-clause-steps
-returns-in_ok-x-in-Raise-clause-steps c =
-    let program = c.args.code.now.program.now in
-    let ops = c.args.code.now.ops.items in
-    let left = c.args.left in
-    let k = c.args.self.now.store in
-    let back : Back = back_to (counted program) ops c.args.self.now.callers.items in
-    let rs : List Rest = rests (counted program) back (take c.args.at ops) in
-    let found = c.requires.found ∙ ap (λ (o : Op). Some o) c.in-Raise.is in
-    let same = ap (λ (r : Rest). r k left) (op-found (counted program) back ops c.args.at
-    (op.Raise c.in-Raise.slot c.in-Raise.c c.in-Raise.next) found) in
-    let x = c.in_ok-x-in-Raise.x in
-    let plain : to_z w128 (of_z w128 x) ≡ x =
-    first_of (search rules, grind (arith, common_steps)) in
     let literal : to_z w64 (of_z w64 c.in-Raise.c) ≡ c.in-Raise.c =
     first_of (search rules, grind (arith, common_steps)) in
-    let given = rw literal at c.in_ok-x-in-Raise.ensures in
-    let moved = made-to rs back (sink.Assign c.in-Raise.slot c.in-Raise.next) (made (between Add (leaf.Slot c.in-Raise.slot) (leaf.Constant c.in-Raise.c)) k) x (to_z w128 (of_z w128 x))
-    (kept_after (between Add (leaf.Slot c.in-Raise.slot) (leaf.Constant c.in-Raise.c)) k) k left given plain refl in
-    steps-same c.args.at program ops _ _ c.give-in-Raise.result c.give-in-Raise.new.self.callers.items
-    c.give-in-Raise.new.self.store left (same ∙ moved) (c.give-in-Raise.ensures.steps program ops c.args.at left)
+    let work : ℤ → Work = λ z. between Add (leaf.Slot c.in-Raise.slot) (leaf.Constant z) in
+    let given = subst (λ (z : ℤ). GivesNumber (made (work z) k) c.sum_value-x.result) literal
+    c.sum_value-x.ensures in
+    op-steps program ops c.args.self.now.callers.items c.args.at c.args.op.now _ k c.args.left _
+    c.give_made-in-Raise.result c.give_made-in-Raise.new.self.callers.items c.give_made-in-Raise.new.self.store
+    c.requires.found c.in-Raise.is refl
+    (c.give_made-in-Raise.ensures.steps program ops c.args.at c.args.left (made (work c.in-Raise.c) k)
+    given)
 
-pub returns-in_err-x-in-Raise-clause-steps : goal.returns-in_err-x-in-Raise-clause-steps
-returns-in_err-x-in-Raise-clause-steps c =
+pub returns-in-Add-clause-steps : goal.returns-in-Add-clause-steps
+returns-in-Add-clause-steps c =
     let program = c.args.code.now.program.now in
     let ops = c.args.code.now.ops.items in
-    let left = c.args.left in
     let k = c.args.self.now.store in
-    let back : Back = back_to (counted program) ops c.args.self.now.callers.items in
-    let rs : List Rest = rests (counted program) back (take c.args.at ops) in
-    let found = c.requires.found ∙ ap (λ (o : Op). Some o) c.in-Raise.is in
-    let same = ap (λ (r : Rest). r k left) (op-found (counted program) back ops c.args.at
-    (op.Raise c.in-Raise.slot c.in-Raise.c c.in-Raise.next) found) in
-    let literal : to_z w64 (of_z w64 c.in-Raise.c) ≡ c.in-Raise.c =
-    first_of (search rules, grind (arith, common_steps)) in
-    let P : ℤ → Type 0 = λ z. GivesNumber (made (between Add (leaf.Slot c.in-Raise.slot) (leaf.Constant z)) k)
-    (Err c.in_err-x-in-Raise.field-0.0) in
-    let given = subst P literal c.in_err-x-in-Raise.ensures in
-    let is : EndsBy c.in_err-x-in-Raise.field-0.0
-    (machine_run program ops c.args.self.now.callers.items c.args.at k left) =
-    ends-with c.in_err-x-in-Raise.field-0.0 (made (between Add (leaf.Slot c.in-Raise.slot) (leaf.Constant c.in-Raise.c)) k) (sink_to rs back (sink.Assign c.in-Raise.slot c.in-Raise.next) (kept_after (between Add (leaf.Slot c.in-Raise.slot) (leaf.Constant c.in-Raise.c)) k)) _
-    left given same in
-    search rules
+    let work = between Add (leaf.Slot c.in-Add.a) (leaf.Slot c.in-Add.b) in
+    op-steps program ops c.args.self.now.callers.items c.args.at c.args.op.now _ k c.args.left _
+    c.give_made-in-Add.result c.give_made-in-Add.new.self.callers.items c.give_made-in-Add.new.self.store
+    c.requires.found c.in-Add.is refl
+    (c.give_made-in-Add.ensures.steps program ops c.args.at c.args.left (made work k)
+    c.sum_value-x-in-Add.ensures)
 
-pub returns-in_ok-x-in-Add-clause-steps : goal.returns-in_ok-x-in-Add-clause-steps
-returns-in_ok-x-in-Add-clause-steps c =
+pub returns-in-AddThree-clause-steps : goal.returns-in-AddThree-clause-steps
+returns-in-AddThree-clause-steps c =
     let program = c.args.code.now.program.now in
     let ops = c.args.code.now.ops.items in
-    let left = c.args.left in
     let k = c.args.self.now.store in
-    let back : Back = back_to (counted program) ops c.args.self.now.callers.items in
-    let rs : List Rest = rests (counted program) back (take c.args.at ops) in
-    let found = c.requires.found ∙ ap (λ (o : Op). Some o) c.in-Add.is in
-    let same = ap (λ (r : Rest). r k left) (op-found (counted program) back ops c.args.at
-    (op.Add c.in-Add.a c.in-Add.b c.in-Add.slot c.in-Add.next) found) in
-    let x = c.in_ok-x-in-Add.x in
-    let plain : to_z w128 (of_z w128 x) ≡ x =
-    first_of (search rules, grind (arith, common_steps)) in
-    let moved = made-to rs back (sink.Assign c.in-Add.slot c.in-Add.next) (made (between Add (leaf.Slot c.in-Add.a) (leaf.Slot c.in-Add.b)) k) x (to_z w128 (of_z w128 x))
-    (kept_after (between Add (leaf.Slot c.in-Add.a) (leaf.Slot c.in-Add.b)) k) k left c.in_ok-x-in-Add.ensures plain refl in
-    steps-same c.args.at program ops _ _ c.give-in-Add.result c.give-in-Add.new.self.callers.items
-    c.give-in-Add.new.self.store left (same ∙ moved) (c.give-in-Add.ensures.steps program ops c.args.at left)
+    let work = three c.in-AddThree.a c.in-AddThree.b c.in-AddThree.c in
+    op-steps program ops c.args.self.now.callers.items c.args.at c.args.op.now _ k c.args.left _
+    c.give_made-in-AddThree.result c.give_made-in-AddThree.new.self.callers.items c.give_made-in-AddThree.new.self.store
+    c.requires.found c.in-AddThree.is refl
+    (c.give_made-in-AddThree.ensures.steps program ops c.args.at c.args.left (made work k)
+    c.three_value-x.ensures)
 
-pub returns-in_err-x-in-Add-clause-steps : goal.returns-in_err-x-in-Add-clause-steps
-returns-in_err-x-in-Add-clause-steps c =
+pub returns-in-AddTimes-clause-steps : goal.returns-in-AddTimes-clause-steps
+returns-in-AddTimes-clause-steps c =
     let program = c.args.code.now.program.now in
     let ops = c.args.code.now.ops.items in
-    let left = c.args.left in
     let k = c.args.self.now.store in
-    let back : Back = back_to (counted program) ops c.args.self.now.callers.items in
-    let rs : List Rest = rests (counted program) back (take c.args.at ops) in
-    let found = c.requires.found ∙ ap (λ (o : Op). Some o) c.in-Add.is in
-    let same = ap (λ (r : Rest). r k left) (op-found (counted program) back ops c.args.at
-    (op.Add c.in-Add.a c.in-Add.b c.in-Add.slot c.in-Add.next) found) in
-    let is : EndsBy c.in_err-x-in-Add.field-0.0
-    (machine_run program ops c.args.self.now.callers.items c.args.at k left) =
-    ends-with c.in_err-x-in-Add.field-0.0 (made (between Add (leaf.Slot c.in-Add.a) (leaf.Slot c.in-Add.b)) k) (sink_to rs back (sink.Assign c.in-Add.slot c.in-Add.next) (kept_after (between Add (leaf.Slot c.in-Add.a) (leaf.Slot c.in-Add.b)) k)) _
-    left c.in_err-x-in-Add.ensures same in
-    search rules
-
-pub returns-in_ok-x-in-AddThree-clause-steps : goal.returns-in_ok-x-in-AddThree-clause-steps
-returns-in_ok-x-in-AddThree-clause-steps c =
-    let program = c.args.code.now.program.now in
-    let ops = c.args.code.now.ops.items in
-    let left = c.args.left in
-    let k = c.args.self.now.store in
-    let back : Back = back_to (counted program) ops c.args.self.now.callers.items in
-    let rs : List Rest = rests (counted program) back (take c.args.at ops) in
-    let found = c.requires.found ∙ ap (λ (o : Op). Some o) c.in-AddThree.is in
-    let same = ap (λ (r : Rest). r k left) (op-found (counted program) back ops c.args.at
-    (op.AddThree c.in-AddThree.a c.in-AddThree.b c.in-AddThree.c c.in-AddThree.slot c.in-AddThree.next) found) in
-    let x = c.in_ok-x-in-AddThree.x in
-    let plain : to_z w128 (of_z w128 x) ≡ x =
-    first_of (search rules, grind (arith, common_steps)) in
-    let moved = made-to rs back (sink.Assign c.in-AddThree.slot c.in-AddThree.next) (made (three c.in-AddThree.a c.in-AddThree.b c.in-AddThree.c) k) x (to_z w128 (of_z w128 x))
-    (kept_after (three c.in-AddThree.a c.in-AddThree.b c.in-AddThree.c) k) k left c.in_ok-x-in-AddThree.ensures plain refl in
-    steps-same c.args.at program ops _ _ c.give-in-AddThree.result c.give-in-AddThree.new.self.callers.items
-    c.give-in-AddThree.new.self.store left (same ∙ moved) (c.give-in-AddThree.ensures.steps program ops c.args.at left)
-
-pub returns-in_err-x-in-AddThree-clause-steps : goal.returns-in_err-x-in-AddThree-clause-steps
-returns-in_err-x-in-AddThree-clause-steps c =
-    let program = c.args.code.now.program.now in
-    let ops = c.args.code.now.ops.items in
-    let left = c.args.left in
-    let k = c.args.self.now.store in
-    let back : Back = back_to (counted program) ops c.args.self.now.callers.items in
-    let rs : List Rest = rests (counted program) back (take c.args.at ops) in
-    let found = c.requires.found ∙ ap (λ (o : Op). Some o) c.in-AddThree.is in
-    let same = ap (λ (r : Rest). r k left) (op-found (counted program) back ops c.args.at
-    (op.AddThree c.in-AddThree.a c.in-AddThree.b c.in-AddThree.c c.in-AddThree.slot c.in-AddThree.next) found) in
-    let is : EndsBy c.in_err-x-in-AddThree.field-0.0
-    (machine_run program ops c.args.self.now.callers.items c.args.at k left) =
-    ends-with c.in_err-x-in-AddThree.field-0.0 (made (three c.in-AddThree.a c.in-AddThree.b c.in-AddThree.c) k) (sink_to rs back (sink.Assign c.in-AddThree.slot c.in-AddThree.next) (kept_after (three c.in-AddThree.a c.in-AddThree.b c.in-AddThree.c) k)) _
-    left c.in_err-x-in-AddThree.ensures same in
-    search rules
-
-pub returns-in_ok-x-in-AddTimes-clause-steps : goal.returns-in_ok-x-in-AddTimes-clause-steps
-returns-in_ok-x-in-AddTimes-clause-steps c =
-    let program = c.args.code.now.program.now in
-    let ops = c.args.code.now.ops.items in
-    let left = c.args.left in
-    let k = c.args.self.now.store in
-    let back : Back = back_to (counted program) ops c.args.self.now.callers.items in
-    let rs : List Rest = rests (counted program) back (take c.args.at ops) in
-    let found = c.requires.found ∙ ap (λ (o : Op). Some o) c.in-AddTimes.is in
-    let same = ap (λ (r : Rest). r k left) (op-found (counted program) back ops c.args.at
-    (op.AddTimes c.in-AddTimes.a c.in-AddTimes.c c.in-AddTimes.b c.in-AddTimes.slot c.in-AddTimes.next) found) in
-    let x = c.in_ok-x-in-AddTimes.x in
-    let plain : to_z w128 (of_z w128 x) ≡ x =
-    first_of (search rules, grind (arith, common_steps)) in
     let literal : to_z w64 (of_z w64 c.in-AddTimes.c) ≡ c.in-AddTimes.c =
     first_of (search rules, grind (arith, common_steps)) in
-    let given = rw literal at c.in_ok-x-in-AddTimes.ensures in
-    let moved = made-to rs back (sink.Assign c.in-AddTimes.slot c.in-AddTimes.next) (made (times c.in-AddTimes.a c.in-AddTimes.c c.in-AddTimes.b) k) x (to_z w128 (of_z w128 x))
-    (kept_after (times c.in-AddTimes.a c.in-AddTimes.c c.in-AddTimes.b) k) k left given plain refl in
-    steps-same c.args.at program ops _ _ c.give-in-AddTimes.result c.give-in-AddTimes.new.self.callers.items
-    c.give-in-AddTimes.new.self.store left (same ∙ moved) (c.give-in-AddTimes.ensures.steps program ops c.args.at left)
+    let work : ℤ → Work = λ z. times c.in-AddTimes.a z c.in-AddTimes.b in
+    let given = subst (λ (z : ℤ). GivesNumber (made (work z) k) c.times_value-x.result) literal
+    c.times_value-x.ensures in
+    op-steps program ops c.args.self.now.callers.items c.args.at c.args.op.now _ k c.args.left _
+    c.give_made-in-AddTimes.result c.give_made-in-AddTimes.new.self.callers.items c.give_made-in-AddTimes.new.self.store
+    c.requires.found c.in-AddTimes.is refl
+    (c.give_made-in-AddTimes.ensures.steps program ops c.args.at c.args.left (made (work c.in-AddTimes.c) k)
+    given)
 
-pub returns-in_err-x-in-AddTimes-clause-steps : goal.returns-in_err-x-in-AddTimes-clause-steps
-returns-in_err-x-in-AddTimes-clause-steps c =
+pub returns-in-SetLeft-clause-steps : goal.returns-in-SetLeft-clause-steps
+returns-in-SetLeft-clause-steps c =
     let program = c.args.code.now.program.now in
     let ops = c.args.code.now.ops.items in
-    let left = c.args.left in
     let k = c.args.self.now.store in
-    let back : Back = back_to (counted program) ops c.args.self.now.callers.items in
-    let rs : List Rest = rests (counted program) back (take c.args.at ops) in
-    let found = c.requires.found ∙ ap (λ (o : Op). Some o) c.in-AddTimes.is in
-    let same = ap (λ (r : Rest). r k left) (op-found (counted program) back ops c.args.at
-    (op.AddTimes c.in-AddTimes.a c.in-AddTimes.c c.in-AddTimes.b c.in-AddTimes.slot c.in-AddTimes.next) found) in
-    let literal : to_z w64 (of_z w64 c.in-AddTimes.c) ≡ c.in-AddTimes.c =
-    first_of (search rules, grind (arith, common_steps)) in
-    let P : ℤ → Type 0 = λ z. GivesNumber (made (times c.in-AddTimes.a z c.in-AddTimes.b) k)
-    (Err c.in_err-x-in-AddTimes.field-0.0) in
-    let given = subst P literal c.in_err-x-in-AddTimes.ensures in
-    let is : EndsBy c.in_err-x-in-AddTimes.field-0.0
-    (machine_run program ops c.args.self.now.callers.items c.args.at k left) =
-    ends-with c.in_err-x-in-AddTimes.field-0.0 (made (times c.in-AddTimes.a c.in-AddTimes.c c.in-AddTimes.b) k) (sink_to rs back (sink.Assign c.in-AddTimes.slot c.in-AddTimes.next) (kept_after (times c.in-AddTimes.a c.in-AddTimes.c c.in-AddTimes.b) k)) _
-    left given same in
-    search rules
+    let work = Left c.in-SetLeft.op c.in-SetLeft.inner c.in-SetLeft.leaf in
+    op-steps program ops c.args.self.now.callers.items c.args.at c.args.op.now _ k c.args.left _
+    c.give_made-in-SetLeft.result c.give_made-in-SetLeft.new.self.callers.items c.give_made-in-SetLeft.new.self.store
+    c.requires.found c.in-SetLeft.is refl
+    (c.give_made-in-SetLeft.ensures.steps program ops c.args.at c.args.left (made work k)
+    c.left_value-x.ensures)
 
-pub returns-in_ok-x-in-SetLeft-clause-steps : goal.returns-in_ok-x-in-SetLeft-clause-steps
-returns-in_ok-x-in-SetLeft-clause-steps c =
+pub returns-in-SetRight-clause-steps : goal.returns-in-SetRight-clause-steps
+returns-in-SetRight-clause-steps c =
     let program = c.args.code.now.program.now in
     let ops = c.args.code.now.ops.items in
-    let left = c.args.left in
     let k = c.args.self.now.store in
-    let back : Back = back_to (counted program) ops c.args.self.now.callers.items in
-    let rs : List Rest = rests (counted program) back (take c.args.at ops) in
-    let found = c.requires.found ∙ ap (λ (o : Op). Some o) c.in-SetLeft.is in
-    let same = ap (λ (r : Rest). r k left) (op-found (counted program) back ops c.args.at
-    (op.SetLeft c.in-SetLeft.op c.in-SetLeft.inner c.in-SetLeft.leaf c.in-SetLeft.slot c.in-SetLeft.next) found) in
-    let x = c.in_ok-x-in-SetLeft.x in
-    let plain : to_z w128 (of_z w128 x) ≡ x =
-    first_of (search rules, grind (arith, common_steps)) in
-    let moved = made-to rs back (sink.Assign c.in-SetLeft.slot c.in-SetLeft.next) (made (Left c.in-SetLeft.op c.in-SetLeft.inner c.in-SetLeft.leaf) k) x (to_z w128 (of_z w128 x))
-    (kept_after (Left c.in-SetLeft.op c.in-SetLeft.inner c.in-SetLeft.leaf) k) k left c.in_ok-x-in-SetLeft.ensures plain refl in
-    steps-same c.args.at program ops _ _ c.give-in-SetLeft.result c.give-in-SetLeft.new.self.callers.items
-    c.give-in-SetLeft.new.self.store left (same ∙ moved) (c.give-in-SetLeft.ensures.steps program ops c.args.at left)
+    let work = Right c.in-SetRight.op (Slot c.in-SetRight.a) c.in-SetRight.inner in
+    op-steps program ops c.args.self.now.callers.items c.args.at c.args.op.now _ k c.args.left _
+    c.give_made-in-SetRight.result c.give_made-in-SetRight.new.self.callers.items c.give_made-in-SetRight.new.self.store
+    c.requires.found c.in-SetRight.is refl
+    (c.give_made-in-SetRight.ensures.steps program ops c.args.at c.args.left (made work k)
+    c.right_value-x.ensures)
 
-pub returns-in_err-x-in-SetLeft-clause-steps : goal.returns-in_err-x-in-SetLeft-clause-steps
-returns-in_err-x-in-SetLeft-clause-steps c =
+pub returns-in-PushInner-clause-steps : goal.returns-in-PushInner-clause-steps
+returns-in-PushInner-clause-steps c =
     let program = c.args.code.now.program.now in
     let ops = c.args.code.now.ops.items in
-    let left = c.args.left in
     let k = c.args.self.now.store in
-    let back : Back = back_to (counted program) ops c.args.self.now.callers.items in
-    let rs : List Rest = rests (counted program) back (take c.args.at ops) in
-    let found = c.requires.found ∙ ap (λ (o : Op). Some o) c.in-SetLeft.is in
-    let same = ap (λ (r : Rest). r k left) (op-found (counted program) back ops c.args.at
-    (op.SetLeft c.in-SetLeft.op c.in-SetLeft.inner c.in-SetLeft.leaf c.in-SetLeft.slot c.in-SetLeft.next) found) in
-    let is : EndsBy c.in_err-x-in-SetLeft.field-0.0
-    (machine_run program ops c.args.self.now.callers.items c.args.at k left) =
-    ends-with c.in_err-x-in-SetLeft.field-0.0 (made (Left c.in-SetLeft.op c.in-SetLeft.inner c.in-SetLeft.leaf) k) (sink_to rs back (sink.Assign c.in-SetLeft.slot c.in-SetLeft.next) (kept_after (Left c.in-SetLeft.op c.in-SetLeft.inner c.in-SetLeft.leaf) k)) _
-    left c.in_err-x-in-SetLeft.ensures same in
-    search rules
+    let work = Alone c.in-PushInner.inner in
+    op-steps program ops c.args.self.now.callers.items c.args.at c.args.op.now _ k c.args.left _
+    c.give_made-in-PushInner.result c.give_made-in-PushInner.new.self.callers.items c.give_made-in-PushInner.new.self.store
+    c.requires.found c.in-PushInner.is refl
+    (c.give_made-in-PushInner.ensures.steps program ops c.args.at c.args.left (made work k)
+    c.inner_value-x-in-PushInner.ensures)
 
-pub returns-in_ok-x-in-SetRight-clause-steps : goal.returns-in_ok-x-in-SetRight-clause-steps
-returns-in_ok-x-in-SetRight-clause-steps c =
+pub returns-in-Give-clause-steps : goal.returns-in-Give-clause-steps
+returns-in-Give-clause-steps c =
     let program = c.args.code.now.program.now in
     let ops = c.args.code.now.ops.items in
-    let left = c.args.left in
     let k = c.args.self.now.store in
+    let work = Between c.in-Give.op c.in-Give.a c.in-Give.b in
     let back : Back = back_to (counted program) ops c.args.self.now.callers.items in
-    let rs : List Rest = rests (counted program) back (take c.args.at ops) in
-    let found = c.requires.found ∙ ap (λ (o : Op). Some o) c.in-SetRight.is in
-    let same = ap (λ (r : Rest). r k left) (op-found (counted program) back ops c.args.at
-    (op.SetRight c.in-SetRight.op c.in-SetRight.a c.in-SetRight.inner c.in-SetRight.slot c.in-SetRight.next) found) in
-    let x = c.in_ok-x-in-SetRight.x in
-    let plain : to_z w128 (of_z w128 x) ≡ x =
-    first_of (search rules, grind (arith, common_steps)) in
-    let moved = made-to rs back (sink.Assign c.in-SetRight.slot c.in-SetRight.next) (made (Right c.in-SetRight.op (Slot c.in-SetRight.a) c.in-SetRight.inner) k) x (to_z w128 (of_z w128 x))
-    (kept_after (Right c.in-SetRight.op (Slot c.in-SetRight.a) c.in-SetRight.inner) k) k left c.in_ok-x-in-SetRight.ensures plain refl in
-    steps-same c.args.at program ops _ _ c.give-in-SetRight.result c.give-in-SetRight.new.self.callers.items
-    c.give-in-SetRight.new.self.store left (same ∙ moved) (c.give-in-SetRight.ensures.steps program ops c.args.at left)
+    let same = kept-same c.between_value-x.result (made work k)
+    (rests (counted program) back (take c.args.at ops)) back (sink.Return c.in-Give.scopes) (kept_after work k)
+    c.between_value-x.new.store c.args.left c.between_value-x.ensures.number c.between_value-x.ensures.kept in
+    op-steps program ops c.args.self.now.callers.items c.args.at c.args.op.now _ k c.args.left _
+    c.give_made-in-Give.result c.give_made-in-Give.new.self.callers.items c.give_made-in-Give.new.self.store
+    c.requires.found c.in-Give.is same
+    (c.give_made-in-Give.ensures.steps program ops c.args.at c.args.left (made work k)
+    c.between_value-x.ensures.number)
 
-pub returns-in_err-x-in-SetRight-clause-steps : goal.returns-in_err-x-in-SetRight-clause-steps
-returns-in_err-x-in-SetRight-clause-steps c =
-    let program = c.args.code.now.program.now in
-    let ops = c.args.code.now.ops.items in
-    let left = c.args.left in
-    let k = c.args.self.now.store in
-    let back : Back = back_to (counted program) ops c.args.self.now.callers.items in
-    let rs : List Rest = rests (counted program) back (take c.args.at ops) in
-    let found = c.requires.found ∙ ap (λ (o : Op). Some o) c.in-SetRight.is in
-    let same = ap (λ (r : Rest). r k left) (op-found (counted program) back ops c.args.at
-    (op.SetRight c.in-SetRight.op c.in-SetRight.a c.in-SetRight.inner c.in-SetRight.slot c.in-SetRight.next) found) in
-    let is : EndsBy c.in_err-x-in-SetRight.field-0.0
-    (machine_run program ops c.args.self.now.callers.items c.args.at k left) =
-    ends-with c.in_err-x-in-SetRight.field-0.0 (made (Right c.in-SetRight.op (Slot c.in-SetRight.a) c.in-SetRight.inner) k) (sink_to rs back (sink.Assign c.in-SetRight.slot c.in-SetRight.next) (kept_after (Right c.in-SetRight.op (Slot c.in-SetRight.a) c.in-SetRight.inner) k)) _
-    left c.in_err-x-in-SetRight.ensures same in
-    search rules
+pub returns-in-Do-clause-falls : goal.returns-in-Do-clause-falls
+returns-in-Do-clause-falls c =
+    c.give_made.ensures.falls (length c.args.code.now.ops.items) c.args.left
 
-pub returns-in_ok-x-in-PushInner-clause-steps : goal.returns-in_ok-x-in-PushInner-clause-steps
-returns-in_ok-x-in-PushInner-clause-steps c =
-    let program = c.args.code.now.program.now in
-    let ops = c.args.code.now.ops.items in
-    let left = c.args.left in
-    let k = c.args.self.now.store in
-    let back : Back = back_to (counted program) ops c.args.self.now.callers.items in
-    let rs : List Rest = rests (counted program) back (take c.args.at ops) in
-    let found = c.requires.found ∙ ap (λ (o : Op). Some o) c.in-PushInner.is in
-    let same = ap (λ (r : Rest). r k left) (op-found (counted program) back ops c.args.at
-    (op.PushInner c.in-PushInner.inner c.in-PushInner.next) found) in
-    let x = c.in_ok-x-in-PushInner.x in
-    let plain : to_z w128 (of_z w128 x) ≡ x =
-    first_of (search rules, grind (arith, common_steps)) in
-    let moved = made-to rs back (sink.Push c.in-PushInner.next) (made (Alone c.in-PushInner.inner) k) x (to_z w128 (of_z w128 x))
-    (kept_after (Alone c.in-PushInner.inner) k) k left c.in_ok-x-in-PushInner.ensures plain refl in
-    steps-same c.args.at program ops _ _ c.give-in-PushInner.result c.give-in-PushInner.new.self.callers.items
-    c.give-in-PushInner.new.self.store left (same ∙ moved) (c.give-in-PushInner.ensures.steps program ops c.args.at left)
+pub returns-in-Test-clause-falls : goal.returns-in-Test-clause-falls
+returns-in-Test-clause-falls c =
+    c.give_made-in-Test.ensures.falls (length c.args.code.now.ops.items) c.args.left
 
-pub returns-in_err-x-in-PushInner-clause-steps : goal.returns-in_err-x-in-PushInner-clause-steps
-returns-in_err-x-in-PushInner-clause-steps c =
-    let program = c.args.code.now.program.now in
-    let ops = c.args.code.now.ops.items in
-    let left = c.args.left in
-    let k = c.args.self.now.store in
-    let back : Back = back_to (counted program) ops c.args.self.now.callers.items in
-    let rs : List Rest = rests (counted program) back (take c.args.at ops) in
-    let found = c.requires.found ∙ ap (λ (o : Op). Some o) c.in-PushInner.is in
-    let same = ap (λ (r : Rest). r k left) (op-found (counted program) back ops c.args.at
-    (op.PushInner c.in-PushInner.inner c.in-PushInner.next) found) in
-    let is : EndsBy c.in_err-x-in-PushInner.field-0.0
-    (machine_run program ops c.args.self.now.callers.items c.args.at k left) =
-    ends-with c.in_err-x-in-PushInner.field-0.0 (made (Alone c.in-PushInner.inner) k) (sink_to rs back (sink.Push c.in-PushInner.next) (kept_after (Alone c.in-PushInner.inner) k)) _
-    left c.in_err-x-in-PushInner.ensures same in
-    search rules
+pub returns-in-Set-clause-falls : goal.returns-in-Set-clause-falls
+returns-in-Set-clause-falls c =
+    c.give_made-in-Set.ensures.falls (length c.args.code.now.ops.items) c.args.left
 
-pub returns-in_ok-x-in-Give-clause-steps : goal.returns-in_ok-x-in-Give-clause-steps
-returns-in_ok-x-in-Give-clause-steps c =
-    let program = c.args.code.now.program.now in
-    let ops = c.args.code.now.ops.items in
-    let left = c.args.left in
-    let k = c.args.self.now.store in
-    let back : Back = back_to (counted program) ops c.args.self.now.callers.items in
-    let rs : List Rest = rests (counted program) back (take c.args.at ops) in
-    let found = c.requires.found ∙ ap (λ (o : Op). Some o) c.in-Give.is in
-    let same = ap (λ (r : Rest). r k left) (op-found (counted program) back ops c.args.at
-    (op.Give c.in-Give.op c.in-Give.a c.in-Give.b c.in-Give.scopes) found) in
-    let x = c.in_ok-x-in-Give.x in
-    let plain : to_z w128 (of_z w128 x) ≡ x =
-    first_of (search rules, grind (arith, common_steps)) in
-    let moved = made-to rs back (sink.Return c.in-Give.scopes) (made (Between c.in-Give.op c.in-Give.a c.in-Give.b) k) x (to_z w128 (of_z w128 x))
-    (kept_after (Between c.in-Give.op c.in-Give.a c.in-Give.b) k) c.between_value.new.store left c.in_ok-x-in-Give.ensures.number plain c.in_ok-x-in-Give.ensures.kept in
-    steps-same c.args.at program ops _ _ c.give-in-Give.result c.give-in-Give.new.self.callers.items
-    c.give-in-Give.new.self.store left (same ∙ moved) (c.give-in-Give.ensures.steps program ops c.args.at left)
+pub returns-in-Raise-clause-falls : goal.returns-in-Raise-clause-falls
+returns-in-Raise-clause-falls c =
+    c.give_made-in-Raise.ensures.falls (length c.args.code.now.ops.items) c.args.left
 
-pub returns-in_err-x-in-Give-clause-steps : goal.returns-in_err-x-in-Give-clause-steps
-returns-in_err-x-in-Give-clause-steps c =
-    let program = c.args.code.now.program.now in
-    let ops = c.args.code.now.ops.items in
-    let left = c.args.left in
-    let k = c.args.self.now.store in
-    let back : Back = back_to (counted program) ops c.args.self.now.callers.items in
-    let rs : List Rest = rests (counted program) back (take c.args.at ops) in
-    let found = c.requires.found ∙ ap (λ (o : Op). Some o) c.in-Give.is in
-    let same = ap (λ (r : Rest). r k left) (op-found (counted program) back ops c.args.at
-    (op.Give c.in-Give.op c.in-Give.a c.in-Give.b c.in-Give.scopes) found) in
-    let is : EndsBy c.in_err-x-in-Give.field-0.0
-    (machine_run program ops c.args.self.now.callers.items c.args.at k left) =
-    ends-with c.in_err-x-in-Give.field-0.0 (made (Between c.in-Give.op c.in-Give.a c.in-Give.b) k) (sink_to rs back (sink.Return c.in-Give.scopes) (kept_after (Between c.in-Give.op c.in-Give.a c.in-Give.b) k)) _
-    left c.in_err-x-in-Give.ensures.number same in
-    search rules
+pub returns-in-Add-clause-falls : goal.returns-in-Add-clause-falls
+returns-in-Add-clause-falls c =
+    c.give_made-in-Add.ensures.falls (length c.args.code.now.ops.items) c.args.left
+
+pub returns-in-AddThree-clause-falls : goal.returns-in-AddThree-clause-falls
+returns-in-AddThree-clause-falls c =
+    c.give_made-in-AddThree.ensures.falls (length c.args.code.now.ops.items) c.args.left
+
+pub returns-in-AddTimes-clause-falls : goal.returns-in-AddTimes-clause-falls
+returns-in-AddTimes-clause-falls c =
+    c.give_made-in-AddTimes.ensures.falls (length c.args.code.now.ops.items) c.args.left
+
+pub returns-in-SetLeft-clause-falls : goal.returns-in-SetLeft-clause-falls
+returns-in-SetLeft-clause-falls c =
+    c.give_made-in-SetLeft.ensures.falls (length c.args.code.now.ops.items) c.args.left
+
+pub returns-in-SetRight-clause-falls : goal.returns-in-SetRight-clause-falls
+returns-in-SetRight-clause-falls c =
+    c.give_made-in-SetRight.ensures.falls (length c.args.code.now.ops.items) c.args.left
+
+pub returns-in-PushInner-clause-falls : goal.returns-in-PushInner-clause-falls
+returns-in-PushInner-clause-falls c =
+    c.give_made-in-PushInner.ensures.falls (length c.args.code.now.ops.items) c.args.left
+
+pub returns-in-Give-clause-falls : goal.returns-in-Give-clause-falls
+returns-in-Give-clause-falls c =
+    c.give_made-in-Give.ensures.falls (length c.args.code.now.ops.items) c.args.left
