@@ -1,9 +1,9 @@
 -- What is kept represents lists of visits: one node more, a later first note, lists that are as
 -- long.
-use Rattle.std.proofs.Common.{All, ◌≡◌, ◌∙◌, ap, refl, sym, subst, ℕ, Option, Some, None, List, [], ◌∷◌, ◌++◌, append_assoc, append-nil}
+use Rattle.std.proofs.Common.{All, arith, ◌≤◌, ◌≡◌, ◌∙◌, ap, refl, sym, subst, ℕ, Option, Some, None, List, [], ◌∷◌, ◌++◌, append_assoc, append-nil}
 use Rattle.std.proofs.lemmas.List.Elements.{All-pop, All-push}
 use Rattle.std.specs.Option.{option_or}
-use Rattle.rx_visits.specs.Keeping.{StandsForLists, StandsForVisits}
+use Rattle.rx_visits.specs.Keeping.{OfLeaf, StandsForLists, StandsForVisits}
 use Rattle.rx_visits.specs.Outcomes.{note_of}
 use Rattle.rx_visits.specs.Visits.{Visit, alone}
 use Rattle.rx_visits.specs.declared.kept.Kept.{Kept}
@@ -124,3 +124,9 @@ all_push P ks new k is all one = subst (All P) (sym is) (All-push P ks k all one
 pub all_last : {N : Type 0} (P : Kept N → Type 0) (ks : List (Kept N)) (k : Kept N) →
     All P (ks ++ k ∷ []) → All P ks × P k
 all_last P ks k all = All-pop P (ks ++ k ∷ []) ks (Some k) refl all
+
+-- a leaf that was visited with so many choices was visited with fewer than more
+pub of_leaf_more : {N : Type 0} (P : N → Type 0) (most more : ℕ) → most ≤ more → (k : Kept N)
+    → OfLeaf P most k → OfLeaf P more k
+of_leaf_more P most more h Expanded one = tt
+of_leaf_more P most more h (Frontier leaf) (valid, below) = (valid, omega (arith, h, below))

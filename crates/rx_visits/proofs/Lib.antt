@@ -6,5 +6,7 @@ pub mod NewLaws
 pub mod OutcomeLaws
 pub mod ResumeLaws
 pub mod SeenLaws
+pub mod StepLaws
+pub mod StopLaws
 pub mod VisitedLaws
 pub mod WalkLaws

@@ -3,7 +3,7 @@ use Rattle.std.proofs.Common.{◌≡◌, ◌∙◌, ap, refl, sym, subst, arith,
 use Rattle.std.specs.Option.{option_map, option_or}
 use Rattle.rx_visits.specs.Keeping.{IsAfterNote, IsLeaf, IsVisited, StandsForLists, StandsForVisits, visits_from}
 use Rattle.rx_visits.specs.Outcomes.{note_of}
-use Rattle.rx_visits.specs.Tallies.{counted, over, visited_open}
+use Rattle.rx_visits.specs.Tallies.{GoesOn, counted, visited_open}
 use Rattle.rx_visits.specs.Views.{seen_tally}
 use Rattle.rx_visits.specs.Visits.{Visit, alone, choosing, visits_of}
 use Rattle.rx_visits.specs.declared.kept.Kept.{Kept}
@@ -15,11 +15,11 @@ use Rattle.rx_visits.specs.declared.tally.Ended.TheVariants.{Going}
 use Rattle.rx_visits.specs.declared.tally.Tally.{Tally}
 use Rattle.rx_visits.specs.declared.tree.Menu.{Menu}
 use Rattle.rx_visits.specs.declared.tree.Settled.{Settled}
-use Rattle.rx_visits.proofs.CountLaws.{budget-ends, visit-counts}
+use Rattle.rx_visits.proofs.CountLaws.{visit-counts}
 use Rattle.rx_visits.proofs.KeepingLaws.{lists_last, note_counts, note_stays, visits_later}
 use Rattle.rx_visits.proofs.OutcomeLaws.{or_none}
 use Rattle.rx_visits.proofs.SeenLaws.{going_seen}
-use Rattle.rx_visits.proofs.VisitedLaws.{choosing_note, choosing_visit, note_later, open_visit, visited_over, visited_push, visited_same, visited_then}
+use Rattle.rx_visits.proofs.VisitedLaws.{choosing_note, choosing_visit, note_later, open_visit, visited_push, visited_same, visited_then}
 
 -- two facts of a value make a third
 made_both : {T E : Type 0} (r : Result T E) (P Q S : T → Type 0) → ((x : T) → P x → Q x → S x) →
@@ -118,23 +118,6 @@ module _ {N V R : Type 0} (view : N → V) (settled : V → Settled V R) (menu :
             omega arith in ap (λ k. visits_from settled menu k path s) more,
       )
 
-  -- no visit of a kept node is within the budget
-  pub kept_over : (a b : Progress N R) (k : Kept N) (lists : ℕ → List (Visit V R)) → a.tally.ended ≡
-      Going → a.tally.left ≡ 0
-      → StandsForVisits view settled menu a.tally.note k lists → b.tally ≡ over a.tally →
-      IsVisited view settled menu a lists b
-  kept_over a b Expanded lists going none (v, unclosed, noted, are) tally =
-      visited_over view settled menu a b lists
-      (ap (counted (seen_tally view a.tally)) (are 0) ∙
-      budget-ends (seen_tally view a.tally) v [] (going_seen view a.tally.ended going) none)
-      tally
-  kept_over a b (Frontier leaf) lists going none (s, at, are) tally =
-      visited_over view settled menu a b lists
-      (ap (counted (seen_tally view a.tally)) (are 0)
-      ∙ budget-ends (seen_tally view a.tally) (choosing leaf.path s (menu s.node))
-      (visits_of settled menu (0 + leaf.below) leaf.path (menu s.node).choices)
-      (going_seen view a.tally.ended going) none) tally
-
   -- one kept node more is visited
   pub next_visited : (a b c : Progress N R) (ks : List (Kept N)) (k : Kept N)
       → ((lists : ℕ → List (Visit V R)) → StandsForLists view settled menu a.tally.note ks lists →
@@ -171,3 +154,34 @@ module _ {N V R E : Type 0} (view : N → V) (settled : V → Settled V R) (menu
       (λ b. b.kept ≡ a.kept ++ Expanded ∷ []) (IsVisited view settled menu a lists)
       (λ b is keeps. expanded_again view settled menu a b v lists going some unclosed noted are is
       keeps) tally kept
+
+module _ {N R E : Type 0} (P : Tally N R → Type 0) where
+  -- what holds of the visits holds where what is kept is made of them
+  pub tally_made : (q : Result (Tally N R) E) (r : Result (Progress N R) E)
+      → IfOk r (λ b. q ≡ Ok b.tally) → IfOk q P → IfOk r (λ b. P b.tally)
+  tally_made q (Ok b) is h = subst (λ (q : Result (Tally N R) E). IfOk q P) is h
+  tally_made q (Err e) is h = tt
+
+module _ {N V R E : Type 0} (view : N → V) (settled : V → Settled V R) (menu : V → Menu V R) where
+  -- the nodes below a leaf are visited, and it stays a leaf
+  pub leaf_walked_made : (a : Progress N R) (q : Result (Tally N R) E)
+      (r : Result (Progress N R) E) (leaf : Leaf N) (s : Settled V R) (m : Menu V R)
+      → GoesOn a.tally → IsLeaf view a.tally.note leaf s → m ≡ menu s.node
+      → IfOk q (λ t. seen_tally view t ≡
+      counted (visited_open (a.tally.left - 1) (seen_tally view a.tally) leaf.path m.note)
+      (visits_of settled menu leaf.below leaf.path m.choices))
+      → IfOk r (λ b. q ≡ Ok b.tally)
+      → IfOk r (λ b. b.kept ≡ a.kept ++ Frontier (record {
+        path = leaf.path;
+        node = leaf.node;
+        below =
+            leaf.below + 1;
+      }) ∷ [])
+      → IfOk r (IsVisited view settled menu a
+      (λ n. visits_from settled menu (n + leaf.below) leaf.path s))
+  leaf_walked_made a q (Ok b) leaf s m goes at is counts tally kept =
+      leaf_walked view settled menu a b leaf s m goes.going goes.left at is
+      (subst (λ (q : Result (Tally N R) E). IfOk q (λ t. seen_tally view t ≡
+      counted (visited_open (a.tally.left - 1) (seen_tally view a.tally) leaf.path m.note)
+      (visits_of settled menu leaf.below leaf.path m.choices))) tally counts) kept
+  leaf_walked_made a q (Err e) leaf s m goes at is counts tally kept = tt

@@ -3,7 +3,7 @@ use Rattle.std.proofs.Common.{◌≡◌, ◌∙◌, ap, refl, sym, subst, cond, 
 use Rattle.std.specs.Option.{option_map, option_or}
 use Rattle.rx_visits.specs.Keeping.{IsAfterNote, IsVisited, Keeps, StandsForLists, StandsForVisits}
 use Rattle.rx_visits.specs.Outcomes.{note_of}
-use Rattle.rx_visits.specs.Tallies.{counted, counted_as, counted_one, over, visited, visited_open, visited_within}
+use Rattle.rx_visits.specs.Tallies.{counted, counted_as, counted_one, visited, visited_open, visited_within}
 use Rattle.rx_visits.specs.Views.{seen_tally}
 use Rattle.rx_visits.specs.Visits.{Visit, alone, choosing}
 use Rattle.rx_visits.specs.declared.kept.Kept.{Kept}
@@ -14,10 +14,9 @@ use Rattle.rx_visits.specs.declared.tally.Ended.TheVariants.{Going, Found, Over}
 use Rattle.rx_visits.specs.declared.tally.Tally.{Tally}
 use Rattle.rx_visits.specs.declared.tree.Menu.{Menu}
 use Rattle.rx_visits.specs.declared.tree.Settled.{Settled}
-use Rattle.rx_visits.proofs.CountLaws.{counted-append, ended-stays}
+use Rattle.rx_visits.proofs.CountLaws.{counted-append}
 use Rattle.rx_visits.proofs.KeepingLaws.{lists_later, lists_push, lists_same}
 use Rattle.rx_visits.proofs.OutcomeLaws.{or_or}
-use Rattle.rx_visits.proofs.SeenLaws.{ended_seen}
 
 module _ {R : Type 0} where
   -- the first note stays the first
@@ -143,30 +142,12 @@ module _ {N V R : Type 0} (view : N → V) (settled : V → Settled V R) (menu :
       subst (λ (lists : ℕ → List (Visit V R)). IsVisited view settled menu a lists b) (λ i n. e n i)
       is
 
-  -- visits have ended before
-  pub visited_stopped : (a : Progress N R) (lists : ℕ → List (Visit V R)) →
-      (a.tally.ended ≡ Going → ⊥) → IsVisited view settled menu a lists a
-  visited_stopped a lists stopped = record {
-    counted =
-        sym (ended-stays (seen_tally view a.tally) (lists 0)
-        (ended_seen view a.tally.ended stopped));
-    keeps = λ ls stands going. absurd (stopped going);
-  }
-
   -- visits end
   pub visited_ending : (a b : Progress N R) (lists : ℕ → List (Visit V R)) →
       seen_tally view b.tally ≡ counted (seen_tally view a.tally) (lists 0)
       → (b.tally.ended ≡ Going → ⊥) → IsVisited view settled menu a lists b
   visited_ending a b lists counts stopped =
       record { counted = counts; keeps = λ ls stands going. absurd (stopped going) }
-
-  -- there are more of them than the budget
-  pub visited_over : (a b : Progress N R) (lists : ℕ → List (Visit V R)) →
-      counted (seen_tally view a.tally) (lists 0) ≡ over (seen_tally view a.tally)
-      → b.tally ≡ over a.tally → IsVisited view settled menu a lists b
-  visited_over a b lists ends is =
-      visited_ending a b lists (ap (seen_tally view) is ∙ sym ends)
-      (λ going. let no : Over ≡ Going = ap (λ (t : Tally N R). t.ended) (sym is) ∙ going in cc)
 
   -- the first note stays the first
   pub note_later : (a b : Progress N R) (vs : List (Visit V R)) → seen_tally view b.tally ≡

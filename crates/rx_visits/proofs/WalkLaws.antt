@@ -1,13 +1,12 @@
 -- The visits from a node on, and how a walk counts them.
-use Rattle.std.proofs.Common.{◌≡◌, ◌∙◌, ap, refl, sym, subst, cond, arith, inl, inr, ◌⊎◌, ℕ, zero, suc, ◌+◌, ◌-◌, ◌<◌, Bool, true, false, List, [], ◌∷◌, ◌++◌}
-use Rattle.rx_visits.specs.Tallies.{counted, over, visited}
+use Rattle.std.proofs.Common.{◌≡◌, ◌∙◌, ap, refl, sym, subst, cond, arith, inl, inr, ◌⊎◌, ℕ, zero, suc, ◌+◌, ◌-◌, ◌<◌, Bool, true, false, List, [], ◌∷◌}
+use Rattle.rx_visits.specs.Tallies.{counted, visited}
 use Rattle.rx_visits.specs.Visits.{Visit, alone, choosing, lists, visits, visits_of}
 use Rattle.rx_visits.specs.declared.tally.Ended.TheVariants.{Going}
 use Rattle.rx_visits.specs.declared.tally.Tally.{Tally}
-use Rattle.rx_visits.specs.declared.tree.Choice.{Choice}
 use Rattle.rx_visits.specs.declared.tree.Menu.{Menu}
 use Rattle.rx_visits.specs.declared.tree.Settled.{Settled}
-use Rattle.rx_visits.proofs.CountLaws.{budget-ends, counted-append, visit-counts}
+use Rattle.rx_visits.proofs.CountLaws.{counted-append, visit-counts}
 
 module _ {N R : Type 0} (settled : N → Settled N R) (menu : N → Menu N R) where
   abbrev here : List ℕ → N → Visit N R
@@ -49,19 +48,11 @@ module _ {N R : Type 0} (settled : N → Settled N R) (menu : N → Menu N R) wh
     visits-more more path node h e,
   )
 
-  visits-first : (more : ℕ) (path : List ℕ) (node : N) → (v : Visit N R) × (vs : List (Visit N R)) ×
+  pub visits-first : (more : ℕ) (path : List ℕ) (node : N) → (v : Visit N R) × (vs : List (Visit N R)) ×
       (visits settled menu more path node ≡ v ∷ vs)
   visits-first zero path node = (here path node, [], visits-last 0 path node (inl refl))
   visits-first (suc more) path node =
       first_by (settled node).closed (suc more) path node (omega arith) refl
-
-  -- so nothing of them need be known where the budget is used up
-  pub budget-stops : (t : Tally N R) (more : ℕ) (path : List ℕ) (node : N) → t.ended ≡ Going →
-      t.left ≡ 0
-      → counted t (visits settled menu more path node) ≡ over t
-  budget-stops t more path node g h =
-      let first = visits-first more path node in
-      ap (counted t) first.2 ∙ budget-ends t first.0 first.1 g h
 
   -- the only visit of a node is counted
   pub last-counts : (t : Tally N R) (more : ℕ) (path : List ℕ) (node : N) → t.ended ≡ Going → 0 <

@@ -1,5 +1,5 @@
 -- How far the visits have come, where each is counted as it is made.
-use Rattle.std.specs.Prelude.{ℕ, zero, suc, if◌then◌else◌, Option, None, List, [], ◌∷◌}
+use Rattle.std.specs.Prelude.{◌≡◌, ◌<◌, ℕ, zero, suc, if◌then◌else◌, Option, None, List, [], ◌∷◌}
 use Rattle.std.specs.Option.{option_map, option_or}
 use Rattle.rx_visits.specs.Outcomes.{noted_or, note_of}
 use Rattle.rx_visits.specs.Visits.{Visit}
@@ -33,6 +33,17 @@ visited_open left t path note =
 -- there are more visits than the budget
 abbrev pub over : {N R : Type 0} → Tally N R → Tally N R
 over t = record { left = 0; note = t.note; ended = Over }
+
+-- another visit is made: they go on, and the budget has one more
+pub record GoesOn {N R : Type 0} (t : Tally N R) : Type 0 where
+  pub going : t.ended ≡ Going
+  pub left : 0 < t.left
+
+-- where another isn't made there are more of them than the budget, unless they had ended
+abbrev pub stopped : {N R : Type 0} → Ended N → Tally N R → Tally N R
+stopped Going t = over t
+stopped (Found node) t = t
+stopped Over t = t
 
 -- a visit that may be beyond it
 abbrev pub visited_within : {N R : Type 0} → ℕ → Tally N R → Visit N R → Tally N R

@@ -2,17 +2,18 @@
 //! there is room to keep the nodes that they lead to.
 ghost use Rattle.std.specs.Prelude.{◌≡◌, ◌+◌, ◌-◌, ◌<◌, ◌++◌, ◌∷◌, [], All, ℕ, false, IfOk, List, map};
 ghost use Rattle.rx_visits.specs.Keeping.{IsAfterNote, IsLeaf, IsVisited, OfLeaf, StandsForVisits, visits_from};
-ghost use Rattle.rx_visits.specs.Tallies.{visited_open};
+ghost use Rattle.rx_visits.specs.Tallies.{GoesOn, visited_open};
 ghost use Rattle.rx_visits.specs.Views.{IfFound, seen_choice, seen_menu};
 ghost use Rattle.rx_visits.specs.Visits.{Visit, alone, visits, visits_of};
 ghost use Rattle.rx_visits.specs.declared.kept.Kept.TheVariants.{Expanded};
-ghost use Rattle.rx_visits.specs.declared.tally.Ended.TheVariants.{Going};
 ghost use Rattle.rx_visits.specs.declared.tree.Settled.{Settled};
 
-use crate::kept::{Kept, Leaf, Progress, end_over, keep_expanded, keep_leaf};
-use crate::tally::{count, count_open, is_going};
+use crate::kept::{
+    Kept, Leaf, Progress, keep_expanded, keep_expanded_leaf, keep_settled, keep_walked, stop_visits,
+};
+use crate::tally::may_visit;
 use crate::tree::{Choice, Menu, Tree};
-use crate::walk::{longer, walk_all};
+use crate::walk::{longer, walk_leaf};
 use rx_plain::{Items, NoMemory};
 use std::alloc::Global;
 
@@ -36,21 +37,11 @@ pub(crate) fn visit_new<T: Tree>(
     ensures leaves { (most : ℕ) → 0 < most → All (OfLeaf (T.valid (T.world tree.old)) most)
         progress.kept → IfOk result (λ p. All (OfLeaf (T.valid (T.world tree.old)) most) p.kept) }
 {
-    if !is_going(&progress.tally.ended) {
-        return Ok(progress);
-    }
-    if progress.tally.left == 0 {
-        return Ok(end_over(progress));
+    if !may_visit(&progress.tally) {
+        return Ok(stop_visits(progress));
     }
     let settled = tree.settle(node)?;
-    if settled.closed {
-        return Ok(Progress {
-            tally: count(progress.tally, path, settled.node, true, settled.note),
-            kept: progress.kept,
-            room: progress.room,
-        });
-    }
-    keep_leaf(alloc, path, settled.node, settled.note, progress)
+    keep_settled(alloc, path, settled, progress)
 }
 
 /// The visits of the nodes that the choices lead to, in order, in their first list.
@@ -93,8 +84,7 @@ fn expand<T: Tree>(
 ) -> Result<Progress<T::Node, T::Note>, NoMemory>
     requires ready { T.ready tree.old }
     requires valid { All (λ c. T.valid (T.world tree.old) c.node) menu.choices }
-    requires going { progress.tally.ended ≡ Going }
-    requires left { 0 < progress.tally.left }
+    requires goes { GoesOn progress.tally }
     ensures ready { T.ready tree.new }
     ensures world { T.world tree.new ≡ T.world tree.old }
     ensures visited { (s : Settled T.View T.Note) → s.closed ≡ false →
@@ -106,9 +96,8 @@ fn expand<T: Tree>(
     ensures leaves { (most : ℕ) → 0 < most → All (OfLeaf (T.valid (T.world tree.old)) most)
         progress.kept → IfOk result (λ p. All (OfLeaf (T.valid (T.world tree.old)) most) p.kept) }
 {
-    let at = Items::from_slice(alloc, path)?;
     let Menu { choices, note } = menu;
-    let progress = keep_expanded(at, note, choices.len(), progress)?;
+    let progress = keep_expanded_leaf(alloc, path, note, choices.len(), progress)?;
     visit_each(alloc, tree, path, choices, progress)
 }
 
@@ -124,8 +113,7 @@ fn walk_below<T: Tree>(
     requires leaf { T.valid (T.world tree.old) leaf.node }
     requires below { leaf.below < u32.MAX }
     requires valid { All (λ c. T.valid (T.world tree.old) c.node) menu.choices }
-    requires going { progress.tally.ended ≡ Going }
-    requires left { 0 < progress.tally.left }
+    requires goes { GoesOn progress.tally }
     ensures ready { T.ready tree.new }
     ensures world { T.world tree.new ≡ T.world tree.old }
     ensures visited { (s : Settled T.View T.Note) → IsLeaf T.view progress.tally.note leaf s →
@@ -138,22 +126,9 @@ fn walk_below<T: Tree>(
         All (OfLeaf (T.valid (T.world tree.old)) (most + 1)) progress.kept →
         IfOk result (λ p. All (OfLeaf (T.valid (T.world tree.old)) (most + 1)) p.kept) }
 {
-    let Leaf { path, node, below } = leaf;
-    let Progress {
-        tally,
-        mut kept,
-        room,
-    } = progress;
-    let at = Items::from_slice(alloc, path.as_slice())?;
-    let tally = count_open(tally, at, menu.note);
-    let choices = menu.choices;
-    let tally = walk_all(alloc, tree, below, path.as_slice(), choices, tally)?;
-    kept.push(Kept::Frontier(Leaf {
-        path,
-        node,
-        below: below + 1,
-    }))?;
-    Ok(Progress { tally, kept, room })
+    let Progress { tally, kept, room } = progress;
+    let walked = walk_leaf(alloc, tree, leaf.below, leaf.path.as_slice(), menu, tally);
+    keep_walked(leaf, kept, room, walked)
 }
 
 /// The visits from a leaf on: its choices are found, and the nodes that they lead to are kept where
@@ -167,8 +142,7 @@ fn visit_leaf<T: Tree>(
     requires ready { T.ready tree.old }
     requires leaf { T.valid (T.world tree.old) leaf.node }
     requires below { leaf.below < u32.MAX }
-    requires going { progress.tally.ended ≡ Going }
-    requires left { 0 < progress.tally.left }
+    requires goes { GoesOn progress.tally }
     ensures ready { T.ready tree.new }
     ensures world { T.world tree.new ≡ T.world tree.old }
     ensures visited { (s : Settled T.View T.Note) → IsLeaf T.view progress.tally.note leaf s →
@@ -222,11 +196,8 @@ pub(crate) fn visit_kept<T: Tree>(
         All (OfLeaf (T.valid (T.world tree.old)) (most + 1)) progress.kept →
         IfOk result (λ p. All (OfLeaf (T.valid (T.world tree.old)) (most + 1)) p.kept) }
 {
-    if !is_going(&progress.tally.ended) {
-        return Ok(progress);
-    }
-    if progress.tally.left == 0 {
-        return Ok(end_over(progress));
+    if !may_visit(&progress.tally) {
+        return Ok(stop_visits(progress));
     }
     match node {
         Kept::Expanded => visit_expanded(alloc, progress),

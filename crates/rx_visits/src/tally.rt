@@ -1,14 +1,15 @@
 //! How far visits have come.
 ghost use Rattle.std.specs.Prelude.{◌≡◌, ◌↔◌, ◌<◌, ◌-◌, IsTrue};
 ghost use Rattle.std.specs.Option.{option_map};
-ghost use Rattle.rx_visits.specs.Tallies.{begin, outcome_by, over, visited, visited_open};
+ghost use Rattle.rx_visits.specs.Tallies.{GoesOn, begin, outcome_by, stopped};
+ghost use Rattle.rx_visits.specs.Tallies.{visited, visited_open};
 ghost use Rattle.rx_visits.specs.declared.tally.Ended.TheVariants.{Going};
 
 use crate::outcome::{Note, Outcome};
 use rx_plain::Items;
 
 /// Whether the visits go on.
-#[derive(Debug, Drop)]
+#[derive(Drop)]
 pub(crate) enum Ended<N> {
     /// They do.
     Going,
@@ -19,7 +20,7 @@ pub(crate) enum Ended<N> {
 }
 
 /// The visits so far.
-#[derive(Debug, Drop)]
+#[derive(Drop)]
 pub(crate) struct Tally<N, R> {
     /// How many more the budget has.
     pub left: u32,
@@ -51,14 +52,25 @@ pub(crate) fn begin<N, R>(budget: u32) -> Tally<N, R>
     }
 }
 
-/// There are more visits than the budget.
-pub(crate) fn over<N: Drop, R: Drop>(tally: Tally<N, R>) -> Tally<N, R>
-    ensures { result ≡ over tally }
+/// Whether another visit is made: the visits go on, and the budget has one more.
+pub(crate) fn may_visit<N, R>(tally: &Tally<N, R>) -> bool
+    ensures { IsTrue result ↔ GoesOn tally.now }
 {
-    Tally {
-        left: 0,
-        note: tally.note,
-        ended: Ended::Over,
+    is_going(&tally.ended) && tally.left > 0
+}
+
+/// The visits where another one isn't made: there are more than the budget, unless they had ended.
+pub(crate) fn stop<N, R>(tally: Tally<N, R>) -> Tally<N, R>
+    ensures { result ≡ stopped tally.ended tally }
+{
+    let Tally { left, note, ended } = tally;
+    match ended {
+        Ended::Going => Tally {
+            left: 0,
+            note,
+            ended: Ended::Over,
+        },
+        ended => Tally { left, note, ended },
     }
 }
 

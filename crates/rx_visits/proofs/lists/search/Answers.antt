@@ -1,16 +1,17 @@
 -- One list more is counted; at the end all are, and the tally comes to their outcome.
-use Rattle.std.proofs.Common.{◌≡◌, ◌∙◌, ap, sym, subst, ◌+◌, ◌-◌, ℕ, [], All, arith, add-one, lit<}
+use Rattle.std.proofs.Common.{◌≡◌, ◌∙◌, ap, sym, subst, ◌+◌, ◌-◌, ℕ, ◌≤◌, [], All, arith, add-one, get_or, lit<}
 use Rattle.std.proofs.lemmas.List.Elements.{All-nil}
 use Rattle.rx_visits.specs.Keeping.{IsVisited, OfLeaf, StandsForLists}
 use Rattle.rx_visits.specs.Tallies.{begin, counted, outcome_by}
-use Rattle.rx_visits.specs.Views.{IfFound, seen_outcome, seen_tally}
+use Rattle.rx_visits.specs.Views.{IfClosed, IfFound, seen_outcome, seen_tally}
 use Rattle.rx_visits.specs.Visits.{all_visits, lists, visits}
 use Rattle.rx_visits.specs.declared.kept.Progress.{Progress}
 use Rattle.rx_visits.specs.declared.tally.Ended.TheVariants.{Going}
 use Rattle.rx_visits.specs.declared.tally.Tally.{Tally}
+use Rattle.rx_visits.proofs.KeepingLaws.{of_leaf_more}
 use Rattle.rx_visits.proofs.ListLaws.{begun, first_counts, first_stands, next_counts, next_stands}
 use Rattle.rx_visits.proofs.OutcomeLaws.{counted-outcome}
-use Rattle.rx_visits.proofs.SeenLaws.{outcome_seen}
+use Rattle.rx_visits.proofs.SeenLaws.{closed_if, outcome_seen}
 use Rattle.rx_visits.proofs.WalkLaws.{no-list}
 use Rattle.rx_visits.proofs.lists.search.Goals as goal
 
@@ -83,6 +84,23 @@ loop-list-preserved g c =
           at.progress.kept → All (OfLeaf (g.T.Tree.valid u) ((at._list + 1) + 1)) made.kept)
           same (c.in_ok-progress-2.ensures.leaves (at._list + 1)) at.invariant.leaves;
     }
+
+pub next_list-requires-clause-leaves : goal.next_list-requires-clause-leaves
+next_list-requires-clause-leaves g c = λ k d inside.
+    let at = c.loop-list in
+    let kept = at.progress.kept in
+    let fits : at._list + 1 ≤ 4294967295 = omega arith in
+    let all = subst (λ (u : g.T.Tree.World). All (OfLeaf (g.T.Tree.valid u) (at._list + 1)) kept)
+    (sym at.invariant.world) at.invariant.leaves in
+    of_leaf_more (g.T.Tree.valid (g.T.Tree.world at.tree)) (at._list + 1) 4294967295 fits
+    (get_or kept k d) (all k d inside)
+
+pub returns-clause-valid : goal.returns-clause-valid
+returns-clause-valid g c =
+    let valid = g.T.Tree.valid (g.T.Tree.world c.args.tree.now) in
+    let made = c.loop-list.progress.tally in
+    subst (IfClosed valid) (sym c.outcome_of.ensures)
+    (closed_if valid made.note made.ended c.loop-list.invariant.valid)
 
 pub returns-clause-outcome : goal.returns-clause-outcome
 returns-clause-outcome g c =

@@ -1,5 +1,5 @@
 -- One kept node more is visited.
-use Rattle.std.proofs.Common.{◌≡◌, ◌∙◌, ◌+◌, ℕ, All, List, length, subst, sym}
+use Rattle.std.proofs.Common.{◌≡◌, ◌∙◌, ◌+◌, ℕ, [], All, List, length, refl, subst, sym}
 use Rattle.std.proofs.lemmas.Iterator.Adapters.{YieldsList-from_vec}
 use Rattle.std.proofs.lemmas.Iterator.Consumers.{YieldsList-end, YieldsList-turn}
 use Rattle.std.proofs.lemmas.List.Elements.{All-get_or}
@@ -10,6 +10,7 @@ use Rattle.rx_visits.specs.Visits.{Visit}
 use Rattle.rx_visits.specs.declared.kept.Kept.{Kept}
 use Rattle.rx_visits.proofs.KeepingLaws.{all_last}
 use Rattle.rx_visits.proofs.ResumeLaws.{next_visited}
+use Rattle.rx_visits.proofs.VisitedLaws.{visited_none, visited_same}
 use Rattle.rx_visits.proofs.lists.visit_list.Goals as goal
 use Rattle.rx_visits.proofs.lists.visit_list.Goals.{After-drop-node-iterator-2}
 
@@ -30,6 +31,22 @@ visit_kept-requires-clause-leaf g c =
     subst (of_leaf (g.T.Tree.world c.loop-node.tree)) (sym turn.1)
     (All-get_or (of_leaf (g.T.Tree.world c.loop-node.tree)) nodes (length past) c.in-Some.node
     turn.0 all)
+
+pub loop-node-init : goal.loop-node-init
+loop-node-init g c =
+    let w = g.T.Tree.world c.args.tree.now in
+    let view = g.T.Tree.view in
+    let settled = g.T.Tree.settled w in
+    let menu = g.T.Tree.menu w in
+    let start = c.args.progress in
+    record {
+      ready = c.requires.ready;
+      world = refl;
+      visited = λ lists none. visited_same view settled menu start start (λ n. []) lists
+          (λ n. sym (none n)) (visited_none view settled menu start);
+      valid = λ h. h;
+      leaves = λ most all before. before;
+    }
 
 pub loop-node-preserved : goal.loop-node-preserved
 loop-node-preserved g c =

@@ -1,11 +1,11 @@
 -- The leaf is expanded, and then the nodes are visited that its choices lead to.
-use Rattle.std.proofs.Common.{◌∙◌, ◌-◌, ap}
+use Rattle.std.proofs.Common.{sym, subst}
 use Rattle.std.proofs.lemmas.Result.{IfOk-weaker}
 use Rattle.rx_visits.specs.Keeping.{IsVisited, OfLeaf, visits_from}
-use Rattle.rx_visits.specs.Tallies.{visited_open}
-use Rattle.rx_visits.specs.Views.{seen_menu}
+use Rattle.rx_visits.specs.Views.{IfFound, seen_menu}
 use Rattle.rx_visits.specs.Visits.{visits_of}
 use Rattle.rx_visits.specs.declared.kept.Kept.TheVariants.{Expanded}
+use Rattle.rx_visits.specs.declared.tally.Tally.{Tally}
 use Rattle.rx_visits.proofs.KeepingLaws.{all_push}
 use Rattle.rx_visits.proofs.ResumeLaws.{leaf_expanded}
 use Rattle.rx_visits.proofs.resume.expand.Goals as goal
@@ -22,12 +22,16 @@ returns-clause-visited g c = λ s unclosed noted is.
     IfOk-weaker c.visit_each.result
     (IsVisited view settled menu b (λ n. visits_of settled menu n a.path.now m.choices))
     (IsVisited view settled menu a.progress (λ n. visits_from settled menu n a.path.now s))
-    (λ e below. leaf_expanded view settled menu a.progress b e a.path.now s m c.requires.going
-    c.requires.left unclosed noted is
-    (c.in_ok-progress.ensures.tally ∙ ap (λ p.
-    visited_open (a.progress.tally.left - 1) a.progress.tally p a.menu.note) c.in_ok-at.ensures)
+    (λ e below. leaf_expanded view settled menu a.progress b e a.path.now s m c.requires.goes.going
+    c.requires.goes.left unclosed noted is c.in_ok-progress.ensures.tally
     c.in_ok-progress.ensures.kept below)
     c.visit_each.ensures.visited
+
+pub returns-clause-valid : goal.returns-clause-valid
+returns-clause-valid g c =
+    let valid = g.T.Tree.valid (g.T.Tree.world c.args.tree.now) in
+    c.visit_each.ensures.valid (subst (λ (t : Tally _ _). IfFound valid t.ended)
+    (sym c.in_ok-progress.ensures.tally) tt)
 
 pub returns-clause-leaves : goal.returns-clause-leaves
 returns-clause-leaves g c = λ most some all.

@@ -1,5 +1,5 @@
 -- One node more is visited.
-use Rattle.std.proofs.Common.{◌≡◌, ◌∙◌, ◌++◌, ◌∷◌, [], All, ap, sym, subst, map, length}
+use Rattle.std.proofs.Common.{◌≡◌, ◌∙◌, ◌++◌, ◌∷◌, [], All, ap, refl, sym, subst, map, length}
 use Rattle.std.proofs.lemmas.Iterator.Adapters.{YieldsList-from_vec}
 use Rattle.std.proofs.lemmas.Iterator.Consumers.{YieldsList-end, YieldsList-turn}
 use Rattle.std.proofs.lemmas.List.Elements.{All-get_or}
@@ -9,7 +9,7 @@ use Rattle.rx_visits.specs.Views.{IfFound, seen_choice}
 use Rattle.rx_visits.specs.Visits.{visits, visits_of}
 use Rattle.rx_visits.specs.declared.tree.Choice.{Choice}
 use Rattle.rx_visits.proofs.NewLaws.{each_next}
-use Rattle.rx_visits.proofs.VisitedLaws.{visited_same, visited_then}
+use Rattle.rx_visits.proofs.VisitedLaws.{visited_none, visited_same, visited_then}
 use Rattle.rx_visits.proofs.resume.visit_each.Goals as goal
 
 pub visit_new-requires-clause-valid : goal.visit_new-requires-clause-valid
@@ -29,6 +29,17 @@ visit_new-requires-clause-valid g c =
     (All-get_or (of_valid w) choices (length past) c.in-Some.choice turn.0 c.requires.valid) in
     subst (λ (u : g.T.Tree.World). of_valid u c.in-Some.choice) (sym c.loop-choice.invariant.world)
     one
+
+pub loop-choice-init : goal.loop-choice-init
+loop-choice-init g c =
+    let w = g.T.Tree.world c.args.tree.now in
+    record {
+      ready = c.requires.ready;
+      world = refl;
+      visited = visited_none g.T.Tree.view (g.T.Tree.settled w) (g.T.Tree.menu w) c.args.progress;
+      valid = λ h. h;
+      leaves = λ most some all. all;
+    }
 
 pub loop-choice-preserved : goal.loop-choice-preserved
 loop-choice-preserved g c =

@@ -2,8 +2,9 @@
 use Rattle.std.proofs.Common.{◌≡◌, ◌∙◌, ◌<◌, ◌+◌, All, ap, arith, subst, sym}
 use Rattle.std.specs.Prelude.{IfOk}
 use Rattle.rx_visits.specs.Keeping.{IsAfterNote, IsVisited, OfLeaf, visits_from}
-use Rattle.rx_visits.specs.Views.{seen_menu}
+use Rattle.rx_visits.specs.Views.{IfFound, seen_menu}
 use Rattle.rx_visits.specs.Visits.{alone}
+use Rattle.rx_visits.specs.declared.tree.Choice.{Choice}
 use Rattle.rx_visits.proofs.ResumeLaws.{visited_made}
 use Rattle.rx_visits.proofs.resume.visit_leaf.Goals as goal
 
@@ -26,6 +27,16 @@ returns-then-len-progress-clause-visited g c = λ s at.
     (c.expand.ensures.visited s at.unclosed (subst
     (λ p. IsAfterNote a.progress.tally.note (alone p s)) (sym same) at.noted))
     (c.in_ok-menu.ensures.menu ∙ ap (g.T.Tree.menu w) at.seen))
+
+pub returns-then-len-progress-clause-valid : goal.returns-then-len-progress-clause-valid
+returns-then-len-progress-clause-valid g c =
+    subst (λ (u : g.T.Tree.World). IfOk c.expand.result (λ p. IfFound (g.T.Tree.valid u)
+    p.tally.ended)) c.in_ok-menu.ensures.world c.expand.ensures.valid
+
+pub returns-else-leaf-eq0-clause-valid : goal.returns-else-leaf-eq0-clause-valid
+returns-else-leaf-eq0-clause-valid g c =
+    subst (λ (u : g.T.Tree.World). IfOk c.walk_below.result (λ p. IfFound (g.T.Tree.valid u)
+    p.tally.ended)) c.in_ok-menu.ensures.world c.walk_below.ensures.valid
 
 pub returns-then-len-progress-clause-leaves : goal.returns-then-len-progress-clause-leaves
 returns-then-len-progress-clause-leaves g c = λ most below.
@@ -51,3 +62,18 @@ returns-else-leaf-eq0-clause-leaves g c = λ most below.
     → IfOk c.walk_below.result (λ p. All (OfLeaf (g.T.Tree.valid u) (most + 1)) p.kept))
     c.in_ok-menu.ensures.world
     (c.walk_below.ensures.leaves most below)
+
+pub expand-requires-clause-valid : goal.expand-requires-clause-valid
+expand-requires-clause-valid g c =
+    subst (λ (u : g.T.Tree.World). All (λ (k : Choice _). g.T.Tree.valid u k.node)
+    c.in_ok-menu.menu.choices) (sym c.in_ok-menu.ensures.world) c.in_ok-menu.ensures.valid
+
+pub walk_below-requires-clause-valid : goal.walk_below-requires-clause-valid
+walk_below-requires-clause-valid g c =
+    subst (λ (u : g.T.Tree.World). All (λ (k : Choice _). g.T.Tree.valid u k.node)
+    c.in_ok-menu.menu.choices) (sym c.in_ok-menu.ensures.world) c.in_ok-menu.ensures.valid
+
+pub walk_below-requires-clause-leaf : goal.walk_below-requires-clause-leaf
+walk_below-requires-clause-leaf g c =
+    subst (λ (u : g.T.Tree.World). g.T.Tree.valid u c.args.leaf.node)
+    (sym c.in_ok-menu.ensures.world) c.requires.leaf

@@ -1,89 +1,122 @@
 -- What is seen of the tally counts the visits from the node on.
-use Rattle.std.proofs.Common.{rules, ◌≡◌, ◌∙◌, ap, sym, subst, inl, inr, ◌⊎◌, ◌+◌, ◌-◌, ◌<◌, true, arith, length}
-use Rattle.std.specs.Prelude.{IfOk, map}
+use Rattle.std.proofs.Common.{rules, ◌≡◌, ◌∙◌, ap, refl, sym, subst, inl, inr, ◌⊎◌, ◌<◌, true, arith, length, map, All, IfOk, None}
 use Rattle.std.proofs.lemmas.Iterator.Adapters.{YieldsList-from_vec}
 use Rattle.std.proofs.lemmas.Iterator.Consumers.{YieldsList-end, YieldsList-turn}
 use Rattle.std.proofs.lemmas.List.Elements.{All-get_or}
 use Rattle.std.proofs.lemmas.List.{map-id}
-use Rattle.rx_visits.specs.Tallies.{counted, visited}
-use Rattle.rx_visits.specs.Views.{IfFound, seen_choice, seen_settled, seen_tally}
-use Rattle.rx_visits.specs.Visits.{alone, choosing, visits, visits_of}
-use Rattle.rx_visits.specs.declared.tally.Ended.TheVariants.{Going}
-use Rattle.rx_visits.specs.declared.tally.Tally.{Tally}
+use Rattle.rx_visits.specs.Tallies.{GoesOn, counted}
+use Rattle.rx_visits.specs.Views.{IfFound, seen_choice, seen_tally}
+use Rattle.rx_visits.specs.Visits.{visits, visits_of}
 use Rattle.rx_visits.specs.declared.tree.Choice.{Choice}
-use Rattle.rx_visits.specs.declared.tree.Settled.{Settled}
-use Rattle.rx_visits.proofs.CountLaws.{ended-stays}
 use Rattle.rx_visits.proofs.NewLaws.{next_counted}
-use Rattle.rx_visits.proofs.SeenLaws.{ended_seen, going_seen, visited_seen}
-use Rattle.rx_visits.proofs.WalkLaws.{budget-stops, last-counts, settled-counts}
+use Rattle.rx_visits.proofs.StepLaws.{step_found, walked_last, walked_on}
+use Rattle.rx_visits.proofs.StopLaws.{stopped_found, stopped_node}
 use Rattle.rx_visits.proofs.walk.+walking.Goals as goal
 use Rattle.rx_visits.proofs.walk.+walking.Goals.{walk-then-more-eq0-via-then-more-eq0, walk-then-more-eq0-via-else-more-eq0+then-settled}
 
-pub walk-returns-then-not-is_going-clause-counted :
-    goal.walk-returns-then-not-is_going-clause-counted
-walk-returns-then-not-is_going-clause-counted g t c =
+pub walk-returns-then-not-may_visit-clause-counted :
+    goal.walk-returns-then-not-may_visit-clause-counted
+walk-returns-then-not-may_visit-clause-counted g t c =
     let w = g.T.Tree.world c.args.tree.now in
     let view = g.T.Tree.view in
-    let stopped : (c.args.tally.ended ≡ Going → ⊥) = search rules in
-    sym (ended-stays (seen_tally view c.args.tally)
-    (visits (g.T.Tree.settled w) (g.T.Tree.menu w) c.args.more c.args.path.now
-    (view c.args.node))
-    (ended_seen view c.args.tally.ended stopped))
+    let a = c.args in
+    let not : (GoesOn a.tally → ⊥) = search rules in
+    ap (seen_tally view) c.stop.ensures
+    ∙ stopped_node view (g.T.Tree.settled w) (g.T.Tree.menu w) a.tally a.more a.path.now
+    (view a.node) not
 
-pub walk-returns-then-tally-eq0-clause-counted : goal.walk-returns-then-tally-eq0-clause-counted
-walk-returns-then-tally-eq0-clause-counted g t c =
-    let w = g.T.Tree.world c.args.tree.now in
-    let view = g.T.Tree.view in
-    let goes : c.args.tally.ended ≡ Going = search rules in
-    ap (seen_tally view) c.over.ensures
-    ∙ sym (budget-stops (g.T.Tree.settled w) (g.T.Tree.menu w) (seen_tally view c.args.tally)
-    c.args.more c.args.path.now (view c.args.node)
-    (going_seen view c.args.tally.ended goes) c.if-tally-eq0.true)
+pub walk-returns-then-not-may_visit-clause-valid :
+    goal.walk-returns-then-not-may_visit-clause-valid
+walk-returns-then-not-may_visit-clause-valid g t c = λ found.
+    stopped_found (g.T.Tree.valid (g.T.Tree.world c.args.tree.now)) c.args.tally c.stop.result
+    c.stop.ensures found
 
 pub walk-returns-then-more-eq0-clause-counted : goal.walk-returns-then-more-eq0-clause-counted
 walk-returns-then-more-eq0-clause-counted g t c =
-    let w = g.T.Tree.world c.args.tree.now in
     let view = g.T.Tree.view in
     let a = c.args in
     let s = c.in_ok-settled.settled in
-    let goes : a.tally.ended ≡ Going = search rules in
-    let some : 0 < a.tally.left = omega arith in
-    let is = c.in_ok-settled.ensures.settled in
-    let last : (a.more ≡ 0) ⊎ ((g.T.Tree.settled w (view a.node)).closed ≡ true) =
+    let goes : GoesOn a.tally = search rules in
+    let last : (a.more ≡ 0) ⊎ (s.closed ≡ true) =
     elim c.then-more-eq0.branch [
       | walk-then-more-eq0-via-then-more-eq0 x ↦ inl x.if-more-eq0.true
-      | walk-then-more-eq0-via-else-more-eq0+then-settled x ↦ inr
-          (sym (ap (λ (r : Settled g.T.Tree.View _). r.closed) is) ∙ x.if-settled.true)
+      | walk-then-more-eq0-via-else-more-eq0+then-settled x ↦ inr x.if-settled.true
     ] in
-    ap (seen_tally view) (c.count.ensures ∙ ap (λ p. visited (a.tally.left - 1) a.tally (alone p s))
-    c.in_ok-at.ensures)
-    ∙ visited_seen view (a.tally.left - 1) a.tally (alone a.path.now s)
-    ∙ ap (λ r. visited (a.tally.left - 1) (seen_tally view a.tally) (alone a.path.now r)) is
-    ∙ sym (last-counts (g.T.Tree.settled w) (g.T.Tree.menu w) (seen_tally view a.tally) a.more
-    a.path.now (view a.node) (going_seen view a.tally.ended goes) some last)
+    walked_last view g.T.Tree.settled g.T.Tree.menu (g.T.Tree.world a.tree.now) a.tally a.more
+    a.path.now (view a.node) s c.count_settled.result c.in_ok-settled.ensures.settled goes last
+    c.count_settled.ensures
 
 pub walk-returns-clause-counted : goal.walk-returns-clause-counted
 walk-returns-clause-counted g t c =
-    let w = g.T.Tree.world c.args.tree.now in
     let view = g.T.Tree.view in
     let a = c.args in
     let s = c.in_ok-settled.settled in
-    let goes : a.tally.ended ≡ Going = search rules in
-    let some : 0 < a.tally.left = omega arith in
+    let goes : GoesOn a.tally = search rules in
     let more : 0 < a.more = omega arith in
-    let r = c.walk_choices.result in
-    let here = subst (λ (u : g.T.Tree.World). IfOk r (λ t'. seen_tally view t' ≡
-    counted (visited (a.tally.left - 1) (seen_tally view a.tally)
-    (choosing a.path.now (seen_settled view s) (g.T.Tree.menu u (view s.node))))
-    (visits_of (g.T.Tree.settled u) (g.T.Tree.menu u) (a.more - 1) a.path.now
-    (g.T.Tree.menu u (view s.node)).choices)))
-    c.in_ok-settled.ensures.world c.walk_choices.ensures.counted in
-    subst (λ (x : Tally g.T.Tree.View _). IfOk r (λ t'. seen_tally view t' ≡ x))
-    (settled-counts (g.T.Tree.settled w) (g.T.Tree.menu w) (seen_tally view a.tally) a.more
-    a.path.now (view a.node) (seen_settled view s)
-    c.in_ok-settled.ensures.settled (going_seen view a.tally.ended goes) some more
-    c.if-settled.false)
-    here
+    walked_on view g.T.Tree.settled g.T.Tree.menu (g.T.Tree.world a.tree.now)
+    (g.T.Tree.world c.settle.new.self) (g.T.Tree.world c.choose.new.tree) a.tally
+    c.in_ok-chosen.chosen.tally a.more a.path.now (view a.node) s c.in_ok-chosen.chosen.choices
+    c.walk_all.result c.in_ok-settled.ensures.world c.in_ok-chosen.ensures.world
+    c.in_ok-settled.ensures.settled goes more c.if-settled.false c.in_ok-chosen.ensures.counted
+    c.in_ok-chosen.ensures.choices c.walk_all.ensures.counted
+
+pub walk-choose-requires-clause-valid : goal.walk-choose-requires-clause-valid
+walk-choose-requires-clause-valid g t c =
+    subst (λ (u : g.T.Tree.World). g.T.Tree.valid u c.in_ok-settled.settled.node)
+    (sym c.in_ok-settled.ensures.world) c.in_ok-settled.ensures.valid
+
+pub walk-choose-requires-clause-left : goal.walk-choose-requires-clause-left
+walk-choose-requires-clause-left g t c =
+    let goes : GoesOn c.args.tally = search rules in goes.left
+
+pub walk-count_settled-requires : goal.walk-count_settled-requires
+walk-count_settled-requires g t c =
+    let goes : GoesOn c.args.tally = search rules in goes.left
+
+pub walk-returns-then-more-eq0-clause-valid : goal.walk-returns-then-more-eq0-clause-valid
+walk-returns-then-more-eq0-clause-valid g t c = λ found.
+    step_found g.T.Tree.view (g.T.Tree.valid (g.T.Tree.world c.args.tree.now)) c.args.tally
+    c.args.path.now c.in_ok-settled.settled None c.count_settled.result
+    c.in_ok-settled.ensures.valid c.count_settled.ensures
+
+pub walk-returns-clause-valid : goal.walk-returns-clause-valid
+walk-returns-clause-valid g t c = λ found.
+    let at = c.in_ok-settled.ensures.world in
+    let tally = c.in_ok-chosen.chosen.tally in
+    let valid = λ (u : g.T.Tree.World). IfFound (g.T.Tree.valid u) tally.ended in
+    subst (λ (u : g.T.Tree.World). valid u → IfOk c.walk_all.result
+    (λ t'. IfFound (g.T.Tree.valid u) t'.ended)) (c.in_ok-chosen.ensures.world ∙ at)
+    c.walk_all.ensures.valid (subst valid at c.in_ok-chosen.ensures.found)
+
+pub walk-walk_all-requires : goal.walk-walk_all-requires
+walk-walk_all-requires g t c =
+    let here = subst (λ (u : g.T.Tree.World). All (λ (k : Choice _). g.T.Tree.valid u k.node)
+    c.in_ok-chosen.chosen.choices) (sym c.in_ok-chosen.ensures.world)
+    c.in_ok-chosen.ensures.valid in
+    search rules
+
+pub walk_all-walk-requires : goal.walk_all-walk-requires
+walk_all-walk-requires g t c =
+    let it = c.into_iter-choice-iterator.result in
+    let choices = c.args.choices in
+    let past = c.loop-choice.yielded in
+    let w = g.T.Tree.world c.args.tree.now in
+    let of_valid = λ (u : g.T.Tree.World) (k : Choice _). g.T.Tree.valid u k.node in
+    let gives = c.into_iter-choice-iterator.ensures.into_iter_gives in
+    let items : it.rest.items ≡ choices = cc in
+    let count : it.rest.len ≡ length choices = cc in
+    let turn = YieldsList-turn (YieldsList-from_vec {s = it} choices items count) past
+    c.loop-choice.choice-iterator c.loop-choice.yielded_by
+    c.next.result c.next.new.self c.in-Some.choice c.in-Some.is c.next.ensures.steps in
+    let one = subst (of_valid w) (sym turn.1)
+    (All-get_or (of_valid w) choices (length past) c.in-Some.choice turn.0 c.requires.valid) in
+    let here = subst (λ (u : g.T.Tree.World). of_valid u c.in-Some.choice)
+    (sym c.loop-choice.invariant.world) one in
+    search rules
+
+pub walk_all-loop-choice-init : goal.walk_all-loop-choice-init
+walk_all-loop-choice-init g t c =
+    record { ready = c.requires.ready; world = refl; counts = refl; valid = λ h. h }
 
 pub walk_all-loop-choice-preserved : goal.walk_all-loop-choice-preserved
 walk_all-loop-choice-preserved g t c =

@@ -7,13 +7,10 @@ use Rattle.rx_visits.specs.Visits.{visits_of}
 use Rattle.rx_visits.proofs.walk.+walking.Given as goal
 
 abbrev pub decreases-walk : goal.decreases-walk
-decreases-walk g l = 3 * l.more
+decreases-walk g l = 2 * l.more
 
 abbrev pub decreases-walk_all : goal.decreases-walk_all
-decreases-walk_all g l = 3 * l.more + 1
-
-abbrev pub decreases-walk_choices : goal.decreases-walk_choices
-decreases-walk_choices g l = 3 * l.more + 2
+decreases-walk_all g l = 2 * l.more + 1
 
 abbrev pub invariant-walk_all-loop-choice : goal.invariant-walk_all-loop-choice
 invariant-walk_all-loop-choice g l = record {
