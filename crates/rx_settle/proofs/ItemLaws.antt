@@ -1,6 +1,6 @@
 -- The items of settling in order, and what each leaves of a state.
-use Rattle.std.proofs.Common.{◌≡◌, ◌∙◌, ap, sym, refl, arith, ℕ, Bool, false, ◌||◌, Option, Some, None, Ok, Err, List, [], ◌∷◌, length}
-use Rattle.std.specs.Prelude.{IfOk, Result, slice_get}
+use Rattle.std.proofs.Common.{◌≡◌, ◌∙◌, ap, refl, Bool, ◌||◌, Option, Some, None, Ok, Err, List, [], ◌∷◌}
+use Rattle.std.specs.Prelude.{slice_get}
 use Rattle.rx_solve.specs.Attempts.{Tried, fails, first_applying, made_or}
 use Rattle.rx_term.specs.declared.rule.Equation.{Equation}
 use Rattle.rx_term.specs.declared.rule_set.RuleParts.{RuleParts}
@@ -9,44 +9,16 @@ use Rattle.rx_form.specs.declared.step.Step.{Step}
 use Rattle.rx_settle.specs.Answers.{IsTrial, Takes}
 use Rattle.rx_settle.specs.AtFirst.{at_first, from_leaving, from_naming, from_unfolding, from_uses, leaving_sides, unfolding_sides}
 use Rattle.rx_settle.specs.Moves.{Absurd, Equal, move_of, step_of}
-use Rattle.rx_settle.specs.Settling.{by_results, named, settling_first, settling_move}
+use Rattle.rx_settle.specs.Settling.{named, settling_first, settling_move}
 use Rattle.rx_settle.specs.Trying.{Next, attempt, next_if_formed}
 use Rattle.rx_settle.specs.Untaken.{IsUntaken}
 use Rattle.rx_settle.specs.declared.trial.Trial.{Trial}
 use Rattle.rx_form.specs.Kinds.{formed}
-use Rattle.rx_settle.proofs.FirstLaws.{at_goal, first_of_both, no_goal, second_of_both}
+use Rattle.rx_settle.proofs.FirstLaws.{first_of_both, second_of_both}
 use Rattle.rx_settle.proofs.KeepingLaws.{move_keeps}
 use Rattle.rx_settle.proofs.TrialLaws.{one_tried, taken_first, trial_of, untaken_second}
 
--- ---- results
-
-no_goals : (goals : List Equation) → length goals ≡ 0 → slice_get goals 0 ≡ None
-no_goals [] e = refl
-no_goals (goal ∷ goals) e = absurd (omega arith)
-
-a_goal : (goals : List Equation) → (length goals ≡ 0 → ⊥) → (goal : Equation) ×
-    (Some goal ≡ slice_get goals 0)
-a_goal [] some = absurd (some refl)
-a_goal (goal ∷ goals) some = (goal, refl)
-
 module _ (parts : RuleParts) (old : State) where
-  pub results_nowhere : (n : ℕ) (t : Trial) → n ≡ length old.goals → n ≡ 0 → t ≡
-      record { taken = None; noted = false } →
-      IsTrial parts old old (at_first (by_results parts old) old.goals) t
-  results_nowhere n t count none is =
-      no_goal (by_results parts old) parts old t (no_goals old.goals (sym count ∙ none)) is
-
-  pub results_answer : {E : Type 0} (n : ℕ) (new : State) (r : Result Trial E) → n ≡
-      length old.goals → (n ≡ 0 → ⊥)
-      → IfOk r (λ t. (goal : Equation) → Some goal ≡ slice_get old.goals 0 →
-      IsTrial parts old new (by_results parts old goal) t)
-      → IfOk r (IsTrial parts old new (at_first (by_results parts old) old.goals))
-  results_answer n new (Ok t) count some of =
-      let goal = a_goal old.goals (λ e. some (count ∙ e)) in
-      trial_of parts old new (by_results parts old goal.0) _ t
-      (sym (at_goal (by_results parts old) old.goals goal.0 goal.1)) (of goal.0 goal.1)
-  results_answer n new (Err e) count some of = tt
-
   -- ---- naming, and what comes after it
 
   after_naming : (goals : List Equation) → at_first

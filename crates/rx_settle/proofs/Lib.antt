@@ -1,6 +1,7 @@
 pub mod CandidateLaws
 pub mod CertifiedLaws
 pub mod DeletingLaws
+pub mod DoneLaws
 pub mod FirstLaws
 pub mod ItemLaws
 pub mod KeepingLaws
@@ -8,6 +9,7 @@ pub mod MoveLaws
 pub mod NamingLaws
 pub mod PointLaws
 pub mod RedexLaws
+pub mod ResultLaws
 pub mod RuleStepLaws
 pub mod RuleWalk
 pub mod ShowingLaws

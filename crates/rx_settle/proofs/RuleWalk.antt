@@ -1,8 +1,9 @@
 -- Rules tried in order: what is left of them decides, with what was noted so far.
-use Rattle.std.proofs.Common.{◌≡◌, ◌∙◌, ap, subst, sym, refl, cond, ℕ, suc, ◌+◌, ◌<◌, Bool, true, false, ◌||◌, Option, Some, None, List, [], ◌∷◌, length, drop, drop_of_length-le, ◌≤◌, add-one, get_or}
+use Rattle.std.proofs.Common.{◌≡◌, ◌∙◌, ap, subst, sym, refl, cond, ℕ, suc, ◌+◌, ◌<◌, Bool, true, false, ◌||◌, Option, Some, None, Ok, Err, List, [], ◌∷◌, length, drop, drop_of_length-le, ◌≤◌, add-one, get_or}
 use Rattle.std.specs.Prelude.{is_some, slice_get}
 use Rattle.std.proofs.lemmas.Option.{slice_get_read}
 use Rattle.std.proofs.Math.Seq.{drop-cons}
+use Rattle.rx_plain.proofs.Booleans.{or_false}
 use Rattle.rx_solve.specs.Attempts.{Tried, fails, first_applying, made_or}
 use Rattle.rx_term.specs.declared.rule.Rule.{Rule}
 use Rattle.rx_term.specs.declared.rule_set.RuleParts.{RuleParts}
@@ -13,8 +14,9 @@ use Rattle.rx_settle.specs.Answers.{IsTrial}
 use Rattle.rx_settle.specs.Moves.{Simplify}
 use Rattle.rx_settle.specs.Settling.{by_rules, is_tried, simplifying}
 use Rattle.rx_settle.specs.Trying.{Next, attempt, noting}
+use Rattle.rx_settle.specs.Untaken.{IsUntaken}
 use Rattle.rx_settle.specs.declared.trial.Trial.{Trial}
-use Rattle.rx_settle.proofs.TrialLaws.{first_takes, none_by, none_made, noting_again, nothing_noted, or_no, same_state, some_by, trial_of}
+use Rattle.rx_settle.proofs.TrialLaws.{first_takes, none_by, none_made, noting_again, nothing_noted, same_state, some_by, trial_of}
 
 -- the rule that is read from a list that is borrowed
 pub read_rule : (parts : RuleParts) (list : List Rule) → list ≡ parts.rules → (n : ℕ) (rule : Rule) →
@@ -110,7 +112,7 @@ module _ (parts : RuleParts) (state : State) (side : Side) (from : Option Sym) w
       ap (λ rs. noting noted (rest n rs)) (sym none) ∙ so_far.decides in
       let same : record { taken = None; noted = noted || false } ≡
       record { taken = None; noted = noted } =
-      ap (λ b. let u : Trial = record { taken = None; noted = b } in u) (or_no noted) in
+      ap (λ b. let u : Trial = record { taken = None; noted = b } in u) (or_false noted) in
       subst (λ u. IsTrial parts state state (simplifying parts state side from) u) same
       (trial_of parts state state (noting noted fails) _
       (record { taken = None; noted = noted || false }) whole
@@ -133,23 +135,25 @@ module _ (parts : RuleParts) (state : State) (side : Side) (from : Option Sym) w
       trial_here : IsTrial parts state mid (attempt parts state (Simplify side n)) t
       trial_here = subst (λ s. IsTrial parts s mid (attempt parts s (Simplify side n)) t) same trial
 
-      pub goes_on : is_some u.taken ≡ false → (mid ≡ state) × Trying u.noted (n + 1)
-      goes_on unset =
+      pub goes_on : (now : Bool) → IsUntaken u (Ok now) → (mid ≡ state) × Trying now (n + 1)
+      goes_on now untaken =
+          let unset : is_some u.taken ≡ false = ap (λ (x : Trial). is_some x.taken) untaken in
           let none : is_some t.taken ≡ false = sym (ap (λ (x : Trial). is_some x.taken) more) ∙
           unset in (
             same_state parts state mid (attempt parts state (Simplify side n)) t trial_here
                 (none_by t.taken none),
-            subst (λ (x : Trial). Trying x.noted (n + 1)) (sym more)
+            subst (λ (x : Trial). Trying x.noted (n + 1)) (sym more ∙ untaken)
                 (next_failed noted n rule within there so_far e t mid trial_here none),
           )
 
-      pub ends : is_some u.taken ≡ true → IsTrial parts state mid
-          (simplifying parts state side from) u
-      ends set =
-          let some : is_some t.taken ≡ true = sym (ap (λ (x : Trial). is_some x.taken) more) ∙
-          set in
+      pub ends : (same : Trial) → IsUntaken u (Err same) → IsTrial parts state mid
+          (simplifying parts state side from) same
+      ends same taken =
+          let is : same ≡ record { taken = t.taken; noted = noted || t.noted } = taken.0 ∙ more in
+          let some : is_some t.taken ≡ true = sym (ap (λ (x : Trial). is_some x.taken) is) ∙
+          taken.1 in
           subst (λ (x : Trial). IsTrial parts state mid (simplifying parts state side from) x)
-          (sym more) (this_applies noted n rule within there so_far e t mid trial_here some)
+          (sym is) (this_applies noted n rule within there so_far e t mid trial_here some)
 
     pub skips : (rule : Rule) → n < length list → rule ≡ get_or list n rule →
         is_tried parts from rule ≡ false → Trying noted (n + 1)

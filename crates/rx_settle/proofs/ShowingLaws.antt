@@ -2,8 +2,8 @@
 use Rattle.std.proofs.Common.{◌≡◌, ◌∙◌, ap, subst, sym, refl, true, Some, List, [], ◌∷◌, ◌≤◌}
 use Rattle.std.specs.Prelude.{IfOk, Result, Ok, Err, slice_get}
 use Rattle.std.proofs.lemmas.List.Elements.{All-nil}
+use Rattle.rx_cert.proofs.FindingLaws.{and_yes}
 use Rattle.rx_cert.specs.Depth.{cert_depth}
-use Rattle.rx_cert.specs.Findings.{Said, Yes, No, Beyond, and_also}
 use Rattle.rx_cert.specs.Showing.{all_shown}
 use Rattle.rx_cert.specs.declared.cert.Cert.{Cert}
 use Rattle.rx_row.specs.declared.row.Row.{Row}
@@ -14,22 +14,10 @@ use Rattle.rx_solve.specs.declared.showing.AllShown.TheVariants as all
 use Rattle.rx_form.specs.Judging.{given_to, of_conditions}
 use Rattle.rx_form.specs.declared.formed_step.Asked.TheVariants.{Rows}
 use Rattle.rx_form.specs.declared.formed_step.Group.{Group}
-use Rattle.rx_form.specs.declared.formed_step.Under.{Under}
-use Rattle.rx_form.specs.declared.formed_step.Under.TheVariants.{Goal, New}
 use Rattle.rx_steps.specs.Faults.{is_one_group, is_under_goal}
-use Rattle.rx_steps.proofs.OneGroup.{first_group}
+use Rattle.rx_steps.proofs.OneGroup.{first_group, under_goal}
 use Rattle.rx_settle.specs.Parts.{IsAskedShown, ShownBy}
 use Rattle.rx_settle.specs.Trying.{asked_shown, groups_shown}
-
--- nothing more is asked
-and_yes : (s : Said) → and_also s Yes ≡ s
-and_yes Yes = refl
-and_yes No = refl
-and_yes Beyond = refl
-
-under_goal : (u : Under) → is_under_goal u ≡ true → u ≡ Goal
-under_goal Goal h = refl
-under_goal New h = cc
 
 module _ (old new : List Row) where
   one_shown : (g : Group) → is_under_goal g.under ≡ true → groups_shown old new (g ∷ []) ≡

@@ -1,7 +1,9 @@
 -- Common suffixes, found part by part from inside out.
-use Rattle.std.proofs.Common.{◌≡◌, ◌≢◌, ◌∙◌, ap, subst, sym, refl, cond, ℕ, suc, ◌+◌, ◌-◌, ◌==◌, Bool, true, false, ◌&&◌, List, [], ◌∷◌, ◌++◌, length, map, reverse, zip, arith, add-zero, add_assoc, zero-add}
+use Rattle.std.proofs.Common.{◌≡◌, ◌≢◌, ◌∙◌, ap, subst, sym, refl, cond, ℕ, suc, ◌+◌, ◌-◌, ◌==◌, Bool, true, false, ◌&&◌, List, [], ◌∷◌, ◌++◌, length, map, reverse, zip, arith, add-zero, add_assoc, append_assoc, zero-add}
 use Rattle.std.specs.Prelude.{IfOk, Result, Ok, Err}
 use Rattle.std.proofs.lemmas.List.{map-append, reverse-append, length-append}
+use Rattle.rx_cert.proofs.FindingLaws.{and_yes}
+use Rattle.rx_plain.proofs.Lists.{empty_by_length}
 use Rattle.rx_cert.specs.Findings.{Said, Yes, No, Beyond, and_also}
 use Rattle.rx_cert.specs.Showing.{all_shown, shown}
 use Rattle.rx_poly.specs.declared.body.Body.{Body}
@@ -33,11 +35,6 @@ equality_of (all.Shown certs) = equality.Shown
 equality_of all.NotShown = equality.NotShown
 equality_of all.TooLarge = equality.TooLarge
 
-nothing_more : (s : Said) → and_also s Yes ≡ s
-nothing_more Yes = refl
-nothing_more No = refl
-nothing_more Beyond = refl
-
 -- what is found of a row, by what is found of the list of it alone
 pub row_said : (given : List Row) (row : Row) (rows : List Row) (a : AllShown) → rows ≡ row ∷ [] →
     IsAllShown given rows a
@@ -45,7 +42,7 @@ pub row_said : (given : List Row) (row : Row) (rows : List Row) (a : AllShown) �
 row_said given row rows a alone is = by a (subst (λ rs. IsAllShown given rs a) alone is)
   where
     one : all_shown refuted given (row ∷ []) ≡ shown refuted given row
-    one = nothing_more (shown refuted given row)
+    one = and_yes (shown refuted given row)
 
     by : (a : AllShown) → IsAllShown given (row ∷ []) a →
         SaysEqual (shown refuted given row) (equality_of a)
@@ -68,18 +65,14 @@ none_left : (ps : List Body) → zip {X = Body} ps [] ≡ []
 none_left [] = refl
 none_left (p ∷ ps) = refl
 
-none : {A : Type 0} (xs : List A) → length xs ≡ 0 → xs ≡ []
-none [] e = refl
-none (x ∷ xs) e = absurd (omega (arith, e))
-
 module _ (given : List Row) (rest others : List Body) where
   -- one list is at its end
   pub ends_left : length rest ≡ 0 → equals_shown given (zip rest others) ≡ Yes
-  ends_left e = ap (λ ps. equals_shown given (zip ps others)) (none rest e)
+  ends_left e = ap (λ ps. equals_shown given (zip ps others)) (empty_by_length rest e)
 
   pub ends_right : length others ≡ 0 → equals_shown given (zip rest others) ≡ Yes
   ends_right e =
-      ap (λ qs. equals_shown given (zip rest qs)) (none others e) ∙
+      ap (λ qs. equals_shown given (zip rest qs)) (empty_by_length others e) ∙
       ap (equals_shown given) (none_left rest)
 
   module _ (p q : Body) (more further : List Body) (left : rest ≡ p ∷ more)
@@ -165,13 +158,13 @@ module _ (given : List Row) (n : ℕ) (rest others lefts rights : List Part)
       common given (outwards lefts) (outwards rights)
   no_left e =
       no_more n false ∙ ap (λ ps. ahead n (common given (outwards ps) (outwards others)))
-      (sym (none rest e)) ∙ so_far.all
+      (sym (empty_by_length rest e)) ∙ so_far.all
 
   pub no_right : length others ≡ 0 → record { parts = n; noted = false } ≡
       common given (outwards lefts) (outwards rights)
   no_right e =
       no_more n false ∙ ap (ahead n) (sym (no_others given (outwards rest)))
-      ∙ ap (λ qs. ahead n (common given (outwards rest) (outwards qs))) (sym (none others e)) ∙
+      ∙ ap (λ qs. ahead n (common given (outwards rest) (outwards qs))) (sym (empty_by_length others e)) ∙
       so_far.all
 
   module _ (p q : Part) (more further : List Part) (left : rest ≡ more ++ p ∷ [])
@@ -230,6 +223,30 @@ pub inwards-Frame : (f : Sym) (ps : List Body) (t : Term) → inwards (Frame f p
     record { symbol = f.0; arguments = ps } ∷ inwards t
 inwards-Frame f ps t =
     fold_out-Term (List suffixes.Part) inwards_level (Frame f ps t) ∙ rw (outs-Frame f ps t) refl
+
+-- a part more is found, and what is left of the term begins inside it
+module _ (t here : Term) (done made : List Part) (part : Part) (f : Sym) (ps : List Body)
+    (before : map part_of done ++ inwards here ≡ inwards t)
+    (same : part_of part ≡ record { symbol = f.0; arguments = ps })
+    (new : made ≡ done ++ part ∷ []) where
+  pushed : map part_of made ≡ map part_of done ++ record { symbol = f.0; arguments = ps } ∷ []
+  pushed =
+      ap (map part_of) new ∙ map-append part_of done (part ∷ [])
+      ∙ ap (λ p. map part_of done ++ p ∷ []) same
+
+  pub frame_found : (inner : Term) → here ≡ Frame f ps inner →
+      map part_of made ++ inwards inner ≡ inwards t
+  frame_found inner is =
+      ap (λ xs. xs ++ inwards inner) pushed
+      ∙ append_assoc (map part_of done) (record { symbol = f.0; arguments = ps } ∷ [])
+      (inwards inner)
+      ∙ ap (λ xs. map part_of done ++ xs) (sym (inwards-Frame f ps inner))
+      ∙ ap (λ h. map part_of done ++ inwards h) (sym is) ∙ before
+
+  pub call_found : here ≡ Call f ps → map part_of made ≡ inwards t
+  call_found is =
+      pushed ∙ ap (λ xs. map part_of done ++ xs) (sym (inwards-Call f ps))
+      ∙ ap (λ h. map part_of done ++ inwards h) (sym is) ∙ before
 
 ends-Return : (p : Body) → ends_in_call (Return p) ≡ false
 ends-Return p = fold_out-Term Bool ends_in_call_level (Return p) ∙ rw (outs-Return p) refl

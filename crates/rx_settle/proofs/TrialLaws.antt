@@ -1,6 +1,7 @@
 -- Trials one after the other: the first that takes a step decides, with what was noted before.
 use Rattle.std.specs.Prelude.{IfOk, Result, Ok, Err, is_some}
 use Rattle.std.proofs.Common.{◌≡◌, ◌∙◌, ap, subst, sym, refl, Bool, true, false, ◌||◌, Option, Some, None, [], ◌∷◌}
+use Rattle.rx_plain.proofs.Booleans.{or_assoc, or_false}
 use Rattle.rx_solve.specs.Attempts.{Tried, beyond, fails, first_applying, made_or}
 use Rattle.rx_term.specs.declared.rule_set.RuleParts.{RuleParts}
 use Rattle.rx_form.specs.States.{State}
@@ -9,14 +10,6 @@ use Rattle.rx_settle.specs.Answers.{IsTrial, Takes}
 use Rattle.rx_settle.specs.Trying.{Next, noting}
 use Rattle.rx_settle.specs.Untaken.{IsUntaken}
 use Rattle.rx_settle.specs.declared.trial.Trial.{Trial}
-
-pub or_again : (a b c : Bool) → ((a || b) || c) ≡ (a || (b || c))
-or_again true b c = refl
-or_again false b c = refl
-
-pub or_no : (a : Bool) → (a || false) ≡ a
-or_no true = refl
-or_no false = refl
 
 pub no_or : (a : Bool) → (false || a) ≡ a
 no_or true = refl
@@ -30,13 +23,13 @@ nothing_noted t =
 -- what was noted twice
 pub noting_again : (a b : Bool) (t : Tried Next) → noting (a || b) t ≡ noting a (noting b t)
 noting_again a b t =
-    ap (λ n. let u : Tried Next = record { made = t.made; noted = n } in u) (or_again a b t.noted)
+    ap (λ n. let u : Tried Next = record { made = t.made; noted = n } in u) (or_assoc a b t.noted)
 
 -- nothing follows
 pub last_alone : (made : Option Next) (noted : Bool) → made_or made noted fails ≡
     record { made = made; noted = noted }
 last_alone None noted =
-    ap (λ n. let u : Tried Next = record { made = None; noted = n } in u) (or_no noted)
+    ap (λ n. let u : Tried Next = record { made = None; noted = n } in u) (or_false noted)
 last_alone (Some x) noted = refl
 
 -- a step was taken, or none

@@ -1,7 +1,8 @@
 -- Hypotheses used in order: what is left of them decides, with what was noted so far.
-use Rattle.std.proofs.Common.{◌≡◌, ◌∙◌, ap, subst, sym, refl, arith, ℕ, zero, suc, ◌+◌, ◌<◌, ◌≤◌, Bool, true, false, ◌||◌, Option, Some, None, List, [], ◌∷◌, length, drop, drop_of_length-le, add-one}
+use Rattle.std.proofs.Common.{◌≡◌, ◌∙◌, ap, subst, sym, refl, arith, ℕ, zero, suc, ◌+◌, ◌<◌, ◌≤◌, Bool, true, false, ◌||◌, Option, Some, None, Ok, Err, List, [], ◌∷◌, length, drop, drop_of_length-le, add-one}
 use Rattle.std.specs.Prelude.{is_some, slice_get}
 use Rattle.std.specs.Option.{option_map_or}
+use Rattle.rx_plain.proofs.Booleans.{or_false}
 use Rattle.rx_solve.specs.Attempts.{Tried, fails, first_applying, made_or}
 use Rattle.rx_term.specs.declared.rule.Equation.{Equation}
 use Rattle.rx_term.specs.declared.rule.Rule.{Rule}
@@ -12,8 +13,9 @@ use Rattle.rx_settle.specs.Answers.{IsTrial}
 use Rattle.rx_settle.specs.AtFirst.{at_first, using_all, using_sides}
 use Rattle.rx_settle.specs.Settling.{using_each, using_on}
 use Rattle.rx_settle.specs.Trying.{Next, noting}
+use Rattle.rx_settle.specs.Untaken.{IsUntaken}
 use Rattle.rx_settle.specs.declared.trial.Trial.{Trial}
-use Rattle.rx_settle.proofs.TrialLaws.{first_takes, none_by, none_made, noting_again, nothing_noted, one_tried, or_no, same_state, some_by, tried_after, trial_of}
+use Rattle.rx_settle.proofs.TrialLaws.{first_takes, none_by, none_made, noting_again, nothing_noted, one_tried, same_state, some_by, tried_after, trial_of}
 
 -- the hypotheses, counted in a list that is borrowed
 pub is_within : (list : List Rule) (state : State) (count n : ℕ) → list ≡ state.hypotheses → count ≡
@@ -138,7 +140,7 @@ module _ (parts : RuleParts) (state : State) where
       so_far.decides in
       let same : record { taken = None; noted = noted || false } ≡
       record { taken = None; noted = noted } =
-      ap (λ b. let u : Trial = record { taken = None; noted = b } in u) (or_no noted) in
+      ap (λ b. let u : Trial = record { taken = None; noted = b } in u) (or_false noted) in
       subst (λ u. IsTrial parts state state whole u) same
       (trial_of parts state state (noting noted fails) whole
       (record { taken = None; noted = noted || false }) ended
@@ -158,20 +160,22 @@ module _ (parts : RuleParts) (state : State) where
       trial_here =
           subst (λ s. IsTrial parts s mid (at_first (using_sides parts s n) s.goals) t) same trial
 
-      pub goes_on : is_some u.taken ≡ false → (mid ≡ state) × Using u.noted (n + 1)
-      goes_on unset =
+      pub goes_on : (now : Bool) → IsUntaken u (Ok now) → (mid ≡ state) × Using now (n + 1)
+      goes_on now untaken =
+          let unset : is_some u.taken ≡ false = ap (λ (x : Trial). is_some x.taken) untaken in
           let none : is_some t.taken ≡ false = sym (ap (λ (x : Trial). is_some x.taken) more) ∙
           unset in (
             same_state parts state mid (sides n) t trial_here (none_by t.taken none),
-            subst (λ (x : Trial). Using x.noted (n + 1)) (sym more)
+            subst (λ (x : Trial). Using x.noted (n + 1)) (sym more ∙ untaken)
                 (next_failed n inside noted so_far t mid trial_here none),
           )
 
-      pub ends : is_some u.taken ≡ true → IsTrial parts state mid whole u
-      ends set =
-          let some : is_some t.taken ≡ true = sym (ap (λ (x : Trial). is_some x.taken) more) ∙
-          set in
-          subst (λ (x : Trial). IsTrial parts state mid whole x) (sym more)
+      pub ends : (same : Trial) → IsUntaken u (Err same) → IsTrial parts state mid whole same
+      ends same taken =
+          let is : same ≡ record { taken = t.taken; noted = noted || t.noted } = taken.0 ∙ more in
+          let some : is_some t.taken ≡ true = sym (ap (λ (x : Trial). is_some x.taken) is) ∙
+          taken.1 in
+          subst (λ (x : Trial). IsTrial parts state mid whole x) (sym is)
           (this_applies n inside noted so_far t mid trial_here some)
 
     pub ended : length state.hypotheses ≤ n →

@@ -3,7 +3,7 @@ ghost use Rattle.std.specs.Prelude.{◌≡◌, IfOk, OnErr};
 ghost use Rattle.rx_settle.specs.Answers.{IsTrial};
 ghost use Rattle.rx_settle.specs.AtFirst.{at_first, from_leaving, from_naming, from_unfolding, from_uses};
 ghost use Rattle.rx_settle.specs.LoopPoints.{AreLoopPoints};
-ghost use Rattle.rx_settle.specs.Settling.{by_results, settling_move};
+ghost use Rattle.rx_settle.specs.Settling.{settling_move};
 ghost use Rattle.rx_solve.specs.Answers.{IsSolver};
 
 use crate::deleting::try_deleting;
@@ -20,25 +20,6 @@ use rx_row::Constraint;
 use rx_steps::State;
 use rx_term::RuleSet;
 use std::alloc::Global;
-
-/// Results, where there is a goal.
-fn try_results_at_first<S: FnMut(&Constraint) -> Result<Option<Cert>, FmEnd>>(
-    alloc: Global,
-    rules: &RuleSet,
-    state: &mut State,
-    solve: &mut S,
-) -> Result<Trial, NoMemory>
-    requires solver { IsSolver S.FnMut solve.old }
-    ensures solver { IsSolver S.FnMut solve.new }
-    ensures trial { IfOk result (IsTrial rules.now state.old state.new
-        (at_first (by_results rules.now state.old) state.old.goals)) }
-    ensures kept { OnErr result (state.new ≡ state.old) }
-{
-    if state.goals() == 0 {
-        return Ok(Trial::failed());
-    }
-    try_results(alloc, rules, state, solve)
-}
 
 /// Hypotheses, and then results.
 fn try_from_uses<S: FnMut(&Constraint) -> Result<Option<Cert>, FmEnd>>(
@@ -57,7 +38,7 @@ fn try_from_uses<S: FnMut(&Constraint) -> Result<Option<Cert>, FmEnd>>(
         Ok(noted) => noted,
         Err(taken) => return Ok(taken),
     };
-    let results = try_results_at_first(alloc, rules, state, solve)?;
+    let results = try_results(alloc, rules, state, solve)?;
     Ok(results.after(noted))
 }
 

@@ -1,11 +1,11 @@
 //! Results in place of a common suffix.
-ghost use Rattle.std.specs.Prelude.{◌≡◌, ◌==◌, if◌then◌else◌, nat_lt, IfOk, OnErr, Some, slice_get};
+ghost use Rattle.std.specs.Prelude.{◌≡◌, ◌==◌, if◌then◌else◌, nat_lt, IfOk, OnErr};
 ghost use Rattle.rx_settle.specs.Answers.{IsTrial};
+ghost use Rattle.rx_settle.specs.AtFirst.{at_first};
 ghost use Rattle.rx_settle.specs.Settling.{by_results, resulting_at, variables_end};
 ghost use Rattle.rx_solve.specs.Answers.{IsSolver};
 ghost use Rattle.rx_solve.specs.Attempts.{fails};
 ghost use Rattle.rx_term.specs.Bounds.{equation_bound};
-ghost use Rattle.rx_term.specs.declared.rule.Equation.{Equation};
 
 use crate::number::to_u32;
 use crate::suffix::{Suffix, find_suffix};
@@ -78,7 +78,7 @@ fn try_suffix<S: FnMut(&Constraint) -> Result<Option<Cert>, FmEnd>>(
     }
 }
 
-/// Results at the longest common suffix of both sides of the goal.
+/// Results at the longest common suffix of both sides of the first goal.
 pub(crate) fn try_results<S: FnMut(&Constraint) -> Result<Option<Cert>, FmEnd>>(
     alloc: Global,
     rules: &RuleSet,
@@ -87,8 +87,8 @@ pub(crate) fn try_results<S: FnMut(&Constraint) -> Result<Option<Cert>, FmEnd>>(
 ) -> Result<Trial, NoMemory>
     requires solver { IsSolver S.FnMut solve.old }
     ensures solver { IsSolver S.FnMut solve.new }
-    ensures trial { IfOk result (λ t. (goal : Equation) → Some goal ≡ slice_get state.old.goals 0
-        → IsTrial rules.now state.old state.new (by_results rules.now state.old goal) t) }
+    ensures trial { IfOk result (IsTrial rules.now state.old state.new
+        (at_first (by_results rules.now state.old) state.old.goals)) }
     ensures kept { OnErr result (state.new ≡ state.old) }
 {
     let Some(goal) = state.first() else {

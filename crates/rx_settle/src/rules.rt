@@ -77,10 +77,10 @@ fn try_rules<S: FnMut(&Constraint) -> Result<Option<Cert>, FmEnd>>(
             continue;
         }
         let tried = try_rule(alloc, rules, state, side, number, rule, solve)?.after(noted);
-        if tried.taken.is_some() {
-            return Ok(tried);
-        }
-        noted = tried.noted;
+        noted = match tried.untaken() {
+            Ok(noted) => noted,
+            Err(taken) => return Ok(taken),
+        };
     }
     Ok(Trial { taken: None, noted })
 }

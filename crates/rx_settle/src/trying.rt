@@ -1,5 +1,6 @@
 //! Trying a step: it is formed, a solver shows what it asks, and it is taken.
 ghost use Rattle.std.specs.Prelude.{◌≡◌, true, false, Some, IfOk, OnOk, OnErr};
+ghost use Rattle.std.specs.Result.{result_map_both};
 ghost use Rattle.rx_form.specs.States.{taken};
 ghost use Rattle.rx_settle.specs.Answers.{IsTrial};
 ghost use Rattle.rx_settle.specs.Outcomes.{Follows, IsOutcome};
@@ -22,42 +23,68 @@ use rx_steps::State;
 use rx_term::RuleSet;
 use std::alloc::Global;
 
-/// The step with those certificates for the rows that it asks.
+/// The answer, once the value is let go of.
+fn dropped<T: Drop, A>(value: T, answer: A) -> A
+    ensures { result ≡ answer }
+{
+    drop(value);
+    answer
+}
+
+/// The step with those certificates for the rows that it asks, in place of those that it has.
 fn with_certificates(step: Step, certs: Items<Cert>) -> Step
     ensures { result ≡ certified step certs }
 {
     match step {
-        Step::Simplify { side, rule, .. } => Step::Simplify { side, rule, certs },
+        Step::Simplify {
+            side,
+            rule,
+            certs: open,
+        } => Step::Simplify {
+            side,
+            rule,
+            certs: dropped(open, certs),
+        },
         Step::Hyp {
             side,
             place,
             hyp,
             subst,
-            ..
+            certs: open,
         } => Step::Hyp {
             side,
             place,
             hyp,
             subst,
-            certs,
+            certs: dropped(open, certs),
         },
-        Step::Delete(Delete::Equal(_)) => Step::Delete(Delete::Equal(certs)),
+        Step::Delete(Delete::Equal(open)) => Step::Delete(Delete::Equal(dropped(open, certs))),
         Step::Generalise {
             left,
             right,
             rows,
             subst,
-            ..
+            certs: open,
         } => Step::Generalise {
             left,
             right,
             rows,
             subst,
-            certs,
+            certs: dropped(open, certs),
         },
-        Step::Decompose { .. } => Step::Decompose { certs },
-        Step::Results { left, right, .. } => Step::Results { left, right, certs },
-        other => other,
+        Step::Decompose { certs: open } => Step::Decompose {
+            certs: dropped(open, certs),
+        },
+        Step::Results {
+            left,
+            right,
+            certs: open,
+        } => Step::Results {
+            left,
+            right,
+            certs: dropped(open, certs),
+        },
+        other => dropped(certs, other),
     }
 }
 
@@ -90,12 +117,13 @@ fn show_formed<S: FnMut(&Constraint) -> Result<Option<Cert>, FmEnd>>(
     ensures outcome { IfOk result (Follows state.now made) }
 {
     let Some(goal) = state.first() else {
-        return Ok(Outcome::Fails);
+        return Ok(dropped(made, Outcome::Fails));
     };
-    match show(alloc, &goal.rows, &made.asked, solve)? {
-        AllShown::Shown(certs) => Ok(Outcome::Shown { made, certs }),
-        AllShown::NotShown => Ok(Outcome::Fails),
-        AllShown::TooLarge => Ok(Outcome::TooLarge),
+    match show(alloc, &goal.rows, &made.asked, solve) {
+        Ok(AllShown::Shown(certs)) => Ok(Outcome::Shown { made, certs }),
+        Ok(AllShown::NotShown) => Ok(dropped(made, Outcome::Fails)),
+        Ok(AllShown::TooLarge) => Ok(dropped(made, Outcome::TooLarge)),
+        Err(NoMemory) => Err(dropped(made, NoMemory)),
     }
 }
 
@@ -118,22 +146,23 @@ fn show_step<S: FnMut(&Constraint) -> Result<Option<Cert>, FmEnd>>(
     }
 }
 
+/// The value, where that was done.
+fn where_done<T: Drop>(done: Result<(), NoMemory>, value: T) -> Result<T, NoMemory>
+    ensures { result ≡ result_map_both (λ _. value) (λ fault. fault) done }
+{
+    match done {
+        Ok(()) => Ok(value),
+        Err(fault) => Err(fault),
+    }
+}
+
 /// Takes a step, which is formed so, and which has the certificates of what it asks.
 pub(crate) fn take_shown(state: &mut State, made: FormedStep, step: Step) -> Result<Trial, NoMemory>
     ensures ok { OnOk result (state.new ≡ taken state.old made) }
     ensures trial { IfOk result (λ t. t ≡ record { taken = Some step; noted = false }) }
     ensures err { OnErr result (state.new ≡ state.old) }
 {
-    state.take(made)?;
-    Ok(Trial::of(step))
-}
-
-/// Lets go of the step.
-fn dropped<T>(step: Step, answer: T) -> T
-    ensures { result ≡ answer }
-{
-    drop(step);
-    answer
+    where_done(state.take(made), Trial::of(step))
 }
 
 /// Tries a step on the first goal, which asks rows and not that rows are refuted: it is taken where

@@ -188,10 +188,10 @@ pub(crate) fn try_uses<S: FnMut(&Constraint) -> Result<Option<Cert>, FmEnd>>(
     let mut noted = false;
     for number in 0..count {
         let tried = try_use_sides(alloc, rules, state, number, solve)?.after(noted);
-        if tried.taken.is_some() {
-            return Ok(tried);
-        }
-        noted = tried.noted;
+        noted = match tried.untaken() {
+            Ok(noted) => noted,
+            Err(taken) => return Ok(taken),
+        };
     }
     Ok(Trial { taken: None, noted })
 }

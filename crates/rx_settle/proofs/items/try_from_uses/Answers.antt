@@ -15,5 +15,5 @@ returns-clause-trial g c =
     second_of_both c.args.rules.now c.args.state.now c.try_uses.new.state
     (using_all c.args.rules.now c.args.state.now) (λ s. by_results c.args.rules.now s)
     c.in_ok-try_uses.field-0 c.in_ok-try_uses.ensures.trial c.in_ok-results.results c.after.result
-    c.try_results_at_first.new.state c.in-Ok.noted
+    c.try_results.new.state c.in-Ok.noted
     c.in-Ok.ensures c.in_ok-results.ensures.trial c.after.ensures

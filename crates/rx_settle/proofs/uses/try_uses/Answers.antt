@@ -1,7 +1,15 @@
 -- A hypothesis isn't used, or is.
-use Rattle.std.proofs.Common.{◌∙◌, sym}
-use Rattle.rx_settle.proofs.UseWalk.{ended, ends, goes_on, is_past, is_within}
+use Rattle.std.proofs.Common.{refl}
+use Rattle.rx_settle.proofs.UseWalk.{begin, ended, ends, goes_on, is_past, is_within}
 use Rattle.rx_settle.proofs.uses.try_uses.Goals as goal
+
+pub loop-number-init : goal.loop-number-init
+loop-number-init g c =
+    record {
+      solver = c.requires.solver;
+      same = refl;
+      using = begin c.args.rules.now c.args.state.now;
+    }
 
 pub loop-number-preserved : goal.loop-number-preserved
 loop-number-preserved g c =
@@ -12,18 +20,18 @@ loop-number-preserved g c =
     c.hypotheses.ensures c.in_ok-count.ensures c.loop-number-test.true)
     c.in_ok-try_use_sides.field-0 c.after-tried.result c.try_use_sides.new.state
     c.in_ok-try_use_sides.ensures.trial c.after-tried.ensures
-    (sym c.is_some.ensures ∙ c.if-is_some.false) in
+    c.in-Ok.noted c.in-Ok.ensures in
     record { solver = c.in_ok-try_use_sides.ensures.solver; same = next.0; using = next.1 }
 
-pub returns-then-is_some-clause-trial : goal.returns-then-is_some-clause-trial
-returns-then-is_some-clause-trial g c =
+pub returns-in-Err-clause-trial : goal.returns-in-Err-clause-trial
+returns-in-Err-clause-trial g c =
     ends c.args.rules.now c.args.state.now c.loop-number.state c.loop-number.invariant.same
     c.loop-number.noted c.loop-number.number c.loop-number.invariant.using
     (is_within c.hypotheses.result.now c.args.state.now c.in_ok-count.count c.loop-number.number
     c.hypotheses.ensures c.in_ok-count.ensures c.loop-number-test.true)
     c.in_ok-try_use_sides.field-0 c.after-tried.result c.try_use_sides.new.state
     c.in_ok-try_use_sides.ensures.trial c.after-tried.ensures
-    (sym c.is_some.ensures ∙ c.if-is_some.true)
+    c.in-Err.taken c.in-Err.ensures
 
 pub returns-clause-trial : goal.returns-clause-trial
 returns-clause-trial g c =
