@@ -5,6 +5,7 @@ use Rattle.std.proofs.lemmas.Bool.{and_parts}
 use Rattle.std.proofs.lemmas.List.Elements.{All-cons, All-contains, All-filter, All-head, All-nil, All-tail, All-take, All-weaker, filter_passes}
 use Rattle.std.specs.List.{All, AllZip, filter, find, list_all}
 use Rattle.std.specs.Option.{IfSome, option_map}
+use Rattle.rx_plain.proofs.Booleans.{or_false}
 use Rattle.rx_poly.specs.Substitution.{subst_body, numbered, numbered_from, replaced}
 use Rattle.rx_poly.specs.Variables.{uses_below, variables}
 use Rattle.rx_poly.specs.declared.body.Body.{Body}
@@ -20,7 +21,6 @@ use Rattle.rx_term.specs.declared.rule_set.SymInfo.{SymInfo}
 use Rattle.rx_pairs.specs.Columns.{at_right}
 use Rattle.rx_pairs.specs.declared.pair.Pair.{Pair}
 use Rattle.rx_rank.proofs.OwnCandidates.{IsOwnCandidate, candidates_own}
-use Rattle.rx_rank.proofs.TryLaws.{or_no}
 use Rattle.rx_rank.proofs.OwnValues.{AreOwn, choice_own, filled_own, made_by_one, made_of_both, none_own, products_own, length-choice, length-filled, length-without}
 use Rattle.rx_rank.specs.Answers.{IsComponentFit, IsFirstFit, IsOwn, pair_passes}
 use Rattle.rx_rank.specs.Candidates.{are_noted, arity_of, candidate_lists, candidates, is_anchor}
@@ -314,7 +314,7 @@ module _ (parts : RuleParts) (hypotheses : List Rule) (names : List ℕ) (c : �
       pub no_order : order ≡ None → record { made = None; noted = noted } ≡
           component parts hypotheses names c pairs
       no_order none =
-          sym (ap (λ n. record { made = None; noted = n }) (or_no noted))
+          sym (ap (λ n. record { made = None; noted = n }) (or_false noted))
           ∙ sym (ap (λ o. noting noted (first_fit infos pairs anchor_slice lists o)) none) ∙
           component_is
 

@@ -1,8 +1,9 @@
 -- Candidates that are gathered: those so far, and what is left to try.
-use Rattle.std.proofs.Common.{◌≡◌, ◌∙◌, ap, sym, refl, Bool, true, false, ◌||◌, List, [], ◌∷◌, ◌++◌}
+use Rattle.std.proofs.Common.{◌≡◌, ◌∙◌, ap, sym, refl, Bool, false, ◌||◌, List, [], ◌∷◌, ◌++◌}
 use Rattle.std.specs.List.{fold}
 use Rattle.std.proofs.lemmas.List.Elements.{filter_map-append}
 use Rattle.std.proofs.lemmas.List.Folds.{list_any-append}
+use Rattle.rx_plain.proofs.Booleans.{or_false, or_grouped}
 use Rattle.rx_poly.specs.declared.body.Body.{Body}
 use Rattle.rx_solve.specs.Attempts.{Tried, applying, is_noted}
 use Rattle.rx_rank.specs.Answers.{Gathers}
@@ -12,14 +13,6 @@ pub fold-append : {A B : Type 0} (f : B → A → B) (a : B) (xs ys : List A) �
     fold f (fold f a xs) ys
 fold-append f a [] ys = refl
 fold-append f a (x ∷ xs) ys = fold-append f (f a x) xs ys
-
-or_again : (a b c : Bool) → (a || (b || c)) ≡ ((a || b) || c)
-or_again true b c = refl
-or_again false b c = refl
-
-or_no : (a : Bool) → (a || false) ≡ a
-or_no true = refl
-or_no false = refl
 
 -- the candidates so far, with those that the rest makes, are those of the whole
 pub record Gathering (before done : List Body) (noted : Bool) (rest whole : List (Tried Body)) :
@@ -43,7 +36,7 @@ after_some {before} {done} {after} {noted} {more} tries rest whole g h = record 
       rest))
       ∙ g.polys;
   noted_is =
-      sym (or_again noted more (is_noted rest))
+      sym (or_grouped noted more (is_noted rest))
       ∙ ap (λ b. noted || (b || is_noted rest)) h.noted_is
       ∙ sym (ap (λ b. noted || b) (list_any-append (λ (t : Tried Body). t.noted) tries rest))
       ∙ g.noted_is;
@@ -52,7 +45,7 @@ after_some {before} {done} {after} {noted} {more} tries rest whole g h = record 
 pub finished : {before done : List Body} {noted : Bool} (whole : List (Tried Body)) →
     Gathering before done noted [] whole → Gathers whole before done noted
 finished {before} {done} {noted} whole g =
-    record { polys = g.polys; noted_is = sym (or_no noted) ∙ g.noted_is }
+    record { polys = g.polys; noted_is = sym (or_false noted) ∙ g.noted_is }
 
 -- two after each other
 pub both_gather : {before done after : List Body} {noted more : Bool}

@@ -2,6 +2,7 @@
 use Rattle.std.proofs.Common.{◌≡◌, ◌∙◌, ap, sym, subst, refl, ◌≤◌, true, false, List, [], ◌∷◌, Result, Ok, Err, IfOk}
 use Rattle.std.proofs.lemmas.Bool.{and_from}
 use Rattle.std.proofs.lemmas.List.Elements.{All-nil}
+use Rattle.rx_cert.proofs.FindingLaws.{and_yes}
 use Rattle.rx_plain.specs.Formed.{Formed}
 use Rattle.rx_poly.specs.declared.body.Body.{Body}
 use Rattle.rx_row.specs.declared.row.Row.{Row}
@@ -21,11 +22,6 @@ use Rattle.rx_pairs.specs.declared.pair.Pair.{Pair}
 use Rattle.rx_rank.proofs.Certified.{certificates_append}
 use Rattle.rx_rank.specs.Answers.{IsProved, IsTold, joined}
 use Rattle.rx_rank.specs.PairTests.{falls, less_by_one, not_negative, row_said}
-
-both_last : (s : Said) → and_also s Yes ≡ s
-both_last Yes = refl
-both_last No = refl
-both_last Beyond = refl
 
 module _ (pair : Pair) where
   -- rows that keep the limits
@@ -66,7 +62,7 @@ module _ (pair : Pair) where
       IsAllShown pair.phi (it ∷ []) a → IsTold (row_said pair row) pair (one_formed row) a
   known_row row it a is keeps told =
       subst (λ s. IsTold (guard row.within s) pair (one_formed row) a)
-      (both_last (shown refuted pair.phi row.form))
+      (and_yes (shown refuted pair.phi row.form))
       (known_rows (one_formed row) (it ∷ []) a (ap (λ r. r ∷ []) is) keeps told)
 
   pub beyond_row : (row : Formed Row) → row.within ≡ false → row_said pair row ≡ Beyond

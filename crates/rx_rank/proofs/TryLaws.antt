@@ -1,26 +1,20 @@
 -- What was noted so far, and what comes of a first part, leave it to the later parts or decide.
-use Rattle.std.proofs.Common.{◌≡◌, ◌∙◌, ap, sym, refl, Bool, true, false, ◌||◌, Option, Some, None}
+use Rattle.std.proofs.Common.{◌≡◌, ◌∙◌, ap, sym, refl, Bool, false, ◌||◌, Option, Some, None}
+use Rattle.std.specs.Option.{is_some, option_map}
+use Rattle.rx_plain.proofs.Booleans.{or_assoc, or_false}
 use Rattle.rx_solve.specs.Attempts.{Tried, made_or}
 use Rattle.rx_rank.specs.Tries.{made_then, noting}
-
-pub or_again : (a b c : Bool) → ((a || b) || c) ≡ (a || (b || c))
-or_again true b c = refl
-or_again false b c = refl
-
-pub or_no : (a : Bool) → (a || false) ≡ a
-or_no true = refl
-or_no false = refl
 
 -- what was noted twice
 pub noting_again : {A : Type 0} (a b : Bool) (later : Tried A) → noting (a || b) later ≡
     noting a (noting b later)
 noting_again a b later =
-    ap (λ n. record { made = later.made; noted = n }) (or_again a b later.noted)
+    ap (λ n. record { made = later.made; noted = n }) (or_assoc a b later.noted)
 
 -- nothing more was noted
 pub noted_alone : {A : Type 0} (made : Option A) (noted : Bool) →
     noting noted (record { made = made; noted = false }) ≡ record { made = made; noted = noted }
-noted_alone made noted = ap (λ n. record { made = made; noted = n }) (or_no noted)
+noted_alone made noted = ap (λ n. record { made = made; noted = n }) (or_false noted)
 
 module _ {A : Type 0} (noted : Bool) (made : Option A) (more : Bool) (later whole : Tried A)
     (is : noting noted (made_or made more later) ≡ whole) where
@@ -46,9 +40,8 @@ module _ {A B : Type 0} (noted : Bool) (made : Option A) (more : Bool) (next : A
   then_some x e =
       noting_again noted more (next x) ∙ ap (λ m. noting noted (made_then m more next)) (sym e) ∙ is
 
--- something was noted before, or now
-pub either_first : (a b n : Bool) → a ≡ true → n ≡ a → n ≡ (a || b)
-either_first a b n e f = f ∙ e ∙ ap (λ x. x || b) (sym e)
-
-pub either_second : (a b n : Bool) → a ≡ false → n ≡ b → n ≡ (a || b)
-either_second a b n e f = f ∙ ap (λ x. x || b) (sym e)
+-- nothing was made, whatever is seen of it
+pub none_made : {A B : Type 0} (view : A → B) (o : Option A) → is_some o ≡ false → option_map view o
+    ≡ None
+none_made view None e = refl
+none_made view (Some x) e = cc

@@ -1,13 +1,12 @@
 -- Lists from a place on and up to a place; and two lists that go together.
 use Rattle.std.proofs.Common.{◌≡◌, ◌∙◌, ap, sym, subst, refl, cond, arith, ℕ, zero, suc, ◌+◌, ◌-◌, ◌==◌, ◌<◌, ◌≤◌, ◌↔◌, Bool, true, false, ◌||◌, not, Option, Some, None, List, [], ◌∷◌, ◌++◌, append_assoc, length, drop, drop_of_length-le, get_or, map, slice_get, slice_set, take}
-use Rattle.std.proofs.lemmas.Bool.{eq-eqb, ne_eqb}
+use Rattle.std.proofs.lemmas.Bool.{eq-eqb, false_from_ne_true, ne_eqb}
 use Rattle.std.specs.List.{AllZip, filter, find, list_any, range_with_len}
 use Rattle.std.specs.Option.{is_some, option_map, option_map_or}
 use Rattle.std.proofs.lemmas.List.{set-get_or, take_more}
 use Rattle.std.proofs.lemmas.Option.{slice_get-get_or}
 use denote.Ref.{Bor}
 use Rattle.rx_poly.proofs.Same.{body_eq, body_eq-refl, body_eq-sound}
-use Rattle.rx_poly.proofs.TermLaws.{by_false}
 use Rattle.rx_poly.specs.declared.body.Body.{Body}
 use Rattle.rx_cert.specs.Findings.{Said, Yes, No, Beyond, and_also}
 use Rattle.rx_cert.specs.declared.cert.Cert.{Cert}
@@ -104,7 +103,7 @@ module _ (names : List ℕ) (c i name : ℕ) (done whole : List ℕ) (h : i < le
 known_poly : (b : Bool) (p q : Body) → ((b ≡ true) ↔ (q ≡ p)) → body_eq q p ≡ b
 known_poly true p q tells = body_eq-refl q p (tells.0 refl)
 known_poly false p q tells =
-    by_false (body_eq q p) (λ e. let wrong : false ≡ true = tells.1 (body_eq-sound q p e) in cc)
+    false_from_ne_true (body_eq q p) (λ e. let wrong : false ≡ true = tells.1 (body_eq-sound q p e) in cc)
 
 pub next_same : (b : Bool) (ps : List Body) (p q : Body) (i : ℕ) → slice_get ps i ≡ Some q →
     ((b ≡ true) ↔ (q ≡ p))

@@ -5,11 +5,11 @@ use Rattle.std.specs.Option.{option_map}
 use Rattle.std.specs.declared.alloc.Global.{Global}
 use Rattle.std.proofs.lemmas.Grind.{flat_map-append}
 use Rattle.std.proofs.lemmas.List.{map-append, take_more}
+use Rattle.rx_plain.proofs.Booleans.{or_assoc, or_false}
 use Rattle.rx_solve.specs.Attempts.{Tried}
 use Rattle.rx_term.proofs.Places.{at_some, from_place}
 use Rattle.rx_term.specs.declared.rule.Rule.{Rule}
 use Rattle.rx_term.specs.declared.rule_set.RuleParts.{RuleParts}
-use Rattle.rx_rank.proofs.TryLaws.{or_again, or_no}
 use Rattle.rx_rank.specs.Components.{is_member, names_of, pairs_in, symbols_of}
 use Rattle.rx_rank.specs.Ranking.{polynomials, tried_in, unless_empty}
 use Rattle.rx_rank.specs.Tries.{after, all_made, made_then, noting}
@@ -40,7 +40,7 @@ module _ {A : Type 0} (noted : Bool) (done : List A) (whole : Tried (List A)) wh
         noted = (noted || also i) ||
             rest.noted;
       })
-      ∙ (λ i. record { made = after_twice xs rest.made i; noted = or_again noted k rest.noted i })
+      ∙ (λ i. record { made = after_twice xs rest.made i; noted = or_assoc noted k rest.noted i })
       ∙ is
 
   none_next : (m : Option (List A)) (k : Bool) (rest : Tried (List A)) →
@@ -68,7 +68,7 @@ module _ {A : Type 0} (noted : Bool) (done : List A) (whole : Tried (List A)) wh
   pub no_component : noting noted (after done (all_made [])) ≡ whole →
       record { made = Some done; noted = noted } ≡ whole
   no_component is =
-      (λ i. record { made = Some (sym (append-nil done) i); noted = sym (or_no noted) i }) ∙ is
+      (λ i. record { made = Some (sym (append-nil done) i); noted = sym (or_false noted) i }) ∙ is
 
 -- ---- groups in memory
 

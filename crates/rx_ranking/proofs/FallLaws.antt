@@ -3,7 +3,7 @@
 use Rattle.std.proofs.Common.{◌≡◌, ◌∙◌, ap, sym, subst, refl, inl, inr, ℕ, suc, ◌==◌, ◌<◌, true, false, Option, Some, None, List, [], ◌∷◌, ◌++◌, append-nil, length, set, All}
 use Rattle.std.specs.List.{AllZip}
 use Rattle.std.specs.Prelude.{Contains, negsuc, unwrap_or}
-use Rattle.std.proofs.lemmas.Bool.{false≢true, or_cases, or_left, or_right}
+use Rattle.std.proofs.lemmas.Bool.{false≢true, or_cases, or_left, or_parts, or_right}
 use Rattle.std.proofs.lemmas.List.Elements.{All-cons, All-contains, All-contains_itself, All-head, All-nil, All-tail, All-weaker}
 use Rattle.rx_graph.specs.Graph.{IsOver}
 use Rattle.rx_poly.specs.Constants.{number}
@@ -18,7 +18,6 @@ use Rattle.rx_rank.specs.Answers.{IsDecided, IsFallen, IsHeld, IsProved, still_o
 use Rattle.rx_rank.specs.Choices.{polynomial_of}
 use Rattle.rx_ranking.proofs.ClosingLaws.{close_more}
 use Rattle.rx_ranking.proofs.GrowthLaws.{count_pushed, lawful_pushed, split_pushed}
-use Rattle.rx_ranking.proofs.HeightColumns.{or_none}
 use Rattle.rx_ranking.proofs.SplitLaws.{IsClosing, split_more}
 use Rattle.rx_ranking.proofs.TableLaws.{fallen_column, held_column}
 use Rattle.rx_ranking.specs.Closing.{Fitted, close_all, closing, fallen, fitted, left_open, with_certs}
@@ -162,7 +161,7 @@ module _ (values : Column) (columns : List Column) (pairs : List Pair) where
             (stay_or_fall os holds falls held.1 fall.1 k there g)
       ]
   stay_or_fall (o ∷ os) (c ∷ holds) (Some more ∷ falls) held fall k h g =
-      let none = or_none (o.number == k) (has_number k (fallen (fitted os holds falls))) g in
+      let none = or_parts (o.number == k) (has_number k (fallen (fitted os holds falls))) g in
       elim (or_cases (o.number == k) (has_number k os) h) [
         | inl here ↦ absurd (false≢true (sym none.0 ∙ here))
         | inr there ↦ stay_or_fall os holds falls held.1 fall.1 k there none.1

@@ -1,6 +1,6 @@
 -- Entries by component: one entry more, and that each entry is in a group.
 use Rattle.std.proofs.Common.{◌≡◌, ◌∙◌, ap, sym, subst, refl, cond, arith, ℕ, zero, suc, ◌==◌, ◌+◌, ◌<◌, ◌≤◌, Bool, true, false, ◌||◌, inl, inr, Option, Some, None, Vec, List, [], ◌∷◌, ◌++◌, All, Contains, get_or, length, map, set, slice_get, unwrap_or}
-use Rattle.std.specs.List.{filter, find, list_any, range_with_len}
+use Rattle.std.specs.List.{find, list_any, range_with_len}
 use Rattle.std.specs.Option.{option_map, option_map_or}
 use Rattle.std.specs.declared.alloc.Global.{Global}
 use Rattle.std.proofs.lemmas.Bool.{cases_lt, eq-eqb, false≢true, ne_eqb}
@@ -10,7 +10,7 @@ use Rattle.std.proofs.lemmas.List.Folds.{list_any_at}
 use Rattle.std.proofs.lemmas.List.FromFn.{get_or-map-range_with_len, get_or-range_with_len, length-map-range_with_len, length-range_with_len}
 use Rattle.std.proofs.lemmas.Option.{slice_get-get_or, slice_get-map}
 use Rattle.rx_graph.specs.Graph.{IsOver, below, together}
-use Rattle.rx_term.proofs.Kept.{first_one, other_one}
+use Rattle.rx_plain.proofs.Kept.{first_one, kept, other_one}
 use Rattle.rx_pairs.specs.Graph.{edges_of}
 use Rattle.rx_rank.specs.Components.{component_of, is_member, names_of, symbols_of}
 use Rattle.rx_ranking.proofs.ClosingLaws.{filter_one, filter_skip}
@@ -168,21 +168,6 @@ one_passes {A} test (x ∷ xs) some = by (test x) refl some (one_passes test xs)
   by false here any later =
       let found = later any in (found.0, other_one x xs found.0 found.1, found.2)
 
-kept_one : {A : Type 0} (test : A → Bool) (xs : List A) (x : A) → Contains xs x → test x ≡ true →
-    Contains (filter test xs) x
-kept_one test [] x there passes = absurd (let h = there.1 in omega (arith, h))
-kept_one {A} test (y ∷ ys) x (k, less, is) passes =
-    at k less is (test y) refl (λ there. kept_one test ys x there passes) where
-      at : (j : ℕ) → j < length (y ∷ ys) → get_or (y ∷ ys) j x ≡ x → (b : Bool) → test y ≡ b →
-          (Contains ys x → Contains (filter test ys) x)
-          → Contains (cond b (y ∷ filter test ys) (filter test ys)) x
-      at zero less is true here later =
-          subst (Contains (y ∷ filter test ys)) is (first_one y (filter test ys))
-      at zero less is false here later = absurd (false≢true (sym here ∙ ap test is ∙ passes))
-      at (suc j) less is true here later =
-          other_one y (filter test ys) x (later (j, omega (arith, less), is))
-      at (suc j) less is false here later = later (j, omega (arith, less), is)
-
 in_groups : (group : ℕ → List OpenPair) (o : OpenPair) (a n k : ℕ) → k < n →
     Contains (group (a + k)) o → Contains (ungrouped (map group (range_with_len a n))) o
 in_groups group o a zero k less there = absurd (omega (arith, less))
@@ -256,7 +241,7 @@ module _ (n : ℕ) (entries : List OpenPair) (over : IsOver n (edges_of (pairs_o
       length-map-range_with_len (component_of n edges) 0 n in
       let member : is_member names name f ≡ true =
       ap (λ o. option_map_or (λ j. j == name) o false) there ∙ eq-eqb name name refl in
-      let inner = kept_one (λ (o : OpenPair). is_member names name o.pair.left.0) entries one.0
+      let inner = kept (λ (o : OpenPair). is_member names name o.pair.left.0) entries one.0
       one.1 member in
       let at : name ≡ 0 + name = omega arith in
       let all = in_groups (entries_in names entries) one.0 0 (length names) name

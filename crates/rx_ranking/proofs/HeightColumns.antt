@@ -3,7 +3,7 @@ use Rattle.std.proofs.Common.{◌≡◌, ◌∙◌, ap, sym, subst, refl, cond, 
 use Rattle.std.specs.List.{filter}
 use Rattle.std.specs.Option.{option_map, option_map_or}
 use Rattle.std.specs.Prelude.{option_and_then, unwrap_or, negsuc}
-use Rattle.std.proofs.lemmas.Bool.{and_from, eq-eqb, eqb-true, or_cases, or_left, or_right, false≢true}
+use Rattle.std.proofs.lemmas.Bool.{and_from, eq-eqb, eqb-true, false_from_ne_true, false≢true, or_cases, or_left, or_parts, or_right}
 use Rattle.std.proofs.lemmas.List.Elements.{All-cons, All-head, All-nil, All-tail}
 use Rattle.std.proofs.lemmas.Option.{slice_get-get_or, slice_get-map}
 use Rattle.rx_graph.proofs.ComponentLaws.{same_together}
@@ -11,7 +11,6 @@ use Rattle.rx_graph.proofs.GraphLaws.{lead_below}
 use Rattle.rx_graph.specs.Components.{AreComponents}
 use Rattle.rx_graph.specs.Graph.{IsOver, below, is_edge, leads, together}
 use Rattle.rx_graph.specs.Heights.{AreHeights}
-use Rattle.rx_poly.proofs.TermLaws.{by_false}
 use Rattle.rx_poly.specs.Constants.{number}
 use Rattle.rx_poly.specs.declared.body.Body.{Body}
 use Rattle.rx_pairs.specs.Columns.{falls_rows, holds_rows}
@@ -116,7 +115,7 @@ module _ (n : ℕ) (edges : List (ℕ × ℕ)) (names heights : List ℕ) (over 
     leaves : is_staying names o ≡ false → IsClosing pairs (columns ++ height_column heights ∷ [])
         (suc (length columns)) o
     leaves outer =
-        let apart = by_false (together edges (below n) a b)
+        let apart = false_from_ne_true (together edges (below n) a b)
         (λ e. false≢true (sym outer ∙ same
         ∙ eq-eqb (get_or names b 0) (get_or names a 0)
         (sym ((same_together n edges (lead_below n edges over) names components a b ends.0
@@ -174,10 +173,6 @@ module _ (n : ℕ) (edges : List (ℕ × ℕ)) (names heights : List ℕ) (over 
         (leave_all os (All-tail (IsLed edges) o os led) (All-tail Opened o os are))
         (is_staying names o) refl
 
-pub or_none : (x y : Bool) → (x || y) ≡ false → (x ≡ false) × (y ≡ false)
-or_none true y e = absurd (false≢true (sym e))
-or_none false y e = (refl, e)
-
 -- each pair stays or leaves
 stay_or_leave : (names : List ℕ) (k : ℕ) (o : OpenPair) (os : List OpenPair) (c : Bool) →
     ((o.number == k) || has_number k os) ≡ true
@@ -192,7 +187,7 @@ stay_or_leave names k o os true h g rest = elim (or_cases (o.number == k) (has_n
       (rest there g)
 ]
 stay_or_leave names k o os false h g rest =
-    let none = or_none (o.number == k) (has_number k (filter (is_leaving names) os)) g in
+    let none = or_parts (o.number == k) (has_number k (filter (is_leaving names) os)) g in
     elim (or_cases (o.number == k) (has_number k os) h) [
       | inl here ↦ absurd (false≢true (sym none.0 ∙ here))
       | inr there ↦ rest there none.1

@@ -2,6 +2,7 @@
 pub mod BeginLaws
 pub mod ClosingLaws
 pub mod ComponentTries
+pub mod DecidingLaws
 pub mod FallLaws
 pub mod Finished
 pub mod FitsLaws
@@ -9,11 +10,13 @@ pub mod Grouping
 pub mod GrowthLaws
 pub mod HeightColumns
 pub mod Joining
+pub mod KeptNames
 pub mod NumberLaws
 pub mod OpenLaws
 pub mod ProgressLaws
 pub mod RankLaws
 pub mod RoundLaws
 pub mod SplitLaws
+pub mod StayingLaws
 pub mod TableLaws
 pub mod WalkLaws

@@ -2,9 +2,10 @@
 -- rows are plain.
 use Rattle.std.proofs.Common.{◌≡◌, ◌∙◌, ap, sym, subst, refl, cond, arith, ℕ, suc, ◌-◌, ◌<◌, ◌≤◌, ◌^◌, Bool, true, false, ◌&&◌, not, Some, None, List, [], ◌∷◌, map, ℤ, pos}
 use Rattle.std.specs.Prelude.{◌+ℤ◌, neg_ℤ, int_lt}
-use Rattle.std.proofs.lemmas.Bool.{lt-leb, lt-ltb, or_right}
+use Rattle.std.proofs.lemmas.Bool.{false_from_ne_true, lt-leb, lt-ltb, or_right}
 use Rattle.std.proofs.lemmas.Int.{ints}
 use Rattle.std.proofs.lemmas.List.Elements.{All-nil}
+use Rattle.rx_poly.proofs.ReadingLaws.{itself}
 use Rattle.rx_plain.specs.Formed.{Formed}
 use Rattle.rx_poly.specs.Constants.{number}
 use Rattle.rx_poly.specs.Limits.{body_sum, is_within, of_atoms, of_terms, body_difference}
@@ -18,8 +19,7 @@ use Rattle.rx_poly.specs.declared.body.Mono.{Mono}
 use Rattle.rx_poly.proofs.Constants.{number_within}
 use Rattle.rx_poly.proofs.Levels.{atoms-of_atoms, terms-of_terms}
 use Rattle.rx_poly.proofs.Substituting.{in_body_is, in_mono_is, term_in, well}
-use Rattle.rx_poly.proofs.TermLaws.{by_false, cons_nonzero-nonzero, zero_is}
-use Rattle.rx_poly_laws.proofs.Coefficients.{itself}
+use Rattle.rx_poly.proofs.TermLaws.{cons_nonzero-nonzero, zero_is}
 use Rattle.rx_row.specs.declared.row.Row.{Row}
 use Rattle.rx_row.specs.declared.row.Row.TheVariants.{Ge}
 use Rattle.rx_row.specs.Membership.{stands_among}
@@ -105,7 +105,7 @@ difference a b h =
 
 pos_nonzero : (m : ℕ) → 0 < m → is_zero (pos m) ≡ false
 pos_nonzero m more =
-    by_false (is_zero (pos m)) (λ e. let z = zero_is (pos m) e in
+    false_from_ne_true (is_zero (pos m)) (λ e. let z = zero_is (pos m) e in
     absurd (omega (arith, ints, z, more)))
 
 not_zero : (m : ℕ) (b : ℤ) → 0 < m → is_zero (pos m) ≡ true → is_zero b ≡ true

@@ -25,22 +25,37 @@ entry_pair entries i entry there is =
 pub open_count : (entries : List OpenPair) → length (pairs_open entries) ≡ length entries
 open_count entries = length-map entries pair_in
 
+-- the graph of pairs
+module _ (symbols : ℕ) (pairs : List Pair) (rows : List (Vec ℕ Global))
+    (graph : IsGraphOf symbols (edges_of pairs) (rows_of rows)) where
+  pub rows_by : length rows ≡ symbols
+  rows_by = sym (length-map rows (λ (r : Vec ℕ Global). r.items)) ∙ graph.count
+
+  pub graph_at : IsGraphOf (length rows) (edges_of pairs) (rows_of rows)
+  graph_at = subst (λ n. IsGraphOf n (edges_of pairs) (rows_of rows)) (sym rows_by) graph
+
+  -- the labels of its components are the names
+  pub names_at : IsOver symbols (edges_of pairs) → (labels : List ℕ) → length labels ≡ length rows
+      → ((edges : List (ℕ × ℕ)) → IsGraphOf (length rows) edges (rows_of rows) →
+      AreComponents (length rows) edges labels)
+      → labels ≡ names_of symbols pairs
+  names_at over labels count least =
+      let edges = edges_of pairs in
+      labels_computed symbols edges (lead_below symbols edges over) labels (count ∙ rows_by)
+      (subst (λ n. AreComponents n edges labels) rows_by (least edges graph_at))
+
+-- the graph of open pairs
 module _ (symbols : ℕ) (entries : List OpenPair) (rows : List (Vec ℕ Global))
     (graph : IsGraphOf symbols (edges_of (pairs_open entries)) (rows_of rows)) where
   pub rows_count : length rows ≡ symbols
-  rows_count = sym (length-map rows (λ (r : Vec ℕ Global). r.items)) ∙ graph.count
+  rows_count = rows_by symbols (pairs_open entries) rows graph
 
   pub graph_here : IsGraphOf (length rows) (edges_of (pairs_open entries)) (rows_of rows)
-  graph_here =
-      subst (λ n. IsGraphOf n (edges_of (pairs_open entries)) (rows_of rows)) (sym rows_count) graph
+  graph_here = graph_at symbols (pairs_open entries) rows graph
 
-  -- the labels of its components are the names
   pub names_found : IsOver symbols (edges_of (pairs_open entries)) → (labels : List ℕ) →
       length labels ≡ length rows
       → ((edges : List (ℕ × ℕ)) → IsGraphOf (length rows) edges (rows_of rows) →
       AreComponents (length rows) edges labels)
       → labels ≡ names_of symbols (pairs_open entries)
-  names_found over labels count least =
-      let edges = edges_of (pairs_open entries) in
-      labels_computed symbols edges (lead_below symbols edges over) labels (count ∙ rows_count)
-      (subst (λ n. AreComponents n edges labels) rows_count (least edges graph_here))
+  names_found = names_at symbols (pairs_open entries) rows graph

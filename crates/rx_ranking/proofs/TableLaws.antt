@@ -5,6 +5,7 @@ use Rattle.std.specs.Prelude.{nat_le, nat_lt}
 use Rattle.std.proofs.lemmas.Bool.{and_parts, leb-true, ltb-true, le-leb, lt-ltb}
 use Rattle.std.proofs.lemmas.List.{length-append, length-map, map-append}
 use Rattle.std.proofs.lemmas.List.Elements.{All-append}
+use Rattle.rx_plain.proofs.Booleans.{and_grouped, and_true}
 use Rattle.rx_plain.specs.Formed.{Formed}
 use Rattle.rx_poly.specs.declared.body.Body.{Body}
 use Rattle.rx_row.specs.declared.row.Row.{Row}
@@ -22,14 +23,6 @@ use Rattle.rx_rank.specs.Answers.{IsProved}
 use Rattle.rx_pairs.specs.declared.pair_cert.PairCert.{PairCert}
 use Rattle.rx_ranking.specs.Tables.{Column, IsLowerBy, held_rows, rank_at, value_at}
 
-and_again : (a b c : Bool) → (a && (b && c)) ≡ ((a && b) && c)
-and_again true b c = refl
-and_again false b c = refl
-
-and_last : (a : Bool) → (a && true) ≡ a
-and_last true = refl
-and_last false = refl
-
 -- rows that are those of two lists one after the other, and keep the limits where both do
 pub record IsJoined (whole first second : Formed (List Row)) : Type 0 where
   pub form : whole.form ≡ first.form ++ second.form
@@ -44,7 +37,7 @@ module _ (pair : Pair) where
       IsJoined (chain rows whole) (chain rows first) second
   join_more rows whole first second j = record {
     form = ap (λ rs. rows.form ++ rs) j.form ∙ sym (append_assoc rows.form first.form second.form);
-    within = ap (λ b. rows.within && b) j.within ∙ and_again rows.within first.within second.within;
+    within = ap (λ b. rows.within && b) j.within ∙ and_grouped rows.within first.within second.within;
   }
 
   -- a column that was there has the same rows
@@ -116,7 +109,7 @@ module _ (pair : Pair) where
       record {
         form = append-nil (holds_rows pair p q).form;
         within =
-            and_last (holds_rows pair p q).within;
+            and_true (holds_rows pair p q).within;
       }
   hold_last [] (y ∷ qs) p q e = absurd (omega (arith, e))
   hold_last (x ∷ ps) [] p q e = absurd (omega (arith, e))

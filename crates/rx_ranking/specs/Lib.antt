@@ -3,5 +3,6 @@ pub mod Closing
 pub mod Fits
 pub mod Found
 pub mod Groups
+pub mod KnownNames
 pub mod Rounds
 pub mod Tables

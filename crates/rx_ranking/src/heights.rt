@@ -12,7 +12,7 @@ use rx_rank::is_member;
 use std::alloc::Global;
 
 /// Whether both symbols of the pair are of one component.
-fn is_inside(names: &[u32], pair: &Pair) -> bool
+pub(crate) fn is_inside(names: &[u32], pair: &Pair) -> bool
     ensures { result ≡ is_inside names.now pair.now }
 {
     match names.get(pair.left.0 as usize) {

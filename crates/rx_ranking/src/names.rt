@@ -4,11 +4,13 @@ ghost use Rattle.rx_graph.specs.Components.{AreComponents};
 ghost use Rattle.rx_graph.specs.Graph.{IsClosed, IsGraphOf, IsOver, rows_of};
 ghost use Rattle.rx_graph.specs.Heights.{AreHeights};
 ghost use Rattle.rx_pairs.specs.Graph.{edges_of};
+ghost use Rattle.rx_rank.specs.Answers.{pairs_at};
 ghost use Rattle.rx_rank.specs.Components.{names_of};
 ghost use Rattle.rx_ranking.specs.Tables.{pairs_open};
 
 use crate::open_pair::OpenPair;
 use rx_graph::Graph;
+use rx_pairs::Pair;
 use rx_plain::NoMemory;
 use std::alloc::Global;
 
@@ -24,6 +26,31 @@ fn graph_of(alloc: Global, symbols: usize, entries: &[OpenPair]) -> Result<Graph
         graph.add(entry.pair.left.0, entry.pair.right.0)?;
     }
     Ok(graph)
+}
+
+/// The graph of the pairs.
+fn graph_by(alloc: Global, symbols: usize, pairs: &[&Pair]) -> Result<Graph, NoMemory>
+    requires { IsOver symbols (edges_of (pairs_at pairs.now)) }
+    ensures edges { IfOk result (λ graph. IsGraphOf symbols (edges_of (pairs_at pairs.now))
+        (rows_of graph.rows.items)) }
+    ensures closed { IfOk result (λ graph. IsClosed (rows_of graph.rows.items)) }
+{
+    let mut graph = Graph::new(alloc, symbols)?;
+    for pair in pairs {
+        graph.add(pair.left.0, pair.right.0)?;
+    }
+    Ok(graph)
+}
+
+/// By symbol the least symbol of its component.
+pub(crate) fn names_by(alloc: Global, symbols: usize, pairs: &[&Pair]) -> Result<Vec<u32>, NoMemory>
+    requires over { IsOver symbols (edges_of (pairs_at pairs.now)) }
+    requires few { symbols ≤ 2 ^ 32 }
+    ensures { IfOk result (λ names. names.items ≡ names_of symbols (pairs_at pairs.now)) }
+{
+    let graph = graph_by(alloc, symbols, pairs)?;
+    let found = graph.components(alloc)?;
+    Ok(found)
 }
 
 /// By symbol the least symbol of its component.

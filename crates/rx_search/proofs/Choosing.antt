@@ -6,6 +6,7 @@ use Rattle.std.specs.Option.{option_map}
 use Rattle.std.proofs.lemmas.List.{append_assoc, map-append}
 use Rattle.std.proofs.lemmas.List.Elements.{All-append, All-cons, All-nil, filter_map-append}
 use Rattle.std.proofs.lemmas.List.Folds.{list_any-append}
+use Rattle.rx_plain.proofs.Booleans.{or_false}
 use Rattle.rx_solve.specs.Attempts.{Tried, beyond}
 use Rattle.rx_term.specs.declared.rule_set.RuleParts.{RuleParts}
 use Rattle.rx_lemma.specs.Lemmas.{Generalisation}
@@ -17,7 +18,6 @@ use Rattle.rx_search.specs.Search.{child, node_with}
 use Rattle.rx_search.specs.declared.choices.Choices.{Choices}
 use Rattle.rx_search.specs.declared.choices.Trial.{Trial}
 use Rattle.rx_search.specs.declared.node.Node.{Node}
-use Rattle.rx_search.proofs.Trying.{or_false}
 use Rattle.rx_visits.specs.Views.{seen_choice}
 use Rattle.rx_visits.specs.declared.tree.Choice.{Choice}
 

@@ -2,7 +2,7 @@
 use Rattle.std.proofs.Common.{◌≡◌, ◌≤◌, Bool, true, ◌&&◌, List, [], ◌∷◌, refl, sym, ap, subst, ◌∙◌, arith, All}
 use Rattle.std.specs.Prelude.{nat_le}
 use Rattle.std.specs.List.{list_all}
-use Rattle.std.proofs.lemmas.Bool.{and_parts}
+use Rattle.std.proofs.lemmas.Bool.{and_from, and_parts}
 use Rattle.std.proofs.lemmas.List.Elements.{All-head, All-tail}
 use Rattle.rx_cert.specs.Depth.{cert_depth}
 use Rattle.rx_cert.specs.declared.cert.Cert.{Cert}
@@ -25,14 +25,11 @@ IsDeep step = All (λ (cert : Cert). cert_depth cert ≤ most_deep) (certificate
 
 -- ---- tests
 
-both_true : (a b : Bool) → a ≡ true → b ≡ true → (a && b) ≡ true
-both_true a b x y = grind arith
-
 all_pass : {A : Type 0} (P : A → Type 0) (test : A → Bool) → ((x : A) → P x → test x ≡ true) →
     (xs : List A) → All P xs → list_all test xs ≡ true
 all_pass P test each [] all = refl
 all_pass P test each (x ∷ xs) all =
-    both_true (test x) (list_all test xs) (each x (All-head P x xs all))
+    and_from (test x) (list_all test xs) (each x (All-head P x xs all))
     (all_pass P test each xs (All-tail P x xs all))
 
 all_weaker : {A : Type 0} (one other : A → Bool) → ((x : A) → one x ≡ true → other x ≡ true) →
@@ -40,7 +37,7 @@ all_weaker : {A : Type 0} (one other : A → Bool) → ((x : A) → one x ≡ tr
 all_weaker one other each [] all = refl
 all_weaker one other each (x ∷ xs) all =
     let (first, later) = and_parts (one x) (list_all one xs) all in
-    both_true (other x) (list_all other xs) (each x first) (all_weaker one other each xs later)
+    and_from (other x) (list_all other xs) (each x first) (all_weaker one other each xs later)
 
 -- ---- certificates
 
@@ -78,7 +75,7 @@ tree_level : (y : CoverTree-F PartTree) → passes_level (λ row. true) is_cert_
 tree_level (CoverTree-F.Use rule certs) h = all_weaker is_cert_deep is_shallow deep_shallow certs h
 tree_level (CoverTree-F.Split row holds fails) h =
     let (one, other) = and_parts (passing holds.0) (passing fails.0) h in
-    both_true (has_shallow_certs holds.0) (has_shallow_certs fails.0) (holds.1 one) (fails.1 other)
+    and_from (has_shallow_certs holds.0) (has_shallow_certs fails.0) (holds.1 one) (fails.1 other)
 tree_level (CoverTree-F.Absurd cert) h = deep_shallow cert h
 
 tree_step : (x : CoverTree-F CoverTree) (y : CoverTree-F PartTree) → bare_tree y ≡ x →
@@ -98,7 +95,7 @@ depth_shallow tree h = grind arith
 module _ (parts : RuleParts) where
   tree_shallow : (tree : CoverTree) → IsSmall parts.rules 33 [] tree → is_shallow_tree tree ≡ true
   tree_shallow tree small =
-      both_true (nat_le (tree_depth tree) deepest) (has_shallow_certs tree)
+      and_from (nat_le (tree_depth tree) deepest) (has_shallow_certs tree)
       (depth_shallow tree small.deep) (certs_in tree small.certs_deep)
 
   trees_shallow : (trees : List CoverTree) → AreSmall parts trees → list_all is_shallow_tree trees ≡
@@ -115,13 +112,13 @@ module _ (parts : RuleParts) where
       → All (λ (c : PairCert). All (λ (cert : Cert). cert_depth cert ≤ most_deep) c.certs) pairs →
       is_shallow_log log ≡ true
   log_shallow log covers steps pairs same_covers same_steps same_pairs small deep deep_pairs =
-      both_true (list_all (λ trees. list_all is_shallow_tree trees) log.covers)
+      and_from (list_all (λ trees. list_all is_shallow_tree trees) log.covers)
       (list_all (λ (step : Step). are_shallow (certificates step)) log.steps &&
       list_all (λ (pair : PairCert). are_shallow pair.certs) log.pairs)
       (ap (list_all (λ trees. list_all is_shallow_tree trees)) same_covers
       ∙ all_pass (AreSmall parts) (λ trees. list_all is_shallow_tree trees) trees_shallow covers
       small)
-      (both_true (list_all (λ (step : Step). are_shallow (certificates step)) log.steps)
+      (and_from (list_all (λ (step : Step). are_shallow (certificates step)) log.steps)
       (list_all (λ (pair : PairCert). are_shallow pair.certs) log.pairs)
       (ap (list_all (λ (step : Step). are_shallow (certificates step))) same_steps
       ∙ all_pass IsDeep (λ (step : Step). are_shallow (certificates step))

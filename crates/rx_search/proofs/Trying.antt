@@ -1,9 +1,10 @@
 -- What comes of a step, or of an expansion that keeps the goal, at a node.
-use Rattle.std.proofs.Common.{◌≡◌, Bool, true, false, ◌||◌, ◌&&◌, if◌then◌else◌, Option, Some, None, Result, Ok, Err, List, [], ◌∷◌, ◌++◌, refl, sym, ap, subst, ◌∙◌}
+use Rattle.std.proofs.Common.{◌≡◌, Bool, true, false, ◌&&◌, if◌then◌else◌, Option, Some, None, Result, Ok, Err, List, [], ◌∷◌, ◌++◌, refl, sym, ap, subst, ◌∙◌}
 use Rattle.std.specs.Prelude.{IfOk, IfSome, nat_eq, slice_get}
 use Rattle.std.specs.Option.{option_map}
 use Rattle.std.proofs.lemmas.List.{append-nil, map-append}
 use Rattle.std.proofs.lemmas.List.Elements.{All-append, All-cons, All-nil}
+use Rattle.rx_plain.proofs.Booleans.{or_false, or_true}
 use Rattle.rx_plain.specs.Formed.{Formed}
 use Rattle.rx_cert.specs.Findings.{Said, Yes, No, Beyond}
 use Rattle.rx_solve.specs.Attempts.{Tried, where_shown}
@@ -107,14 +108,6 @@ module _ (parts : RuleParts) (from : Node) (state : State) (tried : Tried Next) 
   led_reached goal trial is reached (Err e) same = tt
 
 -- ---- where ranks are found
-
-pub or_false : (b : Bool) → (b || false) ≡ b
-or_false true = refl
-or_false false = refl
-
-or_true : (b : Bool) → (b || true) ≡ true
-or_true true = refl
-or_true false = refl
 
 module _ (from : Node) (parts : RuleParts) where
   abbrev next_ranked : Next → Tried Next

@@ -2,7 +2,7 @@
 ghost use Rattle.std.specs.Prelude.{◌≡◌, ◌∷◌, ◌++◌, [], All, IfOk, IfSome, OnOk, false, map, true, List};
 ghost use Rattle.rx_generalise.specs.Answers.{found_as};
 ghost use Rattle.rx_generalise.specs.Generalising.{generalisations};
-ghost use Rattle.rx_pairs.specs.Pairs.{HasRoot, SidesFit};
+ghost use Rattle.rx_pairs.specs.Pairs.{AreAllPairs, HasRoot, SidesFit};
 ghost use Rattle.rx_rank.specs.Ranking.{ranked};
 ghost use Rattle.rx_search.specs.Menu.{Chosen, by_lemma, by_lemmas, choice, chosen_at, keeping};
 ghost use Rattle.rx_search.specs.Menu as menu;
@@ -19,8 +19,9 @@ use rx_fm::FmEnd;
 use rx_form::{Side, Step};
 use rx_generalise::{Generalised, lemmas};
 use rx_lemma::LemmaKind;
+use rx_pairs::Pair;
 use rx_plain::{Items, NoMemory};
-use rx_ranking::{PairMemo, find_ranks_with};
+use rx_ranking::{RankMemo, has_ranks_with};
 use rx_row::Constraint;
 use rx_settle::try_step;
 use rx_steps::State;
@@ -115,9 +116,11 @@ fn where_ranked<S: FnMut(&Constraint) -> Result<Option<Cert>, FmEnd>>(
     rules: &RuleSet,
     node: Node,
     noted: bool,
-    memo: &mut PairMemo,
+    pairs: &[Pair],
+    memo: &mut RankMemo,
     solve: &mut S,
 ) -> Result<Trial, NoMemory>
+    requires pairs { AreAllPairs rules.now.rules pairs.now }
     requires solver { IsSolver S.FnMut solve.old }
     requires roots { All HasRoot node.state.hypotheses }
     requires fits { All (SidesFit rules.now) node.state.hypotheses }
@@ -125,12 +128,12 @@ fn where_ranked<S: FnMut(&Constraint) -> Result<Option<Cert>, FmEnd>>(
     ensures ranked { IfOk result (λ t. t ≡ if_ranked (ranked rules.now node.state.hypotheses) node
         noted) }
 {
-    match find_ranks_with(alloc, rules, node.state.hypotheses(), memo, solve) {
-        Ok(Some(_)) => Ok(Trial {
+    match has_ranks_with(alloc, rules, pairs, node.state.hypotheses(), memo, solve) {
+        Ok(true) => Ok(Trial {
             node: Some(node),
             noted,
         }),
-        Ok(None) => Ok(Trial { node: None, noted }),
+        Ok(false) => Ok(Trial { node: None, noted }),
         Err(FmEnd::Large) => Ok(Trial {
             node: None,
             noted: true,
@@ -145,10 +148,12 @@ fn try_keeping<S: FnMut(&Constraint) -> Result<Option<Cert>, FmEnd>>(
     rules: &RuleSet,
     node: &Node,
     side: Side,
-    memo: &mut PairMemo,
+    pairs: &[Pair],
+    memo: &mut RankMemo,
     solve: &mut S,
 ) -> Result<Trial, NoMemory>
     requires reached { (goal : Equation) × IsReached rules.now goal node.now }
+    requires pairs { AreAllPairs rules.now.rules pairs.now }
     requires solver { IsSolver S.FnMut solve.old }
     ensures solver { IsSolver S.FnMut solve.new }
     ensures tried { IfOk result (IsTried node.now (keeping rules.now node.now.state side)) }
@@ -159,7 +164,7 @@ fn try_keeping<S: FnMut(&Constraint) -> Result<Option<Cert>, FmEnd>>(
     let trial = try_plain(alloc, rules, node, step, solve)?;
     let Trial { node: found, noted } = trial;
     match found {
-        Some(next) => where_ranked(alloc, rules, next, noted, memo, solve),
+        Some(next) => where_ranked(alloc, rules, next, noted, pairs, memo, solve),
         None => Ok(Trial { node: None, noted }),
     }
 }
@@ -172,10 +177,12 @@ fn add_keeping<S: FnMut(&Constraint) -> Result<Option<Cert>, FmEnd>>(
     number: u8,
     side: Side,
     found: &mut Choices,
-    memo: &mut PairMemo,
+    pairs: &[Pair],
+    memo: &mut RankMemo,
     solve: &mut S,
 ) -> Result<(), NoMemory>
     requires reached { (goal : Equation) × IsReached rules.now goal node.now }
+    requires pairs { AreAllPairs rules.now.rules pairs.now }
     requires solver { IsSolver S.FnMut solve.old }
     ensures solver { IsSolver S.FnMut solve.new }
     ensures grows { (cs : List Chosen) → AreChoices node.now cs found.old →
@@ -185,7 +192,7 @@ fn add_keeping<S: FnMut(&Constraint) -> Result<Option<Cert>, FmEnd>>(
         All (λ c. IsNode rules.now goal c.node) found.old.choices →
         OnOk result (All (λ c. IsNode rules.now goal c.node) found.new.choices) }
 {
-    let trial = try_keeping(alloc, rules, node, side, memo, solve)?;
+    let trial = try_keeping(alloc, rules, node, side, pairs, memo, solve)?;
     found.add(number, trial)
 }
 
@@ -317,10 +324,12 @@ pub(crate) fn find_choices<S: FnMut(&Constraint) -> Result<Option<Cert>, FmEnd>>
     rules: &RuleSet,
     node: &Node,
     first: &Equation,
-    memo: &mut PairMemo,
+    pairs: &[Pair],
+    memo: &mut RankMemo,
     solve: &mut S,
 ) -> Result<Choices, NoMemory>
     requires reached { (goal : Equation) × IsReached rules.now goal node.now }
+    requires pairs { AreAllPairs rules.now.rules pairs.now }
     requires solver { IsSolver S.FnMut solve.old }
     ensures solver { IsSolver S.FnMut solve.new }
     ensures choices { IfOk result (AreChoices node.now
@@ -329,8 +338,28 @@ pub(crate) fn find_choices<S: FnMut(&Constraint) -> Result<Option<Cert>, FmEnd>>
         IfOk result (λ f. All (λ c. IsNode rules.now goal c.node) f.choices) }
 {
     let mut found = Choices::new(alloc);
-    add_keeping(alloc, rules, node, 1, Side::Left, &mut found, memo, solve)?;
-    add_keeping(alloc, rules, node, 2, Side::Right, &mut found, memo, solve)?;
+    add_keeping(
+        alloc,
+        rules,
+        node,
+        1,
+        Side::Left,
+        &mut found,
+        pairs,
+        memo,
+        solve,
+    )?;
+    add_keeping(
+        alloc,
+        rules,
+        node,
+        2,
+        Side::Right,
+        &mut found,
+        pairs,
+        memo,
+        solve,
+    )?;
     let left = Step::Expand {
         side: Side::Left,
         keep: false,

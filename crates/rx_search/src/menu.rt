@@ -1,5 +1,6 @@
 //! The menu at a settled node.
 ghost use Rattle.std.specs.Prelude.{◌≡◌, All, IfOk, option_copied};
+ghost use Rattle.rx_pairs.specs.Pairs.{AreAllPairs};
 ghost use Rattle.rx_search.specs.Nodes.{IsNode, IsReached, node_of, open_goal};
 ghost use Rattle.rx_search.specs.Search.{menu};
 ghost use Rattle.rx_settle.specs.Settling.{rows_if};
@@ -11,8 +12,9 @@ use crate::choices::find_choices;
 use crate::node::{Node, copied_rows};
 use rx_cert::Cert;
 use rx_fm::FmEnd;
+use rx_pairs::Pair;
 use rx_plain::{Items, NoMemory};
-use rx_ranking::PairMemo;
+use rx_ranking::RankMemo;
 use rx_row::{Constraint, Row};
 use rx_steps::State;
 use rx_term::{Equation, RuleSet};
@@ -45,10 +47,12 @@ pub(crate) fn find_menu<S: FnMut(&Constraint) -> Result<Option<Cert>, FmEnd>>(
     alloc: Global,
     rules: &RuleSet,
     node: &Node,
-    memo: &mut PairMemo,
+    pairs: &[Pair],
+    memo: &mut RankMemo,
     solve: &mut S,
 ) -> Result<Menu<Node, Items<Row>>, NoMemory>
     requires reached { (goal : Equation) × IsReached rules.now goal node.now }
+    requires pairs { AreAllPairs rules.now.rules pairs.now }
     requires solver { IsSolver S.FnMut solve.old }
     ensures solver { IsSolver S.FnMut solve.new }
     ensures menu { IfOk result (λ m. seen_menu node_of m ≡ menu rules.now (node_of node.now)) }
@@ -61,7 +65,7 @@ pub(crate) fn find_menu<S: FnMut(&Constraint) -> Result<Option<Cert>, FmEnd>>(
             note: None,
         });
     };
-    let found = find_choices(alloc, rules, node, first, memo, solve)?;
+    let found = find_choices(alloc, rules, node, first, pairs, memo, solve)?;
     let note = noted_rows(alloc, found.noted, &node.state)?;
     Ok(Menu {
         choices: found.choices,

@@ -11,8 +11,9 @@ use crate::menu::find_menu;
 use crate::node::{Node, is_closed, shared_steps};
 use rx_cert::Cert;
 use rx_fm::FmEnd;
+use rx_pairs::Pair;
 use rx_plain::{Items, NoMemory};
-use rx_ranking::PairMemo;
+use rx_ranking::RankMemo;
 use rx_row::{Constraint, Row};
 use rx_settle::{LoopPoints, settle};
 use rx_term::{Equation, RuleSet};
@@ -66,14 +67,17 @@ pub(crate) struct Plans<'a, S> {
     pub(crate) goal: &'a Equation,
     /// The loop points of the rules.
     pub(crate) points: &'a LoopPoints,
+    /// The pairs of the rules.
+    pub(crate) pairs: &'a [Pair],
     /// What was found out of pairs.
-    pub(crate) memo: &'a mut PairMemo,
+    pub(crate) memo: &'a mut RankMemo,
     /// What refutes rows.
     pub(crate) solve: &'a mut S,
 }
 
 impl<'a, S: FnMut(&Constraint) -> Result<Option<Cert>, FmEnd>> Tree for Plans<'a, S> {
     ghost use Rattle.std.specs.Prelude.{List};
+    ghost use Rattle.rx_pairs.specs.Pairs.{AreAllPairs};
     ghost use Rattle.rx_row.specs.declared.row.Row.{Row};
     ghost use Rattle.rx_search.specs.Nodes.{IsNode, Problem, node_of};
     ghost use Rattle.rx_search.specs.Search as search;
@@ -93,7 +97,8 @@ impl<'a, S: FnMut(&Constraint) -> Result<Option<Cert>, FmEnd>> Tree for Plans<'a
           p.solve.ghost_name;
     } };
 
-    ghost ready = { λ p. IsSolver S.FnMut p.solve.now × AreLoopPoints p.rules.now p.points.now };
+    ghost ready = { λ p. IsSolver S.FnMut p.solve.now × AreLoopPoints p.rules.now p.points.now ×
+        AreAllPairs p.rules.now.rules p.pairs.now };
 
     ghost View = { search.Node };
 
@@ -110,6 +115,8 @@ impl<'a, S: FnMut(&Constraint) -> Result<Option<Cert>, FmEnd>> Tree for Plans<'a
     }
 
     fn choices(&mut self, node: &Node) -> Result<Menu<Node, Items<Row>>, NoMemory> {
-        find_menu(self.alloc, self.rules, node, self.memo, self.solve)
+        find_menu(
+            self.alloc, self.rules, node, self.pairs, self.memo, self.solve,
+        )
     }
 }

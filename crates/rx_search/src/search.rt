@@ -7,7 +7,7 @@ ghost use Rattle.rx_joins.specs.Goals.{IsFitting};
 ghost use Rattle.rx_log.specs.Acceptance.{IsAccepted};
 ghost use Rattle.rx_log.specs.Depth.{is_shallow_log};
 ghost use Rattle.rx_cover.specs.Covering.{Covers, covering};
-ghost use Rattle.rx_pairs.specs.Pairs.{HasRoot, SidesFit};
+ghost use Rattle.rx_pairs.specs.Pairs.{AreAllPairs, HasRoot, SidesFit};
 ghost use Rattle.rx_ranking.specs.Found.{LowersAll};
 ghost use Rattle.rx_rank.specs.Ranking.{ranked};
 ghost use Rattle.rx_term.specs.declared.rule.Equation.{Equation};
@@ -29,8 +29,9 @@ use rx_cover::CoverTree;
 use rx_coverable::find_cover;
 use rx_fm::FmEnd;
 use rx_log::Log;
+use rx_pairs::{Pair, all_pairs};
 use rx_plain::{Items, NoMemory};
-use rx_ranking::{PairMemo, Ranking, find_ranks_with};
+use rx_ranking::{RankMemo, Ranking, find_ranks_with};
 use rx_row::{Constraint, Row};
 use rx_settle::LoopPoints;
 use rx_steps::State;
@@ -54,6 +55,14 @@ fn start_node(alloc: Global, goal: &Equation) -> Result<Node, NoMemory>
     })
 }
 
+/// The pairs of the rules.
+fn rule_pairs(alloc: Global, rules: &RuleSet) -> Result<Vec<Pair>, NoMemory>
+    ensures { IfOk result (λ pairs. AreAllPairs rules.now.rules pairs.items) }
+{
+    let parts = rules.parts();
+    all_pairs(alloc, parts.rules.as_slice(), &[])
+}
+
 /// What the visits of the plans for the goal come to.
 fn visit_plans<S: FnMut(&Constraint) -> Result<Option<Cert>, FmEnd>>(
     alloc: Global,
@@ -62,7 +71,7 @@ fn visit_plans<S: FnMut(&Constraint) -> Result<Option<Cert>, FmEnd>>(
     depth: u32,
     budget: u32,
     most_kept: usize,
-    memo: &mut PairMemo,
+    memo: &mut RankMemo,
     solve: &mut S,
 ) -> Result<Outcome<Node, Items<Row>>, NoMemory>
     requires fits { IsFitting rules.now goal.now }
@@ -74,6 +83,7 @@ fn visit_plans<S: FnMut(&Constraint) -> Result<Option<Cert>, FmEnd>>(
     ensures node { IfOk result (λ o. IfClosed (IsNode rules.now goal.now) o) }
 {
     let _made = rules.parts();
+    let pairs = rule_pairs(alloc, rules)?;
     let points = LoopPoints::new(alloc, rules)?;
     let start = start_node(alloc, goal)?;
     let mut plans = Plans {
@@ -81,6 +91,7 @@ fn visit_plans<S: FnMut(&Constraint) -> Result<Option<Cert>, FmEnd>>(
         rules,
         goal,
         points: &points,
+        pairs: pairs.as_slice(),
         memo,
         solve,
     };
@@ -110,7 +121,7 @@ fn ranks_of<S: FnMut(&Constraint) -> Result<Option<Cert>, FmEnd>>(
     alloc: Global,
     rules: &RuleSet,
     hypotheses: &[Rule],
-    memo: &mut PairMemo,
+    memo: &mut RankMemo,
     solve: &mut S,
 ) -> Result<Ranking, NoMemory>
     requires ranked { ranked rules.now hypotheses.now ≡ Yes }
@@ -131,7 +142,7 @@ fn log_of<S: FnMut(&Constraint) -> Result<Option<Cert>, FmEnd>>(
     alloc: Global,
     rules: &RuleSet,
     node: Node,
-    memo: &mut PairMemo,
+    memo: &mut RankMemo,
     solve: &mut S,
 ) -> Result<Log, NoMemory>
     requires coverable { is_coverable rules.now ≡ true }
@@ -195,7 +206,7 @@ impl<S: FnMut(&Constraint) -> Result<Option<Cert>, FmEnd>> Search<S> {
         goal: &Equation,
         depth: u32,
         budget: u32,
-        memo: &mut PairMemo,
+        memo: &mut RankMemo,
     ) -> Result<Log, SearchEnd>
         requires solver { AsksSolver S.FnMut self.old }
         requires coverable { is_coverable rules.now ≡ true }
@@ -262,7 +273,7 @@ impl<S: FnMut(&Constraint) -> Result<Option<Cert>, FmEnd>> Search<S> {
         ensures ends { IfErr result (λ e. IsEnd depth budget
             (searched rules.now goal.now depth budget) e) }
     {
-        let mut memo = PairMemo::new(alloc);
+        let mut memo = RankMemo::new(alloc);
         match find_ranks_with(alloc, rules, &[], &mut memo, &mut self.solve) {
             Ok(Some(_)) => self.visit(alloc, rules, goal, depth, budget, &mut memo),
             Ok(None) => Err(SearchEnd::NoRanks),

@@ -1,9 +1,9 @@
 -- The candidates of one rule more.
 use Rattle.std.proofs.Common.{◌≡◌, sym, subst, ◌+◌, ◌||◌, drop}
+use Rattle.rx_plain.proofs.Booleans.{either_first, either_second}
 use Rattle.rx_term.proofs.Places.{at_some, from_place}
 use Rattle.rx_rank.specs.Candidates.{all_candidates, rule_candidates}
 use Rattle.rx_rank.proofs.Gathering.{Gathering, after_some}
-use Rattle.rx_rank.proofs.TryLaws.{either_first, either_second}
 use Rattle.rx_rank.proofs.candidates.push_rules.Goals as goal
 use Rattle.rx_rank.proofs.candidates.push_rules.Goals.{then-noted, else-noted}
 

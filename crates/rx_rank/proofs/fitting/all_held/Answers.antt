@@ -1,5 +1,6 @@
 -- One pair more.
-use Rattle.std.proofs.Common.{◌≡◌, ◌∙◌, ap, sym, subst, ◌+◌, ◌++◌, [], ◌∷◌, drop, get_or, slice_set, Some, ◌<◌, length, List}
+use Rattle.std.proofs.Common.{◌≡◌, ◌∙◌, ap, sym, subst, ◌+◌, ◌++◌, [], ◌∷◌, drop, drop_of_length-le, get_or, slice_set, Some, ◌<◌, length, List, refl, take, take_all}
+use Rattle.std.specs.List.{AllZip}
 use Rattle.std.specs.Option.{IfSome}
 use Rattle.rx_cert.specs.Findings.{and_also}
 use Rattle.rx_pairs.specs.declared.pair.Pair.{Pair}
@@ -52,3 +53,29 @@ loop-known-preserved g c =
           (subst (λ o. IfSome o (IsHeld values (get_or pairs i d))) is
           c.in_ok-attempt.ensures.held);
     }
+
+pub loop-known-init : goal.loop-known-init
+loop-known-init g c = record {
+  solver = c.requires.solver;
+  same = refl;
+  decides = refl;
+  held =
+      subst (AllZip (IsHeld c.args.values.now) []) (sym c.new-all.ensures.items) tt;
+}
+
+pub returns-clause-tried : goal.returns-clause-tried
+returns-clause-tried g c =
+    let values = c.args.values.now in
+    let same = c.loop-known.invariant.same in
+    let i = c.loop-known.known-index in
+    ap only_shown (sym (ap (all_hold values)
+    (ap (drop i) same ∙ drop_of_length-le c.args.pairs.now c.loop-known-test.false)) ∙
+    c.loop-known.invariant.decides)
+
+pub returns-clause-held : goal.returns-clause-held
+returns-clause-held g c =
+    let i = c.loop-known.known-index in
+    subst (λ (ps : List Pair). AllZip (IsHeld c.args.values.now) ps c.loop-known.all.items)
+    (ap (take i) c.loop-known.invariant.same ∙
+    take_all i c.args.pairs.now c.loop-known-test.false)
+    c.loop-known.invariant.held

@@ -1,10 +1,10 @@
 -- One pair more.
-use Rattle.std.proofs.Common.{◌≡◌, ◌∙◌, ap, sym, ◌+◌, ◌||◌, List, drop, slice_set, ◌<◌, length, subst}
-use Rattle.std.specs.List.{list_any}
+use Rattle.std.proofs.Common.{◌≡◌, ◌∙◌, ap, sym, ◌+◌, ◌||◌, List, [], drop, drop_of_length-le, refl, slice_set, ◌<◌, length, subst, take, take_all}
+use Rattle.std.specs.List.{AllZip, list_any}
+use Rattle.rx_plain.proofs.Booleans.{either_first, either_second, or_assoc, or_false}
 use Rattle.rx_pairs.specs.declared.pair.Pair.{Pair}
 use Rattle.rx_rank.specs.Answers.{IsDecided}
 use Rattle.rx_rank.specs.Choices.{falls_by, is_beyond}
-use Rattle.rx_rank.proofs.TryLaws.{either_first, either_second, or_again}
 use Rattle.rx_rank.proofs.Walks.{next_from, put_same, zip_next}
 use Rattle.rx_rank.proofs.fitting.falling.Goals as goal
 use Rattle.rx_rank.proofs.fitting.falling.Goals.{then-noted, else-noted}
@@ -36,8 +36,36 @@ loop-known-preserved g c =
           c.in_ok-decision.ensures.certs;
       noted =
           ap (λ ps. c.if-noted.noted || beyond (drop (i + 1) ps)) put
-          ∙ ap (λ n. n || rest) either ∙ or_again before more rest
+          ∙ ap (λ n. n || rest) either ∙ or_assoc before more rest
           ∙ ap (λ m. before || (m || rest)) c.in_ok-decision.ensures.noted
           ∙ sym (ap (λ ps. before || beyond ps) (next_from pairs i d test))
           ∙ c.loop-known.invariant.noted;
     }
+
+pub loop-known-init : goal.loop-known-init
+loop-known-init g c = record {
+  solver = c.requires.solver;
+  same = refl;
+  certs =
+      subst (AllZip (IsDecided c.args.values.now) []) (sym c.new-certs.ensures.items) tt;
+  noted = refl;
+}
+
+pub returns-clause-certs : goal.returns-clause-certs
+returns-clause-certs g c =
+    let i = c.loop-known.known-index in
+    subst (λ (ps : List Pair). AllZip (IsDecided c.args.values.now) ps c.loop-known.certs.items)
+    (ap (take i) c.loop-known.invariant.same ∙
+    take_all i c.args.pairs.now c.loop-known-test.false)
+    c.loop-known.invariant.certs
+
+pub returns-clause-noted : goal.returns-clause-noted
+returns-clause-noted g c =
+    let values = c.args.values.now in
+    let i = c.loop-known.known-index in
+    let beyond = λ (ps : List Pair). list_any (λ q. is_beyond (falls_by values q)) ps in
+    sym (or_false c.loop-known.noted)
+    ∙ sym (ap (λ ps. c.loop-known.noted || beyond ps)
+    (ap (drop i) c.loop-known.invariant.same ∙
+    drop_of_length-le c.args.pairs.now c.loop-known-test.false))
+    ∙ c.loop-known.invariant.noted

@@ -1,0 +1,26 @@
+//! What rankings found out, from one to the next.
+ghost use Rattle.std.specs.Prelude.{◌≡◌};
+
+use crate::names_memo::NamesMemo;
+use rx_rank::PairMemo;
+use std::alloc::Global;
+
+/// What was found out of pairs and of their graphs. It may be used with any rules and any solver.
+#[derive(Drop)]
+pub struct RankMemo {
+    pub(crate) names: NamesMemo,
+    pub(crate) pairs: PairMemo,
+}
+
+impl RankMemo {
+    /// Nothing is found out yet. Takes no memory.
+    pub fn new(alloc: Global) -> RankMemo
+        ensures names { result.names ≡ 0 }
+        ensures pairs { result.pairs ≡ 0 }
+    {
+        RankMemo {
+            names: NamesMemo::new(alloc),
+            pairs: PairMemo::new(alloc),
+        }
+    }
+}
