@@ -5,7 +5,9 @@ use Rattle.std.proofs.lemmas.Nat.Gcd.{dvd-zero}
 use Rattle.std.specs.Ordering.{is_lt, ordering_reverse}
 use Rattle.std.specs.declared.cmp.Ordering.{Ordering}
 use Rattle.std.specs.declared.cmp.Ordering.TheVariants.{Less, Equal, Greater}
-use Rattle.rx_poly.specs.Normal.{is_empty, is_number}
+use Rattle.std.proofs.lemmas.Option.{same_Some}
+use Rattle.rx_poly.proofs.Emptiness.{empty_is}
+use Rattle.rx_poly.specs.Normal.{is_number}
 use Rattle.rx_poly.specs.Order.{mono_cmp}
 use Rattle.rx_poly.specs.Reading.{coefficient, constant_of, found}
 use Rattle.rx_poly.specs.Terms.{is_before, is_sparse_sorted, is_zero}
@@ -14,7 +16,6 @@ use Rattle.rx_poly.proofs.OrderLemmas.{mono_total}
 use Rattle.rx_poly.proofs.Same.{same_mono}
 use Rattle.rx_poly.proofs.TermLaws.{lt_is, listed_parts}
 use Rattle.rx_poly_laws.proofs.Coefficients.{first_coefficient}
-use Rattle.rx_poly.specs.declared.body.Atom.{Atom}
 use Rattle.rx_poly.specs.declared.body.Mono.{Mono, out-Mono, roll-Mono, roll-out-Mono}
 use Rattle.rx_fm.specs.Elimination.{is_one}
 use Rattle.rx_fm.specs.Numbers.{divides_all}
@@ -52,17 +53,10 @@ divides_coefficient m d (t ∷ ts) h =
 
 -- ---- numbers
 
-no_atoms : (xs : List Atom) → is_empty xs ≡ true → xs ≡ []
-no_atoms [] e = refl
-no_atoms (x ∷ xs) e = cc
-
 -- 1 is one monomial
 pub one_is : (m : Mono) → is_one m ≡ true → m ≡ one
 one_is m h =
-    sym (roll-out-Mono m) ∙ (λ i. roll-Mono (record { atoms = no_atoms (out-Mono m).atoms h i }))
-
-some_same : (x y : ℤ) → Some x ≡ Some y → x ≡ y
-some_same x y e = cc
+    sym (roll-out-Mono m) ∙ (λ i. roll-Mono (record { atoms = empty_is (out-Mono m).atoms h i }))
 
 -- the coefficients of a sum that is a number: that of 1 is the number, all others are 0
 pub record OnlyNumber (ts : List (Mono × ℤ)) (k : ℤ) : Type 0 where
@@ -83,12 +77,12 @@ one_term t h = record {
 
 by_number : (t : Mono × ℤ) (ts : List (Mono × ℤ)) (k : ℤ) (b : Bool) → is_number (t ∷ ts) ≡ b →
     cond b (Some t.1) None ≡ Some k → OnlyNumber (t ∷ ts) k
-by_number t [] k true h e = subst (OnlyNumber (t ∷ [])) (some_same t.1 k e) (one_term t h)
+by_number t [] k true h e = subst (OnlyNumber (t ∷ [])) (same_Some t.1 k e) (one_term t h)
 by_number t (u ∷ us) k true h e = cc
 by_number t ts k false h e = cc
 
 pub only_number : (ts : List (Mono × ℤ)) (k : ℤ) → constant_of ts ≡ Some k → OnlyNumber ts k
-only_number [] k e = record { others = λ x g. refl; number = some_same (pos 0) k e }
+only_number [] k e = record { others = λ x g. refl; number = same_Some (pos 0) k e }
 only_number (t ∷ ts) k e = by_number t ts k (is_number (t ∷ ts)) refl e
 
 -- a listed sum in which only 1 has a coefficient is a number

@@ -4,15 +4,14 @@ use Rattle.std.proofs.Common.{◌≡◌, ◌∙◌, ap, subst, Bool, true, false
 use Rattle.std.proofs.lemmas.Int.{ints}
 use Rattle.std.proofs.lemmas.Bool.{and_parts, and_from}
 use Rattle.std.specs.List.{list_all}
-use Rattle.std.specs.Ordering.{ordering_reverse}
 use Rattle.std.specs.declared.cmp.Ordering.{Ordering}
 use Rattle.std.specs.declared.cmp.Ordering.TheVariants.{Less, Equal, Greater}
+use Rattle.rx_poly.proofs.ReadingLaws.{itself}
 use Rattle.rx_plain.proofs.Integers.{mul-zero-int, zero-mul-int}
 use Rattle.rx_poly.specs.Order.{mono_cmp}
 use Rattle.rx_poly.specs.Reading.{coefficient, found}
 use Rattle.rx_poly.specs.Terms.{is_zero}
 use Rattle.rx_poly.specs.Value.{quotient}
-use Rattle.rx_poly.proofs.OrderLemmas.{mono_total}
 use Rattle.rx_poly.proofs.Same.{same_mono}
 use Rattle.rx_poly.proofs.TermLaws.{zero_is}
 use Rattle.rx_poly.specs.declared.body.Body.{Body, out-Body}
@@ -178,14 +177,6 @@ next_without m cs h =
 pub record Covers (ms : List Mono) (cs : List Combination) : Type 0 where
   pub none_one : list_all (λ m. not (is_one m)) ms ≡ true
   pub lacks : (x : Mono) → is_one x ≡ false → Missing x ms → Lacks x cs
-
-itself : (m : Mono) → mono_cmp m m ≡ Equal
-itself m = tied_itself_is (mono_cmp m m) (mono_total.antisymm m m)
-  where
-    tied_itself_is : (r : Ordering) → r ≡ ordering_reverse r → r ≡ Equal
-    tied_itself_is Less e = cc
-    tied_itself_is Equal e = refl
-    tied_itself_is Greater e = cc
 
 by_same : (x m : Mono) (ms : List Mono) (cs : List Combination) → list_all good cs ≡ true →
     Covers (m ∷ ms) cs → is_one x ≡ false → Missing x ms → (r : Ordering) → mono_cmp x m ≡ r →

@@ -1,13 +1,14 @@
 -- Numbers divided by a common divisor, and polynomials whose coefficients are.
 use Rattle.std.proofs.Common.{◌≡◌, ◌∙◌, ap, Bool, true, false, ◌&&◌, cond, refl, sym, List, [], ◌∷◌, map, ℕ, zero, suc, ◌+◌, ◌%◌, nat_eq, nat_le, sum_by, ℤ, pos, negsuc, neg_ℤ, ◌*ℤ◌, FitsSigned, int_div, int_rem, unsigned_abs, arith}
 use Rattle.std.proofs.lemmas.Int.{ints, quot-rem, quot_fits}
-use Rattle.std.proofs.lemmas.Bool.{and_parts, and_from}
+use Rattle.std.proofs.lemmas.Bool.{and_from, and_parts, false_from_ne_true}
 use Rattle.std.proofs.lemmas.Nat.Gcd.{dvd_of_mod-eq-zero, mod-eq-zero_of_dvd, dvd_refl, dvd_trans}
 use Rattle.std.proofs.Math.Nat.{mul-div_cancel'}
 use Rattle.std.specs.Int.{◌∣◌, w128}
 use Rattle.std.specs.List.{fold}
 use Rattle.std.specs.Ordering.{is_lt}
 use lib.IntN.{*ℤ_comm}
+use Rattle.rx_poly.proofs.Constants.{fits_signed}
 use Rattle.rx_plain.proofs.Integers.{mul-zero-int, one-mul-int}
 use Rattle.rx_poly.specs.Limits.{all_fit, body_depth, body_size, fits_i128, greatest, is_small, mono_depth, mono_size}
 use Rattle.rx_poly.specs.Normal.{is_normal, is_normal_mono, is_poly}
@@ -18,7 +19,7 @@ use Rattle.rx_poly.proofs.Levels.{body_depth_is, body_size_is}
 use Rattle.rx_poly.proofs.OrderLemmas.{mono_total}
 use Rattle.rx_poly.proofs.PolyLaws.{depth-of_terms, poly_of_terms, poly_terms, size-of_terms}
 use Rattle.rx_poly.proofs.Same.{same_mono}
-use Rattle.rx_poly.proofs.TermLaws.{by_false, listed_from, listed_parts, zero_is}
+use Rattle.rx_poly.proofs.TermLaws.{listed_from, listed_parts, zero_is}
 use Rattle.rx_poly.specs.declared.body.Body.{Body, out-Body, roll-Body, roll-out-Body}
 use Rattle.rx_poly.specs.declared.body.Mono.{Mono}
 use Rattle.rx_fm.specs.Elimination.{coefficients, common_divisor, divided, primitive_part}
@@ -47,7 +48,7 @@ size_zero (negsuc a) e = absurd (omega arith)
 
 pub above_is : (d : ℕ) → is_zero (pos (suc d)) ≡ false
 above_is d =
-    by_false (is_zero (pos (suc d))) (λ e. let k : pos (suc d) ≡ pos 0 = zero_is (pos (suc d)) e in
+    false_from_ne_true (is_zero (pos (suc d))) (λ e. let k : pos (suc d) ≡ pos 0 = zero_is (pos (suc d)) e in
     omega (arith, ints))
 
 pub quotient_is : (x : ℤ) (d : ℕ) → quotient x (pos (suc d)) ≡ int_div x (pos (suc d))
@@ -73,14 +74,10 @@ quotient_zero (suc d) = quotient_is (pos 0) d ∙ ap pos (omega arith)
 -- a quotient by a divisor is 0 only where the number is
 pub quotient_nonzero : (d : ℕ) (x : ℤ) → divides d x ≡ true → is_zero x ≡ false →
     is_zero (quotient x (pos d)) ≡ false
-quotient_nonzero d x h n = by_false (is_zero (quotient x (pos d))) (λ e.
+quotient_nonzero d x h n = false_from_ne_true (is_zero (quotient x (pos d))) (λ e.
     let none : x ≡ pos 0 = sym (exact d x h) ∙
     ap (λ z. pos d *ℤ z) (zero_is (quotient x (pos d)) e) ∙ mul-zero-int (pos d) in
     let no : is_zero x ≡ true = ap is_zero none in cc)
-
-fits_is : (z : ℤ) → FitsSigned w128 z → fits_i128 z ≡ true
-fits_is (pos n) f = grind arith
-fits_is (negsuc n) f = grind arith
 
 is_fit : (z : ℤ) → fits_i128 z ≡ true → FitsSigned w128 z
 is_fit (pos n) f = record { sfits = grind arith }
@@ -89,7 +86,7 @@ is_fit (negsuc n) f = record { sfits = grind arith }
 pub quotient_fits : (d : ℕ) (x : ℤ) → fits_i128 x ≡ true → fits_i128 (quotient x (pos d)) ≡ true
 quotient_fits zero x f = refl
 quotient_fits (suc d) x f =
-    ap fits_i128 (quotient_is x d) ∙ fits_is (int_div x (pos (suc d)))
+    ap fits_i128 (quotient_is x d) ∙ fits_signed (int_div x (pos (suc d)))
     (quot_fits w128 x (pos (suc d)) (is_fit x f) (omega (arith, ints)))
 
 -- ---- lists of numbers

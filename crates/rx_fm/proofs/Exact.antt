@@ -2,9 +2,10 @@
 use Rattle.std.proofs.Common.{◌≡◌, ◌∙◌, ap, cond, ℕ, zero, suc, ◌*◌, ◌/◌, ◌<◌, ℤ, pos, negsuc, ◌≤ℤ◌, ◌<ℤ◌, unsigned_abs, arith}
 use Rattle.std.proofs.lemmas.Int.{ints}
 use Rattle.std.proofs.Math.Nat.{mul-div_cancel'}
+use Rattle.std.proofs.lemmas.Bool.{false_from_ne_true}
 use Rattle.rx_poly.specs.Value.{quotient}
 use Rattle.rx_poly.specs.Terms.{is_zero}
-use Rattle.rx_poly.proofs.TermLaws.{by_false, zero_is}
+use Rattle.rx_poly.proofs.TermLaws.{zero_is}
 use Rattle.rx_fm.specs.Numbers.{gcd}
 use Rattle.rx_fm.proofs.Gcd.{gcd_is, size_is}
 
@@ -12,7 +13,7 @@ pub quotient_pos : (b g : ℕ) → 0 < g → quotient (pos b) (pos g) ≡ pos (b
 quotient_pos b zero h = absurd (omega arith)
 quotient_pos b (suc g) h =
     ap (λ t. cond t (pos 0) (pos (b / suc g)))
-    (by_false (is_zero (pos (suc g))) (λ e. let k : pos (suc g) ≡ pos 0 = zero_is (pos (suc g)) e in
+    (false_from_ne_true (is_zero (pos (suc g))) (λ e. let k : pos (suc g) ≡ pos 0 = zero_is (pos (suc g)) e in
     omega (arith, ints)))
 
 -- one divisor of a number above 0 is above 0

@@ -1,7 +1,7 @@
 -- Where the elimination finds nothing there are no multipliers: a stage keeps that there are some.
 use Rattle.std.proofs.Common.{◌≡◌, ◌∙◌, ap, subst, Bool, true, false, not, cond, refl, sym, List, [], ◌∷◌, ◌++◌, map, filter, length, ℕ, zero, suc, nat_le, Option, Some, None, All, ℤ, pos, negsuc, ◌+ℤ◌, ◌*ℤ◌, ◌≤ℤ◌, ◌<ℤ◌, int_lt, arith}
 use Rattle.std.proofs.lemmas.Int.{ints}
-use Rattle.std.proofs.lemmas.Bool.{and_parts, and_from}
+use Rattle.std.proofs.lemmas.Bool.{and_from, and_parts, not-true}
 use Rattle.std.proofs.lemmas.List.Elements.{All-head, All-tail}
 use Rattle.std.specs.List.{list_all}
 use Rattle.rx_plain.proofs.Integers.{mul-zero-int}
@@ -268,17 +268,13 @@ no_weights limit (m ∷ ms) ts e h c r =
     let within = within_none (stage_within limit m (elements ts))
     (eliminate limit ms (stage m (elements ts))) none.1 in
     let same = elements-after m ts in
-    let other : is_one m ≡ false = by_not (is_one m)
+    let other : is_one m ≡ false = not-true (is_one m)
     (and_parts (not (is_one m)) (list_all (λ x. not (is_one x)) ms) c.none_one).0 in
     no_weights limit ms (behind m ts)
     (ap (eliminate limit ms) same ∙ within.1)
     (ap (list_all good) same ∙ good-stage limit m (elements ts) within.0 h)
     (subst (Covers ms) (sym same) (next_covers m ms (elements ts) h c))
     (stage_keeps m ts other h r)
-  where
-    by_not : (b : Bool) → not b ≡ true → b ≡ false
-    by_not true d = cc
-    by_not false d = refl
 
 -- ---- the polynomials given
 

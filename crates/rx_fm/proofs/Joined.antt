@@ -38,7 +38,7 @@ terms_of : (x : Mono) (ts : List (Mono × ℤ)) → coefficient x (out-Body (of_
     coefficient x ts
 terms_of x ts = ap (coefficient x) (terms-of_terms ts)
 
--- each coefficient of the weighed sum
+-- each coefficient of the combined sum
 pub at-linear_combination : (x : Mono) (k l : ℤ) (p q : Combination) → good p ≡ true → good q ≡
     true →
     at x (linear_combination k p l q) ≡ at x p *ℤ k +ℤ at x q *ℤ l
@@ -81,9 +81,9 @@ added_poly p q h g w =
       listed = listed-add mono_cmp mono_total same_mono ps qs right.listed;
     }) parts.1
 
-pub weighed_good : (k l : ℤ) (p q : Combination) → good p ≡ true → good q ≡ true →
+pub combined_good : (k l : ℤ) (p q : Combination) → good p ≡ true → good q ≡ true →
     linear_combination_within k p l q ≡ true → good (linear_combination k p l q) ≡ true
-weighed_good k l p q h g w =
+combined_good k l p q h g w =
     let sum = body_sum (scaled_by k p.poly) (scaled_by l q.poly) in
     let multipliers = combined_within k p.multipliers l q.multipliers in
     let a = and_parts (is_within (scaled_by k p.poly))
@@ -151,7 +151,7 @@ module _ (m : Mono) (p q : Combination) (h : good p ≡ true) (k : good q ≡ tr
       (eliminant_within a b p q && common_divisor_within (crossed m p q)) w in
       let inner = and_parts (eliminant_within a b p q) (common_divisor_within (crossed m p q))
       parts.1 in
-      reduced_good (crossed m p q) (weighed_good (pos (b / g)) (pos (a / g)) p q h k inner.0)
+      reduced_good (crossed m p q) (combined_good (pos (b / g)) (pos (a / g)) p q h k inner.0)
 
   pub at-crossed : (x : Mono) → at x (crossed m p q) ≡
       at x p *ℤ pos (b / g) +ℤ at x q *ℤ pos (a / g)
@@ -161,7 +161,7 @@ module _ (m : Mono) (p q : Combination) (h : good p ≡ true) (k : good q ≡ tr
   times_back z n d =
       swap (pos g) z (pos (n / g)) ∙ ap (λ y. z *ℤ y) (cofactor_back g n d) ∙ *ℤ_comm z (pos n)
 
-  -- each coefficient of the weighed sum, times the common divisor of the two sizes
+  -- each coefficient of the combined sum, times the common divisor of the two sizes
   crossed_times : (x : Mono) → pos 0 <ℤ at m p → pos 0 <ℤ neg_ℤ (at m q) →
       pos g *ℤ at x (crossed m p q) ≡ neg_ℤ (at m q) *ℤ at x p +ℤ at m p *ℤ at x q
   crossed_times x up down =

@@ -5,10 +5,11 @@
 use Rattle.std.proofs.Common.{◌≡◌, ◌∙◌, ap, Bool, true, false, cond, refl, sym, List, [], ◌∷◌, ◌++◌, map, filter, ℤ, pos, negsuc, zero, suc, ℕ, ◌*◌, ◌+ℤ◌, ◌*ℤ◌, ◌≤ℤ◌, ◌<ℤ◌, neg_ℤ, int_lt, arith}
 use Rattle.std.proofs.lemmas.Int.{ints}
 use lib.IntN.{*ℤ_comm}
+use Rattle.std.proofs.lemmas.Bool.{false_from_ne_true}
 use Rattle.rx_plain.proofs.Integers.{zero-mul-int, mul-zero-int, mul-assoc-int, mul-add-int, add-mul-int, zero-add-int}
 use Rattle.rx_poly.specs.Terms.{is_zero}
 use Rattle.rx_poly.specs.Value.{sum_terms}
-use Rattle.rx_poly.proofs.TermLaws.{by_false, zero_is}
+use Rattle.rx_poly.proofs.TermLaws.{zero_is}
 
 -- ---- products
 
@@ -42,11 +43,11 @@ pub data Told (z : ℤ) : Type 0 where
 pub told : (z : ℤ) → Told z
 told (pos zero) = known_zero refl refl refl
 told (pos (suc n)) =
-    known_above (by_false (is_zero (pos (suc n)))
+    known_above (false_from_ne_true (is_zero (pos (suc n)))
     (λ e. let k : pos (suc n) ≡ pos 0 = zero_is (pos (suc n)) e in omega (arith, ints)))
     (grind (arith, ints)) (grind (arith, ints))
 told (negsuc n) =
-    known_below (by_false (is_zero (negsuc n))
+    known_below (false_from_ne_true (is_zero (negsuc n))
     (λ e. let k : negsuc n ≡ pos 0 = zero_is (negsuc n) e in cc)) refl refl
 
 pub above_of : (z : ℤ) → int_lt (pos 0) z ≡ true → pos 0 <ℤ z

@@ -79,7 +79,7 @@ abbrev pub linear_combination_formed : ℤ → Combination → ℤ → Combinati
 linear_combination_formed k p l q =
     record { form = linear_combination k p l q; within = linear_combination_within k p l q }
 
--- the two weighed so that coefficients of the sizes a and b and of opposite signs cancel, by the
+-- the two combined so that coefficients of the sizes a and b and of opposite signs cancel, by the
 -- least such weights
 abbrev pub eliminant : ℕ → ℕ → Combination → Combination → Combination
 eliminant a b p q = linear_combination (pos (b / gcd a b)) p (pos (a / gcd a b)) q

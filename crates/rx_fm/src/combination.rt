@@ -33,7 +33,7 @@ impl Combination {
 
 /// One multiple of the first plus one of the second. Large exactly where one of the multiples,
 /// their sum, or a product or sum of multipliers passes its limits.
-fn weighed(
+fn linear_combination(
     alloc: Global,
     k: &i128,
     first: &Combination,
@@ -56,8 +56,8 @@ fn weighed(
     Ok(Combination { poly, multipliers })
 }
 
-/// The two weighed so that coefficients of these sizes and of opposite signs cancel.
-fn cancelled(
+/// Both combined so that coefficients of these sizes and of opposite signs cancel.
+fn eliminant(
     alloc: Global,
     positive: &i128,
     first: &Combination,
@@ -72,7 +72,7 @@ fn cancelled(
     let common = gcd(positive, negative);
     let k = divided(negative, &common);
     let l = divided(positive, &common);
-    weighed(alloc, &k, first, &l, second)
+    linear_combination(alloc, &k, first, &l, second)
 }
 
 /// The greatest common divisor of one number and the sizes of the coefficients; None where one of
@@ -91,7 +91,7 @@ fn gcd_of_terms(first: &i128, terms: &[(Mono, i128)]) -> Option<i128>
 
 /// The greatest common divisor of all coefficients and multipliers; None where the size of one of
 /// them leaves i128.
-fn common(combination: &Combination) -> Option<i128>
+fn common_divisor(combination: &Combination) -> Option<i128>
     ensures { SomeIff result (common_divisor_within combination.now ≡ true)
         (pos (common_divisor combination.now)) }
 {
@@ -135,7 +135,7 @@ fn reduced(alloc: Global, combination: Combination) -> Result<Combination, FmEnd
     ensures within { OnOk result (common_divisor_within combination ≡ true) }
     ensures large { IfErr result (λ e. e ≡ FmEnd.Large → common_divisor_within combination ≡ false) }
 {
-    let Some(by) = common(&combination) else {
+    let Some(by) = common_divisor(&combination) else {
         return Err(FmEnd::Large);
     };
     if by == 1 {
@@ -165,6 +165,6 @@ pub(crate) fn joined(
     let Some(negative) = size(&second.coeff(mono)) else {
         return Err(FmEnd::Large);
     };
-    let sum = cancelled(alloc, &positive, first, &negative, second)?;
+    let sum = eliminant(alloc, &positive, first, &negative, second)?;
     reduced(alloc, sum)
 }

@@ -1,12 +1,12 @@
 -- A variable with coefficient 1 or -1 is taken away: its term goes, so nothing passes the limits.
 use Rattle.std.proofs.Common.{◌≡◌, ◌∙◌, ap, subst, sym, refl, cond, arith, ℕ, ◌≤◌, nat_le, sum_by, Bool, true, false, List, [], ◌∷◌, ℤ, pos, negsuc, ◌+ℤ◌}
 use Rattle.std.proofs.lemmas.Bool.{and_from, and_parts}
-use Rattle.std.proofs.lemmas.Bool.Decides.{nat_tests}
 use Rattle.std.proofs.lemmas.List.Sums.{sum_by-cons}
 use Rattle.std.specs.List.{list_all}
 use Rattle.std.specs.Ordering.{is_lt, ordering_reverse}
 use Rattle.std.specs.declared.cmp.Ordering.{Ordering}
 use Rattle.std.specs.declared.cmp.Ordering.TheVariants.{Less, Equal, Greater}
+use Rattle.rx_plain.proofs.Naturals.{limit_kept}
 use Rattle.rx_poly.proofs.Levels.{body_depth_is, body_size_is, terms-of_terms}
 use Rattle.rx_poly.proofs.OrderLemmas.{mono_total}
 use Rattle.rx_poly.proofs.PolyLaws.{depth-of_terms, poly_terms, size-of_terms, within_terms}
@@ -140,9 +140,6 @@ removed_depth k (t ∷ ts) = by (mono_cmp k t.0) (removed_depth k ts)
     by Equal g = omega arith
     by Greater g = omega (arith, g)
 
-below : (m k limit : ℕ) → m ≤ k → nat_le k limit ≡ true → nat_le m limit ≡ true
-below m k limit h g = grind (arith, nat_tests)
-
 -- what is left of a polynomial without one of its terms keeps the limits
 removed_within : (k : Mono) (p : Body) → is_poly p ≡ true →
     is_within (of_terms (removed k (out-Body p).terms)) ≡ true
@@ -163,8 +160,8 @@ removed_within k p h =
     ∙ and_from (all_fit us) (is_small (of_terms us))
     (removed_all (λ t. fits_i128 t.1) k ts (poly_terms p h).fits)
     (and_from (nat_le (body_size (of_terms us)) 4096) (nat_le (body_depth (of_terms us)) 64)
-    (below (body_size (of_terms us)) (body_size p) 4096 size small.0)
-    (below (body_depth (of_terms us)) (body_depth p) 64 depth small.1))
+    (limit_kept (body_size (of_terms us)) (body_size p) 4096 size small.0)
+    (limit_kept (body_depth (of_terms us)) (body_depth p) 64 depth small.1))
 
 module _ (x : ℕ) (p : Body) (poly : is_poly p ≡ true) where
   abbrev alone : Mono

@@ -4,6 +4,7 @@ use Rattle.std.proofs.Common.{◌≡◌, ap, ◌∙◌, refl, sym, arith, cond, 
 use Rattle.std.proofs.lemmas.Bool.{and_parts}
 use Rattle.std.proofs.lemmas.List.Folds.{list_all-append}
 use Rattle.std.specs.List.{list_all}
+use Rattle.rx_plain.proofs.Lists.{all_taken}
 use Rattle.rx_poly.specs.Limits.{is_within}
 use Rattle.rx_poly.specs.Terms.{is_zero}
 use Rattle.rx_poly.specs.declared.body.Body.{Body}
@@ -39,7 +40,7 @@ use Rattle.rx_solve.specs.declared.divisions.Ratio.{Ratio}
 use Rattle.rx_solve.specs.declared.pivots.Pivot.{Pivot}
 use Rattle.rx_solve.specs.declared.roundings.Rounding.{Rounding}
 use Rattle.rx_solve.proofs.Certificates.{cut_certificate, differ_certificate, division_certificate, solve_certificate, sum_certificate, wider}
-use Rattle.rx_solve.proofs.RatioLaws.{all_ratios_pass, passes_taken}
+use Rattle.rx_solve.proofs.RatioLaws.{all_ratios_pass}
 
 -- the rows have a certificate, at most so deep
 abbrev Certified : ℕ → List Row → Type 0
@@ -157,7 +158,7 @@ dividing_finds : Finds 68 dividing
 dividing_finds rows e =
     let few = few_taken 3 (all_ratios rows) in
     roomy (omega (arith, few)) (dividing_by_finds (take 3 (all_ratios rows)) rows
-    (λ test h. passes_taken (ratio_passes test) 3 (all_ratios rows)
+    (λ test h. all_taken (ratio_passes test) 3 (all_ratios rows)
     (all_ratios_pass test rows h)) e)
 
 -- ---- disequalities

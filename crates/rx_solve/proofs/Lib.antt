@@ -1,5 +1,6 @@
 -- Lemmas on the definitions of specs/.
 mod Alone
+pub mod Boxing
 pub mod Calls
 pub mod Certificates
 mod Examples

@@ -1,11 +1,12 @@
 -- The ratios in atoms, monomials and sums, by those of their parts; their dividends have no
 -- variables but those of the polynomial.
-use Rattle.std.proofs.Common.{◌≡◌, ◌∙◌, ap, subst, sym, refl, cond, ℕ, zero, suc, take, Bool, true, false, ◌&&◌, Option, Some, None, List, [], ◌∷◌, ◌++◌, map, ℤ}
+use Rattle.std.proofs.Common.{◌≡◌, ◌∙◌, ap, subst, sym, refl, cond, ℕ, take, Bool, true, false, ◌&&◌, Option, Some, None, List, [], ◌∷◌, ◌++◌, map, ℤ}
 use Rattle.std.proofs.lemmas.Bool.{and_from, and_parts}
 use Rattle.std.proofs.lemmas.List.{append-nil, append_assoc}
 use Rattle.std.proofs.lemmas.List.Elements.{All-head, All-tail}
 use Rattle.std.proofs.lemmas.List.Folds.{list_all-append}
 use Rattle.std.specs.List.{All, flat_map, fold, list_all, list_any}
+use Rattle.rx_plain.proofs.Lists.{all_taken}
 use Rattle.rx_poly.proofs.Pieces.{all_parts, flat_map-map}
 use Rattle.rx_poly.proofs.VariableLaws.{variables_Div, variables_Mod, mono_variables_is, variables_is}
 use Rattle.rx_poly.specs.Reading.{constant_of}
@@ -392,22 +393,14 @@ each_once_poly (r ∷ rs) done h g =
     let p = and_parts (has_polynomial r) (list_all has_polynomial rs) g in
     each_once_poly rs (pushed_ratio done r) (pushed_poly done r h p.0) p.1
 
-pub passes_taken : {A : Type 0} (p : A → Bool) (n : ℕ) (xs : List A) → list_all p xs ≡ true →
-    list_all p (take n xs) ≡ true
-passes_taken p zero xs h = refl
-passes_taken p (suc n) [] h = refl
-passes_taken p (suc n) (x ∷ xs) h =
-    let q = and_parts (p x) (list_all p xs) h in
-    and_from (p x) (list_all p (take n xs)) q.0 (passes_taken p n xs q.1)
-
 -- so the first ratios of rows are theirs
 pub first_ratios_of : (n : ℕ) (rows : List Row) → list_all has_polynomial (rows_ratios rows) ≡
     true → AreRatiosOf (take n (all_ratios rows)) rows
 first_ratios_of n rows h = record {
   polynomials =
-      passes_taken has_polynomial n (all_ratios rows) (each_once_poly (rows_ratios rows) [] refl h);
+      all_taken has_polynomial n (all_ratios rows) (each_once_poly (rows_ratios rows) [] refl h);
   own =
-      λ test g. passes_taken (ratio_passes test) n (all_ratios rows) (all_ratios_pass test rows g);
+      λ test g. all_taken (ratio_passes test) n (all_ratios rows) (all_ratios_pass test rows g);
 }
 
 -- those of rows are those of longer lists of rows

@@ -4,7 +4,7 @@ use Rattle.std.proofs.Common.{◌≡◌, sym, subst, true, ℕ, List, map, ℤ, 
 use Rattle.std.proofs.lemmas.List.Elements.{All-contains, filter_passes}
 use Rattle.rx_poly.specs.Constants.{number}
 use Rattle.rx_rewriting.specs.Terms as stack
-use Rattle.rx_rewriting.specs.Terms.{Ground, Fits, IsResult, TermSet}
+use Rattle.rx_rewriting.specs.Terms.{Ground, Fits, TermSet}
 use Rattle.rx_rewriting.specs.Steps.{Step, Here}
 use Rattle.rx_rewriting.specs.Premises.{ClosedUnderSubterms, Reducible}
 use Rattle.rx_rewriting.proofs.UnderFrames.{Fits-inner, moves_under_frames}
@@ -20,7 +20,7 @@ use Rattle.rx_term.specs.WellMade.{IsWellMade}
 use Rattle.rx_term.specs.declared.rule.Rule.{Rule}
 use Rattle.rx_term.specs.declared.rule_set.RuleParts.{RuleParts}
 use Rattle.rx_term.specs.declared.term.Term.{Term}
-use Rattle.rx_term.proofs.Kept.{was_there}
+use Rattle.rx_plain.proofs.Kept.{was_there}
 use Rattle.rx_term.proofs.RuleLaws.{redex_shape, rule_steps, known_shape}
 use Rattle.rx_term.proofs.Written.{symbol, written, ground-written, written_fits, written_over_result}
 

@@ -21,6 +21,10 @@ use Rattle.rx_term.specs.Variables.{arguments_level, arguments_of, polys_use_bel
 use Rattle.rx_term.specs.declared.rule_set.RuleParts.{RuleParts}
 use Rattle.rx_term.specs.Substitution.{subst_polys, polys_within, subst_term, subst_term_level, term_within, term_within_level}
 
+-- a symbol is its number
+pub symbols_are : (f g : Sym) → f.0 ≡ g.0 → f ≡ g
+symbols_are f g e = (λ i. record { 0 = e i })
+
 -- what holds of each result and call, and of a frame where it holds of the part under it, holds of
 -- each term
 module _ (P : Term → Type 0)

@@ -3,6 +3,7 @@
 use Rattle.std.proofs.Common.{◌≡◌, ◌∙◌, ap, sym, subst, Bool, true, false, ◌&&◌, ℕ, zero, suc, ◌+◌, ◌≤◌, ◌<◌, Option, Some, None, List, ◌++◌, length, arith}
 use Rattle.std.proofs.lemmas.Bool.{and_parts, and_from}
 use Rattle.std.proofs.lemmas.List.{length-map, map-append}
+use Rattle.std.proofs.lemmas.Option.{none-some}
 use Rattle.rx_poly.specs.Substitution.{subst_body}
 use Rattle.rx_poly.specs.declared.body.Body.{Body}
 use Rattle.rx_term.specs.Fitting.{is_declared, term_fits}
@@ -84,9 +85,6 @@ module _ (ws : List (ℕ × Body)) where
 
 -- ---- parts under frames
 
-no_part : (s : Term) → ◌≡◌ {A = Option Term} None (Some s) → ⊥
-no_part s e = cc
-
 a_part : (s : Term) → ◌≡◌ {A = Option Term} (Some s) None → ⊥
 a_part s e = cc
 
@@ -128,14 +126,14 @@ module _ (parts : RuleParts) where
 
   part_fits : (n : ℕ) → ((u : Term) → Part n u) → (t : Term) → Form t → Part (suc n) t
   part_fits n further _ (AReturn p) s fits h =
-      absurd (no_part s (sym (ap (λ (x : Term-F Term). under_frame x (suffix_at n)) (outs-Return p))
+      absurd (none-some s (sym (ap (λ (x : Term-F Term). under_frame x (suffix_at n)) (outs-Return p))
       ∙
       h))
   part_fits n further _ (AFail c) s fits h =
-      absurd (no_part s (sym (ap (λ (x : Term-F Term). under_frame x (suffix_at n)) (outs-Fail c)) ∙
+      absurd (none-some s (sym (ap (λ (x : Term-F Term). under_frame x (suffix_at n)) (outs-Fail c)) ∙
       h))
   part_fits n further _ (ACall f ps) s fits h =
-      absurd (no_part s (sym (ap (λ (x : Term-F Term). under_frame x (suffix_at n))
+      absurd (none-some s (sym (ap (λ (x : Term-F Term). under_frame x (suffix_at n))
       (outs-Call f ps)) ∙
       h))
   part_fits n further _ (AFrame f ps t) s fits h =
@@ -208,13 +206,13 @@ Counted n t = (s : Term) → suffix_at n t ≡ Some s → depth_of t ≡ n + dep
 
 counted : (n : ℕ) → ((u : Term) → Counted n u) → (t : Term) → Form t → Counted (suc n) t
 counted n further _ (AReturn p) s h =
-    absurd (no_part s (sym (ap (λ (x : Term-F Term). under_frame x (suffix_at n)) (outs-Return p)) ∙
+    absurd (none-some s (sym (ap (λ (x : Term-F Term). under_frame x (suffix_at n)) (outs-Return p)) ∙
     h))
 counted n further _ (AFail c) s h =
-    absurd (no_part s (sym (ap (λ (x : Term-F Term). under_frame x (suffix_at n)) (outs-Fail c)) ∙
+    absurd (none-some s (sym (ap (λ (x : Term-F Term). under_frame x (suffix_at n)) (outs-Fail c)) ∙
     h))
 counted n further _ (ACall f ps) s h =
-    absurd (no_part s (sym (ap (λ (x : Term-F Term). under_frame x (suffix_at n)) (outs-Call f ps))
+    absurd (none-some s (sym (ap (λ (x : Term-F Term). under_frame x (suffix_at n)) (outs-Call f ps))
     ∙
     h))
 counted n further _ (AFrame f ps t) s h =

@@ -8,7 +8,6 @@ pub mod Equations
 pub mod Example
 pub mod FittingLaws
 pub mod KeepingLaws
-pub mod Kept
 pub mod Locality
 pub mod MadeLaws
 pub mod Matching

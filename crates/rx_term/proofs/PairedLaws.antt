@@ -7,7 +7,7 @@ use Rattle.rx_poly.specs.Constants.{variable}
 use Rattle.rx_poly.specs.Value.{value}
 use Rattle.rx_poly.proofs.Constants.{value-variable}
 use Rattle.rx_rewriting.specs.Terms as stack
-use Rattle.rx_rewriting.specs.Terms.{Ground, Symbol, Declares, Fits, IsResult}
+use Rattle.rx_rewriting.specs.Terms.{Ground, IsResult}
 use Rattle.rx_rewriting.specs.Steps.{Step, IsSingleValued}
 use Rattle.rx_rewriting.proofs.UnderFrames.{single_valued_under_frames}
 use Rattle.rx_row.specs.Holds.{AllHold, RowHolds}
@@ -24,7 +24,7 @@ use Rattle.rx_term.specs.declared.rule_set.RuleParts.{RuleParts}
 use Rattle.rx_term.specs.declared.term.Term.{Term}
 use Rattle.rx_term.specs.declared.term.Term.TheVariants.{Return, Fail}
 use Rattle.rx_term.proofs.Equations.{ground-Return, ground-Fail, ground-Call, ground-Frame}
-use Rattle.rx_term.proofs.Kept.{first_one, first_or_other, kept, other_one}
+use Rattle.rx_plain.proofs.Kept.{first_one, first_or_other, kept, other_one}
 use Rattle.rx_term.proofs.Locality.{hold_too, same_ground_below}
 use Rattle.rx_term.proofs.Matching.{left_arguments}
 use Rattle.rx_term.proofs.RuleLaws.{left_redex, redex_shape, shape_itself, rule_made, results_rest}

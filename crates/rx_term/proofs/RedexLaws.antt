@@ -2,9 +2,10 @@
 use Rattle.std.proofs.Common.{◌≡◌, ◌∙◌, ap, sym, subst, refl, ℕ, zero, suc, ◌+◌, ◌⊎◌, inl, inr, arith, Option, Some, None, List, ℤ}
 use Rattle.std.specs.Prelude.{unwrap_or, option_and_then}
 use Rattle.std.specs.Option.{option_map, option_map_or}
+use Rattle.std.proofs.lemmas.Option.{none-some}
 use Rattle.rx_poly.specs.declared.body.Body.{Body}
 use Rattle.rx_rewriting.specs.Terms as stack
-use Rattle.rx_rewriting.specs.Terms.{Ground, in_context, StackFrame}
+use Rattle.rx_rewriting.specs.Terms.{Ground, in_context}
 use Rattle.rx_term.specs.Meaning.{values, ground_at, ground_redex, outer_frames, outer_level, redex_of, IsRedex, CallRedex, ReturnRedex, FailRedex}
 use Rattle.rx_term.specs.Stacks.{suffix_at, redex_place, replace_at, over_frame, under_frame}
 use Rattle.rx_term.specs.declared.term.Sym.{Sym}
@@ -49,22 +50,19 @@ pub ground_replaced : (a : ℕ → ℤ) (n : ℕ) (t inner : Term) → ground_at
 ground_replaced a zero t inner = refl
 ground_replaced a (suc n) t inner = stands a n inner (λ u. ground_replaced a n u inner) t (form t)
 
-no_part : (s : Term) → ◌≡◌ {A = Option Term} None (Some s) → ⊥
-no_part s e = cc
-
 module _ (a : ℕ → ℤ) (n : ℕ) (s : Term) where
   stands_after : ((u : Term) → suffix_at n u ≡ Some s → ground_at a u ≡
       in_context (outer_frames a n u) (ground_at a s)) → (t : Term) → Form t → suffix_at (suc n) t ≡
       Some s → ground_at a t ≡ in_context (outer_frames a (suc n) t) (ground_at a s)
   stands_after further _ (AReturn p) h =
-      absurd (no_part s (sym (ap (λ (x : Term-F Term). under_frame x (suffix_at n)) (outs-Return p))
+      absurd (none-some s (sym (ap (λ (x : Term-F Term). under_frame x (suffix_at n)) (outs-Return p))
       ∙
       h))
   stands_after further _ (AFail c) h =
-      absurd (no_part s (sym (ap (λ (x : Term-F Term). under_frame x (suffix_at n)) (outs-Fail c)) ∙
+      absurd (none-some s (sym (ap (λ (x : Term-F Term). under_frame x (suffix_at n)) (outs-Fail c)) ∙
       h))
   stands_after further _ (ACall f ps) h =
-      absurd (no_part s (sym (ap (λ (x : Term-F Term). under_frame x (suffix_at n))
+      absurd (none-some s (sym (ap (λ (x : Term-F Term). under_frame x (suffix_at n))
       (outs-Call f ps)) ∙
       h))
   stands_after further _ (AFrame f ps u) h =
@@ -170,7 +168,7 @@ redex_ground a t = by_cases a t (find_redex t)
 
 chosen : (t s : Term) → IsEnd t ⊎ Found t → redex_of t ≡ Some s → IsRedex s
 chosen t s (inl end) h =
-    absurd (no_part s (sym (ap (option_and_then (λ n. suffix_at n t)) (end_place t end)) ∙ h))
+    absurd (none-some s (sym (ap (option_and_then (λ n. suffix_at n t)) (end_place t end)) ∙ h))
 chosen t s (inr found) h =
     let both : Some found.part ≡ Some s = sym found.stands ∙
     sym (ap (option_and_then (λ n. suffix_at n t)) found.at) ∙ h in

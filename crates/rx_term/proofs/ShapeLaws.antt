@@ -19,7 +19,7 @@ use Rattle.rx_term.specs.declared.rule_set.SymInfo.{SymInfo}
 use Rattle.rx_term.specs.declared.term.Sym.{Sym}
 use Rattle.rx_term.specs.declared.term.Term.{Term}
 use Rattle.rx_term.specs.declared.term.Term.TheVariants.{Return, Fail, Call, Frame}
-use Rattle.rx_term.proofs.Equations.{induct, Form, AReturn, AFail, ACall, AFrame, form, shape-Return, shape-Fail, shape-Call, shape-Frame, fits-Call, fits-Frame, arguments-Return, arguments-Fail, arguments-Call, arguments-Frame, ground-Return, ground-Fail, ground-Call, ground-Frame}
+use Rattle.rx_term.proofs.Equations.{ACall, AFail, AFrame, AReturn, Form, arguments-Call, arguments-Fail, arguments-Frame, arguments-Return, fits-Call, fits-Frame, form, ground-Call, ground-Fail, ground-Frame, ground-Return, induct, shape-Call, shape-Fail, shape-Frame, shape-Return, symbols_are}
 
 -- ---- symbols
 
@@ -227,9 +227,6 @@ module _ (a b : ℕ → ℤ) where
 
   abbrev Back : Term → Type 0
   Back s = (t : Term) → ground_at a s ≡ ground_at b t → Alike s t
-
-  symbols_are : (f g : Sym) → f.0 ≡ g.0 → f ≡ g
-  symbols_are f g e = (λ i. record { 0 = e i })
 
   back_return : (p : Body) (t : Term) → Form t → ground_at a (Return p) ≡ ground_at b t →
       Alike (Return p) t

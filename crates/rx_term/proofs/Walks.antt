@@ -1,6 +1,7 @@
 -- Walks down a stack, link by link.
 use Rattle.std.proofs.Common.{◌≡◌, ◌∙◌, ap, sym, refl, ℕ, zero, suc, ◌+◌, ◌-◌, ◌<◌, Option, Some, None, List, arith}
 use Rattle.std.specs.Option.{option_map_or}
+use Rattle.std.proofs.lemmas.Option.{none-some}
 use Rattle.rx_poly.specs.declared.body.Body.{Body}
 use Rattle.rx_term.specs.declared.term.Sym.{Sym}
 use Rattle.rx_term.specs.declared.term.Term.{Term, Term-F}
@@ -31,9 +32,6 @@ Turns t =
     (n : ℕ) (u b inner : Term) (r : Term × Option Term) → 0 < n → r ≡ unwind t u → r.1 ≡ Some b
     → plug_reversed r.0 (replace_at (n - 1) b inner) ≡ plug_reversed u (replace_at n t inner)
 
-no_part : (b : Term) → ◌≡◌ {A = Option Term} None (Some b) → ⊥
-no_part b e = cc
-
 turns-Frame : (f : Sym) (ps : List Body) (t : Term) → Turns t → Turns (Frame f ps t)
 turns-Frame f ps t further n u b inner r h is some =
     let e : r ≡ (Frame f ps u, Some t) = is ∙ unwind-Frame f ps t u in
@@ -49,13 +47,13 @@ turns-Frame f ps t further n u b inner r h is some =
 -- what was reversed is over the rest as it was before
 pub unwind-on : (t : Term) → Turns t
 unwind-on = induct Turns
-    (λ p n u b inner r h is some. absurd (no_part b
+    (λ p n u b inner r h is some. absurd (none-some b
     (sym (ap (λ (x : Term × Option Term). x.1)
     (is ∙ ap (λ (x : Term-F Term). unwind_level x u) (outs-Return p))) ∙ some)))
-    (λ c n u b inner r h is some. absurd (no_part b
+    (λ c n u b inner r h is some. absurd (none-some b
     (sym (ap (λ (x : Term × Option Term). x.1)
     (is ∙ ap (λ (x : Term-F Term). unwind_level x u) (outs-Fail c))) ∙ some)))
-    (λ f ps n u b inner r h is some. absurd (no_part b
+    (λ f ps n u b inner r h is some. absurd (none-some b
     (sym (ap (λ (x : Term × Option Term). x.1)
     (is ∙ ap (λ (x : Term-F Term). unwind_level x u) (outs-Call f ps))) ∙ some)))
     turns-Frame

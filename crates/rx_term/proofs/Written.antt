@@ -45,7 +45,7 @@ ground-written a (stack.Frame f xs s) =
     ap (λ zs. stack.Frame f zs (ground_at a (written s))) (values-numbers a xs)
     ∙ ap (stack.Frame f xs) (ground-written a s)
 
-alike_itself : (b : Bool) → is_alike b b ≡ true
+pub alike_itself : (b : Bool) → is_alike b b ≡ true
 alike_itself true = refl
 alike_itself false = refl
 

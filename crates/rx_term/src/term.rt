@@ -175,14 +175,14 @@ impl Term {
             upper = over;
             match below {
                 Some(below) => rest = below,
-                None => return upper.onto(inner),
+                None => return upper.plug_reversed(inner),
             }
         }
-        upper.onto(inner)
+        upper.plug_reversed(inner)
     }
 
     /// The frames of this term, its innermost outside, over the other. Takes no memory.
-    fn onto(self, inner: Term) -> Term
+    fn plug_reversed(self, inner: Term) -> Term
         ensures { result ≡ plug_reversed self inner }
     {
         let mut upper = self;
@@ -222,11 +222,11 @@ impl Term {
             upper = further;
             match below {
                 Some(below) => rest = below,
-                None => return upper.onto(inner),
+                None => return upper.plug_reversed(inner),
             }
             left -= 1;
         }
-        upper.onto(inner)
+        upper.plug_reversed(inner)
     }
 
     /// Whether the two are one term. Takes no memory.
@@ -334,12 +334,12 @@ impl Term {
         loop {
             match here {
                 Term::Return(value) => {
-                    return Ok(upper.onto(Term::Return(value.try_clone(alloc)?)));
+                    return Ok(upper.plug_reversed(Term::Return(value.try_clone(alloc)?)));
                 }
-                Term::Fail(code) => return Ok(upper.onto(Term::Fail(*code))),
+                Term::Fail(code) => return Ok(upper.plug_reversed(Term::Fail(*code))),
                 Term::Call(sym, args) => {
                     let args = copied_polys(alloc, args.as_slice())?;
-                    return Ok(upper.onto(Term::Call(*sym, args)));
+                    return Ok(upper.plug_reversed(Term::Call(*sym, args)));
                 }
                 Term::Frame(sym, args, inner) => {
                     let args = copied_polys(alloc, args.as_slice())?;
@@ -360,12 +360,12 @@ impl Term {
         loop {
             match here {
                 Term::Return(value) => {
-                    return Ok(upper.onto(Term::Return(instance(alloc, value, with)?)));
+                    return Ok(upper.plug_reversed(Term::Return(instance(alloc, value, with)?)));
                 }
-                Term::Fail(code) => return Ok(upper.onto(Term::Fail(*code))),
+                Term::Fail(code) => return Ok(upper.plug_reversed(Term::Fail(*code))),
                 Term::Call(sym, args) => {
                     let args = substituted(alloc, args.as_slice(), with)?;
-                    return Ok(upper.onto(Term::Call(*sym, args)));
+                    return Ok(upper.plug_reversed(Term::Call(*sym, args)));
                 }
                 Term::Frame(sym, args, inner) => {
                     let args = substituted(alloc, args.as_slice(), with)?;

@@ -1,6 +1,6 @@
 use Rattle.std.proofs.Common.{◌≡◌}
 use Rattle.rx_term.specs.Stacks.{depth_of, plug_reversed}
-use Rattle.rx_term.proofs.term.Term.onto.Given as goal
+use Rattle.rx_term.proofs.term.Term.plug_reversed.Given as goal
 
 abbrev pub invariant-loop-upper : goal.invariant-loop-upper
 invariant-loop-upper l = plug_reversed l.upper l.whole ≡ plug_reversed l.fn.self l.fn.inner

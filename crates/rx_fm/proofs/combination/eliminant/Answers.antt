@@ -7,7 +7,7 @@ use Rattle.rx_fm.specs.Elimination.{linear_combination_formed}
 use Rattle.rx_fm.specs.declared.combination.Combination.{Combination}
 use Rattle.rx_fm.specs.declared.fm_end.FmEnd.TheVariants.{Large}
 use Rattle.rx_fm.proofs.Exact.{cofactor}
-use Rattle.rx_fm.proofs.combination.cancelled.Goals as goal
+use Rattle.rx_fm.proofs.combination.eliminant.Goals as goal
 
 pub returns : goal.returns
 returns c =
@@ -21,6 +21,6 @@ returns c =
     let second = to_z-of_z w128 c.divided-l.result l ∙ c.divided-l.ensures ∙
     cofactor c.args.positive.now c.args.negative.now c.args.positive.now c.requires.positive
     c.requires.positive common in
-    subst (λ (f : Formed Combination). Forms Large c.weighed.result f)
+    subst (λ (f : Formed Combination). Forms Large c.linear_combination.result f)
     (λ i. linear_combination_formed (first i) c.args.first.now (second i) c.args.second.now)
-    c.weighed.ensures
+    c.linear_combination.ensures
