@@ -1,11 +1,9 @@
 //! What a call answers, whatever its type, and whether that is what a line wants.
-use crate::reading::polynomials::{body, poly};
-use crate::reading::rows::{next_rows, row, rows};
-use crate::reading::rules::next_rules;
-use crate::reading::terms::term;
-use crate::reading::words::{integer, numbers, words};
+use crate::reading::lists::rows_and_rules;
+use crate::reading::values::{poly, row, rows, term};
+use crate::reading::words::{integer, numbers};
 use rx_plain::Items;
-use rx_poly::{Body, Poly, PolyEnd};
+use rx_poly::{Poly, PolyEnd};
 use rx_row::{Constraint, Row};
 use rx_term::{Rule, Term};
 use std::alloc::Global;
@@ -20,8 +18,6 @@ pub enum Answer {
     Number(i128),
     /// Numbers in order.
     Numbers(Vec<i128>),
-    /// A sum, which need not be a normal form.
-    Body(Body),
     /// A polynomial.
     Poly(Poly),
     /// A row.
@@ -45,9 +41,7 @@ fn are_same(found: &[Rule], meant: &[Rule]) -> bool {
 
 // Whether the text has these rows, and then these rules.
 fn is_formed(alloc: Global, rows: &Constraint, made: &Items<Rule>, text: &str) -> Option<bool> {
-    let mut words = words(alloc, text)?;
-    let asked = next_rows(alloc, &mut words)?;
-    let meant = next_rules(alloc, &mut words)?;
+    let (asked, meant) = rows_and_rules(alloc, text)?;
     Some(asked.is_same(rows) && are_same(made.as_slice(), meant.as_slice()))
 }
 
@@ -57,7 +51,6 @@ pub fn is_meant(alloc: Global, answer: &Answer, text: &str) -> bool {
         Answer::Word(word) => *word == text,
         Answer::Number(number) => integer(text) == Some(*number),
         Answer::Numbers(found) => numbers(alloc, text).is_some_and(|meant| meant == *found),
-        Answer::Body(found) => body(alloc, text).is_some_and(|meant| meant == *found),
         Answer::Poly(found) => poly(alloc, text).is_some_and(|meant| meant.is_same(found)),
         Answer::Row(found) => row(alloc, text).is_some_and(|meant| meant.is_same(found)),
         Answer::Rows(found) => rows(alloc, text).is_some_and(|meant| meant.is_same(found)),
@@ -78,13 +71,6 @@ pub fn ordered(order: Ordering) -> Option<Answer> {
         Ordering::Equal => "equal",
         Ordering::Greater => "greater",
     }))
-}
-
-/// The order of two values, where both could be read.
-pub fn compared<T: Ord + Drop>(first: Option<T>, second: Option<T>) -> Option<Answer> {
-    let first = first?;
-    let second = second?;
-    ordered(first.cmp(&second))
 }
 
 /// Whether two values are equal, where both could be read.

@@ -1,7 +1,6 @@
 //! Certificates, rows that are plain or shown, and lists of conditions.
 use crate::answer::{Answer, ended, found, told};
-use crate::reading::certificates::{cert, certs};
-use crate::reading::rows::{row, rows};
+use crate::reading::values::{cert, certs, row, rows};
 use rx_cert::{ConditionsAnswer, PolyEnd, check_conditions, is_plain, shows, shows_row};
 use std::alloc::Global;
 

@@ -1,6 +1,7 @@
 //! The elimination of monomials, and contents.
 use crate::answer::{Answer, nothing};
-use crate::reading::polynomials::{listed, poly};
+use crate::reading::lists::polys;
+use crate::reading::values::poly;
 use crate::reading::words::count;
 use rx_fm::{FmEnd, content, farkas};
 use std::alloc::Global;
@@ -15,10 +16,10 @@ fn content_of(alloc: Global, given: &str) -> Option<Answer> {
 }
 
 // The multipliers that the elimination finds within a limit.
-fn multipliers(alloc: Global, limit: &str, polys: &str) -> Option<Answer> {
+fn multipliers(alloc: Global, limit: &str, given: &str) -> Option<Answer> {
     let limit = count(limit)?;
-    let polys = listed(alloc, polys)?;
-    match farkas(alloc, polys.as_slice(), limit) {
+    let given = polys(alloc, given)?;
+    match farkas(alloc, given.as_slice(), limit) {
         Ok(Some(found)) => Some(Answer::Numbers(found)),
         Ok(None) => nothing(),
         Err(FmEnd::Large) => Some(Answer::Word("large")),

@@ -1,8 +1,9 @@
 //! What a step makes of a goal. A list of rules is the rule set, but for the use of a hypothesis:
 //! there it is the list of hypotheses.
 use crate::answer::Answer;
-use crate::reading::rules::{equation, rules};
+use crate::reading::lists::rules;
 use crate::reading::steps::step;
+use crate::reading::values::equation;
 use crate::term_calls::{parts, without_rules};
 use rx_form::{Asked, FormEnd, FormedStep, Group, Step, form};
 use rx_plain::Items;

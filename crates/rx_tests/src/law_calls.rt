@@ -1,6 +1,6 @@
 //! Which variables occur in a polynomial.
 use crate::answer::{Answer, told};
-use crate::reading::polynomials::poly;
+use crate::reading::values::poly;
 use crate::reading::words::count;
 use rx_poly_laws::uses_below;
 use std::alloc::Global;

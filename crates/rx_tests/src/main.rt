@@ -4,7 +4,7 @@
 //! Each line of the standard input is a call, what it is given, and what it is to answer, with a
 //! semicolon and a space between them. Polynomials, rows, terms, certificates and lists have the
 //! notation of a log; an integer term is written with each operator before its operands, as
-//! `+ v0 * 2 v1`. A line that begins with `#` is a heading.
+//! `+ v0 * 2 v1`. `{3 *v0}` stands for `*v0*v0*v0`. A line that begins with `#` is a heading.
 #![tactic(auto)]
 
 mod answer;
@@ -19,6 +19,7 @@ mod row_calls;
 mod term_calls;
 
 use answer::{Answer, is_meant};
+use reading::words::written_out;
 use std::alloc::Global;
 use std::io::{self, BufRead, BufReader};
 
@@ -47,7 +48,8 @@ fn parted<'a>(text: &'a str) -> (&'a str, &'a str) {
 
 // Whether the line's call answers what it is to; none where that isn't known.
 fn holds(alloc: Global, line: &str) -> Option<bool> {
-    let (call, rest) = parted(line);
+    let whole = written_out(alloc, line)?;
+    let (call, rest) = parted(whole.as_str());
     let (given, wanted) = rest.rsplit_once("; ")?;
     let (first, more) = parted(given);
     let (second, third) = parted(more);

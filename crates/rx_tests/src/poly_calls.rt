@@ -1,9 +1,10 @@
 //! Polynomials: normal forms, sums, products, orders and what is substituted for variables.
-use crate::answer::{Answer, compared, equal, formed, nothing, ordered, told};
+use crate::answer::{Answer, equal, formed, nothing, ordered, told};
 use crate::reading::integer_terms::integer_term;
-use crate::reading::polynomials::{atom, body, listed, monomial, poly, substitution};
+use crate::reading::lists::polys;
+use crate::reading::values::{poly, substitution};
 use crate::reading::words::{count, integer};
-use rx_poly::{Poly, norm, uses, variable_bound, variables_of};
+use rx_poly::{Atom, Body, Mono, Poly, norm, uses, variable_bound, variables_of};
 use std::alloc::Global;
 
 fn normal_form(alloc: Global, given: &str) -> Option<Answer> {
@@ -88,13 +89,23 @@ fn substituted(alloc: Global, name: &str, of: &Poly, with: &str) -> Option<Answe
 }
 
 fn at_args(alloc: Global, of: &Poly, args: &str) -> Option<Answer> {
-    let args = listed(alloc, args)?;
+    let args = polys(alloc, args)?;
     formed(of.at_args(alloc, args.as_slice()))
 }
 
+// The first monomial of a polynomial that isn't 0.
+fn first_monomial(poly: &Poly) -> Option<&Mono> {
+    let (mono, _) = poly.body().terms.as_slice().first()?;
+    Some(mono)
+}
+
+fn first_atom(poly: &Poly) -> Option<&Atom> {
+    first_monomial(poly)?.atoms.as_slice().first()
+}
+
 fn coefficient(alloc: Global, of: &Poly, at: &str) -> Option<Answer> {
-    let at = monomial(alloc, at)?;
-    Some(Answer::Number(of.coeff(&at)))
+    let at = poly(alloc, at)?;
+    Some(Answer::Number(of.coeff(first_monomial(&at)?)))
 }
 
 fn beside(alloc: Global, name: &str, left: &Poly, right: &str) -> Option<Answer> {
@@ -123,16 +134,32 @@ fn of_read(alloc: Global, name: &str, first: &str, second: &str) -> Option<Answe
     of_poly(alloc, name, &poly, second)
 }
 
-fn body_copy(alloc: Global, given: &str) -> Option<Answer> {
-    let body = body(alloc, given)?;
-    Some(Answer::Body(body.try_clone(alloc).ok()?))
+// The polynomial of a copy of the sum.
+fn of_copy(alloc: Global, body: &Body) -> Option<Answer> {
+    let copy = body.try_clone(alloc).ok()?;
+    Some(Answer::Poly(Poly::from_body(alloc, copy).ok()??))
 }
 
+// What is read makes its sum a polynomial where it is a normal form, and else there is none.
 fn from_body(alloc: Global, given: &str) -> Option<Answer> {
-    match Poly::from_body(alloc, body(alloc, given)?).ok()? {
-        Some(poly) => Some(Answer::Poly(poly)),
+    match poly(alloc, given) {
+        Some(poly) => of_copy(alloc, poly.body()),
         None => nothing(),
     }
+}
+
+fn compared(name: &str, first: &Poly, second: &Poly) -> Option<Answer> {
+    match name {
+        "compare_sums" => ordered(first.body().cmp(second.body())),
+        "compare_monomials" => ordered(first_monomial(first)?.cmp(first_monomial(second)?)),
+        _ => ordered(first_atom(first)?.cmp(first_atom(second)?)),
+    }
+}
+
+fn order(alloc: Global, name: &str, first: &str, second: &str) -> Option<Answer> {
+    let first = poly(alloc, first)?;
+    let second = poly(alloc, second)?;
+    compared(name, &first, &second)
 }
 
 /// What the call answers.
@@ -141,11 +168,10 @@ pub fn answer_to(alloc: Global, name: &str, first: &str, second: &str) -> Option
         "norm" => normal_form(alloc, first),
         "same_terms" => equal(integer_term(alloc, first), integer_term(alloc, second)),
         "constant" | "variable" => simple(alloc, name, first),
-        "clone_body" => body_copy(alloc, first),
         "from_body" => from_body(alloc, first),
-        "compare_sums" => compared(body(alloc, first), body(alloc, second)),
-        "compare_monomials" => compared(monomial(alloc, first), monomial(alloc, second)),
-        "compare_atoms" => compared(atom(alloc, first), atom(alloc, second)),
+        "compare_sums" | "compare_monomials" | "compare_atoms" => {
+            order(alloc, name, first, second)
+        }
         _ => of_read(alloc, name, first, second),
     }
 }

@@ -1,7 +1,7 @@
 //! Rows, lists of rows and sums of their multiples.
 use crate::answer::{Answer, ended, nothing, ordered, told};
-use crate::reading::polynomials::{listed as polys, substitution};
-use crate::reading::rows::{listed_parts, row, rows};
+use crate::reading::lists::polys;
+use crate::reading::values::{parts, row, rows, substitution};
 use crate::reading::words::{count, integer};
 use rx_poly::{Poly, PolyEnd};
 use rx_row::{Constraint, Row, combine, combine_rows, rows_at_args, subst_rows};
@@ -143,7 +143,7 @@ fn substituted_rows(alloc: Global, call: &str, of: &Constraint, with: &str) -> O
 }
 
 fn combined(alloc: Global, call: &str, of: &Constraint, by: &str) -> Option<Answer> {
-    let by = listed_parts(alloc, by)?;
+    let by = parts(alloc, by)?;
     if call == "rows.combine" {
         return summed(combine(alloc, of, by.as_slice()));
     }

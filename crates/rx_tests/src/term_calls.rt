@@ -2,9 +2,8 @@
 //! argument, which are s0, s1 and s4, and frames of one, of no and of two, which are s2, s3 and s5.
 //! Its greatest failure code is 2.
 use crate::answer::{Answer, ended, nothing, told};
-use crate::reading::polynomials::{listed, substitution};
-use crate::reading::rows::rows;
-use crate::reading::terms::term;
+use crate::reading::lists::polys;
+use crate::reading::values::{rows, substitution, term};
 use crate::reading::words::count;
 use rx_plain::Items;
 use rx_poly::Poly;
@@ -126,7 +125,7 @@ fn formed(answer: Result<Term, PolyEnd>) -> Option<Answer> {
 }
 
 fn at_args(alloc: Global, whole: &Term, args: &str) -> Option<Answer> {
-    let args = listed(alloc, args)?;
+    let args = polys(alloc, args)?;
     formed(whole.at_args(alloc, args.as_slice()))
 }
 

@@ -1,53 +1,55 @@
 //! Steps as in a log, as `simplify l 3`, but without certificates.
-use crate::reading::polynomials::next_substitution;
-use crate::reading::rows::row;
-use crate::reading::rules::next_rule;
-use crate::reading::words::{small, words};
+use crate::reading::lists::{equation_at, last_substitution};
+use crate::reading::values::{equation, row, substitution};
+use crate::reading::words::count;
 use rx_cert::Cert;
 use rx_form::{Delete, Side, Step};
 use rx_plain::Items;
-use rx_term::Rule;
+use rx_term::Equation;
 use std::alloc::Global;
 
-fn side(words: &mut Vec<&str>) -> Option<Side> {
-    match words.pop()? {
+fn side(word: &str) -> Option<Side> {
+    match word {
         "l" => Some(Side::Left),
         "r" => Some(Side::Right),
         _ => None,
     }
 }
 
-fn simplify(alloc: Global, words: &mut Vec<&str>) -> Option<Step> {
-    let side = side(words)?;
-    let rule = small(words)?;
-    let certs = Items::new(alloc);
-    Some(Step::Simplify { side, rule, certs })
-}
-
-fn hypothesis(alloc: Global, words: &mut Vec<&str>) -> Option<Step> {
-    let side = side(words)?;
-    let place = small(words)?;
-    let hyp = small(words)?;
-    let subst = next_substitution(alloc, words)?;
-    Some(Step::Hyp {
-        side,
-        place,
-        hyp,
-        subst,
+fn simplify(alloc: Global, words: &str) -> Option<Step> {
+    let (on, rule) = words.split_once(' ')?;
+    Some(Step::Simplify {
+        side: side(on)?,
+        rule: count(rule)?,
         certs: Items::new(alloc),
     })
 }
 
-fn expand(words: &mut Vec<&str>) -> Option<Step> {
-    let side = side(words)?;
-    let keep = words.pop()? == "keep";
-    Some(Step::Expand { side, keep })
+fn hypothesis(alloc: Global, words: &str) -> Option<Step> {
+    let (on, rest) = words.split_once(' ')?;
+    let (place, rest) = rest.split_once(' ')?;
+    let (hyp, subst) = rest.split_once(' ')?;
+    Some(Step::Hyp {
+        side: side(on)?,
+        place: count(place)?,
+        hyp: count(hyp)?,
+        subst: substitution(alloc, subst)?,
+        certs: Items::new(alloc),
+    })
 }
 
-fn generalise(alloc: Global, words: &mut Vec<&str>) -> Option<Step> {
-    let rule = next_rule(alloc, words)?;
-    let subst = next_substitution(alloc, words)?;
-    let Rule { left, right, rows } = rule;
+fn expand(words: &str) -> Option<Step> {
+    let (on, keep) = words.split_once(' ')?;
+    Some(Step::Expand {
+        side: side(on)?,
+        keep: keep == "keep",
+    })
+}
+
+fn generalise(alloc: Global, words: &str) -> Option<Step> {
+    let (goal, end) = equation_at(alloc, words.as_bytes(), 0)?;
+    let subst = last_substitution(alloc, words.as_bytes(), end)?;
+    let Equation { left, right, rows } = goal;
     Some(Step::Generalise {
         left,
         right,
@@ -57,21 +59,23 @@ fn generalise(alloc: Global, words: &mut Vec<&str>) -> Option<Step> {
     })
 }
 
-fn postulate(alloc: Global, words: &mut Vec<&str>) -> Option<Step> {
-    let Rule { left, right, rows } = next_rule(alloc, words)?;
+fn postulate(alloc: Global, words: &str) -> Option<Step> {
+    let Equation { left, right, rows } = equation(alloc, words)?;
     Some(Step::Postulate { left, right, rows })
 }
 
-fn split(alloc: Global, words: &mut Vec<&str>) -> Option<Step> {
-    let row = row(alloc, words.pop()?)?;
+fn split(alloc: Global, words: &str) -> Option<Step> {
+    let row = row(alloc, words)?;
     Some(Step::Split { row })
 }
 
-fn results(alloc: Global, words: &mut Vec<&str>) -> Option<Step> {
-    let left = small(words)?;
-    let right = small(words)?;
-    let certs = Items::new(alloc);
-    Some(Step::Results { left, right, certs })
+fn results(alloc: Global, words: &str) -> Option<Step> {
+    let (left, right) = words.split_once(' ')?;
+    Some(Step::Results {
+        left: count(left)?,
+        right: count(right)?,
+        certs: Items::new(alloc),
+    })
 }
 
 // A step on both sides, which is one word.
@@ -87,8 +91,11 @@ fn of_both(alloc: Global, word: &str) -> Option<Step> {
     }
 }
 
-// The step of that name, read from the words after it.
-fn next(alloc: Global, name: &str, words: &mut Vec<&str>) -> Option<Step> {
+/// One step.
+pub fn step(alloc: Global, text: &str) -> Option<Step> {
+    let Some((name, words)) = text.split_once(' ') else {
+        return of_both(alloc, text);
+    };
     match name {
         "simplify" => simplify(alloc, words),
         "hyp" => hypothesis(alloc, words),
@@ -97,13 +104,6 @@ fn next(alloc: Global, name: &str, words: &mut Vec<&str>) -> Option<Step> {
         "postulate" => postulate(alloc, words),
         "split" => split(alloc, words),
         "results" => results(alloc, words),
-        _ => of_both(alloc, name),
+        _ => None,
     }
-}
-
-/// One step.
-pub fn step(alloc: Global, text: &str) -> Option<Step> {
-    let mut words = words(alloc, text)?;
-    let name = words.pop()?;
-    next(alloc, name, &mut words)
 }

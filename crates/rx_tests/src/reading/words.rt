@@ -1,18 +1,35 @@
-//! Words and numbers. A list is its number of elements, then each element.
+//! Texts that repeat a part, and numbers. A list is its number of elements, then each element.
+use rx_text::read_integer;
 use std::alloc::Global;
 
-/// The words of the text, the first word last.
-pub fn words<'a>(alloc: Global, text: &'a str) -> Option<Vec<&'a str>> {
-    let mut words = Vec::new(alloc);
-    for word in text.rsplit(' ') {
-        words.push(word).ok()?;
+// What comes after a brace: how often, the part, and what follows it.
+fn add_repeated(made: &mut String, piece: &str) -> Option<()> {
+    let (repeated, rest) = piece.split_once('}')?;
+    let (times, part) = repeated.split_once(' ')?;
+    for _ in 0..count(times)? {
+        made.push_str(part).ok()?;
     }
-    Some(words)
+    made.push_str(rest).ok()
+}
+
+/// The text with each `{N PART}` written out, PART N times.
+pub fn written_out(alloc: Global, text: &str) -> Option<String> {
+    let mut pieces = text.split('{');
+    let mut made = String::from_str(alloc, pieces.next()?).ok()?;
+    for piece in pieces {
+        add_repeated(&mut made, piece)?;
+    }
+    Some(made)
 }
 
 /// A number.
 pub fn integer(text: &str) -> Option<i128> {
-    text.parse::<i128>().ok()
+    let (number, end) = read_integer(text.as_bytes(), 0)?;
+    if end == text.len() {
+        Some(number)
+    } else {
+        None
+    }
 }
 
 /// A small number that isn't negative.
@@ -20,22 +37,12 @@ pub fn count(text: &str) -> Option<u32> {
     text.parse::<u32>().ok()
 }
 
-/// The next word, a number.
-pub fn number(words: &mut Vec<&str>) -> Option<i128> {
-    integer(words.pop()?)
-}
-
-/// The next word, a small number that isn't negative.
-pub fn small(words: &mut Vec<&str>) -> Option<u32> {
-    count(words.pop()?)
-}
-
 /// A list of numbers.
 pub fn numbers(alloc: Global, text: &str) -> Option<Vec<i128>> {
-    let mut words = words(alloc, text)?;
+    let mut words = text.split(' ');
     let mut made = Vec::new(alloc);
-    for _ in 0..small(&mut words)? {
-        made.push(number(&mut words)?).ok()?;
+    for _ in 0..count(words.next()?)? {
+        made.push(integer(words.next()?)?).ok()?;
     }
     Some(made)
 }
