@@ -1,16 +1,13 @@
 -- Flows that go on one after the other.
-use Rattle.std.proofs.Common.{◌≡◌, ◌∙◌, ap, ℕ, suc, ◌+◌, ◌<◌, ◌≤◌, ◌^◌, Bool, ◌&&◌, refl, sym, List, [], ◌∷◌, map, length, take, drop, get_or, drop_of_length-le, Option, Some, None, arith}
+use Rattle.std.proofs.Common.{◌≡◌, ◌∙◌, ap, ℕ, suc, ◌+◌, ◌<◌, ◌≤◌, ◌^◌, Bool, refl, sym, List, [], ◌∷◌, map, length, take, drop, get_or, drop_of_length-le, Option, Some, None, arith}
 use Rattle.std.proofs.Math.Seq.{drop-cons, take-length}
 use Rattle.std.proofs.lemmas.List.{take-take, length-take}
 use Rattle.std.specs.Option.{option_or}
+use Rattle.rx_plain.proofs.Booleans.{and_assoc}
 use Rattle.c_ast.specs.declared.stmt.Stmt.{Stmt}
 use Rattle.c_assigned.specs.Sets.{Assigned, intersection, meet}
 use Rattle.c_assigned.specs.Flows.{fall_through, sequence, in_order, stmt_flow}
 use Rattle.c_assigned.specs.declared.flow.Flow.{Flow}
-
-and_assoc : (x y z : Bool) → ((x && y) && z) ≡ (x && (y && z))
-and_assoc Bool.true y z = refl
-and_assoc Bool.false y z = refl
 
 intersection-assoc : (xs ys zs : List Bool) → intersection (intersection xs ys) zs ≡
     intersection xs (intersection ys zs)

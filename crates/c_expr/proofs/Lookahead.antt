@@ -100,7 +100,7 @@ rest_higher ts n a i k e (more _ _ _ _ j _ op b _ h l r) =
     omega arith
 
 -- where an operator is, a token is
-operator_is_token : (k : Option TokenKind) (o : Operator) → binary_of k ≡ Some o → (t : TokenKind) ×
+pub operator_is_token : (k : Option TokenKind) (o : Operator) → binary_of k ≡ Some o → (t : TokenKind) ×
     (k ≡ Some t)
 operator_is_token None o h = cc
 operator_is_token (Some t) o h = (t, refl)
@@ -114,7 +114,7 @@ operator_within ts i n op h =
     kind_within ts i stands.0 stands.1
 
 -- where an operator before an operand is, a token is
-sign_is_token : (k : Option TokenKind) (op : UnOp) → unary_of k ≡ Some op → (t : TokenKind) ×
+pub sign_is_token : (k : Option TokenKind) (op : UnOp) → unary_of k ≡ Some op → (t : TokenKind) ×
     (k ≡ Some t)
 sign_is_token None op h = cc
 sign_is_token (Some t) op h = (t, refl)
@@ -127,7 +127,7 @@ sign_within ts i op h =
     kind_within ts i stands.0 stands.1
 
 -- after the end of the list there is no token
-nothing_over : (ts : List Token) → kind_at ts (length ts) ≡ None
+pub nothing_over : (ts : List Token) → kind_at ts (length ts) ≡ None
 unfolding kind_at
 nothing_over [] = refl
 nothing_over (t ∷ ts) = nothing_over ts

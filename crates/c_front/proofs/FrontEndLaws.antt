@@ -1,7 +1,7 @@
 -- What the front end says of two names in a well-formed program.
-use Rattle.std.proofs.Common.{◌≡◌, ◌≢◌, ℕ, zero, suc, ◌+◌, ◌<◌, Bool, true, false, cond, List, [], ◌∷◌, length, map, Option, Some, None, Ok, slice_get, refl, sym, ap, ◌∙◌, arith}
-use Rattle.std.specs.List.{position_from}
+use Rattle.std.proofs.Common.{◌≡◌, ◌≢◌, ℕ, ◌<◌, List, length, map, Option, Some, None, Ok, slice_get, refl, sym, ap, ◌∙◌, arith}
 use Rattle.std.proofs.lemmas.List.{length-map}
+use Rattle.rx_plain.proofs.Lists.{element_within, position_within}
 use Rattle.c_lex.specs.declared.token.Token.{Token}
 use Rattle.c_ast.specs.declared.program.Function.{Function}
 use Rattle.c_ast.specs.declared.program.Program.{Program}
@@ -15,24 +15,6 @@ use Rattle.c_front.specs.declared.stages.Next.TheVariants.{Ends, Goes}
 use Rattle.c_front.specs.FrontEnd.{AreNamed, IsReading, IsWellFormed, missing, place_in}
 use Rattle.std.proofs.lemmas.Option.{none-some}
 use Rattle.c_scope.proofs.ResolvedPrograms.{counted, counts_kept}
-
--- the place found is in the list
-within_from : {K : Type 0} (p : K → Bool) (i : ℕ) (xs : List K) (k : ℕ) → position_from p i xs ≡
-    Some k → k < i + length xs
-within_from p i [] k is = absurd (none-some _ is)
-within_from p i (x ∷ xs) k is =
-    elim (p x) as (λ b. cond b (Some i) (position_from p (i + 1) xs) ≡ Some k → k < i +
-    length (x ∷ xs)) [
-      | true ↦ (λ e. let h : i ≡ k = cc in omega (arith, h))
-      | false ↦ (λ e. let h = within_from p (i + 1) xs k e in omega (arith, h))
-    ] is
-
--- there is an element at each place in the list
-element_within : {A : Type 0} (xs : List A) (i : ℕ) → i < length xs → (x : A) ×
-    (slice_get xs i ≡ Some x)
-element_within [] i h = absurd (omega (arith, h))
-element_within (x ∷ xs) zero h = (x, refl)
-element_within (x ∷ xs) (suc i) h = element_within xs i (omega (arith, h))
 
 -- a resolved program has as many parameters at each place
 pub counts_at : (source : List ℕ) (tokens : List Token) (program : Program) (resolved : Resolved) →
@@ -54,7 +36,7 @@ module _ (source : List ℕ) (tokens : List Token) (program : Program) (resolved
   place_within : (name : List ℕ) (i : ℕ) → place_in source tokens program name ≡ Some i → i <
       length program.functions
   place_within name i is =
-      let h = within_from _ 0 (spellings source tokens
+      let h = position_within _ 0 (spellings source tokens
       (map (λ (f : Function). f.name) program.functions)) i is in
       let l : length (spellings source tokens (map (λ (f : Function). f.name) program.functions)) ≡
       length (map (λ (f : Function). f.name) program.functions) =

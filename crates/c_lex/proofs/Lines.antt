@@ -4,7 +4,7 @@ use Rattle.std.proofs.lemmas.Bool.{false≢true}
 use Rattle.std.proofs.lemmas.Bool.Decides.{eqb_tells}
 use Rattle.std.proofs.lemmas.List.Sums.{fold_more}
 use mathlib.Core.Logic.{⊎_elim}
-use Rattle.c_lex.proofs.Scans.{and_false}
+use Rattle.rx_plain.proofs.Booleans.{and_false}
 use Rattle.c_lex.specs.Bytes.{fresh_after, until, at_line_end, at_comment, line_feed, space, tab, slash, hash}
 use Rattle.c_lex.specs.Pieces.{IsSeenAtFront, IsPieceOf, at_include_end}
 use Rattle.c_lex.specs.declared.piece.Piece.TheVariants.{Spelled}

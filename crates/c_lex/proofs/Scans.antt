@@ -2,6 +2,7 @@
 use Rattle.std.proofs.Common.{◌≡◌, ℕ, ◌+◌, suc, ◌<◌, ◌≤◌, min, Bool, true, false, cond, ◌||◌, ◌&&◌, ◌==◌, List, [], ◌∷◌, length, get_or, drop, sym, ap, ◌∙◌, arith, refl}
 use Rattle.std.proofs.lemmas.Bool.{false≢true, eqb-true}
 use Rattle.std.proofs.lemmas.List.{at_drop_more, get_or-drop}
+use Rattle.rx_plain.proofs.Booleans.{and_false, and_first, and_second}
 use Rattle.c_lex.specs.Bytes.{until, at_line_end, at_close, at_comment, line_feed, slash, star, hash}
 use Rattle.c_lex.specs.Pieces.{at_include_end}
 
@@ -61,11 +62,6 @@ include_line_some (x ∷ xs) h =
     step_some (at_include_end (x ∷ xs)) (until at_include_end xs)
     (ap (λ b. b == line_feed || (b == slash && get_or (x ∷ xs) 1 0 == star)) h)
 
--- a fact and a false one are false together
-pub and_false : (b : Bool) → (b && false) ≡ false
-and_false true = refl
-and_false false = refl
-
 -- the two bytes that close a comment lie within the text
 close_two : (x : ℕ) (xs : List ℕ) → at_close (x ∷ xs) ≡ true → 1 ≤ length xs
 close_two x [] h = absurd (false≢true (sym (and_false (x == star)) ∙ h))
@@ -97,11 +93,6 @@ stands_step p x xs false is n h behind =
     let e : 1 + n ≡ suc n = omega arith in
     ap (λ k. p (drop k (x ∷ xs))) e ∙ behind (omega arith)
 
--- the second of two facts
-and_second : (a b : Bool) → (a && b) ≡ true → b ≡ true
-and_second true b h = h
-and_second false b h = absurd (false≢true h)
-
 -- where the place lies within the text, the test holds there
 pub until_stands : (p : List ℕ → Bool) (xs : List ℕ) → until p xs < length xs →
     p (drop (until p xs) xs) ≡ true
@@ -120,11 +111,6 @@ close_slash rest h =
     let e : n + 3 ≡ 2 + (n + 1) = omega arith in
     ap (λ k. get_or rest k 0) e ∙ sym (get_or-drop 2 rest (n + 1) 0) ∙
     sym (get_or-drop n (drop 2 rest) 1 0) ∙ second
-
--- the first of two facts
-and_first : (a b : Bool) → (a && b) ≡ true → a ≡ true
-and_first true b h = refl
-and_first false b h = h
 
 -- a block comment begins with a slash
 pub comment_first : (rest : List ℕ) → at_comment rest ≡ true → get_or rest 0 0 ≡ slash

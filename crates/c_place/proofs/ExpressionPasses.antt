@@ -1,5 +1,7 @@
 -- The recogniser passes over each expression, from its first token to its end.
-use Rattle.std.proofs.Common.{◌≡◌, ℕ, ◌+◌, Option, Some, None, List, [], ◌∷◌, refl, sym, ◌∙◌, ap, arith}
+use Rattle.std.proofs.Common.{◌≡◌, ℕ, ◌+◌, Option, Some, None, List, [], ◌∷◌, refl, sym, ◌∙◌, ap}
+use Rattle.c_expr.proofs.Lookahead.{operator_is_token, sign_is_token}
+use Rattle.rx_plain.proofs.Naturals.{two_more}
 use Rattle.c_lex.specs.declared.token.Token.{Token}
 use Rattle.c_lex.specs.declared.token.TokenKind.{TokenKind}
 use Rattle.c_lex.specs.declared.token.TokenKind.TheVariants.{Name, Number, Mark}
@@ -7,23 +9,12 @@ use Rattle.c_lex.specs.declared.token.Mark.TheVariants as mark
 use Rattle.c_ast.specs.declared.expr.UnOp.{UnOp}
 use Rattle.c_ast.specs.declared.expr.BinOp.{BinOp}
 use Rattle.c_ast.specs.declared.expr.Expr.{Expr}
-use Rattle.c_expr.specs.Grammar.{kind_at, Operator, infixed, binary_of, unary_of, levels, Expression, plain, choice, BinaryAt, signed, chain, Operands, done, more, UnaryExpression, unsigned, prefixed, PrimaryExpression, number, name, call, parens, Arguments, no_arguments, arguments, Following, last_argument, next_argument}
+use Rattle.c_expr.specs.Grammar.{kind_at, infixed, binary_of, unary_of, levels, Expression, plain, choice, BinaryAt, signed, chain, Operands, done, more, UnaryExpression, unsigned, prefixed, PrimaryExpression, number, name, call, parens, Arguments, no_arguments, arguments, Following, last_argument, next_argument}
 use Rattle.c_expr.proofs.Passing.{whole_opens}
 use Rattle.c_place.specs.declared.symbol.Symbol.{Symbol}
 use Rattle.c_place.specs.declared.symbol.Symbol.TheVariants as symbol
 use Rattle.c_place.specs.Actions.{takes, skips, before, expression_action, operator_action, going_action, called_action, arguments_action}
 use Rattle.c_place.proofs.Running.{fault_at, taken, skipped, alike, handed}
-
--- where an operator is, a token is
-operator_token : (k : Option TokenKind) (o : Operator) → binary_of k ≡ Some o → (t : TokenKind) ×
-    (k ≡ Some t)
-operator_token None o h = cc
-operator_token (Some t) o h = (t, refl)
-
-sign_token : (k : Option TokenKind) (op : UnOp) → unary_of k ≡ Some op → (t : TokenKind) ×
-    (k ≡ Some t)
-sign_token None op h = cc
-sign_token (Some t) op h = (t, refl)
 
 -- an operator before an operand is taken
 sign_action : (k : TokenKind) (op : UnOp) → unary_of (Some k) ≡ Some op →
@@ -79,7 +70,7 @@ module _ (ts : List Token) where
       Some (infixed n op) → fault_at ts (symbol.Going ∷ ss) i ≡
       fault_at ts (symbol.Expression ∷ ss) (i + 1)
   infix_taken i n op ss h =
-      let t = operator_token (kind_at ts i) (infixed n op) h in
+      let t = operator_is_token (kind_at ts i) (infixed n op) h in
       let o : binary_of (Some t.0) ≡ Some (infixed n op) = ap binary_of (sym t.1) ∙ h in
       taken ts symbol.Going ss i t.0 (symbol.Expression ∷ []) t.1
       (ap (λ z. operator_action z (Some t.0)) o)
@@ -87,7 +78,7 @@ module _ (ts : List Token) where
   sign_taken : (i : ℕ) (op : UnOp) (ss : List Symbol) → unary_of (kind_at ts i) ≡ Some op →
       fault_at ts (symbol.Expression ∷ ss) i ≡ fault_at ts (symbol.Expression ∷ ss) (i + 1)
   sign_taken i op ss h =
-      let t = sign_token (kind_at ts i) op h in
+      let t = sign_is_token (kind_at ts i) op h in
       let o : unary_of (Some t.0) ≡ Some op = ap unary_of (sym t.1) ∙ h in
       taken ts symbol.Expression ss i t.0 (symbol.Expression ∷ []) t.1 (sign_action t.0 op o)
 
@@ -104,9 +95,6 @@ module _ (ts : List Token) where
       ((kind_at ts i ≡ Some t) × (called_action (Some t) ≡ skips))
   argument_over i k es (last_argument _ _ h) = (Mark mark.RightParen, (h, refl))
   argument_over i k es (next_argument _ _ _ _ _ _ h w r) = (Mark mark.Comma, (h, refl))
-
-  two : (i : ℕ) → i + 1 + 1 ≡ i + 2
-  two i = omega arith
 
   mutual
     pub whole_passes : (i j : ℕ) (e : Expr) → Expression ts i j e →
@@ -158,7 +146,7 @@ module _ (ts : List Token) where
         taken ts symbol.Expression ss i Name (symbol.Called ∷ []) h refl
         ∙ (taken ts symbol.Called ss (i + 1) (Mark mark.LeftParen)
         (symbol.Arguments ∷ symbol.Going ∷ []) p refl
-        ∙ (ap (fault_at ts (symbol.Arguments ∷ symbol.Going ∷ ss)) (two i) ∙
+        ∙ (ap (fault_at ts (symbol.Arguments ∷ symbol.Going ∷ ss)) (two_more i) ∙
         arguments_passes (i + 2) j es r (symbol.Going ∷ ss)))
     primary_passes i j e (parens _ _ k _ h w c) free ss =
         taken ts symbol.Expression ss i (Mark mark.LeftParen)

@@ -1,20 +1,17 @@
 -- The recogniser accepts the lists that spell an expression, and no others.
-use Rattle.std.proofs.Common.{◌≡◌, ℕ, Option, None, List, [], ◌∷◌, length, refl, sym, ◌∙◌, ap, arith}
+use Rattle.std.proofs.Common.{◌≡◌, ℕ, Option, None, List, [], ◌∷◌, length, refl, ◌∙◌, ap, arith}
 use Rattle.std.proofs.Math.Seq.{drop-length}
+use Rattle.c_expr.proofs.Lookahead.{nothing_over}
 use Rattle.c_lex.specs.declared.token.Token.{Token}
 use Rattle.c_expr.specs.Grammar.{kind_at, Expression}
 use Rattle.c_place.specs.declared.symbol.Symbol.{Symbol}
 use Rattle.c_place.specs.declared.symbol.Symbol.TheVariants as symbol
 use Rattle.c_place.specs.Places.{IsExpression, IsPlace}
 use Rattle.c_place.specs.Recogniser.{fed, fault}
-use Rattle.c_place.proofs.Running.{fault_at, first_kind, first_of_rest, skipped}
+use Rattle.c_place.proofs.Running.{fault_at, skipped}
 use Rattle.c_place.proofs.ExpressionPasses.{whole_passes}
 use Rattle.c_place.proofs.Soundness.{spans_of}
 use Rattle.c_place.proofs.Answering.{places}
-
--- after the last token there is none
-pub none_at_end : (ts : List Token) → kind_at ts (length ts) ≡ None
-none_at_end ts = sym (first_of_rest ts (length ts)) ∙ ap first_kind (drop-length ts)
 
 pub from_start : (ts : List Token) (ss : List Symbol) → fault ss 0 ts ≡ fault_at ts ss 0
 unfolding fault_at
@@ -32,7 +29,7 @@ sound ts h =
 
 complete : (ts : List Token) → IsExpression ts → fault (symbol.Expression ∷ []) 0 ts ≡ None
 complete ts w =
-    let none : kind_at ts (length ts) ≡ None = none_at_end ts in
+    let none : kind_at ts (length ts) ≡ None = nothing_over ts in
     from_start ts (symbol.Expression ∷ [])
     ∙ (whole_passes ts 0 (length ts) w.0 w.1 (λ z. cc) []
     ∙ (skipped ts symbol.Going [] (length ts) None none refl ∙ accepted_at_end ts))

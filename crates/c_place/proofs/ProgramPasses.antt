@@ -1,6 +1,7 @@
 -- The recogniser passes over parameters, functions, prototypes and programs.
 use Rattle.std.proofs.Common.{◌≡◌, ◌⊎◌, inl, inr, ℕ, ◌+◌, Option, Some, None, List, [], ◌∷◌, refl, ◌∙◌, ap}
 use Rattle.std.specs.Option.{option_map}
+use Rattle.rx_plain.proofs.Naturals.{two_more}
 use Rattle.c_lex.specs.declared.token.Token.{Token}
 use Rattle.c_lex.specs.declared.token.TokenKind.TheVariants.{Name, Word, Mark}
 use Rattle.c_lex.specs.declared.token.Keyword.TheVariants as word
@@ -16,7 +17,7 @@ use Rattle.c_place.specs.declared.symbol.Naming.{Naming}
 use Rattle.c_place.specs.declared.symbol.Naming.TheVariants.{Full, Partial}
 use Rattle.c_place.specs.Actions.{closed}
 use Rattle.c_place.proofs.Running.{fault_at, taken}
-use Rattle.c_place.proofs.StatementRows.{two_on, three_on}
+use Rattle.c_place.proofs.StatementRows.{three_on}
 use Rattle.c_place.proofs.StatementPasses.{handed_at, items_passes}
 
 -- whether each parameter has a name, after one more
@@ -50,7 +51,7 @@ parameter_passes : (naming : Naming) (ts : List Token) (i j : ℕ) (o : Option �
     fault_at ts (symbol.MoreParameters (with_parameter naming o) ∷ ss) j
 parameter_passes naming ts i j o (named _ _ h n) follows ss =
     taken ts (symbol.ParameterName naming) ss (i + 1) Name (symbol.MoreParameters naming ∷ []) n
-    refl ∙ ap (fault_at ts (symbol.MoreParameters naming ∷ ss)) (two_on i)
+    refl ∙ ap (fault_at ts (symbol.MoreParameters naming ∷ ss)) (two_more i)
 parameter_passes naming ts i j o (nameless _ _ h n) follows ss =
     nameless_passes naming ts (i + 1) follows ss
 
@@ -97,7 +98,7 @@ parameters_pass ts i j ps (unsaid _ _ h) ss =
 parameters_pass ts i j ps (void _ _ h) ss =
     taken ts symbol.Parameters ss i (Word word.Void) (symbol.RightParen ∷ symbol.Body ∷ []) h.0 refl
     ∙ (taken ts symbol.RightParen (symbol.Body ∷ ss) (i + 1) (Mark mark.RightParen) [] h.1 refl ∙
-    ap (fault_at ts (symbol.Body ∷ ss)) (two_on i))
+    ap (fault_at ts (symbol.Body ∷ ss)) (two_more i))
 parameters_pass ts i j ps (listed _ _ _ os l) ss =
     taken ts symbol.Parameters ss i (Word word.Int) (symbol.ParameterName Full ∷ [])
     (listed_begins ts i j os l) refl ∙ listed_passes Full ts i j os l ss
@@ -139,7 +140,7 @@ heading_passes : (ts : List Token) (i : ℕ) → IsHeading ts i → (ss : List S
     fault_at ts (symbol.Program ∷ ss) i ≡ fault_at ts (symbol.Parameters ∷ symbol.Program ∷ ss)
     (i + 3)
 heading_passes ts i h ss =
-    let next : kind_at ts (i + 1 + 1) ≡ Some (Mark mark.LeftParen) = rw (two_on i) (h.1.1) in
+    let next : kind_at ts (i + 1 + 1) ≡ Some (Mark mark.LeftParen) = rw (two_more i) (h.1.1) in
     taken ts symbol.Program ss i (Word word.Int)
     (symbol.Name ∷ symbol.LeftParen ∷ symbol.Parameters ∷ symbol.Program ∷ []) h.0 refl
     ∙ (taken ts symbol.Name (symbol.LeftParen ∷ symbol.Parameters ∷ symbol.Program ∷ ss) (i + 1)

@@ -1,5 +1,6 @@
 -- The recogniser accepts the lists that spell a program, and no others.
 use Rattle.std.proofs.Common.{◌≡◌, ℕ, Option, None, List, [], ◌∷◌, length, refl, ◌∙◌, arith}
+use Rattle.c_expr.proofs.Lookahead.{nothing_over}
 use Rattle.c_lex.specs.declared.token.Token.{Token}
 use Rattle.c_stmt.specs.Programs.{Externals}
 use Rattle.c_place.specs.declared.symbol.Symbol.TheVariants as symbol
@@ -9,7 +10,7 @@ use Rattle.c_place.proofs.Running.{skipped}
 use Rattle.c_place.proofs.ProgramPasses.{externals_passes}
 use Rattle.c_place.proofs.Soundness.{spans_of}
 use Rattle.c_place.proofs.Answering.{places}
-use Rattle.c_place.proofs.ExpressionPlaces.{none_at_end, from_start, accepted_at_end}
+use Rattle.c_place.proofs.ExpressionPlaces.{from_start, accepted_at_end}
 
 sound : (ts : List Token) → fault (symbol.Program ∷ []) 0 ts ≡ None → IsProgram ts
 sound ts h =
@@ -21,7 +22,7 @@ complete : (ts : List Token) → IsProgram ts → fault (symbol.Program ∷ []) 
 complete ts w =
     from_start ts (symbol.Program ∷ [])
     ∙ (externals_passes ts 0 (length ts) w.0 w.1 []
-    ∙ (skipped ts symbol.Program [] (length ts) None (none_at_end ts) refl ∙ accepted_at_end ts))
+    ∙ (skipped ts symbol.Program [] (length ts) None (nothing_over ts) refl ∙ accepted_at_end ts))
 
 pub program_places : (ts : List Token) (o : Option ℕ) → o ≡ fault (symbol.Program ∷ []) 0 ts →
     IsPlace IsProgram ts o

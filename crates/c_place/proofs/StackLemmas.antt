@@ -75,10 +75,6 @@ fed_empty_none : fed [] None ≡ Some []
 unfolding fed
 fed_empty_none = refl
 
-pub empty_of : {A : Type 0} (xs : List A) → length xs ≡ 0 → xs ≡ []
-empty_of [] h = refl
-empty_of (x ∷ xs) h = absurd (omega arith)
-
 pub fed_over : (old new : List Symbol) (kind : Option TokenKind) → old ≡ [] → new ≡ [] → kind ≡
     None → IsFed true new (fed (reverse old) kind)
 fed_over old new kind h g e = rw (h, g, e, fed_empty_none) refl

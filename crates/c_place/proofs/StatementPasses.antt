@@ -1,6 +1,7 @@
 -- The recogniser passes over each phrase of statements and programs: from its first token on it
 -- does as from the phrase's end with the phrase no longer expected.
-use Rattle.std.proofs.Common.{◌≡◌, ◌⊎◌, inl, inr, ℕ, ◌+◌, Option, Some, List, [], ◌∷◌, ◌++◌, refl, sym, ◌∙◌, ap, arith}
+use Rattle.std.proofs.Common.{◌≡◌, ◌⊎◌, inl, inr, ℕ, ◌+◌, Option, Some, List, [], ◌∷◌, ◌++◌, refl, sym, ◌∙◌, ap}
+use Rattle.rx_plain.proofs.Naturals.{three_more, two_more}
 use Rattle.c_lex.specs.declared.token.Token.{Token}
 use Rattle.c_lex.specs.declared.token.TokenKind.{TokenKind}
 use Rattle.c_lex.specs.declared.token.TokenKind.TheVariants.{Name, Word, Mark}
@@ -19,11 +20,6 @@ use Rattle.c_place.specs.declared.symbol.Symbol.TheVariants as symbol
 use Rattle.c_place.specs.Actions.{takes, skips, before, action, expression_action, called_action, statement_action, else_action, changed_action, items_action, for_test_action}
 use Rattle.c_place.proofs.Running.{fault_at, taken, skipped, handed}
 use Rattle.c_place.proofs.ExpressionPasses.{expression_stays, expression_ends}
-use Rattle.c_place.proofs.StatementRows.{two_on}
-
--- one place on from two places on
-last_on : (i : ℕ) → i + 2 + 1 ≡ i + 3
-last_on i = omega arith
 
 -- a symbol that expands to another and more after it, at a token
 pub handed_at : (ts : List Token) (s r : Symbol) (more ss : List Symbol) (i : ℕ) (kind : TokenKind)
@@ -82,24 +78,24 @@ module _ (m : TheMark) (s : Symbol) (stops : called_action (Some (Mark m)) ≡ s
         taken ts r ss i Name (symbol.Changed ∷ s ∷ []) h named
         ∙ (taken ts symbol.Changed (s ∷ ss) (i + 1) (Mark mark.Assign) (symbol.Expression ∷ []) a
         refl
-        ∙ (ap (fault_at ts (symbol.Expression ∷ s ∷ ss)) (two_on i) ∙
+        ∙ (ap (fault_at ts (symbol.Expression ∷ s ∷ ss)) (two_more i) ∙
         up_to_passes ts (i + 2) j e u ss))
     change_passes ts i j c (by_update _ _ _ _ op e h a u) ss =
         let o = update_row (kind_at ts (i + 1)) op a in
         taken ts r ss i Name (symbol.Changed ∷ s ∷ []) h named
         ∙ (taken ts symbol.Changed (s ∷ ss) (i + 1) o.0 (symbol.Expression ∷ []) o.1.0 o.1.1
-        ∙ (ap (fault_at ts (symbol.Expression ∷ s ∷ ss)) (two_on i) ∙
+        ∙ (ap (fault_at ts (symbol.Expression ∷ s ∷ ss)) (two_more i) ∙
         up_to_passes ts (i + 2) j e u ss))
     change_passes ts i j c (by_step_after _ _ _ op h a q) ss =
         taken ts r ss i Name (symbol.Changed ∷ s ∷ []) h named
         ∙ (step_passes ts (i + 1) (step_row (kind_at ts (i + 1)) op a) (s ∷ ss)
-        ∙ (ap (fault_at ts (s ∷ ss)) (two_on i) ∙
-        (taken ts s ss (i + 2) (Mark m) [] q ends ∙ ap (fault_at ts ss) (last_on i))))
+        ∙ (ap (fault_at ts (s ∷ ss)) (two_more i) ∙
+        (taken ts s ss (i + 2) (Mark m) [] q ends ∙ ap (fault_at ts ss) (three_more i))))
     change_passes ts i j c (by_step_before _ _ _ op a h q) ss =
         step_begins ts i (step_row (kind_at ts i) op a) ss
         ∙ (taken ts symbol.Name (s ∷ ss) (i + 1) Name [] h refl
-        ∙ (ap (fault_at ts (s ∷ ss)) (two_on i) ∙
-        (taken ts s ss (i + 2) (Mark m) [] q ends ∙ ap (fault_at ts ss) (last_on i))))
+        ∙ (ap (fault_at ts (s ∷ ss)) (two_more i) ∙
+        (taken ts s ss (i + 2) (Mark m) [] q ends ∙ ap (fault_at ts ss) (three_more i))))
 
 -- the declaration of one name, before a comma or a semicolon
 parted_passes : (ts : List Token) (i : ℕ) → IsParted ts i → (ss : List Symbol) →
@@ -126,7 +122,7 @@ declarator_passes ts i j s (valued _ _ _ e h a x p) ss =
     taken ts symbol.Declarators ss i Name (symbol.Declared ∷ []) h refl
     ∙ (taken ts symbol.Declared ss (i + 1) (Mark mark.Assign)
     (symbol.Expression ∷ symbol.MoreDeclarators ∷ []) a refl
-    ∙ (ap (fault_at ts (symbol.Expression ∷ symbol.MoreDeclarators ∷ ss)) (two_on i) ∙
+    ∙ (ap (fault_at ts (symbol.Expression ∷ symbol.MoreDeclarators ∷ ss)) (two_more i) ∙
     value_passes ts (i + 2) j e x p (symbol.MoreDeclarators ∷ ss)))
 
 pub declarators_pass : (ts : List Token) (i j : ℕ) (xs : List Stmt) → InitDeclarators ts i j xs →
@@ -253,7 +249,7 @@ jump_passes : (ts : List Token) (i : ℕ) (k : TokenKind) → kind_at ts i ≡ S
 jump_passes ts i k h row q ss =
     taken ts symbol.Statement ss i k (symbol.Semicolon ∷ []) h row
     ∙ (taken ts symbol.Semicolon ss (i + 1) (Mark mark.Semicolon) [] q refl ∙
-    ap (fault_at ts ss) (two_on i))
+    ap (fault_at ts ss) (two_more i))
 
 -- a statement is begun where a block goes on with one
 begins_statement : (ts : List Token) (i : ℕ) → Opening (kind_at ts i) → (ss : List Symbol) →

@@ -2,6 +2,7 @@
 -- of the tables is a form of the grammar.
 use Rattle.std.proofs.Common.{◌≡◌, inl, inr, ℕ, ◌+◌, Option, Some, None, List, [], ◌∷◌, ◌++◌, length, refl, sym, ◌∙◌, ap, arith}
 use Rattle.std.specs.Option.{option_map}
+use Rattle.rx_plain.proofs.Naturals.{two_more}
 use Rattle.c_lex.specs.declared.token.Token.{Token}
 use Rattle.c_lex.specs.declared.token.TokenKind.{TokenKind}
 use Rattle.c_lex.specs.declared.token.TokenKind.TheVariants.{Name, Word, Mark}
@@ -26,10 +27,6 @@ use Rattle.c_place.proofs.ExpressionRows.{back_expression}
 use Rattle.c_place.proofs.Spans.{Spans, Goes}
 use Rattle.c_place.proofs.StatementSpans.{Alternative, without_else, with_else, AfterChanged, assigns, updates, steps, MoreNames, no_more_names, more_names, AfterDeclared, no_value, a_value, AfterHeading, a_body, no_body, AfterParameters, AfterParameter, no_more_parameters, more_parameters, AfterInt, a_name, no_name, AfterOpening, of_function, of_prototype}
 
--- two places on, and three
-pub two_on : (i : ℕ) → i + 1 + 1 ≡ i + 2
-two_on i = omega arith
-
 pub three_on : (i : ℕ) → i + 1 + 1 + 1 ≡ i + 3
 three_on i = omega arith
 
@@ -37,13 +34,13 @@ three_on i = omega arith
 pub change_of_name : (m : TheMark) (ts : List Token) (i j : ℕ) → kind_at ts i ≡ Some Name →
     AfterChanged ts (i + 1) j → kind_at ts j ≡ Some (Mark m) → (s : Stmt) × Change m ts i (j + 1) s
 change_of_name m ts i j h (assigns _ _ _ e a x) q =
-    let there : Expression ts (i + 2) j e = rw (sym (two_on i)) x in
+    let there : Expression ts (i + 2) j e = rw (sym (two_more i)) x in
     (Assign i e, by_value m ts i (j + 1) e h a (ended m ts (i + 2) j e there q))
 change_of_name m ts i j h (updates _ _ _ op e a x) q =
-    let there : Expression ts (i + 2) j e = rw (sym (two_on i)) x in
+    let there : Expression ts (i + 2) j e = rw (sym (two_more i)) x in
     (updated i op e, by_update m ts i (j + 1) op e h a (ended m ts (i + 2) j e there q))
 change_of_name m ts i j h (steps _ _ op a) q =
-    let there : kind_at ts (i + 2) ≡ Some (Mark m) = rw (sym (two_on i)) q in
+    let there : kind_at ts (i + 2) ≡ Some (Mark m) = rw (sym (two_more i)) q in
     let whole : Change m ts i (i + 3) (updated i op unit) = by_step_after m ts i op h a there in
     (updated i op unit, rw (three_on i) whole)
 
@@ -53,7 +50,7 @@ pub change_of_step : (m : TheMark) (ts : List Token) (i : ℕ) (op : BinOp) →
     kind_at ts (i + 1 + 1) ≡ Some (Mark m)
     → (s : Stmt) × Change m ts i (i + 1 + 1 + 1) s
 change_of_step m ts i op a h q =
-    let there : kind_at ts (i + 2) ≡ Some (Mark m) = rw (sym (two_on i)) q in
+    let there : kind_at ts (i + 2) ≡ Some (Mark m) = rw (sym (two_more i)) q in
     let whole : Change m ts i (i + 3) (updated (i + 1) op unit) =
     by_step_before m ts i op a h there in
     (updated (i + 1) op unit, rw (three_on i) whole)
@@ -106,7 +103,7 @@ if_of ts i j k l e s h c b (with_else _ _ _ t other d) =
 -- one keyword and a semicolon
 jump_end : (ts : List Token) (i : ℕ) (s : Stmt) → Statement ts i (i + 2) s →
     Statement ts i (i + 1 + 1) s
-jump_end ts i s x = rw (two_on i) x
+jump_end ts i s x = rw (two_more i) x
 
 pub back_statement : (ts : List Token) (i : ℕ) (kind : Option TokenKind) → kind_at ts i ≡ kind →
     (Rest : ℕ → Type 0) → Goes (statement_action kind) kind ts i Rest →
@@ -184,7 +181,7 @@ pub names_after : (ts : List Token) (i k : ℕ) → kind_at ts i ≡ Some Name �
     AfterDeclared ts (i + 1) k → (ss : List Stmt) × InitDeclarators ts i k ss
 names_after ts i k h (no_value _ _ _ m) = names_from ts i (i + 1) k (Declare i None) (bare ts i h) m
 names_after ts i k h (a_value _ _ j _ e a x m) =
-    let there : Expression ts (i + 2) j e = rw (sym (two_on i)) x in
+    let there : Expression ts (i + 2) j e = rw (sym (two_more i)) x in
     names_from ts i j k (Declare i (Some e)) (valued ts i j e h a there) m
 
 pub back_declarators : (ts : List Token) (i : ℕ) (kind : Option TokenKind) → kind_at ts i ≡ kind →
@@ -378,7 +375,7 @@ pub back_parameters : (ts : List Token) (i : ℕ) (kind : Option TokenKind) → 
 back_parameters ts i (Some (Mark mark.RightParen)) h Rest (k, (a, r)) =
     (k, (opening_of ts i (i + 1) k None [] (unsaid ts i h) refl a, r))
 back_parameters ts i (Some (Word word.Void)) h Rest (q, (k, (a, r))) =
-    let p : Parameters ts i (i + 1 + 1) (Some []) = rw (two_on i) (void ts i (h, q)) in
+    let p : Parameters ts i (i + 1 + 1) (Some []) = rw (two_more i) (void ts i (h, q)) in
     (k, (opening_of ts i (i + 1 + 1) k (Some []) [] p refl a, r))
 back_parameters ts i (Some (Word word.Int)) h Rest (k, (a, r)) =
     (k, (opening_from ts i k (remaining_of Full ts i (i + 1) k h a refl), r))
@@ -397,7 +394,7 @@ external_of ts i _ h (of_prototype _ _ j ps p q) =
 pub back_program : (ts : List Token) (i : ℕ) (kind : Option TokenKind) → kind_at ts i ≡ kind →
     (Rest : ℕ → Type 0) → Goes (program_action kind) kind ts i Rest → Spans symbol.Program ts i Rest
 back_program ts i (Some (Word word.Int)) h Rest (n, (q, (j, (a, (k, ((xs, x), r)))))) =
-    let heading : IsHeading ts i = (h, (n, rw (sym (two_on i)) q)) in
+    let heading : IsHeading ts i = (h, (n, rw (sym (two_more i)) q)) in
     let after : AfterOpening ts (i + 3) j = rw (sym (three_on i)) a in
     let one = external_of ts i j heading after in
     (k, ((one.0 ∷ xs, followed ts i j k one.0 xs one.1 x), r))

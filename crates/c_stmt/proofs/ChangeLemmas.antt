@@ -1,5 +1,6 @@
 -- Changes of a name: the forms, and how they are read.
 use Rattle.std.proofs.Common.{◌≡◌, ℕ, ◌+◌, ◌-◌, ◌≤◌, ◌<◌, max, pos, Option, Some, None, Result, IfOk, List, length, refl, sym, ◌∙◌, ap, arith}
+use Rattle.rx_plain.proofs.Naturals.{three_more}
 use Rattle.c_lex.specs.declared.token.Token.{Token}
 use Rattle.c_lex.specs.declared.token.TokenKind.{TokenKind}
 use Rattle.c_lex.specs.declared.token.TokenKind.TheVariants.{Name, Mark}
@@ -202,10 +203,6 @@ step_reads m ts name at room op y h some yv ye =
       only = λ j s p. (ye ∙ sym p.0.behind, yv ∙ sym p.0.is);
     }
 
--- two places on
-after_two : (i : ℕ) → i + 2 + 1 ≡ i + 3
-after_two i = omega arith
-
 -- a step in front of its name
 pub steps_before : (m : TheMark) (ts : List Token) (i room : ℕ) (op : BinOp)
     (r : Result (Option (Span Stmt)) NoMemory) → changing_of (kind_at ts i) ≡ Some (step op) →
@@ -217,12 +214,12 @@ steps_before m ts i room op r o named =
     renamed_ok (IsNoHigher stmt_height room (IsStep m ts (i + 1) op (i + 2)))
     (IsNoHigher stmt_height room (Change m ts i)) i (i + 2) (length ts) r (omega arith)
     (λ j s p. (
-      rw (p.0.behind, after_two i, p.0.is) (by_step_before m ts i op o named p.0.marked),
+      rw (p.0.behind, three_more i, p.0.is) (by_step_before m ts i op o named p.0.marked),
       p.1,
     ))
     (λ j s q.
     let is = change_before m ts i op o j s (changed_of m ts i j s q.0) in
-    (record { marked = is.1.0; behind = is.1.1.0 ∙ sym (after_two i); is = is.1.1.1 }, q.1))
+    (record { marked = is.1.0; behind = is.1.1.0 ∙ sym (three_more i); is = is.1.1.1 }, q.1))
 
 -- a step after its name
 pub steps_after : (m : TheMark) (ts : List Token) (i room : ℕ) (op : BinOp)
@@ -234,9 +231,9 @@ steps_after m ts i room op r named o =
     renamed_ok (IsNoHigher stmt_height room (IsStep m ts i op (i + 2)))
     (IsNoHigher stmt_height room (Change m ts i)) i (i + 2) (length ts) r (omega arith)
     (λ j s p. (
-      rw (p.0.behind, after_two i, p.0.is) (by_step_after m ts i op named o p.0.marked),
+      rw (p.0.behind, three_more i, p.0.is) (by_step_after m ts i op named o p.0.marked),
       p.1,
     ))
     (λ j s q.
     let is = change_after m ts i named op o j s (changed_of m ts i j s q.0) in
-    (record { marked = is.0; behind = is.1.0 ∙ sym (after_two i); is = is.1.1 }, q.1))
+    (record { marked = is.0; behind = is.1.0 ∙ sym (three_more i); is = is.1.1 }, q.1))

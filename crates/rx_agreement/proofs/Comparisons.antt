@@ -5,6 +5,7 @@ use Rattle.std.specs.Ordering.{int_eq}
 use Rattle.std.specs.Int.Signed.{lt_z_yes, lt_z_no, le_z_yes}
 use Rattle.std.proofs.lemmas.Int.{ints, by_lt_z}
 use Rattle.std.proofs.lemmas.Bool.Decides.{Decides-int_eq, not_from_Decides}
+use Rattle.std.proofs.lemmas.Bool.{not-false, not-true}
 use Rattle.rx_poly.specs.Constants.{number}
 use Rattle.rx_poly.specs.Limits.{body_difference}
 use Rattle.rx_poly.specs.Value.{value}
@@ -59,14 +60,6 @@ not_eq x y is = not_from_Decides (int_eq x y) (Decides-int_eq x y) is
 difference_zero : (x y : ℤ) → x -ℤ y ≡ pos 0 → x ≡ y
 difference_zero x y is = omega (arith, ints)
 
-not_true : (b : Bool) → not b ≡ true → b ≡ false
-not_true true is = sym is
-not_true false is = refl
-
-not_false : (b : Bool) → not b ≡ false → b ≡ true
-not_false true is = refl
-not_false false is = sym is
-
 -- the row gives the comparison of the values
 pub comparison_tests : (op : BinOp) (p q : Body) (row : Row) → IsComparison op p q row →
     (α : ℕ → ℤ) → Tests α row (test_of op (value α p) (value α q))
@@ -118,11 +111,11 @@ comparison_tests op p q row (code.unequal _ _) α =
     let f = value-body_difference α p q in
     record {
       holds =
-          λ is hold. not_eq (value α p) (value α q) (not_true (int_eq (value α p) (value α q)) is)
+          λ is hold. not_eq (value α p) (value α q) (not-true (int_eq (value α p) (value α q)) is)
           (difference_zero (value α p) (value α q) (sym f ∙ hold));
       fails =
           λ is hold. let h : value α p ≡ value α q =
-          (Decides-int_eq (value α p) (value α q)).0 (not_false (int_eq (value α p) (value α q)) is)
+          (Decides-int_eq (value α p) (value α q)).0 (not-false (int_eq (value α p) (value α q)) is)
           in
           hold (let e : value α p -ℤ value α q ≡ pos 0 = omega (arith, ints, h) in f ∙ e);
     }

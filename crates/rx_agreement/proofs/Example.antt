@@ -20,7 +20,7 @@ use Rattle.rx_poly.proofs.Prefixes.{term_within}
 use Rattle.rx_rewriting.specs.Terms as stack
 use Rattle.rx_rewriting.specs.Steps.{Reaches}
 use Rattle.rx_term.specs.Meaning.{Instance}
-use Rattle.rx_term.proofs.Kept.{first_one, first_or_other, other_one}
+use Rattle.rx_plain.proofs.Kept.{first_one, first_or_other, other_one}
 use Rattle.c_ast.specs.RowForms.{Forms, forms, is_row_form, row_of}
 use Rattle.c_ast.specs.declared.expr.UnOp.TheVariants as un
 use Rattle.c_ast.specs.declared.expr.Expr.TheVariants as expr
@@ -147,7 +147,7 @@ pair n ts m us =
           (d.within && true);
     }
 
-both_code : (f g : Function) {ts us : List Compiled} → StmtsAre f.body ts → StmtsAre g.body us →
+pub both_code : (f g : Function) {ts us : List Compiled} → StmtsAre f.body ts → StmtsAre g.body us →
     places_code (f ∷ g ∷ []) both 0 ≡ pair (length f.params) ts (length g.params) us
 both_code f g p q i = pair (length f.params) (p.are i) (length g.params) (q.are i)
 

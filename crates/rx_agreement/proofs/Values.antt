@@ -4,20 +4,18 @@ use Rattle.std.specs.Prelude.{not, int_div, int_rem}
 use Rattle.std.proofs.lemmas.List.{append-nil, take-append-le, length-map}
 use Rattle.std.proofs.Math.Seq.{take-length}
 use Rattle.std.proofs.lemmas.Int.{ints}
-use Rattle.std.proofs.lemmas.Bool.Decides.{Decides-int_eq, not_from_Decides}
-use Rattle.std.specs.Ordering.{int_eq}
 use Rattle.rx_poly.specs.Constants.{number, variable}
 use Rattle.rx_poly.specs.Limits.{body_sum, scaled_by}
 use Rattle.rx_poly.specs.Value.{value}
 use Rattle.rx_poly.specs.declared.body.Body.{Body}
 use Rattle.rx_poly.proofs.Constants.{value-number, value-variable}
 use Rattle.rx_poly.proofs.PolyLaws.{value-body_sum, value-scaled_by}
-use Rattle.rx_poly.proofs.ProductLaws.{value-body_product}
+use Rattle.rx_poly.proofs.ProductLaws.{nonzero, value-body_product}
 use Rattle.rx_poly.proofs.TermLaws.{zero_is}
 use Rattle.rx_row.specs.declared.row.Row.{Row}
 use Rattle.rx_row.specs.declared.row.Row.TheVariants as Says
 use Rattle.rx_rewriting.specs.Terms as stack
-use Rattle.rx_rewriting.specs.Terms.{Ground, Relation, StackFrame, in_context}
+use Rattle.rx_rewriting.specs.Terms.{Ground, Relation, StackFrame}
 use Rattle.rx_rewriting.specs.Steps.{Step}
 use Rattle.rx_rewriting.proofs.UnderFrames.{ReachesIn-in_context}
 use Rattle.rx_rewriting.proofs.Chains.{ReachesIn-trans}
@@ -46,9 +44,6 @@ pub value-difference : (α : ℕ → ℤ) (p q : Body) → value α (body_sum p 
 value-difference α p q =
     let e = value-body_sum α p (scaled_by (negsuc 0) q) in let f = value-scaled_by α (negsuc 0) q in
     omega (arith, ints, e, f)
-
-not_zero : (y : ℤ) → is_zero y ≡ false → y ≡ pos 0 → ⊥
-not_zero y is e = not_from_Decides (int_eq y (pos 0)) (Decides-int_eq y (pos 0)) is e
 
 -- an outcome whose integer, if there is one, is 0 or 1
 abbrev Truthful : Outcome ℤ → Type 0
@@ -238,7 +233,7 @@ module _ (R : Relation) (entry : ℕ → ℕ) (acts : Actions) (callable : ℕ �
       (nil ys q y qy ∙ zero_is y t)))
   divides d b c ys p q x y act wide long px qy false z t same =
       let step = (does b (Divide d p q c) act ys long).1
-      (λ e. not_zero y t (sym (nil ys q y qy) ∙ e)) in
+      (λ e. nonzero y t (sym (nil ys q y qy) ∙ e)) in
       let e : division_result d (value (assigned ys) p) (value (assigned ys) q) ≡ z =
       ap (λ k. division_result d k (value (assigned ys) q)) (nil ys p x px) ∙
       (ap (division_result d x) (nil ys q y qy) ∙ same) in
@@ -485,7 +480,7 @@ module _ (R : Relation) (entry : ℕ → ℕ) (acts : Actions) (callable : ℕ �
           (is ∙ zero_is x e))))
       go false e = subst (RunsOn R w (stack.Call a.symbol xs)) (same_point y xs come.more fits_y)
           (run-on R w come.run (run-step R w ((does b (Test (Says.Ne p) y z) act ys come.long).0
-          (λ h. not_zero x e (sym is ∙ h)))))
+          (λ h. nonzero x e (sym is ∙ h)))))
   tested_runs a b y z xs p DivisionError act fits_y fits_z there = there
   tested_runs a b y z xs p More act fits_y fits_z there = there
 

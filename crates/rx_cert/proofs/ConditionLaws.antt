@@ -2,6 +2,7 @@
 use Rattle.std.proofs.Common.{◌≡◌, ◌∙◌, ap, sym, refl, cond, ◌↔◌, ℕ, ◌+◌, ◌==◌, Bool, true, false, not, ◌||◌, Option, Some, None, Result, Ok, Err, IfOk, List, [], ◌∷◌, length, Contains, ℤ, pos, negsuc, ◌≤ℤ◌, int_lt, arith}
 use Rattle.std.proofs.lemmas.Int.{ints}
 use Rattle.std.proofs.lemmas.List.Elements.{All-cons, All-contains, All-nil}
+use Rattle.std.proofs.lemmas.Bool.{or_left}
 use Rattle.rx_poly.proofs.DivisionLaws.{constant_value}
 use Rattle.rx_poly.proofs.TermLaws.{zero_is}
 use Rattle.rx_poly.specs.Reading.{constant_of}
@@ -21,14 +22,6 @@ use Rattle.rx_cert.specs.declared.cert.Cert.{Cert}
 use Rattle.rx_cert.specs.declared.conditions.ConditionsAnswer.{ConditionsAnswer}
 use Rattle.rx_cert.specs.declared.conditions.ConditionsAnswer.TheVariants.{Shown, WrongCount}
 use Rattle.rx_cert.proofs.Law.{shown_holds}
-
-or_right : (b c : Bool) → c ≡ true → (b || c) ≡ true
-or_right true c e = refl
-or_right false c e = e
-
-or_left : (b c : Bool) → b ≡ true → (b || c) ≡ true
-or_left true c e = refl
-or_left false c e = cc
 
 -- ---- evident rows
 

@@ -4,8 +4,7 @@ use Rattle.std.proofs.Common.{◌≡◌, ◌∙◌, ap, subst, sym, refl, cond, 
 use Rattle.std.proofs.lemmas.Int.{ints}
 use Rattle.std.proofs.lemmas.Bool.{and_parts}
 use Rattle.std.specs.Ordering.{int_eq, is_eq}
-use Rattle.std.specs.declared.cmp.Ordering.{Ordering}
-use Rattle.std.specs.declared.cmp.Ordering.TheVariants.{Less, Equal, Greater}
+use Rattle.rx_poly.proofs.OrderLemmas.{equal_is}
 use Rattle.rx_plain.proofs.Integers.{add-mul-int, zero-mul-int}
 use Rattle.rx_poly.proofs.Constants.{value-variable}
 use Rattle.rx_poly.proofs.Levels.{value_is}
@@ -34,12 +33,7 @@ use Rattle.rx_cert.proofs.FindingLaws.{within_parts}
 -- ---- the polynomial is 0
 
 same_key : (m n : Mono) → is_eq (mono_cmp m n) ≡ true → m ≡ n
-same_key m n e = same_mono m n (by (mono_cmp m n) e)
-  where
-    by : (r : Ordering) → is_eq r ≡ true → r ≡ Equal
-    by Less h = cc
-    by Equal h = refl
-    by Greater h = cc
+same_key m n e = same_mono m n (equal_is (mono_cmp m n) e)
 
 -- opposite sums have opposite values
 opposite_sums : (f : Mono → ℤ) (ts us : List (Mono × ℤ)) → are_opposite ts us ≡ true →

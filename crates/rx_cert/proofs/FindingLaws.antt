@@ -1,19 +1,35 @@
 -- What a finding of `true` says of the parts of an examination.
-use Rattle.std.proofs.Common.{◌≡◌, ◌∙◌, ap, sym, ℕ, ℤ, Bool, true, false, ◌&&◌, Option, Some, refl, List, [], ◌∷◌, ◌++◌}
+use Rattle.std.proofs.Common.{◌≡◌, ◌∙◌, ap, sym, ℕ, ℤ, Bool, true, false, ◌&&◌, Option, Some, None, refl, List, [], ◌∷◌, ◌++◌}
 use Rattle.std.specs.Prelude.{if◌then◌else◌}
 use Rattle.std.proofs.lemmas.Bool.{and_parts, and_from}
 use Rattle.rx_poly.specs.Limits.{body_sum, is_within, body_difference}
 use Rattle.rx_poly.specs.Terms.{is_zero}
 use Rattle.rx_row.specs.Negation.{negation_within, opposite}
 use Rattle.rx_row.specs.declared.row.Row.TheVariants.{Ge}
+use Rattle.rx_cert.specs.Conditions.{is_shown}
 use Rattle.rx_cert.specs.DivisionFacts.{at_least_zero_within, below_zero_within, division_formed, division_within, facts_at_least_zero, facts_below_zero, greatest_remainder, nothing_left, remainder_by, rows_at_least_zero, rows_below_zero}
 use Rattle.rx_cert.specs.Examination.{level}
 use Rattle.rx_cert.specs.declared.cert.Cert.TheOpen.{Cert-F}
+use Rattle.rx_cert.specs.declared.conditions.ConditionsAnswer.{ConditionsAnswer}
+use Rattle.rx_cert.specs.declared.conditions.ConditionsAnswer.TheVariants.{Shown, WrongCount, NotShown}
 use Rattle.rx_poly.specs.declared.body.Body.{Body}
 use Rattle.rx_row.specs.Substitution.{subst_rows, rows_within}
 use Rattle.rx_row.specs.declared.row.Row.{Row}
 use Rattle.rx_cert.specs.Elimination.{replaced_finding, solution, solution_within, solve_finding}
 use Rattle.rx_cert.specs.Findings.{Said, Yes, No, Beyond, said, and_also, guard}
+
+-- nothing more is asked
+pub and_yes : (s : Said) → and_also s Yes ≡ s
+and_yes Yes = refl
+and_yes No = refl
+and_yes Beyond = refl
+
+-- a list of conditions that is found shown is
+pub shown_list : (found : Option ConditionsAnswer) → is_shown found ≡ Yes → found ≡ Some Shown
+shown_list None e = cc
+shown_list (Some Shown) e = refl
+shown_list (Some WrongCount) e = cc
+shown_list (Some (NotShown i)) e = cc
 
 -- what was formed keeps the limits, and what is after it refutes
 pub within_parts : (b : Bool) (later : Said) → guard b later ≡ Yes → (b ≡ true) × (later ≡ Yes)

@@ -7,6 +7,8 @@ use Rattle.std.proofs.lemmas.Int.{ints}
 use Rattle.std.proofs.lemmas.List.Sums.{sum_by-cons}
 use Rattle.std.specs.Int.{int_div_euclid}
 use Rattle.std.specs.Ordering.{is_lt}
+use Rattle.rx_plain.proofs.Naturals.{limit_kept}
+use Rattle.rx_plain.proofs.Booleans.{and_true}
 use Rattle.rx_poly.proofs.Levels.{body_depth_is, body_size_is}
 use Rattle.rx_poly.proofs.OrderLemmas.{mono_total}
 use Rattle.rx_poly.proofs.PolyLaws.{depth-of_terms, poly_of_terms, poly_terms, size-of_terms}
@@ -24,10 +26,6 @@ use Rattle.rx_cert.specs.Rounding.{divides, divides_terms, is_one, rounded, roun
 
 not_zero : (n : ℕ) → (suc n == 0) ≡ false
 not_zero n = grind (arith, nat_tests)
-
-and_true : (b : Bool) → (b && true) ≡ b
-and_true true = refl
-and_true false = refl
 
 -- a first term may be the constant only where it is the last
 pub divides_step : (d : ℤ) (t : Mono × ℤ) (more : List (Mono × ℤ)) → divides_terms d (t ∷ more) ≡
@@ -109,9 +107,6 @@ module _ (n : ℕ) where
       (rounded_terms d ts)
       (λ _. omega arith) (λ _. omega arith)
 
-  below : (m k limit : ℕ) → m ≤ k → nat_le k limit ≡ true → nat_le m limit ≡ true
-  below m k limit h g = grind (arith, nat_tests)
-
   small-rounded : (p : Body) → is_small p ≡ true →
       is_small (of_terms (rounded_terms d (out-Body p).terms)) ≡ true
   small-rounded p h =
@@ -127,8 +122,8 @@ module _ (n : ℕ) where
       (sym (body_depth_is p)) (depth-rounded ts)) in
       and_from (nat_le (body_size (of_terms (rounded_terms d ts))) 4096)
       (nat_le (body_depth (of_terms (rounded_terms d ts))) 64)
-      (below (body_size (of_terms (rounded_terms d ts))) (body_size p) 4096 size q.0)
-      (below (body_depth (of_terms (rounded_terms d ts))) (body_depth p) 64 depth q.1)
+      (limit_kept (body_size (of_terms (rounded_terms d ts))) (body_size p) 4096 size q.0)
+      (limit_kept (body_depth (of_terms (rounded_terms d ts))) (body_depth p) 64 depth q.1)
 
   poly-rounded : (p : Body) → is_poly p ≡ true → is_poly (rounded d p) ≡ true
   poly-rounded p h =

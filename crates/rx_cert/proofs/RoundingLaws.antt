@@ -4,13 +4,12 @@ use Rattle.std.proofs.lemmas.Int.{ints}
 use Rattle.std.proofs.lemmas.Bool.{and_parts}
 use Rattle.std.specs.Int.{int_div_euclid, int_rem_euclid}
 use Rattle.std.proofs.Math.Nat.{mul-le-mul_left}
+use Rattle.rx_poly.proofs.Emptiness.{empty_is}
 use Rattle.rx_plain.proofs.Integers.{add-zero-int, mul-add-int, mul-assoc-int, mul-one-int, mul-zero-int}
 use Rattle.rx_poly.proofs.Levels.{mono_value_is, value_is}
 use Rattle.rx_poly.proofs.PolyLaws.{value-of_terms}
 use Rattle.rx_poly.proofs.TermLaws.{sum-cons_nonzero, zero_is}
-use Rattle.rx_poly.specs.Normal.{is_empty}
 use Rattle.rx_poly.specs.Value.{atom_value, mono_value, product_of, sum_terms, value}
-use Rattle.rx_poly.specs.declared.body.Atom.{Atom}
 use Rattle.rx_poly.specs.declared.body.Mono.{Mono, out-Mono}
 use Rattle.rx_poly.specs.declared.body.Body.{Body, out-Body}
 use Rattle.rx_cert.specs.Rounding.{divides, divides_terms, can_be_rounded_by, is_one, rounded, rounded_terms}
@@ -71,13 +70,9 @@ last_term d c q v r one e =
     add-zero-int (c *ℤ v) ∙ ap (λ z. c *ℤ z) one ∙ mul-one-int c ∙ e
     ∙ sym (ap (λ z. d *ℤ z +ℤ r) (add-zero-int (q *ℤ v) ∙ ap (λ z. q *ℤ z) one ∙ mul-one-int q))
 
-no_atoms : (xs : List Atom) → is_empty xs ≡ true → xs ≡ []
-no_atoms [] e = refl
-no_atoms (x ∷ xs) e = cc
-
 -- the monomial without atoms has the value 1
 one_worth : (a : ℕ → ℤ) (m : Mono) → is_one m ≡ true → mono_value a m ≡ pos 1
-one_worth a m e = mono_value_is a m ∙ ap (product_of (atom_value a)) (no_atoms (out-Mono m).atoms e)
+one_worth a m e = mono_value_is a m ∙ ap (product_of (atom_value a)) (empty_is (out-Mono m).atoms e)
 
 module _ (a : ℕ → ℤ) (n : ℕ) where
   abbrev Rounds : List (Mono × ℤ) → Type 0

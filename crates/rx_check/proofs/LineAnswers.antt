@@ -26,7 +26,8 @@ use Rattle.rx_check.specs.declared.progress.Progress.{Progress}
 use Rattle.rx_check.specs.declared.replayer.Replayer.{Replayer}
 use Rattle.rx_check.proofs.Kept.{step_rooted}
 use Rattle.rx_check.proofs.LineFaults.{ends_of}
-use Rattle.rx_check.proofs.LineOrder.{after_all-append, pushed_all-append}
+use Rattle.rx_log.proofs.PlaceLaws.{after_all-append}
+use Rattle.rx_check.proofs.LineOrder.{pushed_all-append}
 use Rattle.rx_check.proofs.LineTurns.{AsksRanks, cover_judged, failed_stands, pair_judged}
 
 -- the trees of a symbol, examined

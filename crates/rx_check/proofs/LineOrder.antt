@@ -1,6 +1,6 @@
 -- The order of lines: what comes after each, and how the logs that go on after a line go on before
 -- it.
-use Rattle.std.proofs.Common.{◌≡◌, ◌∙◌, ap, sym, subst, refl, ℕ, ◌+◌, ◌==◌, Bool, true, false, if◌then◌else◌, Option, Some, None, List, [], ◌∷◌, ◌++◌, length, append_assoc}
+use Rattle.std.proofs.Common.{◌≡◌, ◌∙◌, ap, sym, subst, refl, ℕ, ◌+◌, ◌==◌, Bool, true, false, if◌then◌else◌, Some, None, List, [], ◌∷◌, ◌++◌, length, append_assoc}
 use Rattle.std.proofs.lemmas.List.{append-nil}
 use Rattle.std.proofs.lemmas.Option.{same_Some}
 use Rattle.rx_poly.specs.declared.body.Body.{Body}
@@ -8,7 +8,7 @@ use Rattle.rx_cover.specs.declared.cover_tree.CoverTree.{CoverTree}
 use Rattle.rx_form.specs.declared.step.Step.{Step}
 use Rattle.rx_pairs.specs.declared.pair_cert.PairCert.{PairCert}
 use Rattle.rx_log.specs.Lines.{before_end, before_ranks, behind_steps, by_symbol, log_lines, plain}
-use Rattle.rx_log.specs.Places.{after, after_all}
+use Rattle.rx_log.specs.Places.{after}
 use Rattle.rx_log.specs.Reading.{blank, no_ranks, pushed}
 use Rattle.rx_log.specs.declared.line.Line.{Line}
 use Rattle.rx_log.specs.declared.line.Line.TheVariants as line
@@ -18,16 +18,6 @@ use Rattle.rx_log.specs.declared.place.Place.TheVariants.{AtHeader, InCovers, In
 use Rattle.rx_check.specs.LineByLine.{Extends, GoesOn, log_of, pushed_all}
 
 -- ---- lines one after the other
-
-nowhere : (its : List (Line × ℕ)) → after_all None its ≡ None
-nowhere [] = refl
-nowhere (it ∷ its) = refl
-
-pub after_all-append : (place : Option Place) (its more : List (Line × ℕ)) →
-    after_all place (its ++ more) ≡ after_all (after_all place its) more
-after_all-append place [] more = refl
-after_all-append None (it ∷ its) more = sym (nowhere more)
-after_all-append (Some place) (it ∷ its) more = after_all-append (after place it) its more
 
 pub pushed_all-append : (log : Log) (its more : List (Line × ℕ)) → pushed_all log (its ++ more) ≡
     pushed_all (pushed_all log its) more

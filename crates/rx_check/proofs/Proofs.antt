@@ -19,11 +19,12 @@ use Rattle.rx_pairs.specs.Ranks.{bad_rank}
 use Rattle.rx_joins.specs.Goals.{Inside, IsFitting}
 use Rattle.rx_joins.specs.Runs.{IsProof, Run, finished, start}
 use Rattle.rx_joins.proofs.Runs.{proof_ends_alike}
-use Rattle.rx_log.specs.Acceptance.{Accepted, Checked, IsAccepted, LogFault, OnPairs, ◌>>=◌, after_steps, kept, kept_by, of_descent, once_covered, once_finished, once_ranked}
+use Rattle.rx_log.specs.Acceptance.{Accepted, Checked, IsAccepted, OnPairs, ◌>>=◌, after_steps, kept, of_descent, once_covered, once_finished, once_ranked}
 use Rattle.rx_log.specs.Acceptance as acceptance
 use Rattle.rx_log.specs.declared.log.Log.{Log}
 use Rattle.rx_check.specs.Results.{EndEqual}
-use Rattle.rx_check.proofs.Kept.{run_rooted, steps_run}
+use Rattle.rx_joins.proofs.Rooted.{run_rooted}
+use Rattle.rx_check.proofs.Kept.{steps_run}
 
 -- ---- back from the checks
 

@@ -7,7 +7,7 @@ use Rattle.std.proofs.lemmas.List.Elements.{All-cons, All-nil}
 use Rattle.rx_plain.specs.Formed.{Formed}
 use Rattle.c_ast.specs.declared.program.Function.{Function}
 use Rattle.c_ast.proofs.CallEquations.{calls-Lit, calls-Var, calls-Apply, calls_in-If, calls_in-Return}
-use Rattle.rx_term.proofs.Kept.{first_or_other, first_one, other_one}
+use Rattle.rx_plain.proofs.Kept.{first_or_other, first_one, other_one}
 use Rattle.rx_term.specs.declared.rule_set.RuleParts.{RuleParts}
 use Rattle.rx_code.specs.Example.{calls, calls_parts, caller, called, unused, crowded}
 use Rattle.rx_code.specs.Programs.{entry_of}

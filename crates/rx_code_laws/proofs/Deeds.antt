@@ -21,7 +21,7 @@ use Rattle.rx_term.specs.WellMade.{variables_from}
 use Rattle.rx_term.specs.declared.rule.Rule.{Rule}
 use Rattle.rx_term.specs.declared.term.Term.{Term}
 use Rattle.rx_term.specs.declared.term.Term.TheVariants as term
-use Rattle.rx_term.proofs.Kept.{first_one, other_one}
+use Rattle.rx_plain.proofs.Kept.{first_one, other_one}
 use Rattle.rx_term.proofs.Equations.{ground-Call, ground-Fail, ground-Frame, ground-Return}
 use Rattle.rx_code.specs.Points.{division_result, with_element}
 use Rattle.rx_code.specs.Rules.{always, call_of, divided, jump, rules_of_action, symbol, variables_of, where_holds}

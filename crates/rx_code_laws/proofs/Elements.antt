@@ -4,7 +4,7 @@ use Rattle.std.specs.Prelude.{All, Contains, slice_get}
 use Rattle.std.specs.List.{enumerate_from, flat_map}
 use Rattle.std.proofs.lemmas.Option.{same_Some}
 use Rattle.std.proofs.lemmas.List.Elements.{All-contains, All-contains_itself, All-weaker, Contains-append_left, Contains-append_right, Contains-append_cases}
-use Rattle.rx_term.proofs.Kept.{first_one, first_or_other, other_one}
+use Rattle.rx_plain.proofs.Kept.{first_one, first_or_other, other_one}
 
 pub no_element : {X : Type 0} (x : X) → Contains [] x → ⊥
 no_element x (k, below, is) = omega arith

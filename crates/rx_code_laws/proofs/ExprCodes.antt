@@ -6,7 +6,7 @@ use Rattle.std.proofs.lemmas.List.Elements.{Contains-append_left, Contains-appen
 use Rattle.rx_poly.specs.Constants.{number}
 use Rattle.rx_poly.specs.declared.body.Body.{Body}
 use Rattle.rx_row.specs.declared.row.Row.TheVariants.{Ne}
-use Rattle.rx_term.proofs.Kept.{first_one}
+use Rattle.rx_plain.proofs.Kept.{first_one}
 use Rattle.c_ast.specs.declared.expr.UnOp.{UnOp}
 use Rattle.c_ast.specs.declared.expr.UnOp.TheVariants as un
 use Rattle.c_ast.specs.declared.expr.BinOp.{BinOp}

@@ -13,7 +13,7 @@ use Rattle.rx_poly_laws.proofs.TestLaws.{passes-body_sum, passes-body_product, p
 use Rattle.rx_row.specs.Variables.{rows_use_below}
 use Rattle.rx_row.specs.declared.row.Row.TheVariants.{Ne}
 use Rattle.rx_term.specs.Variables.{polys_use_below}
-use Rattle.rx_term.proofs.Kept.{first_one, first_or_other}
+use Rattle.rx_plain.proofs.Kept.{first_one, first_or_other}
 use Rattle.c_ast.specs.declared.expr.UnOp.{UnOp}
 use Rattle.c_ast.specs.declared.expr.UnOp.TheVariants as un
 use Rattle.c_ast.specs.declared.expr.BinOp.{BinOp}

@@ -7,6 +7,7 @@ use Rattle.std.proofs.lemmas.Bool.{and_from, and_parts, eq-eqb, lt-ltb}
 use Rattle.std.proofs.lemmas.List.{length-drop, length-take-le}
 use Rattle.std.proofs.lemmas.List.Folds.{list_all-append}
 use Rattle.std.proofs.lemmas.Option.{slice_get-map}
+use Rattle.rx_plain.proofs.Lists.{all_pushed, all_taken}
 use Rattle.rx_poly.specs.Constants.{number, variable}
 use Rattle.rx_poly.specs.Variables.{uses_below}
 use Rattle.rx_poly.specs.declared.body.Body.{Body}
@@ -24,7 +25,7 @@ use Rattle.rx_term.specs.declared.rule_set.SymInfo.{SymInfo}
 use Rattle.rx_term.specs.declared.term.Term.{Term}
 use Rattle.rx_term.specs.declared.term.Term.TheVariants as term
 use Rattle.rx_term.proofs.Equations.{arguments-Call, arguments-Frame, arguments-Fail, arguments-Return, below-Call, below-Fail, below-Frame, below-Return, fits-Call, fits-Fail, fits-Frame, fits-Return}
-use Rattle.rx_term.proofs.Kept.{was_there}
+use Rattle.rx_plain.proofs.Kept.{was_there}
 use Rattle.rx_term.proofs.ShapeLaws.{declared_so}
 use Rattle.rx_term.proofs.VariableTests.{length-variables_from}
 use Rattle.rx_code.specs.Points.{with_element}
@@ -55,14 +56,6 @@ variables_below n from (suc count) h =
     (below-variable n from (omega (arith, h)))
     (variables_below n (from + 1) count (omega (arith, h)))
 
-all-take : {X : Type 0} (p : X → Bool) (k : ℕ) (xs : List X) → list_all p xs ≡ true →
-    list_all p (take k xs) ≡ true
-all-take p zero xs h = refl
-all-take p (suc k) [] h = refl
-all-take p (suc k) (x ∷ xs) h =
-    let both = and_parts (p x) (list_all p xs) h in
-    and_from (p x) (list_all p (take k xs)) both.0 (all-take p k xs both.1)
-
 all-drop : {X : Type 0} (p : X → Bool) (k : ℕ) (xs : List X) → list_all p xs ≡ true →
     list_all p (drop k xs) ≡ true
 all-drop p zero xs h = h
@@ -73,14 +66,10 @@ all-append : {X : Type 0} (p : X → Bool) (xs ys : List X) → list_all p xs �
     true → list_all p (xs ++ ys) ≡ true
 all-append p xs ys h g = list_all-append p xs ys ∙ and_from (list_all p xs) (list_all p ys) h g
 
-all-push : {X : Type 0} (p : X → Bool) (xs : List X) (x : X) → list_all p xs ≡ true → p x ≡ true →
-    list_all p (xs ++ x ∷ []) ≡ true
-all-push p xs x h g = all-append p xs (x ∷ []) h (and_from (p x) true g refl)
-
 all-with_element : {X : Type 0} (p : X → Bool) (k : ℕ) (x : X) (xs : List X) → list_all p xs ≡
     true → p x ≡ true → list_all p (with_element k x xs) ≡ true
 all-with_element p k x xs h g =
-    all-append p (take k xs) (x ∷ drop (suc k) xs) (all-take p k xs h)
+    all-append p (take k xs) (x ∷ drop (suc k) xs) (all_taken p k xs h)
     (and_from (p x) (list_all p (drop (suc k) xs)) g (all-drop p (suc k) xs h))
 
 length-with_element : {X : Type 0} (k : ℕ) (x : X) (xs : List X) → k ≤ length xs →
@@ -159,7 +148,7 @@ module _ (c : Code) where
   below-jump : (n : ℕ) (z : Point) (ps : List Body) → polys_use_below n ps ≡ true →
       term_uses_below n (jump z ps) ≡ true
   below-jump n z ps h =
-      below-Call n (symbol z.symbol) (take z.width ps) ∙ all-take (uses_below n) z.width ps h
+      below-Call n (symbol z.symbol) (take z.width ps) ∙ all_taken (uses_below n) z.width ps h
 
   -- ---- rules of points
 
@@ -278,7 +267,7 @@ module _ (c : Code) where
           two_made _ _ (made_at a opened narrow (term.Fail 1) (Eq q ∷ []) (fits-Fail set 1)
           (below-Fail a.width 1) q_row)
           (jumps a opened narrow (Ne q ∷ []) q_row z ps (suc a.width) enough target
-          (all-push (uses_below a.width) (variables_of a) (divided d p q) (below_itself a)
+          (all_pushed (uses_below a.width) (variables_of a) (divided d p q) (below_itself a)
           (below-divided a.width d p q p_below q_below)))
       go a (Call f ps r) opened narrow (frame, (fits_r, (entry, ps_below))) =
           let inner = term.Call (symbol (entry_of c.entries f)) ps in
@@ -296,7 +285,7 @@ module _ (c : Code) where
           declared (entry_of c.entries f) (length ps) false entry))
           (below-Frame a.width (symbol r.symbol) vs inner
           ∙ and_from (polys_use_below a.width vs) (term_uses_below a.width inner)
-          (all-take (uses_below a.width) r.width (variables_of a) (below_itself a))
+          (all_taken (uses_below a.width) r.width (variables_of a) (below_itself a))
           (below-Call a.width (symbol (entry_of c.entries f)) ps ∙ ps_below)) refl)
       go a (Resume z) opened narrow target =
           let value = term.Return (variable a.width) in
@@ -312,7 +301,7 @@ module _ (c : Code) where
             right_fits = fits-jump z ps (suc a.width) enough target;
             right_variables = ap (λ n. term_uses_below n (jump z ps)) (width-value a)
                 ∙ below-jump (a.width + 1) z ps
-                (all-push (uses_below (a.width + 1)) (variables_of a) (variable a.width)
+                (all_pushed (uses_below (a.width + 1)) (variables_of a) (variable a.width)
                 (variables_below (a.width + 1) 0 a.width (omega arith))
                 (below-variable (a.width + 1) a.width (omega arith)));
             row_variables = refl;

@@ -17,7 +17,7 @@ use Rattle.rx_term.specs.declared.rule.Rule.{Rule}
 use Rattle.rx_term.specs.declared.term.Sym.{Sym}
 use Rattle.rx_term.specs.declared.term.Term.TheVariants as term
 use Rattle.rx_term.proofs.Equations.{shape-Call, shape-Fail, shape-Frame, shape-Return}
-use Rattle.rx_term.proofs.Kept.{first_one, was_there}
+use Rattle.rx_plain.proofs.Kept.{first_one, was_there}
 use Rattle.rx_term.proofs.ShapeLaws.{alike, declared_so}
 use Rattle.rx_code.specs.Programs.{entry_of}
 use Rattle.rx_code.specs.Rules.{action_within, always, call_of, info_at, jump, parts_of, rules_at, rules_of_action, rules_of_deed, symbol, variables_of}

@@ -6,9 +6,10 @@ use Rattle.std.proofs.lemmas.Bool.{and_parts, eq-eqb, ne_eqb}
 use Rattle.std.proofs.Math.Nat.{eq-or-lt_of_le}
 use Rattle.std.proofs.lemmas.Option.{same_Some}
 use Rattle.std.proofs.lemmas.List.Elements.{All-cons, All-contains, All-nil, Contains-append_cases, Contains-append_left, Contains-append_right}
+use Rattle.rx_plain.proofs.Lists.{all_at}
 use Rattle.rx_plain.specs.Formed.{Formed}
 use Rattle.rx_poly.specs.Constants.{number}
-use Rattle.rx_term.proofs.Kept.{first_one, first_or_other, other_one}
+use Rattle.rx_plain.proofs.Kept.{first_one, first_or_other, other_one}
 use Rattle.c_ast.specs.Calls.{calls_in}
 use Rattle.c_ast.specs.Scoped.{is_scoped, is_scoped_function, parameter_counts, slots_after, slots_in_order}
 use Rattle.c_ast.specs.declared.program.Function.{Function}
@@ -36,13 +37,6 @@ use Rattle.rx_code_laws.proofs.StmtFitting.{list_fits}
 use Rattle.rx_code_laws.proofs.Whole.{IsOpened, IsWhole, is_at}
 
 -- ---- lists
-
-all_at : {X : Type 0} (p : X → Bool) (xs : List X) (i : ℕ) (x : X) → list_all p xs ≡ true →
-    slice_get xs i ≡ Some x → p x ≡ true
-all_at p [] i x all is = absurd cc
-all_at p (y ∷ ys) zero x all is =
-    ap p (sym (same_Some y x is)) ∙ (and_parts (p y) (list_all p ys) all).0
-all_at p (y ∷ ys) (suc i) x all is = all_at p ys i x (and_parts (p y) (list_all p ys) all).1 is
 
 pub was_at : {X Y : Type 0} (v : X → Y) (xs : List X) (i : ℕ) (y : Y) → slice_get (map v xs) i ≡
     Some y → (x : X) × (slice_get xs i ≡ Some x)

@@ -5,7 +5,7 @@ use Rattle.std.specs.Prelude.{Contains, filter}
 use Rattle.std.specs.List.{enumerate_from}
 use Rattle.std.proofs.lemmas.Bool.{eq-eqb}
 use Rattle.rx_term.specs.Meaning.{Instance}
-use Rattle.rx_term.proofs.Kept.{kept}
+use Rattle.rx_plain.proofs.Kept.{kept}
 use Rattle.rx_code.specs.Programs.{entry_of}
 use Rattle.rx_code.specs.Rules.{parts_of, rules_at, rules_of_deed}
 use Rattle.rx_code.specs.declared.action.Deed.{Deed}

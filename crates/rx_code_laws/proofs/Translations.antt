@@ -17,7 +17,7 @@ use Rattle.rx_term.specs.Paired.{IsPaired}
 use Rattle.rx_term.specs.WellMade.{IsWellMade, variables_from}
 use Rattle.rx_term.specs.declared.rule_set.RuleParts.{RuleParts}
 use Rattle.rx_term.specs.declared.term.Sym.{Sym}
-use Rattle.rx_term.proofs.Kept.{first_one, first_or_other, other_one}
+use Rattle.rx_plain.proofs.Kept.{first_one, first_or_other, other_one}
 use Rattle.c_ast.specs.Scoped.{is_scoped, parameter_counts}
 use Rattle.c_ast.specs.declared.program.Function.{Function}
 use Rattle.c_ast.specs.declared.program.Resolved.{Resolved}

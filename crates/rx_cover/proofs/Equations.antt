@@ -39,7 +39,7 @@ pub finding_absurd : (rules : List Rule) (shape : Shape) (cert : Cert) (path : L
 finding_absurd rules shape cert path =
     finding_is rules shape (Absurd cert) path ∙ rw (outs-Absurd cert) refl
 
-depth_is : (tree : CoverTree) → tree_depth tree ≡
+pub depth_is : (tree : CoverTree) → tree_depth tree ≡
     depth_level (map-CoverTree CoverTree ℕ tree_depth (out-CoverTree tree))
 depth_is tree = fold_out-CoverTree ℕ depth_level tree
 

@@ -8,27 +8,18 @@ use Rattle.rx_row.specs.Holds.{AllHold}
 use Rattle.rx_row.specs.Negation.{negation, negation_within}
 use Rattle.rx_row.specs.declared.row.Row.{Row}
 use Rattle.rx_cert.proofs.ConditionLaws.{conditions_hold}
-use Rattle.rx_cert.proofs.FindingLaws.{both_parts, within_parts}
+use Rattle.rx_cert.proofs.FindingLaws.{both_parts, shown_list, within_parts}
 use Rattle.rx_cert.proofs.Law.{refuted}
 use Rattle.rx_cert.specs.Conditions.{conditions, is_shown}
 use Rattle.rx_cert.specs.Findings.{Said, Yes, No, and_also, guard}
 use Rattle.rx_cert.specs.declared.cert.Cert.{Cert}
-use Rattle.rx_cert.specs.declared.conditions.ConditionsAnswer.{ConditionsAnswer}
-use Rattle.rx_cert.specs.declared.conditions.ConditionsAnswer.TheVariants.{Shown, WrongCount, NotShown}
-use Rattle.rx_term.proofs.Kept.{kept}
+use Rattle.rx_plain.proofs.Kept.{kept}
 use Rattle.rx_term.specs.Covered.{HasRule}
 use Rattle.rx_term.specs.Shapes.{Shape, same_shape, shape_of}
 use Rattle.rx_term.specs.declared.rule.Rule.{Rule}
 use Rattle.rx_cover.specs.Trees.{tree_finding, tree_level, use_finding}
 use Rattle.rx_cover.specs.declared.cover_tree.CoverTree.{CoverTree, CoverTree-F, roll-CoverTree, map-CoverTree, fold-roll-CoverTree, ind-CoverTree}
 use Rattle.rx_term.proofs.Places.{at_place}
-
--- a condition list that is found shown is
-shown_list : (found : Option ConditionsAnswer) → is_shown found ≡ Yes → found ≡ Some Shown
-shown_list None e = cc
-shown_list (Some Shown) e = refl
-shown_list (Some WrongCount) e = cc
-shown_list (Some (NotShown i)) e = cc
 
 module _ (rules : List Rule) (shape : Shape) (a : ℕ → ℤ) where
   -- at the assignment, where it meets the rows of the path, a rule of the shape applies

@@ -1,28 +1,21 @@
 -- What is found of a first part, with what was noted before, leaves it to the later parts or
 -- decides.
 use Rattle.std.proofs.Common.{◌≡◌, ◌∙◌, ap, sym, refl, cond, ℕ, zero, suc, Bool, true, false, ◌||◌, List}
+use Rattle.rx_plain.proofs.Booleans.{or_assoc, or_false}
 use Rattle.rx_row.specs.declared.row.Row.{Row}
 use Rattle.rx_term.specs.declared.rule.Rule.{Rule}
 use Rattle.rx_coverable.specs.Coverable.{covering_at, unless_used, using}
 use Rattle.rx_coverable.specs.Coverage.{Coverage, and_then, noting, or_else}
 
-or_again : (a b c : Bool) → ((a || b) || c) ≡ (a || (b || c))
-or_again true b c = refl
-or_again false b c = refl
-
-or_no : (a : Bool) → (a || false) ≡ a
-or_no true = refl
-or_no false = refl
-
 -- what was noted twice
 noting_again : (a b : Bool) (later : Coverage) → noting (a || b) later ≡ noting a (noting b later)
 noting_again a b later =
-    ap (λ n. record { covered = later.covered; noted = n }) (or_again a b later.noted)
+    ap (λ n. record { covered = later.covered; noted = n }) (or_assoc a b later.noted)
 
 -- nothing more was noted
 pub noted_alone : (covered noted : Bool) → noting noted
     (record { covered = covered; noted = false }) ≡ record { covered = covered; noted = noted }
-noted_alone covered noted = ap (λ n. record { covered = covered; noted = n }) (or_no noted)
+noted_alone covered noted = ap (λ n. record { covered = covered; noted = n }) (or_false noted)
 
 module _ (noted : Bool) (first later whole : Coverage) where
   pub or_more : noting noted (or_else first later) ≡ whole → first.covered ≡ false →
@@ -67,10 +60,3 @@ module _ (rules : List Rule) (n : ℕ) (path : List Row) (found : Coverage)
   pub not_used : found.covered ≡ false → (later : Coverage) → later ≡ unless_used rules n path →
       noting found.noted later ≡ covering_at rules n path
   not_used e later f = ap (noting found.noted) f ∙ whole_is false e
-
--- something was noted before, or now
-pub either_first : (a b n : Bool) → a ≡ true → n ≡ a → n ≡ (a || b)
-either_first a b n e f = f ∙ e ∙ ap (λ x. x || b) (sym e)
-
-pub either_second : (a b n : Bool) → a ≡ false → n ≡ b → n ≡ (a || b)
-either_second a b n e f = f ∙ ap (λ x. x || b) (sym e)

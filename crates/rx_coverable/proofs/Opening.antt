@@ -1,7 +1,7 @@
 -- By which row a path is split: one row, or one rule, of a walk.
 use Rattle.std.proofs.Common.{◌≡◌, ◌∙◌, ◌↔◌, ap, sym, subst, refl, cond, ℕ, ◌+◌, Bool, true, false, ◌||◌, Some, List, ◌∷◌, drop, map, slice_get}
 use Rattle.std.specs.List.{find}
-use Rattle.rx_poly.proofs.TermLaws.{by_false}
+use Rattle.std.proofs.lemmas.Bool.{false_from_ne_true}
 use Rattle.rx_row.proofs.Same.{row_eq, known_itself_row, known_same_row}
 use Rattle.rx_row.specs.Membership.{stands_among}
 use Rattle.rx_row.specs.Negation.{negation}
@@ -19,7 +19,7 @@ known_negation true row other tells =
     subst (λ r. row_eq (negation other) r ≡ true) (sym (tells.0 refl))
     (known_itself_row (negation other))
 known_negation false row other tells =
-    by_false (row_eq (negation other) row) (λ e. let no : false ≡ true =
+    false_from_ne_true (row_eq (negation other) row) (λ e. let no : false ≡ true =
     tells.1 (sym (known_same_row (negation other) row e)) in cc)
 
 -- one turn of the walk over the rows whose negation it may be

@@ -5,6 +5,7 @@ use Rattle.std.proofs.Common.{◌≡◌, ◌∙◌, ap, sym, subst, refl, cond, 
 use Rattle.std.specs.List.{find}
 use Rattle.std.specs.Option.{option_map_or, option_or}
 use Rattle.std.proofs.lemmas.Bool.{and_from, eq-eqb}
+use Rattle.rx_term.proofs.Written.{alike_itself}
 use Rattle.rx_row.proofs.Membership.{contains-stands}
 use Rattle.rx_row.specs.Membership.{stands_among}
 use Rattle.rx_row.specs.Negation.{negation, negation_within}
@@ -153,10 +154,6 @@ module _ (parts : RuleParts) (paired : IsPaired parts) where
       (shapes_coverage parts.rules (over_failures f 1 parts.fails))
       (one_shape (Frame f Return) (ReturnShape f n declared))
       (failures_cover f n declared 1 parts.fails (omega arith) (omega arith))
-
-  alike_itself : (b : Bool) → is_alike b b ≡ true
-  alike_itself true = refl
-  alike_itself false = refl
 
   declared_there : (f : ℕ) (info : SymInfo) → slice_get parts.symbols f ≡ Some info →
       is_declared parts.symbols (symbol f) info.frame info.arity ≡ true

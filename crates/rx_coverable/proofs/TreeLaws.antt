@@ -1,6 +1,6 @@
 -- Trees of each kind: what makes them show their shape, how deep they are, and what their
 -- variables are.
-use Rattle.std.proofs.Common.{◌≡◌, ◌∙◌, ap, sym, subst, refl, cond, arith, ℕ, zero, suc, ◌+◌, ◌≤◌, max, Bool, true, false, ◌&&◌, Option, Some, None, List, [], ◌∷◌, ◌++◌, slice_get}
+use Rattle.std.proofs.Common.{◌≡◌, ◌∙◌, ap, sym, subst, refl, cond, arith, ℕ, zero, suc, ◌+◌, ◌≤◌, Bool, true, false, ◌&&◌, Option, Some, None, List, [], ◌∷◌, ◌++◌, slice_get}
 use Rattle.std.specs.List.{All, find, list_all}
 use Rattle.std.specs.Option.{IfSome, option_map, option_or}
 use Rattle.std.specs.Prelude.{IfOk, Result, Ok, Err}
@@ -19,8 +19,8 @@ use Rattle.rx_cert.specs.declared.cert.Cert.{Cert}
 use Rattle.rx_term.specs.Paired.{rules_of_shape}
 use Rattle.rx_term.specs.Shapes.{Shape, same_shape, shape_of}
 use Rattle.rx_term.specs.declared.rule.Rule.{Rule}
-use Rattle.rx_cover.proofs.Equations.{finding_absurd, finding_split, finding_use}
-use Rattle.rx_cover.specs.Depth.{depth_level, tree_depth}
+use Rattle.rx_cover.proofs.Equations.{depth_is, depth_split, finding_absurd, finding_split, finding_use}
+use Rattle.rx_cover.specs.Depth.{tree_depth}
 use Rattle.rx_cover.specs.Trees.{tree_finding, use_finding}
 use Rattle.rx_cover.specs.declared.cover_tree.CoverTree.{CoverTree, fold_out-CoverTree, out-CoverTree, map-CoverTree}
 use Rattle.rx_cover.specs.declared.cover_tree.CoverTree.TheVariants.{Use, Split, Absurd, outs-Use, outs-Split, outs-Absurd}
@@ -32,19 +32,11 @@ use Rattle.rx_coverable.specs.Trees.{IsOwnRow, IsSmall, IsTree, IsUse, is_cert_d
 
 -- ---- equations
 
-depth_is : (tree : CoverTree) → tree_depth tree ≡
-    depth_level (map-CoverTree CoverTree ℕ tree_depth (out-CoverTree tree))
-depth_is tree = fold_out-CoverTree ℕ depth_level tree
-
 depth_use : (number : ℕ) (certs : List Cert) → tree_depth (Use number certs) ≡ 1
 depth_use number certs = depth_is (Use number certs) ∙ rw (outs-Use number certs) refl
 
 depth_absurd : (cert : Cert) → tree_depth (Absurd cert) ≡ 1
 depth_absurd cert = depth_is (Absurd cert) ∙ rw (outs-Absurd cert) refl
-
-depth_split : (row : Row) (held other : CoverTree) → tree_depth (Split row held other) ≡ 1 +
-    max (tree_depth held) (tree_depth other)
-depth_split row held other = depth_is (Split row held other) ∙ rw (outs-Split row held other) refl
 
 module _ (r : Row → Bool) (c : Cert → Bool) where
   passes_is : (tree : CoverTree) → tree_passes r c tree ≡

@@ -1,6 +1,6 @@
 -- A choice after its condition and its two values, and a call after its arguments.
 use Rattle.std.proofs.Common.{◌≡◌, ◌∙◌, sym, ap, subst, Bool, true, ◌&&◌, ℕ, ◌+◌, Result, Ok, List, [], ◌∷◌, length, map, arith}
-use Rattle.std.proofs.lemmas.Bool.{and_parts}
+use Rattle.std.proofs.lemmas.Bool.{and_from, and_parts}
 use Rattle.std.proofs.lemmas.List.{append-nil}
 use Rattle.rx_plain.specs.Formed.{Formed}
 use Rattle.rx_poly.specs.Constants.{variable}
@@ -9,7 +9,7 @@ use Rattle.rx_poly.specs.declared.poly_end.PolyEnd.{PolyEnd}
 use Rattle.c_ast.specs.declared.expr.Expr.{Expr}
 use Rattle.c_ast.specs.declared.expr.Expr.TheVariants.{Apply, Choose}
 use Rattle.rx_code.specs.Expressions as table
-use Rattle.rx_code.specs.Expressions.{Arguments, Asked, Valued, arguments, expr_code}
+use Rattle.rx_code.specs.Expressions.{Asked, Valued, arguments, expr_code}
 use Rattle.rx_code.specs.Pieces.{a_point, after, append_code, does, is_room, opens, point}
 use Rattle.rx_code.specs.declared.action.Action.TheVariants.{Set}
 use Rattle.rx_code.specs.declared.code.Code.{Code}
@@ -17,7 +17,7 @@ use Rattle.rx_code.specs.declared.point.Opening.{Opening}
 use Rattle.rx_code.specs.declared.point.Point.{Point}
 use Rattle.rx_code.proofs.ExprEquations.{code-Apply, code-Choose}
 use Rattle.rx_exprs.specs.Compiles.{CompilesArguments, CompilesCode, CompilesValue, arguments_at, call_at, condition_at, set_at, value_at}
-use Rattle.rx_exprs.proofs.Operands.{after_code, append_code_assoc, both_true, opened-append, then_value}
+use Rattle.rx_exprs.proofs.Operands.{after_code, append_code_assoc, opened-append, then_value}
 
 -- ---- a call
 
@@ -61,7 +61,7 @@ pub record AreOpened (old new : Code) (y w b : Point) (width : ℕ) : Type 0 whe
   pub count : length new.opened ≡ length old.opened + 3
 
 -- how many symbols there are after one more
-one_more : (old new : Code) (p : Point) (width : ℕ) → IsOpened old new p width → length new.opened ≡
+pub one_more : (old new : Code) (p : Point) (width : ℕ) → IsOpened old new p width → length new.opened ≡
     length old.opened + 1
 one_more old new p width o =
     ap (λ (c : Code). length c.opened) o.code ∙ opened-append old (opens (a_point width ∷ []))
@@ -88,8 +88,8 @@ three_opened old one two new y w b width o p q =
       second = p.is ∙ ap (λ k. point k width) first;
       third = q.is ∙ ap (λ k. point k (width + 1)) second;
       room =
-          both_true (is_room n width) (is_room (n + 1) width && is_room (n + 2) (width + 1)) o.room
-          (both_true (is_room (n + 1) width) (is_room (n + 2) (width + 1))
+          and_from (is_room n width) (is_room (n + 1) width && is_room (n + 2) (width + 1)) o.room
+          (and_from (is_room (n + 1) width) (is_room (n + 2) (width + 1))
           (sym (ap (λ k. is_room k width) first) ∙ p.room)
           (sym (ap (λ k. is_room k (width + 1)) second) ∙ q.room));
       count = third;
@@ -182,8 +182,8 @@ choice_compiled e c f g old three four five new a y w b p is o tested first seco
     all_true p q r s t u rooms first second third =
         let l = and_parts p (q && r) rooms in
         let m = and_parts q r l.1 in
-        both_true p _ l.0 (both_true q _ m.0 (both_true r _ m.1
-        (both_true s _ first (both_true t u second third))))
+        and_from p _ l.0 (and_from q _ m.0 (and_from r _ m.1
+        (and_from s _ first (and_from t u second third))))
 
 -- a choice of equal parts
 pub same_choice : (c d f g h k : Expr) → c ≡ d → f ≡ g → h ≡ k → Choose c f h ≡ Choose d g k

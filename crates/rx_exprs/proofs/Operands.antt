@@ -1,6 +1,7 @@
 -- An operator after its two operands: what is compiled for both, and then for the operator, is
 -- compiled for the whole.
 use Rattle.std.proofs.Common.{◌≡◌, ◌≢◌, ◌∙◌, refl, sym, ap, subst, ◌&&◌, Bool, true, false, Result, Ok, Err, length, append_assoc, length-append}
+use Rattle.std.proofs.lemmas.Bool.{and_from}
 use Rattle.rx_plain.specs.Formed.{Formed, Forms}
 use Rattle.rx_poly.specs.declared.body.Body.{Body}
 use Rattle.rx_poly.specs.declared.poly_end.PolyEnd.{PolyEnd}
@@ -31,9 +32,6 @@ append_code_assoc b c d i = record {
 pub opened-append : (b c : Code) → length (append_code b c).opened ≡ after (length b.opened) c
 opened-append b c = length-append b.opened c.opened
 
-pub both_true : (x y : Bool) → x ≡ true → y ≡ true → (x && y) ≡ true
-both_true x y p q = ap (λ (b : Bool). b && y) p ∙ q
-
 pub second_false : (x y : Bool) → x ≡ true → y ≡ false → (x && y) ≡ false
 second_false x y p q = ap (λ (b : Bool). b && y) p ∙ q
 
@@ -49,7 +47,7 @@ then_value old two new c within v (Ok r) code kept is = (
   is.0 ∙ ap (λ (b : Code). append_code b v.code) code ∙ append_code_assoc old c v.code,
   is.1,
   is.2,
-  both_true within v.within kept is.3,
+  and_from within v.within kept is.3,
 )
 then_value old two new c within v (Err e) code kept is =
     λ large. second_false within v.within kept (is large)
@@ -82,7 +80,7 @@ operands_are l r old one two a middle at p q first second =
       left_is = first.2;
       right_is = second.2 ∙ ap (λ (v : Valued). v.value) same;
       within =
-          both_true x.within y.within first.3 (sym (ap (λ (v : Valued). v.within) same) ∙ second.3);
+          and_from x.within y.within first.3 (sym (ap (λ (v : Valued). v.within) same) ∙ second.3);
     }
 
 -- the kinds that are left
@@ -128,7 +126,7 @@ arithmetic_compiled e op l r old one two a middle at p q v is kind first second 
       o.code,
       o.at_is,
       formed.0 ∙ ap (λ (f : Formed Body). f.form) result,
-      both_true t.within (arithmetic_of op t.left t.right).within o.within
+      and_from t.within (arithmetic_of op t.left t.right).within o.within
           (sym (ap (λ (f : Formed Body). f.within) result) ∙ formed.1),
     )
 

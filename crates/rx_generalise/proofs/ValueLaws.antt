@@ -2,6 +2,7 @@
 use Rattle.std.proofs.Common.{◌≡◌, ◌∙◌, ap, refl, Bool, true, false, ◌&&◌, List, [], ◌∷◌, ℤ}
 use Rattle.std.specs.Prelude.{filter}
 use Rattle.std.specs.Option.{is_some}
+use Rattle.rx_plain.proofs.Booleans.{and_false, and_true}
 use Rattle.rx_poly.specs.Normal.{is_empty}
 use Rattle.rx_poly.specs.Reading.{variable_of}
 use Rattle.rx_poly.specs.declared.body.Mono.{Mono}
@@ -18,14 +19,6 @@ seen_alone (t ∷ ts) = by (is_no_number t) refl (seen_alone ts) where
       valued_from true (t ∷ ts) ≡ is_empty (others (t ∷ ts))
   by true e later = rw e refl
   by false e later = rw e later
-
-and_true : (b : Bool) → (b && true) ≡ b
-and_true true = refl
-and_true false = refl
-
-and_false : (b : Bool) → (b && false) ≡ false
-and_false true = refl
-and_false false = refl
 
 -- a sum is a variable where its first term is one and there is no other
 alone : (t : Mono × ℤ) (ts : List (Mono × ℤ)) → (is_some (variable_of (t ∷ [])) && is_empty ts) ≡

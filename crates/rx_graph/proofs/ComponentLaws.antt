@@ -201,11 +201,6 @@ no_targets true (t ∷ ts) e same =
     let none = eqb-true (length (t ∷ ts)) 0 (sym e) in absurd (omega (arith, none))
 no_targets false targets e same = tt
 
--- what a test that passed says
-pub passed : {P : Type 0} (b : Bool) → b ≡ true → OnTrue b P → P
-passed true e h = h
-passed false e h = cc
-
 -- no path begins where no edge does
 pub no_path : (n : ℕ) (edges : List (ℕ × ℕ)) (rows : List (List ℕ)) (a b : ℕ) →
     IsGraphOf n edges rows → get_or rows a [] ≡ [] → Path edges a b → ⊥

@@ -1,24 +1,14 @@
 -- Elements of lists.
-use Rattle.std.proofs.Common.{◌≡◌, ◌∙◌, ap, sym, subst, refl, arith, ℕ, zero, suc, ◌<◌, ◌⊎◌, inl, inr, List, [], ◌∷◌, ◌++◌, Contains, drop, get_or, length, take}
+use Rattle.std.proofs.Common.{◌≡◌, ◌∙◌, ap, sym, subst, refl, arith, ℕ, zero, suc, ◌<◌, List, [], ◌∷◌, ◌++◌, Contains, drop, get_or, length, take}
 use Rattle.std.proofs.Math.ListN.{drop_of_length-le}
 use Rattle.std.proofs.lemmas.List.{append-nil, take_all}
-use Rattle.std.proofs.lemmas.List.Elements.{Contains-append_cases, Contains-append_left, Contains-append_right, Contains-get_or, Contains-push, Contains-push_cases}
+use Rattle.std.proofs.lemmas.List.Elements.{Contains-append_left, Contains-append_right, Contains-get_or, Contains-push}
 
 pub none_in_empty : {X : Type 0} (x : X) → Contains [] x → ⊥
 none_in_empty x (k, there, is) = omega (arith, there)
 
 pub none_in : (xs : List ℕ) → xs ≡ [] → (b : ℕ) → Contains xs b → ⊥
 none_in xs none b among = none_in_empty b (subst (λ ys. Contains ys b) none among)
-
--- an element of a list is its first, or one of the others
-pub first_or_other : {X : Type 0} (y : X) (ys : List X) (x : X) → Contains (y ∷ ys) x → (y ≡ x) ⊎
-    Contains ys x
-first_or_other y ys x h =
-    elim (Contains-append_cases (y ∷ []) ys x h)
-    [ inl first ↦ alone (Contains-push_cases [] y x first) | inr other ↦ inr other ] where
-      alone : Contains [] x ⊎ (y ≡ x) → (y ≡ x) ⊎ Contains ys x
-      alone (inl none) = absurd (none_in_empty x none)
-      alone (inr same) = inl same
 
 -- the first is one
 pub first_one : {X : Type 0} (y : X) (ys : List X) → Contains (y ∷ ys) y

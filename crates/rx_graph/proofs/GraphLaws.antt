@@ -2,7 +2,8 @@
 use Rattle.std.proofs.Common.{◌≡◌, sym, subst, refl, arith, ℕ, zero, suc, ◌<◌, ◌==◌, nat_eq, Bool, true, false, ◌&&◌, ◌||◌, ◌⊎◌, inl, inr, ◌↔◌, List, [], ◌∷◌, Contains}
 use Rattle.std.proofs.lemmas.Bool.{and_from, and_parts, cases_order, eqb-true}
 use Rattle.std.proofs.lemmas.List.Elements.{All-head, All-tail}
-use Rattle.rx_graph.proofs.Elements.{first_one, first_or_other, none_in_empty, other_one}
+use Rattle.rx_plain.proofs.Kept.{first_or_other}
+use Rattle.rx_graph.proofs.Elements.{first_one, none_in_empty, other_one}
 use Rattle.rx_graph.specs.Graph.{IsOver, More, One, Path, below, is_edge, leads, reaches}
 
 pub or_cases : (x y : Bool) → x || y ≡ true → (x ≡ true) ⊎ (y ≡ true)

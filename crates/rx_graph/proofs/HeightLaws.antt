@@ -1,6 +1,6 @@
 -- Heights, raised at the vertices in the order of how many they reach.
-use Rattle.std.proofs.Common.{◌≡◌, ◌∙◌, ap, sym, subst, refl, arith, ℕ, zero, suc, ◌+◌, ◌<◌, ◌≤◌, Bool, true, false, ◌⊎◌, inl, inr, Vec, List, [], ◌∷◌, ◌++◌, Contains, get_or, length, replicate, set, take}
-use Rattle.std.proofs.lemmas.Bool.{cases_lt, cases_order, false≢true}
+use Rattle.std.proofs.Common.{◌≡◌, ◌∙◌, ap, sym, subst, refl, arith, ℕ, zero, suc, ◌+◌, ◌<◌, ◌≤◌, true, false, ◌⊎◌, inl, inr, Vec, List, [], ◌∷◌, ◌++◌, Contains, get_or, length, replicate, set, take}
+use Rattle.std.proofs.lemmas.Bool.{cases_eq, cases_lt, false_from_ne_true, false≢true}
 use Rattle.std.proofs.lemmas.List.{get_or-replicate, get_or-set_other, get_or-set_same, length-map, length-replicate, length-set, take_more}
 use Rattle.std.proofs.lemmas.List.Elements.{Contains-append_left, Contains-push, Contains-push_cases}
 use Rattle.std.specs.declared.alloc.Global.{Global}
@@ -15,15 +15,6 @@ use Rattle.rx_graph.proofs.GraphLaws.{lead_below}
 use Rattle.rx_graph.proofs.RankLaws.{counts_rank}
 use Rattle.rx_graph.proofs.RowEdges.{row_edges, rows_graph}
 use Rattle.rx_graph.proofs.RowLaws.{from_within, leads_within}
-
-same_or_not : (a b : ℕ) → (a ≡ b) ⊎ (a ≡ b → ⊥)
-same_or_not a b = elim (cases_order a b) [
-  | inl same ↦ inl same
-  | inr apart ↦ inr (λ same. elim apart [
-    | inl less ↦ omega (arith, less, same)
-    | inr more ↦ omega (arith, more, same)
-  ])
-]
 
 -- ---- one vertex
 
@@ -192,7 +183,7 @@ module _ (rows : List (List ℕ)) (labels counts : List ℕ) (closed : IsClosed 
     now_falls a b edge outside done =
         let kept = raised.others (get_or labels b 0)
         (ends_outside a b edge outside (done_upto a done)) in
-        elim (same_or_not a v) [
+        elim (cases_eq a v) [
           | inl same ↦
               let label : get_or labels a 0 ≡ get_or labels v 0 =
               ap (λ k. get_or labels k 0) same in
@@ -203,7 +194,7 @@ module _ (rows : List (List ℕ)) (labels counts : List ℕ) (closed : IsClosed 
               omega (arith, above, kept, at)
           | inr differs ↦
               let was = before.falls a b edge outside (done_before a differs done) in
-              elim (same_or_not (get_or labels a 0) (get_or labels v 0)) [
+              elim (cases_eq (get_or labels a 0) (get_or labels v 0)) [
                 | inl label ↦
                     let up = raised.up in
                     let at : get_or after (get_or labels a 0) 0 ≡
@@ -251,7 +242,7 @@ module _ (rows : List (List ℕ)) (labels counts : List ℕ) (closed : IsClosed 
 
     now_why : (a k : ℕ) → a < length rows → get_or after (get_or labels a 0) 0 ≡ suc k →
         RaisedFrom rows labels counts count after a k
-    now_why a k within is = elim (same_or_not (get_or labels a 0) (get_or labels v 0)) [
+    now_why a k within is = elim (cases_eq (get_or labels a 0) (get_or labels v 0)) [
       | inl label ↦ own_why a k label within (ap (λ l. get_or after l 0) (sym label) ∙ is)
           raised.why
       | inr apart ↦ still_from a k (before.why a k within
@@ -269,7 +260,7 @@ module _ (rows : List (List ℕ)) (labels counts : List ℕ) (closed : IsClosed 
         omega (arith, low, falls, at)
 
     now_low : (a : ℕ) → a < length rows → get_or after (get_or labels a 0) 0 < get_or counts a 0
-    now_low a within = elim (same_or_not (get_or labels a 0) (get_or labels v 0)) [
+    now_low a within = elim (cases_eq (get_or labels a 0) (get_or labels v 0)) [
       | inl label ↦
           let low = own_low raised.why in
           let equal = ranks.same a v within there label in
@@ -325,10 +316,6 @@ module _ (rows : List (List ℕ)) (labels counts : List ℕ) (closed : IsClosed 
 
 -- ---- all vertices
 
-not_true : (b : Bool) → (b ≡ true → ⊥) → b ≡ false
-not_true true isnt = absurd (isnt refl)
-not_true false isnt = refl
-
 module _ (edges : List (ℕ × ℕ)) (rows : List (List ℕ)) (graph : IsGraphOf (length rows) edges rows)
     (closed : IsClosed rows) (labels : List ℕ)
     (components : AreComponents (length rows) edges labels) (counts : List ℕ)
@@ -359,7 +346,7 @@ module _ (edges : List (ℕ × ℕ)) (rows : List (List ℕ)) (graph : IsGraphOf
             (same_joined (length rows) edges within labels components a one.from there from
             (sym one.inside));
         edge = (graph.targets one.from one.to).0 one.edge;
-        outside = not_true (together edges (below (length rows)) a one.to)
+        outside = false_from_ne_true (together edges (below (length rows)) a one.to)
             (λ is. one.outside (one.inside ∙ joined_same (length rows) edges within labels
             components a one.to there to (together_joined (length rows) edges within a one.to
             is)));
@@ -398,7 +385,7 @@ module _ (n : ℕ) (edges : List (ℕ × ℕ)) (over : IsOver n edges) (heights 
   still_outside : (a b c : ℕ) → together edges (below n) a b ≡ true → together edges (below n) a c ≡
       false → together edges (below n) b c ≡ false
   still_outside a b c inner outer =
-      not_true (together edges (below n) b c) (λ is.
+      false_from_ne_true (together edges (below n) b c) (λ is.
       false≢true
       (sym outer
       ∙ joined_together n edges (lead_below n edges over) a c

@@ -2,8 +2,9 @@
 use Rattle.std.proofs.Common.{◌≡◌, subst, refl, arith, ℕ, zero, suc, ◌+◌, ◌==◌, true, ◌&&◌, ◌⊎◌, inl, inr, List, [], ◌∷◌, ◌++◌, Contains, get_or, length, map}
 use Rattle.std.proofs.lemmas.Bool.{and_from, and_parts, eq-eqb, eqb-true, false≢true}
 use Rattle.std.proofs.lemmas.List.{get_or_past}
+use Rattle.rx_plain.proofs.Kept.{first_or_other}
 use Rattle.rx_graph.specs.Graph.{IsGraphOf, is_edge, leads}
-use Rattle.rx_graph.proofs.Elements.{first_one, first_or_other, none_in_empty, other_one}
+use Rattle.rx_graph.proofs.Elements.{first_one, none_in_empty, other_one}
 use Rattle.rx_graph.proofs.GraphLaws.{or_cases, or_left, or_right}
 
 -- the edges of rows, the first of which is that of the number

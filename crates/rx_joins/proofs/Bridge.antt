@@ -20,7 +20,7 @@ use Rattle.rx_term.specs.declared.rule_set.RuleParts.{RuleParts}
 use Rattle.rx_term.specs.declared.term.Sym.{Sym}
 use Rattle.rx_term.specs.declared.term.Term.{Term}
 use Rattle.rx_term.specs.declared.term.Term.TheVariants.{Frame, outs-Return, outs-Fail, outs-Call, outs-Frame}
-use Rattle.rx_term.proofs.Equations.{Form, AReturn, AFail, ACall, AFrame, form}
+use Rattle.rx_term.proofs.Equations.{ACall, AFail, AFrame, AReturn, Form, form, symbols_are}
 use Rattle.rx_term.proofs.Places.{at_place}
 use Rattle.rx_term.proofs.RuleLaws.{known_shape}
 use Rattle.rx_form.specs.Forming.{Forming, found_or, limited, provided, ◌>>=◌}
@@ -100,10 +100,6 @@ on_top_by _ top (AFrame f ps t) e =
 
 on_top : (t : Term) (top : TopFrame) → top_frame t ≡ Some top → OnTop t top
 on_top t top e = on_top_by t top (form t) e
-
--- symbols of one number are one
-one_symbol : (f g : Sym) → f.0 ≡ g.0 → f ≡ g
-one_symbol f g e = (λ i. record { 0 = e i })
 
 equation_fits : (parts : RuleParts) (e : Equation) → is_equation parts e ≡ true → IsFitting parts e
 equation_fits parts e is =
@@ -240,7 +236,7 @@ module _ (parts : RuleParts) (hypotheses : List Rule) (goal : Equation) (f : For
       in
       let on_right = on_top goal.right right (found_back WrongShape (top_frame goal.right) right
       two.is) in
-      let same = one_symbol on_left.symbol on_right.symbol
+      let same = symbols_are on_left.symbol on_right.symbol
       (on_left.number ∙ eqb-true left.symbol right.symbol test ∙ sym on_right.number) in
       subst MakesIt is (Decomposed on_left.symbol on_right.symbol left.arguments right.arguments
       left.inner right.inner on_left.is on_right.is same (asked_follow _ _ certs is shown))

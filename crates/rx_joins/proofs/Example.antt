@@ -58,7 +58,7 @@ use Rattle.rx_joins.specs.Runs.{IsProof, Run, NoStep, OneMore, start, finished}
 
 -- ---- the rules
 
-no_width : (s : Sym) → width (Call s []) ≡ 0
+pub no_width : (s : Sym) → width (Call s []) ≡ 0
 no_width s = ap length (arguments-Call s [])
 
 fails_made : (s : Sym) → term_fits example (Call s []) ≡ true → IsMade example (fails s)
@@ -97,7 +97,7 @@ example_covered =
 abbrev one_term : List (Mono × ℤ)
 one_term = (of_atoms [], pos 1) ∷ []
 
-all_stay : (vs : List ℕ) → All (λ v. replaced [] v ≡ variable v) vs
+pub all_stay : (vs : List ℕ) → All (λ v. replaced [] v ≡ variable v) vs
 all_stay [] = All-nil (λ v. replaced [] v ≡ variable v)
 all_stay (v ∷ vs) = All-cons (λ v. replaced [] v ≡ variable v) v vs refl (all_stay vs)
 
@@ -106,7 +106,7 @@ in_one =
     unchanged [] (number (pos 1)) (number_poly (pos 1) refl refl)
     (all_stay (variables (number (pos 1))))
 
-in_zero : subst_body [] (number (pos 0)) ≡ record { form = number (pos 0); within = true }
+pub in_zero : subst_body [] (number (pos 0)) ≡ record { form = number (pos 0); within = true }
 in_zero = unchanged [] (number (pos 0)) zero_poly (all_stay (variables (number (pos 0))))
 
 same_key : mono_cmp (of_atoms []) (of_atoms []) ≡ Same

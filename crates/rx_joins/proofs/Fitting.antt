@@ -26,7 +26,7 @@ use Rattle.rx_term.specs.declared.term.Term.{Term}
 use Rattle.rx_term.specs.declared.term.Term.TheVariants.{Frame, Return, Fail}
 use Rattle.rx_term.proofs.Equations.{fits-Frame, fits-Return, fits-Fail}
 use Rattle.rx_term.proofs.KeepingLaws.{fits_in_term, fits_replaced}
-use Rattle.rx_term.proofs.Kept.{first_or_other, was_there}
+use Rattle.rx_plain.proofs.Kept.{first_or_other, was_there}
 use Rattle.rx_term.proofs.RuleLaws.{rule_made}
 use Rattle.rx_form.specs.Making.{differing, expanded_by, failures, from_side, kept_if, results_of, with_result}
 use Rattle.rx_form.specs.Pieces.{side_of, with_rows, with_side}

@@ -5,5 +5,6 @@ pub mod Making
 pub mod StepLaws
 pub mod Fitting
 pub mod Bridge
+pub mod Rooted
 pub mod Runs
 pub mod Example

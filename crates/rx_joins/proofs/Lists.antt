@@ -3,7 +3,7 @@ use Rattle.std.proofs.Common.{◌≡◌, inl, inr, Bool, true, false, if◌then�
 use Rattle.std.specs.Prelude.{filter}
 use Rattle.std.proofs.lemmas.List.Elements.{All-cons, All-head, All-tail, All-nil}
 use Rattle.rx_plain.specs.Formed.{Formed, map_formed}
-use Rattle.rx_term.proofs.Kept.{first_or_other, first_one, other_one}
+use Rattle.rx_plain.proofs.Kept.{first_or_other, first_one, other_one}
 
 -- what holds of two lists together holds of each
 pub All-parts : {X : Type 0} (P : X → Type 0) (xs ys : List X) → All P (xs ++ ys) → All P xs ×

@@ -44,7 +44,7 @@ use Rattle.rx_term.proofs.BoundLaws.{equation_below}
 use Rattle.rx_term.proofs.Equations.{fits-Frame, ground-Frame, ground-Return, ground-Fail}
 use Rattle.rx_term.proofs.FittingLaws.{ground_fits}
 use Rattle.rx_term.proofs.KeepingLaws.{shape_in_term, fits_in_term, fits_after}
-use Rattle.rx_term.proofs.Kept.{was_there}
+use Rattle.rx_plain.proofs.Kept.{was_there}
 use Rattle.rx_term.proofs.Locality.{hold_too, same_outer}
 use Rattle.rx_term.proofs.MeaningLaws.{ground_in_term}
 use Rattle.rx_term.proofs.RedexLaws.{ground_after, ground_replaced, redex_is}

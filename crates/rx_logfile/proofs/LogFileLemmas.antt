@@ -2,7 +2,6 @@
 -- said at the end.
 use Rattle.std.proofs.Common.{◌≡◌, ◌∙◌, sym, refl, ap, subst, ℕ, ◌+◌, ◌<◌, ◌≤◌, suc, Bool, true, false, Option, Some, None, Result, Ok, Err, List, [], ◌∷◌, ◌++◌, drop, length, append_assoc, length-append, arith}
 use Rattle.std.proofs.lemmas.List.{append-nil, length-drop}
-use Rattle.std.proofs.Math.Seq.{drop-append_seam}
 use Rattle.std.specs.Io.KnownBytes.{Consumes, IsAtEnd}
 use Rattle.std.specs.Prelude.{◌^◌}
 use Rattle.rx_check.specs.Answers.{Answers}
@@ -24,7 +23,7 @@ use Rattle.rx_logtext.specs.declared.log_end.LogEnd.TheVariants as end
 use Rattle.rx_logtext.specs.declared.reader.LogReader.{LogReader}
 use Rattle.rx_logtext.proofs.Cuts.{up_to_feed-drop, up_to_feed-some}
 use Rattle.rx_logtext.proofs.OneReading.{never_both, one_bad_line}
-use Rattle.rx_logtext.proofs.Texts.{bad_goes_on, stands_within}
+use Rattle.rx_logtext.proofs.Texts.{bad_goes_on, front_taken, stands_within}
 use Rattle.rx_term.specs.declared.rule.Equation.{Equation}
 use Rattle.rx_term.specs.declared.rule_set.RuleParts.{RuleParts}
 use Rattle.rx_logfile.specs.Checking.{IsCount, IsInStep, IsReplayed, StandsFor, TakesLine, UnlessBad, lines_in}
@@ -207,14 +206,6 @@ nothing_taken {check} parts piece step room = record {
   step = step;
   room = room;
 }
-
-front_taken : (left : List ℕ) (count : ℕ) → count ≡ length (up_to_feed left) → left ≡
-    up_to_feed left ++ drop count left
-front_taken left count e =
-    let f = up_to_feed-drop left in
-    let behind : drop count left ≡ f.0 = ap (λ (n : ℕ). drop n left) e ∙
-    ap (drop (length (up_to_feed left))) f.1 ∙ drop-append_seam (up_to_feed left) f.0 in
-    f.1 ∙ ap (λ (l : List ℕ). up_to_feed left ++ l) (sym behind)
 
 pub line_taken : {start now : LogCheck} {parts : RuleParts} {piece left : List ℕ} (count : ℕ)
     (next : LogCheck) (h : TakenSoFar start now parts piece left) → (left ≡ [] → ⊥) →

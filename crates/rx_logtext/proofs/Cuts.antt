@@ -3,14 +3,11 @@ use Rattle.std.proofs.Common.{◌≡◌, ◌∙◌, sym, refl, ap, subst, ℕ, �
 use Rattle.std.proofs.lemmas.Bool.{eqb-true, eq-eqb}
 use borrow.Author.Tests.{ltb-true, ltb-false}
 use Rattle.std.specs.List.{position, position_or_len}
+use Rattle.rx_plain.proofs.Booleans.{and_false, and_second}
 use Rattle.rx_logtext.specs.Logs.{is_one_line, up_to_feed}
 
 abbrev pub is_feed : ℕ → Bool
 is_feed byte = eqb byte 10
-
-second : (a b : Bool) → (a && b) ≡ true → b ≡ true
-second true b e = e
-second false b e = absurd (cc)
 
 kept : (x : ℕ) (xs : List ℕ) → eqb x 10 ≡ false → is_one_line xs ≡ true → is_one_line (x ∷ xs) ≡
     true
@@ -75,12 +72,8 @@ no_line x xs e h =
     let f : eqb x 10 ≡ true = eq-eqb x 10 e in let g : not (eqb x 10) ≡ false = ap not f in
     absurd (let k : false ≡ true = sym (ap (λ (b : Bool). b && is_one_line xs) g) ∙ h in cc)
 
-never : (b : Bool) → (b && false) ≡ false
-never true = refl
-never false = refl
-
 tail_line : (x : ℕ) (xs : List ℕ) → is_one_line (x ∷ xs) ≡ true → is_one_line xs ≡ true
-tail_line x xs h = second (not (eqb x 10)) (is_one_line xs) h
+tail_line x xs h = and_second (not (eqb x 10)) (is_one_line xs) h
 
 -- a line is no longer than the other
 pub cut_once : (xs ys more rest : List ℕ) → is_one_line xs ≡ true → is_one_line ys ≡ true → xs ++
@@ -145,4 +138,4 @@ up_to_feed-some (x ∷ xs) h = some_rest (eqb x 10) x xs refl
 -- a line feed ends a line
 pub fed : (xs more : List ℕ) → is_one_line (xs ++ 10 ∷ more) ≡ false
 fed [] more = refl
-fed (x ∷ xs) more = rw (fed xs more) (never (not (eqb x 10)))
+fed (x ∷ xs) more = rw (fed xs more) (and_false (not (eqb x 10)))

@@ -1,20 +1,13 @@
 -- Things that are each after a space, up to the end of a line.
-use Rattle.std.proofs.Common.{◌≡◌, ◌∙◌, refl, sym, ap, ℕ, ◌<◌, ◌≤◌, Bool, true, false, ◌&&◌, Some, None, List, [], ◌∷◌, ◌++◌, length, drop, append_assoc, length-drop, arith}
+use Rattle.std.proofs.Common.{◌≡◌, ◌∙◌, refl, sym, ap, ℕ, ◌<◌, ◌≤◌, Bool, true, Some, None, List, [], ◌∷◌, ◌++◌, length, drop, append_assoc, length-drop, arith}
 use Rattle.std.proofs.lemmas.List.{append-nil, drop_all}
 use Rattle.std.proofs.lemmas.Grind.{flat_map-append}
 use Rattle.std.specs.List.{list_all}
+use Rattle.rx_plain.proofs.Lists.{all_pushed}
+use Rattle.rx_plain.proofs.Booleans.{and_first, and_second}
 use Rattle.rx_text.specs.Formats.{BeginsWith, Format, IsUnambiguous, Reads, Skips, StandsAt, is_over}
 use Rattle.rx_words.specs.Words.{each_spaced, in_word, words}
 use Rattle.rx_logtext.specs.Lines.{IsText, ReadsAll, ReadsEach}
-use Rattle.rx_logtext.proofs.Places.{list_all-push}
-
-first : (a b : Bool) → (a && b) ≡ true → a ≡ true
-first true b e = refl
-first false b e = absurd (cc)
-
-second : (a b : Bool) → (a && b) ≡ true → b ≡ true
-second true b e = e
-second false b e = absurd (cc)
 
 behind : {x y : ℕ} {s t : List ℕ} → x ∷ s ≡ y ∷ t → s ≡ t
 behind e = cc
@@ -48,20 +41,20 @@ module _ {A : Type 0} (text : A → List ℕ) (in_range : A → Bool) where
       let f : (text x ++ each_spaced text xs) ++ rest ≡ text y ++ each_spaced text ys = behind e in
       let b : BeginsWith Each ((text x ++ each_spaced text xs) ++ rest) x
       (each_spaced text xs ++ rest) = record {
-        in_range = first (in_range x) (list_all in_range xs) r;
+        in_range = and_first (in_range x) (list_all in_range xs) r;
         text = append_assoc (text x) (each_spaced text xs) rest;
         over = over_each xs rest o;
       } in
       let c : BeginsWith Each ((text x ++ each_spaced text xs) ++ rest) y (each_spaced text ys) =
       record {
-        in_range = first (in_range y) (list_all in_range ys) s;
+        in_range = and_first (in_range y) (list_all in_range ys) s;
         text = f;
         over = over_end ys;
       } in
       let same = once ((text x ++ each_spaced text xs) ++ rest) x y (each_spaced text xs ++ rest)
       (each_spaced text ys) b c in
-      splits once xs ys rest (second (in_range x) (list_all in_range xs) r)
-      (second (in_range y) (list_all in_range ys) s) o same.1
+      splits once xs ys rest (and_second (in_range x) (list_all in_range xs) r)
+      (and_second (in_range y) (list_all in_range ys) s) o same.1
 
   -- a list is given by its text
   pub each_once : IsUnambiguous Each → (xs ys : List A) → list_all in_range xs ≡ true →
@@ -72,19 +65,19 @@ module _ {A : Type 0} (text : A → List ℕ) (in_range : A → Bool) where
   each_once once (x ∷ xs) (y ∷ ys) r s e =
       let f : text x ++ each_spaced text xs ≡ text y ++ each_spaced text ys = behind e in
       let b : BeginsWith Each (text x ++ each_spaced text xs) x (each_spaced text xs) = record {
-        in_range = first (in_range x) (list_all in_range xs) r;
+        in_range = and_first (in_range x) (list_all in_range xs) r;
         text = refl;
         over = over_end xs;
       } in
       let c : BeginsWith Each (text x ++ each_spaced text xs) y (each_spaced text ys) = record {
-        in_range = first (in_range y) (list_all in_range ys) s;
+        in_range = and_first (in_range y) (list_all in_range ys) s;
         text = f;
         over = over_end ys;
       } in
       let same = once (text x ++ each_spaced text xs) x y (each_spaced text xs)
       (each_spaced text ys) b c in
-      let rest = each_once once xs ys (second (in_range x) (list_all in_range xs) r)
-      (second (in_range y) (list_all in_range ys) s) same.1 in
+      let rest = each_once once xs ys (and_second (in_range x) (list_all in_range xs) r)
+      (and_second (in_range y) (list_all in_range ys) s) same.1 in
       λ i. same.0 i ∷ rest i
 
   -- the things read so far, from one place up to another
@@ -114,7 +107,7 @@ module _ {A : Type 0} (text : A → List ℕ) (in_range : A → Bool) where
         (k.1.1 ∙ ap (λ (r : List ℕ). 32 ∷ r) s.begins.text)
         ∙ sym (append_assoc (each_spaced text things) (32 ∷ text x) (drop end bytes))
         ∙ ap (λ (r : List ℕ). r ++ drop end bytes) (sym (each_spaced-push things x));
-    all = list_all-push in_range things x h.all s.begins.in_range;
+    all = all_pushed in_range things x h.all s.begins.in_range;
     over = s.begins.over;
     inside = s.inside;
   }
@@ -161,7 +154,7 @@ module _ {A : Type 0} (text : A → List ℕ) (in_range : A → Bool) where
       at_one : (zs : List A) → list_all in_range zs ≡ true → drop at bytes ≡ each_spaced text zs → ⊥
       at_one [] s f = not_empty at bytes lt f
       at_one (z ∷ zs) s f = none z (each_spaced text zs) (record {
-        in_range = first (in_range z) (list_all in_range zs) s;
+        in_range = and_first (in_range z) (list_all in_range zs) s;
         text = behind (sym k.1.1 ∙ f);
         over = over_end zs;
       })

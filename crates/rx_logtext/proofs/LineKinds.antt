@@ -1,5 +1,6 @@
 -- Each kind of line by what it begins with.
-use Rattle.std.proofs.Common.{◌≡◌, ◌∙◌, refl, sym, ap, ℕ, Bool, true, false, ◌&&◌, Some, None, List, ◌++◌, codes, drop, length}
+use Rattle.std.proofs.Common.{◌≡◌, ◌∙◌, refl, sym, ap, ℕ, Bool, true, false, Some, None, List, ◌++◌, codes, drop, length}
+use Rattle.rx_plain.proofs.Booleans.{and_first, and_second}
 use Rattle.rx_poly.specs.declared.body.Body.{Body}
 use Rattle.rx_cert.specs.declared.cert.Cert.{Cert}
 use Rattle.rx_cover.specs.declared.cover_tree.CoverTree.{CoverTree}
@@ -15,14 +16,6 @@ use Rattle.rx_log.specs.declared.line.Line.TheVariants as line
 use Rattle.rx_logtext.proofs.Each.{each_once, over_end}
 use Rattle.rx_logtext.proofs.StepKinds.{starts}
 use Rattle.rx_logtext.proofs.Unique.{begins_frame, no_frame, whole_once, width_fits}
-
-first : (a b : Bool) → (a && b) ≡ true → a ≡ true
-first true b e = refl
-first false b e = absurd (cc)
-
-second : (a b : Bool) → (a && b) ≡ true → b ≡ true
-second true b e = e
-second false b e = absurd (cc)
 
 -- ---- what begins so is of that kind
 
@@ -85,7 +78,7 @@ no_symbol_of_cover bytes at e none = λ thing t.
     let o = only_cover (drop at bytes) thing.0 thing.1 (sym e ∙ t.text) in
     let r : is_readable_line (line.Cover o.0) thing.1 ≡ true =
     ap (λ (l : Line). is_readable_line l thing.1) (sym o.1.0) ∙ t.in_range in
-    no_number trees.text trees.in_range bytes at thing.1 o.0 none (first _ _ r) o.1.1
+    no_number trees.text trees.in_range bytes at thing.1 o.0 none (and_first _ _ r) o.1.1
 
 pub no_trees_of_cover : (bytes : List ℕ) (at end m : ℕ) → bytes ≡ codes "cover s" ++ drop at bytes →
     StandsAt numbers bytes at m end → ReadsEach trees (drop end bytes) None →
@@ -94,7 +87,7 @@ no_trees_of_cover bytes at end m e s none = λ thing t.
     let o = only_cover (drop at bytes) thing.0 thing.1 (sym e ∙ t.text) in
     let r : is_readable_line (line.Cover o.0) thing.1 ≡ true =
     ap (λ (l : Line). is_readable_line l thing.1) (sym o.1.0) ∙ t.in_range in
-    none o.0 (second _ _ r) (after_number trees.text trees.in_range thing.1 o.0 s (first _ _ r)
+    none o.0 (and_second _ _ r) (after_number trees.text trees.in_range thing.1 o.0 s (and_first _ _ r)
     o.1.1)
 
 pub no_symbol_of_rank : (bytes : List ℕ) (at : ℕ) → bytes ≡ codes "rank s" ++ drop at bytes →
@@ -103,7 +96,7 @@ no_symbol_of_rank bytes at e none = λ thing t.
     let o = only_rank (drop at bytes) thing.0 thing.1 (sym e ∙ t.text) in
     let r : is_readable_line (line.Rank o.0) thing.1 ≡ true =
     ap (λ (l : Line). is_readable_line l thing.1) (sym o.1.0) ∙ t.in_range in
-    no_number polynomials.text polynomials.in_range bytes at thing.1 o.0 none (first _ _ r) o.1.1
+    no_number polynomials.text polynomials.in_range bytes at thing.1 o.0 none (and_first _ _ r) o.1.1
 
 pub no_columns_of_rank : (bytes : List ℕ) (at end m : ℕ) → bytes ≡ codes "rank s" ++ drop at bytes →
     StandsAt numbers bytes at m end → ReadsEach (words polynomials.text polynomials.in_range)
@@ -112,8 +105,8 @@ no_columns_of_rank bytes at end m e s none = λ thing t.
     let o = only_rank (drop at bytes) thing.0 thing.1 (sym e ∙ t.text) in
     let r : is_readable_line (line.Rank o.0) thing.1 ≡ true =
     ap (λ (l : Line). is_readable_line l thing.1) (sym o.1.0) ∙ t.in_range in
-    none o.0 (second _ _ (second _ _ r)) (after_number polynomials.text polynomials.in_range
-    thing.1 o.0 s (first _ _ r) o.1.1)
+    none o.0 (and_second _ _ (and_second _ _ r)) (after_number polynomials.text polynomials.in_range
+    thing.1 o.0 s (and_first _ _ r) o.1.1)
 
 pub no_width_of_rank : IsUnambiguous (words polynomials.text polynomials.in_range) →
     (bytes : List ℕ) (at end m : ℕ) (ys : List Body) → bytes ≡ codes "rank s" ++ drop at bytes →
@@ -124,9 +117,9 @@ no_width_of_rank once bytes at end m ys e s some wide = λ thing t.
     let r : is_readable_line (line.Rank o.0) thing.1 ≡ true =
     ap (λ (l : Line). is_readable_line l thing.1) (sym o.1.0) ∙ t.in_range in
     let same : ys ≡ o.0 = each_once polynomials.text polynomials.in_range once ys o.0 some.0
-    (second _ _ (second _ _ r)) (sym some.1 ∙
-    after_number polynomials.text polynomials.in_range thing.1 o.0 s (first _ _ r) o.1.1) in
-    let w : is_width (length o.0) ≡ true = first _ _ (second _ _ r) in
+    (and_second _ _ (and_second _ _ r)) (sym some.1 ∙
+    after_number polynomials.text polynomials.in_range thing.1 o.0 s (and_first _ _ r) o.1.1) in
+    let w : is_width (length o.0) ≡ true = and_first _ _ (and_second _ _ r) in
     let f : false ≡ true = sym wide ∙ ap (λ (xs : List Body). is_width (length xs)) same ∙ w in
     cc
 
@@ -136,7 +129,7 @@ no_width_of_ranks bytes at c e some wide = λ thing t.
     let o = only_ranks (drop at bytes) thing.0 thing.1 (sym e ∙ t.text) in
     let r : is_readable_line (line.Ranks o.0) thing.1 ≡ true =
     ap (λ (l : Line). is_readable_line l thing.1) (sym o.1.0) ∙ t.in_range in
-    let w : is_width o.0 ≡ true = first _ _ r in
+    let w : is_width o.0 ≡ true = and_first _ _ r in
     let same : c ≡ o.0 = whole_once numbers.text numbers.in_range numbers_once (drop at bytes) c o.0
     some.in_range (width_fits o.0 w) some.text o.1.1 in
     let f : false ≡ true = sym wide ∙ ap is_width same ∙ w in
@@ -148,7 +141,7 @@ no_number_of_ranks bytes at e none = λ thing t.
     let o = only_ranks (drop at bytes) thing.0 thing.1 (sym e ∙ t.text) in
     let r : is_readable_line (line.Ranks o.0) thing.1 ≡ true =
     ap (λ (l : Line). is_readable_line l thing.1) (sym o.1.0) ∙ t.in_range in
-    none o.0 (record { in_range = width_fits o.0 (first _ _ r); text = o.1.1 })
+    none o.0 (record { in_range = width_fits o.0 (and_first _ _ r); text = o.1.1 })
 
 pub no_parts_of_pair : (bytes : List ℕ) (at : ℕ) → bytes ≡ codes "pair " ++ drop at bytes →
     ReadsAll pair_parts (drop at bytes) None → ReadsAll lines bytes None
@@ -156,4 +149,4 @@ no_parts_of_pair bytes at e none = λ thing t.
     let o = only_pair (drop at bytes) thing.0 thing.1 (sym e ∙ t.text) in
     let r : is_readable_line (line.Pair (record { column = o.0.0; certs = o.0.1 })) thing.1 ≡ true =
     ap (λ (l : Line). is_readable_line l thing.1) (sym o.1.0) ∙ t.in_range in
-    none o.0 (record { in_range = first _ _ r; text = o.1.1 })
+    none o.0 (record { in_range = and_first _ _ r; text = o.1.1 })

@@ -1,9 +1,9 @@
 -- What a line does to a log that was read up to a place.
-use Rattle.std.proofs.Common.{◌≡◌, ◌∙◌, sym, refl, ap, subst, ℕ, ◌+◌, eqb, Bool, true, false, Some, None, List, [], ◌∷◌, ◌++◌, if◌then◌else◌, ◌&&◌, length, append_assoc, length-append, arith}
+use Rattle.std.proofs.Common.{◌≡◌, ◌∙◌, sym, refl, ap, subst, ℕ, ◌+◌, eqb, Bool, true, false, Some, None, List, [], ◌∷◌, ◌++◌, if◌then◌else◌, length, append_assoc, length-append, arith}
 use Rattle.std.proofs.lemmas.List.{append-nil}
-use Rattle.std.proofs.lemmas.Grind.{common_steps}
 use Rattle.std.proofs.lemmas.Bool.{eq-eqb, eqb-true}
-use Rattle.std.specs.List.{list_all}
+use Rattle.rx_plain.proofs.Lists.{all_pushed}
+use Rattle.rx_plain.proofs.Booleans.{and_second}
 use Rattle.rx_poly.specs.declared.body.Body.{Body}
 use Rattle.rx_cover.specs.declared.cover_tree.CoverTree.{CoverTree}
 use Rattle.rx_form.specs.declared.step.Step.{Step}
@@ -31,10 +31,6 @@ pub plain-push : {A : Type 0} (make : A → Line) (xs : List A) (x : A) → plai
     plain make xs ++ (make x, 0) ∷ []
 plain-push make [] x = refl
 plain-push make (y ∷ ys) x = ap (λ (zs : List (Line × ℕ)). (make y, 0) ∷ zs) (plain-push make ys x)
-
-pub list_all-push : {A : Type 0} (test : A → Bool) (xs : List A) (x : A) → list_all test xs ≡ true →
-    test x ≡ true → list_all test (xs ++ x ∷ []) ≡ true
-list_all-push test xs x h e = grind (arith, common_steps)
 
 -- lines after which none comes yet
 snoc_first : {A : Type 0} (c new s : List A) (x : A) → new ≡ c ++ x ∷ [] → s ≡ [] → new ++ s ≡
@@ -129,7 +125,7 @@ rank log columns n new at w e = record {
     ),
   );
   widths =
-      list_all-push (λ (it : List Body). eqb (length it) log.table.columns) log.table.ranks new w
+      all_pushed (λ (it : List Body). eqb (length it) log.table.columns) log.table.ranks new w
       (eq-eqb _ _ (e ∙ at.0));
   lines =
       let k : n ≡ 0 + length log.table.ranks = omega (arith, at.1.0) in
@@ -158,10 +154,6 @@ end place log w e =
 
 zero_symbol : (m : ℕ) → eqb m 0 ≡ true → m ≡ 0
 zero_symbol m e = eqb-true m 0 e
-
-second : (a b : Bool) → (a && b) ≡ true → b ≡ true
-second true b e = e
-second false b e = absurd (cc)
 
 place_of : {place : Place} {log : Log} {read : Line} {m : ℕ} {x y : Place} → m ≡ 0 → Some x ≡
     Some y → Moves place log read 0 x → Moves place log read m y
@@ -201,24 +193,24 @@ moves AtHeader log line.Header m next at w r a = place_of (zero_symbol m r) a (h
 moves AtHeader log read m next at w r a = absurd (cc)
 moves (InCovers n) log (line.Cover trees) m next at w r a = cover_next log trees n m next at w a
 moves (InCovers n) log (line.Step taken) m next at w r a =
-    place_of (zero_symbol m (second _ _ r)) a (step (InCovers n) log taken at.1.1 w refl)
+    place_of (zero_symbol m (and_second _ _ r)) a (step (InCovers n) log taken at.1.1 w refl)
 moves (InCovers n) log (line.Ranks columns) m next at w r a =
-    place_of (zero_symbol m (second _ _ r)) a (ranks (InCovers n) log columns at.1.1 refl)
+    place_of (zero_symbol m (and_second _ _ r)) a (ranks (InCovers n) log columns at.1.1 refl)
 moves (InCovers n) log read m next at w r a = absurd (cc)
 moves InSteps log (line.Step taken) m next at w r a =
-    place_of (zero_symbol m (second _ _ r)) a (step InSteps log taken at w refl)
+    place_of (zero_symbol m (and_second _ _ r)) a (step InSteps log taken at w refl)
 moves InSteps log (line.Ranks columns) m next at w r a =
-    place_of (zero_symbol m (second _ _ r)) a (ranks InSteps log columns at refl)
+    place_of (zero_symbol m (and_second _ _ r)) a (ranks InSteps log columns at refl)
 moves InSteps log read m next at w r a = absurd (cc)
 moves (InRanks columns n) log (line.Rank new) m next at w r a =
     rank_next log columns n m new next at w a
 moves (InRanks columns n) log (line.Pair new) m next at w r a =
-    place_of (zero_symbol m (second _ _ r)) a (pair (InRanks columns n) log new w refl)
+    place_of (zero_symbol m (and_second _ _ r)) a (pair (InRanks columns n) log new w refl)
 moves (InRanks columns n) log line.End m next at w r a =
     place_of (zero_symbol m r) a (end (InRanks columns n) log w refl)
 moves (InRanks columns n) log read m next at w r a = absurd (cc)
 moves InPairs log (line.Pair new) m next at w r a =
-    place_of (zero_symbol m (second _ _ r)) a (pair InPairs log new w refl)
+    place_of (zero_symbol m (and_second _ _ r)) a (pair InPairs log new w refl)
 moves InPairs log line.End m next at w r a = place_of (zero_symbol m r) a (end InPairs log w refl)
 moves InPairs log read m next at w r a = absurd (cc)
 moves Finished log read m next at w r a = absurd (cc)

@@ -1,10 +1,12 @@
 -- Lines that a reader takes one after the other: with which lines a log begins, and with which none
 -- does.
-use Rattle.std.proofs.Common.{◌≡◌, ◌∙◌, sym, refl, ap, ℕ, ◌+◌, eqb, Bool, true, false, Option, Some, None, List, [], ◌∷◌, ◌++◌, ◌&&◌, if◌then◌else◌, length, append_assoc, arith}
+use Rattle.std.proofs.Common.{◌≡◌, ◌∙◌, sym, refl, ap, ℕ, ◌+◌, eqb, Bool, true, Option, Some, None, List, [], ◌∷◌, ◌++◌, ◌&&◌, if◌then◌else◌, length, append_assoc, arith}
 use Rattle.std.proofs.lemmas.Bool.{eq-eqb}
 use Rattle.std.proofs.lemmas.List.{append-nil, map-append}
 use Rattle.std.proofs.lemmas.List.Folds.{list_all-append}
 use Rattle.std.specs.List.{list_all}
+use Rattle.rx_plain.proofs.Lists.{all_pushed}
+use Rattle.rx_plain.proofs.Booleans.{and_first, and_second}
 use Rattle.rx_poly.specs.declared.body.Body.{Body}
 use Rattle.rx_cover.specs.declared.cover_tree.CoverTree.{CoverTree}
 use Rattle.rx_form.specs.declared.step.Step.{Step}
@@ -14,6 +16,7 @@ use Rattle.rx_log.specs.declared.log.Log.{Log}
 use Rattle.rx_logtext.specs.Lines.{IsText, lines}
 use Rattle.rx_log.specs.Lines.{before_ranks, by_symbol, has_widths, log_lines, plain}
 use Rattle.rx_logtext.specs.Logs.{Begins, HasLines, has_ranges, line_texts}
+use Rattle.rx_log.proofs.PlaceLaws.{after_all-append}
 use Rattle.rx_log.specs.Places.{after, after_all}
 use Rattle.rx_log.specs.Reading.{IsAt, IsBeforeRanks, lines_to, pushed}
 use Rattle.rx_logtext.specs.Reading.{HasTaken, MayCome}
@@ -21,32 +24,12 @@ use Rattle.rx_log.specs.declared.line.Line.{Line}
 use Rattle.rx_log.specs.declared.line.Line.TheVariants as line
 use Rattle.rx_log.specs.declared.place.Place.{Place}
 use Rattle.rx_log.specs.declared.place.Place.TheVariants.{AtHeader, InCovers, InSteps, InRanks, InPairs, Finished}
-use Rattle.rx_logtext.proofs.Places.{list_all-push, moves}
+use Rattle.rx_logtext.proofs.Places.{moves}
 
 -- ---- tests of two facts
 
-first : (a b : Bool) → (a && b) ≡ true → a ≡ true
-first true b e = refl
-first false b e = absurd (cc)
-
-second : (a b : Bool) → (a && b) ≡ true → b ≡ true
-second true b e = e
-second false b e = absurd (cc)
-
 both : {a b : Bool} → a ≡ true → b ≡ true → (a && b) ≡ true
 both e f = rw (e, f) refl
-
--- ---- places after lines
-
-nowhere : (its : List (Line × ℕ)) → after_all None its ≡ None
-nowhere [] = refl
-nowhere (it ∷ its) = refl
-
-after_all-append : (place : Option Place) (its more : List (Line × ℕ)) →
-    after_all place (its ++ more) ≡ after_all (after_all place its) more
-after_all-append place [] more = refl
-after_all-append None (it ∷ its) more = sym (nowhere more)
-after_all-append (Some place) (it ∷ its) more = after_all-append (after place it) its more
 
 -- ---- one line more
 
@@ -63,7 +46,7 @@ takes place log texts bytes read m next h t a =
       at = v.at;
       widths = v.widths;
       in_range =
-          rw v.lines (list_all-push lines.in_range (lines_to place log) (read, m) h.in_range
+          rw v.lines (all_pushed lines.in_range (lines_to place log) (read, m) h.in_range
           t.in_range);
       are =
           rw v.lines (line_texts-push (lines_to place log) (read, m) ∙
@@ -94,14 +77,14 @@ ranks_run : (columns k : ℕ) (xs : List (List Body)) →
 ranks_run columns k [] w = let e : k + 0 ≡ k = omega arith in rw e refl
 ranks_run columns k (x ∷ xs) w =
     let e : eqb k k ≡ true = eq-eqb k k refl in
-    let g : eqb (length x) columns ≡ true = first _ _ w in
+    let g : eqb (length x) columns ≡ true = and_first _ _ w in
     let f : (k + 1) + length xs ≡ k + length (x ∷ xs) = omega arith in
     let h : after (InRanks columns k) (line.Rank x, k) ≡ Some (InRanks columns (k + 1)) =
     ap (λ (b : Bool). if b then (if eqb (length x) columns then Some (InRanks columns (k + 1)) else
     None) else None) e
     ∙ ap (λ (b : Bool). if b then Some (InRanks columns (k + 1)) else None) g in
     ap (λ (at : Option Place). after_all at (by_symbol line.Rank (k + 1) xs)) h ∙
-    ranks_run columns (k + 1) xs (second _ _ w) ∙ ap (λ (n : ℕ). Some (InRanks columns n)) f
+    ranks_run columns (k + 1) xs (and_second _ _ w) ∙ ap (λ (n : ℕ). Some (InRanks columns n)) f
 
 later_steps : (xs : List Step) (columns : ℕ) (more : List (Line × ℕ)) →
     after_all (Some InSteps) (plain line.Step xs ++ (line.Ranks columns, 0) ∷ more) ≡
@@ -159,10 +142,10 @@ log_runs log w =
 -- ---- what was taken begins a log
 
 pub of_ranges : (log : Log) → has_ranges log ≡ true → list_all lines.in_range (log_lines log) ≡ true
-of_ranges log h = first _ _ h
+of_ranges log h = and_first _ _ h
 
 of_widths : (log : Log) → has_ranges log ≡ true → has_widths log ≡ true
-of_widths log h = second _ _ h
+of_widths log h = and_second _ _ h
 
 -- the lines of a log up to a place, and those after it
 record Parts (place : Place) (log : Log) : Type 0 where
@@ -244,12 +227,12 @@ same_lines one (x ∷ xs) (y ∷ ys) r s e =
     let head : lines.text y ≡ lines.text x = cc in
     let tail : line_texts xs ≡ line_texts ys = cc in
     let same : x ≡ y = one (lines.text x) x y
-    (text_of x (lines.text x) (first (lines.in_range x) (list_all lines.in_range xs) r) refl)
-    (text_of y (lines.text x) (first (lines.in_range y) (list_all lines.in_range ys) s) head) in
+    (text_of x (lines.text x) (and_first (lines.in_range x) (list_all lines.in_range xs) r) refl)
+    (text_of y (lines.text x) (and_first (lines.in_range y) (list_all lines.in_range ys) s) head) in
     let u : list_all lines.in_range xs ≡ true =
-    second (lines.in_range x) (list_all lines.in_range xs) r in
+    and_second (lines.in_range x) (list_all lines.in_range xs) r in
     let v : list_all lines.in_range ys ≡ true =
-    second (lines.in_range y) (list_all lines.in_range ys) s in
+    and_second (lines.in_range y) (list_all lines.in_range ys) s in
     let rest : xs ≡ ys = same_lines one xs ys u v tail in cc
 
 -- lines whose texts go on with one more: the line with that text comes after the others
@@ -277,13 +260,13 @@ goes_on (x ∷ xs) [] bytes more r e =
       are = refl;
       in_range = refl;
       is =
-          text_of x bytes (first (lines.in_range x) (list_all lines.in_range xs) r) head;
+          text_of x bytes (and_first (lines.in_range x) (list_all lines.in_range xs) r) head;
     }
 goes_on (x ∷ xs) (t ∷ ts) bytes more r e =
     let head : lines.text x ≡ t = cc in
     let tail : line_texts xs ≡ ts ++ bytes ∷ more = cc in
     let s : list_all lines.in_range xs ≡ true =
-    second (lines.in_range x) (list_all lines.in_range xs) r in
+    and_second (lines.in_range x) (list_all lines.in_range xs) r in
     let g : GoesOn xs ts bytes = goes_on xs ts bytes more s tail in
     record {
       before = x ∷ g.before;
@@ -293,13 +276,14 @@ goes_on (x ∷ xs) (t ∷ ts) bytes more r e =
       are =
           ap (λ (it : List ℕ). it ∷ line_texts g.before) head ∙
           ap (λ (its : List (List ℕ)). t ∷ its) g.are;
-      in_range = both (first (lines.in_range x) (list_all lines.in_range xs) r) g.in_range;
+      in_range = both (and_first (lines.in_range x) (list_all lines.in_range xs) r) g.in_range;
       is = g.is;
     }
 
 leads_somewhere : (place : Option Place) (its : List (Line × ℕ)) (end : Place) →
     after_all place its ≡ Some end → (behind : Place) × (place ≡ Some behind)
-leads_somewhere None its end e = let n : after_all None its ≡ None = nowhere its in absurd (cc)
+leads_somewhere None [] end e = absurd (cc)
+leads_somewhere None (it ∷ its) end e = absurd (cc)
 leads_somewhere (Some place) its end e = (place, refl)
 
 -- where a log begins with the lines that were taken and one more, that line may come

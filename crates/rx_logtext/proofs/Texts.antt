@@ -255,7 +255,7 @@ one_at_most : (line : Option Line) → count_of line ≤ 1
 one_at_most None = omega arith
 one_at_most (Some line) = omega arith
 
-front_taken : (left : List ℕ) (count : ℕ) → count ≡ length (up_to_feed left) → left ≡
+pub front_taken : (left : List ℕ) (count : ℕ) → count ≡ length (up_to_feed left) → left ≡
     up_to_feed left ++ drop count left
 front_taken left count e =
     let f = up_to_feed-drop left in

@@ -3,6 +3,7 @@ use Rattle.std.proofs.Common.{◌≡◌, ◌∙◌, refl, sym, ap, subst, ℕ, e
 use Rattle.std.proofs.lemmas.Bool.{eqb-true, leb-true, le-leb}
 use Rattle.std.proofs.lemmas.List.{append-nil}
 use Rattle.std.specs.List.{list_all}
+use Rattle.rx_plain.proofs.Booleans.{and_first, and_second}
 use Rattle.rx_form.specs.declared.step.Delete.TheVariants.{Absurd, Equal}
 use Rattle.rx_form.specs.declared.step.Step.{Step}
 use Rattle.rx_form.specs.declared.step.Step.TheVariants as step
@@ -172,14 +173,6 @@ apart s l m f e =
 both_zero : (m n : ℕ) → eqb m 0 ≡ true → eqb n 0 ≡ true → m ≡ n
 both_zero m n e f = eqb-true m 0 e ∙ sym (eqb-true n 0 f)
 
-first : (a b : Bool) → (a && b) ≡ true → a ≡ true
-first true b e = refl
-first false b e = absurd (cc)
-
-second : (a b : Bool) → (a && b) ≡ true → b ≡ true
-second true b e = e
-second false b e = absurd (cc)
-
 abbrev Numbered : Type 0
 Numbered = Line × ℕ
 
@@ -199,7 +192,7 @@ listed_once text in_range once m n xs ys p q r s e =
 -- a number of columns is one of u32
 pub width_fits : (c : ℕ) → is_width c ≡ true → numbers.in_range c ≡ true
 width_fits c w =
-    let small : c ≤ 15 = leb-true c 15 (second (leb 1 c) (leb c 15) w) in
+    let small : c ≤ 15 = leb-true c 15 (and_second (leb 1 c) (leb c 15) w) in
     le-leb c (2 ^ 32 - 1) (omega arith)
 
 pub same_line : (bytes : List ℕ) (x : Line) (m : ℕ) (y : Line) (n : ℕ) → IsText lines bytes (x, m) →
@@ -217,17 +210,17 @@ same_line bytes line.End m y n t u =
     absurd (let f : true ≡ false = ap (starts (codes "EQU")) (sym t.text ∙ u.text) in cc)
 same_line bytes (line.Step s) m (line.Step r) n t u =
     let same : s ≡ r = steps_one bytes s r (record
-    { in_range = first _ _ t.in_range; text = t.text })
-    (record { in_range = first _ _ u.in_range; text = u.text }) in
-    let zero : m ≡ n = both_zero m n (second _ _ t.in_range) (second _ _ u.in_range) in
+    { in_range = and_first _ _ t.in_range; text = t.text })
+    (record { in_range = and_first _ _ u.in_range; text = u.text }) in
+    let zero : m ≡ n = both_zero m n (and_second _ _ t.in_range) (and_second _ _ u.in_range) in
     λ i. (line.Step (same i), zero i)
 same_line bytes (line.Step s) m y n t u = absurd (apart s y n refl (sym t.text ∙ u.text))
 same_line bytes (line.Cover xs) m (line.Cover ys) n t u =
     let e : natural_text m ++ each_spaced trees.text xs ≡ natural_text n ++
     each_spaced trees.text ys = ap (drop 7) (sym t.text ∙ u.text) in
     let same = listed_once trees.text trees.in_range (trees_once 200) m n xs ys
-    (first _ _ t.in_range) (first _ _ u.in_range) (second _ _ t.in_range)
-    (second _ _ u.in_range) e in
+    (and_first _ _ t.in_range) (and_first _ _ u.in_range) (and_second _ _ t.in_range)
+    (and_second _ _ u.in_range) e in
     λ i. (line.Cover (same.0 i), same.1 i)
 same_line bytes (line.Cover xs) m (line.Step s) n t u =
     absurd (apart s (line.Cover xs) m refl (sym u.text ∙ t.text))
@@ -236,8 +229,8 @@ same_line bytes (line.Cover xs) m y n t u =
 same_line bytes (line.Ranks c) m (line.Ranks d) n t u =
     let e : numbers.text c ≡ numbers.text d = ap (drop 6) (sym t.text ∙ u.text) in
     let same : c ≡ d = whole_once numbers.text numbers.in_range numbers_once (numbers.text c) c d
-    (width_fits c (first _ _ t.in_range)) (width_fits d (first _ _ u.in_range)) refl e in
-    let zero : m ≡ n = both_zero m n (second _ _ t.in_range) (second _ _ u.in_range) in
+    (width_fits c (and_first _ _ t.in_range)) (width_fits d (and_first _ _ u.in_range)) refl e in
+    let zero : m ≡ n = both_zero m n (and_second _ _ t.in_range) (and_second _ _ u.in_range) in
     λ i. (line.Ranks (same i), zero i)
 same_line bytes (line.Ranks c) m (line.Step s) n t u =
     absurd (apart s (line.Ranks c) m refl (sym u.text ∙ t.text))
@@ -247,8 +240,8 @@ same_line bytes (line.Rank xs) m (line.Rank ys) n t u =
     let e : natural_text m ++ each_spaced polynomials.text xs ≡ natural_text n ++
     each_spaced polynomials.text ys = ap (drop 6) (sym t.text ∙ u.text) in
     let same = listed_once polynomials.text polynomials.in_range polynomials_once m n xs ys
-    (first _ _ t.in_range) (first _ _ u.in_range) (second _ _ (second _ _ t.in_range))
-    (second _ _ (second _ _ u.in_range)) e in
+    (and_first _ _ t.in_range) (and_first _ _ u.in_range) (and_second _ _ (and_second _ _ t.in_range))
+    (and_second _ _ (and_second _ _ u.in_range)) e in
     λ i. (line.Rank (same.0 i), same.1 i)
 same_line bytes (line.Rank xs) m (line.Step s) n t u =
     absurd (apart s (line.Rank xs) m refl (sym u.text ∙ t.text))
@@ -259,8 +252,8 @@ same_line bytes (line.Pair p) m (line.Pair q) n t u =
     ap (drop 5) (sym t.text ∙ u.text) in
     let same = whole_once pair_parts.text pair_parts.in_range numbered_certs_once
     (pair_parts.text (p.column, p.certs)) (p.column, p.certs) (q.column, q.certs)
-    (first _ _ t.in_range) (first _ _ u.in_range) refl e in
-    let zero : m ≡ n = both_zero m n (second _ _ t.in_range) (second _ _ u.in_range) in
+    (and_first _ _ t.in_range) (and_first _ _ u.in_range) refl e in
+    let zero : m ≡ n = both_zero m n (and_second _ _ t.in_range) (and_second _ _ u.in_range) in
     λ i. (line.Pair (record { column = (same i).0; certs = (same i).1 }), zero i)
 same_line bytes (line.Pair p) m (line.Step s) n t u =
     absurd (apart s (line.Pair p) m refl (sym u.text ∙ t.text))

@@ -3,7 +3,7 @@
 use Rattle.std.proofs.Common.{◌≡◌, ◌∙◌, ap, subst, sym, refl, cond, inl, inr, ◌⊎◌, ℕ, zero, suc, ◌+◌, ◌<◌, ◌≤◌, ◌==◌, Bool, true, false, not, ◌||◌, Option, Some, None, List, [], ◌∷◌, length, arith}
 use Rattle.std.specs.Prelude.{filter, nat_le}
 use Rattle.std.specs.List.{list_all}
-use Rattle.std.proofs.lemmas.Bool.{and_from, and_parts, eqb-true, eq-eqb}
+use Rattle.std.proofs.lemmas.Bool.{and_from, and_parts, eq-eqb, eqb-true, or_right}
 use Rattle.rx_plain.specs.Formed.{Formed, pure, ◌>>=◌}
 use Rattle.rx_poly.specs.Substitution.{subst_body}
 use Rattle.rx_poly.specs.Variables.{variables}
@@ -24,10 +24,6 @@ Settings = List (ℕ × Body)
 
 abbrev Grown : Settings → Settings → Type 0
 Grown ws vs = (y : ℕ) → is_set ws y ≡ true → is_set vs y ≡ true
-
-or_right : (a b : Bool) → b ≡ true → (a || b) ≡ true
-or_right true b h = refl
-or_right false b h = h
 
 or_either : (a b c : Bool) → (b ≡ true → c ≡ true) → (a || b) ≡ true → (a || c) ≡ true
 or_either true b c h k = refl

@@ -7,6 +7,7 @@ use Rattle.std.proofs.lemmas.Bool.{and_from, and_parts}
 use Rattle.std.proofs.lemmas.List.Elements.{All-weaker}
 use Rattle.std.proofs.lemmas.List.Folds.{list_all-append}
 use Rattle.std.proofs.lemmas.List.Sums.{AllPass-from_list_all}
+use Rattle.std.proofs.lemmas.Option.{none-some}
 use Rattle.rx_plain.specs.Formed.{map_formed}
 use Rattle.rx_poly.proofs.Levels.{atoms-of_atoms}
 use Rattle.rx_poly.proofs.ReadingLaws.{is_variable}
@@ -211,19 +212,16 @@ module _ (test : ℕ → Bool) where
   PartPasses n t =
       (s : Term) → term_passes test t ≡ true → suffix_at n t ≡ Some s → term_passes test s ≡ true
 
-  no_part : (s : Term) → ◌≡◌ {A = Option Term} None (Some s) → ⊥
-  no_part s e = cc
-
   part_inside : (n : ℕ) → ((u : Term) → PartPasses n u) → (t : Term) → Form t → PartPasses (suc n) t
   part_inside n further _ (AReturn p) s h e =
-      absurd (no_part s (sym (ap (λ (x : Term-F Term). under_frame x (suffix_at n)) (outs-Return p))
+      absurd (none-some s (sym (ap (λ (x : Term-F Term). under_frame x (suffix_at n)) (outs-Return p))
       ∙
       e))
   part_inside n further _ (AFail c) s h e =
-      absurd (no_part s (sym (ap (λ (x : Term-F Term). under_frame x (suffix_at n)) (outs-Fail c)) ∙
+      absurd (none-some s (sym (ap (λ (x : Term-F Term). under_frame x (suffix_at n)) (outs-Fail c)) ∙
       e))
   part_inside n further _ (ACall f ps) s h e =
-      absurd (no_part s (sym (ap (λ (x : Term-F Term). under_frame x (suffix_at n))
+      absurd (none-some s (sym (ap (λ (x : Term-F Term). under_frame x (suffix_at n))
       (outs-Call f ps)) ∙
       e))
   part_inside n further _ (AFrame f ps t) s h e =

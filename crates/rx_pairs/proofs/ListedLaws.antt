@@ -5,6 +5,7 @@ use Rattle.std.proofs.lemmas.List.Elements.{All-head, All-tail}
 use Rattle.std.specs.Option.{option_map_or}
 use Rattle.std.specs.Prelude.{All}
 use lib.Pointwise.{pointwise_decides}
+use Rattle.rx_term.proofs.RedexWalks.{result-Frame}
 use Rattle.rx_graph.proofs.GraphLaws.{or_cases, or_left, or_right}
 use Rattle.rx_poly.proofs.Same.{body_eq-refl, body_eq-sound}
 use Rattle.rx_poly.specs.declared.body.Body.{Body}
@@ -14,12 +15,12 @@ use Rattle.rx_term.specs.declared.term.Sym.{Sym}
 use Rattle.rx_term.specs.declared.term.Term.{Term, Term-F, out-Term}
 use Rattle.rx_term.specs.declared.term.Term.TheFolds.{fold_out-Term}
 use Rattle.rx_term.specs.declared.term.Term.TheVariants.{Return, Fail, Call, Frame, outs-Return, outs-Fail, outs-Call, outs-Frame}
-use Rattle.rx_term.proofs.Equations.{Form, AReturn, AFail, ACall, AFrame, form, induct, depth-Frame}
+use Rattle.rx_term.proofs.Equations.{ACall, AFail, AFrame, AReturn, Form, depth-Frame, form, induct, symbols_are}
 use Rattle.rx_term.proofs.KeepingLaws.{depth_after}
 use Rattle.rx_pairs.specs.Listed.{is_same_term, is_under, is_under_most, pairs_by, pairs_by_all, parts_by, parts_level, same_arguments, same_level}
 use Rattle.rx_pairs.specs.Pairs.{AreAllPairs, AreParts, ArePairs, AtCall, AtFail, AtFrame, AtReturn, Common, HasRoot, IsRoot, IsUnder, NoRules, OfCall, OfFrame, OneMore, PairsOf, Part, pair_of}
 use Rattle.rx_pairs.specs.declared.pair.Pair.{Pair}
-use Rattle.rx_pairs.proofs.PairsLaws.{any_root, one_pairs, result_call, result_frame, root_found}
+use Rattle.rx_pairs.proofs.PairsLaws.{any_root, one_pairs, result_call, root_found}
 
 -- ---- two terms are the same
 
@@ -90,9 +91,6 @@ from_fail c _ (AFrame f ps t) e =
     absurd (false≢true (told (Term-F.Fail c) (Fail c) (Frame f ps t) (Term-F.Frame f ps t)
     (same-Fail c (Frame f ps t)) (outs-Frame f ps t) e))
 
-same_symbol : (f g : Sym) → f.0 ≡ g.0 → f ≡ g
-same_symbol f g e = λ i. record { 0 = e i }
-
 from_call : (f : Sym) (ps : List Body) (u : Term) → Form u → is_same_term (Call f ps) u ≡ true →
     Call f ps ≡ u
 from_call f ps _ (AReturn q) e =
@@ -105,7 +103,7 @@ from_call f ps _ (ACall g qs) e =
     let both = and_parts (f.0 == g.0) (same_arguments ps qs)
     (told (Term-F.Call f ps) (Call f ps) (Call g qs) (Term-F.Call g qs)
     (same-Call f ps (Call g qs)) (outs-Call g qs) e) in
-    λ i. Call (same_symbol f g (eqb-true f.0 g.0 both.0) i) ((arguments_same ps qs).0 both.1 i)
+    λ i. Call (symbols_are f g (eqb-true f.0 g.0 both.0) i) ((arguments_same ps qs).0 both.1 i)
 from_call f ps _ (AFrame g qs t) e =
     absurd (false≢true (told (Term-F.Call f ps) (Call f ps) (Frame g qs t) (Term-F.Frame g qs t)
     (same-Call f ps (Frame g qs t)) (outs-Frame g qs t) e))
@@ -127,7 +125,7 @@ from_frame f ps t inner _ (AFrame g qs u) e =
     (told (Term-F.Frame f ps (is_same_term t)) (Frame f ps t) (Frame g qs u) (Term-F.Frame g qs u)
     (same-Frame f ps t (Frame g qs u)) (outs-Frame g qs u) e) in
     let both = and_parts (f.0 == g.0) (same_arguments ps qs) all.0 in
-    λ i. Frame (same_symbol f g (eqb-true f.0 g.0 both.0) i) ((arguments_same ps qs).0 both.1 i)
+    λ i. Frame (symbols_are f g (eqb-true f.0 g.0 both.0) i) ((arguments_same ps qs).0 both.1 i)
     (inner u all.1 i)
 
 pub same_sound : (t u : Term) → is_same_term t u ≡ true → t ≡ u
@@ -240,7 +238,7 @@ pairs_listed rule has =
 
 has_root : (t : Term) (root : Part) → IsRoot t root → is_result t ≡ false
 has_root _ _ (OfCall f ps) = result_call f ps
-has_root _ _ (OfFrame f ps t) = result_frame f ps t
+has_root _ _ (OfFrame f ps t) = result-Frame f ps t
 
 pub pairs_have_root : (rule : Rule) (pairs : List Pair) → ArePairs rule pairs → HasRoot rule
 pairs_have_root rule _ (PairsOf root is parts are) = has_root rule.left root is

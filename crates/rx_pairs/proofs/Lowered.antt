@@ -14,12 +14,10 @@ use Rattle.rx_poly.specs.Variables.{uses_below}
 use Rattle.rx_poly.specs.declared.body.Body.{Body}
 use Rattle.rx_poly_laws.proofs.Locality.{same_value_below}
 use Rattle.rx_cert.proofs.ConditionLaws.{conditions_hold}
-use Rattle.rx_cert.proofs.FindingLaws.{within_parts}
+use Rattle.rx_cert.proofs.FindingLaws.{shown_list, within_parts}
 use Rattle.rx_cert.specs.Conditions.{conditions, is_shown}
 use Rattle.rx_cert.specs.Findings.{Said, Yes, No, Beyond}
 use Rattle.rx_cert.specs.declared.cert.Cert.{Cert}
-use Rattle.rx_cert.specs.declared.conditions.ConditionsAnswer.{ConditionsAnswer}
-use Rattle.rx_cert.specs.declared.conditions.ConditionsAnswer.TheVariants.{Shown, WrongCount, NotShown}
 use Rattle.rx_row.specs.Holds.{AllHold}
 use Rattle.rx_rewriting.specs.Ranks.{FirstLess, Smaller, weight_of}
 use Rattle.rx_rewriting.proofs.SmallerWeights.{lowers_under_frames}
@@ -29,7 +27,7 @@ use Rattle.rx_rewriting.specs.Steps.{Either}
 use Rattle.rx_rewriting.specs.Terms.{Fits, Ground}
 use Rattle.rx_term.proofs.AssignedLaws.{updated_assignment-arguments}
 use Rattle.rx_term.proofs.Equations.{fits-Call, fits-Frame}
-use Rattle.rx_term.proofs.Kept.{first_or_other}
+use Rattle.rx_plain.proofs.Kept.{first_or_other}
 use Rattle.rx_term.proofs.TogetherLaws.{numbered_in_order, of_either_list}
 use Rattle.rx_term.specs.Assigned.{assigned}
 use Rattle.rx_term.specs.Fitting.{is_alike, is_declared, term_fits}
@@ -70,12 +68,6 @@ columns_at a args (p ∷ ps) below =
 pub record IsRanked (table : RankTable) (pair : Pair) : Type 0 where
   pub left : is_rank table.columns (length pair.left_args) (columns_of table pair.left.0) ≡ true
   pub right : is_rank table.columns (length pair.right_args) (columns_of table pair.right.0) ≡ true
-
-shown_list : (found : Option ConditionsAnswer) → is_shown found ≡ Yes → found ≡ Some Shown
-shown_list None e = cc
-shown_list (Some Shown) e = refl
-shown_list (Some WrongCount) e = cc
-shown_list (Some (NotShown i)) e = cc
 
 module _ (table : RankTable) (pair : Pair) (ranked : IsRanked table pair) (a : ℕ → ℤ)
     (holds : AllHold a pair.phi) where

@@ -4,6 +4,7 @@ use Rattle.std.proofs.lemmas.Bool.{false≢true}
 use Rattle.std.proofs.lemmas.List.Elements.{All-head, All-tail, All-weaker}
 use Rattle.std.proofs.lemmas.Option.{none-some, same_Some}
 use Rattle.std.specs.Prelude.{All}
+use Rattle.rx_term.proofs.RedexWalks.{result-Frame}
 use Rattle.rx_poly.specs.Constants.{variable}
 use Rattle.rx_poly.specs.declared.body.Body.{Body}
 use Rattle.rx_term.specs.Stacks.{suffix_at, is_result, is_result_level, under_frame}
@@ -37,9 +38,6 @@ one_root t p q is also = same_Some p q (sym (root_found t p is) ∙ root_found t
 pub result_call : (f : Sym) (ps : List Body) → is_result (Call f ps) ≡ false
 result_call f ps = ap is_result_level (outs-Call f ps)
 
-pub result_frame : (f : Sym) (ps : List Body) (t : Term) → is_result (Frame f ps t) ≡ false
-result_frame f ps t = ap is_result_level (outs-Frame f ps t)
-
 result_return : (p : Body) → is_result (Return p) ≡ true
 result_return p = ap is_result_level (outs-Return p)
 
@@ -70,7 +68,7 @@ module _ (left : Term) where
   result_none _ _ (AtFail c) is = refl
   result_none _ _ (AtCall f ps differs) is = absurd (false≢true (sym (result_call f ps) ∙ is))
   result_none _ _ (AtFrame f ps t rest differs inner) is =
-      absurd (false≢true (sym (result_frame f ps t) ∙ is))
+      absurd (false≢true (sym (result-Frame f ps t) ∙ is))
 
   call_alone : (f : Sym) (ps : List Body) (t : Term) (qs : List Part) → AreParts left t qs → t ≡
       Call f ps → (IsUnder left t → ⊥) → qs ≡ part f ps ∷ []
@@ -93,9 +91,9 @@ module _ (left : Term) where
       Frame f ps u → (IsUnder left t → ⊥) → FrameFirst f ps u qs
   frame_first f ps u _ _ (Common t under) is clear = absurd (clear under)
   frame_first f ps u _ _ (AtReturn p) is clear =
-      absurd (no_result (Return p) (Frame f ps u) (result_return p) (result_frame f ps u) is)
+      absurd (no_result (Return p) (Frame f ps u) (result_return p) (result-Frame f ps u) is)
   frame_first f ps u _ _ (AtFail c) is clear =
-      absurd (no_result (Fail c) (Frame f ps u) (result_fail c) (result_frame f ps u) is)
+      absurd (no_result (Fail c) (Frame f ps u) (result_fail c) (result-Frame f ps u) is)
   frame_first f ps u _ _ (AtCall g qs differs) is clear = absurd (call_frame g f qs ps u is)
   frame_first f ps u _ _ (AtFrame g qs t rest differs inner) is clear = record {
     rest = rest;
@@ -254,8 +252,8 @@ part_pairs (rule ∷ rules) others _ (OneMore _ _ pairs rest are more) =
 -- the left side of a rule that is well made is no bare result
 made_root : (left : Term) → IsLeft left → is_result left ≡ false
 made_root _ (OfPoint f n) = result_call f (variables_from 0 n)
-made_root _ (OverReturn f n) = result_frame f (variables_from 0 n) (Return (variable n))
-made_root _ (OverFail f n c) = result_frame f (variables_from 0 n) (Fail c)
+made_root _ (OverReturn f n) = result-Frame f (variables_from 0 n) (Return (variable n))
+made_root _ (OverFail f n c) = result-Frame f (variables_from 0 n) (Fail c)
 
 pub made_roots : (parts : RuleParts) (rules : List Rule) → All (IsMade parts) rules →
     All HasRoot rules

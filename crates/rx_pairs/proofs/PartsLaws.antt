@@ -2,6 +2,7 @@
 use Rattle.std.proofs.Common.{◌≡◌, ◌∙◌, ap, sym, subst, refl, arith, ℕ, zero, suc, ◌+◌, ◌-◌, ◌<◌, Option, Some, None, List, [], ◌∷◌, ◌++◌, append_assoc}
 use Rattle.std.proofs.lemmas.List.{append-nil, map-append}
 use Rattle.std.proofs.lemmas.Option.{none-some, same_Some}
+use Rattle.rx_plain.proofs.Naturals.{one_more}
 use Rattle.rx_poly.specs.declared.body.Body.{Body}
 use Rattle.rx_term.specs.Stacks.{suffix_at, depth_of, under_frame}
 use Rattle.rx_term.specs.declared.term.Sym.{Sym}
@@ -101,9 +102,7 @@ pass done rest here count term r h f g ps qs inner further a is other at to what
           ∙ ap (λ p. all_lent done ++ p ∷ outer_parts (depth_of r) h) what
           ∙ ap (λ ps. all_lent done ++ ps) (sym first)
           ∙ before.all;
-    } where
-      one_more : (n : ℕ) → 1 + n ≡ suc n
-      one_more n = omega arith
+    }
 
 -- none is left to pass
 pub passed : (done : List Application) (rest here count term : Term) →

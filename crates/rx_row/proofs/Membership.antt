@@ -2,7 +2,7 @@
 -- where the list and the row do.
 use Rattle.std.proofs.Common.{◌≡◌, ◌∙◌, ◌↔◌, ap, subst, sym, refl, ℕ, zero, suc, ◌<◌, Bool, true, false, ◌||◌, if◌then◌else◌, List, [], ◌∷◌, ◌++◌, length, get_or, Contains, ℤ, arith}
 use Rattle.std.proofs.lemmas.List.Elements.{Contains-append_right}
-use Rattle.rx_poly.proofs.TermLaws.{by_false}
+use Rattle.std.proofs.lemmas.Bool.{false_from_ne_true, or_left, or_right}
 use Rattle.rx_row.specs.Holds.{AllHold, RowHolds}
 use Rattle.rx_row.specs.Membership.{pushed, stands_among}
 use Rattle.rx_row.specs.declared.row.Row.{Row}
@@ -25,14 +25,6 @@ stands-contains [] row e = cc
 stands-contains (r ∷ rs) row e =
     first_or_after r rs row (stands-contains rs row) (row_eq r row) refl e
 
-or_right : (b c : Bool) → c ≡ true → (b || c) ≡ true
-or_right true c e = refl
-or_right false c e = e
-
-or_left : (b c : Bool) → b ≡ true → (b || c) ≡ true
-or_left true c e = refl
-or_left false c e = cc
-
 pub contains-stands : (rows : List Row) (row : Row) (k : ℕ) → k < length rows → get_or rows k row ≡
     row → stands_among rows row ≡ true
 contains-stands [] row k h e = absurd (omega arith)
@@ -47,7 +39,7 @@ pub stands_is : (b : Bool) (rows : List Row) (row : Row) → ((b ≡ true) ↔ C
     stands_among rows row
 stands_is true rows row tells = let c = tells.0 refl in sym (contains-stands rows row c.0 c.1 c.2)
 stands_is false rows row tells =
-    sym (by_false (stands_among rows row) (λ e. let no : false ≡ true =
+    sym (false_from_ne_true (stands_among rows row) (λ e. let no : false ≡ true =
     tells.1 (stands-contains rows row e) in cc))
 
 -- a row of the list is not added

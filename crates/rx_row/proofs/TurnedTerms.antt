@@ -2,11 +2,11 @@
 use Rattle.std.proofs.Common.{◌≡◌, ◌∙◌, ◌↔◌, IsTrue, ap, subst, refl, sym, ℕ, suc, ◌+◌, ◌<◌, ◌≤◌, Bool, true, false, if◌then◌else◌, List, [], ◌∷◌, length, drop, get_or, drop_of_length-le, add-one, ℤ, pos, negsuc, ◌+ℤ◌, ◌-ℤ◌, ◌*ℤ◌, arith}
 use Rattle.std.proofs.Math.Seq.{drop-cons}
 use Rattle.std.proofs.lemmas.Int.{ints}
-use Rattle.std.proofs.lemmas.Bool.{and_parts, and_from}
+use Rattle.std.proofs.lemmas.Bool.{and_from, and_parts, false_from_ne_true}
 use Rattle.std.specs.Cmp.{nat_cmp_is}
 use Rattle.std.specs.Ordering.{is_eq, is_lt, nat_cmp, ordering_reverse, ordering_then}
-use Rattle.std.specs.declared.cmp.Ordering.{Ordering}
 use Rattle.std.specs.declared.cmp.Ordering.TheVariants.{Less, Equal, Greater}
+use Rattle.rx_poly.proofs.Emptiness.{empty_is}
 use Rattle.rx_plain.specs.Graded.{graded_cmp}
 use Rattle.rx_poly.specs.Constants.{number}
 use Rattle.rx_poly.specs.Limits.{of_atoms}
@@ -14,11 +14,11 @@ use Rattle.rx_poly.specs.Normal.{is_empty, is_poly}
 use Rattle.rx_poly.specs.Order.{atom_cmp, mono_cmp}
 use Rattle.rx_poly.specs.Terms.{add_terms, is_before, is_sparse_sorted, is_zero, negated, insert_by, cons_nonzero, times_number}
 use Rattle.rx_poly.proofs.Levels.{atoms-of_atoms, terms-of_terms}
-use Rattle.rx_poly.proofs.OrderLemmas.{mono_cmp_is, mono_total}
+use Rattle.rx_poly.proofs.OrderLemmas.{equal_is, mono_cmp_is, mono_total}
 use Rattle.rx_poly.proofs.PolyLaws.{listed-times_number, poly_terms}
 use Rattle.rx_poly.proofs.ReadingLaws.{itself}
 use Rattle.rx_poly.proofs.Same.{same_mono}
-use Rattle.rx_poly.proofs.TermLaws.{add-left, by_false, Listed, listed_parts, lt_is, cons_nonzero-nonzero, zero_is}
+use Rattle.rx_poly.proofs.TermLaws.{add-left, Listed, listed_parts, lt_is, cons_nonzero-nonzero, zero_is}
 use Rattle.rx_poly.specs.declared.body.Atom.{Atom}
 use Rattle.rx_poly.specs.declared.body.Mono.{Mono, out-Mono, roll-Mono, roll-out-Mono}
 use Rattle.rx_poly.specs.declared.body.Body.{Body, out-Body, roll-Body, roll-out-Body}
@@ -32,14 +32,10 @@ one = of_atoms []
 abbrev is_one : Mono → Bool
 is_one m = is_empty (out-Mono m).atoms
 
-no_atoms : (xs : List Atom) → is_empty xs ≡ true → xs ≡ []
-no_atoms [] e = refl
-no_atoms (x ∷ xs) e = cc
-
 -- only one monomial has no atom
 one_is : (m : Mono) → is_one m ≡ true → m ≡ one
 one_is m e =
-    sym (roll-out-Mono m) ∙ (λ i. roll-Mono (record { atoms = no_atoms (out-Mono m).atoms e i }))
+    sym (roll-out-Mono m) ∙ (λ i. roll-Mono (record { atoms = empty_is (out-Mono m).atoms e i }))
 
 shorter : (n : ℕ) → nat_cmp 0 (suc n) ≡ Less
 shorter n = let less : 0 < suc n = omega arith in sym (nat_cmp_is 0 (suc n) Less less)
@@ -72,7 +68,7 @@ none_after_one (t ∷ ts) h =
 -- ---- the terms of -p - 1
 
 nonzero_negated : (c : ℤ) → is_zero c ≡ false → is_zero (c *ℤ negsuc 0) ≡ false
-nonzero_negated c h = by_false (is_zero (c *ℤ negsuc 0)) (λ e.
+nonzero_negated c h = false_from_ne_true (is_zero (c *ℤ negsuc 0)) (λ e.
     let none : c *ℤ negsuc 0 ≡ pos 0 = zero_is (c *ℤ negsuc 0) e in
     let zero_too : c ≡ pos 0 = omega (arith, ints) in
     let told : is_zero c ≡ true = ap is_zero zero_too in
@@ -138,11 +134,6 @@ is_minus p q h = (
 )
 
 -- ---- compared term by term
-
-equal_is : (r : Ordering) → is_eq r ≡ true → r ≡ Equal
-equal_is Less e = cc
-equal_is Equal e = refl
-equal_is Greater e = cc
 
 -- terms of one monomial
 pub negated_coefficient : (x y : Mono × ℤ) {b : Bool} → is_eq (mono_cmp x.0 y.0) ≡ true → b ≡

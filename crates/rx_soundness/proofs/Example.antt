@@ -1,20 +1,19 @@
 -- The example has a translation, and its two entries are proved equal.
-use Rattle.std.proofs.Common.{◌≡◌, ◌∙◌, ap, sym, subst, refl, true, ◌&&◌, ◌⊎◌, inl, inr, ℕ, ◌<◌, Some, None, Ok, List, [], ◌∷◌, length, pos, arith, All}
+use Rattle.std.proofs.Common.{◌≡◌, ◌∙◌, ap, sym, subst, refl, true, ◌&&◌, ◌⊎◌, inl, inr, ℕ, ◌<◌, Some, None, Ok, List, [], ◌∷◌, pos, arith}
 use Rattle.std.specs.Prelude.{Contains, nat_lt, slice_get}
 use Rattle.std.specs.List.{list_all}
 use Rattle.std.proofs.lemmas.Bool.{and_from}
 use Rattle.std.proofs.lemmas.List.Elements.{All-cons, All-nil}
+use Rattle.rx_joins.proofs.Example.{in_zero, no_width}
+use Rattle.rx_agreement.proofs.Example.{both_code}
 use Rattle.rx_plain.specs.Formed.{Formed}
-use Rattle.rx_poly.specs.Constants.{number, variable}
+use Rattle.rx_poly.specs.Constants.{number}
 use Rattle.rx_poly.specs.Limits.{of_terms, body_difference}
 use Rattle.rx_poly.specs.Reading.{constant_of}
-use Rattle.rx_poly.specs.Substitution.{subst_body, replaced}
 use Rattle.rx_poly.specs.Terms.{is_zero}
-use Rattle.rx_poly.specs.Variables.{uses_below, variables}
+use Rattle.rx_poly.specs.Variables.{uses_below}
 use Rattle.rx_poly.proofs.Constants.{zero_within}
 use Rattle.rx_poly.proofs.Levels.{terms-of_terms}
-use Rattle.rx_poly.proofs.PolyLaws.{zero_poly}
-use Rattle.rx_poly.proofs.Unchanged.{unchanged}
 use Rattle.rx_poly_laws.proofs.TestLaws.{passes-number}
 use Rattle.rx_row.specs.declared.row.Row.{Row}
 use Rattle.rx_row.specs.declared.row.Row.TheVariants.{Eq}
@@ -28,19 +27,19 @@ use Rattle.rx_term.specs.declared.term.Sym.{Sym}
 use Rattle.rx_term.specs.declared.term.Term.{Term}
 use Rattle.rx_term.specs.declared.term.Term.TheVariants.{Call, Return}
 use Rattle.rx_term.proofs.Equations.{arguments-Call, arguments-Return, below-Return, fits-Call, fits-Return, subst_term-Return, redex-Call, shape-Call, shape-Return, within-Return}
-use Rattle.rx_term.proofs.Kept.{first_one, first_or_other, other_one}
-use Rattle.c_ast.specs.Scoped.{is_scoped}
+use Rattle.rx_plain.proofs.Kept.{first_one, first_or_other, other_one}
 use Rattle.c_ast.specs.declared.program.Function.{Function}
-use Rattle.c_ast.proofs.CallEquations.{calls-Lit, calls_in-Return}
+use Rattle.c_ast.specs.Scoped.{is_scoped}
 use Rattle.c_ast.proofs.ScopedEquations.{scoped_equations}
+use Rattle.c_ast.proofs.CallEquations.{calls-Lit, calls_in-Return}
 use Rattle.rx_code.specs.Pieces.{append_code, after, no_code}
-use Rattle.rx_code.specs.Programs.{body_code, entry_of, places_code}
+use Rattle.rx_code.specs.Programs.{body_code, entry_of}
 use Rattle.rx_code.specs.Reached.{AreReached, ByCall, IsFirst, IsSecond, Reached, calls_of, next_number, no_number}
 use Rattle.rx_code.specs.Rules.{deed_within, parts_of, symbol}
 use Rattle.rx_code.specs.Statements.{Compiled}
 use Rattle.rx_code.specs.Translation.{IsTranslation, goal_at, rules_of}
 use Rattle.rx_code.specs.declared.code.Code.{Code}
-use Rattle.rx_code.proofs.Computing.{StmtsAre, lit, no_statement, returns as returning, statement}
+use Rattle.rx_code.proofs.Computing.{lit, no_statement, returns as returning, statement}
 use Rattle.rx_term.specs.declared.rule_set.RuleParts.{RuleParts}
 use Rattle.rx_cover.specs.Covering.{Covers, covering, goes_on}
 use Rattle.rx_cover.specs.Trees.{tree_finding}
@@ -133,10 +132,6 @@ pair n ts m us =
           (d.within && true);
     }
 
-both_code : (f g : Function) {ts us : List Compiled} → StmtsAre f.body ts → StmtsAre g.body us →
-    places_code (f ∷ g ∷ []) both 0 ≡ pair (length f.params) ts (length g.params) us
-both_code f g p q i = pair (length f.params) (p.are i) (length g.params) (q.are i)
-
 -- what code is translated to
 abbrev of_code : Formed Code → Formed RuleParts
 of_code c =
@@ -166,9 +161,6 @@ example_translated =
 
 abbrev zero : Term
 zero = Return (number (pos 0))
-
-no_width : (s : Sym) → width (Call s []) ≡ 0
-no_width s = ap length (arguments-Call s [])
 
 returns_made : (s : Sym) → term_fits parts (Call s []) ≡ true → IsMade parts (returns s)
 returns_made s fits = record {
@@ -247,13 +239,6 @@ all_pairs =
     (pairs.OneMore (returns (symbol 3)) [] [] [] (pairs_of (symbol 3)) pairs.NoRules)))
 
 -- ---- the run
-
-all_stay : (vs : List ℕ) → All (λ v. replaced [] v ≡ variable v) vs
-all_stay [] = All-nil (λ v. replaced [] v ≡ variable v)
-all_stay (v ∷ vs) = All-cons (λ v. replaced [] v ≡ variable v) v vs refl (all_stay vs)
-
-in_zero : subst_body [] (number (pos 0)) ≡ record { form = number (pos 0); within = true }
-in_zero = unchanged [] (number (pos 0)) zero_poly (all_stay (variables (number (pos 0))))
 
 less_zero : body_difference (number (pos 0)) (number (pos 0)) ≡ of_terms []
 less_zero = rw (terms-of_terms []) refl

@@ -88,7 +88,7 @@ formed_alone parts (Some goal) hypotheses s f h = alone_on parts hypotheses goal
 
 -- ---- one group is a list of conditions
 
-under_goal : (u : Under) → is_under_goal u ≡ true → u ≡ Goal
+pub under_goal : (u : Under) → is_under_goal u ≡ true → u ≡ Goal
 under_goal Goal h = refl
 under_goal New h = cc
 

@@ -4,7 +4,8 @@ use Rattle.std.proofs.Common.{◌≡◌, ◌∙◌, refl, sym, ap, subst, Bool, 
 use Rattle.std.specs.Prelude.{IsErrAnd, Ok, Err, slice_get}
 use Rattle.std.proofs.Math.Seq.{drop-cons}
 use Rattle.std.proofs.lemmas.Bool.{and_left}
-use Rattle.std.proofs.lemmas.List.{append-nil, get_or_default}
+use Rattle.std.proofs.lemmas.List.{get_or_default}
+use Rattle.rx_exprs.proofs.ArgumentList.{append-no_code}
 use Rattle.rx_plain.specs.Formed.{Formed, Forms}
 use Rattle.rx_poly.specs.declared.poly_end.PolyEnd.{PolyEnd}
 use Rattle.rx_poly.specs.declared.poly_end.PolyEnd.TheVariants.{Large}
@@ -25,16 +26,6 @@ pub record Placing (functions : List Function) (now : Code) (rest whole : List �
 
 no_code_left : (c : Code) → append_code no_code c ≡ c
 no_code_left c = refl
-
-pub no_code_right : (c : Code) → append_code c no_code ≡ c
-no_code_right c =
-    λ i. record {
-      opened = append-nil c.opened i;
-      deeds = append-nil c.deeds i;
-      heads =
-          append-nil c.heads i;
-      entries = append-nil c.entries i;
-    }
 
 pub begin : (functions : List Function) (places : List ℕ) →
     Placing functions no_code (drop 0 places) places
@@ -87,7 +78,7 @@ pub finished : (functions : List Function) (now : Code) (places : List ℕ) (k :
     ((places_code functions places 0).within ≡ true)
 finished functions now places k h s =
     let all = subst (λ rest. Placing functions now rest places) (drop_of_length-le places h) s in
-    (sym (no_code_right now) ∙ all.code, sym all.within)
+    (sym (append-no_code now) ∙ all.code, sym all.within)
 
 -- a call that fails where a part of the whole is too large
 pub fails_forms : {A : Type 0} (r : Result A PolyEnd) (part : Bool) (whole : Formed A) →

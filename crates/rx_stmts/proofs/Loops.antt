@@ -1,7 +1,9 @@
 -- Pieces that follow one another, and a `for` after its parts.
-use Rattle.std.proofs.Common.{◌≡◌, ◌∙◌, refl, sym, ap, subst, true, false, ◌&&◌, Bool, ℕ, suc, ◌+◌, Option, Some, Result, Ok, Err, List, [], ◌∷◌, length, map, option_map, arith}
-use Rattle.std.proofs.lemmas.Bool.{and_left}
+use Rattle.std.proofs.Common.{◌≡◌, ◌∙◌, refl, sym, ap, subst, false, ◌&&◌, Bool, ℕ, ◌+◌, Option, Some, Result, Ok, Err, List, [], ◌∷◌, length, map, option_map, arith}
+use Rattle.std.proofs.lemmas.Bool.{and_from, and_left}
 use Rattle.std.specs.Prelude.{IsErrAnd}
+use Rattle.rx_plain.proofs.Naturals.{one_moved}
+use Rattle.rx_plain.proofs.Booleans.{and_assoc}
 use Rattle.rx_plain.specs.Formed.{Formed}
 use Rattle.rx_poly.specs.declared.poly_end.PolyEnd.{PolyEnd}
 use Rattle.rx_poly.specs.declared.poly_end.PolyEnd.TheVariants.{Large}
@@ -12,13 +14,13 @@ use Rattle.rx_code.specs.Codes.{test_or_one}
 use Rattle.rx_code.specs.Expressions.{Asked, expr_code}
 use Rattle.rx_code.specs.Pieces.{a_point, after, append_code, is_room, marks_head, opens, point}
 use Rattle.rx_code.specs.Statements as table
-use Rattle.rx_code.specs.Statements.{Compiled, change_turn_code, for_code, if_else_code, list_code, loop_code, slots_after_all, stmt_code, turn_code}
+use Rattle.rx_code.specs.Statements.{Compiled, change_turn_code, for_code, list_code, loop_code, slots_after_all, stmt_code}
 use Rattle.rx_code.specs.declared.code.Code.{Code}
 use Rattle.rx_code.specs.declared.point.Point.{Point}
 use Rattle.rx_code.proofs.StmtEquations.{code-For, code-If}
 use Rattle.rx_exprs.specs.Compiles.{CompilesCode, condition_at}
-use Rattle.rx_exprs.proofs.Choices.{IsOpened}
-use Rattle.rx_exprs.proofs.Operands.{append_code_assoc, both_true, opened-append, second_false}
+use Rattle.rx_exprs.proofs.Choices.{IsOpened, one_more}
+use Rattle.rx_exprs.proofs.Operands.{append_code_assoc, opened-append, second_false}
 use Rattle.rx_stmts.specs.Statements.{CompilesHead, CompilesTurn, Headed, as_places, head_at, head_code, stmt_at}
 use Rattle.rx_stmts.specs.declared.places.Places.{Places}
 
@@ -32,7 +34,7 @@ pub then : (old one new : Code) (c d : Formed Code) (result : Result (Unit {0}) 
 then old one new c d (Ok r) first second = (
   second.0 ∙ ap (λ (x : Code). append_code x d.form) first.0 ∙
       append_code_assoc old c.form d.form,
-  both_true c.within d.within first.1 second.1,
+  and_from c.within d.within first.1 second.1,
 )
 then old one new c d (Err e) first second =
     λ large. second_false c.within d.within first.1 (second large)
@@ -59,10 +61,6 @@ symbols_after old one c next is count =
     ap (λ (x : Code). length x.opened) is.0 ∙ opened-append old c.form ∙
     ap (λ k. k + length c.form.opened) count
 
-and_assoc : (x y z : Bool) → ((x && y) && z) ≡ (x && (y && z))
-and_assoc true y z = refl
-and_assoc false y z = refl
-
 -- ---- a `for` is its first part, and then its loop
 
 abbrev headed : Headed → Formed Code
@@ -70,9 +68,6 @@ headed x = record { form = x.code; within = x.within }
 
 add_none : (n : ℕ) → n + 0 ≡ n
 add_none n = omega arith
-
-moved : (n m : ℕ) → (n + 1) + m ≡ n + suc m
-moved n m = omega arith
 
 for_is : (ss : List Compiled) (e : Asked) (u : Option Compiled) (t : Compiled) (at : table.Places)
     (next : ℕ)
@@ -86,7 +81,7 @@ for_is (s ∷ ss) e u t at next =
     let c = list_code (s ∷ ss) (record at { to = h }) (next + 1) in
     let d = loop_code e u t h at (after (next + 1) c.form) in
     let d0 = loop_code e u t h at (after next (append_code o c.form)) in
-    let same : d ≡ d0 = ap (loop_code e u t h at) (moved next (length c.form.opened)) in
+    let same : d ≡ d0 = ap (loop_code e u t h at) (one_moved next (length c.form.opened)) in
     (λ i. record {
       form = sym (append_code_assoc o c.form d.form) i;
       within =
@@ -275,12 +270,6 @@ module _ (test : Option Expr) (change inner : Stmt) (one two : Code) (p : Places
 
 -- ---- `if` with `else`
 
--- how many symbols there are after one more
-one_more : (old new : Code) (p : Point) (width : ℕ) → IsOpened old new p width → length new.opened ≡
-    length old.opened + 1
-one_more old new p width o =
-    ap (λ (c : Code). length c.opened) o.code ∙ opened-append old (opens (a_point width ∷ []))
-
 pub if_else_compiled : (s : Stmt) (test : Expr) (inner other : Stmt)
     (old one two three four new : Code) (p : Places) (y1 w1 : Point)
     (result : Result (Unit {0}) PolyEnd)
@@ -323,7 +312,7 @@ if_else_compiled s test inner other old one two three four new p y1 w1 result is
     let w_is : w1 ≡ w0 = opened_w.is ∙ ap (λ k. point k width) count_one in
     let rooms_made : CompilesCode old two (Ok tt) rooms = (
       opened_w.code ∙ ap (λ (x : Code). append_code x o) opened_y.code ∙ append_code_assoc old o o,
-      both_true (is_room n width) (is_room (n + 1) width) opened_y.room
+      and_from (is_room n width) (is_room (n + 1) width) opened_y.room
           (sym (ap (λ k. is_room k width) count_one) ∙ opened_w.room),
     ) in
     let c_same : condition_at test p.at y1 w1 two ≡ c = λ i.

@@ -2,6 +2,7 @@
 use Rattle.std.proofs.Common.{◌≡◌, ◌∙◌, ap, refl, sym, ℕ, ◌-◌, ◌^◌, true, false, List, [], ◌∷◌, ◌++◌, drop, Option, Some, None, arith, append_assoc, codes}
 use Rattle.std.specs.List.{list_all}
 use Rattle.std.proofs.lemmas.Bool.{and_from, and_parts}
+use Rattle.rx_term.proofs.Equations.{symbols_are}
 use Rattle.rx_poly.specs.declared.body.Body.{Body}
 use Rattle.rx_term.specs.declared.term.Sym.{Sym}
 use Rattle.rx_text.specs.Formats.{BeginsWith, IsUnambiguous, Reads, StandsAt, is_over}
@@ -37,9 +38,6 @@ names_once = naturals_unambiguous (2 ^ 32 - 1) (omega arith)
 pub symbols_once : IsUnambiguous symbols
 symbols_once =
     bracketed_once (codes "s") (naturals (2 ^ 32 - 1)) (codes "(") (λ left. refl) names_once
-
-symbols_are : (f g : Sym) → f.0 ≡ g.0 → f ≡ g
-symbols_are f g e = (λ i. record { 0 = e i })
 
 -- ---- what is where a layer is
 

@@ -1,8 +1,9 @@
 -- A term is its frames around its innermost call or result, and so is its text.
-use Rattle.std.proofs.Common.{◌≡◌, ◌∙◌, ap, refl, sym, ℕ, Bool, true, false, ◌&&◌, List, [], ◌∷◌, ◌++◌, drop, Option, Some, None, arith, append_assoc}
+use Rattle.std.proofs.Common.{◌≡◌, ◌∙◌, ap, refl, sym, ℕ, Bool, true, ◌&&◌, List, [], ◌∷◌, ◌++◌, drop, Option, Some, None, arith, append_assoc}
 use Rattle.std.specs.List.{list_all}
 use Rattle.std.proofs.lemmas.Bool.{and_from, and_parts}
 use Rattle.std.proofs.lemmas.List.{append-nil, append_cancel_left}
+use Rattle.rx_plain.proofs.Booleans.{and_grouped}
 use Rattle.rx_poly.specs.declared.body.Body.{Body}
 use Rattle.rx_term.proofs.Equations.{induct}
 use Rattle.rx_term.specs.declared.term.Sym.{Sym}
@@ -81,16 +82,12 @@ around_text (f ∷ fs) t =
     ∙ sym (append_assoc s (p ++ 59 ∷ []) after)
     ∙ sym (append_assoc (s ++ (p ++ 59 ∷ [])) o (x ++ (41 ∷ c)))
 
-regrouped : (a b c : Bool) → (a && (b && c)) ≡ ((a && b) && c)
-regrouped true b c = refl
-regrouped false b c = refl
-
 around_readable : (fs : Frames) (t : Term) → is_readable_term (around fs t) ≡
     (list_all is_readable_frame fs && is_readable_term t)
 around_readable [] t = refl
 around_readable (f ∷ fs) t =
     frame_readable f.0 f.1 (around fs t) ∙ ap (λ b. is_readable_frame f && b) (around_readable fs t)
-    ∙ regrouped (is_readable_frame f) (list_all is_readable_frame fs) (is_readable_term t)
+    ∙ and_grouped (is_readable_frame f) (list_all is_readable_frame fs) (is_readable_term t)
 
 -- each term is some frames around a call or result
 record Parted (t : Term) : Type 0 where

@@ -1,5 +1,5 @@
 -- Runs of digits: where one ends, and that a number has one decimal text.
-use Rattle.std.proofs.Common.{◌≡◌, ◌∙◌, ap, subst, refl, sym, ℕ, suc, ◌+◌, ◌-◌, ◌^◌, ◌<◌, ◌≤◌, nat_le, Bool, true, false, List, [], ◌∷◌, ◌++◌, length, drop, get_or, take, min, arith, slice_range}
+use Rattle.std.proofs.Common.{◌≡◌, ◌∙◌, ap, subst, refl, sym, ℕ, ◌+◌, ◌-◌, ◌^◌, ◌<◌, ◌≤◌, nat_le, Bool, true, false, List, [], ◌∷◌, ◌++◌, length, drop, get_or, take, min, arith, slice_range}
 use Rattle.std.proofs.lemmas.Bool.{and_from, and_parts, both_ways, cond-true, cond-false, le-leb, leb-true, not-true, not_from_false}
 use Rattle.std.proofs.lemmas.Fmt.{decimal_digit, decimal_is_IsNumeral_wide}
 use Rattle.std.proofs.lemmas.List.{drop_all, drop-drop, drop_more, length-append, length-drop, length-take, take_at}
@@ -8,6 +8,7 @@ use Rattle.std.proofs.lemmas.Str.Parse.{digit_from_value}
 use Rattle.std.specs.Char.{digit_value}
 use Rattle.std.specs.List.{prefix_len}
 use Rattle.std.specs.Str.Parse.{AllDigits, digits_value}
+use Rattle.rx_plain.proofs.Naturals.{one_more}
 use Rattle.rx_text.specs.Formats.{BeginsWith, IsUnambiguous, StandsAt, is_over}
 use Rattle.rx_text.specs.Numbers.{is_digit, natural_text, naturals}
 
@@ -47,9 +48,6 @@ run_is (d ∷ ds) l a o =
     let further : prefix_len is_digit (ds ++ l) ≡ length ds = run_is ds l a.1 o in
     cond-true (is_digit d) (1 + prefix_len is_digit (ds ++ l)) 0 (digit_is d a.0)
     ∙ omega (arith, further)
-
-one_more : (n : ℕ) → 1 + n ≡ suc n
-one_more n = omega arith
 
 -- no byte that passes follows a run of those that do
 pub over_after : (p : ℕ → Bool) (xs : List ℕ) → is_over p (drop (prefix_len p xs) xs) ≡ true

@@ -2,9 +2,10 @@
 use Rattle.std.proofs.Common.{◌≡◌, ◌≢◌, ◌∙◌, ap, sym, subst, refl, Bool, true, false, ◌⊎◌, inl, inr, ◌||◌, ◌==◌, ℕ, zero, suc, ◌+◌, ◌<◌, List, [], ◌∷◌, length, replicate, map, get_or, arith}
 use Rattle.std.specs.Prelude.{All, Contains, slice_set}
 use Rattle.std.specs.List.{list_any}
-use Rattle.std.proofs.lemmas.Bool.{eq-eqb, ne_eqb}
+use Rattle.std.proofs.lemmas.Bool.{cases_eq, eq-eqb, ne_eqb}
 use Rattle.std.proofs.lemmas.List.{get_or-replicate, get_or-set_other, get_or-set_same, length-replicate, length-set}
-use Rattle.rx_term.proofs.Kept.{first_one, first_or_other, other_one}
+use Rattle.rx_plain.proofs.Booleans.{or_assoc, or_false, or_true}
+use Rattle.rx_plain.proofs.Kept.{first_one, first_or_other, other_one}
 use Rattle.rx_code.specs.Reached.{IsRising, no_number, next_number}
 use Rattle.rx_code_laws.proofs.Elements.{all_from, no_element}
 use Rattle.rx_translate.specs.Marks.{IsMarked, marked_also, marked_from, marks_of}
@@ -21,19 +22,6 @@ pub length-marks_of : (count : ℕ) (ks : List ℕ) → length (marks_of count k
 length-marks_of count ks =
     length-marked_also (replicate count false) ks ∙ length-replicate count false
 
--- the mark of n, after one is given
-or_true : (b : Bool) → (b || true) ≡ true
-or_true true = refl
-or_true false = refl
-
-or_false : (b : Bool) → (b || false) ≡ b
-or_false true = refl
-or_false false = refl
-
-or_assoc : (a b c : Bool) → ((a || b) || c) ≡ (a || (b || c))
-or_assoc true b c = refl
-or_assoc false b c = refl
-
 mark_of : (marks : List Bool) (k n : ℕ) → n < length marks → (same : (k ≡ n) ⊎ (k ≢ n)) →
     get_or (slice_set marks k true) n false ≡ (get_or marks n false || (k == n))
 mark_of marks k n below (inl same) =
@@ -46,23 +34,13 @@ mark_of marks k n below (inr other) =
     ∙ sym (or_false (get_or marks n false)) ∙
     ap (λ b. get_or marks n false || b) (sym (ne_eqb k n other))
 
-same_or_not : (k n : ℕ) → (k ≡ n) ⊎ (k ≢ n)
-same_or_not zero zero = inl refl
-same_or_not zero (suc n) = inr (λ e. omega (arith, e))
-same_or_not (suc k) zero = inr (λ e. omega (arith, e))
-same_or_not (suc k) (suc n) =
-    elim (same_or_not k n) [
-      | inl same ↦ inl (ap suc same)
-      | inr other ↦ inr (λ e. other (omega (arith, e)))
-    ]
-
 also_mark : (marks : List Bool) (ks : List ℕ) (n : ℕ) → n < length marks →
     get_or (marked_also marks ks) n false ≡ (get_or marks n false || list_any (λ k. k == n) ks)
 also_mark marks [] n below = sym (or_false (get_or marks n false))
 also_mark marks (k ∷ ks) n below =
     also_mark (slice_set marks k true) ks n (let e = length-set marks k true in
     omega (arith, below, e))
-    ∙ ap (λ b. b || list_any (λ j. j == n) ks) (mark_of marks k n below (same_or_not k n))
+    ∙ ap (λ b. b || list_any (λ j. j == n) ks) (mark_of marks k n below (cases_eq k n))
     ∙ or_assoc (get_or marks n false) (k == n) (list_any (λ j. j == n) ks)
 
 -- the mark of n, where none had one before

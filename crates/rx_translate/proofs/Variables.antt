@@ -1,5 +1,6 @@
 -- One variable more.
 use Rattle.std.proofs.Common.{◌≡◌, ◌∙◌, ap, ℕ, zero, suc, ◌+◌, [], ◌∷◌, ◌++◌, arith}
+use Rattle.rx_plain.proofs.Naturals.{one_moved}
 use Rattle.rx_poly.specs.Constants.{variable}
 use Rattle.rx_term.specs.WellMade.{variables_from}
 
@@ -11,10 +12,7 @@ variables-more from zero = ap (λ k. variable k ∷ []) (add_none from)
     add_none k = omega arith
 variables-more from (suc n) =
     ap (λ vs. variable from ∷ vs) (variables-more (from + 1) n ∙
-    ap (λ k. variables_from (from + 1) n ++ variable k ∷ []) (moved from n))
-  where
-    moved : (k m : ℕ) → (k + 1) + m ≡ k + suc m
-    moved k m = omega arith
+    ap (λ k. variables_from (from + 1) n ++ variable k ∷ []) (one_moved from n))
 
 -- in a loop that has met n of them
 pub one_more : (n : ℕ) → variables_from 0 (n + 1) ≡ variables_from 0 n ++ variable n ∷ []

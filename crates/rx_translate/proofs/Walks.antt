@@ -1,15 +1,16 @@
 -- The walk over the functions that two functions reach: what has a mark, and what waits for one.
-use Rattle.std.proofs.Common.{◌≡◌, ◌≢◌, ◌∙◌, ap, sym, subst, refl, Bool, true, false, ◌⊎◌, inl, inr, ℕ, zero, suc, ◌+◌, ◌^◌, ◌<◌, Some, List, [], ◌∷◌, ◌++◌, length, replicate, get_or, arith}
+use Rattle.std.proofs.Common.{◌≡◌, ◌≢◌, ◌∙◌, ap, sym, subst, Bool, true, false, ◌⊎◌, inl, inr, ℕ, zero, suc, ◌+◌, ◌^◌, ◌<◌, Some, List, [], ◌∷◌, ◌++◌, length, replicate, get_or, arith}
 use Rattle.std.specs.Prelude.{All, Contains, slice_get, slice_set}
 use Rattle.std.proofs.lemmas.List.{get_or-set_other, get_or-set_same, get_or_default, length-append, length-replicate, length-set}
 use Rattle.std.proofs.lemmas.List.Elements.{All-contains, Contains-append_cases, Contains-append_left, Contains-append_right, Contains-push_cases}
 use Rattle.std.proofs.lemmas.Option.{same_Some, slice_get-get_or}
+use Rattle.std.proofs.lemmas.Bool.{cases_eq}
 use Rattle.c_ast.specs.Scoped.{is_scoped}
 use Rattle.c_ast.specs.declared.program.Function.{Function}
 use Rattle.c_ast.specs.declared.program.Resolved.{Resolved}
 use Rattle.c_ast.proofs.CallEquations.{calls_of_list}
 use Rattle.c_ast.proofs.ScopedLaws.{body_calls_there}
-use Rattle.rx_term.proofs.Kept.{first_one, first_or_other, other_one}
+use Rattle.rx_plain.proofs.Kept.{first_one, first_or_other, other_one}
 use Rattle.rx_code.specs.Reached.{AreReached, ByCall, IsFirst, IsSecond, Reached, calls_of}
 use Rattle.rx_code_laws.proofs.Elements.{no_element}
 use Rattle.rx_translate.specs.Marks.{IsMarked, MarksReached, marked_from}
@@ -164,17 +165,7 @@ module _ (program : Resolved) (f g : ℕ) where
         here = get_or-set_same marks place true false below_marks
 
         same_place : (h : ℕ) → (h ≡ place) ⊎ (h ≢ place)
-        same_place h = decide h place
-          where
-            decide : (m n : ℕ) → (m ≡ n) ⊎ (m ≢ n)
-            decide zero zero = inl refl
-            decide zero (suc n) = inr (λ e. omega (arith, e))
-            decide (suc m) zero = inr (λ e. omega (arith, e))
-            decide (suc m) (suc n) =
-                elim (decide m n) [
-                  | inl same ↦ inl (ap suc same)
-                  | inr other ↦ inr (λ e. other (omega (arith, e)))
-                ]
+        same_place h = cases_eq h place
 
         new_or_old : (h : ℕ) → IsMarked new h → (h ≡ place) ⊎ IsMarked marks h
         new_or_old h is =

@@ -6,8 +6,9 @@ use Rattle.std.proofs.lemmas.List.{append_cancel_left}
 use Rattle.std.specs.Cmp.{both_ways}
 use Rattle.std.specs.Option.{option_map}
 use Rattle.std.specs.Prelude.{nat_le}
+use Rattle.rx_cover.proofs.Equations.{depth_is}
 use Rattle.rx_cert.specs.declared.cert.Cert.{Cert}
-use Rattle.rx_cover.specs.Depth.{depth_level, tree_depth}
+use Rattle.rx_cover.specs.Depth.{tree_depth}
 use Rattle.rx_cover.specs.declared.cover_tree.CoverTree.{CoverTree, CoverTree-F, fold_out-CoverTree, map-CoverTree, out-CoverTree, roll-CoverTree, roll-out-CoverTree}
 use Rattle.rx_cover.specs.declared.cover_tree.CoverTree.TheVariants as made
 use Rattle.rx_row.specs.declared.row.Row.{Row}
@@ -18,7 +19,7 @@ use Rattle.rx_words.specs.Certificates.{certificate_lists, certificates}
 use Rattle.rx_tree_words.specs.Trees.{is_readable_level, is_readable_tree, tree_text, tree_text_level, trees_within}
 use Rattle.rx_words.specs.Words.{numbers, words}
 use Rattle.rx_tree_words.specs.declared.trees.TreeKind.{TreeKind}
-use Rattle.rx_words.proofs.CertLaws.{certificate_lists_once, certificates_once}
+use Rattle.rx_words.proofs.CertLaws.{certificate_lists_once, certificates_once, one_deep}
 use Rattle.rx_words.proofs.Joined.{pairs_once}
 use Rattle.rx_words.proofs.Once.{numbers_once, rows_once}
 
@@ -56,10 +57,6 @@ readable : (tree : CoverTree) →
     (map-CoverTree CoverTree Bool is_readable_tree (out-CoverTree tree))
 readable tree = fold_out-CoverTree Bool is_readable_level tree
 
-depth_of : (tree : CoverTree) →
-    tree_depth tree ≡ depth_level (map-CoverTree CoverTree ℕ tree_depth (out-CoverTree tree))
-depth_of tree = fold_out-CoverTree ℕ depth_level tree
-
 -- its text is the word with the contents after it
 pub text_after : (kind : TreeKind) (x : Contents kind) →
     tree_text (tree_of kind x) ≡ tree_word kind ++ contents_text kind x
@@ -67,9 +64,6 @@ text_after TreeKind.Use x = text_of (made.Use x.0 x.1) ∙ rw (made.outs-Use x.0
 text_after TreeKind.Split x =
     text_of (made.Split x.0 x.1.0 x.1.1) ∙ rw (made.outs-Split x.0 x.1.0 x.1.1) refl
 text_after TreeKind.Absurd x = text_of (made.Absurd x) ∙ rw (made.outs-Absurd x) refl
-
-one_deep : (n : ℕ) → nat_le 1 (n + 1) ≡ true
-one_deep n = le-leb 1 (n + 1) (omega arith)
 
 two_deeper : (x y n : ℕ) → nat_le (1 + max x y) (n + 1) ≡ (nat_le x n && nat_le y n)
 two_deeper x y n =
@@ -95,7 +89,7 @@ pub in_range_of : (n : ℕ) (kind : TreeKind) (x : Contents kind) →
     (trees_within (n + 1)).in_range (tree_of kind x) ≡ are_readable n kind x
 in_range_of n TreeKind.Use x =
     let tree = made.Use x.0 x.1 in
-    let deep : tree_depth tree ≡ 1 = depth_of tree ∙ rw (made.outs-Use x.0 x.1) refl in
+    let deep : tree_depth tree ≡ 1 = depth_is tree ∙ rw (made.outs-Use x.0 x.1) refl in
     let read : is_readable_tree tree ≡ uses.in_range x =
     readable tree ∙ rw (made.outs-Use x.0 x.1) refl in
     (λ i. nat_le (deep i) (n + 1) && read i) ∙ ap (λ t. t && uses.in_range x) (one_deep n)
@@ -104,7 +98,7 @@ in_range_of n TreeKind.Split x =
     let l = x.1.0 in
     let r = x.1.1 in
     let deep : tree_depth tree ≡ 1 + max (tree_depth l) (tree_depth r) =
-    depth_of tree ∙ rw (made.outs-Split x.0 l r) refl in
+    depth_is tree ∙ rw (made.outs-Split x.0 l r) refl in
     let read : is_readable_tree tree ≡ (is_readable_row x.0 &&
     (is_readable_tree l && is_readable_tree r)) =
     readable tree ∙ rw (made.outs-Split x.0 l r) refl in
@@ -115,7 +109,7 @@ in_range_of n TreeKind.Split x =
     (is_readable_tree l) (is_readable_tree r)
 in_range_of n TreeKind.Absurd x =
     let tree = made.Absurd x in
-    let deep : tree_depth tree ≡ 1 = depth_of tree ∙ rw (made.outs-Absurd x) refl in
+    let deep : tree_depth tree ≡ 1 = depth_is tree ∙ rw (made.outs-Absurd x) refl in
     let read : is_readable_tree tree ≡ certificates.in_range x =
     readable tree ∙ rw (made.outs-Absurd x) refl in
     (λ i. nat_le (deep i) (n + 1) && read i) ∙ ap (λ t. t && certificates.in_range x) (one_deep n)
@@ -123,16 +117,16 @@ in_range_of n TreeKind.Absurd x =
 pub some_depth : (kind : TreeKind) (x : Contents kind) → 0 < tree_depth (tree_of kind x)
 some_depth TreeKind.Use x =
     let tree = made.Use x.0 x.1 in
-    let e : tree_depth tree ≡ 1 = depth_of tree ∙ rw (made.outs-Use x.0 x.1) refl in
+    let e : tree_depth tree ≡ 1 = depth_is tree ∙ rw (made.outs-Use x.0 x.1) refl in
     omega arith
 some_depth TreeKind.Split x =
     let tree = made.Split x.0 x.1.0 x.1.1 in
     let e : tree_depth tree ≡ 1 + max (tree_depth x.1.0) (tree_depth x.1.1) =
-    depth_of tree ∙ rw (made.outs-Split x.0 x.1.0 x.1.1) refl in
+    depth_is tree ∙ rw (made.outs-Split x.0 x.1.0 x.1.1) refl in
     omega arith
 some_depth TreeKind.Absurd x =
     let tree = made.Absurd x in
-    let e : tree_depth tree ≡ 1 = depth_of tree ∙ rw (made.outs-Absurd x) refl in
+    let e : tree_depth tree ≡ 1 = depth_is tree ∙ rw (made.outs-Absurd x) refl in
     omega arith
 
 -- each tree has a kind and contents

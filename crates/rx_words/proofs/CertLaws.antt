@@ -6,6 +6,7 @@ use Rattle.std.proofs.lemmas.Bool.{and_from, and_parts, leb-true, le-leb}
 use Rattle.std.specs.Cmp.{both_ways}
 use Rattle.std.proofs.lemmas.List.{append-nil}
 use Rattle.std.specs.Prelude.{nat_le}
+use Rattle.rx_plain.proofs.Booleans.{and_exchange}
 use Rattle.rx_poly.specs.Limits.{fits_i128}
 use Rattle.rx_poly.specs.declared.body.Body.{Body}
 use Rattle.rx_row.specs.declared.row.Row.{Row}
@@ -91,7 +92,7 @@ pair_two_text a b c d =
     ap (λ s. a ++ (32 ∷ s)) (one_two_text b c d) ∙
     sym (append_assoc a (32 ∷ b) (32 ∷ (c ++ (32 ∷ (d ++ [])))))
 
-one_deep : (n : ℕ) → nat_le 1 (n + 1) ≡ true
+pub one_deep : (n : ℕ) → nat_le 1 (n + 1) ≡ true
 one_deep n = le-leb 1 (n + 1) (omega arith)
 
 one_deeper : (x n : ℕ) → nat_le (1 + x) (n + 1) ≡ (nat_le x n && true)
@@ -280,18 +281,12 @@ can_assemble (Head.DivFacts num den) (x ∷ []) n e = omega arith
 can_assemble (Head.DivFacts num den) (x ∷ y ∷ []) n e = cc
 can_assemble (Head.DivFacts num den) (x ∷ y ∷ z ∷ xs) n e = omega arith
 
-regroup : (a b c d : Bool) → ((a && b) && (c && d)) ≡ ((a && c) && (b && d))
-regroup true true c d = refl
-regroup true false true d = refl
-regroup true false false d = refl
-regroup false b c d = refl
-
 both_on_all : {A : Type 0} (p q : A → Bool) (xs : List A) → list_all (λ x. p x && q x) xs ≡
     (list_all p xs && list_all q xs)
 both_on_all p q [] = refl
 both_on_all p q (x ∷ xs) =
     ap (λ t. (p x && q x) && t) (both_on_all p q xs) ∙
-    regroup (p x) (q x) (list_all p xs) (list_all q xs)
+    and_exchange (p x) (q x) (list_all p xs) (list_all q xs)
 
 first_out : (a b c : Bool) → (a && (b && c)) ≡ (b && (a && c))
 first_out true b c = refl

@@ -1,9 +1,10 @@
 use Rattle.std.proofs.Common.{◌≡◌, ◌++◌, [], ◌∷◌, Option, Ok, List, true, false, length, sym, ◌∙◌, subst}
+use Rattle.rx_plain.proofs.Lists.{empty_by_length}
 use Rattle.c_place.specs.declared.symbol.Symbol.{Symbol}
 use Rattle.c_place.specs.declared.symbol.Step.TheVariants as step
 use Rattle.c_place.specs.Actions.{action}
 use Rattle.c_place.specs.Recogniser.{Acts, IsFed}
-use Rattle.c_place.proofs.StackLemmas.{fed_taken, fed_skipped, fed_lost, fed_over, fed_without, empty_of}
+use Rattle.c_place.proofs.StackLemmas.{fed_taken, fed_skipped, fed_lost, fed_over, fed_without}
 use Rattle.c_place.proofs.recogniser.feed.Goals as goal
 
 pub returns-in-Taken : goal.returns-in-Taken
@@ -44,7 +45,7 @@ returns-in-None c =
     let new : length c.pop.new.self.items ≡ 0 = sym c.pop.new.self.ok.0 ∙ w.1 in
     subst (λ (o : Option (List Symbol)). IsFed true c.pop.new.self.items o) c.loop-symbol.invariant
     (fed_over c.loop-symbol.stack.items c.pop.new.self.items c.args.kind
-    (empty_of c.loop-symbol.stack.items old) (empty_of c.pop.new.self.items new) c.in-None.is)
+    (empty_by_length c.loop-symbol.stack.items old) (empty_by_length c.pop.new.self.items new) c.in-None.is)
 
 pub returns-in-Some-kind : goal.returns-in-Some-kind
 returns-in-Some-kind c =
@@ -52,4 +53,4 @@ returns-in-Some-kind c =
     let old : length c.loop-symbol.stack.items ≡ 0 = sym c.loop-symbol.stack.ok.0 ∙ w.0 in
     subst (λ (o : Option (List Symbol)). IsFed false c.pop.new.self.items o) c.loop-symbol.invariant
     (fed_without c.loop-symbol.stack.items c.pop.new.self.items c.args.kind c.in-Some-kind.field-0
-    (empty_of c.loop-symbol.stack.items old) c.in-Some-kind.is)
+    (empty_by_length c.loop-symbol.stack.items old) c.in-Some-kind.is)

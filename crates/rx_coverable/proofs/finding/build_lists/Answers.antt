@@ -1,11 +1,11 @@
 -- One symbol more; at the end none is left.
 use Rattle.std.proofs.Common.{◌≡◌, ◌∙◌, ap, sym, subst, false, ◌||◌, [], ◌∷◌, ◌++◌, ◌+◌, drop, drop_of_length-le, get_or}
 use Rattle.std.proofs.lemmas.Option.{slice_get-get_or}
+use Rattle.rx_plain.proofs.Booleans.{either_first, either_second}
 use Rattle.rx_term.specs.declared.rule_set.SymInfo.{SymInfo}
 use Rattle.rx_coverable.specs.Answers.{parts_of}
 use Rattle.rx_coverable.specs.Coverable.{coverage, symbols_coverage}
 use Rattle.rx_coverable.specs.Coverage.{noting}
-use Rattle.rx_coverable.proofs.CoverageLaws.{either_first, either_second}
 use Rattle.rx_coverable.proofs.Growing.{Listing, all_listed, listed_next, next_symbol}
 use Rattle.rx_coverable.proofs.finding.build_lists.Goals as goal
 use Rattle.rx_coverable.proofs.finding.build_lists.Goals.{then-noted, else-noted}

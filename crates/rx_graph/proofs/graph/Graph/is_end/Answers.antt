@@ -1,5 +1,4 @@
 -- What is read of the row is the row.
-use Rattle.std.proofs.Common.{◌∙◌, sym}
 use Rattle.rx_graph.proofs.ComponentLaws.{no_targets}
 use Rattle.rx_graph.proofs.Marking.{row_read}
 use Rattle.rx_graph.proofs.graph.Graph.is_end.Goals as goal

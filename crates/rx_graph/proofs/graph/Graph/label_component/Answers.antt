@@ -1,8 +1,9 @@
 -- What is marked both ways gets the label.
 use Rattle.std.proofs.Common.{◌≡◌, ◌∙◌, ap, arith, get_or, length, subst, sym, true, false}
+use Rattle.rx_plain.proofs.Booleans.{passed}
 use Rattle.rx_graph.specs.Graph.{IsGraphOf, MarksReached, reversed_edges, rows_of}
 use Rattle.rx_graph.specs.Marks.{Labelled, Named}
-use Rattle.rx_graph.proofs.ComponentLaws.{label_alone, label_marked, no_path, passed, path_back}
+use Rattle.rx_graph.proofs.ComponentLaws.{label_alone, label_marked, no_path, path_back}
 use Rattle.rx_graph.proofs.Elements.{same_at, written_back}
 use Rattle.rx_graph.proofs.GraphLaws.{path_after}
 use Rattle.rx_graph.proofs.graph.Graph.label_component.Goals as goal

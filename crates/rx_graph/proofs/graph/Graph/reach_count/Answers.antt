@@ -1,7 +1,7 @@
 -- Where no edge leaves the vertex, it reaches itself alone.
 use Rattle.std.proofs.Common.{length}
+use Rattle.rx_plain.proofs.Booleans.{passed}
 use Rattle.rx_graph.specs.Graph.{rows_of}
-use Rattle.rx_graph.proofs.ComponentLaws.{passed}
 use Rattle.rx_graph.proofs.RankLaws.{reach_itself}
 use Rattle.rx_graph.proofs.graph.Graph.reach_count.Goals as goal
 

@@ -1,0 +1,2 @@
+-- Laws of the order of lines.
+pub mod PlaceLaws
