@@ -101,7 +101,7 @@ fn decide_all<S: FnMut(&Constraint) -> Result<Option<Cert>, FmEnd>>(
 
 /// Whether there are ranks by which all pairs of the rules and of the hypotheses are lower, as the
 /// solver shows it; Large where there are none and something on the way passed the limits. The
-/// pairs of the rules are given. What is found out is kept in the memo, as by `find_ranks_with`.
+/// pairs of the rules are given. Tests of pairs and components of graphs are kept in the memo.
 pub fn has_ranks_with<S: FnMut(&Constraint) -> Result<Option<Cert>, FmEnd>>(
     alloc: Global,
     rules: &RuleSet,

@@ -8,14 +8,15 @@ use std::alloc::Global;
 /// What was found out of pairs and of their graphs. It may be used with any rules and any solver.
 #[derive(Drop)]
 pub struct RankMemo {
+    /// The components of graphs of pairs.
     pub(crate) names: NamesMemo,
-    pub(crate) pairs: PairMemo,
+    /// The tests of pairs.
+    pub pairs: PairMemo,
 }
 
 impl RankMemo {
     /// Nothing is found out yet. Takes no memory.
     pub fn new(alloc: Global) -> RankMemo
-        ensures names { result.names ≡ 0 }
         ensures pairs { result.pairs ≡ 0 }
     {
         RankMemo {

@@ -1,4 +1,4 @@
-//! The pairs that stay open after a column, without certificates.
+//! The pairs that stay open after a column. The certificates of those that fall are let go.
 ghost use Rattle.std.specs.Prelude.{◌≡◌, ◌≤◌, ◌^◌, ℕ, false, IfOk, IfSome, is_some, length, slice_get};
 ghost use Rattle.std.specs.List.{filter};
 ghost use Rattle.std.specs.Option.{option_map_or};
