@@ -363,13 +363,15 @@ pub turn-steps : (program : Resolved) (ops : List Op) (callers : List Caller) (t
     → Steps turn program ops (machine_run program ops callers turn k left) result callers k left
 turn-steps program ops callers turn whole exits begin right found (Ok r) k left some is none more =
     let same : left ≡ suc (left - 1) = omega arith in
-    let P : Reached → Type 0 = λ q. Steps turn program ops (machine_run program ops callers turn k left)
+    let P : Reached → Type 0 = λ q.
+    Steps turn program ops (machine_run program ops callers turn k left)
     (Ok q) callers k left in
     subst P (sym is) (ap (λ (n : ℕ). machine_run program ops callers turn k n) same
     ∙ turn-begun program (back_to (counted program) ops callers) ops turn whole exits begin right
     found k (left - 1))
 turn-steps program ops callers turn whole exits begin right found (Err e) k left some is none more =
-    let P : Stop → Type 0 = λ q. Steps turn program ops (machine_run program ops callers turn k left)
+    let P : Stop → Type 0 = λ q.
+    Steps turn program ops (machine_run program ops callers turn k left)
     (Err q) callers k left in
     subst P (sym more) (ap (λ (n : ℕ). machine_run program ops callers turn k n) none
     ∙ (ap (λ (r : Rest). r k 0) (op-found (counted program) (back_to (counted program) ops callers)

@@ -5,7 +5,7 @@ use rx_plain::{Items, NoMemory};
 use thiserror::Error;
 
 /// What is found at a point, that is a list of arguments.
-#[derive(Clone, Copy, Debug, PartialEq, Eq)]
+#[derive(Clone, Copy, Debug)]
 pub enum Finding {
     /// The precondition isn't met.
     Excluded,
@@ -39,7 +39,7 @@ pub enum Compared {
 }
 
 /// Why two functions aren't compared.
-#[derive(Clone, Copy, Debug, PartialEq, Eq, Error)]
+#[derive(Clone, Copy, Debug, Error)]
 pub enum RefuteEnd {
     /// There are more than 1,000,000 points.
     #[error("too many points for {params} parameters")]

@@ -111,7 +111,8 @@ fn left_value(store: &Store, op: &BinOp, inner: &Inner, b: &Leaf) -> Result<i128
 /// What an operator between a slot's value and what an inner one gives gives.
 #[inline(always)]
 fn right_value(store: &Store, op: &BinOp, slot: u32, inner: &Inner) -> Result<i128, Stop>
-    ensures { GivesNumber (made (work.Right op.now (operand.Slot slot) inner.now) store.now) result }
+    ensures { GivesNumber (made (work.Right op.now (operand.Slot slot) inner.now) store.now)
+        result }
 {
     let y = inner_value(store, inner)?;
     let x = store.value_at(slot);

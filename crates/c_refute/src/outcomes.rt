@@ -1,7 +1,7 @@
 //! What a run with a number of rounds comes to.
 
 /// The outcome of a call, or of an expression, with a number of rounds.
-#[derive(Clone, Copy, Debug, PartialEq, Eq)]
+#[derive(Clone, Copy, Debug)]
 pub enum Outcome {
     /// The integer that is returned.
     Value(i128),

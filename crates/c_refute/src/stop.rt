@@ -2,22 +2,17 @@
 
 use rx_plain::NoMemory;
 use std::alloc::AllocFailed;
-use thiserror::Error;
 
-/// Why a run ended without a value.
-#[derive(Clone, Copy, Debug, Error)]
+/// Why a run ended without a value. Callers of this crate see an `Outcome` or want of memory.
+#[derive(Clone, Copy)]
 pub(crate) enum Stop {
     /// A division by 0.
-    #[error("a division by 0")]
     DivisionError,
     /// More rounds are needed.
-    #[error("more rounds are needed")]
     More,
     /// A value is no number of `i128`.
-    #[error("a value is too large")]
     Over,
     /// There was no memory.
-    #[error("out of memory")]
     NoMemory,
 }
 

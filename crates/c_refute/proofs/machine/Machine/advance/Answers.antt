@@ -95,7 +95,8 @@ returns-in-LessLiteral-clause-steps c =
     let back : Back = back_to (counted program) ops c.args.self.now.callers.items in
     let found = c.requires.found ∙ ap (λ (o : Op). Some o) c.in-LessLiteral.is in
     let same = ap (λ (r : Rest). r k left) (op-found (counted program) back ops c.args.at
-    (op.LessLiteral c.in-LessLiteral.a c.in-LessLiteral.c c.in-LessLiteral.less c.in-LessLiteral.other) found) in
+    (op.LessLiteral c.in-LessLiteral.a c.in-LessLiteral.c c.in-LessLiteral.less
+    c.in-LessLiteral.other) found) in
     let plain : to_z w64 (of_z w64 c.in-LessLiteral.c) ≡ c.in-LessLiteral.c =
     first_of (search rules, grind (arith, common_steps)) in
     let compared = rw plain at c.compare-next-in-LessLiteral.ensures in
@@ -111,7 +112,8 @@ returns-in-LiteralLess-clause-steps c =
     let back : Back = back_to (counted program) ops c.args.self.now.callers.items in
     let found = c.requires.found ∙ ap (λ (o : Op). Some o) c.in-LiteralLess.is in
     let same = ap (λ (r : Rest). r k left) (op-found (counted program) back ops c.args.at
-    (op.LiteralLess c.in-LiteralLess.c c.in-LiteralLess.a c.in-LiteralLess.less c.in-LiteralLess.other) found) in
+    (op.LiteralLess c.in-LiteralLess.c c.in-LiteralLess.a c.in-LiteralLess.less
+    c.in-LiteralLess.other) found) in
     let plain : to_z w64 (of_z w64 c.in-LiteralLess.c) ≡ c.in-LiteralLess.c =
     first_of (search rules, grind (arith, common_steps)) in
     let compared = rw plain at c.compare-next-in-LiteralLess.ensures in
@@ -141,7 +143,8 @@ returns-in-Test-clause-steps c =
     let k = c.args.self.now.store in
     let work = Alone c.in-Test.inner in
     op-steps program ops c.args.self.now.callers.items c.args.at c.args.op.now _ k c.args.left _
-    c.give_made-in-Test.result c.give_made-in-Test.new.self.callers.items c.give_made-in-Test.new.self.store
+    c.give_made-in-Test.result c.give_made-in-Test.new.self.callers.items
+    c.give_made-in-Test.new.self.store
     c.requires.found c.in-Test.is refl
     (c.give_made-in-Test.ensures.steps program ops c.args.at c.args.left (made work k)
     c.inner_value-x.ensures)
@@ -153,7 +156,8 @@ returns-in-Set-clause-steps c =
     let k = c.args.self.now.store in
     let work = Alone c.in-Set.inner in
     op-steps program ops c.args.self.now.callers.items c.args.at c.args.op.now _ k c.args.left _
-    c.give_made-in-Set.result c.give_made-in-Set.new.self.callers.items c.give_made-in-Set.new.self.store
+    c.give_made-in-Set.result c.give_made-in-Set.new.self.callers.items
+    c.give_made-in-Set.new.self.store
     c.requires.found c.in-Set.is refl
     (c.give_made-in-Set.ensures.steps program ops c.args.at c.args.left (made work k)
     c.inner_value-x-in-Set.ensures)
@@ -169,9 +173,11 @@ returns-in-Raise-clause-steps c =
     let given = subst (λ (z : ℤ). GivesNumber (made (work z) k) c.sum_value-x.result) literal
     c.sum_value-x.ensures in
     op-steps program ops c.args.self.now.callers.items c.args.at c.args.op.now _ k c.args.left _
-    c.give_made-in-Raise.result c.give_made-in-Raise.new.self.callers.items c.give_made-in-Raise.new.self.store
+    c.give_made-in-Raise.result c.give_made-in-Raise.new.self.callers.items
+    c.give_made-in-Raise.new.self.store
     c.requires.found c.in-Raise.is refl
-    (c.give_made-in-Raise.ensures.steps program ops c.args.at c.args.left (made (work c.in-Raise.c) k)
+    (c.give_made-in-Raise.ensures.steps program ops c.args.at c.args.left
+    (made (work c.in-Raise.c) k)
     given)
 
 pub returns-in-Add-clause-steps : goal.returns-in-Add-clause-steps
@@ -181,7 +187,8 @@ returns-in-Add-clause-steps c =
     let k = c.args.self.now.store in
     let work = between Add (leaf.Slot c.in-Add.a) (leaf.Slot c.in-Add.b) in
     op-steps program ops c.args.self.now.callers.items c.args.at c.args.op.now _ k c.args.left _
-    c.give_made-in-Add.result c.give_made-in-Add.new.self.callers.items c.give_made-in-Add.new.self.store
+    c.give_made-in-Add.result c.give_made-in-Add.new.self.callers.items
+    c.give_made-in-Add.new.self.store
     c.requires.found c.in-Add.is refl
     (c.give_made-in-Add.ensures.steps program ops c.args.at c.args.left (made work k)
     c.sum_value-x-in-Add.ensures)
@@ -193,7 +200,8 @@ returns-in-AddThree-clause-steps c =
     let k = c.args.self.now.store in
     let work = three c.in-AddThree.a c.in-AddThree.b c.in-AddThree.c in
     op-steps program ops c.args.self.now.callers.items c.args.at c.args.op.now _ k c.args.left _
-    c.give_made-in-AddThree.result c.give_made-in-AddThree.new.self.callers.items c.give_made-in-AddThree.new.self.store
+    c.give_made-in-AddThree.result c.give_made-in-AddThree.new.self.callers.items
+    c.give_made-in-AddThree.new.self.store
     c.requires.found c.in-AddThree.is refl
     (c.give_made-in-AddThree.ensures.steps program ops c.args.at c.args.left (made work k)
     c.three_value-x.ensures)
@@ -209,9 +217,11 @@ returns-in-AddTimes-clause-steps c =
     let given = subst (λ (z : ℤ). GivesNumber (made (work z) k) c.times_value-x.result) literal
     c.times_value-x.ensures in
     op-steps program ops c.args.self.now.callers.items c.args.at c.args.op.now _ k c.args.left _
-    c.give_made-in-AddTimes.result c.give_made-in-AddTimes.new.self.callers.items c.give_made-in-AddTimes.new.self.store
+    c.give_made-in-AddTimes.result c.give_made-in-AddTimes.new.self.callers.items
+    c.give_made-in-AddTimes.new.self.store
     c.requires.found c.in-AddTimes.is refl
-    (c.give_made-in-AddTimes.ensures.steps program ops c.args.at c.args.left (made (work c.in-AddTimes.c) k)
+    (c.give_made-in-AddTimes.ensures.steps program ops c.args.at c.args.left
+    (made (work c.in-AddTimes.c) k)
     given)
 
 pub returns-in-SetLeft-clause-steps : goal.returns-in-SetLeft-clause-steps
@@ -221,7 +231,8 @@ returns-in-SetLeft-clause-steps c =
     let k = c.args.self.now.store in
     let work = Left c.in-SetLeft.op c.in-SetLeft.inner c.in-SetLeft.leaf in
     op-steps program ops c.args.self.now.callers.items c.args.at c.args.op.now _ k c.args.left _
-    c.give_made-in-SetLeft.result c.give_made-in-SetLeft.new.self.callers.items c.give_made-in-SetLeft.new.self.store
+    c.give_made-in-SetLeft.result c.give_made-in-SetLeft.new.self.callers.items
+    c.give_made-in-SetLeft.new.self.store
     c.requires.found c.in-SetLeft.is refl
     (c.give_made-in-SetLeft.ensures.steps program ops c.args.at c.args.left (made work k)
     c.left_value-x.ensures)
@@ -233,7 +244,8 @@ returns-in-SetRight-clause-steps c =
     let k = c.args.self.now.store in
     let work = Right c.in-SetRight.op (Slot c.in-SetRight.a) c.in-SetRight.inner in
     op-steps program ops c.args.self.now.callers.items c.args.at c.args.op.now _ k c.args.left _
-    c.give_made-in-SetRight.result c.give_made-in-SetRight.new.self.callers.items c.give_made-in-SetRight.new.self.store
+    c.give_made-in-SetRight.result c.give_made-in-SetRight.new.self.callers.items
+    c.give_made-in-SetRight.new.self.store
     c.requires.found c.in-SetRight.is refl
     (c.give_made-in-SetRight.ensures.steps program ops c.args.at c.args.left (made work k)
     c.right_value-x.ensures)
@@ -245,7 +257,8 @@ returns-in-PushInner-clause-steps c =
     let k = c.args.self.now.store in
     let work = Alone c.in-PushInner.inner in
     op-steps program ops c.args.self.now.callers.items c.args.at c.args.op.now _ k c.args.left _
-    c.give_made-in-PushInner.result c.give_made-in-PushInner.new.self.callers.items c.give_made-in-PushInner.new.self.store
+    c.give_made-in-PushInner.result c.give_made-in-PushInner.new.self.callers.items
+    c.give_made-in-PushInner.new.self.store
     c.requires.found c.in-PushInner.is refl
     (c.give_made-in-PushInner.ensures.steps program ops c.args.at c.args.left (made work k)
     c.inner_value-x-in-PushInner.ensures)
@@ -258,10 +271,13 @@ returns-in-Give-clause-steps c =
     let work = Between c.in-Give.op c.in-Give.a c.in-Give.b in
     let back : Back = back_to (counted program) ops c.args.self.now.callers.items in
     let same = kept-same c.between_value-x.result (made work k)
-    (rests (counted program) back (take c.args.at ops)) back (sink.Return c.in-Give.scopes) (kept_after work k)
-    c.between_value-x.new.store c.args.left c.between_value-x.ensures.number c.between_value-x.ensures.kept in
+    (rests (counted program) back (take c.args.at ops)) back (sink.Return c.in-Give.scopes)
+    (kept_after work k)
+    c.between_value-x.new.store c.args.left c.between_value-x.ensures.number
+    c.between_value-x.ensures.kept in
     op-steps program ops c.args.self.now.callers.items c.args.at c.args.op.now _ k c.args.left _
-    c.give_made-in-Give.result c.give_made-in-Give.new.self.callers.items c.give_made-in-Give.new.self.store
+    c.give_made-in-Give.result c.give_made-in-Give.new.self.callers.items
+    c.give_made-in-Give.new.self.store
     c.requires.found c.in-Give.is same
     (c.give_made-in-Give.ensures.steps program ops c.args.at c.args.left (made work k)
     c.between_value-x.ensures.number)

@@ -52,5 +52,6 @@ returns-clause-falls c =
     let below = slice_get_within c.args.code.now.entries.items f entry there in
     let count = c.requires.functions.count in
     let g = function-found c.args.code.now.program.now.functions f (omega arith) in
-    let more = ap length c.in_ok-push.ensures.items ∙ length-append c.args.self.now.callers.items _ in
+    let more = ap length c.in_ok-push.ensures.items ∙
+    length-append c.args.self.now.callers.items _ in
     (omega arith, omega arith, (c.requires.functions.each f entry g.0 g.1 there).within)
