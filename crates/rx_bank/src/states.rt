@@ -48,6 +48,6 @@ impl Bank {
     {
         let goals = unpack_equations(self, alloc, packed.goals.as_slice())?;
         let hypotheses = unpack_rules(self, alloc, packed.hypotheses.as_slice())?;
-        Ok(State::from_parts(goals, hypotheses))
+        State::from_parts(alloc, goals, hypotheses)
     }
 }

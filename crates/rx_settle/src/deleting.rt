@@ -48,6 +48,7 @@ fn try_absurd<S: FnMut(&Constraint) -> Result<Option<Cert>, FmEnd>>(
     };
     match ask(&goal.rows, solve) {
         Ok(Some(cert)) => take_shown(
+            alloc,
             state,
             make_nothing(alloc),
             Step::Delete(Delete::Absurd(cert)),

@@ -46,7 +46,7 @@ fn try_rule<S: FnMut(&Constraint) -> Result<Option<Cert>, FmEnd>>(
                 rule: number,
                 certs,
             };
-            take_shown(state, made, step)
+            take_shown(alloc, state, made, step)
         }
         Outcome::Fails => Ok(Trial::failed()),
         Outcome::TooLarge => Ok(Trial::too_large()),

@@ -157,12 +157,17 @@ fn where_done<T: Drop>(done: Result<(), NoMemory>, value: T) -> Result<T, NoMemo
 }
 
 /// Takes a step, which is formed so, and which has the certificates of what it asks.
-pub(crate) fn take_shown(state: &mut State, made: FormedStep, step: Step) -> Result<Trial, NoMemory>
+pub(crate) fn take_shown(
+    alloc: Global,
+    state: &mut State,
+    made: FormedStep,
+    step: Step,
+) -> Result<Trial, NoMemory>
     ensures ok { OnOk result (state.new ≡ taken state.old made) }
     ensures trial { IfOk result (λ t. t ≡ record { taken = Some step; noted = false }) }
     ensures err { OnErr result (state.new ≡ state.old) }
 {
-    where_done(state.take(made), Trial::of(step))
+    where_done(state.take(alloc, made), Trial::of(step))
 }
 
 /// Tries a step on the first goal, which asks rows and not that rows are refuted: it is taken where
@@ -184,7 +189,7 @@ pub fn try_step<S: FnMut(&Constraint) -> Result<Option<Cert>, FmEnd>>(
 {
     match show_step(alloc, rules, state, &step, solve) {
         Ok(Outcome::Shown { made, certs }) => {
-            take_shown(state, made, with_certificates(step, certs))
+            take_shown(alloc, state, made, with_certificates(step, certs))
         }
         Ok(Outcome::Fails) => Ok(dropped(step, Trial::failed())),
         Ok(Outcome::TooLarge) => Ok(dropped(step, Trial::too_large())),

@@ -1,7 +1,7 @@
 -- Goals that are kept with the first at the end.
-use Rattle.std.proofs.Common.{◌≡◌, ◌≤◌, ◌<◌, ◌∙◌, ap, sym, refl, ℕ, ◌-◌, Option, Some, None, List, [], ◌∷◌, ◌++◌, length, drop, reverse, arith}
+use Rattle.std.proofs.Common.{◌≡◌, ◌≤◌, ◌<◌, ◌+◌, ◌∙◌, ap, sym, refl, ℕ, ◌-◌, Option, Some, None, List, [], ◌∷◌, ◌++◌, length, drop, reverse, arith}
 use Rattle.std.specs.Prelude.{MatchOption, slice_get}
-use Rattle.std.proofs.lemmas.List.{get_or-reverse, length-reverse, reverse-append, reverse-reverse}
+use Rattle.std.proofs.lemmas.List.{get_or-reverse, length-append, length-reverse, reverse-append, reverse-reverse}
 use Rattle.std.proofs.lemmas.Option.{slice_get-get_or, slice_get_past}
 
 -- without the last, the rest of what is read from the end
@@ -24,6 +24,13 @@ popped_first (Some last) old new h =
 -- one that is added after the last comes first in what is read from the end
 pub pushed : {A : Type 0} (xs : List A) (y : A) → reverse (xs ++ y ∷ []) ≡ y ∷ reverse xs
 pushed xs y = reverse-append xs (y ∷ [])
+
+-- as many as were put before the others, and those
+pub count : {A : Type 0} (old more new : List A) → reverse new ≡ more ++ reverse old →
+    length new ≡ length more + length old
+count old more new h =
+    sym (length-reverse new) ∙ ap length h ∙ length-append more (reverse old) ∙
+    ap (λ k. length more + k) (length-reverse old)
 
 at_end : {A : Type 0} (xs : List A) (y : A) → slice_get (xs ++ y ∷ []) (length xs) ≡ Some y
 at_end [] y = refl

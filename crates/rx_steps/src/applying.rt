@@ -75,7 +75,7 @@ fn apply_formed(
     ensures kept { OnErr result (state.new ≡ state.old) }
 {
     let formed = shown(alloc, state, rules, step)?;
-    Ok(state.take(formed)?)
+    Ok(state.take(alloc, formed)?)
 }
 
 /// A step on the first goal of a state. It is formed first, then its certificates are judged in
@@ -87,7 +87,7 @@ pub fn apply(alloc: Global, state: &mut State, rules: &RuleSet, step: &Step) -> 
 {
     // Where that is all that is to be seen, nothing is formed.
     if is_bare_equal(step) && is_settled(state) {
-        state.take_first();
+        state.drop_first();
         return Ok(());
     }
     apply_formed(alloc, state, rules, step)
@@ -95,7 +95,7 @@ pub fn apply(alloc: Global, state: &mut State, rules: &RuleSet, step: &Step) -> 
 
 /// The new goal before the first one, where it is an equation.
 #[tactic(auto, using(crate::proofs::PostulateLaws::no_goal))]
-fn postulate(state: &mut State, rules: &RuleSet, new: Equation) -> Result<(), StepEnd>
+fn postulate(alloc: Global, state: &mut State, rules: &RuleSet, new: Equation) -> Result<(), StepEnd>
     ensures answer { Applies result state.new
         (applied rules.now state.old (Postulate new.left new.right new.rows)) }
     ensures kept { OnErr result (state.new ≡ state.old) }
@@ -106,7 +106,7 @@ fn postulate(state: &mut State, rules: &RuleSet, new: Equation) -> Result<(), St
     if !is_equation(rules.parts(), &new) {
         return Err(StepEnd::WrongShape);
     }
-    Ok(state.put_before(new)?)
+    Ok(state.put_before(alloc, new)?)
 }
 
 /// As `apply`, with a step that is used up: the goal of a postulate isn't copied.
@@ -121,7 +121,7 @@ pub fn apply_owned(
 {
     match step {
         Step::Postulate { left, right, rows } => {
-            postulate(state, rules, Equation { left, right, rows })
+            postulate(alloc, state, rules, Equation { left, right, rows })
         }
         other => apply(alloc, state, rules, &other),
     }

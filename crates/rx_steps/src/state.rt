@@ -4,7 +4,7 @@ ghost use Rattle.std.specs.Option.{option_copied};
 ghost use Rattle.rx_form.specs.States.{taken};
 
 use rx_form::FormedStep;
-use rx_plain::NoMemory;
+use rx_plain::{NoMemory, Shared};
 use rx_term::{Equation, Rule};
 use std::alloc::Global;
 use std::marker::Model;
@@ -13,7 +13,7 @@ use std::marker::Model;
 #[derive(Drop)]
 pub struct State {
     // The first goal is the last here, so that a step moves no others.
-    goals: Vec<Equation>,
+    goals: Vec<Shared<Equation>>,
     hypotheses: Vec<Rule>,
 }
 
@@ -49,7 +49,7 @@ fn is_room(count: usize, more: usize) -> bool
 }
 
 /// Inserts the goals before those that are there, for which there is room.
-fn put_first(onto: &mut Vec<Equation>, goals: Vec<Equation>)
+fn put_first(onto: &mut Vec<Shared<Equation>>, goals: Vec<Shared<Equation>>)
     requires { vec_len onto.old + vec_len goals ≤ vec_capacity onto.old }
     ensures { reverse onto.new.items ≡ goals.items ++ reverse onto.old.items }
 {
@@ -57,6 +57,17 @@ fn put_first(onto: &mut Vec<Equation>, goals: Vec<Equation>)
     while let Some(goal) = goals.pop() {
         onto.push_reserved(goal);
     }
+}
+
+/// Replaces the first goal, if there is one, by those, for which there is room.
+#[tactic(auto, using(crate::proofs::Reversed::popped, crate::proofs::Reversed::count))]
+fn replace_first(onto: &mut Vec<Shared<Equation>>, goals: Vec<Shared<Equation>>)
+    requires { vec_len onto.old + vec_len goals ≤ vec_capacity onto.old }
+    ensures goals { reverse onto.new.items ≡ goals.items ++ drop 1 (reverse onto.old.items) }
+    ensures count { length onto.new.items ≤ length goals.items + length onto.old.items }
+{
+    onto.pop();
+    put_first(onto, goals);
 }
 
 /// Adds the rules after those that are there, for which there is room.
@@ -71,13 +82,30 @@ fn put_last(onto: &mut Vec<Rule>, rules: Vec<Rule>)
     }
 }
 
-/// The same goals once more.
-fn copied_goals(alloc: Global, goals: &[Equation]) -> Result<Vec<Equation>, NoMemory>
+/// The same goals once more, shared with those that are given.
+fn copied_goals(
+    alloc: Global,
+    goals: &[Shared<Equation>],
+) -> Result<Vec<Shared<Equation>>, NoMemory>
     ensures { IfOk result (λ made. made.items ≡ goals.now) }
 {
-    let mut made = Vec::new(alloc);
+    let mut made = Vec::with_capacity(alloc, goals.len())?;
     for goal in goals {
-        made.push(goal.try_clone(alloc)?)?;
+        made.push(goal.try_clone()?)?;
+    }
+    Ok(made)
+}
+
+/// The same goals, which may be shared from then on.
+fn shared_goals(
+    alloc: Global,
+    goals: Vec<Equation>,
+) -> Result<Vec<Shared<Equation>>, NoMemory>
+    ensures { IfOk result (λ made. made.items ≡ goals.items) }
+{
+    let mut made = Vec::with_capacity(alloc, goals.len())?;
+    for goal in goals {
+        made.push(Shared::new(alloc, goal)?)?;
     }
     Ok(made)
 }
@@ -99,24 +127,29 @@ impl State {
         ensures { IfOk result (λ s. s ≡ record { goals = goal ∷ []; hypotheses = [] }) }
     {
         let mut goals = Vec::new(alloc);
-        goals.push(goal)?;
+        goals.push(Shared::new(alloc, goal)?)?;
         Ok(State {
             goals,
             hypotheses: Vec::new(alloc),
         })
     }
 
-    /// The state with just these goals and hypotheses, in order. Takes no memory.
+    /// The state with just these goals and hypotheses, in order; fails only when out of memory.
     ///
     /// There must be fewer than 2^32 of either.
-    pub fn from_parts(goals: Vec<Equation>, hypotheses: Vec<Rule>) -> State
+    pub fn from_parts(
+        alloc: Global,
+        goals: Vec<Equation>,
+        hypotheses: Vec<Rule>,
+    ) -> Result<State, NoMemory>
         requires goals { vec_len goals < 2 ^ 32 }
         requires hypotheses { vec_len hypotheses < 2 ^ 32 }
-        ensures { result ≡ record { goals = goals.items; hypotheses = hypotheses.items } }
+        ensures { IfOk result (λ s. s ≡ record {
+            goals = goals.items; hypotheses = hypotheses.items }) }
     {
-        let mut goals = goals;
+        let mut goals = shared_goals(alloc, goals)?;
         goals.reverse();
-        State { goals, hypotheses }
+        Ok(State { goals, hypotheses })
     }
 
     /// The same state once more; fails only when out of memory.
@@ -134,7 +167,7 @@ impl State {
     pub fn first(&self) -> Option<&Equation>
         ensures { option_copied result ≡ slice_get self.now.goals 0 }
     {
-        self.goals.last()
+        Some(self.goals.last()?.get())
     }
 
     /// The goal with that number, counted from 0, borrowed; None exactly where there are no more
@@ -146,7 +179,7 @@ impl State {
         let count = self.goals.len();
         let at = at as usize;
         if at < count {
-            self.goals.get(count - 1 - at)
+            Some(self.goals.get(count - 1 - at)?.get())
         } else {
             None
         }
@@ -166,20 +199,19 @@ impl State {
         self.goals.len() as u32
     }
 
-    /// Takes the first goal out, if there is one.
-    #[tactic(auto, using(crate::proofs::Reversed::popped, crate::proofs::Reversed::popped_first))]
-    pub fn take_first(&mut self) -> Option<Equation>
-        ensures first { result ≡ slice_get self.old.goals 0 }
+    /// Lets go of the first goal, if there is one.
+    #[tactic(auto, using(crate::proofs::Reversed::popped))]
+    pub fn drop_first(&mut self)
         ensures goals { self.new.goals ≡ drop 1 self.old.goals }
         ensures hypotheses { self.new.hypotheses ≡ self.old.hypotheses }
     {
-        self.goals.pop()
+        self.goals.pop();
     }
 
     /// Adds a goal before the others. Where there is no memory, or there would be too many goals,
     /// the state stays as it was.
     #[tactic(auto, using(crate::proofs::Reversed::pushed))]
-    pub fn put_before(&mut self, goal: Equation) -> Result<(), NoMemory>
+    pub fn put_before(&mut self, alloc: Global, goal: Equation) -> Result<(), NoMemory>
         ensures ok { OnOk result (self.new ≡
             record { goals = goal ∷ self.old.goals; hypotheses = self.old.hypotheses }) }
         ensures err { OnErr result (self.new ≡ self.old) }
@@ -187,27 +219,25 @@ impl State {
         if !is_room(self.goals.len(), 1) {
             return Err(NoMemory);
         }
-        Ok(self.goals.push(goal)?)
+        Ok(self.goals.push(Shared::new(alloc, goal)?)?)
     }
 
     /// Replaces the first goal with what a formed step makes, and adds its hypothesis after the
     /// others; whether it is shown isn't looked at. Where there is no memory, or there would be too
     /// many of either, the state stays as it was.
-    #[tactic(auto, using(crate::proofs::Reversed::popped))]
-    pub fn take(&mut self, formed: FormedStep) -> Result<(), NoMemory>
+    pub fn take(&mut self, alloc: Global, formed: FormedStep) -> Result<(), NoMemory>
         ensures ok { OnOk result (self.new ≡ taken self.old formed) }
         ensures err { OnErr result (self.new ≡ self.old) }
     {
         let FormedStep { goals, kept, .. } = formed;
-        let goals = goals.into_vec();
+        let goals = shared_goals(alloc, goals.into_vec())?;
         let kept = kept.into_vec();
         if !is_room(self.goals.len(), goals.len()) || !is_room(self.hypotheses.len(), kept.len()) {
             return Err(NoMemory);
         }
         self.goals.reserve(goals.len())?;
         self.hypotheses.reserve(kept.len())?;
-        self.goals.pop();
-        put_first(&mut self.goals, goals);
+        replace_first(&mut self.goals, goals);
         put_last(&mut self.hypotheses, kept);
         Ok(())
     }

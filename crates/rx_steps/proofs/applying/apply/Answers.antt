@@ -6,9 +6,9 @@ use Rattle.rx_steps.proofs.applying.apply.Goals as goal
 pub returns-then-is_settled-clause-answer : goal.returns-then-is_settled-clause-answer
 returns-then-is_settled-clause-answer c =
     let state = c.args.state.now in
-    let goals = c.take_first.ensures.goals in
-    let hypotheses = c.take_first.ensures.hypotheses in
-    let left : c.take_first.new.self ≡
+    let goals = c.drop_first.ensures.goals in
+    let hypotheses = c.drop_first.ensures.hypotheses in
+    let left : c.drop_first.new.self ≡
     record { goals = drop 1 state.goals; hypotheses = state.hypotheses } =
     λ i. record { goals = goals i; hypotheses = hypotheses i } in
     ap (applied c.args.rules.now state) (c.is_bare_equal.ensures c.if-is_bare_equal.true)
