@@ -37,14 +37,22 @@ greatest_remainder_formed divisor = record {
   within = fits_i128 (pos (unsigned_abs divisor));
 }
 
--- q, r, divisor*q, dividend - divisor*q, dividend - divisor*q - r and a keep the limits
+-- with whether q and divisor*q keep the limits too
+abbrev pub without_quotient_formed : Body → ℤ → Formed Body
+without_quotient_formed dividend divisor = record {
+  form = without_quotient dividend divisor;
+  within =
+      is_within (quotient_by dividend divisor) &&
+      (is_within (scaled_by divisor (quotient_by dividend divisor))
+      && is_within (without_quotient dividend divisor));
+}
+
+-- r, q, divisor*q, dividend - divisor*q, dividend - divisor*q - r and a keep the limits
 abbrev pub division_within : Body → ℤ → Bool
 division_within dividend divisor =
-    is_within (quotient_by dividend divisor) &&
-    (is_within (remainder_by dividend divisor) &&
-    (is_within (scaled_by divisor (quotient_by dividend divisor))
-    && (is_within (without_quotient dividend divisor) &&
-    (is_within (nothing_left dividend divisor) && fits_i128 (pos (unsigned_abs divisor))))))
+    is_within (remainder_by dividend divisor) &&
+    ((without_quotient_formed dividend divisor).within &&
+    (is_within (nothing_left dividend divisor) && fits_i128 (pos (unsigned_abs divisor))))
 
 -- what a division leaves: dividend - divisor*q - r, r and a - 1, and whether all on the way keeps
 -- the limits

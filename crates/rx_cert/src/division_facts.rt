@@ -1,7 +1,7 @@
 //! What is known of a dividend, its quotient and its remainder by a number.
 ghost use Rattle.std.specs.Prelude.{◌≡◌, ◌∷◌, [], false, IfOk};
 ghost use Rattle.rx_plain.specs.Formed.{Forms, FormsAs, kept};
-ghost use Rattle.rx_cert.specs.DivisionFacts.{division_formed, facts_at_least_zero, facts_below_zero, greatest_remainder_formed, quotient_by, remainder_by};
+ghost use Rattle.rx_cert.specs.DivisionFacts.{division_formed, facts_at_least_zero, facts_below_zero, greatest_remainder_formed, quotient_by, remainder_by, without_quotient_formed};
 ghost use Rattle.rx_poly.specs.Limits.{is_within};
 ghost use Rattle.rx_poly.specs.Terms.{is_zero};
 
@@ -24,6 +24,16 @@ fn remainder(alloc: Global, num: &Poly, den: &i128) -> Result<Poly, PolyEnd>
 {
     let divisor = Poly::constant(alloc, *den)?;
     num.remainder(alloc, &divisor)
+}
+
+/// The polynomial minus the number times their quotient; Large exactly where a polynomial on the way
+/// passes the limits.
+fn without_quotient(alloc: Global, num: &Poly, den: &i128) -> Result<Poly, PolyEnd>
+    ensures { Forms PolyEnd.Large result (without_quotient_formed num.now den.now) }
+{
+    let quotient = quotient(alloc, num, den)?;
+    let multiple = quotient.scale(alloc, *den)?;
+    num.sub(alloc, &multiple)
 }
 
 /// The size of the divisor minus 1; Large exactly where that size leaves i128.
@@ -54,10 +64,8 @@ pub fn divide(alloc: Global, num: &Poly, den: &i128) -> Result<Division, PolyEnd
     ensures forms { FormsAs (λ d. (d.equation, d.rest, d.bound)) PolyEnd.Large result
         (division_formed num.now den.now) }
 {
-    let quotient = quotient(alloc, num, den)?;
     let rest = remainder(alloc, num, den)?;
-    let multiple = quotient.scale(alloc, *den)?;
-    let difference = num.sub(alloc, &multiple)?;
+    let difference = without_quotient(alloc, num, den)?;
     let equation = difference.sub(alloc, &rest)?;
     let bound = size_minus_one(alloc, den)?;
     Ok(Division {

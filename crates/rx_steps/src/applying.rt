@@ -95,7 +95,12 @@ pub fn apply(alloc: Global, state: &mut State, rules: &RuleSet, step: &Step) -> 
 
 /// The new goal before the first one, where it is an equation.
 #[tactic(auto, using(crate::proofs::PostulateLaws::no_goal))]
-fn postulate(alloc: Global, state: &mut State, rules: &RuleSet, new: Equation) -> Result<(), StepEnd>
+fn postulate(
+    alloc: Global,
+    state: &mut State,
+    rules: &RuleSet,
+    new: Equation,
+) -> Result<(), StepEnd>
     ensures answer { Applies result state.new
         (applied rules.now state.old (Postulate new.left new.right new.rows)) }
     ensures kept { OnErr result (state.new ≡ state.old) }

@@ -9,7 +9,7 @@ use rx_term::{Equation, Rule};
 use std::alloc::Global;
 use std::marker::Model;
 
-/// A proof state: goals in order, and hypotheses in order.
+/// A proof state: goals in order, and hypotheses in order. A copy of a state shares its goals.
 #[derive(Drop)]
 pub struct State {
     // The first goal is the last here, so that a step moves no others.
@@ -97,10 +97,7 @@ fn copied_goals(
 }
 
 /// The same goals, which may be shared from then on.
-fn shared_goals(
-    alloc: Global,
-    goals: Vec<Equation>,
-) -> Result<Vec<Shared<Equation>>, NoMemory>
+fn shared_goals(alloc: Global, goals: Vec<Equation>) -> Result<Vec<Shared<Equation>>, NoMemory>
     ensures { IfOk result (λ made. made.items ≡ goals.items) }
 {
     let mut made = Vec::with_capacity(alloc, goals.len())?;
@@ -145,7 +142,9 @@ impl State {
         requires goals { vec_len goals < 2 ^ 32 }
         requires hypotheses { vec_len hypotheses < 2 ^ 32 }
         ensures { IfOk result (λ s. s ≡ record {
-            goals = goals.items; hypotheses = hypotheses.items }) }
+          goals = goals.items;
+          hypotheses = hypotheses.items;
+        }) }
     {
         let mut goals = shared_goals(alloc, goals)?;
         goals.reverse();
