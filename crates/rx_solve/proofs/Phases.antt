@@ -1,6 +1,6 @@
 -- One step of a phase: a certificate for the rows that come next is one for the rows, and what is
 -- found of them is found.
-use Rattle.std.proofs.Common.{◌≡◌, ◌∙◌, ap, subst, sym, arith, cond, ℕ, suc, ◌+◌, ◌≤◌, true, false, ◌&&◌, Option, Some, None, Result, Ok, Err, IfOk, IfSome, List, [], ◌∷◌, ◌++◌, length, slice_get, ℤ}
+use Rattle.std.proofs.Common.{◌≡◌, ◌∙◌, ap, subst, sym, arith, cond, ℕ, suc, ◌+◌, ◌≤◌, true, false, ◌&&◌, Option, Some, None, option_map, Result, Ok, Err, IfOk, IfSome, List, [], ◌∷◌, ◌++◌, length, slice_get, ℤ}
 use Rattle.std.proofs.lemmas.Bool.{and_from, and_parts}
 use Rattle.std.specs.List.{list_all}
 use Rattle.rx_plain.specs.Formed.{Formed}
@@ -11,11 +11,11 @@ use Rattle.rx_row.specs.Negation.{negation, negation_within, opposite}
 use Rattle.rx_cert.specs.Differences.{above, below, differ_finding, disequal, one_less}
 use Rattle.rx_row.specs.declared.row.Row.TheVariants.{Ge}
 use Rattle.rx_cert.specs.DivisionFacts.{at_least_zero_within, below_zero_within, division_formed, division_within, facts_at_least_zero, facts_below_zero, greatest_remainder, remainder_by, rows_at_least_zero, rows_below_zero}
-use Rattle.rx_cert.proofs.FindingLaws.{solve_found, within_parts}
-use Rattle.rx_cert.specs.Elimination.{solution, solution_within, zero_polynomial}
+use Rattle.rx_cert.proofs.FindingLaws.{within_parts}
+use Rattle.rx_cert.specs.Elimination.{replaced_finding, solution, solution_within, solve_finding, zero_polynomial}
 use Rattle.rx_cert.specs.Examination.{verdict, level}
 use Rattle.rx_cert.specs.declared.cert.Cert.TheOpen.{Cert-F}
-use Rattle.rx_row.specs.Substitution.{subst_rows, rows_within}
+use Rattle.rx_row.specs.Substitution.{rows_with, rows_within, subst_rows}
 use Rattle.rx_row.specs.Holds.{AllHold, RowHolds}
 use Rattle.rx_cert.proofs.Law.{refuted as unmet, shown_holds}
 use Rattle.rx_cert.specs.Showing.{negation_said}
@@ -30,7 +30,7 @@ use Rattle.rx_cert.specs.Rounding.{rounding_row}
 use Rattle.rx_cert.specs.declared.cert.Cert.{Cert}
 use Rattle.rx_cert.specs.declared.cert.Cert.TheVariants.{Cut, Differ, DivFacts, Solve}
 use Rattle.rx_fm.specs.declared.fm_end.FmEnd.{FmEnd}
-use Rattle.rx_solve.specs.Answers.{Answers, AnswersFor, BranchAnswers, IsCertificate, one_formed}
+use Rattle.rx_solve.specs.Answers.{Answers, AnswersFor, BranchAnswers, IsCertificate, formed_said, one_formed}
 use Rattle.rx_solve.specs.Divisions.{AreRatiosOf, ratio_passes}
 use Rattle.rx_solve.specs.declared.divisions.Ratio.{Ratio}
 use Rattle.rx_solve.specs.Refuter.{differing, differing_at, refuted, solving, solving_with, dividing_by, rounding, rounding_by}
@@ -60,36 +60,31 @@ module _ (r : Rounding) (rest : List Rounding) (rows : List Row) (row : Row) whe
       (rounding_by rest))) keeps
       ∙ ap (λ o. with_row rows o (rounding_by rest)) made
 
-  -- after a rounding
-  pub rounding_step : (roundings : List Rounding) (ps : List (ℕ × ℤ)) (lent grown : List Row)
-      (o : Option Row) (found : Option Cert) (cert whole : Cert) →
-      roundings ≡ r ∷ rest → ps ≡ part → lent ≡ rows → grown ≡ rows ++ row ∷ [] →
-      (o ≡ rounding_row r.divisor (sum_of lent ps)) × (parts_within lent ps ≡ true) → o ≡
-      Some row → found ≡ Some cert →
-      AnswersFor (rounding_by rest) (length rest + 1) grown (Ok found) → whole ≡
-      Cut part r.divisor cert →
-      (rounding_by roundings rows ≡ Yes) × IsCertificate (length roundings + 1) rows whole
-  rounding_step roundings ps lent grown o found cert whole list parts same more forms some is answer
-      made =
-      let keeps : parts_within rows part ≡ true = (λ i. parts_within (sym same i) (sym parts i)) ∙
-      forms.1 in
-      let row_is : rounding_row r.divisor (sum_of rows part) ≡ Some row =
-      (λ i. rounding_row r.divisor (sum_of (sym same i) (sym parts i))) ∙ sym forms.0 ∙ some in
-      let inner : AnswersFor (rounding_by rest) (length rest + 1) (rows ++ row ∷ [])
-      (Ok (Some cert)) =
-      subst (λ (rs : List Row). AnswersFor (rounding_by rest) (length rest + 1) rs (Ok (Some cert)))
-      more (subst (λ (f : Option Cert). AnswersFor (rounding_by rest) (length rest + 1) grown
-      (Ok f)) is answer) in
-      let all : (rounding_by (r ∷ rest) rows ≡ Yes) ×
-      IsCertificate (length (r ∷ rest) + 1) rows (Cut part r.divisor cert) = (
-        rounded_found keeps row_is ∙ inner.0,
+  -- what is found of the rows with the rounded one is found of the rows
+  pub rounding_step : (lent : List Row) (o : Option Row) (found whole : Option Cert) → lent ≡ rows →
+      (o ≡ rounding_row r.divisor (sum_of lent part)) × (parts_within lent part ≡ true) → o ≡
+      Some row → AnswersFor (rounding_by rest) (length rest + 1) (rows ++ row ∷ []) (Ok found) →
+      whole ≡ option_map (λ c. Cut part r.divisor c) found →
+      AnswersFor (rounding_by (r ∷ rest)) (length rest + 2) rows (Ok whole)
+  rounding_step lent o found whole same forms some answer made =
+      subst (λ (w : Option Cert). AnswersFor (rounding_by (r ∷ rest)) (length rest + 2) rows (Ok w))
+      (sym made) (by found answer)
+    where
+      keeps : parts_within rows part ≡ true
+      keeps = ap (λ rs. parts_within rs part) (sym same) ∙ forms.1
+
+      row_is : rounding_row r.divisor (sum_of rows part) ≡ Some row
+      row_is = ap (λ rs. rounding_row r.divisor (sum_of rs part)) (sym same) ∙ sym forms.0 ∙ some
+
+      by : (f : Option Cert) → AnswersFor (rounding_by rest) (length rest + 1) (rows ++ row ∷ [])
+          (Ok f) → AnswersFor (rounding_by (r ∷ rest)) (length rest + 2) rows
+          (Ok (option_map (λ c. Cut part r.divisor c) f))
+      by None a = rounded_found keeps row_is ∙ a
+      by (Some cert) a = (
+        rounded_found keeps row_is ∙ a.0,
         wider (omega arith)
-            (cut_certificate (length rest + 1) rows part r.divisor row cert keeps row_is inner.1),
-      ) in
-      subst (λ (rs : List Rounding). (rounding_by rs rows ≡ Yes) ×
-      IsCertificate (length rs + 1) rows whole) (sym list)
-      (subst (λ (w : Cert). (rounding_by (r ∷ rest) rows ≡ Yes) ×
-      IsCertificate (length (r ∷ rest) + 1) rows w) (sym made) all)
+            (cut_certificate (length rest + 1) rows part r.divisor row cert keeps row_is a.1),
+      )
 
 -- all roundings of the rows
 pub rounding_answers : (rows lent : List Row) (rs : List Rounding) (r : Result (Option Cert) FmEnd)
@@ -257,42 +252,50 @@ one_solved n m rows lent other o p r count same again found some a =
     (subst (λ (rs : List Row). AnswersFor (level
     (Cert-F.Solve p.first p.second p.variable (solving m))) (m + 75) rs r) again a)
 
+-- an answer about the changed rows, once they are formed
+pub formed_answer : (says : List Row → Said) (most : ℕ) (more : Formed (List Row))
+    (changed : List Row) (r : Result (Option Cert) FmEnd) → changed ≡ more.form → more.within ≡ true →
+    AnswersFor says most changed r → BranchAnswers says most [] more r
+formed_answer says most more changed r is keeps a =
+    by r (subst (λ (rs : List Row). AnswersFor says most rs r) is a)
+  where
+    said : formed_said says [] more ≡ says more.form
+    said = ap (λ b. guard b (says more.form)) keeps
+
+    by : (q : Result (Option Cert) FmEnd) → AnswersFor says most more.form q →
+        BranchAnswers says most [] more q
+    by (Ok None) h = said ∙ h
+    by (Ok (Some cert)) h = (said ∙ h.0, h.1)
+    by (Err e) h = λ large. said ∙ h large
+
 -- what is found with the value in place of the variable
 module _ (i j x : ℕ) (says : List Row → Said) (most : ℕ) (rows : List Row) (p v : Body)
-    (ws : List (ℕ × Body)) (changed : List Row) where
-  pub replaced_found : zero_polynomial rows i j ≡ Some p → solution x p ≡ Some v →
-      solution_within x p ≡ true → ws ≡ (x, v) ∷ [] → rows_within ws rows ≡ true → changed ≡
-      subst_rows ws rows → level (Cert-F.Solve i j x says) rows ≡ says changed
-  replaced_found is value keeps with_is made changed_is =
-      solve_found x (zero_polynomial rows i j) p v ws rows changed says is value keeps with_is made
-      changed_is
+    (zero : zero_polynomial rows i j ≡ Some p) (value : solution x p ≡ Some v)
+    (keeps : solution_within x p ≡ true) where
+  pub replaced_said : level (Cert-F.Solve i j x says) rows ≡
+      formed_said says [] (rows_with ((x, v) ∷ []) rows)
+  replaced_said =
+      ap (λ o. solve_finding x o rows says) zero ∙
+      (λ i. guard (keeps i) (replaced_finding x (value i) rows says))
 
-  pub replaced_certificate : (many : ℕ) → most + 1 ≤ many →
-      (found : Option Cert) (cert whole : Cert) → zero_polynomial rows i j ≡ Some p → solution x p ≡
-      Some v → solution_within x p ≡ true → ws ≡ (x, v) ∷ [] → rows_within ws rows ≡ true →
-      changed ≡ subst_rows ws rows →
-      found ≡ Some cert → whole ≡ Solve i j x cert → AnswersFor says most changed (Ok found) →
-      (level (Cert-F.Solve i j x says) rows ≡ Yes) × IsCertificate many rows whole
-  replaced_certificate many spare found cert whole is value keeps with_is made changed_is found_is
-      whole_is a =
-      let inner : AnswersFor says most changed (Ok (Some cert)) =
-      subst (λ (f : Option Cert). AnswersFor says most changed (Ok f)) found_is a in
-      let made_too : rows_within ((x, v) ∷ []) rows ≡ true =
-      ap (λ (us : List (ℕ × Body)). rows_within us rows) (sym with_is) ∙ made in
-      let list : changed ≡ subst_rows ((x, v) ∷ []) rows = changed_is ∙
-      ap (λ (us : List (ℕ × Body)). subst_rows us rows) with_is in
-      let c : IsCertificate most (subst_rows ((x, v) ∷ []) rows) cert =
-      subst (λ (rs : List Row). IsCertificate most rs cert) list inner.1 in (
-        replaced_found is value keeps with_is made changed_is ∙ inner.0,
-        subst (λ (w : Cert). IsCertificate many rows w) (sym whole_is)
-            (wider spare (solve_certificate most rows i j x p v cert is keeps value made_too c)),
-      )
-
--- no certificate
-pub none_found : (says : List Row → Said) (most : ℕ) (rows : List Row) (o : Option Cert) → o ≡
-    None → AnswersFor says most rows (Ok o) → says rows ≡ No
-none_found says most rows o is a =
-    subst (λ (f : Option Cert). AnswersFor says most rows (Ok f)) is a
+  pub replaced_answer : (many : ℕ) → most + 1 ≤ many → (found whole : Option Cert) →
+      BranchAnswers says most [] (rows_with ((x, v) ∷ []) rows) (Ok found) → whole ≡
+      option_map (λ c. Solve i j x c) found →
+      AnswersFor (level (Cert-F.Solve i j x says)) many rows (Ok whole)
+  replaced_answer many spare found whole answer made =
+      subst (λ (w : Option Cert). AnswersFor (level (Cert-F.Solve i j x says)) many rows (Ok w))
+      (sym made) (by found answer)
+    where
+      by : (f : Option Cert) → BranchAnswers says most [] (rows_with ((x, v) ∷ []) rows) (Ok f) →
+          AnswersFor (level (Cert-F.Solve i j x says)) many rows
+          (Ok (option_map (λ c. Solve i j x c) f))
+      by None a = replaced_said ∙ a
+      by (Some cert) a =
+          let made = within_parts (rows_within ((x, v) ∷ []) rows)
+          (says (subst_rows ((x, v) ∷ []) rows)) a.0 in (
+            replaced_said ∙ a.0,
+            wider spare (solve_certificate most rows i j x p v cert zero keeps value made.0 a.1),
+          )
 
 -- ---- what answers mean
 

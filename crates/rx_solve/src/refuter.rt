@@ -1,10 +1,12 @@
 //! The refuter: all phases, one after the other.
-ghost use Rattle.std.specs.Prelude.{◌≡◌, ◌++◌, ◌+◌, [], ◌∷◌, ℕ, ℤ, IfOk, IfSome, OnOk, IsSome};
+ghost use Rattle.std.specs.Prelude.{◌≡◌, ◌++◌, ◌+◌, [], ◌∷◌, ℕ, ℤ, option_map, IfOk, IfSome, IsSome};
+ghost use Rattle.rx_plain.specs.Formed.{FormsAs};
 ghost use Rattle.rx_cert.specs.Examination.{level};
 ghost use Rattle.rx_cert.specs.declared.cert.Cert.TheOpen.{Cert-F};
 ghost use Rattle.rx_cert.specs.declared.cert.Cert.TheVariants.{Solve};
 ghost use Rattle.rx_row.specs.Holds.{AllHold, RowHolds};
-ghost use Rattle.rx_solve.specs.Answers.{Answers, AnswersFor};
+ghost use Rattle.rx_row.specs.Substitution.{rows_with};
+ghost use Rattle.rx_solve.specs.Answers.{Answers, AnswersFor, BranchAnswers};
 ghost use Rattle.rx_solve.specs.Refuter.{solving};
 ghost use Rattle.rx_solve.specs.Shown.{NegationAnswers, ShownAnswers};
 
@@ -13,6 +15,7 @@ use crate::pivots::{Pivot, first_pivot};
 use rx_cert::{Cert, is_plain, polynomial_at_zero, solve};
 use rx_fm::FmEnd;
 use rx_plain::Boxed;
+use rx_poly::{Poly, PolyEnd};
 use rx_row::{Constraint, Row, subst_rows};
 use std::alloc::{AllocError, Global};
 
@@ -32,6 +35,45 @@ fn replaced(alloc: Global, pivot: &Pivot, rest: Cert) -> Result<Cert, AllocError
     })
 }
 
+/// The same, where something refutes them.
+fn replaced_found(
+    alloc: Global,
+    pivot: &Pivot,
+    found: Option<Cert>,
+) -> Result<Option<Cert>, AllocError>
+    ensures { IfOk result (λ whole. whole ≡ option_map
+        (λ c. Solve pivot.now.first pivot.now.second pivot.now.variable c) found) }
+{
+    match found {
+        Some(cert) => Ok(Some(replaced(alloc, pivot, cert)?)),
+        None => Ok(None),
+    }
+}
+
+/// The rows with the value in place of the variable.
+fn replaced_rows(alloc: Global, rows: &[Row], var: u32, value: Poly) -> Result<Vec<Row>, PolyEnd>
+    ensures { FormsAs (λ v. v.items) PolyEnd.Large result (rows_with ((var, value) ∷ []) rows.now) }
+{
+    let with = [(var, value)];
+    subst_rows(alloc, rows, with.as_slice())
+}
+
+/// What is found of the rows with the value in place of the variable.
+#[cycle(solving)]
+fn replace_by(
+    alloc: Global,
+    rows: &[Row],
+    var: u32,
+    value: Poly,
+    left: u32,
+) -> Result<Option<Cert>, FmEnd>
+    ensures { BranchAnswers (solving left) (left + 74) [] (rows_with ((var, value) ∷ []) rows.now)
+        result }
+{
+    let mut changed = replaced_rows(alloc, rows, var, value)?;
+    solve_in_order(alloc, &mut changed, left)
+}
+
 /// What is found of the rows with its value in place of the variable.
 #[cycle(solving)]
 fn replace(alloc: Global, rows: &[Row], pivot: &Pivot, left: u32) -> Result<Option<Cert>, FmEnd>
@@ -44,12 +86,8 @@ fn replace(alloc: Global, rows: &[Row], pivot: &Pivot, left: u32) -> Result<Opti
     let Some(value) = solve(alloc, poly, pivot.variable)? else {
         return Ok(None);
     };
-    let with = [(pivot.variable, value)];
-    let mut changed = subst_rows(alloc, rows, with.as_slice())?;
-    let Some(rest) = solve_in_order(alloc, &mut changed, left)? else {
-        return Ok(None);
-    };
-    Ok(Some(replaced(alloc, pivot, rest)?))
+    let found = replace_by(alloc, rows, pivot.variable, value, left)?;
+    Ok(replaced_found(alloc, pivot, found)?)
 }
 
 /// What is found of the rows once variables that they say the value of are replaced, at most `left`

@@ -1,6 +1,7 @@
 //! Rows that are divided by their content and rounded down.
-ghost use Rattle.std.specs.Prelude.{◌≡◌, ◌∷◌, ◌++◌, ◌+◌, [], length, take, IfOk, OnOk};
-ghost use Rattle.rx_plain.specs.Formed.{FormsAs};
+ghost use Rattle.std.specs.Prelude.{◌≡◌, ◌∷◌, ◌++◌, ◌+◌, [], length, take, option_map, IfOk, OnOk};
+ghost use Rattle.rx_plain.specs.Formed.{Forms, FormsAs};
+ghost use Rattle.rx_cert.specs.Rounding.{rounding_formed};
 ghost use Rattle.rx_cert.specs.declared.cert.Cert.TheVariants.{Cut};
 ghost use Rattle.rx_solve.specs.Answers.{AnswersFor};
 ghost use Rattle.rx_solve.specs.Bounds.{most_roundings};
@@ -12,6 +13,7 @@ use crate::sums::refute_by_sum;
 use rx_cert::{Cert, Parts, rounded_row};
 use rx_fm::{FmEnd, content};
 use rx_plain::Items;
+use rx_poly::PolyEnd;
 use rx_row::Row;
 use std::alloc::{AllocError, Global};
 
@@ -112,8 +114,71 @@ fn cut(alloc: Global, rounding: &Rounding, rest: Cert) -> Result<Cert, AllocErro
     Ok(Cert::Cut { parts, div, rest })
 }
 
+/// The same, where something refutes them.
+fn cut_found(
+    alloc: Global,
+    rounding: &Rounding,
+    found: Option<Cert>,
+) -> Result<Option<Cert>, AllocError>
+    ensures { IfOk result (λ whole. whole ≡ option_map
+        (λ c. Cut ((rounding.now.at, rounding.now.by) ∷ []) rounding.now.divisor c) found) }
+{
+    match found {
+        Some(cert) => Ok(Some(cut(alloc, rounding, cert)?)),
+        None => Ok(None),
+    }
+}
+
+/// The rounded row.
+fn round_one(alloc: Global, rows: &[Row], rounding: &Rounding) -> Result<Option<Row>, PolyEnd>
+    ensures { Forms PolyEnd.Large result (rounding_formed rounding.now.divisor rows.now
+        ((rounding.now.at, rounding.now.by) ∷ [])) }
+{
+    let part = [(rounding.at, rounding.by)];
+    rounded_row(alloc, rows, part.as_slice(), &rounding.divisor)
+}
+
+/// What is found of the rows with one more after them. The rows are the same again after it.
+#[cycle(rounding)]
+fn round_with(
+    alloc: Global,
+    rows: &mut Vec<Row>,
+    row: Row,
+    roundings: &[Rounding],
+) -> Result<Option<Cert>, FmEnd>
+    ensures answer { AnswersFor (rounding_by roundings.now) (length roundings.now + 1)
+        (rows.old.items ++ row ∷ []) result }
+    ensures kept { OnOk result (rows.new.items ≡ rows.old.items) }
+{
+    let count = rows.len();
+    rows.push(row).map_err(AllocError::from)?;
+    let found = round_in_order(alloc, rows, roundings)?;
+    rows.truncate(count);
+    Ok(found)
+}
+
+/// What is found with the rounding, and then the others.
+#[cycle(rounding)]
+fn round_by(
+    alloc: Global,
+    rows: &mut Vec<Row>,
+    rounding: &Rounding,
+    rest: &[Rounding],
+) -> Result<Option<Cert>, FmEnd>
+    ensures answer { AnswersFor (rounding_by (rounding.now ∷ rest.now)) (length rest.now + 2)
+        rows.old.items result }
+    ensures kept { OnOk result (rows.new.items ≡ rows.old.items) }
+{
+    let Some(row) = round_one(alloc, rows.as_slice(), rounding)? else {
+        return Ok(None);
+    };
+    let found = round_with(alloc, rows, row, rest)?;
+    Ok(cut_found(alloc, rounding, found)?)
+}
+
 /// What a sum finds of the rows, once they are rounded one after the other. The rows are the same
 /// again after it.
+#[cycle(rounding)]
 fn round_in_order(
     alloc: Global,
     rows: &mut Vec<Row>,
@@ -126,18 +191,7 @@ fn round_in_order(
     let Some((rounding, rest)) = roundings.split_first() else {
         return refute_by_sum(alloc, rows.as_slice());
     };
-    let part = [(rounding.at, rounding.by)];
-    let Some(row) = rounded_row(alloc, rows.as_slice(), part.as_slice(), &rounding.divisor)? else {
-        return Ok(None);
-    };
-    let count = rows.len();
-    rows.push(row).map_err(AllocError::from)?;
-    let found = round_in_order(alloc, rows, rest)?;
-    rows.truncate(count);
-    match found {
-        Some(cert) => Ok(Some(cut(alloc, rounding, cert)?)),
-        None => Ok(None),
-    }
+    round_by(alloc, rows, rounding, rest)
 }
 
 /// What is found of the rows by their roundings and a sum. The rows are the same again after it.

@@ -1,52 +1,38 @@
 -- What is found with the value in place of the variable is found; where none is replaced, what is
 -- found without.
-use Rattle.std.proofs.Common.{◌≡◌, ◌∙◌, ◌+◌, ◌-◌, sym, suc, arith, rules}
+use Rattle.std.proofs.Common.{◌≡◌, ◌∙◌, ◌∷◌, [], ◌+◌, ◌-◌, sym, suc, arith, rules}
 use Rattle.std.proofs.lemmas.Result.{err_from_is_err_and}
-use Rattle.rx_cert.proofs.FindingLaws.{solve_found}
-use Rattle.rx_cert.specs.Elimination.{zero_polynomial}
-use Rattle.rx_cert.specs.declared.cert.Cert.TheVariants.{Solve}
+use Rattle.rx_row.specs.Substitution.{rows_with}
 use Rattle.rx_solve.specs.Refuter.{solving}
-use Rattle.rx_solve.proofs.Phases.{no_more_solved, none_found, none_solved, one_solved, replaced_certificate}
+use Rattle.rx_solve.proofs.Phases.{formed_answer, no_more_solved, none_solved, one_solved, replaced_answer, replaced_said}
 use Rattle.rx_solve.proofs.refuter.+solving.Goals as goal
 
-pub replace-returns-in_err-rest : goal.replace-returns-in_err-rest
-replace-returns-in_err-rest t c =
-    let found = solve_found c.args.pivot.now.variable
-    (zero_polynomial c.args.rows.now c.args.pivot.now.first c.args.pivot.now.second)
-    c.in-Some.poly.now c.in-Some-2.value c.as_slice.result.now
-    c.args.rows.now c.in_ok-changed.changed.items (solving c.args.left) (sym c.in-Some.ensures)
-    (sym c.in_ok-value.ensures.forms.0 ∙ c.in-Some-2.is) c.in_ok-value.ensures.forms.1
-    c.as_slice.ensures
-    c.in_ok-changed.ensures.forms.1 c.in_ok-changed.ensures.forms.0 in
-    let p = err_from_is_err_and c.from_residual-in_err-rest.result
-    c.from_residual-in_err-rest.ensures.1 in
-    rw (p.1, p.2) (λ large. found ∙ c.in_err-rest.ensures large)
+pub replace_by-returns : goal.replace_by-returns
+replace_by-returns t c =
+    formed_answer (solving c.args.left) (c.args.left + 74)
+    (rows_with ((c.args.var, c.args.value) ∷ []) c.args.rows.now) c.in_ok-changed.changed.items
+    c.solve_in_order.result c.in_ok-changed.ensures.0 c.in_ok-changed.ensures.1
+    c.solve_in_order.ensures
 
-pub replace-returns-in_default-3 : goal.replace-returns-in_default-3
-replace-returns-in_default-3 t c =
-    let found = solve_found c.args.pivot.now.variable
-    (zero_polynomial c.args.rows.now c.args.pivot.now.first c.args.pivot.now.second)
-    c.in-Some.poly.now c.in-Some-2.value c.as_slice.result.now
-    c.args.rows.now c.in_ok-changed.changed.items (solving c.args.left) (sym c.in-Some.ensures)
+pub replace-returns-in_err-found : goal.replace-returns-in_err-found
+replace-returns-in_err-found t c =
+    let p = err_from_is_err_and c.from_residual-in_err-found.result
+    c.from_residual-in_err-found.ensures.1 in
+    rw (p.1, p.2) (λ large.
+    replaced_said c.args.pivot.now.first c.args.pivot.now.second c.args.pivot.now.variable
+    (solving c.args.left) (c.args.left + 74) c.args.rows.now c.in-Some.poly.now
+    c.in-Some-2.value (sym c.in-Some.ensures)
     (sym c.in_ok-value.ensures.forms.0 ∙ c.in-Some-2.is) c.in_ok-value.ensures.forms.1
-    c.as_slice.ensures
-    c.in_ok-changed.ensures.forms.1 c.in_ok-changed.ensures.forms.0 in
-    found ∙ none_found (solving c.args.left) (c.args.left + 74) c.in_ok-changed.changed.items
-    c.in_ok-rest.field-0 c.in_default-3.is c.in_ok-rest.ensures
+    ∙ c.in_err-found.ensures large)
 
 pub replace-returns : goal.replace-returns
 replace-returns t c =
-    let made : c.in_ok-replaced.field-0 ≡ Solve c.args.pivot.now.first c.args.pivot.now.second
-    c.args.pivot.now.variable c.in-Some-3.rest = c.in_ok-replaced.ensures in
-    replaced_certificate c.args.pivot.now.first c.args.pivot.now.second c.args.pivot.now.variable
+    replaced_answer c.args.pivot.now.first c.args.pivot.now.second c.args.pivot.now.variable
     (solving c.args.left) (c.args.left + 74) c.args.rows.now c.in-Some.poly.now
-    c.in-Some-2.value c.as_slice.result.now
-    c.in_ok-changed.changed.items (c.args.left + 75) (omega arith) c.in_ok-rest.field-0
-    c.in-Some-3.rest c.in_ok-replaced.field-0 (sym c.in-Some.ensures)
+    c.in-Some-2.value (sym c.in-Some.ensures)
     (sym c.in_ok-value.ensures.forms.0 ∙ c.in-Some-2.is) c.in_ok-value.ensures.forms.1
-    c.as_slice.ensures
-    c.in_ok-changed.ensures.forms.1 c.in_ok-changed.ensures.forms.0 c.in-Some-3.is made
-    c.in_ok-rest.ensures
+    (c.args.left + 75) (omega arith) c.in_ok-found.found c.in_ok-replaced_found.field-0
+    c.in_ok-found.ensures c.in_ok-replaced_found.ensures
 
 pub solve_in_order-returns-then-left-eq0 : goal.solve_in_order-returns-then-left-eq0
 solve_in_order-returns-then-left-eq0 t c =
