@@ -1,6 +1,6 @@
 -- One step of a phase: a certificate for the rows that come next is one for the rows, and what is
 -- found of them is found.
-use Rattle.std.proofs.Common.{◌≡◌, ◌∙◌, ap, subst, sym, arith, cond, ℕ, suc, ◌+◌, ◌≤◌, true, false, ◌&&◌, Option, Some, None, option_map, Result, Ok, Err, IfOk, IfSome, List, [], ◌∷◌, ◌++◌, length, slice_get, ℤ}
+use Rattle.std.proofs.Common.{◌≡◌, ◌∙◌, ap, refl, subst, sym, arith, cond, Bool, ℕ, suc, ◌+◌, ◌≤◌, true, false, ◌&&◌, Option, Some, None, option_map, Result, Ok, Err, IfOk, IfSome, List, [], ◌∷◌, ◌++◌, length, slice_get, ℤ}
 use Rattle.std.proofs.lemmas.Bool.{and_from, and_parts}
 use Rattle.std.specs.List.{list_all}
 use Rattle.rx_plain.specs.Formed.{Formed}
@@ -25,11 +25,12 @@ use Rattle.rx_solve.specs.Pivots.{first_pivot}
 use Rattle.rx_solve.specs.declared.pivots.Pivot.{Pivot}
 use Rattle.rx_row.specs.Parts.{parts_within, sum_of}
 use Rattle.rx_row.specs.declared.row.Row.{Row}
-use Rattle.rx_cert.specs.Findings.{Said, Yes, No, and_also, with_row, guard}
+use Rattle.rx_cert.specs.Findings.{Said, Yes, No, Beyond, and_also, with_row, guard}
 use Rattle.rx_cert.specs.Rounding.{rounding_row}
 use Rattle.rx_cert.specs.declared.cert.Cert.{Cert}
 use Rattle.rx_cert.specs.declared.cert.Cert.TheVariants.{Cut, Differ, DivFacts, Solve}
 use Rattle.rx_fm.specs.declared.fm_end.FmEnd.{FmEnd}
+use Rattle.rx_fm.specs.declared.fm_end.FmEnd.TheVariants.{Large}
 use Rattle.rx_solve.specs.Answers.{Answers, AnswersFor, BranchAnswers, IsCertificate, formed_said, one_formed}
 use Rattle.rx_solve.specs.Divisions.{AreRatiosOf, ratio_passes}
 use Rattle.rx_solve.specs.declared.divisions.Ratio.{Ratio}
@@ -114,11 +115,30 @@ module _ (num : Body) (d : ℤ) (rest : List Ratio) (rows : List Row) where
   abbrev Branch : Formed (List Row) → Option Cert → Type 0
   Branch more o = BranchAnswers (dividing_by rest) (length rest + 65) rows more (Ok o)
 
+  -- what is found of both sides, one after the other, is found of the rows
+  sides_said : is_zero d ≡ false → division_within num d ≡ true →
+      dividing_by (ratio ∷ rest) rows ≡
+      and_also (formed_said (dividing_by rest) rows (facts (division_formed num d).form))
+      (formed_said (dividing_by rest) rows (facts_below (division_formed num d).form))
+  sides_said zero keeps =
+      ap (λ c. cond c No (and_also (guard (at_least_zero_within num d)
+      (dividing_by rest (rows ++ rows_at_least_zero num d)))
+      (guard (below_zero_within num d) (dividing_by rest (rows ++ rows_below_zero num d))))) zero
+      ∙ (λ i. and_also (guard (keeps i && above) (dividing_by rest
+      (rows ++ rows_at_least_zero num d))) (guard (negation_within (Ge num) && (keeps i && below))
+      (dividing_by rest (rows ++ rows_below_zero num d))))
+    where
+      above : Bool
+      above = is_within (body_difference (greatest_remainder d) (remainder_by num d))
+
+      below : Bool
+      below =
+          is_within (opposite (remainder_by num d)) &&
+          is_within (body_sum (greatest_remainder d) (remainder_by num d))
   -- both sides are refuted, so the rows are
   both_sides : (pos neg : Cert) → AreRatiosOf (ratio ∷ rest) rows → is_zero d ≡ false →
       division_within num d ≡ true → Branch (facts (division_formed num d).form) (Some pos) →
       Branch (facts_below (division_formed num d).form) (Some neg) →
-      (dividing_by (ratio ∷ rest) rows ≡ Yes) ×
       IsCertificate (length rest + 66) rows (DivFacts num d pos neg)
   both_sides pos neg own zero keeps a b =
       let above = is_within (body_difference (greatest_remainder d) (remainder_by num d)) in
@@ -132,40 +152,66 @@ module _ (num : Body) (d : ℤ) (rest : List Ratio) (rows : List Row) where
       and_from (division_within num d) above keeps first.0 in
       let second_keeps : below_zero_within num d ≡ true =
       and_from (negation_within (Ge num)) (division_within num d && below) parts.0
-      (and_from (division_within num d) below keeps parts.1) in (
-        ap (λ c. cond c No (and_also (guard (at_least_zero_within num d)
-            (dividing_by rest (rows ++ rows_at_least_zero num d)))
-            (guard (below_zero_within num d) (dividing_by rest (rows ++ rows_below_zero num d)))))
-            zero
-            ∙ both_yes (within_yes first_keeps first.1) (within_yes second_keeps second.1),
-        wider (omega arith) (division_certificate (length rest + 65) rows num d pos neg zero
-            first_keeps second_keeps
-            (λ test h. (and_parts (ratio_passes test ratio) (list_all (ratio_passes test) rest)
-            (own.own test h)).0) a.1 b.1),
-      )
+      (and_from (division_within num d) below keeps parts.1) in
+      wider (omega arith) (division_certificate (length rest + 65) rows num d pos neg zero
+      first_keeps second_keeps
+      (λ test h. (and_parts (ratio_passes test ratio) (list_all (ratio_passes test) rest)
+      (own.own test h)).0) a.1 b.1)
 
-  -- the same of what was answered
-  pub division_step : (parts : Body × Body × Body) (lent : List Row) (first second : Option Cert)
-      (pos neg whole : Cert) → AreRatiosOf (ratio ∷ rest) rows → is_zero d ≡ false →
-      parts ≡ (division_formed num d).form → division_within num d ≡ true → lent ≡ rows → first ≡
-      Some pos → second ≡ Some neg → whole ≡ DivFacts num d pos neg →
-      Branch (facts parts) first → BranchAnswers (dividing_by rest) (length rest + 65) lent
-      (facts_below parts) (Ok second) →
-      (dividing_by (ratio ∷ rest) rows ≡ Yes) × IsCertificate (length rest + 66) rows whole
-  division_step parts lent first second pos neg whole own zero is keeps same first_is second_is made
-      a b =
-      let above : Branch (facts (division_formed num d).form) (Some pos) =
-      subst (λ (t : Body × Body × Body). Branch (facts t) (Some pos)) is
-      (subst (λ (o : Option Cert). Branch (facts parts) o) first_is a) in
-      let lent_below : Branch (facts_below parts) second =
-      subst (λ (rs : List Row). BranchAnswers (dividing_by rest) (length rest + 65) rs
-      (facts_below parts) (Ok second)) same b in
-      let below : Branch (facts_below (division_formed num d).form) (Some neg) =
-      subst (λ (t : Body × Body × Body). Branch (facts_below t) (Some neg)) is
-      (subst (λ (o : Option Cert). Branch (facts_below parts) o) second_is lent_below) in
-      subst (λ (w : Cert). (dividing_by (ratio ∷ rest) rows ≡ Yes) ×
-      IsCertificate (length rest + 66) rows w) (sym made)
-      (both_sides pos neg own zero keeps above below)
+  -- what is known where the first side is refuted
+  module _ (parts : Body × Body × Body) (lent : List Row) (first : Option Cert) (pos : Cert)
+      (second : Result (Option Cert) FmEnd) (zero : is_zero d ≡ false) (is : parts ≡
+      (division_formed num d).form) (keeps : division_within num d ≡ true) (same : lent ≡ rows)
+      (first_is : first ≡ Some pos) (a : Branch (facts parts) first)
+      (b : BranchAnswers (dividing_by rest) (length rest + 65) lent (facts_below parts) second)
+    where
+    first_side : Branch (facts (division_formed num d).form) (Some pos)
+    first_side =
+        subst (λ (t : Body × Body × Body). Branch (facts t) (Some pos)) is
+        (subst (λ (o : Option Cert). Branch (facts parts) o) first_is a)
+
+    second_side : BranchAnswers (dividing_by rest) (length rest + 65) rows
+        (facts_below (division_formed num d).form) second
+    second_side =
+        subst (λ (t : Body × Body × Body). BranchAnswers (dividing_by rest) (length rest + 65) rows
+        (facts_below t) second) is
+        (subst (λ (rs : List Row). BranchAnswers (dividing_by rest) (length rest + 65) rs
+        (facts_below parts) second) same b)
+
+    -- the second decides
+    second_said : dividing_by (ratio ∷ rest) rows ≡
+        formed_said (dividing_by rest) rows (facts_below (division_formed num d).form)
+    second_said =
+        sides_said zero keeps ∙
+        ap (λ f. and_also f (formed_said (dividing_by rest) rows
+        (facts_below (division_formed num d).form))) first_side.0
+
+    pub division_beyond : second ≡ Err Large → dividing_by (ratio ∷ rest) rows ≡ Beyond
+    division_beyond large =
+        second_said ∙ subst (λ (r : Result (Option Cert) FmEnd).
+        BranchAnswers (dividing_by rest) (length rest + 65) rows
+        (facts_below (division_formed num d).form) r) large second_side refl
+
+    pub division_step : AreRatiosOf (ratio ∷ rest) rows → (both : Option (Cert × Cert))
+        (whole : Option Cert) → second ≡ Ok (option_map (λ x. x.1) both) →
+        IfSome both (λ x. x.0 ≡ pos) → whole ≡ option_map (λ x. DivFacts num d x.0 x.1) both →
+        AnswersFor (dividing_by (ratio ∷ rest)) (length rest + 66) rows (Ok whole)
+    division_step own both whole found first_same made =
+        subst (λ (w : Option Cert). AnswersFor (dividing_by (ratio ∷ rest)) (length rest + 66) rows
+        (Ok w)) (sym made) (by both first_same
+        (subst (λ (r : Result (Option Cert) FmEnd). BranchAnswers (dividing_by rest)
+        (length rest + 65) rows (facts_below (division_formed num d).form) r) found second_side))
+      where
+        by : (o : Option (Cert × Cert)) → IfSome o (λ x. x.0 ≡ pos) →
+            Branch (facts_below (division_formed num d).form) (option_map (λ x. x.1) o) →
+            AnswersFor (dividing_by (ratio ∷ rest)) (length rest + 66) rows
+            (Ok (option_map (λ x. DivFacts num d x.0 x.1) o))
+        by None f h = second_said ∙ h
+        by (Some x) f h = (
+          second_said ∙ h.0,
+          subst (λ (c : Cert). IsCertificate (length rest + 66) rows (DivFacts num d c x.1)) (sym f)
+              (both_sides pos x.1 own zero keeps first_side h),
+        )
 
   -- a dividend that is the same
   pub same_dividend : (other : Body) (r : Result (Option Cert) FmEnd) → num ≡ other →
@@ -181,39 +227,63 @@ module _ (i : ℕ) (rest : List ℕ) (rows : List Row) (p : Body) where
   abbrev Side : Formed Row → Option Cert → Type 0
   Side row o = BranchAnswers (differing_at rest) (length rest + 68) rows (one_formed row) (Ok o)
 
-  -- both sides are refuted, so the rows are
-  both_differ : (pos neg : Cert) → disequal (slice_get rows i) ≡ Some p →
-      Side (above p) (Some pos) → Side (below p) (Some neg) →
-      (differing_at (i ∷ rest) rows ≡ Yes) × IsCertificate (length rest + 69) rows
-      (Differ i pos neg)
-  both_differ pos neg is a b =
-      let first = within_parts (is_within (one_less p))
-      (differing_at rest (rows ++ Ge (one_less p) ∷ [])) a.0 in
-      let second = within_parts (negation_within (Ge p))
-      (differing_at rest (rows ++ negation (Ge p) ∷ [])) b.0 in (
-        ap (λ o. differ_finding o rows (differing_at rest) (differing_at rest)) is
-            ∙ both_yes (within_yes first.0 first.1) (within_yes second.0 second.1),
-        wider (omega arith) (differ_certificate (length rest + 68) rows i p pos neg is first.0
-            second.0 a.1 b.1),
-      )
+  -- what is known where the first side is refuted
+  module _ (lent : List Row) (first : Option Cert) (pos : Cert)
+      (second : Result (Option Cert) FmEnd) (is : disequal (slice_get rows i) ≡ Some p)
+      (same : lent ≡ rows) (first_is : first ≡ Some pos) (a : Side (above p) first)
+      (b : BranchAnswers (differing_at rest) (length rest + 68) lent (one_formed (below p)) second)
+    where
+    one : Side (above p) (Some pos)
+    one = subst (λ (o : Option Cert). Side (above p) o) first_is a
 
-  -- the same of what was answered
-  pub difference_step : (lent : List Row) (first second : Option Cert) (pos neg whole : Cert) →
-      disequal (slice_get rows i) ≡ Some p → lent ≡ rows → first ≡ Some pos → second ≡ Some neg →
-      whole ≡ Differ i pos neg →
-      Side (above p) first → BranchAnswers (differing_at rest) (length rest + 68) lent
-      (one_formed (below p)) (Ok second) →
-      (differing_at (i ∷ rest) rows ≡ Yes) × IsCertificate (length rest + 69) rows whole
-  difference_step lent first second pos neg whole is same first_is second_is made a b =
-      let lent_below : Side (below p) second =
-      subst (λ (rs : List Row). BranchAnswers (differing_at rest) (length rest + 68) rs
-      (one_formed (below p)) (Ok second)) same b in
-      let one : Side (above p) (Some pos) = subst (λ (o : Option Cert). Side (above p) o) first_is a
-      in
-      let other : Side (below p) (Some neg) =
-      subst (λ (o : Option Cert). Side (below p) o) second_is lent_below in
-      subst (λ (w : Cert). (differing_at (i ∷ rest) rows ≡ Yes) ×
-      IsCertificate (length rest + 69) rows w) (sym made) (both_differ pos neg is one other)
+    other : BranchAnswers (differing_at rest) (length rest + 68) rows (one_formed (below p)) second
+    other =
+        subst (λ (rs : List Row). BranchAnswers (differing_at rest) (length rest + 68) rs
+        (one_formed (below p)) second) same b
+
+    -- the second decides
+    other_said : differing_at (i ∷ rest) rows ≡
+        formed_said (differing_at rest) rows (one_formed (below p))
+    other_said =
+        ap (λ o. differ_finding o rows (differing_at rest) (differing_at rest)) is ∙
+        ap (λ f. and_also f (formed_said (differing_at rest) rows (one_formed (below p)))) one.0
+
+    pub difference_beyond : second ≡ Err Large → differing_at (i ∷ rest) rows ≡ Beyond
+    difference_beyond large =
+        other_said ∙ subst (λ (r : Result (Option Cert) FmEnd).
+        BranchAnswers (differing_at rest) (length rest + 68) rows (one_formed (below p)) r) large
+        other refl
+
+    both_differ : (neg : Cert) → Side (below p) (Some neg) →
+        IsCertificate (length rest + 69) rows (Differ i pos neg)
+    both_differ neg h =
+        let first = within_parts (is_within (one_less p))
+        (differing_at rest (rows ++ Ge (one_less p) ∷ [])) one.0 in
+        let second = within_parts (negation_within (Ge p))
+        (differing_at rest (rows ++ negation (Ge p) ∷ [])) h.0 in
+        wider (omega arith) (differ_certificate (length rest + 68) rows i p pos neg is first.0
+        second.0 one.1 h.1)
+
+    pub difference_step : (both : Option (Cert × Cert)) (whole : Option Cert) → second ≡
+        Ok (option_map (λ x. x.1) both) → IfSome both (λ x. x.0 ≡ pos) → whole ≡
+        option_map (λ x. Differ i x.0 x.1) both →
+        AnswersFor (differing_at (i ∷ rest)) (length rest + 69) rows (Ok whole)
+    difference_step both whole found first_same made =
+        subst (λ (w : Option Cert). AnswersFor (differing_at (i ∷ rest)) (length rest + 69) rows
+        (Ok w)) (sym made) (by both first_same
+        (subst (λ (r : Result (Option Cert) FmEnd). BranchAnswers (differing_at rest)
+        (length rest + 68) rows (one_formed (below p)) r) found other))
+      where
+        by : (o : Option (Cert × Cert)) → IfSome o (λ x. x.0 ≡ pos) →
+            Side (below p) (option_map (λ x. x.1) o) →
+            AnswersFor (differing_at (i ∷ rest)) (length rest + 69) rows
+            (Ok (option_map (λ x. Differ i x.0 x.1) o))
+        by None f h = other_said ∙ h
+        by (Some x) f h = (
+          other_said ∙ h.0,
+          subst (λ (c : Cert). IsCertificate (length rest + 69) rows (Differ i c x.1)) (sym f)
+              (both_differ x.1 h),
+        )
 
 -- ---- variables that rows say the value of
 

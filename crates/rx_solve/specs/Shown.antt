@@ -31,6 +31,13 @@ ShownAnswers given row (Ok (Some (Some cert))) =
     (is_plain_row given row ≡ false) × NegationAnswers given row (Ok (Some cert))
 ShownAnswers given row (Err e) = e ≡ Large → shown refuted given row ≡ Beyond
 
+-- an answer that says whether the rows are all shown, and with which certificates
+abbrev pub AllAnswers : List Row → List Row → Result (Option (List Cert)) FmEnd → Type 0
+AllAnswers given rows (Ok None) = all_shown refuted given rows ≡ No
+AllAnswers given rows (Ok (Some certs)) =
+    (all_shown refuted given rows ≡ Yes) × AreCertificates most_deep given rows certs
+AllAnswers given rows (Err e) = e ≡ Large → all_shown refuted given rows ≡ Beyond
+
 -- the rows are all shown by the refuter, with those certificates, or the first that isn't decides
 abbrev pub IsAllShown : List Row → List Row → AllShown → Type 0
 IsAllShown given rows (Shown certs) =

@@ -1,5 +1,6 @@
 //! What is not 0 is above it or below it.
-ghost use Rattle.std.specs.Prelude.{◌≡◌, [], ◌∷◌, ◌++◌, ◌+◌, length, slice_get, take, Some, IfOk, OnOk};
+ghost use Rattle.std.specs.Prelude.{◌≡◌, [], ◌∷◌, ◌++◌, ◌+◌, length, slice_get, take, Some, option_map, IfOk, OnOk};
+ghost use Rattle.rx_cert.specs.declared.cert.Cert.TheVariants.{Differ};
 ghost use Rattle.rx_cert.specs.Differences.{above, below, disequal};
 ghost use Rattle.rx_solve.specs.Answers.{AnswersFor, BranchAnswers, one_formed};
 ghost use Rattle.rx_solve.specs.Bounds.{most_disequalities};
@@ -10,6 +11,7 @@ use crate::divisions::refute_by_dividing;
 use crate::sides::both_boxed;
 use rx_cert::{Cert, row_above, row_below};
 use rx_fm::FmEnd;
+use rx_plain::Boxed;
 use rx_poly::Poly;
 use rx_row::Row;
 use std::alloc::{AllocError, Global};
@@ -51,6 +53,14 @@ fn disequal_at(alloc: Global, rows: &[Row], at: u32) -> Result<Option<Poly>, All
         Some(Row::Ne(poly)) => Ok(Some(poly.try_clone(alloc)?)),
         _ => Ok(None),
     }
+}
+
+/// The certificate that both signs are looked at, where both refute the rows.
+fn difference_cert(at: u32, both: Option<(Boxed<Cert>, Boxed<Cert>)>) -> Option<Cert>
+    ensures { result ≡ option_map (λ both. Differ at both.0 both.1) both }
+{
+    let (pos, neg) = both?;
+    Some(Cert::Differ { at, pos, neg })
 }
 
 /// What is found of the rows with one more after them. The rows are the same again after it.
@@ -122,10 +132,8 @@ fn differ_both(
         return Ok(None);
     };
     let neg = differ_below(alloc, rows, poly, rest);
-    let Some((pos, neg)) = both_boxed(alloc, pos, neg)? else {
-        return Ok(None);
-    };
-    Ok(Some(Cert::Differ { at, pos, neg }))
+    let both = both_boxed(alloc, pos, neg)?;
+    Ok(difference_cert(at, both))
 }
 
 /// What is found with the disequality, and then the others.

@@ -1,6 +1,6 @@
 //! Ratios: dividends, each with the number that it is divided by; and what is known of their
 //! quotients and remainders.
-ghost use Rattle.std.specs.Prelude.{◌≡◌, [], ◌∷◌, ◌++◌, ◌+◌, true, false, length, take, IfOk, OnOk};
+ghost use Rattle.std.specs.Prelude.{◌≡◌, [], ◌∷◌, ◌++◌, ◌+◌, true, false, length, option_map, take, IfOk, OnOk};
 ghost use Rattle.std.specs.List.{fold, list_all, list_any};
 ghost use Rattle.rx_cert.specs.declared.cert.Cert.TheVariants.{DivFacts};
 ghost use Rattle.rx_cert.specs.DivisionFacts.{division_formed, facts_at_least_zero, facts_below_zero};
@@ -177,12 +177,17 @@ fn first_ratios(alloc: Global, rows: &[Row]) -> Result<Vec<Ratio>, AllocError>
     Ok(known)
 }
 
-/// The certificate that both signs of the dividend are looked at.
-fn division_cert(num: Poly, den: &i128, pos: Boxed<Cert>, neg: Boxed<Cert>) -> Cert
-    ensures { result ≡ DivFacts num den.now pos neg }
+/// The certificate that both signs of the dividend are looked at, where both refute the rows.
+fn division_cert(
+    num: Poly,
+    den: &i128,
+    both: Option<(Boxed<Cert>, Boxed<Cert>)>,
+) -> Option<Cert>
+    ensures { result ≡ option_map (λ both. DivFacts num den.now both.0 both.1) both }
 {
+    let (pos, neg) = both?;
     let den = *den;
-    Cert::DivFacts { num, den, pos, neg }
+    Some(Cert::DivFacts { num, den, pos, neg })
 }
 
 /// The dividend as a polynomial.
@@ -275,10 +280,8 @@ fn divide_both(
         return Ok(None);
     };
     let neg = divide_below(alloc, rows, &num, known, rest);
-    let Some((pos, neg)) = both_boxed(alloc, pos, neg)? else {
-        return Ok(None);
-    };
-    Ok(Some(division_cert(num, den, pos, neg)))
+    let both = both_boxed(alloc, pos, neg)?;
+    Ok(division_cert(num, den, both))
 }
 
 /// What is found with the ratio, and then the others.

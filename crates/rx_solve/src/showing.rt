@@ -1,7 +1,7 @@
 //! Rows that are shown, one after the other, by a solver.
 ghost use Rattle.std.specs.Prelude.{◌≡◌, IfOk, OnOk};
 ghost use Rattle.rx_solve.specs.Answers.{IsSolver};
-ghost use Rattle.rx_solve.specs.Shown.{IsAllShown, NegationAnswers};
+ghost use Rattle.rx_solve.specs.Shown.{AllAnswers, IsAllShown, NegationAnswers};
 
 use crate::asking::ask;
 use rx_cert::{Cert, is_plain};
@@ -42,6 +42,34 @@ fn ask_negation<S: FnMut(&Constraint) -> Result<Option<Cert>, FmEnd>>(
     found
 }
 
+/// The certificates of the rows that aren't plain, in order; None where the first row that isn't
+/// shown is one whose negation isn't refuted. The rows that are asked are the given ones, and the
+/// same again after it.
+fn show_in_order<S: FnMut(&Constraint) -> Result<Option<Cert>, FmEnd>>(
+    alloc: Global,
+    given: &Constraint,
+    asked: &mut Constraint,
+    rows: &[Row],
+    solve: &mut S,
+) -> Result<Option<Items<Cert>>, FmEnd>
+    requires solver { IsSolver S.FnMut solve.old }
+    requires asked { asked.old ≡ given.now }
+    ensures solver { IsSolver S.FnMut solve.new }
+    ensures answer { AllAnswers given.now rows.now result }
+{
+    let mut certs = Items::new(alloc);
+    for row in rows {
+        if is_plain(given, row) {
+            continue;
+        }
+        let Some(cert) = ask_negation(alloc, asked, row, solve)? else {
+            return Ok(None);
+        };
+        certs.push(cert)?;
+    }
+    Ok(Some(certs))
+}
+
 /// The rows in order, up to the first that isn't shown: one is shown where it is plain, or where
 /// the solver refutes the given rows with its negation after them. Too large where the negation, or
 /// what is asked, passes the limits.
@@ -56,17 +84,10 @@ pub fn show_all<S: FnMut(&Constraint) -> Result<Option<Cert>, FmEnd>>(
     ensures answer { IfOk result (λ a. IsAllShown given.now rows.now a) }
 {
     let mut asked = given.try_clone(alloc)?;
-    let mut certs = Items::new(alloc);
-    for row in rows {
-        if is_plain(given, row) {
-            continue;
-        }
-        match ask_negation(alloc, &mut asked, row, solve) {
-            Ok(Some(cert)) => certs.push(cert)?,
-            Ok(None) => return Ok(AllShown::NotShown),
-            Err(FmEnd::Large) => return Ok(AllShown::TooLarge),
-            Err(FmEnd::NoMemory) => return Err(NoMemory),
-        }
+    match show_in_order(alloc, given, &mut asked, rows, solve) {
+        Ok(Some(certs)) => Ok(AllShown::Shown(certs)),
+        Ok(None) => Ok(AllShown::NotShown),
+        Err(FmEnd::Large) => Ok(AllShown::TooLarge),
+        Err(FmEnd::NoMemory) => Err(NoMemory),
     }
-    Ok(AllShown::Shown(certs))
 }

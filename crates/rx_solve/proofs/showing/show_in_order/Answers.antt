@@ -1,22 +1,21 @@
 -- A row whose negation is refuted is shown, with its certificate; at the end all are.
-use Rattle.std.proofs.Common.{◌≡◌, ◌∙◌, subst, sym, ◌+◌, drop, drop_of_length-le, Some}
+use Rattle.std.proofs.Common.{◌∙◌, subst, sym, ◌+◌, drop, drop_of_length-le}
 use Rattle.rx_solve.proofs.Proving.{Proving, after_certificate, all_done}
-use Rattle.rx_solve.proofs.showing.show_all.Goals as goal
+use Rattle.rx_solve.proofs.showing.show_in_order.Goals as goal
 
 pub loop-row-preserved : goal.loop-row-preserved
 loop-row-preserved g c =
     let at = c.loop-row in
-    let has : c.in-Ok-Some.field-0 ≡ Some c.in-Ok-Some.cert = cc in
     let next = after_certificate c.args.given.now c.args.rows.now at.row-index c.row-item.result
     at.certs c.loop-row-test.true c.row-item.is at.invariant.proving
-    (sym c.is_plain.ensures.plain ∙ c.if-is_plain.false) at.asked c.in-Ok-Some.field-0
-    c.in-Ok-Some.cert at.invariant.asked has c.in-Ok-Some.ensures.answer in
+    (sym c.is_plain.ensures.plain ∙ c.if-is_plain.false) at.asked c.in_ok-cert.field-0
+    c.in-Some.cert at.invariant.asked c.in-Some.is c.in_ok-cert.ensures.answer in
     record {
       solver = c.ask_negation.ensures.solver;
-      asked = c.in-Ok-Some.ensures.kept ∙ at.invariant.asked;
+      asked = c.in_ok-cert.ensures.kept ∙ at.invariant.asked;
       proving =
           subst (Proving c.args.given.now c.args.rows.now (at.row-index + 1)
-          (drop (at.row-index + 1) c.args.rows.now)) (sym c.in_ok-push-in-Ok-Some.ensures.ok) next;
+          (drop (at.row-index + 1) c.args.rows.now)) (sym c.in_ok-push.ensures.ok) next;
     }
 
 pub returns-clause-answer : goal.returns-clause-answer

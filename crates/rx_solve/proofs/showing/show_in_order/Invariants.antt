@@ -2,7 +2,7 @@
 use Rattle.std.proofs.Common.{◌≡◌, drop}
 use Rattle.rx_solve.specs.Answers.{IsSolver}
 use Rattle.rx_solve.proofs.Proving.{Proving}
-use Rattle.rx_solve.proofs.showing.show_all.Given as goal
+use Rattle.rx_solve.proofs.showing.show_in_order.Given as goal
 
 abbrev pub invariant-loop-row : goal.invariant-loop-row
 invariant-loop-row g l = record {
