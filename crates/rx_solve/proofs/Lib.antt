@@ -1,6 +1,5 @@
 -- Lemmas on the definitions of specs/.
 mod Alone
-pub mod Boxing
 pub mod Calls
 pub mod Certificates
 mod Examples
@@ -10,3 +9,4 @@ pub mod Phases
 pub mod Proving
 pub mod RatioLaws
 pub mod RoundingWalk
+pub mod Walks

@@ -1,6 +1,6 @@
 -- One step of a phase: a certificate for the rows that come next is one for the rows, and what is
 -- found of them is found.
-use Rattle.std.proofs.Common.{◌≡◌, ◌∙◌, ap, refl, subst, sym, arith, cond, Bool, ℕ, suc, ◌+◌, ◌≤◌, true, false, ◌&&◌, Option, Some, None, option_map, Result, Ok, Err, IfOk, IfSome, List, [], ◌∷◌, ◌++◌, length, slice_get, ℤ}
+use Rattle.std.proofs.Common.{◌≡◌, ◌∙◌, ap, refl, subst, sym, arith, cond, Bool, ℕ, suc, ◌+◌, ◌≤◌, true, false, ◌&&◌, Option, Some, None, option_map, Result, Ok, Err, IfOk, IfSome, List, [], ◌∷◌, ◌++◌, length, slice_get, take, ℤ}
 use Rattle.std.proofs.lemmas.Bool.{and_from, and_parts}
 use Rattle.std.specs.List.{list_all}
 use Rattle.rx_plain.specs.Formed.{Formed}
@@ -32,9 +32,10 @@ use Rattle.rx_cert.specs.declared.cert.Cert.TheVariants.{Cut, Differ, DivFacts, 
 use Rattle.rx_fm.specs.declared.fm_end.FmEnd.{FmEnd}
 use Rattle.rx_fm.specs.declared.fm_end.FmEnd.TheVariants.{Large}
 use Rattle.rx_solve.specs.Answers.{Answers, AnswersFor, BranchAnswers, IsCertificate, formed_said, one_formed}
-use Rattle.rx_solve.specs.Divisions.{AreRatiosOf, ratio_passes}
+use Rattle.rx_solve.specs.Divisions.{AreRatiosOf, all_ratios, ratio_passes}
+use Rattle.rx_solve.specs.Disequalities.{disequalities_from}
 use Rattle.rx_solve.specs.declared.divisions.Ratio.{Ratio}
-use Rattle.rx_solve.specs.Refuter.{differing, differing_at, refuted, solving, solving_with, dividing_by, rounding, rounding_by}
+use Rattle.rx_solve.specs.Refuter.{differing, differing_at, refuted, solving, solving_with, dividing, dividing_by, rounding, rounding_by}
 use Rattle.rx_solve.specs.Roundings.{roundings, roundings_from, roundings_within}
 use Rattle.rx_solve.specs.declared.roundings.Rounding.{Rounding}
 use Rattle.rx_solve.proofs.Certificates.{both_yes, cut_certificate, differ_certificate, division_certificate, solve_certificate, wider, within_yes}
@@ -221,6 +222,17 @@ module _ (num : Body) (d : ℤ) (rest : List Ratio) (rows : List Row) where
       subst (λ (p : Body). AnswersFor (dividing_by (record { num = p; den = d } ∷ rest))
       (length rest + 66) rows r) is a
 
+-- the first ratios of the rows
+pub dividing_answers : (rows lent : List Row) (rs : List Ratio) (r : Result (Option Cert) FmEnd) →
+    rs ≡ take 3 (all_ratios lent) → lent ≡ rows →
+    AnswersFor (dividing_by rs) (length rs + 65) rows r → AnswersFor dividing 68 rows r
+dividing_answers rows lent rs r first same a =
+    let own : rs ≡ take 3 (all_ratios rows) = first ∙ ap (λ xs. take 3 (all_ratios xs)) same in
+    let few = few_taken 3 (all_ratios rows) in
+    let count : length rs ≤ 3 = subst (λ (xs : List Ratio). length xs ≤ 3) (sym own) few in
+    same_answers (dividing_by rs) dividing (length rs + 65) 68 rows r
+    (ap (λ xs. dividing_by xs rows) own) (omega (arith, count)) a
+
 -- ---- disequalities
 
 module _ (i : ℕ) (rest : List ℕ) (rows : List Row) (p : Body) where
@@ -284,6 +296,18 @@ module _ (i : ℕ) (rest : List ℕ) (rows : List Row) (p : Body) where
           subst (λ (c : Cert). IsCertificate (length rest + 69) rows (Differ i c x.1)) (sym f)
               (both_differ x.1 h),
         )
+
+-- the first disequalities of the rows
+pub differing_answers : (rows lent : List Row) (is : List ℕ) (r : Result (Option Cert) FmEnd) → is ≡
+    take 6 (disequalities_from 0 lent) → lent ≡ rows →
+    AnswersFor (differing_at is) (length is + 68) rows r → AnswersFor differing 74 rows r
+differing_answers rows lent is r first same a =
+    let own : is ≡ take 6 (disequalities_from 0 rows) = first ∙
+    ap (λ xs. take 6 (disequalities_from 0 xs)) same in
+    let few = few_taken 6 (disequalities_from 0 rows) in
+    let count : length is ≤ 6 = subst (λ (xs : List ℕ). length xs ≤ 6) (sym own) few in
+    same_answers (differing_at is) differing (length is + 68) 74 rows r
+    (ap (λ xs. differing_at xs rows) own) (omega (arith, count)) a
 
 -- ---- variables that rows say the value of
 

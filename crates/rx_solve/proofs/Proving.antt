@@ -1,7 +1,8 @@
 -- Rows that are shown one after the other: the certificates so far, and what is left of the list.
-use Rattle.std.proofs.Common.{◌≡◌, ◌∙◌, ap, subst, sym, refl, cond, ℕ, ◌+◌, ◌<◌, ◌≤◌, Bool, true, false, Option, Some, Ok, suc, List, [], ◌∷◌, ◌++◌, drop, length, get_or, add-one}
-use Rattle.std.proofs.Math.Seq.{drop-cons}
+use Rattle.std.proofs.Common.{◌≡◌, ◌∙◌, ap, subst, sym, refl, cond, ℕ, ◌+◌, ◌<◌, ◌≤◌, Bool, true, false, Option, Some, None, Ok, List, [], ◌∷◌, ◌++◌, drop, length, get_or}
+use Rattle.std.specs.Option.{option_to_list}
 use Rattle.std.proofs.lemmas.Bool.{and_parts}
+use Rattle.std.proofs.lemmas.List.{append-nil}
 use Rattle.std.proofs.lemmas.List.Elements.{All-append, All-cons, All-nil}
 use Rattle.std.specs.List.{All}
 use Rattle.rx_row.specs.Negation.{negation, negation_within}
@@ -17,8 +18,9 @@ use Rattle.rx_cert.proofs.FindingLaws.{within_parts}
 use Rattle.rx_cert.proofs.ShowingLaws.{Meeting, after_plain, after_shown, begin, finished}
 use Rattle.rx_solve.specs.Answers.{AreCertificates, IsCertificate}
 use Rattle.rx_solve.specs.Refuter.{refuted}
-use Rattle.rx_solve.specs.Shown.{NegationAnswers}
+use Rattle.rx_solve.specs.Shown.{NegationAnswers, RowAnswers, ShownAnswers}
 use Rattle.rx_solve.proofs.OwnVariables.{negation_passes, with_row_passes}
+use Rattle.rx_solve.proofs.Walks.{next_first}
 
 -- the certificate is at most that deep, and passes the test
 abbrev IsDeep : Cert → Type 0
@@ -122,23 +124,27 @@ module _ (given rows : List Row) where
 
   next_row : (i : ℕ) (row : Row) (certs : List Cert) → i < length rows → row ≡ get_or rows i row →
       Proving i (drop i rows) certs → Proving i (row ∷ drop (i + 1) rows) certs
-  next_row i row certs h is p =
-      subst (λ rs. Proving i rs certs) (drop-cons rows i row h ∙
-      ap (λ r. r ∷ drop (suc i) rows) (sym is) ∙ ap (λ n. row ∷ drop n rows) (sym (add-one i)))
-      p
+  next_row i row certs h is p = subst (λ rs. Proving i rs certs) (next_first rows i row h is) p
 
-  certified : (row : Row) (asked : List Row) (o : Option Cert) (cert : Cert) → asked ≡ given → o ≡
-      Some cert → NegationAnswers asked row (Ok o) → (negation_said refuted given row ≡ Yes) ×
-      IsCertificate 174 (given ++ negation row ∷ []) cert
-  certified row asked o cert same is a =
-      subst (λ rs. NegationAnswers rs row (Ok (Some cert))) same
-      (subst (λ o. NegationAnswers asked row (Ok o)) is a)
+  pub after_row : (i : ℕ) (row : Row) (certs next : List Cert) → i < length rows → row ≡
+      get_or rows i row → Proving i (drop i rows) certs → RowAnswers given row certs next (Ok true) →
+      Proving (i + 1) (drop (i + 1) rows) next
+  after_row i row certs next h is p answer =
+      subst (Proving (i + 1) (drop (i + 1) rows)) (sym answer.1.1) (by answer.0 answer.1.0)
+    where
+      by : (found : Option Cert) → ShownAnswers given row (Ok (Some found)) →
+          Proving (i + 1) (drop (i + 1) rows) (certs ++ option_to_list found)
+      by None plain =
+          subst (Proving (i + 1) (drop (i + 1) rows)) (sym (append-nil certs))
+          (plain_next i row (drop (i + 1) rows) certs (next_row i row certs h is p) plain)
+      by (Some cert) found =
+          shown_next i row (drop (i + 1) rows) certs (next_row i row certs h is p) found.0 cert
+          found.1.0 found.1.1
 
-  pub after_certificate : (i : ℕ) (row : Row) (certs : List Cert) → i < length rows → row ≡
-      get_or rows i row → Proving i (drop i rows) certs → is_plain_row given row ≡ false →
-      (asked : List Row) (o : Option Cert) (cert : Cert) → asked ≡ given → o ≡ Some cert →
-      NegationAnswers asked row (Ok o) → Proving (i + 1) (drop (i + 1) rows)
-      (certs ++ cert ∷ [])
-  after_certificate i row certs h is p plain asked o cert same made a =
-      let c = certified row asked o cert same made a in
-      shown_next i row (drop (i + 1) rows) certs (next_row i row certs h is p) plain cert c.0 c.1
+-- what is answered about rows that are the given ones is so of these
+pub certified : (given : List Row) (row : Row) (asked : List Row) (o : Option Cert) (cert : Cert) →
+    asked ≡ given → o ≡ Some cert → NegationAnswers asked row (Ok o) →
+    NegationAnswers given row (Ok (Some cert))
+certified given row asked o cert same made a =
+    subst (λ (rs : List Row). NegationAnswers rs row (Ok (Some cert))) same
+    (subst (λ (f : Option Cert). NegationAnswers asked row (Ok f)) made a)

@@ -1,5 +1,5 @@
 -- What answers say of rows that are to follow from others.
-use Rattle.std.specs.Prelude.{◌≡◌, true, false, Option, Some, None, Result, Ok, Err, List, [], ◌∷◌, ◌++◌}
+use Rattle.std.specs.Prelude.{◌≡◌, Bool, true, false, Option, Some, None, option_to_list, Result, Ok, Err, List, [], ◌∷◌, ◌++◌}
 use Rattle.rx_row.specs.Negation.{negation}
 use Rattle.rx_row.specs.declared.row.Row.{Row}
 use Rattle.rx_cert.specs.Conditions.{is_plain_row}
@@ -30,6 +30,14 @@ ShownAnswers given row (Ok (Some None)) = is_plain_row given row ≡ true
 ShownAnswers given row (Ok (Some (Some cert))) =
     (is_plain_row given row ≡ false) × NegationAnswers given row (Ok (Some cert))
 ShownAnswers given row (Err e) = e ≡ Large → shown refuted given row ≡ Beyond
+
+-- an answer that says whether the row is plain, or shown by one more certificate
+abbrev pub RowAnswers : List Row → Row → List Cert → List Cert → Result Bool FmEnd → Type 0
+RowAnswers given row before after (Ok false) = shown refuted given row ≡ No
+RowAnswers given row before after (Ok true) =
+    (found : Option Cert) × (ShownAnswers given row (Ok (Some found)) ×
+    (after ≡ before ++ option_to_list found))
+RowAnswers given row before after (Err e) = e ≡ Large → shown refuted given row ≡ Beyond
 
 -- an answer that says whether the rows are all shown, and with which certificates
 abbrev pub AllAnswers : List Row → List Row → Result (Option (List Cert)) FmEnd → Type 0

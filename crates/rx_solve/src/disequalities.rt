@@ -4,7 +4,7 @@ ghost use Rattle.rx_cert.specs.declared.cert.Cert.TheVariants.{Differ};
 ghost use Rattle.rx_cert.specs.Differences.{above, below, disequal};
 ghost use Rattle.rx_solve.specs.Answers.{AnswersFor, BranchAnswers, one_formed};
 ghost use Rattle.rx_solve.specs.Bounds.{most_disequalities};
-ghost use Rattle.rx_solve.specs.Disequalities.{disequalities_from};
+ghost use Rattle.rx_solve.specs.Disequalities.{disequalities_from, with_number};
 ghost use Rattle.rx_solve.specs.Refuter.{differing, differing_at};
 
 use crate::divisions::refute_by_dividing;
@@ -19,19 +19,27 @@ use std::alloc::{AllocError, Global};
 /// The most disequalities that are looked at.
 const MOST_DISEQUALITIES: usize = 6;
 
+/// Adds the row's number after the others, where it is a disequality.
+fn push_number(numbers: &mut Vec<u32>, at: usize, row: &Row) -> Result<(), AllocError>
+    ensures { OnOk result (numbers.new.items ≡ numbers.old.items ++ with_number at row.now []) }
+{
+    let Row::Ne(_) = row else {
+        return Ok(());
+    };
+    let Ok(number) = u32::try_from(at) else {
+        return Err(AllocError);
+    };
+    numbers.push(number)?;
+    Ok(())
+}
+
 /// The numbers of the disequalities among the rows.
 fn disequalities(alloc: Global, rows: &[Row]) -> Result<Vec<u32>, AllocError>
     ensures { IfOk result (λ v. v.items ≡ disequalities_from 0 rows.now) }
 {
     let mut numbers = Vec::new(alloc);
     for (at, row) in rows.iter().enumerate() {
-        let Row::Ne(_) = row else {
-            continue;
-        };
-        let Ok(number) = u32::try_from(at) else {
-            return Err(AllocError);
-        };
-        numbers.push(number)?;
+        push_number(&mut numbers, at, row)?;
     }
     Ok(numbers)
 }

@@ -1,7 +1,8 @@
 //! Rows that are shown, one after the other, by a solver.
-ghost use Rattle.std.specs.Prelude.{◌≡◌, IfOk, OnOk};
+ghost use Rattle.std.specs.Prelude.{◌≡◌, List, IfOk, OnOk};
+ghost use Rattle.rx_row.specs.declared.row.Row.{Row};
 ghost use Rattle.rx_solve.specs.Answers.{IsSolver};
-ghost use Rattle.rx_solve.specs.Shown.{AllAnswers, IsAllShown, NegationAnswers};
+ghost use Rattle.rx_solve.specs.Shown.{AllAnswers, IsAllShown, NegationAnswers, RowAnswers};
 
 use crate::asking::ask;
 use rx_cert::{Cert, is_plain};
@@ -11,7 +12,7 @@ use rx_row::{Constraint, Row};
 use std::alloc::Global;
 
 /// What is found of a list of rows that are to follow from others.
-#[derive(Debug, Drop)]
+#[derive(Drop)]
 pub enum AllShown {
     /// Each is plain or shown: the certificates of those that aren't plain, in order.
     Shown(Items<Cert>),
@@ -42,9 +43,34 @@ fn ask_negation<S: FnMut(&Constraint) -> Result<Option<Cert>, FmEnd>>(
     found
 }
 
+/// Whether the row is plain, or shown by a certificate that is added after the others. The rows
+/// that are asked are the given ones, and the same again after it.
+fn show_row<S: FnMut(&Constraint) -> Result<Option<Cert>, FmEnd>>(
+    certs: &mut Items<Cert>,
+    alloc: Global,
+    given: &Constraint,
+    asked: &mut Constraint,
+    row: &Row,
+    solve: &mut S,
+) -> Result<bool, FmEnd>
+    requires solver { IsSolver S.FnMut solve.old }
+    requires asked { asked.old ≡ given.now }
+    ensures solver { IsSolver S.FnMut solve.new }
+    ensures answer { RowAnswers given.now row.now certs.old certs.new result }
+    ensures kept { OnOk result (asked.new ≡ given.now) }
+{
+    if is_plain(given, row) {
+        return Ok(true);
+    }
+    let Some(cert) = ask_negation(alloc, asked, row, solve)? else {
+        return Ok(false);
+    };
+    certs.push(cert)?;
+    Ok(true)
+}
+
 /// The certificates of the rows that aren't plain, in order; None where the first row that isn't
-/// shown is one whose negation isn't refuted. The rows that are asked are the given ones, and the
-/// same again after it.
+/// shown is one whose negation isn't refuted. The rows that are asked are the given ones.
 fn show_in_order<S: FnMut(&Constraint) -> Result<Option<Cert>, FmEnd>>(
     alloc: Global,
     given: &Constraint,
@@ -59,15 +85,24 @@ fn show_in_order<S: FnMut(&Constraint) -> Result<Option<Cert>, FmEnd>>(
 {
     let mut certs = Items::new(alloc);
     for row in rows {
-        if is_plain(given, row) {
-            continue;
-        }
-        let Some(cert) = ask_negation(alloc, asked, row, solve)? else {
+        if !show_row(&mut certs, alloc, given, asked, row, solve)? {
             return Ok(None);
-        };
-        certs.push(cert)?;
+        }
     }
     Ok(Some(certs))
+}
+
+/// What was found of all rows.
+fn what_is_shown(found: Result<Option<Items<Cert>>, FmEnd>) -> Result<AllShown, NoMemory>
+    ensures { (given rows : List Row) → AllAnswers given rows found →
+        IfOk result (λ a. IsAllShown given rows a) }
+{
+    match found {
+        Ok(Some(certs)) => Ok(AllShown::Shown(certs)),
+        Ok(None) => Ok(AllShown::NotShown),
+        Err(FmEnd::Large) => Ok(AllShown::TooLarge),
+        Err(FmEnd::NoMemory) => Err(NoMemory),
+    }
 }
 
 /// The rows in order, up to the first that isn't shown: one is shown where it is plain, or where
@@ -84,10 +119,5 @@ pub fn show_all<S: FnMut(&Constraint) -> Result<Option<Cert>, FmEnd>>(
     ensures answer { IfOk result (λ a. IsAllShown given.now rows.now a) }
 {
     let mut asked = given.try_clone(alloc)?;
-    match show_in_order(alloc, given, &mut asked, rows, solve) {
-        Ok(Some(certs)) => Ok(AllShown::Shown(certs)),
-        Ok(None) => Ok(AllShown::NotShown),
-        Err(FmEnd::Large) => Ok(AllShown::TooLarge),
-        Err(FmEnd::NoMemory) => Err(NoMemory),
-    }
+    what_is_shown(show_in_order(alloc, given, &mut asked, rows, solve))
 }

@@ -6,6 +6,7 @@ use Rattle.rx_poly.specs.declared.body.Mono.{Mono}
 use Rattle.rx_solve.specs.Divisions.{atom_ratios, mono_ratios, ratios}
 use Rattle.rx_solve.specs.declared.divisions.Ratio.{Ratio}
 use Rattle.rx_solve.proofs.RatioLaws.{after_Var, after_parts, mono_ratios_is, ratios_Div, ratios_Mod, ratios_is}
+use Rattle.rx_solve.proofs.Walks.{listed_next}
 use Rattle.rx_solve.proofs.divisions.+listing.Goals as goal
 
 pub push_body-returns : goal.push_body-returns
@@ -54,3 +55,20 @@ push_atom-returns-in_ok-push_body-in-Mod t c =
     (sym (ratios_Mod num den) ∙ ap atom_ratios (sym c.in-Mod.is)) in
     subst (λ (rs : List Ratio). OnOk c.push_body-in-Mod-2.result
     (c.push_body-in-Mod-2.new.found.items ≡ rs)) before c.push_body-in-Mod-2.ensures
+
+pub push_body-loop-term-preserved : goal.push_body-loop-term-preserved
+push_body-loop-term-preserved t c =
+    let items = c.as_slice-term-items.result.now in
+    let at = c.loop-term in
+    listed_next items at.term-index c.term-item.result c.loop-term-test.true c.term-item.is
+    (λ (u : Mono × ℤ). mono_ratios u.0) at.found.items c.push_mono.new.found.items
+    (c.args.found.now.items ++ flat_map (λ (u : Mono × ℤ). mono_ratios u.0) items) at.invariant
+    c.in_ok-push_mono.ensures
+
+pub push_mono-loop-atom-preserved : goal.push_mono-loop-atom-preserved
+push_mono-loop-atom-preserved t c =
+    let items = c.as_slice-atom-items.result.now in
+    let at = c.loop-atom in
+    listed_next items at.atom-index c.atom-item.result c.loop-atom-test.true c.atom-item.is
+    atom_ratios at.found.items c.push_atom.new.found.items
+    (c.args.found.now.items ++ flat_map atom_ratios items) at.invariant c.in_ok-push_atom.ensures

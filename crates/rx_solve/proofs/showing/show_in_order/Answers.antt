@@ -1,21 +1,23 @@
 -- A row whose negation is refuted is shown, with its certificate; at the end all are.
-use Rattle.std.proofs.Common.{◌∙◌, subst, sym, ◌+◌, drop, drop_of_length-le}
-use Rattle.rx_solve.proofs.Proving.{Proving, after_certificate, all_done}
+use Rattle.std.proofs.Common.{Bool, Ok, drop_of_length-le, subst}
+use Rattle.rx_solve.specs.Shown.{RowAnswers}
+use Rattle.rx_solve.proofs.Proving.{Proving, after_row, all_done}
 use Rattle.rx_solve.proofs.showing.show_in_order.Goals as goal
 
 pub loop-row-preserved : goal.loop-row-preserved
 loop-row-preserved g c =
     let at = c.loop-row in
-    let next = after_certificate c.args.given.now c.args.rows.now at.row-index c.row-item.result
-    at.certs c.loop-row-test.true c.row-item.is at.invariant.proving
-    (sym c.is_plain.ensures.plain ∙ c.if-is_plain.false) at.asked c.in_ok-cert.field-0
-    c.in-Some.cert at.invariant.asked c.in-Some.is c.in_ok-cert.ensures.answer in
+    let given = c.args.given.now in
+    let row = c.row-item.result in
+    let next = c.show_row.new.certs in
     record {
-      solver = c.ask_negation.ensures.solver;
-      asked = c.in_ok-cert.ensures.kept ∙ at.invariant.asked;
+      solver = c.in_ok-show_row.ensures.solver;
+      asked = c.in_ok-show_row.ensures.kept;
       proving =
-          subst (Proving c.args.given.now c.args.rows.now (at.row-index + 1)
-          (drop (at.row-index + 1) c.args.rows.now)) (sym c.in_ok-push.ensures.ok) next;
+          after_row given c.args.rows.now at.row-index row at.certs next c.loop-row-test.true
+          c.row-item.is at.invariant.proving
+          (subst (λ (b : Bool). RowAnswers given row at.certs next (Ok b)) c.if-not-branch.false
+          c.in_ok-show_row.ensures.answer);
     }
 
 pub returns-clause-answer : goal.returns-clause-answer
