@@ -136,6 +136,7 @@ module _ (num : Body) (d : ℤ) (rest : List Ratio) (rows : List Row) where
       below =
           is_within (opposite (remainder_by num d)) &&
           is_within (body_sum (greatest_remainder d) (remainder_by num d))
+
   -- both sides are refuted, so the rows are
   both_sides : (pos neg : Cert) → AreRatiosOf (ratio ∷ rest) rows → is_zero d ≡ false →
       division_within num d ≡ true → Branch (facts (division_formed num d).form) (Some pos) →
@@ -166,53 +167,53 @@ module _ (num : Body) (d : ℤ) (rest : List Ratio) (rows : List Row) where
       (first_is : first ≡ Some pos) (a : Branch (facts parts) first)
       (b : BranchAnswers (dividing_by rest) (length rest + 65) lent (facts_below parts) second)
     where
-    first_side : Branch (facts (division_formed num d).form) (Some pos)
-    first_side =
-        subst (λ (t : Body × Body × Body). Branch (facts t) (Some pos)) is
-        (subst (λ (o : Option Cert). Branch (facts parts) o) first_is a)
+      first_side : Branch (facts (division_formed num d).form) (Some pos)
+      first_side =
+          subst (λ (t : Body × Body × Body). Branch (facts t) (Some pos)) is
+          (subst (λ (o : Option Cert). Branch (facts parts) o) first_is a)
 
-    second_side : BranchAnswers (dividing_by rest) (length rest + 65) rows
-        (facts_below (division_formed num d).form) second
-    second_side =
-        subst (λ (t : Body × Body × Body). BranchAnswers (dividing_by rest) (length rest + 65) rows
-        (facts_below t) second) is
-        (subst (λ (rs : List Row). BranchAnswers (dividing_by rest) (length rest + 65) rs
-        (facts_below parts) second) same b)
+      second_side : BranchAnswers (dividing_by rest) (length rest + 65) rows
+          (facts_below (division_formed num d).form) second
+      second_side =
+          subst (λ (t : Body × Body × Body). BranchAnswers (dividing_by rest) (length rest + 65) rows
+          (facts_below t) second) is
+          (subst (λ (rs : List Row). BranchAnswers (dividing_by rest) (length rest + 65) rs
+          (facts_below parts) second) same b)
 
-    -- the second decides
-    second_said : dividing_by (ratio ∷ rest) rows ≡
-        formed_said (dividing_by rest) rows (facts_below (division_formed num d).form)
-    second_said =
-        sides_said zero keeps ∙
-        ap (λ f. and_also f (formed_said (dividing_by rest) rows
-        (facts_below (division_formed num d).form))) first_side.0
+      -- the second decides
+      second_said : dividing_by (ratio ∷ rest) rows ≡
+          formed_said (dividing_by rest) rows (facts_below (division_formed num d).form)
+      second_said =
+          sides_said zero keeps ∙
+          ap (λ f. and_also f (formed_said (dividing_by rest) rows
+          (facts_below (division_formed num d).form))) first_side.0
 
-    pub division_beyond : second ≡ Err Large → dividing_by (ratio ∷ rest) rows ≡ Beyond
-    division_beyond large =
-        second_said ∙ subst (λ (r : Result (Option Cert) FmEnd).
-        BranchAnswers (dividing_by rest) (length rest + 65) rows
-        (facts_below (division_formed num d).form) r) large second_side refl
+      pub division_beyond : second ≡ Err Large → dividing_by (ratio ∷ rest) rows ≡ Beyond
+      division_beyond large =
+          second_said ∙ subst (λ (r : Result (Option Cert) FmEnd).
+          BranchAnswers (dividing_by rest) (length rest + 65) rows
+          (facts_below (division_formed num d).form) r) large second_side refl
 
-    pub division_step : AreRatiosOf (ratio ∷ rest) rows → (both : Option (Cert × Cert))
-        (whole : Option Cert) → second ≡ Ok (option_map (λ x. x.1) both) →
-        IfSome both (λ x. x.0 ≡ pos) → whole ≡ option_map (λ x. DivFacts num d x.0 x.1) both →
-        AnswersFor (dividing_by (ratio ∷ rest)) (length rest + 66) rows (Ok whole)
-    division_step own both whole found first_same made =
-        subst (λ (w : Option Cert). AnswersFor (dividing_by (ratio ∷ rest)) (length rest + 66) rows
-        (Ok w)) (sym made) (by both first_same
-        (subst (λ (r : Result (Option Cert) FmEnd). BranchAnswers (dividing_by rest)
-        (length rest + 65) rows (facts_below (division_formed num d).form) r) found second_side))
-      where
-        by : (o : Option (Cert × Cert)) → IfSome o (λ x. x.0 ≡ pos) →
-            Branch (facts_below (division_formed num d).form) (option_map (λ x. x.1) o) →
-            AnswersFor (dividing_by (ratio ∷ rest)) (length rest + 66) rows
-            (Ok (option_map (λ x. DivFacts num d x.0 x.1) o))
-        by None f h = second_said ∙ h
-        by (Some x) f h = (
-          second_said ∙ h.0,
-          subst (λ (c : Cert). IsCertificate (length rest + 66) rows (DivFacts num d c x.1)) (sym f)
-              (both_sides pos x.1 own zero keeps first_side h),
-        )
+      pub division_step : AreRatiosOf (ratio ∷ rest) rows → (both : Option (Cert × Cert))
+          (whole : Option Cert) → second ≡ Ok (option_map (λ x. x.1) both) →
+          IfSome both (λ x. x.0 ≡ pos) → whole ≡ option_map (λ x. DivFacts num d x.0 x.1) both →
+          AnswersFor (dividing_by (ratio ∷ rest)) (length rest + 66) rows (Ok whole)
+      division_step own both whole found first_same made =
+          subst (λ (w : Option Cert). AnswersFor (dividing_by (ratio ∷ rest)) (length rest + 66) rows
+          (Ok w)) (sym made) (by both first_same
+          (subst (λ (r : Result (Option Cert) FmEnd). BranchAnswers (dividing_by rest)
+          (length rest + 65) rows (facts_below (division_formed num d).form) r) found second_side))
+        where
+          by : (o : Option (Cert × Cert)) → IfSome o (λ x. x.0 ≡ pos) →
+              Branch (facts_below (division_formed num d).form) (option_map (λ x. x.1) o) →
+              AnswersFor (dividing_by (ratio ∷ rest)) (length rest + 66) rows
+              (Ok (option_map (λ x. DivFacts num d x.0 x.1) o))
+          by None f h = second_said ∙ h
+          by (Some x) f h = (
+            second_said ∙ h.0,
+            subst (λ (c : Cert). IsCertificate (length rest + 66) rows (DivFacts num d c x.1)) (sym f)
+                (both_sides pos x.1 own zero keeps first_side h),
+          )
 
   -- a dividend that is the same
   pub same_dividend : (other : Body) (r : Result (Option Cert) FmEnd) → num ≡ other →
@@ -245,57 +246,57 @@ module _ (i : ℕ) (rest : List ℕ) (rows : List Row) (p : Body) where
       (same : lent ≡ rows) (first_is : first ≡ Some pos) (a : Side (above p) first)
       (b : BranchAnswers (differing_at rest) (length rest + 68) lent (one_formed (below p)) second)
     where
-    one : Side (above p) (Some pos)
-    one = subst (λ (o : Option Cert). Side (above p) o) first_is a
+      one : Side (above p) (Some pos)
+      one = subst (λ (o : Option Cert). Side (above p) o) first_is a
 
-    other : BranchAnswers (differing_at rest) (length rest + 68) rows (one_formed (below p)) second
-    other =
-        subst (λ (rs : List Row). BranchAnswers (differing_at rest) (length rest + 68) rs
-        (one_formed (below p)) second) same b
+      other : BranchAnswers (differing_at rest) (length rest + 68) rows (one_formed (below p)) second
+      other =
+          subst (λ (rs : List Row). BranchAnswers (differing_at rest) (length rest + 68) rs
+          (one_formed (below p)) second) same b
 
-    -- the second decides
-    other_said : differing_at (i ∷ rest) rows ≡
-        formed_said (differing_at rest) rows (one_formed (below p))
-    other_said =
-        ap (λ o. differ_finding o rows (differing_at rest) (differing_at rest)) is ∙
-        ap (λ f. and_also f (formed_said (differing_at rest) rows (one_formed (below p)))) one.0
+      -- the second decides
+      other_said : differing_at (i ∷ rest) rows ≡
+          formed_said (differing_at rest) rows (one_formed (below p))
+      other_said =
+          ap (λ o. differ_finding o rows (differing_at rest) (differing_at rest)) is ∙
+          ap (λ f. and_also f (formed_said (differing_at rest) rows (one_formed (below p)))) one.0
 
-    pub difference_beyond : second ≡ Err Large → differing_at (i ∷ rest) rows ≡ Beyond
-    difference_beyond large =
-        other_said ∙ subst (λ (r : Result (Option Cert) FmEnd).
-        BranchAnswers (differing_at rest) (length rest + 68) rows (one_formed (below p)) r) large
-        other refl
+      pub difference_beyond : second ≡ Err Large → differing_at (i ∷ rest) rows ≡ Beyond
+      difference_beyond large =
+          other_said ∙ subst (λ (r : Result (Option Cert) FmEnd).
+          BranchAnswers (differing_at rest) (length rest + 68) rows (one_formed (below p)) r) large
+          other refl
 
-    both_differ : (neg : Cert) → Side (below p) (Some neg) →
-        IsCertificate (length rest + 69) rows (Differ i pos neg)
-    both_differ neg h =
-        let first = within_parts (is_within (one_less p))
-        (differing_at rest (rows ++ Ge (one_less p) ∷ [])) one.0 in
-        let second = within_parts (negation_within (Ge p))
-        (differing_at rest (rows ++ negation (Ge p) ∷ [])) h.0 in
-        wider (omega arith) (differ_certificate (length rest + 68) rows i p pos neg is first.0
-        second.0 one.1 h.1)
+      both_differ : (neg : Cert) → Side (below p) (Some neg) →
+          IsCertificate (length rest + 69) rows (Differ i pos neg)
+      both_differ neg h =
+          let first = within_parts (is_within (one_less p))
+          (differing_at rest (rows ++ Ge (one_less p) ∷ [])) one.0 in
+          let second = within_parts (negation_within (Ge p))
+          (differing_at rest (rows ++ negation (Ge p) ∷ [])) h.0 in
+          wider (omega arith) (differ_certificate (length rest + 68) rows i p pos neg is first.0
+          second.0 one.1 h.1)
 
-    pub difference_step : (both : Option (Cert × Cert)) (whole : Option Cert) → second ≡
-        Ok (option_map (λ x. x.1) both) → IfSome both (λ x. x.0 ≡ pos) → whole ≡
-        option_map (λ x. Differ i x.0 x.1) both →
-        AnswersFor (differing_at (i ∷ rest)) (length rest + 69) rows (Ok whole)
-    difference_step both whole found first_same made =
-        subst (λ (w : Option Cert). AnswersFor (differing_at (i ∷ rest)) (length rest + 69) rows
-        (Ok w)) (sym made) (by both first_same
-        (subst (λ (r : Result (Option Cert) FmEnd). BranchAnswers (differing_at rest)
-        (length rest + 68) rows (one_formed (below p)) r) found other))
-      where
-        by : (o : Option (Cert × Cert)) → IfSome o (λ x. x.0 ≡ pos) →
-            Side (below p) (option_map (λ x. x.1) o) →
-            AnswersFor (differing_at (i ∷ rest)) (length rest + 69) rows
-            (Ok (option_map (λ x. Differ i x.0 x.1) o))
-        by None f h = other_said ∙ h
-        by (Some x) f h = (
-          other_said ∙ h.0,
-          subst (λ (c : Cert). IsCertificate (length rest + 69) rows (Differ i c x.1)) (sym f)
-              (both_differ x.1 h),
-        )
+      pub difference_step : (both : Option (Cert × Cert)) (whole : Option Cert) → second ≡
+          Ok (option_map (λ x. x.1) both) → IfSome both (λ x. x.0 ≡ pos) → whole ≡
+          option_map (λ x. Differ i x.0 x.1) both →
+          AnswersFor (differing_at (i ∷ rest)) (length rest + 69) rows (Ok whole)
+      difference_step both whole found first_same made =
+          subst (λ (w : Option Cert). AnswersFor (differing_at (i ∷ rest)) (length rest + 69) rows
+          (Ok w)) (sym made) (by both first_same
+          (subst (λ (r : Result (Option Cert) FmEnd). BranchAnswers (differing_at rest)
+          (length rest + 68) rows (one_formed (below p)) r) found other))
+        where
+          by : (o : Option (Cert × Cert)) → IfSome o (λ x. x.0 ≡ pos) →
+              Side (below p) (option_map (λ x. x.1) o) →
+              AnswersFor (differing_at (i ∷ rest)) (length rest + 69) rows
+              (Ok (option_map (λ x. Differ i x.0 x.1) o))
+          by None f h = other_said ∙ h
+          by (Some x) f h = (
+            other_said ∙ h.0,
+            subst (λ (c : Cert). IsCertificate (length rest + 69) rows (Differ i c x.1)) (sym f)
+                (both_differ x.1 h),
+          )
 
 -- the first disequalities of the rows
 pub differing_answers : (rows lent : List Row) (is : List ℕ) (r : Result (Option Cert) FmEnd) → is ≡

@@ -178,11 +178,7 @@ fn first_ratios(alloc: Global, rows: &[Row]) -> Result<Vec<Ratio>, AllocError>
 }
 
 /// The certificate that both signs of the dividend are looked at, where both refute the rows.
-fn division_cert(
-    num: Poly,
-    den: &i128,
-    both: Option<(Boxed<Cert>, Boxed<Cert>)>,
-) -> Option<Cert>
+fn division_cert(num: Poly, den: &i128, both: Option<(Boxed<Cert>, Boxed<Cert>)>) -> Option<Cert>
     ensures { result ≡ option_map (λ both. DivFacts num den.now both.0 both.1) both }
 {
     let (pos, neg) = both?;
