@@ -38,7 +38,7 @@ use Rattle.rx_solve.specs.declared.divisions.Ratio.{Ratio}
 use Rattle.rx_solve.specs.Refuter.{differing, differing_at, refuted, solving, solving_with, dividing, dividing_by, rounding, rounding_by}
 use Rattle.rx_solve.specs.Roundings.{roundings, roundings_from, roundings_within}
 use Rattle.rx_solve.specs.declared.roundings.Rounding.{Rounding}
-use Rattle.rx_solve.proofs.Certificates.{both_yes, cut_certificate, differ_certificate, division_certificate, solve_certificate, wider, within_yes}
+use Rattle.rx_solve.proofs.Certificates.{cut_certificate, differ_certificate, division_certificate, solve_certificate, wider}
 use Rattle.rx_solve.proofs.Found.{few_taken, solving_next, solving_none, solving_without}
 
 -- an answer of a phase is one of a phase that finds the same, with room to spare

@@ -1,5 +1,4 @@
 -- Where the first side is refuted the second decides.
-use Rattle.std.proofs.Common.{◌+◌}
 use Rattle.std.proofs.lemmas.Result.{err_from_is_err_and}
 use Rattle.rx_solve.proofs.Phases.{division_beyond, division_step, same_dividend}
 use Rattle.rx_solve.proofs.divisions.+dividing.Goals as goal
