@@ -1,131 +1,265 @@
--- The first choices of the last lists, with one list more before them.
-use Rattle.std.proofs.Common.{◌≡◌, ◌∙◌, ap, sym, refl, arith, inl, inr, ℕ, ◌+◌, ◌≤◌, List, [], ◌∷◌, ◌++◌, length, Option, Some, None, Contains, IfSome, append-nil, append_assoc, drop, map, min, slice_get, take}
-use Rattle.std.specs.Prelude.{Vec}
-use Rattle.std.specs.declared.alloc.Global.{Global}
-use Rattle.std.specs.Option.{option_map}
-use Rattle.std.proofs.lemmas.Option.{get_or_from_slice_get, slice_get-map, slice_get_within}
-use denote.Ref.{Bor}
+-- The choices by number, and the first that is fit.
+use Rattle.std.proofs.Common.{◌≡◌, ◌∙◌, ap, sym, refl, arith, inl, inr, ℕ, zero, suc, ◌+◌, ◌-◌, ◌/◌, ◌%◌, ◌<◌, ◌≤◌, Bool, true, false, ◌||◌, List, [], ◌∷◌, ◌++◌, length, Option, Some, None, Contains, IfSome, append-nil, append_assoc, drop, map, slice_get, take}
+use Rattle.std.specs.Option.{is_some, option_map}
+use Rattle.std.specs.List.{flat_map}
+use Rattle.std.proofs.Math.Nat.{add-div_left, add-mod_left, div-eq_of_lt, mod-eq_of_lt}
+use Rattle.std.proofs.lemmas.Bool.{cases_order}
+use Rattle.std.proofs.lemmas.Grind.{flat_map-append}
+use Rattle.std.proofs.lemmas.List.{length-map, map-append}
+use Rattle.std.proofs.lemmas.Option.{slice_get-map, slice_get_past, slice_get_within}
+use Rattle.rx_poly.specs.declared.body.Body.{Body}
 use Rattle.rx_pairs.specs.declared.pair.Pair.{Pair}
 use Rattle.rx_term.specs.declared.rule_set.SymInfo.{SymInfo}
-use Rattle.rx_rank.specs.Answers.{IsChosen, IsFirstFit, choices_at, polys_at}
+use Rattle.rx_rank.specs.Answers.{IsChosen, IsFirstFit}
+use Rattle.rx_term.proofs.Places.{from_nowhere, from_place}
+use Rattle.rx_solve.specs.Attempts.{Tried, first_applying, made_or}
+use Rattle.rx_rank.proofs.TryLaws.{decided, first_none, none_made, noted_alone}
+use Rattle.rx_rank.specs.Choices.{choosing, products}
+use Rattle.rx_rank.specs.Tries.{noting}
 use Rattle.rx_rank.specs.declared.fitting.Fit.{Fit}
-use Rattle.std.proofs.Math.Seq.{take-length}
-use Rattle.std.proofs.lemmas.Bool.{cases_order}
-use Rattle.std.proofs.lemmas.List.{length-map, length-take-le, take-append-le, take-map, take-take, take_min}
-use Rattle.std.specs.List.{flat_map}
-use Rattle.rx_poly.specs.declared.body.Body.{Body}
-use Rattle.rx_term.proofs.Places.{from_place}
-use Rattle.rx_rank.specs.Choices.{products}
-use Rattle.rx_rank.specs.Ranking.{most_choices}
 
--- each of the lists after the element
-abbrev pub each_after : {A : Type 0} → List (List A) → A → List (List A)
-each_after ps x = map (λ ys. x ∷ ys) ps
+-- each of the elements after the list
+abbrev pub each_last : {A : Type 0} → List A → List A → List (List A)
+each_last xs ys = map (λ x. ys ++ x ∷ []) xs
 
-module _ {A : Type 0} (n : ℕ) (ps : List (List A)) where
-  first_block : (x : A) (rest : List (List A)) → n ≤ length ps → take n (each_after ps x ++ rest) ≡
-      each_after (take n ps) x
-  first_block x rest enough =
-      let long : n ≤ length (each_after ps x) =
-      omega (arith, length-map ps (λ (ys : List A). x ∷ ys), enough) in
-      take-append-le n (each_after ps x) rest long ∙ take-map (λ (ys : List A). x ∷ ys) n ps
+module _ {A : Type 0} where
+  after_first : (z : A) (q xs : List A) → map (λ ys. z ∷ ys) (each_last xs q) ≡
+      each_last xs (z ∷ q)
+  after_first z q [] = refl
+  after_first z q (x ∷ xs) = ap (λ yss. (z ∷ q ++ x ∷ []) ∷ yss) (after_first z q xs)
 
-  by_length : (xs : List A) → n ≤ length ps → take n (flat_map (each_after (take n ps)) xs) ≡
-      take n (flat_map (each_after ps) xs)
-  by_length [] enough = refl
-  by_length (x ∷ xs) enough =
-      let short : length (take n ps) ≡ n = length-take-le n ps enough in
-      let long : n ≤ length (each_after (take n ps) x) =
-      omega (arith, length-map (take n ps) (λ (ys : List A). x ∷ ys), short) in
-      take-append-le n (each_after (take n ps) x) (flat_map (each_after (take n ps)) xs) long
-      ∙ take-map (λ (ys : List A). x ∷ ys) n (take n ps)
-      ∙ ap (λ qs. each_after qs x) (take-take n n ps (omega arith))
-      ∙ sym (first_block x (flat_map (each_after ps) xs) enough)
+  one_first : (z : A) (xs : List A) (qs : List (List A)) →
+      map (λ ys. z ∷ ys) (flat_map (each_last xs) qs) ≡
+      flat_map (each_last xs) (map (λ ys. z ∷ ys) qs)
+  one_first z xs [] = refl
+  one_first z xs (q ∷ qs) =
+      map-append (λ (ys : List A). z ∷ ys) (each_last xs q) (flat_map (each_last xs) qs)
+      ∙ ap (λ yss. yss ++ map (λ ys. z ∷ ys) (flat_map (each_last xs) qs)) (after_first z q xs)
+      ∙ ap (λ yss. each_last xs (z ∷ q) ++ yss) (one_first z xs qs)
 
-  whole_list : length ps ≤ n → take n ps ≡ ps
-  whole_list few = sym (take_min n ps) ∙ ap (λ k. take k ps) least ∙ take-length ps where
-    least : min n (length ps) ≡ length ps
-    least = omega (arith, few)
+  all_first : (zs xs : List A) (qs : List (List A)) →
+      flat_map (λ z. map (λ ys. z ∷ ys) (flat_map (each_last xs) qs)) zs ≡
+      flat_map (each_last xs) (flat_map (λ z. map (λ ys. z ∷ ys) qs) zs)
+  all_first [] xs qs = refl
+  all_first (z ∷ zs) xs qs =
+      let rest = flat_map (λ y. map (λ ys. y ∷ ys) qs) zs in
+      ap (λ yss. yss ++ flat_map (λ y. map (λ ys. y ∷ ys) (flat_map (each_last xs) qs)) zs)
+      (one_first z xs qs)
+      ∙ ap (λ yss. flat_map (each_last xs) (map (λ ys. z ∷ ys) qs) ++ yss) (all_first zs xs qs)
+      ∙ sym (flat_map-append (each_last xs) (map (λ ys. z ∷ ys) qs) rest)
 
-  -- the first n choices with one list more before depend on the first n alone
-  pub first_choices : (xs : List A) → take n (flat_map (each_after (take n ps)) xs) ≡
-      take n (flat_map (each_after ps) xs)
-  first_choices xs = elim (cases_order n (length ps)) [
-    | inl same ↦ by_length xs (omega (arith, same))
+  single_lists : (xs : List A) → flat_map (λ x. map (λ ys. x ∷ ys) ([] ∷ [])) xs ≡
+      map (λ x. x ∷ []) xs
+  single_lists [] = refl
+  single_lists (x ∷ xs) = ap (λ yss. (x ∷ []) ∷ yss) (single_lists xs)
+
+  -- with one list more at the end each choice has one of its elements more at the end
+  products-append : (lists : List (List A)) (xs : List A) → products (lists ++ xs ∷ []) ≡
+      flat_map (each_last xs) (products lists)
+  products-append [] xs = single_lists xs ∙ sym (append-nil (map (λ x. x ∷ []) xs))
+  products-append (zs ∷ lists) xs =
+      ap (λ yss. flat_map (λ z. map (λ ys. z ∷ ys) yss) zs) (products-append lists xs)
+      ∙ all_first zs xs (products lists)
+
+  some_element : (xs : List A) (x : A) (i : ℕ) → slice_get xs i ≡ Some x → 0 < length xs
+  some_element xs x i there =
+      let within : i < length xs = slice_get_within xs i x there in omega (arith, within)
+
+  left_place : (ys zs : List (List A)) (n : ℕ) → n < length ys → slice_get (ys ++ zs) n ≡
+      slice_get ys n
+  left_place [] zs n h = absurd (omega (arith, h))
+  left_place (y ∷ ys) zs zero h = refl
+  left_place (y ∷ ys) zs (suc n) h = left_place ys zs n (omega (arith, h))
+
+  right_place : (ys zs : List (List A)) (k : ℕ) → slice_get (ys ++ zs) (length ys + k) ≡
+      slice_get zs k
+  right_place [] zs k = ap (slice_get zs) (omega arith)
+  right_place (y ∷ ys) zs k =
+      let e : length (y ∷ ys) + k ≡ suc (length ys + k) = omega arith in
+      ap (slice_get (y ∷ ys ++ zs)) e ∙ right_place ys zs k
+
+  module _ (xs : List A) (x : A) (q : List A) (qs : List (List A)) (n : ℕ)
+      (there : slice_get xs (n % length xs) ≡ Some x) where
+    in_block : n < length xs → slice_get (flat_map (each_last xs) (q ∷ qs)) n ≡
+        option_map (λ ys. ys ++ x ∷ []) (slice_get (q ∷ qs) (n / length xs))
+    in_block h =
+        let long : n < length (each_last xs q) =
+        omega (arith, length-map xs (λ (y : A). q ++ y ∷ []), h) in
+        left_place (each_last xs q) (flat_map (each_last xs) qs) n long
+        ∙ slice_get-map (λ (y : A). q ++ y ∷ []) xs n
+        ∙ ap (λ k. option_map (λ y. q ++ y ∷ []) (slice_get xs k)) (sym (mod-eq_of_lt h))
+        ∙ ap (option_map (λ y. q ++ y ∷ [])) there
+        ∙ ap (λ k. option_map (λ ys. ys ++ x ∷ []) (slice_get (q ∷ qs) k)) (sym (div-eq_of_lt h))
+
+    past_block : length xs ≤ n →
+        ((k : ℕ) → slice_get xs (k % length xs) ≡ Some x →
+        slice_get (flat_map (each_last xs) qs) k ≡
+        option_map (λ ys. ys ++ x ∷ []) (slice_get qs (k / length xs))) →
+        slice_get (flat_map (each_last xs) (q ∷ qs)) n ≡
+        option_map (λ ys. ys ++ x ∷ []) (slice_get (q ∷ qs) (n / length xs))
+    past_block h rest =
+        let k = n - length xs in
+        let some : 0 < length xs = some_element xs x (n % length xs) there in
+        let split : n ≡ length xs + k = omega (arith, h) in
+        let count : length xs ≡ length (each_last xs q) =
+        sym (length-map xs (λ (y : A). q ++ y ∷ [])) in
+        let lower : n % length xs ≡ k % length xs =
+        ap (λ m. m % length xs) split ∙ add-mod_left (length xs) k in
+        let upper : n / length xs ≡ suc (k / length xs) =
+        ap (λ m. m / length xs) split ∙ add-div_left k some ∙ omega arith in
+        ap (slice_get (flat_map (each_last xs) (q ∷ qs))) (split ∙ ap (λ m. m + k) count)
+        ∙ right_place (each_last xs q) (flat_map (each_last xs) qs) k
+        ∙ rest k (ap (slice_get xs) (sym lower) ∙ there)
+        ∙ ap (λ m. option_map (λ ys. ys ++ x ∷ []) (slice_get (q ∷ qs) m)) (sym upper)
+
+  -- the place says which of the elements is last, and which list is before it
+  at_block : (xs : List A) (x : A) (qs : List (List A)) (n : ℕ) →
+      slice_get xs (n % length xs) ≡ Some x → slice_get (flat_map (each_last xs) qs) n ≡
+      option_map (λ ys. ys ++ x ∷ []) (slice_get qs (n / length xs))
+  at_block xs x [] n there = refl
+  at_block xs x (q ∷ qs) n there = elim (cases_order n (length xs)) [
+    | inl same ↦ past_block xs x q qs n there (omega (arith, same)) (at_block xs x qs)
     | inr apart ↦ elim apart [
-      | inl less ↦ by_length xs (omega (arith, less))
-      | inr more ↦ ap (λ qs. take n (flat_map (each_after qs) xs))
-          (whole_list (omega (arith, more)))
+      | inl less ↦ in_block xs x q qs n there less
+      | inr more ↦ past_block xs x q qs n there (omega (arith, more)) (at_block xs x qs)
     ]
   ]
 
--- those of the lists after the rest
-pub record Chosen (lists rest choices : List (List Body)) : Type 0 where
-  pub last : List (List Body)
-  pub whole : lists ≡ rest ++ last
-  pub same : choices ≡ take most_choices (products last)
+  then_after : (x : A) (done : List A) (o : Option (List A)) →
+      option_map (λ ys. ys ++ x ∷ done) o ≡
+      option_map (λ ys. ys ++ done) (option_map (λ ys. ys ++ x ∷ []) o)
+  then_after x done None = refl
+  then_after x done (Some ys) = ap Some (sym (append_assoc ys (x ∷ []) done))
 
--- ---- the walk over the candidates of a list
+  no_places : (xs : List A) (qs : List (List A)) (n : ℕ) → length xs ≡ 0 →
+      slice_get (flat_map (each_last xs) qs) n ≡ None
+  no_places [] [] n none = refl
+  no_places [] (q ∷ qs) n none = no_places [] qs n none
+  no_places (x ∷ xs) qs n none = absurd (omega (arith, none))
 
-module _ (ps : List (List Body)) (list : List Body) (i : ℕ) (done whole : List (List Body))
-    (is : take most_choices (done ++ flat_map (each_after ps) (drop i list)) ≡ whole) where
-  -- there are enough
-  pub enough_choices : most_choices ≤ length done → take most_choices done ≡ whole
-  enough_choices h =
-      sym (take-append-le most_choices done (flat_map (each_after ps) (drop i list)) h) ∙ is
+  -- the place is one of the first n
+  pub taken_place : (n : ℕ) (xs : List A) (i : ℕ) → i < n → slice_get (take n xs) i ≡ slice_get xs i
+  taken_place zero xs i h = absurd (omega (arith, h))
+  taken_place (suc n) [] i h = refl
+  taken_place (suc n) (x ∷ xs) zero h = refl
+  taken_place (suc n) (x ∷ xs) (suc i) h = taken_place n xs i (omega (arith, h))
 
-  -- those of one candidate more
-  pub after_candidate : (p : Body) → slice_get list i ≡ Some p → (more : List (List Body)) → more ≡
-      done ++ each_after ps p
-      → take most_choices (more ++ flat_map (each_after ps) (drop (i + 1) list)) ≡ whole
-  after_candidate p there more made =
-      let rest = flat_map (each_after ps) (drop (i + 1) list) in
-      ap (λ cs. take most_choices (cs ++ rest)) made
-      ∙ ap (take most_choices) (append_assoc done (each_after ps p) rest)
-      ∙ ap (λ xs. take most_choices (done ++ flat_map (each_after ps) xs))
-      (sym (from_place list i p there))
-      ∙ is
+-- ---- the walk over the lists, from the last on
 
--- the first choices of the last lists, with one list more
-pub more_chosen : (lists rest before choices more : List (List Body)) (list : List Body) → rest ≡
-    before ++ list ∷ [] → Chosen lists rest choices
-    → more ≡ take most_choices (flat_map (each_after choices) list) → Chosen lists before more
-more_chosen lists rest before choices more list split c made = record {
-  last = list ∷ c.last;
-  whole = c.whole ∙ ap (λ ls. ls ++ c.last) split ∙ append_assoc before (list ∷ []) c.last;
-  same =
-      made ∙ ap (λ cs. take most_choices (flat_map (each_after cs) list)) c.same ∙
-      first_choices most_choices (products c.last) list;
-}
+-- the choice with the number in all lists is the one with the number that is left in those before,
+-- followed by what is chosen
+pub record Leaves (lists before : List (List Body)) (number left : ℕ) (chosen : List Body) : Type 0
+  where
+    pub is : option_map (λ ys. ys ++ chosen) (slice_get (products before) left) ≡
+        slice_get (products lists) number
 
-pub begin : (lists choices : List (List Body)) → choices ≡ [] ∷ [] → Chosen lists lists choices
-begin lists choices is = record { last = []; whole = sym (append-nil lists); same = is }
+with_none : (o : Option (List Body)) → option_map (λ ys. ys ++ []) o ≡ o
+with_none None = refl
+with_none (Some ys) = ap Some (append-nil ys)
 
-pub finished : (lists rest choices : List (List Body)) → rest ≡ [] → Chosen lists rest choices →
-    choices ≡ take most_choices (products lists)
-finished lists rest choices none c =
-    c.same ∙ ap (λ ls. take most_choices (products ls))
-    (sym (c.whole ∙ ap (λ ls. ls ++ c.last) none))
+-- nothing is chosen yet
+pub begin : (lists : List (List Body)) (number : ℕ) → Leaves lists lists number number []
+begin lists number = record { is = with_none (slice_get (products lists) number) }
+
+module _ (lists before : List (List Body)) (number left : ℕ) (chosen : List Body)
+    (l : Leaves lists before number left chosen) where
+  -- one more is chosen
+  pub next_chosen : (rest : List (List Body)) (xs : List Body) (x : Body) →
+      before ≡ rest ++ xs ∷ [] → slice_get xs (left % length xs) ≡ Some x →
+      Leaves lists rest number (left / length xs) (x ∷ chosen)
+  next_chosen rest xs x split there = record {
+    is =
+        then_after x chosen (slice_get (products rest) (left / length xs))
+        ∙ ap (option_map (λ ys. ys ++ chosen)) (sym (at_block xs x (products rest) left there))
+        ∙ ap (λ qs. option_map (λ ys. ys ++ chosen) (slice_get qs left))
+        (sym (ap products split ∙ products-append rest xs))
+        ∙ l.is;
+  }
+
+  -- a list without elements has no choice
+  pub none_chosen : (rest : List (List Body)) (xs : List Body) → before ≡ rest ++ xs ∷ [] →
+      length xs ≡ 0 → slice_get (products lists) number ≡ None
+  none_chosen rest xs split none =
+      sym l.is
+      ∙ ap (λ qs. option_map (λ ys. ys ++ chosen) (slice_get qs left))
+      (ap products split ∙ products-append rest xs)
+      ∙ ap (option_map (λ ys. ys ++ chosen)) (no_places xs (products rest) left none)
+
+  -- no list is left
+  pub all_chosen : before ≡ [] → left ≡ 0 → Some chosen ≡ slice_get (products lists) number
+  all_chosen none zeroth =
+      sym (ap (λ ls. option_map (λ ys. ys ++ chosen) (slice_get (products ls) left)) none
+      ∙ ap (λ n. option_map (λ ys. ys ++ chosen) (slice_get ([] ∷ []) n)) zeroth)
+      ∙ l.is
+
+  -- there are no more choices than the number
+  pub past_all : before ≡ [] → 0 < left → slice_get (products lists) number ≡ None
+  past_all none more =
+      sym l.is
+      ∙ ap (λ ls. option_map (λ ys. ys ++ chosen) (slice_get (products ls) left)) none
+      ∙ ap (option_map (λ ys. ys ++ chosen)) (slice_get_past ([] ∷ []) left (omega (arith, more)))
 
 -- ---- the first fit choice
 
--- the choice at a place is one of them
-pub choice_among : (choices : List (Vec (Bor Body) Global)) (i : ℕ) (v : Vec (Bor Body) Global) →
-    slice_get choices i ≡ Some v → Contains (choices_at choices) (polys_at v.items)
-choice_among choices i v there =
-    let at : slice_get (choices_at choices) i ≡ Some (polys_at v.items) =
-    slice_get-map (λ (w : Vec (Bor Body) Global). polys_at w.items) choices i ∙
-    ap (option_map (λ (w : Vec (Bor Body) Global). polys_at w.items)) there in (
-      i,
-      slice_get_within (choices_at choices) i (polys_at v.items) at,
-      get_or_from_slice_get (choices_at choices) i (polys_at v.items) (polys_at v.items) at,
-    )
+-- a place past the first n
+pub taken_past : {A : Type 0} (n : ℕ) (xs : List A) (i : ℕ) → n ≤ i →
+    slice_get (take n xs) i ≡ None
+taken_past zero [] i h = refl
+taken_past zero (x ∷ xs) i h = refl
+taken_past (suc n) [] i h = refl
+taken_past (suc n) (x ∷ xs) zero h = absurd (omega (arith, h))
+taken_past (suc n) (x ∷ xs) (suc i) h = taken_past n xs i (omega (arith, h))
 
 module _ (infos : List SymInfo) (pairs : List Pair) (anchors order : List ℕ)
-    (choices : List (List Body)) (choice : List Body) where
+    (choices : List (List Body)) where
+  -- what comes of these
+  abbrev pub first_of : List (List Body) → Tried (List Pair)
+  first_of some = first_applying (map (choosing infos pairs anchors order) some)
+
+  module _ (i : ℕ) (noted : Bool) (whole : Tried (List Pair))
+      (is : noting noted (first_of (drop i choices)) ≡ whole) where
+    -- no choice is left
+    pub no_choice : slice_get choices i ≡ None → record { made = None; noted = noted } ≡ whole
+    no_choice none =
+        sym (noted_alone None noted)
+        ∙ ap (λ cs. noting noted (first_of cs)) (sym (from_nowhere choices i none))
+        ∙ is
+
+    module _ (choice : List Body) (there : slice_get choices i ≡ Some choice)
+        (view : Fit → List Pair) (made : Option Fit) (more after : Bool)
+        (tried : record { made = option_map view made; noted = more } ≡
+        choosing infos pairs anchors order choice) (either : after ≡ (noted || more)) where
+      opened : noting noted (made_or (option_map view made) more
+          (first_of (drop (i + 1) choices))) ≡ whole
+      opened =
+          ap (λ (t : Tried (List Pair)). noting noted (made_or t.made t.noted
+          (first_of (drop (i + 1) choices)))) tried
+          ∙ ap (λ cs. noting noted (first_of cs)) (sym (from_place choices i choice there))
+          ∙ is
+
+      -- the choice at hand is fit
+      pub choice_fits : is_some made ≡ true →
+          record { made = option_map view made; noted = after } ≡ whole
+      choice_fits e =
+          ap (λ n. record { made = option_map view made; noted = n }) either
+          ∙ decided view noted made more (first_of (drop (i + 1) choices)) e
+          ∙ opened
+
+      -- it isn't, and the later ones decide
+      pub later_choices : is_some made ≡ false →
+          noting after (first_of (drop (i + 1) choices)) ≡ whole
+      later_choices e =
+          ap (λ n. noting n (first_of (drop (i + 1) choices))) either
+          ∙ first_none noted (option_map view made) more (first_of (drop (i + 1) choices)) whole
+          opened (none_made view made e)
+
   -- what comes of one of the choices is a first fit
-  pub fit_among : (made : Option Fit) → Contains choices choice →
+  pub fit_among : (choice : List Body) (made : Option Fit) → Contains choices choice →
       IfSome made (IsChosen infos pairs anchors order choice) →
       IfSome made (IsFirstFit infos pairs anchors order choices)
-  fit_among None among chosen = tt
-  fit_among (Some fit) among chosen = record { choice = choice; among = among; chosen = chosen }
+  fit_among choice None among chosen = tt
+  fit_among choice (Some fit) among chosen = record {
+    choice = choice;
+    among = among;
+    chosen = chosen;
+  }

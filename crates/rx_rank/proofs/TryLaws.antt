@@ -1,5 +1,5 @@
 -- What was noted so far, and what comes of a first part, leave it to the later parts or decide.
-use Rattle.std.proofs.Common.{◌≡◌, ◌∙◌, ap, sym, refl, Bool, false, ◌||◌, Option, Some, None}
+use Rattle.std.proofs.Common.{◌≡◌, ◌∙◌, ap, sym, refl, Bool, true, false, ◌||◌, Option, Some, None}
 use Rattle.std.specs.Option.{is_some, option_map}
 use Rattle.rx_plain.proofs.Booleans.{or_assoc, or_false}
 use Rattle.rx_solve.specs.Attempts.{Tried, made_or}
@@ -45,3 +45,11 @@ pub none_made : {A B : Type 0} (view : A → B) (o : Option A) → is_some o ≡
     ≡ None
 none_made view None e = refl
 none_made view (Some x) e = cc
+
+-- the first applies, whatever comes later
+pub decided : {A B : Type 0} (view : A → B) (noted : Bool) (o : Option A) (more : Bool)
+    (later : Tried B) → is_some o ≡ true →
+    record { made = option_map view o; noted = noted || more } ≡
+    noting noted (made_or (option_map view o) more later)
+decided view noted None more later e = cc
+decided view noted (Some x) more later e = refl

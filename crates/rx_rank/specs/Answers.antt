@@ -181,8 +181,3 @@ pub record IsComponentFit (parts : RuleParts) (hypotheses : List Rule) (names : 
   pub count : length values ≡ length parts.symbols
   pub own : (f : ℕ) (p : Body) → polynomial_of values f ≡ Some p →
       IsOwn parts hypotheses names c pairs f p
-
--- ---- choices in memory
-
-abbrev pub choices_at : List (Vec (Bor Body) Global) → List (List Body)
-choices_at choices = map (λ v. polys_at v.items) choices

@@ -2,7 +2,7 @@
 ghost use Rattle.std.specs.Prelude.{◌≡◌, ◌||◌};
 
 /// What was made, if anything, and whether something on the way to it passed the limits.
-#[derive(Debug, Drop)]
+#[derive(Drop)]
 pub struct Attempt<T> {
     /// What was made.
     pub made: Option<T>,

@@ -17,7 +17,7 @@ use rx_solve::AllShown;
 use std::alloc::Global;
 
 /// The polynomials of a fit choice, and why it is fit.
-#[derive(Debug, Drop)]
+#[derive(Drop)]
 pub struct Fit {
     /// The polynomials by symbol.
     pub values: Vec<Option<Poly>>,

@@ -1,0 +1,121 @@
+-- What comes of the choice at hand is that of one of them.
+use Rattle.std.proofs.Common.{◌≡◌, ◌∙◌, ◌<◌, ◌≤◌, ◌||◌, ap, sym, subst, arith, IfSome, List, None, Some, slice_get, take}
+use Rattle.std.specs.Option.{option_map}
+use Rattle.rx_plain.proofs.Booleans.{either_first, either_second}
+use Rattle.rx_pairs.specs.declared.pair.Pair.{Pair}
+use Rattle.rx_solve.specs.Attempts.{first_applying}
+use Rattle.rx_term.proofs.Places.{at_place}
+use Rattle.rx_rank.specs.Answers.{IsChosen, lists_in, polys_at, still_open, tried_as}
+use Rattle.rx_rank.specs.Choices.{choosing, products}
+use Rattle.rx_rank.specs.Ranking.{most_choices}
+use Rattle.rx_rank.specs.declared.fitting.Fit.{Fit}
+use Rattle.rx_rank.proofs.Choosing.{choice_fits, first_of, fit_among, later_choices, no_choice, taken_past, taken_place}
+use Rattle.rx_rank.proofs.choice.first_fit.Goals as goal
+use Rattle.rx_rank.proofs.choice.first_fit.Goals.{then-noted, else-noted}
+
+pub returns-in-None-clause-tried : goal.returns-in-None-clause-tried
+returns-in-None-clause-tried g c =
+    let a = c.args in
+    let all = take most_choices (products (lists_in a.lists.now)) in
+    let at = c.loop-at.at in
+    let below : at < most_choices = omega (arith, c.loop-at-test.true) in
+    let none : slice_get all at ≡ None =
+    taken_place most_choices (products (lists_in a.lists.now)) at below
+    ∙ sym (sym (ap (option_map (λ v. polys_at v.items)) c.in-None.is) ∙ c.in_ok-choice.ensures) in
+    no_choice a.infos.now a.pairs.now a.anchors.now a.order.now all at c.loop-at.noted
+    (first_of a.infos.now a.pairs.now a.anchors.now a.order.now all all)
+    c.loop-at.invariant.decides none
+
+pub returns-clause-tried : goal.returns-clause-tried
+returns-clause-tried g c =
+    let a = c.args in
+    let all = take most_choices (products (lists_in a.lists.now)) in
+    let at = c.loop-at.at in
+    let past : most_choices ≤ at = omega (arith, c.loop-at-test.false) in
+    no_choice a.infos.now a.pairs.now a.anchors.now a.order.now all at c.loop-at.noted
+    (first_of a.infos.now a.pairs.now a.anchors.now a.order.now all all)
+    c.loop-at.invariant.decides (taken_past most_choices (products (lists_in a.lists.now)) at past)
+
+pub returns-then-is_some-clause-fit : goal.returns-then-is_some-clause-fit
+returns-then-is_some-clause-fit g c =
+    let a = c.args in
+    let all = take most_choices (products (lists_in a.lists.now)) in
+    let at = c.loop-at.at in
+    let made = c.in_ok-attempt.attempt.made in
+    let choice = polys_at c.in-Some.choice.items in
+    let below : at < most_choices = omega (arith, c.loop-at-test.true) in
+    let there : slice_get all at ≡ Some choice =
+    taken_place most_choices (products (lists_in a.lists.now)) at below
+    ∙ sym (sym (ap (option_map (λ v. polys_at v.items)) c.in-Some.is) ∙ c.in_ok-choice.ensures) in
+    let here = subst (λ qs. IfSome made (IsChosen a.infos.now qs a.anchors.now a.order.now
+    (polys_at c.as_slice.result.now))) c.loop-at.invariant.same c.in_ok-attempt.ensures.fit in
+    let chosen = subst (λ ps. IfSome made (IsChosen a.infos.now a.pairs.now a.anchors.now
+    a.order.now (polys_at ps))) c.as_slice.ensures.value here in
+    fit_among a.infos.now a.pairs.now a.anchors.now a.order.now all choice made
+    (at_place all at choice there) chosen
+
+pub returns-then-is_some-clause-tried : goal.returns-then-is_some-clause-tried
+returns-then-is_some-clause-tried g c =
+    let a = c.args in
+    let all = take most_choices (products (lists_in a.lists.now)) in
+    let at = c.loop-at.at in
+    let made = c.in_ok-attempt.attempt.made in
+    let choice = polys_at c.in-Some.choice.items in
+    let below : at < most_choices = omega (arith, c.loop-at-test.true) in
+    let there : slice_get all at ≡ Some choice =
+    taken_place most_choices (products (lists_in a.lists.now)) at below
+    ∙ sym (sym (ap (option_map (λ v. polys_at v.items)) c.in-Some.is) ∙ c.in_ok-choice.ensures) in
+    let view : Fit → List Pair = λ fit. still_open a.pairs.now fit.falls.items in
+    let before = c.loop-at.noted in
+    let more = c.in_ok-attempt.attempt.noted in
+    let either : c.if-noted.noted ≡ (before || more) = elim c.if-noted.branch [
+      | then-noted w ↦ either_first before more c.if-noted.noted w.if-noted.true w.noted-is
+      | else-noted w ↦ either_second before more c.if-noted.noted w.if-noted.false w.noted-is
+    ] in
+    let tried : record { made = option_map view made; noted = more } ≡
+    choosing a.infos.now a.pairs.now a.anchors.now a.order.now choice =
+    subst (λ ps. record { made = option_map view made; noted = more } ≡
+    choosing a.infos.now a.pairs.now a.anchors.now a.order.now (polys_at ps))
+    c.as_slice.ensures.value
+    (subst (λ (qs : List Pair). tried_as (λ fit. still_open qs fit.falls.items)
+    c.in_ok-attempt.attempt ≡ choosing a.infos.now qs a.anchors.now a.order.now
+    (polys_at c.as_slice.result.now)) c.loop-at.invariant.same c.in_ok-attempt.ensures.tried) in
+    choice_fits a.infos.now a.pairs.now a.anchors.now a.order.now all at before
+    (first_of a.infos.now a.pairs.now a.anchors.now a.order.now all all)
+    c.loop-at.invariant.decides choice there view made more c.if-noted.noted tried either
+    (sym c.is_some.ensures ∙ c.if-is_some.true)
+
+pub loop-at-preserved : goal.loop-at-preserved
+loop-at-preserved g c =
+    let a = c.args in
+    let all = take most_choices (products (lists_in a.lists.now)) in
+    let at = c.loop-at.at in
+    let made = c.in_ok-attempt.attempt.made in
+    let choice = polys_at c.in-Some.choice.items in
+    let below : at < most_choices = omega (arith, c.loop-at-test.true) in
+    let there : slice_get all at ≡ Some choice =
+    taken_place most_choices (products (lists_in a.lists.now)) at below
+    ∙ sym (sym (ap (option_map (λ v. polys_at v.items)) c.in-Some.is) ∙ c.in_ok-choice.ensures) in
+    let view : Fit → List Pair = λ fit. still_open a.pairs.now fit.falls.items in
+    let before = c.loop-at.noted in
+    let more = c.in_ok-attempt.attempt.noted in
+    let either : c.if-noted.noted ≡ (before || more) = elim c.if-noted.branch [
+      | then-noted w ↦ either_first before more c.if-noted.noted w.if-noted.true w.noted-is
+      | else-noted w ↦ either_second before more c.if-noted.noted w.if-noted.false w.noted-is
+    ] in
+    let tried : record { made = option_map view made; noted = more } ≡
+    choosing a.infos.now a.pairs.now a.anchors.now a.order.now choice =
+    subst (λ ps. record { made = option_map view made; noted = more } ≡
+    choosing a.infos.now a.pairs.now a.anchors.now a.order.now (polys_at ps))
+    c.as_slice.ensures.value
+    (subst (λ (qs : List Pair). tried_as (λ fit. still_open qs fit.falls.items)
+    c.in_ok-attempt.attempt ≡ choosing a.infos.now qs a.anchors.now a.order.now
+    (polys_at c.as_slice.result.now)) c.loop-at.invariant.same c.in_ok-attempt.ensures.tried) in
+    record {
+      solver = c.choosing.ensures.solver;
+      same = c.choosing.ensures.pairs ∙ c.loop-at.invariant.same;
+      decides = later_choices a.infos.now a.pairs.now a.anchors.now a.order.now all at before
+          (first_of a.infos.now a.pairs.now a.anchors.now a.order.now all all)
+          c.loop-at.invariant.decides choice there view made more c.if-noted.noted tried either
+          (sym c.is_some.ensures ∙ c.if-is_some.false);
+    }

@@ -1,0 +1,20 @@
+-- What is left of the choices decides, with what was noted so far.
+use Rattle.std.proofs.Common.{◌≡◌, drop, map, take}
+use Rattle.rx_solve.specs.Answers.{IsSolver}
+use Rattle.rx_solve.specs.Attempts.{first_applying}
+use Rattle.rx_rank.specs.Answers.{lists_in}
+use Rattle.rx_rank.specs.Choices.{choosing, products}
+use Rattle.rx_rank.specs.Ranking.{most_choices}
+use Rattle.rx_rank.specs.Tries.{noting}
+use Rattle.rx_rank.proofs.choice.first_fit.Given as goal
+
+abbrev pub invariant-loop-at : goal.invariant-loop-at
+invariant-loop-at g l = record {
+  solver : IsSolver g.S.FnMut l.solve;
+  same : l.pairs ≡ l.fn.pairs;
+  decides :
+      noting l.noted (first_applying (map (choosing l.infos l.fn.pairs l.anchors l.order)
+      (drop l.at (take most_choices (products (lists_in l.lists))))))
+      ≡ first_applying (map (choosing l.infos l.fn.pairs l.anchors l.order)
+      (take most_choices (products (lists_in l.lists))));
+}
