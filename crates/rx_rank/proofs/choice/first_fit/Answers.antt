@@ -3,7 +3,6 @@ use Rattle.std.proofs.Common.{◌≡◌, ◌∙◌, ◌<◌, ◌≤◌, ◌||◌
 use Rattle.std.specs.Option.{option_map}
 use Rattle.rx_plain.proofs.Booleans.{either_first, either_second}
 use Rattle.rx_pairs.specs.declared.pair.Pair.{Pair}
-use Rattle.rx_solve.specs.Attempts.{first_applying}
 use Rattle.rx_term.proofs.Places.{at_place}
 use Rattle.rx_rank.specs.Answers.{IsChosen, lists_in, polys_at, still_open, tried_as}
 use Rattle.rx_rank.specs.Choices.{choosing, products}
