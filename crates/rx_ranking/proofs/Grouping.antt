@@ -199,7 +199,7 @@ module _ (n : ℕ) (edges : List (ℕ × ℕ)) where
     by (Some x) some =
         let h = found_below (together edges (below n) f) 0 n x some in omega (arith, h)
 
-  name_at : (f : ℕ) → f < n → slice_get (map (component_of n edges) (symbols_of n)) f ≡
+  pub name_at : (f : ℕ) → f < n → slice_get (map (component_of n edges) (symbols_of n)) f ≡
       Some (component_of n edges f)
   name_at f less =
       let count = length-range_with_len 0 n in

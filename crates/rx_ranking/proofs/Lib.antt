@@ -9,6 +9,7 @@ pub mod FitsLaws
 pub mod Grouping
 pub mod GrowthLaws
 pub mod HeightColumns
+pub mod InsideLaws
 pub mod Joining
 pub mod KeptNames
 pub mod NumberLaws

@@ -15,13 +15,6 @@ use Rattle.rx_ranking.specs.declared.open_pair.OpenPair.{OpenPair}
 abbrev pub pair_in : OpenPair → Pair
 pair_in o = o.pair
 
--- the pair of an entry
-pub entry_pair : (entries : List OpenPair) (i : ℕ) (entry : OpenPair) → i < length entries → entry ≡
-    get_or entries i entry
-    → entry.pair ≡ get_or (pairs_open entries) i entry.pair
-entry_pair entries i entry there is =
-    sym (get_or-map pair_in entries i entry (pair_in entry) there ∙ ap pair_in (sym is))
-
 pub open_count : (entries : List OpenPair) → length (pairs_open entries) ≡ length entries
 open_count entries = length-map entries pair_in
 
@@ -43,19 +36,3 @@ module _ (symbols : ℕ) (pairs : List Pair) (rows : List (Vec ℕ Global))
       let edges = edges_of pairs in
       labels_computed symbols edges (lead_below symbols edges over) labels (count ∙ rows_by)
       (subst (λ n. AreComponents n edges labels) rows_by (least edges graph_at))
-
--- the graph of open pairs
-module _ (symbols : ℕ) (entries : List OpenPair) (rows : List (Vec ℕ Global))
-    (graph : IsGraphOf symbols (edges_of (pairs_open entries)) (rows_of rows)) where
-  pub rows_count : length rows ≡ symbols
-  rows_count = rows_by symbols (pairs_open entries) rows graph
-
-  pub graph_here : IsGraphOf (length rows) (edges_of (pairs_open entries)) (rows_of rows)
-  graph_here = graph_at symbols (pairs_open entries) rows graph
-
-  pub names_found : IsOver symbols (edges_of (pairs_open entries)) → (labels : List ℕ) →
-      length labels ≡ length rows
-      → ((edges : List (ℕ × ℕ)) → IsGraphOf (length rows) edges (rows_of rows) →
-      AreComponents (length rows) edges labels)
-      → labels ≡ names_of symbols (pairs_open entries)
-  names_found = names_at symbols (pairs_open entries) rows graph

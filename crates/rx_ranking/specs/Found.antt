@@ -22,10 +22,10 @@ RanksAnswer said (Ok (Some found)) = said ≡ Yes
 RanksAnswer said (Err e) = e ≡ Large → said ≡ Beyond
 
 -- an answer that only says whether there are some; that memory runs out is free
-abbrev pub SaysRanked : Said → Result Bool FmEnd → Type 0
-SaysRanked said (Ok false) = said ≡ No
-SaysRanked said (Ok true) = said ≡ Yes
-SaysRanked said (Err e) = e ≡ Large → said ≡ Beyond
+abbrev pub RankedAnswer : Said → Result Bool FmEnd → Type 0
+RankedAnswer said (Ok false) = said ≡ No
+RankedAnswer said (Ok true) = said ≡ Yes
+RankedAnswer said (Err e) = e ≡ Large → said ≡ Beyond
 
 -- the ranks are lawful for the symbols, and all pairs of the rules and of the hypotheses are lower
 -- by them, by certificates that are at most 174 deep

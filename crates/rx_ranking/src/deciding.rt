@@ -5,7 +5,7 @@ ghost use Rattle.rx_pairs.specs.Graph.{edges_of};
 ghost use Rattle.rx_pairs.specs.Pairs.{AreAllPairs, HasRoot, SidesFit};
 ghost use Rattle.rx_rank.specs.Answers.{pairs_at, tried_only};
 ghost use Rattle.rx_rank.specs.Ranking.{ranked, ranking, ranking_from};
-ghost use Rattle.rx_ranking.specs.Found.{SaysRanked};
+ghost use Rattle.rx_ranking.specs.Found.{RankedAnswer};
 ghost use Rattle.rx_solve.specs.Answers.{IsSolver};
 
 use crate::rank_memo::RankMemo;
@@ -46,8 +46,9 @@ fn decide_from<S: FnMut(&Constraint) -> Result<Option<Cert>, FmEnd>>(
     ensures tried { IfOk result (λ t. tried_only t ≡
         ranking_from parts.now hypotheses.now left (pairs_at pairs.now)) }
 {
-    let names = memo.names.names(alloc, parts.symbols.len(), pairs)?;
-    let open = inside_of(alloc, names.as_slice(), pairs)?;
+    let components = memo.names.names(alloc, parts.symbols.len(), pairs)?;
+    let names = components.as_slice();
+    let open = inside_of(alloc, names, pairs)?;
     if open.len() == 0 {
         return Ok(Attempt {
             made: Some(()),
@@ -60,7 +61,15 @@ fn decide_from<S: FnMut(&Constraint) -> Result<Option<Cert>, FmEnd>>(
             noted: false,
         });
     }
-    let tried = left_after(alloc, parts, hypotheses, open.as_slice(), memo, solve)?;
+    let tried = left_after(
+        alloc,
+        parts,
+        hypotheses,
+        names,
+        open.as_slice(),
+        &mut memo.pairs,
+        solve,
+    )?;
     let noted = tried.noted;
     match tried.made {
         Some(next) => {
@@ -115,7 +124,7 @@ pub fn has_ranks_with<S: FnMut(&Constraint) -> Result<Option<Cert>, FmEnd>>(
     requires roots { All HasRoot hypotheses.now }
     requires fits { All (SidesFit rules.now) hypotheses.now }
     ensures solver { IsSolver S.FnMut solve.new }
-    ensures answer { SaysRanked (ranked rules.now hypotheses.now) result }
+    ensures answer { RankedAnswer (ranked rules.now hypotheses.now) result }
 {
     match decide_all(alloc, rules, pairs, hypotheses, memo, solve) {
         Ok(tried) => {

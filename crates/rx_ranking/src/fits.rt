@@ -3,13 +3,14 @@ ghost use Rattle.std.specs.Prelude.{◌≡◌, ◌≤◌, ◌^◌, IfOk, IfSome,
 ghost use Rattle.rx_graph.specs.Graph.{IsOver};
 ghost use Rattle.rx_pairs.specs.Graph.{edges_of};
 ghost use Rattle.rx_rank.specs.Answers.{still_open, tried_as};
+ghost use Rattle.rx_rank.specs.Components.{names_of};
 ghost use Rattle.rx_rank.specs.Ranking.{polynomials};
 ghost use Rattle.rx_ranking.specs.Fits.{AreFits};
 ghost use Rattle.rx_ranking.specs.Tables.{pairs_open};
 ghost use Rattle.rx_solve.specs.Answers.{IsSolver};
 
 use crate::components::fit_groups;
-use crate::groups::{all_entries, group_entries};
+use crate::groups::{all_entries, group_entries, pairs_of};
 use crate::names::find_names;
 use crate::open_pair::OpenPair;
 use rx_cert::Cert;
@@ -34,6 +35,16 @@ pub(crate) struct Fits {
     pub(crate) falls: Vec<Option<Items<Cert>>>,
 }
 
+/// By symbol the least symbol of its component in the graph of the open pairs.
+fn names_open(alloc: Global, symbols: usize, entries: &[OpenPair]) -> Result<Vec<u32>, NoMemory>
+    requires over { IsOver symbols (edges_of (pairs_open entries.now)) }
+    requires few { symbols ≤ 2 ^ 32 }
+    ensures { IfOk result (λ names. names.items ≡ names_of symbols (pairs_open entries.now)) }
+{
+    let pairs = pairs_of(alloc, entries)?;
+    find_names(alloc, symbols, pairs.as_slice())
+}
+
 /// The first fit choices of the components with an open pair, in order, up to the first component
 /// that has none.
 pub(crate) fn fit_all<S: FnMut(&Constraint) -> Result<Option<Cert>, FmEnd>>(
@@ -53,7 +64,7 @@ pub(crate) fn fit_all<S: FnMut(&Constraint) -> Result<Option<Cert>, FmEnd>>(
         polynomials parts.now hypotheses.now (pairs_open entries.items)) }
     ensures fits { IfOk result (λ t. IfSome t.made (AreFits parts.now.symbols entries.items)) }
 {
-    let components = find_names(alloc, parts.symbols.len(), entries.as_slice())?;
+    let components = names_open(alloc, parts.symbols.len(), entries.as_slice())?;
     let names = components.as_slice();
     let groups = group_entries(alloc, names, entries)?;
     let tried = fit_groups(

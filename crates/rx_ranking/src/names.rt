@@ -8,6 +8,7 @@ ghost use Rattle.rx_rank.specs.Answers.{pairs_at};
 ghost use Rattle.rx_rank.specs.Components.{names_of};
 ghost use Rattle.rx_ranking.specs.Tables.{pairs_open};
 
+use crate::groups::pairs_of;
 use crate::open_pair::OpenPair;
 use rx_graph::Graph;
 use rx_pairs::Pair;
@@ -15,21 +16,7 @@ use rx_plain::NoMemory;
 use std::alloc::Global;
 
 /// The graph of the pairs.
-fn graph_of(alloc: Global, symbols: usize, entries: &[OpenPair]) -> Result<Graph, NoMemory>
-    requires { IsOver symbols (edges_of (pairs_open entries.now)) }
-    ensures edges { IfOk result (λ graph. IsGraphOf symbols (edges_of (pairs_open entries.now))
-        (rows_of graph.rows.items)) }
-    ensures closed { IfOk result (λ graph. IsClosed (rows_of graph.rows.items)) }
-{
-    let mut graph = Graph::new(alloc, symbols)?;
-    for entry in entries {
-        graph.add(entry.pair.left.0, entry.pair.right.0)?;
-    }
-    Ok(graph)
-}
-
-/// The graph of the pairs.
-fn graph_by(alloc: Global, symbols: usize, pairs: &[&Pair]) -> Result<Graph, NoMemory>
+fn graph_of(alloc: Global, symbols: usize, pairs: &[&Pair]) -> Result<Graph, NoMemory>
     requires { IsOver symbols (edges_of (pairs_at pairs.now)) }
     ensures edges { IfOk result (λ graph. IsGraphOf symbols (edges_of (pairs_at pairs.now))
         (rows_of graph.rows.items)) }
@@ -43,29 +30,18 @@ fn graph_by(alloc: Global, symbols: usize, pairs: &[&Pair]) -> Result<Graph, NoM
 }
 
 /// By symbol the least symbol of its component.
-pub(crate) fn names_by(alloc: Global, symbols: usize, pairs: &[&Pair]) -> Result<Vec<u32>, NoMemory>
+pub(crate) fn find_names(
+    alloc: Global,
+    symbols: usize,
+    pairs: &[&Pair],
+) -> Result<Vec<u32>, NoMemory>
     requires over { IsOver symbols (edges_of (pairs_at pairs.now)) }
     requires few { symbols ≤ 2 ^ 32 }
     ensures { IfOk result (λ names. names.items ≡ names_of symbols (pairs_at pairs.now)) }
 {
-    let graph = graph_by(alloc, symbols, pairs)?;
-    let found = graph.components(alloc)?;
-    Ok(found)
-}
-
-/// By symbol the least symbol of its component.
-pub(crate) fn find_names(
-    alloc: Global,
-    symbols: usize,
-    entries: &[OpenPair],
-) -> Result<Vec<u32>, NoMemory>
-    requires over { IsOver symbols (edges_of (pairs_open entries.now)) }
-    requires few { symbols ≤ 2 ^ 32 }
-    ensures { IfOk result (λ names. names.items ≡ names_of symbols (pairs_open entries.now)) }
-{
-    let graph = graph_of(alloc, symbols, entries)?;
-    let found = graph.components(alloc)?;
-    Ok(found)
+    let graph = graph_of(alloc, symbols, pairs)?;
+    let names = graph.components(alloc)?;
+    Ok(names)
 }
 
 /// The components, and how high each is over those that its pairs lead to.
@@ -77,7 +53,7 @@ pub(crate) struct Levels {
     pub(crate) heights: Vec<u32>,
 }
 
-/// The components of the graph of the pairs with their heights.
+/// The components of the graph of the open pairs, with their heights.
 pub(crate) fn find_levels(
     alloc: Global,
     symbols: usize,
@@ -95,7 +71,8 @@ pub(crate) fn find_levels(
     ensures below { IfOk result (λ found. (a : ℕ) → a < symbols →
         slice_index found.heights.items a < symbols) }
 {
-    let graph = graph_of(alloc, symbols, entries)?;
+    let pairs = pairs_of(alloc, entries)?;
+    let graph = graph_of(alloc, symbols, pairs.as_slice())?;
     let names = graph.components(alloc)?;
     let heights = graph.heights(alloc, names.as_slice())?;
     Ok(Levels { names, heights })

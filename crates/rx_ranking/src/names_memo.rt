@@ -7,7 +7,7 @@ ghost use Rattle.rx_rank.specs.Answers.{pairs_at};
 ghost use Rattle.rx_rank.specs.Components.{names_of};
 ghost use Rattle.rx_ranking.specs.KnownNames.{AreNames, same_edges};
 
-use crate::names::names_by;
+use crate::names::find_names;
 use rx_pairs::Pair;
 use rx_plain::NoMemory;
 use std::alloc::Global;
@@ -140,7 +140,7 @@ impl NamesMemo {
         if let Some(one) = find_known(self.known.as_slice(), symbols, pairs) {
             return Ok(Vec::from_slice(alloc, one.names.as_slice())?);
         }
-        let names = names_by(alloc, symbols, pairs)?;
+        let names = find_names(alloc, symbols, pairs)?;
         keep_names(self, alloc, symbols, pairs, names.as_slice())?;
         Ok(names)
     }

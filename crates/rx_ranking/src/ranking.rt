@@ -20,7 +20,7 @@ use rx_term::{Rule, RuleSet};
 use std::alloc::Global;
 
 /// Ranks, and why all pairs are lower by them.
-#[derive(Debug, Drop)]
+#[derive(Drop)]
 pub struct Ranking {
     /// The ranks.
     pub table: RankTable,

@@ -10,7 +10,6 @@ ghost use Rattle.rx_rank.specs.Ranking.{polynomials, tried_in};
 ghost use Rattle.rx_solve.specs.Answers.{IsSolver};
 
 use crate::heights::is_inside;
-use crate::rank_memo::RankMemo;
 use rx_cert::Cert;
 use rx_fm::FmEnd;
 use rx_pairs::Pair;
@@ -29,7 +28,7 @@ pub(crate) fn inside_of<'a>(
     ensures { IfOk result (λ left. pairs_at left.items ≡
         filter (is_inside names.now) (pairs_at pairs.now)) }
 {
-    let mut left = Vec::new(alloc);
+    let mut left = Vec::with_capacity(alloc, pairs.len())?;
     for pair in pairs {
         if is_inside(names, *pair) {
             left.push(*pair)?;
@@ -122,17 +121,19 @@ fn left_in<'a, S: FnMut(&Constraint) -> Result<Option<Cert>, FmEnd>>(
     }
 }
 
-/// The pairs that stay open after a column of polynomials.
+/// The pairs that stay open after a column of polynomials. The names of the components are given.
 pub(crate) fn left_after<'a, S: FnMut(&Constraint) -> Result<Option<Cert>, FmEnd>>(
     alloc: Global,
     parts: &RuleParts,
     hypotheses: &[Rule],
+    names: &[u32],
     pairs: &[&'a Pair],
-    memo: &mut RankMemo,
+    memo: &mut PairMemo,
     solve: &mut S,
 ) -> Result<Attempt<Vec<&'a Pair>>, NoMemory>
     requires solver { IsSolver S.FnMut solve.old }
     requires over { IsOver (length parts.now.symbols) (edges_of (pairs_at pairs.now)) }
+    requires names { names.now ≡ names_of (length parts.now.symbols) (pairs_at pairs.now) }
     requires few { length parts.now.symbols ≤ 2 ^ 32 }
     ensures solver { IsSolver S.FnMut solve.new }
     ensures tried { IfOk result (λ t. tried_as (λ left. pairs_at left.items) t ≡
@@ -141,8 +142,6 @@ pub(crate) fn left_after<'a, S: FnMut(&Constraint) -> Result<Option<Cert>, FmEnd
         IsOver (length parts.now.symbols) (edges_of (pairs_at left.items)))) }
 {
     let symbols = parts.symbols.len();
-    let components = memo.names.names(alloc, symbols, pairs)?;
-    let names = components.as_slice();
     let mut left = Vec::new(alloc);
     let mut noted = false;
     for name in 0..symbols {
@@ -153,7 +152,7 @@ pub(crate) fn left_after<'a, S: FnMut(&Constraint) -> Result<Option<Cert>, FmEnd
             names,
             name as u32,
             pairs,
-            &mut memo.pairs,
+            memo,
             solve,
         )?;
         noted = noted || tried.noted;

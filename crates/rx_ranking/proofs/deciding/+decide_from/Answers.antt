@@ -12,6 +12,7 @@ use Rattle.rx_rank.specs.Answers.{pairs_at}
 use Rattle.rx_rank.specs.Components.{is_inside, names_of}
 use Rattle.rx_rank.specs.Ranking.{polynomials, ranking_from}
 use Rattle.rx_ranking.proofs.DecidingLaws.{all_closed, no_more_rounds, round_ends, round_goes_on}
+use Rattle.rx_ranking.proofs.InsideLaws.{names_inside}
 use Rattle.rx_ranking.proofs.StayingLaws.{lent_count, over_filtered}
 use Rattle.rx_ranking.proofs.deciding.+decide_from.Goals as goal
 
@@ -19,7 +20,7 @@ pub returns-then-len-eq0-clause-tried : goal.returns-then-len-eq0-clause-tried
 returns-then-len-eq0-clause-tried g t c =
     let pairs = pairs_at c.args.pairs.now in
     let is = c.in_ok-open.ensures ∙ ap (λ ns. filter (is_inside ns) pairs)
-    (c.as_slice.ensures.value ∙ c.in_ok-names.ensures.names ∙
+    (c.as_slice-names.ensures.value ∙ c.in_ok-components.ensures.names ∙
     ap (λ k. names_of k pairs) c.len.ensures) in
     all_closed c.args.parts.now c.args.hypotheses.now pairs (pairs_at c.in_ok-open.open.items) is
     c.args.left (let count = lent_count c.in_ok-open.open.items in let none = c.if-len-eq0.true in
@@ -29,7 +30,7 @@ pub returns-then-left-eq0-clause-tried : goal.returns-then-left-eq0-clause-tried
 returns-then-left-eq0-clause-tried g t c =
     let pairs = pairs_at c.args.pairs.now in
     let is = c.in_ok-open.ensures ∙ ap (λ ns. filter (is_inside ns) pairs)
-    (c.as_slice.ensures.value ∙ c.in_ok-names.ensures.names ∙
+    (c.as_slice-names.ensures.value ∙ c.in_ok-components.ensures.names ∙
     ap (λ k. names_of k pairs) c.len.ensures) in
     no_more_rounds c.args.parts.now c.args.hypotheses.now pairs
     (pairs_at c.in_ok-open.open.items) is
@@ -42,10 +43,21 @@ left_after-requires-clause-over g t c =
     let pairs = pairs_at c.args.pairs.now in
     let n = length c.args.parts.now.symbols in
     let is = c.in_ok-open.ensures ∙ ap (λ ns. filter (is_inside ns) pairs)
-    (c.as_slice.ensures.value ∙ c.in_ok-names.ensures.names ∙
+    (c.as_slice-names.ensures.value ∙ c.in_ok-components.ensures.names ∙
     ap (λ k. names_of k pairs) c.len.ensures) in
-    subst (λ ps. IsOver n (edges_of ps)) (sym (ap pairs_at c.as_slice-2.ensures.value ∙ is))
+    subst (λ ps. IsOver n (edges_of ps)) (sym (ap pairs_at c.as_slice.ensures.value ∙ is))
     (over_filtered n (is_inside (names_of n pairs)) pairs c.requires.over)
+
+-- the pairs inside components have the same components
+pub left_after-requires-clause-names : goal.left_after-requires-clause-names
+left_after-requires-clause-names g t c =
+    let pairs = pairs_at c.args.pairs.now in
+    let n = length c.args.parts.now.symbols in
+    let names = c.as_slice-names.ensures.value ∙ c.in_ok-components.ensures.names ∙
+    ap (λ k. names_of k pairs) c.len.ensures in
+    names ∙ sym (names_inside n pairs c.requires.over)
+    ∙ ap (names_of n) (sym (ap pairs_at c.as_slice.ensures.value ∙ c.in_ok-open.ensures ∙
+    ap (λ ns. filter (is_inside ns) pairs) names))
 
 pub returns-in-Some-clause-tried : goal.returns-in-Some-clause-tried
 returns-in-Some-clause-tried g t c =
@@ -53,7 +65,7 @@ returns-in-Some-clause-tried g t c =
     let parts = c.args.parts.now in
     let hypotheses = c.args.hypotheses.now in
     let is = c.in_ok-open.ensures ∙ ap (λ ns. filter (is_inside ns) pairs)
-    (c.as_slice.ensures.value ∙ c.in_ok-names.ensures.names ∙
+    (c.as_slice-names.ensures.value ∙ c.in_ok-components.ensures.names ∙
     ap (λ k. names_of k pairs) c.len.ensures) in
     let k = c.args.left - 1 in
     let some = c.if-left-eq0.false in
@@ -68,7 +80,7 @@ returns-in-Some-clause-tried g t c =
     k c.args.left one_less (option_map (λ v. pairs_at v.items) c.in_ok-tried.tried.made)
     c.in_ok-tried.tried.noted
     (c.in_ok-tried.ensures.tried ∙
-    ap (λ refs. polynomials parts hypotheses (pairs_at refs)) c.as_slice-2.ensures.value)
+    ap (λ refs. polynomials parts hypotheses (pairs_at refs)) c.as_slice.ensures.value)
     (pairs_at c.in-Some.next.items) (ap (option_map (λ v. pairs_at v.items)) c.in-Some.is)
     (record {
       made = option_map (λ x. tt {0}) c.in_ok-rest-in-Some.rest.made;
@@ -85,7 +97,7 @@ returns-clause-tried g t c =
     let parts = c.args.parts.now in
     let hypotheses = c.args.hypotheses.now in
     let is = c.in_ok-open.ensures ∙ ap (λ ns. filter (is_inside ns) pairs)
-    (c.as_slice.ensures.value ∙ c.in_ok-names.ensures.names ∙
+    (c.as_slice-names.ensures.value ∙ c.in_ok-components.ensures.names ∙
     ap (λ k. names_of k pairs) c.len.ensures) in
     let k = c.args.left - 1 in
     let some = c.if-left-eq0.false in
@@ -96,5 +108,5 @@ returns-clause-tried g t c =
     k c.args.left one_less (option_map (λ v. pairs_at v.items) c.in_ok-tried.tried.made)
     c.in_ok-tried.tried.noted
     (c.in_ok-tried.ensures.tried ∙
-    ap (λ refs. polynomials parts hypotheses (pairs_at refs)) c.as_slice-2.ensures.value)
+    ap (λ refs. polynomials parts hypotheses (pairs_at refs)) c.as_slice.ensures.value)
     (ap (option_map (λ v. pairs_at v.items)) c.in-None.is)

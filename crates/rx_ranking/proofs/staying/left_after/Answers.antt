@@ -8,7 +8,6 @@ use Rattle.rx_pairs.specs.Graph.{edges_of}
 use Rattle.rx_pairs.specs.declared.pair.Pair.{Pair}
 use denote.Ref.{Bor}
 use Rattle.rx_rank.specs.Answers.{pairs_at}
-use Rattle.rx_rank.specs.Components.{names_of}
 use Rattle.rx_rank.specs.Ranking.{tried_in}
 use Rattle.rx_ranking.proofs.StayingLaws.{left_failed, left_next}
 use Rattle.rx_ranking.proofs.staying.left_after.Goals as goal
@@ -26,8 +25,7 @@ returns-in-None-clause-tried g c =
       | then-noted w ↦ either_first noted more c.if-noted.noted w.if-noted.true w.noted-is
       | else-noted w ↦ either_second noted more c.if-noted.noted w.if-noted.false w.noted-is
     ] in
-    let names = c.as_slice-names.ensures.value ∙ c.in_ok-components.ensures.names ∙
-    ap (λ k. names_of k pairs) c.len-symbols.ensures in
+    let names = c.requires.names in
     let size = c.len-symbols.ensures in
     let inner = c.loop-name-test.true in
     left_failed parts hypotheses pairs name noted (pairs_at c.loop-name.left.items)
@@ -48,8 +46,7 @@ loop-name-preserved g c =
       | then-noted w ↦ either_first noted more c.if-noted.noted w.if-noted.true w.noted-is
       | else-noted w ↦ either_second noted more c.if-noted.noted w.if-noted.false w.noted-is
     ] in
-    let names = c.as_slice-names.ensures.value ∙ c.in_ok-components.ensures.names ∙
-    ap (λ k. names_of k pairs) c.len-symbols.ensures in
+    let names = c.requires.names in
     let size = c.len-symbols.ensures in
     let inner = c.loop-name-test.true in
     let over = subst (λ o. IfSome o (λ v. (n : ℕ) → IsOver n (edges_of pairs) →
