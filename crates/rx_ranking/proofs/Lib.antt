@@ -4,6 +4,7 @@ pub mod ClosingLaws
 pub mod ComponentTries
 pub mod DecidingLaws
 pub mod FallLaws
+pub mod FilteredPairs
 pub mod Finished
 pub mod FitsLaws
 pub mod Grouping

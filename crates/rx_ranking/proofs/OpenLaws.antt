@@ -1,6 +1,6 @@
 -- The graph of open pairs, and the names of its components.
-use Rattle.std.proofs.Common.{◌≡◌, ◌∙◌, ap, sym, subst, ℕ, ◌<◌, Vec, List, get_or, length}
-use Rattle.std.proofs.lemmas.List.{get_or-map, length-map}
+use Rattle.std.proofs.Common.{◌≡◌, ◌∙◌, sym, subst, ℕ, Vec, List, length}
+use Rattle.std.proofs.lemmas.List.{length-map}
 use Rattle.std.specs.declared.alloc.Global.{Global}
 use Rattle.rx_graph.proofs.GraphLaws.{lead_below}
 use Rattle.rx_graph.proofs.LabelLaws.{labels_computed}
