@@ -12,45 +12,50 @@ fn joined(alloc: Global, op: BinOp, number: i64) -> Option<Expr> {
     Some(Expr::Binary(op, left, right))
 }
 
-// Code with one point of one variable, and the point.
-fn begun(alloc: Global) -> Option<(Code, Point)> {
-    let mut code = Code::new(alloc);
-    let point = code.open(1, false).ok()?;
-    Some((code, point))
-}
-
 // The value of v0 / 2 is the variable v1 at a point that is one wider.
-fn quotient(alloc: Global) -> Option<bool> {
-    let (mut code, point) = begun(alloc)?;
-    let (after, of) = value(alloc, &mut code, &joined(alloc, BinOp::Div, 2)?, point).ok()?;
+fn quotient(alloc: Global, code: &mut Code, point: Point) -> Option<bool> {
+    let half = joined(alloc, BinOp::Div, 2)?;
+    let (after, of) = value(alloc, code, &half, point).ok()?;
     Some(after.symbol == 1 && after.width == 2 && of.as_variable() == Some(1))
 }
 
 // The test v0 < 2 is one deed.
-fn comparison(alloc: Global) -> Option<bool> {
-    let (mut code, point) = begun(alloc)?;
+fn comparison(alloc: Global, code: &mut Code, point: Point) -> Option<bool> {
     let less = joined(alloc, BinOp::Lt, 2)?;
-    condition(alloc, &mut code, &less, point, point, point).ok()?;
+    condition(alloc, code, &less, point, point, point).ok()?;
     Some(code.opened.len() == 1 && code.deeds.len() == 1)
 }
 
-/// Whether the case is as it is to be.
-pub fn holds(alloc: Global, name: &str) -> Option<bool> {
-    let (mut code, point) = begun(alloc)?;
+fn acted(code: &mut Code, point: Point) -> Option<bool> {
+    code.act(point, Action::Go(point)).ok()?;
+    Some(code.deeds.len() == 1)
+}
+
+fn marked(code: &mut Code) -> Option<bool> {
+    code.mark_head(0).ok()?;
+    code.mark_entry(0, 0).ok()?;
+    Some(code.heads.len() == 1 && code.entries.len() == 1)
+}
+
+fn wider(code: &mut Code) -> Option<bool> {
+    let point = code.open_wider(1).ok()?;
+    Some(point.width == 2)
+}
+
+fn holds_of(alloc: Global, name: &str, code: &mut Code, point: Point) -> Option<bool> {
     match name {
         "opened" => Some(point.symbol == 0 && code.opened.len() == 1),
-        "wider" => Some(code.open_wider(1).ok()?.width == 2),
-        "acted" => {
-            code.act(point, Action::Go(point)).ok()?;
-            Some(code.deeds.len() == 1)
-        }
-        "marked" => {
-            code.mark_head(0).ok()?;
-            code.mark_entry(0, 0).ok()?;
-            Some(code.heads.len() == 1 && code.entries.len() == 1)
-        }
-        "value" => quotient(alloc),
-        "condition" => comparison(alloc),
-        _ => None,
+        "wider" => wider(code),
+        "acted" => acted(code, point),
+        "marked" => marked(code),
+        "value" => quotient(alloc, code, point),
+        _ => comparison(alloc, code, point),
     }
+}
+
+/// Whether the case is as it is to be, in code with one point of one variable.
+pub fn holds(alloc: Global, name: &str) -> Option<bool> {
+    let mut code = Code::new(alloc);
+    let point = code.open(1, false).ok()?;
+    holds_of(alloc, name, &mut code, point)
 }

@@ -1,8 +1,8 @@
 //! The code of a function of one parameter that returns it, and its rules.
-use crate::example::nothing_known;
 use c_ast::{Expr, Function, Stmt};
 use rx_code::Code;
 use rx_plain::Items;
+use rx_row::Constraint;
 use rx_stmts::function;
 use rx_term::Sym;
 use rx_translate::{entry_of, goal_of, parts_of};
@@ -38,13 +38,15 @@ fn opened(alloc: Global) -> Option<bool> {
 
 // One rule of the entry, and one of the end.
 fn ruled(alloc: Global) -> Option<bool> {
-    let parts = parts_of(alloc, &compiled(alloc)?).ok()?;
+    let code = compiled(alloc)?;
+    let parts = parts_of(alloc, &code).ok()?;
     Some(parts.symbols.len() == 2 && parts.rules.len() == 2)
 }
 
 // The entry against itself, on one variable.
 fn stated(alloc: Global) -> Option<bool> {
-    let goal = goal_of(alloc, Sym(0), Sym(0), 1, nothing_known(alloc)).ok()?;
+    let rows = Constraint::from_rows(Vec::new(alloc));
+    let goal = goal_of(alloc, Sym(0), Sym(0), 1, rows).ok()?;
     Some(goal.left.is_same(&goal.right))
 }
 

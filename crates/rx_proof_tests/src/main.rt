@@ -1,78 +1,92 @@
 //! One happy path, and a refusal or two, of the calls that compile trees, refute rows, apply steps,
-//! and check covers and ranks, with ample memory. It prints each case that differs, and how many
-//! hold.
+//! and check covers and ranks, with ample memory.
+//!
+//! Each line of the standard input is a call, what it is given, and what it is to answer, with a
+//! semicolon and a space between them. What is given has the notation of a log; a list is its number
+//! of elements and then each. A line that begins with `#` is a heading. The program prints each line
+//! that differs or can't be read, and then the number of lines that hold.
 #![tactic(auto)]
 
+mod answer;
 mod code_cases;
-mod cover_cases;
+mod cover_calls;
 mod example;
 mod function_cases;
-mod pair_cases;
+mod pair_calls;
 mod programs;
-mod solve_cases;
+mod rank_calls;
+mod reading;
+mod solve_calls;
 mod state_cases;
 mod translation_cases;
 
+use answer::{Answer, is_meant, told};
 use std::alloc::Global;
 use std::io;
 
-/// The cases by name, the crate's word before the dot.
-const CASES: [&str; 30] = [
-    "cover.all",
-    "cover.without_the_last",
-    "cover.one_more",
-    "cover.one",
-    "cover.copied",
-    "pair.lawful",
-    "pair.rank_missing",
-    "pair.lower",
-    "pair.certificate_missing",
-    "pair.made",
-    "pair.all_made",
-    "pair.descends",
-    "pair.stays",
-    "pair.column_zero",
-    "code.opened",
-    "code.wider",
-    "code.acted",
-    "code.marked",
-    "code.value",
-    "code.condition",
-    "function.opened",
-    "function.ruled",
-    "function.stated",
-    "solve.contradictory",
-    "solve.possible",
-    "solve.shown",
-    "state.finished",
-    "state.refused",
-    "translation.two",
-    "translation.alone",
-];
-
-// Whether the case is as it is to be; none where there is no memory.
-fn holds(alloc: Global, case: &str) -> Option<bool> {
-    let (of, name) = case.split_once('.')?;
+// Whether the case that is given nothing is as it is to be; none where there is no memory.
+fn case(alloc: Global, of: &str, name: &str) -> Option<bool> {
     match of {
-        "cover" => cover_cases::holds(alloc, name),
-        "pair" => pair_cases::holds(alloc, name),
         "code" => code_cases::holds(alloc, name),
         "function" => function_cases::holds(alloc, name),
-        "solve" => solve_cases::holds(alloc, name),
         "state" => state_cases::holds(alloc, name),
-        "translation" => translation_cases::holds(alloc, name),
-        _ => None,
+        _ => translation_cases::holds(alloc, name),
+    }
+}
+
+// What the call answers; none where the line can't be read, or there is no memory.
+fn answer_to(alloc: Global, call: &str, first: &str, second: &str) -> Option<Answer> {
+    let (of, name) = call.split_once('.')?;
+    match of {
+        "cover" => cover_calls::answer_to(alloc, name, first, second),
+        "rank" => rank_calls::answer_to(alloc, name, first, second),
+        "pair" => pair_calls::answer_to(alloc, name, first),
+        "solve" => solve_calls::answer_to(alloc, name, first, second),
+        _ => told(case(alloc, of, name)?),
+    }
+}
+
+// The text before the first semicolon, and what comes after it.
+fn parted<'a>(text: &'a str) -> (&'a str, &'a str) {
+    text.split_once("; ").unwrap_or((text, ""))
+}
+
+// Whether the line's call answers what it is to; none where that isn't known.
+fn holds(alloc: Global, line: &str) -> Option<bool> {
+    let (whole, wanted) = line.rsplit_once("; ")?;
+    let (call, given) = parted(whole);
+    let (first, second) = parted(given);
+    let answer = answer_to(alloc, call, first, second)?;
+    Some(is_meant(&answer, wanted))
+}
+
+// How a line fares.
+enum Verdict {
+    Heading,
+    Holds,
+    Fails(&'static str),
+}
+
+fn judged(alloc: Global, line: &str) -> Verdict {
+    if line.starts_with('#') {
+        return Verdict::Heading;
+    }
+    match holds(alloc, line) {
+        Some(true) => Verdict::Holds,
+        Some(false) => Verdict::Fails("differs"),
+        None => Verdict::Fails("unread"),
     }
 }
 
 fn main(rt: HostRuntime) -> io::Result<()> {
     let mut count: u32 = 0;
-    for case in CASES {
-        match holds(rt.alloc(), case) {
-            Some(true) => count = count.saturating_add(1),
-            Some(false) => println!(rt; "differs: {case}")?,
-            None => println!(rt; "unread: {case}")?,
+    for line in rt.lines(rt.alloc()) {
+        let line = line?;
+        match judged(rt.alloc(), line.as_str()) {
+            Verdict::Heading => {}
+            Verdict::Holds => count = count.saturating_add(1),
+            Verdict::Fails(how) => println!(rt; "{how}: {line}")?,
         }
     }
-    println!(rt; "{count} cases hold")
+    println!(rt; "{count} lines hold")
 }

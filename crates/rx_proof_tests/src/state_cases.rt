@@ -1,19 +1,14 @@
 //! A proof state with the goal s0(v0) = ret(0), where v0 = 0.
-use crate::example::{call, known, rules, variable};
+use crate::example::rules;
+use crate::reading::equation;
 use rx_form::{Delete, Side, Step};
 use rx_plain::Items;
-use rx_poly::Poly;
-use rx_row::Row;
 use rx_steps::{State, apply};
-use rx_term::{Equation, Term};
+use rx_term::RuleSet;
 use std::alloc::Global;
 
 fn started(alloc: Global) -> Option<State> {
-    let goal = Equation {
-        left: call(alloc, variable(alloc, 0)?)?,
-        right: Term::Return(Poly::constant(alloc, 0).ok()?),
-        rows: known(alloc, Row::Eq(variable(alloc, 0)?))?,
-    };
+    let goal = equation(alloc, "s0(1*v0) ret(0) 1 eq:1*v0")?;
     State::start(alloc, goal).ok()
 }
 
@@ -25,28 +20,34 @@ fn simplify(alloc: Global, rule: u32) -> Step {
     }
 }
 
+// Whether the step applies.
+fn applies(alloc: Global, state: &mut State, set: &RuleSet, step: &Step) -> bool {
+    apply(alloc, state, set, step).is_ok()
+}
+
 // The first rule, and then both sides are equal.
-fn finished(alloc: Global) -> Option<bool> {
-    let set = rules(alloc)?;
-    let mut state = started(alloc)?;
-    apply(alloc, &mut state, &set, &simplify(alloc, 0)).ok()?;
-    let step = Step::Delete(Delete::Equal(Items::new(alloc)));
-    apply(alloc, &mut state, &set, &step).ok()?;
-    Some(state.goals() == 0)
+fn finished(alloc: Global, state: &mut State, set: &RuleSet) -> bool {
+    let equal = Step::Delete(Delete::Equal(Items::new(alloc)));
+    applies(alloc, state, set, &simplify(alloc, 0))
+        && applies(alloc, state, set, &equal)
+        && state.goals() == 0
 }
 
 // A rule that isn't there leaves the goal.
-fn refused(alloc: Global) -> Option<bool> {
-    let mut state = started(alloc)?;
-    let answer = apply(alloc, &mut state, &rules(alloc)?, &simplify(alloc, 9));
-    Some(answer.is_err() && state.goals() == 1)
+fn refused(alloc: Global, state: &mut State, set: &RuleSet) -> bool {
+    !applies(alloc, state, set, &simplify(alloc, 9)) && state.goals() == 1
+}
+
+fn holds_of(alloc: Global, name: &str, state: &mut State, set: &RuleSet) -> bool {
+    match name {
+        "finished" => finished(alloc, state, set),
+        _ => refused(alloc, state, set),
+    }
 }
 
 /// Whether the case is as it is to be.
 pub fn holds(alloc: Global, name: &str) -> Option<bool> {
-    match name {
-        "finished" => finished(alloc),
-        "refused" => refused(alloc),
-        _ => None,
-    }
+    let set = rules(alloc)?;
+    let mut state = started(alloc)?;
+    Some(holds_of(alloc, name, &mut state, &set))
 }

@@ -1,11 +1,10 @@
-//! What a call answers, whatever its type, and whether that is what a line wants.
-use crate::reading::lists::rows_and_rules;
-use crate::reading::values::{poly, row, rows, term};
-use crate::reading::words::{integer, numbers};
-use rx_plain::Items;
+//! What a call answers, and whether that is what a line wants.
+use crate::reading::words::integer;
+use rx_plain::NoMemory;
 use rx_poly::{Poly, PolyEnd};
-use rx_row::{Constraint, Row};
-use rx_term::{Rule, Term};
+use rx_row::Row;
+use rx_text::{push_integer, push_natural, push_poly, push_row, push_word};
+use rx_words::{push_count, push_rows};
 use std::alloc::Global;
 use std::cmp::Ordering;
 
@@ -16,46 +15,16 @@ pub enum Answer {
     Word(&'static str),
     /// A number.
     Number(i128),
-    /// Numbers in order.
-    Numbers(Vec<i128>),
-    /// A polynomial.
-    Poly(Poly),
-    /// A row.
-    Row(Row),
-    /// Rows in order.
-    Rows(Constraint),
-    /// A term.
-    Term(Term),
-    /// Rows that a step asks, and its goals and hypotheses in order.
-    Formed(Constraint, Items<Rule>),
-}
-
-// Whether the lists have the same rules.
-fn are_same(found: &[Rule], meant: &[Rule]) -> bool {
-    found.len() == meant.len()
-        && found
-            .iter()
-            .zip(meant)
-            .all(|(one, other)| one.is_same(other))
-}
-
-// Whether the text has these rows, and then these rules.
-fn is_formed(alloc: Global, rows: &Constraint, made: &Items<Rule>, text: &str) -> Option<bool> {
-    let (asked, meant) = rows_and_rules(alloc, text)?;
-    Some(asked.is_same(rows) && are_same(made.as_slice(), meant.as_slice()))
+    /// The text of what there is.
+    Text(Vec<u8>),
 }
 
 /// Whether the text says this answer.
-pub fn is_meant(alloc: Global, answer: &Answer, text: &str) -> bool {
+pub fn is_meant(answer: &Answer, text: &str) -> bool {
     match answer {
         Answer::Word(word) => *word == text,
         Answer::Number(number) => integer(text) == Some(*number),
-        Answer::Numbers(found) => numbers(alloc, text).is_some_and(|meant| meant == *found),
-        Answer::Poly(found) => poly(alloc, text).is_some_and(|meant| meant.is_same(found)),
-        Answer::Row(found) => row(alloc, text).is_some_and(|meant| meant.is_same(found)),
-        Answer::Rows(found) => rows(alloc, text).is_some_and(|meant| meant.is_same(found)),
-        Answer::Formed(rows, made) => is_formed(alloc, rows, made, text) == Some(true),
-        Answer::Term(found) => term(alloc, text).is_some_and(|meant| meant.is_same(found)),
+        Answer::Text(found) => found.as_slice() == text.as_bytes(),
     }
 }
 
@@ -73,6 +42,11 @@ pub fn ordered(order: Ordering) -> Option<Answer> {
     }))
 }
 
+/// The order of two values, where both are there.
+pub fn compared<T: Ord>(first: Option<&T>, second: Option<&T>) -> Option<Answer> {
+    ordered(first?.cmp(second?))
+}
+
 /// Whether two values are equal, where both could be read.
 pub fn equal<T: PartialEq + Drop>(first: Option<T>, second: Option<T>) -> Option<Answer> {
     let first = first?;
@@ -85,19 +59,19 @@ pub fn nothing() -> Option<Answer> {
     Some(Answer::Word("none"))
 }
 
+/// The number, if there is one.
+pub fn perhaps(number: Option<i128>) -> Option<Answer> {
+    match number {
+        Some(number) => Some(Answer::Number(number)),
+        None => nothing(),
+    }
+}
+
 /// Why there is no answer; out of memory is none that a line could want.
 pub fn ended(end: PolyEnd) -> Option<Answer> {
     match end {
         PolyEnd::Large => Some(Answer::Word("large")),
         PolyEnd::NoMemory => None,
-    }
-}
-
-/// A polynomial, or why there is none.
-pub fn formed(answer: Result<Poly, PolyEnd>) -> Option<Answer> {
-    match answer {
-        Ok(poly) => Some(Answer::Poly(poly)),
-        Err(end) => ended(end),
     }
 }
 
@@ -107,4 +81,65 @@ pub fn found(answer: Result<bool, PolyEnd>) -> Option<Answer> {
         Ok(answer) => told(answer),
         Err(end) => ended(end),
     }
+}
+
+/// The polynomial.
+pub fn written(alloc: Global, poly: &Poly) -> Option<Answer> {
+    let mut out = Vec::new(alloc);
+    push_poly(&mut out, poly).ok()?;
+    Some(Answer::Text(out))
+}
+
+/// The polynomial, or why there is none.
+pub fn formed(alloc: Global, answer: Result<Poly, PolyEnd>) -> Option<Answer> {
+    match answer {
+        Ok(poly) => written(alloc, &poly),
+        Err(end) => ended(end),
+    }
+}
+
+/// The row.
+pub fn written_row(alloc: Global, row: &Row) -> Option<Answer> {
+    let mut out = Vec::new(alloc);
+    push_row(&mut out, row).ok()?;
+    Some(Answer::Text(out))
+}
+
+/// The rows in order.
+pub fn written_rows(alloc: Global, rows: &[Row]) -> Option<Answer> {
+    let mut out = Vec::new(alloc);
+    push_rows(rows, &mut out).ok()?;
+    Some(Answer::Text(out))
+}
+
+fn push_integers(out: &mut Vec<u8>, numbers: &[i128]) -> Result<(), NoMemory> {
+    push_count(out, numbers.len())?;
+    for number in numbers {
+        push_word(out, b" ")?;
+        push_integer(out, number)?;
+    }
+    Ok(())
+}
+
+/// Numbers in order.
+pub fn integers(alloc: Global, numbers: &[i128]) -> Option<Answer> {
+    let mut out = Vec::new(alloc);
+    push_integers(&mut out, numbers).ok()?;
+    Some(Answer::Text(out))
+}
+
+fn push_naturals(out: &mut Vec<u8>, numbers: &[u32]) -> Result<(), NoMemory> {
+    push_count(out, numbers.len())?;
+    for number in numbers {
+        push_word(out, b" ")?;
+        push_natural(out, *number)?;
+    }
+    Ok(())
+}
+
+/// Numbers in order, none negative.
+pub fn naturals(alloc: Global, numbers: &[u32]) -> Option<Answer> {
+    let mut out = Vec::new(alloc);
+    push_naturals(&mut out, numbers).ok()?;
+    Some(Answer::Text(out))
 }

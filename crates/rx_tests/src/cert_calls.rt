@@ -1,32 +1,39 @@
 //! Certificates, rows that are plain or shown, and lists of conditions.
 use crate::answer::{Answer, ended, found, told};
 use crate::reading::values::{cert, certs, row, rows};
-use rx_cert::{ConditionsAnswer, PolyEnd, check_conditions, is_plain, shows, shows_row};
+use rx_cert::{Cert, ConditionsAnswer, PolyEnd, check_conditions, is_plain, shows, shows_row};
+use rx_row::{Constraint, Row};
 use std::alloc::Global;
 
-fn shown(alloc: Global, known: &str, by: &str) -> Option<Answer> {
-    let known = rows(alloc, known)?;
-    let by = cert(alloc, by)?;
-    found(shows(alloc, &known, &by))
+fn is_copied(alloc: Global, cert: &Cert) -> Option<Answer> {
+    let copy = cert.try_clone(alloc).ok()?;
+    told(copy == *cert)
 }
 
 // Whether a copy of the certificate is the same.
 fn copied(alloc: Global, given: &str) -> Option<Answer> {
     let cert = cert(alloc, given)?;
-    told(cert.try_clone(alloc).ok()? == cert)
+    is_copied(alloc, &cert)
 }
 
-fn shown_row(alloc: Global, known: &str, shown: &str, by: &str) -> Option<Answer> {
-    let known = rows(alloc, known)?;
-    let shown = row(alloc, shown)?;
+fn shown(alloc: Global, known: &Constraint, by: &str) -> Option<Answer> {
     let by = cert(alloc, by)?;
-    found(shows_row(alloc, &known, &shown, &by))
+    found(shows(alloc, known, &by))
 }
 
-fn plain(alloc: Global, known: &str, shown: &str) -> Option<Answer> {
-    let known = rows(alloc, known)?;
+fn row_shown(alloc: Global, known: &Constraint, row: &Row, by: &str) -> Option<Answer> {
+    let by = cert(alloc, by)?;
+    found(shows_row(alloc, known, row, &by))
+}
+
+fn plain(alloc: Global, known: &Constraint, shown: &str) -> Option<Answer> {
     let shown = row(alloc, shown)?;
-    told(is_plain(&known, &shown))
+    told(is_plain(known, &shown))
+}
+
+fn shown_by(alloc: Global, known: &Constraint, shown: &str, by: &str) -> Option<Answer> {
+    let shown = row(alloc, shown)?;
+    row_shown(alloc, known, &shown, by)
 }
 
 // Of a row that isn't shown the answer is its number.
@@ -39,11 +46,30 @@ fn concluded(answer: Result<ConditionsAnswer, PolyEnd>) -> Option<Answer> {
     }
 }
 
-fn conditions(alloc: Global, known: &str, shown: &str, by: &str) -> Option<Answer> {
-    let known = rows(alloc, known)?;
-    let shown = rows(alloc, shown)?;
+fn conditions_by(alloc: Global, known: &Constraint, shown: &[Row], by: &str) -> Option<Answer> {
     let by = certs(alloc, by)?;
-    concluded(check_conditions(alloc, &known, shown.rows(), by.as_slice()))
+    concluded(check_conditions(alloc, known, shown, by.as_slice()))
+}
+
+fn conditions(alloc: Global, known: &Constraint, shown: &str, by: &str) -> Option<Answer> {
+    let shown = rows(alloc, shown)?;
+    conditions_by(alloc, known, shown.rows(), by)
+}
+
+// What is shown under rows.
+fn under(
+    alloc: Global,
+    name: &str,
+    known: &Constraint,
+    second: &str,
+    third: &str,
+) -> Option<Answer> {
+    match name {
+        "shows" => shown(alloc, known, second),
+        "shows_row" => shown_by(alloc, known, second, third),
+        "is_plain" => plain(alloc, known, second),
+        _ => conditions(alloc, known, second, third),
+    }
 }
 
 /// What the call answers.
@@ -54,12 +80,9 @@ pub fn answer_to(
     second: &str,
     third: &str,
 ) -> Option<Answer> {
-    match name {
-        "shows" => shown(alloc, first, second),
-        "clone" => copied(alloc, first),
-        "shows_row" => shown_row(alloc, first, second, third),
-        "is_plain" => plain(alloc, first, second),
-        "conditions" => conditions(alloc, first, second, third),
-        _ => None,
+    if name == "clone" {
+        return copied(alloc, first);
     }
+    let known = rows(alloc, first)?;
+    under(alloc, name, &known, second, third)
 }

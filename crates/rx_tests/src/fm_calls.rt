@@ -1,5 +1,5 @@
 //! The elimination of monomials, and contents.
-use crate::answer::{Answer, nothing};
+use crate::answer::{Answer, integers, nothing, perhaps};
 use crate::reading::lists::polys;
 use crate::reading::values::poly;
 use crate::reading::words::count;
@@ -9,9 +9,15 @@ use std::alloc::Global;
 // The content of a polynomial.
 fn content_of(alloc: Global, given: &str) -> Option<Answer> {
     let poly = poly(alloc, given)?;
-    match content(&poly) {
-        Some(number) => Some(Answer::Number(number)),
-        None => nothing(),
+    perhaps(content(&poly))
+}
+
+fn found(alloc: Global, answer: Result<Option<Vec<i128>>, FmEnd>) -> Option<Answer> {
+    match answer {
+        Ok(Some(found)) => integers(alloc, found.as_slice()),
+        Ok(None) => nothing(),
+        Err(FmEnd::Large) => Some(Answer::Word("large")),
+        Err(FmEnd::NoMemory) => None,
     }
 }
 
@@ -19,12 +25,7 @@ fn content_of(alloc: Global, given: &str) -> Option<Answer> {
 fn multipliers(alloc: Global, limit: &str, given: &str) -> Option<Answer> {
     let limit = count(limit)?;
     let given = polys(alloc, given)?;
-    match farkas(alloc, given.as_slice(), limit) {
-        Ok(Some(found)) => Some(Answer::Numbers(found)),
-        Ok(None) => nothing(),
-        Err(FmEnd::Large) => Some(Answer::Word("large")),
-        Err(FmEnd::NoMemory) => None,
-    }
+    found(alloc, farkas(alloc, given.as_slice(), limit))
 }
 
 /// What the call answers.

@@ -2,6 +2,5 @@
 //! value, or where there is no memory.
 pub mod integer_terms;
 pub mod lists;
-pub mod steps;
 pub mod values;
 pub mod words;

@@ -3,12 +3,11 @@ use rx_text::read_integer;
 use std::alloc::Global;
 
 // What comes after a brace: how often, the part, and what follows it.
-fn add_repeated(made: &mut String, piece: &str) -> Option<()> {
+fn add_repeated(alloc: Global, made: &mut String, piece: &str) -> Option<()> {
     let (repeated, rest) = piece.split_once('}')?;
     let (times, part) = repeated.split_once(' ')?;
-    for _ in 0..count(times)? {
-        made.push_str(part).ok()?;
-    }
+    let written = part.repeat(alloc, count(times)? as usize).ok()?;
+    made.push_str(written.as_str()).ok()?;
     made.push_str(rest).ok()
 }
 
@@ -17,7 +16,7 @@ pub fn written_out(alloc: Global, text: &str) -> Option<String> {
     let mut pieces = text.split('{');
     let mut made = String::from_str(alloc, pieces.next()?).ok()?;
     for piece in pieces {
-        add_repeated(&mut made, piece)?;
+        add_repeated(alloc, &mut made, piece)?;
     }
     Some(made)
 }
@@ -37,12 +36,14 @@ pub fn count(text: &str) -> Option<u32> {
     text.parse::<u32>().ok()
 }
 
-/// A list of numbers.
+/// The numbers that stand after the first word, which says how many there are.
 pub fn numbers(alloc: Global, text: &str) -> Option<Vec<i128>> {
-    let mut words = text.split(' ');
     let mut made = Vec::new(alloc);
-    for _ in 0..count(words.next()?)? {
-        made.push(integer(words.next()?)?).ok()?;
+    let Some((_, words)) = text.split_once(' ') else {
+        return Some(made);
+    };
+    for word in words.split(' ') {
+        made.push(integer(word)?).ok()?;
     }
     Some(made)
 }

@@ -1,6 +1,6 @@
 //! Steps as in a log, as `simplify l 3`, but without certificates.
 use crate::reading::lists::{equation_at, last_substitution};
-use crate::reading::values::{equation, row, substitution};
+use crate::reading::values::{equation, high_term, is_high, row, substitution};
 use crate::reading::words::count;
 use rx_cert::Cert;
 use rx_form::{Delete, Side, Step};
@@ -59,9 +59,20 @@ fn generalise(alloc: Global, words: &str) -> Option<Step> {
     })
 }
 
-fn postulate(alloc: Global, words: &str) -> Option<Step> {
-    let Equation { left, right, rows } = equation(alloc, words)?;
+// A postulated goal, on whose right side a variable may be written as another.
+fn postulated(alloc: Global, goal: Equation, high: bool) -> Option<Step> {
+    let Equation { left, right, rows } = goal;
+    let right = if high {
+        high_term(alloc, &right)?
+    } else {
+        right
+    };
     Some(Step::Postulate { left, right, rows })
+}
+
+fn postulate(alloc: Global, words: &str) -> Option<Step> {
+    let goal = equation(alloc, words)?;
+    postulated(alloc, goal, is_high(words))
 }
 
 fn split(alloc: Global, words: &str) -> Option<Step> {

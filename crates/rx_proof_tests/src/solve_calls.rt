@@ -1,0 +1,24 @@
+//! Whether rows are refuted, and whether a row is shown under rows.
+use crate::answer::{Answer, told};
+use crate::reading::{row, rows};
+use rx_row::Constraint;
+use rx_solve::{entails, refutes};
+use std::alloc::Global;
+
+fn refuted(alloc: Global, rows: &Constraint) -> Option<Answer> {
+    told(refutes(alloc, rows).ok()?.is_some())
+}
+
+fn shown(alloc: Global, rows: &Constraint, second: &str) -> Option<Answer> {
+    let row = row(alloc, second)?;
+    told(entails(alloc, rows, &row).ok()?.is_some())
+}
+
+/// What the call answers.
+pub fn answer_to(alloc: Global, name: &str, first: &str, second: &str) -> Option<Answer> {
+    let rows = rows(alloc, first)?;
+    match name {
+        "refutes" => refuted(alloc, &rows),
+        _ => shown(alloc, &rows, second),
+    }
+}
