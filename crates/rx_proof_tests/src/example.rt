@@ -5,8 +5,8 @@ use rx_poly::Poly;
 use rx_term::{RuleParts, RuleSet, SymInfo};
 use std::alloc::Global;
 
-/// The rules, each after a space.
-const RULES: &str = " s0(1*v0) ret(0) 1 eq:1*v0 \
+/// The rules.
+const RULES: &str = "4 s0(1*v0) ret(0) 1 eq:1*v0 \
 s0(1*v0) s1(1*v0;s0(1*v0+-1)) 1 ne:1*v0 \
 s1(1*v0;ret(1*v1)) ret(1*v0+1*v1) 0 \
 s1(1*v0;fail(1)) fail(1) 0";

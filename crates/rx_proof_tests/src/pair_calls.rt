@@ -7,6 +7,7 @@ use rx_plain::NoMemory;
 use rx_poly::Poly;
 use rx_term::{Rule, RuleSet};
 use rx_text::{push_natural, push_poly, push_word};
+use rx_words::push_count;
 use std::alloc::Global;
 
 fn push_args(out: &mut Vec<u8>, args: &[Poly]) -> Result<(), NoMemory> {
@@ -17,8 +18,9 @@ fn push_args(out: &mut Vec<u8>, args: &[Poly]) -> Result<(), NoMemory> {
     Ok(())
 }
 
-// The right sides of the pairs: the symbol of each, and its arguments.
+// How many pairs there are, and the right side of each: the symbol, and its arguments.
 fn push_pairs(out: &mut Vec<u8>, pairs: &[Pair]) -> Result<(), NoMemory> {
+    push_count(out, pairs.len())?;
     for pair in pairs {
         push_word(out, b" s")?;
         push_natural(out, pair.right.0)?;

@@ -50,20 +50,22 @@ fn rule_at(alloc: Global, text: &[u8], at: usize) -> Option<(Rule, usize)> {
     Some((Rule { left, right, rows }, end))
 }
 
-/// The first rules of the text, each after a space, as many as that.
-pub fn first_rules(alloc: Global, text: &str, count: u32) -> Option<Items<Rule>> {
+// As many rules as are counted, from the place on.
+fn counted_rules(alloc: Global, text: &[u8], from: usize, count: u32) -> Option<Items<Rule>> {
     let mut made = Items::new(alloc);
-    let mut at = 0;
+    let mut at = from;
     for _ in 0..count {
-        let (rule, end) = rule_at(
-            alloc,
-            text.as_bytes(),
-            skip_word(text.as_bytes(), at, b" ")?,
-        )?;
+        let (rule, end) = rule_at(alloc, text, skip_word(text, at, b" ")?)?;
         made.push(rule).ok()?;
         at = end;
     }
     Some(made)
+}
+
+/// The first rules of a list, as many as that.
+pub fn first_rules(alloc: Global, text: &str, count: u32) -> Option<Items<Rule>> {
+    let (_, first) = read_number(text.as_bytes(), 0)?;
+    counted_rules(alloc, text.as_bytes(), first, count)
 }
 
 fn tree_at(alloc: Global, text: &[u8], at: usize) -> Option<(CoverTree, usize)> {
