@@ -1,6 +1,6 @@
-//! Calls of the front end and of whole runs, with the answers that are wanted. Each line of the
-//! standard input is a case: the word of a call, what it is given, and the answer, with ` | `
-//! between them. A line that begins with `#` is a heading.
+//! Calls of the front end, with the answers that are wanted. Each line of the standard input is a
+//! case: the word of a call, what it is given, and the answer, with ` | ` between them. A line that
+//! begins with `#` is a heading.
 //!
 //! In a text and in an answer `\n`, `\r` and `\t` are a line end, a carriage return and a tab, `\x`
 //! with two hexadecimal digits is any byte, and `\e` is no byte, for a text that is empty. The
@@ -11,14 +11,11 @@
 mod assigning;
 mod lexing;
 mod naming;
-mod outside;
 mod parsing;
 mod printing;
-mod running;
 mod scoping;
 mod texts;
 mod trees;
-mod verdicts;
 
 use std::alloc::Global;
 use std::io;
@@ -44,9 +41,6 @@ fn answer(alloc: Global, call: &str, given: &str) -> Option<String> {
         }
         "fault" => assigning::fault(alloc, given),
         "resolve" | "resolve pre" | "find" => scoping::answer(alloc, call, given),
-        "files" | "sink" => outside::answer(alloc, call, given),
-        "verdict" | "codes" => verdicts::answer(alloc, call, given),
-        "run" | "long run" | "whole" | "memory" => running::answer(alloc, call, given),
         _ => None,
     }
 }

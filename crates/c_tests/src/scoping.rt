@@ -36,12 +36,21 @@ fn resolved_pre(alloc: Global, condition: &Lexed, e: &Expr, read: &Parsed) -> Op
     Some(out)
 }
 
+// The precondition over the parameters of the first function of a text.
+fn resolved_over(alloc: Global, condition: &Lexed, e: &Expr, text: &str) -> Option<String> {
+    resolved_pre(alloc, condition, e, &parse_text(alloc, text)?)
+}
+
 // The precondition that is given before a program.
 fn condition(alloc: Global, given: &str) -> Option<String> {
     let (condition, text) = given.split_once(" | ")?;
     let condition = lex_text(alloc, condition)?;
-    let e = parse_pre(alloc, &condition.tokens).ok()?;
-    resolved_pre(alloc, &condition, &e, &parse_text(alloc, text)?)
+    resolved_over(
+        alloc,
+        &condition,
+        &parse_pre(alloc, &condition.tokens).ok()?,
+        text,
+    )
 }
 
 // The place of the function with the name that is given before a program.

@@ -20,16 +20,20 @@ fn copy(alloc: Global, read: &Parsed) -> Option<String> {
     Some(out)
 }
 
-// The copy of a precondition, where it equals the precondition.
-fn copy_pre(alloc: Global, given: &str) -> Option<String> {
-    let text = lex_text(alloc, given)?;
-    let e = parse_pre(alloc, &text.tokens).ok()?;
+// The copy of an expression, where it equals the expression.
+fn copy_expr(alloc: Global, e: &Expr) -> Option<String> {
     let copied = e.try_clone(alloc).ok()?;
     let mut out = String::new(alloc);
-    if copied == e {
+    if copied == *e {
         put_expr(&mut out, &copied);
     }
     Some(out)
+}
+
+// The copy of a precondition, where it equals the precondition.
+fn copy_pre(alloc: Global, given: &str) -> Option<String> {
+    let text = lex_text(alloc, given)?;
+    copy_expr(alloc, &parse_pre(alloc, &text.tokens).ok()?)
 }
 
 // The copy of a resolved program, where it equals the program.
@@ -44,26 +48,35 @@ fn copy_resolved(alloc: Global, read: &Parsed) -> Option<String> {
     Some(out)
 }
 
+// The copy of a statement, on the heap.
+fn boxed_copy(alloc: Global, statement: &Stmt) -> Option<Boxed<Stmt>> {
+    Boxed::new(alloc, statement.try_clone(alloc).ok()?).ok()
+}
+
 // The copy of the first statement of the first function, where it equals the statement.
 fn copy_statement(alloc: Global, read: &Parsed) -> Option<String> {
     let function = read.program.functions.as_slice().first()?;
     let statement = function.body.as_slice().first()?;
-    let copied = statement.try_clone(alloc).ok()?;
+    let copied = boxed_copy(alloc, statement)?;
     let mut out = String::new(alloc);
-    if copied == *statement {
-        put_stmt(&mut out, &copied);
+    if *copied.get() == *statement {
+        put_stmt(&mut out, copied.get());
     }
+    Some(out)
+}
+
+// Whether the program of a text is the same tree as this one.
+fn same_as(alloc: Global, left: &Parsed, right: &str) -> Option<String> {
+    let right = parse_text(alloc, right)?;
+    let mut out = String::new(alloc);
+    put_debug(&mut out, left.program == right.program);
     Some(out)
 }
 
 // Whether two programs are the same tree.
 fn same(alloc: Global, given: &str) -> Option<String> {
     let (left, right) = given.split_once(" | ")?;
-    let left = parse_text(alloc, left)?;
-    let right = parse_text(alloc, right)?;
-    let mut out = String::new(alloc);
-    put_debug(&mut out, left.program == right.program);
-    Some(out)
+    same_as(alloc, &parse_text(alloc, left)?, right)
 }
 
 // What the first function returns, where it is straight.
@@ -118,8 +131,8 @@ fn low(alloc: Global) -> Option<String> {
 
 // The height of `while (f()) return -(x + 2);`.
 fn high(alloc: Global) -> Option<String> {
-    let s = turns(alloc)?;
-    Some(number(alloc, stmt_height(&s)))
+    let s = Boxed::new(alloc, turns(alloc)?).ok()?;
+    Some(number(alloc, stmt_height(s.get())))
 }
 
 // What is said of a program as it was read.

@@ -2,8 +2,7 @@
 ghost use Rattle.std.specs.Prelude.{IfSome};
 ghost use Rattle.rx_cli.specs.Texts.{IsReportableVerdict};
 
-use crate::outside::put_bytes;
-use crate::printing::put_debug;
+use crate::texts::{put_bytes, put_debug};
 use c_lex::LexEnd;
 use c_scope::ScopeEnd;
 use rx_cli::{Status, Verdict, report};
@@ -78,8 +77,8 @@ fn line_of(alloc: Global, kind: &str, word: &str, number: u32) -> Option<String>
     }
 }
 
-// The exit statuses, in order.
-fn codes(alloc: Global) -> String {
+/// The exit statuses, in order.
+pub fn codes(alloc: Global) -> String {
     let mut out = String::new(alloc);
     for status in [
         Status::Equivalent,
@@ -96,12 +95,8 @@ fn codes(alloc: Global) -> String {
     out
 }
 
-/// `verdict` reports a verdict: its kind, its word and its number are given. `codes` are the exit
-/// statuses.
-pub fn answer(alloc: Global, call: &str, given: &str) -> Option<String> {
-    if call == "codes" {
-        return Some(codes(alloc));
-    }
+/// Reports a verdict: its kind, its word and its number are given.
+pub fn reported(alloc: Global, given: &str) -> Option<String> {
     let (kind, rest) = given.split_once(' ')?;
     let (word, number) = rest.split_once(' ')?;
     line_of(alloc, kind, word, number.parse().ok()?)

@@ -3,13 +3,15 @@ ghost use Rattle.std.specs.Prelude.{◌≡◌, [], IfSome};
 ghost use Rattle.rx_io.specs.MemoryFiles as held;
 ghost use Rattle.rx_io.specs.MemorySink as taken;
 
-use crate::outside::{calls_of, one_file, put_bytes};
-use crate::printing::{put, put_debug};
-use crate::texts::{bytes_of, source_of};
+use crate::files::one_file;
+use crate::texts::{bytes_of, calls_of, put, put_bytes, put_debug};
 use rx_cli::{Status, run, run_in_memory};
 use rx_io::{MemoryFiles, MemorySink};
 use std::alloc::Global;
 use std::str;
+
+// A text of spaces has no more than this.
+const MOST_SPACES: usize = 2_097_152;
 
 // The words of a command line.
 fn words_of(alloc: Global, line: &str) -> Option<Vec<String>> {
@@ -144,14 +146,24 @@ fn whole(alloc: Global, setup: &str, given: &str) -> Option<String> {
     ran(alloc, setup, &words, text)
 }
 
-/// `run` compares two functions of a text and shows the last line of the report, `long run` those
-/// of a long text; `whole` shows the whole report to a command line, with pieces and failing calls
-/// of the file and of the sink; `memory` is a run in which no call fails.
+// A text of as many spaces.
+fn spaces(alloc: Global, count: &str) -> Option<Vec<u8>> {
+    let count = count.parse().ok()?;
+    if count > MOST_SPACES {
+        return None;
+    }
+    vec![in alloc; b' '; count].ok()
+}
+
+/// `run` compares two functions of a text and shows the last line of the report, `spaces` those of
+/// a text of as many spaces; `whole` shows the whole report to a command line, with pieces and
+/// failing calls of the file and of the sink; `memory` is a run in which no call fails.
 pub fn answer(alloc: Global, call: &str, given: &str) -> Option<String> {
     let (first, rest) = given.split_once(" | ")?;
     match call {
         "whole" => whole(alloc, first, rest),
         "memory" => run_words(alloc, first, rest),
-        _ => run_names(alloc, first, source_of(alloc, call, rest)?),
+        "spaces" => run_names(alloc, first, spaces(alloc, rest)?),
+        _ => run_names(alloc, first, bytes_of(alloc, rest)?),
     }
 }
