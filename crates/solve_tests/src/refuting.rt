@@ -1,0 +1,74 @@
+//! What refutes rows, and what shows a row under others.
+use rx_cert::Cert;
+use rx_fm::FmEnd;
+use rx_row::{Constraint, Row};
+use rx_solve::{entails, refutes};
+use rx_text::{push_word, read_row};
+use rx_words::{push_cert, read_rows};
+use std::alloc::Global;
+
+/// The rows at the place, and the place after them.
+pub fn rows_at(alloc: Global, text: &[u8], at: usize) -> Option<(Constraint, usize)> {
+    let (rows, end) = read_rows(alloc, text, at).ok()??;
+    Some((Constraint::from_rows(rows.into_vec()), end))
+}
+
+// The rows that the text is.
+fn rows(alloc: Global, text: &str) -> Option<Constraint> {
+    let (rows, end) = rows_at(alloc, text.as_bytes(), 0)?;
+    if end == text.len() { Some(rows) } else { None }
+}
+
+// The row that the text is.
+fn row(alloc: Global, text: &str) -> Option<Row> {
+    let (row, end) = read_row(alloc, text.as_bytes(), 0).ok()??;
+    if end == text.len() { Some(row) } else { None }
+}
+
+// The words of a certificate.
+fn cert_text(alloc: Global, cert: &Cert) -> Option<Vec<u8>> {
+    let mut out = Vec::new(alloc);
+    push_cert(cert, &mut out).ok()?;
+    Some(out)
+}
+
+// One word.
+fn word(alloc: Global, word: &[u8]) -> Option<Vec<u8>> {
+    let mut out = Vec::new(alloc);
+    push_word(&mut out, word).ok()?;
+    Some(out)
+}
+
+// Why there is no answer; out of memory is none that a line could want.
+fn ended(alloc: Global, end: FmEnd) -> Option<Vec<u8>> {
+    match end {
+        FmEnd::Large => word(alloc, b"large"),
+        FmEnd::NoMemory => None,
+    }
+}
+
+/// What refutes the rows.
+pub fn refuted(alloc: Global, given: &str) -> Option<Vec<u8>> {
+    match refutes(alloc, &rows(alloc, given)?) {
+        Ok(Some(cert)) => cert_text(alloc, &cert),
+        Ok(None) => word(alloc, b"none"),
+        Err(end) => ended(alloc, end),
+    }
+}
+
+// What shows a row under rows: `plain` where none is needed.
+fn shown(alloc: Global, under: &Constraint, wanted: &Row) -> Option<Vec<u8>> {
+    match entails(alloc, under, wanted) {
+        Ok(Some(Some(cert))) => cert_text(alloc, &cert),
+        Ok(Some(None)) => word(alloc, b"plain"),
+        Ok(None) => word(alloc, b"none"),
+        Err(end) => ended(alloc, end),
+    }
+}
+
+/// What shows the row, after the last ` | `, under the rows: `plain` where none is needed.
+pub fn entailed(alloc: Global, given: &str) -> Option<Vec<u8>> {
+    let (under, wanted) = given.rsplit_once(" | ")?;
+    let under = rows(alloc, under)?;
+    shown(alloc, &under, &row(alloc, wanted)?)
+}
