@@ -4,34 +4,44 @@ ghost use Rattle.rx_coverable.specs.Coverable.{is_coverable};
 ghost use Rattle.rx_joins.specs.Goals.{IsFitting};
 ghost use Rattle.rx_solve.specs.Answers.{IsSolver};
 
+use crate::ends::text_of;
 use rx_cert::Cert;
 use rx_fm::FmEnd;
-use rx_log::Log;
 use rx_row::Constraint;
-use rx_search::{Search, SearchEnd};
+use rx_search::Search;
 use rx_term::{Equation, RuleSet};
 use std::alloc::Global;
 
 /// As many nodes as a search keeps by itself.
 pub const MOST_KEPT: usize = 32_768;
 
-/// The search for the goal by this solver, which keeps at most `most_kept` nodes.
-pub fn search_by_solver<S: FnMut(&Constraint) -> Result<Option<Cert>, FmEnd>>(
+/// A goal, and how far the search for it goes.
+#[derive(Drop)]
+pub struct Task {
+    /// The goal.
+    pub goal: Equation,
+    /// The most choices on a path.
+    pub depth: u32,
+    /// The most visits of nodes.
+    pub budget: u32,
+}
+
+/// The text of what the search comes to by this solver, which keeps at most `most_kept` nodes.
+pub fn searched_by<S: FnMut(&Constraint) -> Result<Option<Cert>, FmEnd>>(
     alloc: Global,
     set: &RuleSet,
-    goal: &Equation,
-    depth: u32,
-    budget: u32,
+    task: &Task,
     most_kept: usize,
     solve: S,
-) -> Result<Log, SearchEnd>
+) -> Option<Vec<u8>>
 where
     S: Drop,
     requires solver { IsSolver S.FnMut solve }
     requires coverable { is_coverable set.now ≡ true }
-    requires fits { IsFitting set.now goal.now }
-    requires depth { depth ≤ 12 }
+    requires fits { IsFitting set.now task.now.goal }
+    requires depth { task.now.depth ≤ 12 }
 {
     let mut search = Search::new(solve).keeping(most_kept);
-    search.search(alloc, set, goal, depth, budget)
+    let end = search.search(alloc, set, &task.goal, task.depth, task.budget);
+    text_of(alloc, end)
 }

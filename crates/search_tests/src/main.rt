@@ -1,43 +1,60 @@
-//! Compares what the search for a proof and the translation of two functions answer with values of
-//! another program.
+//! Compares how searches end, and how often they ask the refuter, with values of another program.
 //!
 //! Each line of the standard input is a call, what it is given, and what it is to answer, with
-//! ` | ` between them. Equations, rows, polynomials and cover trees have the notation of a log. A
-//! line `rules` makes the rule set of two functions, and a line `set` one that is written out; the
-//! lines after it speak of that. A line that begins with `#` is a heading. The program prints each
-//! line whose answer is another with the word `differs`, each that it can't read with `unread`, and
-//! at the end how many lines hold.
+//! ` | ` between them. Equations and rows have the notation of a log. A line `set` makes a rule set;
+//! the lines after it search over that. A line that begins with `#` is a heading. The program prints
+//! each line whose answer is another with the word `differs`, each that it can't read with
+//! `unread`, and at the end how many lines hold.
 #![tactic(auto)]
 
-mod answer;
 mod by_solver;
 mod caching;
-mod lines;
-mod log_calls;
-mod packing;
-mod parts;
-mod printing;
+mod ends;
 mod reading;
-mod running;
-mod search_calls;
 mod searching;
-mod set_calls;
-mod solve_calls;
-mod state_cases;
-mod words;
+mod symbols;
+mod tasks;
 
-use crate::lines::Lines;
-use std::io::{self, BufRead, BufReader};
+use rx_term::RuleSet;
+use std::alloc::Global;
+use std::io;
+
+// Whether the parts are those of a rule set, which is kept.
+fn take_set(alloc: Global, set: &mut Option<RuleSet>, given: &str) -> Option<bool> {
+    *set = None;
+    *set = RuleSet::from_parts(reading::parts(alloc, given)?);
+    Some(set.is_some())
+}
+
+// Whether the first line of the text is this one.
+fn begins_with_line(text: &[u8], line: &str) -> bool {
+    match text.strip_prefix(line.as_bytes()) {
+        Some(rest) => rest.is_empty() || rest.starts_with(b"\n"),
+        None => false,
+    }
+}
+
+// Whether the line's call answers what is wanted, over the set of the lines before it; none where
+// the line is no case.
+fn holds(alloc: Global, set: &mut Option<RuleSet>, line: &str) -> Option<bool> {
+    let (call, rest) = line.split_once(" | ")?;
+    let (given, wanted) = rest.rsplit_once(" | ")?;
+    if call == "set" {
+        return Some(take_set(alloc, set, given)? == (wanted == "yes"));
+    }
+    let found = tasks::answer(alloc, set.as_ref()?, call, given)?;
+    Some(begins_with_line(&found, wanted))
+}
 
 fn main(rt: HostRuntime) -> io::Result<()> {
-    let mut lines = Lines::new();
-    let mut count: u32 = 0;
-    for line in BufReader::new(rt.alloc(), rt.reader())?.lines(rt.alloc()) {
+    let mut set = None;
+    let mut count = 0u64;
+    for line in rt.lines(rt.alloc()) {
         let line = line?;
-        if line.is_empty() || line.starts_with('#') {
+        if line.as_str().starts_with("#") {
             continue;
         }
-        match lines.take(rt.alloc(), line.as_str()) {
+        match holds(rt.alloc(), &mut set, line.as_str()) {
             Some(true) => count = count.saturating_add(1),
             Some(false) => println!(rt; "differs: {line}")?,
             None => println!(rt; "unread: {line}")?,

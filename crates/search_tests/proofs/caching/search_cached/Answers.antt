@@ -4,7 +4,7 @@ use Rattle.rx_solve.proofs.Calls.{solver_while}
 use Rattle.rx_bank.specs.CachedSolver.{IsCachedSolver}
 use Rattle.search_tests.proofs.caching.search_cached.Goals as goal
 
-pub search_by_solver-requires-clause-solver : goal.search_by_solver-requires-clause-solver
-search_by_solver-requires-clause-solver g c =
+pub searched_by-requires-clause-solver : goal.searched_by-requires-clause-solver
+searched_by-requires-clause-solver g c =
     solver_while _ (λ h. IsCachedSolver g.S.FnMut h.0) (λ h a i. search rules)
     (λ h a r h' k i. search rules) _ c.requires.known
