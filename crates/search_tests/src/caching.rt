@@ -46,6 +46,8 @@ pub fn search_after(alloc: Global, set: &RuleSet, task: &Task, capacity: u32) ->
     requires high { capacity ≤ 65536 }
 {
     let solve = |rows: &Constraint| refutes(alloc, rows);
-    let cached = CachedSolver::new(alloc, solve, capacity).ok()?;
-    search_cached(alloc, set, task, cached)
+    match CachedSolver::new(alloc, solve, capacity) {
+        Ok(cached) => search_cached(alloc, set, task, cached),
+        Err(_) => None,
+    }
 }
