@@ -1,9 +1,9 @@
 //! Compares how searches end, and how often they ask the refuter, with values of another program.
 //!
 //! Each line of the standard input is a call, what it is given, and what it is to answer, with
-//! ` | ` between them. Equations and rows have the notation of a log. A line `set` makes a rule set;
-//! the lines after it search over that. A line that begins with `#` is a heading. The program prints
-//! each line whose answer is another with the word `differs`, each that it can't read with
+//! ` | ` between them. Equations and rows have the notation of a log. A line `set` makes a rule
+//! set; the lines after it search over that. A line that begins with `#` is a heading. The program
+//! prints each line whose answer is another with the word `differs`, each that it can't read with
 //! `unread`, and at the end how many lines hold.
 #![tactic(auto)]
 

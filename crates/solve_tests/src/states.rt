@@ -1,5 +1,5 @@
-//! States made of goals and hypotheses, copied, and packed and unpacked after other polynomials were
-//! numbered.
+//! States made of goals and hypotheses, copied, and packed and unpacked after other polynomials
+//! were numbered.
 use rx_bank::Bank;
 use rx_plain::NoMemory;
 use rx_poly::Poly;
