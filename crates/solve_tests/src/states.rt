@@ -61,7 +61,7 @@ fn state(alloc: Global, given: &str) -> Option<State> {
     let goals = equations(alloc, goals.as_bytes())?;
     let hypotheses = rules(alloc, hypotheses.as_bytes())?;
     if goals.len() < LIMIT && hypotheses.len() < LIMIT {
-        Some(State::from_parts(goals, hypotheses))
+        State::from_parts(alloc, goals, hypotheses).ok()
     } else {
         None
     }
