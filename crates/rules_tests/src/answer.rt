@@ -31,7 +31,7 @@ pub fn ended(alloc: Global, end: FmEnd) -> Option<Vec<u8>> {
 /// Whether the line wants this answer. The word `some` wants that there is one, whichever.
 pub fn is_wanted(found: &[u8], wanted: &str) -> bool {
     match wanted {
-        "some" => found != b"none" && found != b"large",
+        "some" => found != b"none".as_slice() && found != b"large".as_slice(),
         _ => found == wanted.as_bytes(),
     }
 }

@@ -26,7 +26,7 @@ struct Ranked {
 }
 
 // The ranks and the certificates that the text is.
-fn ranked(alloc: Global, text: &str) -> Option<Ranked> {
+fn read_ranked(alloc: Global, text: &str) -> Option<Ranked> {
     let mut words = Words::new(alloc, text);
     let table = words.table()?;
     let pairs = words.pairs()?;
@@ -62,7 +62,7 @@ pub fn lowered(alloc: Global, set: &RuleSet, given: &str) -> Option<Vec<u8>> {
     if !have_roots(hypotheses.as_slice()) {
         return None;
     }
-    let by = ranked(alloc, rest)?;
+    let by = read_ranked(alloc, rest)?;
     match decreases(
         alloc,
         set,
