@@ -28,10 +28,11 @@ pub fn ended(alloc: Global, end: FmEnd) -> Option<Vec<u8>> {
     }
 }
 
-/// Whether the line wants this answer. The word `some` wants that there is one, whichever.
-pub fn is_wanted(found: &[u8], wanted: &str) -> bool {
-    match wanted {
-        "some" => found != b"none".as_slice() && found != b"large".as_slice(),
-        _ => found == wanted.as_bytes(),
+/// Whether the line wants this answer of the call. Of `ranks` the word `some` wants that there are
+/// some, whichever.
+pub fn is_wanted(call: &str, found: &[u8], wanted: &str) -> bool {
+    if call == "ranks" && wanted == "some" {
+        return found != b"none".as_slice() && found != b"large".as_slice();
     }
+    found == wanted.as_bytes()
 }

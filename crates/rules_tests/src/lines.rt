@@ -62,6 +62,6 @@ impl Lines {
         let (call, rest) = line.split_once(" | ")?;
         let (given, wanted) = rest.rsplit_once(" | ").unwrap_or(("", rest));
         let found = self.answer(alloc, call, given)?;
-        Some(is_wanted(&found, wanted))
+        Some(is_wanted(call, &found, wanted))
     }
 }

@@ -49,7 +49,8 @@ fn holds_of(alloc: Global, name: &str, code: &mut Code, point: Point) -> Option<
         "acted" => acted(code, point),
         "marked" => marked(code),
         "value" => quotient(alloc, code, point),
-        _ => comparison(alloc, code, point),
+        "condition" => comparison(alloc, code, point),
+        _ => None,
     }
 }
 

@@ -54,6 +54,7 @@ pub fn answer_to(alloc: Global, name: &str, first: &str, second: &str) -> Option
     match name {
         "all" => all(alloc, &set, first),
         "one" => one(alloc, &set, first, second),
-        _ => copied(alloc, &set, first, second),
+        "copied" => copied(alloc, &set, first, second),
+        _ => None,
     }
 }

@@ -1,5 +1,5 @@
 //! A rule set with a point s0 and a frame s1, both of one argument, and one failure code.
-use crate::reading::first_rules;
+use crate::reading;
 use rx_plain::Items;
 use rx_poly::Poly;
 use rx_term::{RuleParts, RuleSet, SymInfo};
@@ -27,7 +27,8 @@ fn symbols(alloc: Global) -> Option<Items<SymInfo>> {
 
 /// The set of the first rules, as many as that.
 pub fn with_rules(alloc: Global, count: u32) -> Option<RuleSet> {
-    let rules = first_rules(alloc, RULES, count)?;
+    let mut rules = reading::rules(alloc, RULES)?;
+    rules.truncate(count as usize);
     RuleSet::from_parts(RuleParts {
         symbols: symbols(alloc)?,
         rules,

@@ -2,9 +2,9 @@
 //! and check covers and ranks, with ample memory.
 //!
 //! Each line of the standard input is a call, what it is given, and what it is to answer, with a
-//! semicolon and a space between them. What is given has the notation of a log; a list is its number
-//! of elements and then each. A line that begins with `#` is a heading. The program prints each line
-//! that differs or can't be read, and then the number of lines that hold.
+//! semicolon and a space between them. What is given has the notation of a log; a list is its
+//! number of elements and then each. A line that begins with `#` is a heading. The program prints
+//! each line that differs or can't be read, and then the number of lines that hold.
 #![tactic(auto)]
 
 mod answer;
@@ -30,7 +30,8 @@ fn case(alloc: Global, of: &str, name: &str) -> Option<bool> {
         "code" => code_cases::holds(alloc, name),
         "function" => function_cases::holds(alloc, name),
         "state" => state_cases::holds(alloc, name),
-        _ => translation_cases::holds(alloc, name),
+        "translation" => translation_cases::holds(alloc, name),
+        _ => None,
     }
 }
 

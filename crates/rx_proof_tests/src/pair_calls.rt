@@ -1,7 +1,7 @@
 //! The pairs of a hypothesis, and those of the example's rules and a hypothesis.
 use crate::answer::Answer;
 use crate::example::rules;
-use crate::reading::first_rules;
+use crate::reading;
 use rx_pairs::{Pair, all_pairs, have_roots, pairs_of};
 use rx_plain::NoMemory;
 use rx_poly::Poly;
@@ -57,11 +57,12 @@ fn counted(alloc: Global, hypotheses: &[Rule]) -> Option<Answer> {
     count(alloc, &set, hypotheses)
 }
 
-/// What the call answers, given one hypothesis.
+/// What the call answers, given hypotheses: `made` is that of the first.
 pub fn answer_to(alloc: Global, name: &str, given: &str) -> Option<Answer> {
-    let hypotheses = first_rules(alloc, given, 1)?;
+    let hypotheses = reading::rules(alloc, given)?;
     match name {
         "made" => made(alloc, hypotheses.as_slice().first()?),
-        _ => counted(alloc, hypotheses.as_slice()),
+        "all_made" => counted(alloc, hypotheses.as_slice()),
+        _ => None,
     }
 }

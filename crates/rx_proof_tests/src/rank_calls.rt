@@ -2,7 +2,8 @@
 //! call in its second rule, where v0 is at least 1, and pairs of rules and hypotheses.
 use crate::answer::{Answer, told};
 use crate::example::{alone, rules, with_rules};
-use crate::reading::{certs, first_rules, poly, rows};
+use crate::reading;
+use crate::reading::{certs, poly, rows};
 use rx_cert::Cert;
 use rx_pairs::{Pair, PairCert, PairEnd, RankTable, bad_ranks, decreases, have_roots, is_lower};
 use rx_plain::Items;
@@ -114,7 +115,7 @@ fn with_plain(alloc: Global, set: &RuleSet, hypotheses: &[Rule], count: u32) -> 
 // Whether the first rule, and a hypothesis, make only lower pairs.
 fn descends(alloc: Global, hypothesis: &str) -> Option<Answer> {
     let set = with_rules(alloc, 1)?;
-    let hypotheses = first_rules(alloc, hypothesis, 1)?;
+    let hypotheses = reading::rules(alloc, hypothesis)?;
     with_plain(alloc, &set, hypotheses.as_slice(), 1)
 }
 
@@ -130,6 +131,7 @@ pub fn answer_to(alloc: Global, name: &str, first: &str, second: &str) -> Option
         "lawful" => lawful(alloc, first),
         "lower" => lower(alloc, first, second),
         "descends" => descends(alloc, first),
-        _ => stays(alloc),
+        "stays" => stays(alloc),
+        _ => None,
     }
 }

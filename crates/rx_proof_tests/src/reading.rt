@@ -13,9 +13,13 @@ use rx_words::{read_certs, read_number, read_rows};
 use std::alloc::Global;
 
 // What was read, where that is the whole text.
-fn whole<T: Drop>(text: &str, read: Result<Option<(T, usize)>, NoMemory>) -> Option<T> {
-    let (value, end) = read.ok()??;
+fn ended<T: Drop>(text: &str, read: Option<(T, usize)>) -> Option<T> {
+    let (value, end) = read?;
     if end == text.len() { Some(value) } else { None }
+}
+
+fn whole<T: Drop>(text: &str, read: Result<Option<(T, usize)>, NoMemory>) -> Option<T> {
+    ended(text, read.ok()?)
 }
 
 /// One polynomial.
@@ -50,8 +54,13 @@ fn rule_at(alloc: Global, text: &[u8], at: usize) -> Option<(Rule, usize)> {
     Some((Rule { left, right, rows }, end))
 }
 
-// As many rules as are counted, from the place on.
-fn counted_rules(alloc: Global, text: &[u8], from: usize, count: u32) -> Option<Items<Rule>> {
+// As many rules as are counted, from the place on, and the place after them.
+fn counted_rules(
+    alloc: Global,
+    text: &[u8],
+    from: usize,
+    count: u32,
+) -> Option<(Items<Rule>, usize)> {
     let mut made = Items::new(alloc);
     let mut at = from;
     for _ in 0..count {
@@ -59,13 +68,13 @@ fn counted_rules(alloc: Global, text: &[u8], from: usize, count: u32) -> Option<
         made.push(rule).ok()?;
         at = end;
     }
-    Some(made)
+    Some((made, at))
 }
 
-/// The first rules of a list, as many as that.
-pub fn first_rules(alloc: Global, text: &str, count: u32) -> Option<Items<Rule>> {
-    let (_, first) = read_number(text.as_bytes(), 0)?;
-    counted_rules(alloc, text.as_bytes(), first, count)
+/// A list of rules.
+pub fn rules(alloc: Global, text: &str) -> Option<Items<Rule>> {
+    let (count, first) = read_number(text.as_bytes(), 0)?;
+    ended(text, counted_rules(alloc, text.as_bytes(), first, count))
 }
 
 fn tree_at(alloc: Global, text: &[u8], at: usize) -> Option<(CoverTree, usize)> {
@@ -96,8 +105,7 @@ fn trees_at(alloc: Global, text: &[u8], at: usize) -> Option<(Items<CoverTree>, 
 
 /// A list of trees.
 pub fn trees(alloc: Global, text: &str) -> Option<Items<CoverTree>> {
-    let (trees, _) = trees_at(alloc, text.as_bytes(), 0)?;
-    Some(trees)
+    ended(text, trees_at(alloc, text.as_bytes(), 0))
 }
 
 /// Lists of trees.
@@ -110,5 +118,5 @@ pub fn lists(alloc: Global, text: &str) -> Option<Items<Items<CoverTree>>> {
         made.push(trees).ok()?;
         at = end;
     }
-    Some(made)
+    ended(text, Some((made, at)))
 }

@@ -19,6 +19,7 @@ pub fn answer_to(alloc: Global, name: &str, first: &str, second: &str) -> Option
     let rows = rows(alloc, first)?;
     match name {
         "refutes" => refuted(alloc, &rows),
-        _ => shown(alloc, &rows, second),
+        "entails" => shown(alloc, &rows, second),
+        _ => None,
     }
 }

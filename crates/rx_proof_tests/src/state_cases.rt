@@ -38,10 +38,11 @@ fn refused(alloc: Global, state: &mut State, set: &RuleSet) -> bool {
     !applies(alloc, state, set, &simplify(alloc, 9)) && state.goals() == 1
 }
 
-fn holds_of(alloc: Global, name: &str, state: &mut State, set: &RuleSet) -> bool {
+fn holds_of(alloc: Global, name: &str, state: &mut State, set: &RuleSet) -> Option<bool> {
     match name {
-        "finished" => finished(alloc, state, set),
-        _ => refused(alloc, state, set),
+        "finished" => Some(finished(alloc, state, set)),
+        "refused" => Some(refused(alloc, state, set)),
+        _ => None,
     }
 }
 
@@ -49,5 +50,5 @@ fn holds_of(alloc: Global, name: &str, state: &mut State, set: &RuleSet) -> bool
 pub fn holds(alloc: Global, name: &str) -> Option<bool> {
     let set = rules(alloc)?;
     let mut state = started(alloc)?;
-    Some(holds_of(alloc, name, &mut state, &set))
+    holds_of(alloc, name, &mut state, &set)
 }

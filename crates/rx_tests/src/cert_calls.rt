@@ -68,7 +68,8 @@ fn under(
         "shows" => shown(alloc, known, second),
         "shows_row" => shown_by(alloc, known, second, third),
         "is_plain" => plain(alloc, known, second),
-        _ => conditions(alloc, known, second, third),
+        "conditions" => conditions(alloc, known, second, third),
+        _ => None,
     }
 }
 

@@ -32,6 +32,7 @@ fn multipliers(alloc: Global, limit: &str, given: &str) -> Option<Answer> {
 pub fn answer_to(alloc: Global, name: &str, first: &str, second: &str) -> Option<Answer> {
     match name {
         "content" => content_of(alloc, first),
-        _ => multipliers(alloc, first, second),
+        "farkas" => multipliers(alloc, first, second),
+        _ => None,
     }
 }

@@ -45,7 +45,8 @@ fn read_items(name: &str, items: &Items<i128>, more: &Items<i128>) -> Option<Ans
         "empty" => told(items.is_empty()),
         "compare" => ordered(items.cmp(more)),
         "partial" => ordered(items.partial_cmp(more)?),
-        _ => told(*items == *more),
+        "same" => told(*items == *more),
+        _ => None,
     }
 }
 
@@ -98,7 +99,8 @@ fn read_graded(name: &str, graded: &Graded<i128>, more: &Graded<i128>) -> Option
         "empty" => told(graded.is_empty()),
         "compare" => ordered(graded.cmp(more)),
         "partial" => ordered(graded.partial_cmp(more)?),
-        _ => told(*graded == *more),
+        "same" => told(*graded == *more),
+        _ => None,
     }
 }
 
@@ -129,7 +131,8 @@ fn replaced(alloc: Global, name: &str, first: i128, second: i128) -> Option<Answ
     match name {
         "old" => Some(Answer::Number(old)),
         "new" => Some(Answer::Number(*boxed.get())),
-        _ => Some(Answer::Number(boxed.into_inner())),
+        "inner" => Some(Answer::Number(boxed.into_inner())),
+        _ => None,
     }
 }
 

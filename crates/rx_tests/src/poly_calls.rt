@@ -60,7 +60,8 @@ fn alone(alloc: Global, name: &str, poly: &Poly) -> Option<Answer> {
         "minus_itself" => formed(alloc, poly.sub(alloc, poly)),
         "bound" => Some(Answer::Number(variable_bound(poly) as i128)),
         "constant_term" => Some(Answer::Number(poly.constant_term())),
-        _ => perhaps(poly.is_constant()),
+        "number" => perhaps(poly.is_constant()),
+        _ => None,
     }
 }
 
@@ -94,7 +95,8 @@ fn between(alloc: Global, name: &str, left: &Poly, right: &Poly) -> Option<Answe
         "compare_sums" => ordered(left.body().cmp(right.body())),
         "compare_monomials" => compared(first_monomial(left), first_monomial(right)),
         "compare_atoms" => compared(first_atom(left), first_atom(right)),
-        _ => told(left.is_same(right)),
+        "same" => told(left.is_same(right)),
+        _ => None,
     }
 }
 

@@ -32,7 +32,8 @@ fn alone(alloc: Global, name: &str, row: &Row) -> Option<Answer> {
         "is_ge" => told(row.is_ge()),
         "bound" => Some(Answer::Number(row.variable_bound() as i128)),
         "poly" => written(alloc, row.poly()),
-        _ => copied(alloc, row),
+        "clone" => copied(alloc, row),
+        _ => None,
     }
 }
 
@@ -41,7 +42,8 @@ fn between(name: &str, left: &Row, right: &Row) -> Option<Answer> {
     match name {
         "compare" => ordered(left.cmp(right)),
         "is_negation_of" => told(left.is_negation_of(right)),
-        _ => told(left.is_same(right)),
+        "same" => told(left.is_same(right)),
+        _ => None,
     }
 }
 
@@ -187,7 +189,8 @@ fn of_rows(alloc: Global, name: &str, rows: &Constraint, second: &str) -> Option
         "subst" | "subst_borrowed" => substituted_rows(alloc, name, rows, second),
         "at_args" | "at_args_borrowed" => rows_at(alloc, name, rows, second),
         "combine" | "combine_borrowed" => combined(alloc, name, rows, second),
-        _ => Some(Answer::Number(rows.variable_bound() as i128)),
+        "bound" => Some(Answer::Number(rows.variable_bound() as i128)),
+        _ => None,
     }
 }
 

@@ -34,13 +34,22 @@ fn begins_with_line(text: &[u8], line: &str) -> bool {
     }
 }
 
+// Whether that there is a set, or none, is what is wanted.
+fn is_wanted(there: bool, wanted: &str) -> Option<bool> {
+    match wanted {
+        "yes" => Some(there),
+        "no" => Some(!there),
+        _ => None,
+    }
+}
+
 // Whether the line's call answers what is wanted, over the set of the lines before it; none where
 // the line is no case.
 fn holds(alloc: Global, set: &mut Option<RuleSet>, line: &str) -> Option<bool> {
     let (call, rest) = line.split_once(" | ")?;
     let (given, wanted) = rest.rsplit_once(" | ")?;
     if call == "set" {
-        return Some(take_set(alloc, set, given)? == (wanted == "yes"));
+        return is_wanted(take_set(alloc, set, given)?, wanted);
     }
     let found = tasks::answer(alloc, set.as_ref()?, call, given)?;
     Some(begins_with_line(&found, wanted))

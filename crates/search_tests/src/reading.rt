@@ -1,4 +1,5 @@
-//! What calls are given, from text: equations in the notation of a log, and the parts of a rule set.
+//! What calls are given, from text: equations in the notation of a log, and the parts of a rule
+//! set.
 use crate::symbols::symbols;
 use rx_plain::Items;
 use rx_term::{Equation, Rule, RuleParts};

@@ -18,8 +18,8 @@ fn task(alloc: Global, goal: &str, depth: &str, budget: &str) -> Option<Task> {
     })
 }
 
-// What a call that searches comes to; none where nothing covers the set, the goal doesn't fit it, or
-// the depth is too great.
+// What a call that searches comes to; none where nothing covers the set, the goal doesn't fit it,
+// or the depth is too great.
 fn after(alloc: Global, set: &RuleSet, call: &str, task: &Task) -> Option<Vec<u8>> {
     if task.depth > MOST_DEEP || !is_fitting(set, &task.goal) || !is_covered(alloc, set) {
         return None;
@@ -45,8 +45,8 @@ fn calls_to(alloc: Global, set: &RuleSet, goal: &str, depth: &str, budget: &str)
     calls(alloc, set, &task(alloc, goal, depth, budget)?)
 }
 
-// Whether a search to the second depth asks the refuter as often as one to the first, more often, or
-// less, both within the budget that follows.
+// Whether a search to the second depth asks the refuter as often as one to the first, more often,
+// or less, both within the budget that follows.
 fn asked(alloc: Global, set: &RuleSet, goal: &str, effort: &str) -> Option<Vec<u8>> {
     let (first, rest) = effort.split_once(' ')?;
     let (second, budget) = rest.split_once(' ')?;

@@ -69,7 +69,8 @@ fn of_set(alloc: Global, name: &str, set: &RuleSet) -> Option<Answer> {
         "set_clone" => set_copied(alloc, set),
         "fails" => Some(Answer::Number(set.fails() as i128)),
         "symbols" => Some(Answer::Number(set.symbols().len() as i128)),
-        _ => Some(Answer::Number(set.rules().len() as i128)),
+        "rules" => Some(Answer::Number(set.rules().len() as i128)),
+        _ => None,
     }
 }
 

@@ -101,7 +101,8 @@ fn by_given(alloc: Global, given: &str, goal: &Equation, step: &Step) -> Option<
 fn on_goal(alloc: Global, name: &str, given: &str, goal: &Equation, step: &Step) -> Option<Answer> {
     match name {
         "use" => by_given(alloc, given, goal, step),
-        _ => over_set(alloc, given, goal, step),
+        "form" => over_set(alloc, given, goal, step),
+        _ => None,
     }
 }
 

@@ -18,10 +18,11 @@ fn walked(name: &str, term: &Term) -> Option<Answer> {
     if term.suffix(MANY).is_some() {
         return None;
     }
-    if name == "depth" {
-        return Some(Answer::Number(term.depth() as i128));
+    match name {
+        "depth" => Some(Answer::Number(term.depth() as i128)),
+        "redex" => perhaps(term.redex_place()),
+        _ => None,
     }
-    perhaps(term.redex_place())
 }
 
 // The number of its outermost symbol.
@@ -78,7 +79,8 @@ fn between(alloc: Global, name: &str, left: &Term, right: &Term) -> Option<Answe
     match name {
         "same" => told(left.is_same(right)),
         "differences" => compared_arguments(alloc, left, right),
-        _ => told(left.has_shape_of(right)),
+        "same_shape" => told(left.has_shape_of(right)),
+        _ => None,
     }
 }
 

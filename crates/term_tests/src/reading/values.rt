@@ -1,6 +1,7 @@
 //! What a log has words for: rows, substitutions, terms, equations. Two variables that no log has
-//! are written as others in a row, in a term, on the right side of a postulated goal, and as one that
-//! a substitution replaces: `v999998` is the variable 2^31, and `v999999` the variable 2^32-1.
+//! are written as others in a row, in a term, on the right side of a postulated goal, and as one
+//! that a substitution replaces: `v999998` is the variable 2^31, and `v999999` the variable
+//! 2^32-1.
 use rx_plain::{Items, NoMemory};
 use rx_poly::Poly;
 use rx_row::Row;
