@@ -12,6 +12,26 @@ popped None old new h = ap reverse h.1 ∙ sym (ap (λ xs. drop 1 (reverse xs)) 
 popped (Some last) old new h =
     sym (ap (λ xs. drop 1 (reverse xs)) h ∙ ap (drop 1) (reverse-append new (last ∷ [])))
 
+-- others in place of the last are first in what is read from the end
+pub popped_for : {A : Type 0} (r : Option A) (old mid more new : List A) →
+    MatchOption r ((old ≡ []) × (mid ≡ [])) (λ last. old ≡ mid ++ last ∷ []) → new ≡ mid ++ more →
+    reverse new ≡ reverse more ++ drop 1 (reverse old)
+popped_for r old mid more new h e =
+    ap reverse e ∙ reverse-append mid more ∙ ap (λ xs. reverse more ++ xs) (popped r old mid h)
+
+-- and they are as many at most as these and those
+pub popped_count : {A : Type 0} (r : Option A) (old mid more new : List A) →
+    MatchOption r ((old ≡ []) × (mid ≡ [])) (λ last. old ≡ mid ++ last ∷ []) → new ≡ mid ++ more →
+    length new ≤ length more + length old
+popped_count None old mid more new h e =
+    let none = ap length h.1 in
+    let all = ap length e ∙ length-append mid more in
+    omega arith
+popped_count (Some last) old mid more new h e =
+    let one = ap length h ∙ length-append mid (last ∷ []) in
+    let all = ap length e ∙ length-append mid more in
+    omega arith
+
 -- and the last is the first of what was read from the end
 pub popped_first : {A : Type 0} (r : Option A) (old new : List A) →
     MatchOption r ((old ≡ []) × (new ≡ [])) (λ last. old ≡ new ++ last ∷ []) → r ≡

@@ -2,6 +2,7 @@
 ghost use Rattle.std.specs.Prelude.{◌≡◌, ◌+◌, ◌≤◌, ◌<◌, ◌^◌, nat_lt, ◌∷◌, [], ◌++◌, drop, length, reverse, slice_get, vec_capacity, vec_len, IfOk, OnOk, OnErr};
 ghost use Rattle.std.specs.Option.{option_copied};
 ghost use Rattle.rx_form.specs.States.{taken};
+ghost use Rattle.rx_steps.specs.Alone.{alone, onto};
 
 use rx_form::FormedStep;
 use rx_plain::{NoMemory, Shared};
@@ -70,16 +71,29 @@ fn replace_first(onto: &mut Vec<Shared<Equation>>, goals: Vec<Shared<Equation>>)
     put_first(onto, goals);
 }
 
-/// Adds the rules after those that are there, for which there is room.
-fn put_last(onto: &mut Vec<Rule>, rules: Vec<Rule>)
-    requires { vec_len onto.old + vec_len rules ≤ vec_capacity onto.old }
-    ensures { onto.new.items ≡ onto.old.items ++ rules.items }
+/// Adds the items after those that are there, for which there is room.
+fn put_last<T: Drop>(onto: &mut Vec<T>, items: Vec<T>)
+    requires { vec_len onto.old + vec_len items ≤ vec_capacity onto.old }
+    ensures { onto.new.items ≡ onto.old.items ++ items.items }
 {
-    let mut rules = rules;
-    match onto.append(&mut rules) {
+    let mut items = items;
+    match onto.append(&mut items) {
         Ok(()) => {}
         Err(_) => unreachable!(),
     }
+}
+
+/// Replaces the last goal, which is the first of the state, by those, in the same order as they
+/// are, for which there is room.
+#[tactic(auto, using(crate::proofs::Reversed::popped_for, crate::proofs::Reversed::popped_count))]
+fn replace_last(onto: &mut Vec<Shared<Equation>>, goals: Vec<Shared<Equation>>)
+    requires { vec_len onto.old + vec_len goals ≤ vec_capacity onto.old }
+    ensures goals { reverse onto.new.items ≡
+        reverse goals.items ++ drop 1 (reverse onto.old.items) }
+    ensures count { length onto.new.items ≤ length goals.items + length onto.old.items }
+{
+    onto.pop();
+    put_last(onto, goals);
 }
 
 /// The same goals once more, shared with those that are given.
@@ -151,6 +165,19 @@ impl State {
         Ok(State { goals, hypotheses })
     }
 
+    /// The state with that goal alone, which stays shared, and no hypotheses; fails only when out of
+    /// memory.
+    pub fn alone(alloc: Global, goal: Shared<Equation>) -> Result<State, NoMemory>
+        ensures { IfOk result (λ s. s ≡ alone goal) }
+    {
+        let mut goals = Vec::new(alloc);
+        goals.push(goal)?;
+        Ok(State {
+            goals,
+            hypotheses: Vec::new(alloc),
+        })
+    }
+
     /// The same state once more; fails only when out of memory.
     pub fn try_clone(&self, alloc: Global) -> Result<State, NoMemory>
         ensures { IfOk result (λ s. s ≡ self.now) }
@@ -167,6 +194,18 @@ impl State {
         ensures { option_copied result ≡ slice_get self.now.goals 0 }
     {
         Some(self.goals.last()?.get())
+    }
+
+    /// The first goal, shared, if there is one; fails only where no more owners of it can be
+    /// counted.
+    #[tactic(auto, using(crate::proofs::Reversed::last_is_first))]
+    pub fn share_first(&self) -> Result<Option<Shared<Equation>>, NoMemory>
+        ensures { IfOk result (λ goal. goal ≡ slice_get self.now.goals 0) }
+    {
+        match self.goals.last() {
+            Some(goal) => Ok(Some(goal.try_clone()?)),
+            None => Ok(None),
+        }
     }
 
     /// The goal with that number, counted from 0, borrowed; None exactly where there are no more
@@ -237,6 +276,24 @@ impl State {
         self.goals.reserve(goals.len())?;
         self.hypotheses.reserve(kept.len())?;
         replace_first(&mut self.goals, goals);
+        put_last(&mut self.hypotheses, kept);
+        Ok(())
+    }
+    /// Puts what came of the first goal alone in its place: the goals, which are shared from then
+    /// on, before the others, and the hypotheses after the others. Where there is no memory, or
+    /// there would be too many of either, the state stays as it was.
+    pub fn go_on(&mut self, alloc: Global, after: &State) -> Result<(), NoMemory>
+        ensures ok { OnOk result (self.new ≡ onto self.old after.now) }
+        ensures err { OnErr result (self.new ≡ self.old) }
+    {
+        let goals = copied_goals(alloc, after.goals.as_slice())?;
+        let kept = copied_rules(alloc, after.hypotheses.as_slice())?;
+        if !is_room(self.goals.len(), goals.len()) || !is_room(self.hypotheses.len(), kept.len()) {
+            return Err(NoMemory);
+        }
+        self.goals.reserve(goals.len())?;
+        self.hypotheses.reserve(kept.len())?;
+        replace_last(&mut self.goals, goals);
         put_last(&mut self.hypotheses, kept);
         Ok(())
     }

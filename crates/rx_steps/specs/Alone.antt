@@ -1,0 +1,16 @@
+-- A goal alone, and what came of it put back among the others.
+use Rattle.std.specs.Prelude.{[], ◌∷◌, ◌++◌, drop}
+use Rattle.rx_term.specs.declared.rule.Equation.{Equation}
+use Rattle.rx_form.specs.States.{State}
+
+-- the state of that goal alone, without hypotheses
+abbrev pub alone : Equation → State
+alone goal = record { goals = goal ∷ []; hypotheses = [] }
+
+-- the goals that came of the first one, in its place, and the hypotheses that came with them, after
+-- the others
+abbrev pub onto : State → State → State
+onto state after = record {
+  goals = after.goals ++ drop 1 state.goals;
+  hypotheses = state.hypotheses ++ after.hypotheses;
+}
