@@ -7,7 +7,7 @@ use Rattle.rx_term.specs.declared.rule_set.RuleParts.{RuleParts}
 use Rattle.rx_form.specs.States.{State}
 use Rattle.rx_form.specs.declared.step.Step.{Step}
 use Rattle.rx_settle.specs.Answers.{IsTrial, Takes}
-use Rattle.rx_settle.specs.AtFirst.{at_first, from_leaving, from_naming, from_unfolding, from_uses, leaving_sides, unfolding_sides}
+use Rattle.rx_settle.specs.AtFirst.{at_first, before_uses, deleting, from_leaving, from_unfolding, from_uses, leaving_sides, unfolding_sides}
 use Rattle.rx_settle.specs.Moves.{Absurd, Equal, move_of, step_of}
 use Rattle.rx_settle.specs.Settling.{named, settling_first, settling_move}
 use Rattle.rx_settle.specs.Trying.{Next, attempt, next_if_formed}
@@ -16,41 +16,13 @@ use Rattle.rx_settle.specs.declared.trial.Trial.{Trial}
 use Rattle.rx_form.specs.Kinds.{formed}
 use Rattle.rx_settle.proofs.FirstLaws.{first_of_both, second_of_both}
 use Rattle.rx_settle.proofs.KeepingLaws.{move_keeps}
-use Rattle.rx_settle.proofs.TrialLaws.{one_tried, taken_first, trial_of, untaken_second}
+use Rattle.rx_settle.proofs.TrialLaws.{one_tried, taken_first, trial_of, tried_after, untaken_second}
 
 module _ (parts : RuleParts) (old : State) where
-  -- ---- naming, and what comes after it
+  -- ---- the items before hypotheses
 
-  after_naming : (goals : List Equation) → at_first
-      (λ goal. first_applying (named parts old goal ∷ from_uses parts old goal ∷ [])) goals ≡
-      at_first (from_naming parts old) goals
-  after_naming [] = refl
-  after_naming (goal ∷ goals) =
-      let names = named parts old goal in
-      ap (made_or names.made names.noted) (one_tried (from_uses parts old goal))
-
-  module _ (mid : State) (t : Trial) (is : IsTrial parts old mid
-      (at_first (named parts old) old.goals) t) where
-    pub name_first : (same : Trial) → IsUntaken t (Err same) →
-        IsTrial parts old mid (at_first (from_naming parts old) old.goals) same
-    name_first same e =
-        trial_of parts old mid _ _ same (after_naming old.goals)
-        (first_of_both parts old mid (named parts old) (λ s. from_uses parts s) t is same e)
-
-    pub uses_second : (u v : Trial) (new : State) (noted : Bool) → IsUntaken t (Ok noted) → IsTrial parts mid new (at_first (from_uses parts mid) mid.goals) u
-        → v ≡ record { taken = u.taken; noted = noted || u.noted } →
-        IsTrial parts old new (at_first (from_naming parts old) old.goals) v
-    uses_second u v new noted e more same =
-        trial_of parts old new _ _ v (after_naming old.goals)
-        (second_of_both parts old mid (named parts old) (λ s. from_uses parts s) t is u v new
-        noted e more same)
-
-  -- ---- all items
-
-  abbrev deleting : Tried Next
-  deleting = first_applying (attempt parts old Absurd ∷ attempt parts old Equal ∷ [])
-
-  nothing_to_delete : (goals : List Equation) → old.goals ≡ goals → goals ≡ [] → deleting ≡ fails
+  nothing_to_delete : (goals : List Equation) → old.goals ≡ goals → goals ≡ [] →
+      deleting parts old ≡ fails
   unfolding attempt
   nothing_to_delete goals same none =
       ap
@@ -60,40 +32,72 @@ module _ (parts : RuleParts) (old : State) where
       []))
       (same ∙ none)
 
-  all_items : (goals : List Equation) → old.goals ≡ goals →
-      first_applying (deleting ∷ at_first (from_unfolding parts old) goals ∷ []) ≡
-      settling_first parts old goals
-  all_items [] same =
+  four_items : (goals : List Equation) → old.goals ≡ goals →
+      first_applying (deleting parts old ∷ at_first (from_unfolding parts old) goals ∷ []) ≡
+      at_first (before_uses parts old) goals
+  four_items [] same =
       ap (λ (t : Tried Next). first_applying (t ∷ fails ∷ [])) (nothing_to_delete [] same refl)
-  all_items (goal ∷ goals) same =
+  four_items (goal ∷ goals) same =
+      let deletes = deleting parts old in
       let unfolds = unfolding_sides parts old goal in
-      let leaves = leaving_sides parts old goal in
-      let leaving : from_leaving parts old goal ≡
-      made_or leaves.made leaves.noted (from_naming parts old goal) =
-      ap (made_or leaves.made leaves.noted) (one_tried (from_naming parts old goal)) in
-      let unfolding_it : from_unfolding parts old goal ≡
-      made_or unfolds.made unfolds.noted (made_or leaves.made leaves.noted
-      (from_naming parts old goal)) =
-      ap (made_or unfolds.made unfolds.noted) (one_tried (from_leaving parts old goal) ∙ leaving) in
-      ap (made_or deleting.made deleting.noted)
-      (one_tried (from_unfolding parts old goal) ∙ unfolding_it)
+      ap (made_or deletes.made deletes.noted) (one_tried (from_unfolding parts old goal) ∙
+      ap (made_or unfolds.made unfolds.noted) (one_tried (from_leaving parts old goal)))
 
-  module _ (mid : State) (t : Trial) (is : IsTrial parts old mid deleting t) where
+  module _ (mid : State) (t : Trial) (is : IsTrial parts old mid (deleting parts old) t) where
     pub delete_first : (same : Trial) → IsUntaken t (Err same) →
-        IsTrial parts old mid (settling_move parts old) same
+        IsTrial parts old mid (at_first (before_uses parts old) old.goals) same
     delete_first same e =
-        trial_of parts old mid _ _ same (all_items old.goals refl)
-        (taken_first parts old mid deleting t is (at_first (from_unfolding parts old) old.goals)
-        same e)
+        trial_of parts old mid _ _ same (four_items old.goals refl)
+        (taken_first parts old mid (deleting parts old) t is
+        (at_first (from_unfolding parts old) old.goals) same e)
 
     pub items_second : (u v : Trial) (new : State) (noted : Bool) → IsUntaken t (Ok noted) →
         IsTrial parts mid new (at_first (from_unfolding parts mid) mid.goals) u
         → v ≡ record { taken = u.taken; noted = noted || u.noted } →
-        IsTrial parts old new (settling_move parts old) v
+        IsTrial parts old new (at_first (before_uses parts old) old.goals) v
     items_second u v new noted e more same =
-        trial_of parts old new _ _ v (all_items old.goals refl)
-        (untaken_second parts old mid deleting t is (λ s. at_first (from_unfolding parts s) s.goals)
-        u v new noted e more same)
+        trial_of parts old new _ _ v (four_items old.goals refl)
+        (untaken_second parts old mid (deleting parts old) t is
+        (λ s. at_first (from_unfolding parts s) s.goals) u v new noted e more same)
+
+  -- ---- all items
+
+  all_items : (goals : List Equation) →
+      at_first (λ goal. first_applying (before_uses parts old goal ∷ from_uses parts old goal ∷ []))
+      goals ≡ settling_first parts old goals
+  all_items [] = refl
+  all_items (goal ∷ goals) =
+      let before = before_uses parts old goal in
+      let later = from_uses parts old goal in
+      let deletes = deleting parts old in
+      let unfolds = unfolding_sides parts old goal in
+      let leaves = leaving_sides parts old goal in
+      let names = named parts old goal in
+      ap (made_or before.made before.noted) (one_tried later)
+      ∙ tried_after deletes (first_applying (unfolds ∷ leaves ∷ names ∷ [])) later
+      ∙ ap (made_or deletes.made deletes.noted)
+      (tried_after unfolds (first_applying (leaves ∷ names ∷ [])) later
+      ∙ ap (made_or unfolds.made unfolds.noted)
+      (tried_after leaves (first_applying (names ∷ [])) later
+      ∙ ap (made_or leaves.made leaves.noted)
+      (ap (λ (t : Tried Next). made_or t.made t.noted later) (one_tried names))))
+
+  module _ (mid : State) (t : Trial) (is : IsTrial parts old mid
+      (at_first (before_uses parts old) old.goals) t) where
+    pub known_first : (same : Trial) → IsUntaken t (Err same) →
+        IsTrial parts old mid (settling_move parts old) same
+    known_first same e =
+        trial_of parts old mid _ _ same (all_items old.goals)
+        (first_of_both parts old mid (before_uses parts old) (λ s. from_uses parts s) t is same e)
+
+    pub uses_second : (u v : Trial) (new : State) (noted : Bool) → IsUntaken t (Ok noted) →
+        IsTrial parts mid new (at_first (from_uses parts mid) mid.goals) u
+        → v ≡ record { taken = u.taken; noted = noted || u.noted } →
+        IsTrial parts old new (settling_move parts old) v
+    uses_second u v new noted e more same =
+        trial_of parts old new _ _ v (all_items old.goals)
+        (second_of_both parts old mid (before_uses parts old) (λ s. from_uses parts s) t is u v new
+        noted e more same)
 
   -- ---- hypotheses
 

@@ -5,6 +5,8 @@ pub mod DoneLaws
 pub mod FirstLaws
 pub mod ItemLaws
 pub mod KeepingLaws
+pub mod KnownLaws
+pub mod MemoLaws
 pub mod MoveLaws
 pub mod NamingLaws
 pub mod PointLaws

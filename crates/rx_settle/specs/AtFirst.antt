@@ -8,8 +8,9 @@ use Rattle.rx_term.specs.declared.rule_set.RuleParts.{RuleParts}
 use Rattle.rx_form.specs.States.{State}
 use Rattle.rx_form.specs.declared.step.Side.{Side}
 use Rattle.rx_form.specs.declared.step.Side.TheVariants.{Left, Right}
+use Rattle.rx_settle.specs.Moves.{Absurd, Equal}
 use Rattle.rx_settle.specs.Settling.{by_results, leaving_at, named, redex_symbol, unfolding_at, using_each, using_on}
-use Rattle.rx_settle.specs.Trying.{Next}
+use Rattle.rx_settle.specs.Trying.{Next, attempt}
 
 -- at the first goal; where none is left nothing is tried
 abbrev pub at_first : (Equation → Tried Next) → List Equation → Tried Next
@@ -52,21 +53,28 @@ module _ (parts : RuleParts) (state : State) where
   abbrev pub using_all : Equation → Tried Next
   using_all goal = first_applying (using_each parts state goal 0 state.hypotheses)
 
-  -- ---- the items from one on
+  -- ---- the items before hypotheses
 
-  -- hypotheses and results
-  abbrev pub from_uses : Equation → Tried Next
-  from_uses goal = first_applying (using_all goal ∷ by_results parts state goal ∷ [])
-
-  -- naming, hypotheses and results
-  abbrev pub from_naming : Equation → Tried Next
-  from_naming goal =
-      first_applying (named parts state goal ∷ using_all goal ∷ by_results parts state goal ∷ [])
-
-  -- loop points, and what comes after them
+  -- loop points, and then naming
   abbrev pub from_leaving : Equation → Tried Next
-  from_leaving goal = first_applying (leaving_sides goal ∷ from_naming goal ∷ [])
+  from_leaving goal = first_applying (leaving_sides goal ∷ named parts state goal ∷ [])
 
   -- other redexes, and what comes after them
   abbrev pub from_unfolding : Equation → Tried Next
   from_unfolding goal = first_applying (unfolding_sides goal ∷ from_leaving goal ∷ [])
+
+  -- a goal that need not be shown
+  abbrev pub deleting : Tried Next
+  deleting = first_applying (attempt parts state Absurd ∷ attempt parts state Equal ∷ [])
+
+  -- the first four items of settling
+  abbrev pub before_uses : Equation → Tried Next
+  before_uses goal =
+      first_applying (deleting ∷ unfolding_sides goal ∷ leaving_sides goal ∷
+      named parts state goal ∷ [])
+
+  -- ---- the items after them
+
+  -- hypotheses and results
+  abbrev pub from_uses : Equation → Tried Next
+  from_uses goal = first_applying (using_all goal ∷ by_results parts state goal ∷ [])

@@ -4,6 +4,7 @@ pub mod Answers
 pub mod AtFirst
 pub mod Candidates
 pub mod Certified
+pub mod Known
 pub mod LoopPoints
 pub mod Moves
 pub mod Outcomes

@@ -2,15 +2,18 @@
 //! a solver shows that, and the step that is taken has its certificates.
 #![tactic(auto)]
 
+mod before_uses;
 mod deleting;
 mod formation;
 mod items;
+mod known;
 mod loop_points;
 mod naming;
 mod number;
 mod results;
 mod rule_steps;
 mod rules;
+mod settle_memo;
 mod settled;
 mod settling;
 mod showing;
@@ -22,6 +25,7 @@ mod uses;
 
 pub use loop_points::LoopPoints;
 pub use rx_plain::NoMemory;
+pub use settle_memo::SettleMemo;
 pub use settled::Settled;
 pub use settling::settle;
 pub use suffix::Common;

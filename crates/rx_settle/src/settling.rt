@@ -2,6 +2,7 @@
 ghost use Rattle.std.specs.Prelude.{◌≡◌, ◌<◌, true, IfOk};
 ghost use Rattle.rx_settle.specs.Advances.{Advances, Records};
 ghost use Rattle.rx_settle.specs.Answers.{IsSettled};
+ghost use Rattle.rx_settle.specs.Known.{AreKnown};
 ghost use Rattle.rx_settle.specs.LoopPoints.{AreLoopPoints};
 ghost use Rattle.rx_settle.specs.Settling.{most_moves, rows_if};
 ghost use Rattle.rx_settle.specs.Settling as settling;
@@ -9,6 +10,7 @@ ghost use Rattle.rx_solve.specs.Answers.{IsSolver};
 
 use crate::items::settle_once;
 use crate::loop_points::LoopPoints;
+use crate::settle_memo::SettleMemo;
 use crate::settled::Settled;
 use crate::trial::Trial;
 use rx_cert::Cert;
@@ -58,25 +60,30 @@ fn advance<S: FnMut(&Constraint) -> Result<Option<Cert>, FmEnd>>(
     alloc: Global,
     rules: &RuleSet,
     points: &LoopPoints,
+    memo: &mut SettleMemo,
     state: &mut State,
     settled: &mut Settled,
     solve: &mut S,
 ) -> Result<bool, NoMemory>
     requires points { AreLoopPoints rules.now points.now }
+    requires known { AreKnown rules.now memo.old }
     requires solver { IsSolver S.FnMut solve.old }
     requires left { 0 < settled.old.left }
+    ensures known { AreKnown rules.now memo.new }
     ensures solver { IsSolver S.FnMut solve.new }
     ensures advances { IfOk result
         (Advances rules.now state.old state.new settled.old settled.new) }
     ensures hypotheses { IfOk result (λ _. state.new.hypotheses ≡ state.old.hypotheses) }
 {
     let rows = first_rows(alloc, state)?;
-    let trial = settle_once(alloc, rules, points, state, solve)?;
+    let trial = settle_once(alloc, rules, points, memo, state, solve)?;
     record_trial(settled, rows, trial)
 }
 
 /// Settles the first goals of a state, one after the other, by 200 moves at most: again and again
 /// by the first that applies. Where none does, the state stays as it is then.
+///
+/// What is known of goals is taken from the memo, and what is found out is kept there.
 ///
 /// Each step has certificates for what it asks, which are at most 174 deep. The note has the rows
 /// of the first goal at which something passed the limits. Fails only where there is no memory; the
@@ -85,11 +92,14 @@ pub fn settle<S: FnMut(&Constraint) -> Result<Option<Cert>, FmEnd>>(
     alloc: Global,
     rules: &RuleSet,
     points: &LoopPoints,
+    memo: &mut SettleMemo,
     state: &mut State,
     solve: &mut S,
 ) -> Result<Settled, NoMemory>
     requires points { AreLoopPoints rules.now points.now }
+    requires known { AreKnown rules.now memo.old }
     requires solver { IsSolver S.FnMut solve.old }
+    ensures known { AreKnown rules.now memo.new }
     ensures solver { IsSolver S.FnMut solve.new }
     ensures settled { IfOk result (IsSettled rules.now state.old state.new
         (settling.settle rules.now most_moves state.old)) }
@@ -97,7 +107,7 @@ pub fn settle<S: FnMut(&Constraint) -> Result<Option<Cert>, FmEnd>>(
 {
     let mut settled = Settled::begin(alloc);
     while settled.left > 0 {
-        if !advance(alloc, rules, points, state, &mut settled, solve)? {
+        if !advance(alloc, rules, points, memo, state, &mut settled, solve)? {
             return Ok(settled);
         }
     }

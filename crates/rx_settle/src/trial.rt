@@ -1,8 +1,10 @@
 //! What comes of trying moves.
-ghost use Rattle.std.specs.Prelude.{◌≡◌, ◌||◌, true, false, Some, None};
+ghost use Rattle.std.specs.Prelude.{◌≡◌, ◌||◌, true, false, Some, None, IfOk};
 ghost use Rattle.rx_settle.specs.Untaken.{IsUntaken};
 
 use rx_form::Step;
+use rx_plain::NoMemory;
+use std::alloc::Global;
 
 /// What comes of trying moves: the step that was taken, if one applied, and whether something on
 /// the way to it passed the limits.
@@ -43,6 +45,20 @@ impl Trial {
             taken: Some(step),
             noted: false,
         }
+    }
+
+    /// The same once more; fails only when out of memory.
+    pub(crate) fn try_clone(&self, alloc: Global) -> Result<Trial, NoMemory>
+        ensures { IfOk result (λ trial. trial ≡ self.now) }
+    {
+        let taken = match &self.taken {
+            Some(step) => Some(step.try_clone(alloc)?),
+            None => None,
+        };
+        Ok(Trial {
+            taken,
+            noted: self.noted,
+        })
     }
 
     /// The same, with what was noted before.

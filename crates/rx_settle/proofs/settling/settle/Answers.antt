@@ -24,6 +24,7 @@ returns-then-not-branch-clause-hypotheses g c =
 
 pub loop-settled-preserved : goal.loop-settled-preserved
 loop-settled-preserved g c = record {
+  known = c.in_ok-advance.ensures.known;
   solver = c.in_ok-advance.ensures.solver;
   moving =
       one_applies c.args.rules.now c.args.state.now c.loop-settled.state c.advance.new.state

@@ -1,10 +1,12 @@
 -- The moves so far, and those that settle the state now, settle the first one.
 use Rattle.rx_solve.specs.Answers.{IsSolver}
+use Rattle.rx_settle.specs.Known.{AreKnown}
 use Rattle.rx_settle.proofs.MoveLaws.{Moving}
 use Rattle.rx_settle.proofs.settling.settle.Given as goal
 
 abbrev pub invariant-loop-settled : goal.invariant-loop-settled
 invariant-loop-settled g l = record {
+  known : AreKnown l.rules l.memo;
   solver : IsSolver g.S.FnMut l.solve;
   moving : Moving l.rules l.fn.state l.state l.settled;
 }

@@ -1,7 +1,7 @@
 -- Other redexes, or else what comes after them.
 use Rattle.rx_settle.specs.AtFirst.{from_leaving, unfolding_sides}
 use Rattle.rx_settle.proofs.FirstLaws.{first_of_both, second_of_both}
-use Rattle.rx_settle.proofs.items.try_from_unfolding.Goals as goal
+use Rattle.rx_settle.proofs.before_uses.try_from_unfolding.Goals as goal
 
 pub returns-in-Err-clause-trial : goal.returns-in-Err-clause-trial
 returns-in-Err-clause-trial g c =

@@ -1,0 +1,45 @@
+-- What is known of a goal: what comes of the items before hypotheses. They look at the first goal
+-- alone, so it is the same at each state that begins with it.
+use Rattle.std.specs.Prelude.{◌≡◌, All, Option, Some, None, Vec}
+use Rattle.std.specs.declared.alloc.Global.{Global}
+use Rattle.rx_solve.specs.Attempts.{Tried}
+use Rattle.rx_term.specs.declared.rule.Equation.{Equation}
+use Rattle.rx_term.specs.declared.rule_set.RuleParts.{RuleParts}
+use Rattle.rx_form.specs.States.{State}
+use Rattle.rx_steps.specs.Alone.{alone, onto}
+use Rattle.rx_settle.specs.Answers.{IsTrial}
+use Rattle.rx_settle.specs.AtFirst.{before_uses}
+use Rattle.rx_settle.specs.Trying.{Next}
+use Rattle.rx_settle.specs.declared.known.Known.{Known}
+use Rattle.rx_settle.specs.declared.settle_memo.SettleMemo.{SettleMemo}
+
+-- what comes of these items where the goal is alone
+unfoldable pub tried_alone : RuleParts → Equation → Tried Next
+tried_alone parts goal = before_uses parts (alone goal) goal
+
+-- the same at a state that begins with the goal: the same move, and what it makes of the goal
+-- stands in its place
+abbrev pub next_onto : State → Option Next → Option Next
+next_onto state None = None
+next_onto state (Some next) = Some (record { move = next.move; state = onto state next.state })
+
+abbrev pub lifted : State → Tried Next → Tried Next
+lifted state tried = record { made = next_onto state tried.made; noted = tried.noted }
+
+-- the trial was made on the goal alone, and led to that state
+pub record IsKnown (parts : RuleParts) (known : Known) : Type 0 where
+  pub trial : IsTrial parts (alone known.goal) known.after (tried_alone parts known.goal)
+      known.trial
+
+-- it is known of that goal
+pub record IsKnownOf (parts : RuleParts) (goal : Equation) (known : Known) : Type 0 where
+  pub same : known.goal ≡ goal
+  pub right : IsKnown parts known
+
+-- so it is of all in a bucket
+abbrev pub AllKnown : RuleParts → Vec Known Global → Type 0
+AllKnown parts bucket = All (IsKnown parts) bucket.items
+
+-- and of all that a memo has
+pub record AreKnown (parts : RuleParts) (memo : SettleMemo) : Type 0 where
+  pub all : All (AllKnown parts) memo.buckets.items
