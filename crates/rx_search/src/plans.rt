@@ -2,6 +2,7 @@
 ghost use Rattle.std.specs.Prelude.{◌≡◌, IfOk};
 ghost use Rattle.rx_search.specs.Nodes.{IsNode, node_of};
 ghost use Rattle.rx_search.specs.Search.{settled};
+ghost use Rattle.rx_settle.specs.Known.{AreKnown};
 ghost use Rattle.rx_settle.specs.LoopPoints.{AreLoopPoints};
 ghost use Rattle.rx_solve.specs.Answers.{IsSolver};
 ghost use Rattle.rx_term.specs.declared.rule.Equation.{Equation};
@@ -15,7 +16,7 @@ use rx_pairs::Pair;
 use rx_plain::{Items, NoMemory};
 use rx_ranking::RankMemo;
 use rx_row::{Constraint, Row};
-use rx_settle::{LoopPoints, settle};
+use rx_settle::{LoopPoints, SettleMemo, settle};
 use rx_term::{Equation, RuleSet};
 use rx_visits::{Menu, Settled, Tree};
 use std::alloc::Global;
@@ -25,11 +26,14 @@ fn settle_node<S: FnMut(&Constraint) -> Result<Option<Cert>, FmEnd>>(
     alloc: Global,
     rules: &RuleSet,
     points: &LoopPoints,
+    known: &mut SettleMemo,
     node: Node,
     solve: &mut S,
 ) -> Result<Settled<Node, Items<Row>>, NoMemory>
     requires points { AreLoopPoints rules.now points.now }
+    requires known { AreKnown rules.now known.old }
     requires solver { IsSolver S.FnMut solve.old }
+    ensures known { AreKnown rules.now known.new }
     ensures solver { IsSolver S.FnMut solve.new }
     ensures settled { IfOk result (λ s. seen_settled node_of s ≡
         settled rules.now (node_of node)) }
@@ -41,7 +45,7 @@ fn settle_node<S: FnMut(&Constraint) -> Result<Option<Cert>, FmEnd>>(
         mut state,
         ..
     } = node;
-    let found = settle(alloc, rules, points, &mut state, solve)?;
+    let found = settle(alloc, rules, points, known, &mut state, solve)?;
     let fresh = shared_steps(alloc, found.steps)?;
     steps.append(fresh)?;
     let closed = is_closed(&state);
@@ -69,6 +73,8 @@ pub(crate) struct Plans<'a, S> {
     pub(crate) points: &'a LoopPoints,
     /// The pairs of the rules.
     pub(crate) pairs: &'a [Pair],
+    /// What is known of goals.
+    pub(crate) known: &'a mut SettleMemo,
     /// What was found out of pairs.
     pub(crate) memo: &'a mut RankMemo,
     /// What refutes rows.
@@ -81,6 +87,7 @@ impl<'a, S: FnMut(&Constraint) -> Result<Option<Cert>, FmEnd>> Tree for Plans<'a
     ghost use Rattle.rx_row.specs.declared.row.Row.{Row};
     ghost use Rattle.rx_search.specs.Nodes.{IsNode, Problem, node_of};
     ghost use Rattle.rx_search.specs.Search as search;
+    ghost use Rattle.rx_settle.specs.Known.{AreKnown};
     ghost use Rattle.rx_settle.specs.LoopPoints.{AreLoopPoints};
     ghost use Rattle.rx_solve.specs.Answers.{IsSolver};
 
@@ -98,7 +105,7 @@ impl<'a, S: FnMut(&Constraint) -> Result<Option<Cert>, FmEnd>> Tree for Plans<'a
     } };
 
     ghost ready = { λ p. IsSolver S.FnMut p.solve.now × AreLoopPoints p.rules.now p.points.now ×
-        AreAllPairs p.rules.now.rules p.pairs.now };
+        AreAllPairs p.rules.now.rules p.pairs.now × AreKnown p.rules.now p.known.now };
 
     ghost View = { search.Node };
 
@@ -111,7 +118,14 @@ impl<'a, S: FnMut(&Constraint) -> Result<Option<Cert>, FmEnd>> Tree for Plans<'a
     ghost menu = { λ w v. search.menu w.parts v };
 
     fn settle(&mut self, node: Node) -> Result<Settled<Node, Items<Row>>, NoMemory> {
-        settle_node(self.alloc, self.rules, self.points, node, self.solve)
+        settle_node(
+            self.alloc,
+            self.rules,
+            self.points,
+            self.known,
+            node,
+            self.solve,
+        )
     }
 
     fn choices(&mut self, node: &Node) -> Result<Menu<Node, Items<Row>>, NoMemory> {

@@ -33,7 +33,7 @@ use rx_pairs::{Pair, all_pairs};
 use rx_plain::{Items, NoMemory};
 use rx_ranking::{RankMemo, Ranking, find_ranks_with};
 use rx_row::{Constraint, Row};
-use rx_settle::LoopPoints;
+use rx_settle::{LoopPoints, SettleMemo};
 use rx_steps::State;
 use rx_term::{Equation, Rule, RuleSet};
 use rx_visits::{Note, Outcome};
@@ -86,12 +86,14 @@ fn visit_plans<S: FnMut(&Constraint) -> Result<Option<Cert>, FmEnd>>(
     let pairs = rule_pairs(alloc, rules)?;
     let points = LoopPoints::new(alloc, rules)?;
     let start = start_node(alloc, goal)?;
+    let mut known = SettleMemo::new(alloc)?;
     let mut plans = Plans {
         alloc,
         rules,
         goal,
         points: &points,
         pairs: pairs.as_slice(),
+        known: &mut known,
         memo,
         solve,
     };

@@ -1,6 +1,16 @@
--- The visits begin at a node of the search.
+-- The visits begin at a node of the search, with a memo that has nothing.
+use Rattle.std.proofs.Common.{subst, sym}
+use Rattle.rx_pairs.specs.Pairs.{AreAllPairs}
 use Rattle.rx_search.proofs.Rooted.{start_is}
 use Rattle.rx_search.proofs.search.visit_plans.Goals as goal
+
+pub search-requires-clause-ready : goal.search-requires-clause-ready
+search-requires-clause-ready g c = (
+  c.requires.solver,
+  c.in_ok-points.ensures,
+  subst (AreAllPairs c.args.rules.now.rules) (sym c.as_slice.ensures.value) c.in_ok-pairs.ensures,
+  c.in_ok-known.ensures c.args.rules.now,
+)
 
 pub search-requires-clause-valid : goal.search-requires-clause-valid
 search-requires-clause-valid g c =
