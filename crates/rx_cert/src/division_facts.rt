@@ -26,8 +26,8 @@ fn remainder(alloc: Global, num: &Poly, den: &i128) -> Result<Poly, PolyEnd>
     num.remainder(alloc, &divisor)
 }
 
-/// The polynomial minus the number times their quotient; Large exactly where a polynomial on the way
-/// passes the limits.
+/// The polynomial minus the number times their quotient; Large exactly where a polynomial on the
+/// way passes the limits.
 fn without_quotient(alloc: Global, num: &Poly, den: &i128) -> Result<Poly, PolyEnd>
     ensures { Forms PolyEnd.Large result (without_quotient_formed num.now den.now) }
 {

@@ -1,7 +1,7 @@
 //! In which order the symbols that are no anchors get their polynomials.
 ghost use Rattle.std.specs.Prelude.{◌≡◌, ◌==◌, IfOk};
 ghost use Rattle.std.specs.List.{find, list_any};
-ghost use Rattle.std.specs.Option.{option_copied, option_map};
+ghost use Rattle.std.specs.Option.{option_map};
 ghost use Rattle.rx_rank.specs.Answers.{pairs_at};
 ghost use Rattle.rx_rank.specs.Choices.{is_ready, order_of, without};
 

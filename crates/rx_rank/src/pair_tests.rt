@@ -16,7 +16,7 @@ use rx_plain::{Items, NoMemory};
 use rx_poly::{Poly, PolyEnd};
 use rx_row::{Constraint, Row};
 use rx_solve::{AllShown, show_all};
-use std::alloc::{AllocError, Global};
+use std::alloc::Global;
 
 /// Whether the row follows from the pair's.
 fn show_row<S: FnMut(&Constraint) -> Result<Option<Cert>, FmEnd>>(

@@ -31,7 +31,8 @@ ShownAnswers given row (Ok (Some (Some cert))) =
     (is_plain_row given row ≡ false) × NegationAnswers given row (Ok (Some cert))
 ShownAnswers given row (Err e) = e ≡ Large → shown refuted given row ≡ Beyond
 
--- an answer that says whether the row is plain, or shown by one more certificate
+-- an answer that says whether the row is plain, or shown by one more certificate, and which
+-- certificates there are then; where it isn't shown these are left open
 abbrev pub RowAnswers : List Row → Row → List Cert → List Cert → Result Bool FmEnd → Type 0
 RowAnswers given row before after (Ok false) = shown refuted given row ≡ No
 RowAnswers given row before after (Ok true) =

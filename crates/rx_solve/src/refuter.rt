@@ -35,7 +35,7 @@ fn replaced(alloc: Global, pivot: &Pivot, rest: Cert) -> Result<Cert, AllocError
     })
 }
 
-/// The same, where something refutes them.
+/// The certificate of the rows before the replacement, where something refutes those after it.
 fn replaced_found(
     alloc: Global,
     pivot: &Pivot,

@@ -114,7 +114,7 @@ fn cut(alloc: Global, rounding: &Rounding, rest: Cert) -> Result<Cert, AllocErro
     Ok(Cert::Cut { parts, div, rest })
 }
 
-/// The same, where something refutes them.
+/// The certificate of the rows before the rounding, where something refutes those after it.
 fn cut_found(
     alloc: Global,
     rounding: &Rounding,
