@@ -109,10 +109,9 @@ fn push_at(
         IsKnown parts known → All (AllKnown parts) buckets.new.items }
 {
     if at < buckets.len() {
-        push_in(&mut buckets[at], known)
-    } else {
-        Ok(())
+        push_in(&mut buckets[at], known)?;
     }
+    Ok(())
 }
 
 /// Empty buckets.
