@@ -55,12 +55,7 @@ pub fn covered(alloc: Global, set: &RuleSet, given: &str) -> Option<Vec<u8>> {
 }
 
 // What is said of the ranks and certificates of a text under hypotheses that have roots.
-fn lowered_with(
-    alloc: Global,
-    set: &RuleSet,
-    hypotheses: &[Rule],
-    text: &str,
-) -> Option<Vec<u8>> {
+fn lowered_with(alloc: Global, set: &RuleSet, hypotheses: &[Rule], text: &str) -> Option<Vec<u8>> {
     if !have_roots(hypotheses) {
         return None;
     }

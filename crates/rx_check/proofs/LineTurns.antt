@@ -287,7 +287,7 @@ pub step_judges : {E : Type 0} (parts : RuleParts) (place : Place) (step : Step)
     (old new : Progress) (result : Result (Option CheckEnd) E) → Asks parts place None
     → OnOk result (new.steps ≡ old.steps + 1) → new.table ≡ old.table
     → IfOk result (λ failure. Ends failure new.state
-      (after_step old.steps (applied parts old.state step)))
+    (after_step old.steps (applied parts old.state step)))
     → OnErr result (new ≡ old) → Judges parts place (line.Step step) old new result
 step_judges parts place step old new (Ok failure) asks counts table ends kept =
     step_judged parts place step old new failure asks counts table ends

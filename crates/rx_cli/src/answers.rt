@@ -9,12 +9,12 @@ ghost use Rattle.rx_report.specs.Reports.{IsReportable};
 ghost use Rattle.rx_cli.specs.Steps.{ChecksNamed, IsReportableNext, IsNotDeep, Reads, bytes_in};
 ghost use Rattle.rx_report.specs.Texts.{IsReportableVerdict};
 
+use crate::NoMemory;
 use crate::check::on_named;
 use crate::examples::show_examples;
 use crate::problems::ask;
 use crate::proving::prove;
 use crate::refuting::refute;
-use crate::NoMemory;
 use c_front::Next;
 use rx_command::{Command, Comparison, Effort, Extent, Functions, command_of};
 use rx_io::{Files, ReadEnd, read_all};
