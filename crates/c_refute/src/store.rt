@@ -2,10 +2,10 @@
 //! for their operator or call, and how many slots there were as each scope began.
 ghost use Rattle.std.specs.Prelude.{◌≡◌, ◌++◌, ◌∷◌, ◌<◌, ◌≤◌, [], IfOk, OnOk, length, take, drop, reverse, slice_set, int_lt, if◌then◌else◌};
 ghost use Rattle.c_meaning.specs.Expressions.{slot};
-ghost use Rattle.c_refute.specs.Flat as spec;
-ghost use Rattle.c_refute.specs.Stores.{below_top, called, ended, entered, given_back, left_scope, pushed, top, with_state, with_values};
+ghost use Rattle.c_code.specs.Flat as spec;
+ghost use Rattle.c_code.specs.Stores.{below_top, called, ended, entered, given_back, left_scope, pushed, top, with_state, with_values};
 
-use crate::code::{Leaf, Operand};
+use c_code::{Leaf, Operand};
 use rx_plain::NoMemory;
 use std::alloc::Global;
 use std::marker::Model;
@@ -21,7 +21,7 @@ pub(crate) struct Store {
 
 impl Model for Store {
     ghost use Rattle.std.specs.Prelude.{◌≤◌, length, take, drop, reverse};
-    ghost use Rattle.c_refute.specs.Stores.{Kept};
+    ghost use Rattle.c_code.specs.Stores.{Kept};
 
     ghost Value = { Kept };
 

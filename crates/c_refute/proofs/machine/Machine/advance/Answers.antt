@@ -2,19 +2,19 @@ use Rattle.std.proofs.Common.{◌≡◌, ◌∙◌, ℕ, ℤ, Some, length, take
 use Rattle.std.proofs.lemmas.Grind.{common_steps}
 use mir.Syntax.{w64}
 use mir.Val.{of_z, to_z}
-use Rattle.c_refute.specs.Counted.{counted}
-use Rattle.c_refute.specs.Flat.{Back, Rest, at, between, kept_after, made, rests, three, times}
+use Rattle.c_counted.specs.Counted.{counted}
+use Rattle.c_code.specs.Flat.{Back, Rest, at, between, kept_after, made, rests, three, times}
 use Rattle.c_refute.specs.Ends.{GivesNumber}
 use Rattle.c_refute.specs.Machines.{back_to}
-use Rattle.c_refute.specs.Stores.{Kept}
+use Rattle.c_code.specs.Stores.{Kept}
 use Rattle.c_ast.specs.declared.expr.BinOp.TheVariants.{Add}
-use Rattle.c_refute.specs.declared.code.Leaf.TheVariants as leaf
-use Rattle.c_refute.specs.declared.code.Operand.TheVariants.{Slot}
-use Rattle.c_refute.specs.declared.code.Sink.TheVariants as sink
-use Rattle.c_refute.specs.declared.code.Work.{Work}
-use Rattle.c_refute.specs.declared.code.Work.TheVariants.{Alone, Between, Left, Right}
-use Rattle.c_refute.specs.declared.code.Op.{Op}
-use Rattle.c_refute.specs.declared.code.Op.TheVariants as op
+use Rattle.c_code.specs.declared.code.Leaf.TheVariants as leaf
+use Rattle.c_code.specs.declared.code.Operand.TheVariants.{Slot}
+use Rattle.c_code.specs.declared.code.Sink.TheVariants as sink
+use Rattle.c_code.specs.declared.code.Work.{Work}
+use Rattle.c_code.specs.declared.code.Work.TheVariants.{Alone, Between, Left, Right}
+use Rattle.c_code.specs.declared.code.Op.{Op}
+use Rattle.c_code.specs.declared.code.Op.TheVariants as op
 use Rattle.c_refute.proofs.RunningCode.{kept-same, op-found, op-steps, steps-same, turn-steps}
 use Rattle.c_refute.proofs.machine.Machine.advance.Goals as goal
 

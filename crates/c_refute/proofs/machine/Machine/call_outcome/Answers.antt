@@ -1,7 +1,7 @@
 use Rattle.std.proofs.Common.{◌≡◌, ℤ, ◌<◌, ◌∙◌, sym, subst, arith}
 use Rattle.std.specs.Prelude.{IfOk}
-use Rattle.c_refute.specs.Counted.{outcome_of}
-use Rattle.c_refute.specs.Runs.{Run}
+use Rattle.c_counted.specs.Counted.{outcome_of}
+use Rattle.c_counted.specs.Runs.{Run}
 use Rattle.c_refute.proofs.Endings.{whole-call}
 use Rattle.c_refute.proofs.machine.Machine.call_outcome.Goals as goal
 

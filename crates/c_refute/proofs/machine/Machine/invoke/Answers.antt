@@ -2,11 +2,11 @@ use Rattle.std.proofs.Common.{◌≡◌, length, ◌-◌, ◌∙◌, ℕ, suc, S
 use Rattle.std.specs.Prelude.{slice_get}
 use Rattle.std.proofs.Math.ListN.{length-append}
 use Rattle.std.proofs.lemmas.Option.{slice_get_within}
-use Rattle.c_refute.specs.Counted.{counted}
-use Rattle.c_refute.specs.Flat.{Back, Rest, op_to, rests, code_run}
+use Rattle.c_counted.specs.Counted.{counted}
+use Rattle.c_code.specs.Flat.{Back, Rest, op_to, rests, code_run}
 use Rattle.c_refute.specs.Machines.{back_to, machine_run}
-use Rattle.c_refute.specs.Stores.{Kept, called}
-use Rattle.c_refute.specs.declared.code.Op.TheVariants as op
+use Rattle.c_code.specs.Stores.{Kept, called}
+use Rattle.c_code.specs.declared.code.Op.TheVariants as op
 use Rattle.c_refute.specs.declared.machine.Caller.{Caller}
 use Rattle.c_refute.proofs.RunningCode.{back-pushed, call-begun, caller-found, function-found}
 use Rattle.c_refute.proofs.machine.Machine.invoke.Goals as goal

@@ -1,7 +1,7 @@
 use Rattle.std.proofs.Common.{◌≤◌, ◌∙◌, length, refl, ap, sym, arith}
 use Rattle.std.proofs.lemmas.Option.{slice_get_read}
-use Rattle.c_refute.specs.Counted.{counted, outcome_of}
-use Rattle.c_refute.specs.Flat.{Back, Rest}
+use Rattle.c_counted.specs.Counted.{counted, outcome_of}
+use Rattle.c_code.specs.Flat.{Back, Rest}
 use Rattle.c_refute.specs.Machines.{back_to}
 use Rattle.c_refute.proofs.RunningCode.{falls-round, lost-above, lost-past, lower-kept}
 use Rattle.c_refute.proofs.machine.Machine.run.Goals as goal

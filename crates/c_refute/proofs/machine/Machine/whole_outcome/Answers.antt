@@ -1,7 +1,7 @@
 use Rattle.std.proofs.Common.{◌≡◌, subst}
 use Rattle.std.specs.Prelude.{IfOk}
 use Rattle.std.specs.Option.{option_copied}
-use Rattle.c_refute.specs.declared.outcomes.Outcome.{Outcome}
+use Rattle.c_counted.specs.declared.outcomes.Outcome.{Outcome}
 use Rattle.c_refute.proofs.Endings.{whole-expr}
 use Rattle.c_refute.proofs.machine.Machine.whole_outcome.Goals as goal
 

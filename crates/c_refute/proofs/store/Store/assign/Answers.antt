@@ -1,5 +1,5 @@
 use Rattle.std.proofs.lemmas.Int.{to_z-of_z}
-use Rattle.c_refute.proofs.Slots.{kept-set}
+use Rattle.c_code.proofs.Slots.{kept-set}
 use Rattle.c_refute.proofs.store.Store.assign.Goals as goal
 
 pub returns-then-at-len : goal.returns-then-at-len

@@ -1,6 +1,6 @@
 use Rattle.std.proofs.Common.{◌≡◌, ◌++◌, ◌-◌, ◌≤◌, ◌∙◌, ℤ, List, length, drop, ap, arith}
 use Rattle.std.proofs.lemmas.List.{length-drop, take_all}
-use Rattle.c_refute.proofs.Slots.{kept-call}
+use Rattle.c_code.proofs.Slots.{kept-call}
 use Rattle.c_refute.proofs.store.Store.call.Goals as goal
 
 pub returns-clause-kept : goal.returns-clause-kept

@@ -1,5 +1,5 @@
 use Rattle.std.proofs.Common.{◌≡◌, ◌-◌, length, take}
-use Rattle.c_refute.proofs.Slots.{kept-end}
+use Rattle.c_code.proofs.Slots.{kept-end}
 use Rattle.c_refute.proofs.store.Store.end.Goals as goal
 
 pub returns-then-scopes-gt0 : goal.returns-then-scopes-gt0

@@ -1,4 +1,4 @@
-use Rattle.c_refute.proofs.Slots.{kept-take}
+use Rattle.c_code.proofs.Slots.{kept-take}
 use Rattle.c_refute.proofs.store.Store.keep_first.Goals as goal
 
 pub returns-then-count : goal.returns-then-count
