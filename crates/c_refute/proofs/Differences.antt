@@ -13,7 +13,8 @@ use Rattle.c_refute.specs.declared.findings.Finding.{Finding}
 use Rattle.c_refute.specs.declared.findings.Finding.TheVariants as finding
 use Rattle.c_counted.specs.Runs.{Run}
 use Rattle.c_counted.specs.Counted.{counted, counted_expr, outcome_of}
-use Rattle.c_refute.specs.Points.{is_decided, finding_of, precondition_at, finding_under, finding_at}
+use Rattle.c_machine.specs.Preconditions.{precondition_at}
+use Rattle.c_refute.specs.Points.{is_decided, finding_of, finding_under, finding_at}
 use Rattle.c_refute.specs.Laws.{meant, Meets, ReturnDifferent}
 use Rattle.c_counted.proofs.Meaning.{Means, Leaves, Divides, Waits, Passes, call_means, expression_means}
 

@@ -5,5 +5,3 @@ pub mod Comparing
 pub mod Differences
 pub mod OneComparison
 mod Examples
-pub mod RunningCode
-pub mod Endings

@@ -1,6 +1,4 @@
--- How two functions compare on all small arguments, and how runs of code end.
+-- How two functions compare on all small arguments.
 pub mod Points
 pub mod Walk
 pub mod Laws
-pub mod Ends
-pub mod Machines

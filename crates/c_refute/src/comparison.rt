@@ -7,11 +7,11 @@ ghost use Rattle.c_refute.specs.Points.{arity, finding_at, finding_of};
 ghost use Rattle.c_refute.specs.Points.{is_alike, is_undecided, points, IsComparison};
 
 use crate::findings::{Compared, Finding, RefuteEnd};
-use crate::machine::Machine;
 use crate::points::{MAX_POINTS, advance, first_point, number_of_points};
 use c_ast::{Expr, Resolved};
 use c_code::{Code, compile};
 use c_counted::Outcome;
+use c_machine::Machine;
 use rx_plain::{Items, NoMemory};
 use std::alloc::Global;
 
