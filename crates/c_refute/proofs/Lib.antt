@@ -1,6 +1,3 @@
-pub mod Bounds
-pub mod Equations
-pub mod Meaning
 pub mod Walking
 pub mod PointLists
 pub mod Walked
@@ -8,15 +5,3 @@ pub mod Comparing
 pub mod Differences
 pub mod OneComparison
 mod Examples
-pub mod Runs
-pub mod Positions
-pub mod Leading
-pub mod ExpressionCode
-pub mod WorkCode
-pub mod StatementCode
-pub mod LoopCode
-pub mod RunningCode
-pub mod Slots
-pub mod Unscoped
-pub mod ProgramCode
-pub mod Endings

@@ -7,13 +7,14 @@ use Rattle.c_ast.specs.declared.expr.Expr.{Expr}
 use Rattle.c_ast.specs.declared.program.Function.{Function}
 use Rattle.c_ast.specs.declared.program.Resolved.{Resolved}
 use Rattle.c_meaning.specs.Expressions.{is_zero}
-use Rattle.c_refute.specs.declared.outcomes.Outcome.{Outcome}
-use Rattle.c_refute.specs.declared.outcomes.Outcome.TheVariants.{Value, DivError, More, Over}
+use Rattle.c_counted.specs.declared.outcomes.Outcome.{Outcome}
+use Rattle.c_counted.specs.declared.outcomes.Outcome.TheVariants.{Value, DivError, More, Over}
 use Rattle.c_refute.specs.declared.findings.Finding.{Finding}
 use Rattle.c_refute.specs.declared.findings.Finding.TheVariants as finding
 use Rattle.c_refute.specs.declared.findings.Compared.{Compared}
 use Rattle.c_refute.specs.declared.findings.Compared.TheVariants as compared
-use Rattle.c_refute.specs.Counted.{counted, counted_expr, outcome_of}
+use Rattle.c_counted.specs.Counted.{counted, outcome_of}
+use Rattle.c_machine.specs.Preconditions.{precondition_at}
 
 -- `count` integers, from the first on
 abbrev pub integers_from : ℤ → ℕ → List ℤ
@@ -56,11 +57,6 @@ finding_of first second =
     if is_decided first && is_decided second
     then (if is_same first second then finding.Alike else finding.Different first second)
     else finding.Undecided
-
--- the outcome of the precondition at a point; a missing one is a constant other than 0
-abbrev pub precondition_at : Resolved → Option Expr → ℕ → List ℤ → Outcome
-precondition_at program None rounds point = Value (pos 1)
-precondition_at program (Some e) rounds point = outcome_of (counted_expr program e rounds point)
 
 -- a point counts where the precondition has a value other than 0; it is undecided where the
 -- precondition is 'more' or 'over', and excluded where the value is 0 or there is none

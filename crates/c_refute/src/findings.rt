@@ -1,6 +1,6 @@
 //! What is found at a point, and what two functions compare to over all points.
 
-use crate::outcomes::Outcome;
+use c_counted::Outcome;
 use rx_plain::{Items, NoMemory};
 use thiserror::Error;
 

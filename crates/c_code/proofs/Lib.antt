@@ -1,0 +1,9 @@
+pub mod Positions
+pub mod Leading
+pub mod ExpressionCode
+pub mod WorkCode
+pub mod StatementCode
+pub mod LoopCode
+pub mod Slots
+pub mod Unscoped
+pub mod ProgramCode

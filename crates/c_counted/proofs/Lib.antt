@@ -1,0 +1,5 @@
+pub mod Runs
+pub mod Bounds
+pub mod Equations
+pub mod Meaning
+pub mod Examples

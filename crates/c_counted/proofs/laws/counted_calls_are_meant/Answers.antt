@@ -1,0 +1,32 @@
+use Rattle.c_meaning.specs.Programs.{call_outcome}
+use Rattle.c_counted.specs.Counted.{counted}
+use Rattle.c_counted.proofs.Meaning.{value_meant, division_meant, call_means}
+use Rattle.c_counted.proofs.laws.counted_calls_are_meant.Goals as goal
+
+pub returns-clause-value : goal.returns-clause-value
+returns-clause-value c = λ program n f arguments x left is.
+    value_meant n (counted program n f arguments) (call_outcome program n f arguments) x left
+    (call_means program n f arguments) is
+
+pub returns-clause-division : goal.returns-clause-division
+returns-clause-division c = λ program n f arguments is.
+    division_meant n (counted program n f arguments) (call_outcome program n f arguments)
+    (call_means program n f arguments) is
+
+pub returns-clause-returns : goal.returns-clause-returns
+returns-clause-returns c = λ program n f arguments x left is. record {
+  enough = n;
+  outcome =
+      value_meant n (counted program n f arguments) (call_outcome program n f arguments) x left
+      (call_means program n f arguments) is;
+  is_answer = tt;
+}
+
+pub returns-clause-returns_error : goal.returns-clause-returns_error
+returns-clause-returns_error c = λ program n f arguments is. record {
+  enough = n;
+  outcome =
+      division_meant n (counted program n f arguments) (call_outcome program n f arguments)
+      (call_means program n f arguments) is;
+  is_answer = tt;
+}

@@ -1,0 +1,14 @@
+use Rattle.c_meaning.specs.Programs.{expr_outcome}
+use Rattle.c_counted.specs.Counted.{counted_expr}
+use Rattle.c_counted.proofs.Meaning.{value_meant, division_meant, expression_means}
+use Rattle.c_counted.proofs.laws.counted_expressions_are_meant.Goals as goal
+
+pub returns-clause-value : goal.returns-clause-value
+returns-clause-value c = λ program e n s x left is.
+    value_meant n (counted_expr program e n s) (expr_outcome program n e s) x left
+    (expression_means program e n s) is
+
+pub returns-clause-division : goal.returns-clause-division
+returns-clause-division c = λ program e n s is.
+    division_meant n (counted_expr program e n s) (expr_outcome program n e s)
+    (expression_means program e n s) is

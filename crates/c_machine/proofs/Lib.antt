@@ -1,0 +1,2 @@
+pub mod RunningCode
+pub mod Endings

@@ -1,7 +1,0 @@
--- The statements from the index on add no slot.
-use Rattle.std.proofs.Common.{drop}
-use Rattle.c_refute.specs.Scopes.{AddNoSlots}
-use Rattle.c_refute.proofs.scopes.add_no_slots.Given as goal
-
-abbrev pub invariant-loop-i : goal.invariant-loop-i
-invariant-loop-i l = AddNoSlots (drop l.i l.statements)
