@@ -1,5 +1,3 @@
--- What a cache of answers holds, and what becomes of it; polynomials with numbers; packed states.
-pub mod Cache
-pub mod CachedSolver
+-- Polynomials with numbers; packed states.
 pub mod Numbers
 pub mod Packing

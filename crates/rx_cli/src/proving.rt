@@ -1,7 +1,7 @@
 //! The search for a proof.
 ghost use Rattle.std.specs.Prelude.{◌≡◌, ◌≤◌, true, length, IfOk};
 ghost use Rattle.rx_command.specs.Commands.{functions_view, is_short};
-ghost use Rattle.rx_bank.specs.CachedSolver.{IsCachedSolver};
+ghost use Rattle.rx_cache.specs.CachedSolver.{IsCachedSolver};
 ghost use Rattle.rx_coverable.specs.Coverable.{is_coverable};
 ghost use Rattle.rx_joins.specs.Goals.{IsFitting};
 ghost use Rattle.rx_log.specs.Depth.{is_shallow_log};
@@ -14,7 +14,7 @@ ghost use Rattle.rx_report.specs.Texts.{IsReportableVerdict};
 
 use crate::problems::{Problem, ask};
 use c_front::Next;
-use rx_bank::CachedSolver;
+use rx_cache::CachedSolver;
 use rx_cert::Cert;
 use rx_command::{Effort, Functions};
 use rx_fm::FmEnd;

@@ -10,7 +10,7 @@ use Rattle.rx_plain.proofs.Booleans.{or_false}
 use Rattle.rx_solve.specs.Attempts.{Tried, beyond}
 use Rattle.rx_term.specs.declared.rule_set.RuleParts.{RuleParts}
 use Rattle.rx_lemma.specs.Lemmas.{Generalisation}
-use Rattle.rx_settle.specs.Trying.{Next}
+use Rattle.rx_unfold.specs.Trying.{Next}
 use Rattle.rx_search.specs.Menu.{Chosen, by_lemmas, choice}
 use Rattle.rx_search.specs.Nodes.{AreChoices, IsTried, choice_of, node_of, with_choice}
 use Rattle.rx_search.specs.Search as search

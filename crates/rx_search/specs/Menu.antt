@@ -13,8 +13,8 @@ use Rattle.rx_lemma.specs.Lemmas.{Generalisation}
 use Rattle.rx_lemma.specs.declared.lemma.LemmaKind.{LemmaKind}
 use Rattle.rx_lemma.specs.declared.lemma.LemmaKind.TheVariants.{NameConstants, DropValues, ReplaceRepeated}
 use Rattle.rx_rank.specs.Ranking.{ranked}
-use Rattle.rx_settle.specs.Moves.{Decompose, Expand, Generalise}
-use Rattle.rx_settle.specs.Trying.{Next, attempt, then_try}
+use Rattle.rx_unfold.specs.Moves.{Decompose, Expand, Generalise}
+use Rattle.rx_unfold.specs.Trying.{Next, attempt, then_try}
 
 -- a choice by its number, and what comes of trying it
 pub record Chosen : Type 0 where

@@ -15,9 +15,9 @@ use Rattle.rx_joins.specs.Goals.{IsFitting}
 use Rattle.rx_joins.specs.Runs as runs
 use Rattle.rx_rank.specs.Ranking.{ranked}
 use Rattle.rx_settle.specs.Answers.{AreDeep, after_all}
-use Rattle.rx_settle.specs.Moves.{Decompose, Expand, Generalise, Move, move_of}
+use Rattle.rx_unfold.specs.Moves.{Decompose, Expand, Generalise, Move, move_of}
 use Rattle.rx_settle.specs.Settling.{most_moves}
-use Rattle.rx_settle.specs.Trying.{Next}
+use Rattle.rx_unfold.specs.Trying.{Next}
 use Rattle.rx_search.specs.Menu.{Chosen, is_any_noted}
 use Rattle.rx_search.specs.Search as search
 use Rattle.rx_search.specs.Search.{child, node_with}

@@ -9,10 +9,10 @@ use Rattle.rx_term.specs.declared.rule.Equation.{Equation}
 use Rattle.rx_term.specs.declared.rule_set.RuleParts.{RuleParts}
 use Rattle.rx_form.specs.States.{State}
 use Rattle.rx_rank.specs.Ranking.{ranked}
-use Rattle.rx_settle.specs.Moves.{Move}
+use Rattle.rx_unfold.specs.Moves.{Move}
 use Rattle.rx_settle.specs.Settling.{most_moves, rows_if, settle}
 use Rattle.rx_settle.specs.Settling as settling
-use Rattle.rx_settle.specs.Trying.{Next}
+use Rattle.rx_unfold.specs.Trying.{Next}
 use Rattle.rx_search.specs.Menu.{Chosen, chosen, is_any_noted}
 use Rattle.rx_visits.specs.Outcomes.{outcome}
 use Rattle.rx_visits.specs.Visits.{all_visits}

@@ -3,7 +3,7 @@ ghost use Rattle.std.specs.Prelude.{◌≡◌, IfOk};
 ghost use Rattle.rx_search.specs.Nodes.{IsNode, node_of};
 ghost use Rattle.rx_search.specs.Search.{settled};
 ghost use Rattle.rx_settle.specs.Known.{AreKnown};
-ghost use Rattle.rx_settle.specs.LoopPoints.{AreLoopPoints};
+ghost use Rattle.rx_unfold.specs.LoopPoints.{AreLoopPoints};
 ghost use Rattle.rx_solve.specs.Answers.{IsSolver};
 ghost use Rattle.rx_term.specs.declared.rule.Equation.{Equation};
 ghost use Rattle.rx_visits.specs.Views.{seen_settled};
@@ -16,8 +16,9 @@ use rx_pairs::Pair;
 use rx_plain::{Items, NoMemory};
 use rx_ranking::RankMemo;
 use rx_row::{Constraint, Row};
-use rx_settle::{LoopPoints, SettleMemo, settle};
+use rx_settle::{SettleMemo, settle};
 use rx_term::{Equation, RuleSet};
+use rx_unfold::LoopPoints;
 use rx_visits::{Menu, Settled, Tree};
 use std::alloc::Global;
 
@@ -88,7 +89,7 @@ impl<'a, S: FnMut(&Constraint) -> Result<Option<Cert>, FmEnd>> Tree for Plans<'a
     ghost use Rattle.rx_search.specs.Nodes.{IsNode, Problem, node_of};
     ghost use Rattle.rx_search.specs.Search as search;
     ghost use Rattle.rx_settle.specs.Known.{AreKnown};
-    ghost use Rattle.rx_settle.specs.LoopPoints.{AreLoopPoints};
+    ghost use Rattle.rx_unfold.specs.LoopPoints.{AreLoopPoints};
     ghost use Rattle.rx_solve.specs.Answers.{IsSolver};
 
     type Node = Node;

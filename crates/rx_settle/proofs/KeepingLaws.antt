@@ -27,11 +27,12 @@ use Rattle.rx_form.specs.declared.step.Side.TheVariants.{Left, Right}
 use Rattle.rx_generalise.specs.Naming.{naming_of}
 use Rattle.rx_lemma.specs.Lemmas.{Generalisation}
 use Rattle.rx_match.specs.Matching.{use_of}
-use Rattle.rx_settle.specs.Moves.{Absurd, Equal, Expand, Generalise, Hyp, Move, Results, Simplify, step_of}
-use Rattle.rx_settle.specs.Settling.{by_results, by_rules, is_at_loop_point, is_tried, leaving_at, named, redex_symbol, resulting, resulting_at, settling, settling_first, settling_move, simplifying, unfolding_at, using_at, using_each, variables_end}
-use Rattle.rx_settle.specs.Suffixes.{common_suffix}
-use Rattle.rx_settle.specs.Trying.{Next, asked_shown, attempt, next_if_formed, then_by}
-use Rattle.rx_settle.specs.declared.suffix.Common.{Common}
+use Rattle.rx_unfold.specs.Moves.{Absurd, Equal, Expand, Generalise, Hyp, Move, Results, Simplify, step_of}
+use Rattle.rx_settle.specs.Settling.{by_results, named, resulting, resulting_at, settling, settling_first, settling_move, using_at, using_each, variables_end}
+use Rattle.rx_unfold.specs.Unfolding.{by_rules, is_at_loop_point, is_tried, leaving_at, redex_symbol, simplifying, unfolding_at}
+use Rattle.rx_suffix.specs.Suffixes.{common_suffix}
+use Rattle.rx_unfold.specs.Trying.{Next, asked_shown, attempt, next_if_formed, then_by}
+use Rattle.rx_suffix.specs.declared.finding.Common.{Common}
 
 -- ---- steps that keep nothing
 

@@ -9,13 +9,8 @@ pub mod KnownLaws
 pub mod MemoLaws
 pub mod MoveLaws
 pub mod NamingLaws
-pub mod PointLaws
-pub mod RedexLaws
 pub mod ResultLaws
-pub mod RuleStepLaws
-pub mod RuleWalk
 pub mod ShowingLaws
-pub mod SuffixLaws
 pub mod TrialLaws
 pub mod TryingLaws
 pub mod UseWalk

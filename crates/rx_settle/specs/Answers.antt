@@ -7,19 +7,14 @@ use Rattle.rx_term.specs.declared.rule_set.RuleParts.{RuleParts}
 use Rattle.rx_form.specs.Judging.{StepFault, certificates}
 use Rattle.rx_form.specs.States.{State, applied}
 use Rattle.rx_form.specs.declared.step.Step.{Step}
-use Rattle.rx_settle.specs.Moves.{move_of}
+use Rattle.rx_unfold.specs.Moves.{move_of}
 use Rattle.rx_settle.specs.Settling as settling
-use Rattle.rx_settle.specs.Trying.{Next}
+use Rattle.rx_unfold.specs.Answers.{IsTaken}
+use Rattle.rx_unfold.specs.Trying.{Next}
 use Rattle.rx_settle.specs.declared.settled.Settled.{Settled}
 use Rattle.rx_settle.specs.declared.trial.Trial.{Trial}
 
 -- ---- one step
-
--- the step makes the new state of the old one: its certificates show what it asks, each at most 174
--- deep
-pub record IsTaken (parts : RuleParts) (old new : State) (step : Step) : Type 0 where
-  pub applies : applied parts old step ≡ Ok new
-  pub deep : All (λ cert. cert_depth cert ≤ most_deep) (certificates step)
 
 -- no step is taken and the state is as before; or this step is, and it makes the new state
 abbrev pub Takes : RuleParts → State → State → Option Next → Option Step → Type 0

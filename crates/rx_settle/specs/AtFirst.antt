@@ -8,9 +8,10 @@ use Rattle.rx_term.specs.declared.rule_set.RuleParts.{RuleParts}
 use Rattle.rx_form.specs.States.{State}
 use Rattle.rx_form.specs.declared.step.Side.{Side}
 use Rattle.rx_form.specs.declared.step.Side.TheVariants.{Left, Right}
-use Rattle.rx_settle.specs.Moves.{Absurd, Equal}
-use Rattle.rx_settle.specs.Settling.{by_results, leaving_at, named, redex_symbol, unfolding_at, using_each, using_on}
-use Rattle.rx_settle.specs.Trying.{Next, attempt}
+use Rattle.rx_unfold.specs.Moves.{Absurd, Equal}
+use Rattle.rx_settle.specs.Settling.{by_results, named, using_each, using_on}
+use Rattle.rx_unfold.specs.Trying.{Next, attempt}
+use Rattle.rx_unfold.specs.Unfolding.{leaving_sides, unfolding_sides}
 
 -- at the first goal; where none is left nothing is tried
 abbrev pub at_first : (Equation → Tried Next) → List Equation → Tried Next
@@ -18,24 +19,6 @@ at_first tried [] = fails
 at_first tried (goal ∷ goals) = tried goal
 
 module _ (parts : RuleParts) (state : State) where
-  -- ---- the sides
-
-  -- a side, where its redex is at no loop point
-  abbrev pub unfolding_side : Side → Equation → Tried Next
-  unfolding_side side goal = unfolding_at parts state side (redex_symbol side goal)
-
-  -- both sides in turn
-  abbrev pub unfolding_sides : Equation → Tried Next
-  unfolding_sides goal = first_applying (unfolding_side Left goal ∷ unfolding_side Right goal ∷ [])
-
-  -- a side, where its redex is at a loop point
-  abbrev pub leaving_side : Side → Equation → Tried Next
-  leaving_side side goal = leaving_at parts state side (redex_symbol side goal)
-
-  -- both sides in turn
-  abbrev pub leaving_sides : Equation → Tried Next
-  leaving_sides goal = first_applying (leaving_side Left goal ∷ leaving_side Right goal ∷ [])
-
   -- ---- hypotheses
 
   -- a hypothesis, if there is one of that number, on a side
@@ -57,11 +40,11 @@ module _ (parts : RuleParts) (state : State) where
 
   -- loop points, and then naming
   abbrev pub from_leaving : Equation → Tried Next
-  from_leaving goal = first_applying (leaving_sides goal ∷ named parts state goal ∷ [])
+  from_leaving goal = first_applying (leaving_sides parts state goal ∷ named parts state goal ∷ [])
 
   -- other redexes, then loop points, and then naming
   abbrev pub from_unfolding : Equation → Tried Next
-  from_unfolding goal = first_applying (unfolding_sides goal ∷ from_leaving goal ∷ [])
+  from_unfolding goal = first_applying (unfolding_sides parts state goal ∷ from_leaving goal ∷ [])
 
   -- a goal that need not be shown
   abbrev pub deleting : Tried Next
@@ -70,7 +53,7 @@ module _ (parts : RuleParts) (state : State) where
   -- the first four items of settling
   abbrev pub before_uses : Equation → Tried Next
   before_uses goal =
-      first_applying (deleting ∷ unfolding_sides goal ∷ leaving_sides goal ∷
+      first_applying (deleting ∷ unfolding_sides parts state goal ∷ leaving_sides parts state goal ∷
       named parts state goal ∷ [])
 
   -- ---- the items after them

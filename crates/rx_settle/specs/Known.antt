@@ -9,7 +9,7 @@ use Rattle.rx_form.specs.States.{State}
 use Rattle.rx_steps.specs.Alone.{alone, onto}
 use Rattle.rx_settle.specs.Answers.{IsTrial}
 use Rattle.rx_settle.specs.AtFirst.{before_uses}
-use Rattle.rx_settle.specs.Trying.{Next}
+use Rattle.rx_unfold.specs.Trying.{Next}
 use Rattle.rx_settle.specs.declared.known.Known.{Known}
 use Rattle.rx_settle.specs.declared.settle_memo.SettleMemo.{SettleMemo}
 

@@ -1,18 +1,15 @@
 -- Settling: on the first goal again and again the first move that applies, of those listed here in
 -- order. It ends where no goal is left or none applies, and after 200 moves.
-use Rattle.std.specs.Prelude.{ℕ, zero, suc, ◌+◌, ◌-◌, ◌==◌, ◌&&◌, nat_lt, Bool, true, false, not, if◌then◌else◌, Option, Some, None, List, [], ◌∷◌, map, option_and_then}
+use Rattle.std.specs.Prelude.{ℕ, zero, suc, ◌+◌, ◌-◌, ◌==◌, ◌&&◌, nat_lt, Bool, true, false, if◌then◌else◌, Option, Some, None, List, [], ◌∷◌, map}
 use Rattle.std.specs.List.{range_with_len}
-use Rattle.std.specs.Option.{option_map_or, option_or}
+use Rattle.std.specs.Option.{option_or}
 use Rattle.rx_row.specs.declared.row.Row.{Row}
 use Rattle.rx_solve.specs.Attempts.{Tried, fails, first_applying}
 use Rattle.rx_term.specs.Bounds.{equation_bound}
-use Rattle.rx_term.specs.Meaning.{redex_of}
-use Rattle.rx_term.specs.Stacks.{depth_of, root_of}
+use Rattle.rx_term.specs.Stacks.{depth_of}
 use Rattle.rx_term.specs.declared.rule.Equation.{Equation}
 use Rattle.rx_term.specs.declared.rule.Rule.{Rule}
 use Rattle.rx_term.specs.declared.rule_set.RuleParts.{RuleParts}
-use Rattle.rx_term.specs.declared.term.Sym.{Sym}
-use Rattle.rx_pairs.specs.Loops.{in_one_component, is_loop_point}
 use Rattle.rx_form.specs.Pieces.{side_of}
 use Rattle.rx_form.specs.States.{State}
 use Rattle.rx_form.specs.declared.step.Side.{Side}
@@ -20,30 +17,11 @@ use Rattle.rx_form.specs.declared.step.Side.TheVariants.{Left, Right}
 use Rattle.rx_generalise.specs.Naming.{naming_of}
 use Rattle.rx_lemma.specs.Lemmas.{Generalisation}
 use Rattle.rx_match.specs.Matching.{use_of}
-use Rattle.rx_settle.specs.Moves.{Move, Simplify, Hyp, Expand, Absurd, Equal, Generalise, Results}
-use Rattle.rx_settle.specs.Suffixes.{common_suffix}
-use Rattle.rx_settle.specs.declared.suffix.Common.{Common}
-use Rattle.rx_settle.specs.Trying.{Next, attempt, noting, then_try}
-
--- ---- redexes
-
--- the symbol of the redex of a side, if that has one
-abbrev pub redex_symbol : Side → Equation → Option Sym
-redex_symbol side goal = option_and_then root_of (redex_of (side_of side goal))
-
--- it is a loop point's
-abbrev pub is_at_loop_point : RuleParts → Option Sym → Bool
-is_at_loop_point parts redex = option_map_or (λ (f : Sym). is_loop_point parts f.0) redex false
-
--- the right side of the rule doesn't begin in the component of the symbol; a result begins in none
-abbrev pub leaves : RuleParts → Sym → Rule → Bool
-leaves parts f rule =
-    option_map_or (λ (g : Sym). not (in_one_component parts f.0 g.0)) (root_of rule.right) true
-
--- the rules that are tried: all, or those that leave the component of a symbol
-abbrev pub is_tried : RuleParts → Option Sym → Rule → Bool
-is_tried parts None rule = true
-is_tried parts (Some f) rule = leaves parts f rule
+use Rattle.rx_unfold.specs.Moves.{Move, Hyp, Absurd, Equal, Generalise, Results}
+use Rattle.rx_suffix.specs.Suffixes.{common_suffix}
+use Rattle.rx_suffix.specs.declared.finding.Common.{Common}
+use Rattle.rx_unfold.specs.Trying.{Next, attempt, noting, then_try}
+use Rattle.rx_unfold.specs.Unfolding.{leaving_at, redex_symbol, unfolding_at}
 
 -- ---- moves
 
@@ -52,29 +30,6 @@ abbrev pub variables_end : ℕ
 variables_end = 1000000
 
 module _ (parts : RuleParts) (state : State) where
-  -- Simplify by each of the rules that are tried, the first having that number; a rule of another
-  -- shape than the redex's doesn't apply
-  abbrev pub by_rules : Side → Option Sym → ℕ → List Rule → List (Tried Next)
-  by_rules side from n [] = []
-  by_rules side from n (rule ∷ rules) =
-      if is_tried parts from rule then attempt parts state (Simplify side n) ∷
-      by_rules side from (n + 1) rules
-      else by_rules side from (n + 1) rules
-
-  abbrev pub simplifying : Side → Option Sym → Tried Next
-  simplifying side from = first_applying (by_rules side from 0 parts.rules)
-
-  -- at a redex that is at no loop point: Simplify by the rules in order, and then Expand without
-  -- keeping
-  abbrev pub unfolding_at : Side → Option Sym → Tried Next
-  unfolding_at side redex =
-      if is_at_loop_point parts redex then fails
-      else first_applying (simplifying side None ∷ attempt parts state (Expand side false) ∷ [])
-
-  -- at a loop point: Simplify by the rules in order that leave its component
-  abbrev pub leaving_at : Side → Option Sym → Tried Next
-  leaving_at side redex = if is_at_loop_point parts redex then simplifying side redex else fails
-
   -- constants of calls become variables
   abbrev pub named : Equation → Tried Next
   named goal =
@@ -125,10 +80,10 @@ module _ (parts : RuleParts) (state : State) where
   abbrev pub settling : Equation → List (Tried Next)
   settling goal =
       first_applying (attempt parts state Absurd ∷ attempt parts state Equal ∷ [])
-      ∷ first_applying (unfolding_at Left (redex_symbol Left goal) ∷
-      unfolding_at Right (redex_symbol Right goal) ∷ [])
-      ∷ first_applying (leaving_at Left (redex_symbol Left goal) ∷
-      leaving_at Right (redex_symbol Right goal) ∷ [])
+      ∷ first_applying (unfolding_at parts state Left (redex_symbol Left goal) ∷
+      unfolding_at parts state Right (redex_symbol Right goal) ∷ [])
+      ∷ first_applying (leaving_at parts state Left (redex_symbol Left goal) ∷
+      leaving_at parts state Right (redex_symbol Right goal) ∷ [])
       ∷ named goal
       ∷ first_applying (using_each goal 0 state.hypotheses)
       ∷ by_results goal

@@ -3,11 +3,10 @@ ghost use Rattle.std.specs.Prelude.{◌≡◌, IfOk, OnErr};
 ghost use Rattle.rx_settle.specs.Answers.{IsTrial};
 ghost use Rattle.rx_settle.specs.AtFirst.{at_first, before_uses, from_uses};
 ghost use Rattle.rx_settle.specs.Known.{AreKnown};
-ghost use Rattle.rx_settle.specs.LoopPoints.{AreLoopPoints};
+ghost use Rattle.rx_unfold.specs.LoopPoints.{AreLoopPoints};
 ghost use Rattle.rx_settle.specs.Settling.{settling_move};
 ghost use Rattle.rx_solve.specs.Answers.{IsSolver};
 
-use crate::loop_points::LoopPoints;
 use crate::results::try_results;
 use crate::settle_memo::{SettleMemo, known_move};
 use crate::trial::Trial;
@@ -18,6 +17,7 @@ use rx_plain::NoMemory;
 use rx_row::Constraint;
 use rx_steps::State;
 use rx_term::RuleSet;
+use rx_unfold::LoopPoints;
 use std::alloc::Global;
 
 /// Hypotheses, and then results.

@@ -3,12 +3,11 @@ ghost use Rattle.std.specs.Prelude.{◌≡◌, ◌↔◌, Some, IfOk, IsTrue, On
 ghost use Rattle.rx_settle.specs.Answers.{IsTrial};
 ghost use Rattle.rx_settle.specs.AtFirst.{at_first, before_uses};
 ghost use Rattle.rx_settle.specs.Known.{IsKnown, IsKnownOf};
-ghost use Rattle.rx_settle.specs.LoopPoints.{AreLoopPoints};
+ghost use Rattle.rx_unfold.specs.LoopPoints.{AreLoopPoints};
 ghost use Rattle.rx_solve.specs.Answers.{IsSolver};
 ghost use Rattle.rx_term.specs.declared.rule_set.RuleParts.{RuleParts};
 
 use crate::before_uses::try_before_uses;
-use crate::loop_points::LoopPoints;
 use crate::trial::Trial;
 use rx_cert::Cert;
 use rx_fm::FmEnd;
@@ -16,6 +15,7 @@ use rx_plain::{NoMemory, Shared};
 use rx_row::Constraint;
 use rx_steps::State;
 use rx_term::{Equation, RuleSet};
+use rx_unfold::LoopPoints;
 use std::alloc::Global;
 
 /// What is known of a goal.

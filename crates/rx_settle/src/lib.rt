@@ -4,30 +4,23 @@
 
 mod before_uses;
 mod deleting;
-mod formation;
 mod items;
 mod known;
-mod loop_points;
 mod naming;
 mod number;
 mod results;
-mod rule_steps;
-mod rules;
 mod settle_memo;
 mod settled;
 mod settling;
 mod showing;
 mod sides;
-mod suffix;
 mod trial;
 mod trying;
 mod uses;
 
-pub use loop_points::LoopPoints;
 pub use rx_plain::NoMemory;
 pub use settle_memo::SettleMemo;
 pub use settled::Settled;
 pub use settling::settle;
-pub use suffix::Common;
 pub use trial::Trial;
 pub use trying::try_step;

@@ -3,12 +3,11 @@ ghost use Rattle.std.specs.Prelude.{◌≡◌, true, IfOk, OnErr};
 ghost use Rattle.rx_settle.specs.Answers.{IsTrial};
 ghost use Rattle.rx_settle.specs.AtFirst.{at_first};
 ghost use Rattle.rx_settle.specs.Certified.{asks_rows};
-ghost use Rattle.rx_settle.specs.LoopPoints.{AreLoopPoints};
-ghost use Rattle.rx_settle.specs.Moves.{Generalise, move_of};
+ghost use Rattle.rx_unfold.specs.LoopPoints.{AreLoopPoints};
+ghost use Rattle.rx_unfold.specs.Moves.{Generalise, move_of};
 ghost use Rattle.rx_settle.specs.Settling as settling;
 ghost use Rattle.rx_solve.specs.Answers.{IsSolver};
 
-use crate::loop_points::LoopPoints;
 use crate::trial::Trial;
 use crate::trying::try_step;
 use rx_cert::Cert;
@@ -20,6 +19,7 @@ use rx_poly::PolyEnd;
 use rx_row::Constraint;
 use rx_steps::State;
 use rx_term::{Equation, RuleSet};
+use rx_unfold::LoopPoints;
 use std::alloc::Global;
 
 /// The step to an equation of which the goal is an instance. Its certificates are open.

@@ -8,7 +8,6 @@ ghost use Rattle.rx_solve.specs.Attempts.{fails};
 ghost use Rattle.rx_term.specs.Bounds.{equation_bound};
 
 use crate::number::to_u32;
-use crate::suffix::{Suffix, find_suffix};
 use crate::trial::Trial;
 use crate::trying::try_step;
 use rx_cert::Cert;
@@ -17,6 +16,7 @@ use rx_form::Step;
 use rx_plain::{Items, NoMemory};
 use rx_row::Constraint;
 use rx_steps::State;
+use rx_suffix::{Suffix, find_suffix};
 use rx_term::{Equation, RuleSet};
 use std::alloc::Global;
 

@@ -2,18 +2,18 @@
 ghost use Rattle.std.specs.Prelude.{All, IfOk, IfSome};
 ghost use Rattle.std.specs.Option.{option_copied};
 ghost use Rattle.rx_settle.specs.Known.{AllKnown, AreKnown, IsKnown, IsKnownOf};
-ghost use Rattle.rx_settle.specs.LoopPoints.{AreLoopPoints};
+ghost use Rattle.rx_unfold.specs.LoopPoints.{AreLoopPoints};
 ghost use Rattle.rx_solve.specs.Answers.{IsSolver};
 ghost use Rattle.rx_term.specs.declared.rule_set.RuleParts.{RuleParts};
 
 use crate::known::Known;
-use crate::loop_points::LoopPoints;
 use rx_cert::Cert;
 use rx_fm::FmEnd;
 use rx_plain::{NoMemory, Shared};
 use rx_poly::{Poly, digest_with};
 use rx_row::{Constraint, Row};
 use rx_term::{Equation, RuleSet, Term};
+use rx_unfold::LoopPoints;
 use std::alloc::Global;
 
 /// The number of buckets in which the goals are kept.

@@ -3,13 +3,12 @@ ghost use Rattle.std.specs.Prelude.{◌≡◌, ◌<◌, true, IfOk};
 ghost use Rattle.rx_settle.specs.Advances.{Advances, Records};
 ghost use Rattle.rx_settle.specs.Answers.{IsSettled};
 ghost use Rattle.rx_settle.specs.Known.{AreKnown};
-ghost use Rattle.rx_settle.specs.LoopPoints.{AreLoopPoints};
+ghost use Rattle.rx_unfold.specs.LoopPoints.{AreLoopPoints};
 ghost use Rattle.rx_settle.specs.Settling.{most_moves, rows_if};
 ghost use Rattle.rx_settle.specs.Settling as settling;
 ghost use Rattle.rx_solve.specs.Answers.{IsSolver};
 
 use crate::items::settle_once;
-use crate::loop_points::LoopPoints;
 use crate::settle_memo::SettleMemo;
 use crate::settled::Settled;
 use crate::trial::Trial;
@@ -19,6 +18,7 @@ use rx_plain::{Items, NoMemory};
 use rx_row::{Constraint, Row};
 use rx_steps::State;
 use rx_term::RuleSet;
+use rx_unfold::LoopPoints;
 use std::alloc::Global;
 
 /// The rows of the first goal, copied, if there is one.

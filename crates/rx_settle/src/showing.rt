@@ -2,7 +2,7 @@
 ghost use Rattle.std.specs.Prelude.{◌≡◌, List, true, IfOk};
 ghost use Rattle.rx_form.specs.declared.formed_step.Asked.TheVariants.{Refuted, Rows};
 ghost use Rattle.rx_row.specs.declared.row.Row.{Row};
-ghost use Rattle.rx_settle.specs.Parts.{IsAskedShown};
+ghost use Rattle.rx_unfold.specs.Parts.{IsAskedShown};
 ghost use Rattle.rx_solve.specs.Answers.{IsSolver};
 ghost use Rattle.rx_steps.specs.Faults.{asks_goal_alone, is_one_group};
 
@@ -15,7 +15,7 @@ use rx_solve::{AllShown, ask, show_all};
 use std::alloc::Global;
 
 /// The one certificate that refutes the rows, where the solver has one.
-#[tactic(auto, unfolding(crate::specs::Trying::asked_shown, crate::specs::Parts::ShownBy))]
+#[tactic(auto, unfolding(rx_unfold::specs::Trying::asked_shown, rx_unfold::specs::Parts::ShownBy))]
 fn show_refuted<S: FnMut(&Constraint) -> Result<Option<Cert>, FmEnd>>(
     alloc: Global,
     given: &Constraint,

@@ -3,14 +3,13 @@ ghost use Rattle.std.specs.Prelude.{◌≡◌, true, false, Some, IfOk, OnOk, On
 ghost use Rattle.std.specs.Result.{result_map_both};
 ghost use Rattle.rx_form.specs.States.{taken};
 ghost use Rattle.rx_settle.specs.Answers.{IsTrial};
-ghost use Rattle.rx_settle.specs.Outcomes.{Follows, IsOutcome};
+ghost use Rattle.rx_unfold.specs.Outcomes.{Follows, IsOutcome};
 ghost use Rattle.rx_settle.specs.Certified.{asks_rows, certified};
-ghost use Rattle.rx_settle.specs.Moves.{move_of};
-ghost use Rattle.rx_settle.specs.Trying.{attempt};
+ghost use Rattle.rx_unfold.specs.Moves.{move_of};
+ghost use Rattle.rx_unfold.specs.Trying.{attempt};
 ghost use Rattle.rx_solve.specs.Answers.{IsSolver};
 ghost use Rattle.rx_steps.specs.Faults.{asks_goal_alone};
 
-use crate::formation::{Formation, form_step};
 use crate::showing::show;
 use crate::trial::Trial;
 use rx_cert::Cert;
@@ -21,6 +20,7 @@ use rx_row::Constraint;
 use rx_solve::AllShown;
 use rx_steps::State;
 use rx_term::RuleSet;
+use rx_unfold::{Formation, Outcome, form_step};
 use std::alloc::Global;
 
 /// The answer, once the value is let go of.
@@ -88,22 +88,6 @@ fn with_certificates(step: Step, certs: Items<Cert>) -> Step
     }
 }
 
-/// What comes of a step before it is taken.
-#[derive(Drop)]
-pub(crate) enum Outcome {
-    /// It is formed so, and what it asks is shown with those certificates.
-    Shown {
-        /// What it makes.
-        made: FormedStep,
-        /// The certificates.
-        certs: Items<Cert>,
-    },
-    /// It isn't formed, or what it asks isn't shown.
-    Fails,
-    /// Something passes the limits.
-    TooLarge,
-}
-
 /// What comes of a step that is formed so.
 fn show_formed<S: FnMut(&Constraint) -> Result<Option<Cert>, FmEnd>>(
     alloc: Global,
@@ -139,7 +123,7 @@ fn show_step<S: FnMut(&Constraint) -> Result<Option<Cert>, FmEnd>>(
     ensures solver { IsSolver S.FnMut solve.new }
     ensures outcome { IfOk result (IsOutcome rules.now state.now step.now) }
 {
-    match form_step(alloc, rules, state, step)? {
+    match form_step(alloc, rules, state.first(), state.hypotheses(), step)? {
         Formation::Formed(made) => show_formed(alloc, state, made, solve),
         Formation::Refused => Ok(Outcome::Fails),
         Formation::TooLarge => Ok(Outcome::TooLarge),

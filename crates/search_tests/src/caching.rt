@@ -1,12 +1,12 @@
 //! The search by a cached solver.
 ghost use Rattle.std.specs.Prelude.{◌≡◌, ◌≤◌, true};
-ghost use Rattle.rx_bank.specs.CachedSolver.{IsCachedSolver};
+ghost use Rattle.rx_cache.specs.CachedSolver.{IsCachedSolver};
 ghost use Rattle.rx_coverable.specs.Coverable.{is_coverable};
 ghost use Rattle.rx_joins.specs.Goals.{IsFitting};
 ghost use Rattle.rx_solve.specs.Answers.{Answers};
 
 use crate::by_solver::{MOST_KEPT, Task, searched_by};
-use rx_bank::CachedSolver;
+use rx_cache::CachedSolver;
 use rx_cert::Cert;
 use rx_fm::FmEnd;
 use rx_row::Constraint;

@@ -1,8 +1,8 @@
 //! How often a cached solver asks its solver.
 ghost use Rattle.std.specs.Prelude.{◌≤◌};
-ghost use Rattle.rx_bank.specs.CachedSolver.{IsCachedSolver};
+ghost use Rattle.rx_cache.specs.CachedSolver.{IsCachedSolver};
 
-use rx_bank::CachedSolver;
+use rx_cache::CachedSolver;
 use rx_cert::Cert;
 use rx_fm::FmEnd;
 use rx_plain::NoMemory;

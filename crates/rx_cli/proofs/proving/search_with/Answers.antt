@@ -1,7 +1,7 @@
 -- What is known of the cached solver is known after each call of the closure again.
 use Rattle.std.proofs.Common.{rules}
 use Rattle.rx_solve.proofs.Calls.{solver_while}
-use Rattle.rx_bank.specs.CachedSolver.{IsCachedSolver}
+use Rattle.rx_cache.specs.CachedSolver.{IsCachedSolver}
 use Rattle.rx_cli.proofs.proving.search_with.Goals as goal
 
 pub new-search-requires : goal.new-search-requires

@@ -1,6 +1,6 @@
 -- One more choice; the step keeps nothing, and so there are ranks still.
-use Rattle.rx_settle.specs.Moves.{move_of}
-use Rattle.rx_settle.specs.Trying.{attempt}
+use Rattle.rx_unfold.specs.Moves.{move_of}
+use Rattle.rx_unfold.specs.Trying.{attempt}
 use Rattle.rx_search.specs.Nodes.{IsNode}
 use Rattle.rx_search.proofs.Choosing.{choices_grow_call, nodes_grow_call}
 use Rattle.rx_search.proofs.Trying.{unkept_node}

@@ -1,7 +1,7 @@
 -- Ranks are found with the hypotheses of a node that is reached.
 use Rattle.std.proofs.Common.{true}
-use Rattle.rx_settle.specs.Moves.{Expand}
-use Rattle.rx_settle.specs.Trying.{attempt}
+use Rattle.rx_unfold.specs.Moves.{Expand}
+use Rattle.rx_unfold.specs.Trying.{attempt}
 use Rattle.rx_search.specs.Nodes.{IsReached}
 use Rattle.rx_search.proofs.Rooted.{reached_fits, reached_rooted}
 use Rattle.rx_search.proofs.Trying.{keeping_none, keeping_ranked_call, led_to, node_ranked_call}

@@ -2,8 +2,8 @@
 use Rattle.std.proofs.Common.{subst}
 use Rattle.rx_form.specs.States.{State}
 use Rattle.rx_settle.specs.Answers.{IsTrial}
-use Rattle.rx_settle.specs.Moves.{move_of}
-use Rattle.rx_settle.specs.Trying.{attempt}
+use Rattle.rx_unfold.specs.Moves.{move_of}
+use Rattle.rx_unfold.specs.Trying.{attempt}
 use Rattle.rx_search.proofs.Trying.{led_reached, led_tried}
 use Rattle.rx_search.proofs.choices.try_plain.Goals as goal
 

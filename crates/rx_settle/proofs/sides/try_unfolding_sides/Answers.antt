@@ -1,21 +1,18 @@
--- The left side, or else the right one.
-use Rattle.rx_form.specs.declared.step.Side.TheVariants.{Left, Right}
-use Rattle.rx_settle.specs.AtFirst.{unfolding_side}
-use Rattle.rx_settle.proofs.FirstLaws.{first_of_both, second_of_both}
+-- What is found at the first goal is taken.
+use Rattle.std.proofs.Common.{◌∙◌, ap, sym, refl}
+use Rattle.std.specs.Option.{option_copied}
+use Rattle.rx_unfold.specs.Unfolding.{unfolding_sides}
+use Rattle.rx_settle.proofs.FirstLaws.{found_answer, no_goal}
 use Rattle.rx_settle.proofs.sides.try_unfolding_sides.Goals as goal
 
-pub returns-in-Err-clause-trial : goal.returns-in-Err-clause-trial
-returns-in-Err-clause-trial g c =
-    first_of_both c.args.rules.now c.args.state.now c.try_unfolding_side.new.state
-    (unfolding_side c.args.rules.now c.args.state.now Left)
-    (λ s. unfolding_side c.args.rules.now s Right)
-    c.in_ok-left.left c.in_ok-left.ensures.trial c.in-Err.taken c.in-Err.ensures
+pub returns-in_default-clause-trial : goal.returns-in_default-clause-trial
+returns-in_default-clause-trial g c =
+    no_goal (unfolding_sides c.args.rules.now c.args.state.now) c.args.rules.now c.args.state.now
+    c.failed.result (sym c.first.ensures ∙ ap option_copied c.in_default.is) c.failed.ensures
 
 pub returns-clause-trial : goal.returns-clause-trial
 returns-clause-trial g c =
-    second_of_both c.args.rules.now c.args.state.now c.try_unfolding_side.new.state
-    (unfolding_side c.args.rules.now c.args.state.now Left)
-    (λ s. unfolding_side c.args.rules.now s Right)
-    c.in_ok-left.left c.in_ok-left.ensures.trial c.in_ok-right.right c.after.result
-    c.try_unfolding_side-2.new.state c.in-Ok.noted
-    c.in-Ok.ensures c.in_ok-right.ensures.trial c.after.ensures
+    found_answer (λ state. unfolding_sides c.args.rules.now state c.in-Some.goal.now)
+    c.args.rules.now c.args.state.now c.take_found.new.state c.in-Some.goal.now
+    (unfolding_sides c.args.rules.now c.args.state.now) c.in_ok-found.found c.take_found.result
+    c.in-Some.ensures refl c.in_ok-found.ensures.found c.take_found.ensures.trial

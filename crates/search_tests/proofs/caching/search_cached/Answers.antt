@@ -1,7 +1,7 @@
 -- What is known of the cached solver is known after each call of the closure again.
 use Rattle.std.proofs.Common.{rules}
 use Rattle.rx_solve.proofs.Calls.{solver_while}
-use Rattle.rx_bank.specs.CachedSolver.{IsCachedSolver}
+use Rattle.rx_cache.specs.CachedSolver.{IsCachedSolver}
 use Rattle.search_tests.proofs.caching.search_cached.Goals as goal
 
 pub searched_by-requires-clause-solver : goal.searched_by-requires-clause-solver

@@ -1,0 +1,14 @@
+//! Cached answers of the refuter: a solver with a cache of bounded size between it and those who
+//! ask, which answers as the refuter does, whatever its capacity.
+#![tactic(auto)]
+
+mod asking;
+mod cache;
+mod cached_answer;
+mod cached_solver;
+
+pub use asking::ask_cached;
+pub use cached_answer::CachedAnswer;
+pub use cached_solver::CachedSolver;
+pub use rx_fm::FmEnd;
+pub use rx_plain::NoMemory;

@@ -1,0 +1,3 @@
+-- The longest common suffix of two terms.
+pub mod Answers
+pub mod Suffixes

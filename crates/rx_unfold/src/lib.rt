@@ -1,0 +1,20 @@
+//! Rewriting a side of a goal: the first rule that applies at its redex, or the expansion by all.
+//! What is found is a step that is formed and shown, and what it makes; it isn't taken here.
+#![tactic(auto)]
+
+mod expanding;
+mod formation;
+mod found;
+mod loop_points;
+mod outcome;
+mod rule_steps;
+mod rules;
+mod sides;
+
+pub use formation::{Formation, form_step};
+pub use found::{Found, Ready};
+pub use loop_points::LoopPoints;
+pub use outcome::Outcome;
+pub use rx_fm::FmEnd;
+pub use rx_plain::NoMemory;
+pub use sides::{find_leaving, find_unfolding};
