@@ -8,10 +8,10 @@ ghost use Rattle.rx_search.specs.Menu.{Chosen, by_lemma, by_lemmas, choice, chos
 ghost use Rattle.rx_search.specs.Menu as menu;
 ghost use Rattle.rx_search.specs.Nodes.{AreChoices, IsNode, IsReached, IsTried, KeepsNone, if_ranked, led, with_choice};
 ghost use Rattle.rx_settle.specs.Certified.{asks_rows};
-ghost use Rattle.rx_unfold.specs.Moves.{move_of};
-ghost use Rattle.rx_unfold.specs.Trying.{attempt};
 ghost use Rattle.rx_solve.specs.Answers.{IsSolver};
 ghost use Rattle.rx_term.specs.declared.rule.Equation.{Equation};
+ghost use Rattle.rx_unfold.specs.Moves.{move_of};
+ghost use Rattle.rx_unfold.specs.Trying.{attempt};
 
 use crate::node::Node;
 use rx_cert::Cert;

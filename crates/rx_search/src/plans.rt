@@ -3,9 +3,9 @@ ghost use Rattle.std.specs.Prelude.{◌≡◌, IfOk};
 ghost use Rattle.rx_search.specs.Nodes.{IsNode, node_of};
 ghost use Rattle.rx_search.specs.Search.{settled};
 ghost use Rattle.rx_settle.specs.Known.{AreKnown};
-ghost use Rattle.rx_unfold.specs.LoopPoints.{AreLoopPoints};
 ghost use Rattle.rx_solve.specs.Answers.{IsSolver};
 ghost use Rattle.rx_term.specs.declared.rule.Equation.{Equation};
+ghost use Rattle.rx_unfold.specs.LoopPoints.{AreLoopPoints};
 ghost use Rattle.rx_visits.specs.Views.{seen_settled};
 
 use crate::menu::find_menu;

@@ -1,22 +1,22 @@
 //! The search.
 ghost use Rattle.std.specs.Prelude.{◌≡◌, ◌≤◌, [], All, IfErr, IfOk, map, true};
 ghost use Rattle.rx_cert.specs.Findings.{Yes};
+ghost use Rattle.rx_cover.specs.Covering.{Covers, covering};
 ghost use Rattle.rx_coverable.specs.Answers.{AreSmall};
 ghost use Rattle.rx_coverable.specs.Coverable.{is_coverable};
 ghost use Rattle.rx_joins.specs.Goals.{IsFitting};
 ghost use Rattle.rx_log.specs.Acceptance.{IsAccepted};
 ghost use Rattle.rx_log.specs.Depth.{is_shallow_log};
-ghost use Rattle.rx_cover.specs.Covering.{Covers, covering};
 ghost use Rattle.rx_pairs.specs.Pairs.{AreAllPairs, HasRoot, SidesFit};
-ghost use Rattle.rx_ranking.specs.Found.{LowersAll};
 ghost use Rattle.rx_rank.specs.Ranking.{ranked};
-ghost use Rattle.rx_term.specs.declared.rule.Equation.{Equation};
+ghost use Rattle.rx_ranking.specs.Found.{LowersAll};
 ghost use Rattle.rx_search.specs.Ends.{IsEnd};
 ghost use Rattle.rx_search.specs.Nodes.{IsNode, node_of, started};
-ghost use Rattle.rx_search.specs.Searching.{AsksSolver};
 ghost use Rattle.rx_search.specs.Search.{Closed, of_outcome, searched, settled, menu, start};
-ghost use Rattle.rx_unfold.specs.Moves.{move_of};
+ghost use Rattle.rx_search.specs.Searching.{AsksSolver};
 ghost use Rattle.rx_solve.specs.Answers.{IsSolver};
+ghost use Rattle.rx_term.specs.declared.rule.Equation.{Equation};
+ghost use Rattle.rx_unfold.specs.Moves.{move_of};
 ghost use Rattle.rx_visits.specs.Outcomes.{outcome};
 ghost use Rattle.rx_visits.specs.Views.{IfClosed, seen_outcome};
 ghost use Rattle.rx_visits.specs.Visits.{all_visits};

@@ -3,9 +3,9 @@ ghost use Rattle.std.specs.Prelude.{◌≡◌, IfOk, OnErr};
 ghost use Rattle.rx_settle.specs.Answers.{IsTrial};
 ghost use Rattle.rx_settle.specs.AtFirst.{at_first, before_uses, from_uses};
 ghost use Rattle.rx_settle.specs.Known.{AreKnown};
-ghost use Rattle.rx_unfold.specs.LoopPoints.{AreLoopPoints};
 ghost use Rattle.rx_settle.specs.Settling.{settling_move};
 ghost use Rattle.rx_solve.specs.Answers.{IsSolver};
+ghost use Rattle.rx_unfold.specs.LoopPoints.{AreLoopPoints};
 
 use crate::results::try_results;
 use crate::settle_memo::{SettleMemo, known_move};

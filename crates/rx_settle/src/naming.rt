@@ -3,10 +3,10 @@ ghost use Rattle.std.specs.Prelude.{◌≡◌, true, IfOk, OnErr};
 ghost use Rattle.rx_settle.specs.Answers.{IsTrial};
 ghost use Rattle.rx_settle.specs.AtFirst.{at_first};
 ghost use Rattle.rx_settle.specs.Certified.{asks_rows};
-ghost use Rattle.rx_unfold.specs.LoopPoints.{AreLoopPoints};
-ghost use Rattle.rx_unfold.specs.Moves.{Generalise, move_of};
 ghost use Rattle.rx_settle.specs.Settling as settling;
 ghost use Rattle.rx_solve.specs.Answers.{IsSolver};
+ghost use Rattle.rx_unfold.specs.LoopPoints.{AreLoopPoints};
+ghost use Rattle.rx_unfold.specs.Moves.{Generalise, move_of};
 
 use crate::trial::Trial;
 use crate::trying::try_step;

@@ -1,10 +1,10 @@
 //! A memo of what settling finds at goals, since a search meets the same goals often.
-ghost use Rattle.std.specs.Prelude.{All, IfOk, IfSome};
 ghost use Rattle.std.specs.Option.{option_copied};
+ghost use Rattle.std.specs.Prelude.{All, IfOk, IfSome};
 ghost use Rattle.rx_settle.specs.Known.{AllKnown, AreKnown, IsKnown, IsKnownOf};
-ghost use Rattle.rx_unfold.specs.LoopPoints.{AreLoopPoints};
 ghost use Rattle.rx_solve.specs.Answers.{IsSolver};
 ghost use Rattle.rx_term.specs.declared.rule_set.RuleParts.{RuleParts};
+ghost use Rattle.rx_unfold.specs.LoopPoints.{AreLoopPoints};
 
 use crate::known::Known;
 use rx_cert::Cert;

@@ -3,10 +3,10 @@ ghost use Rattle.std.specs.Prelude.{◌≡◌, ◌<◌, true, IfOk};
 ghost use Rattle.rx_settle.specs.Advances.{Advances, Records};
 ghost use Rattle.rx_settle.specs.Answers.{IsSettled};
 ghost use Rattle.rx_settle.specs.Known.{AreKnown};
-ghost use Rattle.rx_unfold.specs.LoopPoints.{AreLoopPoints};
-ghost use Rattle.rx_settle.specs.Settling.{most_moves, rows_if};
 ghost use Rattle.rx_settle.specs.Settling as settling;
+ghost use Rattle.rx_settle.specs.Settling.{most_moves, rows_if};
 ghost use Rattle.rx_solve.specs.Answers.{IsSolver};
+ghost use Rattle.rx_unfold.specs.LoopPoints.{AreLoopPoints};
 
 use crate::items::settle_once;
 use crate::settle_memo::SettleMemo;

@@ -2,9 +2,9 @@
 ghost use Rattle.std.specs.Prelude.{◌≡◌, List, true, IfOk};
 ghost use Rattle.rx_form.specs.declared.formed_step.Asked.TheVariants.{Refuted, Rows};
 ghost use Rattle.rx_row.specs.declared.row.Row.{Row};
-ghost use Rattle.rx_unfold.specs.Parts.{IsAskedShown};
 ghost use Rattle.rx_solve.specs.Answers.{IsSolver};
 ghost use Rattle.rx_steps.specs.Faults.{asks_goal_alone, is_one_group};
+ghost use Rattle.rx_unfold.specs.Parts.{IsAskedShown};
 
 use rx_cert::Cert;
 use rx_fm::FmEnd;

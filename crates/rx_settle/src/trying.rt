@@ -3,12 +3,12 @@ ghost use Rattle.std.specs.Prelude.{◌≡◌, true, false, Some, IfOk, OnOk, On
 ghost use Rattle.std.specs.Result.{result_map_both};
 ghost use Rattle.rx_form.specs.States.{taken};
 ghost use Rattle.rx_settle.specs.Answers.{IsTrial};
-ghost use Rattle.rx_unfold.specs.Outcomes.{Follows, IsOutcome};
 ghost use Rattle.rx_settle.specs.Certified.{asks_rows, certified};
-ghost use Rattle.rx_unfold.specs.Moves.{move_of};
-ghost use Rattle.rx_unfold.specs.Trying.{attempt};
 ghost use Rattle.rx_solve.specs.Answers.{IsSolver};
 ghost use Rattle.rx_steps.specs.Faults.{asks_goal_alone};
+ghost use Rattle.rx_unfold.specs.Moves.{move_of};
+ghost use Rattle.rx_unfold.specs.Outcomes.{Follows, IsOutcome};
+ghost use Rattle.rx_unfold.specs.Trying.{attempt};
 
 use crate::showing::show;
 use crate::trial::Trial;

@@ -1,12 +1,12 @@
 //! The longest common suffix of two terms, found from the innermost part outwards.
-ghost use Rattle.std.specs.Prelude.{◌≡◌, ◌≢◌, ◌+◌, ◌-◌, length, map, reverse, IfOk};
 ghost use Rattle.std.specs.List.{zip};
+ghost use Rattle.std.specs.Prelude.{◌≡◌, ◌≢◌, ◌+◌, ◌-◌, length, map, reverse, IfOk};
 ghost use Rattle.rx_cert.specs.Showing.{shown};
+ghost use Rattle.rx_solve.specs.Answers.{IsSolver};
+ghost use Rattle.rx_solve.specs.Refuter.{refuted};
 ghost use Rattle.rx_suffix.specs.Answers.{SaysEqual, part_of, part_said};
 ghost use Rattle.rx_suffix.specs.Suffixes.{common, common_suffix, inwards};
 ghost use Rattle.rx_suffix.specs.Suffixes.{equal_shown, equals_shown};
-ghost use Rattle.rx_solve.specs.Answers.{IsSolver};
-ghost use Rattle.rx_solve.specs.Refuter.{refuted};
 ghost use Rattle.rx_term.specs.Stacks.{depth_of};
 
 use rx_cert::Cert;

@@ -11,25 +11,31 @@ use Rattle.rx_form.specs.declared.formed_step.Asked.{Asked}
 use Rattle.rx_form.specs.declared.formed_step.Asked.TheVariants.{Rows}
 use Rattle.rx_form.specs.declared.formed_step.FormedStep.{FormedStep}
 
+-- what is formed asks nothing
 abbrev pub AsksNothing : Forming FormedStep → Type 0
 AsksNothing x = (f : FormedStep) → x ≡ Ok f → f.asked ≡ Rows []
 
+-- a refusal asks nothing
 pub refused : (e : FormEnd) → AsksNothing (Err e)
 refused e f h = cc
 
+-- nor does a step that is formed so
 pub found : (f : FormedStep) → f.asked ≡ Rows [] → AsksNothing (Ok f)
 found f nothing g h =
     let is : f ≡ g = cc in subst (λ (x : FormedStep). x.asked ≡ Rows []) is nothing
 
+-- nor does what comes after another thing, where that asks nothing
 pub after : {A : Type 0} (x : Forming A) (next : A → Forming FormedStep) →
     ((y : A) → AsksNothing (next y)) → AsksNothing (x >>= next)
 after (Ok y) next later = later y
 after (Err e) next later = refused e
 
+-- nor does what is formed under a test
 pub tested : (b : Bool) (x : Forming FormedStep) → AsksNothing x → AsksNothing (provided b x)
 tested true x here = here
 tested false x here = refused WrongShape
 
+-- nor within limits
 pub kept : (made : Formed FormedStep) → made.form.asked ≡ Rows [] → AsksNothing (limited made)
 kept made nothing = by made.within
   where

@@ -51,6 +51,7 @@ module _ (parts : RuleParts) (goal : Equation) (side : Side) (fm : Formation)
         attempt parts state (Expand side false) ≡ next_if_formed state (Expand side false) x
     tried_by x e = attempt_by parts state expansion x (formed_here x e)
 
+    -- it isn't formed
     pub expansion_refused : (f : Found) → fm ≡ formation.Refused → f ≡
         record { ready = None; noted = false } →
         IsFound parts state (attempt parts state (Expand side false)) f
@@ -60,6 +61,7 @@ module _ (parts : RuleParts) (goal : Equation) (side : Side) (fm : Formation)
         (tried_by (formed parts (Some goal) [] expansion) refl ∙ none state (Expand side false))
         made
 
+    -- something passes the limits
     pub expansion_large : (f : Found) → fm ≡ formation.TooLarge → f ≡
         record { ready = None; noted = true } →
         IsFound parts state (attempt parts state (Expand side false)) f
@@ -97,12 +99,13 @@ module _ (parts : RuleParts) (goal : Equation) (side : Side) (fm : Formation)
           record {
             applies =
                 shown_taken parts state expansion made (formed_here (Ok made) formed_so)
-                    (none_shows (first_rows state.goals) (first_rows made.goals) made nothing);
+                (none_shows (first_rows state.goals) (first_rows made.goals) made nothing);
             deep = All-nil (λ (cert : Cert). cert_depth cert ≤ 174);
           },
         );
       }
 
+      -- its step is found
       pub expansion_found : (s : Step) (f : Found) → s ≡ expansion → f ≡
           record { ready = Some (record { step = s; made = made }); noted = false } →
           IsFound parts state (attempt parts state (Expand side false)) f

@@ -51,6 +51,7 @@ module _ (parts : RuleParts) (old : State) (s : Step) where
   unfolding IsOutcome
   refused_outcome x e none = attempt_by x e ∙ none old (move_of s)
 
+  -- something that is formed on the way passes the limits
   pub large_outcome : formed_first parts old s ≡ Err Large → IsOutcome parts old s out.TooLarge
   unfolding IsOutcome
   large_outcome e = attempt_by (Err Large) e
@@ -79,10 +80,12 @@ module _ (parts : RuleParts) (old : State) (s : Step) where
 
 -- what comes of a step that is formed so
 module _ (old : State) (f : FormedStep) where
+  -- where there is no goal, it fails
   pub nothing_follows : slice_get old.goals 0 ≡ None → Follows old f out.Fails
   unfolding Follows
   nothing_follows none parts s is = absurd (none_formed parts old s f is none)
 
+  -- by what is shown under the rows of the first goal
   pub shown_follows : (goal : Equation) (a x : AllShown) → Some goal ≡ slice_get old.goals 0 →
       ((new : List Row) → IsAskedShown goal.rows new f.asked a) → a ≡ x →
       Follows old f (outcome_for f x)

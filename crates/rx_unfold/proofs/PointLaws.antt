@@ -25,6 +25,7 @@ module _ (parts : RuleParts) (goal : Equation) (side : Side) (redex : Option Sym
         attempt parts state (Expand side false) ∷ []))) (sym e) ∙
         ap (unfolding_at parts state side) is_redex
 
+    -- at a loop point nothing is unfolded
     pub unfolds_not : (f : Found) → is_at_loop_point parts redex ≡ true → f ≡
         record { ready = None; noted = false } →
         IsFound parts state (unfolding_side parts state side goal) f
@@ -32,6 +33,7 @@ module _ (parts : RuleParts) (goal : Equation) (side : Side) (redex : Option Sym
         failed_found parts state (unfolding_side parts state side goal) f
         (sym (unfolding_by true e)) is
 
+    -- elsewhere rules decide, and then the expansion
     pub unfolds : (f : Found) → is_at_loop_point parts redex ≡ false →
         IsFound parts state (first_applying
         (simplifying parts state side None ∷ attempt parts state (Expand side false) ∷ [])) f →
@@ -45,6 +47,7 @@ module _ (parts : RuleParts) (goal : Equation) (side : Side) (redex : Option Sym
         ap (λ x. cond x (simplifying parts state side redex) fails) (sym e) ∙
         ap (leaving_at parts state side) is_redex
 
+    -- elsewhere nothing is left
     pub leaves_not : (f : Found) → is_at_loop_point parts redex ≡ false → f ≡
         record { ready = None; noted = false } →
         IsFound parts state (leaving_side parts state side goal) f
@@ -52,6 +55,7 @@ module _ (parts : RuleParts) (goal : Equation) (side : Side) (redex : Option Sym
         failed_found parts state (leaving_side parts state side goal) f (sym (leaving_by false e))
         is
 
+  -- at a loop point the rules decide that leave its component
   pub leaves_answer : {E : Type 0} (r : Result Found E) → is_at_loop_point parts redex ≡ true →
       IfOk r (IsFoundAt parts goal (λ state. simplifying parts state side redex)) →
       IfOk r (IsFoundAt parts goal (λ state. leaving_side parts state side goal))

@@ -52,6 +52,7 @@ use Rattle.rx_unfold.proofs.RedexLaws.{is_at_first, is_at_redex, refused, simpli
 
 -- ---- rows under those of the goal
 
+-- rows that are asked alone are shown as a list of rows is
 pub rows_asked : (old new rows : List Row) (a : AllShown) → IsAllShown old rows a →
     IsAskedShown old new (Rows (record { under = Goal; rows = rows } ∷ [])) a
 unfolding asked_shown ShownBy
@@ -110,12 +111,14 @@ module _ (goal : Equation) (side : Side) (i : RuleInstance) (a : AllShown) (rows
   asked_so new =
       rows_asked goal.rows new i.rows a (subst (λ rs. IsAllShown goal.rows rs a) same shown)
 
+  -- what is shown of its rows follows
   pub rows_follow : (x : AllShown) → a ≡ x → (state : State) → Some goal ≡
       slice_get state.goals 0 →
       Follows state (rule_made goal side i) (outcome_for (rule_made goal side i) x)
   rows_follow x is state first =
       shown_follows state (rule_made goal side i) goal a x first asked_so is
 
+  -- so where they are shown, with what is made of it
   pub shown_made : (certs : List Cert) (made : FormedStep) → a ≡ all.Shown certs → made ≡
       rule_made goal side i → (state : State) → Some goal ≡ slice_get state.goals 0 →
       Follows state (rule_made goal side i) (out.Shown made certs)
@@ -189,12 +192,14 @@ module _ (parts : RuleParts) (state : State) (side : Side) (rule : Rule) (n : �
   unfolding FollowsNumber
   here x is = subst (λ y. IsOutcome parts state (step.Simplify side n []) y) is (of parts n there)
 
+  -- the rule isn't found to apply
   pub rule_failed : (f : Found) → o ≡ out.Fails → f ≡ record { ready = None; noted = false } →
       IsFound parts state (attempt parts state (Simplify side n)) f
   unfolding IsOutcome
   rule_failed f is made =
       failed_found parts state (attempt parts state (Simplify side n)) f (here out.Fails is) made
 
+  -- something passes the limits
   pub rule_beyond : (f : Found) → o ≡ out.TooLarge → f ≡ record { ready = None; noted = true } →
       IsFound parts state (attempt parts state (Simplify side n)) f
   unfolding IsOutcome
@@ -221,6 +226,7 @@ module _ (parts : RuleParts) (state : State) (side : Side) (rule : Rule) (n : �
         (as_move parts state.hypotheses (slice_get state.goals 0) (step.Simplify side n certs)
         ∙ formed_so) proofs_of.shows
 
+    -- or its step is found
     pub rule_found : (s : Step) (f : Found) → s ≡ step.Simplify side n certs → f ≡
         record { ready = Some (record { step = s; made = made }); noted = false } →
         IsFound parts state (attempt parts state (Simplify side n)) f

@@ -5,6 +5,7 @@ use Rattle.rx_plain.proofs.Booleans.{or_assoc, or_false}
 use Rattle.rx_solve.specs.Attempts.{Tried, fails, first_applying, made_or}
 use Rattle.rx_unfold.specs.Trying.{Next, noting}
 
+-- nothing or that
 pub no_or : (a : Bool) → (false || a) ≡ a
 no_or true = refl
 no_or false = refl
@@ -26,11 +27,12 @@ last_alone None noted =
     ap (λ n. let u : Tried Next = record { made = None; noted = n } in u) (or_false noted)
 last_alone (Some x) noted = refl
 
--- a step was taken, or none
+-- there is one
 pub some_by : {A : Type 0} (o : Option A) → is_some o ≡ true → (x : A) × (o ≡ Some x)
 some_by None e = cc
 some_by (Some x) e = (x, refl)
 
+-- there is none
 pub none_by : {A : Type 0} (o : Option A) → is_some o ≡ false → o ≡ None
 none_by None e = refl
 none_by (Some x) e = cc

@@ -29,8 +29,8 @@ Gives parts state made (Some ready) =
 -- the step that is found, and the note, are those of what was tried
 pub record IsFound (parts : RuleParts) (state : State) (tried : Tried Next) (found : Found) : Type 0
   where
-  pub noted : found.noted ≡ tried.noted
-  pub gives : Gives parts state tried.made found.ready
+    pub noted : found.noted ≡ tried.noted
+    pub gives : Gives parts state tried.made found.ready
 
 -- so at each state that begins with the goal
 abbrev pub IsFoundAt : RuleParts → Equation → (State → Tried Next) → Found → Type 0

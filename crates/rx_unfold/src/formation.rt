@@ -1,6 +1,6 @@
 //! Forming a step that is tried.
-ghost use Rattle.std.specs.Prelude.{IfOk};
 ghost use Rattle.std.specs.Option.{option_copied};
+ghost use Rattle.std.specs.Prelude.{IfOk};
 ghost use Rattle.rx_form.specs.Kinds.{formed};
 ghost use Rattle.rx_unfold.specs.Parts.{IsFormation};
 

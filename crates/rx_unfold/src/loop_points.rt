@@ -1,8 +1,8 @@
 //! The loop points of a rule set, found once.
 ghost use Rattle.std.specs.Prelude.{◌≡◌, IfOk};
+ghost use Rattle.rx_term.specs.declared.rule_set.RuleParts.{RuleParts};
 ghost use Rattle.rx_unfold.specs.LoopPoints.{AreLoopPoints};
 ghost use Rattle.rx_unfold.specs.Unfolding.{is_at_loop_point, is_tried, leaves};
-ghost use Rattle.rx_term.specs.declared.rule_set.RuleParts.{RuleParts};
 
 use rx_pairs::{Loops, loops_of};
 use rx_plain::NoMemory;

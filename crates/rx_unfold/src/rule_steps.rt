@@ -1,9 +1,9 @@
 //! A rule at the redex of a side, as far as the step before it is taken.
 ghost use Rattle.std.specs.Prelude.{◌≡◌, Some, IfOk, slice_get};
 ghost use Rattle.rx_form.specs.States as states;
+ghost use Rattle.rx_solve.specs.Answers.{IsSolver};
 ghost use Rattle.rx_unfold.specs.Outcomes.{Follows};
 ghost use Rattle.rx_unfold.specs.RuleSteps.{FollowsNumber, FollowsRule, rule_made};
-ghost use Rattle.rx_solve.specs.Answers.{IsSolver};
 
 use crate::outcome::Outcome;
 use rx_cert::Cert;
