@@ -1,4 +1,3 @@
 -- Lemmas on the definitions of specs/.
-pub mod Equations
-pub mod Lists
+pub mod Sequences
 pub mod ResolvedPrograms

@@ -1,17 +1,10 @@
--- Functions: the place of one by its name, and each with the names in it resolved.
-use Rattle.std.specs.Prelude.{ℕ, ◌+◌, ◌≤◌, false, List, [], ◌∷◌, length, map, Option, Ok}
-use Rattle.c_lex.specs.declared.token.Token.{Token}
+-- Functions, each with the names in it resolved.
+use Rattle.std.specs.Prelude.{ℕ, ◌+◌, ◌≤◌, false, List, [], ◌∷◌, length, map, Ok}
 use Rattle.c_ast.specs.declared.program.Function.{Function}
 use Rattle.c_names.specs.Names.{name_at}
-use Rattle.c_names.specs.Spellings.{spellings, place_of}
-use Rattle.c_scope.specs.Slots.{Scope, empty_scope, declare}
+use Rattle.c_lookup.specs.Slots.{Scope, empty_scope, declare}
 use Rattle.c_scope.specs.Statements.{in_order, resolved_stmt}
-use Rattle.c_scope.specs.Steps.{Checked, and_then, sequence}
-
--- the place of the first definition whose name these bytes spell
-abbrev pub place_of_function : List ℕ → List Token → List Function → List ℕ → Option ℕ
-place_of_function source tokens functions name =
-    place_of (spellings source tokens (map (λ (f : Function). f.name) functions)) name
+use Rattle.c_lookup.specs.Steps.{Checked, and_then, sequence}
 
 -- as few parameters as there may be slots
 abbrev pub HasFewParams : Function → Type 0

@@ -3,9 +3,9 @@ ghost use Rattle.std.specs.Prelude.{◌≡◌, All, IfOk};
 ghost use Rattle.c_scope.specs.Functions.{HasFewParams};
 ghost use Rattle.c_scope.specs.Programs as spec;
 
-use crate::error::ScopeEnd;
 use c_assigned::{Fault, fault_of};
 use c_ast::Function;
+use c_lookup::ScopeEnd;
 use rx_plain::NoMemory;
 use std::alloc::Global;
 

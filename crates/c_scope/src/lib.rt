@@ -5,24 +5,15 @@
 //! and in the fault, except when out of memory. There are three passes, over definitions and
 //! prototypes, over names, counts and scopes, and over what is definitely assigned; the first that
 //! finds a fault decides, and within it the order of the text (ISO/IEC 9899:1999, 6.2.1, 6.7p3,
-//! 6.8, 6.9p3). `resolve_pre` does the same for a precondition over the parameters of one function,
-//! and refuses nothing but an unknown name. `find_function` finds the first definition of a name.
+//! 6.8, 6.9p3). What names stand for in an expression is in c_lookup.
 #![tactic(auto)]
 
 mod assigned;
-mod definitions;
-mod error;
-mod expressions;
-mod find;
 mod functions;
-mod preconditions;
 mod program;
 mod prototypes;
-mod slots;
 mod statements;
 
-pub use error::ScopeEnd;
-pub use find::find_function;
-pub use preconditions::resolve_pre;
+pub use c_lookup::ScopeEnd;
 pub use program::resolve;
 pub use rx_plain::NoMemory;

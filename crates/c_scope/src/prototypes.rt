@@ -3,12 +3,10 @@
 ghost use Rattle.std.specs.Prelude.{◌≡◌, ◌<◌, ◌^◌, length};
 ghost use Rattle.c_names.specs.Names as name_spec;
 ghost use Rattle.c_scope.specs.Definitions as spec;
-ghost use Rattle.c_scope.specs.Expressions.{definition_of};
+ghost use Rattle.c_lookup.specs.Expressions.{definition_of};
 
-use crate::definitions::{Definitions, find_definition};
-use crate::error::ScopeEnd;
-use crate::expressions::count_at;
 use c_ast::Prototype;
+use c_lookup::{Definitions, ScopeEnd, count_at, find_definition};
 use c_names::name_at;
 
 // Whether another definition of the name of this token is in front of this place.

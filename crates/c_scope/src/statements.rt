@@ -4,16 +4,13 @@ ghost use Rattle.std.specs.Prelude.{Err, Ok};
 ghost use Rattle.c_ast.specs.declared.stmt.Stmt.TheVariants.{If, While, DoWhile, For};
 ghost use Rattle.c_scope.specs.Statements as spec;
 ghost use Rattle.c_scope.specs.Statements.{GivesScoped, resolved_stmt};
-ghost use Rattle.c_scope.specs.Slots.{inner_scope};
-ghost use Rattle.c_scope.specs.Steps.{Gives, and_then};
-ghost use Rattle.c_scope.specs.Views.{model_of};
-ghost use Rattle.c_scope.specs.declared.error.ScopeEnd.TheVariants.{StrayBreak};
+ghost use Rattle.c_lookup.specs.Slots.{inner_scope};
+ghost use Rattle.c_lookup.specs.Steps.{Gives, and_then};
+ghost use Rattle.c_lookup.specs.Views.{model_of};
+ghost use Rattle.c_lookup.specs.declared.error.ScopeEnd.TheVariants.{StrayBreak};
 
-use crate::definitions::Definitions;
-use crate::error::ScopeEnd;
-use crate::expressions::{resolve_expr, slot_at};
-use crate::slots::Scope;
 use c_ast::{Expr, Stmt};
+use c_lookup::{Definitions, Scope, ScopeEnd, resolve_expr, slot_at};
 use rx_plain::{Boxed, Items, both};
 use std::alloc::Global;
 

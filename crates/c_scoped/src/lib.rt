@@ -1,5 +1,5 @@
-//! What a resolved program is like: laws of the definitions of c_scope, for the crates that go on
-//! from a program whose names are resolved. Nothing here runs.
+//! What a resolved program is like: laws of the definitions of c_scope and c_lookup, for the crates
+//! that go on from a program whose names are resolved. Nothing here runs.
 //!
 //! What a reader may rely on: each public function has an empty body, and its contract is a law.
 //! The slots and the calls of a resolved program are in order, by the test `is_scoped` of c_ast; a

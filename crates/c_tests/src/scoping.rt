@@ -2,8 +2,9 @@
 use crate::printing::{put_debug, put_expr, put_functions};
 use crate::texts::{Lexed, Parsed, first_of, lex_text, parse_text};
 use c_ast::Expr;
+use c_lookup::{find_function, resolve_pre};
 use c_parse::parse_pre;
-use c_scope::{find_function, resolve, resolve_pre};
+use c_scope::resolve;
 use std::alloc::Global;
 
 // The resolved program, or its refusal.

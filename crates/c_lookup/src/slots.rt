@@ -23,9 +23,9 @@ pub struct Scope {
 impl Scope {
     ghost use Rattle.std.specs.Prelude.{◌≡◌, ◌+◌, IfOk, OnOk};
     ghost use Rattle.c_names.specs.Names as name_spec;
-    ghost use Rattle.c_scope.specs.Slots as spec;
-    ghost use Rattle.c_scope.specs.Slots.{GivesScope};
-    ghost use Rattle.c_scope.specs.Views.{model_of};
+    ghost use Rattle.c_lookup.specs.Slots as spec;
+    ghost use Rattle.c_lookup.specs.Slots.{GivesScope};
+    ghost use Rattle.c_lookup.specs.Views.{model_of};
 
     /// No variable is in scope.
     pub fn new(alloc: Global) -> Scope

@@ -1,6 +1,6 @@
 //! The definitions of a program: which function a name denotes.
 ghost use Rattle.std.specs.Prelude.{◌≡◌, ◌<◌, ◌^◌, length, IfOk};
-ghost use Rattle.c_scope.specs.Expressions.{definition_of, IsIndexOf};
+ghost use Rattle.c_lookup.specs.Expressions.{definition_of, IsIndexOf};
 
 use c_ast::Function;
 use c_names::name_at;

@@ -1,10 +1,8 @@
 -- A list of steps, of which some are done.
 use Rattle.std.proofs.Common.{◌≡◌, ◌∙◌, ap, sym, refl, ℕ, suc, ◌+◌, ◌<◌, List, [], ◌∷◌, ◌++◌, map, drop, length, get_or, Ok, Err, append_assoc, add-one, drop-cons, subst, below_more}
 use Rattle.std.proofs.lemmas.List.{get_or_default}
-use Rattle.c_scope.specs.Statements.{Scoped}
-use Rattle.c_ast.specs.declared.stmt.Stmt.{Stmt}
-use Rattle.c_scope.specs.Steps.{Checked, and_then, sequence}
-use Rattle.c_scope.specs.declared.error.ScopeEnd.{ScopeEnd}
+use Rattle.c_lookup.specs.Steps.{Checked, and_then, sequence}
+use Rattle.c_lookup.specs.declared.error.ScopeEnd.{ScopeEnd}
 
 -- what was found, and what the rest gives
 abbrev pub onto : {A : Type 0} → List A → Checked (List A) → Checked (List A)
@@ -45,11 +43,6 @@ module _ {A B : Type 0} (step : A → Checked B) (xs : List A) (i : ℕ) (h : i 
       sym whole ∙ ap (onto done) begun
       ∙ ap (λ r. onto done (and_then r (λ z. and_then (sequence (map step (drop (i + 1) xs)))
       (λ ys. Ok (z ∷ ys))))) e
-
--- statements that were resolved, and what the rest gives
-abbrev pub behind : List Stmt → Checked (Scoped (List Stmt)) → Checked (Scoped (List Stmt))
-behind done rest =
-    and_then rest (λ placed. Ok (record { tree = done ++ placed.tree; scope = placed.scope }))
 
 -- what holds of all items in front of a place, and of the one there, holds of one item more
 pub hold-more : {A : Type 0} (P : A → Type 0) (xs : List A) (i : ℕ) (x : A) → i < length xs → x ≡

@@ -1,7 +1,7 @@
 //! The place of a function in a program.
 ghost use Rattle.std.specs.Prelude.{◌≡◌, ◌<◌, ◌^◌, length};
 ghost use Rattle.c_names.specs.Spellings.{IsWithin};
-ghost use Rattle.c_scope.specs.Functions.{place_of_function};
+ghost use Rattle.c_lookup.specs.Places.{place_of_function};
 
 use c_ast::Program;
 use c_lex::Token;

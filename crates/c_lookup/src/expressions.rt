@@ -2,9 +2,9 @@
 ghost use Rattle.std.specs.Prelude.{◌≡◌, length, map, slice_get};
 ghost use Rattle.c_names.specs.Names as name_spec;
 ghost use Rattle.c_names.specs.Slots as slot_spec;
-ghost use Rattle.c_scope.specs.Expressions as spec;
-ghost use Rattle.c_scope.specs.Expressions.{resolved_expr};
-ghost use Rattle.c_scope.specs.Steps.{Gives, sequence};
+ghost use Rattle.c_lookup.specs.Expressions as spec;
+ghost use Rattle.c_lookup.specs.Expressions.{resolved_expr};
+ghost use Rattle.c_lookup.specs.Steps.{Gives, sequence};
 
 use crate::definitions::{Definitions, find_definition};
 use crate::error::ScopeEnd;

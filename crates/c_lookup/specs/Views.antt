@@ -1,6 +1,6 @@
 -- What the definitions see of the structures of the code.
-use Rattle.c_scope.specs.declared.slots.Scope as code
-use Rattle.c_scope.specs.Slots.{Scope}
+use Rattle.c_lookup.specs.declared.slots.Scope as code
+use Rattle.c_lookup.specs.Slots.{Scope}
 
 -- the names in scope, and where the innermost scope begins
 abbrev pub model_of : code.Scope → Scope

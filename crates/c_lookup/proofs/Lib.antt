@@ -1,0 +1,3 @@
+-- Lemmas on the definitions of specs/.
+pub mod Equations
+pub mod Lists

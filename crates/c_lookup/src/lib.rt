@@ -1,0 +1,24 @@
+//! Scopes, and names looked up in them and outside: the names of an expression, those of a
+//! precondition, and the name of a function.
+//!
+//! What a reader may rely on: `resolve_expr` answers an expression with each variable as its slot
+//! and each call as a place in the list of functions, or its first fault (`specs/Expressions`, over
+//! the scopes of `specs/Slots`; ISO/IEC 9899:1999, 6.2.1, 6.7p3). `resolve_pre` does the same for a
+//! precondition over the parameters of one function, and refuses nothing but an unknown name
+//! (`specs/Preconditions`). `find_function` finds the first definition of a name (`specs/Places`).
+#![tactic(auto)]
+
+mod definitions;
+mod error;
+mod expressions;
+mod find;
+mod preconditions;
+mod slots;
+
+pub use definitions::{Definitions, find_definition, places_of};
+pub use error::ScopeEnd;
+pub use expressions::{count_at, resolve_expr, slot_at};
+pub use find::find_function;
+pub use preconditions::resolve_pre;
+pub use rx_plain::NoMemory;
+pub use slots::Scope;
