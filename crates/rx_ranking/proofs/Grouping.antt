@@ -13,6 +13,7 @@ use Rattle.rx_graph.specs.Graph.{IsOver, below, together}
 use Rattle.rx_plain.proofs.Kept.{first_one, kept, other_one}
 use Rattle.rx_pairs.specs.Graph.{edges_of}
 use Rattle.rx_rank.specs.Components.{component_of, is_member, names_of, symbols_of}
+use Rattle.rx_rank.proofs.NameLaws.{component_below, name_at}
 use Rattle.rx_ranking.proofs.ClosingLaws.{filter_one, filter_skip}
 use Rattle.rx_ranking.proofs.ComponentTries.{items_of}
 use Rattle.rx_ranking.specs.Groups.{by_component, entries_in, groups_in, ungrouped}
@@ -181,32 +182,7 @@ in_groups group o a (suc n) (suc k) less there =
     (in_groups group o (a + 1) n k (omega (arith, less))
     (subst (λ c. Contains (group c) o) at there))
 
--- ---- names are symbols
-
-found_below : (test : ℕ → Bool) (a n x : ℕ) → find test (range_with_len a n) ≡ Some x → x < a + n
-found_below test a zero x found = cc
-found_below test a (suc n) x found = by (test a) found (found_below test (a + 1) n x) where
-  by : (b : Bool) → cond b (Some a) (find test (range_with_len (a + 1) n)) ≡ Some x →
-      (find test (range_with_len (a + 1) n) ≡ Some x → x < (a + 1) + n) → x < a + suc n
-  by true is later = let same : a ≡ x = cc in omega (arith, same)
-  by false is later = let h = later is in omega (arith, h)
-
-module _ (n : ℕ) (edges : List (ℕ × ℕ)) where
-  component_below : (f : ℕ) → f < n → component_of n edges f < n
-  component_below f less = by (find (together edges (below n) f) (symbols_of n)) refl where
-    by : (o : Option ℕ) → find (together edges (below n) f) (symbols_of n) ≡ o → unwrap_or o f < n
-    by None none = less
-    by (Some x) some =
-        let h = found_below (together edges (below n) f) 0 n x some in omega (arith, h)
-
-  pub name_at : (f : ℕ) → f < n → slice_get (map (component_of n edges) (symbols_of n)) f ≡
-      Some (component_of n edges f)
-  name_at f less =
-      let count = length-range_with_len 0 n in
-      slice_get-map (component_of n edges) (symbols_of n) f
-      ∙ ap (option_map (component_of n edges))
-      (slice_get-get_or (symbols_of n) f 0 (omega (arith, count, less)) ∙
-      ap Some (get_or-range_with_len 0 n f 0 less ∙ (let e : 0 + f ≡ f = omega arith in e)))
+-- ---- each number is in a group
 
 module _ (n : ℕ) (entries : List OpenPair) (over : IsOver n (edges_of (pairs_open entries))) where
   abbrev edges : List (ℕ × ℕ)
