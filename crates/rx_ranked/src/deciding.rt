@@ -9,7 +9,7 @@ ghost use Rattle.rx_ranked.specs.HasRanks.{HasRanksAnswer};
 ghost use Rattle.rx_solve.specs.Answers.{IsSolver};
 
 use crate::rank_memo::RankMemo;
-use crate::staying::{inside_of, left_after};
+use crate::staying::{left_after, open_pairs};
 use rx_cert::Cert;
 use rx_fm::FmEnd;
 use rx_pairs::{Pair, all_pairs};
@@ -46,10 +46,8 @@ fn decide_from<S: FnMut(&Constraint) -> Result<Option<Cert>, FmEnd>>(
     ensures tried { IfOk result (λ t. tried_only t ≡
         ranking_from parts.now hypotheses.now left (pairs_at pairs.now)) }
 {
-    let components = memo.names.names(alloc, parts.symbols.len(), pairs)?;
-    let names = components.as_slice();
-    let open = inside_of(alloc, names, pairs)?;
-    if open.len() == 0 {
+    let open = open_pairs(alloc, parts, pairs, &mut memo.names)?;
+    if open.pairs.len() == 0 {
         return Ok(Attempt {
             made: Some(()),
             noted: false,
@@ -61,15 +59,7 @@ fn decide_from<S: FnMut(&Constraint) -> Result<Option<Cert>, FmEnd>>(
             noted: false,
         });
     }
-    let tried = left_after(
-        alloc,
-        parts,
-        hypotheses,
-        names,
-        open.as_slice(),
-        &mut memo.pairs,
-        solve,
-    )?;
+    let tried = left_after(alloc, parts, hypotheses, &open, &mut memo.pairs, solve)?;
     let noted = tried.noted;
     match tried.made {
         Some(next) => {

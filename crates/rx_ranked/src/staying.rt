@@ -5,21 +5,22 @@ ghost use Rattle.std.specs.Option.{option_map_or};
 ghost use Rattle.rx_graph.specs.Graph.{IsOver};
 ghost use Rattle.rx_pairs.specs.Graph.{edges_of};
 ghost use Rattle.rx_rank.specs.Answers.{pairs_at, still_open, tried_as};
-ghost use Rattle.rx_rank.specs.Components.{is_inside, names_of, pairs_in};
+ghost use Rattle.rx_rank.specs.Components.{inside, is_inside, names_of, pairs_in};
 ghost use Rattle.rx_rank.specs.Ranking.{polynomials, tried_in};
 ghost use Rattle.rx_solve.specs.Answers.{IsSolver};
 
+use crate::names_memo::NamesMemo;
 use rx_cert::Cert;
 use rx_fm::FmEnd;
 use rx_pairs::Pair;
 use rx_plain::{Items, NoMemory};
-use rx_rank::{Attempt, PairMemo, fit_component, is_inside, is_member};
+use rx_rank::{Attempt, Fit, PairMemo, fit_component, is_inside, is_member};
 use rx_row::Constraint;
 use rx_term::{Rule, RuleParts};
 use std::alloc::Global;
 
 /// The pairs that stay open after a column of heights: those inside a component.
-pub(crate) fn inside_of<'a>(
+fn inside_of<'a>(
     alloc: Global,
     names: &[u32],
     pairs: &[&'a Pair],
@@ -34,6 +35,37 @@ pub(crate) fn inside_of<'a>(
         }
     }
     Ok(left)
+}
+
+/// Open pairs, with the components of their graph.
+#[derive(Drop)]
+pub(crate) struct OpenPairs<'a> {
+    /// By symbol the least symbol of its component.
+    pub(crate) names: Vec<u32>,
+    /// The pairs.
+    pub(crate) pairs: Vec<&'a Pair>,
+}
+
+/// The pairs that stay open after a column of heights, with the components of their graph, which
+/// are those of the graph of all pairs.
+pub(crate) fn open_pairs<'a>(
+    alloc: Global,
+    parts: &RuleParts,
+    pairs: &[&'a Pair],
+    memo: &mut NamesMemo,
+) -> Result<OpenPairs<'a>, NoMemory>
+    requires over { IsOver (length parts.now.symbols) (edges_of (pairs_at pairs.now)) }
+    requires few { length parts.now.symbols ≤ 2 ^ 32 }
+    ensures pairs { IfOk result (λ open. pairs_at open.pairs.items ≡
+        inside (length parts.now.symbols) (pairs_at pairs.now)) }
+    ensures names { IfOk result (λ open. open.names.items ≡
+        names_of (length parts.now.symbols) (pairs_at open.pairs.items)) }
+    ensures over { IfOk result (λ open.
+        IsOver (length parts.now.symbols) (edges_of (pairs_at open.pairs.items))) }
+{
+    let names = memo.names(alloc, parts.symbols.len(), pairs)?;
+    let left = inside_of(alloc, names.as_slice(), pairs)?;
+    Ok(OpenPairs { names, pairs: left })
 }
 
 /// The pairs that begin in the component with that name.
@@ -82,61 +114,77 @@ fn still_open<'a>(
     Ok(left)
 }
 
-/// The pairs of the component with that name that stay open after its first fit choice.
-fn left_in<'a, S: FnMut(&Constraint) -> Result<Option<Cert>, FmEnd>>(
+/// The pairs of a component that its fit leaves open, if it has one.
+fn after_fit<'a>(
     alloc: Global,
-    parts: &RuleParts,
-    hypotheses: &[Rule],
-    names: &[u32],
-    name: u32,
     pairs: &[&'a Pair],
-    memo: &mut PairMemo,
-    solve: &mut S,
+    tried: Attempt<Fit>,
 ) -> Result<Attempt<Vec<&'a Pair>>, NoMemory>
-    requires solver { IsSolver S.FnMut solve.old }
-    ensures solver { IsSolver S.FnMut solve.new }
     ensures tried { IfOk result (λ t. tried_as (λ left. pairs_at left.items) t ≡
-        tried_in parts.now hypotheses.now names.now (pairs_at pairs.now) name) }
+        tried_as (λ fit. still_open (pairs_at pairs.now) fit.falls.items) tried) }
     ensures over { IfOk result (λ t. IfSome t.made (λ left.
         (n : ℕ) → IsOver n (edges_of (pairs_at pairs.now)) →
         IsOver n (edges_of (pairs_at left.items)))) }
 {
-    let mine = pairs_in(alloc, names, name, pairs)?;
-    if mine.len() == 0 {
-        return Ok(Attempt {
-            made: Some(mine),
-            noted: false,
-        });
-    }
-    let open = mine.as_slice();
-    let tried = fit_component(alloc, parts, hypotheses, names, name, open, memo, solve)?;
     let noted = tried.noted;
     match tried.made {
         Some(fit) => Ok(Attempt {
-            made: Some(still_open(alloc, open, fit.falls.as_slice())?),
+            made: Some(still_open(alloc, pairs, fit.falls.as_slice())?),
             noted,
         }),
         None => Ok(Attempt { made: None, noted }),
     }
 }
 
-/// The pairs that stay open after a column of polynomials. The names of the components are given.
-pub(crate) fn left_after<'a, S: FnMut(&Constraint) -> Result<Option<Cert>, FmEnd>>(
+/// The pairs of the component with that name that stay open after its first fit choice.
+fn left_in<'a, S: FnMut(&Constraint) -> Result<Option<Cert>, FmEnd>>(
     alloc: Global,
     parts: &RuleParts,
     hypotheses: &[Rule],
-    names: &[u32],
-    pairs: &[&'a Pair],
+    open: &OpenPairs<'a>,
+    name: u32,
     memo: &mut PairMemo,
     solve: &mut S,
 ) -> Result<Attempt<Vec<&'a Pair>>, NoMemory>
     requires solver { IsSolver S.FnMut solve.old }
-    requires over { IsOver (length parts.now.symbols) (edges_of (pairs_at pairs.now)) }
-    requires names { names.now ≡ names_of (length parts.now.symbols) (pairs_at pairs.now) }
+    ensures solver { IsSolver S.FnMut solve.new }
+    ensures tried { IfOk result (λ t. tried_as (λ left. pairs_at left.items) t ≡
+        tried_in parts.now hypotheses.now open.now.names.items (pairs_at open.now.pairs.items)
+        name) }
+    ensures over { IfOk result (λ t. IfSome t.made (λ left.
+        (n : ℕ) → IsOver n (edges_of (pairs_at open.now.pairs.items)) →
+        IsOver n (edges_of (pairs_at left.items)))) }
+{
+    let names = open.names.as_slice();
+    let mine = pairs_in(alloc, names, name, open.pairs.as_slice())?;
+    if mine.len() == 0 {
+        return Ok(Attempt {
+            made: Some(mine),
+            noted: false,
+        });
+    }
+    let pairs = mine.as_slice();
+    let tried = fit_component(alloc, parts, hypotheses, names, name, pairs, memo, solve)?;
+    after_fit(alloc, pairs, tried)
+}
+
+/// The pairs that stay open after a column of polynomials.
+pub(crate) fn left_after<'a, S: FnMut(&Constraint) -> Result<Option<Cert>, FmEnd>>(
+    alloc: Global,
+    parts: &RuleParts,
+    hypotheses: &[Rule],
+    open: &OpenPairs<'a>,
+    memo: &mut PairMemo,
+    solve: &mut S,
+) -> Result<Attempt<Vec<&'a Pair>>, NoMemory>
+    requires solver { IsSolver S.FnMut solve.old }
+    requires over { IsOver (length parts.now.symbols) (edges_of (pairs_at open.now.pairs.items)) }
+    requires names { open.now.names.items ≡
+        names_of (length parts.now.symbols) (pairs_at open.now.pairs.items) }
     requires few { length parts.now.symbols ≤ 2 ^ 32 }
     ensures solver { IsSolver S.FnMut solve.new }
     ensures tried { IfOk result (λ t. tried_as (λ left. pairs_at left.items) t ≡
-        polynomials parts.now hypotheses.now (pairs_at pairs.now)) }
+        polynomials parts.now hypotheses.now (pairs_at open.now.pairs.items)) }
     ensures over { IfOk result (λ t. IfSome t.made (λ left.
         IsOver (length parts.now.symbols) (edges_of (pairs_at left.items)))) }
 {
@@ -144,16 +192,7 @@ pub(crate) fn left_after<'a, S: FnMut(&Constraint) -> Result<Option<Cert>, FmEnd
     let mut left = Vec::new(alloc);
     let mut noted = false;
     for name in 0..symbols {
-        let tried = left_in(
-            alloc,
-            parts,
-            hypotheses,
-            names,
-            name as u32,
-            pairs,
-            memo,
-            solve,
-        )?;
+        let tried = left_in(alloc, parts, hypotheses, open, name as u32, memo, solve)?;
         noted = noted || tried.noted;
         match tried.made {
             Some(mut more) => left.append(&mut more)?,
