@@ -1,5 +1,5 @@
 -- What comes of one component more decides, or leaves it to the components after it.
-use Rattle.std.proofs.Common.{◌≡◌, ◌∙◌, ap, sym, Bool, ◌||◌, Option, Some, None, List, [], ◌∷◌, ◌++◌, append_assoc, append-nil}
+use Rattle.std.proofs.Common.{◌≡◌, ◌∙◌, ap, sym, refl, Bool, ◌||◌, Option, Some, None, List, [], ◌∷◌, ◌++◌, append_assoc, append-nil}
 use Rattle.std.specs.Option.{option_map}
 use Rattle.rx_plain.proofs.Booleans.{or_assoc, or_false}
 use Rattle.rx_solve.specs.Attempts.{Tried}

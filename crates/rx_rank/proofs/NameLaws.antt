@@ -1,14 +1,19 @@
 -- The graph of pairs, and the names of its components.
-use Rattle.std.proofs.Common.{◌≡◌, ◌∙◌, sym, subst, ℕ, Vec, List, length}
-use Rattle.std.proofs.lemmas.List.{length-map}
+use Rattle.std.proofs.Common.{◌≡◌, ◌∙◌, ap, sym, subst, refl, cond, arith, ℕ, zero, suc, ◌+◌, ◌<◌, Bool, true, false, Option, Some, None, Vec, List, length, map, slice_get, unwrap_or}
+use Rattle.std.specs.List.{find, range_with_len}
+use Rattle.std.specs.Option.{option_map}
 use Rattle.std.specs.declared.alloc.Global.{Global}
+use Rattle.std.proofs.lemmas.List.{length-map}
+use Rattle.std.proofs.lemmas.List.FromFn.{get_or-range_with_len, length-range_with_len}
+use Rattle.std.proofs.lemmas.Option.{slice_get-get_or, slice_get-map}
 use Rattle.rx_graph.proofs.GraphLaws.{lead_below}
 use Rattle.rx_graph.proofs.LabelLaws.{labels_computed}
 use Rattle.rx_graph.specs.Components.{AreComponents}
-use Rattle.rx_graph.specs.Graph.{IsGraphOf, IsOver, rows_of}
+use Rattle.rx_graph.specs.Graph.{IsGraphOf, IsOver, below, rows_of, together}
 use Rattle.rx_pairs.specs.Graph.{edges_of}
 use Rattle.rx_pairs.specs.declared.pair.Pair.{Pair}
-use Rattle.rx_rank.specs.Components.{names_of}
+use Rattle.rx_anchors.specs.Members.{symbols_of}
+use Rattle.rx_rank.specs.Components.{component_of, names_of}
 
 -- the graph of pairs
 module _ (symbols : ℕ) (pairs : List Pair) (rows : List (Vec ℕ Global))

@@ -5,7 +5,7 @@ ghost use Rattle.rx_pairs.specs.Graph.{edges_of};
 ghost use Rattle.rx_rank.specs.Answers.{pairs_at};
 ghost use Rattle.rx_rank.specs.Components.{is_inside, names_of};
 
-use crate::members::is_member;
+use rx_anchors::is_member;
 use rx_graph::Graph;
 use rx_pairs::Pair;
 use rx_plain::NoMemory;

@@ -10,7 +10,8 @@ use Rattle.rx_graph.specs.Components.{component_of}
 use Rattle.rx_graph.specs.Graph.{IsOver, More, One, Path, below, is_edge, leads, together}
 use Rattle.rx_pairs.specs.Graph.{edges_of}
 use Rattle.rx_pairs.specs.declared.pair.Pair.{Pair}
-use Rattle.rx_rank.specs.Components.{inside, is_inside, is_member, names_of, symbols_of}
+use Rattle.rx_anchors.specs.Members.{is_member, symbols_of}
+use Rattle.rx_rank.specs.Components.{inside, is_inside, names_of}
 use Rattle.rx_rank.proofs.NameLaws.{name_at}
 
 -- two tests of which each passes where the other does

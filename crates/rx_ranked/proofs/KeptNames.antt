@@ -3,7 +3,8 @@ use Rattle.std.proofs.Common.{◌≡◌, ◌∙◌, ap, refl, ℕ, suc, ◌==◌
 use Rattle.std.proofs.lemmas.Bool.{and_parts, eqb-true}
 use Rattle.rx_pairs.specs.Graph.{edges_of}
 use Rattle.rx_pairs.specs.declared.pair.Pair.{Pair}
-use Rattle.rx_rank.specs.Components.{component_of, names_of, symbols_of}
+use Rattle.rx_anchors.specs.Members.{symbols_of}
+use Rattle.rx_rank.specs.Components.{component_of, names_of}
 use Rattle.rx_ranked.specs.KnownNames.{AreNames, same_edges}
 use Rattle.rx_ranked.specs.declared.names_memo.KnownNames.{KnownNames}
 

@@ -1,8 +1,11 @@
 -- The pairs that stay open, one component after the other.
-use Rattle.std.proofs.Common.{◌≡◌, ◌∙◌, ap, sym, subst, refl, arith, ℕ, zero, suc, ◌+◌, ◌-◌, ◌<◌, ◌≤◌, Bool, true, false, ◌||◌, cond, Option, Some, None, List, [], ◌∷◌, ◌++◌, append_assoc, drop, get_or, length, map, slice_get}
+use Rattle.std.proofs.Common.{◌≡◌, ◌∙◌, ap, sym, subst, refl, arith, ℕ, zero, suc, ◌+◌, ◌-◌, ◌<◌, ◌≤◌, Bool, true, false, ◌||◌, cond, Option, Some, None, Result, Ok, Err, IfOk, Vec, List, [], ◌∷◌, ◌++◌, append_assoc, drop, get_or, length, map, slice_get}
 use Rattle.std.specs.List.{filter, range_with_len}
-use Rattle.std.specs.Option.{is_some, option_map, option_map_or}
-use Rattle.std.proofs.lemmas.List.{get_or-map, length-map, map-append}
+use Rattle.std.specs.Option.{IfSome, is_some, option_map, option_map_or}
+use Rattle.std.specs.declared.alloc.Global.{Global}
+use Rattle.rx_plain.specs.declared.no_memory.NoMemory.{NoMemory}
+use Rattle.rx_rank.specs.declared.attempt.Attempt.{Attempt}
+use Rattle.std.proofs.lemmas.List.{map-append}
 use denote.Ref.{Bor}
 use Rattle.std.proofs.lemmas.List.Elements.{All-append, All-cons, All-head, All-nil, All-tail}
 use Rattle.rx_cert.specs.declared.cert.Cert.{Cert}
@@ -59,6 +62,22 @@ module _ (n : ℕ) where
   over_both first second here there =
       subst (IsOver n) (sym (map-append edge_of first second))
       (All-append Within (edges_of first) (edges_of second) here there)
+
+-- what is left of some of the pairs is of the symbols of all
+pub over_from : (r : Result (Attempt (Vec (Bor Pair) Global)) NoMemory) (mine all : List Pair) →
+    ((n : ℕ) → IsOver n (edges_of all) → IsOver n (edges_of mine))
+    → IfOk r (λ t. IfSome t.made (λ left. (n : ℕ) → IsOver n (edges_of mine) →
+    IsOver n (edges_of (pairs_at left.items))))
+    → IfOk r (λ t. IfSome t.made (λ left. (n : ℕ) → IsOver n (edges_of all) →
+    IsOver n (edges_of (pairs_at left.items))))
+over_from (Err e) mine all further is = tt
+over_from (Ok t) mine all further is = by t.made is where
+  by : (o : Option (Vec (Bor Pair) Global)) → IfSome o (λ left. (n : ℕ) →
+      IsOver n (edges_of mine) → IsOver n (edges_of (pairs_at left.items)))
+      → IfSome o (λ left. (n : ℕ) → IsOver n (edges_of all) →
+      IsOver n (edges_of (pairs_at left.items)))
+  by None is = tt
+  by (Some left) is = λ n over. is n (further n over)
 
 -- ---- the pairs that a fit leaves open
 

@@ -1,7 +1,8 @@
 -- What is kept of graphs of pairs: the names of their components, which are right.
 use Rattle.std.specs.Prelude.{◌≡◌, ◌==◌, ◌&&◌, ℕ, Bool, true, false, List, [], ◌∷◌, map}
 use Rattle.rx_pairs.specs.declared.pair.Pair.{Pair}
-use Rattle.rx_rank.specs.Components.{component_of, symbols_of}
+use Rattle.rx_anchors.specs.Members.{symbols_of}
+use Rattle.rx_rank.specs.Components.{component_of}
 use Rattle.rx_ranked.specs.declared.names_memo.KnownNames.{KnownNames}
 
 -- the names that are kept are those of the components

@@ -10,11 +10,12 @@ ghost use Rattle.rx_rank.specs.Ranking.{polynomials, tried_in};
 ghost use Rattle.rx_solve.specs.Answers.{IsSolver};
 
 use crate::names_memo::NamesMemo;
+use rx_anchors::is_member;
 use rx_cert::Cert;
 use rx_fm::FmEnd;
 use rx_pairs::Pair;
 use rx_plain::{Items, NoMemory};
-use rx_rank::{Attempt, Fit, PairMemo, fit_component, is_inside, is_member};
+use rx_rank::{Attempt, Fit, PairMemo, fit_component, is_inside};
 use rx_row::Constraint;
 use rx_term::{Rule, RuleParts};
 use std::alloc::Global;

@@ -1,18 +1,16 @@
 -- What comes of one component more decides, or leaves it to the components after it.
-use Rattle.std.proofs.Common.{◌≡◌, ◌∙◌, ap, sym, refl, ℕ, zero, suc, ◌+◌, ◌<◌, Bool, true, false, ◌||◌, Option, Some, None, Vec, List, [], ◌∷◌, ◌++◌, append_assoc, append-nil, drop, get_or, length, map, take, cond}
+use Rattle.std.proofs.Common.{◌≡◌, ◌∙◌, ap, sym, refl, ℕ, zero, suc, ◌+◌, ◌<◌, Bool, true, false, Vec, List, [], ◌∷◌, ◌++◌, append-nil, drop, get_or, length, map, take, cond}
 use Rattle.std.specs.List.{range_with_len}
-use Rattle.std.specs.Option.{option_map}
 use Rattle.std.specs.declared.alloc.Global.{Global}
 use Rattle.std.proofs.lemmas.Grind.{flat_map-append}
 use Rattle.std.proofs.lemmas.List.{map-append, take_more}
-use Rattle.rx_plain.proofs.Booleans.{or_assoc, or_false}
-use Rattle.rx_solve.specs.Attempts.{Tried}
 use Rattle.rx_term.proofs.Places.{at_some, from_place}
 use Rattle.rx_term.specs.declared.rule.Rule.{Rule}
 use Rattle.rx_term.specs.declared.rule_set.RuleParts.{RuleParts}
-use Rattle.rx_rank.specs.Components.{is_member, names_of, pairs_in, symbols_of}
+use Rattle.rx_anchors.specs.Members.{is_member, symbols_of}
+use Rattle.rx_rank.specs.Components.{names_of, pairs_in}
 use Rattle.rx_rank.specs.Ranking.{polynomials, tried_in, unless_empty}
-use Rattle.rx_rank.specs.Tries.{after, all_made, made_then, noting}
+use Rattle.rx_rank.specs.Tries.{all_made}
 use Rattle.rx_ranking.specs.Groups.{by_component, entries_in, groups_in, tries_from, ungrouped}
 use Rattle.rx_ranking.specs.Tables.{pairs_open}
 use Rattle.rx_ranking.specs.declared.open_pair.OpenPair.{OpenPair}

@@ -1,18 +1,18 @@
 -- Entries by component: one entry more, and that each entry is in a group.
-use Rattle.std.proofs.Common.{◌≡◌, ◌∙◌, ap, sym, subst, refl, cond, arith, ℕ, zero, suc, ◌==◌, ◌+◌, ◌<◌, ◌≤◌, Bool, true, false, ◌||◌, inl, inr, Option, Some, None, Vec, List, [], ◌∷◌, ◌++◌, All, Contains, get_or, length, map, set, slice_get, unwrap_or}
-use Rattle.std.specs.List.{find, list_any, range_with_len}
-use Rattle.std.specs.Option.{option_map, option_map_or}
+use Rattle.std.proofs.Common.{◌≡◌, ◌∙◌, ap, sym, subst, refl, arith, ℕ, zero, suc, ◌==◌, ◌+◌, ◌<◌, ◌≤◌, Bool, true, false, ◌||◌, inl, inr, Some, None, Vec, List, [], ◌∷◌, ◌++◌, All, Contains, get_or, length, map, set, slice_get}
+use Rattle.std.specs.List.{list_any, range_with_len}
+use Rattle.std.specs.Option.{option_map_or}
 use Rattle.std.specs.declared.alloc.Global.{Global}
 use Rattle.std.proofs.lemmas.Bool.{cases_lt, eq-eqb, false≢true, ne_eqb}
 use Rattle.std.proofs.lemmas.List.{get_or-map, length-map, map-set, set_past}
 use Rattle.std.proofs.lemmas.List.Elements.{All-append, All-cons, All-contains, All-contains_itself, All-filter, All-head, All-nil, All-tail, Contains-append_left, Contains-append_right}
 use Rattle.std.proofs.lemmas.List.Folds.{list_any_at}
-use Rattle.std.proofs.lemmas.List.FromFn.{get_or-map-range_with_len, get_or-range_with_len, length-map-range_with_len, length-range_with_len}
-use Rattle.std.proofs.lemmas.Option.{slice_get-get_or, slice_get-map}
-use Rattle.rx_graph.specs.Graph.{IsOver, below, together}
+use Rattle.std.proofs.lemmas.List.FromFn.{get_or-map-range_with_len, length-map-range_with_len}
+use Rattle.rx_graph.specs.Graph.{IsOver}
 use Rattle.rx_plain.proofs.Kept.{first_one, kept, other_one}
 use Rattle.rx_pairs.specs.Graph.{edges_of}
-use Rattle.rx_rank.specs.Components.{component_of, is_member, names_of, symbols_of}
+use Rattle.rx_anchors.specs.Members.{is_member}
+use Rattle.rx_rank.specs.Components.{component_of, names_of}
 use Rattle.rx_rank.proofs.NameLaws.{component_below, name_at}
 use Rattle.rx_ranking.proofs.ClosingLaws.{filter_one, filter_skip}
 use Rattle.rx_ranking.proofs.ComponentTries.{items_of}

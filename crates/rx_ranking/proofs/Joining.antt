@@ -13,8 +13,9 @@ use Rattle.rx_term.specs.declared.rule_set.SymInfo.{SymInfo}
 use Rattle.rx_pairs.specs.declared.pair.Pair.{Pair}
 use Rattle.rx_rank.proofs.OwnValues.{length-without, none_own}
 use Rattle.rx_rank.specs.Answers.{IsComponentFit, IsDecided, IsFallen, IsHeld, IsOwn, still_open, tried_as}
-use Rattle.rx_rank.specs.Choices.{falls_by, is_yes, polynomial_of, tested, without_polynomials}
-use Rattle.rx_rank.specs.Components.{is_member}
+use Rattle.rx_anchors.specs.Members.{is_member}
+use Rattle.rx_anchors.specs.Values.{polynomial_of, without_polynomials}
+use Rattle.rx_rank.specs.Choices.{falls_by, is_yes, tested}
 use Rattle.rx_rank.specs.PairTests.{falls}
 use Rattle.rx_rank.specs.Ranking.{component, unless_empty}
 use Rattle.rx_rank.specs.Tries.{after}

@@ -3,7 +3,7 @@ use Rattle.std.proofs.Common.{◌≡◌, ◌∙◌, ap, sym, ◌+◌, ◌||◌, 
 use Rattle.std.proofs.lemmas.List.{map-append}
 use Rattle.rx_plain.proofs.Booleans.{either_first, either_second, or_assoc}
 use Rattle.rx_rank.proofs.Walks.{next_from}
-use Rattle.rx_rank.specs.Answers.{lists_in}
+use Rattle.rx_anchors.specs.Choices.{lists_in}
 use Rattle.rx_rank.specs.Candidates.{are_noted, candidate_lists}
 use Rattle.rx_rank.proofs.candidates.all_lists.Goals as goal
 use Rattle.rx_rank.proofs.candidates.all_lists.Goals.{then-noted, else-noted}

@@ -5,7 +5,8 @@ use Rattle.rx_solve.specs.Attempts.{Tried}
 use Rattle.rx_poly.specs.declared.body.Body.{Body}
 use Rattle.rx_rank.proofs.TryLaws.{then_some}
 use Rattle.rx_rank.proofs.Walks.{next_from}
-use Rattle.rx_rank.specs.Choices.{filled, first_serving, pairs_from, with_polynomial}
+use Rattle.rx_anchors.specs.Values.{with_polynomial}
+use Rattle.rx_rank.specs.Choices.{filled, first_serving, pairs_from}
 use Rattle.rx_rank.specs.Tries.{made_then, noting}
 use Rattle.rx_rank.proofs.filling.filled.Goals as goal
 use Rattle.rx_rank.proofs.filling.filled.Goals.{then-noted, else-noted}

@@ -3,7 +3,7 @@ use Rattle.std.proofs.Common.{◌≡◌, ◌∙◌, ◌+◌, ◌++◌, Bool, dro
 use Rattle.std.specs.List.{filter}
 use Rattle.rx_pairs.specs.declared.pair.Pair.{Pair}
 use Rattle.rx_rank.specs.Answers.{pairs_at}
-use Rattle.rx_rank.specs.Components.{is_member}
+use Rattle.rx_anchors.specs.Members.{is_member}
 use Rattle.rx_ranked.proofs.FilteredPairs.{one_kept_more, one_left_out}
 use Rattle.rx_ranked.proofs.staying.pairs_in.Goals as goal
 use Rattle.rx_ranked.proofs.staying.pairs_in.Goals.{then-is_member+in_ok-push, else-is_member}
