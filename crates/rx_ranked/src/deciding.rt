@@ -46,8 +46,8 @@ fn decide_from<S: FnMut(&Constraint) -> Result<Option<Cert>, FmEnd>>(
     ensures tried { IfOk result (λ t. tried_only t ≡
         ranking_from parts.now hypotheses.now left (pairs_at pairs.now)) }
 {
-    let open = open_pairs(alloc, parts, pairs, &mut memo.names)?;
-    if open.pairs.len() == 0 {
+    let opened = open_pairs(alloc, parts, pairs, &mut memo.names)?;
+    if opened.pairs.len() == 0 {
         return Ok(Attempt {
             made: Some(()),
             noted: false,
@@ -59,7 +59,7 @@ fn decide_from<S: FnMut(&Constraint) -> Result<Option<Cert>, FmEnd>>(
             noted: false,
         });
     }
-    let tried = left_after(alloc, parts, hypotheses, &open, &mut memo.pairs, solve)?;
+    let tried = left_after(alloc, parts, hypotheses, &opened, &mut memo.pairs, solve)?;
     let noted = tried.noted;
     match tried.made {
         Some(next) => {

@@ -57,12 +57,12 @@ pub(crate) fn open_pairs<'a>(
 ) -> Result<OpenPairs<'a>, NoMemory>
     requires over { IsOver (length parts.now.symbols) (edges_of (pairs_at pairs.now)) }
     requires few { length parts.now.symbols ≤ 2 ^ 32 }
-    ensures pairs { IfOk result (λ open. pairs_at open.pairs.items ≡
+    ensures pairs { IfOk result (λ o. pairs_at o.pairs.items ≡
         inside (length parts.now.symbols) (pairs_at pairs.now)) }
-    ensures names { IfOk result (λ open. open.names.items ≡
-        names_of (length parts.now.symbols) (pairs_at open.pairs.items)) }
-    ensures over { IfOk result (λ open.
-        IsOver (length parts.now.symbols) (edges_of (pairs_at open.pairs.items))) }
+    ensures names { IfOk result (λ o. o.names.items ≡
+        names_of (length parts.now.symbols) (pairs_at o.pairs.items)) }
+    ensures over { IfOk result (λ o.
+        IsOver (length parts.now.symbols) (edges_of (pairs_at o.pairs.items))) }
 {
     let names = memo.names(alloc, parts.symbols.len(), pairs)?;
     let left = inside_of(alloc, names.as_slice(), pairs)?;
@@ -142,7 +142,7 @@ fn left_in<'a, S: FnMut(&Constraint) -> Result<Option<Cert>, FmEnd>>(
     alloc: Global,
     parts: &RuleParts,
     hypotheses: &[Rule],
-    open: &OpenPairs<'a>,
+    opened: &OpenPairs<'a>,
     name: u32,
     memo: &mut PairMemo,
     solve: &mut S,
@@ -150,14 +150,14 @@ fn left_in<'a, S: FnMut(&Constraint) -> Result<Option<Cert>, FmEnd>>(
     requires solver { IsSolver S.FnMut solve.old }
     ensures solver { IsSolver S.FnMut solve.new }
     ensures tried { IfOk result (λ t. tried_as (λ left. pairs_at left.items) t ≡
-        tried_in parts.now hypotheses.now open.now.names.items (pairs_at open.now.pairs.items)
+        tried_in parts.now hypotheses.now opened.now.names.items (pairs_at opened.now.pairs.items)
         name) }
     ensures over { IfOk result (λ t. IfSome t.made (λ left.
-        (n : ℕ) → IsOver n (edges_of (pairs_at open.now.pairs.items)) →
+        (n : ℕ) → IsOver n (edges_of (pairs_at opened.now.pairs.items)) →
         IsOver n (edges_of (pairs_at left.items)))) }
 {
-    let names = open.names.as_slice();
-    let mine = pairs_in(alloc, names, name, open.pairs.as_slice())?;
+    let names = opened.names.as_slice();
+    let mine = pairs_in(alloc, names, name, opened.pairs.as_slice())?;
     if mine.len() == 0 {
         return Ok(Attempt {
             made: Some(mine),
@@ -174,18 +174,18 @@ pub(crate) fn left_after<'a, S: FnMut(&Constraint) -> Result<Option<Cert>, FmEnd
     alloc: Global,
     parts: &RuleParts,
     hypotheses: &[Rule],
-    open: &OpenPairs<'a>,
+    opened: &OpenPairs<'a>,
     memo: &mut PairMemo,
     solve: &mut S,
 ) -> Result<Attempt<Vec<&'a Pair>>, NoMemory>
     requires solver { IsSolver S.FnMut solve.old }
-    requires over { IsOver (length parts.now.symbols) (edges_of (pairs_at open.now.pairs.items)) }
-    requires names { open.now.names.items ≡
-        names_of (length parts.now.symbols) (pairs_at open.now.pairs.items) }
+    requires over { IsOver (length parts.now.symbols) (edges_of (pairs_at opened.now.pairs.items)) }
+    requires names { opened.now.names.items ≡
+        names_of (length parts.now.symbols) (pairs_at opened.now.pairs.items) }
     requires few { length parts.now.symbols ≤ 2 ^ 32 }
     ensures solver { IsSolver S.FnMut solve.new }
     ensures tried { IfOk result (λ t. tried_as (λ left. pairs_at left.items) t ≡
-        polynomials parts.now hypotheses.now (pairs_at open.now.pairs.items)) }
+        polynomials parts.now hypotheses.now (pairs_at opened.now.pairs.items)) }
     ensures over { IfOk result (λ t. IfSome t.made (λ left.
         IsOver (length parts.now.symbols) (edges_of (pairs_at left.items)))) }
 {
@@ -193,7 +193,7 @@ pub(crate) fn left_after<'a, S: FnMut(&Constraint) -> Result<Option<Cert>, FmEnd
     let mut left = Vec::new(alloc);
     let mut noted = false;
     for name in 0..symbols {
-        let tried = left_in(alloc, parts, hypotheses, open, name as u32, memo, solve)?;
+        let tried = left_in(alloc, parts, hypotheses, opened, name as u32, memo, solve)?;
         noted = noted || tried.noted;
         match tried.made {
             Some(mut more) => left.append(&mut more)?,

@@ -14,15 +14,15 @@ use Rattle.rx_ranked.proofs.deciding.+decide_from.Goals as goal
 pub returns-then-len-eq0-clause-tried : goal.returns-then-len-eq0-clause-tried
 returns-then-len-eq0-clause-tried g t c =
     all_closed c.args.parts.now c.args.hypotheses.now (pairs_at c.args.pairs.now)
-    (pairs_at c.in_ok-open.open.pairs.items) c.in_ok-open.ensures.pairs c.args.left
-    (let count = lent_count c.in_ok-open.open.pairs.items in let none = c.if-len-eq0.true in
+    (pairs_at c.in_ok-opened.opened.pairs.items) c.in_ok-opened.ensures.pairs c.args.left
+    (let count = lent_count c.in_ok-opened.opened.pairs.items in let none = c.if-len-eq0.true in
     omega (arith, count, none))
 
 pub returns-then-left-eq0-clause-tried : goal.returns-then-left-eq0-clause-tried
 returns-then-left-eq0-clause-tried g t c =
     no_more_rounds c.args.parts.now c.args.hypotheses.now (pairs_at c.args.pairs.now)
-    (pairs_at c.in_ok-open.open.pairs.items) c.in_ok-open.ensures.pairs
-    (let count = lent_count c.in_ok-open.open.pairs.items in
+    (pairs_at c.in_ok-opened.opened.pairs.items) c.in_ok-opened.ensures.pairs
+    (let count = lent_count c.in_ok-opened.opened.pairs.items in
     λ none. c.if-len-eq0.false (omega (arith, count, none)))
     c.args.left c.if-left-eq0.true
 
@@ -38,8 +38,8 @@ returns-in-Some-clause-tried g t c =
       noted = c.noted_before.ensures.noted i;
     })
     ∙ round_goes_on parts hypotheses (pairs_at c.args.pairs.now)
-    (pairs_at c.in_ok-open.open.pairs.items) c.in_ok-open.ensures.pairs
-    (let count = lent_count c.in_ok-open.open.pairs.items in
+    (pairs_at c.in_ok-opened.opened.pairs.items) c.in_ok-opened.ensures.pairs
+    (let count = lent_count c.in_ok-opened.opened.pairs.items in
     λ none. c.if-len-eq0.false (omega (arith, count, none)))
     k c.args.left one_less (option_map (λ v. pairs_at v.items) c.in_ok-tried.tried.made)
     c.in_ok-tried.tried.noted c.in_ok-tried.ensures.tried
@@ -59,8 +59,8 @@ returns-clause-tried g t c =
     let some = c.if-left-eq0.false in
     let one_less : c.args.left ≡ suc k = omega (arith, some) in
     round_ends c.args.parts.now c.args.hypotheses.now (pairs_at c.args.pairs.now)
-    (pairs_at c.in_ok-open.open.pairs.items) c.in_ok-open.ensures.pairs
-    (let count = lent_count c.in_ok-open.open.pairs.items in
+    (pairs_at c.in_ok-opened.opened.pairs.items) c.in_ok-opened.ensures.pairs
+    (let count = lent_count c.in_ok-opened.opened.pairs.items in
     λ none. c.if-len-eq0.false (omega (arith, count, none)))
     k c.args.left one_less (option_map (λ v. pairs_at v.items) c.in_ok-tried.tried.made)
     c.in_ok-tried.tried.noted c.in_ok-tried.ensures.tried

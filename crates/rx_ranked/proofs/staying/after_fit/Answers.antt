@@ -9,8 +9,8 @@ use Rattle.rx_rank.specs.declared.fitting.Fit.{Fit}
 use Rattle.rx_ranked.proofs.StayingLaws.{over_open}
 use Rattle.rx_ranked.proofs.staying.after_fit.Goals as goal
 
-pub returns-in-Some-clause-tried : goal.returns-in-Some-clause-tried
-returns-in-Some-clause-tried c =
+pub returns-in_ok-still_open-in-Some-clause-tried : goal.returns-in_ok-still_open-in-Some-clause-tried
+returns-in_ok-still_open-in-Some-clause-tried c =
     let pairs = pairs_at c.args.pairs.now in
     let view : Fit → List Pair = λ fit. still_open pairs fit.falls.items in
     λ i. record {
@@ -20,8 +20,8 @@ returns-in-Some-clause-tried c =
       noted = c.args.tried.noted;
     }
 
-pub returns-in-Some-clause-over : goal.returns-in-Some-clause-over
-returns-in-Some-clause-over c = λ n over.
+pub returns-in_ok-still_open-in-Some-clause-over : goal.returns-in_ok-still_open-in-Some-clause-over
+returns-in_ok-still_open-in-Some-clause-over c = λ n over.
     let pairs = pairs_at c.args.pairs.now in
     subst (λ ps. IsOver n (edges_of ps))
     (sym {b = still_open pairs c.as_slice.result.now} c.in_ok-still_open-in-Some.ensures)

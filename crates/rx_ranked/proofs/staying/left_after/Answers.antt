@@ -17,7 +17,7 @@ pub returns-in-None-clause-tried : goal.returns-in-None-clause-tried
 returns-in-None-clause-tried g c =
     let parts = c.args.parts.now in
     let hypotheses = c.args.hypotheses.now in
-    let pairs = pairs_at c.args.open.now.pairs.items in
+    let pairs = pairs_at c.args.opened.now.pairs.items in
     let name = c.loop-name.name in
     let noted = c.loop-name.noted in
     let more = c.in_ok-tried.tried.noted in
@@ -38,7 +38,7 @@ pub loop-name-preserved : goal.loop-name-preserved
 loop-name-preserved g c =
     let parts = c.args.parts.now in
     let hypotheses = c.args.hypotheses.now in
-    let pairs = pairs_at c.args.open.now.pairs.items in
+    let pairs = pairs_at c.args.opened.now.pairs.items in
     let name = c.loop-name.name in
     let noted = c.loop-name.noted in
     let more = c.in_ok-tried.tried.noted in

@@ -27,7 +27,7 @@ pub returns-clause-over : goal.returns-clause-over
 returns-clause-over g c =
     let a = c.args in
     let refs = c.as_slice-pairs.result.now in
-    over_from c.after_fit.result (pairs_at refs) (pairs_at a.open.now.pairs.items) (λ n over.
+    over_from c.after_fit.result (pairs_at refs) (pairs_at a.opened.now.pairs.items) (λ n over.
     subst (λ ps. IsOver n (edges_of ps))
     (sym (ap pairs_at c.as_slice-pairs.ensures.value ∙ c.in_ok-mine.ensures))
     (over_filtered n (λ pair. is_member c.as_slice-names.result.now a.name pair.left.0)

@@ -13,13 +13,13 @@ pub returns-clause-pairs : goal.returns-clause-pairs
 returns-clause-pairs c =
     let pairs = pairs_at c.args.pairs.now in
     c.in_ok-left.ensures ∙ ap (λ ns. filter (is_inside ns) pairs)
-    (c.as_slice.ensures.value ∙ c.in_ok-names.ensures ∙ ap (λ k. names_of k pairs) c.len.ensures)
+    (c.as_slice.ensures.value ∙ c.in_ok-names.ensures.names ∙ ap (λ k. names_of k pairs) c.len.ensures)
 
 pub returns-clause-names : goal.returns-clause-names
 returns-clause-names c =
     let pairs = pairs_at c.args.pairs.now in
     let n = length c.args.parts.now.symbols in
-    let names = c.in_ok-names.ensures ∙ ap (λ k. names_of k pairs) c.len.ensures in
+    let names = c.in_ok-names.ensures.names ∙ ap (λ k. names_of k pairs) c.len.ensures in
     names ∙ sym (names_inside n pairs c.requires.over)
     ∙ ap (names_of n) (sym (c.in_ok-left.ensures ∙ ap (λ ns. filter (is_inside ns) pairs)
     (c.as_slice.ensures.value ∙ names)))
@@ -30,5 +30,5 @@ returns-clause-over c =
     let n = length c.args.parts.now.symbols in
     subst (λ ps. IsOver n (edges_of ps))
     (sym (c.in_ok-left.ensures ∙ ap (λ ns. filter (is_inside ns) pairs)
-    (c.as_slice.ensures.value ∙ c.in_ok-names.ensures ∙ ap (λ k. names_of k pairs) c.len.ensures)))
+    (c.as_slice.ensures.value ∙ c.in_ok-names.ensures.names ∙ ap (λ k. names_of k pairs) c.len.ensures)))
     (over_filtered n (is_inside (names_of n pairs)) pairs c.requires.over)
