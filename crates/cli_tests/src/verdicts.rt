@@ -1,6 +1,6 @@
 //! The lines of verdicts, and the exit statuses.
 ghost use Rattle.std.specs.Prelude.{IfSome};
-ghost use Rattle.rx_cli.specs.Texts.{IsReportableVerdict};
+ghost use Rattle.rx_report.specs.Texts.{IsReportableVerdict};
 
 use crate::texts::{put_bytes, put_debug};
 use c_lex::LexEnd;

@@ -5,7 +5,7 @@ use crate::words::Words;
 use rx_cover::{CoverEnd, CoverTree, covers};
 use rx_pairs::{PairCert, PairEnd, RankTable, decreases, have_roots};
 use rx_plain::Items;
-use rx_term::RuleSet;
+use rx_term::{Rule, RuleSet};
 use rx_text::push_word;
 use rx_words::push_count;
 use std::alloc::Global;
@@ -54,25 +54,24 @@ pub fn covered(alloc: Global, set: &RuleSet, given: &str) -> Option<Vec<u8>> {
     }
 }
 
-/// What is said of ranks and certificates under hypotheses: `lower`, or the first pair that isn't
-/// or passes the limits.
-pub fn lowered(alloc: Global, set: &RuleSet, given: &str) -> Option<Vec<u8>> {
-    let (hypotheses, rest) = given.split_once(" | ")?;
-    let hypotheses = rules(alloc, hypotheses)?;
-    if !have_roots(hypotheses.as_slice()) {
+// What is said of the ranks and certificates of a text under hypotheses that have roots.
+fn lowered_with(alloc: Global, set: &RuleSet, hypotheses: &[Rule], text: &str) -> Option<Vec<u8>> {
+    if !have_roots(hypotheses) {
         return None;
     }
-    let by = read_ranked(alloc, rest)?;
-    match decreases(
-        alloc,
-        set,
-        hypotheses.as_slice(),
-        &by.table,
-        by.pairs.as_slice(),
-    ) {
+    let by = read_ranked(alloc, text)?;
+    match decreases(alloc, set, hypotheses, &by.table, by.pairs.as_slice()) {
         Ok(()) => word(alloc, b"lower"),
         Err(PairEnd::NotLower(pair)) => numbered(alloc, b"pair ", pair),
         Err(PairEnd::Large(pair)) => numbered(alloc, b"large pair ", pair),
         Err(PairEnd::NoMemory) => None,
     }
+}
+
+/// What is said of ranks and certificates under hypotheses: `lower`, or the first pair that isn't
+/// or passes the limits.
+pub fn lowered(alloc: Global, set: &RuleSet, given: &str) -> Option<Vec<u8>> {
+    let (hypotheses, rest) = given.split_once(" | ")?;
+    let hypotheses = rules(alloc, hypotheses)?;
+    lowered_with(alloc, set, hypotheses.as_slice(), rest)
 }

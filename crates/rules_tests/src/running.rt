@@ -19,13 +19,19 @@ fn holds(row: &Row) -> Option<bool> {
     }
 }
 
+// Whether the row holds of these numbers.
+fn holds_at(alloc: Global, row: &Row, args: &[Poly]) -> Option<bool> {
+    let row = row.at_args(alloc, args).ok()?;
+    holds(&row)
+}
+
 // Whether the rule applies to a redex with these numbers.
 fn applies(alloc: Global, rule: &Rule, redex: &Term, args: &[Poly]) -> Option<bool> {
     if !redex.has_shape_of(&rule.left) {
         return Some(false);
     }
     for row in rule.rows.rows() {
-        if !holds(&row.at_args(alloc, args).ok()?)? {
+        if !holds_at(alloc, row, args)? {
             return Some(false);
         }
     }
@@ -56,12 +62,17 @@ fn run(alloc: Global, set: &RuleSet, start: Term) -> Option<Term> {
     None
 }
 
+// Adds the integer of a word as a polynomial.
+fn push_number(alloc: Global, word: &str, numbers: &mut Items<Poly>) -> Option<()> {
+    let number = Poly::constant(alloc, word.parse::<i128>().ok()?).ok()?;
+    numbers.push(number).ok()
+}
+
 // The integers of a text as polynomials.
 fn numbers(alloc: Global, text: &str) -> Option<Items<Poly>> {
     let mut numbers = Items::new(alloc);
     for word in text.split_whitespace() {
-        let number = word.parse::<i128>().ok()?;
-        numbers.push(Poly::constant(alloc, number).ok()?).ok()?;
+        push_number(alloc, word, &mut numbers)?;
     }
     Some(numbers)
 }

@@ -19,7 +19,7 @@ use rx_pairs::{have_roots, loops_of};
 use rx_ranking::{Ranking, find_ranks};
 use rx_row::Constraint;
 use rx_solve::refutes;
-use rx_term::{Rule, RuleSet};
+use rx_term::{Equation, Rule, RuleSet};
 use std::alloc::Global;
 
 /// There are no more symbols than this.
@@ -82,19 +82,24 @@ fn lowers(alloc: Global, set: &RuleSet, hypotheses: &str) -> Option<Vec<u8>> {
     }
 }
 
+// What is found of uses of the hypothesis at a place of the goal.
+fn use_at(alloc: Global, goal: &Equation, hypothesis: &Rule, at: &str) -> Option<Vec<u8>> {
+    let (side, place) = place(at)?;
+    let mut solve = |rows: &Constraint| refutes(alloc, rows);
+    match find_use(alloc, goal, hypothesis, side, place, &mut solve) {
+        Ok(Some(found)) => substitution_text(alloc, found.subst.as_slice()).ok(),
+        Ok(None) => nothing(alloc),
+        Err(end) => ended(alloc, end),
+    }
+}
+
 // What is found of uses of a hypothesis at a place of a goal.
 fn use_of(alloc: Global, given: &str) -> Option<Vec<u8>> {
     let (goal, rest) = given.split_once(" | ")?;
     let (hypothesis, at) = rest.split_once(" | ")?;
     let goal = equation(alloc, goal)?;
     let hypothesis = rule(alloc, hypothesis)?;
-    let (side, place) = place(at)?;
-    let mut solve = |rows: &Constraint| refutes(alloc, rows);
-    match find_use(alloc, &goal, &hypothesis, side, place, &mut solve) {
-        Ok(Some(found)) => substitution_text(alloc, found.subst.as_slice()).ok(),
-        Ok(None) => nothing(alloc),
-        Err(end) => ended(alloc, end),
-    }
+    use_at(alloc, &goal, &hypothesis, at)
 }
 
 // The goal with its constants named.

@@ -6,7 +6,7 @@ use crate::reading::rules;
 use crate::words::Words;
 use c_front::{Compared, Next, TwoFunctions, compared_functions};
 use rx_plain::Items;
-use rx_term::RuleParts;
+use rx_term::{RuleParts, SymInfo};
 use rx_translate::{TranslateEnd, Translation, rules_of};
 use std::alloc::Global;
 
@@ -41,18 +41,27 @@ pub fn translation_of(
     Some(rules_of(alloc, &two.program, two.first, two.second))
 }
 
+// The symbols that the text is.
+fn symbols_of(alloc: Global, text: &str) -> Option<Items<SymInfo>> {
+    let mut words = Words::new(alloc, text);
+    let symbols = words.symbols()?;
+    if words.is_done() { Some(symbols) } else { None }
+}
+
+// The parts with this greatest failure code.
+fn parts_with(alloc: Global, fails: u8, symbols: &str, listed: &str) -> Option<RuleParts> {
+    let symbols = symbols_of(alloc, symbols)?;
+    let rules = Items::from_vec(rules(alloc, listed)?);
+    Some(RuleParts {
+        symbols,
+        rules,
+        fails,
+    })
+}
+
 /// The greatest failure code, the symbols and the rules that the text is.
 pub fn parts_of(alloc: Global, given: &str) -> Option<RuleParts> {
     let (fails, rest) = given.split_once(" | ")?;
     let (symbols, listed) = rest.split_once(" | ")?;
-    let mut words = Words::new(alloc, symbols);
-    let symbols = words.symbols()?;
-    if !words.is_done() {
-        return None;
-    }
-    Some(RuleParts {
-        symbols,
-        rules: Items::from_vec(rules(alloc, listed)?),
-        fails: fails.parse::<u8>().ok()?,
-    })
+    parts_with(alloc, fails.parse::<u8>().ok()?, symbols, listed)
 }

@@ -88,57 +88,82 @@ impl<'a> Words<'a> {
         Some(certs)
     }
 
+    fn add_tree(&mut self, trees: &mut Items<CoverTree>) -> Option<()> {
+        trees.push(self.tree()?).ok()
+    }
+
     fn trees(&mut self) -> Option<Items<CoverTree>> {
+        let count = self.number()?;
         let mut trees = Items::new(self.alloc);
-        for _ in 0..self.number()? {
-            trees.push(self.tree()?).ok()?;
+        for _ in 0..count {
+            self.add_tree(&mut trees)?;
         }
         Some(trees)
+    }
+
+    fn add_poly(&mut self, polys: &mut Items<Poly>) -> Option<()> {
+        polys.push(self.poly()?).ok()
     }
 
     fn polys(&mut self, count: u32) -> Option<Items<Poly>> {
         let mut polys = Items::new(self.alloc);
         for _ in 0..count {
-            polys.push(self.poly()?).ok()?;
+            self.add_poly(&mut polys)?;
         }
         Some(polys)
     }
 
     /// Symbols, each as the number of its arguments and letters.
     pub fn symbols(&mut self) -> Option<Items<SymInfo>> {
+        let count = self.number()?;
         let mut symbols = Items::new(self.alloc);
-        for _ in 0..self.number()? {
+        for _ in 0..count {
             symbols.push(self.symbol()?).ok()?;
         }
         Some(symbols)
     }
 
+    fn add_trees(&mut self, lists: &mut Items<Items<CoverTree>>) -> Option<()> {
+        lists.push(self.trees()?).ok()
+    }
+
     /// Lists of trees.
     pub fn lists(&mut self) -> Option<Items<Items<CoverTree>>> {
+        let count = self.number()?;
         let mut lists = Items::new(self.alloc);
-        for _ in 0..self.number()? {
-            lists.push(self.trees()?).ok()?;
+        for _ in 0..count {
+            self.add_trees(&mut lists)?;
         }
         Some(lists)
+    }
+
+    fn add_rank(&mut self, columns: u32, ranks: &mut Items<Items<Poly>>) -> Option<()> {
+        ranks.push(self.polys(columns)?).ok()
     }
 
     /// The number of columns, and ranks.
     pub fn table(&mut self) -> Option<RankTable> {
         let columns = self.number()?;
+        let count = self.number()?;
         let mut ranks = Items::new(self.alloc);
-        for _ in 0..self.number()? {
-            ranks.push(self.polys(columns)?).ok()?;
+        for _ in 0..count {
+            self.add_rank(columns, &mut ranks)?;
         }
         Some(RankTable { columns, ranks })
     }
 
+    fn add_pair(&mut self, pairs: &mut Items<PairCert>) -> Option<()> {
+        let column = self.number()?;
+        let certs = self.certs()?;
+        pairs.push(PairCert { column, certs }).ok()
+    }
+
     /// Columns with certificates.
     pub fn pairs(&mut self) -> Option<Items<PairCert>> {
+        let count = self.number()?;
         let mut pairs = Items::new(self.alloc);
-        for _ in 0..self.number()? {
-            let column = self.number()?;
-            let certs = self.certs()?;
-            pairs.push(PairCert { column, certs }).ok()?;
+        for _ in 0..count {
+            self.add_pair(&mut pairs)?;
         }
         Some(pairs)
     }

@@ -1,5 +1,6 @@
 -- What each line of a log makes of what was kept at its place.
-use Rattle.std.proofs.Common.{◌≡◌, ◌∙◌, ap, sym, subst, refl, ℕ, ◌+◌, ◌<◌, ◌≤◌, Option, Some, None, Ok, Err, List, [], ◌∷◌, ◌++◌, drop, slice_get, length, append_assoc, arith, drop_of_length-le}
+use Rattle.std.proofs.Common.{◌≡◌, ◌∙◌, ap, sym, subst, refl, ℕ, ◌+◌, ◌<◌, ◌≤◌, Option, Some, None, Result, Ok, Err, List, [], ◌∷◌, ◌++◌, drop, slice_get, length, append_assoc, arith, drop_of_length-le}
+use Rattle.std.specs.Prelude.{IfOk, OnErr, OnOk}
 use Rattle.std.proofs.lemmas.List.{append-nil}
 use Rattle.std.proofs.lemmas.Option.{same_Some}
 use Rattle.rx_term.proofs.Places.{from_end, from_nowhere, from_place}
@@ -29,7 +30,7 @@ use Rattle.rx_log.specs.declared.log.Log.{Log}
 use Rattle.rx_log.specs.declared.place.Place.{Place}
 use Rattle.rx_log.specs.declared.place.Place.TheVariants.{AtHeader, InCovers, InSteps, InRanks, InPairs, Finished}
 use Rattle.rx_check.specs.Answers.{named}
-use Rattle.rx_check.specs.LineByLine.{Ends, IsOutcome, passed, FailsWith, Holds, IsKnown, Stands, once_lower, one_lower}
+use Rattle.rx_check.specs.LineByLine.{Ends, IsOutcome, Judges, passed, FailsWith, Holds, IsKnown, Stands, once_lower, one_lower}
 use Rattle.rx_check.specs.declared.check_end.CheckEnd.{CheckEnd}
 use Rattle.rx_check.specs.declared.check_end.CheckEnd.TheVariants as end
 use Rattle.rx_check.specs.declared.progress.Progress.{Progress}
@@ -280,6 +281,17 @@ step_judged parts place step old new failure asks counts table ends goal log sym
     subst (λ b. Stands parts goal b (pushed (line.Step step) log) new failure) comes.1
     (step_stands parts step goal place log old new holds
     (covers_hold (covering parts log.covers) before.0) before.1 counts table failure ends)
+
+-- the same of a call, by what each of its answers says
+pub step_judges : {E : Type 0} (parts : RuleParts) (place : Place) (step : Step)
+    (old new : Progress) (result : Result (Option CheckEnd) E) → Asks parts place None
+    → OnOk result (new.steps ≡ old.steps + 1) → new.table ≡ old.table
+    → IfOk result (λ failure. Ends failure new.state
+    (after_step old.steps (applied parts old.state step)))
+    → OnErr result (new ≡ old) → Judges parts place (line.Step step) old new result
+step_judges parts place step old new (Ok failure) asks counts table ends kept =
+    step_judged parts place step old new failure asks counts table ends
+step_judges parts place step old new (Err none) asks counts table ends kept = kept
 
 -- ---- the beginning of the ranks
 

@@ -1,6 +1,8 @@
 //! What a replay keeps of the checks between two lines of a log, and what each line makes of it.
-ghost use Rattle.std.specs.Prelude.{◌≡◌, All};
-ghost use Rattle.rx_check.specs.LineByLine.{Judged, Judges};
+ghost use Rattle.std.specs.Prelude.{◌≡◌, ◌+◌, All, IfOk, OnErr, OnOk};
+ghost use Rattle.rx_check.specs.LineByLine.{Ends, Judged, Judges};
+ghost use Rattle.rx_form.specs.States.{applied};
+ghost use Rattle.rx_log.specs.Acceptance.{after_step};
 ghost use Rattle.rx_pairs.specs.Pairs.{HasRoot};
 ghost use Rattle.rx_term.specs.declared.rule_set.RuleParts.{RuleParts};
 
@@ -50,6 +52,27 @@ fn judge_cover(
 }
 
 impl Progress {
+    /// Takes a step and counts it. Where there is no memory, what is kept stays as it was.
+    fn take_counted(
+        &mut self,
+        alloc: Global,
+        rules: &RuleSet,
+        step: Step,
+    ) -> Result<Option<CheckEnd>, NoMemory>
+        requires roots { All HasRoot self.old.state.hypotheses }
+        ensures counted { OnOk result (self.new.steps ≡ self.old.steps + 1) }
+        ensures table { self.new.table ≡ self.old.table }
+        ensures ends { IfOk result (λ failure. Ends failure self.new.state
+            (after_step self.old.steps (applied rules.now self.old.state step))) }
+        ensures err { OnErr result (self.new ≡ self.old) }
+        ensures roots { All HasRoot self.new.state.hypotheses }
+    {
+        let next = count_after(self.steps)?;
+        let failure = step_failure(alloc, &mut self.state, rules, self.steps, step)?;
+        self.steps = next;
+        Ok(failure)
+    }
+
     /// Takes a step. The first asks whether all symbols are covered.
     fn take(
         &mut self,
@@ -65,10 +88,7 @@ impl Progress {
         if let Some(end) = missing_cover(rules, place) {
             return Ok(Some(end));
         }
-        let next = count_after(self.steps)?;
-        let failure = step_failure(alloc, &mut self.state, rules, self.steps, step)?;
-        self.steps = next;
-        Ok(failure)
+        self.take_counted(alloc, rules, step)
     }
 
     /// Begins the ranks: asks whether all symbols are covered and whether goals are left, and makes

@@ -10,14 +10,14 @@ use Rattle.rx_cli.specs.Problems.{asked}
 use Rattle.rx_command.specs.Commands.{Check, Command, Compare, Comparison, Demo, Functions, Prove, Refute}
 use Rattle.rx_command.specs.declared.command.Effort.{Effort}
 use Rattle.rx_io.specs.Outside.{Names, HoldsBytes, IsMissing, Rose}
-use Rattle.rx_cli.specs.declared.answers.Answer.{Answer}
-use Rattle.rx_cli.specs.declared.answers.Answer.TheVariants.{Line}
-use Rattle.rx_cli.specs.declared.ends.Status.TheVariants as Ends
-use Rattle.rx_cli.specs.declared.verdicts.Verdict.{Verdict}
-use Rattle.rx_cli.specs.declared.verdicts.Verdict.TheVariants as Said
+use Rattle.rx_report.specs.declared.answer.Answer.{Answer}
+use Rattle.rx_report.specs.declared.answer.Answer.TheVariants.{Line}
+use Rattle.rx_report.specs.declared.ends.Status.TheVariants as Ends
+use Rattle.rx_report.specs.declared.verdicts.Verdict.{Verdict}
+use Rattle.rx_report.specs.declared.verdicts.Verdict.TheVariants as Said
 use Rattle.rx_cli.specs.Agreement.{Agrees}
 use Rattle.rx_cli.specs.Answers.{AnswersSoundly, AnswersOrFails, IsHeld, IsLogHeld, OnSource, functions_in, longest_source}
-use Rattle.rx_cli.specs.Ends.{status_of}
+use Rattle.rx_report.specs.Ends.{status_of}
 use Rattle.rx_cli.specs.Proofs.{IsProved}
 use Rattle.rx_cli.specs.Steps.{ChecksNamed, Reads}
 use Rattle.rx_cli.specs.Examples.{IsShown}

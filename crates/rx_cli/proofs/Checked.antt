@@ -9,16 +9,16 @@ use Rattle.rx_log.specs.Acceptance as acceptance
 use Rattle.rx_log.specs.Acceptance.{HasVerdict, IsAccepted}
 use Rattle.rx_log.specs.declared.log.Log.{Log}
 use Rattle.rx_cli.specs.declared.problems.Problem.{Problem}
-use Rattle.rx_cli.specs.declared.ends.Status.TheVariants as Ends
-use Rattle.rx_cli.specs.declared.verdicts.Verdict.{Verdict}
-use Rattle.rx_cli.specs.declared.verdicts.Verdict.TheVariants as Said
+use Rattle.rx_report.specs.declared.ends.Status.TheVariants as Ends
+use Rattle.rx_report.specs.declared.verdicts.Verdict.{Verdict}
+use Rattle.rx_report.specs.declared.verdicts.Verdict.TheVariants as Said
 use Rattle.rx_check.specs.declared.check_end.CheckEnd.{CheckEnd}
 use Rattle.rx_check.specs.declared.check_end.CheckEnd.TheVariants as End
 use Rattle.rx_cli.specs.Agreement.{Agrees}
 use Rattle.rx_cli.specs.Checks.{IsChecked, OnLog, OnRead, OnText, longest_log}
-use Rattle.rx_cli.specs.Ends.{check_status, status_of}
+use Rattle.rx_report.specs.Ends.{check_status, status_of}
 use Rattle.rx_cli.specs.Problems.{asked}
-use Rattle.rx_cli.specs.Verdicts.{end_of, verdict_of}
+use Rattle.rx_report.specs.Verdicts.{end_of, verdict_of}
 use Rattle.rx_cli.proofs.Sound.{problem_agrees}
 
 -- each refusal has the status of refusals

@@ -9,12 +9,12 @@ use Rattle.c_refute.specs.declared.findings.Compared.TheVariants as found
 use Rattle.c_refute.specs.Points.{IsComparison, finding_at}
 use Rattle.rx_command.specs.Commands.{Functions}
 use Rattle.rx_command.specs.declared.command.Extent.{Extent}
-use Rattle.rx_cli.specs.declared.answers.Answer.{Answer}
-use Rattle.rx_cli.specs.declared.answers.Answer.TheVariants.{Line, Found}
-use Rattle.rx_cli.specs.declared.ends.Status.TheVariants as Ends
-use Rattle.rx_cli.specs.declared.verdicts.Verdict.{Verdict}
-use Rattle.rx_cli.specs.declared.verdicts.Verdict.TheVariants as Said
-use Rattle.rx_cli.specs.Ends.{found_status, status_in, status_of}
+use Rattle.rx_report.specs.declared.answer.Answer.{Answer}
+use Rattle.rx_report.specs.declared.answer.Answer.TheVariants.{Line, Found}
+use Rattle.rx_report.specs.declared.ends.Status.TheVariants as Ends
+use Rattle.rx_report.specs.declared.verdicts.Verdict.{Verdict}
+use Rattle.rx_report.specs.declared.verdicts.Verdict.TheVariants as Said
+use Rattle.rx_report.specs.Ends.{found_status, status_in, status_of}
 use Rattle.rx_cli.specs.Problems.{front_stage}
 use Rattle.rx_cli.specs.Refutations.{IsFound, IsRefuted, OnPoints, Refutes, arity_in, most_points, points_in}
 use Rattle.rx_cli.proofs.Checked.{status_refused}

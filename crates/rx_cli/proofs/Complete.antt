@@ -7,16 +7,16 @@ use Rattle.rx_command.specs.Commands.{Check, Command, Compare, Comparison, Funct
 use Rattle.rx_command.specs.declared.command.Effort.{Effort}
 use Rattle.rx_io.specs.Outside.{Names}
 use Rattle.rx_search.specs.Search.{Closed, Searched, searched}
-use Rattle.rx_cli.specs.declared.answers.Answer.{Answer}
-use Rattle.rx_cli.specs.declared.answers.Answer.TheVariants.{Line}
-use Rattle.rx_cli.specs.declared.ends.Status.{Status}
-use Rattle.rx_cli.specs.declared.ends.Status.TheVariants as Said
+use Rattle.rx_report.specs.declared.answer.Answer.{Answer}
+use Rattle.rx_report.specs.declared.answer.Answer.TheVariants.{Line}
+use Rattle.rx_report.specs.declared.ends.Status.{Status}
+use Rattle.rx_report.specs.declared.ends.Status.TheVariants as Said
 use Rattle.rx_cli.specs.declared.problems.Problem.{Problem}
-use Rattle.rx_cli.specs.declared.verdicts.Verdict.TheVariants as verdict
+use Rattle.rx_report.specs.declared.verdicts.Verdict.TheVariants as verdict
 use Rattle.rx_cli.specs.Answers.{AnswersSoundly, IsDone, OnSource, longest_source}
 use Rattle.rx_cli.specs.Checks.{IsChecked}
 use Rattle.rx_cli.specs.Completeness.{CanShow, Holds, HoldsAccepted, HoldsClosed, SaysYes}
-use Rattle.rx_cli.specs.Ends.{status_in, status_of}
+use Rattle.rx_report.specs.Ends.{status_in, status_of}
 use Rattle.rx_cli.specs.Problems.{asked}
 use Rattle.rx_cli.specs.Proofs.{IsProved, OnProblem, OnSearched}
 use Rattle.rx_cli.specs.Run.{RunEnds}

@@ -4,12 +4,12 @@ use Rattle.std.specs.Prelude.{MatchBool}
 use Rattle.rx_io.specs.Outside.{Names}
 use Rattle.rx_command.specs.Commands.{Command, Compare, Demo, Functions, Refute, command_of}
 use Rattle.rx_command.specs.declared.command.Extent.{Extent}
-use Rattle.rx_cli.specs.declared.answers.Answer.{Answer}
-use Rattle.rx_cli.specs.declared.ends.Status.TheVariants as Ends
-use Rattle.rx_cli.specs.declared.answers.Answer.TheVariants.{Line}
-use Rattle.rx_cli.specs.declared.verdicts.Verdict.TheVariants as Said
+use Rattle.rx_report.specs.declared.answer.Answer.{Answer}
+use Rattle.rx_report.specs.declared.ends.Status.TheVariants as Ends
+use Rattle.rx_report.specs.declared.answer.Answer.TheVariants.{Line}
+use Rattle.rx_report.specs.declared.verdicts.Verdict.TheVariants as Said
 use Rattle.rx_cli.specs.Answers.{AreEqual, Input, AnswersSoundly, AnswersOrFails, IsInput, IsHeld, IsRefutedBy, Means, OnSource, functions_in, longest_source}
-use Rattle.rx_cli.specs.Ends.{status_in}
+use Rattle.rx_report.specs.Ends.{status_in}
 use Rattle.rx_cli.specs.Refutations.{IsRefuted, Refutes}
 use Rattle.rx_cli.proofs.Comparisons.{different_refutes}
 

@@ -5,15 +5,15 @@ use Rattle.std.proofs.Math.Nat.{eq-or-lt_of_le, mod-le, mod-lt, mod-mod}
 use Rattle.std.proofs.lemmas.List.{get_or_append_left, get_or_push, length-append}
 use Rattle.std.proofs.lemmas.Bool.{eqb-true}
 use Rattle.rx_cli.specs.declared.examples.Tally.{Tally}
-use Rattle.rx_cli.specs.declared.ends.Status.{Status}
-use Rattle.rx_cli.specs.declared.ends.Status.TheVariants as Ends
-use Rattle.rx_cli.specs.declared.verdicts.Verdict.{Verdict}
-use Rattle.rx_cli.specs.declared.verdicts.Verdict.TheVariants as Said
+use Rattle.rx_report.specs.declared.ends.Status.{Status}
+use Rattle.rx_report.specs.declared.ends.Status.TheVariants as Ends
+use Rattle.rx_report.specs.declared.verdicts.Verdict.{Verdict}
+use Rattle.rx_report.specs.declared.verdicts.Verdict.TheVariants as Said
 use Rattle.rx_cli.specs.Agreement.{Agrees}
 use Rattle.rx_cli.specs.Answers.{ExamplesAgree}
-use Rattle.rx_cli.specs.Ends.{status_of}
-use Rattle.rx_cli.specs.declared.answers.Answer.{Answer}
-use Rattle.rx_cli.specs.Ends.{status_in}
+use Rattle.rx_report.specs.Ends.{status_of}
+use Rattle.rx_report.specs.declared.answer.Answer.{Answer}
+use Rattle.rx_report.specs.Ends.{status_in}
 use Rattle.rx_cli.specs.Examples.{AreStatuses, HasStatuses, IsShown, IsStatus, IsTally, example_effort, example_functions, example_source, example_text, repeats, with_status}
 use Rattle.rx_cli.specs.Proofs.{IsProved}
 use Rattle.rx_cli.proofs.Proved.{proved_agrees}

@@ -23,10 +23,10 @@ use Rattle.rx_term.specs.declared.rule.Equation.{Equation}
 use Rattle.rx_term.specs.declared.rule.Rule.{Rule}
 use Rattle.rx_term.specs.declared.rule_set.RuleParts.{RuleParts}
 use Rattle.rx_cli.specs.declared.problems.Problem.{Problem}
-use Rattle.rx_cli.specs.declared.verdicts.Verdict.TheVariants as Said
+use Rattle.rx_report.specs.declared.verdicts.Verdict.TheVariants as Said
 use Rattle.rx_cli.specs.Checks.{OnLog}
-use Rattle.rx_cli.specs.declared.verdicts.Verdict.{Verdict}
-use Rattle.rx_cli.specs.Texts.{IsReportableVerdict, IsSayableEnd}
+use Rattle.rx_report.specs.declared.verdicts.Verdict.{Verdict}
+use Rattle.rx_report.specs.Texts.{IsReportableVerdict, IsSayableEnd}
 
 -- the fault that no log has
 abbrev large : ℕ → LogFault

@@ -9,12 +9,12 @@ use Rattle.rx_logfile.specs.LogFiles.{OnFile}
 use Rattle.rx_logfile.specs.declared.file_end.FileEnd.{FileEnd}
 use Rattle.rx_logfile.specs.declared.file_end.FileEnd.TheVariants as end
 use Rattle.rx_cli.specs.declared.problems.Problem.{Problem}
-use Rattle.rx_cli.specs.declared.verdicts.Verdict.{Verdict}
-use Rattle.rx_cli.specs.declared.verdicts.Verdict.TheVariants as Said
+use Rattle.rx_report.specs.declared.verdicts.Verdict.{Verdict}
+use Rattle.rx_report.specs.declared.verdicts.Verdict.TheVariants as Said
 use Rattle.rx_cli.specs.Checks.{longest_log}
 use Rattle.rx_cli.specs.Problems.{asked}
 use Rattle.rx_cli.specs.Steps.{ChecksNamed, ChecksRead, OnNext, Reads, SaysEndOfLog}
-use Rattle.rx_cli.specs.Texts.{IsReportableVerdict}
+use Rattle.rx_report.specs.Texts.{IsReportableVerdict}
 use Rattle.rx_cli.proofs.AnswerLemmas.{checks_text, checks_unread}
 use Rattle.rx_cli.proofs.LogFaults.{verdict_said}
 

@@ -5,13 +5,13 @@ use Rattle.rx_check.specs.declared.check_end.CheckEnd.{CheckEnd}
 use Rattle.rx_check.specs.declared.check_end.CheckEnd.TheVariants as End
 use Rattle.c_refute.specs.declared.findings.Compared.TheVariants as found
 use Rattle.rx_io.specs.Outside.{Names, AppendsPrefix}
-use Rattle.rx_cli.specs.declared.answers.Answer.{Answer}
-use Rattle.rx_cli.specs.declared.answers.Answer.TheVariants.{Line, Proof, Found}
-use Rattle.rx_cli.specs.declared.ends.Status.{Status}
-use Rattle.rx_cli.specs.declared.ends.Status.TheVariants as Ends
-use Rattle.rx_cli.specs.declared.verdicts.Verdict.{Verdict}
-use Rattle.rx_cli.specs.declared.verdicts.Verdict.TheVariants as Said
-use Rattle.rx_cli.specs.Ends.{status_in, check_status, status_of}
+use Rattle.rx_report.specs.declared.answer.Answer.{Answer}
+use Rattle.rx_report.specs.declared.answer.Answer.TheVariants.{Line, Proof, Found}
+use Rattle.rx_report.specs.declared.ends.Status.{Status}
+use Rattle.rx_report.specs.declared.ends.Status.TheVariants as Ends
+use Rattle.rx_report.specs.declared.verdicts.Verdict.{Verdict}
+use Rattle.rx_report.specs.declared.verdicts.Verdict.TheVariants as Said
+use Rattle.rx_report.specs.Ends.{status_in, check_status, status_of}
 use Rattle.rx_cli.specs.InMemory.{IsAbsent, IsTooLong}
 use Rattle.rx_cli.specs.Run.{Reports, RunEnds}
 

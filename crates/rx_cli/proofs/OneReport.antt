@@ -17,16 +17,17 @@ use Rattle.rx_logtext.proofs.OneReading.{never_both, one_bad_line, one_log}
 use Rattle.rx_search.specs.Search.{Searched, NoRanks, Closed, Large, Spent, NoPlan, searched}
 use Rattle.rx_settle.specs.Moves.{Move}
 use Rattle.rx_term.specs.WellMade.{IsWellMade}
-use Rattle.rx_cli.specs.declared.answers.Answer.{Answer}
-use Rattle.rx_cli.specs.declared.answers.Answer.TheVariants.{Line, Proof, Found}
-use Rattle.rx_cli.specs.declared.ends.Status.{Status}
-use Rattle.rx_cli.specs.declared.ends.Status.TheVariants as Ends
+use Rattle.rx_report.specs.declared.answer.Answer.{Answer}
+use Rattle.rx_report.specs.declared.answer.Answer.TheVariants.{Line, Proof, Found}
+use Rattle.rx_report.specs.declared.ends.Status.{Status}
+use Rattle.rx_report.specs.declared.ends.Status.TheVariants as Ends
 use Rattle.rx_cli.specs.declared.problems.Problem.{Problem}
-use Rattle.rx_cli.specs.declared.verdicts.Verdict.{Verdict}
-use Rattle.rx_cli.specs.declared.verdicts.Verdict.TheVariants as Said
-use Rattle.rx_cli.specs.Answers.{AnswersSoundly, IsDone, OnSource, functions_in, longest_source, text_in}
+use Rattle.rx_report.specs.declared.verdicts.Verdict.{Verdict}
+use Rattle.rx_report.specs.declared.verdicts.Verdict.TheVariants as Said
+use Rattle.rx_cli.specs.Answers.{AnswersSoundly, IsDone, OnSource, functions_in, longest_source}
+use Rattle.rx_report.specs.Reports.{text_in}
 use Rattle.rx_cli.specs.Checks.{IsChecked, OnLog, OnRead, OnText, longest_log}
-use Rattle.rx_cli.specs.Ends.{status_in}
+use Rattle.rx_report.specs.Ends.{status_in}
 use Rattle.c_front.specs.declared.pairs.Compared.{Compared}
 use Rattle.c_refute.proofs.OneComparison.{one_comparison}
 use Rattle.c_refute.specs.Points.{finding_at}
@@ -37,7 +38,7 @@ use Rattle.rx_cli.specs.declared.examples.Tally.{Tally}
 use Rattle.rx_cli.specs.Problems.{asked, front_stage, problem_stage, rows_of}
 use Rattle.rx_cli.specs.Run.{Reports}
 use Rattle.rx_cli.specs.Proofs.{AreOne, AreProofs, IsProofText, IsProved, OnProblem, OnSearched}
-use Rattle.rx_cli.specs.Verdicts.{of_log_verdict, verdict_of}
+use Rattle.rx_report.specs.Verdicts.{of_log_verdict, verdict_of}
 use Rattle.rx_cli.proofs.Ready.{ready}
 
 -- two verdicts that are equal to one

@@ -5,15 +5,15 @@ use Rattle.rx_command.specs.Commands.{Functions}
 use Rattle.rx_command.specs.declared.command.Effort.{Effort}
 use Rattle.rx_search.specs.Search.{Searched, NoRanks, Closed, Large, Spent, NoPlan, searched}
 use Rattle.rx_settle.specs.Moves.{Move}
-use Rattle.rx_cli.specs.declared.answers.Answer.{Answer}
-use Rattle.rx_cli.specs.declared.answers.Answer.TheVariants.{Line}
-use Rattle.rx_cli.specs.declared.ends.Status.TheVariants as Ends
+use Rattle.rx_report.specs.declared.answer.Answer.{Answer}
+use Rattle.rx_report.specs.declared.answer.Answer.TheVariants.{Line}
+use Rattle.rx_report.specs.declared.ends.Status.TheVariants as Ends
 use Rattle.rx_cli.specs.declared.problems.Problem.{Problem}
-use Rattle.rx_cli.specs.declared.verdicts.Verdict.{Verdict}
-use Rattle.rx_cli.specs.declared.verdicts.Verdict.TheVariants as Said
+use Rattle.rx_report.specs.declared.verdicts.Verdict.{Verdict}
+use Rattle.rx_report.specs.declared.verdicts.Verdict.TheVariants as Said
 use Rattle.rx_cli.specs.Agreement.{Agrees}
-use Rattle.rx_cli.specs.Answers.{text_in}
-use Rattle.rx_cli.specs.Ends.{status_in, status_of}
+use Rattle.rx_report.specs.Reports.{text_in}
+use Rattle.rx_report.specs.Ends.{status_in, status_of}
 use Rattle.rx_cli.specs.Problems.{asked}
 use Rattle.rx_cli.specs.Proofs.{IsProofText, IsProved, OnSearched}
 use Rattle.rx_cli.proofs.Checked.{never_asked}

@@ -1,10 +1,11 @@
 -- How a run ends, from what was answered and what was written.
 use Rattle.std.proofs.Common.{◌≡◌, ◌∙◌, List, ℕ, Option, inr, refl}
 use Rattle.rx_io.specs.Outside.{Names, AppendsPrefix}
-use Rattle.rx_cli.specs.declared.answers.Answer.{Answer}
-use Rattle.rx_cli.specs.declared.ends.Status.TheVariants as Ends
-use Rattle.rx_cli.specs.Answers.{AnswersOrFails, text_in}
-use Rattle.rx_cli.specs.Ends.{status_in}
+use Rattle.rx_report.specs.declared.answer.Answer.{Answer}
+use Rattle.rx_report.specs.declared.ends.Status.TheVariants as Ends
+use Rattle.rx_cli.specs.Answers.{AnswersOrFails}
+use Rattle.rx_report.specs.Reports.{text_in}
+use Rattle.rx_report.specs.Ends.{status_in}
 use Rattle.rx_cli.specs.Run.{RunEnds}
 use Rattle.rx_command.specs.Commands.{command_of}
 

@@ -9,19 +9,20 @@ use Rattle.rx_io.specs.Outside.{Names}
 use Rattle.rx_log.specs.Acceptance.{Accepted, IsAccepted}
 use Rattle.rx_log.specs.declared.log.Log.{Log}
 use Rattle.rx_logtext.specs.Logs.{IsLog}
-use Rattle.rx_cli.specs.declared.answers.Answer.{Answer}
-use Rattle.rx_cli.specs.declared.answers.Answer.TheVariants.{Line}
-use Rattle.rx_cli.specs.declared.ends.Status.{Status}
-use Rattle.rx_cli.specs.declared.ends.Status.TheVariants as Ends
+use Rattle.rx_report.specs.declared.answer.Answer.{Answer}
+use Rattle.rx_report.specs.declared.answer.Answer.TheVariants.{Line}
+use Rattle.rx_report.specs.declared.ends.Status.{Status}
+use Rattle.rx_report.specs.declared.ends.Status.TheVariants as Ends
 use Rattle.rx_cli.specs.declared.problems.Problem.{Problem}
-use Rattle.rx_cli.specs.declared.verdicts.Verdict.TheVariants as Said
-use Rattle.rx_cli.specs.Answers.{AnswersSoundly, IsDone, OnSource, longest_source, text_in}
-use Rattle.rx_cli.specs.Ends.{status_in}
+use Rattle.rx_report.specs.declared.verdicts.Verdict.TheVariants as Said
+use Rattle.rx_cli.specs.Answers.{AnswersSoundly, IsDone, OnSource, longest_source}
+use Rattle.rx_report.specs.Reports.{text_in}
+use Rattle.rx_report.specs.Ends.{status_in}
 use Rattle.rx_cli.specs.Checks.{IsChecked, OnRead, longest_log}
 use Rattle.rx_cli.specs.Problems.{asked}
 use Rattle.rx_cli.specs.Proofs.{IsProved}
 use Rattle.rx_cli.specs.Run.{Reports}
-use Rattle.rx_cli.specs.Texts.{text_of}
+use Rattle.rx_report.specs.Texts.{text_of}
 use Rattle.rx_cli.proofs.Proved.{proved_text}
 
 -- a log that is accepted for a problem is accepted by a check that reads its text

@@ -3,41 +3,21 @@ use Rattle.std.specs.Prelude.{◌≡◌, ◌⊎◌, ℕ, ◌<◌, List, Option, 
 use Rattle.rx_io.specs.Outside.{Names}
 use Rattle.rx_command.specs.Commands.{Command, Compare, Demo, Comparison, Functions, Prove, Check, Refute, command_of}
 use Rattle.rx_command.specs.declared.command.Extent.{Extent}
-use Rattle.rx_cli.specs.declared.answers.Answer.{Answer}
-use Rattle.rx_cli.specs.declared.answers.Answer.TheVariants.{Line, Proof, Found}
-use Rattle.rx_cli.specs.declared.ends.Status.{Status}
-use Rattle.rx_cli.specs.declared.ends.Status.TheVariants as Ends
-use Rattle.rx_cli.specs.declared.verdicts.Verdict.{Verdict}
-use Rattle.rx_cli.specs.declared.verdicts.Verdict.TheVariants as Said
+use Rattle.rx_report.specs.declared.answer.Answer.{Answer}
+use Rattle.rx_report.specs.declared.answer.Answer.TheVariants.{Line}
+use Rattle.rx_report.specs.declared.ends.Status.TheVariants as Ends
+use Rattle.rx_report.specs.declared.verdicts.Verdict.{Verdict}
+use Rattle.rx_report.specs.declared.verdicts.Verdict.TheVariants as Said
 use Rattle.rx_cli.specs.Agreement.{Agrees}
 use Rattle.rx_cli.specs.Checks.{IsChecked}
-use Rattle.rx_cli.specs.Ends.{status_in}
+use Rattle.rx_report.specs.Ends.{status_in}
 use Rattle.rx_cli.specs.Examples.{IsShown, example_functions, example_source}
 use Rattle.rx_cli.specs.Proofs.{IsProved}
 use Rattle.rx_cli.specs.Refutations.{IsRefuted, Refutes}
-use Rattle.rx_cli.specs.Texts.{IsReportableVerdict, found_text, text_of}
 
 -- the most bytes of a source
 abbrev pub longest_source : ℕ
 longest_source = 1048576
-
--- ---- reports
-
--- the text of an answer
-abbrev pub text_in : Answer → List ℕ
-text_in (Line verdict) = text_of verdict
-text_in (Proof text) = text
-text_in (Found found) = found_text found
-
--- how an answer is reported
-abbrev pub IsReport : Answer → Status → List ℕ → Type 0
-IsReport answer status text = (status ≡ status_in answer) × (text ≡ text_in answer)
-
--- it has a text
-abbrev pub IsReportable : Answer → Type 0
-IsReportable (Line verdict) = IsReportableVerdict verdict
-IsReportable (Proof text) = ⊤
-IsReportable (Found found) = ⊤
 
 -- ---- what was read
 

@@ -7,10 +7,10 @@ use Rattle.rx_log.specs.Acceptance as acceptance
 use Rattle.rx_log.specs.Acceptance.{HasVerdict}
 use Rattle.rx_logtext.specs.Logs.{IsFirstBad, IsLog}
 use Rattle.rx_cli.specs.declared.problems.Problem.{Problem}
-use Rattle.rx_cli.specs.declared.verdicts.Verdict.{Verdict}
-use Rattle.rx_cli.specs.declared.verdicts.Verdict.TheVariants as Said
+use Rattle.rx_report.specs.declared.verdicts.Verdict.{Verdict}
+use Rattle.rx_report.specs.declared.verdicts.Verdict.TheVariants as Said
 use Rattle.rx_cli.specs.Problems.{asked}
-use Rattle.rx_cli.specs.Verdicts.{of_log_verdict}
+use Rattle.rx_report.specs.Verdicts.{of_log_verdict}
 
 -- the most bytes of a log
 abbrev pub longest_log : ℕ

@@ -10,8 +10,8 @@ use Rattle.rx_log.specs.declared.log.Log.{Log}
 use Rattle.rx_logtext.specs.Logs.{IsLog}
 use Rattle.rx_search.specs.Search.{Closed, searched}
 use Rattle.rx_settle.specs.Moves.{Move}
-use Rattle.rx_cli.specs.declared.ends.Status.{Status}
-use Rattle.rx_cli.specs.declared.ends.Status.TheVariants as Ends
+use Rattle.rx_report.specs.declared.ends.Status.{Status}
+use Rattle.rx_report.specs.declared.ends.Status.TheVariants as Ends
 use Rattle.rx_cli.specs.declared.problems.Problem.{Problem}
 use Rattle.rx_cli.specs.Answers.{longest_source}
 use Rattle.rx_cli.specs.Checks.{longest_log}

@@ -3,14 +3,14 @@
 use Rattle.std.specs.Prelude.{◌≡◌, ◌<◌, ℕ, zero, suc, ◌+◌, true, false, if◌then◌else◌, None, List, [], ◌∷◌, ◌++◌, codes, ◌%◌, length, get_or}
 use Rattle.rx_command.specs.Commands.{Functions}
 use Rattle.rx_command.specs.declared.command.Effort.{Effort}
-use Rattle.rx_cli.specs.declared.answers.Answer.{Answer}
+use Rattle.rx_report.specs.declared.answer.Answer.{Answer}
 use Rattle.rx_cli.specs.declared.examples.Tally.{Tally}
-use Rattle.rx_cli.specs.declared.ends.Status.{Status}
-use Rattle.rx_cli.specs.declared.ends.Status.TheVariants as Ends
-use Rattle.rx_cli.specs.declared.verdicts.Verdict.{Verdict}
-use Rattle.rx_cli.specs.declared.verdicts.Verdict.TheVariants as Said
+use Rattle.rx_report.specs.declared.ends.Status.{Status}
+use Rattle.rx_report.specs.declared.ends.Status.TheVariants as Ends
+use Rattle.rx_report.specs.declared.verdicts.Verdict.{Verdict}
+use Rattle.rx_report.specs.declared.verdicts.Verdict.TheVariants as Said
 use Rattle.rx_cli.specs.Proofs.{IsProved}
-use Rattle.rx_cli.specs.Ends.{status_in}
+use Rattle.rx_report.specs.Ends.{status_in}
 
 -- the number whose multiples the example adds up, as a digit: 1 to 7 in turn
 abbrev pub digit : ℕ → ℕ

@@ -1,8 +1,8 @@
 -- Why a run over memory whose lists are empty ends with a fault.
 use Rattle.std.specs.Prelude.{◌<◌, ℕ, Some, List, length}
 use Rattle.rx_io.specs.Outside.{AppendsPrefix, Names}
-use Rattle.rx_cli.specs.declared.ends.Status.{Status}
-use Rattle.rx_cli.specs.declared.ends.Status.TheVariants as Ends
+use Rattle.rx_report.specs.declared.ends.Status.{Status}
+use Rattle.rx_report.specs.declared.ends.Status.TheVariants as Ends
 use Rattle.rx_cli.specs.Run.{Reports}
 
 -- what is held is answered by a read fault: the file that the words name isn't held, or the log

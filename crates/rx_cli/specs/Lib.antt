@@ -2,7 +2,6 @@ pub mod Agreement
 pub mod Answers
 pub mod Checks
 pub mod Completeness
-pub mod Ends
 pub mod Examples
 pub mod InMemory
 pub mod Problems
@@ -10,5 +9,3 @@ pub mod Proofs
 pub mod Refutations
 pub mod Run
 pub mod Steps
-pub mod Texts
-pub mod Verdicts

@@ -17,9 +17,9 @@ use Rattle.rx_term.specs.declared.term.Sym.{Sym}
 use Rattle.rx_code.specs.Preconditions.{pre_rows}
 use Rattle.rx_code.specs.Translation.{IsBeyond, IsTranslation, goal_at}
 use Rattle.rx_cli.specs.declared.problems.Problem.{Problem}
-use Rattle.rx_cli.specs.declared.verdicts.Verdict.{Verdict}
-use Rattle.rx_cli.specs.declared.verdicts.Verdict.TheVariants as Said
-use Rattle.rx_cli.specs.Verdicts.{verdict_of}
+use Rattle.rx_report.specs.declared.verdicts.Verdict.{Verdict}
+use Rattle.rx_report.specs.declared.verdicts.Verdict.TheVariants as Said
+use Rattle.rx_report.specs.Verdicts.{verdict_of}
 
 -- the front end, whose refusals are verdicts
 abbrev pub front_stage : Functions → List ℕ → Next Verdict Compared → Type 0

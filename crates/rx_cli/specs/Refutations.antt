@@ -10,10 +10,10 @@ use Rattle.c_refute.specs.Points.{IsComparison, arity, finding_at, points}
 use Rattle.c_refute.specs.declared.findings.Compared as found
 use Rattle.rx_command.specs.Commands.{Functions}
 use Rattle.rx_command.specs.declared.command.Extent.{Extent}
-use Rattle.rx_cli.specs.declared.answers.Answer.{Answer}
-use Rattle.rx_cli.specs.declared.answers.Answer.TheVariants.{Line, Found}
-use Rattle.rx_cli.specs.declared.verdicts.Verdict.{Verdict}
-use Rattle.rx_cli.specs.declared.verdicts.Verdict.TheVariants as Said
+use Rattle.rx_report.specs.declared.answer.Answer.{Answer}
+use Rattle.rx_report.specs.declared.answer.Answer.TheVariants.{Line, Found}
+use Rattle.rx_report.specs.declared.verdicts.Verdict.{Verdict}
+use Rattle.rx_report.specs.declared.verdicts.Verdict.TheVariants as Said
 use Rattle.rx_cli.specs.Agreement.{Meets}
 use Rattle.rx_cli.specs.Problems.{front_stage}
 

@@ -2,10 +2,11 @@
 use Rattle.std.specs.Prelude.{◌≡◌, ◌⊎◌, ℕ, List, Option}
 use Rattle.std.specs.Io.KnownBytes.{Appends, Keeps}
 use Rattle.rx_io.specs.Outside.{Names, AppendsPrefix}
-use Rattle.rx_cli.specs.declared.answers.Answer.{Answer}
-use Rattle.rx_cli.specs.declared.ends.Status.{Status}
-use Rattle.rx_cli.specs.declared.ends.Status.TheVariants as Ends
-use Rattle.rx_cli.specs.Answers.{AnswersOrFails, IsReport}
+use Rattle.rx_report.specs.declared.answer.Answer.{Answer}
+use Rattle.rx_report.specs.declared.ends.Status.{Status}
+use Rattle.rx_report.specs.declared.ends.Status.TheVariants as Ends
+use Rattle.rx_cli.specs.Answers.{AnswersOrFails}
+use Rattle.rx_report.specs.Reports.{IsReport}
 use Rattle.rx_command.specs.Commands.{command_of}
 
 -- a report that the words may have: that of what was read, or that of a read fault

@@ -16,15 +16,15 @@ use Rattle.rx_plain.specs.Formed.{Formed}
 use Rattle.rx_search.specs.declared.search_end.SearchEnd.{SearchEnd}
 use Rattle.rx_search.specs.declared.search_end.SearchEnd.TheVariants as search_end
 use Rattle.std.specs.declared.alloc.Global.{Global}
-use Rattle.rx_cli.specs.declared.verdicts.Verdict.{Verdict}
-use Rattle.rx_cli.specs.declared.verdicts.Verdict.TheVariants as Said
+use Rattle.rx_report.specs.declared.verdicts.Verdict.{Verdict}
+use Rattle.rx_report.specs.declared.verdicts.Verdict.TheVariants as Said
 use Rattle.rx_cli.specs.Answers.{IsHeld}
 use Rattle.rx_check.specs.declared.check_end.CheckEnd.TheVariants as check_end
 use Rattle.rx_logfile.specs.declared.file_end.FileEnd.{FileEnd}
 use Rattle.rx_logfile.specs.declared.file_end.FileEnd.TheVariants as file_end
 use Rattle.rx_cli.specs.declared.problems.Problem.{Problem}
 use Rattle.rx_cli.specs.Checks.{IsChecked, OnText, longest_log}
-use Rattle.rx_cli.specs.Texts.{IsReportableVerdict}
+use Rattle.rx_report.specs.Texts.{IsReportableVerdict}
 
 -- a precondition, where there is one, is a row form
 abbrev pub HasRowForm : Option Expr → Type 0

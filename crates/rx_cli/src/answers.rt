@@ -1,73 +1,25 @@
-//! What a run answers, before it is reported.
+//! What a run answers to its words and to the files that they name, before it is reported.
 ghost use Rattle.std.specs.Prelude.{◌≡◌, ◌≤◌, true, length, map, string_bytes, IfOk, Option, Some};
 ghost use Rattle.rx_command.specs.Commands as words_say;
 ghost use Rattle.rx_command.specs.Commands.{Check, Compare, Demo, Prove, Refute, comparison_view, functions_view, is_short};
 ghost use Rattle.rx_io.specs.Outside.{Names, Rose};
-ghost use Rattle.rx_cli.specs.Answers.{AreEqual, AnswersSoundly, IsRefutedBy, AnswersOrFails, IsReportable, functions_in, longest_source, text_in};
-ghost use Rattle.rx_cli.specs.Ends as ends;
-ghost use Rattle.rx_cli.specs.Ends.{status_in};
+ghost use Rattle.rx_cli.specs.Answers.{AreEqual, AnswersSoundly, IsRefutedBy, AnswersOrFails, functions_in, longest_source};
+ghost use Rattle.rx_report.specs.Ends.{status_in};
+ghost use Rattle.rx_report.specs.Reports.{IsReportable};
 ghost use Rattle.rx_cli.specs.Steps.{ChecksNamed, IsReportableNext, IsNotDeep, Reads, bytes_in};
-ghost use Rattle.rx_cli.specs.Texts.{IsReportableVerdict};
+ghost use Rattle.rx_report.specs.Texts.{IsReportableVerdict};
 
+use crate::NoMemory;
 use crate::check::on_named;
 use crate::examples::show_examples;
 use crate::problems::ask;
 use crate::proving::prove;
 use crate::refuting::refute;
-use crate::reports::found_line;
-use crate::{NoMemory, Status, Verdict, report};
 use c_front::Next;
-use c_refute::Compared;
 use rx_command::{Command, Comparison, Effort, Extent, Functions, command_of};
 use rx_io::{Files, ReadEnd, read_all};
-use rx_plain::Items;
+use rx_report::{Answer, Verdict};
 use std::alloc::Global;
-
-/// What a run answers.
-#[derive(Drop)]
-pub enum Answer {
-    /// One line.
-    Line(Verdict),
-    /// The text of the log of a proof.
-    Proof(Items<u8>),
-    /// How two functions compare over points.
-    Found(Compared),
-}
-
-/// How a run ends that has compared two functions over points.
-fn found_status(found: &Compared) -> Status
-    ensures { result ≡ ends.found_status found.now }
-{
-    match found {
-        Compared::Different { .. } => Status::Different,
-        Compared::Alike { .. } => Status::Unknown,
-    }
-}
-
-impl Answer {
-    /// How a run ends that answers this.
-    pub fn status(&self) -> Status
-        ensures { result ≡ status_in self.now }
-    {
-        match self {
-            Answer::Line(verdict) => verdict.status(),
-            Answer::Proof(_) => Status::Equivalent,
-            Answer::Found(found) => found_status(found),
-        }
-    }
-
-    /// The bytes that report it.
-    pub fn into_text(self, alloc: Global) -> Result<Vec<u8>, NoMemory>
-        requires { IsReportable self }
-        ensures text { IfOk result (λ text. text.items ≡ text_in self) }
-    {
-        match self {
-            Answer::Line(verdict) => report(alloc, &verdict),
-            Answer::Proof(text) => Ok(text.into_vec()),
-            Answer::Found(found) => found_line(alloc, &found),
-        }
-    }
-}
 
 /// The most bytes of a source.
 const LONGEST_SOURCE: u32 = 1_048_576;

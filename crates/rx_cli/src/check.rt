@@ -2,7 +2,7 @@
 ghost use Rattle.std.specs.Prelude.{◌≡◌, ◌≢◌, ◌≤◌, IfOk, MatchOption};
 ghost use Rattle.rx_io.specs.Outside.{Rose};
 ghost use Rattle.rx_cli.specs.Steps.{ChecksRead, SaysEndOfLog};
-ghost use Rattle.rx_cli.specs.Texts.{IsReportableVerdict};
+ghost use Rattle.rx_report.specs.Texts.{IsReportableVerdict};
 
 use crate::Verdict;
 use crate::problems::Problem;

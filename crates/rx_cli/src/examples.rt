@@ -1,10 +1,10 @@
 //! Examples: pairs of a loop and a recursion, each of which is searched for a proof that both
 //! return the same.
 ghost use Rattle.std.specs.Prelude.{◌≡◌, ◌≤◌, ◌<◌, IfOk, length, get_or};
-ghost use Rattle.rx_cli.specs.Ends.{status_in};
+ghost use Rattle.rx_report.specs.Ends.{status_in};
 ghost use Rattle.rx_cli.specs.Examples as spec;
 ghost use Rattle.rx_cli.specs.Examples.{HasStatuses, IsShown, IsStatus, IsTally, with_status};
-ghost use Rattle.rx_cli.specs.Texts.{IsReportableVerdict};
+ghost use Rattle.rx_report.specs.Texts.{IsReportableVerdict};
 
 use crate::proving::prove;
 use crate::{NoMemory, Status, Verdict};

@@ -3,18 +3,18 @@ ghost use Rattle.std.specs.Prelude.{◌≡◌, ◌≤◌, ℕ, List, Some, lengt
 ghost use Rattle.rx_command.specs.Commands.{Check, Compare, Functions, Prove, command_of};
 ghost use Rattle.rx_command.specs.declared.command.Effort.{Effort};
 ghost use Rattle.rx_io.specs.Outside.{Names};
-ghost use Rattle.rx_cli.specs.declared.ends.Status.{Status};
-ghost use Rattle.rx_cli.specs.declared.ends.Status.TheVariants as ends;
-ghost use Rattle.rx_cli.specs.declared.answers.Answer.TheVariants as answer;
-ghost use Rattle.rx_cli.specs.declared.verdicts.Verdict.{Verdict};
-ghost use Rattle.rx_cli.specs.declared.verdicts.Verdict.TheVariants as said;
+ghost use Rattle.rx_report.specs.declared.ends.Status.{Status};
+ghost use Rattle.rx_report.specs.declared.ends.Status.TheVariants as ends;
+ghost use Rattle.rx_report.specs.declared.answer.Answer.TheVariants as answer;
+ghost use Rattle.rx_report.specs.declared.verdicts.Verdict.{Verdict};
+ghost use Rattle.rx_report.specs.declared.verdicts.Verdict.TheVariants as said;
 ghost use Rattle.rx_cli.specs.Agreement.{Agrees};
 ghost use Rattle.rx_cli.specs.Answers.{AnswersSoundly};
 ghost use Rattle.rx_cli.specs.Checks.{longest_log};
 ghost use Rattle.rx_cli.specs.Proofs.{AreOne};
 ghost use Rattle.rx_cli.specs.Refutations.{Refutes};
 ghost use Rattle.rx_cli.specs.Run.{Reports};
-ghost use Rattle.rx_cli.specs.Texts.{text_of};
+ghost use Rattle.rx_report.specs.Texts.{text_of};
 
 /// Over files whose contents are known, and of which no call finds a fault, words have one status
 /// (`status`), one verdict at most (`verdict`), and one text to be written, but for proofs: what

@@ -4,21 +4,16 @@
 
 mod answers;
 mod check;
-mod ends;
 mod examples;
 mod in_memory;
 mod laws;
 mod problems;
 mod proving;
 mod refuting;
-mod reports;
 mod top;
-mod verdicts;
 
-pub use ends::Status;
 pub use in_memory::run_in_memory;
 pub use laws::{counterexamples_exclude_proofs, words_have_one_report, written_logs_are_accepted};
-pub use reports::report;
 pub use rx_plain::NoMemory;
+pub use rx_report::{Status, Verdict, report};
 pub use top::run;
-pub use verdicts::Verdict;

@@ -107,14 +107,14 @@ fn parameter_count(two: &TwoFunctions) -> u32
 }
 
 /// The rules and the goal of two functions and a precondition.
-fn problem_stage(alloc: Global, compared: Compared) -> Result<Next<Verdict, Problem>, NoMemory>
-    requires { IsReady compared }
-    ensures stage { IfOk result (spec.problem_stage compared) }
+fn problem_stage(alloc: Global, compared: &Compared) -> Result<Next<Verdict, Problem>, NoMemory>
+    requires { IsReady compared.now }
+    ensures stage { IfOk result (spec.problem_stage compared.now) }
     ensures fits { IfOk result (λ next. IfGoes next (λ q. IsFitting q.rules q.goal)) }
     ensures coverable { IfOk result (λ next. IfGoes next (λ q. is_coverable q.rules ≡ true)) }
     ensures line { IfOk result IsReportableNext }
 {
-    let Some(translation) = translation(alloc, &compared)? else {
+    let Some(translation) = translation(alloc, compared)? else {
         return Ok(Next::Ends(Verdict::LargeTranslate));
     };
     let Some(rows) = rows(alloc, &compared.precondition)? else {
@@ -144,6 +144,6 @@ pub fn ask(
 {
     match front_stage(alloc, source, functions)? {
         Next::Ends(verdict) => Ok(Next::Ends(verdict)),
-        Next::Goes(compared) => problem_stage(alloc, compared),
+        Next::Goes(compared) => problem_stage(alloc, &compared),
     }
 }

@@ -1,16 +1,15 @@
 //! The search for a counterexample.
 ghost use Rattle.std.specs.Prelude.{◌≡◌, ◌≤◌, true, length, IfOk};
 ghost use Rattle.rx_command.specs.Commands.{functions_view, is_short};
-ghost use Rattle.rx_cli.specs.Answers.{IsReportable};
+ghost use Rattle.rx_report.specs.Reports.{IsReportable};
 ghost use Rattle.rx_cli.specs.Refutations.{IsRefuted, OnPoints};
 
-use crate::answers::Answer;
 use crate::problems::front_stage;
-use crate::verdicts::Verdict;
 use c_front::{Compared, Next};
 use c_refute::{RefuteEnd, compare};
 use rx_command::{Extent, Functions};
 use rx_plain::NoMemory;
+use rx_report::{Answer, Verdict};
 use std::alloc::Global;
 
 /// Runs two functions on all points.

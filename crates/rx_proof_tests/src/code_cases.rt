@@ -12,18 +12,28 @@ fn joined(alloc: Global, op: BinOp, number: i64) -> Option<Expr> {
     Some(Expr::Binary(op, left, right))
 }
 
-// The value of v0 / 2 is the variable v1 at a point that is one wider.
-fn quotient(alloc: Global, code: &mut Code, point: Point) -> Option<bool> {
-    let half = joined(alloc, BinOp::Div, 2)?;
-    let (after, of) = value(alloc, code, &half, point).ok()?;
+// The value is the variable v1 at a point that is one wider.
+fn is_wider(alloc: Global, code: &mut Code, half: &Expr, point: Point) -> Option<bool> {
+    let (after, of) = value(alloc, code, half, point).ok()?;
     Some(after.symbol == 1 && after.width == 2 && of.as_variable() == Some(1))
 }
 
-// The test v0 < 2 is one deed.
+// The value of v0 / 2.
+fn quotient(alloc: Global, code: &mut Code, point: Point) -> Option<bool> {
+    let half = joined(alloc, BinOp::Div, 2)?;
+    is_wider(alloc, code, &half, point)
+}
+
+// The test is one deed.
+fn is_one_deed(alloc: Global, code: &mut Code, less: &Expr, point: Point) -> Option<bool> {
+    condition(alloc, code, less, point, point, point).ok()?;
+    Some(code.opened.len() == 1 && code.deeds.len() == 1)
+}
+
+// The test v0 < 2.
 fn comparison(alloc: Global, code: &mut Code, point: Point) -> Option<bool> {
     let less = joined(alloc, BinOp::Lt, 2)?;
-    condition(alloc, code, &less, point, point, point).ok()?;
-    Some(code.opened.len() == 1 && code.deeds.len() == 1)
+    is_one_deed(alloc, code, &less, point)
 }
 
 fn acted(code: &mut Code, point: Point) -> Option<bool> {

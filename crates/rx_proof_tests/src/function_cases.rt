@@ -20,9 +20,14 @@ fn identity(alloc: Global) -> Option<Function> {
     })
 }
 
+fn compile(alloc: Global, code: &mut Code) -> Option<()> {
+    let identity = identity(alloc)?;
+    function(alloc, code, 0, &identity).ok()
+}
+
 fn compiled(alloc: Global) -> Option<Code> {
     let mut code = Code::new(alloc);
-    function(alloc, &mut code, 0, &identity(alloc)?).ok()?;
+    compile(alloc, &mut code)?;
     Some(code)
 }
 
@@ -37,10 +42,14 @@ fn opened(alloc: Global) -> Option<bool> {
 }
 
 // One rule of the entry, and one of the end.
+fn has_two_rules(alloc: Global, code: &Code) -> Option<bool> {
+    let parts = parts_of(alloc, code).ok()?;
+    Some(parts.symbols.len() == 2 && parts.rules.len() == 2)
+}
+
 fn ruled(alloc: Global) -> Option<bool> {
     let code = compiled(alloc)?;
-    let parts = parts_of(alloc, &code).ok()?;
-    Some(parts.symbols.len() == 2 && parts.rules.len() == 2)
+    has_two_rules(alloc, &code)
 }
 
 // The entry against itself, on one variable.

@@ -1,7 +1,7 @@
 //! Whether rows are refuted, and whether a row is shown under rows.
 use crate::answer::{Answer, told};
 use crate::reading::{row, rows};
-use rx_row::Constraint;
+use rx_row::{Constraint, Row};
 use rx_solve::{entails, refutes};
 use std::alloc::Global;
 
@@ -9,9 +9,13 @@ fn refuted(alloc: Global, rows: &Constraint) -> Option<Answer> {
     told(refutes(alloc, rows).ok()?.is_some())
 }
 
+fn is_shown(alloc: Global, rows: &Constraint, row: &Row) -> Option<bool> {
+    Some(entails(alloc, rows, row).ok()?.is_some())
+}
+
 fn shown(alloc: Global, rows: &Constraint, second: &str) -> Option<Answer> {
     let row = row(alloc, second)?;
-    told(entails(alloc, rows, &row).ok()?.is_some())
+    told(is_shown(alloc, rows, &row)?)
 }
 
 /// What the call answers.

@@ -20,22 +20,25 @@ fn simplify(alloc: Global, rule: u32) -> Step {
     }
 }
 
+fn delete_equal(alloc: Global) -> Step {
+    Step::Delete(Delete::Equal(Items::new(alloc)))
+}
+
 // Whether the step applies.
-fn applies(alloc: Global, state: &mut State, set: &RuleSet, step: &Step) -> bool {
-    apply(alloc, state, set, step).is_ok()
+fn applies(alloc: Global, state: &mut State, set: &RuleSet, step: Step) -> bool {
+    apply(alloc, state, set, &step).is_ok()
 }
 
 // The first rule, and then both sides are equal.
 fn finished(alloc: Global, state: &mut State, set: &RuleSet) -> bool {
-    let equal = Step::Delete(Delete::Equal(Items::new(alloc)));
-    applies(alloc, state, set, &simplify(alloc, 0))
-        && applies(alloc, state, set, &equal)
+    applies(alloc, state, set, simplify(alloc, 0))
+        && applies(alloc, state, set, delete_equal(alloc))
         && state.goals() == 0
 }
 
 // A rule that isn't there leaves the goal.
 fn refused(alloc: Global, state: &mut State, set: &RuleSet) -> bool {
-    !applies(alloc, state, set, &simplify(alloc, 9)) && state.goals() == 1
+    !applies(alloc, state, set, simplify(alloc, 9)) && state.goals() == 1
 }
 
 fn holds_of(alloc: Global, name: &str, state: &mut State, set: &RuleSet) -> Option<bool> {

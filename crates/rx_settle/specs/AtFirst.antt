@@ -59,7 +59,7 @@ module _ (parts : RuleParts) (state : State) where
   abbrev pub from_leaving : Equation → Tried Next
   from_leaving goal = first_applying (leaving_sides goal ∷ named parts state goal ∷ [])
 
-  -- other redexes, and what comes after them
+  -- other redexes, then loop points, and then naming
   abbrev pub from_unfolding : Equation → Tried Next
   from_unfolding goal = first_applying (unfolding_sides goal ∷ from_leaving goal ∷ [])
 

@@ -31,15 +31,15 @@ pub record IsKnown (parts : RuleParts) (known : Known) : Type 0 where
   pub trial : IsTrial parts (alone known.goal) known.after (tried_alone parts known.goal)
       known.trial
 
--- it is known of that goal
+-- the entry is of that goal, and right
 pub record IsKnownOf (parts : RuleParts) (goal : Equation) (known : Known) : Type 0 where
   pub same : known.goal ≡ goal
   pub right : IsKnown parts known
 
--- so it is of all in a bucket
+-- all entries of a bucket are right
 abbrev pub AllKnown : RuleParts → Vec Known Global → Type 0
 AllKnown parts bucket = All (IsKnown parts) bucket.items
 
--- and of all that a memo has
+-- all entries of a memo are right
 pub record AreKnown (parts : RuleParts) (memo : SettleMemo) : Type 0 where
   pub all : All (AllKnown parts) memo.buckets.items

@@ -41,7 +41,7 @@ fn try_from_leaving<S: FnMut(&Constraint) -> Result<Option<Cert>, FmEnd>>(
     Ok(later.after(noted))
 }
 
-/// Rules and expansions at no loop points, and what comes after them.
+/// Rules and expansions where the redex is at no loop point, then loop points, and then naming.
 fn try_from_unfolding<S: FnMut(&Constraint) -> Result<Option<Cert>, FmEnd>>(
     alloc: Global,
     rules: &RuleSet,

@@ -1,5 +1,5 @@
 //! What is known of a goal: what comes of it where it is alone.
-ghost use Rattle.std.specs.Prelude.{◌≡◌, Some, IfOk, IsTrue, OnErr, slice_get};
+ghost use Rattle.std.specs.Prelude.{◌≡◌, ◌↔◌, Some, IfOk, IsTrue, OnErr, slice_get};
 ghost use Rattle.rx_settle.specs.Answers.{IsTrial};
 ghost use Rattle.rx_settle.specs.AtFirst.{at_first, before_uses};
 ghost use Rattle.rx_settle.specs.Known.{IsKnown, IsKnownOf};
@@ -23,9 +23,9 @@ use std::alloc::Global;
 pub(crate) struct Known {
     /// The goal.
     pub(crate) goal: Shared<Equation>,
-    /// What came of the moves before hypotheses.
+    /// What came of trying the moves before hypotheses, where the goal was alone.
     pub(crate) trial: Trial,
-    /// The state after that, where the goal was alone before.
+    /// The state after that; the goal alone, where no move applied.
     pub(crate) after: State,
 }
 
@@ -48,9 +48,9 @@ impl Known {
         Ok(Known { goal, trial, after })
     }
 
-    /// Whether it is known of that goal.
+    /// Whether this is known of that goal. Takes no memory.
     pub(crate) fn is_of(&self, goal: &Equation) -> bool
-        ensures { IsTrue result → self.now.goal ≡ goal.now }
+        ensures { IsTrue result ↔ (self.now.goal ≡ goal.now) }
     {
         self.goal.get().is_same(goal)
     }

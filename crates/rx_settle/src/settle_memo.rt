@@ -1,4 +1,4 @@
-//! What is known of goals, from one to the next: a search comes to the same goals often.
+//! A memo of what settling finds at goals, since a search meets the same goals often.
 ghost use Rattle.std.specs.Prelude.{All, IfOk, IfSome};
 ghost use Rattle.std.specs.Option.{option_copied};
 ghost use Rattle.rx_settle.specs.Known.{AllKnown, AreKnown, IsKnown, IsKnownOf};
@@ -16,23 +16,23 @@ use rx_row::{Constraint, Row};
 use rx_term::{Equation, RuleSet, Term};
 use std::alloc::Global;
 
-/// In how many buckets the goals are kept.
-const BUCKETS: usize = 1024;
+/// The number of buckets in which the goals are kept.
+const BUCKETS: usize = 256;
 
-/// Of how many goals something is kept at most.
-const MOST_GOALS: u32 = 1 << 16;
+/// The greatest number of goals in a bucket, and so of goals that a look-up compares.
+const MOST_IN_BUCKET: usize = 64;
 
-/// What is known of at most 65,536 goals: what comes of each before hypotheses are used. It may be
-/// used with the rules and the refuter that it was made with.
+/// What is known of at most 16,384 goals, of each bucket the first 64: the move that is taken
+/// before hypotheses are used, where the goal is alone, with its certificates and the state after
+/// it. Nothing is taken out again. It serves the one rule set that it is first used with, whichever
+/// solver is asked.
 #[derive(Drop)]
 pub struct SettleMemo {
-    /// By a number that is made of the goal.
+    /// Each goal is in the bucket that its digest chooses.
     pub(crate) buckets: Vec<Vec<Shared<Known>>>,
-    /// How many more may be kept.
-    pub(crate) left: u32,
 }
 
-/// What was there, and then each polynomial.
+/// The digest so far, and then those of the polynomials in order.
 fn after_polys(before: u128, polys: &[Poly]) -> u128 {
     let mut digest = before;
     for poly in polys {
@@ -41,7 +41,7 @@ fn after_polys(before: u128, polys: &[Poly]) -> u128 {
     digest
 }
 
-/// What was there, and then the term.
+/// The digest so far, and then that of the term, from the outermost frame inwards.
 fn after_term(before: u128, term: &Term) -> u128 {
     let mut digest = before;
     let mut here = term;
@@ -57,7 +57,7 @@ fn after_term(before: u128, term: &Term) -> u128 {
     }
 }
 
-/// What was there, and then each row.
+/// The digest so far, and then those of the rows' polynomials in order; kinds of rows don't count.
 fn after_rows(before: u128, rows: &[Row]) -> u128 {
     let mut digest = before;
     for row in rows {
@@ -66,7 +66,9 @@ fn after_rows(before: u128, rows: &[Row]) -> u128 {
     digest
 }
 
-/// The bucket of a goal. Equal goals have one.
+/// The number of a goal's bucket. Equal goals have one; goals that differ only in the kind of a
+/// row, or within quotients and remainders, have one too. The last product carries the low half of
+/// the digest into the high half, which chooses the bucket.
 fn bucket_of(goal: &Equation) -> usize {
     let sides = after_term(after_term(0, &goal.left), &goal.right);
     let digest = digest_with(after_rows(sides, goal.rows.rows()), 0);
@@ -86,7 +88,18 @@ fn find_in<'a>(bucket: &'a [Shared<Known>], goal: &Equation) -> Option<&'a Share
     None
 }
 
-/// One more in the bucket at that place, where there is one.
+/// Adds to the bucket, where there is room in it.
+fn push_in(bucket: &mut Vec<Shared<Known>>, known: Shared<Known>) -> Result<(), NoMemory>
+    ensures { (parts : RuleParts) → AllKnown parts bucket.old → IsKnown parts known →
+        AllKnown parts bucket.new }
+{
+    if bucket.len() < MOST_IN_BUCKET {
+        bucket.push(known)?;
+    }
+    Ok(())
+}
+
+/// Adds to the bucket of that number, if there is one and it has room.
 fn push_at(
     buckets: &mut Vec<Vec<Shared<Known>>>,
     at: usize,
@@ -96,7 +109,7 @@ fn push_at(
         IsKnown parts known → All (AllKnown parts) buckets.new.items }
 {
     if at < buckets.len() {
-        buckets[at].push(known)?;
+        push_in(&mut buckets[at], known)?;
     }
     Ok(())
 }
@@ -119,11 +132,10 @@ impl SettleMemo {
     {
         Ok(SettleMemo {
             buckets: empty_buckets(alloc)?,
-            left: MOST_GOALS,
         })
     }
 
-    /// What is known of the goal, borrowed, if it was met.
+    /// What is known of the goal, borrowed; None where nothing is kept of it.
     fn find(&self, goal: &Equation) -> Option<&Shared<Known>>
         ensures { (parts : RuleParts) → AreKnown parts self.now →
             IfSome (option_copied result) (IsKnownOf parts goal.now) }
@@ -137,16 +149,12 @@ impl SettleMemo {
         ensures { (parts : RuleParts) → AreKnown parts self.old → IsKnown parts known →
             AreKnown parts self.new }
     {
-        if self.left == 0 {
-            return Ok(());
-        }
         let at = bucket_of(known.get().goal.get());
-        self.left -= 1;
         push_at(&mut self.buckets, at, known)
     }
 }
 
-/// What is known of the goal; it is found out and kept where it is new.
+/// What is known of the goal. Where nothing is kept of it, it is found, and kept if there is room.
 pub(crate) fn known_move<S: FnMut(&Constraint) -> Result<Option<Cert>, FmEnd>>(
     alloc: Global,
     rules: &RuleSet,

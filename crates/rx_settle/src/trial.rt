@@ -47,7 +47,7 @@ impl Trial {
         }
     }
 
-    /// The same once more; fails only when out of memory.
+    /// A copy; fails only when out of memory.
     pub(crate) fn try_clone(&self, alloc: Global) -> Result<Trial, NoMemory>
         ensures { IfOk result (λ trial. trial ≡ self.now) }
     {

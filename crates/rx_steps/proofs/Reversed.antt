@@ -12,14 +12,14 @@ popped None old new h = ap reverse h.1 ∙ sym (ap (λ xs. drop 1 (reverse xs)) 
 popped (Some last) old new h =
     sym (ap (λ xs. drop 1 (reverse xs)) h ∙ ap (drop 1) (reverse-append new (last ∷ [])))
 
--- others in place of the last are first in what is read from the end
+-- where others replace the last item, the list read from its end begins with these
 pub popped_for : {A : Type 0} (r : Option A) (old mid more new : List A) →
     MatchOption r ((old ≡ []) × (mid ≡ [])) (λ last. old ≡ mid ++ last ∷ []) → new ≡ mid ++ more →
     reverse new ≡ reverse more ++ drop 1 (reverse old)
 popped_for r old mid more new h e =
     ap reverse e ∙ reverse-append mid more ∙ ap (λ xs. reverse more ++ xs) (popped r old mid h)
 
--- and they are as many at most as these and those
+-- and it has at most as many items as both lists together
 pub popped_count : {A : Type 0} (r : Option A) (old mid more new : List A) →
     MatchOption r ((old ≡ []) × (mid ≡ [])) (λ last. old ≡ mid ++ last ∷ []) → new ≡ mid ++ more →
     length new ≤ length more + length old

@@ -83,10 +83,10 @@ fn put_last<T: Drop>(onto: &mut Vec<T>, items: Vec<T>)
     }
 }
 
-/// Replaces the last goal, which is the first of the state, by those, in the same order as they
-/// are, for which there is room.
+/// Replaces the first goal, if there is one, by those, which are given from the last to the first,
+/// as a state keeps them; there is room for them.
 #[tactic(auto, using(crate::proofs::Reversed::popped_for, crate::proofs::Reversed::popped_count))]
-fn replace_last(onto: &mut Vec<Shared<Equation>>, goals: Vec<Shared<Equation>>)
+fn replace_first_reversed(onto: &mut Vec<Shared<Equation>>, goals: Vec<Shared<Equation>>)
     requires { vec_len onto.old + vec_len goals ≤ vec_capacity onto.old }
     ensures goals { reverse onto.new.items ≡
         reverse goals.items ++ drop 1 (reverse onto.old.items) }
@@ -137,12 +137,7 @@ impl State {
     pub fn start(alloc: Global, goal: Equation) -> Result<State, NoMemory>
         ensures { IfOk result (λ s. s ≡ record { goals = goal ∷ []; hypotheses = [] }) }
     {
-        let mut goals = Vec::new(alloc);
-        goals.push(Shared::new(alloc, goal)?)?;
-        Ok(State {
-            goals,
-            hypotheses: Vec::new(alloc),
-        })
+        State::alone(alloc, Shared::new(alloc, goal)?)
     }
 
     /// The state with just these goals and hypotheses, in order; fails only when out of memory.
@@ -165,8 +160,8 @@ impl State {
         Ok(State { goals, hypotheses })
     }
 
-    /// The state with that goal alone, which stays shared, and no hypotheses; fails only when out of
-    /// memory.
+    /// The state with that goal alone, which is shared already, and no hypotheses; fails only when
+    /// out of memory.
     pub fn alone(alloc: Global, goal: Shared<Equation>) -> Result<State, NoMemory>
         ensures { IfOk result (λ s. s ≡ alone goal) }
     {
@@ -279,9 +274,10 @@ impl State {
         put_last(&mut self.hypotheses, kept);
         Ok(())
     }
-    /// Puts what came of the first goal alone in its place: the goals, which are shared from then
-    /// on, before the others, and the hypotheses after the others. Where there is no memory, or
-    /// there would be too many of either, the state stays as it was.
+
+    /// Replaces the first goal, if there is one, by the goals that came of it where it was alone,
+    /// which are shared from then on, and adds the hypotheses that came with them after the others.
+    /// Where there is no memory, or there would be too many of either, the state stays as it was.
     pub fn go_on(&mut self, alloc: Global, after: &State) -> Result<(), NoMemory>
         ensures ok { OnOk result (self.new ≡ onto self.old after.now) }
         ensures err { OnErr result (self.new ≡ self.old) }
@@ -293,7 +289,7 @@ impl State {
         }
         self.goals.reserve(goals.len())?;
         self.hypotheses.reserve(kept.len())?;
-        replace_last(&mut self.goals, goals);
+        replace_first_reversed(&mut self.goals, goals);
         put_last(&mut self.hypotheses, kept);
         Ok(())
     }

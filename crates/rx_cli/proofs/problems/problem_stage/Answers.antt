@@ -7,9 +7,9 @@ use Rattle.rx_cli.proofs.problems.problem_stage.Goals as goal
 
 pub returns-clause-fits : goal.returns-clause-fits
 returns-clause-fits c =
-    let translated : Translates c.args.compared (Some c.in-Some.translation) =
+    let translated : Translates c.args.compared.now (Some c.in-Some.translation) =
     rw c.in-Some.is at c.in_ok-translation.ensures.translates in
-    fits_goal c.args.compared c.requires c.in-Some.translation translated c.parameter_count.result
+    fits_goal c.args.compared.now c.requires c.in-Some.translation translated c.parameter_count.result
     c.parameter_count.ensures c.in-Some-2.rows c.in_ok-goal.goal c.in_ok-goal.ensures
 
 pub returns-clause-coverable : goal.returns-clause-coverable

@@ -1,6 +1,6 @@
 -- Fewer arguments are left each time.
 use Rattle.std.proofs.Common.{length}
-use Rattle.rx_cli.proofs.reports.found.+push_arguments.Given as goal
+use Rattle.rx_report.proofs.reports.found.+push_arguments.Given as goal
 
 abbrev pub decreases-push_arguments : goal.decreases-push_arguments
 decreases-push_arguments l = length l.arguments.now

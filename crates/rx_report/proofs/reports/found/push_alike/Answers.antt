@@ -3,8 +3,8 @@ use Rattle.std.proofs.Common.{◌∙◌, ◌++◌, ap, append_assoc}
 use Rattle.std.proofs.lemmas.Result.{on_ok_weaker}
 use Rattle.std.specs.Prelude.{codes}
 use Rattle.rx_text.specs.Numbers.{natural_text}
-use Rattle.rx_cli.specs.Texts.{last_text}
-use Rattle.rx_cli.proofs.reports.found.push_alike.Goals as goal
+use Rattle.rx_report.specs.Texts.{last_text}
+use Rattle.rx_report.proofs.reports.found.push_alike.Goals as goal
 
 pub returns : goal.returns
 returns c =

@@ -1,6 +1,6 @@
 //! The lines of logs that aren't accepted.
 ghost use Rattle.std.specs.Prelude.{◌≡◌, IfOk, string_bytes};
-ghost use Rattle.rx_cli.specs.Texts as spec;
+ghost use Rattle.rx_report.specs.Texts as spec;
 
 use crate::reports::numbered_line;
 use rx_check::{CheckEnd, Place};

@@ -1,7 +1,7 @@
 //! The text of a report of one line.
 ghost use Rattle.std.specs.Prelude.{◌≡◌, IfOk, string_bytes};
-ghost use Rattle.rx_cli.specs.Texts as spec;
-ghost use Rattle.rx_cli.specs.Texts.{IsReportableVerdict, text_of};
+ghost use Rattle.rx_report.specs.Texts as spec;
+ghost use Rattle.rx_report.specs.Texts.{IsReportableVerdict, text_of};
 
 mod checks;
 mod found;

@@ -11,8 +11,8 @@ use Rattle.rx_log.specs.Acceptance as acceptance
 use Rattle.rx_log.specs.Acceptance.{LogFault}
 use Rattle.rx_steps.specs.declared.step_end.StepEnd.{StepEnd}
 use Rattle.rx_steps.specs.declared.step_end.StepEnd.TheVariants as Unmet
-use Rattle.rx_cli.specs.declared.verdicts.Verdict.{Verdict}
-use Rattle.rx_cli.specs.declared.verdicts.Verdict.TheVariants as Said
+use Rattle.rx_report.specs.declared.verdicts.Verdict.{Verdict}
+use Rattle.rx_report.specs.declared.verdicts.Verdict.TheVariants as Said
 
 -- a refusal of the front end
 abbrev pub verdict_of : Refusal → Verdict

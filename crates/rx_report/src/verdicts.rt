@@ -1,6 +1,6 @@
 //! What a report of one line says.
 ghost use Rattle.std.specs.Prelude.{◌≡◌};
-ghost use Rattle.rx_cli.specs.Ends as ends;
+ghost use Rattle.rx_report.specs.Ends as ends;
 
 use crate::Status;
 use c_front::Refusal;
@@ -83,7 +83,7 @@ fn demo_status(pairs: u32, equivalent: u32) -> Status
 }
 
 impl Verdict {
-    ghost use Rattle.rx_cli.specs.Ends.{status_of};
+    ghost use Rattle.rx_report.specs.Ends.{status_of};
 
     /// How a run ends that reports this.
     pub fn status(&self) -> Status
@@ -115,7 +115,7 @@ impl Verdict {
 
 impl From<Refusal> for Verdict {
     ghost use Rattle.std.specs.Prelude.{◌≡◌};
-    ghost use Rattle.rx_cli.specs.Verdicts.{verdict_of};
+    ghost use Rattle.rx_report.specs.Verdicts.{verdict_of};
 
     ghost from_gives = { λ refusal verdict. verdict ≡ verdict_of refusal };
 

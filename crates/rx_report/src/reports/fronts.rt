@@ -1,6 +1,6 @@
 //! The lines of refusals of the front end.
 ghost use Rattle.std.specs.Prelude.{◌≡◌, IfOk, string_bytes};
-ghost use Rattle.rx_cli.specs.Texts as spec;
+ghost use Rattle.rx_report.specs.Texts as spec;
 
 use c_lex::LexEnd;
 use c_parse::ParseEnd;

@@ -25,7 +25,7 @@ pub enum Status {
 }
 
 impl Status {
-    ghost use Rattle.rx_cli.specs.Ends.{code_of};
+    ghost use Rattle.rx_report.specs.Ends.{code_of};
 
     /// The exit status: 0 to 8, in the order of the variants.
     pub fn code(&self) -> u8

@@ -1,7 +1,7 @@
 -- What the refuter answers is right.
 use Rattle.std.proofs.Common.{rules}
 use Rattle.rx_solve.proofs.Calls.{solver_by}
-use Rattle.rules_tests.proofs.search_calls.use_of.Goals as goal
+use Rattle.rules_tests.proofs.search_calls.use_at.Goals as goal
 
 pub find_use-requires : goal.find_use-requires
 find_use-requires c =

@@ -1,8 +1,8 @@
 //! The line that says how two functions compare over all points.
 ghost use Rattle.std.specs.Prelude.{◌≡◌, ◌++◌, codes, IfOk, OnOk};
 ghost use Rattle.rx_text.specs.Numbers.{natural_text};
-ghost use Rattle.rx_cli.specs.Texts as spec;
-ghost use Rattle.rx_cli.specs.Texts.{alike_line, arguments_text, different_line, outcome_text};
+ghost use Rattle.rx_report.specs.Texts as spec;
+ghost use Rattle.rx_report.specs.Texts.{alike_line, arguments_text, different_line, outcome_text};
 
 use crate::NoMemory;
 use c_refute::{Compared, Outcome};

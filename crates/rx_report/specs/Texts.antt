@@ -19,8 +19,8 @@ use Rattle.c_refute.specs.declared.outcomes.Outcome.TheVariants as outcome
 use Rattle.rx_steps.specs.declared.step_end.StepEnd.{StepEnd}
 use Rattle.rx_steps.specs.declared.step_end.StepEnd.TheVariants as Unmet
 use Rattle.rx_text.specs.Numbers.{integer_text, natural_text}
-use Rattle.rx_cli.specs.declared.verdicts.Verdict.{Verdict}
-use Rattle.rx_cli.specs.declared.verdicts.Verdict.TheVariants as Said
+use Rattle.rx_report.specs.declared.verdicts.Verdict.{Verdict}
+use Rattle.rx_report.specs.declared.verdicts.Verdict.TheVariants as Said
 
 -- a line that ends in a number
 abbrev pub numbered_line : List ℕ → ℕ → List ℕ
