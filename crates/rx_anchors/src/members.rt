@@ -168,11 +168,7 @@ fn symbol_number(at: usize) -> Result<u32, NoMemory>
 }
 
 /// The numbers of the symbols' arguments.
-pub fn arities_of(
-    alloc: Global,
-    infos: &[SymInfo],
-    symbols: &[u32],
-) -> Result<Vec<u32>, NoMemory>
+pub fn arities_of(alloc: Global, infos: &[SymInfo], symbols: &[u32]) -> Result<Vec<u32>, NoMemory>
     ensures { IfOk result (λ v. v.items ≡ map (arity_of infos.now) symbols.now) }
 {
     let mut arities = Vec::new(alloc);

@@ -1,10 +1,10 @@
 -- The pairs inside components have the same components.
-use Rattle.std.proofs.Common.{◌≡◌, ◌∙◌, ap, length, subst, sym}
+use Rattle.std.proofs.Common.{◌∙◌, ap, length, subst, sym}
 use Rattle.std.specs.List.{filter}
 use Rattle.rx_graph.specs.Graph.{IsOver}
 use Rattle.rx_pairs.specs.Graph.{edges_of}
 use Rattle.rx_rank.specs.Answers.{pairs_at}
-use Rattle.rx_rank.specs.Components.{inside, is_inside, names_of}
+use Rattle.rx_rank.specs.Components.{is_inside, names_of}
 use Rattle.rx_ranked.proofs.InsideLaws.{names_inside}
 use Rattle.rx_ranked.proofs.StayingLaws.{over_filtered}
 use Rattle.rx_ranked.proofs.staying.open_pairs.Goals as goal
