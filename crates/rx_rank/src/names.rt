@@ -27,11 +27,7 @@ pub fn graph_of(alloc: Global, symbols: usize, pairs: &[&Pair]) -> Result<Graph,
 
 /// By symbol the least symbol of its component in the graph of the pairs; fails only where there is
 /// no memory.
-pub fn find_names(
-    alloc: Global,
-    symbols: usize,
-    pairs: &[&Pair],
-) -> Result<Vec<u32>, NoMemory>
+pub fn find_names(alloc: Global, symbols: usize, pairs: &[&Pair]) -> Result<Vec<u32>, NoMemory>
     requires over { IsOver symbols (edges_of (pairs_at pairs.now)) }
     requires few { symbols ≤ 2 ^ 32 }
     ensures { IfOk result (λ names. names.items ≡ names_of symbols (pairs_at pairs.now)) }
