@@ -23,9 +23,11 @@ use Rattle.rx_pairs.specs.declared.pair.Pair.{Pair}
 use Rattle.rx_rank.proofs.OwnCandidates.{IsOwnCandidate, candidates_own}
 use Rattle.rx_rank.proofs.OwnValues.{AreOwn, choice_own, filled_own, made_by_one, made_of_both, none_own, products_own, length-choice, length-filled, length-without}
 use Rattle.rx_rank.specs.Answers.{IsComponentFit, IsFirstFit, IsOwn, pair_passes}
-use Rattle.rx_rank.specs.Candidates.{are_noted, arity_of, candidate_lists, candidates, is_anchor}
-use Rattle.rx_rank.specs.Choices.{first_serving, from_target, hold_with, instance_on, is_ready, next_first, order_by, order_of, pairs_from, polynomial_of, products, serving, with_choice, without, without_polynomials}
-use Rattle.rx_rank.specs.Components.{is_member, members, symbols_of}
+use Rattle.rx_anchors.specs.Choices.{products}
+use Rattle.rx_anchors.specs.Members.{arity_of, is_anchor, is_member, members, symbols_of}
+use Rattle.rx_anchors.specs.Values.{polynomial_of, with_choice, without_polynomials}
+use Rattle.rx_rank.specs.Candidates.{are_noted, candidate_lists, candidates}
+use Rattle.rx_rank.specs.Choices.{first_serving, from_target, hold_with, instance_on, is_ready, next_first, order_by, order_of, pairs_from, serving, without}
 use Rattle.rx_rank.specs.Ranking.{anchors, arities, component, first_fit, most_choices, others}
 use Rattle.rx_rank.specs.Tries.{kept_tried, noting}
 use Rattle.rx_rank.specs.declared.fitting.Fit.{Fit}

@@ -1,9 +1,12 @@
 -- Lemmas on the definitions of specs/.
+pub mod AllMade
 pub mod Certified
 pub mod Choosing
 pub mod ComponentLaws
 pub mod Gathering
+pub mod LentPairs
 pub mod MemoLaws
+pub mod NameLaws
 pub mod OwnCandidates
 pub mod OwnValues
 pub mod PairLaws

@@ -20,7 +20,7 @@ use Rattle.rx_solve.specs.Attempts.{Tried, applies, applying}
 use Rattle.rx_term.specs.declared.rule.Rule.{Rule}
 use Rattle.rx_rank.specs.Answers.{rules_pass}
 use Rattle.rx_rank.specs.Candidates.{all_candidates, candidates, candidates_by, opposite_tried, row_candidates, rule_candidates, with_candidate}
-use Rattle.rx_rank.specs.Components.{is_rule_of}
+use Rattle.rx_anchors.specs.Members.{is_rule_of}
 use Rattle.rx_rank.specs.Tries.{kept_tried}
 
 module _ (whole : List Rule) (arity : ℕ) where

@@ -8,8 +8,10 @@ use Rattle.rx_poly.specs.declared.body.Body.{Body}
 use Rattle.rx_solve.specs.Attempts.{Tried, first_applying, made_or}
 use Rattle.rx_term.specs.declared.rule_set.SymInfo.{SymInfo}
 use Rattle.rx_pairs.specs.declared.pair.Pair.{Pair}
-use Rattle.rx_rank.specs.Candidates.{arity_of}
-use Rattle.rx_rank.specs.Choices.{filled, first_serving, pairs_from, polynomial_of, products, with_choice, with_polynomial, without_polynomials}
+use Rattle.rx_anchors.specs.Choices.{products}
+use Rattle.rx_anchors.specs.Members.{arity_of}
+use Rattle.rx_anchors.specs.Values.{polynomial_of, with_choice, with_polynomial, without_polynomials}
+use Rattle.rx_rank.specs.Choices.{filled, first_serving, pairs_from}
 use Rattle.rx_rank.specs.Tries.{made_then}
 
 -- ---- polynomials by symbol

@@ -1,11 +1,10 @@
 -- Lists from a place on and up to a place; and two lists that go together.
-use Rattle.std.proofs.Common.{◌≡◌, ◌∙◌, ap, sym, subst, refl, cond, arith, ℕ, zero, suc, ◌+◌, ◌-◌, ◌==◌, ◌<◌, ◌≤◌, ◌↔◌, Bool, true, false, ◌||◌, not, Option, Some, None, List, [], ◌∷◌, ◌++◌, append_assoc, length, drop, drop_of_length-le, get_or, map, slice_get, slice_set, take}
-use Rattle.std.proofs.lemmas.Bool.{eq-eqb, false_from_ne_true, ne_eqb}
-use Rattle.std.specs.List.{AllZip, filter, find, list_any, range_with_len}
-use Rattle.std.specs.Option.{is_some, option_map, option_map_or}
+use Rattle.std.proofs.Common.{◌≡◌, ◌∙◌, ap, sym, subst, refl, cond, arith, ℕ, suc, ◌+◌, ◌-◌, ◌==◌, ◌<◌, ◌↔◌, Bool, true, false, ◌||◌, not, Option, Some, None, List, [], ◌∷◌, ◌++◌, append_assoc, length, drop, get_or, slice_get, slice_set, take}
+use Rattle.std.proofs.lemmas.Bool.{false_from_ne_true}
+use Rattle.std.specs.List.{AllZip, find, list_any}
+use Rattle.std.specs.Option.{is_some, option_map}
 use Rattle.std.proofs.lemmas.List.{set-get_or, take_more}
 use Rattle.std.proofs.lemmas.Option.{slice_get-get_or}
-use denote.Ref.{Bor}
 use Rattle.rx_poly.proofs.Same.{body_eq, body_eq-refl, body_eq-sound}
 use Rattle.rx_poly.specs.declared.body.Body.{Body}
 use Rattle.rx_cert.specs.Findings.{Said, Yes, No, Beyond, and_also}
@@ -14,9 +13,9 @@ use Rattle.rx_solve.specs.Attempts.{Tried}
 use Rattle.rx_pairs.specs.declared.pair.Pair.{Pair}
 use Rattle.rx_term.proofs.Places.{from_place}
 use Rattle.rx_rank.specs.Answers.{IsDecided, only_shown, still_open}
-use Rattle.rx_rank.specs.Choices.{all_hold, falling, falls_by, hold_with, holds_by, is_beyond, is_ready, is_yes, next_first, not_falling, order_by, pairs_from, polynomial_of, tested, with_choice, without, without_polynomials}
+use Rattle.rx_anchors.specs.Values.{polynomial_of}
+use Rattle.rx_rank.specs.Choices.{all_hold, falling, falls_by, hold_with, holds_by, is_beyond, is_ready, is_yes, next_first, not_falling, order_by, pairs_from, tested, without}
 use Rattle.rx_rank.specs.PairTests.{holds}
-use Rattle.rx_rank.specs.Components.{is_member}
 
 -- from a place on
 pub next_from : {A : Type 0} (xs : List A) (i : ℕ) (d : A) → i < length xs → drop i xs ≡
@@ -45,58 +44,6 @@ zip_next R xs after ys more i d y h same made all r =
     (subst (λ zs. AllZip R zs more) (sym (take_more xs i d h))
     (subst (AllZip R (take i xs ++ get_or xs i d ∷ [])) (sym made)
     (zip_more R (take i xs) ys (get_or xs i d) y all r)))
-
--- where no candidate is left, nothing is given
-pub no_more_choice : (values : List (Option Body)) (fs : List ℕ) (refs : List (Bor Body)) (i : ℕ) →
-    length refs ≤ i
-    → with_choice values fs (map (λ (s : Bor Body). s.now) (drop i refs)) ≡ values
-no_more_choice values fs refs i h =
-    ap (λ rs. with_choice values fs (map (λ (s : Bor Body). s.now) rs)) (drop_of_length-le refs h) ∙
-    by fs where
-      by : (gs : List ℕ) → with_choice values gs [] ≡ values
-      by [] = refl
-      by (g ∷ gs) = refl
-
--- the next symbol is of the component, or isn't
-pub next_member : (names : List ℕ) (c i name : ℕ) → i < length names → slice_get names i ≡ Some name
-    → filter (is_member names c) (range_with_len i (length names - i))
-    ≡ cond (name == c) (i ∷ filter (is_member names c)
-    (range_with_len (i + 1) (length names - (i + 1))))
-    (filter (is_member names c) (range_with_len (i + 1) (length names - (i + 1))))
-next_member names c i name h there =
-    let one_more : length names - i ≡ suc (length names - (i + 1)) = omega (arith, h) in
-    let rest = filter (is_member names c) (range_with_len (i + 1) (length names - (i + 1))) in
-    ap (λ k. filter (is_member names c) (range_with_len i k)) one_more
-    ∙ ap (λ o. cond (option_map_or (λ n. n == c) o false) (i ∷ rest) rest) there
-
--- none for one symbol more
-pub without_more : (n : ℕ) → without_polynomials (n + 1) ≡ without_polynomials n ++ None ∷ []
-without_more n =
-    let one_more : n + 1 ≡ suc n = omega arith in ap without_polynomials one_more ∙ by n where
-      by : (k : ℕ) → without_polynomials (suc k) ≡ without_polynomials k ++ None ∷ []
-      by zero = refl
-      by (suc k) = ap (λ vs. None ∷ vs) (by k)
-
-module _ (names : List ℕ) (c i name : ℕ) (done whole : List ℕ) (h : i < length names)
-    (there : slice_get names i ≡ Some name)
-    (is : done ++ filter (is_member names c) (range_with_len i (length names - i)) ≡ whole) where
-  abbrev later_members : List ℕ
-  later_members = filter (is_member names c) (range_with_len (i + 1) (length names - (i + 1)))
-
-  -- one that isn't of the component is left out
-  pub skip_member : (name ≡ c → ⊥) → done ++ later_members ≡ whole
-  skip_member other =
-      sym (ap (λ fs. done ++ fs) (next_member names c i name h there ∙
-      ap (λ b. cond b (i ∷ later_members) later_members) (ne_eqb name c other))) ∙ is
-
-  -- and one that is comes next
-  pub take_member : name ≡ c → (more : List ℕ) (symbol : ℕ) → symbol ≡ i → more ≡ done ++ symbol ∷
-      [] → more ++ later_members ≡ whole
-  take_member same more symbol number made =
-      ap (λ fs. fs ++ later_members) (made ∙ ap (λ k. done ++ k ∷ []) number) ∙
-      append_assoc done (i ∷ []) later_members
-      ∙ sym (ap (λ fs. done ++ fs) (next_member names c i name h there ∙
-      ap (λ b. cond b (i ∷ later_members) later_members) (eq-eqb name c same))) ∙ is
 
 -- ---- polynomials among others
 

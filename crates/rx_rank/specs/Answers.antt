@@ -1,7 +1,6 @@
 -- What the answers of calls say.
-use Rattle.std.specs.Prelude.{◌≡◌, ℕ, Bool, true, false, ◌&&◌, Option, Some, None, List, [], ◌∷◌, ◌++◌, Vec, Contains, length, map}
+use Rattle.std.specs.Prelude.{◌≡◌, ℕ, Bool, true, false, ◌&&◌, Option, Some, None, List, [], ◌∷◌, ◌++◌, Contains, length, map}
 use Rattle.std.specs.List.{AllZip, fold, list_all}
-use Rattle.std.specs.declared.alloc.Global.{Global}
 use Rattle.std.specs.Option.{option_map}
 use denote.Ref.{Bor}
 use Rattle.rx_plain.specs.Formed.{Formed}
@@ -22,9 +21,10 @@ use Rattle.rx_term.specs.declared.rule.Rule.{Rule}
 use Rattle.rx_term.specs.declared.rule_set.RuleParts.{RuleParts}
 use Rattle.rx_term.specs.declared.rule_set.SymInfo.{SymInfo}
 use Rattle.rx_poly.specs.Variables.{uses_below}
-use Rattle.rx_rank.specs.Candidates.{arity_of, with_candidate}
-use Rattle.rx_rank.specs.Components.{is_member}
-use Rattle.rx_rank.specs.Choices.{falls_by, filled, holds_by, is_yes, polynomial_of, with_choice, without_polynomials}
+use Rattle.rx_anchors.specs.Members.{arity_of, is_member}
+use Rattle.rx_anchors.specs.Values.{polynomial_of, with_choice, without_polynomials}
+use Rattle.rx_rank.specs.Candidates.{with_candidate}
+use Rattle.rx_rank.specs.Choices.{falls_by, filled, holds_by, is_yes}
 use Rattle.rx_rank.specs.declared.attempt.Attempt.{Attempt}
 use Rattle.rx_rank.specs.declared.attempt.Finding.{Finding}
 use Rattle.rx_rank.specs.declared.attempt.Finding.TheVariants as findings
@@ -69,9 +69,6 @@ IsTold says pair rows TooLarge = says ≡ Beyond
 abbrev pub pairs_at : List (Bor Pair) → List Pair
 pairs_at refs = map (λ (r : Bor Pair). r.now) refs
 
-abbrev pub polys_at : List (Bor Body) → List Body
-polys_at refs = map (λ (r : Bor Body). r.now) refs
-
 -- ---- candidates
 
 -- the polynomials with those that are made, each unless it is one of them, and whether one passes
@@ -88,10 +85,6 @@ abbrev pub joined : List Cert → AllShown → AllShown
 joined certs (Shown more) = Shown (certs ++ more)
 joined certs NotShown = NotShown
 joined certs TooLarge = TooLarge
-
--- the lists of polynomials in memory
-abbrev pub lists_in : List (Vec Body Global) → List (List Body)
-lists_in lists = map (λ v. v.items) lists
 
 -- ---- a fit choice
 

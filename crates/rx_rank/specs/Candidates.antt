@@ -1,8 +1,7 @@
 -- The polynomials that an anchor of a component may get: entries, heads and left roots of
 -- hypotheses are anchors.
-use Rattle.std.specs.Prelude.{ℕ, ◌==◌, Bool, false, ◌||◌, if◌then◌else◌, List, [], ◌∷◌, ◌++◌, map, slice_get}
+use Rattle.std.specs.Prelude.{ℕ, Bool, if◌then◌else◌, List, [], ◌∷◌, ◌++◌, map}
 use Rattle.std.specs.List.{flat_map, fold, list_any}
-use Rattle.std.specs.Option.{option_map_or}
 use Rattle.rx_plain.specs.Formed.{kept}
 use Rattle.rx_poly.specs.Limits.{is_within}
 use Rattle.rx_poly.specs.Variables.{uses_below}
@@ -13,33 +12,9 @@ use Rattle.rx_row.specs.Parts.{poly_of}
 use Rattle.rx_row.specs.declared.row.Row.{Row}
 use Rattle.rx_row.specs.declared.row.Row.TheVariants.{Ge, Eq, Ne}
 use Rattle.rx_solve.specs.Attempts.{Tried, applies, applying, is_noted}
-use Rattle.rx_term.specs.Stacks.{root_of}
 use Rattle.rx_term.specs.declared.rule.Rule.{Rule}
-use Rattle.rx_term.specs.declared.rule_set.SymInfo.{SymInfo}
-use Rattle.rx_term.specs.declared.term.Sym.{Sym}
-use Rattle.rx_rank.specs.Components.{is_rule_of}
+use Rattle.rx_anchors.specs.Members.{is_rule_of}
 use Rattle.rx_rank.specs.Tries.{formed_tried}
-
--- ---- anchors
-
--- how many arguments the symbol has
-abbrev pub arity_of : List SymInfo → ℕ → ℕ
-arity_of infos f = option_map_or (λ (info : SymInfo). info.arity) (slice_get infos f) 0
-
--- the symbol is the root of the rule's left side
-abbrev pub is_left_root : ℕ → Rule → Bool
-is_left_root f rule = option_map_or (λ (g : Sym). g.0 == f) (root_of rule.left) false
-
--- the symbol is an entry or a head
-abbrev pub is_start : List SymInfo → ℕ → Bool
-is_start infos f =
-    option_map_or (λ (info : SymInfo). info.entry || info.head) (slice_get infos f) false
-
--- the symbol is an entry, a head or the left root of a hypothesis
-abbrev pub is_anchor : List SymInfo → List Rule → ℕ → Bool
-is_anchor infos hypotheses f = is_start infos f || list_any (is_left_root f) hypotheses
-
--- ---- candidates
 
 -- -p, where it keeps the limits
 abbrev pub opposite_tried : Body → Tried Body

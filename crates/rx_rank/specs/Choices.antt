@@ -1,8 +1,8 @@
 -- What comes of a choice of candidates for the anchors of a component: the other symbols get their
 -- polynomials from those that their pairs lead to. The choice is fit where all pairs hold and one
 -- falls; those that don't fall stay open.
-use Rattle.std.specs.Prelude.{ℕ, zero, suc, ◌==◌, Bool, true, false, not, if◌then◌else◌, Option, Some, None, List, [], ◌∷◌, length, map, slice_get, slice_set, option_and_then}
-use Rattle.std.specs.List.{filter, find, flat_map, list_all, list_any}
+use Rattle.std.specs.Prelude.{ℕ, zero, suc, ◌==◌, Bool, true, false, not, if◌then◌else◌, Option, Some, None, List, [], ◌∷◌, length, map}
+use Rattle.std.specs.List.{filter, find, list_all, list_any}
 use Rattle.std.specs.Option.{option_map}
 use Rattle.rx_poly.specs.Variables.{uses_below}
 use Rattle.rx_poly.specs.declared.body.Body.{Body}
@@ -11,30 +11,10 @@ use Rattle.rx_solve.specs.Attempts.{Tried, applies, fails, first_applying, where
 use Rattle.rx_term.specs.declared.rule_set.SymInfo.{SymInfo}
 use Rattle.rx_pairs.specs.Columns.{at_right}
 use Rattle.rx_pairs.specs.declared.pair.Pair.{Pair}
-use Rattle.rx_rank.specs.Candidates.{arity_of}
+use Rattle.rx_anchors.specs.Members.{arity_of}
+use Rattle.rx_anchors.specs.Values.{polynomial_of, with_choice, with_polynomial, without_polynomials}
 use Rattle.rx_rank.specs.PairTests.{falls, holds}
 use Rattle.rx_rank.specs.Tries.{and_then, formed_tried, if_shown}
-
--- ---- polynomials by symbol
-
--- that of the symbol, if it has one
-abbrev pub polynomial_of : List (Option Body) → ℕ → Option Body
-polynomial_of values f = option_and_then (λ value. value) (slice_get values f)
-
--- those with one more
-abbrev pub with_polynomial : List (Option Body) → ℕ → Body → List (Option Body)
-with_polynomial values f p = slice_set values f (Some p)
-
--- those with one for each of the symbols
-abbrev pub with_choice : List (Option Body) → List ℕ → List Body → List (Option Body)
-with_choice values [] ps = values
-with_choice values (f ∷ fs) [] = values
-with_choice values (f ∷ fs) (p ∷ ps) = with_choice (with_polynomial values f p) fs ps
-
--- none
-abbrev pub without_polynomials : ℕ → List (Option Body)
-without_polynomials zero = []
-without_polynomials (suc n) = None ∷ without_polynomials n
 
 -- a test of a pair by the polynomials of its symbols; it fails where one has none
 abbrev pub tested : (Body → Body → Said) → Option Body → Option Body → Said
@@ -154,10 +134,3 @@ abbrev pub choosing : List SymInfo → List Pair → List ℕ → List ℕ → L
 choosing infos pairs anchors order choice =
     and_then (filled infos pairs (with_choice (without_polynomials (length infos)) anchors choice)
     order) (fitting pairs)
-
--- ---- all choices
-
--- all lists with one of each, in lexicographic order
-abbrev pub products : {A : Type 0} → List (List A) → List (List A)
-products [] = [] ∷ []
-products (xs ∷ lists) = flat_map (λ x. map (λ ys. x ∷ ys) (products lists)) xs

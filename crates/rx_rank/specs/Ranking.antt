@@ -12,9 +12,11 @@ use Rattle.rx_term.specs.declared.rule_set.RuleParts.{RuleParts}
 use Rattle.rx_term.specs.declared.rule_set.SymInfo.{SymInfo}
 use Rattle.rx_pairs.specs.Listed.{pairs_by_all}
 use Rattle.rx_pairs.specs.declared.pair.Pair.{Pair}
-use Rattle.rx_rank.specs.Candidates.{are_noted, arity_of, candidate_lists, is_anchor}
-use Rattle.rx_rank.specs.Choices.{choosing, order_of, products}
-use Rattle.rx_rank.specs.Components.{inside, members, names_of, pairs_in, symbols_of}
+use Rattle.rx_anchors.specs.Choices.{products}
+use Rattle.rx_anchors.specs.Members.{arity_of, is_anchor, members, symbols_of}
+use Rattle.rx_rank.specs.Candidates.{are_noted, candidate_lists}
+use Rattle.rx_rank.specs.Choices.{choosing, order_of}
+use Rattle.rx_rank.specs.Components.{inside, names_of, pairs_in}
 use Rattle.rx_rank.specs.Tries.{all_made, and_then, noting, tried_said}
 
 -- at most n choices are tried in a component

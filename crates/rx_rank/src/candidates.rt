@@ -2,11 +2,12 @@
 ghost use Rattle.std.specs.Prelude.{◌≡◌, ◌∷◌, ◌++◌, [], IfOk, OnOk};
 ghost use Rattle.std.specs.List.{flat_map, list_any};
 ghost use Rattle.rx_poly.specs.contracts.body.BodyPartialEq.TheImpl as body_equal;
-ghost use Rattle.rx_rank.specs.Answers.{Gathers, lists_in};
+ghost use Rattle.rx_anchors.specs.Choices.{lists_in};
+ghost use Rattle.rx_rank.specs.Answers.{Gathers};
 ghost use Rattle.rx_rank.specs.Candidates.{all_candidates, are_noted, candidate_lists, candidates, candidates_by, opposite_tried, row_candidates, rule_candidates, with_candidate};
 ghost use Rattle.rx_solve.specs.Attempts.{applies, is_noted};
 
-use crate::members::is_rule_of;
+use rx_anchors::is_rule_of;
 use rx_plain::NoMemory;
 use rx_poly::{Poly, PolyEnd, uses_below};
 use rx_row::Row;

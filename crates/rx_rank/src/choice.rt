@@ -1,16 +1,17 @@
 //! What comes of the choices, in order, at most 4,096 of them: each is formed when it is tried.
 ghost use Rattle.std.specs.Prelude.{◌≡◌, take, IfOk, IfSome, Some};
-ghost use Rattle.rx_rank.specs.Answers.{IsChosen, IsFirstFit, lists_in, polys_at, still_open, tried_as};
-ghost use Rattle.rx_rank.specs.Choices.{choosing, products};
+ghost use Rattle.rx_anchors.specs.Choices.{lists_in, products};
+ghost use Rattle.rx_anchors.specs.Values.{polys_at};
+ghost use Rattle.rx_rank.specs.Answers.{IsChosen, IsFirstFit, still_open, tried_as};
+ghost use Rattle.rx_rank.specs.Choices.{choosing};
 ghost use Rattle.rx_rank.specs.Ranking.{first_fit, most_choices};
 ghost use Rattle.rx_solve.specs.Answers.{IsSolver};
 
 use crate::attempt::Attempt;
-use crate::choices::choice_at;
 use crate::filling::filled;
 use crate::fitting::{Fit, fitting};
 use crate::known_pair::KnownPair;
-use crate::values::choice_values;
+use rx_anchors::{choice_at, choice_values};
 use rx_cert::Cert;
 use rx_fm::FmEnd;
 use rx_plain::NoMemory;

@@ -1,7 +1,7 @@
 //! One component of the graph of open pairs.
 ghost use Rattle.std.specs.Prelude.{◌≡◌, IfOk, IfSome, Some, take};
-ghost use Rattle.rx_rank.specs.Answers.{IsComponentFit, IsFirstFit, lists_in, pairs_at, still_open, tried_as};
-ghost use Rattle.rx_rank.specs.Choices.{products};
+ghost use Rattle.rx_anchors.specs.Choices.{lists_in, products};
+ghost use Rattle.rx_rank.specs.Answers.{IsComponentFit, IsFirstFit, pairs_at, still_open, tried_as};
 ghost use Rattle.rx_rank.specs.Ranking.{component, first_fit, most_choices};
 ghost use Rattle.rx_solve.specs.Answers.{IsSolver};
 
@@ -9,9 +9,9 @@ use crate::attempt::{Attempt, noted_before};
 use crate::candidates::all_lists;
 use crate::choice::first_fit;
 use crate::fitting::Fit;
-use crate::members::{arities_of, members_of};
 use crate::order::order_of;
 use crate::pair_memo::PairMemo;
+use rx_anchors::{arities_of, members_of};
 use rx_cert::Cert;
 use rx_fm::FmEnd;
 use rx_pairs::Pair;

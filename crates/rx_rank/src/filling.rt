@@ -3,8 +3,9 @@
 ghost use Rattle.std.specs.Prelude.{◌≡◌, ◌==◌, IfOk, Some, if◌then◌else◌};
 ghost use Rattle.rx_cert.specs.Findings.{Yes};
 ghost use Rattle.rx_rank.specs.Answers.{found, tried, tried_as};
-ghost use Rattle.rx_rank.specs.Candidates.{arity_of};
-ghost use Rattle.rx_rank.specs.Choices.{filled, first_serving, hold_with, instance_on, pairs_from, polynomial_of, serving, tested};
+ghost use Rattle.rx_anchors.specs.Members.{arity_of};
+ghost use Rattle.rx_anchors.specs.Values.{polynomial_of};
+ghost use Rattle.rx_rank.specs.Choices.{filled, first_serving, hold_with, instance_on, pairs_from, serving, tested};
 ghost use Rattle.rx_rank.specs.PairTests.{holds};
 ghost use Rattle.rx_rank.specs.Tries.{and_then};
 ghost use Rattle.rx_solve.specs.Answers.{IsSolver};
@@ -12,8 +13,7 @@ ghost use Rattle.rx_solve.specs.Attempts.{fails};
 
 use crate::attempt::{Attempt, Finding, noted_before};
 use crate::known_pair::KnownPair;
-use crate::members::arity_of;
-use crate::values::{polynomial_of, put_polynomial};
+use rx_anchors::{arity_of, polynomial_of, put_polynomial};
 use rx_cert::Cert;
 use rx_fm::FmEnd;
 use rx_pairs::{Pair, on_right};

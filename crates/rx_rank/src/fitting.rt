@@ -7,7 +7,7 @@ ghost use Rattle.rx_solve.specs.Answers.{IsSolver};
 
 use crate::attempt::Attempt;
 use crate::known_pair::KnownPair;
-use crate::values::polynomial_of;
+use rx_anchors::polynomial_of;
 use rx_cert::Cert;
 use rx_fm::FmEnd;
 use rx_plain::{Items, NoMemory};

@@ -4,22 +4,19 @@
 mod attempt;
 mod candidates;
 mod choice;
-mod choices;
 mod component;
 mod filling;
 mod fitting;
 mod known_pair;
-mod members;
+mod names;
 mod order;
 mod pair_memo;
 mod pair_tests;
-mod values;
 
 pub use attempt::{Attempt, noted_before};
 pub use component::fit_component;
 pub use fitting::Fit;
-pub use members::is_member;
+pub use names::{find_names, graph_of, is_inside};
 pub use pair_memo::PairMemo;
 pub use rx_fm::FmEnd;
 pub use rx_plain::NoMemory;
-pub use values::{polynomial_of, put_polynomial, without_polynomials};

@@ -15,7 +15,7 @@ use Rattle.rx_pairs.specs.Graph.{edges_of}
 use Rattle.rx_pairs.specs.declared.pair.Pair.{Pair}
 use Rattle.rx_pairs.specs.declared.pair_cert.PairCert.{PairCert}
 use Rattle.rx_rank.specs.Answers.{IsDecided, IsFallen, IsHeld, IsProved, still_open}
-use Rattle.rx_rank.specs.Choices.{polynomial_of}
+use Rattle.rx_anchors.specs.Values.{polynomial_of}
 use Rattle.rx_ranking.proofs.ClosingLaws.{close_more}
 use Rattle.rx_ranking.proofs.GrowthLaws.{count_pushed, lawful_pushed, split_pushed}
 use Rattle.rx_ranking.proofs.SplitLaws.{IsClosing, split_more}

@@ -22,10 +22,9 @@ use Rattle.rx_pairs.specs.declared.pair.Pair.{Pair}
 use Rattle.rx_pairs.specs.declared.pair_cert.PairCert.{PairCert}
 use Rattle.rx_pairs.specs.declared.table.RankTable.{RankTable}
 use Rattle.rx_ranking.proofs.TableLaws.{rank_count}
-use Rattle.rx_rank.specs.Candidates.{arity_of}
-use Rattle.rx_rank.specs.Choices.{polynomial_of}
+use Rattle.rx_anchors.specs.Members.{arity_of, symbols_of}
+use Rattle.rx_anchors.specs.Values.{polynomial_of}
 use Rattle.rx_ranking.specs.Closing.{cert_of}
-use Rattle.rx_rank.specs.Components.{symbols_of}
 use Rattle.rx_ranking.specs.Tables.{Column, IsDeepPair, IsLawful, IsLowerBy, IsSplit, rank_at, value_at}
 
 -- ---- lawful ranks

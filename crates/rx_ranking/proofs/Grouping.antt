@@ -1,18 +1,19 @@
 -- Entries by component: one entry more, and that each entry is in a group.
-use Rattle.std.proofs.Common.{◌≡◌, ◌∙◌, ap, sym, subst, refl, cond, arith, ℕ, zero, suc, ◌==◌, ◌+◌, ◌<◌, ◌≤◌, Bool, true, false, ◌||◌, inl, inr, Option, Some, None, Vec, List, [], ◌∷◌, ◌++◌, All, Contains, get_or, length, map, set, slice_get, unwrap_or}
-use Rattle.std.specs.List.{find, list_any, range_with_len}
-use Rattle.std.specs.Option.{option_map, option_map_or}
+use Rattle.std.proofs.Common.{◌≡◌, ◌∙◌, ap, sym, subst, refl, arith, ℕ, zero, suc, ◌==◌, ◌+◌, ◌<◌, ◌≤◌, Bool, true, false, ◌||◌, inl, inr, Some, None, Vec, List, [], ◌∷◌, ◌++◌, All, Contains, get_or, length, map, set, slice_get}
+use Rattle.std.specs.List.{list_any, range_with_len}
+use Rattle.std.specs.Option.{option_map_or}
 use Rattle.std.specs.declared.alloc.Global.{Global}
 use Rattle.std.proofs.lemmas.Bool.{cases_lt, eq-eqb, false≢true, ne_eqb}
 use Rattle.std.proofs.lemmas.List.{get_or-map, length-map, map-set, set_past}
 use Rattle.std.proofs.lemmas.List.Elements.{All-append, All-cons, All-contains, All-contains_itself, All-filter, All-head, All-nil, All-tail, Contains-append_left, Contains-append_right}
 use Rattle.std.proofs.lemmas.List.Folds.{list_any_at}
-use Rattle.std.proofs.lemmas.List.FromFn.{get_or-map-range_with_len, get_or-range_with_len, length-map-range_with_len, length-range_with_len}
-use Rattle.std.proofs.lemmas.Option.{slice_get-get_or, slice_get-map}
-use Rattle.rx_graph.specs.Graph.{IsOver, below, together}
+use Rattle.std.proofs.lemmas.List.FromFn.{get_or-map-range_with_len, length-map-range_with_len}
+use Rattle.rx_graph.specs.Graph.{IsOver}
 use Rattle.rx_plain.proofs.Kept.{first_one, kept, other_one}
 use Rattle.rx_pairs.specs.Graph.{edges_of}
-use Rattle.rx_rank.specs.Components.{component_of, is_member, names_of, symbols_of}
+use Rattle.rx_anchors.specs.Members.{is_member}
+use Rattle.rx_rank.specs.Components.{component_of, names_of}
+use Rattle.rx_rank.proofs.NameLaws.{component_below, name_at}
 use Rattle.rx_ranking.proofs.ClosingLaws.{filter_one, filter_skip}
 use Rattle.rx_ranking.proofs.ComponentTries.{items_of}
 use Rattle.rx_ranking.specs.Groups.{by_component, entries_in, groups_in, ungrouped}
@@ -181,32 +182,7 @@ in_groups group o a (suc n) (suc k) less there =
     (in_groups group o (a + 1) n k (omega (arith, less))
     (subst (λ c. Contains (group c) o) at there))
 
--- ---- names are symbols
-
-found_below : (test : ℕ → Bool) (a n x : ℕ) → find test (range_with_len a n) ≡ Some x → x < a + n
-found_below test a zero x found = cc
-found_below test a (suc n) x found = by (test a) found (found_below test (a + 1) n x) where
-  by : (b : Bool) → cond b (Some a) (find test (range_with_len (a + 1) n)) ≡ Some x →
-      (find test (range_with_len (a + 1) n) ≡ Some x → x < (a + 1) + n) → x < a + suc n
-  by true is later = let same : a ≡ x = cc in omega (arith, same)
-  by false is later = let h = later is in omega (arith, h)
-
-module _ (n : ℕ) (edges : List (ℕ × ℕ)) where
-  component_below : (f : ℕ) → f < n → component_of n edges f < n
-  component_below f less = by (find (together edges (below n) f) (symbols_of n)) refl where
-    by : (o : Option ℕ) → find (together edges (below n) f) (symbols_of n) ≡ o → unwrap_or o f < n
-    by None none = less
-    by (Some x) some =
-        let h = found_below (together edges (below n) f) 0 n x some in omega (arith, h)
-
-  pub name_at : (f : ℕ) → f < n → slice_get (map (component_of n edges) (symbols_of n)) f ≡
-      Some (component_of n edges f)
-  name_at f less =
-      let count = length-range_with_len 0 n in
-      slice_get-map (component_of n edges) (symbols_of n) f
-      ∙ ap (option_map (component_of n edges))
-      (slice_get-get_or (symbols_of n) f 0 (omega (arith, count, less)) ∙
-      ap Some (get_or-range_with_len 0 n f 0 less ∙ (let e : 0 + f ≡ f = omega arith in e)))
+-- ---- each number is in a group
 
 module _ (n : ℕ) (entries : List OpenPair) (over : IsOver n (edges_of (pairs_open entries))) where
   abbrev edges : List (ℕ × ℕ)

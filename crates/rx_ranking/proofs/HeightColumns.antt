@@ -22,7 +22,8 @@ use Rattle.rx_ranking.proofs.SplitLaws.{IsClosing, split_more}
 use Rattle.rx_ranking.proofs.TableLaws.{fallen_column, held_column}
 use Rattle.rx_rank.specs.Answers.{IsProved}
 use Rattle.rx_ranking.specs.Closing.{close_all, is_leaving, is_staying}
-use Rattle.rx_rank.specs.Components.{is_inside, is_member}
+use Rattle.rx_anchors.specs.Members.{is_member}
+use Rattle.rx_rank.specs.Components.{is_inside}
 use Rattle.rx_ranking.specs.Tables.{Column, IsLowerBy, IsOpenBy, IsSplit, has_number, height_column, held_rows, pairs_open, rank_at, value_at}
 use Rattle.rx_ranking.specs.declared.open_pair.OpenPair.{OpenPair}
 

@@ -3,6 +3,7 @@ use Rattle.std.proofs.Common.{◌≡◌, ◌∙◌, ap, sym, subst, refl, arith,
 use Rattle.std.specs.List.{AllZip}
 use Rattle.std.specs.Option.{IfSome, option_map, option_map_or}
 use Rattle.std.proofs.lemmas.Bool.{eqb-true}
+use Rattle.std.proofs.lemmas.List.{length-map}
 use Rattle.std.proofs.lemmas.Option.{same_Some}
 use Rattle.rx_poly.specs.declared.body.Body.{Body}
 use Rattle.rx_cert.specs.declared.cert.Cert.{Cert}
@@ -12,8 +13,9 @@ use Rattle.rx_term.specs.declared.rule_set.SymInfo.{SymInfo}
 use Rattle.rx_pairs.specs.declared.pair.Pair.{Pair}
 use Rattle.rx_rank.proofs.OwnValues.{length-without, none_own}
 use Rattle.rx_rank.specs.Answers.{IsComponentFit, IsDecided, IsFallen, IsHeld, IsOwn, still_open, tried_as}
-use Rattle.rx_rank.specs.Choices.{falls_by, is_yes, polynomial_of, tested, without_polynomials}
-use Rattle.rx_rank.specs.Components.{is_member}
+use Rattle.rx_anchors.specs.Members.{is_member}
+use Rattle.rx_anchors.specs.Values.{polynomial_of, without_polynomials}
+use Rattle.rx_rank.specs.Choices.{falls_by, is_yes, tested}
 use Rattle.rx_rank.specs.PairTests.{falls}
 use Rattle.rx_rank.specs.Ranking.{component, unless_empty}
 use Rattle.rx_rank.specs.Tries.{after}
@@ -195,6 +197,10 @@ nothing_below infos names fit none holds falls = record {
       λ f p e. none_own (IsOwnBelow infos names 0) (length infos) f p
       (ap (λ values. polynomial_of values f) (sym none) ∙ e);
 }
+
+-- a component's pairs are as many as its entries
+pub open_count : (entries : List OpenPair) → length (pairs_open entries) ≡ length entries
+open_count entries = length-map entries (λ (o : OpenPair). o.pair)
 
 module _ (parts : RuleParts) (hypotheses : List Rule) (names : List ℕ) (c : ℕ) (pairs : List Pair)
     (before : Fit) where

@@ -17,7 +17,7 @@ use Rattle.rx_pairs.specs.Graph.{edges_of}
 use Rattle.rx_pairs.specs.declared.pair.Pair.{Pair}
 use Rattle.rx_ranking.proofs.GrowthLaws.{count_pushed, lawful_pushed, split_pushed}
 use Rattle.rx_ranking.proofs.HeightColumns.{heights_split}
-use Rattle.rx_rank.specs.Candidates.{arity_of}
+use Rattle.rx_anchors.specs.Members.{arity_of}
 use Rattle.rx_ranking.specs.Closing.{close_all, is_leaving, is_staying}
 use Rattle.rx_rank.specs.Components.{component_of, inside, is_inside, names_of}
 use Rattle.rx_ranking.specs.Rounds.{IsGrown, IsSplitBy}

@@ -11,7 +11,8 @@ use Rattle.rx_rank.specs.Ranking.{unless_empty}
 use Rattle.rx_rank.specs.Tries.{after, all_made, noting}
 use Rattle.rx_rank.specs.declared.attempt.Attempt.{Attempt}
 use Rattle.rx_rank.specs.declared.fitting.Fit.{Fit}
-use Rattle.rx_ranking.proofs.ComponentTries.{component_failed, component_made, groups_after, no_component, pairs_until}
+use Rattle.rx_rank.proofs.AllMade.{component_failed, component_made, no_component}
+use Rattle.rx_ranking.proofs.ComponentTries.{groups_after, pairs_until}
 use Rattle.rx_ranking.specs.Groups.{IsFitBelow, IsOneMore, groups_in, tries_from, ungrouped}
 use Rattle.rx_ranking.specs.Tables.{pairs_open}
 use Rattle.rx_ranking.specs.declared.open_pair.OpenPair.{OpenPair}

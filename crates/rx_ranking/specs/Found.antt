@@ -1,5 +1,5 @@
 -- What the answers of a search for ranks say.
-use Rattle.std.specs.Prelude.{◌≡◌, ◌≤◌, ◌++◌, All, Bool, true, false, Option, Some, None, Result, Ok, Err, List}
+use Rattle.std.specs.Prelude.{◌≡◌, ◌≤◌, ◌++◌, All, Option, Some, None, Result, Ok, Err, List}
 use Rattle.rx_cert.specs.Depth.{cert_depth}
 use Rattle.rx_cert.specs.Findings.{Said, Yes, No, Beyond}
 use Rattle.rx_cert.specs.declared.cert.Cert.{Cert}
@@ -20,12 +20,6 @@ abbrev pub RanksAnswer : Said → Result (Option Ranking) FmEnd → Type 0
 RanksAnswer said (Ok None) = said ≡ No
 RanksAnswer said (Ok (Some found)) = said ≡ Yes
 RanksAnswer said (Err e) = e ≡ Large → said ≡ Beyond
-
--- an answer that only says whether there are some; that memory runs out is free
-abbrev pub RankedAnswer : Said → Result Bool FmEnd → Type 0
-RankedAnswer said (Ok false) = said ≡ No
-RankedAnswer said (Ok true) = said ≡ Yes
-RankedAnswer said (Err e) = e ≡ Large → said ≡ Beyond
 
 -- the ranks are lawful for the symbols, and all pairs of the rules and of the hypotheses are lower
 -- by them, by certificates that are at most 174 deep

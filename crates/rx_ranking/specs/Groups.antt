@@ -11,9 +11,8 @@ use Rattle.rx_term.specs.declared.rule_set.RuleParts.{RuleParts}
 use Rattle.rx_term.specs.declared.rule_set.SymInfo.{SymInfo}
 use Rattle.rx_pairs.specs.declared.pair.Pair.{Pair}
 use Rattle.rx_rank.specs.Answers.{IsFit, still_open, tried_as}
-use Rattle.rx_rank.specs.Candidates.{arity_of}
-use Rattle.rx_rank.specs.Choices.{polynomial_of}
-use Rattle.rx_rank.specs.Components.{is_member, symbols_of}
+use Rattle.rx_anchors.specs.Members.{arity_of, is_member, symbols_of}
+use Rattle.rx_anchors.specs.Values.{polynomial_of}
 use Rattle.rx_rank.specs.Ranking.{unless_empty}
 use Rattle.rx_rank.specs.Tries.{after}
 use Rattle.rx_rank.specs.declared.attempt.Attempt.{Attempt}

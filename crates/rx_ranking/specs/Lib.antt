@@ -3,6 +3,5 @@ pub mod Closing
 pub mod Fits
 pub mod Found
 pub mod Groups
-pub mod KnownNames
 pub mod Rounds
 pub mod Tables

@@ -16,8 +16,8 @@ use Rattle.rx_pairs.specs.Lowering.{column_finding, prefixed}
 use Rattle.rx_pairs.specs.declared.pair.Pair.{Pair}
 use Rattle.rx_pairs.specs.declared.pair_cert.PairCert.{PairCert}
 use Rattle.rx_rank.specs.Answers.{IsProved}
-use Rattle.rx_rank.specs.Candidates.{arity_of}
-use Rattle.rx_rank.specs.Choices.{polynomial_of}
+use Rattle.rx_anchors.specs.Members.{arity_of}
+use Rattle.rx_anchors.specs.Values.{polynomial_of}
 use Rattle.rx_ranking.specs.declared.column.FoundColumn.{FoundColumn}
 use Rattle.rx_ranking.specs.declared.column.FoundColumn.TheVariants.{Heights, Polynomials}
 use Rattle.rx_ranking.specs.declared.open_pair.OpenPair.{OpenPair}

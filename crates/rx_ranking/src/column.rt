@@ -2,9 +2,9 @@
 ghost use Rattle.std.specs.Prelude.{◌≡◌, IfOk};
 ghost use Rattle.rx_ranking.specs.Tables.{column_of, height_column, value_at};
 
+use rx_anchors::polynomial_of;
 use rx_plain::NoMemory;
 use rx_poly::Poly;
-use rx_rank::polynomial_of;
 use std::alloc::Global;
 
 /// A column as it is found. Heights stay numbers until a table is made of the columns.

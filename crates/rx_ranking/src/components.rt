@@ -9,11 +9,12 @@ ghost use Rattle.rx_solve.specs.Answers.{IsSolver};
 
 use crate::groups::pairs_of;
 use crate::open_pair::OpenPair;
+use rx_anchors::without_polynomials;
 use rx_cert::Cert;
 use rx_fm::FmEnd;
 use rx_plain::NoMemory;
 use rx_poly::Poly;
-use rx_rank::{Attempt, Fit, PairMemo, fit_component, without_polynomials};
+use rx_rank::{Attempt, Fit, PairMemo, fit_component};
 use rx_row::Constraint;
 use rx_term::{Rule, RuleParts};
 use std::alloc::Global;

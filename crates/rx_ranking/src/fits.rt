@@ -11,13 +11,12 @@ ghost use Rattle.rx_solve.specs.Answers.{IsSolver};
 
 use crate::components::fit_groups;
 use crate::groups::{all_entries, group_entries, pairs_of};
-use crate::names::find_names;
 use crate::open_pair::OpenPair;
 use rx_cert::Cert;
 use rx_fm::FmEnd;
 use rx_plain::{Items, NoMemory};
 use rx_poly::Poly;
-use rx_rank::{Attempt, Fit, PairMemo};
+use rx_rank::{Attempt, Fit, PairMemo, find_names};
 use rx_row::Constraint;
 use rx_term::{Rule, RuleParts};
 use std::alloc::Global;

@@ -2,24 +2,13 @@
 ghost use Rattle.std.specs.Prelude.{◌≡◌, IfOk, OnOk};
 ghost use Rattle.std.specs.List.{filter};
 ghost use Rattle.rx_ranking.specs.Closing.{close_all, is_leaving, is_staying};
-ghost use Rattle.rx_rank.specs.Components.{is_inside};
 
 use crate::closing::close_entry;
 use crate::open_pair::OpenPair;
-use rx_pairs::{Pair, PairCert};
+use rx_pairs::PairCert;
 use rx_plain::NoMemory;
-use rx_rank::is_member;
+use rx_rank::is_inside;
 use std::alloc::Global;
-
-/// Whether both symbols of the pair are of one component.
-pub(crate) fn is_inside(names: &[u32], pair: &Pair) -> bool
-    ensures { result ≡ is_inside names.now pair.now }
-{
-    match names.get(pair.left.0 as usize) {
-        Some(name) => is_member(names, *name, pair.right.0),
-        None => false,
-    }
-}
 
 /// The pairs that stay open after a column of heights with that number; the others are closed by
 /// it.

@@ -10,7 +10,7 @@ ghost use Rattle.rx_term.specs.declared.rule_set.SymInfo.{SymInfo};
 
 use crate::column::FoundColumn;
 use crate::heights::close_between;
-use crate::names::find_levels;
+use crate::levels::find_levels;
 use crate::open_pair::OpenPair;
 use rx_pairs::{Pair, PairCert};
 use rx_plain::{Items, NoMemory};

@@ -7,14 +7,13 @@ ghost use Rattle.rx_rank.specs.Ranking.{ranked, ranking};
 ghost use Rattle.rx_solve.specs.Answers.{IsSolver};
 
 use crate::progress::{Progress, begin};
-use crate::rank_memo::RankMemo;
 use crate::rounds::rank_from;
 use crate::table::ranking_of;
 use rx_cert::Cert;
 use rx_fm::FmEnd;
 use rx_pairs::{PairCert, RankTable, all_pairs};
 use rx_plain::{Items, NoMemory};
-use rx_rank::Attempt;
+use rx_rank::{Attempt, PairMemo};
 use rx_row::Constraint;
 use rx_term::{Rule, RuleSet};
 use std::alloc::Global;
@@ -33,7 +32,7 @@ fn rank_all<S: FnMut(&Constraint) -> Result<Option<Cert>, FmEnd>>(
     alloc: Global,
     rules: &RuleSet,
     hypotheses: &[Rule],
-    memo: &mut RankMemo,
+    memo: &mut PairMemo,
     solve: &mut S,
 ) -> Result<Attempt<Ranking>, NoMemory>
     requires solver { IsSolver S.FnMut solve.old }
@@ -50,7 +49,7 @@ fn rank_all<S: FnMut(&Constraint) -> Result<Option<Cert>, FmEnd>>(
     }
     let pairs = all_pairs(alloc, parts.rules.as_slice(), hypotheses)?;
     let start = begin(alloc, pairs)?;
-    let tried = rank_from(alloc, parts, hypotheses, 7, start, &mut memo.pairs, solve)?;
+    let tried = rank_from(alloc, parts, hypotheses, 7, start, memo, solve)?;
     let noted = tried.noted;
     match tried.made {
         Some(done) => {
@@ -77,7 +76,7 @@ pub fn find_ranks_with<S: FnMut(&Constraint) -> Result<Option<Cert>, FmEnd>>(
     alloc: Global,
     rules: &RuleSet,
     hypotheses: &[Rule],
-    memo: &mut RankMemo,
+    memo: &mut PairMemo,
     solve: &mut S,
 ) -> Result<Option<Ranking>, FmEnd>
     requires solver { IsSolver S.FnMut solve.old }
@@ -114,6 +113,6 @@ pub fn find_ranks<S: FnMut(&Constraint) -> Result<Option<Cert>, FmEnd>>(
     ensures answer { RanksAnswer (ranked rules.now hypotheses.now) result }
     ensures lowers { IfOk result (λ a. IfSome a (LowersAll rules.now hypotheses.now)) }
 {
-    let mut memo = RankMemo::new(alloc);
+    let mut memo = PairMemo::new(alloc);
     find_ranks_with(alloc, rules, hypotheses, &mut memo, solve)
 }

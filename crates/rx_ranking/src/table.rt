@@ -7,7 +7,7 @@ ghost use Rattle.rx_pairs.specs.Ranks.{bad_rank};
 ghost use Rattle.rx_pairs.specs.declared.pair.Pair.{Pair};
 ghost use Rattle.rx_ranking.specs.Closing.{cert_of};
 ghost use Rattle.rx_term.specs.declared.rule_set.RuleParts.{RuleParts};
-ghost use Rattle.rx_rank.specs.Components.{symbols_of};
+ghost use Rattle.rx_anchors.specs.Members.{symbols_of};
 ghost use Rattle.rx_ranking.specs.Tables.{IsDeepPair, IsLawful, IsSplit, columns_in, rank_at};
 
 use crate::column::{FoundColumn, value_at};

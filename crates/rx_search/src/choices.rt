@@ -21,7 +21,7 @@ use rx_generalise::{Generalised, lemmas};
 use rx_lemma::LemmaKind;
 use rx_pairs::Pair;
 use rx_plain::{Items, NoMemory};
-use rx_ranking::{RankMemo, has_ranks_with};
+use rx_ranked::{RankMemo, has_ranks_with};
 use rx_row::Constraint;
 use rx_settle::try_step;
 use rx_steps::State;

@@ -14,7 +14,7 @@ use rx_cert::Cert;
 use rx_fm::FmEnd;
 use rx_pairs::Pair;
 use rx_plain::{Items, NoMemory};
-use rx_ranking::RankMemo;
+use rx_ranked::RankMemo;
 use rx_row::{Constraint, Row};
 use rx_steps::State;
 use rx_term::{Equation, RuleSet};

@@ -31,7 +31,9 @@ use rx_fm::FmEnd;
 use rx_log::Log;
 use rx_pairs::{Pair, all_pairs};
 use rx_plain::{Items, NoMemory};
-use rx_ranking::{RankMemo, Ranking, find_ranks_with};
+use rx_rank::PairMemo;
+use rx_ranked::RankMemo;
+use rx_ranking::{Ranking, find_ranks_with};
 use rx_row::{Constraint, Row};
 use rx_settle::SettleMemo;
 use rx_steps::State;
@@ -124,7 +126,7 @@ fn ranks_of<S: FnMut(&Constraint) -> Result<Option<Cert>, FmEnd>>(
     alloc: Global,
     rules: &RuleSet,
     hypotheses: &[Rule],
-    memo: &mut RankMemo,
+    memo: &mut PairMemo,
     solve: &mut S,
 ) -> Result<Ranking, NoMemory>
     requires ranked { ranked rules.now hypotheses.now ≡ Yes }
@@ -159,7 +161,7 @@ fn log_of<S: FnMut(&Constraint) -> Result<Option<Cert>, FmEnd>>(
     ensures shallow { IfOk result (λ log. is_shallow_log log ≡ true) }
 {
     let covers = cover_of(alloc, rules, solve)?;
-    let ranking = ranks_of(alloc, rules, node.state.hypotheses(), memo, solve)?;
+    let ranking = ranks_of(alloc, rules, node.state.hypotheses(), &mut memo.pairs, solve)?;
     let steps = own_steps(alloc, node.steps.as_slice())?;
     Ok(Log {
         covers,
@@ -277,7 +279,7 @@ impl<S: FnMut(&Constraint) -> Result<Option<Cert>, FmEnd>> Search<S> {
             (searched rules.now goal.now depth budget) e) }
     {
         let mut memo = RankMemo::new(alloc);
-        match find_ranks_with(alloc, rules, &[], &mut memo, &mut self.solve) {
+        match find_ranks_with(alloc, rules, &[], &mut memo.pairs, &mut self.solve) {
             Ok(Some(_)) => self.visit(alloc, rules, goal, depth, budget, &mut memo),
             Ok(None) => Err(SearchEnd::NoRanks),
             Err(FmEnd::Large) => Err(SearchEnd::Large {

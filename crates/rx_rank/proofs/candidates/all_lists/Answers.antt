@@ -1,9 +1,9 @@
 -- One anchor more.
-use Rattle.std.proofs.Common.{◌≡◌, ◌∙◌, ap, sym, ◌+◌, ◌||◌, [], ◌∷◌, ◌++◌, append_assoc, drop}
+use Rattle.std.proofs.Common.{◌≡◌, ◌∙◌, ap, sym, ◌+◌, ◌||◌, [], ◌∷◌, ◌++◌, append-nil, append_assoc, drop, drop_of_length-le}
 use Rattle.std.proofs.lemmas.List.{map-append}
-use Rattle.rx_plain.proofs.Booleans.{either_first, either_second, or_assoc}
+use Rattle.rx_plain.proofs.Booleans.{either_first, either_second, or_assoc, or_false}
 use Rattle.rx_rank.proofs.Walks.{next_from}
-use Rattle.rx_rank.specs.Answers.{lists_in}
+use Rattle.rx_anchors.specs.Choices.{lists_in}
 use Rattle.rx_rank.specs.Candidates.{are_noted, candidate_lists}
 use Rattle.rx_rank.proofs.candidates.all_lists.Goals as goal
 use Rattle.rx_rank.proofs.candidates.all_lists.Goals.{then-noted, else-noted}
@@ -39,3 +39,21 @@ loop-arity-preserved c =
           ∙ sym (ap (λ ns. before || are_noted names name both ns) opened)
           ∙ c.loop-arity.invariant.noted;
     }
+
+pub returns-clause-lists : goal.returns-clause-lists
+returns-clause-lists c =
+    let both = c.args.rules.now ++ c.args.hypotheses.now in
+    let lists = lists_in c.loop-arity.lists.items in
+    sym (append-nil lists)
+    ∙ ap (λ ns. lists ++ candidate_lists c.args.names.now c.args.name both ns)
+    (sym (drop_of_length-le c.args.arities.now c.loop-arity-test.false))
+    ∙ c.loop-arity.invariant.lists
+
+pub returns-clause-noted : goal.returns-clause-noted
+returns-clause-noted c =
+    let both = c.args.rules.now ++ c.args.hypotheses.now in
+    let noted = c.loop-arity.noted in
+    sym (or_false noted)
+    ∙ ap (λ ns. noted || are_noted c.args.names.now c.args.name both ns)
+    (sym (drop_of_length-le c.args.arities.now c.loop-arity-test.false))
+    ∙ c.loop-arity.invariant.noted

@@ -1,6 +1,6 @@
 -- The lists so far, and those of the anchors that are left.
 use Rattle.std.proofs.Common.{◌≡◌, ◌++◌, ◌||◌, drop}
-use Rattle.rx_rank.specs.Answers.{lists_in}
+use Rattle.rx_anchors.specs.Choices.{lists_in}
 use Rattle.rx_rank.specs.Candidates.{are_noted, candidate_lists}
 use Rattle.rx_rank.proofs.candidates.all_lists.Given as goal
 

@@ -1,10 +1,10 @@
 -- The candidates of one row more.
-use Rattle.std.proofs.Common.{◌≡◌, sym, subst, ◌+◌, ◌||◌, drop}
+use Rattle.std.proofs.Common.{◌≡◌, sym, subst, ◌+◌, ◌||◌, drop, drop_of_length-le}
 use Rattle.std.specs.List.{flat_map}
 use Rattle.rx_plain.proofs.Booleans.{either_first, either_second}
 use Rattle.rx_term.proofs.Places.{at_some, from_place}
 use Rattle.rx_rank.specs.Candidates.{row_candidates}
-use Rattle.rx_rank.proofs.Gathering.{Gathering, after_some}
+use Rattle.rx_rank.proofs.Gathering.{Gathering, after_some, finished}
 use Rattle.rx_rank.proofs.candidates.push_rows.Goals as goal
 use Rattle.rx_rank.proofs.candidates.push_rows.Goals.{then-noted, else-noted}
 
@@ -30,3 +30,12 @@ loop-row-preserved c =
     let rest = flat_map tries (drop (i + 1) rows) in
     subst (λ n. Gathering before c.push_row.new.polys.items n rest whole) (sym either)
     (after_some (tries row) rest whole opened c.in_ok-more.ensures)
+
+pub returns : goal.returns
+returns c =
+    let rows = c.args.rows.now in
+    let tries = row_candidates c.args.arity in
+    let whole = flat_map tries rows in
+    finished whole
+    (subst (λ rs. Gathering c.args.polys.now.items c.loop-row.polys.items c.loop-row.noted
+    (flat_map tries rs) whole) (drop_of_length-le rows c.loop-row-test.false) c.loop-row.invariant)

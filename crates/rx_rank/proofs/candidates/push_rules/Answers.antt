@@ -1,9 +1,10 @@
 -- The candidates of one rule more.
-use Rattle.std.proofs.Common.{◌≡◌, sym, subst, ◌+◌, ◌||◌, drop}
+use Rattle.std.proofs.Common.{◌≡◌, sym, subst, ◌+◌, ◌||◌, drop, drop_of_length-le}
+use Rattle.std.specs.List.{flat_map}
 use Rattle.rx_plain.proofs.Booleans.{either_first, either_second}
 use Rattle.rx_term.proofs.Places.{at_some, from_place}
 use Rattle.rx_rank.specs.Candidates.{all_candidates, rule_candidates}
-use Rattle.rx_rank.proofs.Gathering.{Gathering, after_some}
+use Rattle.rx_rank.proofs.Gathering.{Gathering, after_some, finished}
 use Rattle.rx_rank.proofs.candidates.push_rules.Goals as goal
 use Rattle.rx_rank.proofs.candidates.push_rules.Goals.{then-noted, else-noted}
 
@@ -30,3 +31,13 @@ loop-rule-preserved c =
     subst (λ n. Gathering before c.push_rule.new.polys.items n rest whole) (sym either)
     (after_some (rule_candidates names c.args.name c.args.arity rule) rest whole opened
     c.in_ok-more.ensures)
+
+pub returns : goal.returns
+returns c =
+    let rules = c.args.rules.now in
+    let tries = rule_candidates c.args.names.now c.args.name c.args.arity in
+    let whole = flat_map tries rules in
+    finished whole
+    (subst (λ rs. Gathering c.args.polys.now.items c.loop-rule.polys.items c.loop-rule.noted
+    (flat_map tries rs) whole) (drop_of_length-le rules c.loop-rule-test.false)
+    c.loop-rule.invariant)

@@ -4,8 +4,10 @@ use Rattle.std.specs.Option.{option_map}
 use Rattle.rx_plain.proofs.Booleans.{either_first, either_second}
 use Rattle.rx_pairs.specs.declared.pair.Pair.{Pair}
 use Rattle.rx_term.proofs.Places.{at_place}
-use Rattle.rx_rank.specs.Answers.{IsChosen, lists_in, polys_at, still_open, tried_as}
-use Rattle.rx_rank.specs.Choices.{choosing, products}
+use Rattle.rx_anchors.specs.Choices.{lists_in, products}
+use Rattle.rx_anchors.specs.Values.{polys_at}
+use Rattle.rx_rank.specs.Answers.{IsChosen, still_open, tried_as}
+use Rattle.rx_rank.specs.Choices.{choosing}
 use Rattle.rx_rank.specs.Ranking.{most_choices}
 use Rattle.rx_rank.specs.declared.fitting.Fit.{Fit}
 use Rattle.rx_rank.proofs.Choosing.{choice_fits, first_of, fit_among, later_choices, no_choice, taken_past, taken_place}

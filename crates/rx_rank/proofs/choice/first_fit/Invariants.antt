@@ -2,8 +2,8 @@
 use Rattle.std.proofs.Common.{◌≡◌, drop, map, take}
 use Rattle.rx_solve.specs.Answers.{IsSolver}
 use Rattle.rx_solve.specs.Attempts.{first_applying}
-use Rattle.rx_rank.specs.Answers.{lists_in}
-use Rattle.rx_rank.specs.Choices.{choosing, products}
+use Rattle.rx_anchors.specs.Choices.{lists_in, products}
+use Rattle.rx_rank.specs.Choices.{choosing}
 use Rattle.rx_rank.specs.Ranking.{most_choices}
 use Rattle.rx_rank.specs.Tries.{noting}
 use Rattle.rx_rank.proofs.choice.first_fit.Given as goal

@@ -2,8 +2,8 @@
 use Rattle.std.proofs.Common.{◌≡◌, ◌∙◌, List, Some, subst, take}
 use Rattle.std.specs.Option.{IfSome}
 use Rattle.rx_pairs.specs.declared.pair.Pair.{Pair}
-use Rattle.rx_rank.specs.Answers.{IsFirstFit, lists_in, still_open, tried_as}
-use Rattle.rx_rank.specs.Choices.{products}
+use Rattle.rx_anchors.specs.Choices.{lists_in, products}
+use Rattle.rx_rank.specs.Answers.{IsFirstFit, still_open, tried_as}
 use Rattle.rx_rank.specs.Ranking.{first_fit, most_choices}
 use Rattle.rx_rank.proofs.component.first_fit_with.Goals as goal
 

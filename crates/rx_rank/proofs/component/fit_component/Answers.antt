@@ -1,9 +1,9 @@
 -- What is handed on makes what comes of the component.
 use Rattle.std.proofs.Common.{◌∙◌, ap, sym, subst, refl, Some, None, List, take}
 use Rattle.std.specs.Option.{IfSome, option_map}
-use Rattle.rx_rank.specs.Answers.{IsComponentFit, IsFirstFit, lists_in, pairs_at, still_open}
+use Rattle.rx_anchors.specs.Choices.{lists_in, products}
+use Rattle.rx_rank.specs.Answers.{IsComponentFit, IsFirstFit, pairs_at, still_open}
 use Rattle.rx_pairs.specs.declared.pair.Pair.{Pair}
-use Rattle.rx_rank.specs.Choices.{products}
 use Rattle.rx_rank.specs.Ranking.{first_fit, most_choices}
 use Rattle.rx_rank.specs.declared.fitting.Fit.{Fit}
 use Rattle.rx_rank.proofs.ComponentLaws.{Handed, fits_component, no_order, with_order}

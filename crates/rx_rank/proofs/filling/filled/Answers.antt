@@ -1,11 +1,12 @@
 -- One more symbol.
-use Rattle.std.proofs.Common.{◌≡◌, ◌∙◌, ◌+◌, ◌||◌, ap, drop, get_or, sym}
+use Rattle.std.proofs.Common.{◌≡◌, ◌∙◌, ◌+◌, ◌||◌, ap, drop, drop_of_length-le, get_or, sym, Some}
 use Rattle.rx_plain.proofs.Booleans.{either_first, either_second}
 use Rattle.rx_solve.specs.Attempts.{Tried}
 use Rattle.rx_poly.specs.declared.body.Body.{Body}
-use Rattle.rx_rank.proofs.TryLaws.{then_some}
+use Rattle.rx_rank.proofs.TryLaws.{noted_alone, then_some}
 use Rattle.rx_rank.proofs.Walks.{next_from}
-use Rattle.rx_rank.specs.Choices.{filled, first_serving, pairs_from, with_polynomial}
+use Rattle.rx_anchors.specs.Values.{with_polynomial}
+use Rattle.rx_rank.specs.Choices.{filled, first_serving, pairs_from}
 use Rattle.rx_rank.specs.Tries.{made_then, noting}
 use Rattle.rx_rank.proofs.filling.filled.Goals as goal
 use Rattle.rx_rank.proofs.filling.filled.Goals.{then-noted, else-noted}
@@ -45,3 +46,12 @@ loop-symbol-preserved g c =
           (with_polynomial values f (c.in-Some.poly-is j)) (drop (i + 1) order)))
           ∙ then_some before attempt.made more next whole opened c.in-Some.poly c.in-Some.is;
     }
+
+pub returns-clause-tried : goal.returns-clause-tried
+returns-clause-tried g c =
+    let values = c.loop-symbol.values.items in
+    let noted = c.loop-symbol.noted in
+    sym (noted_alone (Some values) noted)
+    ∙ ap (λ fs. noting noted (filled c.args.infos.now c.args.pairs.now values fs))
+    (sym (drop_of_length-le c.args.order.now c.loop-symbol-test.false))
+    ∙ c.loop-symbol.invariant.decides

@@ -79,3 +79,18 @@ returns-clause-held g c =
     (ap (take i) c.loop-known.invariant.same ∙
     take_all i c.args.pairs.now c.loop-known-test.false)
     c.loop-known.invariant.held
+
+pub returns-in_err-attempt-clause-pairs : goal.returns-in_err-attempt-clause-pairs
+returns-in_err-attempt-clause-pairs g c =
+    put_same c.loop-known.pairs c.loop-known.known-index c.known-item.result c.held.new.known
+    c.held.ensures.pair ∙ c.loop-known.invariant.same
+
+pub returns-in_err-push-in-Some-clause-pairs : goal.returns-in_err-push-in-Some-clause-pairs
+returns-in_err-push-in-Some-clause-pairs g c =
+    put_same c.loop-known.pairs c.loop-known.known-index c.known-item.result c.held.new.known
+    c.held.ensures.pair ∙ c.loop-known.invariant.same
+
+pub returns-in-None-clause-pairs : goal.returns-in-None-clause-pairs
+returns-in-None-clause-pairs g c =
+    put_same c.loop-known.pairs c.loop-known.known-index c.known-item.result c.held.new.known
+    c.held.ensures.pair ∙ c.loop-known.invariant.same

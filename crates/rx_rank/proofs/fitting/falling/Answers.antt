@@ -69,3 +69,13 @@ returns-clause-noted g c =
     (ap (drop i) c.loop-known.invariant.same ∙
     drop_of_length-le c.args.pairs.now c.loop-known-test.false))
     ∙ c.loop-known.invariant.noted
+
+pub returns-in_err-decision-clause-pairs : goal.returns-in_err-decision-clause-pairs
+returns-in_err-decision-clause-pairs g c =
+    put_same c.loop-known.pairs c.loop-known.known-index c.known-item.result c.decide.new.known
+    c.decide.ensures.pair ∙ c.loop-known.invariant.same
+
+pub returns-in_err-push-clause-pairs : goal.returns-in_err-push-clause-pairs
+returns-in_err-push-clause-pairs g c =
+    put_same c.loop-known.pairs c.loop-known.known-index c.known-item.result c.decide.new.known
+    c.decide.ensures.pair ∙ c.loop-known.invariant.same

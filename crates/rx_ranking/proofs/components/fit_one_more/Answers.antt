@@ -3,8 +3,7 @@
 use Rattle.std.proofs.Common.{◌≡◌, ◌∙◌, ap, sym, subst, length}
 use Rattle.rx_rank.specs.Answers.{pairs_at}
 use Rattle.rx_rank.specs.declared.fitting.Fit.{Fit}
-use Rattle.rx_ranking.proofs.Joining.{more_empty, one_made}
-use Rattle.rx_ranking.proofs.OpenLaws.{open_count}
+use Rattle.rx_ranking.proofs.Joining.{more_empty, one_made, open_count}
 use Rattle.rx_ranking.specs.Groups.{AreJoined}
 use Rattle.rx_ranking.specs.Tables.{pairs_open}
 use Rattle.rx_ranking.proofs.components.fit_one_more.Goals as goal

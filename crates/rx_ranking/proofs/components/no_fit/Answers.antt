@@ -1,6 +1,6 @@
 -- No symbol has a polynomial, and no pair is fitted.
 use Rattle.std.proofs.Common.{◌∙◌, ap}
-use Rattle.rx_rank.specs.Choices.{without_polynomials}
+use Rattle.rx_anchors.specs.Values.{without_polynomials}
 use Rattle.rx_ranking.proofs.Joining.{nothing_below}
 use Rattle.rx_ranking.proofs.components.no_fit.Goals as goal
 

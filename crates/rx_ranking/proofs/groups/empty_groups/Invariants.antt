@@ -1,6 +1,6 @@
 -- That many empty groups so far.
 use Rattle.std.proofs.Common.{◌≡◌, [], map}
-use Rattle.rx_rank.specs.Components.{symbols_of}
+use Rattle.rx_anchors.specs.Members.{symbols_of}
 use Rattle.rx_ranking.specs.Groups.{entries_in, groups_in}
 use Rattle.rx_ranking.proofs.groups.empty_groups.Given as goal
 

@@ -1,7 +1,7 @@
 -- One rank more.
 use Rattle.std.proofs.Common.{◌∙◌, ap, arith, map, sym, [], ◌∷◌, ◌++◌}
 use Rattle.std.proofs.lemmas.List.FromFn.{map-range_with_len_more}
-use Rattle.rx_rank.specs.Components.{symbols_of}
+use Rattle.rx_anchors.specs.Members.{symbols_of}
 use Rattle.rx_ranking.specs.Tables.{columns_in, rank_at}
 use Rattle.rx_ranking.proofs.table.ranks_of.Goals as goal
 

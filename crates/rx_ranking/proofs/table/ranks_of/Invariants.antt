@@ -1,6 +1,6 @@
 -- The ranks of the first symbols.
 use Rattle.std.proofs.Common.{◌≡◌, map}
-use Rattle.rx_rank.specs.Components.{symbols_of}
+use Rattle.rx_anchors.specs.Members.{symbols_of}
 use Rattle.rx_ranking.specs.Tables.{columns_in, rank_at}
 use Rattle.rx_ranking.proofs.table.ranks_of.Given as goal
 

@@ -1,0 +1,12 @@
+//! The symbols of a component of a graph of symbols, its anchors, and choices of one of several
+//! polynomials for each anchor.
+#![tactic(auto)]
+
+mod choices;
+mod members;
+mod values;
+
+pub use choices::choice_at;
+pub use members::{Members, arities_of, arity_of, is_member, is_rule_of, members_of};
+pub use rx_plain::NoMemory;
+pub use values::{choice_values, polynomial_of, put_polynomial, without_polynomials};

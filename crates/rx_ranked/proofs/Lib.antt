@@ -1,0 +1,6 @@
+-- Lemmas on the definitions of specs/.
+pub mod DecidingLaws
+pub mod FilteredPairs
+pub mod InsideLaws
+pub mod KeptNames
+pub mod StayingLaws
