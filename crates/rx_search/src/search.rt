@@ -161,7 +161,13 @@ fn log_of<S: FnMut(&Constraint) -> Result<Option<Cert>, FmEnd>>(
     ensures shallow { IfOk result (λ log. is_shallow_log log ≡ true) }
 {
     let covers = cover_of(alloc, rules, solve)?;
-    let ranking = ranks_of(alloc, rules, node.state.hypotheses(), &mut memo.pairs, solve)?;
+    let ranking = ranks_of(
+        alloc,
+        rules,
+        node.state.hypotheses(),
+        &mut memo.pairs,
+        solve,
+    )?;
     let steps = own_steps(alloc, node.steps.as_slice())?;
     Ok(Log {
         covers,
