@@ -8,6 +8,7 @@ ghost use Rattle.rx_solve.specs.Answers.{IsSolver};
 ghost use Rattle.rx_term.specs.declared.rule.Equation.{Equation};
 ghost use Rattle.rx_visits.specs.Views.{seen_settled};
 
+use crate::known::ChoiceMemo;
 use crate::menu::find_menu;
 use crate::node::{Node, is_closed, shared_steps};
 use rx_cert::Cert;
@@ -75,6 +76,8 @@ pub(crate) struct Plans<'a, S> {
     pub(crate) pairs: &'a [Pair],
     /// What is known of goals.
     pub(crate) known: &'a mut SettleMemo,
+    /// What is known of the choices at goals.
+    pub(crate) choices: &'a mut ChoiceMemo,
     /// What was found out of pairs.
     pub(crate) memo: &'a mut RankMemo,
     /// What refutes rows.
@@ -85,6 +88,7 @@ impl<'a, S: FnMut(&Constraint) -> Result<Option<Cert>, FmEnd>> Tree for Plans<'a
     ghost use Rattle.std.specs.Prelude.{List};
     ghost use Rattle.rx_pairs.specs.Pairs.{AreAllPairs};
     ghost use Rattle.rx_row.specs.declared.row.Row.{Row};
+    ghost use Rattle.rx_search.specs.Known.{AreRight};
     ghost use Rattle.rx_search.specs.Nodes.{IsNode, Problem, node_of};
     ghost use Rattle.rx_search.specs.Search as search;
     ghost use Rattle.rx_settle.specs.Known.{AreKnown};
@@ -105,7 +109,8 @@ impl<'a, S: FnMut(&Constraint) -> Result<Option<Cert>, FmEnd>> Tree for Plans<'a
     } };
 
     ghost ready = { λ p. IsSolver S.FnMut p.solve.now × AreLoopPoints p.rules.now p.points.now ×
-        AreAllPairs p.rules.now.rules p.pairs.now × AreKnown p.rules.now p.known.now };
+        AreAllPairs p.rules.now.rules p.pairs.now × AreKnown p.rules.now p.known.now ×
+        AreRight p.rules.now p.choices.now };
 
     ghost View = { search.Node };
 
@@ -130,7 +135,13 @@ impl<'a, S: FnMut(&Constraint) -> Result<Option<Cert>, FmEnd>> Tree for Plans<'a
 
     fn choices(&mut self, node: &Node) -> Result<Menu<Node, Items<Row>>, NoMemory> {
         find_menu(
-            self.alloc, self.rules, node, self.pairs, self.memo, self.solve,
+            self.alloc,
+            self.rules,
+            node,
+            self.pairs,
+            self.memo,
+            self.choices,
+            self.solve,
         )
     }
 }

@@ -29,6 +29,7 @@ use rx_cover::CoverTree;
 use rx_coverable::find_cover;
 use rx_fm::FmEnd;
 use rx_log::Log;
+use rx_memo::GoalMemo;
 use rx_pairs::{Pair, all_pairs};
 use rx_plain::{Items, NoMemory};
 use rx_ranking::{RankMemo, Ranking, find_ranks_with};
@@ -87,6 +88,7 @@ fn visit_plans<S: FnMut(&Constraint) -> Result<Option<Cert>, FmEnd>>(
     let points = LoopPoints::new(alloc, rules)?;
     let start = start_node(alloc, goal)?;
     let mut known = SettleMemo::new(alloc)?;
+    let mut choices = GoalMemo::new(alloc)?;
     let mut plans = Plans {
         alloc,
         rules,
@@ -94,6 +96,7 @@ fn visit_plans<S: FnMut(&Constraint) -> Result<Option<Cert>, FmEnd>>(
         points: &points,
         pairs: pairs.as_slice(),
         known: &mut known,
+        choices: &mut choices,
         memo,
         solve,
     };
