@@ -1,17 +1,15 @@
 -- The choices so far, with one more.
-use Rattle.std.proofs.Common.{◌≡◌, ℕ, Bool, false, true, ◌||◌, Option, Some, None, Result, Ok, Err, List, [], ◌∷◌, ◌++◌, map, refl, sym, ap, subst, ◌∙◌, All}
+use Rattle.std.proofs.Common.{◌≡◌, ℕ, ◌+◌, ◌<◌, Bool, false, ◌||◌, Option, Some, None, Result, Ok, Err, List, [], ◌∷◌, ◌++◌, map, length, get_or, take, refl, sym, ap, subst, ◌∙◌, All}
 use Rattle.std.specs.Prelude.{IfSome, OnOk}
 use Rattle.std.specs.List.{filter_map}
 use Rattle.std.specs.Option.{option_map}
-use Rattle.std.proofs.lemmas.List.{append_assoc, map-append}
+use Rattle.std.proofs.lemmas.List.{append_assoc, map-append, take_more}
 use Rattle.std.proofs.lemmas.List.Elements.{All-append, All-cons, All-nil, filter_map-append}
 use Rattle.std.proofs.lemmas.List.Folds.{list_any-append}
 use Rattle.rx_plain.proofs.Booleans.{or_false}
-use Rattle.rx_solve.specs.Attempts.{Tried, beyond}
-use Rattle.rx_term.specs.declared.rule_set.RuleParts.{RuleParts}
-use Rattle.rx_lemma.specs.Lemmas.{Generalisation}
+use Rattle.rx_solve.specs.Attempts.{Tried}
 use Rattle.rx_unfold.specs.Trying.{Next}
-use Rattle.rx_search.specs.Menu.{Chosen, by_lemmas, choice}
+use Rattle.rx_search.specs.Menu.{Chosen, choice}
 use Rattle.rx_search.specs.Nodes.{AreChoices, IsTried, choice_of, node_of, with_choice}
 use Rattle.rx_search.specs.Search as search
 use Rattle.rx_search.specs.Search.{child, node_with}
@@ -69,18 +67,12 @@ module _ (from : Node) where
       (choices_grow cs found number tried trial are is)
   choices_grow_call cs found new number tried trial is (Err e) same are = tt
 
-  -- lemmas that pass the limits, of a call
-  pub beyond_lemmas : {A E : Type 0} (parts : RuleParts) (cs : List Chosen) (found new : Choices)
-      (made : Option (List Generalisation))
-      → made ≡ None → (result : Result A E) →
-      OnOk result (new ≡ with_choice found 6 (record { node = None; noted = true }))
-      → AreChoices from cs found → OnOk result
-      (AreChoices from (cs ++ by_lemmas parts from.state made) new)
-  beyond_lemmas parts cs found new made none result same are =
-      subst (λ made. OnOk result (AreChoices from (cs ++ by_lemmas parts from.state made) new))
-      (sym none)
-      (choices_grow_call cs found new 6 beyond (record { node = None; noted = true })
-      (record { node = refl; noted = refl }) result same are)
+-- one more of a list
+pub taken_more : {A B : Type 0} (f : A → B) (xs : List A) (i : ℕ) (x : A) → i < length xs → x ≡
+    get_or xs i x → map f (take i xs) ++ f x ∷ [] ≡ map f (take (i + 1) xs)
+taken_more f xs i x there is =
+    sym (ap (map f) (take_more xs i x there ∙ ap (λ y. take i xs ++ y ∷ []) (sym is)) ∙
+    map-append f (take i xs) (x ∷ []))
 
 -- one more lemma
 pub mapped_more : {A B C : Type 0} (f : B → C) (g : A → B) (cs : List C) (ys : List A) (y : A)

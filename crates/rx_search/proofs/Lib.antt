@@ -5,6 +5,8 @@ pub mod Shallow
 pub mod Rooted
 pub mod Trying
 pub mod Choosing
+pub mod Finding
+pub mod Lifting
 pub mod Menus
 pub mod Settled
 pub mod Closing

@@ -21,6 +21,16 @@ Seen = Menu search.Node (List Row)
 abbrev none : Seen
 none = record { choices = []; note = None }
 
+-- where the first goal is open it is the first
+first_by : (node : Node) (first : Equation) (b : Bool) → (if b then None else
+    slice_get node.state.goals 0) ≡ Some first → Some first ≡ slice_get node.state.goals 0
+first_by node first true e = cc
+first_by node first false e = sym e
+
+pub first_open : (node : Node) (first : Equation) → open_goal node ≡ Some first → Some first ≡
+    slice_get node.state.goals 0
+first_open node first e = first_by node first (node.left == 0) e
+
 module _ (parts : RuleParts) (node : Node) where
   -- the menu by the goals of the state
   abbrev by_goals : List Equation → Seen

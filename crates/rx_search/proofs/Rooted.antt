@@ -7,7 +7,6 @@ use Rattle.rx_term.specs.declared.rule_set.RuleParts.{RuleParts}
 use Rattle.rx_pairs.specs.Pairs.{HasRoot, SidesFit}
 use Rattle.rx_joins.specs.Runs as joins
 use Rattle.rx_joins.proofs.Rooted.{run_rooted}
-use Rattle.rx_joins.proofs.Making as making
 use Rattle.rx_joins.proofs.Runs.{kept_hypotheses_fit}
 use Rattle.rx_cert.specs.Findings.{Yes}
 use Rattle.rx_joins.specs.Goals.{IsFitting}

@@ -27,11 +27,10 @@ use Rattle.rx_form.specs.declared.step.Side.{Side}
 use Rattle.rx_form.specs.declared.step.Step.{Step}
 use Rattle.rx_rank.specs.Ranking.{ranked}
 use Rattle.rx_joins.specs.Runs as runs
-use Rattle.rx_settle.specs.Answers.{IsTrial, Takes}
+use Rattle.rx_settle.specs.Answers.{Takes}
 use Rattle.rx_unfold.specs.Moves.{Absurd, Decompose, EqDelete, Equal, Expand, Generalise, Hyp, Move, Postulate, Results, Simplify, Split, move_of, step_of}
 use Rattle.rx_settle.specs.Settling.{most_moves}
 use Rattle.rx_unfold.specs.Trying.{Next, asked_shown, attempt, next_if_formed, noting, then_by, then_try}
-use Rattle.rx_settle.specs.declared.trial.Trial.{Trial as Taken}
 use Rattle.rx_search.specs.Nodes.{IsNode, IsReached, IsTried, KeepsNone, if_ranked, led, node_of, with_step}
 use Rattle.rx_search.specs.Search as search
 use Rattle.rx_search.specs.Search.{node_with}
@@ -55,7 +54,7 @@ seen_after from step state =
     }
 
 module _ (parts : RuleParts) (from : Node) (state : State) (tried : Tried Next) where
-  led_by : (taken : Option Step) (noted : Bool) → noted ≡ tried.noted →
+  pub led_by : (taken : Option Step) (noted : Bool) → noted ≡ tried.noted →
       Takes parts from.state state tried.made taken
       → IsTried from tried (led from taken noted state)
   led_by None noted same takes =
@@ -70,16 +69,8 @@ module _ (parts : RuleParts) (from : Node) (state : State) (tried : Tried Next) 
         noted = same;
       }
 
-  -- what comes of a step is what was tried
-  pub led_tried : (trial : Taken) → IsTrial parts from.state state tried trial →
-      (found : Result Trial NoMemory)
-      → IfOk found (λ t. t ≡ led from trial.taken trial.noted state) →
-      IfOk found (IsTried from tried)
-  led_tried trial is (Ok found) same =
-      subst (IsTried from tried) (sym same) (led_by trial.taken trial.noted is.noted is.taken)
-  led_tried trial is (Err e) same = tt
-
-  reached_by : (goal : Equation) (taken : Option Step) (noted : Bool) →
+  -- and the node is reached
+  pub reached_by : (goal : Equation) (taken : Option Step) (noted : Bool) →
       Takes parts from.state state tried.made taken → IsReached parts goal from
       → IfSome (led from taken noted state).node (IsReached parts goal)
   reached_by goal None noted takes reached = tt
@@ -95,17 +86,6 @@ module _ (parts : RuleParts) (from : Node) (state : State) (tried : Tried Next) 
             All-append IsDeep from.steps (step ∷ []) reached.deep
             (All-cons IsDeep step [] applies.deep (All-nil IsDeep));
       }
-
-  -- and the node is reached
-  pub led_reached : (goal : Equation) (trial : Taken) → IsTrial parts from.state state tried trial →
-      IsReached parts goal from
-      → (found : Result Trial NoMemory) → IfOk found
-      (λ t. t ≡ led from trial.taken trial.noted state)
-      → IfOk found (λ t. IfSome t.node (IsReached parts goal))
-  led_reached goal trial is reached (Ok found) same =
-      subst (λ (t : Trial). IfSome t.node (IsReached parts goal)) (sym same)
-      (reached_by goal trial.taken trial.noted is.taken reached)
-  led_reached goal trial is reached (Err e) same = tt
 
 -- ---- where ranks are found
 
@@ -294,33 +274,8 @@ module _ (parts : RuleParts) (state : State) (move : Move) (keeps : KeepsNone mo
     attempt_by (Err NoSuchRule) is e = absurd cc
     attempt_by (Err form_end.NoMemory) is e = absurd cc
 
-    attempt_keeps : (attempt parts state move).made ≡ Some next → next.state.hypotheses ≡
+    pub attempt_keeps : (attempt parts state move).made ≡ Some next → next.state.hypotheses ≡
         state.hypotheses
     unfolding attempt
     attempt_keeps e =
         attempt_by (formed parts (slice_get state.goals 0) state.hypotheses (step_of move)) refl e
-
-module _ (parts : RuleParts) (goal : Equation) (from : Node) (move : Move) (keeps : KeepsNone move)
-    (node : IsNode parts goal from) where
-  still_node : (new : Node) (made : Option Next) → (attempt parts from.state move).made ≡ made
-      → Some (node_of new) ≡ option_map (node_with (node_of from)) made → IsReached parts goal new →
-      IsNode parts goal new
-  still_node new None is same reached = absurd cc
-  still_node new (Some next) is same reached =
-      let seen : node_of new ≡ node_with (node_of from) next = cc in
-      let hypotheses : new.state.hypotheses ≡ from.state.hypotheses =
-      ap (λ (n : search.Node). n.state.hypotheses) seen ∙
-      attempt_keeps parts from.state move keeps next is in
-      record { reached = reached; ranked = ap (ranked parts) hypotheses ∙ node.ranked }
-
-  still_by : (found : Option Node) → option_map node_of found ≡
-      option_map (node_with (node_of from)) (attempt parts from.state move).made
-      → IfSome found (IsReached parts goal) → IfSome found (IsNode parts goal)
-  still_by None same reached = tt
-  still_by (Some new) same reached =
-      still_node new (attempt parts from.state move).made refl same reached
-
-  -- a step that keeps nothing leads to a node of the search
-  pub unkept_node : (found : Trial) → IsTried from (attempt parts from.state move) found
-      → IfSome found.node (IsReached parts goal) → IfSome found.node (IsNode parts goal)
-  unkept_node found is reached = still_by found.node is.node reached

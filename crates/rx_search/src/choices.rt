@@ -1,30 +1,22 @@
-//! The choices at a settled goal: each is tried on a copy of the node's state.
-ghost use Rattle.std.specs.Prelude.{◌≡◌, ◌∷◌, ◌++◌, [], All, IfOk, IfSome, OnOk, false, map, true, List};
-ghost use Rattle.rx_generalise.specs.Answers.{found_as};
-ghost use Rattle.rx_generalise.specs.Generalising.{generalisations};
+//! The choices at a settled node: what is known of its first goal, put among the node's others.
+ghost use Rattle.std.specs.Prelude.{◌≡◌, ◌∷◌, ◌++◌, [], All, IfOk, IfSome, OnOk, Some, false, map, slice_get, List};
 ghost use Rattle.rx_pairs.specs.Pairs.{AreAllPairs, HasRoot, SidesFit};
 ghost use Rattle.rx_rank.specs.Ranking.{ranked};
-ghost use Rattle.rx_search.specs.Menu.{Chosen, by_lemma, by_lemmas, choice, chosen_at, keeping};
-ghost use Rattle.rx_search.specs.Menu as menu;
-ghost use Rattle.rx_search.specs.Nodes.{AreChoices, IsNode, IsReached, IsTried, KeepsNone, if_ranked, led, with_choice};
-ghost use Rattle.rx_settle.specs.Certified.{asks_rows};
+ghost use Rattle.rx_search.specs.Known.{AreRight, IsRightAt, chosen_by, tried_at};
+ghost use Rattle.rx_search.specs.Menu.{Chosen, chosen_at};
+ghost use Rattle.rx_search.specs.Nodes.{AreChoices, IsNode, IsReached, IsTried, if_ranked, led, with_choice};
 ghost use Rattle.rx_solve.specs.Answers.{IsSolver};
+ghost use Rattle.rx_steps.specs.Alone.{onto};
 ghost use Rattle.rx_term.specs.declared.rule.Equation.{Equation};
-ghost use Rattle.rx_unfold.specs.Moves.{move_of};
-ghost use Rattle.rx_unfold.specs.Trying.{attempt};
 
+use crate::known::{ChoiceMemo, KnownChoice, known_choices};
 use crate::node::Node;
 use rx_cert::Cert;
 use rx_fm::FmEnd;
-use rx_form::{Side, Step};
-use rx_generalise::{Generalised, lemmas};
-use rx_lemma::LemmaKind;
 use rx_pairs::Pair;
-use rx_plain::{Items, NoMemory};
+use rx_plain::{Items, NoMemory, Shared};
 use rx_ranked::{RankMemo, has_ranks_with};
 use rx_row::Constraint;
-use rx_settle::try_step;
-use rx_steps::State;
 use rx_term::{Equation, RuleSet};
 use rx_visits::Choice;
 use std::alloc::Global;
@@ -71,43 +63,24 @@ impl Choices {
     }
 }
 
-/// What comes of a step that was taken at the node, or of none.
-fn led(
-    alloc: Global,
-    node: &Node,
-    taken: Option<Step>,
-    noted: bool,
-    state: State,
-) -> Result<Trial, NoMemory>
-    ensures { IfOk result (λ t. t ≡ led node.now taken noted state) }
+/// What comes of a choice at a node, as it is known of the node's first goal, before ranks are
+/// found.
+fn lead(alloc: Global, node: &Node, known: &KnownChoice) -> Result<Trial, NoMemory>
+    ensures { IfOk result (λ t. t ≡
+        led node.now known.now.step known.now.noted (onto node.now.state known.now.after)) }
 {
-    match taken {
-        Some(step) => Ok(Trial {
-            node: Some(node.after(alloc, step, state)?),
-            noted,
-        }),
-        None => Ok(Trial { node: None, noted }),
-    }
-}
-
-/// What comes of a step at the node.
-fn try_plain<S: FnMut(&Constraint) -> Result<Option<Cert>, FmEnd>>(
-    alloc: Global,
-    rules: &RuleSet,
-    node: &Node,
-    step: Step,
-    solve: &mut S,
-) -> Result<Trial, NoMemory>
-    requires rows { asks_rows step ≡ true }
-    requires solver { IsSolver S.FnMut solve.old }
-    ensures solver { IsSolver S.FnMut solve.new }
-    ensures tried { IfOk result (IsTried node.now (attempt rules.now node.now.state (move_of step))) }
-    ensures reached { (goal : Equation) → IsReached rules.now goal node.now →
-        IfOk result (λ t. IfSome t.node (IsReached rules.now goal)) }
-{
+    let Some(step) = &known.step else {
+        return Ok(Trial {
+            node: None,
+            noted: known.noted,
+        });
+    };
     let mut state = node.state.try_clone(alloc)?;
-    let trial = try_step(alloc, rules, &mut state, step, solve)?;
-    led(alloc, node, trial.taken, trial.noted, state)
+    state.go_on(alloc, &known.after)?;
+    Ok(Trial {
+        node: Some(node.after(alloc, step.try_clone()?, state)?),
+        noted: known.noted,
+    })
 }
 
 /// What comes of a choice that leads to the node, where ranks are found with its hypotheses.
@@ -142,26 +115,30 @@ fn where_ranked<S: FnMut(&Constraint) -> Result<Option<Cert>, FmEnd>>(
     }
 }
 
-/// What comes of Expand that keeps the goal as a hypothesis, where ranks are found with that.
-fn try_keeping<S: FnMut(&Constraint) -> Result<Option<Cert>, FmEnd>>(
+/// What comes of a choice at a node, as it is known of the node's first goal; where it keeps that
+/// as a hypothesis, only where ranks are found with it.
+fn try_known<S: FnMut(&Constraint) -> Result<Option<Cert>, FmEnd>>(
     alloc: Global,
     rules: &RuleSet,
     node: &Node,
-    side: Side,
+    known: &KnownChoice,
     pairs: &[Pair],
     memo: &mut RankMemo,
     solve: &mut S,
 ) -> Result<Trial, NoMemory>
     requires reached { (goal : Equation) × IsReached rules.now goal node.now }
+    requires right { IsRightAt rules.now node.now.state known.now }
     requires pairs { AreAllPairs rules.now.rules pairs.now }
     requires solver { IsSolver S.FnMut solve.old }
     ensures solver { IsSolver S.FnMut solve.new }
-    ensures tried { IfOk result (IsTried node.now (keeping rules.now node.now.state side)) }
-    ensures nodes { (goal : Equation) → IsReached rules.now goal node.now →
+    ensures tried { IfOk result (IsTried node.now (tried_at rules.now node.now.state known.now)) }
+    ensures nodes { (goal : Equation) → IsNode rules.now goal node.now →
         IfOk result (λ t. IfSome t.node (IsNode rules.now goal)) }
 {
-    let step = Step::Expand { side, keep: true };
-    let trial = try_plain(alloc, rules, node, step, solve)?;
+    let trial = lead(alloc, node, known)?;
+    if !known.keeps {
+        return Ok(trial);
+    }
     let Trial { node: found, noted } = trial;
     match found {
         Some(next) => where_ranked(alloc, rules, next, noted, pairs, memo, solve),
@@ -169,152 +146,58 @@ fn try_keeping<S: FnMut(&Constraint) -> Result<Option<Cert>, FmEnd>>(
     }
 }
 
-/// Tries Expand that keeps the goal as a hypothesis.
-fn add_keeping<S: FnMut(&Constraint) -> Result<Option<Cert>, FmEnd>>(
+/// One more of the choices that are known.
+fn add_known<S: FnMut(&Constraint) -> Result<Option<Cert>, FmEnd>>(
     alloc: Global,
     rules: &RuleSet,
     node: &Node,
-    number: u8,
-    side: Side,
+    known: &KnownChoice,
     found: &mut Choices,
     pairs: &[Pair],
     memo: &mut RankMemo,
     solve: &mut S,
 ) -> Result<(), NoMemory>
     requires reached { (goal : Equation) × IsReached rules.now goal node.now }
+    requires right { IsRightAt rules.now node.now.state known.now }
     requires pairs { AreAllPairs rules.now.rules pairs.now }
     requires solver { IsSolver S.FnMut solve.old }
     ensures solver { IsSolver S.FnMut solve.new }
     ensures grows { (cs : List Chosen) → AreChoices node.now cs found.old →
-        OnOk result (AreChoices node.now (cs ++
-        choice number (keeping rules.now node.now.state side) ∷ []) found.new) }
+        OnOk result (AreChoices node.now
+        (cs ++ chosen_by rules.now node.now.state known.now ∷ []) found.new) }
     ensures nodes { (goal : Equation) → IsNode rules.now goal node.now →
         All (λ c. IsNode rules.now goal c.node) found.old.choices →
         OnOk result (All (λ c. IsNode rules.now goal c.node) found.new.choices) }
 {
-    let trial = try_keeping(alloc, rules, node, side, pairs, memo, solve)?;
-    found.add(number, trial)
+    let trial = try_known(alloc, rules, node, known, pairs, memo, solve)?;
+    found.add(known.number, trial)
 }
 
-/// Tries a step that keeps no hypothesis.
-fn add_step<S: FnMut(&Constraint) -> Result<Option<Cert>, FmEnd>>(
+/// The choices at a node, as they are known of its first goal.
+fn add_all<S: FnMut(&Constraint) -> Result<Option<Cert>, FmEnd>>(
     alloc: Global,
     rules: &RuleSet,
     node: &Node,
-    number: u8,
-    step: Step,
-    found: &mut Choices,
+    known: &[KnownChoice],
+    pairs: &[Pair],
+    memo: &mut RankMemo,
     solve: &mut S,
-) -> Result<(), NoMemory>
-    requires rows { asks_rows step ≡ true }
-    requires keeps { KeepsNone (move_of step) }
+) -> Result<Choices, NoMemory>
+    requires reached { (goal : Equation) × IsReached rules.now goal node.now }
+    requires right { All (IsRightAt rules.now node.now.state) known.now }
+    requires pairs { AreAllPairs rules.now.rules pairs.now }
     requires solver { IsSolver S.FnMut solve.old }
     ensures solver { IsSolver S.FnMut solve.new }
-    ensures grows { (cs : List Chosen) → AreChoices node.now cs found.old →
-        OnOk result (AreChoices node.now (cs ++
-        choice number (attempt rules.now node.now.state (move_of step)) ∷ []) found.new) }
+    ensures choices { IfOk result (AreChoices node.now
+        (map (chosen_by rules.now node.now.state) known.now)) }
     ensures nodes { (goal : Equation) → IsNode rules.now goal node.now →
-        All (λ c. IsNode rules.now goal c.node) found.old.choices →
-        OnOk result (All (λ c. IsNode rules.now goal c.node) found.new.choices) }
+        IfOk result (λ f. All (λ c. IsNode rules.now goal c.node) f.choices) }
 {
-    let trial = try_plain(alloc, rules, node, step, solve)?;
-    found.add(number, trial)
-}
-
-/// The number of a lemma among the choices. What names constants is never a choice.
-fn number_of(kind: LemmaKind) -> u8
-    ensures { result ≡ menu.number_of kind }
-{
-    match kind {
-        LemmaKind::NameConstants => 0,
-        LemmaKind::DropValues => 6,
-        LemmaKind::ReplaceRepeated => 7,
+    let mut found = Choices::new(alloc);
+    for one in known {
+        add_known(alloc, rules, node, one, &mut found, pairs, memo, solve)?;
     }
-}
-
-/// Tries a lemma.
-fn add_lemma<S: FnMut(&Constraint) -> Result<Option<Cert>, FmEnd>>(
-    alloc: Global,
-    rules: &RuleSet,
-    node: &Node,
-    lemma: Generalised,
-    found: &mut Choices,
-    solve: &mut S,
-) -> Result<(), NoMemory>
-    requires solver { IsSolver S.FnMut solve.old }
-    ensures solver { IsSolver S.FnMut solve.new }
-    ensures grows { (cs : List Chosen) → AreChoices node.now cs found.old →
-        OnOk result (AreChoices node.now (cs ++ by_lemma rules.now node.now.state (found_as lemma) ∷
-        []) found.new) }
-    ensures nodes { (goal : Equation) → IsNode rules.now goal node.now →
-        All (λ c. IsNode rules.now goal c.node) found.old.choices →
-        OnOk result (All (λ c. IsNode rules.now goal c.node) found.new.choices) }
-{
-    let Generalised { kind, goal, subst } = lemma;
-    let Equation { left, right, rows } = goal;
-    let step = Step::Generalise {
-        left,
-        right,
-        rows,
-        subst,
-        certs: Items::new(alloc),
-    };
-    add_step(alloc, rules, node, number_of(kind), step, found, solve)
-}
-
-/// Tries each lemma in order.
-fn add_each<S: FnMut(&Constraint) -> Result<Option<Cert>, FmEnd>>(
-    alloc: Global,
-    rules: &RuleSet,
-    node: &Node,
-    all: Items<Generalised>,
-    found: &mut Choices,
-    solve: &mut S,
-) -> Result<(), NoMemory>
-    requires solver { IsSolver S.FnMut solve.old }
-    ensures solver { IsSolver S.FnMut solve.new }
-    ensures grows { (cs : List Chosen) → AreChoices node.now cs found.old →
-        OnOk result (AreChoices node.now (cs ++
-        map (by_lemma rules.now node.now.state) (map found_as all)) found.new) }
-    ensures nodes { (goal : Equation) → IsNode rules.now goal node.now →
-        All (λ c. IsNode rules.now goal c.node) found.old.choices →
-        OnOk result (All (λ c. IsNode rules.now goal c.node) found.new.choices) }
-{
-    for lemma in all.into_vec() {
-        add_lemma(alloc, rules, node, lemma, found, solve)?;
-    }
-    Ok(())
-}
-
-/// Tries the lemmas of the goal; where they pass the limits none applies, and that is noted.
-fn add_lemmas<S: FnMut(&Constraint) -> Result<Option<Cert>, FmEnd>>(
-    alloc: Global,
-    rules: &RuleSet,
-    node: &Node,
-    first: &Equation,
-    found: &mut Choices,
-    solve: &mut S,
-) -> Result<(), NoMemory>
-    requires solver { IsSolver S.FnMut solve.old }
-    ensures solver { IsSolver S.FnMut solve.new }
-    ensures grows { (cs : List Chosen) → AreChoices node.now cs found.old →
-        OnOk result (AreChoices node.now (cs ++
-        by_lemmas rules.now node.now.state (generalisations rules.now first.now)) found.new) }
-    ensures nodes { (goal : Equation) → IsNode rules.now goal node.now →
-        All (λ c. IsNode rules.now goal c.node) found.old.choices →
-        OnOk result (All (λ c. IsNode rules.now goal c.node) found.new.choices) }
-{
-    match lemmas(alloc, first, rules, solve) {
-        Ok(all) => add_each(alloc, rules, node, all, found, solve),
-        Err(FmEnd::Large) => found.add(
-            6,
-            Trial {
-                node: None,
-                noted: true,
-            },
-        ),
-        Err(FmEnd::NoMemory) => Err(NoMemory),
-    }
+    Ok(found)
 }
 
 /// The choices at the node, whose first goal is this, by their numbers: Expand of each side that
@@ -323,57 +206,25 @@ pub(crate) fn find_choices<S: FnMut(&Constraint) -> Result<Option<Cert>, FmEnd>>
     alloc: Global,
     rules: &RuleSet,
     node: &Node,
-    first: &Equation,
+    first: Shared<Equation>,
     pairs: &[Pair],
     memo: &mut RankMemo,
+    known: &mut ChoiceMemo,
     solve: &mut S,
 ) -> Result<Choices, NoMemory>
     requires reached { (goal : Equation) × IsReached rules.now goal node.now }
+    requires first { Some first ≡ slice_get node.now.state.goals 0 }
     requires pairs { AreAllPairs rules.now.rules pairs.now }
+    requires known { AreRight rules.now known.old }
     requires solver { IsSolver S.FnMut solve.old }
+    ensures known { AreRight rules.now known.new }
     ensures solver { IsSolver S.FnMut solve.new }
     ensures choices { IfOk result (AreChoices node.now
-        (chosen_at rules.now node.now.state first.now)) }
+        (chosen_at rules.now node.now.state first)) }
     ensures nodes { (goal : Equation) → IsNode rules.now goal node.now →
         IfOk result (λ f. All (λ c. IsNode rules.now goal c.node) f.choices) }
 {
-    let mut found = Choices::new(alloc);
-    add_keeping(
-        alloc,
-        rules,
-        node,
-        1,
-        Side::Left,
-        &mut found,
-        pairs,
-        memo,
-        solve,
-    )?;
-    add_keeping(
-        alloc,
-        rules,
-        node,
-        2,
-        Side::Right,
-        &mut found,
-        pairs,
-        memo,
-        solve,
-    )?;
-    let left = Step::Expand {
-        side: Side::Left,
-        keep: false,
-    };
-    add_step(alloc, rules, node, 3, left, &mut found, solve)?;
-    let right = Step::Expand {
-        side: Side::Right,
-        keep: false,
-    };
-    add_step(alloc, rules, node, 4, right, &mut found, solve)?;
-    let decompose = Step::Decompose {
-        certs: Items::new(alloc),
-    };
-    add_step(alloc, rules, node, 5, decompose, &mut found, solve)?;
-    add_lemmas(alloc, rules, node, first, &mut found, solve)?;
-    Ok(found)
+    let choices = known_choices(alloc, rules, known, first, solve)?;
+    let all = choices.get().as_slice();
+    add_all(alloc, rules, node, all, pairs, memo, solve)
 }

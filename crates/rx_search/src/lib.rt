@@ -5,6 +5,7 @@
 #![tactic(auto)]
 
 mod choices;
+mod known;
 mod menu;
 mod node;
 mod plans;

@@ -1,6 +1,7 @@
 //! The menu at a settled node.
-ghost use Rattle.std.specs.Prelude.{◌≡◌, All, IfOk, option_copied};
+ghost use Rattle.std.specs.Prelude.{◌≡◌, All, IfOk};
 ghost use Rattle.rx_pairs.specs.Pairs.{AreAllPairs};
+ghost use Rattle.rx_search.specs.Known.{AreRight};
 ghost use Rattle.rx_search.specs.Nodes.{IsNode, IsReached, node_of, open_goal};
 ghost use Rattle.rx_search.specs.Search.{menu};
 ghost use Rattle.rx_settle.specs.Settling.{rows_if};
@@ -9,11 +10,12 @@ ghost use Rattle.rx_term.specs.declared.rule.Equation.{Equation};
 ghost use Rattle.rx_visits.specs.Views.{seen_menu};
 
 use crate::choices::find_choices;
+use crate::known::ChoiceMemo;
 use crate::node::{Node, copied_rows};
 use rx_cert::Cert;
 use rx_fm::FmEnd;
 use rx_pairs::Pair;
-use rx_plain::{Items, NoMemory};
+use rx_plain::{Items, NoMemory, Shared};
 use rx_ranked::RankMemo;
 use rx_row::{Constraint, Row};
 use rx_steps::State;
@@ -32,13 +34,13 @@ fn noted_rows(alloc: Global, noted: bool, state: &State) -> Result<Option<Items<
 }
 
 /// The goal at which there are choices: the first, unless settling took all steps.
-fn open_goal(node: &Node) -> Option<&Equation>
-    ensures { option_copied result ≡ open_goal node.now }
+fn open_goal(node: &Node) -> Result<Option<Shared<Equation>>, NoMemory>
+    ensures { IfOk result (λ goal. goal ≡ open_goal node.now) }
 {
     if node.left == 0 {
-        None
+        Ok(None)
     } else {
-        node.state.first()
+        node.state.share_first()
     }
 }
 
@@ -49,23 +51,26 @@ pub(crate) fn find_menu<S: FnMut(&Constraint) -> Result<Option<Cert>, FmEnd>>(
     node: &Node,
     pairs: &[Pair],
     memo: &mut RankMemo,
+    known: &mut ChoiceMemo,
     solve: &mut S,
 ) -> Result<Menu<Node, Items<Row>>, NoMemory>
     requires reached { (goal : Equation) × IsReached rules.now goal node.now }
     requires pairs { AreAllPairs rules.now.rules pairs.now }
+    requires known { AreRight rules.now known.old }
     requires solver { IsSolver S.FnMut solve.old }
+    ensures known { AreRight rules.now known.new }
     ensures solver { IsSolver S.FnMut solve.new }
     ensures menu { IfOk result (λ m. seen_menu node_of m ≡ menu rules.now (node_of node.now)) }
     ensures nodes { (goal : Equation) → IsNode rules.now goal node.now →
         IfOk result (λ m. All (λ c. IsNode rules.now goal c.node) m.choices) }
 {
-    let Some(first) = open_goal(node) else {
+    let Some(first) = open_goal(node)? else {
         return Ok(Menu {
             choices: Items::new(alloc),
             note: None,
         });
     };
-    let found = find_choices(alloc, rules, node, first, pairs, memo, solve)?;
+    let found = find_choices(alloc, rules, node, first, pairs, memo, known, solve)?;
     let note = noted_rows(alloc, found.noted, &node.state)?;
     Ok(Menu {
         choices: found.choices,

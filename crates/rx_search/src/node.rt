@@ -83,11 +83,16 @@ pub(crate) fn copied_rows(alloc: Global, rows: &[Row]) -> Result<Items<Row>, NoM
 
 impl Node {
     /// The node that one more step leads to, with the state after it; it isn't settled yet.
-    pub(crate) fn after(&self, alloc: Global, step: Step, state: State) -> Result<Node, NoMemory>
+    pub(crate) fn after(
+        &self,
+        alloc: Global,
+        step: Shared<Step>,
+        state: State,
+    ) -> Result<Node, NoMemory>
         ensures { IfOk result (λ n. n ≡ with_step self.now step state) }
     {
         let mut steps = copied_steps(alloc, self.steps.as_slice())?;
-        steps.push(Shared::new(alloc, step)?)?;
+        steps.push(step)?;
         Ok(Node {
             steps,
             state,

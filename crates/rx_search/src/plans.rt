@@ -8,6 +8,7 @@ ghost use Rattle.rx_term.specs.declared.rule.Equation.{Equation};
 ghost use Rattle.rx_unfold.specs.LoopPoints.{AreLoopPoints};
 ghost use Rattle.rx_visits.specs.Views.{seen_settled};
 
+use crate::known::ChoiceMemo;
 use crate::menu::find_menu;
 use crate::node::{Node, is_closed, shared_steps};
 use rx_cert::Cert;
@@ -27,14 +28,14 @@ fn settle_node<S: FnMut(&Constraint) -> Result<Option<Cert>, FmEnd>>(
     alloc: Global,
     rules: &RuleSet,
     points: &LoopPoints,
-    known: &mut SettleMemo,
+    memo: &mut SettleMemo,
     node: Node,
     solve: &mut S,
 ) -> Result<Settled<Node, Items<Row>>, NoMemory>
     requires points { AreLoopPoints rules.now points.now }
-    requires known { AreKnown rules.now known.old }
+    requires known { AreKnown rules.now memo.old }
     requires solver { IsSolver S.FnMut solve.old }
-    ensures known { AreKnown rules.now known.new }
+    ensures known { AreKnown rules.now memo.new }
     ensures solver { IsSolver S.FnMut solve.new }
     ensures settled { IfOk result (λ s. seen_settled node_of s ≡
         settled rules.now (node_of node)) }
@@ -46,7 +47,7 @@ fn settle_node<S: FnMut(&Constraint) -> Result<Option<Cert>, FmEnd>>(
         mut state,
         ..
     } = node;
-    let found = settle(alloc, rules, points, known, &mut state, solve)?;
+    let found = settle(alloc, rules, points, memo, &mut state, solve)?;
     let fresh = shared_steps(alloc, found.steps)?;
     steps.append(fresh)?;
     let closed = is_closed(&state);
@@ -74,10 +75,12 @@ pub(crate) struct Plans<'a, S> {
     pub(crate) points: &'a LoopPoints,
     /// The pairs of the rules.
     pub(crate) pairs: &'a [Pair],
-    /// What is known of goals.
-    pub(crate) known: &'a mut SettleMemo,
+    /// What settling knows of goals.
+    pub(crate) settle_memo: &'a mut SettleMemo,
+    /// What is known of the choices at goals.
+    pub(crate) choice_memo: &'a mut ChoiceMemo,
     /// What was found out of pairs.
-    pub(crate) memo: &'a mut RankMemo,
+    pub(crate) rank_memo: &'a mut RankMemo,
     /// What refutes rows.
     pub(crate) solve: &'a mut S,
 }
@@ -86,6 +89,7 @@ impl<'a, S: FnMut(&Constraint) -> Result<Option<Cert>, FmEnd>> Tree for Plans<'a
     ghost use Rattle.std.specs.Prelude.{List};
     ghost use Rattle.rx_pairs.specs.Pairs.{AreAllPairs};
     ghost use Rattle.rx_row.specs.declared.row.Row.{Row};
+    ghost use Rattle.rx_search.specs.Known.{AreRight};
     ghost use Rattle.rx_search.specs.Nodes.{IsNode, Problem, node_of};
     ghost use Rattle.rx_search.specs.Search as search;
     ghost use Rattle.rx_settle.specs.Known.{AreKnown};
@@ -106,7 +110,8 @@ impl<'a, S: FnMut(&Constraint) -> Result<Option<Cert>, FmEnd>> Tree for Plans<'a
     } };
 
     ghost ready = { λ p. IsSolver S.FnMut p.solve.now × AreLoopPoints p.rules.now p.points.now ×
-        AreAllPairs p.rules.now.rules p.pairs.now × AreKnown p.rules.now p.known.now };
+        AreAllPairs p.rules.now.rules p.pairs.now × AreKnown p.rules.now p.settle_memo.now ×
+        AreRight p.rules.now p.choice_memo.now };
 
     ghost View = { search.Node };
 
@@ -123,7 +128,7 @@ impl<'a, S: FnMut(&Constraint) -> Result<Option<Cert>, FmEnd>> Tree for Plans<'a
             self.alloc,
             self.rules,
             self.points,
-            self.known,
+            self.settle_memo,
             node,
             self.solve,
         )
@@ -131,7 +136,13 @@ impl<'a, S: FnMut(&Constraint) -> Result<Option<Cert>, FmEnd>> Tree for Plans<'a
 
     fn choices(&mut self, node: &Node) -> Result<Menu<Node, Items<Row>>, NoMemory> {
         find_menu(
-            self.alloc, self.rules, node, self.pairs, self.memo, self.solve,
+            self.alloc,
+            self.rules,
+            node,
+            self.pairs,
+            self.rank_memo,
+            self.choice_memo,
+            self.solve,
         )
     }
 }

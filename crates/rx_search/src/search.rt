@@ -29,6 +29,7 @@ use rx_cover::CoverTree;
 use rx_coverable::find_cover;
 use rx_fm::FmEnd;
 use rx_log::Log;
+use rx_memo::GoalMemo;
 use rx_pairs::{Pair, all_pairs};
 use rx_plain::{Items, NoMemory};
 use rx_rank::PairMemo;
@@ -74,7 +75,7 @@ fn visit_plans<S: FnMut(&Constraint) -> Result<Option<Cert>, FmEnd>>(
     depth: u32,
     budget: u32,
     most_kept: usize,
-    memo: &mut RankMemo,
+    rank_memo: &mut RankMemo,
     solve: &mut S,
 ) -> Result<Outcome<Node, Items<Row>>, NoMemory>
     requires fits { IsFitting rules.now goal.now }
@@ -89,15 +90,17 @@ fn visit_plans<S: FnMut(&Constraint) -> Result<Option<Cert>, FmEnd>>(
     let pairs = rule_pairs(alloc, rules)?;
     let points = LoopPoints::new(alloc, rules)?;
     let start = start_node(alloc, goal)?;
-    let mut known = SettleMemo::new(alloc)?;
+    let mut settle_memo = SettleMemo::new(alloc)?;
+    let mut choice_memo = GoalMemo::new(alloc)?;
     let mut plans = Plans {
         alloc,
         rules,
         goal,
         points: &points,
         pairs: pairs.as_slice(),
-        known: &mut known,
-        memo,
+        settle_memo: &mut settle_memo,
+        choice_memo: &mut choice_memo,
+        rank_memo,
         solve,
     };
     rx_visits::search(alloc, &mut plans, start, depth, budget, most_kept)

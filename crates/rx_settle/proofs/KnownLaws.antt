@@ -40,7 +40,7 @@ use Rattle.rx_settle.specs.declared.trial.Trial.{Trial}
 use Rattle.rx_unfold.proofs.TriedLaws.{none_by, some_by}
 
 module _ (parts : RuleParts) (goal : Equation) (goals : List Equation) (hypotheses : List Rule) where
-  abbrev state : State
+  abbrev pub state : State
   state = record { goals = goal ∷ goals; hypotheses = hypotheses }
 
   -- ---- one move
@@ -69,7 +69,7 @@ module _ (parts : RuleParts) (goal : Equation) (goals : List Equation) (hypothes
   formed_lifted move (Err form_end.NoMemory) = refl
 
   -- the move is formed without hypotheses as with them
-  attempt_lifted : (move : Move) → formed parts (Some goal) hypotheses (step_of move) ≡
+  pub attempt_lifted : (move : Move) → formed parts (Some goal) hypotheses (step_of move) ≡
       formed parts (Some goal) [] (step_of move) → attempt parts state move ≡
       lifted state (attempt parts (alone goal) move)
   unfolding attempt
@@ -241,7 +241,7 @@ module _ (parts : RuleParts) (goal : Equation) (goals : List Equation) (hypothes
   formed_more (step.Decompose certs) f e = e
   formed_more (step.Results left right certs) f e = e
 
-  applied_lifted : (s : Step) (after : State) → applied parts (alone goal) s ≡ Ok after →
+  pub applied_lifted : (s : Step) (after : State) → applied parts (alone goal) s ≡ Ok after →
       applied parts state s ≡ Ok (onto state after)
   applied_lifted s after e = by (formed parts (Some goal) [] s) refl e
     where

@@ -1,4 +1,4 @@
--- The visits begin at a node of the search, with a memo that has nothing.
+-- The visits begin at a node of the search, with memos that have nothing.
 use Rattle.std.proofs.Common.{subst, sym}
 use Rattle.rx_pairs.specs.Pairs.{AreAllPairs}
 use Rattle.rx_search.proofs.Rooted.{start_is}
@@ -9,7 +9,8 @@ search-requires-clause-ready g c = (
   c.requires.solver,
   c.in_ok-points.ensures,
   subst (AreAllPairs c.args.rules.now.rules) (sym c.as_slice.ensures.value) c.in_ok-pairs.ensures,
-  c.in_ok-known.ensures c.args.rules.now,
+  c.in_ok-settle_memo.ensures c.args.rules.now,
+  record { all = λ goal known kept. absurd (c.in_ok-choice_memo.ensures goal known kept) },
 )
 
 pub search-requires-clause-valid : goal.search-requires-clause-valid

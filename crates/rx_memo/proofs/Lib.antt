@@ -1,0 +1,2 @@
+-- Buckets that grow.
+pub mod Buckets

@@ -1,0 +1,2 @@
+-- What a memo has of goals.
+pub mod Kept

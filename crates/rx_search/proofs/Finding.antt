@@ -1,0 +1,137 @@
+-- What is found where a goal is alone: the known choices so far, with one more.
+use Rattle.std.proofs.Common.{◌≡◌, ℕ, Bool, true, false, Option, Some, None, Result, Ok, Err, List, [], ◌∷◌, ◌++◌, refl, sym, ap, subst, ◌∙◌, ◌⊎◌, inl, inr}
+use Rattle.std.specs.Prelude.{IfOk, IfSome}
+use Rattle.std.specs.Option.{option_map}
+use Rattle.std.proofs.lemmas.List.{map-append}
+use Rattle.std.proofs.lemmas.List.Elements.{All-nil, All-push}
+use Rattle.rx_plain.specs.declared.no_memory.NoMemory.{NoMemory}
+use Rattle.rx_solve.specs.Attempts.{Tried, beyond}
+use Rattle.rx_term.specs.declared.rule.Equation.{Equation}
+use Rattle.rx_term.specs.declared.rule_set.RuleParts.{RuleParts}
+use Rattle.rx_form.specs.States.{State}
+use Rattle.rx_form.specs.declared.step.Step.{Step}
+use Rattle.rx_memo.specs.Kept.{IsKept, IsThat}
+use Rattle.rx_memo.specs.declared.goal_memo.GoalMemo.{GoalMemo}
+use Rattle.rx_steps.specs.Alone.{alone}
+use Rattle.rx_unfold.specs.Answers.{IsTaken}
+use Rattle.rx_settle.specs.Answers.{IsTrial, Takes}
+use Rattle.rx_unfold.specs.Moves.{Move, move_of}
+use Rattle.rx_unfold.specs.Trying.{Next, attempt}
+use Rattle.rx_settle.specs.declared.trial.Trial.{Trial as Taken}
+use Rattle.rx_search.specs.Known.{AreOf, AreRight, Attempted, IsRight, IsRightChoice, attempted, seen_known}
+use Rattle.rx_search.specs.Nodes.{KeepsNone}
+use Rattle.rx_search.specs.declared.known.KnownChoice.{KnownChoice}
+use Rattle.rx_search.proofs.Trying.{attempt_keeps}
+
+-- ---- one step where the goal is alone
+
+module _ (parts : RuleParts) (goal : Equation) (start after : State) (number : ℕ) (keeps : Bool)
+    (move : Move) (t : Taken) (starts : start ≡ alone goal)
+    (is : IsTrial parts start after (attempt parts start move) t) where
+  abbrev one : Tried Next
+  one = attempt parts (alone goal) move
+
+  abbrev made : KnownChoice
+  made = record {
+    number = number;
+    keeps = keeps;
+    step = t.taken;
+    noted = t.noted;
+    after = after;
+  }
+
+  trial : IsTrial parts (alone goal) after one t
+  trial = subst (λ s. IsTrial parts s after (attempt parts s move) t) starts is
+
+  made_by : (o : Option Step) → Takes parts (alone goal) after one.made o →
+      option_map (λ step. record { move = move_of step; state = after }) o ≡ one.made
+  made_by None takes = sym takes.0
+  made_by (Some step) takes = sym takes.0
+
+  taken_by : (o : Option Step) → Takes parts (alone goal) after one.made o → IfSome o
+      (IsTaken parts (alone goal) after)
+  taken_by None takes = tt
+  taken_by (Some step) takes = takes.1
+
+  none_kept : KeepsNone move → (o : Option Step) → Takes parts (alone goal) after one.made o →
+      after.hypotheses ≡ []
+  none_kept none None takes = ap (λ (s : State). s.hypotheses) takes.1
+  none_kept none (Some step) takes =
+      attempt_keeps parts (alone goal) move none (record { move = move_of step; state = after })
+      takes.0
+
+  seen_made : seen_known made ≡ attempted number keeps one
+  seen_made = λ i. attempted number keeps (record {
+    made = made_by t.taken trial.taken i;
+    noted = trial.noted i;
+  })
+
+  -- of a call
+  pub seen_alone : (result : Result KnownChoice NoMemory) → IfOk result (λ k. k ≡ made) →
+      IfOk result (λ k. seen_known k ≡ attempted number keeps one)
+  seen_alone (Ok k) same = ap seen_known same ∙ seen_made
+  seen_alone (Err e) same = tt
+
+  pub right_alone : (keeps ≡ false → KeepsNone move) → (result : Result KnownChoice NoMemory) →
+      IfOk result (λ k. k ≡ made) → IfOk result (IsRightChoice parts goal)
+  right_alone unkept (Ok k) same =
+      subst (IsRightChoice parts goal) (sym same) (record {
+        taken = taken_by t.taken trial.taken;
+        unkept = λ e. none_kept (unkept e) t.taken trial.taken;
+      })
+  right_alone unkept (Err e) same = tt
+
+-- ---- lists of them
+
+module _ (parts : RuleParts) (goal : Equation) where
+  pub no_known : (known : List KnownChoice) → known ≡ [] → AreOf parts goal [] known
+  no_known known none =
+      subst (AreOf parts goal []) (sym none)
+      (record { seen = refl; right = All-nil (IsRightChoice parts goal) })
+
+  -- one more
+  pub known_grow : (cs : List Attempted) (a : Attempted) (k : KnownChoice)
+      (old new : List KnownChoice) → seen_known k ≡ a → IsRightChoice parts goal k →
+      new ≡ old ++ k ∷ [] → AreOf parts goal cs old → AreOf parts goal (cs ++ a ∷ []) new
+  known_grow cs a k old new seen right pushed are =
+      subst (AreOf parts goal (cs ++ a ∷ [])) (sym pushed) (record {
+        seen =
+            map-append seen_known old (k ∷ []) ∙ (λ i. are.seen i ++ seen i ∷ []);
+        right = All-push (IsRightChoice parts goal) old k are.right right;
+      })
+
+  -- one that doesn't apply, as something passes the limits
+  pub noted_grow : (cs : List Attempted) (after : State) (old new : List KnownChoice) → after ≡
+      alone goal → new ≡ old ++ record {
+        number = 6;
+        keeps = false;
+        step = None;
+        noted = true;
+        after = after;
+      } ∷ [] → AreOf parts goal cs old → AreOf parts goal (cs ++ attempted 6 false beyond ∷ []) new
+  noted_grow cs after old new alone_after pushed are =
+      known_grow cs (attempted 6 false beyond) (record {
+        number = 6;
+        keeps = false;
+        step = None;
+        noted = true;
+        after = after;
+      }) old new refl
+      (record { taken = tt; unkept = λ e. ap (λ (s : State). s.hypotheses) alone_after }) pushed are
+
+-- ---- a memo
+
+-- it stays right, with what is right
+pub kept_right : (parts : RuleParts) (old new : GoalMemo (List KnownChoice)) (goal : Equation)
+    (known : List KnownChoice) → AreRight parts old → IsRight parts goal known →
+    ((g : Equation) (v : List KnownChoice) → IsKept new g v →
+    IsKept old g v ⊎ IsThat goal known g v)
+    → AreRight parts new
+kept_right parts old new goal known right is more = record {
+  all = λ g v kept. elim (more g v kept) [
+    | inl before ↦ right.all g v before
+    | inr that ↦
+        subst (λ x. IsRight parts x v) (sym that.goal_is)
+        (subst (IsRight parts goal) (sym that.value_is) is)
+  ];
+}

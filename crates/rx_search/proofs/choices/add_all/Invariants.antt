@@ -1,0 +1,15 @@
+-- The choices so far are those that are known so far.
+use Rattle.std.proofs.Common.{All, map, take}
+use Rattle.rx_term.specs.declared.rule.Equation.{Equation}
+use Rattle.rx_solve.specs.Answers.{IsSolver}
+use Rattle.rx_search.specs.Known.{chosen_by}
+use Rattle.rx_search.specs.Nodes.{AreChoices, IsNode}
+use Rattle.rx_search.proofs.choices.add_all.Given as goal
+
+abbrev pub invariant-loop-one : goal.invariant-loop-one
+invariant-loop-one g l = record {
+  solver : IsSolver g.S.FnMut l.solve;
+  are : AreChoices l.node (map (chosen_by l.rules l.node.state) (take l.one-index l.known)) l.found;
+  nodes : (goal : Equation) → IsNode l.rules goal l.node →
+      All (λ c. IsNode l.rules goal c.node) l.found.choices;
+}
