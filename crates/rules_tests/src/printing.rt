@@ -1,8 +1,7 @@
 //! What calls answer, as text: words with a space between them, a list after its number of
 //! elements.
 use rx_cover::CoverTree;
-use rx_generalise::Generalised;
-use rx_lemma::LemmaKind;
+use rx_lemma::{Generalised, LemmaKind};
 use rx_pairs::{PairCert, RankTable};
 use rx_plain::{Items, NoMemory};
 use rx_poly::Poly;

@@ -2,21 +2,8 @@
 use Rattle.std.specs.Prelude.{◌≡◌, Option, Some, None, Result, Ok, Err, List, map}
 use Rattle.rx_fm.specs.declared.fm_end.FmEnd.{FmEnd}
 use Rattle.rx_fm.specs.declared.fm_end.FmEnd.TheVariants.{Large as TooLarge}
-use Rattle.rx_poly.specs.declared.poly_end.PolyEnd.{PolyEnd}
-use Rattle.rx_poly.specs.declared.poly_end.PolyEnd.TheVariants.{Large}
-use Rattle.rx_solve.specs.Attempts.{Tried, applies, beyond, fails}
-use Rattle.rx_generalise.specs.declared.generalised.Generalised.{Generalised}
-use Rattle.rx_lemma.specs.Lemmas.{Generalisation}
-
--- what is found as plain data
-abbrev pub found_as : Generalised → Generalisation
-found_as found = record { kind = found.kind; goal = found.goal; subst = found.subst }
-
--- an answer that says what comes of trying to find one; that memory runs out is free
-abbrev pub Finds : Tried Generalisation → Result (Option Generalised) PolyEnd → Type 0
-Finds tried (Ok None) = tried ≡ fails
-Finds tried (Ok (Some found)) = tried ≡ applies (found_as found)
-Finds tried (Err e) = e ≡ Large → tried ≡ beyond
+use Rattle.rx_lemma.specs.declared.generalised.Generalised.{Generalised}
+use Rattle.rx_lemma.specs.Lemmas.{Generalisation, found_as}
 
 -- an answer that has that generalisation, or says that something passes the limits
 abbrev pub MakesOne : Option Generalisation → Result Generalised FmEnd → Type 0

@@ -10,7 +10,7 @@ use Rattle.rx_term.specs.Bounds.{equation_bound}
 use Rattle.rx_term.specs.declared.rule.Equation.{Equation}
 use Rattle.rx_term.specs.declared.rule.Rule.{Rule}
 use Rattle.rx_term.specs.declared.rule_set.RuleParts.{RuleParts}
-use Rattle.rx_generalise.specs.Naming.{variables_end}
+use Rattle.rx_lemma.specs.Lemmas.{variables_end}
 use Rattle.rx_generalise.specs.Repeated.{new_variables, repeated, replaced_in}
 use Rattle.rx_generalise.specs.RuleRows.{formed_added, rule_rows}
 use Rattle.rx_generalise.specs.Values.{gives_value, other_rows}

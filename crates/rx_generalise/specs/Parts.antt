@@ -4,9 +4,9 @@ use Rattle.rx_poly.specs.declared.body.Body.{Body}
 use Rattle.rx_term.specs.Bounds.{equation_bound}
 use Rattle.rx_term.specs.declared.rule.Equation.{Equation}
 use Rattle.rx_generalise.specs.Generalising.{as_list}
-use Rattle.rx_generalise.specs.Naming.{variables_end}
+use Rattle.rx_lemma.specs.Lemmas.{variables_end}
 use Rattle.rx_generalise.specs.Repeated.{new_variables}
-use Rattle.rx_generalise.specs.declared.generalised.Generalised.{Generalised}
+use Rattle.rx_lemma.specs.declared.generalised.Generalised.{Generalised}
 
 -- new variables for the polynomials, where there are enough
 abbrev pub AreVariablesFor : Equation → List Body → Option (List (ℕ × Body)) → Type 0

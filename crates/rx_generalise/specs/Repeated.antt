@@ -8,7 +8,7 @@ use Rattle.rx_poly.specs.declared.body.Body.{Body}
 use Rattle.rx_term.specs.declared.rule.Equation.{Equation}
 use Rattle.rx_term.specs.declared.term.Term.{Term, Term-F, fold-Term}
 use Rattle.rx_term.specs.declared.term.Term.TheVariants as made
-use Rattle.rx_generalise.specs.Calls.{lone_variable}
+use Rattle.rx_lemma.specs.Calls.{lone_variable}
 use Rattle.rx_generalise.specs.declared.repeated.Occurrence.{Occurrence}
 
 -- ---- polynomials at places

@@ -15,7 +15,7 @@ use Rattle.rx_term.specs.Paired.{rules_of_shape}
 use Rattle.rx_term.specs.Shapes.{Call}
 use Rattle.rx_term.specs.declared.rule.Equation.{Equation}
 use Rattle.rx_term.specs.declared.rule.Rule.{Rule}
-use Rattle.rx_generalise.specs.Calls.{Applied, call_of}
+use Rattle.rx_lemma.specs.Calls.{Applied, call_of}
 
 -- ---- rows of rules at calls
 

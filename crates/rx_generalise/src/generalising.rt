@@ -5,15 +5,13 @@ ghost use Rattle.rx_generalise.specs.Generalising as spec;
 ghost use Rattle.rx_generalise.specs.Parts.{AreListed, AreVariablesFor};
 ghost use Rattle.rx_solve.specs.Answers.{IsSolver};
 
-use crate::constants::VARIABLES_END;
-use crate::generalised::Generalised;
 use crate::repeated::repeated;
 use crate::replaced::{new_variables, replaced_in};
 use crate::rule_rows::{add_rows, rule_rows};
 use crate::values::{any_value, other_rows};
 use rx_cert::Cert;
 use rx_fm::FmEnd;
-use rx_lemma::LemmaKind;
+use rx_lemma::{Generalised, LemmaKind, VARIABLES_END};
 use rx_plain::Items;
 use rx_poly::Poly;
 use rx_row::Constraint;

@@ -1,6 +1,6 @@
 //! Variables in place of polynomials that are whole arguments of frames and calls.
 ghost use Rattle.std.specs.Prelude.{◌≡◌, ◌+◌, ◌≤◌, length, map, IfOk};
-ghost use Rattle.rx_generalise.specs.Naming.{variables_end};
+ghost use Rattle.rx_lemma.specs.Lemmas.{variables_end};
 ghost use Rattle.rx_generalise.specs.Repeated as spec;
 ghost use Rattle.rx_term.specs.Stacks as stacks;
 

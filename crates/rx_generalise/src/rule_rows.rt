@@ -1,7 +1,7 @@
 //! The rows of rules at the calls of an equation, and which of them are added to rows.
 ghost use Rattle.std.specs.Prelude.{◌≡◌, ◌++◌, IfOk, ℕ};
 ghost use Rattle.rx_cert.specs.Showing.{shown};
-ghost use Rattle.rx_generalise.specs.Calls.{call_of};
+ghost use Rattle.rx_lemma.specs.Calls.{call_of};
 ghost use Rattle.rx_generalise.specs.RuleRows as spec;
 ghost use Rattle.rx_generalise.specs.RuleRows.{Makes, SaysShown};
 ghost use Rattle.rx_plain.specs.Formed.{Forms};
@@ -11,9 +11,9 @@ ghost use Rattle.rx_term.specs.Paired.{rules_of_shape};
 ghost use Rattle.rx_term.specs.Shapes.{same_shape, shape_of};
 ghost use Rattle.rx_term.specs.Shapes as shape;
 
-use crate::calls::call_of;
 use rx_cert::Cert;
 use rx_fm::FmEnd;
+use rx_lemma::call_of;
 use rx_plain::{Items, NoMemory};
 use rx_poly::{Poly, PolyEnd};
 use rx_row::{Constraint, Row, rows_at_args};

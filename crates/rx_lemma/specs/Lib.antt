@@ -1,2 +1,3 @@
 -- The lemmas that a search tries at a goal.
+pub mod Calls
 pub mod Lemmas

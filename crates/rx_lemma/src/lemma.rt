@@ -5,6 +5,9 @@ use rx_plain::Items;
 use rx_poly::Poly;
 use rx_term::Equation;
 
+/// No new variable of a lemma has this number or one above.
+pub const VARIABLES_END: u64 = 1_000_000;
+
 /// How a lemma is made of a goal.
 #[derive(Clone, Copy, Debug, PartialEq, Eq)]
 pub enum LemmaKind {

@@ -1,7 +1,7 @@
 //! What is known of a goal: what comes of each choice where it is alone. A search meets the same
 //! goals often.
 ghost use Rattle.std.specs.Prelude.{◌≡◌, ◌∷◌, ◌++◌, [], IfOk, OnOk, List, false, map, true};
-ghost use Rattle.rx_generalise.specs.Answers.{found_as};
+ghost use Rattle.rx_lemma.specs.Lemmas.{found_as};
 ghost use Rattle.rx_generalise.specs.Generalising.{generalisations};
 ghost use Rattle.rx_search.specs.Known.{AreOf, AreRight, Attempted, IsRight, IsRightChoice, attempted, lemma_attempted, lemmas_attempted, seen_known, steps_attempted};
 ghost use Rattle.rx_search.specs.Menu as menu;
@@ -17,8 +17,8 @@ ghost use Rattle.rx_term.specs.declared.rule_set.RuleParts.{RuleParts};
 use rx_cert::Cert;
 use rx_fm::FmEnd;
 use rx_form::{Side, Step};
-use rx_generalise::{Generalised, lemmas};
-use rx_lemma::LemmaKind;
+use rx_generalise::lemmas;
+use rx_lemma::{Generalised, LemmaKind};
 use rx_memo::GoalMemo;
 use rx_plain::{Items, NoMemory, Shared};
 use rx_row::Constraint;

@@ -1,6 +1,6 @@
 -- One more lemma.
 use Rattle.std.proofs.Common.{◌++◌, map, subst}
-use Rattle.rx_generalise.specs.Answers.{found_as}
+use Rattle.rx_lemma.specs.Lemmas.{found_as}
 use Rattle.rx_steps.specs.Alone.{alone}
 use Rattle.rx_search.specs.Known.{AreOf, lemma_attempted}
 use Rattle.rx_search.proofs.Choosing.{mapped_more}

@@ -1,6 +1,6 @@
 -- The choices grow by the lemmas so far.
 use Rattle.std.proofs.Common.{◌++◌, List, map}
-use Rattle.rx_generalise.specs.Answers.{found_as}
+use Rattle.rx_lemma.specs.Lemmas.{found_as}
 use Rattle.rx_solve.specs.Answers.{IsSolver}
 use Rattle.rx_steps.specs.Alone.{alone}
 use Rattle.rx_search.specs.Known.{AreOf, Attempted, lemma_attempted}

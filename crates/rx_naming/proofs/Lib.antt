@@ -1,0 +1,4 @@
+-- Lemmas on naming and generalisations.
+pub mod NamingLaws
+pub mod ShapeLaws
+pub mod SubstitutionLaws

@@ -1,0 +1,5 @@
+-- Naming of constants.
+pub mod Answers
+pub mod Calls
+pub mod Naming
+pub mod Shapes
