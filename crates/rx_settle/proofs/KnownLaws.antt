@@ -1,6 +1,6 @@
 -- The items before hypotheses look at the first goal alone: what comes of them where it is alone
 -- comes of them at each state that begins with it.
-use Rattle.std.proofs.Common.{◌≡◌, ◌∙◌, ap, subst, sym, refl, ℕ, ◌+◌, ◌||◌, Bool, true, false, Option, Some, None, Ok, Err, List, [], ◌∷◌, ◌++◌}
+use Rattle.std.proofs.Common.{◌≡◌, ◌∙◌, ap, subst, sym, refl, ℕ, ◌+◌, ◌||◌, Bool, true, false, ◌⊎◌, inl, inr, Option, Some, None, Ok, Err, List, [], ◌∷◌, ◌++◌}
 use Rattle.std.specs.Prelude.{Result, if◌then◌else◌, is_some, slice_get}
 use Rattle.std.proofs.lemmas.List.{append-nil}
 use Rattle.rx_cert.specs.Findings.{Said, Yes, No, Beyond}
@@ -11,6 +11,7 @@ use Rattle.rx_term.specs.declared.rule_set.RuleParts.{RuleParts}
 use Rattle.rx_term.specs.declared.term.Sym.{Sym}
 use Rattle.rx_term.specs.declared.term.Term.{Term}
 use Rattle.rx_term.specs.Stacks.{suffix_at}
+use Rattle.rx_memo.specs.Kept.{IsKept, IsThat}
 use Rattle.rx_form.specs.Forming.{Forming, found_or, limited, provided, ◌>>=◌}
 use Rattle.rx_form.specs.Judging.{StepFault, Judgement, certificates, first_rows, judged}
 use Rattle.rx_form.specs.Judging as judging
@@ -30,12 +31,13 @@ use Rattle.rx_steps.specs.Alone.{alone, onto}
 use Rattle.rx_settle.specs.Answers.{IsTrial, Takes}
 use Rattle.rx_settle.specs.AtFirst.{at_first, before_uses, deleting}
 use Rattle.rx_unfold.specs.Unfolding.{leaving_sides, unfolding_sides}
-use Rattle.rx_settle.specs.Known.{IsKnown, lifted, next_onto, tried_alone}
+use Rattle.rx_settle.specs.Known.{AreKnown, IsKnown, lifted, next_onto, tried_alone}
 use Rattle.rx_unfold.specs.Moves.{Absurd, Equal, Expand, Generalise, Move, Simplify, move_of, step_of}
 use Rattle.rx_settle.specs.Settling.{named}
 use Rattle.rx_unfold.specs.Unfolding.{by_rules, is_at_loop_point, is_tried, leaving_at, redex_symbol, simplifying, unfolding_at}
 use Rattle.rx_unfold.specs.Trying.{Next, asked_shown, attempt, next_if_formed, then_by}
 use Rattle.rx_settle.specs.declared.known.Known.{Known}
+use Rattle.rx_settle.specs.declared.settle_memo.SettleMemo.{SettleMemo}
 use Rattle.rx_settle.specs.declared.trial.Trial.{Trial}
 use Rattle.rx_unfold.proofs.TriedLaws.{none_by, some_by}
 
@@ -353,13 +355,12 @@ unfolding tried_alone
 found_alone parts goal start after t e is =
     subst (λ s. IsTrial parts s after (at_first (before_uses parts s) s.goals) t) e is
 
-module _ (parts : RuleParts) (known : Known) (t : Trial) (same : t ≡ known.trial)
-    (old new : State) (first : Some known.goal ≡ slice_get old.goals 0)
-    (right : IsKnown parts known) where
-  tried_so : IsTrial parts (alone known.goal) known.after (tried_alone parts known.goal) t
+module _ (parts : RuleParts) (goal : Equation) (known : Known) (t : Trial)
+    (same : t ≡ known.trial) (old new : State) (first : Some goal ≡ slice_get old.goals 0)
+    (right : IsKnown parts goal known) where
+  tried_so : IsTrial parts (alone goal) known.after (tried_alone parts goal) t
   tried_so =
-      subst
-      (λ x. IsTrial parts (alone known.goal) known.after (tried_alone parts known.goal) x)
+      subst (λ x. IsTrial parts (alone goal) known.after (tried_alone parts goal) x)
       (sym same) right.trial
 
   abbrev IsTrialOf : State → Type 0
@@ -367,8 +368,25 @@ module _ (parts : RuleParts) (known : Known) (t : Trial) (same : t ≡ known.tri
 
   pub made_known : is_some t.taken ≡ true → new ≡ onto old known.after → IsTrialOf new
   made_known some e =
-      subst IsTrialOf (sym e) (one_made parts known.goal known.after t tried_so old first some)
+      subst IsTrialOf (sym e) (one_made parts goal known.after t tried_so old first some)
 
   pub unmade_known : is_some t.taken ≡ false → new ≡ old → IsTrialOf new
   unmade_known none e =
-      subst IsTrialOf (sym e) (none_made parts known.goal known.after t tried_so old first none)
+      subst IsTrialOf (sym e) (none_made parts goal known.after t tried_so old first none)
+
+-- ---- a memo
+
+-- it stays right, with what is right
+pub still_known : (parts : RuleParts) (old new : SettleMemo) (goal : Equation) (known : Known) →
+    AreKnown parts old → IsKnown parts goal known →
+    ((g : Equation) (v : Known) → IsKept new.known g v →
+    IsKept old.known g v ⊎ IsThat goal known g v)
+    → AreKnown parts new
+still_known parts old new goal known right is more = record {
+  all = λ g v kept. elim (more g v kept) [
+    | inl before ↦ right.all g v before
+    | inr that ↦
+        subst (λ x. IsKnown parts x v) (sym that.goal_is)
+        (subst (IsKnown parts goal) (sym that.value_is) is)
+  ];
+}

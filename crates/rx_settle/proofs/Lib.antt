@@ -6,7 +6,6 @@ pub mod FirstLaws
 pub mod ItemLaws
 pub mod KeepingLaws
 pub mod KnownLaws
-pub mod MemoLaws
 pub mod MoveLaws
 pub mod NamingLaws
 pub mod ResultLaws

@@ -1,10 +1,10 @@
 -- What is known of a goal: what comes of the items before hypotheses. They look at the first goal
 -- alone, so it is the same at each state that begins with it.
-use Rattle.std.specs.Prelude.{◌≡◌, All, Option, Some, None, Vec}
-use Rattle.std.specs.declared.alloc.Global.{Global}
+use Rattle.std.specs.Prelude.{◌≡◌, Option, Some, None}
 use Rattle.rx_solve.specs.Attempts.{Tried}
 use Rattle.rx_term.specs.declared.rule.Equation.{Equation}
 use Rattle.rx_term.specs.declared.rule_set.RuleParts.{RuleParts}
+use Rattle.rx_memo.specs.Kept.{IsKept}
 use Rattle.rx_form.specs.States.{State}
 use Rattle.rx_steps.specs.Alone.{alone, onto}
 use Rattle.rx_settle.specs.Answers.{IsTrial}
@@ -27,19 +27,10 @@ abbrev pub lifted : State → Tried Next → Tried Next
 lifted state tried = record { made = next_onto state tried.made; noted = tried.noted }
 
 -- the trial was made on the goal alone, and led to that state
-pub record IsKnown (parts : RuleParts) (known : Known) : Type 0 where
-  pub trial : IsTrial parts (alone known.goal) known.after (tried_alone parts known.goal)
-      known.trial
+pub record IsKnown (parts : RuleParts) (goal : Equation) (known : Known) : Type 0 where
+  pub trial : IsTrial parts (alone goal) known.after (tried_alone parts goal) known.trial
 
--- the entry is of that goal, and right
-pub record IsKnownOf (parts : RuleParts) (goal : Equation) (known : Known) : Type 0 where
-  pub same : known.goal ≡ goal
-  pub right : IsKnown parts known
-
--- all entries of a bucket are right
-abbrev pub AllKnown : RuleParts → Vec Known Global → Type 0
-AllKnown parts bucket = All (IsKnown parts) bucket.items
-
--- all entries of a memo are right
+-- what a memo has of goals is right
 pub record AreKnown (parts : RuleParts) (memo : SettleMemo) : Type 0 where
-  pub all : All (AllKnown parts) memo.buckets.items
+  pub all : (goal : Equation) (known : Known) → IsKept memo.known goal known →
+      IsKnown parts goal known

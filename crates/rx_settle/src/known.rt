@@ -1,9 +1,10 @@
 //! What is known of a goal: what comes of it where it is alone.
-ghost use Rattle.std.specs.Prelude.{◌≡◌, ◌↔◌, Some, IfOk, IsTrue, OnErr, slice_get};
+ghost use Rattle.std.specs.Prelude.{◌≡◌, Some, IfOk, OnErr, slice_get};
 ghost use Rattle.rx_settle.specs.Answers.{IsTrial};
 ghost use Rattle.rx_settle.specs.AtFirst.{at_first, before_uses};
-ghost use Rattle.rx_settle.specs.Known.{IsKnown, IsKnownOf};
+ghost use Rattle.rx_settle.specs.Known.{IsKnown};
 ghost use Rattle.rx_solve.specs.Answers.{IsSolver};
+ghost use Rattle.rx_term.specs.declared.rule.Equation.{Equation};
 ghost use Rattle.rx_term.specs.declared.rule_set.RuleParts.{RuleParts};
 ghost use Rattle.rx_unfold.specs.LoopPoints.{AreLoopPoints};
 
@@ -21,8 +22,6 @@ use std::alloc::Global;
 /// What is known of a goal.
 #[derive(Drop)]
 pub(crate) struct Known {
-    /// The goal.
-    pub(crate) goal: Shared<Equation>,
     /// What came of trying the moves before hypotheses, where the goal was alone.
     pub(crate) trial: Trial,
     /// The state after that; the goal alone, where no move applied.
@@ -35,30 +34,23 @@ impl Known {
         alloc: Global,
         rules: &RuleSet,
         points: &LoopPoints,
-        goal: Shared<Equation>,
+        goal: &Shared<Equation>,
         solve: &mut S,
     ) -> Result<Known, NoMemory>
         requires points { AreLoopPoints rules.now points.now }
         requires solver { IsSolver S.FnMut solve.old }
         ensures solver { IsSolver S.FnMut solve.new }
-        ensures known { IfOk result (IsKnownOf rules.now goal) }
+        ensures known { IfOk result (IsKnown rules.now goal.now) }
     {
         let mut after = State::alone(alloc, goal.try_clone()?)?;
         let trial = try_before_uses(alloc, rules, points, &mut after, solve)?;
-        Ok(Known { goal, trial, after })
-    }
-
-    /// Whether this is known of that goal. Takes no memory.
-    pub(crate) fn is_of(&self, goal: &Equation) -> bool
-        ensures { IsTrue result ↔ (self.now.goal ≡ goal.now) }
-    {
-        self.goal.get().is_same(goal)
+        Ok(Known { trial, after })
     }
 
     /// Makes the move, if there is one, on a state that begins with the goal.
     pub(crate) fn make(&self, alloc: Global, state: &mut State) -> Result<Trial, NoMemory>
-        requires first { Some self.now.goal ≡ slice_get state.old.goals 0 }
-        ensures trial { (parts : RuleParts) → IsKnown parts self.now →
+        ensures trial { (parts : RuleParts) (goal : Equation) →
+            Some goal ≡ slice_get state.old.goals 0 → IsKnown parts goal self.now →
             IfOk result (IsTrial parts state.old state.new
             (at_first (before_uses parts state.old) state.old.goals)) }
         ensures kept { OnErr result (state.new ≡ state.old) }

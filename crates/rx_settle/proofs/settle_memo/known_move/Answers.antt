@@ -1,12 +1,37 @@
--- What the memo has of the goal is right.
-use Rattle.std.proofs.Common.{subst, sym}
+-- What the memo has of the goal is right, and stays so.
+use Rattle.std.proofs.Common.{◌≡◌, ◌∙◌, subst, sym}
+use Rattle.rx_memo.specs.Kept.{IsKept}
 use Rattle.rx_term.specs.declared.rule.Equation.{Equation}
-use Rattle.rx_settle.specs.Known.{IsKnownOf}
+use Rattle.rx_settle.specs.Known.{IsKnown}
+use Rattle.rx_settle.proofs.KnownLaws.{still_known}
 use Rattle.rx_settle.proofs.settle_memo.known_move.Goals as goal
 
 pub returns-in-Some-clause-found : goal.returns-in-Some-clause-found
 returns-in-Some-clause-found g c =
     let rules = c.args.rules.now in
-    let had = c.in-Some.ensures rules c.requires.known in
-    subst (IsKnownOf rules c.args.goal) (sym c.in_ok-try_clone.ensures)
-    (subst (λ (e : Equation). IsKnownOf rules e c.in-Some.known.now) c.get.ensures had)
+    let found = c.in-Some.known.now in
+    subst (IsKnown rules c.args.goal) (sym c.in_ok-try_clone.ensures)
+    (c.requires.known.all c.args.goal found
+    (subst (λ (e : Equation). IsKept c.args.memo.now.known e found) c.get.ensures c.in-Some.ensures))
+
+pub returns-in_err-keep-clause-known : goal.returns-in_err-keep-clause-known
+returns-in_err-keep-clause-known g c =
+    let rules = c.args.rules.now in
+    let kept = c.in_ok-try_clone-2.field-0 in
+    let same : c.args.goal ≡ c.goal.inside.inner.value = cc in
+    let right = subst (IsKnown rules c.args.goal)
+    (sym (c.in_ok-try_clone-2.ensures ∙ c.in_ok-known.ensures)) c.in_ok-find.ensures.known in
+    still_known rules c.args.memo.now (record { known = c.keep.new.self })
+    c.goal.inside.inner.value kept c.requires.known
+    (subst (λ (e : Equation). IsKnown rules e kept) same right) c.keep.ensures
+
+pub returns-clause-known : goal.returns-clause-known
+returns-clause-known g c =
+    let rules = c.args.rules.now in
+    let kept = c.in_ok-try_clone-2.field-0 in
+    let same : c.args.goal ≡ c.goal.inside.inner.value = cc in
+    let right = subst (IsKnown rules c.args.goal)
+    (sym (c.in_ok-try_clone-2.ensures ∙ c.in_ok-known.ensures)) c.in_ok-find.ensures.known in
+    still_known rules c.args.memo.now (record { known = c.keep.new.self })
+    c.goal.inside.inner.value kept c.requires.known
+    (subst (λ (e : Equation). IsKnown rules e kept) same right) c.keep.ensures

@@ -1,6 +1,0 @@
--- Fewer frames are left.
-use Rattle.rx_term.specs.Stacks.{depth_of}
-use Rattle.rx_settle.proofs.settle_memo.after_term.Given as goal
-
-abbrev pub decreases-loop-here : goal.decreases-loop-here
-decreases-loop-here l = depth_of l.here
