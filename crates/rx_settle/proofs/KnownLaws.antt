@@ -377,16 +377,16 @@ module _ (parts : RuleParts) (goal : Equation) (known : Known) (t : Trial)
 -- ---- a memo
 
 -- it stays right, with what is right
-pub still_known : (parts : RuleParts) (old new : SettleMemo) (goal : Equation) (known : Known) →
-    AreKnown parts old → IsKnown parts goal known →
-    ((g : Equation) (v : Known) → IsKept new.known g v →
-    IsKept old.known g v ⊎ IsThat goal known g v)
+pub still_known : (parts : RuleParts) (old new : SettleMemo) (goal at : Equation)
+    (known kept : Known) → AreKnown parts old → IsKnown parts goal known → at ≡ goal → kept ≡
+    known → ((g : Equation) (v : Known) → IsKept new.known g v →
+    IsKept old.known g v ⊎ IsThat at kept g v)
     → AreKnown parts new
-still_known parts old new goal known right is more = record {
-  all = λ g v kept. elim (more g v kept) [
+still_known parts old new goal at known kept right is here same more = record {
+  all = λ g v has. elim (more g v has) [
     | inl before ↦ right.all g v before
     | inr that ↦
-        subst (λ x. IsKnown parts x v) (sym that.goal_is)
-        (subst (IsKnown parts goal) (sym that.value_is) is)
+        subst (λ x. IsKnown parts x v) (sym (that.goal_is ∙ here))
+        (subst (IsKnown parts goal) (sym (that.value_is ∙ same)) is)
   ];
 }

@@ -1,6 +1,6 @@
 -- What is known of a goal: what comes of the items before hypotheses. They look at the first goal
 -- alone, so it is the same at each state that begins with it.
-use Rattle.std.specs.Prelude.{◌≡◌, Option, Some, None}
+use Rattle.std.specs.Prelude.{Option, Some, None}
 use Rattle.rx_solve.specs.Attempts.{Tried}
 use Rattle.rx_term.specs.declared.rule.Equation.{Equation}
 use Rattle.rx_term.specs.declared.rule_set.RuleParts.{RuleParts}

@@ -1,5 +1,5 @@
 -- What the memo has of the goal is right, and stays so.
-use Rattle.std.proofs.Common.{◌≡◌, ◌∙◌, subst, sym}
+use Rattle.std.proofs.Common.{◌∙◌, subst, sym}
 use Rattle.rx_memo.specs.Kept.{IsKept}
 use Rattle.rx_term.specs.declared.rule.Equation.{Equation}
 use Rattle.rx_settle.specs.Known.{IsKnown}
@@ -16,22 +16,14 @@ returns-in-Some-clause-found g c =
 
 pub returns-in_err-keep-clause-known : goal.returns-in_err-keep-clause-known
 returns-in_err-keep-clause-known g c =
-    let rules = c.args.rules.now in
-    let kept = c.in_ok-try_clone-2.field-0 in
-    let same : c.args.goal ≡ c.goal.inside.inner.value = cc in
-    let right = subst (IsKnown rules c.args.goal)
-    (sym (c.in_ok-try_clone-2.ensures ∙ c.in_ok-known.ensures)) c.in_ok-find.ensures.known in
-    still_known rules c.args.memo.now (record { known = c.keep.new.self })
-    c.goal.inside.inner.value kept c.requires.known
-    (subst (λ (e : Equation). IsKnown rules e kept) same right) c.keep.ensures
+    still_known c.args.rules.now c.args.memo.now (record { known = c.keep.new.self }) c.args.goal
+    c.goal.inside.inner.value c.in_ok-find.field-0 c.in_ok-try_clone-2.field-0 c.requires.known
+    c.in_ok-find.ensures.known (cc) (c.in_ok-try_clone-2.ensures ∙ c.in_ok-known.ensures)
+    c.keep.ensures
 
 pub returns-clause-known : goal.returns-clause-known
 returns-clause-known g c =
-    let rules = c.args.rules.now in
-    let kept = c.in_ok-try_clone-2.field-0 in
-    let same : c.args.goal ≡ c.goal.inside.inner.value = cc in
-    let right = subst (IsKnown rules c.args.goal)
-    (sym (c.in_ok-try_clone-2.ensures ∙ c.in_ok-known.ensures)) c.in_ok-find.ensures.known in
-    still_known rules c.args.memo.now (record { known = c.keep.new.self })
-    c.goal.inside.inner.value kept c.requires.known
-    (subst (λ (e : Equation). IsKnown rules e kept) same right) c.keep.ensures
+    still_known c.args.rules.now c.args.memo.now (record { known = c.keep.new.self }) c.args.goal
+    c.goal.inside.inner.value c.in_ok-find.field-0 c.in_ok-try_clone-2.field-0 c.requires.known
+    c.in_ok-find.ensures.known (cc) (c.in_ok-try_clone-2.ensures ∙ c.in_ok-known.ensures)
+    c.keep.ensures
