@@ -18,7 +18,7 @@ use crate::refuting::refute;
 use c_front::Next;
 use rx_command::{Command, Comparison, Effort, Extent, Functions, command_of};
 use rx_io::{Files, ReadEnd, read_all};
-use rx_report::{Answer, Verdict};
+use rx_report::{Answer, Status, Verdict};
 use std::alloc::Global;
 
 /// The most bytes of a source.
