@@ -1,5 +1,4 @@
-//! The commands of ctrl: the words, what is answered to them, the reports, and the run of the
-//! program.
+//! The commands of ctrl: what is answered to the words, and the run of the program.
 #![tactic(auto)]
 
 mod answers;
