@@ -1,0 +1,9 @@
+-- Lemmas are lawful steps.
+pub mod Common
+pub mod GeneralisingLaws
+pub mod GeneralisingOccurrences
+pub mod GeneralisingRows
+pub mod GeneralisingTerms
+pub mod GeneralisingVariables
+pub mod NormalForms
+pub mod Polynomials
