@@ -207,16 +207,16 @@ module _ (ws : List (ℕ × Body)) (given : List Row) where
 
 -- what a lemma is like that makes a lawful step
 pub record IsMoreGeneral (parts : RuleParts) (goal : Equation) (lemma : Generalisation) : Type 0
-    where
-  pub fits : is_equation parts lemma.goal ≡ true
-  pub substitutes : is_substitution lemma.subst ≡ true
-  pub left_shape : have_one_shape lemma.goal.left goal.left ≡ true
-  pub right_shape : have_one_shape lemma.goal.right goal.right ≡ true
-  pub left : AreInstances lemma.subst goal.rows (arguments_of lemma.goal.left)
-      (arguments_of goal.left)
-  pub right : AreInstances lemma.subst goal.rows (arguments_of lemma.goal.right)
-      (arguments_of goal.right)
-  pub rows : All (HasInstance lemma.subst goal.rows) lemma.goal.rows
+  where
+    pub fits : is_equation parts lemma.goal ≡ true
+    pub substitutes : is_substitution lemma.subst ≡ true
+    pub left_shape : have_one_shape lemma.goal.left goal.left ≡ true
+    pub right_shape : have_one_shape lemma.goal.right goal.right ≡ true
+    pub left : AreInstances lemma.subst goal.rows (arguments_of lemma.goal.left)
+        (arguments_of goal.left)
+    pub right : AreInstances lemma.subst goal.rows (arguments_of lemma.goal.right)
+        (arguments_of goal.right)
+    pub rows : All (HasInstance lemma.subst goal.rows) lemma.goal.rows
 
 pub lawful : (parts : RuleParts) (goal : Equation) (lemma : Generalisation) →
     IsMoreGeneral parts goal lemma → IsLawful parts goal lemma
