@@ -1,0 +1,2 @@
+-- Lemmas as lawful steps.
+pub mod Lawful
