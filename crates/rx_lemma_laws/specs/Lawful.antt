@@ -1,6 +1,6 @@
 -- Lemmas as lawful steps: a step of kind Generalise on to the lemma is formed, and the refuter
 -- shows what it asks.
-use Rattle.std.specs.Prelude.{◌≡◌, true, IfSome, Ok, List, [], ◌∷◌}
+use Rattle.std.specs.Prelude.{◌≡◌, true, Ok, List, [], ◌∷◌}
 use Rattle.std.specs.List.{list_all}
 use Rattle.rx_poly.specs.Normal.{is_poly}
 use Rattle.rx_row.specs.Parts.{poly_of}
@@ -14,7 +14,6 @@ use Rattle.rx_term.specs.declared.rule_set.RuleParts.{RuleParts}
 use Rattle.rx_form.specs.Kinds.{generalised}
 use Rattle.rx_form.specs.Pieces.{asking, is_equation}
 use Rattle.rx_lemma.specs.Lemmas.{Generalisation}
-use Rattle.rx_naming.specs.Naming.{naming_of}
 
 -- the step on to the lemma is formed, and the refuter shows the rows that it asks
 pub record IsLawful (parts : RuleParts) (goal : Equation) (lemma : Generalisation) : Type 0 where
@@ -29,9 +28,3 @@ pub record IsGoal (parts : RuleParts) (goal : Equation) : Type 0 where
   pub left : list_all is_poly (arguments_of goal.left) ≡ true
   pub right : list_all is_poly (arguments_of goal.right) ≡ true
   pub rows : list_all (λ row. is_poly (poly_of row)) goal.rows ≡ true
-
--- so with what naming makes of a goal
-abbrev pub NamingIsLawful : Type 0
-NamingIsLawful =
-    (parts : RuleParts) (goal : Equation) → IsGoal parts goal →
-    IfSome (naming_of parts goal).made (IsLawful parts goal)

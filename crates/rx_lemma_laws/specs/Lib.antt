@@ -1,2 +1,3 @@
 -- Lemmas as lawful steps.
 pub mod Lawful
+pub mod LawfulNaming

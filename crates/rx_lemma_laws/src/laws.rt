@@ -1,5 +1,5 @@
 //! Lemmas are lawful steps. Each is a function with an empty body.
-ghost use Rattle.rx_lemma_laws.specs.Lawful.{NamingIsLawful};
+ghost use Rattle.rx_lemma_laws.specs.LawfulNaming.{NamingIsLawful};
 
 /// A step on to what naming makes of a goal is formed, and the refuter shows the rows that it asks.
 pub fn naming_is_lawful()
