@@ -41,7 +41,6 @@ use Rattle.rx_lemma.specs.Lemmas.{Generalisation, variables_end}
 use Rattle.rx_naming.specs.Calls.{constant_at, constant_in, variable_at, with_variable, with_variable_in}
 use Rattle.rx_naming.specs.Naming.{gives, goal_with, has_constant, named_arguments, named_as, named_goal, named_new, naming_at, naming_both, naming_by, naming_constant, naming_from, naming_if, naming_new, naming_of, with_row}
 use Rattle.rx_naming.specs.Shapes.{HasShapesOf}
-use Rattle.rx_naming.specs.declared.constants.Naming.{Naming}
 use Rattle.rx_naming.proofs.ShapeLaws.{naming_shapes}
 use Rattle.rx_naming.proofs.SubstitutionLaws.{naming_substitutes}
 use Rattle.rx_lemma_laws.specs.Lawful.{IsGoal, IsLawful}
@@ -52,6 +51,16 @@ use Rattle.rx_lemma_laws.proofs.NamingStanding.{Aligned, NewRow, New, RowStands,
 use Rattle.rx_lemma_laws.proofs.NamingTerms.{below_arguments, replaced_call}
 use Rattle.rx_lemma_laws.proofs.NamingValues.{value_of}
 use Rattle.rx_lemma_laws.proofs.Polynomials.{replaces_from}
+
+-- ---- what naming goes on with
+
+-- what a function of two arguments takes second
+abbrev taken_by : {A B C : Type 0} → (A → B → C) → Type 0
+taken_by {A} {B} {C} f = B
+
+-- a goal of which some constants are named
+abbrev Naming : Type 0
+Naming = taken_by named_goal
 
 -- ---- sides
 
