@@ -1,5 +1,5 @@
 -- Naming keeps what a step asks, place by place.
-use Rattle.std.proofs.Common.{◌≡◌, ◌∙◌, ap, subst, sym, refl, ℕ, zero, suc, ◌+◌, ◌<◌, ◌≤◌, ◌==◌, Bool, true, false, ◌&&◌, ◌||◌, cond, Option, Some, None, IfSome, List, [], ◌∷◌, ◌++◌, length, All, slice_get, slice_set, option_and_then, ℤ, arith}
+use Rattle.std.proofs.Common.{◌≡◌, ◌∙◌, ap, subst, sym, refl, ℕ, zero, suc, ◌+◌, ◌<◌, ◌≤◌, ◌==◌, Bool, true, false, ◌&&◌, ◌||◌, Option, Some, None, IfSome, List, [], ◌∷◌, ◌++◌, length, All, slice_get, slice_set, option_and_then, ℤ, arith}
 use Rattle.std.specs.Prelude.{if◌then◌else◌, nat_le, nat_lt}
 use Rattle.std.specs.List.{list_all}
 use Rattle.std.specs.Option.{option_map_or}
@@ -13,14 +13,11 @@ use Rattle.rx_poly.specs.Limits.{fits_i128}
 use Rattle.rx_poly.specs.Normal.{is_poly}
 use Rattle.rx_poly.specs.Reading.{constant_of}
 use Rattle.rx_poly.specs.Substitution.{replaced}
-use Rattle.rx_poly.specs.Variables.{uses_below}
 use Rattle.rx_poly.specs.declared.body.Body.{Body, out-Body}
 use Rattle.rx_row.specs.Membership.{pushed}
 use Rattle.rx_row.specs.Naming.{named}
-use Rattle.rx_row.specs.Parts.{poly_of}
 use Rattle.rx_row.specs.Variables.{rows_use_below}
 use Rattle.rx_row.specs.declared.row.Row.{Row}
-use Rattle.rx_row.specs.declared.row.Row.TheVariants.{Eq}
 use Rattle.rx_solve.specs.Attempts.{Tried, applies, beyond, fails}
 use Rattle.rx_term.specs.Bounds.{equation_bound}
 use Rattle.rx_term.specs.Fitting.{term_fits}
@@ -49,7 +46,6 @@ use Rattle.rx_lemma_laws.proofs.Common.{lawful}
 use Rattle.rx_lemma_laws.proofs.NamingRows.{all_instances, rows_instances}
 use Rattle.rx_lemma_laws.proofs.NamingStanding.{Aligned, NewRow, New, RowStands, Stands, aligned_below, aligned_itself, aligned_more, gives_new, known_stands, number_at, passed_more, rows_below, rows_more, rows_pushed, rows_themselves, set_after, number_stands}
 use Rattle.rx_lemma_laws.proofs.NamingTerms.{below_arguments, replaced_call}
-use Rattle.rx_lemma_laws.proofs.NamingValues.{value_of}
 use Rattle.rx_lemma_laws.proofs.Polynomials.{replaces_from}
 
 -- ---- what naming goes on with
@@ -188,14 +184,14 @@ module _ (parts : RuleParts) (goal : Equation) (holds : IsGoal parts goal) where
       let r = replaced_call parts k.call args count t k.is in
       let same = with_is place v t k.call k.is in
       let change : (q : Body) → is_poly q ≡ true →
-          Stands goal.rows bound ws fresh k.poly q →
-          Stands goal.rows bound ws fresh (variable v) q =
+      Stands goal.rows bound ws fresh k.poly q →
+      Stands goal.rows bound ws fresh (variable v) q =
       λ q poly s. make q (number_stands goal.rows bound ws fresh k.poly q c k.value poly s) in
       let before = subst (λ (xs : List Body). Aligned goal.rows bound ws fresh xs olds) r.old o.0 in
       let after = set_after goal.rows bound ws fresh k.poly (variable v) change r.front
       k.call.arguments olds place before (goal_polys side) k.there in (
         subst (λ (xs : List Body). Aligned goal.rows bound ws fresh xs olds)
-        (sym (ap arguments_of same ∙ r.new)) after,
+            (sym (ap arguments_of same ∙ r.new)) after,
         ap (term_fits parts) same ∙ r.fits ∙ o.1,
       )
 
@@ -260,11 +256,13 @@ module _ (parts : RuleParts) (goal : Equation) (holds : IsGoal parts goal) where
         let next : v < v + 1 = omega arith in
         let gives_it = gives_new ws v c (ready.ahead v same) in
         let sides : (other : Side) → OnSide more (v + 1) other (side_of other n.goal) = λ other.
-            let o = ready.sides other in
-            (aligned_more goal.rows bound ws w v (arguments_of (side_of other n.goal))
-            (arguments_of (side_of other goal)) o.0, o.1) in
+        let o = ready.sides other in (
+          aligned_more goal.rows bound ws w v (arguments_of (side_of other n.goal))
+              (arguments_of (side_of other goal)) o.0,
+          o.1,
+        ) in
         let make : (q : Body) → q ≡ number c →
-            Stands goal.rows bound more (v + 1) (variable v) q =
+        Stands goal.rows bound more (v + 1) (variable v) q =
         λ q e. New v c refl e next gives_it in
         let row = (named v c).form in
         let made = with_variable place v old_side in
@@ -348,8 +346,10 @@ module _ (parts : RuleParts) (goal : Equation) (holds : IsGoal parts goal) where
     limit = goal_limit;
     above = refl;
     ahead = λ v le us. refl;
-    sides = λ side. (aligned_itself goal.rows bound [] bound (arguments_of (side_of side goal)),
-        goal_fits side);
+    sides = λ side. (
+      aligned_itself goal.rows bound [] bound (arguments_of (side_of side goal)),
+      goal_fits side,
+    );
     rows = rows_themselves goal.rows bound [] bound;
   }
 

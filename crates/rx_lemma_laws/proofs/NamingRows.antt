@@ -1,5 +1,5 @@
 -- The polynomials and rows that stand in place of a goal's are instances of these, as a step asks.
-use Rattle.std.proofs.Common.{◌≡◌, ◌∙◌, ap, subst, sym, refl, ℕ, ◌<◌, Bool, true, ◌&&◌, Option, Some, List, [], ◌∷◌, ◌++◌, All, ℤ, pos}
+use Rattle.std.proofs.Common.{◌≡◌, ◌∙◌, ap, subst, sym, ℕ, true, List, [], ◌∷◌, All, ℤ}
 use Rattle.std.specs.List.{list_all}
 use Rattle.std.proofs.lemmas.Bool.{and_parts, or_left}
 use Rattle.std.proofs.lemmas.List.{append-nil}
@@ -7,7 +7,7 @@ use Rattle.std.proofs.lemmas.List.Elements.{All-weaker}
 use Rattle.std.proofs.lemmas.List.Sums.{AllPass-from_list_all}
 use Rattle.rx_plain.specs.Formed.{Formed, pure}
 use Rattle.rx_poly.specs.Constants.{number, variable}
-use Rattle.rx_poly.specs.Limits.{body_difference, is_within, of_terms}
+use Rattle.rx_poly.specs.Limits.{body_difference, is_within}
 use Rattle.rx_poly.specs.Normal.{is_poly}
 use Rattle.rx_poly.specs.Substitution.{replaced, subst_body}
 use Rattle.rx_poly.specs.Variables.{uses_below}
@@ -21,13 +21,10 @@ use Rattle.rx_row.specs.declared.row.Row.{Row}
 use Rattle.rx_row.specs.declared.row.Row.TheVariants.{Eq}
 use Rattle.rx_row.proofs.Membership.{contains-stands}
 use Rattle.rx_cert.specs.Conditions.{is_evident, is_plain_row}
-use Rattle.rx_cert.specs.Findings.{Yes}
-use Rattle.rx_cert.specs.Showing.{shown}
-use Rattle.rx_solve.specs.Refuter.{refuted}
 use Rattle.rx_term.specs.Variables.{polys_use_below}
 use Rattle.rx_lemma_laws.proofs.Common.{AreInstances, HasInstance, IsInstance, Nothing, OneMore, is_instance, kept_row, plain_is_shown, zero_is_plain}
 use Rattle.rx_lemma_laws.proofs.NamingStanding.{Aligned, Gives, RowStands, Stands, OldRow, NewRow, Same, Known, New}
-use Rattle.rx_lemma_laws.proofs.NamingValues.{in_value, value_of, variable_uses}
+use Rattle.rx_lemma_laws.proofs.NamingValues.{in_value, variable_uses}
 use Rattle.rx_lemma_laws.proofs.Polynomials.{replaces_from, stays_itself}
 
 module _ (given : List Row) (bound : ℕ) (ws : List (ℕ × Body)) (fresh : ℕ)

@@ -1,6 +1,6 @@
 -- What stands in place of a goal's polynomials and rows where constants are named, and why the rows
 -- that a step on to it asks are plain.
-use Rattle.std.proofs.Common.{◌≡◌, ◌∙◌, ap, subst, sym, refl, ℕ, zero, suc, ◌+◌, ◌<◌, ◌≤◌, ◌==◌, Bool, true, false, ◌&&◌, ◌||◌, cond, Option, Some, None, List, [], ◌∷◌, ◌++◌, length, get_or, map, slice_get, slice_set, All, Contains, ℤ, pos, arith}
+use Rattle.std.proofs.Common.{◌≡◌, ◌∙◌, ap, subst, sym, refl, ℕ, zero, suc, ◌+◌, ◌<◌, ◌≤◌, ◌==◌, Bool, true, false, cond, Some, None, List, [], ◌∷◌, ◌++◌, get_or, slice_get, slice_set, All, Contains, ℤ, pos, arith}
 use Rattle.std.specs.List.{list_all}
 use Rattle.std.proofs.lemmas.Bool.{and_from, and_parts}
 use Rattle.std.proofs.lemmas.Bool.Decides.{nat_tests}
@@ -63,8 +63,8 @@ pub gives_new : (ws : List (ℕ × Body)) (v : ℕ) (c : ℤ) →
 gives_new ws v c ahead =
     let same : (v == v) ≡ true = grind (arith, nat_tests) in
     λ us. ap (λ (xs : List (ℕ × Body)). replaced xs v) (append_assoc ws ((v, number c) ∷ []) us)
-        ∙ ahead ((v, number c) ∷ us)
-        ∙ ap (λ (b : Bool). cond b (number c) (replaced us v)) same
+    ∙ ahead ((v, number c) ∷ us)
+    ∙ ap (λ (b : Bool). cond b (number c) (replaced us v)) same
 
 -- other variables aren't in the longer list either
 pub passed_more : (ws : List (ℕ × Body)) (w : ℕ × Body) (v : ℕ) → (w.0 == v) ≡ false →
@@ -118,9 +118,11 @@ module _ (given : List Row) (bound : ℕ) where
       set_in [] qs place a h e = absurd (none-some p e)
       set_in (x ∷ xs) [] place a h e = absurd a
       set_in (x ∷ xs) (q ∷ qs) zero a h e =
-          let poly = (and_parts (is_poly q) (list_all is_poly qs) h).0 in
-          (change q poly (subst (λ (y : Body). Stands given bound ws fresh y q) (same_Some x p e)
-          a.0), a.1)
+          let poly = (and_parts (is_poly q) (list_all is_poly qs) h).0 in (
+            change q poly (subst (λ (y : Body). Stands given bound ws fresh y q) (same_Some x p e)
+                a.0),
+            a.1,
+          )
       set_in (x ∷ xs) (q ∷ qs) (suc i) a h e =
           (a.0, set_in xs qs i a.1 (and_parts (is_poly q) (list_all is_poly qs) h).1 e)
 

@@ -1,9 +1,9 @@
 -- Numbers, and the row that gives a variable its value.
-use Rattle.std.proofs.Common.{◌≡◌, ◌∙◌, ap, subst, sym, refl, ℕ, ◌<◌, ◌≤◌, ◌==◌, Bool, true, false, ◌&&◌, cond, Option, Some, None, List, [], ◌∷◌, map, ℤ, pos, neg_ℤ, ◌-ℤ◌, arith}
+use Rattle.std.proofs.Common.{◌≡◌, ◌∙◌, ap, subst, sym, refl, ℕ, ◌<◌, ◌==◌, Bool, true, false, ◌&&◌, cond, Some, None, List, [], ◌∷◌, map, ℤ, pos, neg_ℤ, ◌-ℤ◌, arith}
 use Rattle.std.specs.Prelude.{nat_lt}
 use Rattle.std.specs.declared.cmp.Ordering.{Ordering}
 use Rattle.std.specs.declared.cmp.Ordering.TheVariants.{Less}
-use Rattle.std.proofs.lemmas.Bool.{and_from, and_parts, eqb-true, false_from_ne_true, ltb-true}
+use Rattle.std.proofs.lemmas.Bool.{and_parts, false_from_ne_true, ltb-true}
 use Rattle.std.proofs.lemmas.Bool.Decides.{nat_tests}
 use Rattle.std.proofs.lemmas.Int.{ints}
 use Rattle.std.proofs.lemmas.Option.{same_Some}
@@ -19,10 +19,10 @@ use Rattle.rx_poly.specs.Terms.{add_terms, cons_nonzero, insert_by, insert_term,
 use Rattle.rx_poly.specs.Value.{value}
 use Rattle.rx_poly.specs.Variables.{uses_below}
 use Rattle.rx_poly.specs.declared.body.Atom.TheVariants.{Var}
-use Rattle.rx_poly.specs.declared.body.Body.{Body, out-Body, roll-Body, roll-out-Body}
+use Rattle.rx_poly.specs.declared.body.Body.{Body, out-Body, roll-out-Body}
 use Rattle.rx_poly.specs.declared.body.Mono.{Mono, out-Mono, roll-Mono, roll-out-Mono}
 use Rattle.rx_poly.proofs.Alone.{one_factor, replaced_alone}
-use Rattle.rx_poly.proofs.Constants.{number-nonzero, number_poly, number_within, value-number, value-variable, variable_poly}
+use Rattle.rx_poly.proofs.Constants.{number-nonzero, number_poly, number_within, value-number, value-variable}
 use Rattle.rx_poly.proofs.Emptiness.{empty_is}
 use Rattle.rx_poly.proofs.Levels.{atoms-of_atoms, terms-of_terms}
 use Rattle.rx_poly.proofs.Neutral.{poly_within, zero_sum}
@@ -109,10 +109,10 @@ nothing_left : (c : ℤ) → fits_i128 c ≡ true → is_zero c ≡ false →
     body_sum (number c) (number (neg_ℤ c)) ≡ of_terms []
 nothing_left c fits e =
     let turned : is_zero (neg_ℤ c) ≡ false = false_from_ne_true (is_zero (neg_ℤ c)) (λ z.
-        let other = zero_is (neg_ℤ c) z in
-        let same : c ≡ pos 0 = omega (arith, ints) in
-        let zero : is_zero c ≡ true = ap is_zero same in
-        cc) in
+    let other = zero_is (neg_ℤ c) z in
+    let same : c ≡ pos 0 = omega (arith, ints) in
+    let zero : is_zero c ≡ true = ap is_zero same in
+    cc) in
     (λ i. body_sum (number-nonzero c e i) (number-nonzero (neg_ℤ c) turned i))
     ∙ (λ i. of_terms (add_terms mono_cmp (terms-of_terms ((none, c) ∷ []) i)
     (terms-of_terms ((none, neg_ℤ c) ∷ []) i)))
@@ -226,8 +226,8 @@ below_by : (n v : ℕ) (c : ℤ) → uses_below n (value_of v c) ≡ true → (b
 below_by n v c uses true h = ltb-true v n h
 below_by n v c uses false h =
     let agree : (k : ℕ) → k < n → nowhere k ≡ marked v k = λ k lt.
-        let other : (k == v) ≡ false = grind (arith, nat_tests) in
-        sym (marked_other v k other) in
+    let other : (k == v) ≡ false = grind (arith, nat_tests) in
+    sym (marked_other v k other) in
     let same = sym (value-is nowhere v c) ∙
     same_value_below nowhere (marked v) n (value_of v c) agree uses ∙ value-is (marked v) v c in
     let one = marked_itself v in
