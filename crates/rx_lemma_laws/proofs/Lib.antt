@@ -6,3 +6,4 @@ pub mod NamingStanding
 pub mod NamingTerms
 pub mod NamingValues
 pub mod Polynomials
+pub mod Terms
