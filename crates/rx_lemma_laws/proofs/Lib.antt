@@ -12,3 +12,4 @@ pub mod NamingTerms
 pub mod NamingValues
 pub mod NormalForms
 pub mod Polynomials
+pub mod Terms

@@ -45,8 +45,9 @@ use Rattle.rx_lemma_laws.specs.LawfulNaming.{NamingIsLawful}
 use Rattle.rx_lemma_laws.proofs.Common.{lawful}
 use Rattle.rx_lemma_laws.proofs.NamingRows.{all_instances, rows_instances}
 use Rattle.rx_lemma_laws.proofs.NamingStanding.{Aligned, NewRow, New, RowStands, Stands, aligned_below, aligned_itself, aligned_more, gives_new, known_stands, number_at, passed_more, rows_below, rows_more, rows_pushed, rows_themselves, set_after, number_stands}
-use Rattle.rx_lemma_laws.proofs.NamingTerms.{below_arguments, replaced_call}
+use Rattle.rx_lemma_laws.proofs.NamingTerms.{replaced_call}
 use Rattle.rx_lemma_laws.proofs.Polynomials.{replaces_from}
+use Rattle.rx_lemma_laws.proofs.Terms.{below_by_arguments}
 
 -- ---- what naming goes on with
 
@@ -148,11 +149,11 @@ module _ (parts : RuleParts) (goal : Equation) (holds : IsGoal parts goal) where
 
     goal_below : (side : Side) → polys_use_below n (arguments_of (side_of side goal)) ≡ true
     goal_below Left =
-        sym (below_arguments n goal.left) ∙
+        sym (below_by_arguments n goal.left) ∙
         (and_parts (term_uses_below n goal.left) (term_uses_below n goal.right)
         (and_parts both_below (rows_use_below n goal.rows) all_below).0).0
     goal_below Right =
-        sym (below_arguments n goal.right) ∙
+        sym (below_by_arguments n goal.right) ∙
         (and_parts (term_uses_below n goal.left) (term_uses_below n goal.right)
         (and_parts both_below (rows_use_below n goal.rows) all_below).0).1
 
@@ -367,7 +368,7 @@ module _ (parts : RuleParts) (goal : Equation) (holds : IsGoal parts goal) where
   module _ (m : Naming) (ready : Ready m) where
     side_below : (side : Side) → term_uses_below m.fresh (side_of side m.goal) ≡ true
     side_below side =
-        below_arguments m.fresh (side_of side m.goal)
+        below_by_arguments m.fresh (side_of side m.goal)
         ∙ aligned_below goal.rows bound m.subst m.fresh (arguments_of (side_of side m.goal))
         (arguments_of (side_of side goal)) ready.base (goal_below m.fresh ready.base side)
         (ready.sides side).0

@@ -1,5 +1,5 @@
--- What stands in place of a goal's polynomials and rows where constants are named, and why the rows
--- that a step on to it asks are plain.
+-- What stands in place of a goal's polynomials and rows where constants are named, and that it still
+-- does where one more is.
 use Rattle.std.proofs.Common.{◌≡◌, ◌∙◌, ap, subst, sym, refl, ℕ, zero, suc, ◌+◌, ◌<◌, ◌≤◌, ◌==◌, Bool, true, false, cond, Some, None, List, [], ◌∷◌, ◌++◌, get_or, slice_get, slice_set, All, Contains, ℤ, pos, arith}
 use Rattle.std.specs.List.{list_all}
 use Rattle.std.proofs.lemmas.Bool.{and_from, and_parts}

@@ -1,54 +1,19 @@
--- A term by its polynomials, and another call in place of the call that it ends in.
-use Rattle.std.proofs.Common.{◌≡◌, ◌∙◌, ap, sym, refl, ℕ, suc, ◌+◌, Bool, true, false, ◌&&◌, Option, Some, None, List, [], ◌++◌, length, arith}
+-- Another call in place of the call that a term ends in.
+use Rattle.std.proofs.Common.{◌≡◌, ◌∙◌, ap, sym, ℕ, suc, ◌+◌, true, false, ◌&&◌, Option, Some, None, List, [], ◌++◌, length, arith}
 use Rattle.std.specs.Option.{option_map_or}
 use Rattle.std.proofs.lemmas.List.{append_assoc}
-use Rattle.std.proofs.lemmas.List.Folds.{list_all-append}
 use Rattle.std.proofs.lemmas.Option.{same_Some}
-use Rattle.rx_poly.specs.Variables.{uses_below}
 use Rattle.rx_poly.specs.declared.body.Body.{Body}
 use Rattle.rx_term.specs.Fitting.{is_declared, term_fits}
 use Rattle.rx_term.specs.Stacks.{redex_place, replace_redex, replace_at}
-use Rattle.rx_term.specs.Variables.{arguments_of, polys_use_below, term_uses_below}
+use Rattle.rx_term.specs.Variables.{arguments_of}
 use Rattle.rx_term.specs.declared.rule_set.RuleParts.{RuleParts}
 use Rattle.rx_term.specs.declared.term.Sym.{Sym}
 use Rattle.rx_term.specs.declared.term.Term.{Term}
-use Rattle.rx_term.specs.declared.term.Term.TheFolds.{fold_out-Term}
-use Rattle.rx_term.specs.declared.term.Term.TheVariants.{Return, Fail, Call, Frame, outs-Return, outs-Fail, outs-Call, outs-Frame}
-use Rattle.rx_term.proofs.Equations.{induct, arguments-Return, arguments-Fail, arguments-Call, arguments-Frame, below-Return, below-Fail, below-Call, below-Frame, fits-Call, fits-Frame, redex-Call, redex-Frame, replace_at-Frame}
-use Rattle.rx_lemma.specs.Calls.{Applied, call_level, call_of}
-
--- ---- by the polynomials
-
-alone_is : (b : Bool) → (b && true) ≡ b
-alone_is true = refl
-alone_is false = refl
-
-module _ (n : ℕ) where
-  pub below_arguments : (t : Term) → term_uses_below n t ≡ polys_use_below n (arguments_of t)
-  below_arguments = induct (λ t. term_uses_below n t ≡ polys_use_below n (arguments_of t))
-      (λ p. below-Return n p ∙ sym (alone_is (uses_below n p)) ∙
-      sym (ap (polys_use_below n) (arguments-Return p)))
-      (λ c. below-Fail n c ∙ sym (ap (polys_use_below n) (arguments-Fail c)))
-      (λ f ps. below-Call n f ps ∙ sym (ap (polys_use_below n) (arguments-Call f ps)))
-      (λ f ps t inner. below-Frame n f ps t ∙ ap (λ b. polys_use_below n ps && b) inner
-      ∙ sym (list_all-append (uses_below n) ps (arguments_of t))
-      ∙ sym (ap (polys_use_below n) (arguments-Frame f ps t)))
-
--- ---- the call of a term
-
-call-Return : (p : Body) → call_of (Return p) ≡ None
-call-Return p = fold_out-Term (Option Applied) call_level (Return p) ∙ rw (outs-Return p) refl
-
-call-Fail : (c : ℕ) → call_of (Fail c) ≡ None
-call-Fail c = fold_out-Term (Option Applied) call_level (Fail c) ∙ rw (outs-Fail c) refl
-
-call-Call : (f : Sym) (ps : List Body) → call_of (Call f ps) ≡
-    Some (record { symbol = f; arguments = ps })
-call-Call f ps = fold_out-Term (Option Applied) call_level (Call f ps) ∙ rw (outs-Call f ps) refl
-
-call-Frame : (f : Sym) (ps : List Body) (t : Term) → call_of (Frame f ps t) ≡ call_of t
-call-Frame f ps t =
-    fold_out-Term (Option Applied) call_level (Frame f ps t) ∙ rw (outs-Frame f ps t) refl
+use Rattle.rx_term.specs.declared.term.Term.TheVariants.{Call, Frame}
+use Rattle.rx_term.proofs.Equations.{induct, arguments-Call, arguments-Frame, fits-Call, fits-Frame, redex-Call, redex-Frame, replace_at-Frame}
+use Rattle.rx_lemma.specs.Calls.{Applied, call_of}
+use Rattle.rx_lemma_laws.proofs.Terms.{call-Return, call-Fail, call-Call, call-Frame}
 
 no_call : (c : Applied) → ◌≡◌ {A = Option Applied} None (Some c) → ⊥
 no_call c e = cc
