@@ -35,7 +35,8 @@ use Rattle.rx_lemma_laws.proofs.Common.{AreInstances, Nothing, OneMore, is_insta
 use Rattle.rx_lemma_laws.proofs.Polynomials.{are_polys, replaces_from, stays_itself}
 use Rattle.rx_lemma_laws.proofs.GeneralisingOccurrences.{repeated_pass}
 use Rattle.rx_lemma_laws.proofs.GeneralisingRows.{AreFitting, fitting_instances, fitting_low, others_fit, rows_added_fit, rule_rows_low}
-use Rattle.rx_lemma_laws.proofs.GeneralisingTerms.{below_by_arguments, low_after, more_general, replaced_fits, replaced_shape}
+use Rattle.rx_lemma_laws.proofs.GeneralisingTerms.{low_after, more_general, replaced_fits, replaced_shape}
+use Rattle.rx_lemma_laws.proofs.Terms.{below_by_arguments}
 use Rattle.rx_lemma_laws.proofs.GeneralisingVariables.{new_ones_substitute, replace_new_ones}
 
 -- ---- what an equation is like

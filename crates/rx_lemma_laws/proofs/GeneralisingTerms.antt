@@ -1,6 +1,6 @@
--- Terms with variables in place of polynomials: what they keep, and of which they are more general;
--- and the polynomials that occur in them, and in their calls.
-use Rattle.std.proofs.Common.{◌≡◌, ◌∙◌, ap, subst, sym, refl, ℕ, ◌+◌, ◌≤◌, Bool, true, false, ◌&&◌, Option, Some, None, List, [], ◌∷◌, ◌++◌, length, map}
+-- Terms with variables in place of polynomials: what they keep, and that they are more general; and
+-- the polynomials of the call of a term.
+use Rattle.std.proofs.Common.{◌≡◌, ◌∙◌, ap, subst, sym, refl, ℕ, ◌+◌, ◌≤◌, Bool, true, false, ◌&&◌, Option, List, [], ◌∷◌, ◌++◌, length, map}
 use Rattle.std.specs.Prelude.{IfSome}
 use Rattle.std.specs.List.{list_all}
 use Rattle.std.proofs.lemmas.Bool.{and_from, and_parts}
@@ -10,20 +10,21 @@ use Rattle.rx_poly.specs.Normal.{is_poly}
 use Rattle.rx_poly.specs.Variables.{uses_below}
 use Rattle.rx_poly.specs.declared.body.Body.{Body}
 use Rattle.rx_row.specs.declared.row.Row.{Row}
-use Rattle.rx_term.proofs.Equations.{arguments-Return, arguments-Fail, arguments-Call, arguments-Frame, below-Return, below-Fail, below-Call, below-Frame, fits-Call, fits-Frame, induct, shape-Call, shape-Frame}
+use Rattle.rx_term.proofs.Equations.{arguments-Return, arguments-Fail, arguments-Call, arguments-Frame, fits-Call, fits-Frame, induct, shape-Call, shape-Frame}
 use Rattle.rx_term.specs.Fitting.{is_declared, term_fits}
 use Rattle.rx_term.specs.Shapes.{Frame, shape_of}
-use Rattle.rx_term.specs.Variables.{arguments_of, polys_use_below, term_uses_below}
+use Rattle.rx_term.specs.Variables.{arguments_of, polys_use_below}
 use Rattle.rx_term.specs.declared.rule_set.RuleParts.{RuleParts}
 use Rattle.rx_term.specs.declared.term.Sym.{Sym}
 use Rattle.rx_term.specs.declared.term.Term.{Term}
 use Rattle.rx_term.specs.declared.term.Term.TheFolds.{fold_out-Term}
 use Rattle.rx_term.specs.declared.term.Term.TheVariants as made
 use Rattle.rx_term.specs.declared.term.Term.TheVariants.{outs-Return, outs-Fail, outs-Call, outs-Frame}
-use Rattle.rx_lemma.specs.Calls.{Applied, call_level, call_of}
+use Rattle.rx_lemma.specs.Calls.{Applied, call_of}
 use Rattle.rx_generalise.specs.Repeated.{new_variables, replaced_by, replaced_in, replaced_level}
 use Rattle.rx_lemma_laws.proofs.Common.{AreInstances, Nothing, OneMore, instances_together, is_instance}
 use Rattle.rx_lemma_laws.proofs.Polynomials.{are_polys, stays_itself}
+use Rattle.rx_lemma_laws.proofs.Terms.{call-Return, call-Fail, call-Call, call-Frame}
 use Rattle.rx_lemma_laws.proofs.GeneralisingVariables.{all_replaced_below, replace_new_ones, replaced_instances}
 
 -- ---- by their form
@@ -175,22 +176,6 @@ module _ (given : List Row) (m : ℕ) (ps : List Body) where
         (λ c h. ap (λ (t : Term). polys_use_below limit (arguments_of t)) (in_Fail ws c) ∙ h)
         low_call low_frame
 
--- the variables of a term are those of its polynomials
-pub below_by_arguments : (n : ℕ) (t : Term) → term_uses_below n t ≡
-    polys_use_below n (arguments_of t)
-below_by_arguments n = induct (λ t. term_uses_below n t ≡ polys_use_below n (arguments_of t))
-    (λ p. below-Return n p ∙ sym (alone (uses_below n p)) ∙
-    sym (ap (polys_use_below n) (arguments-Return p)))
-    (λ c. below-Fail n c ∙ sym (ap (polys_use_below n) (arguments-Fail c)))
-    (λ f ps. below-Call n f ps ∙ sym (ap (polys_use_below n) (arguments-Call f ps)))
-    (λ f ps t inner. below-Frame n f ps t ∙ ap (λ b. polys_use_below n ps && b) inner
-    ∙ sym (list_all-append (uses_below n) ps (arguments_of t))
-    ∙ sym (ap (polys_use_below n) (arguments-Frame f ps t)))
-  where
-    alone : (b : Bool) → (b && true) ≡ b
-    alone true = refl
-    alone false = refl
-
 -- ---- their calls
 
 -- a call that is declared, and whose polynomials use only variables below a limit
@@ -206,22 +191,6 @@ module _ (parts : RuleParts) (limit : ℕ) where
 
   abbrev of_call : Option Applied → Type 0
   of_call o = IfSome o (IsCallBelow parts limit)
-
-  call-Return : (p : Body) → call_of (made.Return p) ≡ None
-  call-Return p =
-      fold_out-Term (Option Applied) call_level (made.Return p) ∙ rw (outs-Return p) refl
-
-  call-Fail : (c : ℕ) → call_of (made.Fail c) ≡ None
-  call-Fail c = fold_out-Term (Option Applied) call_level (made.Fail c) ∙ rw (outs-Fail c) refl
-
-  call-Call : (f : Sym) (ps : List Body) → call_of (made.Call f ps) ≡
-      Some (record { symbol = f; arguments = ps })
-  call-Call f ps =
-      fold_out-Term (Option Applied) call_level (made.Call f ps) ∙ rw (outs-Call f ps) refl
-
-  call-Frame : (f : Sym) (ps : List Body) (t : Term) → call_of (made.Frame f ps t) ≡ call_of t
-  call-Frame f ps t =
-      fold_out-Term (Option Applied) call_level (made.Frame f ps t) ∙ rw (outs-Frame f ps t) refl
 
   frame_calls : (f : Sym) (ps : List Body) (t : Term) → Calls t → Calls (made.Frame f ps t)
   frame_calls f ps t inner fits h =
