@@ -1,0 +1,4 @@
+-- Lemmas as lawful steps.
+pub mod Lawful
+pub mod LawfulGeneralisations
+pub mod LawfulNaming
