@@ -157,24 +157,48 @@ can_lemmas [] = All-nil CanBeTried
 can_lemmas (l ∷ ls) =
     All-cons CanBeTried (lemma_candidate l) (map lemma_candidate ls) (can_lemma l) (can_lemmas ls)
 
-can_expand : (number : ℕ) (side : Side) (keep : Bool) →
-    CanBeTried (record { number = number; keeps = keep; step = steps.Expand side keep })
+abbrev expanding : ℕ → Side → Bool → Candidate
+expanding number side keep =
+    record { number = number; keeps = keep; step = steps.Expand side keep }
+
+can_expand : (number : ℕ) (side : Side) (keep : Bool) → CanBeTried (expanding number side keep)
 can_expand number side keep = record { rows = refl; unkept = λ e. e }
+
+abbrev decomposing : Candidate
+decomposing = record { number = 5; keeps = false; step = steps.Decompose [] }
+
+can_decompose : CanBeTried decomposing
+can_decompose = record { rows = refl; unkept = λ e. tt }
+
+-- what comes after the third, the second and the first
+abbrev last : List Candidate
+last = expanding 4 Right false ∷ decomposing ∷ []
+
+abbrev later : List Candidate
+later = expanding 3 Left false ∷ last
+
+abbrev next : List Candidate
+next = expanding 2 Right true ∷ later
+
+can_last : All CanBeTried last
+can_last =
+    All-cons CanBeTried (expanding 4 Right false) (decomposing ∷ []) (can_expand 4 Right false)
+    (All-cons CanBeTried decomposing [] can_decompose (All-nil CanBeTried))
+
+can_next : All CanBeTried next
+can_next =
+    All-cons CanBeTried (expanding 2 Right true) later (can_expand 2 Right true)
+    (All-cons CanBeTried (expanding 3 Left false) last (can_expand 3 Left false) can_last)
+
+can_all : All CanBeTried expansions
+can_all = All-cons CanBeTried (expanding 1 Left true) next (can_expand 1 Left true) can_next
 
 can_expansions : (others : List Candidate) → All CanBeTried others →
     All CanBeTried (expansions ++ others)
-can_expansions others can =
-    All-append CanBeTried expansions others
-    (All-cons CanBeTried _ _ (can_expand 1 Left true)
-    (All-cons CanBeTried _ _ (can_expand 2 Right true)
-    (All-cons CanBeTried _ _ (can_expand 3 Left false)
-    (All-cons CanBeTried _ _ (can_expand 4 Right false)
-    (All-cons CanBeTried _ _ (record { rows = refl; unkept = λ e. tt })
-    (All-nil CanBeTried))))))
-    can
+can_expansions others can = All-append CanBeTried expansions others can_all can
 
 can_by : (made : Option (List Generalisation)) → All CanBeTried (candidates_by made).all
-can_by None = can_expansions [] (All-nil CanBeTried)
+can_by None = can_all
 can_by (Some ls) = can_expansions (map lemma_candidate ls) (can_lemmas ls)
 
 pub all_can : (found : Candidates) (made : Option (List Generalisation)) →

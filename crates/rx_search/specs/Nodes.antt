@@ -1,5 +1,5 @@
 -- Which nodes a search comes to, as calls have them, and what comes of choices at one.
-use Rattle.std.specs.Prelude.{◌≡◌, ◌==◌, ◌||◌, if◌then◌else◌, ℕ, Bool, true, false, Option, Some, None, Ok, List, [], ◌∷◌, ◌++◌, map, slice_get}
+use Rattle.std.specs.Prelude.{◌≡◌, Bool, true, false, Some, None, Ok, List, map}
 use Rattle.std.specs.List.{filter_map}
 use Rattle.std.specs.Option.{option_map}
 use Rattle.std.specs.Borrow.{GName}
@@ -8,24 +8,21 @@ use Rattle.rx_solve.specs.Attempts.{Tried}
 use Rattle.rx_term.specs.WellMade.{IsWellMade}
 use Rattle.rx_term.specs.declared.rule.Equation.{Equation}
 use Rattle.rx_term.specs.declared.rule_set.RuleParts.{RuleParts}
-use Rattle.rx_form.specs.States.{State}
-use Rattle.rx_form.specs.declared.step.Step.{Step}
 use Rattle.rx_joins.specs.Goals.{IsFitting}
 use Rattle.rx_joins.specs.Runs as runs
 use Rattle.rx_rank.specs.Ranking.{ranked}
 use Rattle.rx_settle.specs.Answers.{AreDeep, after_all}
-use Rattle.rx_unfold.specs.Moves.{Decompose, Expand, Generalise, Move, move_of}
+use Rattle.rx_unfold.specs.Moves.{Decompose, Expand, Generalise, Move}
 use Rattle.rx_settle.specs.Settling.{most_moves}
 use Rattle.rx_unfold.specs.Trying.{Next}
 use Rattle.rx_search.specs.Menu.{Chosen, is_any_noted}
-use Rattle.rx_node.specs.Nodes as nodes
+use Rattle.rx_node.specs.Calls.{node_of}
 use Rattle.rx_node.specs.Nodes.{node_with}
 use Rattle.rx_search.specs.Search.{child}
 use Rattle.rx_node.specs.declared.node.Node.{Node}
 use Rattle.rx_node.specs.declared.choices.Trial.{Trial}
 use Rattle.rx_node.specs.declared.choices.Choices.{Choices}
 use Rattle.rx_visits.specs.Views.{seen_choice}
-use Rattle.rx_visits.specs.declared.tree.Choice.{Choice}
 
 module _ (parts : RuleParts) (goal : Equation) where
   -- the rules are well made and the goal fits them; the steps lead from it to the state, and no

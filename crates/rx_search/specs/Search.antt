@@ -11,7 +11,6 @@ use Rattle.rx_rank.specs.Ranking.{ranked}
 use Rattle.rx_unfold.specs.Moves.{Move}
 use Rattle.rx_settle.specs.Settling.{most_moves, rows_if, settle}
 use Rattle.rx_settle.specs.Settling as settling
-use Rattle.rx_unfold.specs.Trying.{Next}
 use Rattle.rx_node.specs.Nodes.{Node, is_closed, node_with}
 use Rattle.rx_node.specs.Nodes as nodes
 use Rattle.rx_search.specs.Menu.{Chosen, chosen, is_any_noted}

@@ -34,7 +34,8 @@ fn try_alone<S: FnMut(&Constraint) -> Result<Option<Cert>, FmEnd>>(
     requires can { CanBeTried candidate }
     requires solver { IsSolver S.FnMut solve.old }
     ensures solver { IsSolver S.FnMut solve.new }
-    ensures seen { IfOk result (λ k. seen_known k ≡ attempted_by rules.now (alone goal.now) candidate) }
+    ensures seen { IfOk result (λ k. seen_known k ≡
+        attempted_by rules.now (alone goal.now) candidate) }
     ensures right { IfOk result (IsRightChoice rules.now goal.now) }
 {
     let Candidate {

@@ -1,5 +1,6 @@
 -- All choices; where the lemmas pass the limits that is noted.
-use Rattle.std.proofs.Common.{◌≡◌, ◌∙◌, ap, subst}
+use Rattle.std.proofs.Common.{◌∙◌, ap, subst}
+use Rattle.std.proofs.lemmas.Bool.{not-false, not-true}
 use Rattle.rx_generalise.specs.Generalising.{generalisations}
 use Rattle.rx_node.specs.Candidates.{candidates_by}
 use Rattle.rx_steps.specs.Alone.{alone}
@@ -20,8 +21,8 @@ returns-then-not-found-clause-right g c =
     let is = c.in_ok-found.ensures.found ∙
     ap (λ e. candidates_by (generalisations rules e)) c.get.ensures in
     subst (λ found. AreOf rules goal (attempted_all rules (alone goal) found) c.in_ok-known.known) is
-    (none_noted rules goal c.in_ok-found.found c.in_ok-known.known c.if-not-found.true
-    c.in_ok-known.ensures.known)
+    (none_noted rules goal c.in_ok-found.found c.in_ok-known.known
+    (not-true c.in_ok-found.found.noted c.if-not-found.true) c.in_ok-known.ensures.known)
 
 pub returns-clause-right : goal.returns-clause-right
 returns-clause-right g c =
@@ -31,5 +32,6 @@ returns-clause-right g c =
     ap (λ e. candidates_by (generalisations rules e)) c.get.ensures in
     subst (λ found. AreOf rules goal (attempted_all rules (alone goal) found)
     c.push_noted.new.known) is
-    (all_noted rules goal c.in_ok-found.found c.push_noted.new.known c.if-not-found.false
+    (all_noted rules goal c.in_ok-found.found c.push_noted.new.known
+    (not-false c.in_ok-found.found.noted c.if-not-found.false)
     (c.in_ok-push_noted.ensures rules _ c.in_ok-known.ensures.known))
