@@ -1,2 +1,3 @@
 -- What a memo has of goals.
+pub mod Buckets
 pub mod Kept

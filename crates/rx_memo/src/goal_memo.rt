@@ -1,13 +1,15 @@
 //! What is kept of goals, in buckets.
-ghost use Rattle.std.specs.Prelude.{◌≡◌, ◌⊎◌, All, IfOk, IfSome};
+ghost use Rattle.std.specs.Prelude.{◌≡◌, ◌⊎◌, [], All, IfOk, IfSome};
 ghost use Rattle.std.specs.Option.{option_copied};
-ghost use Rattle.rx_memo.specs.Kept.{HasAny, HasIn, IsEmpty, IsKept, IsThat};
+ghost use Rattle.rx_memo.specs.Buckets.{HasAny, IsEmpty};
+ghost use Rattle.rx_memo.specs.Kept.{IsKept, IsThat};
 ghost use Rattle.rx_term.specs.declared.rule.Equation.{Equation};
 
 use crate::digest::digest_of;
 use rx_plain::{NoMemory, Shared};
 use rx_term::Equation;
 use std::alloc::Global;
+use std::marker::Model;
 
 /// The number of buckets in which the goals are kept.
 const BUCKETS: usize = 256;
@@ -17,18 +19,33 @@ const MOST_IN_BUCKET: usize = 64;
 
 /// What is kept of a goal.
 #[derive(Drop)]
-pub(crate) struct Kept<V> {
+pub struct Kept<V> {
     /// The goal.
-    pub(crate) goal: Shared<Equation>,
+    pub goal: Shared<Equation>,
     /// What is kept of it.
-    pub(crate) value: Shared<V>,
+    pub value: Shared<V>,
 }
 
-/// What is kept of at most 16,384 goals, of each bucket the first 64. Nothing is taken out again.
+/// What is kept of at most 16,384 goals. Nothing is taken out again. Contracts see the list of all
+/// that is kept.
 #[derive(Drop)]
 pub struct GoalMemo<V> {
-    /// Each goal is in the bucket that its digest chooses.
-    pub(crate) buckets: Vec<Vec<Kept<V>>>,
+    // Each goal is in the bucket that its digest chooses; a bucket has the first 64.
+    buckets: Vec<Vec<Kept<V>>>,
+}
+
+impl<V> Model for GoalMemo<V> {
+    ghost use Rattle.std.specs.Prelude.{List};
+    ghost use Rattle.std.specs.Coded.{codes, coded_list};
+    ghost use Rattle.rx_memo.specs.Buckets.{all_kept};
+    ghost use Rattle.rx_term.specs.contracts.rule.Equation as equation_row;
+    ghost use Rattle.rx_memo.specs.declared.goal_memo.Kept.{Kept};
+
+    ghost Value = { List (Kept V) };
+
+    ghost coded = { Prim.hlevel (codes, equation_row.the_row.coded, V.code) };
+
+    ghost view = { λ m. all_kept m.buckets.items };
 }
 
 /// The number of a goal's bucket.
@@ -38,7 +55,7 @@ fn bucket_of(goal: &Equation) -> usize {
 
 /// What the bucket has of the goal, borrowed, if there is something.
 fn find_in<'a, V>(bucket: &'a [Kept<V>], goal: &Equation) -> Option<&'a Shared<V>>
-    ensures { IfSome (option_copied result) (HasIn bucket.now goal.now) }
+    ensures { IfSome (option_copied result) (IsKept bucket.now goal.now) }
 {
     for one in bucket {
         if one.goal.get().is_same(goal) {
@@ -54,8 +71,10 @@ fn push_in<V: Drop>(
     goal: Shared<Equation>,
     value: Shared<V>,
 ) -> Result<(), NoMemory>
-    ensures { (g : Equation) (v : V) → HasIn bucket.new.items g v →
-        HasIn bucket.old.items g v ⊎ IsThat goal value g v }
+    ensures only { (g : Equation) (v : V) → IsKept bucket.new.items g v →
+        IsKept bucket.old.items g v ⊎ IsThat goal value g v }
+    ensures stays { (g : Equation) (v : V) → IsKept bucket.old.items g v →
+        IsKept bucket.new.items g v }
 {
     if bucket.len() < MOST_IN_BUCKET {
         bucket.push(Kept { goal, value })?;
@@ -70,8 +89,10 @@ fn push_at<V: Drop>(
     goal: Shared<Equation>,
     value: Shared<V>,
 ) -> Result<(), NoMemory>
-    ensures { (g : Equation) (v : V) → HasAny buckets.new.items g v →
+    ensures only { (g : Equation) (v : V) → HasAny buckets.new.items g v →
         HasAny buckets.old.items g v ⊎ IsThat goal value g v }
+    ensures stays { (g : Equation) (v : V) → HasAny buckets.old.items g v →
+        HasAny buckets.new.items g v }
 {
     if at < buckets.len() {
         push_in(&mut buckets[at], goal, value)
@@ -94,7 +115,7 @@ fn empty_buckets<V: Drop>(alloc: Global) -> Result<Vec<Vec<Kept<V>>>, NoMemory>
 impl<V: Drop> GoalMemo<V> {
     /// Nothing is kept yet. Fails only where there is no memory.
     pub fn new(alloc: Global) -> Result<GoalMemo<V>, NoMemory>
-        ensures { IfOk result (λ memo. (g : Equation) (v : V) → IsKept memo g v → ⊥) }
+        ensures { IfOk result (λ memo. memo ≡ []) }
     {
         Ok(GoalMemo {
             buckets: empty_buckets(alloc)?,
@@ -112,8 +133,9 @@ impl<V: Drop> GoalMemo<V> {
     /// Keeps that of the goal, where there is room for it. What was kept before stays; where there
     /// is no memory nothing else is kept.
     pub fn keep(&mut self, goal: Shared<Equation>, value: Shared<V>) -> Result<(), NoMemory>
-        ensures { (g : Equation) (v : V) → IsKept self.new g v →
+        ensures only { (g : Equation) (v : V) → IsKept self.new g v →
             IsKept self.old g v ⊎ IsThat goal value g v }
+        ensures stays { (g : Equation) (v : V) → IsKept self.old g v → IsKept self.new g v }
     {
         let at = bucket_of(goal.get());
         push_at(&mut self.buckets, at, goal, value)

@@ -3,38 +3,41 @@ use Rattle.std.proofs.Common.{◌≡◌, ℕ, ◌+◌, ◌<◌, Bool, false, ◌
 use Rattle.std.specs.Prelude.{IfSome, OnOk}
 use Rattle.std.specs.List.{filter_map}
 use Rattle.std.specs.Option.{option_map}
-use Rattle.std.proofs.lemmas.List.{append_assoc, map-append, take_more}
+use Rattle.std.proofs.lemmas.List.{map-append, take_more}
 use Rattle.std.proofs.lemmas.List.Elements.{All-append, All-cons, All-nil, filter_map-append}
 use Rattle.std.proofs.lemmas.List.Folds.{list_any-append}
 use Rattle.rx_plain.proofs.Booleans.{or_false}
 use Rattle.rx_solve.specs.Attempts.{Tried}
 use Rattle.rx_unfold.specs.Trying.{Next}
 use Rattle.rx_search.specs.Menu.{Chosen, choice}
-use Rattle.rx_search.specs.Nodes.{AreChoices, IsTried, choice_of, node_of, with_choice}
-use Rattle.rx_search.specs.Search as search
-use Rattle.rx_search.specs.Search.{child, node_with}
-use Rattle.rx_search.specs.declared.choices.Choices.{Choices}
-use Rattle.rx_search.specs.declared.choices.Trial.{Trial}
-use Rattle.rx_search.specs.declared.node.Node.{Node}
+use Rattle.rx_node.specs.Calls.{choice_of, node_of, with_choice}
+use Rattle.rx_search.specs.Nodes.{AreChoices, IsTried}
+use Rattle.rx_node.specs.Nodes as nodes
+use Rattle.rx_node.specs.Nodes.{node_with}
+use Rattle.rx_search.specs.Search.{child}
+use Rattle.rx_node.specs.declared.choices.Choices.{Choices}
+use Rattle.rx_node.specs.declared.choices.Trial.{Trial}
+use Rattle.rx_node.specs.declared.node.Node.{Node}
 use Rattle.rx_visits.specs.Views.{seen_choice}
 use Rattle.rx_visits.specs.declared.tree.Choice.{Choice}
+use Rattle.rx_settle.specs.Settling.{most_moves}
 
 module _ (from : Node) where
-  abbrev applying : List Chosen → List (Choice search.Node)
+  abbrev applying : List Chosen → List (Choice nodes.Node)
   applying cs = filter_map (child (node_of from)) cs
 
-  abbrev seen : List (Choice Node) → List (Choice search.Node)
+  abbrev seen : List (Choice Node) → List (Choice nodes.Node)
   seen choices = map (seen_choice node_of) choices
 
   one_choice : (number : ℕ) (node : Option Node) (noted : Bool) (made : Option Next)
-      → option_map node_of node ≡ option_map (node_with (node_of from)) made
+      → option_map node_of node ≡ option_map (node_with most_moves (node_of from)) made
       → seen (choice_of number node) ≡ applying
       (choice number (record { made = made; noted = noted }) ∷ [])
   one_choice number None noted None same = refl
   one_choice number None noted (Some next) same = absurd cc
   one_choice number (Some node) noted None same = absurd cc
   one_choice number (Some node) noted (Some next) same =
-      let one : node_of node ≡ node_with (node_of from) next = cc in
+      let one : node_of node ≡ node_with most_moves (node_of from) next = cc in
       λ i. record { number = number; node = one i } ∷ []
 
   pub no_choices : (found : Choices) → found ≡ record { choices = []; noted = false } →
@@ -73,14 +76,6 @@ pub taken_more : {A B : Type 0} (f : A → B) (xs : List A) (i : ℕ) (x : A) �
 taken_more f xs i x there is =
     sym (ap (map f) (take_more xs i x there ∙ ap (λ y. take i xs ++ y ∷ []) (sym is)) ∙
     map-append f (take i xs) (x ∷ []))
-
--- one more lemma
-pub mapped_more : {A B C : Type 0} (f : B → C) (g : A → B) (cs : List C) (ys : List A) (y : A)
-    → (cs ++ map f (map g ys)) ++ f (g y) ∷ [] ≡ cs ++ map f (map g (ys ++ y ∷ []))
-mapped_more f g cs ys y =
-    append_assoc cs (map f (map g ys)) (f (g y) ∷ [])
-    ∙ ap (λ xs. cs ++ xs) (sym (ap (map f) (map-append g ys (y ∷ [])) ∙
-    map-append f (map g ys) (g y ∷ [])))
 
 module _ (P : Node → Type 0) where
   abbrev AtChoice : Choice Node → Type 0

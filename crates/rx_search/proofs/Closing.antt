@@ -18,11 +18,14 @@ use Rattle.rx_log.specs.Acceptance.{Accepted, Checked, Concludes, IsAccepted, On
 use Rattle.rx_log.specs.Acceptance as acceptance
 use Rattle.rx_log.specs.declared.log.Log.{Log}
 use Rattle.rx_unfold.specs.Moves.{move_of}
-use Rattle.rx_search.specs.Nodes.{IsNode, node_of}
+use Rattle.rx_node.specs.Calls.{node_of}
+use Rattle.rx_search.specs.Nodes.{IsNode}
+use Rattle.rx_node.specs.Nodes as nodes
 use Rattle.rx_search.specs.Search as search
-use Rattle.rx_search.specs.Search.{is_closed, menu, of_outcome, settled}
-use Rattle.rx_search.specs.declared.node.Node.{Node}
-use Rattle.rx_search.proofs.Left.{no_goal}
+use Rattle.rx_node.specs.Nodes.{is_closed}
+use Rattle.rx_search.specs.Search.{menu, of_outcome, settled}
+use Rattle.rx_node.specs.declared.node.Node.{Node}
+use Rattle.rx_node.proofs.Left.{no_goal}
 use Rattle.rx_search.proofs.Rooted.{reached_rooted}
 use Rattle.rx_search.proofs.Running.{logged}
 use Rattle.rx_visits.specs.Outcomes.{closed_or, first_closed, first_note, noted_or, outcome, spent_if}
@@ -36,7 +39,7 @@ use Rattle.rx_visits.specs.declared.tree.Choice.{Choice}
 -- ---- visits of closed nodes
 
 abbrev Visited : Type 0
-Visited = Visit search.Node (List Row)
+Visited = Visit nodes.Node (List Row)
 
 -- it is said to be closed where no goal is left
 abbrev IsTold : Visited → Type 0
@@ -47,13 +50,13 @@ either_known : (b : Bool) (xs ys : List Visited) → All IsTold xs → All IsTol
 either_known true xs ys all more = all
 either_known false xs ys all more = more
 
-all_known : (f : Choice search.Node → List Visited) (cs : List (Choice search.Node)) →
-    ((c : Choice search.Node) → All IsTold (f c)) → All IsTold (flat_map f cs)
+all_known : (f : Choice nodes.Node → List Visited) (cs : List (Choice nodes.Node)) →
+    ((c : Choice nodes.Node) → All IsTold (f c)) → All IsTold (flat_map f cs)
 all_known f [] each = All-nil IsTold
 all_known f (c ∷ cs) each = All-append IsTold (f c) (flat_map f cs) (each c) (all_known f cs each)
 
 module _ (parts : RuleParts) where
-  visits_known : (more : ℕ) (path : List ℕ) (node : search.Node) →
+  visits_known : (more : ℕ) (path : List ℕ) (node : nodes.Node) →
       All IsTold (visits (settled parts) (menu parts) more path node)
   unfolding visits
   visits_known zero path node =
@@ -64,13 +67,13 @@ module _ (parts : RuleParts) where
       either_known s.closed _ _
       (All-cons IsTold (alone path s) [] refl (All-nil IsTold))
       (All-cons IsTold (choosing path s m) (flat_map
-      (λ (c : Choice search.Node). visits (settled parts) (menu parts) more
+      (λ (c : Choice nodes.Node). visits (settled parts) (menu parts) more
       (path ++ c.number ∷ []) c.node) m.choices) refl
-      (all_known (λ (c : Choice search.Node). visits (settled parts) (menu parts) more
+      (all_known (λ (c : Choice nodes.Node). visits (settled parts) (menu parts) more
       (path ++ c.number ∷ []) c.node) m.choices
       (λ c. visits_known more (path ++ c.number ∷ []) c.node)))
 
-  lists_known : (n more : ℕ) (node : search.Node) →
+  lists_known : (n more : ℕ) (node : nodes.Node) →
       All IsTold (lists (settled parts) (menu parts) n more node)
   unfolding lists
   lists_known zero more node = All-nil IsTold
@@ -96,17 +99,17 @@ found (v ∷ vs) w all e =
     e
 
 -- what doesn't decide by a closed node isn't closed
-spent_open : (b : Bool) (node : search.Node) →
-    ◌≡◌ {A = Outcome search.Node (List Row)} (spent_if b) (outcomes.Closed node) → ⊥
+spent_open : (b : Bool) (node : nodes.Node) →
+    ◌≡◌ {A = Outcome nodes.Node (List Row)} (spent_if b) (outcomes.Closed node) → ⊥
 spent_open true node e = cc
 spent_open false node e = cc
 
-open_by : (note : Option (Note (List Row))) (b : Bool) (node : search.Node) →
+open_by : (note : Option (Note (List Row))) (b : Bool) (node : nodes.Node) →
     noted_or note (spent_if b) ≡ outcomes.Closed node → ⊥
 open_by None b node e = spent_open b node e
 open_by (Some note) b node e = cc
 
-closed_by : (first : Option Visited) (later : Outcome search.Node (List Row)) (node : search.Node) →
+closed_by : (first : Option Visited) (later : Outcome nodes.Node (List Row)) (node : nodes.Node) →
     closed_or first later ≡ outcomes.Closed node
     → (later ≡ outcomes.Closed node → ⊥) → ((v : Visited) → first ≡ Some v → (v.closed ≡ true) ×
     IsTold v) → node.state.goals ≡ []
@@ -114,10 +117,10 @@ closed_by None later node e none each = absurd (none e)
 closed_by (Some v) later node e none each =
     let same : v.node ≡ node = cc in
     let (closed, told) = each v refl in
-    ap (λ (n : search.Node). n.state.goals) (sym same) ∙
+    ap (λ (n : nodes.Node). n.state.goals) (sym same) ∙
     no_goal v.node.state.goals (sym told ∙ closed)
 
-pub no_goal_left : (parts : RuleParts) (depth budget : ℕ) (first node : search.Node)
+pub no_goal_left : (parts : RuleParts) (depth budget : ℕ) (first node : nodes.Node)
     → outcome budget (all_visits (settled parts) (menu parts) depth first) ≡ outcomes.Closed node →
     node.state.goals ≡ []
 no_goal_left parts depth budget first node e =
@@ -133,14 +136,14 @@ pub closed_node : {R : Type 0} (P : Node → Type 0) (o : Outcome Node R) (node 
     outcomes.Closed node → IfClosed P o → P node
 closed_node P o node is holds = subst (IfClosed P) is holds
 
-pub closed_goals : (parts : RuleParts) (depth budget : ℕ) (first : search.Node)
+pub closed_goals : (parts : RuleParts) (depth budget : ℕ) (first : nodes.Node)
     (o : Outcome Node (List Row)) (node : Node)
     → seen_outcome node_of o ≡ outcome budget (all_visits (settled parts) (menu parts) depth first)
     → o ≡ outcomes.Closed node → node.state.goals ≡ []
 closed_goals parts depth budget first o node seen is =
     no_goal_left parts depth budget first (node_of node) (sym seen ∙ ap (seen_outcome node_of) is)
 
-pub closed_steps : (parts : RuleParts) (depth budget : ℕ) (first : search.Node)
+pub closed_steps : (parts : RuleParts) (depth budget : ℕ) (first : nodes.Node)
     (o : Outcome Node (List Row)) (node : Node) (steps : List Step)
     → seen_outcome node_of o ≡ outcome budget (all_visits (settled parts) (menu parts) depth first)
     → o ≡ outcomes.Closed node → steps ≡ node.steps

@@ -1,26 +1,35 @@
 -- What is found where a goal is alone: the known choices so far, with one more.
-use Rattle.std.proofs.Common.{◌≡◌, ℕ, Bool, true, false, Option, Some, None, Result, Ok, Err, List, [], ◌∷◌, ◌++◌, refl, sym, ap, subst, ◌∙◌, ◌⊎◌, inl, inr}
+use Rattle.std.proofs.Common.{◌≡◌, ℕ, Bool, true, false, Option, Some, None, Result, Ok, Err, List, [], ◌∷◌, ◌++◌, map, All, refl, sym, ap, subst, ◌∙◌, ◌⊎◌, inl, inr}
 use Rattle.std.specs.Prelude.{IfOk, IfSome}
 use Rattle.std.specs.Option.{option_map}
-use Rattle.std.proofs.lemmas.List.{map-append}
-use Rattle.std.proofs.lemmas.List.Elements.{All-nil, All-push}
+use Rattle.std.proofs.lemmas.List.{append-nil, map-append}
+use Rattle.std.proofs.lemmas.List.Elements.{All-append, All-cons, All-nil, All-push}
 use Rattle.rx_plain.specs.declared.no_memory.NoMemory.{NoMemory}
 use Rattle.rx_solve.specs.Attempts.{Tried, beyond}
 use Rattle.rx_term.specs.declared.rule.Equation.{Equation}
 use Rattle.rx_term.specs.declared.rule_set.RuleParts.{RuleParts}
 use Rattle.rx_form.specs.States.{State}
+use Rattle.rx_form.specs.declared.step.Side.{Side}
+use Rattle.rx_form.specs.declared.step.Side.TheVariants.{Left, Right}
 use Rattle.rx_form.specs.declared.step.Step.{Step}
+use Rattle.rx_form.specs.declared.step.Step.TheVariants as steps
+use Rattle.rx_lemma.specs.Lemmas.{Generalisation}
+use Rattle.rx_node.specs.Candidates.{candidates_by, expansions, lemma_candidate}
+use Rattle.rx_node.specs.declared.candidates.Candidate.{Candidate}
+use Rattle.rx_node.specs.declared.candidates.Candidates.{Candidates}
 use Rattle.rx_memo.specs.Kept.{IsKept, IsThat}
-use Rattle.rx_memo.specs.declared.goal_memo.GoalMemo.{GoalMemo}
+use Rattle.rx_memo.specs.declared.goal_memo.Kept.{Kept}
+use Rattle.rx_memo.proofs.Buckets.{nothing_kept}
 use Rattle.rx_steps.specs.Alone.{alone}
 use Rattle.rx_unfold.specs.Answers.{IsTaken}
 use Rattle.rx_settle.specs.Answers.{IsTrial, Takes}
 use Rattle.rx_unfold.specs.Moves.{Move, move_of}
 use Rattle.rx_unfold.specs.Trying.{Next, attempt}
 use Rattle.rx_settle.specs.declared.trial.Trial.{Trial as Taken}
-use Rattle.rx_search.specs.Known.{AreOf, AreRight, Attempted, IsRight, IsRightChoice, attempted, seen_known}
+use Rattle.rx_search.specs.Known.{AreOf, AreRight, CanBeTried, IsRight, IsRightChoice, seen_known}
+use Rattle.rx_search.specs.Menu.{Attempted, attempted, attempted_all, attempted_by, if_noted}
 use Rattle.rx_search.specs.Nodes.{KeepsNone}
-use Rattle.rx_search.specs.declared.known.KnownChoice.{KnownChoice}
+use Rattle.rx_node.specs.declared.choices.KnownChoice.{KnownChoice}
 use Rattle.rx_search.proofs.Trying.{attempt_keeps}
 
 -- ---- one step where the goal is alone
@@ -119,10 +128,93 @@ module _ (parts : RuleParts) (goal : Equation) where
       }) old new refl
       (record { taken = tt; unkept = λ e. ap (λ (s : State). s.hypotheses) alone_after }) pushed are
 
+  -- ---- of all candidates
+
+  abbrev at : Candidate → Attempted
+  at = attempted_by parts (alone goal)
+
+  -- and then nothing more
+  pub none_noted : (found : Candidates) (known : List KnownChoice) → found.noted ≡ false →
+      AreOf parts goal (map at found.all) known →
+      AreOf parts goal (attempted_all parts (alone goal) found) known
+  none_noted found known none are =
+      subst (λ b. AreOf parts goal (map at found.all ++ if_noted b) known) (sym none)
+      (subst (λ cs. AreOf parts goal cs known) (sym (append-nil (map at found.all))) are)
+
+  pub all_noted : (found : Candidates) (known : List KnownChoice) → found.noted ≡ true →
+      AreOf parts goal (map at found.all ++ attempted 6 false beyond ∷ []) known →
+      AreOf parts goal (attempted_all parts (alone goal) found) known
+  all_noted found known noted are =
+      subst (λ b. AreOf parts goal (map at found.all ++ if_noted b) known) (sym noted) are
+
+-- ---- what can be tried
+
+can_lemma : (l : Generalisation) → CanBeTried (lemma_candidate l)
+can_lemma l = record { rows = refl; unkept = λ e. tt }
+
+can_lemmas : (ls : List Generalisation) → All CanBeTried (map lemma_candidate ls)
+can_lemmas [] = All-nil CanBeTried
+can_lemmas (l ∷ ls) =
+    All-cons CanBeTried (lemma_candidate l) (map lemma_candidate ls) (can_lemma l) (can_lemmas ls)
+
+abbrev expanding : ℕ → Side → Bool → Candidate
+expanding number side keep =
+    record { number = number; keeps = keep; step = steps.Expand side keep }
+
+can_expand : (number : ℕ) (side : Side) (keep : Bool) → CanBeTried (expanding number side keep)
+can_expand number side keep = record { rows = refl; unkept = λ e. e }
+
+abbrev decomposing : Candidate
+decomposing = record { number = 5; keeps = false; step = steps.Decompose [] }
+
+can_decompose : CanBeTried decomposing
+can_decompose = record { rows = refl; unkept = λ e. tt }
+
+-- what comes after the third, the second and the first
+abbrev last : List Candidate
+last = expanding 4 Right false ∷ decomposing ∷ []
+
+abbrev later : List Candidate
+later = expanding 3 Left false ∷ last
+
+abbrev next : List Candidate
+next = expanding 2 Right true ∷ later
+
+can_last : All CanBeTried last
+can_last =
+    All-cons CanBeTried (expanding 4 Right false) (decomposing ∷ []) (can_expand 4 Right false)
+    (All-cons CanBeTried decomposing [] can_decompose (All-nil CanBeTried))
+
+can_next : All CanBeTried next
+can_next =
+    All-cons CanBeTried (expanding 2 Right true) later (can_expand 2 Right true)
+    (All-cons CanBeTried (expanding 3 Left false) last (can_expand 3 Left false) can_last)
+
+can_all : All CanBeTried expansions
+can_all = All-cons CanBeTried (expanding 1 Left true) next (can_expand 1 Left true) can_next
+
+can_expansions : (others : List Candidate) → All CanBeTried others →
+    All CanBeTried (expansions ++ others)
+can_expansions others can = All-append CanBeTried expansions others can_all can
+
+can_by : (made : Option (List Generalisation)) → All CanBeTried (candidates_by made).all
+can_by None = can_all
+can_by (Some ls) = can_expansions (map lemma_candidate ls) (can_lemmas ls)
+
+pub all_can : (found : Candidates) (made : Option (List Generalisation)) →
+    found ≡ candidates_by made → All CanBeTried found.all
+all_can found made is =
+    subst (λ (c : Candidates). All CanBeTried c.all) (sym is) (can_by made)
+
 -- ---- a memo
 
+-- where nothing is kept all is right
+pub none_right : (parts : RuleParts) (memo : List (Kept (List KnownChoice))) → memo ≡ [] →
+    AreRight parts memo
+none_right parts memo none = record { all = λ g v kept. absurd (nothing_kept memo none g v kept) }
+
 -- it stays right, with what is right
-pub kept_right : (parts : RuleParts) (old new : GoalMemo (List KnownChoice)) (goal : Equation)
+pub kept_right : (parts : RuleParts) (old new : List (Kept (List KnownChoice))) (goal : Equation)
     (known : List KnownChoice) → AreRight parts old → IsRight parts goal known →
     ((g : Equation) (v : List KnownChoice) → IsKept new g v →
     IsKept old g v ⊎ IsThat goal known g v)

@@ -1,5 +1,4 @@
 -- Steps from the start, what they keep, and what choices and visits come to.
-pub mod Left
 pub mod Running
 pub mod Shallow
 pub mod Rooted

@@ -22,39 +22,21 @@ use Rattle.rx_unfold.specs.Answers.{IsTaken}
 use Rattle.rx_settle.specs.Known.{lifted}
 use Rattle.rx_unfold.specs.Moves.{Decompose, Expand, Generalise, Move, move_of, step_of}
 use Rattle.rx_unfold.specs.Trying.{Next, attempt}
-use Rattle.rx_search.specs.Known.{IsRight, IsRightAt, IsRightChoice, attempted, attempted_at, attempted_onto, chosen_by, chosen_of, if_ranks, lemma_attempted, lemmas_attempted, seen_known, tried_at}
-use Rattle.rx_search.specs.Menu.{by_lemma, by_lemmas, choice, chosen_at, keeping, number_of}
-use Rattle.rx_search.specs.Nodes.{IsNode, IsReached, IsTried, if_ranked, led}
-use Rattle.rx_search.specs.declared.choices.Trial.{Trial}
-use Rattle.rx_search.specs.declared.known.KnownChoice.{KnownChoice}
-use Rattle.rx_search.specs.declared.node.Node.{Node}
+use Rattle.rx_search.specs.Known.{IsRight, IsRightAt, IsRightChoice, attempted_onto, chosen_by, seen_known, tried_at}
+use Rattle.rx_node.specs.Candidates.{candidates_by, lemma_candidate, number_of}
+use Rattle.rx_search.specs.Menu.{Attempted, attempted, attempted_all, attempted_at, attempted_by, chosen_at, chosen_of, if_noted, if_ranks}
+use Rattle.rx_node.specs.Calls.{led}
+use Rattle.rx_search.specs.Nodes.{IsNode, IsReached, IsTried, if_ranked}
+use Rattle.rx_node.specs.declared.choices.Trial.{Trial}
+use Rattle.rx_node.specs.declared.choices.KnownChoice.{KnownChoice}
+use Rattle.rx_node.specs.declared.node.Node.{Node}
 use Rattle.rx_settle.proofs.KnownLaws.{applied_lifted, attempt_lifted}
 use Rattle.rx_search.proofs.Trying.{keeping_none, keeping_ranked_call, led_by, reached_by}
+use Rattle.rx_settle.specs.Settling.{most_moves}
 
 -- ---- all choices
 
--- they are those that were attempted, once ranks are found
 module _ (parts : RuleParts) (state : State) where
-  each_chosen : (ls : List Generalisation) → map (by_lemma parts state) ls ≡
-      map (chosen_of parts) (map (lemma_attempted parts state) ls)
-  each_chosen [] = refl
-  each_chosen (l ∷ ls) = ap (λ cs. by_lemma parts state l ∷ cs) (each_chosen ls)
-
-  lemmas_chosen : (made : Option (List Generalisation)) → by_lemmas parts state made ≡
-      map (chosen_of parts) (lemmas_attempted parts state made)
-  lemmas_chosen None = refl
-  lemmas_chosen (Some ls) = each_chosen ls
-
-  all_chosen : (goal : Equation) → chosen_at parts state goal ≡
-      map (chosen_of parts) (attempted_at parts state goal)
-  all_chosen goal = λ i.
-      choice 1 (keeping parts state Left)
-      ∷ choice 2 (keeping parts state Right)
-      ∷ choice 3 (attempt parts state (Expand Left false))
-      ∷ choice 4 (attempt parts state (Expand Right false))
-      ∷ choice 5 (attempt parts state Decompose)
-      ∷ lemmas_chosen (generalisations parts goal) i
-
   each_seen : (ks : List KnownChoice) → map (chosen_by parts state) ks ≡
       map (chosen_of parts) (map (attempted_onto state) (map seen_known ks))
   each_seen [] = refl
@@ -72,26 +54,48 @@ module _ (parts : RuleParts) (goal : Equation) (goals : List Equation) (hypothes
   one_onto number keeps move same =
       ap (attempted number keeps) (attempt_lifted parts goal goals hypotheses move same)
 
-  each_onto : (ls : List Generalisation) → map (lemma_attempted parts here) ls ≡
-      map (attempted_onto here) (map (lemma_attempted parts (alone goal)) ls)
+  each_onto : (ls : List Generalisation) →
+      map (attempted_by parts here) (map lemma_candidate ls) ++ [] ≡
+      map (attempted_onto here)
+      (map (attempted_by parts (alone goal)) (map lemma_candidate ls) ++ [])
   each_onto [] = refl
   each_onto (l ∷ ls) = λ i.
       one_onto (number_of l.kind) false (Generalise l.goal l.subst) refl i ∷ each_onto ls i
 
-  lemmas_onto : (made : Option (List Generalisation)) → lemmas_attempted parts here made ≡
-      map (attempted_onto here) (lemmas_attempted parts (alone goal) made)
-  lemmas_onto None = refl
-  lemmas_onto (Some ls) = each_onto ls
-
-  all_onto : attempted_at parts here goal ≡
-      map (attempted_onto here) (attempted_at parts (alone goal) goal)
-  all_onto = λ i.
+  -- the expansions and Decompose, before others
+  steps_onto : (others more : List Attempted) → others ≡ map (attempted_onto here) more →
+      attempted 1 true (attempt parts here (Expand Left true))
+      ∷ attempted 2 true (attempt parts here (Expand Right true))
+      ∷ attempted 3 false (attempt parts here (Expand Left false))
+      ∷ attempted 4 false (attempt parts here (Expand Right false))
+      ∷ attempted 5 false (attempt parts here Decompose)
+      ∷ others ≡
+      map (attempted_onto here)
+      (attempted 1 true (attempt parts (alone goal) (Expand Left true))
+      ∷ attempted 2 true (attempt parts (alone goal) (Expand Right true))
+      ∷ attempted 3 false (attempt parts (alone goal) (Expand Left false))
+      ∷ attempted 4 false (attempt parts (alone goal) (Expand Right false))
+      ∷ attempted 5 false (attempt parts (alone goal) Decompose)
+      ∷ more)
+  steps_onto others more same = λ i.
       one_onto 1 true (Expand Left true) refl i
       ∷ one_onto 2 true (Expand Right true) refl i
       ∷ one_onto 3 false (Expand Left false) refl i
       ∷ one_onto 4 false (Expand Right false) refl i
       ∷ one_onto 5 false Decompose refl i
-      ∷ lemmas_onto (generalisations parts goal) i
+      ∷ same i
+
+  all_onto_by : (made : Option (List Generalisation)) →
+      attempted_all parts here (candidates_by made) ≡
+      map (attempted_onto here) (attempted_all parts (alone goal) (candidates_by made))
+  all_onto_by None = steps_onto (if_noted true) (if_noted true) refl
+  all_onto_by (Some ls) =
+      steps_onto (map (attempted_by parts here) (map lemma_candidate ls) ++ [])
+      (map (attempted_by parts (alone goal)) (map lemma_candidate ls) ++ []) (each_onto ls)
+
+  all_onto : attempted_at parts here goal ≡
+      map (attempted_onto here) (attempted_at parts (alone goal) goal)
+  all_onto = all_onto_by (generalisations parts goal)
 
   known_here : (ks : List KnownChoice) → map seen_known ks ≡ attempted_at parts (alone goal) goal
       → map (chosen_by parts here) ks ≡ chosen_at parts here goal
@@ -99,7 +103,6 @@ module _ (parts : RuleParts) (goal : Equation) (goals : List Equation) (hypothes
       each_seen parts here ks
       ∙ ap (λ all. map (chosen_of parts) (map (attempted_onto here) all)) seen
       ∙ sym (ap (map (chosen_of parts)) all_onto)
-      ∙ sym (all_chosen parts here goal)
 
 -- ---- what is known of the first goal
 
@@ -158,14 +161,14 @@ module _ (parts : RuleParts) (from : Node) (k : KnownChoice)
       }
 
   tried_by : (o : Option Step) → IfSome o IsTakenAlone → IsTried from (tried_of o)
-      (led from o k.noted after_here)
+      (led most_moves from o k.noted after_here)
   tried_by None taken = led_by parts from from.state (tried_of None) None k.noted refl (refl, refl)
   tried_by (Some step) taken =
       led_by parts from after_here (tried_of (Some step)) (Some step) k.noted refl
       (refl, taken_by step taken from.state.goals is.first)
 
   reached_here : (goal : Equation) → IsReached parts goal from → (o : Option Step) →
-      IfSome o IsTakenAlone → IfSome (led from o k.noted after_here).node (IsReached parts goal)
+      IfSome o IsTakenAlone → IfSome (led most_moves from o k.noted after_here).node (IsReached parts goal)
   reached_here goal reached None taken = tt
   reached_here goal reached (Some step) taken =
       reached_by parts from after_here (tried_of (Some step)) goal (Some step) k.noted
@@ -173,7 +176,7 @@ module _ (parts : RuleParts) (from : Node) (k : KnownChoice)
 
   -- nothing is kept: there are ranks still
   node_by : k.keeps ≡ false → (goal : Equation) → IsNode parts goal from → (o : Option Step) →
-      IfSome o IsTakenAlone → IfSome (led from o k.noted after_here).node (IsNode parts goal)
+      IfSome o IsTakenAlone → IfSome (led most_moves from o k.noted after_here).node (IsNode parts goal)
   node_by e goal node None taken = tt
   node_by e goal node (Some step) taken =
       let hypotheses =
@@ -184,7 +187,7 @@ module _ (parts : RuleParts) (from : Node) (k : KnownChoice)
         ranked = ap (ranked parts) hypotheses ∙ node.ranked;
       }
 
-  module _ (t : Trial) (same : t ≡ led from k.step k.noted after_here) where
+  module _ (t : Trial) (same : t ≡ led most_moves from k.step k.noted after_here) where
     -- what comes of it before ranks are found
     plainly_tried : IsTried from (lifted from.state (seen_known k).tried) t
     plainly_tried =

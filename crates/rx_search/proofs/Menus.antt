@@ -7,16 +7,17 @@ use Rattle.rx_term.specs.declared.rule.Equation.{Equation}
 use Rattle.rx_term.specs.declared.rule_set.RuleParts.{RuleParts}
 use Rattle.rx_settle.specs.Settling.{rows_if}
 use Rattle.rx_search.specs.Menu.{chosen_at, chosen_first, is_any_noted}
-use Rattle.rx_search.specs.Nodes.{AreChoices, node_of, open_goal}
-use Rattle.rx_search.specs.Search as search
+use Rattle.rx_node.specs.Calls.{node_of, open_goal}
+use Rattle.rx_search.specs.Nodes.{AreChoices}
+use Rattle.rx_node.specs.Nodes as nodes
 use Rattle.rx_search.specs.Search.{child, menu}
-use Rattle.rx_search.specs.declared.choices.Choices.{Choices}
-use Rattle.rx_search.specs.declared.node.Node.{Node}
+use Rattle.rx_node.specs.declared.choices.Choices.{Choices}
+use Rattle.rx_node.specs.declared.node.Node.{Node}
 use Rattle.rx_visits.specs.Views.{seen_menu}
 use Rattle.rx_visits.specs.declared.tree.Menu.{Menu}
 
 abbrev Seen : Type 0
-Seen = Menu search.Node (List Row)
+Seen = Menu nodes.Node (List Row)
 
 abbrev none : Seen
 none = record { choices = []; note = None }

@@ -11,10 +11,12 @@ use Rattle.rx_joins.proofs.Runs.{kept_hypotheses_fit}
 use Rattle.rx_cert.specs.Findings.{Yes}
 use Rattle.rx_joins.specs.Goals.{IsFitting}
 use Rattle.rx_rank.specs.Ranking.{ranked}
-use Rattle.rx_search.specs.Nodes.{IsNode, IsReached, started}
-use Rattle.rx_search.specs.declared.node.Node.{Node}
+use Rattle.rx_node.specs.Calls.{started}
+use Rattle.rx_search.specs.Nodes.{IsNode, IsReached}
+use Rattle.rx_node.specs.declared.node.Node.{Node}
 use Rattle.rx_search.proofs.Running.{runs}
 use Rattle.rx_search.proofs.Shallow.{IsDeep}
+use Rattle.rx_settle.specs.Settling.{most_moves}
 
 -- ---- hypotheses
 
@@ -34,7 +36,7 @@ module _ (parts : RuleParts) where
 
   -- the node with no steps is one of the search
   pub start_is : (goal : Equation) (node : Node) → IsWellMade parts → IsFitting parts goal →
-      ranked parts [] ≡ Yes → node ≡ started goal → IsNode parts goal node
+      ranked parts [] ≡ Yes → node ≡ started goal most_moves → IsNode parts goal node
   start_is goal node made fits is same =
       subst (IsNode parts goal) (sym same) (record {
         reached = record { made = made; fits = fits; applies = refl; deep = All-nil IsDeep };

@@ -13,9 +13,11 @@ use Rattle.rx_search.proofs.Shallow.{IsDeep}
 use Rattle.rx_unfold.specs.Moves.{move_of}
 use Rattle.rx_settle.specs.Settling.{most_moves, settle}
 use Rattle.rx_settle.specs.declared.settled.Settled.{Settled as Found}
-use Rattle.rx_search.specs.Nodes.{IsNode, node_of}
-use Rattle.rx_search.specs.Search.{is_closed, settled}
-use Rattle.rx_search.specs.declared.node.Node.{Node}
+use Rattle.rx_node.specs.Calls.{node_of}
+use Rattle.rx_search.specs.Nodes.{IsNode}
+use Rattle.rx_node.specs.Nodes.{is_closed}
+use Rattle.rx_search.specs.Search.{settled}
+use Rattle.rx_node.specs.declared.node.Node.{Node}
 use Rattle.rx_search.proofs.Running.{after_append}
 use Rattle.rx_visits.specs.Views.{seen_settled}
 

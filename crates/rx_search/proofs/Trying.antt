@@ -31,11 +31,12 @@ use Rattle.rx_settle.specs.Answers.{Takes}
 use Rattle.rx_unfold.specs.Moves.{Absurd, Decompose, EqDelete, Equal, Expand, Generalise, Hyp, Move, Postulate, Results, Simplify, Split, move_of, step_of}
 use Rattle.rx_settle.specs.Settling.{most_moves}
 use Rattle.rx_unfold.specs.Trying.{Next, asked_shown, attempt, next_if_formed, noting, then_by, then_try}
-use Rattle.rx_search.specs.Nodes.{IsNode, IsReached, IsTried, KeepsNone, if_ranked, led, node_of, with_step}
-use Rattle.rx_search.specs.Search as search
-use Rattle.rx_search.specs.Search.{node_with}
-use Rattle.rx_search.specs.declared.choices.Trial.{Trial}
-use Rattle.rx_search.specs.declared.node.Node.{Node}
+use Rattle.rx_node.specs.Calls.{led, node_of, with_step}
+use Rattle.rx_search.specs.Nodes.{IsNode, IsReached, IsTried, KeepsNone, if_ranked}
+use Rattle.rx_node.specs.Nodes as nodes
+use Rattle.rx_node.specs.Nodes.{node_with}
+use Rattle.rx_node.specs.declared.choices.Trial.{Trial}
+use Rattle.rx_node.specs.declared.node.Node.{Node}
 use Rattle.rx_search.proofs.Running.{after_one}
 use Rattle.rx_search.proofs.Shallow.{IsDeep}
 
@@ -43,7 +44,7 @@ use Rattle.rx_search.proofs.Shallow.{IsDeep}
 
 -- it is seen as the definition says
 seen_after : (from : Node) (step : Step) (state : State)
-    → node_of (with_step from step state) ≡ node_with (node_of from)
+    → node_of (with_step most_moves from step state) ≡ node_with most_moves (node_of from)
     (record { move = move_of step; state = state })
 seen_after from step state =
     λ i. record {
@@ -56,23 +57,23 @@ seen_after from step state =
 module _ (parts : RuleParts) (from : Node) (state : State) (tried : Tried Next) where
   pub led_by : (taken : Option Step) (noted : Bool) → noted ≡ tried.noted →
       Takes parts from.state state tried.made taken
-      → IsTried from tried (led from taken noted state)
+      → IsTried from tried (led most_moves from taken noted state)
   led_by None noted same takes =
       let (made, _) = takes in
-      record { node = ap (option_map (node_with (node_of from))) (sym made); noted = same }
+      record { node = ap (option_map (node_with most_moves (node_of from))) (sym made); noted = same }
   led_by (Some step) noted same takes =
       let (made, _) = takes in
       record {
         node =
             ap Some (seen_after from step state) ∙
-            ap (option_map (node_with (node_of from))) (sym made);
+            ap (option_map (node_with most_moves (node_of from))) (sym made);
         noted = same;
       }
 
   -- and the node is reached
   pub reached_by : (goal : Equation) (taken : Option Step) (noted : Bool) →
       Takes parts from.state state tried.made taken → IsReached parts goal from
-      → IfSome (led from taken noted state).node (IsReached parts goal)
+      → IfSome (led most_moves from taken noted state).node (IsReached parts goal)
   reached_by goal None noted takes reached = tt
   reached_by goal (Some step) noted takes reached =
       let (_, applies) = takes in
@@ -94,20 +95,20 @@ module _ (from : Node) (parts : RuleParts) where
   next_ranked next = where_shown (ranked parts next.state.hypotheses) next
 
   ranked_by : (node : Node) (noted : Bool) (next : Next) (said : Said) → node_of node ≡
-      node_with (node_of from) next
+      node_with most_moves (node_of from) next
       → IsTried from (noting noted (where_shown said next)) (if_ranked said node noted)
   ranked_by node noted next Yes same = record { node = ap Some same; noted = sym (or_false noted) }
   ranked_by node noted next No same = record { node = refl; noted = sym (or_false noted) }
   ranked_by node noted next Beyond same = record { node = refl; noted = sym (or_true noted) }
 
   then_ranked : (node : Node) (noted : Bool) (made : Option Next) → Some (node_of node) ≡
-      option_map (node_with (node_of from)) made
+      option_map (node_with most_moves (node_of from)) made
       → IsTried from (then_by made noted next_ranked)
       (if_ranked (ranked parts node.state.hypotheses) node noted)
   then_ranked node noted None same = absurd cc
   then_ranked node noted (Some next) same =
-      let seen : node_of node ≡ node_with (node_of from) next = cc in
-      let state : node.state ≡ next.state = ap (λ (n : search.Node). n.state) seen in
+      let seen : node_of node ≡ node_with most_moves (node_of from) next = cc in
+      let state : node.state ≡ next.state = ap (λ (n : nodes.Node). n.state) seen in
       subst (λ (s : State). IsTried from (noting noted
       (where_shown (ranked parts s.hypotheses) next))
       (if_ranked (ranked parts node.state.hypotheses) node noted))
@@ -119,13 +120,13 @@ module _ (from : Node) (parts : RuleParts) where
       → IsTried from (then_try tried next_ranked)
       (if_ranked (ranked parts node.state.hypotheses) node found.noted)
   keeping_ranked tried found node is leads =
-      let same : Some (node_of node) ≡ option_map (node_with (node_of from)) tried.made =
+      let same : Some (node_of node) ≡ option_map (node_with most_moves (node_of from)) tried.made =
       ap (option_map node_of) (sym leads) ∙ is.node in
       subst (λ noted. IsTried from (then_by tried.made noted next_ranked)
       (if_ranked (ranked parts node.state.hypotheses) node found.noted))
       is.noted (then_ranked node found.noted tried.made same)
 
-  none_by : (noted : Bool) (made : Option Next) → None ≡ option_map (node_with (node_of from)) made
+  none_by : (noted : Bool) (made : Option Next) → None ≡ option_map (node_with most_moves (node_of from)) made
       → IsTried from (then_by made noted next_ranked) (record { node = None; noted = noted })
   none_by noted None same = record { node = refl; noted = refl }
   none_by noted (Some next) same = absurd cc
@@ -134,7 +135,7 @@ module _ (from : Node) (parts : RuleParts) where
       None
       → IsTried from (then_try tried next_ranked) (record { node = None; noted = found.noted })
   keeping_none tried found is leads =
-      let same : None ≡ option_map (node_with (node_of from)) tried.made =
+      let same : None ≡ option_map (node_with most_moves (node_of from)) tried.made =
       ap (option_map node_of) (sym leads) ∙ is.node in
       subst (λ noted. IsTried from (then_by tried.made noted next_ranked)
       (record { node = None; noted = found.noted }))

@@ -1,20 +1,48 @@
 -- The choices at a settled goal: the four expansions, Decompose, and lemmas. Each that applies
--- leads to another node.
-use Rattle.std.specs.Prelude.{ℕ, Bool, true, false, Option, Some, None, List, [], ◌∷◌, map}
+-- leads to another node; one that keeps the goal as a hypothesis only where ranks are found with it.
+use Rattle.std.specs.Prelude.{if◌then◌else◌, ℕ, Bool, false, List, [], ◌∷◌, ◌++◌, map}
 use Rattle.std.specs.List.{list_any}
 use Rattle.rx_solve.specs.Attempts.{Tried, beyond, where_shown}
 use Rattle.rx_term.specs.declared.rule.Equation.{Equation}
 use Rattle.rx_term.specs.declared.rule_set.RuleParts.{RuleParts}
 use Rattle.rx_form.specs.States.{State}
-use Rattle.rx_form.specs.declared.step.Side.{Side}
-use Rattle.rx_form.specs.declared.step.Side.TheVariants.{Left, Right}
 use Rattle.rx_generalise.specs.Generalising.{generalisations}
-use Rattle.rx_lemma.specs.Lemmas.{Generalisation}
-use Rattle.rx_lemma.specs.declared.lemma.LemmaKind.{LemmaKind}
-use Rattle.rx_lemma.specs.declared.lemma.LemmaKind.TheVariants.{NameConstants, DropValues, ReplaceRepeated}
 use Rattle.rx_rank.specs.Ranking.{ranked}
-use Rattle.rx_unfold.specs.Moves.{Decompose, Expand, Generalise}
+use Rattle.rx_unfold.specs.Moves.{move_of}
 use Rattle.rx_unfold.specs.Trying.{Next, attempt, then_try}
+use Rattle.rx_node.specs.Candidates.{candidates_by}
+use Rattle.rx_node.specs.declared.candidates.Candidate.{Candidate}
+use Rattle.rx_node.specs.declared.candidates.Candidates.{Candidates}
+
+-- ---- choices before ranks are found
+
+-- a choice by its number, whether ranks are to be found with what it keeps, and what comes of its
+-- step
+pub record Attempted : Type 0 where
+  pub number : ℕ
+  pub keeps : Bool
+  pub tried : Tried Next
+
+abbrev pub attempted : ℕ → Bool → Tried Next → Attempted
+attempted number keeps tried = record { number = number; keeps = keeps; tried = tried }
+
+-- where lemmas pass the limits none applies, and that is noted once
+abbrev pub if_noted : Bool → List Attempted
+if_noted noted = if noted then attempted 6 false beyond ∷ [] else []
+
+module _ (parts : RuleParts) (state : State) where
+  -- what comes of a choice
+  abbrev pub attempted_by : Candidate → Attempted
+  attempted_by c = attempted c.number c.keeps (attempt parts state (move_of c.step))
+
+  -- what comes of all, in order
+  abbrev pub attempted_all : Candidates → List Attempted
+  attempted_all found = map attempted_by found.all ++ if_noted found.noted
+
+  abbrev pub attempted_at : Equation → List Attempted
+  attempted_at goal = attempted_all (candidates_by (generalisations parts goal))
+
+-- ---- choices
 
 -- a choice by its number, and what comes of trying it
 pub record Chosen : Type 0 where
@@ -24,38 +52,21 @@ pub record Chosen : Type 0 where
 abbrev pub choice : ℕ → Tried Next → Chosen
 choice number tried = record { number = number; tried = tried }
 
--- the numbers of lemmas; what names constants is never a choice
-abbrev pub number_of : LemmaKind → ℕ
-number_of NameConstants = 0
-number_of DropValues = 6
-number_of ReplaceRepeated = 7
+-- what comes of it once ranks are found with what it keeps
+abbrev pub if_ranks : RuleParts → Bool → Tried Next → Tried Next
+if_ranks parts keeps tried =
+    if keeps
+    then then_try tried (λ (next : Next). where_shown (ranked parts next.state.hypotheses) next)
+    else tried
+
+-- the choice that it is then
+abbrev pub chosen_of : RuleParts → Attempted → Chosen
+chosen_of parts a = choice a.number (if_ranks parts a.keeps a.tried)
 
 module _ (parts : RuleParts) (state : State) where
-  -- Expand that keeps the goal as a hypothesis, where ranks are found with that
-  abbrev pub keeping : Side → Tried Next
-  keeping side =
-      then_try (attempt parts state (Expand side true))
-      (λ (next : Next). where_shown (ranked parts next.state.hypotheses) next)
-
-  -- a lemma
-  abbrev pub by_lemma : Generalisation → Chosen
-  by_lemma lemma =
-      choice (number_of lemma.kind) (attempt parts state (Generalise lemma.goal lemma.subst))
-
-  -- all lemmas; where they pass the limits none applies, and that is noted once
-  abbrev pub by_lemmas : Option (List Generalisation) → List Chosen
-  by_lemmas None = choice 6 beyond ∷ []
-  by_lemmas (Some lemmas) = map by_lemma lemmas
-
   -- all choices in order
   abbrev pub chosen_at : Equation → List Chosen
-  chosen_at goal =
-      choice 1 (keeping Left)
-      ∷ choice 2 (keeping Right)
-      ∷ choice 3 (attempt parts state (Expand Left false))
-      ∷ choice 4 (attempt parts state (Expand Right false))
-      ∷ choice 5 (attempt parts state Decompose)
-      ∷ by_lemmas (generalisations parts goal)
+  chosen_at goal = map (chosen_of parts) (attempted_at parts state goal)
 
   -- where no goal is left there are none
   abbrev pub chosen_first : List Equation → List Chosen

@@ -1,18 +1,18 @@
 -- What a search comes to: ranks of the rules alone first, then the visits within the budget, each
 -- node settled and its choices tried.
-use Rattle.std.specs.Prelude.{ℕ, Bool, true, false, ◌==◌, if◌then◌else◌, Option, None, List, [], ◌∷◌, ◌++◌}
+use Rattle.std.specs.Prelude.{ℕ, ◌==◌, if◌then◌else◌, Option, None, List, [], ◌++◌}
 use Rattle.std.specs.List.{filter_map}
 use Rattle.std.specs.Option.{option_map}
 use Rattle.rx_row.specs.declared.row.Row.{Row}
 use Rattle.rx_cert.specs.Findings.{Said, Yes, No, Beyond}
 use Rattle.rx_term.specs.declared.rule.Equation.{Equation}
 use Rattle.rx_term.specs.declared.rule_set.RuleParts.{RuleParts}
-use Rattle.rx_form.specs.States.{State}
 use Rattle.rx_rank.specs.Ranking.{ranked}
 use Rattle.rx_unfold.specs.Moves.{Move}
 use Rattle.rx_settle.specs.Settling.{most_moves, rows_if, settle}
 use Rattle.rx_settle.specs.Settling as settling
-use Rattle.rx_unfold.specs.Trying.{Next}
+use Rattle.rx_node.specs.Nodes.{Node, is_closed, node_with}
+use Rattle.rx_node.specs.Nodes as nodes
 use Rattle.rx_search.specs.Menu.{Chosen, chosen, is_any_noted}
 use Rattle.rx_visits.specs.Outcomes.{outcome}
 use Rattle.rx_visits.specs.Visits.{all_visits}
@@ -24,18 +24,6 @@ use Rattle.rx_visits.specs.declared.tree.Settled.{Settled}
 
 -- ---- nodes
 
--- a node: the moves from the start, the state after them, and how many more moves its settling
--- might have made
-pub record Node : Type 0 where
-  pub moves : List Move
-  pub state : State
-  pub left : ℕ
-
--- no goal is left
-abbrev pub is_closed : List Equation → Bool
-is_closed [] = true
-is_closed (goal ∷ goals) = false
-
 -- the node after its settling
 abbrev pub node_after : Node → settling.Settled → Node
 node_after node s = record { moves = node.moves ++ s.moves; state = s.state; left = s.left }
@@ -44,15 +32,11 @@ abbrev pub settled_after : Node → settling.Settled → Settled Node (List Row)
 settled_after node s =
     record { node = node_after node s; closed = is_closed s.state.goals; note = s.note }
 
--- one more move, after which nothing is settled yet
-abbrev pub node_with : Node → Next → Node
-node_with node next =
-    record { moves = node.moves ++ next.move ∷ []; state = next.state; left = most_moves }
-
 -- a choice that applies
 abbrev pub child : Node → Chosen → Option (Choice Node)
 child node c =
-    option_map (λ next. record { number = c.number; node = node_with node next }) c.tried.made
+    option_map (λ next. record { number = c.number; node = node_with most_moves node next })
+    c.tried.made
 
 abbrev pub menu_of : Node → List Chosen → Menu Node (List Row)
 menu_of node cs =
@@ -93,8 +77,7 @@ of_outcome outcomes.Through = NoPlan
 
 -- the goal alone, with no moves made
 abbrev pub start : Equation → Node
-start goal =
-    record { moves = []; state = record { goals = goal ∷ []; hypotheses = [] }; left = most_moves }
+start goal = nodes.start goal most_moves
 
 -- where the rules have ranks, the visits decide; the ranks' own note comes before theirs
 abbrev pub searched_with : Said → RuleParts → Equation → ℕ → ℕ → Searched

@@ -1,87 +1,26 @@
 //! The choices at a settled node: what is known of its first goal, put among the node's others.
-ghost use Rattle.std.specs.Prelude.{◌≡◌, ◌∷◌, ◌++◌, [], All, IfOk, IfSome, OnOk, Some, false, map, slice_get, List};
+ghost use Rattle.std.specs.Prelude.{◌≡◌, ◌∷◌, ◌++◌, [], All, IfOk, IfSome, OnOk, Some, map, slice_get, List};
 ghost use Rattle.rx_pairs.specs.Pairs.{AreAllPairs, HasRoot, SidesFit};
 ghost use Rattle.rx_rank.specs.Ranking.{ranked};
 ghost use Rattle.rx_search.specs.Known.{AreRight, IsRightAt, chosen_by, tried_at};
 ghost use Rattle.rx_search.specs.Menu.{Chosen, chosen_at};
-ghost use Rattle.rx_search.specs.Nodes.{AreChoices, IsNode, IsReached, IsTried, if_ranked, led, with_choice};
+ghost use Rattle.rx_search.specs.Nodes.{AreChoices, IsNode, IsReached, IsTried, if_ranked};
 ghost use Rattle.rx_solve.specs.Answers.{IsSolver};
-ghost use Rattle.rx_steps.specs.Alone.{onto};
 ghost use Rattle.rx_term.specs.declared.rule.Equation.{Equation};
 
-use crate::known::{ChoiceMemo, KnownChoice, known_choices};
-use crate::node::Node;
+use crate::known::{ChoiceMemo, known_choices};
 use rx_cert::Cert;
 use rx_fm::FmEnd;
+use rx_node::{Choices, KnownChoice, Node, Trial};
 use rx_pairs::Pair;
-use rx_plain::{Items, NoMemory, Shared};
+use rx_plain::{NoMemory, Shared};
 use rx_ranked::{RankMemo, has_ranks_with};
 use rx_row::Constraint;
 use rx_term::{Equation, RuleSet};
-use rx_visits::Choice;
 use std::alloc::Global;
 
-/// What comes of a choice.
-#[derive(Drop)]
-pub(crate) struct Trial {
-    /// The node that it leads to, if it applies.
-    pub(crate) node: Option<Node>,
-    /// Whether something on the way passed the limits.
-    pub(crate) noted: bool,
-}
-
-/// The choices that apply, so far.
-#[derive(Drop)]
-pub(crate) struct Choices {
-    /// In order.
-    pub(crate) choices: Items<Choice<Node>>,
-    /// Whether something on the way passed the limits.
-    pub(crate) noted: bool,
-}
-
-impl Choices {
-    /// None yet.
-    pub(crate) fn new(alloc: Global) -> Choices
-        ensures { result ≡ record { choices = []; noted = false } }
-    {
-        Choices {
-            choices: Items::new(alloc),
-            noted: false,
-        }
-    }
-
-    /// One more, where it applies.
-    fn add(&mut self, number: u8, trial: Trial) -> Result<(), NoMemory>
-        ensures { OnOk result (self.new ≡ with_choice self.old number trial) }
-    {
-        let Trial { node, noted } = trial;
-        self.noted = self.noted || noted;
-        match node {
-            Some(node) => Ok(self.choices.push(Choice { number, node })?),
-            None => Ok(()),
-        }
-    }
-}
-
-/// What comes of a choice at a node, as it is known of the node's first goal, before ranks are
-/// found.
-fn lead(alloc: Global, node: &Node, known: &KnownChoice) -> Result<Trial, NoMemory>
-    ensures { IfOk result (λ t. t ≡
-        led node.now known.now.step known.now.noted (onto node.now.state known.now.after)) }
-{
-    let Some(step) = &known.step else {
-        return Ok(Trial {
-            node: None,
-            noted: known.noted,
-        });
-    };
-    let mut state = node.state.try_clone(alloc)?;
-    state.go_on(alloc, &known.after)?;
-    Ok(Trial {
-        node: Some(node.after(alloc, step.try_clone()?, state)?),
-        noted: known.noted,
-    })
-}
+/// How many steps settle a state at most.
+pub(crate) const MOST_STEPS: u32 = 200;
 
 /// What comes of a choice that leads to the node, where ranks are found with its hypotheses.
 fn where_ranked<S: FnMut(&Constraint) -> Result<Option<Cert>, FmEnd>>(
@@ -135,7 +74,7 @@ fn try_known<S: FnMut(&Constraint) -> Result<Option<Cert>, FmEnd>>(
     ensures nodes { (goal : Equation) → IsNode rules.now goal node.now →
         IfOk result (λ t. IfSome t.node (IsNode rules.now goal)) }
 {
-    let trial = lead(alloc, node, known)?;
+    let trial = known.lead(alloc, node, MOST_STEPS)?;
     if !known.keeps {
         return Ok(trial);
     }

@@ -7,7 +7,6 @@
 mod choices;
 mod known;
 mod menu;
-mod node;
 mod plans;
 mod search;
 mod search_end;

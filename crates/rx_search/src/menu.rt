@@ -1,8 +1,9 @@
 //! The menu at a settled node.
 ghost use Rattle.std.specs.Prelude.{◌≡◌, All, IfOk};
+ghost use Rattle.rx_node.specs.Calls.{node_of};
 ghost use Rattle.rx_pairs.specs.Pairs.{AreAllPairs};
 ghost use Rattle.rx_search.specs.Known.{AreRight};
-ghost use Rattle.rx_search.specs.Nodes.{IsNode, IsReached, node_of, open_goal};
+ghost use Rattle.rx_search.specs.Nodes.{IsNode, IsReached};
 ghost use Rattle.rx_search.specs.Search.{menu};
 ghost use Rattle.rx_settle.specs.Settling.{rows_if};
 ghost use Rattle.rx_solve.specs.Answers.{IsSolver};
@@ -11,15 +12,15 @@ ghost use Rattle.rx_visits.specs.Views.{seen_menu};
 
 use crate::choices::find_choices;
 use crate::known::ChoiceMemo;
-use crate::node::{Node, copied_rows};
 use rx_cert::Cert;
 use rx_fm::FmEnd;
+use rx_node::{Node, copied_rows};
 use rx_pairs::Pair;
-use rx_plain::{Items, NoMemory, Shared};
+use rx_plain::{Items, NoMemory};
 use rx_ranked::RankMemo;
 use rx_row::{Constraint, Row};
 use rx_steps::State;
-use rx_term::{Equation, RuleSet};
+use rx_term::RuleSet;
 use rx_visits::Menu;
 use std::alloc::Global;
 
@@ -30,17 +31,6 @@ fn noted_rows(alloc: Global, noted: bool, state: &State) -> Result<Option<Items<
     match state.first() {
         Some(goal) if noted => Ok(Some(copied_rows(alloc, goal.rows.rows())?)),
         _ => Ok(None),
-    }
-}
-
-/// The goal at which there are choices: the first, unless settling took all steps.
-fn open_goal(node: &Node) -> Result<Option<Shared<Equation>>, NoMemory>
-    ensures { IfOk result (λ goal. goal ≡ open_goal node.now) }
-{
-    if node.left == 0 {
-        Ok(None)
-    } else {
-        node.state.share_first()
     }
 }
 
@@ -64,7 +54,7 @@ pub(crate) fn find_menu<S: FnMut(&Constraint) -> Result<Option<Cert>, FmEnd>>(
     ensures nodes { (goal : Equation) → IsNode rules.now goal node.now →
         IfOk result (λ m. All (λ c. IsNode rules.now goal c.node) m.choices) }
 {
-    let Some(first) = open_goal(node)? else {
+    let Some(first) = node.open_goal()? else {
         return Ok(Menu {
             choices: Items::new(alloc),
             note: None,

@@ -1,6 +1,7 @@
 //! The tree of plans: its nodes are where steps lead from the goal, and its choices are steps.
 ghost use Rattle.std.specs.Prelude.{◌≡◌, IfOk};
-ghost use Rattle.rx_search.specs.Nodes.{IsNode, node_of};
+ghost use Rattle.rx_node.specs.Calls.{node_of};
+ghost use Rattle.rx_search.specs.Nodes.{IsNode};
 ghost use Rattle.rx_search.specs.Search.{settled};
 ghost use Rattle.rx_settle.specs.Known.{AreKnown};
 ghost use Rattle.rx_solve.specs.Answers.{IsSolver};
@@ -10,9 +11,9 @@ ghost use Rattle.rx_visits.specs.Views.{seen_settled};
 
 use crate::known::ChoiceMemo;
 use crate::menu::find_menu;
-use crate::node::{Node, is_closed, shared_steps};
 use rx_cert::Cert;
 use rx_fm::FmEnd;
+use rx_node::{Node, is_closed, shared_steps};
 use rx_pairs::Pair;
 use rx_plain::{Items, NoMemory};
 use rx_ranked::RankMemo;
@@ -87,10 +88,12 @@ pub(crate) struct Plans<'a, S> {
 
 impl<'a, S: FnMut(&Constraint) -> Result<Option<Cert>, FmEnd>> Tree for Plans<'a, S> {
     ghost use Rattle.std.specs.Prelude.{List};
+    ghost use Rattle.rx_node.specs.Calls.{node_of};
+    ghost use Rattle.rx_node.specs.Nodes as nodes;
     ghost use Rattle.rx_pairs.specs.Pairs.{AreAllPairs};
     ghost use Rattle.rx_row.specs.declared.row.Row.{Row};
     ghost use Rattle.rx_search.specs.Known.{AreRight};
-    ghost use Rattle.rx_search.specs.Nodes.{IsNode, Problem, node_of};
+    ghost use Rattle.rx_search.specs.Nodes.{IsNode, Problem};
     ghost use Rattle.rx_search.specs.Search as search;
     ghost use Rattle.rx_settle.specs.Known.{AreKnown};
     ghost use Rattle.rx_unfold.specs.LoopPoints.{AreLoopPoints};
@@ -113,7 +116,7 @@ impl<'a, S: FnMut(&Constraint) -> Result<Option<Cert>, FmEnd>> Tree for Plans<'a
         AreAllPairs p.rules.now.rules p.pairs.now × AreKnown p.rules.now p.settle_memo.now ×
         AreRight p.rules.now p.choice_memo.now };
 
-    ghost View = { search.Node };
+    ghost View = { nodes.Node };
 
     ghost view = { node_of };
 

@@ -7,11 +7,12 @@ ghost use Rattle.rx_coverable.specs.Coverable.{is_coverable};
 ghost use Rattle.rx_joins.specs.Goals.{IsFitting};
 ghost use Rattle.rx_log.specs.Acceptance.{IsAccepted};
 ghost use Rattle.rx_log.specs.Depth.{is_shallow_log};
+ghost use Rattle.rx_node.specs.Calls.{node_of};
 ghost use Rattle.rx_pairs.specs.Pairs.{AreAllPairs, HasRoot, SidesFit};
 ghost use Rattle.rx_rank.specs.Ranking.{ranked};
 ghost use Rattle.rx_ranking.specs.Found.{LowersAll};
 ghost use Rattle.rx_search.specs.Ends.{IsEnd};
-ghost use Rattle.rx_search.specs.Nodes.{IsNode, node_of, started};
+ghost use Rattle.rx_search.specs.Nodes.{IsNode};
 ghost use Rattle.rx_search.specs.Search.{Closed, of_outcome, searched, settled, menu, start};
 ghost use Rattle.rx_search.specs.Searching.{AsksSolver};
 ghost use Rattle.rx_solve.specs.Answers.{IsSolver};
@@ -21,7 +22,7 @@ ghost use Rattle.rx_visits.specs.Outcomes.{outcome};
 ghost use Rattle.rx_visits.specs.Views.{IfClosed, seen_outcome};
 ghost use Rattle.rx_visits.specs.Visits.{all_visits};
 
-use crate::node::{MOST_STEPS, Node, copied_rows, own_steps};
+use crate::choices::MOST_STEPS;
 use crate::plans::Plans;
 use crate::search_end::SearchEnd;
 use rx_cert::Cert;
@@ -30,6 +31,7 @@ use rx_coverable::find_cover;
 use rx_fm::FmEnd;
 use rx_log::Log;
 use rx_memo::GoalMemo;
+use rx_node::{Node, copied_rows, own_steps};
 use rx_pairs::{Pair, all_pairs};
 use rx_plain::{Items, NoMemory};
 use rx_rank::PairMemo;
@@ -37,7 +39,6 @@ use rx_ranked::RankMemo;
 use rx_ranking::{Ranking, find_ranks_with};
 use rx_row::{Constraint, Row};
 use rx_settle::SettleMemo;
-use rx_steps::State;
 use rx_term::{Equation, Rule, RuleSet};
 use rx_unfold::LoopPoints;
 use rx_visits::{Note, Outcome};
@@ -46,18 +47,6 @@ use std::alloc::Global;
 /// How many nodes are kept from one list of visits to the next, at most, unless another number is
 /// given.
 const MOST_KEPT: usize = 32_768;
-
-/// The node with no steps.
-fn start_node(alloc: Global, goal: &Equation) -> Result<Node, NoMemory>
-    ensures start { IfOk result (λ n. node_of n ≡ start goal.now) }
-    ensures node { IfOk result (λ n. n ≡ started goal.now) }
-{
-    Ok(Node {
-        steps: Items::new(alloc),
-        state: State::start(alloc, goal.try_clone(alloc)?)?,
-        left: MOST_STEPS,
-    })
-}
 
 /// The pairs of the rules.
 fn rule_pairs(alloc: Global, rules: &RuleSet) -> Result<Vec<Pair>, NoMemory>
@@ -89,7 +78,7 @@ fn visit_plans<S: FnMut(&Constraint) -> Result<Option<Cert>, FmEnd>>(
     let _made = rules.parts();
     let pairs = rule_pairs(alloc, rules)?;
     let points = LoopPoints::new(alloc, rules)?;
-    let start = start_node(alloc, goal)?;
+    let start = Node::start(alloc, goal, MOST_STEPS)?;
     let mut settle_memo = SettleMemo::new(alloc)?;
     let mut choice_memo = GoalMemo::new(alloc)?;
     let mut plans = Plans {

@@ -12,6 +12,8 @@ use Rattle.rx_term.specs.declared.term.Sym.{Sym}
 use Rattle.rx_term.specs.declared.term.Term.{Term}
 use Rattle.rx_term.specs.Stacks.{suffix_at}
 use Rattle.rx_memo.specs.Kept.{IsKept, IsThat}
+use Rattle.rx_memo.specs.declared.goal_memo.Kept.{Kept}
+use Rattle.rx_memo.proofs.Buckets.{nothing_kept}
 use Rattle.rx_form.specs.Forming.{Forming, found_or, limited, provided, ◌>>=◌}
 use Rattle.rx_form.specs.Judging.{StepFault, Judgement, certificates, first_rows, judged}
 use Rattle.rx_form.specs.Judging as judging
@@ -37,7 +39,6 @@ use Rattle.rx_settle.specs.Settling.{named}
 use Rattle.rx_unfold.specs.Unfolding.{by_rules, is_at_loop_point, is_tried, leaving_at, redex_symbol, simplifying, unfolding_at}
 use Rattle.rx_unfold.specs.Trying.{Next, asked_shown, attempt, next_if_formed, then_by}
 use Rattle.rx_settle.specs.declared.known.Known.{Known}
-use Rattle.rx_settle.specs.declared.settle_memo.SettleMemo.{SettleMemo}
 use Rattle.rx_settle.specs.declared.trial.Trial.{Trial}
 use Rattle.rx_unfold.proofs.TriedLaws.{none_by, some_by}
 
@@ -376,11 +377,14 @@ module _ (parts : RuleParts) (goal : Equation) (known : Known) (t : Trial)
 
 -- ---- a memo
 
+-- where nothing is kept all is right
+pub none_known : (parts : RuleParts) (memo : List (Kept Known)) → memo ≡ [] → AreKnown parts memo
+none_known parts memo none = record { all = λ g v has. absurd (nothing_kept memo none g v has) }
+
 -- it stays right, with what is right
-pub still_known : (parts : RuleParts) (old new : SettleMemo) (goal at : Equation)
+pub still_known : (parts : RuleParts) (old new : List (Kept Known)) (goal at : Equation)
     (known kept : Known) → AreKnown parts old → IsKnown parts goal known → at ≡ goal → kept ≡
-    known → ((g : Equation) (v : Known) → IsKept new.known g v →
-    IsKept old.known g v ⊎ IsThat at kept g v)
+    known → ((g : Equation) (v : Known) → IsKept new g v → IsKept old g v ⊎ IsThat at kept g v)
     → AreKnown parts new
 still_known parts old new goal at known kept right is here same more = record {
   all = λ g v has. elim (more g v has) [

@@ -1,17 +1,17 @@
 -- What is known of a goal: what comes of the items before hypotheses. They look at the first goal
 -- alone, so it is the same at each state that begins with it.
-use Rattle.std.specs.Prelude.{Option, Some, None}
+use Rattle.std.specs.Prelude.{List, Option, Some, None}
 use Rattle.rx_solve.specs.Attempts.{Tried}
 use Rattle.rx_term.specs.declared.rule.Equation.{Equation}
 use Rattle.rx_term.specs.declared.rule_set.RuleParts.{RuleParts}
 use Rattle.rx_memo.specs.Kept.{IsKept}
+use Rattle.rx_memo.specs.declared.goal_memo.Kept.{Kept}
 use Rattle.rx_form.specs.States.{State}
 use Rattle.rx_steps.specs.Alone.{alone, onto}
 use Rattle.rx_settle.specs.Answers.{IsTrial}
 use Rattle.rx_settle.specs.AtFirst.{before_uses}
 use Rattle.rx_unfold.specs.Trying.{Next}
 use Rattle.rx_settle.specs.declared.known.Known.{Known}
-use Rattle.rx_settle.specs.declared.settle_memo.SettleMemo.{SettleMemo}
 
 -- what comes of these items where the goal is alone
 unfoldable pub tried_alone : RuleParts → Equation → Tried Next
@@ -31,6 +31,6 @@ pub record IsKnown (parts : RuleParts) (goal : Equation) (known : Known) : Type 
   pub trial : IsTrial parts (alone goal) known.after (tried_alone parts goal) known.trial
 
 -- what a memo has of goals is right
-pub record AreKnown (parts : RuleParts) (memo : SettleMemo) : Type 0 where
-  pub all : (goal : Equation) (known : Known) → IsKept memo.known goal known →
+pub record AreKnown (parts : RuleParts) (memo : List (Kept Known)) : Type 0 where
+  pub all : (goal : Equation) (known : Known) → IsKept memo goal known →
       IsKnown parts goal known

@@ -21,11 +21,11 @@ use std::alloc::Global;
 
 /// What is known of a goal.
 #[derive(Drop)]
-pub(crate) struct Known {
+pub struct Known {
     /// What came of trying the moves before hypotheses, where the goal was alone.
-    pub(crate) trial: Trial,
+    pub trial: Trial,
     /// The state after that; the goal alone, where no move applied.
-    pub(crate) after: State,
+    pub after: State,
 }
 
 impl Known {

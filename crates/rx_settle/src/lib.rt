@@ -18,6 +18,7 @@ mod trial;
 mod trying;
 mod uses;
 
+pub use known::Known;
 pub use rx_plain::NoMemory;
 pub use settle_memo::SettleMemo;
 pub use settled::Settled;

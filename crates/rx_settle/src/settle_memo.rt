@@ -14,14 +14,34 @@ use rx_row::Constraint;
 use rx_term::{Equation, RuleSet};
 use rx_unfold::LoopPoints;
 use std::alloc::Global;
+use std::marker::Model;
 
 /// What is known of at most 16,384 goals: the move that is taken before hypotheses are used, where
 /// the goal is alone, with its certificates and the state after it. Nothing is taken out again. It
-/// serves the one rule set that it is first used with, whichever solver is asked.
+/// serves the one rule set that it is first used with, whichever solver is asked. Contracts see the
+/// list of what is known of goals.
 #[derive(Drop)]
 pub struct SettleMemo {
-    /// What is known, by the goals.
-    pub(crate) known: GoalMemo<Known>,
+    known: GoalMemo<Known>,
+}
+
+impl Model for SettleMemo {
+    ghost use Rattle.std.specs.Prelude.{List};
+    ghost use Rattle.std.specs.Coded.{codes};
+    ghost use Rattle.rx_memo.specs.declared.goal_memo.Kept.{Kept};
+    ghost use Rattle.rx_settle.specs.contracts.known.Known as known_row;
+    ghost use Rattle.rx_settle.specs.declared.known.Known.{Known};
+    ghost use Rattle.rx_term.specs.contracts.rule.Equation as equation_row;
+
+    ghost Value = { List (Kept Known) };
+
+    ghost coded = { Prim.hlevel (
+      codes,
+      equation_row.the_row.coded,
+      known_row.the_row.coded,
+    ) };
+
+    ghost view = { λ m. m.known };
 }
 
 impl SettleMemo {

@@ -2,7 +2,7 @@
 use Rattle.std.proofs.Common.{subst, sym}
 use Rattle.std.specs.Prelude.{All}
 use Rattle.std.proofs.lemmas.List.Elements.{All-nil}
-use Rattle.rx_memo.specs.Kept.{IsEmpty}
+use Rattle.rx_memo.specs.Buckets.{IsEmpty}
 use Rattle.rx_memo.proofs.Buckets.{empty_more}
 use Rattle.rx_memo.proofs.goal_memo.empty_buckets.Goals as goal
 

@@ -22,7 +22,7 @@ returns-in_err-keep-clause-known g c =
     let right = subst (IsRight rules c.args.goal)
     (sym (c.in_ok-try_clone-2.ensures ∙ c.in_ok-known.ensures)) c.in_ok-find_alone.ensures.right in
     kept_right rules c.args.memo.now c.keep.new.self c.goal.inside.inner.value kept
-    c.requires.known (subst (λ (e : Equation). IsRight rules e kept) same right) c.keep.ensures
+    c.requires.known (subst (λ (e : Equation). IsRight rules e kept) same right) c.keep.ensures.only
 
 pub returns-clause-known : goal.returns-clause-known
 returns-clause-known g c =
@@ -32,4 +32,4 @@ returns-clause-known g c =
     let right = subst (IsRight rules c.args.goal)
     (sym (c.in_ok-try_clone-2.ensures ∙ c.in_ok-known.ensures)) c.in_ok-find_alone.ensures.right in
     kept_right rules c.args.memo.now c.keep.new.self c.goal.inside.inner.value kept
-    c.requires.known (subst (λ (e : Equation). IsRight rules e kept) same right) c.keep.ensures
+    c.requires.known (subst (λ (e : Equation). IsRight rules e kept) same right) c.keep.ensures.only

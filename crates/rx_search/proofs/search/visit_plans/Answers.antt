@@ -1,6 +1,7 @@
 -- The visits begin at a node of the search, with memos that have nothing.
 use Rattle.std.proofs.Common.{subst, sym}
 use Rattle.rx_pairs.specs.Pairs.{AreAllPairs}
+use Rattle.rx_search.proofs.Finding.{none_right}
 use Rattle.rx_search.proofs.Rooted.{start_is}
 use Rattle.rx_search.proofs.search.visit_plans.Goals as goal
 
@@ -10,7 +11,7 @@ search-requires-clause-ready g c = (
   c.in_ok-points.ensures,
   subst (AreAllPairs c.args.rules.now.rules) (sym c.as_slice.ensures.value) c.in_ok-pairs.ensures,
   c.in_ok-settle_memo.ensures c.args.rules.now,
-  record { all = λ goal known kept. absurd (c.in_ok-choice_memo.ensures goal known kept) },
+  none_right c.args.rules.now c.in_ok-choice_memo.choice_memo c.in_ok-choice_memo.ensures,
 )
 
 pub search-requires-clause-valid : goal.search-requires-clause-valid
