@@ -13,7 +13,8 @@ use Rattle.rx_rank.specs.Tries.{noting}
 use Rattle.rx_rank.specs.declared.fitting.Fit.{Fit}
 
 -- the place is one of the first n
-pub taken_place : {A : Type 0} (n : ℕ) (xs : List A) (i : ℕ) → i < n → slice_get (take n xs) i ≡ slice_get xs i
+pub taken_place : {A : Type 0} (n : ℕ) (xs : List A) (i : ℕ) → i < n →
+    slice_get (take n xs) i ≡ slice_get xs i
 taken_place zero xs i h = absurd (omega (arith, h))
 taken_place (suc n) [] i h = refl
 taken_place (suc n) (x ∷ xs) zero h = refl

@@ -81,15 +81,8 @@ pub(crate) fn first_fit<S: FnMut(&Constraint) -> Result<Option<Cert>, FmEnd>>(
             Some(choice) => choice,
             None => return Ok(Attempt { made: None, noted }),
         };
-        let attempt = choosing(
-            alloc,
-            infos,
-            pairs,
-            anchors,
-            order,
-            choice.as_slice(),
-            solve,
-        )?;
+        let chosen = choice.as_slice();
+        let attempt = choosing(alloc, infos, pairs, anchors, order, chosen, solve)?;
         noted = noted || attempt.noted;
         if attempt.made.is_some() {
             return Ok(Attempt {

@@ -1,5 +1,5 @@
-//! Deciding whether there are ranks, without a table of them: in rounds, pairs are left out that fall
-//! by a column of heights, and then those that fall by a column of polynomials.
+//! Deciding whether there are ranks, without a table of them: in rounds, pairs are left out that
+//! fall by a column of heights, and then those that fall by a column of polynomials.
 #![tactic(auto)]
 
 mod deciding;

@@ -104,7 +104,8 @@ fn still_open<'a>(
     pairs: &[&'a Pair],
     falls: &[Option<Items<Cert>>],
 ) -> Result<Vec<&'a Pair>, NoMemory>
-    ensures { IfOk result (λ left. pairs_at left.items ≡ still_open (pairs_at pairs.now) falls.now) }
+    ensures { IfOk result (λ left. pairs_at left.items ≡
+        still_open (pairs_at pairs.now) falls.now) }
 {
     let mut left = Vec::new(alloc);
     for (at, pair) in pairs.iter().enumerate() {

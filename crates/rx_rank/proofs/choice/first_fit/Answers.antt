@@ -49,9 +49,9 @@ returns-then-is_some-clause-fit g c =
     taken_place most_choices (products (lists_in a.lists.now)) at below
     ∙ sym (sym (ap (option_map (λ v. polys_at v.items)) c.in-Some.is) ∙ c.in_ok-choice.ensures) in
     let here = subst (λ qs. IfSome made (IsChosen a.infos.now qs a.anchors.now a.order.now
-    (polys_at c.as_slice.result.now))) c.loop-at.invariant.same c.in_ok-attempt.ensures.fit in
+    (polys_at c.as_slice-chosen.result.now))) c.loop-at.invariant.same c.in_ok-attempt.ensures.fit in
     let chosen = subst (λ ps. IfSome made (IsChosen a.infos.now a.pairs.now a.anchors.now
-    a.order.now (polys_at ps))) c.as_slice.ensures.value here in
+    a.order.now (polys_at ps))) c.as_slice-chosen.ensures.value here in
     fit_among a.infos.now a.pairs.now a.anchors.now a.order.now all choice made
     (at_place all at choice there) chosen
 
@@ -77,10 +77,10 @@ returns-then-is_some-clause-tried g c =
     choosing a.infos.now a.pairs.now a.anchors.now a.order.now choice =
     subst (λ ps. record { made = option_map view made; noted = more } ≡
     choosing a.infos.now a.pairs.now a.anchors.now a.order.now (polys_at ps))
-    c.as_slice.ensures.value
+    c.as_slice-chosen.ensures.value
     (subst (λ (qs : List Pair). tried_as (λ fit. still_open qs fit.falls.items)
     c.in_ok-attempt.attempt ≡ choosing a.infos.now qs a.anchors.now a.order.now
-    (polys_at c.as_slice.result.now)) c.loop-at.invariant.same c.in_ok-attempt.ensures.tried) in
+    (polys_at c.as_slice-chosen.result.now)) c.loop-at.invariant.same c.in_ok-attempt.ensures.tried) in
     choice_fits a.infos.now a.pairs.now a.anchors.now a.order.now all at before
     (first_of a.infos.now a.pairs.now a.anchors.now a.order.now all all)
     c.loop-at.invariant.decides choice there view made more c.if-noted.noted tried either
@@ -108,10 +108,10 @@ loop-at-preserved g c =
     choosing a.infos.now a.pairs.now a.anchors.now a.order.now choice =
     subst (λ ps. record { made = option_map view made; noted = more } ≡
     choosing a.infos.now a.pairs.now a.anchors.now a.order.now (polys_at ps))
-    c.as_slice.ensures.value
+    c.as_slice-chosen.ensures.value
     (subst (λ (qs : List Pair). tried_as (λ fit. still_open qs fit.falls.items)
     c.in_ok-attempt.attempt ≡ choosing a.infos.now qs a.anchors.now a.order.now
-    (polys_at c.as_slice.result.now)) c.loop-at.invariant.same c.in_ok-attempt.ensures.tried) in
+    (polys_at c.as_slice-chosen.result.now)) c.loop-at.invariant.same c.in_ok-attempt.ensures.tried) in
     record {
       solver = c.choosing.ensures.solver;
       same = c.choosing.ensures.pairs ∙ c.loop-at.invariant.same;
