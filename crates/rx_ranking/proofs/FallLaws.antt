@@ -1,6 +1,6 @@
 -- A column of polynomials: the pairs at which it doesn't fall stay open and it holds there, and the
 -- others are closed.
-use Rattle.std.proofs.Common.{◌≡◌, ◌∙◌, ap, sym, subst, refl, inl, inr, ℕ, suc, ◌==◌, ◌<◌, true, false, Option, Some, None, List, [], ◌∷◌, ◌++◌, append-nil, length, set, All}
+use Rattle.std.proofs.Common.{◌≡◌, ◌∙◌, ap, sym, subst, refl, inl, inr, ℕ, suc, ◌==◌, ◌<◌, true, false, Option, Some, None, List, [], ◌∷◌, ◌++◌, length, All}
 use Rattle.std.specs.List.{AllZip}
 use Rattle.std.specs.Prelude.{Contains, negsuc, unwrap_or}
 use Rattle.std.proofs.lemmas.Bool.{false≢true, or_cases, or_left, or_parts, or_right}
@@ -20,7 +20,7 @@ use Rattle.rx_ranking.proofs.ClosingLaws.{close_both}
 use Rattle.rx_ranking.proofs.GrowthLaws.{count_pushed, lawful_pushed, split_pushed}
 use Rattle.rx_ranking.proofs.SplitLaws.{IsClosing, split_more}
 use Rattle.rx_ranking.proofs.TableLaws.{fallen_column, held_column}
-use Rattle.rx_ranking.specs.Closing.{Fitted, close_all, closing, fallen, fitted, left_open, with_certs}
+use Rattle.rx_ranking.specs.Closing.{Fitted, close_all, fallen, fitted, left_open, with_certs}
 use Rattle.rx_ranking.specs.Fits.{AreFits}
 use Rattle.rx_ranking.specs.Rounds.{IsGrown}
 use Rattle.rx_ranking.specs.Tables.{Column, IsOpenBy, IsSplit, columns_in, has_number, pairs_open, value_at}

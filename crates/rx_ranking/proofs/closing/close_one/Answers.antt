@@ -1,5 +1,5 @@
 -- What becomes of the pair is what its fall says.
-use Rattle.std.proofs.Common.{◌≡◌, ◌∙◌, ◌++◌, ◌∷◌, [], ap, append-nil, set, sym, Some}
+use Rattle.std.proofs.Common.{◌∙◌, ◌++◌, ◌∷◌, [], ap, append-nil, set, sym, Some}
 use Rattle.rx_ranking.specs.Closing.{close_all, closing, fallen, left_open}
 use Rattle.rx_ranking.specs.declared.open_pair.OpenPair.{OpenPair}
 use Rattle.rx_ranking.proofs.closing.close_one.Goals as goal

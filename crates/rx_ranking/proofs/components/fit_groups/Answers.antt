@@ -1,5 +1,5 @@
 -- One component more, and what comes of all.
-use Rattle.std.proofs.Common.{◌≡◌, ◌+◌, ◌||◌, refl, sym, subst}
+use Rattle.std.proofs.Common.{◌+◌, ◌||◌, refl, sym, subst}
 use Rattle.rx_rank.specs.declared.fitting.Fit.{Fit}
 use Rattle.rx_ranking.proofs.WalkLaws.{IsWalked, walk_begin, walk_end, walk_failed, walk_fits, walk_next}
 use Rattle.rx_ranking.proofs.components.fit_groups.Goals as goal
