@@ -1,5 +1,5 @@
 -- One component more.
-use Rattle.std.proofs.Common.{◌≡◌, ◌∙◌, ◌++◌, ℕ, ap, arith, subst, length}
+use Rattle.std.proofs.Common.{◌∙◌, ◌++◌, ℕ, ap, arith, subst, length}
 use Rattle.std.proofs.lemmas.List.{map-append}
 use Rattle.std.specs.Option.{IfSome, option_map}
 use Rattle.rx_graph.specs.Graph.{IsOver}
