@@ -1,5 +1,8 @@
 //! The symbols of a component of a graph of symbols, its anchors, and choices of one of several
 //! polynomials for each anchor.
+//!
+//! What a reader may rely on: what each call answers is exactly what its definition in `specs/`
+//! comes to, of symbols (`Members`), polynomials by symbol (`Values`) and choices (`Choices`).
 #![tactic(auto)]
 
 mod choices;

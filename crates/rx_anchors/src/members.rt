@@ -1,6 +1,7 @@
-//! The symbols of a component, its pairs, and which rules are its.
+//! The symbols of a component, its anchors, and which rules are its.
 ghost use Rattle.std.specs.Prelude.{◌≡◌, IfOk, map, not};
-ghost use Rattle.rx_anchors.specs.Members.{arity_of, is_anchor, is_left_root, is_member, is_rule_of, is_start, members};
+ghost use Rattle.rx_anchors.specs.Members.{arity_of, is_anchor, is_left_root, is_member};
+ghost use Rattle.rx_anchors.specs.Members.{is_rule_of, is_start, members};
 ghost use Rattle.std.specs.List.{filter, list_any};
 
 use rx_plain::NoMemory;

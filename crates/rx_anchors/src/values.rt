@@ -1,7 +1,8 @@
 //! Polynomials by symbol.
 ghost use Rattle.std.specs.Prelude.{◌≡◌, IfOk};
 ghost use Rattle.std.specs.Option.{option_copied};
-ghost use Rattle.rx_anchors.specs.Values.{polynomial_of, polys_at, with_choice, with_polynomial, without_polynomials};
+ghost use Rattle.rx_anchors.specs.Values.{polynomial_of, polys_at, with_choice, with_polynomial};
+ghost use Rattle.rx_anchors.specs.Values.{without_polynomials};
 
 use rx_plain::NoMemory;
 use rx_poly::Poly;

@@ -1,5 +1,4 @@
 //! Asking a cached solver by a closure.
-ghost use Rattle.std.specs.Prelude.{◌≡◌};
 ghost use Rattle.rx_cache.specs.CachedSolver.{IsCachedSolver};
 ghost use Rattle.rx_solve.specs.Answers.{Answers};
 

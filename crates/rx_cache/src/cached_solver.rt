@@ -1,6 +1,7 @@
 //! A solver behind a cache.
 ghost use Rattle.std.specs.Prelude.{◌≡◌, ◌≤◌, [], ℕ, ℤ, IfOk, IfSome};
-ghost use Rattle.rx_cache.specs.CachedSolver.{AfterAsk, IsCachedSolver, capacity_of, entries_in, solver_in};
+ghost use Rattle.rx_cache.specs.CachedSolver.{AfterAsk, IsCachedSolver, capacity_of};
+ghost use Rattle.rx_cache.specs.CachedSolver.{entries_in, solver_in};
 ghost use Rattle.rx_row.specs.Holds.{AllHold};
 ghost use Rattle.rx_solve.specs.Answers.{Answers, IsSolver};
 

@@ -1,5 +1,9 @@
 //! Cached answers of the refuter: a solver with a cache of bounded size between it and those who
 //! ask, which answers as the refuter does, whatever its capacity.
+//!
+//! What a reader may rely on: a cached solver promises of an answer what the refuter does, and
+//! stays a cached solver. Where an entry has the rows, the solver isn't asked
+//! (`specs/CachedSolver`).
 #![tactic(auto)]
 
 mod asking;

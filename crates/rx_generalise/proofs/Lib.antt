@@ -1,2 +1,2 @@
--- Lemmas on naming and generalisations.
+-- Whether a polynomial is a variable without its constant, term by term.
 pub mod ValueLaws

@@ -3,6 +3,9 @@ ghost use Rattle.std.specs.Prelude.{◌≡◌, IfOk};
 ghost use Rattle.rx_generalise.specs.Answers.{FindsAll, FindsAny, MakesOne};
 ghost use Rattle.rx_generalise.specs.Generalising as spec;
 ghost use Rattle.rx_generalise.specs.Parts.{AreListed, AreVariablesFor};
+ghost use Rattle.rx_generalise.specs.RuleRows as added;
+ghost use Rattle.rx_generalise.specs.RuleRows.{Makes};
+ghost use Rattle.rx_generalise.specs.Values as values;
 ghost use Rattle.rx_solve.specs.Answers.{IsSolver};
 
 use crate::repeated::repeated;
@@ -17,6 +20,26 @@ use rx_poly::Poly;
 use rx_row::Constraint;
 use rx_term::{Equation, Rule, RuleSet};
 use std::alloc::{AllocError, Global};
+
+/// The rows of the new equation: the goal's that don't give a value, and those of the rules at its
+/// calls whose instances are shown under the goal's rows.
+fn rows_for<S: FnMut(&Constraint) -> Result<Option<Cert>, FmEnd>>(
+    alloc: Global,
+    rules: &[Rule],
+    goal: &Equation,
+    new: &Equation,
+    with: &[(u32, Poly)],
+    solve: &mut S,
+) -> Result<Constraint, FmEnd>
+    requires solver { IsSolver S.FnMut solve.old }
+    ensures solver { IsSolver S.FnMut solve.new }
+    ensures answer { Makes (added.formed_added with.now goal.now.rows
+        (added.rule_rows rules.now new.now) (values.other_rows goal.now.rows)) result }
+{
+    let more = rule_rows(alloc, rules, new)?;
+    let others = other_rows(alloc, goal.rows.rows())?;
+    add_rows(alloc, with, &goal.rows, more.as_slice(), others, solve)
+}
 
 /// The new equation, with the goal's rows that don't give a value, and those of the rules at its
 /// calls whose instances are shown under the goal's rows.
@@ -34,16 +57,7 @@ fn generalise<S: FnMut(&Constraint) -> Result<Option<Cert>, FmEnd>>(
     ensures solver { IsSolver S.FnMut solve.new }
     ensures answer { MakesOne (spec.generalised rules.now goal.now kind new with) result }
 {
-    let more = rule_rows(alloc, rules, &new)?;
-    let others = other_rows(alloc, goal.rows.rows())?;
-    let rows = add_rows(
-        alloc,
-        with.as_slice(),
-        &goal.rows,
-        more.as_slice(),
-        others,
-        solve,
-    )?;
+    let rows = rows_for(alloc, rules, goal, &new, with.as_slice(), solve)?;
     let Equation { left, right, .. } = new;
     Ok(Generalised {
         kind,

@@ -3,7 +3,6 @@ use Rattle.std.specs.Prelude.{ℕ, List}
 use Rattle.rx_poly.specs.declared.body.Body.{Body}
 use Rattle.rx_term.specs.declared.rule.Equation.{Equation}
 use Rattle.rx_lemma.specs.declared.generalised.Generalised.{Generalised}
-use Rattle.rx_lemma.specs.declared.lemma.Lemma.{Lemma}
 use Rattle.rx_lemma.specs.declared.lemma.LemmaKind.{LemmaKind}
 
 -- no new variable has this number or one above
@@ -15,10 +14,6 @@ pub record Generalisation : Type 0 where
   pub kind : LemmaKind
   pub goal : Equation
   pub subst : List (ℕ × Body)
-
--- a lemma without its certificates
-abbrev pub generalisation_of : Lemma → Generalisation
-generalisation_of lemma = record { kind = lemma.kind; goal = lemma.goal; subst = lemma.subst }
 
 -- what is found as plain data
 abbrev pub found_as : Generalised → Generalisation

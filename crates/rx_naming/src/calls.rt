@@ -1,13 +1,13 @@
 //! What is at the places of the call that a term ends in.
 ghost use Rattle.std.specs.Prelude.{◌≡◌, slice_set, IfOk};
 ghost use Rattle.rx_naming.specs.Calls.{constant_at, variable_at, with_variable};
-ghost use Rattle.rx_lemma.specs.Calls.{call_of, constant, lone_variable};
+ghost use Rattle.rx_lemma.specs.Calls.{call_of};
 ghost use Rattle.rx_poly.specs.Constants.{variable};
 
 use rx_lemma::call_of;
 use rx_plain::Items;
 use rx_poly::{Poly, copied_polys};
-use rx_term::{Sym, Term};
+use rx_term::Term;
 use std::alloc::{AllocError, Global};
 
 /// The number at the place of the term's call, if there is one.

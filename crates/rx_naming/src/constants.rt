@@ -1,12 +1,14 @@
 //! Constants in calls of loop heads become variables.
-ghost use Rattle.std.specs.Prelude.{◌≡◌, ◌<◌, ℕ, Some, IfOk};
+ghost use Rattle.std.specs.Prelude.{◌≡◌, ◌<◌, Some, IfOk};
 ghost use Rattle.rx_plain.specs.Formed.{Forms};
 ghost use Rattle.rx_poly.specs.Constants.{number};
 ghost use Rattle.rx_row.specs.Membership.{stands_among};
 ghost use Rattle.rx_row.specs.Naming.{named};
 ghost use Rattle.rx_naming.specs.Calls as calls;
-ghost use Rattle.rx_form.specs.Pieces.{side_of, other_side, with_side};
-ghost use Rattle.rx_naming.specs.Naming.{Answers, gives, goal_with, named_as, named_new, naming_at, naming_by, naming_constant, naming_from, naming_new};
+ghost use Rattle.rx_form.specs.Pieces.{side_of, other_side};
+ghost use Rattle.rx_naming.specs.Naming.{Answers, gives, goal_with, named_as, named_new};
+ghost use Rattle.rx_naming.specs.Naming.{naming_at, naming_by, naming_constant};
+ghost use Rattle.rx_naming.specs.Naming.{naming_from, naming_new};
 ghost use Rattle.rx_lemma.specs.Lemmas.{variables_end};
 
 use crate::calls::{constant_at, variable_at, with_variable};

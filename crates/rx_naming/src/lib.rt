@@ -1,8 +1,8 @@
-//! Naming: the goal whose constants in calls of loop heads are variables, each with a row that gives
-//! it its value.
+//! Naming: the goal whose constants in calls of loop heads are variables, each with a row that
+//! gives it its value.
 //!
-//! What a reader may rely on: `named` answers exactly what `naming_of` comes to (`specs/Naming`). It
-//! asks no solver. By the laws, naming keeps the shapes of a goal's sides, and what its new
+//! What a reader may rely on: `named` answers exactly what `naming_of` comes to (`specs/Naming`).
+//! It asks no solver. By the laws, naming keeps the shapes of a goal's sides, and what its new
 //! variables are replaced by is a substitution (`specs/Shapes`).
 #![tactic(auto)]
 

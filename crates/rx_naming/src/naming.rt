@@ -1,5 +1,5 @@
 //! The goal with the constants in calls of loop heads named.
-ghost use Rattle.std.specs.Prelude.{◌≡◌, ◌||◌, false, length, slice_get};
+ghost use Rattle.std.specs.Prelude.{◌≡◌, false, length, slice_get};
 ghost use Rattle.std.specs.List.{list_any};
 ghost use Rattle.std.specs.Option.{is_some, option_map_or};
 ghost use Rattle.rx_naming.specs.Answers.{Finds};

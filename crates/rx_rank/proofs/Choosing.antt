@@ -13,7 +13,8 @@ use Rattle.rx_rank.specs.Tries.{noting}
 use Rattle.rx_rank.specs.declared.fitting.Fit.{Fit}
 
 -- the place is one of the first n
-pub taken_place : {A : Type 0} (n : ℕ) (xs : List A) (i : ℕ) → i < n → slice_get (take n xs) i ≡ slice_get xs i
+pub taken_place : {A : Type 0} (n : ℕ) (xs : List A) (i : ℕ) → i < n →
+    slice_get (take n xs) i ≡ slice_get xs i
 taken_place zero xs i h = absurd (omega (arith, h))
 taken_place (suc n) [] i h = refl
 taken_place (suc n) (x ∷ xs) zero h = refl
@@ -44,9 +45,9 @@ module _ (infos : List SymInfo) (pairs : List Pair) (anchors order : List ℕ)
         ∙ is
 
     module _ (choice : List Body) (there : slice_get choices i ≡ Some choice)
-        (view : Fit → List Pair) (made : Option Fit) (more after : Bool)
+        (view : Fit → List Pair) (made : Option Fit) (more : Bool)
         (tried : record { made = option_map view made; noted = more } ≡
-        choosing infos pairs anchors order choice) (either : after ≡ (noted || more)) where
+        choosing infos pairs anchors order choice) where
       opened : noting noted (made_or (option_map view made) more
           (first_of (drop (i + 1) choices))) ≡ whole
       opened =
@@ -57,18 +58,14 @@ module _ (infos : List SymInfo) (pairs : List Pair) (anchors order : List ℕ)
 
       -- the choice at hand is fit
       pub choice_fits : is_some made ≡ true →
-          record { made = option_map view made; noted = after } ≡ whole
-      choice_fits e =
-          ap (λ n. record { made = option_map view made; noted = n }) either
-          ∙ decided view noted made more (first_of (drop (i + 1) choices)) e
-          ∙ opened
+          record { made = option_map view made; noted = noted || more } ≡ whole
+      choice_fits e = decided view noted made more (first_of (drop (i + 1) choices)) e ∙ opened
 
       -- it isn't, and the later ones decide
       pub later_choices : is_some made ≡ false →
-          noting after (first_of (drop (i + 1) choices)) ≡ whole
+          noting (noted || more) (first_of (drop (i + 1) choices)) ≡ whole
       later_choices e =
-          ap (λ n. noting n (first_of (drop (i + 1) choices))) either
-          ∙ first_none noted (option_map view made) more (first_of (drop (i + 1) choices)) whole
+          first_none noted (option_map view made) more (first_of (drop (i + 1) choices)) whole
           opened (none_made view made e)
 
   -- what comes of one of the choices is a first fit
@@ -81,3 +78,10 @@ module _ (infos : List SymInfo) (pairs : List Pair) (anchors order : List ℕ)
     among = among;
     chosen = chosen;
   }
+
+  -- with the order that there is
+  pub ordered : (o : Option (List ℕ)) (made : Option Fit) → o ≡ Some order →
+      IfSome made (IsFirstFit infos pairs anchors order choices) → IfSome made (λ fit.
+      (fs : List ℕ) × (o ≡ Some fs) × IsFirstFit infos pairs anchors fs choices fit)
+  ordered o None is first = tt
+  ordered o (Some fit) is first = (order, is, first)

@@ -5,7 +5,6 @@ use Rattle.std.proofs.lemmas.Bool.{and_parts}
 use Rattle.std.proofs.lemmas.List.Elements.{All-cons, All-contains, All-filter, All-head, All-nil, All-tail, All-take, All-weaker, filter_passes}
 use Rattle.std.specs.List.{All, AllZip, filter, find, list_all}
 use Rattle.std.specs.Option.{IfSome, option_map}
-use Rattle.rx_plain.proofs.Booleans.{or_false}
 use Rattle.rx_poly.specs.Substitution.{subst_body, numbered, numbered_from, replaced}
 use Rattle.rx_poly.specs.Variables.{uses_below, variables}
 use Rattle.rx_poly.specs.declared.body.Body.{Body}
@@ -14,7 +13,7 @@ use Rattle.rx_poly_laws.proofs.InstanceVariables.{instance_passes}
 use Rattle.rx_poly_laws.proofs.TestLaws.{passes-variable}
 use Rattle.rx_cert.specs.Findings.{Said, Yes, No, Beyond}
 use Rattle.rx_cert.specs.Variables.{rows_pass}
-use Rattle.rx_solve.specs.Attempts.{Tried, where_shown}
+use Rattle.rx_solve.specs.Attempts.{where_shown}
 use Rattle.rx_term.specs.declared.rule.Rule.{Rule}
 use Rattle.rx_term.specs.declared.rule_set.RuleParts.{RuleParts}
 use Rattle.rx_term.specs.declared.rule_set.SymInfo.{SymInfo}
@@ -256,28 +255,25 @@ module _ (parts : RuleParts) (hypotheses : List Rule) (names : List ℕ) (c : �
         }
 
     -- what is handed on from call to call
-    pub record Handed (infos : List SymInfo) (rules : List Rule)
-        (made_anchors made_others anchor_slice other_slice made_arities arity_slice : List ℕ)
-        (lists : List (List Body)) (noted : Bool) (order : Option (List ℕ)) : Type 0 where
+    pub record Handed (infos : List SymInfo)
+        (made_anchors made_others anchor_slice other_slice : List ℕ) (lists : List (List Body))
+        (noted : Bool) (order : Option (List ℕ)) : Type 0 where
       pub infos_is : infos ≡ parts.symbols
-      pub rules_is : rules ≡ parts.rules
       pub made_anchors_is : made_anchors ≡ filter (is_anchor infos hypotheses) (members names c)
       pub made_others_is : made_others ≡ filter (λ f. not (is_anchor infos hypotheses f))
           (members names c)
       pub anchor_slice_is : anchor_slice ≡ made_anchors
       pub other_slice_is : other_slice ≡ made_others
-      pub made_arities_is : made_arities ≡ map (arity_of infos) anchor_slice
-      pub arity_slice_is : arity_slice ≡ made_arities
-      pub made_lists_is : lists ≡ candidate_lists names c (rules ++ hypotheses) arity_slice
-      pub made_noted_is : noted ≡ are_noted names c (rules ++ hypotheses) arity_slice
+      pub made_lists_is : lists ≡ candidate_lists names c (parts.rules ++ hypotheses)
+          (map (arity_of parts.symbols) anchor_slice)
+      pub made_noted_is : noted ≡ are_noted names c (parts.rules ++ hypotheses)
+          (map (arity_of parts.symbols) anchor_slice)
       pub made_order_is : order ≡ order_of pairs other_slice
 
-    module _ {infos : List SymInfo} {rules : List Rule}
-        {made_anchors made_others anchor_slice other_slice made_arities arity_slice : List ℕ}
+    module _ {infos : List SymInfo} {made_anchors made_others anchor_slice other_slice : List ℕ}
         {lists : List (List Body)} {noted : Bool} {order : Option (List ℕ)}
-        (h : Handed infos rules made_anchors made_others anchor_slice other_slice made_arities
-        arity_slice lists noted order) where
-      pub anchors_are : anchor_slice ≡ anchors parts hypotheses names c
+        (h : Handed infos made_anchors made_others anchor_slice other_slice lists noted order) where
+      anchors_are : anchor_slice ≡ anchors parts hypotheses names c
       anchors_are =
           h.anchor_slice_is ∙ h.made_anchors_is ∙
           ap (λ s. filter (is_anchor s hypotheses) (members names c)) h.infos_is
@@ -287,60 +283,40 @@ module _ (parts : RuleParts) (hypotheses : List Rule) (names : List ℕ) (c : �
           h.other_slice_is ∙ h.made_others_is ∙
           ap (λ s. filter (λ f. not (is_anchor s hypotheses f)) (members names c)) h.infos_is
 
-      arities_are : arity_slice ≡ arities parts hypotheses names c
-      arities_are =
-          h.arity_slice_is ∙ h.made_arities_is ∙
-          (λ j. map (arity_of (h.infos_is j)) (anchors_are j))
-
-      pub lists_are : lists ≡ candidate_lists names c (parts.rules ++ hypotheses)
+      lists_are : lists ≡ candidate_lists names c (parts.rules ++ hypotheses)
           (arities parts hypotheses names c)
       lists_are =
-          h.made_lists_is ∙ (λ j. candidate_lists names c (h.rules_is j ++ hypotheses)
-          (arities_are j))
+          h.made_lists_is ∙ ap (λ fs. candidate_lists names c (parts.rules ++ hypotheses)
+          (map (arity_of parts.symbols) fs)) anchors_are
 
-      pub noted_are : noted ≡ are_noted names c (parts.rules ++ hypotheses)
+      noted_are : noted ≡ are_noted names c (parts.rules ++ hypotheses)
           (arities parts hypotheses names c)
       noted_are =
-          h.made_noted_is ∙ (λ j. are_noted names c (h.rules_is j ++ hypotheses) (arities_are j))
+          h.made_noted_is ∙ ap (λ fs. are_noted names c (parts.rules ++ hypotheses)
+          (map (arity_of parts.symbols) fs)) anchors_are
 
-      pub order_are : order ≡ order_of pairs (others parts hypotheses names c)
+      order_are : order ≡ order_of pairs (others parts hypotheses names c)
       order_are = h.made_order_is ∙ ap (order_of pairs) others_are
 
+      -- what comes of the choices is what comes of the component
       pub component_is : noting noted (first_fit infos pairs anchor_slice lists order) ≡
           component parts hypotheses names c pairs
       component_is =
           λ j. noting (noted_are j) (first_fit (h.infos_is j) pairs (anchors_are j) (lists_are j)
           (order_are j))
 
-      -- without an order nothing is made
-      pub no_order : order ≡ None → record { made = None; noted = noted } ≡
-          component parts hypotheses names c pairs
-      no_order none =
-          sym (ap (λ n. record { made = None; noted = n }) (or_false noted))
-          ∙ sym (ap (λ o. noting noted (first_fit infos pairs anchor_slice lists o)) none) ∙
-          component_is
-
-      -- with one, what comes of the choices
-      pub with_order : (fs : List ℕ) → order ≡ Some fs → (t : Tried (List Pair)) → t ≡
-          first_fit infos pairs anchor_slice lists (Some fs) → noting noted t ≡
-          component parts hypotheses names c pairs
-      with_order fs some t is =
-          ap (noting noted) is ∙ sym (ap (λ o. noting noted
-          (first_fit infos pairs anchor_slice lists o)) some) ∙ component_is
-
-      pub fits_component : (fs : List ℕ) → order ≡ Some fs → (made : Option Fit)
-          → IfSome made (IsFirstFit infos pairs anchor_slice fs
-          (take most_choices (products lists)))
+      pub fits_component : (made : Option Fit) → IfSome made (λ fit. (fs : List ℕ) ×
+          (order ≡ Some fs) ×
+          IsFirstFit infos pairs anchor_slice fs (take most_choices (products lists)) fit)
           → IfSome made (IsComponentFit parts hypotheses names c pairs)
-      fits_component fs some None first = tt
-      fits_component fs some (Some fit) first =
-          component_fit fs fit (sym order_are ∙ some)
-          (subst (λ s. IsFirstFit s pairs (anchors parts hypotheses names c) fs
+      fits_component None first = tt
+      fits_component (Some fit) first =
+          component_fit first.0 fit (sym order_are ∙ first.1)
+          (subst (λ s. IsFirstFit s pairs (anchors parts hypotheses names c) first.0
           (take most_choices (products (candidate_lists names c (parts.rules ++ hypotheses)
           (arities parts hypotheses names c)))) fit) h.infos_is
-          (subst (λ a. IsFirstFit infos pairs a fs
+          (subst (λ a. IsFirstFit infos pairs a first.0
           (take most_choices (products (candidate_lists names c (parts.rules ++ hypotheses)
           (arities parts hypotheses names c)))) fit) anchors_are
-          (subst (λ ls. IsFirstFit infos pairs anchor_slice fs (take most_choices (products ls))
-          fit)
-          lists_are first)))
+          (subst (λ ls. IsFirstFit infos pairs anchor_slice first.0
+          (take most_choices (products ls)) fit) lists_are first.2)))

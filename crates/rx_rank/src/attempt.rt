@@ -17,7 +17,7 @@ pub fn noted_before<T: Drop>(noted: bool, later: Attempt<T>) -> Attempt<T>
 {
     Attempt {
         made: later.made,
-        noted: noted || later.noted,
+        noted: noted | later.noted,
     }
 }
 

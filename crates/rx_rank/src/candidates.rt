@@ -4,7 +4,9 @@ ghost use Rattle.std.specs.List.{flat_map, list_any};
 ghost use Rattle.rx_poly.specs.contracts.body.BodyPartialEq.TheImpl as body_equal;
 ghost use Rattle.rx_anchors.specs.Choices.{lists_in};
 ghost use Rattle.rx_rank.specs.Answers.{Gathers};
-ghost use Rattle.rx_rank.specs.Candidates.{all_candidates, are_noted, candidate_lists, candidates, candidates_by, opposite_tried, row_candidates, rule_candidates, with_candidate};
+ghost use Rattle.rx_rank.specs.Candidates.{all_candidates, are_noted, candidate_lists, candidates};
+ghost use Rattle.rx_rank.specs.Candidates.{candidates_by, opposite_tried, row_candidates};
+ghost use Rattle.rx_rank.specs.Candidates.{rule_candidates, with_candidate};
 ghost use Rattle.rx_solve.specs.Attempts.{applies, is_noted};
 
 use rx_anchors::is_rule_of;
@@ -103,7 +105,7 @@ fn push_rows(
     let mut noted = false;
     for row in rows {
         let more = push_row(polys, alloc, arity, row)?;
-        noted = noted || more;
+        noted |= more;
     }
     Ok(noted)
 }
@@ -123,7 +125,7 @@ fn push_rules(
     let mut noted = false;
     for rule in rules {
         let more = push_rule(polys, alloc, names, name, arity, rule)?;
-        noted = noted || more;
+        noted |= more;
     }
     Ok(noted)
 }
@@ -175,7 +177,7 @@ fn anchor_candidates(
     let second = push_rules(&mut polys, alloc, names, name, arity, hypotheses)?;
     Ok(Candidates {
         polys,
-        noted: first || second,
+        noted: first | second,
     })
 }
 
@@ -206,7 +208,7 @@ pub(crate) fn all_lists(
     let mut noted = false;
     for arity in arities {
         let one = anchor_candidates(alloc, names, name, rules, hypotheses, *arity)?;
-        noted = noted || one.noted;
+        noted |= one.noted;
         lists.push(one.polys)?;
     }
     Ok(CandidateLists { lists, noted })

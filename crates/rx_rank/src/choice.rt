@@ -7,7 +7,7 @@ ghost use Rattle.rx_rank.specs.Choices.{choosing};
 ghost use Rattle.rx_rank.specs.Ranking.{first_fit, most_choices};
 ghost use Rattle.rx_solve.specs.Answers.{IsSolver};
 
-use crate::attempt::Attempt;
+use crate::attempt::{Attempt, noted_before};
 use crate::filling::filled;
 use crate::fitting::{Fit, fitting};
 use crate::known_pair::KnownPair;
@@ -49,10 +49,7 @@ fn choosing<S: FnMut(&Constraint) -> Result<Option<Cert>, FmEnd>>(
         return Ok(Attempt { made: None, noted });
     };
     let fit = fitting(alloc, values, pairs, solve)?;
-    Ok(Attempt {
-        made: fit.made,
-        noted: noted || fit.noted,
-    })
+    Ok(noted_before(noted, fit))
 }
 
 /// The first choice of candidates that is fit; none is tried where the other symbols have no order.
@@ -81,16 +78,9 @@ pub(crate) fn first_fit<S: FnMut(&Constraint) -> Result<Option<Cert>, FmEnd>>(
             Some(choice) => choice,
             None => return Ok(Attempt { made: None, noted }),
         };
-        let attempt = choosing(
-            alloc,
-            infos,
-            pairs,
-            anchors,
-            order,
-            choice.as_slice(),
-            solve,
-        )?;
-        noted = noted || attempt.noted;
+        let chosen = choice.as_slice();
+        let attempt = choosing(alloc, infos, pairs, anchors, order, chosen, solve)?;
+        noted |= attempt.noted;
         if attempt.made.is_some() {
             return Ok(Attempt {
                 made: attempt.made,

@@ -1,12 +1,16 @@
 //! One component of the graph of open pairs.
-ghost use Rattle.std.specs.Prelude.{◌≡◌, IfOk, IfSome, Some, take};
+ghost use Rattle.std.specs.Prelude.{◌≡◌, ◌++◌, ℕ, IfOk, IfSome, List, Some, map, take};
+ghost use Rattle.std.specs.Option.{option_map};
 ghost use Rattle.rx_anchors.specs.Choices.{lists_in, products};
+ghost use Rattle.rx_anchors.specs.Members.{arity_of};
 ghost use Rattle.rx_rank.specs.Answers.{IsComponentFit, IsFirstFit, pairs_at, still_open, tried_as};
+ghost use Rattle.rx_rank.specs.Candidates.{are_noted, candidate_lists};
 ghost use Rattle.rx_rank.specs.Ranking.{component, first_fit, most_choices};
+ghost use Rattle.rx_rank.specs.Tries.{noting};
 ghost use Rattle.rx_solve.specs.Answers.{IsSolver};
 
 use crate::attempt::{Attempt, noted_before};
-use crate::candidates::all_lists;
+use crate::candidates::{CandidateLists, all_lists};
 use crate::choice::first_fit;
 use crate::fitting::Fit;
 use crate::order::order_of;
@@ -37,7 +41,8 @@ fn first_fit_with<S: FnMut(&Constraint) -> Result<Option<Cert>, FmEnd>>(
     ensures solver { IsSolver S.FnMut solve.new }
     ensures tried { IfOk result (λ t. tried_as
         (λ fit. still_open (pairs_at pairs.now) fit.falls.items) t ≡
-        first_fit infos.now (pairs_at pairs.now) anchors.now (lists_in lists.now) (Some order.now)) }
+        first_fit infos.now (pairs_at pairs.now) anchors.now (lists_in lists.now)
+        (Some order.now)) }
     ensures fit { IfOk result (λ t. IfSome t.made
         (IsFirstFit infos.now (pairs_at pairs.now) anchors.now order.now
         (take most_choices (products (lists_in lists.now))))) }
@@ -54,6 +59,60 @@ fn first_fit_with<S: FnMut(&Constraint) -> Result<Option<Cert>, FmEnd>>(
     )?;
     memo.put_back(known)?;
     Ok(fit)
+}
+
+/// The candidates of the anchors.
+fn lists_of(
+    alloc: Global,
+    parts: &RuleParts,
+    hypotheses: &[Rule],
+    names: &[u32],
+    name: u32,
+    anchors: &[u32],
+) -> Result<CandidateLists, NoMemory>
+    ensures lists { IfOk result (λ c. lists_in c.lists.items ≡
+        candidate_lists names.now name (parts.now.rules ++ hypotheses.now)
+        (map (arity_of parts.now.symbols) anchors.now)) }
+    ensures noted { IfOk result (λ c. c.noted ≡
+        are_noted names.now name (parts.now.rules ++ hypotheses.now)
+        (map (arity_of parts.now.symbols) anchors.now)) }
+{
+    let infos = parts.symbols.as_slice();
+    let rules = parts.rules.as_slice();
+    let arities = arities_of(alloc, infos, anchors)?;
+    all_lists(alloc, names, name, rules, hypotheses, arities.as_slice())
+}
+
+/// The first choice of these candidates that is fit, where the other symbols have an order.
+fn fit_in_order<S: FnMut(&Constraint) -> Result<Option<Cert>, FmEnd>>(
+    alloc: Global,
+    infos: &[SymInfo],
+    pairs: &[&Pair],
+    anchors: &[u32],
+    all: CandidateLists,
+    order: Option<Vec<u32>>,
+    memo: &mut PairMemo,
+    solve: &mut S,
+) -> Result<Attempt<Fit>, NoMemory>
+    requires solver { IsSolver S.FnMut solve.old }
+    ensures solver { IsSolver S.FnMut solve.new }
+    ensures tried { IfOk result (λ t. tried_as
+        (λ fit. still_open (pairs_at pairs.now) fit.falls.items) t ≡
+        noting all.noted (first_fit infos.now (pairs_at pairs.now) anchors.now
+        (lists_in all.lists.items) (option_map (λ v. v.items) order))) }
+    ensures fit { IfOk result (λ t. IfSome t.made (λ fit. (fs : List ℕ) ×
+        (option_map (λ v. v.items) order ≡ Some fs) ×
+        IsFirstFit infos.now (pairs_at pairs.now) anchors.now fs
+        (take most_choices (products (lists_in all.lists.items))) fit)) }
+{
+    let noted = all.noted;
+    let Some(order) = order else {
+        return Ok(Attempt { made: None, noted });
+    };
+    let lists = all.lists.as_slice();
+    let others = order.as_slice();
+    let fit = first_fit_with(alloc, infos, pairs, anchors, lists, others, memo, solve)?;
+    Ok(noted_before(noted, fit))
 }
 
 /// The first fit choice of the component with that name, whose pairs these are: the polynomials of
@@ -78,29 +137,9 @@ pub fn fit_component<S: FnMut(&Constraint) -> Result<Option<Cert>, FmEnd>>(
         (IsComponentFit parts.now hypotheses.now names.now name (pairs_at pairs.now))) }
 {
     let infos = parts.symbols.as_slice();
-    let rules = parts.rules.as_slice();
     let members = members_of(alloc, infos, hypotheses, names, name)?;
     let anchors = members.anchors.as_slice();
-    let arities = arities_of(alloc, infos, anchors)?;
-    let all = all_lists(alloc, names, name, rules, hypotheses, arities.as_slice())?;
-    match order_of(alloc, pairs, members.others.as_slice())? {
-        None => Ok(Attempt {
-            made: None,
-            noted: all.noted,
-        }),
-        Some(order) => {
-            let lists = all.lists.as_slice();
-            let fit = first_fit_with(
-                alloc,
-                infos,
-                pairs,
-                anchors,
-                lists,
-                order.as_slice(),
-                memo,
-                solve,
-            )?;
-            Ok(noted_before(all.noted, fit))
-        }
-    }
+    let all = lists_of(alloc, parts, hypotheses, names, name, anchors)?;
+    let order = order_of(alloc, pairs, members.others.as_slice())?;
+    fit_in_order(alloc, infos, pairs, anchors, all, order, memo, solve)
 }

@@ -5,7 +5,8 @@ ghost use Rattle.rx_cert.specs.Findings.{Yes};
 ghost use Rattle.rx_rank.specs.Answers.{found, tried, tried_as};
 ghost use Rattle.rx_anchors.specs.Members.{arity_of};
 ghost use Rattle.rx_anchors.specs.Values.{polynomial_of};
-ghost use Rattle.rx_rank.specs.Choices.{filled, first_serving, hold_with, instance_on, pairs_from, serving, tested};
+ghost use Rattle.rx_rank.specs.Choices.{filled, first_serving, hold_with, instance_on};
+ghost use Rattle.rx_rank.specs.Choices.{pairs_from, serving, tested};
 ghost use Rattle.rx_rank.specs.PairTests.{holds};
 ghost use Rattle.rx_rank.specs.Tries.{and_then};
 ghost use Rattle.rx_solve.specs.Answers.{IsSolver};
@@ -190,7 +191,7 @@ fn first_serving<S: FnMut(&Constraint) -> Result<Option<Cert>, FmEnd>>(
     for at in 0..pairs.len() {
         let instance = instance_from(alloc, values, symbol, pairs[at].pair())?;
         let attempt = serving_instance(alloc, arity, values, symbol, pairs, instance, solve)?;
-        noted = noted || attempt.noted;
+        noted |= attempt.noted;
         if attempt.made.is_some() {
             return Ok(Attempt {
                 made: attempt.made,
@@ -221,7 +222,7 @@ pub(crate) fn filled<S: FnMut(&Constraint) -> Result<Option<Cert>, FmEnd>>(
     for symbol in order {
         let arity = arity_of(infos, *symbol);
         let attempt = first_serving(alloc, arity, values.as_slice(), *symbol, pairs, solve)?;
-        noted = noted || attempt.noted;
+        noted |= attempt.noted;
         let Some(poly) = attempt.made else {
             return Ok(Attempt { made: None, noted });
         };

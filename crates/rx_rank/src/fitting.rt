@@ -1,7 +1,8 @@
 //! Whether a choice is fit: all pairs of the component hold, and one falls.
 ghost use Rattle.std.specs.Prelude.{◌≡◌, IfOk, IfSome, is_some};
 ghost use Rattle.std.specs.List.{AllZip, list_any};
-ghost use Rattle.rx_rank.specs.Answers.{IsDecided, IsFit, IsHeld, TellsFalls, TellsHolds, only_shown, still_open, tried_as, tried_only};
+ghost use Rattle.rx_rank.specs.Answers.{IsDecided, IsFit, IsHeld, TellsFalls, TellsHolds};
+ghost use Rattle.rx_rank.specs.Answers.{only_shown, still_open, tried_as, tried_only};
 ghost use Rattle.rx_rank.specs.Choices.{all_hold, falling, falls_by, fitting, holds_by, is_beyond};
 ghost use Rattle.rx_solve.specs.Answers.{IsSolver};
 
@@ -194,7 +195,7 @@ fn falling<S: FnMut(&Constraint) -> Result<Option<Cert>, FmEnd>>(
     let mut noted = false;
     for known in pairs.iter_mut() {
         let decision = decide(alloc, values, known, solve)?;
-        noted = noted || decision.noted;
+        noted |= decision.noted;
         certs.push(decision.certs)?;
     }
     Ok(Falls { certs, noted })

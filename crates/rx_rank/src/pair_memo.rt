@@ -1,6 +1,7 @@
-//! What was found out of pairs, from one fit to the next: a fit takes the pairs that it asks for out
-//! of the memo, and puts them back at its end.
-ghost use Rattle.std.specs.Prelude.{◌≡◌, ◌+◌, ◌≤◌, ◌↔◌, IfOk, IfSome, IsTrue, OnOk, Some, length, min, slice_get};
+//! What was found out of pairs, from one fit to the next: a fit takes the pairs that it asks for
+//! out of the memo, and puts them back at its end.
+ghost use Rattle.std.specs.Prelude.{◌≡◌, ◌+◌, ◌≤◌, ◌↔◌, IfOk, IfSome, IsTrue, OnOk, Some};
+ghost use Rattle.std.specs.Prelude.{length, min, slice_get};
 ghost use Rattle.rx_rank.specs.Answers.{pairs_at};
 
 use crate::known_pair::KnownPair;

@@ -107,7 +107,8 @@ module _ (test : Pair → Bool) (a b : ℕ) where
   fewer_lead [] is = is
   fewer_lead (pair ∷ pairs) is = by (test pair) is (fewer_lead pairs) where
     by : (c : Bool) → leads (edges_of (cond c (pair ∷ filter test pairs) (filter test pairs))) a b
-        ≡ true → (leads (edges_of (filter test pairs)) a b ≡ true → leads (edges_of pairs) a b ≡ true)
+        ≡ true
+        → (leads (edges_of (filter test pairs)) a b ≡ true → leads (edges_of pairs) a b ≡ true)
         → leads (edges_of (pair ∷ pairs)) a b ≡ true
     by true here further = elim (or_cases (is_edge a b (edge_of pair))
         (leads (edges_of (filter test pairs)) a b) here) [
@@ -125,8 +126,8 @@ module _ (test : Pair → Bool) (a b : ℕ) where
   passing_lead passes (pair ∷ pairs) is = elim (or_cases (is_edge a b (edge_of pair))
       (leads (edges_of pairs) a b) is) [
         | inl first ↦
-            subst (λ (c : Bool). leads (edges_of (cond c (pair ∷ filter test pairs) (filter test pairs))) a b ≡
-            true) (sym (passes pair first))
+            subst (λ (c : Bool). leads (edges_of
+            (cond c (pair ∷ filter test pairs) (filter test pairs))) a b ≡ true) (sym (passes pair first))
             (or_left (is_edge a b (edge_of pair)) (leads (edges_of (filter test pairs)) a b) first)
         | inr other ↦ by (test pair) (passing_lead passes pairs other)
       ] where

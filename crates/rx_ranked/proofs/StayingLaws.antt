@@ -197,8 +197,7 @@ module _ (parts : RuleParts) (hypotheses : List Rule) (pairs : List Pair) where
   module _ (c : ℕ) (noted : Bool) (left : List Pair) (is : IsLeft c noted left) where
     module _ (less : c < n) (made : Option (List Pair)) (more : Bool)
         (tried : record { made = made; noted = more } ≡
-        tried_in parts hypotheses (names_of n pairs) pairs c)
-        (all_noted : Bool) (noted_is : all_noted ≡ (noted || more)) where
+        tried_in parts hypotheses (names_of n pairs) pairs c) where
       opened : noting noted (after left (all_made
           (tried_in parts hypotheses (names_of n pairs) pairs c ∷
           tries (range_with_len (c + 1) (n - (c + 1)))))) ≡ polynomials parts hypotheses pairs
@@ -208,10 +207,10 @@ module _ (parts : RuleParts) (hypotheses : List Rule) (pairs : List Pair) where
 
       -- the component leaves these
       pub left_next : (mine grown : List Pair) → made ≡ Some mine → grown ≡ left ++ mine →
-          IsOver n (edges_of mine) → IsLeft (c + 1) all_noted grown
+          IsOver n (edges_of mine) → IsLeft (c + 1) (noted || more) grown
       left_next mine grown some longer over = record {
         decides =
-            (λ i. noting (noted_is i) (after (longer i) (all_made
+            (λ i. noting (noted || more) (after (longer i) (all_made
             (tries (range_with_len (c + 1) (n - (c + 1)))))))
             ∙ component_made noted left (polynomials parts hypotheses pairs)
             (tried_in parts hypotheses (names_of n pairs) pairs c)
@@ -224,11 +223,10 @@ module _ (parts : RuleParts) (hypotheses : List Rule) (pairs : List Pair) where
       }
 
       -- it has no fit choice
-      pub left_failed : made ≡ None → record { made = None; noted = all_noted } ≡
+      pub left_failed : made ≡ None → record { made = None; noted = noted || more } ≡
           polynomials parts hypotheses pairs
       left_failed none =
-          (λ i. record { made = None; noted = noted_is i })
-          ∙ component_failed noted left (polynomials parts hypotheses pairs)
+          component_failed noted left (polynomials parts hypotheses pairs)
           (tried_in parts hypotheses (names_of n pairs) pairs c)
           (tries (range_with_len (c + 1) (n - (c + 1)))) opened more
           ((λ i. record { made = option_map (λ ys. left ++ ys) (sym none i); noted = more }) ∙

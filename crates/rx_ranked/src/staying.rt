@@ -1,5 +1,6 @@
 //! The pairs that stay open after a column. The certificates of those that fall are let go.
-ghost use Rattle.std.specs.Prelude.{◌≡◌, ◌≤◌, ◌^◌, ℕ, false, IfOk, IfSome, is_some, length, slice_get};
+ghost use Rattle.std.specs.Prelude.{◌≡◌, ◌≤◌, ◌^◌, ℕ, false, IfOk, IfSome, is_some, length};
+ghost use Rattle.std.specs.Prelude.{slice_get};
 ghost use Rattle.std.specs.List.{filter};
 ghost use Rattle.std.specs.Option.{option_map_or};
 ghost use Rattle.rx_graph.specs.Graph.{IsOver};
@@ -104,7 +105,8 @@ fn still_open<'a>(
     pairs: &[&'a Pair],
     falls: &[Option<Items<Cert>>],
 ) -> Result<Vec<&'a Pair>, NoMemory>
-    ensures { IfOk result (λ left. pairs_at left.items ≡ still_open (pairs_at pairs.now) falls.now) }
+    ensures { IfOk result (λ left. pairs_at left.items ≡
+        still_open (pairs_at pairs.now) falls.now) }
 {
     let mut left = Vec::new(alloc);
     for (at, pair) in pairs.iter().enumerate() {
@@ -194,7 +196,7 @@ pub(crate) fn left_after<'a, S: FnMut(&Constraint) -> Result<Option<Cert>, FmEnd
     let mut noted = false;
     for name in 0..symbols {
         let tried = left_in(alloc, parts, hypotheses, opened, name as u32, memo, solve)?;
-        noted = noted || tried.noted;
+        noted |= tried.noted;
         match tried.made {
             Some(mut more) => left.append(&mut more)?,
             None => return Ok(Attempt { made: None, noted }),

@@ -24,6 +24,13 @@ close_more column closed [] o = refl
 close_more column closed (x ∷ os) o =
     close_more column (set closed x.number (Some (closing column x))) os o
 
+-- some pairs and then others
+pub close_both : (column : ℕ) (closed : List (Option PairCert)) (os ps : List OpenPair) →
+    close_all column closed (os ++ ps) ≡ close_all column (close_all column closed os) ps
+close_both column closed [] ps = refl
+close_both column closed (x ∷ os) ps =
+    close_both column (set closed x.number (Some (closing column x))) os ps
+
 pub close_count : (column : ℕ) (closed : List (Option PairCert)) (os : List OpenPair) →
     length (close_all column closed os) ≡ length closed
 close_count column closed [] = refl

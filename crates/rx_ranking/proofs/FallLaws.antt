@@ -1,6 +1,6 @@
 -- A column of polynomials: the pairs at which it doesn't fall stay open and it holds there, and the
 -- others are closed.
-use Rattle.std.proofs.Common.{◌≡◌, ◌∙◌, ap, sym, subst, refl, inl, inr, ℕ, suc, ◌==◌, ◌<◌, true, false, Option, Some, None, List, [], ◌∷◌, ◌++◌, append-nil, length, set, All}
+use Rattle.std.proofs.Common.{◌≡◌, ◌∙◌, ap, sym, subst, refl, inl, inr, ℕ, suc, ◌==◌, ◌<◌, true, false, Option, Some, None, List, [], ◌∷◌, ◌++◌, length, All}
 use Rattle.std.specs.List.{AllZip}
 use Rattle.std.specs.Prelude.{Contains, negsuc, unwrap_or}
 use Rattle.std.proofs.lemmas.Bool.{false≢true, or_cases, or_left, or_parts, or_right}
@@ -16,11 +16,11 @@ use Rattle.rx_pairs.specs.declared.pair.Pair.{Pair}
 use Rattle.rx_pairs.specs.declared.pair_cert.PairCert.{PairCert}
 use Rattle.rx_rank.specs.Answers.{IsDecided, IsFallen, IsHeld, IsProved, still_open}
 use Rattle.rx_anchors.specs.Values.{polynomial_of}
-use Rattle.rx_ranking.proofs.ClosingLaws.{close_more}
+use Rattle.rx_ranking.proofs.ClosingLaws.{close_both}
 use Rattle.rx_ranking.proofs.GrowthLaws.{count_pushed, lawful_pushed, split_pushed}
 use Rattle.rx_ranking.proofs.SplitLaws.{IsClosing, split_more}
 use Rattle.rx_ranking.proofs.TableLaws.{fallen_column, held_column}
-use Rattle.rx_ranking.specs.Closing.{Fitted, close_all, closing, fallen, fitted, left_open, with_certs}
+use Rattle.rx_ranking.specs.Closing.{Fitted, close_all, fallen, fitted, left_open, with_certs}
 use Rattle.rx_ranking.specs.Fits.{AreFits}
 use Rattle.rx_ranking.specs.Rounds.{IsGrown}
 use Rattle.rx_ranking.specs.Tables.{Column, IsOpenBy, IsSplit, columns_in, has_number, pairs_open, value_at}
@@ -42,33 +42,17 @@ fallen_append (((o, held), None) ∷ xs) ys = fallen_append xs ys
 fallen_append (((o, held), Some more) ∷ xs) ys =
     ap (λ os. with_certs o more ∷ os) (fallen_append xs ys)
 
-module _ (column : ℕ) (closed : List (Option PairCert)) (xs : List Fitted) (o : OpenPair)
-    (held : List Cert) where
-  -- one that stays
-  pub one_stays : (fall : Option (List Cert)) → fall ≡ None
-      → (left_open (xs ++ ((o, held), fall) ∷ []) ≡ left_open xs ++ with_certs o held ∷ [])
-      × (close_all column closed (fallen (xs ++ ((o, held), fall) ∷ [])) ≡
-      close_all column closed (fallen xs))
-  one_stays fall none = (
-    ap (λ f. left_open (xs ++ ((o, held), f) ∷ [])) none ∙ left_append xs (((o, held), None) ∷ []),
-    ap (λ f. close_all column closed (fallen (xs ++ ((o, held), f) ∷ []))) none
-        ∙ ap (close_all column closed) (fallen_append xs (((o, held), None) ∷ []) ∙
-        append-nil (fallen xs)),
-  )
+-- the pair at hand stays or falls after those before it
+module _ (xs : List Fitted) (x : Fitted) where
+  pub one_stays : left_open xs ++ left_open (x ∷ []) ≡ left_open (xs ++ x ∷ [])
+  one_stays = sym (left_append xs (x ∷ []))
 
-  -- one that falls
-  pub one_falls : (more : List Cert) (fall : Option (List Cert)) → fall ≡ Some more
-      → (left_open (xs ++ ((o, held), fall) ∷ []) ≡ left_open xs)
-      × (close_all column closed (fallen (xs ++ ((o, held), fall) ∷ [])) ≡
-      set (close_all column closed (fallen xs)) o.number
-      (Some (closing column (with_certs o more))))
-  one_falls more fall some = (
-    ap (λ f. left_open (xs ++ ((o, held), f) ∷ [])) some ∙
-        left_append xs (((o, held), Some more) ∷ []) ∙ append-nil (left_open xs),
-    ap (λ f. close_all column closed (fallen (xs ++ ((o, held), f) ∷ []))) some
-        ∙ ap (close_all column closed) (fallen_append xs (((o, held), Some more) ∷ []))
-        ∙ close_more column closed (fallen xs) (with_certs o more),
-  )
+  pub one_falls : (column : ℕ) (closed : List (Option PairCert)) →
+      close_all column (close_all column closed (fallen xs)) (fallen (x ∷ [])) ≡
+      close_all column closed (fallen (xs ++ x ∷ []))
+  one_falls column closed =
+      sym (close_both column closed (fallen xs) (fallen (x ∷ []))) ∙
+      ap (close_all column closed) (sym (fallen_append xs (x ∷ [])))
 
 -- ---- the pairs that stay, and those that fall
 

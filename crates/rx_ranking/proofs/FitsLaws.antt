@@ -1,5 +1,6 @@
 -- The fit of all components, with the entries of their groups, is what comes of the open pairs.
-use Rattle.std.proofs.Common.{◌≡◌, ◌∙◌, ap, sym, subst, arith, ℕ, ◌≤◌, ◌^◌, Some, None, Vec, List, true, Contains, length}
+use Rattle.std.proofs.Common.{◌≡◌, ◌∙◌, ap, sym, subst, arith, ℕ, ◌≤◌, ◌^◌, Option, Some, None, Vec, List, true, Contains, length}
+use Rattle.std.specs.List.{AllZip}
 use Rattle.std.specs.Option.{IfSome, option_map}
 use Rattle.std.specs.declared.alloc.Global.{Global}
 use Rattle.std.proofs.lemmas.List.FromFn.{length-map-range_with_len}
@@ -7,7 +8,9 @@ use Rattle.rx_graph.specs.Graph.{IsOver}
 use Rattle.rx_term.specs.declared.rule.Rule.{Rule}
 use Rattle.rx_term.specs.declared.rule_set.RuleParts.{RuleParts}
 use Rattle.rx_pairs.specs.Graph.{edges_of}
-use Rattle.rx_rank.specs.Answers.{still_open, tried_as}
+use Rattle.rx_pairs.specs.declared.pair.Pair.{Pair}
+use Rattle.rx_anchors.specs.Values.{polynomial_of}
+use Rattle.rx_rank.specs.Answers.{IsDecided, IsHeld, still_open, tried_as}
 use Rattle.rx_rank.specs.Components.{component_of, names_of}
 use Rattle.rx_rank.specs.Ranking.{polynomials}
 use Rattle.rx_rank.specs.Tries.{all_made}
@@ -15,9 +18,10 @@ use Rattle.rx_rank.specs.declared.attempt.Attempt.{Attempt}
 use Rattle.rx_rank.specs.declared.fitting.Fit.{Fit}
 use Rattle.rx_ranking.proofs.ComponentTries.{all_tries}
 use Rattle.rx_ranking.proofs.Grouping.{group_count, grouped_among, numbers_grouped}
-use Rattle.rx_ranking.specs.Fits.{AreFits}
+use Rattle.rx_ranking.specs.Fits.{AreFits, AreOf, AreTried, GoesWith}
 use Rattle.rx_ranking.specs.Groups.{IsFitBelow, by_component, groups_in, tries_from, ungrouped}
 use Rattle.rx_ranking.specs.Tables.{has_number, pairs_open}
+use Rattle.rx_ranking.specs.declared.fits.Fits.{Fits}
 use Rattle.rx_ranking.specs.declared.open_pair.OpenPair.{OpenPair}
 
 -- the groups are those of the components of the open pairs, and are borrowed
@@ -47,64 +51,75 @@ module _ (parts : RuleParts) (hypotheses : List Rule) (entries : List OpenPair) 
       ∙ ap (λ gs. all_made (tries_from parts hypotheses names 0 gs)) grouped
       ∙ all_tries parts hypotheses names entries found names_count
 
-  module _ (t : Attempt Fit) (tried : tried_as
-      (λ (fit : Fit). still_open (pairs_open (ungrouped (groups_in lent))) fit.falls.items) t
-      ≡ all_made (tries_from parts hypotheses names 0 (groups_in lent))) where
-    pub fits_failed : t.made ≡ None → record { made = None; noted = t.noted } ≡
-        polynomials parts hypotheses (pairs_open entries)
-    fits_failed none =
-        (λ i. record {
-          made = option_map (λ (fit : Fit).
-              still_open (pairs_open (ungrouped (groups_in lent))) fit.falls.items) (sym none i);
-          noted = t.noted;
-        })
-        ∙ tried ∙ whole_is
+  abbrev all : List OpenPair
+  all = ungrouped (groups_in groups)
 
-    module _ (fit : Fit) (is : t.made ≡ Some fit) (all : Vec OpenPair Global)
-        (all_is : all.items ≡ ungrouped (groups_in groups)) where
-      lent_all : all.items ≡ ungrouped (groups_in lent)
-      lent_all = all_is ∙ ap (λ gs. ungrouped (groups_in gs)) (sym same)
+  all_lent : all ≡ ungrouped (groups_in lent)
+  all_lent = ap (λ gs. ungrouped (groups_in gs)) (sym same)
 
-      pub fits_made : record {
-        made = Some (still_open (pairs_open all.items) fit.falls.items);
-        noted = t.noted;
-      } ≡ polynomials parts hypotheses (pairs_open entries)
-      fits_made =
-          (λ i. record {
-            made = Some (still_open (pairs_open (lent_all i)) fit.falls.items);
-            noted =
-                t.noted;
-          })
-          ∙ (λ i. record {
-            made = option_map (λ (f : Fit).
-                still_open (pairs_open (ungrouped (groups_in lent))) f.falls.items) (sym is i);
-            noted = t.noted;
-          })
-          ∙ tried ∙ whole_is
+  abbrev opens : Fits → List Pair
+  opens fits = still_open (pairs_open fits.entries.items) fits.falls.items
 
-      module _ (over : IsOver n (edges_of (pairs_open entries)))
-          (fits : IfSome t.made (IsFitBelow parts.symbols names (length lent)
-          (pairs_open (ungrouped (groups_in lent))))) where
-        below : IsFitBelow parts.symbols names (length lent) (pairs_open all.items) fit
-        below =
-            subst (λ os. IsFitBelow parts.symbols names (length lent) (pairs_open os) fit)
-            (sym lent_all)
-            (subst (λ m. IfSome m (IsFitBelow parts.symbols names (length lent)
-            (pairs_open (ungrouped (groups_in lent))))) is fits)
+  abbrev opens_lent : Fit → List Pair
+  opens_lent fit = still_open (pairs_open (ungrouped (groups_in lent))) fit.falls.items
 
-        all_by_names : ungrouped (by_component names entries) ≡ all.items
-        all_by_names = sym (all_is ∙ ap ungrouped grouped)
+  same_opens : (fit : Option Fit) (fits : Option Fits) → GoesWith all fit fits →
+      option_map opens fits ≡ option_map opens_lent fit
+  same_opens None fits none = ap (option_map opens) none
+  same_opens (Some fit) None goes = absurd goes
+  same_opens (Some fit) (Some fits) goes =
+      λ i. Some (still_open (pairs_open ((goes.entries_are ∙ all_lent) i)) (goes.falls i))
 
-        pub fits_are : AreFits parts.symbols entries
-            (record { column = fit.values; entries = all; holds = fit.holds; falls = fit.falls })
-        fits_are = record {
-          lawful = λ f p e. (below.own f p e).over;
-          holds = below.fit_is.holds;
-          falls = below.fit_is.falls;
+  -- what comes of all is what comes of the open pairs
+  pub fits_tried : (t : Attempt Fit) (after : Attempt Fits)
+      → tried_as opens_lent t ≡ all_made (tries_from parts hypotheses names 0 (groups_in lent))
+      → AreTried all t after
+      → tried_as opens after ≡ polynomials parts hypotheses (pairs_open entries)
+  fits_tried t after tried are =
+      (λ i. record { made = same_opens t.made after.made are.made i; noted = are.noted i })
+      ∙ tried ∙ whole_is
+
+  module _ (over : IsOver n (edges_of (pairs_open entries))) where
+    all_by_names : ungrouped (by_component names entries) ≡ all
+    all_by_names = sym (ap ungrouped grouped)
+
+    fits_of : (fit : Fit) (fits : Fits) → AreOf fit all fits → IsFitBelow parts.symbols names
+        (length lent) (pairs_open (ungrouped (groups_in lent))) fit
+        → AreFits parts.symbols entries fits
+    fits_of fit fits are below =
+        let pairs_are : pairs_open (ungrouped (groups_in lent)) ≡ pairs_open fits.entries.items =
+        ap pairs_open (sym all_lent ∙ sym are.entries_are) in
+        record {
+          lawful =
+              λ f p e. (below.own f p (ap (λ vs. polynomial_of vs f) (sym are.column) ∙ e)).over;
+          holds =
+              subst (λ vs. AllZip (IsHeld vs) (pairs_open fits.entries.items) fits.holds.items)
+              (sym are.column)
+              (subst (AllZip (IsHeld fit.values.items) (pairs_open fits.entries.items))
+              (sym are.holds)
+              (subst (λ ps. AllZip (IsHeld fit.values.items) ps fit.holds.items) pairs_are
+              below.fit_is.holds));
+          falls =
+              subst (λ vs. AllZip (IsDecided vs) (pairs_open fits.entries.items) fits.falls.items)
+              (sym are.column)
+              (subst (AllZip (IsDecided fit.values.items) (pairs_open fits.entries.items))
+              (sym are.falls)
+              (subst (λ ps. AllZip (IsDecided fit.values.items) ps fit.falls.items) pairs_are
+              below.fit_is.falls));
           among =
               λ o there. grouped_among names entries o
-              (subst (λ os. Contains os o) (sym all_by_names) there);
+              (subst (λ os. Contains os o) (are.entries_are ∙ sym all_by_names) there);
           numbers =
-              λ k some. subst (λ os. has_number k os ≡ true) all_by_names
+              λ k some. subst (λ os. has_number k os ≡ true) (all_by_names ∙ sym are.entries_are)
               (numbers_grouped n entries over names found k some);
         }
+
+    -- the fits are of the open pairs
+    pub fits_are : (fit : Option Fit) (fits : Option Fits) → GoesWith all fit fits
+        → IfSome fit (IsFitBelow parts.symbols names (length lent)
+        (pairs_open (ungrouped (groups_in lent))))
+        → IfSome fits (AreFits parts.symbols entries)
+    fits_are None fits none below =
+        subst (λ o. IfSome o (AreFits parts.symbols entries)) (sym none) tt
+    fits_are (Some fit) None goes below = absurd goes
+    fits_are (Some fit) (Some fits) goes below = fits_of fit fits goes below

@@ -23,7 +23,7 @@ use Rattle.rx_rank.specs.declared.attempt.Attempt.{Attempt}
 use Rattle.rx_rank.specs.declared.fitting.Fit.{Fit}
 use Rattle.rx_ranking.specs.Tables.{pairs_open}
 use Rattle.rx_ranking.specs.declared.open_pair.OpenPair.{OpenPair}
-use Rattle.rx_ranking.specs.Groups.{AreJoined, IsFitBelow, IsOneMore, IsOwnBelow, laid_at, overlaid}
+use Rattle.rx_ranking.specs.Groups.{AreJoined, IsFitBelow, IsNext, IsOneMore, IsOwnBelow, JoinsNext, laid_at, overlaid}
 
 -- ---- polynomials in the place of others
 
@@ -319,32 +319,29 @@ module _ (parts : RuleParts) (hypotheses : List Rule) (names : List ℕ) (c : �
     fits = λ done below. tt;
   }
 
-  module _ (lent : List Pair) (same : lent ≡ pairs) (some : length pairs ≡ 0 → ⊥) (t : Attempt Fit)
-      (tried : tried_as (λ (fit : Fit). still_open lent fit.falls.items) t ≡
-      component parts hypotheses names c lent) where
-    -- the same of an attempt at pairs that are borrowed
-    pub one_made : (fit whole : Fit) → t.made ≡ Some fit →
-        IfSome t.made (IsComponentFit parts hypotheses names c lent) → AreJoined before fit whole
-        → IsOneMore parts hypotheses names c pairs before
-        (record { made = Some whole; noted = t.noted })
-    one_made fit whole is fits joined = more_made fit whole t.noted some
-        ((λ i. record { made = Some (still_open (sym same i) fit.falls.items); noted = t.noted })
-        ∙ (λ i. record {
-          made = option_map (λ (f : Fit). still_open lent f.falls.items) (sym is i);
-          noted = t.noted;
-        })
-        ∙ tried ∙ ap (component parts hypotheses names c) same)
-        (subst (λ ps. IsComponentFit parts hypotheses names c ps fit) same
-        (subst (λ m. IfSome m (IsComponentFit parts hypotheses names c lent)) is fits))
-        joined
-
-    pub one_failed : t.made ≡ None → IsOneMore parts hypotheses names c pairs before
-        (record { made = None; noted = t.noted })
-    one_failed none = more_failed t.noted some
-        ((λ i. record {
-          made = option_map (λ (f : Fit). still_open lent f.falls.items) (sym none i);
-          noted = t.noted;
-        }) ∙ tried ∙ ap (component parts hypotheses names c) same)
+  -- what comes of it joined to the fit before
+  pub one_joined : (t whole : Attempt Fit) → (length pairs ≡ 0 → ⊥)
+      → tried_as (λ (fit : Fit). still_open pairs fit.falls.items) t ≡
+      component parts hypotheses names c pairs
+      → IfSome t.made (IsComponentFit parts hypotheses names c pairs)
+      → IsNext before t whole → IsOneMore parts hypotheses names c pairs before whole
+  one_joined t whole some tried fits next =
+      subst (λ n. IsOneMore parts hypotheses names c pairs before
+      (record { made = whole.made; noted = n })) (sym next.noted)
+      (by t.made whole.made tried fits next.made)
+    where
+      by : (made after : Option Fit) → record {
+        made = option_map (λ (fit : Fit). still_open pairs fit.falls.items) made;
+        noted = t.noted;
+      } ≡ component parts hypotheses names c pairs
+          → IfSome made (IsComponentFit parts hypotheses names c pairs)
+          → JoinsNext before made after → IsOneMore parts hypotheses names c pairs before
+          (record { made = after; noted = t.noted })
+      by None after is own none =
+          subst (λ m. IsOneMore parts hypotheses names c pairs before
+          (record { made = m; noted = t.noted })) (sym none) (more_failed t.noted some is)
+      by (Some fit) None is own joined = absurd joined
+      by (Some fit) (Some both) is own joined = more_made fit both t.noted some is own joined
 
 -- the component has no pair
 nothing_more : (parts : RuleParts) (hypotheses : List Rule) (names : List ℕ) (c : ℕ) (before : Fit)

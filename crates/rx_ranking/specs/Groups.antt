@@ -66,6 +66,17 @@ pub record AreJoined (first second whole : Fit) : Type 0 where
   pub holds : whole.holds.items ≡ first.holds.items ++ second.holds.items
   pub falls : whole.falls.items ≡ first.falls.items ++ second.falls.items
 
+-- the fit of one component more is joined to the fit before, if there is one
+abbrev pub JoinsNext : Fit → Option Fit → Option Fit → Type 0
+JoinsNext before None made = made ≡ None
+JoinsNext before (Some fit) None = ⊥
+JoinsNext before (Some fit) (Some whole) = AreJoined before fit whole
+
+-- so of attempts, and what is noted stays
+pub record IsNext (before : Fit) (tried whole : Attempt Fit) : Type 0 where
+  pub made : JoinsNext before tried.made whole.made
+  pub noted : whole.noted ≡ tried.noted
+
 -- the polynomial is of a symbol of a component whose name is below that, over its arguments
 pub record IsOwnBelow (infos : List SymInfo) (names : List ℕ) (c f : ℕ) (p : Body) : Type 0 where
   pub name : ℕ

@@ -1,7 +1,8 @@
 //! Closing pairs: a pair that falls by a column is closed by the certificates of the columns before
 //! and those of its fall.
-ghost use Rattle.std.specs.Prelude.{◌≡◌, IfOk, OnOk, Some, slice_set};
-ghost use Rattle.rx_ranking.specs.Closing.{close_all, closing, fallen, fitted, left_open, with_certs};
+ghost use Rattle.std.specs.Prelude.{◌≡◌, ◌++◌, ◌∷◌, [], IfOk, OnOk, Some, slice_set};
+ghost use Rattle.rx_ranking.specs.Closing.{close_all, closing, fallen, fitted, left_open};
+ghost use Rattle.rx_ranking.specs.Closing.{with_certs};
 
 use crate::open_pair::OpenPair;
 use rx_cert::Cert;
@@ -48,6 +49,33 @@ fn with_certs(entry: OpenPair, more: Items<Cert>) -> Result<OpenPair, NoMemory>
     })
 }
 
+/// The pair stays open with the certificates by which the column with that number holds, or, where
+/// it falls, is closed with those of that.
+fn close_one(
+    left: &mut Vec<OpenPair>,
+    closed: &mut Vec<Option<PairCert>>,
+    column: u32,
+    entry: OpenPair,
+    held: Items<Cert>,
+    fall: Option<Items<Cert>>,
+) -> Result<(), NoMemory>
+    ensures staying { OnOk result (left.new.items ≡
+        left.old.items ++ left_open (((entry, held), fall) ∷ [])) }
+    ensures leaving { OnOk result (closed.new.items ≡
+        close_all column closed.old.items (fallen (((entry, held), fall) ∷ []))) }
+{
+    match fall {
+        None => {
+            left.push(with_certs(entry, held)?)?;
+            Ok(())
+        }
+        Some(more) => {
+            close_entry(closed, column, with_certs(entry, more)?);
+            Ok(())
+        }
+    }
+}
+
 /// The pairs that stay open after a column of polynomials with that number, at which it doesn't
 /// fall; the others are closed by it. For each pair there are the certificates by which the column
 /// holds, and where it falls those of that.
@@ -66,10 +94,7 @@ pub(crate) fn close_fallen(
 {
     let mut left = Vec::new(alloc);
     for ((entry, held), fall) in entries.into_iter().zip(holds).zip(falls) {
-        match fall {
-            None => left.push(with_certs(entry, held)?)?,
-            Some(more) => close_entry(closed, column, with_certs(entry, more)?),
-        }
+        close_one(&mut left, closed, column, entry, held, fall)?;
     }
     Ok(left)
 }

@@ -1,8 +1,9 @@
 //! The first fit choices of the components one after the other, as one.
 ghost use Rattle.std.specs.Prelude.{◌≡◌, ◌≤◌, ◌^◌, ℕ, IfOk, IfSome, List, [], length};
-ghost use Rattle.rx_rank.specs.Answers.{still_open, tried_as};
+ghost use Rattle.rx_rank.specs.Answers.{IsComponentFit, still_open, tried_as};
+ghost use Rattle.rx_rank.specs.Ranking.{component};
 ghost use Rattle.rx_rank.specs.Tries.{all_made};
-ghost use Rattle.rx_ranking.specs.Groups.{AreJoined, IsFitBelow, IsOneMore, groups_in};
+ghost use Rattle.rx_ranking.specs.Groups.{AreJoined, IsFitBelow, IsNext, IsOneMore, groups_in};
 ghost use Rattle.rx_ranking.specs.Groups.{laid_at, overlaid, tries_from, ungrouped};
 ghost use Rattle.rx_ranking.specs.Tables.{pairs_open};
 ghost use Rattle.rx_solve.specs.Answers.{IsSolver};
@@ -75,6 +76,44 @@ fn no_fit(alloc: Global, parts: &RuleParts) -> Result<Fit, NoMemory>
     })
 }
 
+/// The first fit choice of the component with that name, whose entries these are.
+fn fit_entries<S: FnMut(&Constraint) -> Result<Option<Cert>, FmEnd>>(
+    alloc: Global,
+    parts: &RuleParts,
+    hypotheses: &[Rule],
+    names: &[u32],
+    name: u32,
+    entries: &[OpenPair],
+    memo: &mut PairMemo,
+    solve: &mut S,
+) -> Result<Attempt<Fit>, NoMemory>
+    requires solver { IsSolver S.FnMut solve.old }
+    ensures solver { IsSolver S.FnMut solve.new }
+    ensures tried { IfOk result (λ t. tried_as
+        (λ fit. still_open (pairs_open entries.now) fit.falls.items) t ≡
+        component parts.now hypotheses.now names.now name (pairs_open entries.now)) }
+    ensures fit { IfOk result (λ t. IfSome t.made
+        (IsComponentFit parts.now hypotheses.now names.now name (pairs_open entries.now))) }
+{
+    let lent = pairs_of(alloc, entries)?;
+    let pairs = lent.as_slice();
+    fit_component(alloc, parts, hypotheses, names, name, pairs, memo, solve)
+}
+
+/// The fit before with that of one component more, if it has one.
+fn join_next(before: Fit, tried: Attempt<Fit>) -> Result<Attempt<Fit>, NoMemory>
+    ensures { IfOk result (IsNext before tried) }
+{
+    let noted = tried.noted;
+    match tried.made {
+        Some(fit) => Ok(Attempt {
+            made: Some(join_fits(before, fit)?),
+            noted,
+        }),
+        None => Ok(Attempt { made: None, noted }),
+    }
+}
+
 /// The fit so far with the first fit choice of the component with that name, whose entries these
 /// are; without an entry nothing is tried.
 fn fit_one_more<S: FnMut(&Constraint) -> Result<Option<Cert>, FmEnd>>(
@@ -99,25 +138,8 @@ fn fit_one_more<S: FnMut(&Constraint) -> Result<Option<Cert>, FmEnd>>(
             noted: false,
         });
     }
-    let pairs = pairs_of(alloc, entries)?;
-    let tried = fit_component(
-        alloc,
-        parts,
-        hypotheses,
-        names,
-        name,
-        pairs.as_slice(),
-        memo,
-        solve,
-    )?;
-    let noted = tried.noted;
-    match tried.made {
-        Some(fit) => Ok(Attempt {
-            made: Some(join_fits(before, fit)?),
-            noted,
-        }),
-        None => Ok(Attempt { made: None, noted }),
-    }
+    let tried = fit_entries(alloc, parts, hypotheses, names, name, entries, memo, solve)?;
+    join_next(before, tried)
 }
 
 /// The first fit choices of all components, whose entries these are by the components' names, up to
@@ -143,19 +165,12 @@ pub(crate) fn fit_groups<S: FnMut(&Constraint) -> Result<Option<Cert>, FmEnd>>(
     let mut fit = no_fit(alloc, parts)?;
     let mut noted = false;
     for (name, group) in groups.iter().enumerate() {
-        let entries = group.as_slice();
+        let name = name as u32;
+        let group = group.as_slice();
         let tried = fit_one_more(
-            alloc,
-            parts,
-            hypotheses,
-            names,
-            name as u32,
-            entries,
-            fit,
-            memo,
-            solve,
+            alloc, parts, hypotheses, names, name, group, fit, memo, solve,
         )?;
-        noted = noted || tried.noted;
+        noted |= tried.noted;
         match tried.made {
             Some(more) => fit = more,
             None => return Ok(Attempt { made: None, noted }),

@@ -5,7 +5,8 @@ ghost use Rattle.rx_pairs.specs.Graph.{edges_of};
 ghost use Rattle.rx_rank.specs.Answers.{still_open, tried_as};
 ghost use Rattle.rx_rank.specs.Components.{names_of};
 ghost use Rattle.rx_rank.specs.Ranking.{polynomials};
-ghost use Rattle.rx_ranking.specs.Fits.{AreFits};
+ghost use Rattle.rx_ranking.specs.Fits.{AreFits, AreTried};
+ghost use Rattle.rx_ranking.specs.Groups.{groups_in, ungrouped};
 ghost use Rattle.rx_ranking.specs.Tables.{pairs_open};
 ghost use Rattle.rx_solve.specs.Answers.{IsSolver};
 
@@ -44,6 +45,35 @@ fn names_open(alloc: Global, symbols: usize, entries: &[OpenPair]) -> Result<Vec
     find_names(alloc, symbols, pairs.as_slice())
 }
 
+/// The fit of the entries in groups, if there is one, with these entries.
+fn with_entries(
+    alloc: Global,
+    groups: Vec<Vec<OpenPair>>,
+    tried: Attempt<Fit>,
+) -> Result<Attempt<Fits>, NoMemory>
+    ensures { IfOk result (AreTried (ungrouped (groups_in groups.items)) tried) }
+{
+    let noted = tried.noted;
+    let Some(fit) = tried.made else {
+        return Ok(Attempt { made: None, noted });
+    };
+    let Fit {
+        values,
+        holds,
+        falls,
+    } = fit;
+    let fits = Fits {
+        column: values,
+        entries: all_entries(alloc, groups)?,
+        holds,
+        falls,
+    };
+    Ok(Attempt {
+        made: Some(fits),
+        noted,
+    })
+}
+
 /// The first fit choices of the components with an open pair, in order, up to the first component
 /// that has none.
 pub(crate) fn fit_all<S: FnMut(&Constraint) -> Result<Option<Cert>, FmEnd>>(
@@ -66,35 +96,7 @@ pub(crate) fn fit_all<S: FnMut(&Constraint) -> Result<Option<Cert>, FmEnd>>(
     let components = names_open(alloc, parts.symbols.len(), entries.as_slice())?;
     let names = components.as_slice();
     let groups = group_entries(alloc, names, entries)?;
-    let tried = fit_groups(
-        alloc,
-        parts,
-        hypotheses,
-        names,
-        groups.as_slice(),
-        memo,
-        solve,
-    )?;
-    let noted = tried.noted;
-    match tried.made {
-        Some(fit) => {
-            let Fit {
-                values,
-                holds,
-                falls,
-            } = fit;
-            let entries = all_entries(alloc, groups)?;
-            let fits = Fits {
-                column: values,
-                entries,
-                holds,
-                falls,
-            };
-            Ok(Attempt {
-                made: Some(fits),
-                noted,
-            })
-        }
-        None => Ok(Attempt { made: None, noted }),
-    }
+    let lent = groups.as_slice();
+    let tried = fit_groups(alloc, parts, hypotheses, names, lent, memo, solve)?;
+    with_entries(alloc, groups, tried)
 }

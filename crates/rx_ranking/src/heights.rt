@@ -19,7 +19,8 @@ pub(crate) fn close_between(
     entries: Vec<OpenPair>,
     closed: &mut Vec<Option<PairCert>>,
 ) -> Result<Vec<OpenPair>, NoMemory>
-    ensures staying { IfOk result (λ left. left.items ≡ filter (is_staying names.now) entries.items) }
+    ensures staying { IfOk result (λ left.
+        left.items ≡ filter (is_staying names.now) entries.items) }
     ensures leaving { OnOk result (closed.new.items ≡
         close_all column closed.old.items (filter (is_leaving names.now) entries.items)) }
 {

@@ -1,5 +1,5 @@
-//! Finding rank tables: in rounds, pairs are closed that fall by a column of heights, and then those
-//! that fall by a column of polynomials.
+//! Finding rank tables: in rounds, pairs are closed that fall by a column of heights, and then
+//! those that fall by a column of polynomials.
 #![tactic(auto)]
 
 mod closing;

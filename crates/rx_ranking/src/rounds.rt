@@ -30,7 +30,8 @@ pub(crate) fn rank_from<S: FnMut(&Constraint) -> Result<Option<Cert>, FmEnd>>(
     solve: &mut S,
 ) -> Result<Attempt<Progress>, NoMemory>
     requires solver { IsSolver S.FnMut solve.old }
-    requires over { IsOver (length parts.now.symbols) (edges_of (pairs_open progress.entries.items)) }
+    requires over { IsOver (length parts.now.symbols)
+        (edges_of (pairs_open progress.entries.items)) }
     requires few { length parts.now.symbols ≤ 2 ^ 32 }
     requires width { length progress.columns.items + 2 * left ≤ 14 }
     ensures solver { IsSolver S.FnMut solve.new }

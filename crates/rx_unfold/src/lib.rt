@@ -1,5 +1,9 @@
 //! Rewriting a side of a goal: the first rule that applies at its redex, or the expansion by all.
 //! What is found is a step that is formed and shown, and what it makes; it isn't taken here.
+//!
+//! What a reader may rely on: `find_unfolding` and `find_leaving` find exactly the moves that the
+//! definitions in `specs/Unfolding` find, and the step that is found makes the state that its move
+//! leads to. The solver stays one.
 #![tactic(auto)]
 
 mod expanding;

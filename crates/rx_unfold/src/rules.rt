@@ -1,6 +1,5 @@
 //! Rules at the redex of a side, in order.
 ghost use Rattle.std.specs.Prelude.{◌≡◌, Some, IfOk, slice_get};
-ghost use Rattle.rx_form.specs.States as states;
 ghost use Rattle.rx_solve.specs.Answers.{IsSolver};
 ghost use Rattle.rx_term.specs.declared.rule_set.RuleParts.{RuleParts};
 ghost use Rattle.rx_unfold.specs.Answers.{IsFoundAt};

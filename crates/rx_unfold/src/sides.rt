@@ -4,7 +4,8 @@ ghost use Rattle.rx_form.specs.declared.step.Side.{Side};
 ghost use Rattle.rx_solve.specs.Answers.{IsSolver};
 ghost use Rattle.rx_unfold.specs.Answers.{IsFoundAt};
 ghost use Rattle.rx_unfold.specs.LoopPoints.{AreLoopPoints};
-ghost use Rattle.rx_unfold.specs.Unfolding.{leaving_side, leaving_sides, redex_symbol, unfolding_side, unfolding_sides};
+ghost use Rattle.rx_unfold.specs.Unfolding.{leaving_side, leaving_sides, redex_symbol};
+ghost use Rattle.rx_unfold.specs.Unfolding.{unfolding_side, unfolding_sides};
 
 use crate::expanding::find_expansion;
 use crate::found::Found;

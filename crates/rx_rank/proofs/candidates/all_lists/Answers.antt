@@ -1,12 +1,11 @@
 -- One anchor more.
-use Rattle.std.proofs.Common.{◌≡◌, ◌∙◌, ap, sym, ◌+◌, ◌||◌, [], ◌∷◌, ◌++◌, append-nil, append_assoc, drop, drop_of_length-le}
+use Rattle.std.proofs.Common.{◌∙◌, ap, sym, ◌+◌, ◌||◌, [], ◌∷◌, ◌++◌, append-nil, append_assoc, drop, drop_of_length-le}
 use Rattle.std.proofs.lemmas.List.{map-append}
-use Rattle.rx_plain.proofs.Booleans.{either_first, either_second, or_assoc, or_false}
+use Rattle.rx_plain.proofs.Booleans.{or_assoc, or_false}
 use Rattle.rx_rank.proofs.Walks.{next_from}
 use Rattle.rx_anchors.specs.Choices.{lists_in}
 use Rattle.rx_rank.specs.Candidates.{are_noted, candidate_lists}
 use Rattle.rx_rank.proofs.candidates.all_lists.Goals as goal
-use Rattle.rx_rank.proofs.candidates.all_lists.Goals.{then-noted, else-noted}
 
 pub loop-arity-preserved : goal.loop-arity-preserved
 loop-arity-preserved c =
@@ -21,10 +20,6 @@ loop-arity-preserved c =
     let opened = next_from arities i 0 c.loop-arity-test.true in
     let more = candidate_lists names name both (drop (i + 1) arities) in
     let rest = are_noted names name both (drop (i + 1) arities) in
-    let either : c.if-noted.noted ≡ (before || one.noted) = elim c.if-noted.branch [
-      | then-noted w ↦ either_first before one.noted c.if-noted.noted w.if-noted.true w.noted-is
-      | else-noted w ↦ either_second before one.noted c.if-noted.noted w.if-noted.false w.noted-is
-    ] in
     record {
       lists =
           ap (λ vs. lists_in vs ++ more) c.in_ok-push.ensures.items
@@ -34,7 +29,7 @@ loop-arity-preserved c =
           ∙ sym (ap (λ ns. lists_in lists ++ candidate_lists names name both ns) opened)
           ∙ c.loop-arity.invariant.lists;
       noted =
-          ap (λ n. n || rest) either ∙ or_assoc before one.noted rest
+          or_assoc before one.noted rest
           ∙ ap (λ m. before || (m || rest)) c.in_ok-one.ensures.noted
           ∙ sym (ap (λ ns. before || are_noted names name both ns) opened)
           ∙ c.loop-arity.invariant.noted;

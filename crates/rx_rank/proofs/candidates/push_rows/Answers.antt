@@ -1,12 +1,10 @@
 -- The candidates of one row more.
-use Rattle.std.proofs.Common.{◌≡◌, sym, subst, ◌+◌, ◌||◌, drop, drop_of_length-le}
+use Rattle.std.proofs.Common.{◌+◌, subst, drop, drop_of_length-le}
 use Rattle.std.specs.List.{flat_map}
-use Rattle.rx_plain.proofs.Booleans.{either_first, either_second}
 use Rattle.rx_term.proofs.Places.{at_some, from_place}
 use Rattle.rx_rank.specs.Candidates.{row_candidates}
 use Rattle.rx_rank.proofs.Gathering.{Gathering, after_some, finished}
 use Rattle.rx_rank.proofs.candidates.push_rows.Goals as goal
-use Rattle.rx_rank.proofs.candidates.push_rows.Goals.{then-noted, else-noted}
 
 pub loop-row-preserved : goal.loop-row-preserved
 loop-row-preserved c =
@@ -16,20 +14,12 @@ loop-row-preserved c =
     let before = c.args.polys.now.items in
     let tries = row_candidates c.args.arity in
     let whole = flat_map tries rows in
-    let either : c.if-noted.noted ≡ (c.loop-row.noted || c.in_ok-more.more) =
-    elim c.if-noted.branch [
-      | then-noted w ↦ either_first c.loop-row.noted c.in_ok-more.more c.if-noted.noted
-          w.if-noted.true w.noted-is
-      | else-noted w ↦ either_second c.loop-row.noted c.in_ok-more.more c.if-noted.noted
-          w.if-noted.false w.noted-is
-    ] in
     let opened = subst (λ rs. Gathering before c.loop-row.polys.items c.loop-row.noted
     (flat_map tries rs) whole)
     (from_place rows i row (at_some rows i row row c.loop-row-test.true c.row-item.is))
     c.loop-row.invariant in
     let rest = flat_map tries (drop (i + 1) rows) in
-    subst (λ n. Gathering before c.push_row.new.polys.items n rest whole) (sym either)
-    (after_some (tries row) rest whole opened c.in_ok-more.ensures)
+    after_some (tries row) rest whole opened c.in_ok-more.ensures
 
 pub returns : goal.returns
 returns c =

@@ -1,12 +1,10 @@
 -- The candidates of one rule more.
-use Rattle.std.proofs.Common.{◌≡◌, sym, subst, ◌+◌, ◌||◌, drop, drop_of_length-le}
+use Rattle.std.proofs.Common.{◌+◌, subst, drop, drop_of_length-le}
 use Rattle.std.specs.List.{flat_map}
-use Rattle.rx_plain.proofs.Booleans.{either_first, either_second}
 use Rattle.rx_term.proofs.Places.{at_some, from_place}
 use Rattle.rx_rank.specs.Candidates.{all_candidates, rule_candidates}
 use Rattle.rx_rank.proofs.Gathering.{Gathering, after_some, finished}
 use Rattle.rx_rank.proofs.candidates.push_rules.Goals as goal
-use Rattle.rx_rank.proofs.candidates.push_rules.Goals.{then-noted, else-noted}
 
 pub loop-rule-preserved : goal.loop-rule-preserved
 loop-rule-preserved c =
@@ -16,21 +14,13 @@ loop-rule-preserved c =
     let rule = c.rule-item.result in
     let before = c.args.polys.now.items in
     let whole = all_candidates names c.args.name rules c.args.arity in
-    let either : c.if-noted.noted ≡ (c.loop-rule.noted || c.in_ok-more.more) =
-    elim c.if-noted.branch [
-      | then-noted w ↦ either_first c.loop-rule.noted c.in_ok-more.more c.if-noted.noted
-          w.if-noted.true w.noted-is
-      | else-noted w ↦ either_second c.loop-rule.noted c.in_ok-more.more c.if-noted.noted
-          w.if-noted.false w.noted-is
-    ] in
     let opened = subst (λ rs. Gathering before c.loop-rule.polys.items c.loop-rule.noted
     (all_candidates names c.args.name rs c.args.arity) whole)
     (from_place rules i rule (at_some rules i rule rule c.loop-rule-test.true c.rule-item.is))
     c.loop-rule.invariant in
     let rest = all_candidates names c.args.name (drop (i + 1) rules) c.args.arity in
-    subst (λ n. Gathering before c.push_rule.new.polys.items n rest whole) (sym either)
-    (after_some (rule_candidates names c.args.name c.args.arity rule) rest whole opened
-    c.in_ok-more.ensures)
+    after_some (rule_candidates names c.args.name c.args.arity rule) rest whole opened
+    c.in_ok-more.ensures
 
 pub returns : goal.returns
 returns c =

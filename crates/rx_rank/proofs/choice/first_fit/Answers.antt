@@ -1,7 +1,6 @@
 -- What comes of the choice at hand is that of one of them.
-use Rattle.std.proofs.Common.{◌≡◌, ◌∙◌, ◌<◌, ◌≤◌, ◌||◌, ap, sym, subst, arith, IfSome, List, None, Some, slice_get, take}
+use Rattle.std.proofs.Common.{◌≡◌, ◌∙◌, ◌<◌, ◌≤◌, ap, sym, subst, arith, IfSome, List, None, Some, slice_get, take}
 use Rattle.std.specs.Option.{option_map}
-use Rattle.rx_plain.proofs.Booleans.{either_first, either_second}
 use Rattle.rx_pairs.specs.declared.pair.Pair.{Pair}
 use Rattle.rx_term.proofs.Places.{at_place}
 use Rattle.rx_anchors.specs.Choices.{lists_in, products}
@@ -12,7 +11,6 @@ use Rattle.rx_rank.specs.Ranking.{most_choices}
 use Rattle.rx_rank.specs.declared.fitting.Fit.{Fit}
 use Rattle.rx_rank.proofs.Choosing.{choice_fits, first_of, fit_among, later_choices, no_choice, taken_past, taken_place}
 use Rattle.rx_rank.proofs.choice.first_fit.Goals as goal
-use Rattle.rx_rank.proofs.choice.first_fit.Goals.{then-noted, else-noted}
 
 pub returns-in-None-clause-tried : goal.returns-in-None-clause-tried
 returns-in-None-clause-tried g c =
@@ -49,9 +47,9 @@ returns-then-is_some-clause-fit g c =
     taken_place most_choices (products (lists_in a.lists.now)) at below
     ∙ sym (sym (ap (option_map (λ v. polys_at v.items)) c.in-Some.is) ∙ c.in_ok-choice.ensures) in
     let here = subst (λ qs. IfSome made (IsChosen a.infos.now qs a.anchors.now a.order.now
-    (polys_at c.as_slice.result.now))) c.loop-at.invariant.same c.in_ok-attempt.ensures.fit in
+    (polys_at c.as_slice-chosen.result.now))) c.loop-at.invariant.same c.in_ok-attempt.ensures.fit in
     let chosen = subst (λ ps. IfSome made (IsChosen a.infos.now a.pairs.now a.anchors.now
-    a.order.now (polys_at ps))) c.as_slice.ensures.value here in
+    a.order.now (polys_at ps))) c.as_slice-chosen.ensures.value here in
     fit_among a.infos.now a.pairs.now a.anchors.now a.order.now all choice made
     (at_place all at choice there) chosen
 
@@ -69,21 +67,17 @@ returns-then-is_some-clause-tried g c =
     let view : Fit → List Pair = λ fit. still_open a.pairs.now fit.falls.items in
     let before = c.loop-at.noted in
     let more = c.in_ok-attempt.attempt.noted in
-    let either : c.if-noted.noted ≡ (before || more) = elim c.if-noted.branch [
-      | then-noted w ↦ either_first before more c.if-noted.noted w.if-noted.true w.noted-is
-      | else-noted w ↦ either_second before more c.if-noted.noted w.if-noted.false w.noted-is
-    ] in
     let tried : record { made = option_map view made; noted = more } ≡
     choosing a.infos.now a.pairs.now a.anchors.now a.order.now choice =
     subst (λ ps. record { made = option_map view made; noted = more } ≡
     choosing a.infos.now a.pairs.now a.anchors.now a.order.now (polys_at ps))
-    c.as_slice.ensures.value
+    c.as_slice-chosen.ensures.value
     (subst (λ (qs : List Pair). tried_as (λ fit. still_open qs fit.falls.items)
     c.in_ok-attempt.attempt ≡ choosing a.infos.now qs a.anchors.now a.order.now
-    (polys_at c.as_slice.result.now)) c.loop-at.invariant.same c.in_ok-attempt.ensures.tried) in
+    (polys_at c.as_slice-chosen.result.now)) c.loop-at.invariant.same c.in_ok-attempt.ensures.tried) in
     choice_fits a.infos.now a.pairs.now a.anchors.now a.order.now all at before
     (first_of a.infos.now a.pairs.now a.anchors.now a.order.now all all)
-    c.loop-at.invariant.decides choice there view made more c.if-noted.noted tried either
+    c.loop-at.invariant.decides choice there view made more tried
     (sym c.is_some.ensures ∙ c.if-is_some.true)
 
 pub loop-at-preserved : goal.loop-at-preserved
@@ -100,23 +94,19 @@ loop-at-preserved g c =
     let view : Fit → List Pair = λ fit. still_open a.pairs.now fit.falls.items in
     let before = c.loop-at.noted in
     let more = c.in_ok-attempt.attempt.noted in
-    let either : c.if-noted.noted ≡ (before || more) = elim c.if-noted.branch [
-      | then-noted w ↦ either_first before more c.if-noted.noted w.if-noted.true w.noted-is
-      | else-noted w ↦ either_second before more c.if-noted.noted w.if-noted.false w.noted-is
-    ] in
     let tried : record { made = option_map view made; noted = more } ≡
     choosing a.infos.now a.pairs.now a.anchors.now a.order.now choice =
     subst (λ ps. record { made = option_map view made; noted = more } ≡
     choosing a.infos.now a.pairs.now a.anchors.now a.order.now (polys_at ps))
-    c.as_slice.ensures.value
+    c.as_slice-chosen.ensures.value
     (subst (λ (qs : List Pair). tried_as (λ fit. still_open qs fit.falls.items)
     c.in_ok-attempt.attempt ≡ choosing a.infos.now qs a.anchors.now a.order.now
-    (polys_at c.as_slice.result.now)) c.loop-at.invariant.same c.in_ok-attempt.ensures.tried) in
+    (polys_at c.as_slice-chosen.result.now)) c.loop-at.invariant.same c.in_ok-attempt.ensures.tried) in
     record {
       solver = c.choosing.ensures.solver;
       same = c.choosing.ensures.pairs ∙ c.loop-at.invariant.same;
       decides = later_choices a.infos.now a.pairs.now a.anchors.now a.order.now all at before
           (first_of a.infos.now a.pairs.now a.anchors.now a.order.now all all)
-          c.loop-at.invariant.decides choice there view made more c.if-noted.noted tried either
+          c.loop-at.invariant.decides choice there view made more tried
           (sym c.is_some.ensures ∙ c.if-is_some.false);
     }

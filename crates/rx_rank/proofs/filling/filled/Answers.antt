@@ -1,6 +1,5 @@
 -- One more symbol.
 use Rattle.std.proofs.Common.{◌≡◌, ◌∙◌, ◌+◌, ◌||◌, ap, drop, drop_of_length-le, get_or, sym, Some}
-use Rattle.rx_plain.proofs.Booleans.{either_first, either_second}
 use Rattle.rx_solve.specs.Attempts.{Tried}
 use Rattle.rx_poly.specs.declared.body.Body.{Body}
 use Rattle.rx_rank.proofs.TryLaws.{noted_alone, then_some}
@@ -9,7 +8,6 @@ use Rattle.rx_anchors.specs.Values.{with_polynomial}
 use Rattle.rx_rank.specs.Choices.{filled, first_serving, pairs_from}
 use Rattle.rx_rank.specs.Tries.{made_then, noting}
 use Rattle.rx_rank.proofs.filling.filled.Goals as goal
-use Rattle.rx_rank.proofs.filling.filled.Goals.{then-noted, else-noted}
 
 pub loop-symbol-preserved : goal.loop-symbol-preserved
 loop-symbol-preserved g c =
@@ -25,10 +23,6 @@ loop-symbol-preserved g c =
     let more = attempt.noted in
     let whole = filled infos pairs a.start.items order in
     let next = λ (q : Body). filled infos pairs (with_polynomial values f q) (drop (i + 1) order) in
-    let either : c.if-noted.noted ≡ (before || more) = elim c.if-noted.branch [
-      | then-noted w ↦ either_first before more c.if-noted.noted w.if-noted.true w.noted-is
-      | else-noted w ↦ either_second before more c.if-noted.noted w.if-noted.false w.noted-is
-    ] in
     let opened : noting before (made_then attempt.made more next) ≡ whole =
     ap (λ (t : Tried Body). noting before (made_then t.made t.noted next))
     (c.in_ok-attempt.ensures.tried ∙ (λ j. first_serving (c.arity_of-arity.ensures j)
@@ -40,7 +34,7 @@ loop-symbol-preserved g c =
       solver = c.first_serving.ensures.solver;
       same = c.first_serving.ensures.pairs ∙ c.loop-symbol.invariant.same;
       decides =
-          (λ j. noting (either j) (filled infos pairs (c.put_polynomial.ensures j)
+          (λ j. noting (before || more) (filled infos pairs (c.put_polynomial.ensures j)
           (drop (i + 1) order)))
           ∙ (λ j. noting (before || more) (filled infos pairs
           (with_polynomial values f (c.in-Some.poly-is j)) (drop (i + 1) order)))

@@ -1,13 +1,12 @@
 -- One pair more.
-use Rattle.std.proofs.Common.{◌≡◌, ◌∙◌, ap, sym, ◌+◌, ◌||◌, List, [], drop, drop_of_length-le, refl, slice_set, ◌<◌, length, subst, take, take_all}
+use Rattle.std.proofs.Common.{◌∙◌, ap, sym, ◌+◌, ◌||◌, List, [], drop, drop_of_length-le, refl, slice_set, ◌<◌, length, subst, take, take_all}
 use Rattle.std.specs.List.{AllZip, list_any}
-use Rattle.rx_plain.proofs.Booleans.{either_first, either_second, or_assoc, or_false}
+use Rattle.rx_plain.proofs.Booleans.{or_assoc, or_false}
 use Rattle.rx_pairs.specs.declared.pair.Pair.{Pair}
 use Rattle.rx_rank.specs.Answers.{IsDecided}
 use Rattle.rx_rank.specs.Choices.{falls_by, is_beyond}
 use Rattle.rx_rank.proofs.Walks.{next_from, put_same, zip_next}
 use Rattle.rx_rank.proofs.fitting.falling.Goals as goal
-use Rattle.rx_rank.proofs.fitting.falling.Goals.{then-noted, else-noted}
 
 pub loop-known-preserved : goal.loop-known-preserved
 loop-known-preserved g c =
@@ -20,10 +19,6 @@ loop-known-preserved g c =
     let put = put_same pairs i d c.decide.new.known c.decide.ensures.pair in
     let before = c.loop-known.noted in
     let more = c.in_ok-decision.decision.noted in
-    let either : c.if-noted.noted ≡ (before || more) = elim c.if-noted.branch [
-      | then-noted w ↦ either_first before more c.if-noted.noted w.if-noted.true w.noted-is
-      | else-noted w ↦ either_second before more c.if-noted.noted w.if-noted.false w.noted-is
-    ] in
     let beyond = λ (ps : List Pair). list_any (λ q. is_beyond (falls_by values q)) ps in
     let rest = beyond (drop (i + 1) pairs) in
     record {
@@ -35,8 +30,8 @@ loop-known-preserved g c =
           test put c.in_ok-push.ensures.items c.loop-known.invariant.certs
           c.in_ok-decision.ensures.certs;
       noted =
-          ap (λ ps. c.if-noted.noted || beyond (drop (i + 1) ps)) put
-          ∙ ap (λ n. n || rest) either ∙ or_assoc before more rest
+          ap (λ ps. (before || more) || beyond (drop (i + 1) ps)) put
+          ∙ or_assoc before more rest
           ∙ ap (λ m. before || (m || rest)) c.in_ok-decision.ensures.noted
           ∙ sym (ap (λ ps. before || beyond ps) (next_from pairs i d test))
           ∙ c.loop-known.invariant.noted;

@@ -1,8 +1,7 @@
 -- One component more.
-use Rattle.std.proofs.Common.{◌≡◌, ◌∙◌, ◌||◌, ◌++◌, ℕ, ap, arith, subst, length}
+use Rattle.std.proofs.Common.{◌∙◌, ◌++◌, ℕ, ap, arith, subst, length}
 use Rattle.std.proofs.lemmas.List.{map-append}
 use Rattle.std.specs.Option.{IfSome, option_map}
-use Rattle.rx_plain.proofs.Booleans.{either_first, either_second}
 use Rattle.rx_graph.specs.Graph.{IsOver}
 use Rattle.rx_pairs.specs.Graph.{edges_of}
 use Rattle.rx_pairs.specs.declared.pair.Pair.{Pair}
@@ -11,7 +10,6 @@ use Rattle.rx_rank.specs.Answers.{pairs_at}
 use Rattle.rx_rank.specs.Ranking.{tried_in}
 use Rattle.rx_ranked.proofs.StayingLaws.{left_failed, left_next}
 use Rattle.rx_ranked.proofs.staying.left_after.Goals as goal
-use Rattle.rx_ranked.proofs.staying.left_after.Goals.{then-noted, else-noted}
 
 pub returns-in-None-clause-tried : goal.returns-in-None-clause-tried
 returns-in-None-clause-tried g c =
@@ -19,20 +17,13 @@ returns-in-None-clause-tried g c =
     let hypotheses = c.args.hypotheses.now in
     let pairs = pairs_at c.args.opened.now.pairs.items in
     let name = c.loop-name.name in
-    let noted = c.loop-name.noted in
-    let more = c.in_ok-tried.tried.noted in
-    let either : c.if-noted.noted ≡ (noted || more) = elim c.if-noted.branch [
-      | then-noted w ↦ either_first noted more c.if-noted.noted w.if-noted.true w.noted-is
-      | else-noted w ↦ either_second noted more c.if-noted.noted w.if-noted.false w.noted-is
-    ] in
-    let names = c.requires.names in
     let size = c.len-symbols.ensures in
     let inner = c.loop-name-test.true in
-    left_failed parts hypotheses pairs name noted (pairs_at c.loop-name.left.items)
+    left_failed parts hypotheses pairs name c.loop-name.noted (pairs_at c.loop-name.left.items)
     c.loop-name.invariant.left (omega (arith, size, inner))
-    (option_map (λ v. pairs_at v.items) c.in_ok-tried.tried.made) more
-    (c.in_ok-tried.ensures.tried ∙ ap (λ ns. tried_in parts hypotheses ns pairs name) names)
-    c.if-noted.noted either (ap (option_map (λ v. pairs_at v.items)) c.in-None.is)
+    (option_map (λ v. pairs_at v.items) c.in_ok-tried.tried.made) c.in_ok-tried.tried.noted
+    (c.in_ok-tried.ensures.tried ∙ ap (λ ns. tried_in parts hypotheses ns pairs name)
+    c.requires.names) (ap (option_map (λ v. pairs_at v.items)) c.in-None.is)
 
 pub loop-name-preserved : goal.loop-name-preserved
 loop-name-preserved g c =
@@ -40,13 +31,6 @@ loop-name-preserved g c =
     let hypotheses = c.args.hypotheses.now in
     let pairs = pairs_at c.args.opened.now.pairs.items in
     let name = c.loop-name.name in
-    let noted = c.loop-name.noted in
-    let more = c.in_ok-tried.tried.noted in
-    let either : c.if-noted.noted ≡ (noted || more) = elim c.if-noted.branch [
-      | then-noted w ↦ either_first noted more c.if-noted.noted w.if-noted.true w.noted-is
-      | else-noted w ↦ either_second noted more c.if-noted.noted w.if-noted.false w.noted-is
-    ] in
-    let names = c.requires.names in
     let size = c.len-symbols.ensures in
     let inner = c.loop-name-test.true in
     let over = subst (λ o. IfSome o (λ v. (n : ℕ) → IsOver n (edges_of pairs) →
@@ -54,11 +38,11 @@ loop-name-preserved g c =
     record {
       solver = c.left_in.ensures.solver;
       left =
-          left_next parts hypotheses pairs name noted (pairs_at c.loop-name.left.items)
-          c.loop-name.invariant.left (omega (arith, size, inner))
-          (option_map (λ v. pairs_at v.items) c.in_ok-tried.tried.made) more
-          (c.in_ok-tried.ensures.tried ∙ ap (λ ns. tried_in parts hypotheses ns pairs name) names)
-          c.if-noted.noted either (pairs_at c.in-Some.more.items) (pairs_at c.append.new.self.items)
+          left_next parts hypotheses pairs name c.loop-name.noted
+          (pairs_at c.loop-name.left.items) c.loop-name.invariant.left (omega (arith, size, inner))
+          (option_map (λ v. pairs_at v.items) c.in_ok-tried.tried.made) c.in_ok-tried.tried.noted
+          (c.in_ok-tried.ensures.tried ∙ ap (λ ns. tried_in parts hypotheses ns pairs name)
+          c.requires.names) (pairs_at c.in-Some.more.items) (pairs_at c.append.new.self.items)
           (ap (option_map (λ v. pairs_at v.items)) c.in-Some.is)
           (ap pairs_at (c.in_ok-append-in-Some.ensures.items ∙
           ap (λ v. c.loop-name.left.items ++ v.items) c.in-Some.more-is) ∙

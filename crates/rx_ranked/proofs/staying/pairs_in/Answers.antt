@@ -1,8 +1,6 @@
 -- One pair more.
-use Rattle.std.proofs.Common.{◌≡◌, ◌∙◌, ◌+◌, ◌++◌, Bool, drop, refl, subst, sym}
-use Rattle.std.specs.List.{filter}
+use Rattle.std.proofs.Common.{◌∙◌, Bool, ap, sym}
 use Rattle.rx_pairs.specs.declared.pair.Pair.{Pair}
-use Rattle.rx_rank.specs.Answers.{pairs_at}
 use Rattle.rx_anchors.specs.Members.{is_member}
 use Rattle.rx_ranked.proofs.FilteredPairs.{one_kept_more, one_left_out}
 use Rattle.rx_ranked.proofs.staying.pairs_in.Goals as goal
@@ -11,22 +9,15 @@ use Rattle.rx_ranked.proofs.staying.pairs_in.Goals.{then-is_member+in_ok-push, e
 pub loop-pair-preserved : goal.loop-pair-preserved
 loop-pair-preserved c =
     let test : Pair → Bool = λ pair. is_member c.args.names.now c.args.name pair.left.0 in
-    let refs = c.args.pairs.now in
-    let i = c.loop-pair.pair-index in
-    let r = c.pair-item.result in
-    let there = c.loop-pair-test.true in
-    let done = pairs_at c.loop-pair.mine.items in
-    let whole = filter test (pairs_at refs) in
     elim c.if-is_member.branch [
       | then-is_member+in_ok-push w ↦
-          subst (λ v. pairs_at v.items ++ filter test (pairs_at (drop (i + 1) refs)) ≡ whole)
-          (sym w.mine-is)
-          (one_kept_more test refs i r there c.pair-item.is done whole c.loop-pair.invariant
-          (sym c.is_member.ensures ∙ w.if-is_member.true) c.loop-pair.mine.items
-          w.push.new.self.items refl w.in_ok-push.ensures.items)
+          one_kept_more test c.args.pairs.now c.loop-pair.pair-index c.pair-item.result
+          c.loop-pair-test.true c.pair-item.is c.loop-pair.mine.items c.if-is_member.mine.items _
+          c.loop-pair.invariant (sym c.is_member.ensures ∙ w.if-is_member.true)
+          (ap (λ v. v.items) w.mine-is ∙ w.in_ok-push.ensures.items)
       | else-is_member w ↦
-          subst (λ v. pairs_at v.items ++ filter test (pairs_at (drop (i + 1) refs)) ≡ whole)
-          (sym w.mine-is)
-          (one_left_out test refs i r there c.pair-item.is done whole c.loop-pair.invariant
-          (sym c.is_member.ensures ∙ w.if-is_member.false))
+          one_left_out test c.args.pairs.now c.loop-pair.pair-index c.pair-item.result
+          c.loop-pair-test.true c.pair-item.is c.loop-pair.mine.items c.if-is_member.mine.items _
+          c.loop-pair.invariant (sym c.is_member.ensures ∙ w.if-is_member.false)
+          (ap (λ v. v.items) w.mine-is)
     ]

@@ -1,47 +1,28 @@
 -- One pair more stays or falls; in the end each pair has come with its certificates.
-use Rattle.std.proofs.Common.{◌≡◌, ◌∙◌, ◌++◌, ◌∷◌, [], ap, length, set, sym, Some}
+use Rattle.std.proofs.Common.{◌≡◌, ◌∙◌, ◌++◌, ◌∷◌, [], ap, length, sym}
 use Rattle.std.proofs.lemmas.Iterator.{YieldsList-from_zip}
 use Rattle.std.proofs.lemmas.Iterator.Adapters.{YieldsList-from_vec}
 use Rattle.std.proofs.lemmas.Iterator.Consumers.{YieldsList-end}
 use Rattle.std.proofs.lemmas.List.{map-id}
 use Rattle.rx_ranking.proofs.FallLaws.{one_falls, one_stays}
-use Rattle.rx_ranking.specs.Closing.{close_all, closing, fallen, fitted, left_open}
-use Rattle.rx_ranking.specs.declared.open_pair.OpenPair.{OpenPair}
+use Rattle.rx_ranking.specs.Closing.{Fitted, close_all, fallen, fitted, left_open}
 use Rattle.rx_ranking.proofs.closing.close_fallen.Goals as goal
 use Rattle.rx_ranking.proofs.closing.close_fallen.Goals.{After-drop-entry-iterator-4}
-
-pub loop-entry-preserved-in_ok-push-in-None-fall : goal.loop-entry-preserved-in_ok-push-in-None-fall
-loop-entry-preserved-in_ok-push-in-None-fall c =
-    let past = c.loop-entry.yielded in
-    let law = one_stays c.args.column c.args.closed.now.items past c.in-Some.entry c.in-Some.held
-    c.in-Some.fall c.in-None-fall.is in
-    record {
-      staying =
-          c.in_ok-push-in-None-fall.ensures.items
-          ∙ ap (λ os. os ++ c.in_ok-with_certs-in-None-fall.field-0 ∷ [])
-          c.loop-entry.invariant.staying
-          ∙ ap (λ o. left_open past ++ o ∷ []) c.in_ok-with_certs-in-None-fall.ensures
-          ∙ sym law.0;
-      leaving = c.loop-entry.invariant.leaving ∙ sym law.1;
-    }
 
 pub loop-entry-preserved : goal.loop-entry-preserved
 loop-entry-preserved c =
     let past = c.loop-entry.yielded in
-    let before = c.args.closed.now.items in
-    let column = c.args.column in
-    let after = c.in_ok-with_certs-in-Some-fall.field-0 in
-    let law = one_falls column before past c.in-Some.entry c.in-Some.held c.in-Some-fall.more
-    c.in-Some.fall c.in-Some-fall.is in
+    let one : Fitted = ((c.in-Some.entry, c.in-Some.held), c.in-Some.fall) in
     record {
-      staying = c.loop-entry.invariant.staying ∙ sym law.0;
+      staying =
+          c.in_ok-close_one.ensures.staying
+          ∙ ap (λ os. os ++ left_open (one ∷ [])) c.loop-entry.invariant.staying
+          ∙ one_stays past one;
       leaving =
-          c.close_entry.ensures
-          ∙ ap (λ cs. set cs after.number (Some (closing column after)))
+          c.in_ok-close_one.ensures.leaving
+          ∙ ap (λ cs. close_all c.args.column cs (fallen (one ∷ [])))
           c.loop-entry.invariant.leaving
-          ∙ ap (λ (o : OpenPair). set (close_all column before (fallen past)) o.number
-          (Some (closing column o))) c.in_ok-with_certs-in-Some-fall.ensures
-          ∙ sym law.1;
+          ∙ one_falls past one c.args.column c.args.closed.now.items;
     }
 
 -- all pairs have come

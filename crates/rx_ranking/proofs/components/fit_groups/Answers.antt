@@ -1,10 +1,8 @@
 -- One component more, and what comes of all.
-use Rattle.std.proofs.Common.{◌≡◌, ◌+◌, ◌||◌, sym, subst}
-use Rattle.rx_plain.proofs.Booleans.{either_first, either_second}
+use Rattle.std.proofs.Common.{◌+◌, ◌||◌, refl, sym, subst}
 use Rattle.rx_rank.specs.declared.fitting.Fit.{Fit}
 use Rattle.rx_ranking.proofs.WalkLaws.{IsWalked, walk_begin, walk_end, walk_failed, walk_fits, walk_next}
 use Rattle.rx_ranking.proofs.components.fit_groups.Goals as goal
-use Rattle.rx_ranking.proofs.components.fit_groups.Goals.{then-noted, else-noted}
 
 pub loop-name-init : goal.loop-name-init
 loop-name-init g c = record {
@@ -18,20 +16,16 @@ pub loop-name-preserved : goal.loop-name-preserved
 loop-name-preserved g c =
     let noted = c.loop-name.noted in
     let more = c.in_ok-tried.tried.noted in
-    let either : c.if-noted.noted ≡ (noted || more) = elim c.if-noted.branch [
-      | then-noted w ↦ either_first noted more c.if-noted.noted w.if-noted.true w.noted-is
-      | else-noted w ↦ either_second noted more c.if-noted.noted w.if-noted.false w.noted-is
-    ] in
     record {
       solver = c.fit_one_more.ensures.solver;
       walked =
           subst (λ (f : Fit). IsWalked c.args.parts.now c.args.hypotheses.now c.args.names.now
-          c.args.groups.now (c.loop-name.name + 1) c.if-noted.noted f) (sym c.in-Some.more-is)
+          c.args.groups.now (c.loop-name.name + 1) (noted || more) f) (sym c.in-Some.more-is)
           (walk_next c.args.parts.now c.args.hypotheses.now c.args.names.now c.args.groups.now
           c.loop-name.name noted c.loop-name.fit c.loop-name.invariant.walked
-          c.index-groups-name.result c.as_slice-entries.result.now c.loop-name-test.true
-          c.index-groups-name.is c.as_slice-entries.ensures.value
-          c.in_ok-tried.tried c.in_ok-tried.ensures.more c.if-noted.noted either c.in-Some.more
+          c.index-groups-name.result c.as_slice-group.result.now c.loop-name-test.true
+          c.index-groups-name.is c.as_slice-group.ensures.value
+          c.in_ok-tried.tried c.in_ok-tried.ensures.more (noted || more) refl c.in-Some.more
           c.in-Some.is);
     }
 
@@ -39,15 +33,11 @@ pub returns-in-None-clause-tried : goal.returns-in-None-clause-tried
 returns-in-None-clause-tried g c =
     let noted = c.loop-name.noted in
     let more = c.in_ok-tried.tried.noted in
-    let either : c.if-noted.noted ≡ (noted || more) = elim c.if-noted.branch [
-      | then-noted w ↦ either_first noted more c.if-noted.noted w.if-noted.true w.noted-is
-      | else-noted w ↦ either_second noted more c.if-noted.noted w.if-noted.false w.noted-is
-    ] in
     walk_failed c.args.parts.now c.args.hypotheses.now c.args.names.now c.args.groups.now
     c.loop-name.name noted c.loop-name.fit c.loop-name.invariant.walked
-    c.index-groups-name.result c.as_slice-entries.result.now c.loop-name-test.true
-    c.index-groups-name.is c.as_slice-entries.ensures.value
-    c.in_ok-tried.tried c.in_ok-tried.ensures.more c.if-noted.noted either c.in-None.is
+    c.index-groups-name.result c.as_slice-group.result.now c.loop-name-test.true
+    c.index-groups-name.is c.as_slice-group.ensures.value
+    c.in_ok-tried.tried c.in_ok-tried.ensures.more (noted || more) refl c.in-None.is
 
 pub returns-clause-tried : goal.returns-clause-tried
 returns-clause-tried g c =

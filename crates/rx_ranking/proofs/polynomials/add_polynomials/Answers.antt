@@ -1,5 +1,5 @@
 -- The column is that of the fits, and the pairs that fall by it are closed.
-use Rattle.std.proofs.Common.{◌≡◌, ◌∙◌, ◌++◌, ◌∷◌, [], ap, arith, length, subst, sym, List, Option, Some}
+use Rattle.std.proofs.Common.{◌≡◌, ◌∙◌, ◌++◌, ◌∷◌, [], ap, length, subst, sym, List, Option, Some}
 use Rattle.std.specs.Option.{IfSome, option_map}
 use Rattle.rx_pairs.specs.declared.pair.Pair.{Pair}
 use Rattle.rx_rank.specs.Answers.{still_open}
@@ -23,7 +23,7 @@ returns-clause-tried g c =
     let view : Fits → List Pair = λ f. still_open (pairs_open f.entries.items) f.falls.items in
     let shown : Option (List Pair) → Tried (List Pair) = λ o.
     record { made = o; noted = c.in_ok-tried.tried.noted } in
-    let staying = c.in_ok-left.ensures.staying ∙
+    let staying = c.in_ok-after.ensures.staying ∙
     ap (λ (f : Fits). left_open (fitted f.entries.items f.holds.items f.falls.items))
     c.in-Some.fits-is in
     ap (λ ps. shown (Some ps)) (ap pairs_open staying ∙
@@ -35,25 +35,17 @@ pub returns-clause-grown : goal.returns-clause-grown
 returns-clause-grown g c =
     let fits = c.in-Some.fits in
     let before = c.args.progress in
+    let after = c.in_ok-after.after in
     let is : c.in_ok-tried.tried.made ≡ Some fits = c.in-Some.is in
     let are = subst (λ o. IfSome o (AreFits c.args.parts.now.symbols before.entries.items)) is
     c.in_ok-tried.ensures.fits in
-    let size = c.push.new.self.ok.0 in
-    let len = c.len-number.ensures in
-    let count : c.len-number.result ≡ length c.push.new.self.items = omega (arith, size, len) in
     let moved : Fits → List OpenPair = λ f. fallen
     (fitted f.entries.items f.holds.items f.falls.items) in
-    fits_grown c.args.parts.now.symbols before
-    (record {
-      columns = c.push.new.self;
-      entries = c.in_ok-left.left;
-      closed =
-          c.close_fallen.new.closed;
-    }) fits are
-    (c.in_ok-push.ensures.items
+    fits_grown c.args.parts.now.symbols before after fits are
+    (c.in_ok-after.ensures.columns
     ∙ ap (λ (f : Fits). before.columns.items ++ Polynomials f.column ∷ []) c.in-Some.fits-is)
-    (c.in_ok-left.ensures.staying ∙ ap (λ (f : Fits).
+    (c.in_ok-after.ensures.staying ∙ ap (λ (f : Fits).
     left_open (fitted f.entries.items f.holds.items f.falls.items)) c.in-Some.fits-is)
-    (c.in_ok-left.ensures.leaving
-    ∙ ap (λ f. close_all c.len-number.result before.closed.items (moved f)) c.in-Some.fits-is
-    ∙ ap (λ k. close_all k before.closed.items (moved fits)) count)
+    (c.in_ok-after.ensures.leaving
+    ∙ ap (λ f. close_all (length after.columns.items) before.closed.items (moved f))
+    c.in-Some.fits-is)
