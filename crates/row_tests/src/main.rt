@@ -1,17 +1,11 @@
-//! Compares what the crates on polynomials, rows, certificates and elimination answer with values
-//! from outside.
+//! Compares what the crate on rows answers with values from outside.
 //!
 //! Each line of the standard input is a call, what it is given, and what it is to answer, with a
-//! semicolon and a space between them. Polynomials, rows, certificates and lists have the notation
-//! of a log; an integer term is written with each operator before its operands, as `+ v0 * 2 v1`.
+//! semicolon and a space between them. Polynomials, rows and lists have the notation of a log.
 //! `{3 *v0}` stands for `*v0*v0*v0`. A line that begins with `#` is a heading.
 #![tactic(auto)]
 
 mod answer;
-mod cert_calls;
-mod fm_calls;
-mod plain_calls;
-mod poly_calls;
 mod reading;
 mod row_calls;
 
@@ -21,18 +15,11 @@ use std::alloc::Global;
 use std::io;
 
 // What the call answers; none where the line can't be read, or there is no memory.
-fn answer_to(alloc: Global, call: &str, first: &str, second: &str, third: &str) -> Option<Answer> {
+fn answer_to(alloc: Global, call: &str, first: &str, second: &str) -> Option<Answer> {
     let (of, name) = call.split_once('.')?;
     match of {
-        "items" => plain_calls::of_items(alloc, name, first, second),
-        "graded" => plain_calls::of_graded(alloc, name, first, second),
-        "boxed" => plain_calls::of_box(alloc, name, first, second),
-        "memory" => plain_calls::is_text_of_no_memory(alloc, first),
-        "poly" | "laws" => poly_calls::answer_to(alloc, name, first, second),
         "row" => row_calls::answer_of_row(alloc, name, first, second),
         "rows" => row_calls::answer_of_rows(alloc, name, first, second),
-        "cert" => cert_calls::answer_to(alloc, name, first, second, third),
-        "fm" => fm_calls::answer_to(alloc, name, first, second),
         _ => None,
     }
 }
@@ -46,9 +33,8 @@ fn parted<'a>(text: &'a str) -> (&'a str, &'a str) {
 fn holds(alloc: Global, line: &str) -> Option<bool> {
     let (call, rest) = parted(line);
     let (given, wanted) = rest.rsplit_once("; ")?;
-    let (first, more) = parted(given);
-    let (second, third) = parted(more);
-    let answer = answer_to(alloc, call, first, second, third)?;
+    let (first, second) = parted(given);
+    let answer = answer_to(alloc, call, first, second)?;
     Some(is_meant(&answer, wanted))
 }
 

@@ -82,6 +82,19 @@ fn coefficient(of: &Poly, at: Option<&Mono>) -> Option<Answer> {
     }
 }
 
+// What is read from two polynomials.
+fn read(name: &str, left: &Poly, right: &Poly) -> Option<Answer> {
+    match name {
+        "coeff" => coefficient(left, first_monomial(right)),
+        "compare" => ordered(left.cmp(right)),
+        "compare_sums" => ordered(left.body().cmp(right.body())),
+        "compare_monomials" => compared(first_monomial(left), first_monomial(right)),
+        "compare_atoms" => compared(first_atom(left), first_atom(right)),
+        "same" => told(left.is_same(right)),
+        _ => None,
+    }
+}
+
 // What two polynomials answer.
 fn between(alloc: Global, name: &str, left: &Poly, right: &Poly) -> Option<Answer> {
     match name {
@@ -90,13 +103,7 @@ fn between(alloc: Global, name: &str, left: &Poly, right: &Poly) -> Option<Answe
         "mul" => formed(alloc, left.mul(alloc, right)),
         "quotient" => formed(alloc, left.quotient(alloc, right)),
         "remainder" => formed(alloc, left.remainder(alloc, right)),
-        "coeff" => coefficient(left, first_monomial(right)),
-        "compare" => ordered(left.cmp(right)),
-        "compare_sums" => ordered(left.body().cmp(right.body())),
-        "compare_monomials" => compared(first_monomial(left), first_monomial(right)),
-        "compare_atoms" => compared(first_atom(left), first_atom(right)),
-        "same" => told(left.is_same(right)),
-        _ => None,
+        _ => read(name, left, right),
     }
 }
 
@@ -113,15 +120,17 @@ fn substitute_often(alloc: Global, of: &Poly, with: &[(u32, Poly)]) -> Option<()
     Some(())
 }
 
-fn substituted(alloc: Global, of: &Poly, with: &str) -> Option<Answer> {
-    let with = substitution(alloc, with)?;
-    formed(alloc, of.subst(alloc, with.as_slice()))
+fn after_hundred(alloc: Global, of: &Poly, with: &[(u32, Poly)]) -> Option<Answer> {
+    substitute_often(alloc, of, with)?;
+    formed(alloc, of.subst(alloc, with))
 }
 
-fn often_substituted(alloc: Global, of: &Poly, with: &str) -> Option<Answer> {
+fn substituted(alloc: Global, name: &str, of: &Poly, with: &str) -> Option<Answer> {
     let with = substitution(alloc, with)?;
-    substitute_often(alloc, of, with.as_slice())?;
-    formed(alloc, of.subst(alloc, with.as_slice()))
+    match name {
+        "subst_101" => after_hundred(alloc, of, with.as_slice()),
+        _ => formed(alloc, of.subst(alloc, with.as_slice())),
+    }
 }
 
 fn at_args(alloc: Global, of: &Poly, args: &str) -> Option<Answer> {
@@ -129,15 +138,25 @@ fn at_args(alloc: Global, of: &Poly, args: &str) -> Option<Answer> {
     formed(alloc, of.at_args(alloc, args.as_slice()))
 }
 
+fn scaled(alloc: Global, poly: &Poly, by: &str) -> Option<Answer> {
+    let by = integer(by)?;
+    formed(alloc, poly.scale(alloc, by))
+}
+
+fn of_variable(name: &str, poly: &Poly, variable: u32) -> Option<Answer> {
+    match name {
+        "coeff_of" => Some(Answer::Number(poly.coeff_of(variable))),
+        "uses" => told(uses(poly, variable)),
+        _ => told(uses_below(poly, variable)),
+    }
+}
+
 // What a polynomial answers, and what else is given.
 fn with_another(alloc: Global, name: &str, poly: &Poly, second: &str) -> Option<Answer> {
     match name {
-        "scale" => formed(alloc, poly.scale(alloc, integer(second)?)),
-        "coeff_of" => Some(Answer::Number(poly.coeff_of(count(second)?))),
-        "uses" => told(uses(poly, count(second)?)),
-        "uses_below" => told(uses_below(poly, count(second)?)),
-        "subst" => substituted(alloc, poly, second),
-        "subst_101" => often_substituted(alloc, poly, second),
+        "scale" => scaled(alloc, poly, second),
+        "coeff_of" | "uses" | "uses_below" => of_variable(name, poly, count(second)?),
+        "subst" | "subst_101" => substituted(alloc, name, poly, second),
         "at_args" => at_args(alloc, poly, second),
         _ => beside(alloc, name, poly, second),
     }

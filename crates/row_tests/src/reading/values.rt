@@ -1,11 +1,10 @@
-//! What a log has words for: polynomials, rows, parts of sums, substitutions, certificates. In a
-//! polynomial, a row or a list of rows `v999999` is the variable 2^32-1, which no log has.
-use rx_cert::Cert;
+//! What a log has words for: rows, parts of sums, substitutions. In a row or a list of rows
+//! `v999999` is the variable 2^32-1, which no log has.
 use rx_plain::{Items, NoMemory};
 use rx_poly::Poly;
 use rx_row::{Constraint, Row};
-use rx_text::{read_poly, read_row};
-use rx_words::{read_cert, read_certs, read_parts, read_rows, read_subst};
+use rx_text::read_row;
+use rx_words::{read_parts, read_rows, read_subst};
 use std::alloc::Global;
 
 // What was read, where that is the whole text.
@@ -25,20 +24,6 @@ fn high_variables(alloc: Global) -> Option<Items<(u32, Poly)>> {
 // Whether it may stand in the text.
 fn is_high(text: &str) -> bool {
     text.contains("v999999")
-}
-
-fn high_poly(alloc: Global, written: &Poly) -> Option<Poly> {
-    let with = high_variables(alloc)?;
-    written.subst(alloc, with.as_slice()).ok()
-}
-
-/// One polynomial.
-pub fn poly(alloc: Global, text: &str) -> Option<Poly> {
-    let written = whole(text, read_poly(alloc, text.as_bytes(), 0))?;
-    if !is_high(text) {
-        return Some(written);
-    }
-    high_poly(alloc, &written)
 }
 
 fn high_row(alloc: Global, written: &Row) -> Option<Row> {
@@ -78,14 +63,4 @@ pub fn parts(alloc: Global, text: &str) -> Option<Items<(u32, i128)>> {
 /// A list of variables, each by its number, with what is in its place.
 pub fn substitution(alloc: Global, text: &str) -> Option<Items<(u32, Poly)>> {
     whole(text, read_subst(alloc, text.as_bytes(), 0))
-}
-
-/// One certificate.
-pub fn cert(alloc: Global, text: &str) -> Option<Cert> {
-    whole(text, read_cert(alloc, text.as_bytes(), 0))
-}
-
-/// A list of certificates.
-pub fn certs(alloc: Global, text: &str) -> Option<Items<Cert>> {
-    whole(text, read_certs(alloc, text.as_bytes(), 0))
 }

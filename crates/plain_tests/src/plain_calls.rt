@@ -1,6 +1,6 @@
 //! The containers, at numbers.
 use crate::answer::{Answer, integers, ordered, perhaps, told};
-use crate::reading::words::{integer, numbers};
+use crate::reading::{integer, numbers};
 use rx_plain::{Boxed, Graded, Items, NoMemory};
 use std::alloc::Global;
 

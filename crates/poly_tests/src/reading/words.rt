@@ -35,15 +35,3 @@ pub fn integer(text: &str) -> Option<i128> {
 pub fn count(text: &str) -> Option<u32> {
     text.parse::<u32>().ok()
 }
-
-/// The numbers that stand after the first word, which says how many there are.
-pub fn numbers(alloc: Global, text: &str) -> Option<Vec<i128>> {
-    let mut made = Vec::new(alloc);
-    let Some((_, words)) = text.split_once(' ') else {
-        return Some(made);
-    };
-    for word in words.split(' ') {
-        made.push(integer(word)?).ok()?;
-    }
-    Some(made)
-}

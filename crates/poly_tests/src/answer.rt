@@ -2,9 +2,8 @@
 use crate::reading::words::integer;
 use rx_plain::NoMemory;
 use rx_poly::{Poly, PolyEnd};
-use rx_row::Row;
-use rx_text::{push_integer, push_natural, push_poly, push_row, push_word};
-use rx_words::{push_count, push_rows};
+use rx_text::{push_natural, push_poly, push_word};
+use rx_words::push_count;
 use std::alloc::Global;
 use std::cmp::Ordering;
 
@@ -75,14 +74,6 @@ pub fn ended(end: PolyEnd) -> Option<Answer> {
     }
 }
 
-/// Yes or no, or why that isn't known.
-pub fn found(answer: Result<bool, PolyEnd>) -> Option<Answer> {
-    match answer {
-        Ok(answer) => told(answer),
-        Err(end) => ended(end),
-    }
-}
-
 /// The polynomial.
 pub fn written(alloc: Global, poly: &Poly) -> Option<Answer> {
     let mut out = Vec::new(alloc);
@@ -96,36 +87,6 @@ pub fn formed(alloc: Global, answer: Result<Poly, PolyEnd>) -> Option<Answer> {
         Ok(poly) => written(alloc, &poly),
         Err(end) => ended(end),
     }
-}
-
-/// The row.
-pub fn written_row(alloc: Global, row: &Row) -> Option<Answer> {
-    let mut out = Vec::new(alloc);
-    push_row(&mut out, row).ok()?;
-    Some(Answer::Text(out))
-}
-
-/// The rows in order.
-pub fn written_rows(alloc: Global, rows: &[Row]) -> Option<Answer> {
-    let mut out = Vec::new(alloc);
-    push_rows(rows, &mut out).ok()?;
-    Some(Answer::Text(out))
-}
-
-fn push_integers(out: &mut Vec<u8>, numbers: &[i128]) -> Result<(), NoMemory> {
-    push_count(out, numbers.len())?;
-    for number in numbers {
-        push_word(out, b" ")?;
-        push_integer(out, number)?;
-    }
-    Ok(())
-}
-
-/// Numbers in order.
-pub fn integers(alloc: Global, numbers: &[i128]) -> Option<Answer> {
-    let mut out = Vec::new(alloc);
-    push_integers(&mut out, numbers).ok()?;
-    Some(Answer::Text(out))
 }
 
 fn push_naturals(out: &mut Vec<u8>, numbers: &[u32]) -> Result<(), NoMemory> {
