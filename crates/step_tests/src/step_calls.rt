@@ -1,16 +1,32 @@
 //! What a step makes of a goal, over a rule set or by hypotheses.
-use crate::answer::Answer;
-use crate::reading::lists::rules;
-use crate::reading::steps::step;
-use crate::reading::values::equation;
-use crate::rule_calls::{set_of, without_rules};
-use rx_form::{Asked, FormEnd, FormedStep, Group, Step, form};
+use crate::reading::{equation, rules};
+use crate::rule_sets::set_of;
+use crate::steps::step;
+use rx_form::{Asked, FormEnd, FormedStep, Group, form};
+use rx_plain::Items;
 use rx_row::Row;
-use rx_term::{Equation, Rule};
+use rx_term::{Equation, Rule, RuleSet};
 use rx_term_words::push_equation;
 use rx_text::push_word;
 use rx_words::{NoMemory, push_count, push_rows};
 use std::alloc::Global;
+
+/// What a step answers.
+#[derive(Drop)]
+pub enum Answer {
+    /// A word of its own.
+    Word(&'static str),
+    /// The text of what it makes.
+    Text(Vec<u8>),
+}
+
+/// Whether the text says this answer.
+pub fn is_meant(answer: &Answer, text: &str) -> bool {
+    match answer {
+        Answer::Word(word) => *word == text,
+        Answer::Text(found) => found.as_slice() == text.as_bytes(),
+    }
+}
 
 // Why the step isn't formed; out of memory is none that a line could want.
 fn ended(end: FormEnd) -> Option<Answer> {
@@ -81,50 +97,59 @@ fn said(alloc: Global, answer: Result<FormedStep, FormEnd>) -> Option<Answer> {
     }
 }
 
+// What is formed of the goal by the step.
+fn formed(
+    alloc: Global,
+    set: &RuleSet,
+    hypotheses: &[Rule],
+    goal: &Equation,
+    words: &str,
+) -> Option<Result<FormedStep, FormEnd>> {
+    let step = step(alloc, words)?;
+    Some(form(alloc, set, Some(goal), hypotheses, &step))
+}
+
+fn answer_over(
+    alloc: Global,
+    set: &RuleSet,
+    hypotheses: &[Rule],
+    goal: &str,
+    words: &str,
+) -> Option<Answer> {
+    let goal = equation(alloc, goal)?;
+    said(alloc, formed(alloc, set, hypotheses, &goal, words)?)
+}
+
 // A step over the set of these rules.
-fn over_set(alloc: Global, given: &str, goal: &Equation, step: &Step) -> Option<Answer> {
+fn over_set(alloc: Global, given: &str, goal: &str, words: &str) -> Option<Answer> {
     let set = set_of(alloc, rules(alloc, given)?)?;
-    said(alloc, form(alloc, &set, Some(goal), &[], step))
+    answer_over(alloc, &set, &[], goal, words)
+}
+
+// A step by these hypotheses, over the set without rules.
+fn without_rules(alloc: Global, hypotheses: &[Rule], goal: &str, words: &str) -> Option<Answer> {
+    let set = set_of(alloc, Items::new(alloc))?;
+    answer_over(alloc, &set, hypotheses, goal, words)
 }
 
 // A use of one of these hypotheses.
-fn by_hypotheses(alloc: Global, hyps: &[Rule], goal: &Equation, step: &Step) -> Option<Answer> {
-    let set = without_rules(alloc)?;
-    said(alloc, form(alloc, &set, Some(goal), hyps, step))
-}
-
-fn by_given(alloc: Global, given: &str, goal: &Equation, step: &Step) -> Option<Answer> {
+fn by_hypotheses(alloc: Global, given: &str, goal: &str, words: &str) -> Option<Answer> {
     let hypotheses = rules(alloc, given)?;
-    by_hypotheses(alloc, hypotheses.as_slice(), goal, step)
+    without_rules(alloc, hypotheses.as_slice(), goal, words)
 }
 
-fn on_goal(alloc: Global, name: &str, given: &str, goal: &Equation, step: &Step) -> Option<Answer> {
-    match name {
-        "use" => by_given(alloc, given, goal, step),
-        "form" => over_set(alloc, given, goal, step),
-        _ => None,
-    }
-}
-
-fn with_step(
-    alloc: Global,
-    name: &str,
-    given: &str,
-    goal: &Equation,
-    words: &str,
-) -> Option<Answer> {
-    let step = step(alloc, words)?;
-    on_goal(alloc, name, given, goal, &step)
-}
-
-/// What the step answers: `use` is that of a hypothesis, and then hypotheses are given, not rules.
+/// What the step answers: `step.use` is that of a hypothesis, and then hypotheses are given, not
+/// rules.
 pub fn answer_to(
     alloc: Global,
-    name: &str,
-    first: &str,
-    second: &str,
-    third: &str,
+    call: &str,
+    given: &str,
+    goal: &str,
+    words: &str,
 ) -> Option<Answer> {
-    let goal = equation(alloc, second)?;
-    with_step(alloc, name, first, &goal, third)
+    match call {
+        "step.use" => by_hypotheses(alloc, given, goal, words),
+        "step.form" => over_set(alloc, given, goal, words),
+        _ => None,
+    }
 }

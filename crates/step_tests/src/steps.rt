@@ -1,11 +1,12 @@
 //! Steps as in a log, as `simplify l 3`, but without certificates.
-use crate::reading::lists::{equation_at, last_substitution};
-use crate::reading::values::{equation, high_term, is_high, row, substitution};
-use crate::reading::words::count;
+use crate::reading::{count, equation, equation_at, high_term, is_high, row, substitution};
 use rx_cert::Cert;
 use rx_form::{Delete, Side, Step};
 use rx_plain::Items;
+use rx_poly::Poly;
 use rx_term::Equation;
+use rx_text::skip_word;
+use rx_words::read_subst;
 use std::alloc::Global;
 
 fn side(word: &str) -> Option<Side> {
@@ -25,17 +26,23 @@ fn simplify(alloc: Global, words: &str) -> Option<Step> {
     })
 }
 
-fn hypothesis(alloc: Global, words: &str) -> Option<Step> {
-    let (on, rest) = words.split_once(' ')?;
-    let (place, rest) = rest.split_once(' ')?;
-    let (hyp, subst) = rest.split_once(' ')?;
+// The use of the hypothesis that is named next, at a place, with a substitution.
+fn hypothesis_at(alloc: Global, side: Side, place: u32, words: &str) -> Option<Step> {
+    let (hyp, subst) = words.split_once(' ')?;
+    let hyp = count(hyp)?;
     Some(Step::Hyp {
-        side: side(on)?,
-        place: count(place)?,
-        hyp: count(hyp)?,
+        side,
+        place,
+        hyp,
         subst: substitution(alloc, subst)?,
         certs: Items::new(alloc),
     })
+}
+
+fn hypothesis(alloc: Global, words: &str) -> Option<Step> {
+    let (on, rest) = words.split_once(' ')?;
+    let (place, rest) = rest.split_once(' ')?;
+    hypothesis_at(alloc, side(on)?, count(place)?, rest)
 }
 
 fn expand(words: &str) -> Option<Step> {
@@ -44,6 +51,13 @@ fn expand(words: &str) -> Option<Step> {
         side: side(on)?,
         keep: keep == "keep",
     })
+}
+
+// The substitution that the rest of the text is, after a space.
+fn last_substitution(alloc: Global, text: &[u8], at: usize) -> Option<Items<(u32, Poly)>> {
+    let first = skip_word(text, at, b" ")?;
+    let (subst, end) = read_subst(alloc, text, first).ok()??;
+    if end == text.len() { Some(subst) } else { None }
 }
 
 fn generalise(alloc: Global, words: &str) -> Option<Step> {
