@@ -1,10 +1,8 @@
-//! What a case is given: bytes with their escapes, numbers, tokens and programs.
-ghost use Rattle.std.specs.Prelude.{◌≤◌, ◌<◌, ◌^◌, length, IfSome};
+//! What a case is given: bytes with their escapes, numbers and tokens.
+ghost use Rattle.std.specs.Prelude.{◌≤◌, length, IfSome};
 ghost use Rattle.c_names.specs.Spellings.{IsWithin};
 
-use c_ast::{Function, Program};
 use c_lex::{Token, tokens};
-use c_parse::parse;
 use std::alloc::Global;
 
 /// The tokens of a text.
@@ -16,16 +14,6 @@ pub struct Lexed {
     pub tokens: Vec<Token>,
     ghost within: { IsWithin source.items tokens.items },
     ghost few: { length tokens.items ≤ 1048576 },
-}
-
-/// The program of a text.
-#[derive(Drop)]
-pub struct Parsed {
-    /// The text.
-    pub text: Lexed,
-    /// Its program.
-    pub program: Program,
-    ghost few: { length program.functions < 2 ^ 32 },
 }
 
 // Adds a byte and what comes after it.
@@ -134,38 +122,9 @@ pub fn tokens_of(alloc: Global, source: &[u8]) -> Option<Vec<Token>>
     }
 }
 
-// The program that tokens spell.
-fn program_of(alloc: Global, tokens: &[Token]) -> Option<Program>
-    requires { length tokens.now ≤ 1048576 }
-    ensures { IfSome result (λ program. length program.functions < 2 ^ 32) }
-{
-    match parse(alloc, tokens) {
-        Ok(program) => Some(program),
-        Err(_) => None,
-    }
-}
-
 /// The tokens of a text.
 pub fn lex_text(alloc: Global, text: &str) -> Option<Lexed> {
     let source = bytes_of(alloc, text)?;
     let tokens = tokens_of(alloc, &source)?;
     Some(Lexed { source, tokens })
-}
-
-/// The program of a text.
-pub fn parse_text(alloc: Global, text: &str) -> Option<Parsed> {
-    let text = lex_text(alloc, text)?;
-    let program = program_of(alloc, &text.tokens)?;
-    Some(Parsed { text, program })
-}
-
-/// The first function of a list, where it has at most 16 parameters.
-pub fn first_of(functions: &[Function]) -> Option<&Function>
-    ensures { IfSome result (λ function. length function.now.params ≤ 16) }
-{
-    let function = functions.first()?;
-    if function.params.len() > 16 {
-        return None;
-    }
-    Some(function)
 }

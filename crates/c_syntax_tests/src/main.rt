@@ -1,21 +1,16 @@
-//! Calls of the front end, with the answers that are wanted. Each line of the standard input is a
-//! case: the word of a call, what it is given, and the answer, with ` | ` between them. A line that
-//! begins with `#` is a heading.
+//! Calls that read programs and preconditions in C, with the answers that are wanted. Each line of
+//! the standard input is a case: the word of a call, what it is given, and the answer, with ` | `
+//! between them. A line that begins with `#` is a heading.
 //!
-//! In a text and in an answer `\n`, `\r` and `\t` are a line end, a carriage return and a tab, `\x`
-//! with two hexadecimal digits is any byte, and `\e` is no byte, for a text that is empty. The
-//! program prints each line whose answer is another with the word `differs`, each that it can't
-//! read with `unread`, and at the end how many lines hold.
+//! In a text and in an answer `\x` with two hexadecimal digits is any byte, and `\e` is no byte,
+//! for a text that is empty. The program prints each line whose answer is another with the word
+//! `differs`, each that it can't read with `unread`, and at the end how many lines hold.
 #![tactic(auto)]
 
-mod assigning;
-mod lexing;
-mod naming;
+mod copying;
 mod parsing;
 mod printing;
-mod scoping;
 mod texts;
-mod trees;
 
 use std::alloc::Global;
 use std::io;
@@ -23,24 +18,10 @@ use std::io;
 // What the call answers to what it is given; none where the line is no case.
 fn answer(alloc: Global, call: &str, given: &str) -> Option<String> {
     match call {
-        "lex" | "long lex" => lexing::answer(alloc, call, given),
         "parse" | "pre" | "accepts" | "long parse" | "long pre" | "cut" => {
             parsing::answer(alloc, call, given)
         }
-        "copy"
-        | "copy pre"
-        | "copy resolved"
-        | "copy statement"
-        | "same"
-        | "straight"
-        | "straight unresolved"
-        | "low"
-        | "high" => trees::answer(alloc, call, given),
-        "names" | "name" | "spelling" | "find spelling" | "slot" => {
-            naming::answer(alloc, call, given)
-        }
-        "fault" => assigning::fault(alloc, given),
-        "resolve" | "resolve pre" | "find" => scoping::answer(alloc, call, given),
+        "copy" | "copy pre" | "copy statement" | "same" => copying::answer(alloc, call, given),
         _ => None,
     }
 }

@@ -1,40 +1,13 @@
-//! Copies, heights and straight functions.
+//! Copies of resolved programs, heights and straight functions.
 ghost use Rattle.std.specs.Prelude.{◌≡◌, IfSome};
 ghost use Rattle.c_ast.specs.Height.{expr_height, stmt_height};
 
-use crate::printing::{put, put_debug, put_expr, put_functions, put_number, put_program, put_stmt};
-use crate::texts::{Parsed, first_of, lex_text, parse_text};
+use crate::printing::{put, put_expr, put_functions, put_number};
+use crate::texts::{Parsed, first_of, parse_text};
 use c_ast::{BinOp, Expr, Function, Stmt, UnOp, expr_height, stmt_height, straight};
-use c_parse::parse_pre;
 use c_scope::resolve;
 use rx_plain::{Boxed, Items};
 use std::alloc::Global;
-
-// The copy of a program, where it equals the program.
-fn copy(alloc: Global, read: &Parsed) -> Option<String> {
-    let copied = read.program.try_clone(alloc).ok()?;
-    let mut out = String::new(alloc);
-    if copied == read.program {
-        put_program(&mut out, &copied);
-    }
-    Some(out)
-}
-
-// The copy of an expression, where it equals the expression.
-fn copy_expr(alloc: Global, e: &Expr) -> Option<String> {
-    let copied = e.try_clone(alloc).ok()?;
-    let mut out = String::new(alloc);
-    if copied == *e {
-        put_expr(&mut out, &copied);
-    }
-    Some(out)
-}
-
-// The copy of a precondition, where it equals the precondition.
-fn copy_pre(alloc: Global, given: &str) -> Option<String> {
-    let text = lex_text(alloc, given)?;
-    copy_expr(alloc, &parse_pre(alloc, &text.tokens).ok()?)
-}
 
 // The copy of a resolved program, where it equals the program.
 fn copy_resolved(alloc: Global, read: &Parsed) -> Option<String> {
@@ -46,37 +19,6 @@ fn copy_resolved(alloc: Global, read: &Parsed) -> Option<String> {
         put_functions(&mut out, copied.functions.as_slice());
     }
     Some(out)
-}
-
-// The copy of a statement, on the heap.
-fn boxed_copy(alloc: Global, statement: &Stmt) -> Option<Boxed<Stmt>> {
-    Boxed::new(alloc, statement.try_clone(alloc).ok()?).ok()
-}
-
-// The copy of the first statement of the first function, where it equals the statement.
-fn copy_statement(alloc: Global, read: &Parsed) -> Option<String> {
-    let function = read.program.functions.as_slice().first()?;
-    let statement = function.body.as_slice().first()?;
-    let copied = boxed_copy(alloc, statement)?;
-    let mut out = String::new(alloc);
-    if *copied.get() == *statement {
-        put_stmt(&mut out, copied.get());
-    }
-    Some(out)
-}
-
-// Whether the program of a text is the same tree as this one.
-fn same_as(alloc: Global, left: &Parsed, right: &str) -> Option<String> {
-    let right = parse_text(alloc, right)?;
-    let mut out = String::new(alloc);
-    put_debug(&mut out, left.program == right.program);
-    Some(out)
-}
-
-// Whether two programs are the same tree.
-fn same(alloc: Global, given: &str) -> Option<String> {
-    let (left, right) = given.split_once(" | ")?;
-    same_as(alloc, &parse_text(alloc, left)?, right)
 }
 
 // What the first function returns, where it is straight.
@@ -138,21 +80,17 @@ fn high(alloc: Global) -> Option<String> {
 // What is said of a program as it was read.
 fn of_program(alloc: Global, call: &str, read: &Parsed) -> Option<String> {
     match call {
-        "copy" => copy(alloc, read),
         "copy resolved" => copy_resolved(alloc, read),
-        "copy statement" => copy_statement(alloc, read),
         "straight" => returned_by(alloc, read),
         _ => returned(alloc, read.program.functions.as_slice()),
     }
 }
 
-/// `copy` and its like copy a tree, and `same` compares two programs; `straight` says what the
-/// first function returns, of a resolved program or of one as it was read; `low` and `high` are
-/// the heights of two trees that are built here.
+/// `copy resolved` copies a resolved program; `straight` says what the first function returns, of a
+/// resolved program or of one as it was read; `low` and `high` are the heights of two trees that
+/// are built here.
 pub fn answer(alloc: Global, call: &str, given: &str) -> Option<String> {
     match call {
-        "copy pre" => copy_pre(alloc, given),
-        "same" => same(alloc, given),
         "low" => low(alloc),
         "high" => high(alloc),
         _ => of_program(alloc, call, &parse_text(alloc, given)?),

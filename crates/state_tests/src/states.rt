@@ -1,6 +1,6 @@
 //! States made of goals and hypotheses, copied, and packed and unpacked after other polynomials
 //! were numbered.
-use rx_bank::Bank;
+use rx_bank::{Bank, Packed};
 use rx_plain::NoMemory;
 use rx_poly::Poly;
 use rx_row::Row;
@@ -67,27 +67,40 @@ fn state(alloc: Global, given: &str) -> Option<State> {
     }
 }
 
+fn with_number(alloc: Global, variable: &Poly, number: u32) -> Option<Poly> {
+    let number = Poly::constant(alloc, number as i128).ok()?;
+    variable.add(alloc, &number).ok()
+}
+
 // Gives numbers to polynomials of a variable that no line has.
 fn number_others(alloc: Global, bank: &mut Bank) -> Option<()> {
     let variable = Poly::variable(alloc, 999_999).ok()?;
     for number in 0..OTHERS {
-        let integer = Poly::constant(alloc, number as i128).ok()?;
-        let other = variable.add(alloc, &integer).ok()?;
-        bank.number(alloc, &other).ok()?;
+        bank.number(alloc, &with_number(alloc, &variable, number)?)
+            .ok()?;
     }
     Some(())
 }
 
-// The state once it is packed, the others are numbered, and it is unpacked.
-fn again(alloc: Global, state: &State) -> Option<State> {
-    let mut bank = Bank::new(alloc);
-    let packed = bank.pack(alloc, state).ok()?;
-    number_others(alloc, &mut bank)?;
-    if bank.holds(&packed) {
-        bank.unpack(alloc, &packed).ok()
+// The state that is packed so, where the numbers are those of the bank.
+fn unpacked_from(alloc: Global, bank: &Bank, packed: &Packed) -> Option<State> {
+    if bank.holds(packed) {
+        bank.unpack(alloc, packed).ok()
     } else {
         None
     }
+}
+
+// The state once it is packed, the others are numbered, and it is unpacked.
+fn through(alloc: Global, bank: &mut Bank, state: &State) -> Option<State> {
+    let packed = bank.pack(alloc, state).ok()?;
+    number_others(alloc, bank)?;
+    unpacked_from(alloc, bank, &packed)
+}
+
+fn again(alloc: Global, state: &State) -> Option<State> {
+    let mut bank = Bank::new(alloc);
+    through(alloc, &mut bank, state)
 }
 
 fn push_after_space(
@@ -140,14 +153,16 @@ fn unpacked(alloc: Global, state: &State) -> Option<Vec<u8>> {
 // The text of the state, as it is or as the call makes it.
 fn text_after(alloc: Global, call: &str, state: &State) -> Option<Vec<u8>> {
     match call {
+        "state" => state_text(alloc, state),
         "copied" => copied(alloc, state),
         "unpacked" => unpacked(alloc, state),
-        _ => state_text(alloc, state),
+        _ => None,
     }
 }
 
 /// The state of these goals and hypotheses: as it is made of them, its copy, or packed, and
 /// unpacked after 1,000 other polynomials were numbered.
 pub fn answer(alloc: Global, call: &str, given: &str) -> Option<Vec<u8>> {
-    text_after(alloc, call, &state(alloc, given)?)
+    let state = state(alloc, given)?;
+    text_after(alloc, call, &state)
 }

@@ -1,7 +1,6 @@
-//! Trees and tokens as text. What finds no memory is left out, so that the text is another than the
+//! Trees as text. What finds no memory is left out, so that the text is another than the
 //! one wanted.
 use c_ast::{Expr, Function, Program, Prototype, Stmt};
-use c_lex::{Token, TokenKind};
 use rx_plain::Boxed;
 use std::fmt::Debug;
 
@@ -207,25 +206,5 @@ pub fn put_program(out: &mut String, program: &Program) {
     put_functions(out, program.functions.as_slice());
     for prototype in program.prototypes.as_slice() {
         put_prototype(out, prototype);
-    }
-}
-
-// Adds what a token is.
-fn put_kind(out: &mut String, kind: TokenKind) {
-    match kind {
-        TokenKind::Name => put(out, "Name"),
-        TokenKind::Number(value) => put_value(out, value),
-        TokenKind::Word(keyword) => put_debug(out, keyword),
-        TokenKind::Mark(mark) => put_debug(out, mark),
-    }
-}
-
-/// Adds the tokens, each by its kind, offset and length.
-pub fn put_tokens(out: &mut String, tokens: &[Token]) {
-    for token in tokens {
-        put_space(out);
-        put_kind(out, token.kind);
-        put_number(out, "@", token.at);
-        put_number(out, "+", token.len);
     }
 }
