@@ -1,16 +1,15 @@
-//! Compares what the refuter answers, how often it is asked behind a cache, and what becomes of
-//! proof states that are copied and packed, with values of another program.
+//! Compares what the refuter answers, and how often it is asked behind a cache, with values of
+//! another program.
 //!
 //! Each line of the standard input is a call, what it is given, and what it is to answer, with
-//! ` | ` between them. Equations and rows have the notation of a log. A line that begins with `#`
-//! is a heading. The program prints each line whose answer is another with the word `differs`, each
-//! that it can't read with `unread`, and at the end how many lines hold.
+//! ` | ` between them. Rows have the notation of a log. A line that begins with `#` is a heading.
+//! The program prints each line whose answer is another with the word `differs`, each that it can't
+//! read with `unread`, and at the end how many lines hold.
 #![tactic(auto)]
 
 mod asking;
 mod caching;
 mod refuting;
-mod states;
 
 use std::alloc::Global;
 use std::io;
@@ -21,7 +20,6 @@ fn answer(alloc: Global, call: &str, given: &str) -> Option<Vec<u8>> {
         "refutes" => refuting::refuted(alloc, given),
         "entails" => refuting::entailed(alloc, given),
         "calls" => asking::asked_after(alloc, given),
-        "state" | "copied" | "unpacked" => states::answer(alloc, call, given),
         _ => None,
     }
 }

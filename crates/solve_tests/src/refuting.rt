@@ -47,28 +47,51 @@ fn ended(alloc: Global, end: FmEnd) -> Option<Vec<u8>> {
     }
 }
 
+// What refutes, or that nothing does.
+fn found(alloc: Global, cert: Option<Cert>) -> Option<Vec<u8>> {
+    match cert {
+        Some(cert) => cert_text(alloc, &cert),
+        None => word(alloc, b"none"),
+    }
+}
+
+fn answered(alloc: Global, answer: Result<Option<Cert>, FmEnd>) -> Option<Vec<u8>> {
+    match answer {
+        Ok(cert) => found(alloc, cert),
+        Err(end) => ended(alloc, end),
+    }
+}
+
 /// What refutes the rows.
 pub fn refuted(alloc: Global, given: &str) -> Option<Vec<u8>> {
-    match refutes(alloc, &rows(alloc, given)?) {
-        Ok(Some(cert)) => cert_text(alloc, &cert),
+    let rows = rows(alloc, given)?;
+    answered(alloc, refutes(alloc, &rows))
+}
+
+// What shows a row: `plain` where none is needed.
+fn shown(alloc: Global, cert: Option<Cert>) -> Option<Vec<u8>> {
+    match cert {
+        Some(cert) => cert_text(alloc, &cert),
+        None => word(alloc, b"plain"),
+    }
+}
+
+fn answered_under(alloc: Global, answer: Result<Option<Option<Cert>>, FmEnd>) -> Option<Vec<u8>> {
+    match answer {
+        Ok(Some(cert)) => shown(alloc, cert),
         Ok(None) => word(alloc, b"none"),
         Err(end) => ended(alloc, end),
     }
 }
 
-// What shows a row under rows: `plain` where none is needed.
-fn shown(alloc: Global, under: &Constraint, wanted: &Row) -> Option<Vec<u8>> {
-    match entails(alloc, under, wanted) {
-        Ok(Some(Some(cert))) => cert_text(alloc, &cert),
-        Ok(Some(None)) => word(alloc, b"plain"),
-        Ok(None) => word(alloc, b"none"),
-        Err(end) => ended(alloc, end),
-    }
+fn entailed_under(alloc: Global, under: &Constraint, wanted: &str) -> Option<Vec<u8>> {
+    let wanted = row(alloc, wanted)?;
+    answered_under(alloc, entails(alloc, under, &wanted))
 }
 
 /// What shows the row, after the last ` | `, under the rows: `plain` where none is needed.
 pub fn entailed(alloc: Global, given: &str) -> Option<Vec<u8>> {
     let (under, wanted) = given.rsplit_once(" | ")?;
     let under = rows(alloc, under)?;
-    shown(alloc, &under, &row(alloc, wanted)?)
+    entailed_under(alloc, &under, wanted)
 }

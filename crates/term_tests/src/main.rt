@@ -1,5 +1,4 @@
-//! Compares what the crates on terms, rules and the steps of a proof answer with values from
-//! outside.
+//! Compares what the crate on terms and rules answers with values from outside.
 //!
 //! Each line of the standard input is a call, what it is given, and what it is to answer, with a
 //! semicolon and a space between them. Terms, equations, rows, polynomials and lists have the
@@ -9,7 +8,6 @@
 mod answer;
 mod reading;
 mod rule_calls;
-mod step_calls;
 mod term_calls;
 
 use answer::{Answer, is_meant};
@@ -23,7 +21,6 @@ fn answer_to(alloc: Global, call: &str, first: &str, second: &str, third: &str) 
     match of {
         "term" => term_calls::answer_to(alloc, name, first, second, third),
         "rule" => rule_calls::answer_to(alloc, name, first),
-        "step" => step_calls::answer_to(alloc, name, first, second, third),
         _ => None,
     }
 }

@@ -36,14 +36,9 @@ fn parts(alloc: Global, rules: Items<Rule>) -> Option<RuleParts> {
     })
 }
 
-/// The set of these rules.
-pub fn set_of(alloc: Global, rules: Items<Rule>) -> Option<RuleSet> {
-    RuleSet::from_parts(parts(alloc, rules)?)
-}
-
 /// The set without rules.
 pub fn without_rules(alloc: Global) -> Option<RuleSet> {
-    set_of(alloc, Items::new(alloc))
+    RuleSet::from_parts(parts(alloc, Items::new(alloc))?)
 }
 
 fn parts_copied(alloc: Global, parts: &RuleParts) -> Option<Answer> {

@@ -1,0 +1,52 @@
+//! Calls that read programs and preconditions in C, with the answers that are wanted. Each line of
+//! the standard input is a case: the word of a call, what it is given, and the answer, with ` | `
+//! between them. A line that begins with `#` is a heading.
+//!
+//! In a text and in an answer `\x` with two hexadecimal digits is any byte, and `\e` is no byte,
+//! for a text that is empty. The program prints each line whose answer is another with the word
+//! `differs`, each that it can't read with `unread`, and at the end how many lines hold.
+#![tactic(auto)]
+
+mod copying;
+mod parsing;
+mod printing;
+mod texts;
+
+use std::alloc::Global;
+use std::io;
+
+// What the call answers to what it is given; none where the line is no case.
+fn answer(alloc: Global, call: &str, given: &str) -> Option<String> {
+    match call {
+        "parse" | "pre" | "accepts" | "long parse" | "long pre" | "cut" => {
+            parsing::answer(alloc, call, given)
+        }
+        "copy" | "copy pre" | "copy statement" | "same" => copying::answer(alloc, call, given),
+        _ => None,
+    }
+}
+
+// Whether the line's call answers what is wanted; none where the line is no case.
+fn holds(alloc: Global, line: &str) -> Option<bool> {
+    let (call, rest) = line.split_once(" | ")?;
+    let (given, wanted) = rest.rsplit_once(" | ")?;
+    let found = answer(alloc, call, given)?;
+    let wanted = texts::bytes_of(alloc, wanted)?;
+    Some(found.as_bytes() == wanted.as_slice())
+}
+
+fn main(rt: HostRuntime) -> io::Result<()> {
+    let mut count = 0u64;
+    for line in rt.lines(rt.alloc()) {
+        let line = line?;
+        if line.as_str().starts_with("#") {
+            continue;
+        }
+        match holds(rt.alloc(), line.as_str()) {
+            Some(true) => count = count.saturating_add(1),
+            Some(false) => println!(rt; "differs: {line}")?,
+            None => println!(rt; "unread: {line}")?,
+        }
+    }
+    println!(rt; "{count} lines hold")
+}
