@@ -1,10 +1,10 @@
 //! What compiles expressions and functions, and makes the rule set of two functions, with ample
 //! memory.
 //!
-//! Each line of the standard input is the name of a case that is written in code, and whether it is
-//! to hold, `yes` or `no`, with a semicolon and a space between them. A line that begins with `#` is
-//! a heading. The program prints each line that differs or can't be read, and then the number of
-//! lines that hold.
+//! Each line of the standard input is the name of a case that is written in code, and whether it
+//! is to hold, `yes` or `no`, with a semicolon and a space between them. A line that begins with
+//! `#` is a heading. The program prints each line that differs or can't be read, and then the
+//! number of lines that hold.
 #![tactic(auto)]
 
 mod code_cases;

@@ -1,5 +1,5 @@
-//! One happy path, and a refusal or two, of the calls that refute rows, apply steps, and check covers
-//! and ranks, with ample memory.
+//! One happy path, and a refusal or two, of the calls that refute rows, apply steps, and check
+//! covers and ranks, with ample memory.
 //!
 //! Each line of the standard input is a call, what it is given, and what it is to answer, with a
 //! semicolon and a space between them. What is given has the notation of a log; a list is its
