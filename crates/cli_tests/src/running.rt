@@ -4,7 +4,7 @@ ghost use Rattle.rx_io.specs.MemoryFiles as held;
 ghost use Rattle.rx_io.specs.MemorySink as taken;
 
 use crate::files::one_file;
-use crate::texts::{bytes_of, calls_of, put, put_bytes, put_debug};
+use crate::texts::{bytes_of, calls_of};
 use rx_cli::{Status, run, run_in_memory};
 use rx_io::{MemoryFiles, MemorySink};
 use std::alloc::Global;
@@ -22,31 +22,24 @@ fn words_of(alloc: Global, line: &str) -> Option<Vec<String>> {
     Some(words)
 }
 
+// The exit status, a mark and a text.
+fn told(alloc: Global, status: Status, mark: &str, text: &str) -> Option<String> {
+    let code = status.code();
+    format!(in alloc; "{code}: {mark}{text}").ok()
+}
+
 // The exit status and the last line of a report, with `..` for lines before it.
 fn last_line(alloc: Global, status: Status, text: &[u8]) -> Option<String> {
     let lines = str::from_utf8(text).ok()?.strip_suffix('\n')?;
-    let mut out = String::new(alloc);
-    put_debug(&mut out, status.code());
     match lines.rsplit_once('\n') {
-        Some((_, last)) => {
-            put(&mut out, ": .. ");
-            put(&mut out, last);
-        }
-        None => {
-            put(&mut out, ": ");
-            put(&mut out, lines);
-        }
+        Some((_, last)) => told(alloc, status, ".. ", last),
+        None => told(alloc, status, "", lines),
     }
-    Some(out)
 }
 
 // The exit status and a whole report.
-fn all_lines(alloc: Global, status: Status, text: &[u8]) -> String {
-    let mut out = String::new(alloc);
-    put_debug(&mut out, status.code());
-    put(&mut out, ": ");
-    put_bytes(&mut out, text);
-    out
+fn all_lines(alloc: Global, status: Status, text: &[u8]) -> Option<String> {
+    told(alloc, status, "", str::from_utf8(text).ok()?)
 }
 
 // A file in memory of which no call fails.
@@ -92,7 +85,7 @@ fn in_memory(alloc: Global, words: &[String], source: Vec<u8>) -> Option<String>
     let mut files = plain_file(alloc, source)?;
     let mut sink = plain_sink(alloc)?;
     let status = run_in_memory(alloc, words, &mut files, &mut sink);
-    Some(all_lines(alloc, status, sink.put_so_far()))
+    all_lines(alloc, status, sink.put_so_far())
 }
 
 // A run of a command line in memory, in which no call fails.
@@ -136,7 +129,7 @@ fn ran(alloc: Global, setup: &str, words: &[String], text: &str) -> Option<Strin
     let mut files = files_with(alloc, reads, text)?;
     let mut sink = sink_with(alloc, puts)?;
     let status = run(alloc, words, &mut files, &mut sink);
-    Some(all_lines(alloc, status, sink.put_so_far()))
+    all_lines(alloc, status, sink.put_so_far())
 }
 
 // A run of the command line that is given before a text.

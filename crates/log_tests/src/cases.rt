@@ -5,6 +5,7 @@ use crate::depth::written;
 use crate::devices::{Inlet, Outlet};
 use rx_cli::{Status, run};
 use rx_io::{MemoryFiles, MemorySink};
+use rx_log::Log;
 use rx_logtext::read_log;
 use rx_logwriting::write_log;
 use std::alloc::Global;
@@ -69,13 +70,18 @@ fn run_on(alloc: Global, words: &[String], mut files: MemoryFiles) -> Option<Str
     report(alloc, status, sink.put_so_far())
 }
 
+// Whether the log is written as this text.
+fn is_written_as(alloc: Global, log: &Log, text: &[u8]) -> bool {
+    match write_log(alloc, log) {
+        Ok(written) => written.as_slice() == text,
+        Err(_) => false,
+    }
+}
+
 // Whether a text that is a log is written again as it was read.
 fn is_written_again(alloc: Global, text: &[u8]) -> bool {
     match read_log(alloc, text) {
-        Ok(log) => match write_log(alloc, &log) {
-            Ok(written) => written.as_slice() == text,
-            Err(_) => false,
-        },
+        Ok(log) => is_written_as(alloc, &log, text),
         Err(_) => true,
     }
 }
@@ -176,19 +182,42 @@ impl Case {
         Some(status.code() == 0 && sink.put_so_far() == wanted.as_slice())
     }
 
+    // The source and the log in files like this.
+    fn files(&self, alloc: Global, inlet: Inlet) -> Option<MemoryFiles> {
+        let source = joined(alloc, &self.source, &None)?;
+        let log = joined(alloc, &self.log, &None)?;
+        files_of(alloc, source, log, inlet)
+    }
+
+    // The source and the log in files as they are given, which are done with.
+    fn files_taken(&mut self, alloc: Global) -> Option<MemoryFiles> {
+        match self.inlet.take() {
+            Some(inlet) => self.files(alloc, inlet),
+            None => self.files(alloc, Inlet::new(alloc, 4096)),
+        }
+    }
+
+    // The sink as it is given, which is done with.
+    fn sink_taken(&mut self, alloc: Global) -> Option<MemorySink> {
+        match self.outlet.take() {
+            Some(outlet) => outlet.sink(alloc),
+            None => Outlet::new(alloc).sink(alloc),
+        }
+    }
+
+    // The status with which a run ends, and how many bytes of its report are written.
+    fn ended(&mut self, alloc: Global) -> Option<(u8, usize)> {
+        let mut files = self.files_taken(alloc)?;
+        let mut sink = self.sink_taken(alloc)?;
+        let status = run(alloc, &self.words, &mut files, &mut sink);
+        Some((status.code(), sink.put_so_far().len()))
+    }
+
     // Whether a run ends with the status, and n bytes of its report are written.
     fn puts(&mut self, alloc: Global, wanted: &str) -> Option<bool> {
         let (code, count) = wanted.split_once(' ')?;
-        let code: u8 = code.parse().ok()?;
-        let count: usize = count.parse().ok()?;
-        let source = joined(alloc, &self.source, &None)?;
-        let log = joined(alloc, &self.log, &None)?;
-        let inlet = self.inlet.take().unwrap_or(Inlet::new(alloc, 4096));
-        let mut files = files_of(alloc, source, log, inlet)?;
-        let outlet = self.outlet.take().unwrap_or(Outlet::new(alloc));
-        let mut sink = outlet.sink(alloc)?;
-        let status = run(alloc, &self.words, &mut files, &mut sink);
-        Some(status.code() == code && sink.put_so_far().len() == count)
+        let wanted = (code.parse().ok()?, count.parse().ok()?);
+        Some(self.ended(alloc)? == wanted)
     }
 
     // Goes on with another command line over the same files.

@@ -39,13 +39,22 @@ fn log_of(alloc: Global, depth: usize) -> Option<Log> {
     })
 }
 
+// The text of such a log.
+fn text_of(alloc: Global, depth: usize) -> Option<Result<Vec<u8>, LogEnd>> {
+    let log = log_of(alloc, depth)?;
+    Some(write_log(alloc, &log))
+}
+
+// Whether the text is that of a log.
+fn is_read(alloc: Global, text: &[u8]) -> bool {
+    read_log(alloc, text).is_ok()
+}
+
 /// How a log is written whose one certificate is so deep.
 pub fn written(alloc: Global, depth: usize) -> Option<&'static str> {
-    match write_log(alloc, &log_of(alloc, depth)?) {
-        Ok(text) => match read_log(alloc, &text) {
-            Ok(_) => Some("is read again"),
-            Err(_) => Some("is not read"),
-        },
+    match text_of(alloc, depth)? {
+        Ok(text) if is_read(alloc, &text) => Some("is read again"),
+        Ok(_) => Some("is not read"),
         Err(LogEnd::TooDeep) => Some("is too deep"),
         Err(_) => None,
     }

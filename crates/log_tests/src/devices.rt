@@ -12,6 +12,12 @@ fn numbers_of(alloc: Global, text: &str) -> Option<Vec<u64>> {
     Some(numbers)
 }
 
+// The most bytes of a call and the room.
+fn sizes_of(text: &str) -> Option<(usize, usize)> {
+    let (piece, room) = text.trim().split_once(' ')?;
+    Some((piece.parse().ok()?, room.parse().ok()?))
+}
+
 /// How many bytes one call on the files takes at most, and which calls fail, counted from 1.
 #[derive(Drop)]
 pub struct Inlet {
@@ -71,11 +77,11 @@ impl Outlet {
     /// fail; those of the calls that write nothing, with `;` between the three.
     pub fn given(alloc: Global, line: &str) -> Option<Outlet> {
         let (sizes, calls) = line.split_once(';')?;
-        let (piece, room) = sizes.trim().split_once(' ')?;
+        let (piece, room) = sizes_of(sizes)?;
         let (fail, zero) = calls.split_once(';')?;
         Some(Outlet {
-            piece: piece.parse().ok()?,
-            room: room.parse().ok()?,
+            piece,
+            room,
             fail: numbers_of(alloc, fail)?,
             zero: numbers_of(alloc, zero)?,
         })

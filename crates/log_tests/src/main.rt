@@ -25,18 +25,34 @@ mod depth;
 mod devices;
 
 use crate::cases::Case;
+use std::alloc::Global;
 use std::io;
+
+// How a line fares.
+enum Verdict {
+    Given,
+    Holds,
+    Fails(&'static str),
+}
+
+fn judged(alloc: Global, case: &mut Case, line: &str) -> Verdict {
+    match case.take(alloc, line) {
+        Some(None) => Verdict::Given,
+        Some(Some(true)) => Verdict::Holds,
+        Some(Some(false)) => Verdict::Fails("differs"),
+        None => Verdict::Fails("unread"),
+    }
+}
 
 fn main(rt: HostRuntime) -> io::Result<()> {
     let mut case = Case::new(rt.alloc());
     let mut count = 0u64;
     for line in rt.lines(rt.alloc()) {
         let line = line?;
-        match case.take(rt.alloc(), line.as_str()) {
-            Some(None) => {}
-            Some(Some(true)) => count = count.saturating_add(1),
-            Some(Some(false)) => println!(rt; "differs: {line}")?,
-            None => println!(rt; "unread: {line}")?,
+        match judged(rt.alloc(), &mut case, line.as_str()) {
+            Verdict::Given => {}
+            Verdict::Holds => count = count.saturating_add(1),
+            Verdict::Fails(how) => println!(rt; "{how}: {line}")?,
         }
     }
     println!(rt; "{count} reports hold")

@@ -1,3 +1,2 @@
--- What is known of the functions that a line names, and of hypotheses that fit.
-pub mod FittingLaws
+-- What is known of the functions that a line names.
 pub mod Scoped

@@ -1,8 +1,9 @@
 //! The lines, and what one line leaves for the next.
-use crate::answer::{is_wanted, large, word};
+use crate::answer::word;
+use crate::log_calls::{covered, lowered};
 use crate::printing::translation_text;
-use crate::search_calls;
-use crate::set_calls::{parts_of, translation_of};
+use crate::running::ran;
+use crate::set_calls::translation_of;
 use rx_term::RuleSet;
 use rx_translate::{TranslateEnd, Translation};
 use std::alloc::Global;
@@ -11,6 +12,16 @@ use std::alloc::Global;
 #[derive(Drop)]
 pub struct Lines {
     rules: Option<RuleSet>,
+}
+
+// What the call on the rule set answers; none where the line can't be read, or there is no memory.
+fn answer_on(alloc: Global, set: &RuleSet, call: &str, given: &str) -> Option<Vec<u8>> {
+    match call {
+        "covers" => covered(alloc, set, given),
+        "decreases" => lowered(alloc, set, given),
+        "runs" => ran(alloc, set, given),
+        _ => None,
+    }
 }
 
 impl Lines {
@@ -33,18 +44,8 @@ impl Lines {
         let (names, source) = given.split_once(" | ")?;
         match translation_of(alloc, names, source)? {
             Ok(translation) => self.keep(alloc, translation),
-            Err(TranslateEnd::Large) => large(alloc),
+            Err(TranslateEnd::Large) => word(alloc, b"large"),
             Err(_) => None,
-        }
-    }
-
-    // Whether these parts are those of a rule set, which is kept.
-    fn take_set(&mut self, alloc: Global, given: &str) -> Option<Vec<u8>> {
-        self.rules = None;
-        self.rules = RuleSet::from_parts(parts_of(alloc, given)?);
-        match self.rules {
-            Some(_) => word(alloc, b"yes"),
-            None => word(alloc, b"no"),
         }
     }
 
@@ -52,8 +53,7 @@ impl Lines {
     fn answer(&mut self, alloc: Global, call: &str, given: &str) -> Option<Vec<u8>> {
         match call {
             "rules" => self.take_rules(alloc, given),
-            "set" => self.take_set(alloc, given),
-            _ => search_calls::answer_to(alloc, self.rules.as_ref()?, call, given),
+            _ => answer_on(alloc, self.rules.as_ref()?, call, given),
         }
     }
 
@@ -62,6 +62,6 @@ impl Lines {
         let (call, rest) = line.split_once(" | ")?;
         let (given, wanted) = rest.rsplit_once(" | ").unwrap_or(("", rest));
         let found = self.answer(alloc, call, given)?;
-        Some(is_wanted(call, &found, wanted))
+        Some(found.as_slice() == wanted.as_bytes())
     }
 }

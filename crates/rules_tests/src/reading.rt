@@ -1,5 +1,4 @@
-//! What calls are given, from text: equations and rules in the notation of a log, and places.
-use rx_form::Side;
+//! Rules from text, in the notation of a log.
 use rx_term::{Equation, Rule};
 use rx_term_words::read_equation;
 use rx_text::skip_word;
@@ -11,24 +10,9 @@ fn equation_at(alloc: Global, text: &[u8], at: usize) -> Option<(Equation, usize
     read_equation(alloc, text, at).ok()?
 }
 
-/// The equation that the text is.
-pub fn equation(alloc: Global, text: &str) -> Option<Equation> {
-    let (equation, end) = equation_at(alloc, text.as_bytes(), 0)?;
-    if end == text.len() {
-        Some(equation)
-    } else {
-        None
-    }
-}
-
 fn rule_of(equation: Equation) -> Rule {
     let Equation { left, right, rows } = equation;
     Rule { left, right, rows }
-}
-
-/// The rule that the text is.
-pub fn rule(alloc: Global, text: &str) -> Option<Rule> {
-    Some(rule_of(equation(alloc, text)?))
 }
 
 // As many rules as are counted, from the place on, each after a space; and the place after them.
@@ -49,15 +33,4 @@ pub fn rules(alloc: Global, text: &str) -> Option<Vec<Rule>> {
     let (count, first) = read_number(text.as_bytes(), 0)?;
     let (rules, end) = rules_at(alloc, text.as_bytes(), first, count)?;
     if end == text.len() { Some(rules) } else { None }
-}
-
-/// A side of the goal, `l` or `r`, and how many frames are outside of the part that is meant.
-pub fn place(text: &str) -> Option<(Side, u32)> {
-    let (side, place) = text.split_once(' ')?;
-    let side = match side {
-        "l" => Side::Left,
-        "r" => Side::Right,
-        _ => return None,
-    };
-    Some((side, place.parse::<u32>().ok()?))
 }

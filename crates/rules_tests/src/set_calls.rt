@@ -1,12 +1,8 @@
-//! The rule set of two functions of a text, and the parts of one that are written out.
+//! The rule set of two functions of a text.
 ghost use Rattle.std.specs.Prelude.{◌≡◌, true, IfSome};
 ghost use Rattle.c_ast.specs.Scoped.{is_scoped};
 
-use crate::reading::rules;
-use crate::words::Words;
 use c_front::{Compared, Next, TwoFunctions, compared_functions};
-use rx_plain::Items;
-use rx_term::{RuleParts, SymInfo};
 use rx_translate::{TranslateEnd, Translation, rules_of};
 use std::alloc::Global;
 
@@ -39,29 +35,4 @@ pub fn translation_of(
         return None;
     }
     Some(rules_of(alloc, &two.program, two.first, two.second))
-}
-
-// The symbols that the text is.
-fn symbols_of(alloc: Global, text: &str) -> Option<Items<SymInfo>> {
-    let mut words = Words::new(alloc, text);
-    let symbols = words.symbols()?;
-    if words.is_done() { Some(symbols) } else { None }
-}
-
-// The parts with this greatest failure code.
-fn parts_with(alloc: Global, fails: u8, symbols: &str, listed: &str) -> Option<RuleParts> {
-    let symbols = symbols_of(alloc, symbols)?;
-    let rules = Items::from_vec(rules(alloc, listed)?);
-    Some(RuleParts {
-        symbols,
-        rules,
-        fails,
-    })
-}
-
-/// The greatest failure code, the symbols and the rules that the text is.
-pub fn parts_of(alloc: Global, given: &str) -> Option<RuleParts> {
-    let (fails, rest) = given.split_once(" | ")?;
-    let (symbols, listed) = rest.split_once(" | ")?;
-    parts_with(alloc, fails.parse::<u8>().ok()?, symbols, listed)
 }

@@ -1,12 +1,11 @@
-//! A text as words, one after the other: numbers, symbols, polynomials, certificates, trees, and
-//! lists after the number of their elements.
+//! A text as words, one after the other: numbers, polynomials, certificates, trees, and lists after
+//! the number of their elements.
 use rx_cert::Cert;
 use rx_cover::CoverTree;
 use rx_pairs::{PairCert, RankTable};
 use rx_plain::Items;
 use rx_poly::Poly;
-use rx_term::SymInfo;
-use rx_text::{read_natural, read_poly, skip_word};
+use rx_text::{read_poly, skip_word};
 use rx_tree_words::read_tree;
 use rx_words::{read_certs, read_number};
 use std::alloc::Global;
@@ -38,36 +37,11 @@ impl<'a> Words<'a> {
         }
     }
 
-    /// A number.
-    pub fn number(&mut self) -> Option<u32> {
+    // A number.
+    fn number(&mut self) -> Option<u32> {
         let (number, end) = read_number(self.text, self.next()?)?;
         self.at = end;
         Some(number)
-    }
-
-    // Whether the letter is here; what is next is after it then.
-    fn letter(&mut self, letter: &[u8]) -> bool {
-        if letter.is_empty() {
-            return false;
-        }
-        match skip_word(self.text, self.at, letter) {
-            Some(end) => {
-                self.at = end;
-                true
-            }
-            None => false,
-        }
-    }
-
-    fn symbol(&mut self) -> Option<SymInfo> {
-        let (arity, end) = read_natural(self.text, self.next()?, u32::MAX)?;
-        self.at = end;
-        Some(SymInfo {
-            arity,
-            frame: self.letter(b"f"),
-            entry: self.letter(b"e"),
-            head: self.letter(b"h"),
-        })
     }
 
     fn poly(&mut self) -> Option<Poly> {
@@ -111,16 +85,6 @@ impl<'a> Words<'a> {
             self.add_poly(&mut polys)?;
         }
         Some(polys)
-    }
-
-    /// Symbols, each as the number of its arguments and letters.
-    pub fn symbols(&mut self) -> Option<Items<SymInfo>> {
-        let count = self.number()?;
-        let mut symbols = Items::new(self.alloc);
-        for _ in 0..count {
-            symbols.push(self.symbol()?).ok()?;
-        }
-        Some(symbols)
     }
 
     fn add_trees(&mut self, lists: &mut Items<Items<CoverTree>>) -> Option<()> {

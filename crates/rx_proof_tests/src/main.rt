@@ -1,5 +1,5 @@
-//! One happy path, and a refusal or two, of the calls that compile trees, refute rows, apply steps,
-//! and check covers and ranks, with ample memory.
+//! One happy path, and a refusal or two, of the calls that refute rows, apply steps, and check
+//! covers and ranks, with ample memory.
 //!
 //! Each line of the standard input is a call, what it is given, and what it is to answer, with a
 //! semicolon and a space between them. What is given has the notation of a log; a list is its
@@ -8,32 +8,17 @@
 #![tactic(auto)]
 
 mod answer;
-mod code_cases;
 mod cover_calls;
 mod example;
-mod function_cases;
 mod pair_calls;
-mod programs;
 mod rank_calls;
 mod reading;
 mod solve_calls;
 mod state_cases;
-mod translation_cases;
 
 use answer::{Answer, is_meant, told};
 use std::alloc::Global;
 use std::io;
-
-// Whether the case that is given nothing is as it is to be; none where there is no memory.
-fn case(alloc: Global, of: &str, name: &str) -> Option<bool> {
-    match of {
-        "code" => code_cases::holds(alloc, name),
-        "function" => function_cases::holds(alloc, name),
-        "state" => state_cases::holds(alloc, name),
-        "translation" => translation_cases::holds(alloc, name),
-        _ => None,
-    }
-}
 
 // What the call answers; none where the line can't be read, or there is no memory.
 fn answer_to(alloc: Global, call: &str, first: &str, second: &str) -> Option<Answer> {
@@ -43,7 +28,8 @@ fn answer_to(alloc: Global, call: &str, first: &str, second: &str) -> Option<Ans
         "rank" => rank_calls::answer_to(alloc, name, first, second),
         "pair" => pair_calls::answer_to(alloc, name, first),
         "solve" => solve_calls::answer_to(alloc, name, first, second),
-        _ => told(case(alloc, of, name)?),
+        "state" => told(state_cases::holds(alloc, name)?),
+        _ => None,
     }
 }
 

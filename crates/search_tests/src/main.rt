@@ -55,18 +55,33 @@ fn holds(alloc: Global, set: &mut Option<RuleSet>, line: &str) -> Option<bool> {
     Some(begins_with_line(&found, wanted))
 }
 
+// How a line fares.
+enum Verdict {
+    Heading,
+    Holds,
+    Fails(&'static str),
+}
+
+fn judged(alloc: Global, set: &mut Option<RuleSet>, line: &str) -> Verdict {
+    if line.starts_with('#') {
+        return Verdict::Heading;
+    }
+    match holds(alloc, set, line) {
+        Some(true) => Verdict::Holds,
+        Some(false) => Verdict::Fails("differs"),
+        None => Verdict::Fails("unread"),
+    }
+}
+
 fn main(rt: HostRuntime) -> io::Result<()> {
     let mut set = None;
     let mut count = 0u64;
     for line in rt.lines(rt.alloc()) {
         let line = line?;
-        if line.as_str().starts_with("#") {
-            continue;
-        }
-        match holds(rt.alloc(), &mut set, line.as_str()) {
-            Some(true) => count = count.saturating_add(1),
-            Some(false) => println!(rt; "differs: {line}")?,
-            None => println!(rt; "unread: {line}")?,
+        match judged(rt.alloc(), &mut set, line.as_str()) {
+            Verdict::Heading => {}
+            Verdict::Holds => count = count.saturating_add(1),
+            Verdict::Fails(how) => println!(rt; "{how}: {line}")?,
         }
     }
     println!(rt; "{count} lines hold")

@@ -5,7 +5,7 @@ ghost use Rattle.rx_report.specs.Texts.{IsReportableVerdict};
 use crate::texts::{put_bytes, put_debug};
 use c_lex::LexEnd;
 use c_scope::ScopeEnd;
-use rx_cli::{Status, Verdict, report};
+use rx_report::{Status, Verdict, report};
 use std::alloc::Global;
 
 // A fault of the tokens, by its word.

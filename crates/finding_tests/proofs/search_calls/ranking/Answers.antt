@@ -1,7 +1,7 @@
 -- What the refuter answers is right.
 use Rattle.std.proofs.Common.{rules}
 use Rattle.rx_solve.proofs.Calls.{solver_by}
-use Rattle.rules_tests.proofs.search_calls.ranking.Goals as goal
+use Rattle.finding_tests.proofs.search_calls.ranking.Goals as goal
 
 pub find_ranks-requires-clause-solver : goal.find_ranks-requires-clause-solver
 find_ranks-requires-clause-solver c =

@@ -1,7 +1,7 @@
 -- One more fits; and then all do.
 use Rattle.std.proofs.Common.{refl}
-use Rattle.rules_tests.proofs.FittingLaws.{all_fit, more_fit}
-use Rattle.rules_tests.proofs.search_calls.have_fitting_sides.Goals as goal
+use Rattle.finding_tests.proofs.FittingLaws.{all_fit, more_fit}
+use Rattle.finding_tests.proofs.search_calls.have_fitting_sides.Goals as goal
 
 pub loop-rule-preserved : goal.loop-rule-preserved
 loop-rule-preserved c =

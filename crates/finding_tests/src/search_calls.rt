@@ -5,12 +5,10 @@ ghost use Rattle.std.specs.List.{All};
 ghost use Rattle.rx_pairs.specs.Pairs.{SidesFit};
 
 use crate::answer::{ended, nothing};
-use crate::log_calls::{covered, lowered};
 use crate::printing::{
     cover_text, lemma_text, lemmas_text, lowering_text, substitution_text, table_text,
 };
 use crate::reading::{equation, place, rule, rules};
-use crate::running::ran;
 use rx_coverable::find_cover;
 use rx_fm::FmEnd;
 use rx_generalise::lemmas;
@@ -94,13 +92,18 @@ fn use_at(alloc: Global, goal: &Equation, hypothesis: &Rule, at: &str) -> Option
     }
 }
 
+// What is found of uses in the goal of a hypothesis at a place.
+fn use_in(alloc: Global, goal: &Equation, given: &str) -> Option<Vec<u8>> {
+    let (hypothesis, at) = given.split_once(" | ")?;
+    let hypothesis = rule(alloc, hypothesis)?;
+    use_at(alloc, goal, &hypothesis, at)
+}
+
 // What is found of uses of a hypothesis at a place of a goal.
 fn use_of(alloc: Global, given: &str) -> Option<Vec<u8>> {
     let (goal, rest) = given.split_once(" | ")?;
-    let (hypothesis, at) = rest.split_once(" | ")?;
     let goal = equation(alloc, goal)?;
-    let hypothesis = rule(alloc, hypothesis)?;
-    use_at(alloc, &goal, &hypothesis, at)
+    use_in(alloc, &goal, rest)
 }
 
 // The goal with its constants named.
@@ -132,9 +135,6 @@ fn lemmas_of(alloc: Global, set: &RuleSet, goal: &str) -> Option<Vec<u8>> {
 pub fn answer_to(alloc: Global, set: &RuleSet, call: &str, given: &str) -> Option<Vec<u8>> {
     match call {
         "cover" => cover(alloc, set),
-        "covers" => covered(alloc, set, given),
-        "decreases" => lowered(alloc, set, given),
-        "runs" => ran(alloc, set, given),
         "ranks" => ranks(alloc, set, given),
         "lowers" => lowers(alloc, set, given),
         "use" => use_of(alloc, given),

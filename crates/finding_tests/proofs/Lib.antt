@@ -1,0 +1,2 @@
+-- What is known of hypotheses that fit.
+pub mod FittingLaws
