@@ -1,15 +1,20 @@
 //! Polynomials: normal forms, sums, products, orders, what is read from them, and what is
 //! substituted for variables.
-use crate::answer::{
-    Answer, compared, equal, formed, naturals, nothing, ordered, perhaps, told, written,
-};
-use crate::reading::integer_terms::integer_term;
-use crate::reading::lists::polys;
-use crate::reading::values::{poly, substitution};
-use crate::reading::words::{count, integer};
-use rx_poly::{Atom, Body, Mono, Poly, norm, uses, variable_bound, variables_of};
-use rx_poly_laws::uses_below;
+use crate::integer_terms::integer_term;
+use rx_norm::norm;
+use rx_poly::{Atom, Body, Mono, Poly, PolyEnd, variable_bound};
+use rx_poly_laws::{uses, uses_below, variables_of};
+use rx_tables::{ended, poly, polys, substitution, written_poly};
 use std::alloc::{AllocError, Global};
+use tables::{Answer, compared, count, equal, integer, integers, nothing, ordered, perhaps, told};
+
+// The polynomial, or why there is none.
+fn formed(alloc: Global, answer: Result<Poly, PolyEnd>) -> Option<Answer> {
+    match answer {
+        Ok(poly) => written_poly(alloc, &poly),
+        Err(end) => ended(end),
+    }
+}
 
 fn normal_form(alloc: Global, given: &str) -> Option<Answer> {
     let term = integer_term(alloc, given)?;
@@ -19,7 +24,7 @@ fn normal_form(alloc: Global, given: &str) -> Option<Answer> {
 // The polynomial, where there is memory for it.
 fn made(alloc: Global, poly: Result<Poly, AllocError>) -> Option<Answer> {
     match poly {
-        Ok(poly) => written(alloc, &poly),
+        Ok(poly) => written_poly(alloc, &poly),
         Err(_) => None,
     }
 }
@@ -27,7 +32,7 @@ fn made(alloc: Global, poly: Result<Poly, AllocError>) -> Option<Answer> {
 // The polynomial of a copy of the sum.
 fn of_copied_sum(alloc: Global, sum: &Body) -> Option<Answer> {
     let copy = sum.try_clone(alloc).ok()?;
-    written(alloc, &Poly::from_body(alloc, copy).ok()??)
+    written_poly(alloc, &Poly::from_body(alloc, copy).ok()??)
 }
 
 // What is read makes its sum a polynomial where it is a normal form, and else there is none.
@@ -41,7 +46,7 @@ fn from_body(alloc: Global, given: &str) -> Option<Answer> {
 // The variables in order, each as often as it occurs.
 fn variables(alloc: Global, poly: &Poly) -> Option<Answer> {
     let variables = variables_of(alloc, poly).ok()?;
-    naturals(alloc, variables.as_slice())
+    integers(alloc, variables.as_slice())
 }
 
 fn only_variable(poly: &Poly) -> Option<Answer> {

@@ -9,7 +9,8 @@ ghost use Rattle.rx_poly.specs.Limits.{body_sum, body_difference};
 ghost use Rattle.rx_poly.specs.Order.{mono_cmp};
 ghost use Rattle.rx_poly.specs.Terms.{is_zero};
 
-use rx_poly::{Mono, Poly, PolyEnd, uses};
+use rx_poly::{Mono, Poly, PolyEnd};
+use rx_poly_laws::uses;
 use rx_row::Row;
 use std::alloc::Global;
 

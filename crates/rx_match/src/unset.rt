@@ -7,7 +7,8 @@ ghost use Rattle.rx_match.specs.Settings.{is_set};
 ghost use Rattle.rx_match.specs.Variables.{polys_pass, rule_passes, term_passes};
 
 use crate::settings::is_set;
-use rx_poly::{Poly, variables_of};
+use rx_poly::Poly;
+use rx_poly_laws::variables_of;
 use rx_row::Row;
 use rx_term::{Rule, Term};
 use std::alloc::{AllocError, Global};

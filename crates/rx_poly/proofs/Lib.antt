@@ -17,8 +17,6 @@ pub mod Moving
 pub mod Multiples
 pub mod Nesting
 pub mod Neutral
-pub mod Nodes
-pub mod NormLaws
 pub mod Numbering
 pub mod OrderLemmas
 pub mod Pieces

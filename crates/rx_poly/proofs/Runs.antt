@@ -19,7 +19,7 @@ use Rattle.rx_plain.specs.Formed.{Formed, kept}
 use Rattle.rx_poly.specs.Normal.{is_normal, is_normal_mono, is_poly}
 use Rattle.rx_poly.specs.Order.{mono_cmp}
 use Rattle.rx_poly.specs.Signs.{with_sign}
-use Rattle.rx_poly.specs.Substitution.{replaced, plus_all, subst_mono, subst_body}
+use Rattle.rx_poly.specs.Substitution.{plus_formed, replaced, plus_all, subst_mono, subst_body}
 use Rattle.rx_poly.specs.Terms.{add_terms, all_keys, cons_nonzero, insert_by, insert_term, is_before, is_sparse_sorted, is_zero}
 use Rattle.rx_poly.specs.Variables.{mono_variables}
 use Rattle.rx_poly.proofs.Levels.{terms-of_terms, body_size_is, body_depth_is, small_parts}
@@ -29,7 +29,7 @@ use Rattle.rx_poly.proofs.Pieces.{all_parts}
 use Rattle.rx_poly.proofs.PolyLaws.{NormalTerms, combined_terms, poly_terms, poly_of_terms, size-of_terms, depth-of_terms, within_terms, normal_of_terms}
 use Rattle.rx_poly.proofs.Prefixes.{SmallTerms, terms-prefix}
 use Rattle.rx_poly.proofs.Same.{same_mono}
-use Rattle.rx_poly.proofs.Substituting.{Adding, well, term_in, plus_false, after_plus, no_plus, no_term, plus_begin}
+use Rattle.rx_poly.proofs.Substituting.{Adding, well, term_in, plus_false, after_term, no_sum, plus_begin}
 use Rattle.rx_poly.proofs.TermLaws.{Listed, listed_parts, listed_from, listed-add, all_keys-add, before_trans, add-left, add-right, add-both, put_cases, cons_nonzero-nonzero}
 use Rattle.rx_poly.proofs.Unchanged.{Stay, term_stays}
 use Rattle.rx_poly.specs.declared.body.Mono.{Mono}
@@ -528,19 +528,14 @@ module _ (ws : List (ℕ × Body)) {sum : Body} {whole : Formed Body} {rest afte
   opened : Left ws sum (t ∷ after) whole
   opened = subst (λ ts. Left ws sum ts whole) is l
 
-  pub no_first : (subst_mono ws t.0 t.1).within ≡ false → whole.within ≡ false
-  no_first = no_term ws (t ∷ after) 0 (omega arith) refl opened.adding
-
-  pub no_sum : {product : Body} → product ≡ (subst_mono ws t.0 t.1).form →
-      is_within (body_sum sum product) ≡ false → whole.within ≡ false
-  no_sum = no_plus ws (t ∷ after) 0 (omega arith) refl opened.adding
+  pub no_first : (plus_formed sum (subst_mono ws t.0 t.1)).within ≡ false → whole.within ≡ false
+  no_first = no_sum ws (t ∷ after) 0 (omega arith) refl opened.adding
 
   -- one term is added
-  pub after_first : {product next : Body} → product ≡ (subst_mono ws t.0 t.1).form →
-      (subst_mono ws t.0 t.1).within ≡ true → next ≡ body_sum sum product →
-      is_within (body_sum sum product) ≡ true → Left ws next after whole
-  after_first e f g k = record {
-    adding = after_plus ws (t ∷ after) 0 (omega arith) refl opened.adding e f g k;
+  pub after_first : {next : Body} → next ≡ (plus_formed sum (subst_mono ws t.0 t.1)).form →
+      (plus_formed sum (subst_mono ws t.0 t.1)).within ≡ true → Left ws next after whole
+  after_first e f = record {
+    adding = after_term ws (t ∷ after) 0 (omega arith) refl opened.adding e f;
     run = run_rest t after opened.run;
   }
 

@@ -2,21 +2,28 @@
 -- still makes the whole.
 use Rattle.std.proofs.Common.{◌≡◌, ◌∙◌, ap, subst, ℕ, suc, ◌+◌, ◌<◌, ◌≤◌, true, false, ◌&&◌, refl, sym, List, [], ◌∷◌, map, length, drop, get_or, drop_of_length-le, add-one, ℤ}
 use Rattle.std.proofs.Math.Seq.{drop-cons}
-use Rattle.std.proofs.lemmas.Bool.{and_left, and_right}
+use Rattle.std.proofs.lemmas.Bool.{and_left}
 use Rattle.rx_poly.specs.Constants.{number}
 use Rattle.rx_poly.specs.Division.{quotient_of, remainder_of}
 use Rattle.rx_poly.specs.Limits.{of_terms, body_sum, is_within}
-use Rattle.rx_plain.specs.Formed.{Formed}
+use Rattle.rx_plain.proofs.Forming.{then_false, then_true}
+use Rattle.rx_plain.specs.Formed.{Formed, ◌>>=◌}
 use Rattle.rx_poly.specs.Products.{body_product, mul_within}
-use Rattle.rx_poly.specs.Substitution.{replaced, times_all, plus_all, subst_atom, subst_mono, subst_body, atom_substituted, mono_substituted, body_substituted}
+use Rattle.rx_poly.specs.Substitution.{divided_formed, plus_formed, times_formed, replaced, times_all, plus_all, subst_atom, subst_mono, subst_body, atom_substituted, mono_substituted, body_substituted}
 use Rattle.rx_poly.specs.declared.body.Atom.{Atom, fold_out-Atom}
 use Rattle.rx_poly.specs.declared.body.Atom.TheVariants.{Var, Div, Mod, outs-Var, outs-Div, outs-Mod}
+use Rattle.rx_poly.specs.declared.division.Operator.TheVariants.{Quotient, Remainder}
 use Rattle.rx_poly.specs.declared.body.Mono.{Mono, out-Mono, fold_out-Mono}
 use Rattle.rx_poly.specs.declared.body.Body.{Body, out-Body, fold_out-Body}
 
 -- a polynomial that was formed within the limits
 abbrev pub well : Body → Formed Body
 well b = record { form = b; within = true }
+
+-- after a step that is made within the limits it is as the next one
+pub made_then : {A B : Type 0} {f : Formed A} {x : A} (g : A → Formed B) → x ≡ f.form → f.within ≡
+    true → g x ≡ (f >>= g)
+made_then {A} {B} {f} {x} g e h = ap g e ∙ sym (then_true f g h)
 
 -- ---- by parts
 
@@ -47,6 +54,33 @@ module _ (ws : List (ℕ × Body)) where
   in_Mod p q =
       fold_out-Atom (Formed Body) (Formed Body) (ℤ → Formed Body) (atom_substituted ws)
       (body_substituted ws) (mono_substituted ws) (Mod p q) ∙ rw (outs-Mod p q) refl
+
+  -- a dividend that is made leaves it to the divisor, and one beyond the limits decides
+  pub quotient_made : {x : Atom} {num : Body} (p q : Body) → x ≡ Div p q → num ≡
+      (subst_body ws p).form → (subst_body ws p).within ≡ true →
+      divided_formed Quotient num (subst_body ws q) ≡ subst_atom ws x
+  quotient_made p q is e h =
+      made_then (λ n. divided_formed Quotient n (subst_body ws q)) e h ∙ sym (in_Div p q) ∙
+      ap (subst_atom ws) (sym is)
+
+  pub remainder_made : {x : Atom} {num : Body} (p q : Body) → x ≡ Mod p q → num ≡
+      (subst_body ws p).form → (subst_body ws p).within ≡ true →
+      divided_formed Remainder num (subst_body ws q) ≡ subst_atom ws x
+  remainder_made p q is e h =
+      made_then (λ n. divided_formed Remainder n (subst_body ws q)) e h ∙ sym (in_Mod p q) ∙
+      ap (subst_atom ws) (sym is)
+
+  pub no_quotient : {x : Atom} (p q : Body) → x ≡ Div p q → (subst_body ws p).within ≡ false →
+      (subst_atom ws x).within ≡ false
+  no_quotient p q is h =
+      ap (λ y. (subst_atom ws y).within) is ∙ ap (λ (w : Formed Body). w.within) (in_Div p q) ∙
+      then_false (subst_body ws p) (λ n. divided_formed Quotient n (subst_body ws q)) h
+
+  pub no_remainder : {x : Atom} (p q : Body) → x ≡ Mod p q → (subst_body ws p).within ≡ false →
+      (subst_atom ws x).within ≡ false
+  no_remainder p q is h =
+      ap (λ y. (subst_atom ws y).within) is ∙ ap (λ (w : Formed Body). w.within) (in_Mod p q) ∙
+      then_false (subst_body ws p) (λ n. divided_formed Remainder n (subst_body ws q)) h
 
   pub in_mono_is : (m : Mono) (k : ℤ) → subst_mono ws m k ≡
       times_all (well (number k)) (map (subst_atom ws) (out-Mono m).atoms)
@@ -112,31 +146,17 @@ module _ (ws : List (ℕ × Body)) {product : Body} {whole : Formed Body} (xs : 
       (subst (λ rest. Multiplying ws product rest whole)
       (drop-cons xs i x h ∙ ap (λ y. y ∷ drop (suc i) xs) (sym is)) m).made
 
-  pub no_factor : next_atom.within ≡ false → whole.within ≡ false
-  no_factor f =
+  pub no_product : (times_formed product next_atom).within ≡ false → whole.within ≡ false
+  no_product f =
       ap (λ (w : Formed Body). w.within) (sym opened_atom) ∙
-      times_false (map (subst_atom ws) (drop (suc i) xs)) next_product
-      (and_left next_atom.within (mul_within product next_atom.form) f)
+      times_false (map (subst_atom ws) (drop (suc i) xs)) next_product f
 
-  pub no_times : {factor : Body} → factor ≡ next_atom.form → mul_within product factor ≡ false →
-      whole.within ≡ false
-  no_times e f =
-      ap (λ (w : Formed Body). w.within) (sym opened_atom) ∙
-      times_false (map (subst_atom ws) (drop (suc i) xs)) next_product
-      (and_right next_atom.within (mul_within product next_atom.form)
-      (ap (mul_within product) (sym e) ∙ f))
-
-  pub after_times : {factor next : Body} → factor ≡ next_atom.form → next_atom.within ≡ true →
-      next ≡ body_product product factor → mul_within product factor ≡ true →
-      Multiplying ws next (drop (i + 1) xs) whole
-  after_times {factor} {next} e f g k =
+  pub after_atom : {next : Body} → next ≡ (times_formed product next_atom).form →
+      (times_formed product next_atom).within ≡ true → Multiplying ws next (drop (i + 1) xs) whole
+  after_atom {next} e f =
       subst (λ n. Multiplying ws next (drop n xs) whole) (sym (add-one i)) (record {
         made =
-            (λ j. times_all (record {
-              form = (g ∙ ap (body_product product) e) j;
-              within =
-                  sym (λ l. f l && (ap (mul_within product) (sym e) ∙ k) l) j;
-            })
+            (λ j. times_all (record { form = e j; within = sym f j })
             (map (subst_atom ws) (drop (suc i) xs))) ∙ opened_atom;
       })
 
@@ -179,31 +199,17 @@ module _ (ws : List (ℕ × Body)) {sum : Body} {whole : Formed Body} (ts : List
       (subst (λ rest. Adding ws sum rest whole)
       (drop-cons ts i t h ∙ ap (λ u. u ∷ drop (suc i) ts) (sym is)) m).made
 
-  pub no_term : next_term.within ≡ false → whole.within ≡ false
-  no_term f =
+  pub no_sum : (plus_formed sum next_term).within ≡ false → whole.within ≡ false
+  no_sum f =
       ap (λ (w : Formed Body). w.within) (sym opened_term) ∙
-      plus_false (map (term_in ws) (drop (suc i) ts)) next_sum
-      (and_left next_term.within (is_within (body_sum sum next_term.form)) f)
+      plus_false (map (term_in ws) (drop (suc i) ts)) next_sum f
 
-  pub no_plus : {product : Body} → product ≡ next_term.form → is_within (body_sum sum product) ≡
-      false → whole.within ≡ false
-  no_plus e f =
-      ap (λ (w : Formed Body). w.within) (sym opened_term) ∙
-      plus_false (map (term_in ws) (drop (suc i) ts)) next_sum
-      (and_right next_term.within (is_within (body_sum sum next_term.form))
-      (ap (λ p. is_within (body_sum sum p)) (sym e) ∙ f))
-
-  pub after_plus : {product next : Body} → product ≡ next_term.form → next_term.within ≡ true →
-      next ≡ body_sum sum product → is_within (body_sum sum product) ≡ true →
-      Adding ws next (drop (i + 1) ts) whole
-  after_plus {product} {next} e f g k =
+  pub after_term : {next : Body} → next ≡ (plus_formed sum next_term).form →
+      (plus_formed sum next_term).within ≡ true → Adding ws next (drop (i + 1) ts) whole
+  after_term {next} e f =
       subst (λ n. Adding ws next (drop n ts) whole) (sym (add-one i)) (record {
         made =
-            (λ j. plus_all (record {
-              form = (g ∙ ap (body_sum sum) e) j;
-              within =
-                  sym (λ l. f l && (ap (λ p. is_within (body_sum sum p)) (sym e) ∙ k) l) j;
-            })
+            (λ j. plus_all (record { form = e j; within = sym f j })
             (map (term_in ws) (drop (suc i) ts))) ∙ opened_term;
       })
 

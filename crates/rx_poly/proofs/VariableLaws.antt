@@ -1,6 +1,6 @@
 -- The variables of atoms, monomials and sums, by those of their parts.
-use Rattle.std.proofs.Common.{◌≡◌, ◌∙◌, ap, ℕ, suc, ◌+◌, ◌<◌, ◌≤◌, ◌==◌, max, Bool, true, false, ◌&&◌, ◌||◌, refl, sym, List, [], ◌∷◌, ◌++◌, drop, get_or, length, drop_of_length-le, add-one, ℤ, arith}
-use Rattle.std.specs.Prelude.{nat_lt}
+use Rattle.std.proofs.Common.{◌≡◌, ◌∙◌, ◌↔◌, ap, ℕ, suc, ◌+◌, ◌<◌, ◌≤◌, ◌==◌, max, Bool, true, false, ◌&&◌, ◌||◌, refl, sym, List, [], ◌∷◌, ◌++◌, drop, get_or, length, drop_of_length-le, add-one, ℤ, arith}
+use Rattle.std.specs.Prelude.{nat_le, nat_lt}
 use Rattle.std.specs.List.{flat_map, list_all, list_any}
 use Rattle.rx_plain.proofs.Booleans.{and_true, or_false}
 use Rattle.rx_poly.specs.Limits.{greatest}
@@ -8,8 +8,9 @@ use Rattle.std.proofs.lemmas.List.{append-nil}
 use Rattle.std.proofs.lemmas.List.Folds.{list_all-append, list_any-append}
 use Rattle.std.proofs.Math.Nat.{zero-max}
 use Rattle.std.proofs.Math.Seq.{drop-cons}
-use Rattle.std.proofs.lemmas.Bool.{or_left}
-use Rattle.rx_poly.specs.Variables.{atom_variables_level, mono_variables_level, body_variables_level, atom_variables, mono_variables, variables, atom_uses_below, mono_uses_below, uses_below, is_one_of, atom_uses, mono_uses, uses, bound_of, atom_bound, mono_bound, variable_bound}
+use Rattle.std.proofs.lemmas.Bool.{and_from, and_parts, le-leb, leb-true, or_left}
+use Rattle.std.proofs.lemmas.Bool.Decides.{nat_tests, same_from_decides}
+use Rattle.rx_poly.specs.Variables.{all_below, atom_variables_level, mono_variables_level, body_variables_level, atom_variables, mono_variables, variables, atom_uses_below, mono_uses_below, uses_below, is_one_of, atom_uses, mono_uses, uses, bound_of, atom_bound, mono_bound, variable_bound}
 use Rattle.rx_poly.proofs.Pieces.{list_all-flat_map, flat_map-map}
 use Rattle.rx_poly.specs.declared.body.Atom.{fold_out-Atom}
 use Rattle.rx_poly.specs.declared.body.Atom.TheVariants.{Var, Div, Mod, outs-Var, outs-Div, outs-Mod}
@@ -204,3 +205,27 @@ pub greatest_end : {X : Type 0} (f : X → ℕ) (xs : List X) (i : ℕ) (so_far 
 greatest_end f xs i so_far {whole} h all =
     sym (max_zero so_far) ∙ ap (λ ys. max so_far (greatest f ys)) (sym (drop_of_length-le xs h)) ∙
     all
+
+-- ---- below the bound
+
+-- all are below a number exactly where it is at least the least number above them
+pub below_bound : (n : ℕ) (vs : List ℕ) → (all_below n vs ≡ true) ↔ (bound_of vs ≤ n)
+below_bound n [] = (λ h. omega arith, λ h. refl)
+below_bound n (v ∷ vs) =
+    let rest = below_bound n vs in (
+      λ h.
+          let p = and_parts (nat_lt v n) (all_below n vs) h in
+          let here : nat_lt v n ≡ true = p.0 in
+          let there : bound_of vs ≤ n = rest.0 p.1 in
+          grind (arith, nat_tests),
+      λ h.
+          let here : nat_lt v n ≡ true = grind (arith, nat_tests) in
+          let there : bound_of vs ≤ n = grind arith in
+          and_from (nat_lt v n) (all_below n vs) here (rest.1 there),
+    )
+
+-- so a comparison with the bound decides
+pub bound_decides : (n : ℕ) (p : Body) → nat_le (variable_bound p) n ≡ uses_below n p
+bound_decides n p =
+    same_from_decides (nat_le (variable_bound p) n) (uses_below n p)
+    (leb-true (variable_bound p) n, le-leb (variable_bound p) n) (below_bound n (variables p))

@@ -8,6 +8,8 @@ use Rattle.rx_poly.specs.Terms.{is_zero}
 use Rattle.rx_poly.specs.declared.body.Atom.{Atom}
 use Rattle.rx_poly.specs.declared.body.Atom.TheVariants.{Div, Mod}
 use Rattle.rx_poly.specs.declared.body.Body.{Body, out-Body}
+use Rattle.rx_poly.specs.declared.division.Operator.{Operator}
+use Rattle.rx_poly.specs.declared.division.Operator.TheVariants.{Quotient, Remainder}
 use Rattle.rx_poly.specs.declared.division.Parts.{Parts}
 use Rattle.rx_poly.specs.declared.division.Parts.TheVariants.{ByZero, Numbers, Open}
 
@@ -42,3 +44,8 @@ quotient_of p q = division int_div (atom_alone (Div p q)) (parts p q)
 -- the remainder that belongs to it
 abbrev pub remainder_of : Body → Body → Body
 remainder_of p q = division int_rem (atom_alone (Mod p q)) (parts p q)
+
+-- the one or the other
+abbrev pub divided : Operator → Body → Body → Body
+divided Quotient p q = quotient_of p q
+divided Remainder p q = remainder_of p q

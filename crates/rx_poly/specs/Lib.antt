@@ -13,5 +13,3 @@ pub mod Signs
 pub mod Constants
 pub mod Digest
 pub mod Division
-pub mod Norm
-pub mod Operations

@@ -2,7 +2,7 @@
 -- keeps the limits.
 use Rattle.std.specs.Prelude.{ℕ, ◌+◌, ◌==◌, if◌then◌else◌, List, [], ◌∷◌, ℤ}
 use Rattle.rx_poly.specs.Constants.{number, variable}
-use Rattle.rx_poly.specs.Division.{quotient_of, remainder_of}
+use Rattle.rx_poly.specs.Division.{divided, quotient_of, remainder_of}
 use Rattle.rx_poly.specs.Limits.{of_terms, body_sum, is_within}
 use Rattle.rx_plain.specs.Formed.{Formed, pure, kept, ◌>>=◌}
 use Rattle.rx_poly.specs.Products.{product_formed}
@@ -10,6 +10,7 @@ use Rattle.rx_poly.specs.Value.{value}
 use Rattle.rx_poly.specs.declared.body.Atom.{Atom, Atom-F, fold-Atom}
 use Rattle.rx_poly.specs.declared.body.Mono.{Mono, Mono-F, fold-Mono}
 use Rattle.rx_poly.specs.declared.body.Body.{Body, Body-F, fold-Body}
+use Rattle.rx_poly.specs.declared.division.Operator.{Operator}
 
 -- what is in place of a variable: the polynomial that is listed for it, else the variable
 abbrev pub replaced : List (ℕ × Body) → ℕ → Body
@@ -28,6 +29,24 @@ numbered ps = numbered_from 0 ps
 -- the values of the variables then
 abbrev pub updated_assignment : (ℕ → ℤ) → List (ℕ × Body) → ℕ → ℤ
 updated_assignment a ws n = value a (replaced ws n)
+
+-- a product, times a factor that is formed
+abbrev pub times_formed : Body → Formed Body → Formed Body
+times_formed p x = do
+  q ← x
+  product_formed p q
+
+-- a sum, plus a term that is formed
+abbrev pub plus_formed : Body → Formed Body → Formed Body
+plus_formed p t = do
+  q ← t
+  kept is_within (body_sum p q)
+
+-- a dividend, by a divisor that is formed
+abbrev pub divided_formed : Operator → Body → Formed Body → Formed Body
+divided_formed o p d = do
+  q ← d
+  kept is_within (divided o p q)
 
 -- a product, times each of the factors in order
 abbrev pub times_all : Formed Body → List (Formed Body) → Formed Body

@@ -1,7 +1,7 @@
 //! Quotients and remainders of polynomials.
 ghost use Rattle.std.specs.Prelude.{◌≡◌, true, false, int_div, int_rem, SomeIff};
 ghost use Rattle.rx_plain.specs.Formed.{Forms, kept};
-ghost use Rattle.rx_poly.specs.Division.{parts, quotient_of, remainder_of};
+ghost use Rattle.rx_poly.specs.Division.{divided, parts, quotient_of, remainder_of};
 ghost use Rattle.rx_poly.specs.Limits.{fits_i128, is_within};
 ghost use Rattle.rx_poly.specs.Terms.{is_zero};
 
@@ -19,6 +19,15 @@ pub(crate) enum Parts {
     Numbers(i128, i128),
     /// One of them is no number, and the divisor isn't the number 0.
     Open,
+}
+
+/// Which of its two results a division is to give.
+#[derive(Clone, Copy)]
+pub(crate) enum Operator {
+    /// The quotient, truncated toward zero.
+    Quotient,
+    /// The remainder that belongs to it.
+    Remainder,
 }
 
 /// What the two are to a division.
@@ -90,5 +99,20 @@ pub(crate) fn remainder(alloc: Global, num: &Poly, den: &Poly) -> Result<Poly, P
             let den = den.body().try_clone(alloc)?;
             of_atom(alloc, Atom::Mod(num, den))
         }
+    }
+}
+
+/// That result of a division of polynomials; Large exactly where it passes the limits.
+pub(crate) fn divided(
+    alloc: Global,
+    num: &Poly,
+    den: &Poly,
+    operator: Operator,
+) -> Result<Poly, PolyEnd>
+    ensures forms { Forms PolyEnd.Large result (kept is_within (divided operator num.now den.now)) }
+{
+    match operator {
+        Operator::Quotient => divide(alloc, num, den),
+        Operator::Remainder => remainder(alloc, num, den),
     }
 }

@@ -3,7 +3,7 @@ ghost use Rattle.std.specs.Prelude.{◌≡◌, [], ◌∷◌, true, false, map, 
 ghost use Rattle.std.specs.List.{prefix_len};
 ghost use Rattle.std.specs.Option.{option_copied};
 ghost use Rattle.rx_plain.specs.Formed.{Forms, kept, pure};
-ghost use Rattle.rx_poly.specs.Substitution.{subst_atom, subst_mono, subst_body, numbered, replaced, times_all, updated_assignment};
+ghost use Rattle.rx_poly.specs.Substitution.{divided_formed, plus_formed, times_formed, subst_atom, subst_mono, subst_body, numbered, replaced, times_all, updated_assignment};
 ghost use Rattle.rx_poly.specs.Constants.{variable};
 ghost use Rattle.rx_poly.specs.Limits.{is_within, scaled_by};
 ghost use Rattle.rx_poly.specs.Normal.{is_poly};
@@ -15,7 +15,7 @@ ghost use Rattle.rx_poly.specs.declared.body.Atom.TheVariants.{Var};
 ghost use Rattle.rx_poly.specs.declared.body.Mono.{Mono};
 
 use crate::body::{Atom, Body, Mono};
-use crate::division::{divide, remainder};
+use crate::division::{Operator, divided};
 use crate::poly::{
     Poly, of_multiple, of_number, of_variable, plus, plus_terms, times_number, zero,
 };
@@ -139,15 +139,29 @@ fn atom_with(alloc: Global, atom: &Atom, with: Replacements) -> Result<Poly, Pol
         Atom::Var(number) => Ok(in_place_of(alloc, *number, with)?),
         Atom::Div(num, den) => {
             let num = body_with(alloc, num, with)?;
-            let den = body_with(alloc, den, with)?;
-            divide(alloc, &num, &den)
+            divided_with(alloc, num, den, Operator::Quotient, with)
         }
         Atom::Mod(num, den) => {
             let num = body_with(alloc, num, with)?;
-            let den = body_with(alloc, den, with)?;
-            remainder(alloc, &num, &den)
+            divided_with(alloc, num, den, Operator::Remainder, with)
         }
     }
+}
+
+/// The polynomial divided by the sum with its variables replaced.
+#[cycle(substituted)]
+fn divided_with(
+    alloc: Global,
+    num: Poly,
+    den: &Body,
+    operator: Operator,
+    with: Replacements,
+) -> Result<Poly, PolyEnd>
+    ensures forms { Forms PolyEnd.Large result
+        (divided_formed operator num (subst_body (replacements with.entry) den.now)) }
+{
+    let den = body_with(alloc, den, with)?;
+    divided(alloc, &num, &den, operator)
 }
 
 /// The product of the two; the second is moved where the first is 1.
@@ -163,6 +177,21 @@ fn times(alloc: Global, product: Poly, factor: Poly) -> Result<Poly, PolyEnd>
     product.mul(alloc, &factor)
 }
 
+/// The product, times the atom with its variables replaced.
+#[cycle(substituted)]
+fn times_atom(
+    alloc: Global,
+    product: Poly,
+    atom: &Atom,
+    with: Replacements,
+) -> Result<Poly, PolyEnd>
+    ensures forms { Forms PolyEnd.Large result
+        (times_formed product (subst_atom (replacements with.entry) atom.now)) }
+{
+    let factor = atom_with(alloc, atom, with)?;
+    times(alloc, product, factor)
+}
+
 /// The product, times each of the atoms with its variables replaced, in order.
 #[cycle(substituted)]
 fn times_atoms(
@@ -176,8 +205,7 @@ fn times_atoms(
 {
     let mut product = start;
     for atom in atoms {
-        let factor = atom_with(alloc, atom, with)?;
-        product = times(alloc, product, factor)?;
+        product = times_atom(alloc, product, atom, with)?;
     }
     Ok(product)
 }
@@ -247,6 +275,22 @@ fn mono_with(alloc: Global, mono: &Mono, by: &i128, with: Replacements) -> Resul
     product_with(alloc, mono, by, with)
 }
 
+/// The sum, plus the number times the monomial with its variables replaced.
+#[cycle(substituted)]
+fn plus_mono(
+    alloc: Global,
+    sum: Poly,
+    mono: &Mono,
+    by: &i128,
+    with: Replacements,
+) -> Result<Poly, PolyEnd>
+    ensures forms { Forms PolyEnd.Large result
+        (plus_formed sum (subst_mono (replacements with.entry) mono.now by.now)) }
+{
+    let product = mono_with(alloc, mono, by, with)?;
+    plus(alloc, sum, product)
+}
+
 /// The sum with its variables replaced.
 #[cycle(substituted)]
 fn body_with(alloc: Global, body: &Body, with: Replacements) -> Result<Poly, PolyEnd>
@@ -255,8 +299,7 @@ fn body_with(alloc: Global, body: &Body, with: Replacements) -> Result<Poly, Pol
     let start = zero(alloc)?;
     let mut sum = start;
     for term in body.terms.as_slice() {
-        let product = mono_with(alloc, &term.0, &term.1, with)?;
-        sum = plus(alloc, sum, product)?;
+        sum = plus_mono(alloc, sum, &term.0, &term.1, with)?;
     }
     Ok(sum)
 }
@@ -290,8 +333,7 @@ fn sum_with(alloc: Global, poly: &Poly, with: Replacements) -> Result<Poly, Poly
             sum = plus_terms(alloc, &sum, run)?;
             rest = others;
         } else {
-            let product = mono_with(alloc, &term.0, &term.1, with)?;
-            sum = plus(alloc, sum, product)?;
+            sum = plus_mono(alloc, sum, &term.0, &term.1, with)?;
             rest = after;
         }
     }

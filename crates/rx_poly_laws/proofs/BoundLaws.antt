@@ -1,28 +1,13 @@
 -- Which variables are used, and the least number above all of them.
 use Rattle.std.proofs.Common.{◌≡◌, ◌↔◌, refl, ℕ, zero, suc, ◌<◌, ◌≤◌, ◌==◌, Bool, true, false, ◌||◌, List, [], ◌∷◌, length, get_or, Contains, arith}
-use Rattle.std.specs.Prelude.{nat_lt}
-use Rattle.std.proofs.lemmas.Bool.{and_from, and_parts, or_left, or_right}
+use Rattle.std.proofs.lemmas.Bool.{or_left, or_right}
 use Rattle.std.proofs.lemmas.Bool.Decides.{nat_tests}
 use Rattle.std.proofs.lemmas.List.Elements.{Contains-append_right}
-use Rattle.rx_poly.specs.Variables.{all_below, bound_of, is_one_of, uses, uses_below, variable_bound, variables}
+use Rattle.rx_poly.proofs.VariableLaws.{below_bound}
+use Rattle.rx_poly.specs.Variables.{is_one_of, uses, uses_below, variable_bound, variables}
 use Rattle.rx_poly.specs.declared.body.Body.{Body}
 
--- all are below a number exactly where it is at least the least number above them
-pub below_bound : (n : ℕ) (vs : List ℕ) → (all_below n vs ≡ true) ↔ (bound_of vs ≤ n)
-below_bound n [] = (λ h. omega arith, λ h. refl)
-below_bound n (v ∷ vs) =
-    let rest = below_bound n vs in (
-      λ h.
-          let p = and_parts (nat_lt v n) (all_below n vs) h in
-          let here : nat_lt v n ≡ true = p.0 in
-          let there : bound_of vs ≤ n = rest.0 p.1 in
-          grind (arith, nat_tests),
-      λ h.
-          let here : nat_lt v n ≡ true = grind (arith, nat_tests) in
-          let there : bound_of vs ≤ n = grind arith in
-          and_from (nat_lt v n) (all_below n vs) here (rest.1 there),
-    )
-
+-- all variables are below a number exactly where it is at least the least number above them
 pub below_the_bound : (n : ℕ) (p : Body) → (uses_below n p ≡ true) ↔ (variable_bound p ≤ n)
 below_the_bound n p = below_bound n (variables p)
 

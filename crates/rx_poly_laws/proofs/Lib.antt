@@ -5,6 +5,5 @@ pub mod InnerLaws
 pub mod Locality
 pub mod TestLaws
 pub mod InstanceVariables
-pub mod NormVariables
 pub mod SameInstance
 pub mod SumCoefficients

@@ -4,17 +4,15 @@ ghost use Rattle.rx_poly.specs.Normal.{is_poly};
 ghost use Rattle.rx_poly.specs.Constants.{number, variable};
 ghost use Rattle.rx_poly.specs.Division.{quotient_of, remainder_of};
 ghost use Rattle.rx_poly.specs.Limits.{body_sum, is_within, scaled_by, body_difference};
-ghost use Rattle.rx_poly.specs.Norm.{norm_of};
 ghost use Rattle.rx_poly.specs.Products.{body_product};
 ghost use Rattle.rx_poly.specs.Reading.{coefficient};
 ghost use Rattle.rx_poly.specs.Substitution.{subst_body, replaced};
 ghost use Rattle.rx_poly.specs.Value.{value};
 ghost use Rattle.rx_poly.specs.declared.body.Body.{Body, out-Body};
 ghost use Rattle.rx_poly.specs.declared.body.Mono.{Mono};
-ghost use Rattle.rx_poly.specs.declared.iterm.ITerm.{ITerm};
 ghost use Rattle.rx_poly_laws.specs.Inner.{inner};
 ghost use Rattle.rx_poly.specs.Variables.{uses, uses_below, variable_bound, variables};
-ghost use Rattle.rx_poly_laws.specs.Tests.{passes, term_passes};
+ghost use Rattle.rx_poly_laws.specs.Tests.{passes};
 
 /// A polynomial is determined by its coefficients: two of them in which each monomial has one
 /// coefficient are the same.
@@ -71,8 +69,6 @@ pub fn results_have_the_variables_of_their_parts()
     ensures remainder { (test : ℕ → Bool) (p q : Body) → passes test p ≡ true → passes test q ≡
         true →
         passes test (remainder_of p q) ≡ true }
-    ensures norm { (test : ℕ → Bool) (t : ITerm) → term_passes test t ≡ true →
-        passes test (norm_of t) ≡ true }
 {}
 
 /// An instance has no variables but those of the polynomials that its variables are replaced by.

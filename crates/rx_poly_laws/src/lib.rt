@@ -1,10 +1,12 @@
-//! Laws of polynomials in normal form, which the crates above rest on.
+//! The variables of polynomials, and laws of normal forms, which the crates above rest on.
 //!
-//! What a reader may rely on: every function has an empty body, and its contract is a law of all
-//! polynomials. The lemmas of `proofs/` are the same laws for the proofs of the crates above.
+//! What a reader may rely on: `uses` and `variables_of` see the variables at every level. Every
+//! other function has an empty body, and its contract is a law of all polynomials. The lemmas of
+//! `proofs/` are the same laws for the proofs of the crates above.
 #![tactic(auto)]
 
 mod laws;
+mod variables;
 
 pub use laws::{
     a_polynomial_minus_itself_is_zero, a_used_variable_is_one_of_them,
@@ -15,3 +17,4 @@ pub use laws::{
     unchanged_variables_keep_the_polynomial, variables_alone_decide_the_value,
 };
 pub use rx_poly::uses_below;
+pub use variables::{uses, variables_of};

@@ -10,7 +10,8 @@ ghost use Rattle.rx_poly.specs.declared.body.Mono.{out-Mono};
 ghost use Rattle.rx_solve.specs.Pivots.{first_pivot, is_opposite_row, least_solvable, opposite_from, pivot_at, value_said};
 
 use rx_cert::are_opposites;
-use rx_poly::{Atom, Mono, Poly, PolyEnd, uses};
+use rx_poly::{Atom, Mono, Poly, PolyEnd};
+use rx_poly_laws::uses;
 use rx_row::Row;
 use std::alloc::{AllocError, Global};
 

@@ -8,7 +8,7 @@ use Rattle.rx_poly.specs.Replacements.{replacements, mono_stays}
 use Rattle.rx_poly.specs.Variables.{mono_variables}
 use Rattle.rx_poly.specs.declared.body.Mono.{Mono}
 use Rattle.rx_poly.specs.declared.body.Body.{out-Body}
-use Rattle.rx_poly.proofs.Runs.{after_first, after_run, begin, no_first, no_run, no_sum, run_prefix, run_sum, Run}
+use Rattle.rx_poly.proofs.Runs.{after_first, after_run, begin, no_first, no_run, run_prefix, run_sum, Run}
 use Rattle.rx_poly.proofs.Staying.{front_stays}
 use Rattle.rx_poly.proofs.substitution.sum_with.Goals as goal
 
@@ -53,26 +53,16 @@ loop-term-preserved-then-fit_together c =
     (leb-true _ 4096 (sym c.fit_together.ensures ∙ c.if-fit_together.true)))
     c.in_ok-sum.ensures.forms.0 c.in_ok-sum.ensures.forms.1
 
-pub returns-in_err-product : goal.returns-in_err-product
-returns-in_err-product c =
-    let p = err_from_is_err_and c.from_residual-in_err-product.result
-    c.from_residual-in_err-product.ensures.1 in
-    rw (p.1, p.2) (record {
-      forms = λ h. no_first (replacements c.args.with) c.in-Some.ensures.cases.0
-          c.loop-term.invariant (c.in_err-product.ensures.forms h);
-    })
-
 pub returns-in_err-sum-2 : goal.returns-in_err-sum-2
 returns-in_err-sum-2 c =
     let p = err_from_is_err_and c.from_residual-in_err-sum-2.result
     c.from_residual-in_err-sum-2.ensures.1 in
     rw (p.1, p.2) (record {
-      forms = λ h. no_sum (replacements c.args.with) c.in-Some.ensures.cases.0
-          c.loop-term.invariant c.in_ok-product.ensures.forms.0 (c.in_err-sum-2.ensures.forms h);
+      forms = λ h. no_first (replacements c.args.with) c.in-Some.ensures.cases.0
+          c.loop-term.invariant (c.in_err-sum-2.ensures.forms h);
     })
 
 pub loop-term-preserved : goal.loop-term-preserved
 loop-term-preserved c =
     after_first (replacements c.args.with) c.in-Some.ensures.cases.0 c.loop-term.invariant
-    c.in_ok-product.ensures.forms.0 c.in_ok-product.ensures.forms.1
     c.in_ok-sum-2.ensures.forms.0 c.in_ok-sum-2.ensures.forms.1

@@ -1,4 +1,3 @@
-use Rattle.rx_poly_laws.proofs.NormVariables.{norm_passes}
 use Rattle.rx_poly_laws.proofs.TestLaws.{passes-number, passes-variable, passes-body_sum, passes-body_difference, passes-scaled_by, passes-body_product, passes-quotient_of, passes-remainder_of}
 use Rattle.rx_poly_laws.proofs.laws.results_have_the_variables_of_their_parts.Goals as goal
 
@@ -25,6 +24,3 @@ returns-clause-quotient c = passes-quotient_of
 
 pub returns-clause-remainder : goal.returns-clause-remainder
 returns-clause-remainder c = passes-remainder_of
-
-pub returns-clause-norm : goal.returns-clause-norm
-returns-clause-norm c = norm_passes

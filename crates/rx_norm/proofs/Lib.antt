@@ -1,0 +1,4 @@
+-- Lemmas on the definitions of specs/.
+pub mod Nodes
+pub mod NormLaws
+pub mod NormVariables
