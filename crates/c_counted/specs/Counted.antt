@@ -3,7 +3,6 @@
 -- after a part goes on to the next. Numbers as 6.9.1 are sections of ISO/IEC 9899:1999.
 use Rattle.std.specs.Prelude.{ℕ, zero, suc, Option, None, Some, List, map, slice_get, ℤ, pos}
 use Rattle.c_ast.specs.declared.expr.Expr.{Expr}
-use Rattle.c_ast.specs.declared.stmt.Stmt.{Stmt}
 use Rattle.c_ast.specs.declared.program.Function.{Function}
 use Rattle.c_ast.specs.declared.program.Resolved.{Resolved}
 use Rattle.c_meaning.specs.Outcomes.{State, Flow, Next, Break, Continue, Return}
@@ -44,10 +43,6 @@ counted program left f arguments = nested_calls program left left f arguments
 -- what an expression leads to, with this number of rounds left before it, in a state
 abbrev pub counted_expr : Resolved → Expr → ℕ → State → Run ℤ
 counted_expr program = expr (counted program)
-
--- what a statement leads to, with this number of rounds left before it, from a state
-abbrev pub counted_stmt : Resolved → Stmt → ℕ → State → Run Flow
-counted_stmt program = stmt (counted program)
 
 -- the outcome of a whole run, in which it no longer matters what is left
 abbrev pub outcome_of : Run ℤ → Outcome

@@ -1,5 +1,5 @@
 //! Names of a precondition, which are those of parameters.
-ghost use Rattle.std.specs.Prelude.{◌≡◌, ◌<◌, ◌^◌, length, IfErr};
+ghost use Rattle.std.specs.Prelude.{◌<◌, ◌^◌, length, IfErr};
 ghost use Rattle.c_names.specs.Spellings.{IsWithin};
 ghost use Rattle.c_lookup.specs.Preconditions.{param_of, resolved_pre, IsUnknownOrMemory};
 ghost use Rattle.c_lookup.specs.Expressions.{ok_or_unknown};

@@ -9,7 +9,6 @@ ghost use Rattle.c_code.specs.Flat.{Back, IsCode, Rest, between, inner_run, kept
 ghost use Rattle.c_machine.specs.Machines.{Falls, Sinks, Steps, back_to, machine_run};
 ghost use Rattle.c_machine.specs.Preconditions.{precondition_at};
 ghost use Rattle.c_counted.specs.Runs.{Run, on_value};
-ghost use Rattle.c_code.specs.Stores.{Kept};
 ghost use Rattle.c_code.specs.declared.code.Op.{Op};
 ghost use Rattle.c_code.specs.declared.code.Op.TheVariants as op;
 ghost use Rattle.c_code.specs.declared.code.Leaf.TheVariants as leaf;
