@@ -1,9 +1,4 @@
-//! A lemma as data.
-
-use rx_cert::Cert;
-use rx_plain::Items;
-use rx_poly::Poly;
-use rx_term::Equation;
+//! How lemmas are made of goals, and the number at which their variables end.
 
 /// No new variable of a lemma has this number or one above.
 pub const VARIABLES_END: u64 = 1_000_000;
@@ -18,17 +13,4 @@ pub enum LemmaKind {
     /// Polynomials that occur repeatedly become variables, and the rows that give a variable its
     /// value are dropped.
     ReplaceRepeated,
-}
-
-/// An equation of which a goal is an instance, and why it is one.
-#[derive(Drop)]
-pub struct Lemma {
-    /// How it is made of the goal.
-    pub kind: LemmaKind,
-    /// The equation.
-    pub goal: Equation,
-    /// What makes it into the goal, rising by the numbers of the variables.
-    pub subst: Items<(u32, Poly)>,
-    /// For the equal polynomials of the left sides, of the right sides, and for its rows.
-    pub certs: Items<Cert>,
 }

@@ -8,4 +8,4 @@ mod lemma;
 
 pub use calls::{Call, call_of};
 pub use generalised::Generalised;
-pub use lemma::{Lemma, LemmaKind, VARIABLES_END};
+pub use lemma::{LemmaKind, VARIABLES_END};

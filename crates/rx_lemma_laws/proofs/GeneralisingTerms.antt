@@ -24,7 +24,7 @@ use Rattle.rx_lemma.specs.Calls.{Applied, call_of}
 use Rattle.rx_generalise.specs.Repeated.{new_variables, replaced_by, replaced_in, replaced_level}
 use Rattle.rx_lemma_laws.proofs.Common.{AreInstances, Nothing, OneMore, instances_together, is_instance}
 use Rattle.rx_lemma_laws.proofs.Polynomials.{are_polys, stays_itself}
-use Rattle.rx_lemma_laws.proofs.Terms.{call-Return, call-Fail, call-Call, call-Frame}
+use Rattle.rx_lemma.proofs.CallLaws.{call-Return, call-Fail, call-Call, call-Frame}
 use Rattle.rx_lemma_laws.proofs.GeneralisingVariables.{all_replaced_below, replace_new_ones, replaced_instances}
 
 -- ---- by their form

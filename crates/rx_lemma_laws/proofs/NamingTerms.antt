@@ -13,7 +13,7 @@ use Rattle.rx_term.specs.declared.term.Term.{Term}
 use Rattle.rx_term.specs.declared.term.Term.TheVariants.{Call, Frame}
 use Rattle.rx_term.proofs.Equations.{induct, arguments-Call, arguments-Frame, fits-Call, fits-Frame, redex-Call, redex-Frame, replace_at-Frame}
 use Rattle.rx_lemma.specs.Calls.{Applied, call_of}
-use Rattle.rx_lemma_laws.proofs.Terms.{call-Return, call-Fail, call-Call, call-Frame}
+use Rattle.rx_lemma.proofs.CallLaws.{call-Return, call-Fail, call-Call, call-Frame}
 
 no_call : (c : Applied) → ◌≡◌ {A = Option Applied} None (Some c) → ⊥
 no_call c e = cc

@@ -36,7 +36,7 @@ pub struct GoalMemo<V> {
 
 impl<V> Model for GoalMemo<V> {
     ghost use Rattle.std.specs.Prelude.{List};
-    ghost use Rattle.std.specs.Coded.{codes, coded_list};
+    ghost use Rattle.std.specs.Coded.{codes};
     ghost use Rattle.rx_memo.specs.Buckets.{all_kept};
     ghost use Rattle.rx_term.specs.contracts.rule.Equation as equation_row;
     ghost use Rattle.rx_memo.specs.declared.goal_memo.Kept.{Kept};

@@ -15,35 +15,19 @@ use Rattle.rx_term.specs.declared.rule.Equation.{Equation}
 use Rattle.rx_term.specs.declared.rule_set.RuleParts.{RuleParts}
 use Rattle.rx_term.specs.declared.term.Sym.{Sym}
 use Rattle.rx_term.specs.declared.term.Term.{Term}
-use Rattle.rx_term.specs.declared.term.Term.TheFolds.{fold_out-Term}
-use Rattle.rx_term.specs.declared.term.Term.TheVariants.{Return, Fail, Call, Frame, outs-Return, outs-Fail, outs-Call, outs-Frame}
+use Rattle.rx_term.specs.declared.term.Term.TheVariants.{Call, Frame}
 use Rattle.rx_term.proofs.Equations.{induct, redex-Call, redex-Frame, replace_at-Frame, shape-Call, shape-Frame}
 use Rattle.rx_form.specs.Pieces.{side_of, other_side}
 use Rattle.rx_form.specs.declared.step.Side.{Side}
 use Rattle.rx_form.specs.declared.step.Side.TheVariants.{Left, Right}
-use Rattle.rx_lemma.specs.Calls.{Applied, call_level, call_of}
+use Rattle.rx_lemma.proofs.CallLaws.{call-Return, call-Fail, call-Call, call-Frame}
+use Rattle.rx_lemma.specs.Calls.{Applied, call_of}
 use Rattle.rx_naming.specs.Calls.{constant_at, variable_at, with_variable, with_variable_in}
 use Rattle.rx_naming.specs.Naming.{gives, goal_with, named_arguments, named_as, named_goal, named_new, naming_at, naming_both, naming_by, naming_constant, naming_from, naming_if, naming_new, naming_of, has_constant}
 use Rattle.rx_lemma.specs.Lemmas.{variables_end}
 use Rattle.rx_naming.specs.Shapes.{HasShapesOf, NamingKeepsShapes}
 use Rattle.rx_naming.specs.declared.constants.Naming.{Naming}
 use Rattle.rx_lemma.specs.Lemmas.{Generalisation}
-
--- ---- the call of a term
-
-call-Return : (p : Body) → call_of (Return p) ≡ None
-call-Return p = fold_out-Term (Option Applied) call_level (Return p) ∙ rw (outs-Return p) refl
-
-call-Fail : (c : ℕ) → call_of (Fail c) ≡ None
-call-Fail c = fold_out-Term (Option Applied) call_level (Fail c) ∙ rw (outs-Fail c) refl
-
-call-Call : (f : Sym) (ps : List Body) → call_of (Call f ps) ≡
-    Some (record { symbol = f; arguments = ps })
-call-Call f ps = fold_out-Term (Option Applied) call_level (Call f ps) ∙ rw (outs-Call f ps) refl
-
-call-Frame : (f : Sym) (ps : List Body) (t : Term) → call_of (Frame f ps t) ≡ call_of t
-call-Frame f ps t =
-    fold_out-Term (Option Applied) call_level (Frame f ps t) ∙ rw (outs-Frame f ps t) refl
 
 no_call : (c : Applied) → ◌≡◌ {A = Option Applied} None (Some c) → ⊥
 no_call c e = cc

@@ -1,5 +1,5 @@
--- Nodes as calls have them, whose steps have certificates: what is seen of them, and where a step or
--- a choice leads.
+-- Nodes as calls have them, whose steps have certificates: what is seen of them, and where a step
+-- or a choice leads.
 use Rattle.std.specs.Prelude.{◌==◌, ◌||◌, if◌then◌else◌, ℕ, Bool, Option, Some, None, List, [], ◌∷◌, ◌++◌, map, slice_get}
 use Rattle.rx_term.specs.declared.rule.Equation.{Equation}
 use Rattle.rx_form.specs.States.{State}

@@ -22,7 +22,7 @@ abbrev pub start : Equation → ℕ → Node
 start goal left =
     record { moves = []; state = record { goals = goal ∷ []; hypotheses = [] }; left = left }
 
--- one more move, after which nothing is settled yet
+-- one more move, after which nothing is settled yet, and settling may take so many moves
 abbrev pub node_with : ℕ → Node → Next → Node
 node_with left node next =
     record { moves = node.moves ++ next.move ∷ []; state = next.state; left = left }

@@ -2,7 +2,7 @@
 //! comes of one that was tried.
 //!
 //! What a reader may rely on: `find_candidates` gives exactly the choices of the definition in
-//! `specs/Candidates`, and a node that a choice leads to is exactly what `specs/Nodes` says.
+//! `specs/Candidates`, and a node that a choice leads to is exactly what `specs/Calls` says.
 #![tactic(auto)]
 
 mod candidates;
