@@ -1,10 +1,8 @@
 //! ctrl shows that two C functions compute the same for all integers.
 #![tactic(auto)]
 
-mod adapters;
-
-use adapters::{SystemFiles, SystemOutput};
 use rx_cli::{Status, run};
+use rx_system::{SystemFiles, SystemOutput};
 use std::env;
 use std::io::ErrorKind;
 use std::process::ExitCode;
