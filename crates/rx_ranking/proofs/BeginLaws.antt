@@ -15,8 +15,9 @@ use Rattle.rx_solve.specs.Bounds.{most_deep}
 use Rattle.rx_pairs.specs.declared.pair.Pair.{Pair}
 use Rattle.rx_pairs.specs.declared.pair_cert.PairCert.{PairCert}
 use Rattle.rx_ranking.specs.Rounds.{IsBegun}
-use Rattle.rx_ranking.specs.Tables.{IsOpenBy, IsSplit, columns_in, has_number, pairs_open}
-use Rattle.rx_ranking.specs.declared.open_pair.OpenPair.{OpenPair}
+use Rattle.rx_ranking.specs.Tables.{IsOpenBy, IsSplit, has_number, pairs_open}
+use Rattle.rx_columns.specs.Columns.{columns_in}
+use Rattle.rx_columns.specs.declared.open_pair.OpenPair.{OpenPair}
 use Rattle.rx_ranking.specs.declared.progress.Progress.{Progress}
 
 -- the pairs, numbered from that number on

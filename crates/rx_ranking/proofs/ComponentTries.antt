@@ -11,14 +11,13 @@ use Rattle.rx_anchors.specs.Members.{is_member, symbols_of}
 use Rattle.rx_rank.specs.Components.{names_of, pairs_in}
 use Rattle.rx_rank.specs.Ranking.{polynomials, tried_in, unless_empty}
 use Rattle.rx_rank.specs.Tries.{all_made}
-use Rattle.rx_ranking.specs.Groups.{by_component, entries_in, groups_in, tries_from, ungrouped}
+use Rattle.rx_columns.specs.Groups.{by_component, entries_in, groups_in, ungrouped}
+use Rattle.rx_ranking.specs.Joined.{tries_from}
 use Rattle.rx_ranking.specs.Tables.{pairs_open}
-use Rattle.rx_ranking.specs.declared.open_pair.OpenPair.{OpenPair}
+use Rattle.rx_columns.proofs.Grouping.{items_of}
+use Rattle.rx_columns.specs.declared.open_pair.OpenPair.{OpenPair}
 
 -- ---- groups in memory
-
-abbrev pub items_of : Vec OpenPair Global → List OpenPair
-items_of v = v.items
 
 module _ (groups : List (Vec OpenPair Global)) (i : ℕ) (group : Vec OpenPair Global)
     (there : i < length groups) (is : group ≡ get_or groups i group) where

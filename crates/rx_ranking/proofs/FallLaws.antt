@@ -16,43 +16,18 @@ use Rattle.rx_pairs.specs.declared.pair.Pair.{Pair}
 use Rattle.rx_pairs.specs.declared.pair_cert.PairCert.{PairCert}
 use Rattle.rx_rank.specs.Answers.{IsDecided, IsFallen, IsHeld, IsProved, still_open}
 use Rattle.rx_anchors.specs.Values.{polynomial_of}
-use Rattle.rx_ranking.proofs.ClosingLaws.{close_both}
 use Rattle.rx_ranking.proofs.GrowthLaws.{count_pushed, lawful_pushed, split_pushed}
 use Rattle.rx_ranking.proofs.SplitLaws.{IsClosing, split_more}
 use Rattle.rx_ranking.proofs.TableLaws.{fallen_column, held_column}
-use Rattle.rx_ranking.specs.Closing.{Fitted, close_all, fallen, fitted, left_open, with_certs}
+use Rattle.rx_columns.specs.Closing.{close_all, fallen, fitted, left_open, with_certs}
 use Rattle.rx_ranking.specs.Fits.{AreFits}
 use Rattle.rx_ranking.specs.Rounds.{IsGrown}
-use Rattle.rx_ranking.specs.Tables.{Column, IsOpenBy, IsSplit, columns_in, has_number, pairs_open, value_at}
+use Rattle.rx_columns.specs.Columns.{Column, columns_in, value_at}
+use Rattle.rx_ranking.specs.Tables.{IsOpenBy, IsSplit, has_number, pairs_open}
 use Rattle.rx_ranking.specs.declared.fits.Fits.{Fits}
-use Rattle.rx_ranking.specs.declared.column.FoundColumn.TheVariants.{Polynomials}
-use Rattle.rx_ranking.specs.declared.open_pair.OpenPair.{OpenPair}
+use Rattle.rx_columns.specs.declared.column.FoundColumn.TheVariants.{Polynomials}
+use Rattle.rx_columns.specs.declared.open_pair.OpenPair.{OpenPair}
 use Rattle.rx_ranking.specs.declared.progress.Progress.{Progress}
-
--- ---- one pair more
-
-left_append : (xs ys : List Fitted) → left_open (xs ++ ys) ≡ left_open xs ++ left_open ys
-left_append [] ys = refl
-left_append (((o, held), None) ∷ xs) ys = ap (λ os. with_certs o held ∷ os) (left_append xs ys)
-left_append (((o, held), Some more) ∷ xs) ys = left_append xs ys
-
-fallen_append : (xs ys : List Fitted) → fallen (xs ++ ys) ≡ fallen xs ++ fallen ys
-fallen_append [] ys = refl
-fallen_append (((o, held), None) ∷ xs) ys = fallen_append xs ys
-fallen_append (((o, held), Some more) ∷ xs) ys =
-    ap (λ os. with_certs o more ∷ os) (fallen_append xs ys)
-
--- the pair at hand stays or falls after those before it
-module _ (xs : List Fitted) (x : Fitted) where
-  pub one_stays : left_open xs ++ left_open (x ∷ []) ≡ left_open (xs ++ x ∷ [])
-  one_stays = sym (left_append xs (x ∷ []))
-
-  pub one_falls : (column : ℕ) (closed : List (Option PairCert)) →
-      close_all column (close_all column closed (fallen xs)) (fallen (x ∷ [])) ≡
-      close_all column closed (fallen (xs ++ x ∷ []))
-  one_falls column closed =
-      sym (close_both column closed (fallen xs) (fallen (x ∷ []))) ∙
-      ap (close_all column closed) (sym (fallen_append xs (x ∷ [])))
 
 -- ---- the pairs that stay, and those that fall
 

@@ -24,8 +24,9 @@ use Rattle.rx_pairs.specs.declared.table.RankTable.{RankTable}
 use Rattle.rx_ranking.proofs.TableLaws.{rank_count}
 use Rattle.rx_anchors.specs.Members.{arity_of, symbols_of}
 use Rattle.rx_anchors.specs.Values.{polynomial_of}
-use Rattle.rx_ranking.specs.Closing.{cert_of}
-use Rattle.rx_ranking.specs.Tables.{Column, IsDeepPair, IsLawful, IsLowerBy, IsSplit, rank_at, value_at}
+use Rattle.rx_columns.specs.Closing.{cert_of}
+use Rattle.rx_columns.specs.Columns.{Column, rank_at, value_at}
+use Rattle.rx_ranking.specs.Tables.{IsDeepPair, IsLawful, IsLowerBy, IsSplit}
 
 -- ---- lawful ranks
 

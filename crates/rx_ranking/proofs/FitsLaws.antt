@@ -17,12 +17,14 @@ use Rattle.rx_rank.specs.Tries.{all_made}
 use Rattle.rx_rank.specs.declared.attempt.Attempt.{Attempt}
 use Rattle.rx_rank.specs.declared.fitting.Fit.{Fit}
 use Rattle.rx_ranking.proofs.ComponentTries.{all_tries}
-use Rattle.rx_ranking.proofs.Grouping.{group_count, grouped_among, numbers_grouped}
+use Rattle.rx_columns.proofs.Grouping.{group_count}
+use Rattle.rx_ranking.proofs.Grouped.{grouped_among, numbers_grouped}
 use Rattle.rx_ranking.specs.Fits.{AreFits, AreOf, AreTried, GoesWith}
-use Rattle.rx_ranking.specs.Groups.{IsFitBelow, by_component, groups_in, tries_from, ungrouped}
+use Rattle.rx_ranking.specs.Joined.{IsFitBelow, tries_from}
+use Rattle.rx_columns.specs.Groups.{by_component, groups_in, ungrouped}
 use Rattle.rx_ranking.specs.Tables.{has_number, pairs_open}
 use Rattle.rx_ranking.specs.declared.fits.Fits.{Fits}
-use Rattle.rx_ranking.specs.declared.open_pair.OpenPair.{OpenPair}
+use Rattle.rx_columns.specs.declared.open_pair.OpenPair.{OpenPair}
 
 -- the groups are those of the components of the open pairs, and are borrowed
 module _ (parts : RuleParts) (hypotheses : List Rule) (entries : List OpenPair) (names : List ℕ)

@@ -4,11 +4,12 @@ use Rattle.std.proofs.Common.{◌≡◌, ◌∙◌, ap, sym, subst, arith, suc, 
 use Rattle.std.proofs.lemmas.List.{length-append, length-map, map-append}
 use Rattle.std.proofs.lemmas.List.Elements.{All-append, All-cons, All-nil}
 use Rattle.rx_pairs.specs.declared.pair.Pair.{Pair}
-use Rattle.rx_ranking.specs.Closing.{close_all}
+use Rattle.rx_columns.specs.Closing.{close_all}
 use Rattle.rx_ranking.specs.Rounds.{AreLawful, IsSplitBy}
-use Rattle.rx_ranking.specs.Tables.{Column, IsLawful, IsSplit, column_of, columns_in}
-use Rattle.rx_ranking.specs.declared.column.FoundColumn.{FoundColumn}
-use Rattle.rx_ranking.specs.declared.open_pair.OpenPair.{OpenPair}
+use Rattle.rx_columns.specs.Columns.{Column, column_of, columns_in}
+use Rattle.rx_ranking.specs.Tables.{IsLawful, IsSplit}
+use Rattle.rx_columns.specs.declared.column.FoundColumn.{FoundColumn}
+use Rattle.rx_columns.specs.declared.open_pair.OpenPair.{OpenPair}
 use Rattle.rx_ranking.specs.declared.progress.Progress.{Progress}
 use Rattle.rx_term.specs.declared.rule_set.SymInfo.{SymInfo}
 

@@ -21,11 +21,13 @@ use Rattle.rx_ranking.proofs.NumberLaws.{equal_hold, less_fall}
 use Rattle.rx_ranking.proofs.SplitLaws.{IsClosing, split_more}
 use Rattle.rx_ranking.proofs.TableLaws.{fallen_column, held_column}
 use Rattle.rx_rank.specs.Answers.{IsProved}
-use Rattle.rx_ranking.specs.Closing.{close_all, is_leaving, is_staying}
+use Rattle.rx_columns.specs.Closing.{close_all}
+use Rattle.rx_ranking.specs.Between.{is_leaving, is_staying}
 use Rattle.rx_anchors.specs.Members.{is_member}
 use Rattle.rx_rank.specs.Components.{is_inside}
-use Rattle.rx_ranking.specs.Tables.{Column, IsLowerBy, IsOpenBy, IsSplit, has_number, height_column, held_rows, pairs_open, rank_at, value_at}
-use Rattle.rx_ranking.specs.declared.open_pair.OpenPair.{OpenPair}
+use Rattle.rx_columns.specs.Columns.{Column, height_column, rank_at, value_at}
+use Rattle.rx_ranking.specs.Tables.{IsLowerBy, IsOpenBy, IsSplit, has_number, held_rows, pairs_open}
+use Rattle.rx_columns.specs.declared.open_pair.OpenPair.{OpenPair}
 
 -- the polynomial of a symbol is its height
 height_value : (heights : List ℕ) (f : ℕ) → f < length heights →

@@ -1,11 +1,10 @@
 -- Lemmas on the definitions of specs/.
 pub mod BeginLaws
-pub mod ClosingLaws
 pub mod ComponentTries
 pub mod FallLaws
 pub mod Finished
 pub mod FitsLaws
-pub mod Grouping
+pub mod Grouped
 pub mod GrowthLaws
 pub mod HeightColumns
 pub mod Joining

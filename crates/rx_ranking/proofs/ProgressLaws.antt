@@ -18,12 +18,14 @@ use Rattle.rx_pairs.specs.declared.pair.Pair.{Pair}
 use Rattle.rx_ranking.proofs.GrowthLaws.{count_pushed, lawful_pushed, split_pushed}
 use Rattle.rx_ranking.proofs.HeightColumns.{heights_split}
 use Rattle.rx_anchors.specs.Members.{arity_of}
-use Rattle.rx_ranking.specs.Closing.{close_all, is_leaving, is_staying}
+use Rattle.rx_columns.specs.Closing.{close_all}
+use Rattle.rx_ranking.specs.Between.{is_leaving, is_staying}
 use Rattle.rx_rank.specs.Components.{component_of, inside, is_inside, names_of}
 use Rattle.rx_ranking.specs.Rounds.{IsGrown, IsSplitBy}
-use Rattle.rx_ranking.specs.Tables.{Column, IsLawful, IsSplit, column_of, columns_in, height_column, pairs_open}
-use Rattle.rx_ranking.specs.declared.column.FoundColumn.{FoundColumn}
-use Rattle.rx_ranking.specs.declared.open_pair.OpenPair.{OpenPair}
+use Rattle.rx_columns.specs.Columns.{Column, column_of, columns_in, height_column}
+use Rattle.rx_ranking.specs.Tables.{IsLawful, IsSplit, pairs_open}
+use Rattle.rx_columns.specs.declared.column.FoundColumn.{FoundColumn}
+use Rattle.rx_columns.specs.declared.open_pair.OpenPair.{OpenPair}
 use Rattle.rx_ranking.specs.declared.progress.Progress.{Progress}
 use Rattle.rx_term.specs.declared.rule_set.SymInfo.{SymInfo}
 

@@ -17,8 +17,9 @@ use Rattle.rx_pairs.specs.Ranks.{bad_rank}
 use Rattle.rx_pairs.specs.declared.pair.Pair.{Pair}
 use Rattle.rx_ranking.specs.Found.{LowersAll}
 use Rattle.rx_ranking.specs.Rounds.{IsBegun, IsRanked}
-use Rattle.rx_ranking.specs.Tables.{IsDeepPair, IsLawful, IsSplit, columns_in, pairs_open}
-use Rattle.rx_ranking.specs.declared.column.FoundColumn.{FoundColumn}
+use Rattle.rx_ranking.specs.Tables.{IsDeepPair, IsLawful, IsSplit, pairs_open}
+use Rattle.rx_columns.specs.Columns.{columns_in}
+use Rattle.rx_columns.specs.declared.column.FoundColumn.{FoundColumn}
 use Rattle.rx_ranking.specs.declared.progress.Progress.{Progress}
 use Rattle.rx_ranking.specs.declared.ranking.Ranking.{Ranking}
 

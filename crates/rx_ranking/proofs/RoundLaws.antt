@@ -9,9 +9,9 @@ use Rattle.rx_solve.specs.Attempts.{Tried, applies, fails}
 use Rattle.rx_term.specs.declared.rule.Rule.{Rule}
 use Rattle.rx_term.specs.declared.rule_set.RuleParts.{RuleParts}
 use Rattle.rx_term.specs.declared.rule_set.SymInfo.{SymInfo}
-use Rattle.rx_ranking.specs.Rounds.{IsGrown, IsRanked}
+use Rattle.rx_ranking.specs.Rounds.{IsGrown, IsGrownOrSame, IsRanked}
 use Rattle.rx_ranking.specs.Tables.{pairs_open}
-use Rattle.rx_ranking.specs.declared.open_pair.OpenPair.{OpenPair}
+use Rattle.rx_columns.specs.declared.open_pair.OpenPair.{OpenPair}
 use Rattle.rx_ranking.specs.declared.progress.Progress.{Progress}
 
 -- ---- the definition, by the pairs that are open after the heights
@@ -54,12 +54,6 @@ module _ (parts : RuleParts) (hypotheses : List Rule) where
       goes_on (λ ps. and_then (polynomials parts hypotheses ps) (ranking_from parts hypotheses k))
       pairs ends some is
 
-  -- where no pair is open before the heights either
-  pub nothing_open : (k : ℕ) (ends : List OpenPair) → ends ≡ [] → applies tt ≡
-      ranking_from parts hypotheses k (pairs_open ends)
-  nothing_open k ends none =
-      rounds_end k (pairs_open ends) [] refl (sym (ap (inside n) (ap pairs_open none)))
-
   module _ (k left : ℕ) (pairs : List Pair) (grown : List OpenPair) (one_less : left ≡ suc k)
       (some : grown ≡ [] → ⊥) (is : pairs_open grown ≡ inside n pairs)
       (made : Option Progress) (noted : Bool)
@@ -91,22 +85,35 @@ module _ (parts : RuleParts) (hypotheses : List Rule) where
         → noting noted rest ≡ ranking_from parts hypotheses left pairs
     round_done next found rest later = ap (noting noted) later ∙ sym (ap then found) ∙ round_is
 
+-- where no pair is open, none is inside a component
+pub none_inside : (n : ℕ) (ends : List OpenPair) → ends ≡ [] → pairs_open ends ≡
+    inside n (pairs_open ends)
+none_inside n ends none = ap pairs_open none ∙ sym (ap (inside n) (ap pairs_open none))
+
 -- ---- columns
 
 module _ (infos : List SymInfo) (before : Progress) where
   -- no column more
-  pub ranked_here : length before.columns.items ≤ 15 → before.entries.items ≡ [] →
-      IsRanked infos before before
-  ranked_here few none = record {
-    count = few;
-    none = none;
+  pub same_columns : IsGrownOrSame infos before before
+  same_columns = record {
+    count = omega arith;
     split = λ pairs split. split;
     lawful = λ all. all;
+    over = λ within. within;
   }
 
-  -- a column of heights, and no pair is open
+  pub one_column : (after : Progress) → IsGrown infos before after →
+      IsGrownOrSame infos before after
+  one_column after grown = record {
+    count = let more = grown.count in omega (arith, more);
+    split = grown.split;
+    lawful = grown.lawful;
+    over = grown.over;
+  }
+
+  -- no pair is open
   pub ranked_grown : (after : Progress) → length before.columns.items ≤ 14 →
-      IsGrown infos before after → after.entries.items ≡ [] → IsRanked infos before after
+      IsGrownOrSame infos before after → after.entries.items ≡ [] → IsRanked infos before after
   ranked_grown after few grown none = record {
     count = let more = grown.count in omega (arith, few, more);
     none = none;
@@ -115,7 +122,7 @@ module _ (infos : List SymInfo) (before : Progress) where
   }
 
   -- a round, and what comes then
-  ranked_next : (grown next after : Progress) → IsGrown infos before grown →
+  ranked_next : (grown next after : Progress) → IsGrownOrSame infos before grown →
       IsGrown infos grown next → IsRanked infos next after → IsRanked infos before after
   ranked_next grown next after first second rest = record {
     count = rest.count;
@@ -125,7 +132,7 @@ module _ (infos : List SymInfo) (before : Progress) where
   }
 
   pub ranked_rounds : (grown next : Progress) (made : Option Progress) →
-      IsGrown infos before grown → IsGrown infos grown next → IfSome made (IsRanked infos next)
+      IsGrownOrSame infos before grown → IsGrown infos grown next → IfSome made (IsRanked infos next)
       → IfSome made (IsRanked infos before)
   ranked_rounds grown next None first second rest = rest
   ranked_rounds grown next (Some after) first second rest =

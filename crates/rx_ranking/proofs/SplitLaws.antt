@@ -6,11 +6,12 @@ use Rattle.std.proofs.lemmas.List.Elements.{All-head, All-tail}
 use Rattle.std.proofs.lemmas.Option.{none-some, same_Some}
 use Rattle.rx_pairs.specs.declared.pair.Pair.{Pair}
 use Rattle.rx_pairs.specs.declared.pair_cert.PairCert.{PairCert}
-use Rattle.rx_ranking.proofs.ClosingLaws.{close_count}
+use Rattle.rx_columns.proofs.ClosingLaws.{close_count}
 use Rattle.rx_ranking.proofs.TableLaws.{longer_column}
-use Rattle.rx_ranking.specs.Closing.{close_all, closing}
-use Rattle.rx_ranking.specs.Tables.{Column, IsLowerBy, IsOpenBy, IsSplit, has_number}
-use Rattle.rx_ranking.specs.declared.open_pair.OpenPair.{OpenPair}
+use Rattle.rx_columns.specs.Closing.{close_all, closing}
+use Rattle.rx_columns.specs.Columns.{Column}
+use Rattle.rx_ranking.specs.Tables.{IsLowerBy, IsOpenBy, IsSplit, has_number}
+use Rattle.rx_columns.specs.declared.open_pair.OpenPair.{OpenPair}
 
 -- an element after one was set: it is that one, or another that was there
 set_read : {A : Type 0} (xs : List A) (i k : ℕ) (x y : A) → slice_get (set xs i x) k ≡ Some y

@@ -21,7 +21,8 @@ use Rattle.rx_pairs.specs.declared.pair.Pair.{Pair}
 use Rattle.rx_rank.proofs.Certified.{certificates_append}
 use Rattle.rx_rank.specs.Answers.{IsProved}
 use Rattle.rx_pairs.specs.declared.pair_cert.PairCert.{PairCert}
-use Rattle.rx_ranking.specs.Tables.{Column, IsLowerBy, held_rows, rank_at, value_at}
+use Rattle.rx_columns.specs.Columns.{Column, rank_at, value_at}
+use Rattle.rx_ranking.specs.Tables.{IsLowerBy, held_rows}
 
 -- rows that are those of two lists one after the other, and keep the limits where both do
 pub record IsJoined (whole first second : Formed (List Row)) : Type 0 where

@@ -13,9 +13,10 @@ use Rattle.rx_rank.specs.declared.attempt.Attempt.{Attempt}
 use Rattle.rx_rank.specs.declared.fitting.Fit.{Fit}
 use Rattle.rx_rank.proofs.AllMade.{component_failed, component_made, no_component}
 use Rattle.rx_ranking.proofs.ComponentTries.{groups_after, pairs_until}
-use Rattle.rx_ranking.specs.Groups.{IsFitBelow, IsOneMore, groups_in, tries_from, ungrouped}
+use Rattle.rx_ranking.specs.Joined.{IsFitBelow, IsOneMore, tries_from}
+use Rattle.rx_columns.specs.Groups.{groups_in, ungrouped}
 use Rattle.rx_ranking.specs.Tables.{pairs_open}
-use Rattle.rx_ranking.specs.declared.open_pair.OpenPair.{OpenPair}
+use Rattle.rx_columns.specs.declared.open_pair.OpenPair.{OpenPair}
 
 -- the pairs of the first groups
 abbrev pub pairs_to : List (Vec OpenPair Global) → ℕ → List Pair

@@ -6,7 +6,7 @@ use Rattle.rx_rank.specs.declared.attempt.Attempt.{Attempt}
 use Rattle.rx_rank.specs.declared.fitting.Fit.{Fit}
 use Rattle.rx_ranking.specs.Tables.{IsLawful, has_number, pairs_open}
 use Rattle.rx_ranking.specs.declared.fits.Fits.{Fits}
-use Rattle.rx_ranking.specs.declared.open_pair.OpenPair.{OpenPair}
+use Rattle.rx_columns.specs.declared.open_pair.OpenPair.{OpenPair}
 use Rattle.rx_term.specs.declared.rule_set.SymInfo.{SymInfo}
 
 -- they are over the arguments of their symbols; at the open pairs, which are those that were open

@@ -1,7 +1,7 @@
 -- Definitions that contracts cite.
-pub mod Closing
+pub mod Between
 pub mod Fits
 pub mod Found
-pub mod Groups
+pub mod Joined
 pub mod Rounds
 pub mod Tables

@@ -3,7 +3,8 @@ use Rattle.std.specs.Prelude.{◌≡◌, ◌≤◌, ◌+◌, ℕ, List, [], All,
 use Rattle.rx_graph.specs.Graph.{IsOver}
 use Rattle.rx_pairs.specs.Graph.{edges_of}
 use Rattle.rx_pairs.specs.declared.pair.Pair.{Pair}
-use Rattle.rx_ranking.specs.Tables.{IsLawful, IsSplit, columns_in, pairs_open}
+use Rattle.rx_ranking.specs.Tables.{IsLawful, IsSplit, pairs_open}
+use Rattle.rx_columns.specs.Columns.{columns_in}
 use Rattle.rx_ranking.specs.declared.progress.Progress.{Progress}
 use Rattle.rx_term.specs.declared.rule_set.SymInfo.{SymInfo}
 
@@ -29,6 +30,13 @@ pub record IsBegun (pairs : List Pair) (progress : Progress) : Type 0 where
 -- one column more
 pub record IsGrown (infos : List SymInfo) (before after : Progress) : Type 0 where
   pub count : length after.columns.items ≡ length before.columns.items + 1
+  pub split : (pairs : List Pair) → IsSplitBy pairs before → IsSplitBy pairs after
+  pub lawful : AreLawful infos before → AreLawful infos after
+  pub over : AreOver (length infos) before → AreOver (length infos) after
+
+-- the same columns, or one more
+pub record IsGrownOrSame (infos : List SymInfo) (before after : Progress) : Type 0 where
+  pub count : length after.columns.items ≤ length before.columns.items + 1
   pub split : (pairs : List Pair) → IsSplitBy pairs before → IsSplitBy pairs after
   pub lawful : AreLawful infos before → AreLawful infos after
   pub over : AreOver (length infos) before → AreOver (length infos) after

@@ -1,5 +1,5 @@
--- The columns of a table as they are found, and the pairs that are open or closed by them.
-use Rattle.std.specs.Prelude.{◌≡◌, ◌≤◌, ◌==◌, ℕ, Bool, true, Option, Some, None, List, [], ◌∷◌, All, negsuc, pos, length, map, slice_get, unwrap_or}
+-- Lawful columns, and the pairs that are open or closed by columns.
+use Rattle.std.specs.Prelude.{◌≡◌, ◌≤◌, ◌==◌, ℕ, Bool, true, Option, Some, None, List, [], ◌∷◌, All, length, map, slice_get}
 use Rattle.std.specs.List.{list_any}
 use Rattle.rx_plain.specs.Formed.{Formed, pure, ◌>>=◌}
 use Rattle.rx_poly.specs.Constants.{number}
@@ -18,40 +18,13 @@ use Rattle.rx_pairs.specs.declared.pair_cert.PairCert.{PairCert}
 use Rattle.rx_rank.specs.Answers.{IsProved}
 use Rattle.rx_anchors.specs.Members.{arity_of}
 use Rattle.rx_anchors.specs.Values.{polynomial_of}
-use Rattle.rx_ranking.specs.declared.column.FoundColumn.{FoundColumn}
-use Rattle.rx_ranking.specs.declared.column.FoundColumn.TheVariants.{Heights, Polynomials}
-use Rattle.rx_ranking.specs.declared.open_pair.OpenPair.{OpenPair}
-
--- ---- columns
-
--- a column: polynomials by symbol
-abbrev pub Column : Type 0
-Column = List (Option Body)
-
--- that of the symbol, -1 where it has none
-abbrev pub value_at : ℕ → Column → Body
-value_at f column = unwrap_or (polynomial_of column f) (number (negsuc 0))
-
--- the rank of a symbol by the columns so far
-abbrev pub rank_at : List Column → ℕ → List Body
-rank_at columns f = map (value_at f) columns
+use Rattle.rx_columns.specs.Columns.{Column, rank_at}
+use Rattle.rx_columns.specs.declared.open_pair.OpenPair.{OpenPair}
 
 -- each polynomial is over the arguments of its symbol
 abbrev pub IsLawful : List SymInfo → Column → Type 0
 IsLawful infos column =
     (f : ℕ) (p : Body) → polynomial_of column f ≡ Some p → uses_below (arity_of infos f) p ≡ true
-
--- the column of heights by symbol
-abbrev pub height_column : List ℕ → Column
-height_column heights = map (λ height. Some (number (pos height))) heights
-
--- the columns as they are found
-abbrev pub column_of : FoundColumn → Column
-column_of (Heights heights) = height_column heights.items
-column_of (Polynomials values) = values.items
-
-abbrev pub columns_in : List FoundColumn → List Column
-columns_in columns = map column_of columns
 
 -- ---- pairs
 

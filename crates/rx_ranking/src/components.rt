@@ -3,15 +3,15 @@ ghost use Rattle.std.specs.Prelude.{◌≡◌, ◌≤◌, ◌^◌, ℕ, IfOk, If
 ghost use Rattle.rx_rank.specs.Answers.{IsComponentFit, still_open, tried_as};
 ghost use Rattle.rx_rank.specs.Ranking.{component};
 ghost use Rattle.rx_rank.specs.Tries.{all_made};
-ghost use Rattle.rx_ranking.specs.Groups.{AreJoined, IsFitBelow, IsNext, IsOneMore, groups_in};
-ghost use Rattle.rx_ranking.specs.Groups.{laid_at, overlaid, tries_from, ungrouped};
+ghost use Rattle.rx_columns.specs.Groups.{groups_in, ungrouped};
+ghost use Rattle.rx_ranking.specs.Joined.{AreJoined, IsFitBelow, IsNext, IsOneMore, tries_from};
 ghost use Rattle.rx_ranking.specs.Tables.{pairs_open};
 ghost use Rattle.rx_solve.specs.Answers.{IsSolver};
 
-use crate::groups::pairs_of;
-use crate::open_pair::OpenPair;
+use crate::lending::pairs_of;
 use rx_anchors::without_polynomials;
 use rx_cert::Cert;
+use rx_columns::{OpenPair, overlay};
 use rx_fm::FmEnd;
 use rx_plain::NoMemory;
 use rx_poly::Poly;
@@ -19,27 +19,6 @@ use rx_rank::{Attempt, Fit, PairMemo, fit_component};
 use rx_row::Constraint;
 use rx_term::{Rule, RuleParts};
 use std::alloc::Global;
-
-/// The polynomials with that of one symbol, where it has one.
-fn lay_one(values: &mut Vec<Option<Poly>>, at: usize, other: Option<Poly>)
-    ensures { values.new.items ≡ laid_at values.old.items at other }
-{
-    let Some(poly) = other else {
-        return;
-    };
-    if at < values.len() {
-        values[at] = Some(poly);
-    }
-}
-
-/// The polynomials with those others in their place, where there are others.
-fn overlay(values: &mut Vec<Option<Poly>>, others: Vec<Option<Poly>>)
-    ensures { values.new.items ≡ overlaid values.old.items others.items }
-{
-    for (at, other) in others.into_iter().enumerate() {
-        lay_one(values, at, other);
-    }
-}
 
 /// Two fits as one.
 fn join_fits(first: Fit, second: Fit) -> Result<Fit, NoMemory>

@@ -6,14 +6,14 @@ ghost use Rattle.rx_rank.specs.Answers.{still_open, tried_as};
 ghost use Rattle.rx_rank.specs.Components.{names_of};
 ghost use Rattle.rx_rank.specs.Ranking.{polynomials};
 ghost use Rattle.rx_ranking.specs.Fits.{AreFits, AreTried};
-ghost use Rattle.rx_ranking.specs.Groups.{groups_in, ungrouped};
+ghost use Rattle.rx_columns.specs.Groups.{groups_in, ungrouped};
 ghost use Rattle.rx_ranking.specs.Tables.{pairs_open};
 ghost use Rattle.rx_solve.specs.Answers.{IsSolver};
 
 use crate::components::fit_groups;
-use crate::groups::{all_entries, group_entries, pairs_of};
-use crate::open_pair::OpenPair;
+use crate::lending::pairs_of;
 use rx_cert::Cert;
+use rx_columns::{OpenPair, all_entries, group_entries};
 use rx_fm::FmEnd;
 use rx_plain::{Items, NoMemory};
 use rx_poly::Poly;

@@ -1,10 +1,10 @@
 //! Columns of heights: the pairs between components fall, and the others hold.
 ghost use Rattle.std.specs.Prelude.{◌≡◌, IfOk, OnOk};
 ghost use Rattle.std.specs.List.{filter};
-ghost use Rattle.rx_ranking.specs.Closing.{close_all, is_leaving, is_staying};
+ghost use Rattle.rx_columns.specs.Closing.{close_all};
+ghost use Rattle.rx_ranking.specs.Between.{is_leaving, is_staying};
 
-use crate::closing::close_entry;
-use crate::open_pair::OpenPair;
+use rx_columns::{OpenPair, close_entry};
 use rx_pairs::PairCert;
 use rx_plain::NoMemory;
 use rx_rank::is_inside;

@@ -7,8 +7,8 @@ ghost use Rattle.rx_pairs.specs.Graph.{edges_of};
 ghost use Rattle.rx_rank.specs.Components.{names_of};
 ghost use Rattle.rx_ranking.specs.Tables.{pairs_open};
 
-use crate::groups::pairs_of;
-use crate::open_pair::OpenPair;
+use crate::lending::pairs_of;
+use rx_columns::OpenPair;
 use rx_plain::NoMemory;
 use rx_rank::graph_of;
 use std::alloc::Global;

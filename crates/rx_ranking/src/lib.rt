@@ -2,14 +2,11 @@
 //! those that fall by a column of polynomials.
 #![tactic(auto)]
 
-mod closing;
-mod column;
 mod components;
 mod fits;
-mod groups;
 mod heights;
+mod lending;
 mod levels;
-mod open_pair;
 mod polynomials;
 mod progress;
 mod ranking;

@@ -8,10 +8,9 @@ ghost use Rattle.rx_ranking.specs.Rounds.{IsBegun, IsGrown};
 ghost use Rattle.rx_ranking.specs.Tables.{pairs_open};
 ghost use Rattle.rx_term.specs.declared.rule_set.SymInfo.{SymInfo};
 
-use crate::column::FoundColumn;
 use crate::heights::close_between;
 use crate::levels::find_levels;
-use crate::open_pair::OpenPair;
+use rx_columns::{FoundColumn, OpenPair};
 use rx_pairs::{Pair, PairCert};
 use rx_plain::{Items, NoMemory};
 use std::alloc::Global;

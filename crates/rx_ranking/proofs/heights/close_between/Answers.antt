@@ -1,8 +1,9 @@
 -- One pair more is closed.
 use Rattle.std.proofs.Common.{◌∙◌, ap, not, set, sym, Some}
 use Rattle.std.specs.List.{filter}
-use Rattle.rx_ranking.proofs.ClosingLaws.{close_more, filter_one, filter_skip}
-use Rattle.rx_ranking.specs.Closing.{close_all, closing, is_leaving, is_staying}
+use Rattle.rx_columns.proofs.ClosingLaws.{close_more, filter_one, filter_skip}
+use Rattle.rx_columns.specs.Closing.{close_all, closing}
+use Rattle.rx_ranking.specs.Between.{is_leaving, is_staying}
 use Rattle.rx_ranking.proofs.heights.close_between.Goals as goal
 
 pub loop-entry-preserved : goal.loop-entry-preserved

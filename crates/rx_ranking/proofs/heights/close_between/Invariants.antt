@@ -1,7 +1,8 @@
 -- Those of the first pairs that stay, and those that leave.
 use Rattle.std.proofs.Common.{◌≡◌}
 use Rattle.std.specs.List.{filter}
-use Rattle.rx_ranking.specs.Closing.{close_all, is_leaving, is_staying}
+use Rattle.rx_columns.specs.Closing.{close_all}
+use Rattle.rx_ranking.specs.Between.{is_leaving, is_staying}
 use Rattle.rx_ranking.proofs.heights.close_between.Given as goal
 
 abbrev pub invariant-loop-entry : goal.invariant-loop-entry

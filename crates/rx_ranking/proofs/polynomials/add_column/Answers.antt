@@ -1,6 +1,6 @@
 -- The number of the column is how many there are with it.
 use Rattle.std.proofs.Common.{◌≡◌, ◌∙◌, ap, arith, length}
-use Rattle.rx_ranking.specs.Closing.{close_all, fallen, fitted}
+use Rattle.rx_columns.specs.Closing.{close_all, fallen, fitted}
 use Rattle.rx_ranking.proofs.polynomials.add_column.Goals as goal
 
 pub returns-clause-leaving : goal.returns-clause-leaving

@@ -5,12 +5,12 @@ use Rattle.rx_pairs.specs.declared.pair.Pair.{Pair}
 use Rattle.rx_rank.specs.Answers.{still_open}
 use Rattle.rx_solve.specs.Attempts.{Tried}
 use Rattle.rx_ranking.proofs.FallLaws.{fits_grown, pairs_left}
-use Rattle.rx_ranking.specs.Closing.{close_all, fallen, fitted, left_open}
+use Rattle.rx_columns.specs.Closing.{close_all, fallen, fitted, left_open}
 use Rattle.rx_ranking.specs.Fits.{AreFits}
 use Rattle.rx_ranking.specs.Tables.{pairs_open}
-use Rattle.rx_ranking.specs.declared.column.FoundColumn.TheVariants.{Polynomials}
+use Rattle.rx_columns.specs.declared.column.FoundColumn.TheVariants.{Polynomials}
 use Rattle.rx_ranking.specs.declared.fits.Fits.{Fits}
-use Rattle.rx_ranking.specs.declared.open_pair.OpenPair.{OpenPair}
+use Rattle.rx_columns.specs.declared.open_pair.OpenPair.{OpenPair}
 use Rattle.rx_ranking.proofs.polynomials.add_polynomials.Goals as goal
 
 pub returns-clause-tried : goal.returns-clause-tried

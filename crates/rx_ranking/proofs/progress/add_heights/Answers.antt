@@ -5,11 +5,12 @@ use Rattle.rx_graph.specs.Components.{AreComponents}
 use Rattle.rx_graph.specs.Heights.{AreHeights}
 use Rattle.rx_pairs.specs.Graph.{edges_of}
 use Rattle.rx_ranking.proofs.ProgressLaws.{heights_grown, heights_pairs}
-use Rattle.rx_ranking.specs.Closing.{close_all, is_leaving, is_staying}
+use Rattle.rx_columns.specs.Closing.{close_all}
+use Rattle.rx_ranking.specs.Between.{is_leaving, is_staying}
 use Rattle.rx_rank.specs.Components.{names_of}
 use Rattle.rx_ranking.specs.Tables.{pairs_open}
-use Rattle.rx_ranking.specs.declared.column.FoundColumn.TheVariants.{Heights}
-use Rattle.rx_ranking.specs.declared.open_pair.OpenPair.{OpenPair}
+use Rattle.rx_columns.specs.declared.column.FoundColumn.TheVariants.{Heights}
+use Rattle.rx_columns.specs.declared.open_pair.OpenPair.{OpenPair}
 use Rattle.rx_ranking.proofs.progress.add_heights.Goals as goal
 
 pub returns-clause-pairs : goal.returns-clause-pairs

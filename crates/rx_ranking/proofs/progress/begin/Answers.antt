@@ -4,7 +4,7 @@ use Rattle.std.proofs.lemmas.Iterator.Adapters.{YieldsList-from_vec}
 use Rattle.std.proofs.lemmas.Iterator.Consumers.{YieldsList-end}
 use Rattle.std.proofs.lemmas.List.{map-id}
 use Rattle.rx_ranking.proofs.BeginLaws.{all_begun, none_closed, none_more, opens_count, opens_from, opens_more}
-use Rattle.rx_ranking.specs.declared.open_pair.OpenPair.{OpenPair}
+use Rattle.rx_columns.specs.declared.open_pair.OpenPair.{OpenPair}
 use Rattle.rx_ranking.proofs.progress.begin.Goals as goal
 
 pub loop-pair-preserved : goal.loop-pair-preserved

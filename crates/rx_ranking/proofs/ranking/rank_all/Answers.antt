@@ -6,7 +6,8 @@ use Rattle.rx_rank.specs.Ranking.{ranking_from}
 use Rattle.rx_term.specs.declared.rule_set.RuleParts.{RuleParts}
 use Rattle.rx_ranking.proofs.RankLaws.{first_over, first_pairs, lowers_here, roots_here}
 use Rattle.rx_ranking.specs.Rounds.{IsRanked}
-use Rattle.rx_ranking.specs.Tables.{IsSplit, columns_in, pairs_open}
+use Rattle.rx_ranking.specs.Tables.{IsSplit, pairs_open}
+use Rattle.rx_columns.specs.Columns.{columns_in}
 use Rattle.rx_ranking.specs.declared.progress.Progress.{Progress}
 use Rattle.rx_ranking.proofs.ranking.rank_all.Goals as goal
 

@@ -4,7 +4,7 @@ use Rattle.std.proofs.lemmas.Bool.{false≢true}
 use Rattle.std.specs.Option.{IfSome, option_map}
 use Rattle.rx_rank.specs.Components.{inside}
 use Rattle.rx_rank.specs.Ranking.{ranking_from}
-use Rattle.rx_ranking.proofs.RoundLaws.{no_round, nothing_open, ranked_grown, ranked_rounds, round_done, round_fails, rounds_end}
+use Rattle.rx_ranking.proofs.RoundLaws.{no_round, ranked_grown, ranked_rounds, round_done, round_fails, rounds_end}
 use Rattle.rx_ranking.specs.Rounds.{IsGrown, IsRanked}
 use Rattle.rx_ranking.specs.Tables.{pairs_open}
 use Rattle.rx_ranking.specs.declared.progress.Progress.{Progress}
@@ -12,37 +12,38 @@ use Rattle.rx_ranking.proofs.rounds.+rank_from.Goals as goal
 
 pub returns-then-is_done-clause-tried : goal.returns-then-is_done-clause-tried
 returns-then-is_done-clause-tried g t c =
-    nothing_open c.args.parts.now c.args.hypotheses.now c.args.left c.args.progress.entries.items
-    (c.is_done.ensures.0 c.if-is_done.true)
-
-pub returns-then-is_done-2-clause-tried : goal.returns-then-is_done-2-clause-tried
-returns-then-is_done-2-clause-tried g t c =
     let pairs = pairs_open c.args.progress.entries.items in
-    rounds_end c.args.parts.now c.args.hypotheses.now c.args.left pairs
-    c.in_ok-grown.grown.entries.items (c.is_done-2.ensures.0 c.if-is_done-2.true)
+    (λ i. record {
+      made = option_map (λ (p : Progress). tt {0}) (c.found.ensures.made i);
+      noted = c.found.ensures.noted i;
+    })
+    ∙ rounds_end c.args.parts.now c.args.hypotheses.now c.args.left pairs
+    c.in_ok-grown.grown.entries.items (c.is_done.ensures.0 c.if-is_done.true)
     (c.in_ok-grown.ensures.pairs ∙ ap (λ m. inside m pairs) c.len.ensures)
 
-pub returns-then-is_done-2-clause-made : goal.returns-then-is_done-2-clause-made
-returns-then-is_done-2-clause-made g t c =
+pub returns-then-is_done-clause-made : goal.returns-then-is_done-clause-made
+returns-then-is_done-clause-made g t c =
+    let infos = c.args.parts.now.symbols in
     let width = c.requires.width in
-    ranked_grown c.args.parts.now.symbols c.args.progress c.in_ok-grown.grown (omega (arith, width))
-    (c.in_ok-grown.ensures.grown c.args.parts.now.symbols c.len.ensures)
-    (c.is_done-2.ensures.0 c.if-is_done-2.true)
+    subst (λ o. IfSome o (IsRanked infos c.args.progress)) (sym c.found.ensures.made)
+    (ranked_grown infos c.args.progress c.in_ok-grown.grown (omega (arith, width))
+    (c.in_ok-grown.ensures.grown infos c.len.ensures)
+    (c.is_done.ensures.0 c.if-is_done.true))
 
-pub returns-then-left-eq0-2-clause-tried : goal.returns-then-left-eq0-2-clause-tried
-returns-then-left-eq0-2-clause-tried g t c =
+pub returns-then-left-eq0-clause-tried : goal.returns-then-left-eq0-clause-tried
+returns-then-left-eq0-clause-tried g t c =
     let pairs = pairs_open c.args.progress.entries.items in
     no_round c.args.parts.now c.args.hypotheses.now pairs c.in_ok-grown.grown.entries.items
-    (λ none. false≢true (sym c.if-is_done-2.false ∙ c.is_done-2.ensures.1 none))
+    (λ none. false≢true (sym c.if-is_done.false ∙ c.is_done.ensures.1 none))
     (c.in_ok-grown.ensures.pairs ∙ ap (λ m. inside m pairs) c.len.ensures)
     ∙ ap (λ k. ranking_from c.args.parts.now c.args.hypotheses.now k pairs)
-    (sym c.if-left-eq0-2.true)
+    (sym c.if-left-eq0.true)
 
-pub returns-in_ok-rest-in-Some-clause-tried : goal.returns-in_ok-rest-in-Some-clause-tried
-returns-in_ok-rest-in-Some-clause-tried g t c =
+pub returns-clause-tried : goal.returns-clause-tried
+returns-clause-tried g t c =
     let pairs = pairs_open c.args.progress.entries.items in
     let k = c.args.left - 1 in
-    let some = c.if-left-eq0-2.false in
+    let some = c.if-left-eq0.false in
     let one_less : c.args.left ≡ suc k = omega (arith, some) in
     (λ i. record {
       made = option_map (λ (p : Progress). tt {0}) (c.noted_before.ensures.made i);
@@ -50,39 +51,39 @@ returns-in_ok-rest-in-Some-clause-tried g t c =
     })
     ∙ round_done c.args.parts.now c.args.hypotheses.now k c.args.left pairs
     c.in_ok-grown.grown.entries.items one_less
-    (λ none. false≢true (sym c.if-is_done-2.false ∙ c.is_done-2.ensures.1 none))
+    (λ none. false≢true (sym c.if-is_done.false ∙ c.is_done.ensures.1 none))
     (c.in_ok-grown.ensures.pairs ∙ ap (λ m. inside m pairs) c.len.ensures) c.in_ok-tried.tried.made
     c.in_ok-tried.tried.noted c.in_ok-tried.ensures.tried
     c.in-Some.next c.in-Some.is (record {
       made =
-          option_map (λ (p : Progress). tt {0}) c.in_ok-rest-in-Some.rest.made;
+          option_map (λ (p : Progress). tt {0}) c.in_ok-rest.rest.made;
       noted =
-          c.in_ok-rest-in-Some.rest.noted;
+          c.in_ok-rest.rest.noted;
     })
-    (c.in_ok-rest-in-Some.ensures.tried ∙ ap (λ (p : Progress).
+    (c.in_ok-rest.ensures.tried ∙ ap (λ (p : Progress).
     ranking_from c.args.parts.now c.args.hypotheses.now k (pairs_open p.entries.items))
     c.in-Some.next-is)
 
-pub returns-in_ok-rest-in-Some-clause-made : goal.returns-in_ok-rest-in-Some-clause-made
-returns-in_ok-rest-in-Some-clause-made g t c =
+pub returns-clause-made : goal.returns-clause-made
+returns-clause-made g t c =
     let infos = c.args.parts.now.symbols in
     subst (λ o. IfSome o (IsRanked infos c.args.progress)) (sym c.noted_before.ensures.made)
     (ranked_rounds infos c.args.progress c.in_ok-grown.grown c.in-Some.next
-    c.in_ok-rest-in-Some.rest.made (c.in_ok-grown.ensures.grown infos c.len.ensures)
+    c.in_ok-rest.rest.made (c.in_ok-grown.ensures.grown infos c.len.ensures)
     (subst (λ o. IfSome o (IsGrown infos c.in_ok-grown.grown)) c.in-Some.is
     c.in_ok-tried.ensures.grown)
-    (subst (λ (p : Progress). IfSome c.in_ok-rest-in-Some.rest.made (IsRanked infos p))
-    c.in-Some.next-is c.in_ok-rest-in-Some.ensures.made))
+    (subst (λ (p : Progress). IfSome c.in_ok-rest.rest.made (IsRanked infos p))
+    c.in-Some.next-is c.in_ok-rest.ensures.made))
 
-pub returns-in-None-clause-tried : goal.returns-in-None-clause-tried
-returns-in-None-clause-tried g t c =
+pub returns-in_default-clause-tried : goal.returns-in_default-clause-tried
+returns-in_default-clause-tried g t c =
     let pairs = pairs_open c.args.progress.entries.items in
     let k = c.args.left - 1 in
-    let some = c.if-left-eq0-2.false in
+    let some = c.if-left-eq0.false in
     let one_less : c.args.left ≡ suc k = omega (arith, some) in
     round_fails c.args.parts.now c.args.hypotheses.now k c.args.left pairs
     c.in_ok-grown.grown.entries.items one_less
-    (λ none. false≢true (sym c.if-is_done-2.false ∙ c.is_done-2.ensures.1 none))
+    (λ none. false≢true (sym c.if-is_done.false ∙ c.is_done.ensures.1 none))
     (c.in_ok-grown.ensures.pairs ∙ ap (λ m. inside m pairs) c.len.ensures) c.in_ok-tried.tried.made
     c.in_ok-tried.tried.noted c.in_ok-tried.ensures.tried
-    c.in-None.is
+    c.in_default.is

@@ -4,7 +4,8 @@ use Rattle.std.proofs.lemmas.List.{length-map}
 use Rattle.rx_pairs.specs.Lowering.{descent_from}
 use Rattle.rx_pairs.specs.declared.pair_cert.PairCert.{PairCert}
 use Rattle.rx_ranking.proofs.Finished.{table_deep, table_descends, table_lawful}
-use Rattle.rx_ranking.specs.Tables.{IsDeepPair, column_of, columns_in}
+use Rattle.rx_ranking.specs.Tables.{IsDeepPair}
+use Rattle.rx_columns.specs.Columns.{column_of, columns_in}
 use Rattle.rx_ranking.proofs.table.ranking_of.Goals as goal
 
 pub returns-clause-lawful : goal.returns-clause-lawful

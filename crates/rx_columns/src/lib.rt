@@ -1,0 +1,21 @@
+//! Columns of a rank table as they are found: ranks by them, open pairs, how pairs are closed that
+//! fall by a column, and the groups of open pairs by component.
+//!
+//! What a reader may rely on: what each call answers is exactly what its definition in `specs/`
+//! comes to, of columns (`Columns`), closed pairs (`Closing`) and groups (`Groups`).
+#![tactic(auto)]
+
+mod closing;
+mod column;
+mod groups;
+mod open_pair;
+mod overlays;
+mod ranks;
+
+pub use closing::{close_entry, close_fallen};
+pub use column::FoundColumn;
+pub use groups::{all_entries, group_entries};
+pub use open_pair::OpenPair;
+pub use overlays::overlay;
+pub use ranks::{certs_of, ranks_of};
+pub use rx_plain::NoMemory;
