@@ -4,4 +4,3 @@ pub mod Known
 pub mod Menu
 pub mod Nodes
 pub mod Search
-pub mod Searching

@@ -1,5 +1,6 @@
 -- The choices at a settled goal: the four expansions, Decompose, and lemmas. Each that applies
--- leads to another node; one that keeps the goal as a hypothesis only where ranks are found with it.
+-- leads to another node; one that keeps the goal as a hypothesis only where ranks are found with
+-- it.
 use Rattle.std.specs.Prelude.{if◌then◌else◌, ℕ, Bool, false, List, [], ◌∷◌, ◌++◌, map}
 use Rattle.std.specs.List.{list_any}
 use Rattle.rx_solve.specs.Attempts.{Tried, beyond, where_shown}

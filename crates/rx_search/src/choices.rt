@@ -1,5 +1,5 @@
 //! The choices at a settled node: what is known of its first goal, put among the node's others.
-ghost use Rattle.std.specs.Prelude.{◌≡◌, ◌∷◌, ◌++◌, [], All, IfOk, IfSome, OnOk, Some, map, slice_get, List};
+ghost use Rattle.std.specs.Prelude.{◌≡◌, ◌∷◌, ◌++◌, [], All, IfOk, IfSome, None, OnOk, Some, map, slice_get, List};
 ghost use Rattle.rx_pairs.specs.Pairs.{AreAllPairs, HasRoot, SidesFit};
 ghost use Rattle.rx_rank.specs.Ranking.{ranked};
 ghost use Rattle.rx_search.specs.Known.{AreRight, IsRightAt, chosen_by, tried_at};
@@ -8,6 +8,7 @@ ghost use Rattle.rx_search.specs.Nodes.{AreChoices, IsNode, IsReached, IsTried, 
 ghost use Rattle.rx_solve.specs.Answers.{IsSolver};
 ghost use Rattle.rx_term.specs.declared.rule.Equation.{Equation};
 
+use crate::dropping::dropped;
 use crate::known::{ChoiceMemo, known_choices};
 use rx_cert::Cert;
 use rx_fm::FmEnd;
@@ -21,6 +22,13 @@ use std::alloc::Global;
 
 /// How many steps settle a state at most.
 pub(crate) const MOST_STEPS: u32 = 200;
+
+/// What comes of a choice that leads to no node.
+fn without_node(noted: bool) -> Trial
+    ensures { result ≡ record { node = None; noted = noted } }
+{
+    Trial { node: None, noted }
+}
 
 /// What comes of a choice that leads to the node, where ranks are found with its hypotheses.
 fn where_ranked<S: FnMut(&Constraint) -> Result<Option<Cert>, FmEnd>>(
@@ -45,12 +53,9 @@ fn where_ranked<S: FnMut(&Constraint) -> Result<Option<Cert>, FmEnd>>(
             node: Some(node),
             noted,
         }),
-        Ok(false) => Ok(Trial { node: None, noted }),
-        Err(FmEnd::Large) => Ok(Trial {
-            node: None,
-            noted: true,
-        }),
-        Err(FmEnd::NoMemory) => Err(NoMemory),
+        Ok(false) => Ok(dropped(node, without_node(noted))),
+        Err(FmEnd::Large) => Ok(dropped(node, without_node(true))),
+        Err(FmEnd::NoMemory) => Err(dropped(node, NoMemory)),
     }
 }
 
@@ -165,5 +170,6 @@ pub(crate) fn find_choices<S: FnMut(&Constraint) -> Result<Option<Cert>, FmEnd>>
 {
     let choices = known_choices(alloc, rules, known, first, solve)?;
     let all = choices.get().as_slice();
-    add_all(alloc, rules, node, all, pairs, memo, solve)
+    let found = add_all(alloc, rules, node, all, pairs, memo, solve);
+    dropped(choices, found)
 }

@@ -8,6 +8,7 @@ ghost use Rattle.rx_solve.specs.Attempts.{beyond};
 ghost use Rattle.rx_steps.specs.Alone.{alone};
 ghost use Rattle.rx_term.specs.declared.rule_set.RuleParts.{RuleParts};
 
+use crate::dropping::dropped;
 use rx_cert::Cert;
 use rx_fm::FmEnd;
 use rx_memo::GoalMemo;
@@ -22,6 +23,42 @@ use std::alloc::Global;
 /// What is known of the choices at goals, in order. It serves the one rule set that it is first
 /// used with.
 pub(crate) type ChoiceMemo = GoalMemo<Items<KnownChoice>>;
+
+/// The goal alone.
+fn goal_alone(alloc: Global, goal: &Shared<Equation>) -> Result<State, NoMemory>
+    ensures { IfOk result (λ state. state ≡ alone goal.now) }
+{
+    State::alone(alloc, goal.try_clone()?)
+}
+
+/// What comes of a choice at this state, in which the goal is alone.
+fn try_at<S: FnMut(&Constraint) -> Result<Option<Cert>, FmEnd>>(
+    alloc: Global,
+    rules: &RuleSet,
+    goal: &Shared<Equation>,
+    state: State,
+    candidate: Candidate,
+    solve: &mut S,
+) -> Result<KnownChoice, NoMemory>
+    requires state { state ≡ alone goal.now }
+    requires can { CanBeTried candidate }
+    requires solver { IsSolver S.FnMut solve.old }
+    ensures solver { IsSolver S.FnMut solve.new }
+    ensures seen { IfOk result (λ k. seen_known k ≡
+        attempted_by rules.now (alone goal.now) candidate) }
+    ensures right { IfOk result (IsRightChoice rules.now goal.now) }
+{
+    let Candidate {
+        number,
+        keeps,
+        step,
+    } = candidate;
+    let mut after = state;
+    match try_step(alloc, rules, &mut after, step, solve) {
+        Ok(trial) => KnownChoice::new(alloc, number, keeps, trial.taken, trial.noted, after),
+        Err(NoMemory) => Err(dropped(after, NoMemory)),
+    }
+}
 
 /// What comes of a choice where the goal is alone.
 fn try_alone<S: FnMut(&Constraint) -> Result<Option<Cert>, FmEnd>>(
@@ -38,14 +75,10 @@ fn try_alone<S: FnMut(&Constraint) -> Result<Option<Cert>, FmEnd>>(
         attempted_by rules.now (alone goal.now) candidate) }
     ensures right { IfOk result (IsRightChoice rules.now goal.now) }
 {
-    let Candidate {
-        number,
-        keeps,
-        step,
-    } = candidate;
-    let mut after = State::alone(alloc, goal.try_clone()?)?;
-    let trial = try_step(alloc, rules, &mut after, step, solve)?;
-    KnownChoice::new(alloc, number, keeps, trial.taken, trial.noted, after)
+    match goal_alone(alloc, goal) {
+        Ok(state) => try_at(alloc, rules, goal, state, candidate, solve),
+        Err(NoMemory) => Err(dropped(candidate, NoMemory)),
+    }
 }
 
 /// What comes of each of these choices, in order.
@@ -78,7 +111,7 @@ fn push_noted(
     ensures { (parts : RuleParts) (cs : List Attempted) → AreOf parts goal.now cs known.old →
         OnOk result (AreOf parts goal.now (cs ++ attempted 6 false beyond ∷ []) known.new) }
 {
-    let after = State::alone(alloc, goal.try_clone()?)?;
+    let after = goal_alone(alloc, goal)?;
     Ok(known.push(KnownChoice {
         number: 6,
         keeps: false,
@@ -104,8 +137,10 @@ fn find_alone<S: FnMut(&Constraint) -> Result<Option<Cert>, FmEnd>>(
     if !found.noted {
         return Ok(known);
     }
-    push_noted(alloc, goal, &mut known)?;
-    Ok(known)
+    match push_noted(alloc, goal, &mut known) {
+        Ok(()) => Ok(known),
+        Err(NoMemory) => Err(dropped(known, NoMemory)),
+    }
 }
 
 /// What is known of the choices at the goal. Where nothing is kept of it, it is found, and kept if

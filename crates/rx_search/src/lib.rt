@@ -5,6 +5,7 @@
 #![tactic(auto)]
 
 mod choices;
+mod dropping;
 mod known;
 mod menu;
 mod plans;

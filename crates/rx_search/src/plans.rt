@@ -1,6 +1,7 @@
 //! The tree of plans: its nodes are where steps lead from the goal, and its choices are steps.
-ghost use Rattle.std.specs.Prelude.{◌≡◌, IfOk};
+ghost use Rattle.std.specs.Prelude.{◌≡◌, ◌++◌, IfOk, OnOk};
 ghost use Rattle.rx_node.specs.Calls.{node_of};
+ghost use Rattle.rx_node.specs.Nodes.{is_closed};
 ghost use Rattle.rx_search.specs.Nodes.{IsNode};
 ghost use Rattle.rx_search.specs.Search.{settled};
 ghost use Rattle.rx_settle.specs.Known.{AreKnown};
@@ -9,13 +10,15 @@ ghost use Rattle.rx_term.specs.declared.rule.Equation.{Equation};
 ghost use Rattle.rx_unfold.specs.LoopPoints.{AreLoopPoints};
 ghost use Rattle.rx_visits.specs.Views.{seen_settled};
 
+use crate::dropping::dropped;
 use crate::known::ChoiceMemo;
 use crate::menu::find_menu;
 use rx_cert::Cert;
 use rx_fm::FmEnd;
+use rx_form::Step;
 use rx_node::{Node, is_closed, shared_steps};
 use rx_pairs::Pair;
-use rx_plain::{Items, NoMemory};
+use rx_plain::{Items, NoMemory, Shared};
 use rx_ranked::RankMemo;
 use rx_row::{Constraint, Row};
 use rx_settle::{SettleMemo, settle};
@@ -24,13 +27,46 @@ use rx_unfold::LoopPoints;
 use rx_visits::{Menu, Settled, Tree};
 use std::alloc::Global;
 
+/// Adds steps, which may be shared from then on.
+fn append_steps(
+    alloc: Global,
+    steps: &mut Items<Shared<Step>>,
+    more: Items<Step>,
+) -> Result<(), NoMemory>
+    ensures { OnOk result (steps.new ≡ steps.old ++ more) }
+{
+    let fresh = shared_steps(alloc, more)?;
+    Ok(steps.append(fresh)?)
+}
+
+/// The node, whose state was settled so, with the steps that did it.
+fn settled_by(
+    alloc: Global,
+    mut node: Node,
+    found: rx_settle::Settled,
+) -> Result<Settled<Node, Items<Row>>, NoMemory>
+    ensures { IfOk result (λ s. s ≡ record {
+      node = record { steps = node.steps ++ found.steps; state = node.state; left = found.left };
+      closed = is_closed node.state.goals;
+      note = found.note;
+    }) }
+{
+    let rx_settle::Settled { steps, left, note } = found;
+    let closed = is_closed(&node.state);
+    node.left = left;
+    match append_steps(alloc, &mut node.steps, steps) {
+        Ok(()) => Ok(Settled { node, closed, note }),
+        Err(NoMemory) => Err(dropped(node, dropped(note, NoMemory))),
+    }
+}
+
 /// The node once it is settled.
 fn settle_node<S: FnMut(&Constraint) -> Result<Option<Cert>, FmEnd>>(
     alloc: Global,
     rules: &RuleSet,
     points: &LoopPoints,
     memo: &mut SettleMemo,
-    node: Node,
+    mut node: Node,
     solve: &mut S,
 ) -> Result<Settled<Node, Items<Row>>, NoMemory>
     requires points { AreLoopPoints rules.now points.now }
@@ -43,24 +79,10 @@ fn settle_node<S: FnMut(&Constraint) -> Result<Option<Cert>, FmEnd>>(
     ensures node { (goal : Equation) → IsNode rules.now goal node →
         IfOk result (λ s. IsNode rules.now goal s.node) }
 {
-    let Node {
-        mut steps,
-        mut state,
-        ..
-    } = node;
-    let found = settle(alloc, rules, points, memo, &mut state, solve)?;
-    let fresh = shared_steps(alloc, found.steps)?;
-    steps.append(fresh)?;
-    let closed = is_closed(&state);
-    Ok(Settled {
-        node: Node {
-            steps,
-            state,
-            left: found.left,
-        },
-        closed,
-        note: found.note,
-    })
+    match settle(alloc, rules, points, memo, &mut node.state, solve) {
+        Ok(found) => settled_by(alloc, node, found),
+        Err(NoMemory) => Err(dropped(node, NoMemory)),
+    }
 }
 
 /// The plans for a goal over rules.

@@ -1,5 +1,5 @@
 //! The search.
-ghost use Rattle.std.specs.Prelude.{◌≡◌, ◌≤◌, [], All, IfErr, IfOk, map, true};
+ghost use Rattle.std.specs.Prelude.{◌≡◌, ◌≤◌, [], ℕ, All, IfErr, IfOk, map, true};
 ghost use Rattle.rx_cert.specs.Findings.{Yes};
 ghost use Rattle.rx_cover.specs.Covering.{Covers, covering};
 ghost use Rattle.rx_coverable.specs.Answers.{AreSmall};
@@ -10,11 +10,11 @@ ghost use Rattle.rx_log.specs.Depth.{is_shallow_log};
 ghost use Rattle.rx_node.specs.Calls.{node_of};
 ghost use Rattle.rx_pairs.specs.Pairs.{AreAllPairs, HasRoot, SidesFit};
 ghost use Rattle.rx_rank.specs.Ranking.{ranked};
+ghost use Rattle.rx_ranked.specs.HasRanks.{HasRanksAnswer};
 ghost use Rattle.rx_ranking.specs.Found.{LowersAll};
 ghost use Rattle.rx_search.specs.Ends.{IsEnd};
 ghost use Rattle.rx_search.specs.Nodes.{IsNode};
-ghost use Rattle.rx_search.specs.Search.{Closed, of_outcome, searched, settled, menu, start};
-ghost use Rattle.rx_search.specs.Searching.{AsksSolver};
+ghost use Rattle.rx_search.specs.Search.{Closed, Large, of_outcome, searched, settled, menu, start};
 ghost use Rattle.rx_solve.specs.Answers.{IsSolver};
 ghost use Rattle.rx_term.specs.declared.rule.Equation.{Equation};
 ghost use Rattle.rx_unfold.specs.Moves.{move_of};
@@ -23,6 +23,7 @@ ghost use Rattle.rx_visits.specs.Views.{IfClosed, seen_outcome};
 ghost use Rattle.rx_visits.specs.Visits.{all_visits};
 
 use crate::choices::MOST_STEPS;
+use crate::dropping::dropped;
 use crate::plans::Plans;
 use crate::search_end::SearchEnd;
 use rx_cert::Cert;
@@ -43,6 +44,7 @@ use rx_term::{Equation, Rule, RuleSet};
 use rx_unfold::LoopPoints;
 use rx_visits::{Note, Outcome};
 use std::alloc::Global;
+use std::marker::Model;
 
 /// How many nodes are kept from one list of visits to the next, at most, unless another number is
 /// given.
@@ -78,9 +80,9 @@ fn visit_plans<S: FnMut(&Constraint) -> Result<Option<Cert>, FmEnd>>(
     let _made = rules.parts();
     let pairs = rule_pairs(alloc, rules)?;
     let points = LoopPoints::new(alloc, rules)?;
-    let start = Node::start(alloc, goal, MOST_STEPS)?;
     let mut settle_memo = SettleMemo::new(alloc)?;
     let mut choice_memo = GoalMemo::new(alloc)?;
+    let start = Node::start(alloc, goal, MOST_STEPS)?;
     let mut plans = Plans {
         alloc,
         rules,
@@ -134,53 +136,183 @@ fn ranks_of<S: FnMut(&Constraint) -> Result<Option<Cert>, FmEnd>>(
     }
 }
 
+/// The log of a node with these trees and ranks.
+fn log_with(
+    alloc: Global,
+    node: &Node,
+    covers: Items<Items<CoverTree>>,
+    ranking: Ranking,
+) -> Result<Log, NoMemory>
+    ensures { IfOk result (λ log. log ≡ record {
+      covers = covers;
+      steps = node.now.steps;
+      table = ranking.table;
+      pairs = ranking.certs;
+    }) }
+{
+    match own_steps(alloc, node.steps.as_slice()) {
+        Ok(steps) => Ok(Log {
+            covers,
+            steps,
+            table: ranking.table,
+            pairs: ranking.certs,
+        }),
+        Err(NoMemory) => Err(dropped((covers, ranking), NoMemory)),
+    }
+}
+
 /// The log of a node at which no goal is left.
 fn log_of<S: FnMut(&Constraint) -> Result<Option<Cert>, FmEnd>>(
     alloc: Global,
     rules: &RuleSet,
-    node: Node,
+    node: &Node,
     memo: &mut RankMemo,
     solve: &mut S,
 ) -> Result<Log, NoMemory>
     requires coverable { is_coverable rules.now ≡ true }
-    requires node { (goal : Equation) × IsNode rules.now goal node }
-    requires closed { node.state.goals ≡ [] }
+    requires node { (goal : Equation) × IsNode rules.now goal node.now }
+    requires closed { node.now.state.goals ≡ [] }
     requires solver { IsSolver S.FnMut solve.old }
     ensures solver { IsSolver S.FnMut solve.new }
-    ensures steps { IfOk result (λ log. log.steps ≡ node.steps) }
-    ensures accepted { (goal : Equation) → IsNode rules.now goal node →
+    ensures steps { IfOk result (λ log. log.steps ≡ node.now.steps) }
+    ensures accepted { (goal : Equation) → IsNode rules.now goal node.now →
         IfOk result (IsAccepted rules.now goal) }
     ensures shallow { IfOk result (λ log. is_shallow_log log ≡ true) }
 {
     let covers = cover_of(alloc, rules, solve)?;
-    let ranking = ranks_of(
+    match ranks_of(
         alloc,
         rules,
         node.state.hypotheses(),
         &mut memo.pairs,
         solve,
-    )?;
-    let steps = own_steps(alloc, node.steps.as_slice())?;
-    Ok(Log {
-        covers,
-        steps,
-        table: ranking.table,
-        pairs: ranking.certs,
-    })
+    ) {
+        Ok(ranking) => log_with(alloc, node, covers, ranking),
+        Err(NoMemory) => Err(dropped(covers, NoMemory)),
+    }
 }
 
-/// A search for proofs, by what refutes rows.
+/// What the visits of the plans come to, as a log or as an end.
+fn visit<S: FnMut(&Constraint) -> Result<Option<Cert>, FmEnd>>(
+    alloc: Global,
+    rules: &RuleSet,
+    goal: &Equation,
+    depth: u32,
+    budget: u32,
+    most_kept: usize,
+    memo: &mut RankMemo,
+    solve: &mut S,
+) -> Result<Log, SearchEnd>
+    requires coverable { is_coverable rules.now ≡ true }
+    requires fits { IsFitting rules.now goal.now }
+    requires ranked { ranked rules.now [] ≡ Yes }
+    requires solver { IsSolver S.FnMut solve.old }
+    ensures solver { IsSolver S.FnMut solve.new }
+    ensures steps { IfOk result (λ log. of_outcome
+        (outcome budget (all_visits (settled rules.now) (menu rules.now) depth
+        (start goal.now))) ≡ Closed (map move_of log.steps)) }
+    ensures accepted { IfOk result (λ log. IsAccepted rules.now goal.now log) }
+    ensures shallow { IfOk result (λ log. is_shallow_log log ≡ true) }
+    ensures ends { IfErr result (λ e. IsEnd depth budget
+        (of_outcome (outcome budget (all_visits (settled rules.now) (menu rules.now) depth
+        (start goal.now)))) e) }
+{
+    let outcome = visit_plans(alloc, rules, goal, depth, budget, most_kept, memo, solve)?;
+    match outcome {
+        Outcome::Closed(node) => {
+            match log_of(alloc, rules, &node, memo, solve) {
+                Ok(log) => Ok(dropped(node, log)),
+                Err(NoMemory) => Err(dropped(node, SearchEnd::NoMemory)),
+            }
+        }
+        Outcome::Noted(Note { path, noted }) => Err(SearchEnd::Large { path, rows: noted }),
+        Outcome::Spent => Err(SearchEnd::Spent { visits: budget }),
+        Outcome::Through => Err(SearchEnd::NoPlan { depth }),
+    }
+}
+
+/// Whether the rules alone have ranks.
+fn has_ranks<S: FnMut(&Constraint) -> Result<Option<Cert>, FmEnd>>(
+    alloc: Global,
+    rules: &RuleSet,
+    memo: &mut PairMemo,
+    solve: &mut S,
+) -> Result<bool, FmEnd>
+    requires solver { IsSolver S.FnMut solve.old }
+    ensures solver { IsSolver S.FnMut solve.new }
+    ensures answer { HasRanksAnswer (ranked rules.now []) result }
+{
+    match find_ranks_with(alloc, rules, &[], memo, solve) {
+        Ok(Some(ranking)) => Ok(dropped(ranking, true)),
+        Ok(None) => Ok(false),
+        Err(end) => Err(end),
+    }
+}
+
+/// How a search ends where the limits are passed on the way to the ranks of the rules: with the
+/// rows of the goal.
+fn large_at(alloc: Global, goal: &Equation) -> SearchEnd
+    ensures { (depth budget : ℕ) → IsEnd depth budget (Large [] goal.now.rows) result }
+{
+    match copied_rows(alloc, goal.rows.rows()) {
+        Ok(rows) => SearchEnd::Large {
+            path: Items::new(alloc),
+            rows,
+        },
+        Err(NoMemory) => SearchEnd::NoMemory,
+    }
+}
+
+/// What a search comes to, as a log or as an end: the ranks of the rules alone come first.
+fn search_by<S: FnMut(&Constraint) -> Result<Option<Cert>, FmEnd>>(
+    alloc: Global,
+    rules: &RuleSet,
+    goal: &Equation,
+    depth: u32,
+    budget: u32,
+    most_kept: usize,
+    memo: &mut RankMemo,
+    solve: &mut S,
+) -> Result<Log, SearchEnd>
+    requires coverable { is_coverable rules.now ≡ true }
+    requires fits { IsFitting rules.now goal.now }
+    requires solver { IsSolver S.FnMut solve.old }
+    ensures solver { IsSolver S.FnMut solve.new }
+    ensures steps { IfOk result (λ log. searched rules.now goal.now depth budget ≡
+        Closed (map move_of log.steps)) }
+    ensures accepted { IfOk result (λ log. IsAccepted rules.now goal.now log) }
+    ensures shallow { IfOk result (λ log. is_shallow_log log ≡ true) }
+    ensures ends { IfErr result (λ e. IsEnd depth budget
+        (searched rules.now goal.now depth budget) e) }
+{
+    match has_ranks(alloc, rules, &mut memo.pairs, solve) {
+        Ok(true) => visit(alloc, rules, goal, depth, budget, most_kept, memo, solve),
+        Ok(false) => Err(SearchEnd::NoRanks),
+        Err(FmEnd::Large) => Err(large_at(alloc, goal)),
+        Err(FmEnd::NoMemory) => Err(SearchEnd::NoMemory),
+    }
+}
+
+/// A search for proofs, by what refutes rows. Contracts see the closure that it asks.
 #[derive(Drop)]
 pub struct Search<S> {
     solve: S,
     most_kept: usize,
 }
 
+impl<S> Model for Search<S> {
+    ghost Value = { S };
+
+    ghost coded = { S.code };
+
+    ghost view = { λ s. s.solve };
+}
+
 impl<S: FnMut(&Constraint) -> Result<Option<Cert>, FmEnd>> Search<S> {
     /// A search that asks this closure. Takes no memory.
     pub fn new(solve: S) -> Search<S>
         requires { IsSolver S.FnMut solve }
-        ensures { AsksSolver S.FnMut result }
+        ensures { IsSolver S.FnMut result }
     {
         Search {
             solve,
@@ -192,58 +324,12 @@ impl<S: FnMut(&Constraint) -> Result<Option<Cert>, FmEnd>> Search<S> {
     /// place of 32,768. What it answers doesn't depend on that, only its time and its memory do.
     /// Takes no memory.
     pub fn keeping(self, most_kept: usize) -> Search<S>
-        requires { AsksSolver S.FnMut self }
-        ensures { AsksSolver S.FnMut result }
+        requires { IsSolver S.FnMut self }
+        ensures { IsSolver S.FnMut result }
     {
         Search {
             solve: self.solve,
             most_kept,
-        }
-    }
-
-    /// What the visits of the plans come to, as a log or as an end.
-    fn visit(
-        &mut self,
-        alloc: Global,
-        rules: &RuleSet,
-        goal: &Equation,
-        depth: u32,
-        budget: u32,
-        memo: &mut RankMemo,
-    ) -> Result<Log, SearchEnd>
-        requires solver { AsksSolver S.FnMut self.old }
-        requires coverable { is_coverable rules.now ≡ true }
-        requires fits { IsFitting rules.now goal.now }
-        requires ranked { ranked rules.now [] ≡ Yes }
-        ensures solver { AsksSolver S.FnMut self.new }
-        ensures steps { IfOk result (λ log. of_outcome
-            (outcome budget (all_visits (settled rules.now) (menu rules.now) depth
-            (start goal.now))) ≡ Closed (map move_of log.steps)) }
-        ensures accepted { IfOk result (λ log. IsAccepted rules.now goal.now log) }
-        ensures shallow { IfOk result (λ log. is_shallow_log log ≡ true) }
-        ensures ends { IfErr result (λ e. IsEnd depth budget
-            (of_outcome (outcome budget (all_visits (settled rules.now) (menu rules.now) depth
-            (start goal.now)))) e) }
-    {
-        let kept = self.most_kept;
-        let outcome = visit_plans(
-            alloc,
-            rules,
-            goal,
-            depth,
-            budget,
-            kept,
-            memo,
-            &mut self.solve,
-        )?;
-        match outcome {
-            Outcome::Closed(node) => {
-                let log = log_of(alloc, rules, node, memo, &mut self.solve)?;
-                Ok(log)
-            }
-            Outcome::Noted(Note { path, noted }) => Err(SearchEnd::Large { path, rows: noted }),
-            Outcome::Spent => Err(SearchEnd::Spent { visits: budget }),
-            Outcome::Through => Err(SearchEnd::NoPlan { depth }),
         }
     }
 
@@ -264,11 +350,11 @@ impl<S: FnMut(&Constraint) -> Result<Option<Cert>, FmEnd>> Search<S> {
         depth: u32,
         budget: u32,
     ) -> Result<Log, SearchEnd>
-        requires solver { AsksSolver S.FnMut self.old }
+        requires solver { IsSolver S.FnMut self.old }
         requires coverable { is_coverable rules.now ≡ true }
         requires fits { IsFitting rules.now goal.now }
         requires depth { depth ≤ 12 }
-        ensures solver { AsksSolver S.FnMut self.new }
+        ensures solver { IsSolver S.FnMut self.new }
         ensures steps { IfOk result (λ log. searched rules.now goal.now depth budget ≡
             Closed (map move_of log.steps)) }
         ensures accepted { IfOk result (λ log. IsAccepted rules.now goal.now log) }
@@ -277,14 +363,16 @@ impl<S: FnMut(&Constraint) -> Result<Option<Cert>, FmEnd>> Search<S> {
             (searched rules.now goal.now depth budget) e) }
     {
         let mut memo = RankMemo::new(alloc);
-        match find_ranks_with(alloc, rules, &[], &mut memo.pairs, &mut self.solve) {
-            Ok(Some(_)) => self.visit(alloc, rules, goal, depth, budget, &mut memo),
-            Ok(None) => Err(SearchEnd::NoRanks),
-            Err(FmEnd::Large) => Err(SearchEnd::Large {
-                path: Items::new(alloc),
-                rows: copied_rows(alloc, goal.rows.rows())?,
-            }),
-            Err(FmEnd::NoMemory) => Err(SearchEnd::NoMemory),
-        }
+        let most_kept = self.most_kept;
+        search_by(
+            alloc,
+            rules,
+            goal,
+            depth,
+            budget,
+            most_kept,
+            &mut memo,
+            &mut self.solve,
+        )
     }
 }

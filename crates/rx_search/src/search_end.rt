@@ -3,7 +3,6 @@ ghost use Rattle.std.specs.Prelude.{◌≡◌};
 
 use rx_plain::{Items, NoMemory};
 use rx_row::Row;
-use std::alloc::{AllocError, AllocFailed};
 use thiserror::Error;
 
 /// Why a search made no log, or why that isn't known.
@@ -44,17 +43,6 @@ impl From<NoMemory> for SearchEnd {
     ghost from_gives = { λ _ e. e ≡ NoMemory };
 
     fn from(_e: NoMemory) -> SearchEnd {
-        SearchEnd::NoMemory
-    }
-}
-
-impl From<AllocError> for SearchEnd {
-    ghost use Rattle.std.specs.Prelude.{◌≡◌};
-    ghost use Rattle.rx_search.specs.declared.search_end.SearchEnd.TheVariants.{NoMemory};
-
-    ghost from_gives = { λ _ e. e ≡ NoMemory };
-
-    fn from(_e: AllocError) -> SearchEnd {
         SearchEnd::NoMemory
     }
 }

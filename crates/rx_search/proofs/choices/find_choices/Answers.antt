@@ -1,13 +1,16 @@
 -- What is known of the first goal gives the choices.
 use Rattle.std.proofs.Common.{◌∙◌, All, ap, map, subst, sym}
-use Rattle.std.specs.Prelude.{IfOk}
+use Rattle.std.specs.Prelude.{IfOk, Result}
+use Rattle.rx_plain.specs.declared.no_memory.NoMemory.{NoMemory}
+use Rattle.rx_node.specs.declared.choices.Choices.{Choices}
 use Rattle.rx_search.specs.Known.{IsRightAt, chosen_by}
-use Rattle.rx_search.specs.Nodes.{AreChoices}
+use Rattle.rx_search.specs.Menu.{chosen_at}
+use Rattle.rx_search.specs.Nodes.{AreChoices, IsNode}
 use Rattle.rx_search.proofs.Lifting.{chosen_known, right_at}
 use Rattle.rx_search.proofs.choices.find_choices.Goals as goal
 
-pub add_all-requires-clause-right : goal.add_all-requires-clause-right
-add_all-requires-clause-right g c =
+pub add_all-found-requires-clause-right : goal.add_all-found-requires-clause-right
+add_all-found-requires-clause-right g c =
     subst (All (IsRightAt c.args.rules.now c.args.node.now.state))
     (sym (c.as_slice-all.ensures ∙ c.get.ensures))
     (right_at c.args.rules.now c.args.node.now.state c.args.first c.in_ok-choices.choices
@@ -17,8 +20,16 @@ pub returns-clause-choices : goal.returns-clause-choices
 returns-clause-choices g c =
     let parts = c.args.rules.now in
     let node = c.args.node.now in
-    subst (λ cs. IfOk c.add_all.result (AreChoices node cs))
+    subst (λ (r : Result Choices NoMemory). IfOk r (AreChoices node
+    (chosen_at parts node.state c.args.first))) (sym c.dropped.ensures)
+    (subst (λ cs. IfOk c.add_all-found.result (AreChoices node cs))
     (ap (map (chosen_by parts node.state)) (c.as_slice-all.ensures ∙ c.get.ensures)
     ∙ chosen_known parts node.state c.args.first c.in_ok-choices.choices c.requires.first
     c.in_ok-choices.ensures.right)
-    c.add_all.ensures.choices
+    c.add_all-found.ensures.choices)
+
+pub returns-clause-nodes : goal.returns-clause-nodes
+returns-clause-nodes g c = λ goal node.
+    subst (λ (r : Result Choices NoMemory). IfOk r (λ f.
+    All (λ x. IsNode c.args.rules.now goal x.node) f.choices)) (sym c.dropped.ensures)
+    (c.add_all-found.ensures.nodes goal node)

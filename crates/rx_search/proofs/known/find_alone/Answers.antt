@@ -24,8 +24,8 @@ returns-then-not-found-clause-right g c =
     (none_noted rules goal c.in_ok-found.found c.in_ok-known.known
     (not-true c.in_ok-found.found.noted c.if-not-found.true) c.in_ok-known.ensures.known)
 
-pub returns-clause-right : goal.returns-clause-right
-returns-clause-right g c =
+pub returns-in-Ok-clause-right : goal.returns-in-Ok-clause-right
+returns-in-Ok-clause-right g c =
     let rules = c.args.rules.now in
     let goal = c.args.goal.now in
     let is = c.in_ok-found.ensures.found ∙
@@ -34,4 +34,4 @@ returns-clause-right g c =
     c.push_noted.new.known) is
     (all_noted rules goal c.in_ok-found.found c.push_noted.new.known
     (not-false c.in_ok-found.found.noted c.if-not-found.false)
-    (c.in_ok-push_noted.ensures rules _ c.in_ok-known.ensures.known))
+    (c.in-Ok.ensures rules _ c.in_ok-known.ensures.known))

@@ -1,10 +1,8 @@
 -- One more choice, that doesn't apply.
-use Rattle.std.proofs.Common.{◌∙◌, ap}
-use Rattle.rx_steps.specs.Alone.{alone}
 use Rattle.rx_search.proofs.Finding.{noted_grow}
 use Rattle.rx_search.proofs.known.push_noted.Goals as goal
 
 pub returns : goal.returns
 returns c = λ parts cs are.
     noted_grow parts c.args.goal.now cs c.in_ok-after.after c.args.known.now c.push.new.self
-    (c.in_ok-after.ensures ∙ ap alone c.in_ok-try_clone.ensures) c.in_ok-push.ensures.ok are
+    c.in_ok-after.ensures c.in_ok-push.ensures.ok are

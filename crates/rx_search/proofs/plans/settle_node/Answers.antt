@@ -1,18 +1,32 @@
 -- The steps that settle the state come after the node's.
-use Rattle.std.proofs.Common.{◌++◌, ◌∙◌, ap}
+use Rattle.std.proofs.Common.{◌≡◌, ◌++◌, List, refl, subst, sym}
+use Rattle.std.proofs.lemmas.Result.{IfOk-weaker}
+use Rattle.rx_row.specs.declared.row.Row.{Row}
+use Rattle.rx_node.specs.Calls.{node_of}
+use Rattle.rx_node.specs.Nodes.{is_closed}
+use Rattle.rx_node.specs.declared.node.Node.{Node}
+use Rattle.rx_search.specs.Nodes.{IsNode}
+use Rattle.rx_search.specs.Search.{settled}
 use Rattle.rx_search.proofs.Settled.{settled_node, settled_seen}
 use Rattle.rx_search.proofs.plans.settle_node.Goals as goal
+use Rattle.rx_visits.specs.Views.{seen_settled}
+use Rattle.rx_visits.specs.declared.tree.Settled.{Settled}
 
-pub returns-clause-settled : goal.returns-clause-settled
-returns-clause-settled g c =
-    settled_seen c.args.rules.now c.args.node c.settle.new.state c.in_ok-found.found
-    c.in_ok-found.ensures.settled c.append.new.self c.is_closed-closed.result
-    (c.in_ok-append.ensures.ok ∙ ap (λ xs. c.args.node.steps ++ xs) c.in_ok-fresh.ensures)
-    c.is_closed-closed.ensures
+pub returns-in-Ok-clause-settled : goal.returns-in-Ok-clause-settled
+returns-in-Ok-clause-settled g c =
+    let parts = c.args.rules.now in
+    IfOk-weaker c.settled_by.result _ _
+    (λ s same. subst (λ (s : Settled Node (List Row)). seen_settled node_of s ≡
+    settled parts (node_of c.args.node)) (sym same)
+    (settled_seen parts c.args.node c.settle.new.state c.in-Ok.found c.in-Ok.ensures.settled
+    (c.args.node.steps ++ c.in-Ok.found.steps) (is_closed c.settle.new.state.goals) refl refl))
+    c.settled_by.ensures
 
-pub returns-clause-node : goal.returns-clause-node
-returns-clause-node g c = λ goal node.
-    settled_node c.args.rules.now c.args.node c.settle.new.state c.in_ok-found.found
-    c.in_ok-found.ensures.settled goal c.append.new.self
-    (c.in_ok-append.ensures.ok ∙ ap (λ xs. c.args.node.steps ++ xs) c.in_ok-fresh.ensures)
-    c.in_ok-found.ensures.hypotheses node
+pub returns-in-Ok-clause-node : goal.returns-in-Ok-clause-node
+returns-in-Ok-clause-node g c = λ goal node.
+    let parts = c.args.rules.now in
+    IfOk-weaker c.settled_by.result _ _
+    (λ s same. subst (λ (s : Settled Node (List Row)). IsNode parts goal s.node) (sym same)
+    (settled_node parts c.args.node c.settle.new.state c.in-Ok.found c.in-Ok.ensures.settled goal
+    (c.args.node.steps ++ c.in-Ok.found.steps) refl c.in-Ok.ensures.hypotheses node))
+    c.settled_by.ensures

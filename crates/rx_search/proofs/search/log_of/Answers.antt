@@ -1,5 +1,10 @@
 -- The node's log is accepted.
-use Rattle.std.proofs.Common.{◌∙◌, All, List, ap, refl, subst, sym}
+use Rattle.std.proofs.Common.{◌≡◌, All, List, ap, subst, sym, true, ◌∙◌}
+use Rattle.std.proofs.lemmas.Result.{IfOk-weaker}
+use Rattle.rx_cover.specs.Covering.{Covers, covering}
+use Rattle.rx_log.specs.Acceptance.{IsAccepted}
+use Rattle.rx_log.specs.Depth.{is_shallow_log}
+use Rattle.rx_log.specs.declared.log.Log.{Log}
 use Rattle.rx_pairs.specs.Pairs.{HasRoot, SidesFit}
 use Rattle.rx_ranking.specs.Found.{LowersAll}
 use Rattle.rx_rank.specs.Ranking.{ranked}
@@ -18,41 +23,37 @@ pub ranks_of-requires-clause-roots : goal.ranks_of-requires-clause-roots
 ranks_of-requires-clause-roots g c =
     let (goal, node) = c.requires.node in
     subst (All HasRoot) (sym c.hypotheses.ensures)
-    (reached_rooted c.args.rules.now goal c.args.node node.reached)
+    (reached_rooted c.args.rules.now goal c.args.node.now node.reached)
 
 pub ranks_of-requires-clause-fits : goal.ranks_of-requires-clause-fits
 ranks_of-requires-clause-fits g c =
     let (goal, node) = c.requires.node in
     subst (All (SidesFit c.args.rules.now)) (sym c.hypotheses.ensures)
-    (reached_fits c.args.rules.now goal c.args.node node.reached)
+    (reached_fits c.args.rules.now goal c.args.node.now node.reached)
 
-pub returns-clause-accepted : goal.returns-clause-accepted
-returns-clause-accepted g c = λ goal node.
-    accepted c.args.rules.now goal c.args.node
-    (record {
-      covers = c.in_ok-covers.covers;
-      steps = c.in_ok-steps.steps;
-      table =
-          c.in_ok-ranking.ranking.table;
-      pairs = c.in_ok-ranking.ranking.certs;
-    })
-    c.in_ok-ranking.ranking node c.in_ok-covers.ensures.covers
-    (c.in_ok-steps.ensures ∙ c.as_slice.ensures) refl refl
-    (subst (λ (hs : List Rule). LowersAll c.args.rules.now hs c.in_ok-ranking.ranking)
-    c.hypotheses.ensures c.in_ok-ranking.ensures.lowers) c.requires.closed
+pub returns-in-Ok-clause-steps : goal.returns-in-Ok-clause-steps
+returns-in-Ok-clause-steps g c =
+    IfOk-weaker c.log_with.result _ (λ (log : Log). log.steps ≡ c.args.node.now.steps)
+    (λ log same. ap (λ (log : Log). log.steps) same) c.log_with.ensures
 
-pub returns-clause-shallow : goal.returns-clause-shallow
-returns-clause-shallow g c =
+pub returns-in-Ok-clause-accepted : goal.returns-in-Ok-clause-accepted
+returns-in-Ok-clause-accepted g c = λ goal node.
+    IfOk-weaker c.log_with.result _ (IsAccepted c.args.rules.now goal)
+    (λ log same. accepted c.args.rules.now goal c.args.node.now log c.in-Ok.ranking node
+    (subst (λ lists. covering c.args.rules.now lists ≡ Covers)
+    (sym (ap (λ (log : Log). log.covers) same)) c.in_ok-covers.ensures.covers)
+    (ap (λ (log : Log). log.steps) same) (ap (λ (log : Log). log.table) same)
+    (ap (λ (log : Log). log.pairs) same)
+    (subst (λ (hs : List Rule). LowersAll c.args.rules.now hs c.in-Ok.ranking)
+    c.hypotheses.ensures c.in-Ok.ensures.lowers) c.requires.closed)
+    c.log_with.ensures
+
+pub returns-in-Ok-clause-shallow : goal.returns-in-Ok-clause-shallow
+returns-in-Ok-clause-shallow g c =
     let (goal, node) = c.requires.node in
-    log_shallow c.args.rules.now
-    (record {
-      covers = c.in_ok-covers.covers;
-      steps = c.in_ok-steps.steps;
-      table =
-          c.in_ok-ranking.ranking.table;
-      pairs = c.in_ok-ranking.ranking.certs;
-    })
-    c.in_ok-covers.covers c.args.node.steps c.in_ok-ranking.ranking.certs refl
-    (c.in_ok-steps.ensures ∙ c.as_slice.ensures) refl
-    c.in_ok-covers.ensures.small node.reached.deep
-    c.in_ok-ranking.ensures.lowers.deep
+    IfOk-weaker c.log_with.result _ (λ (log : Log). is_shallow_log log ≡ true)
+    (λ log same. log_shallow c.args.rules.now log c.in_ok-covers.covers c.args.node.now.steps
+    c.in-Ok.ranking.certs (ap (λ (log : Log). log.covers) same)
+    (ap (λ (log : Log). log.steps) same) (ap (λ (log : Log). log.pairs) same)
+    c.in_ok-covers.ensures.small node.reached.deep c.in-Ok.ensures.lowers.deep)
+    c.log_with.ensures

@@ -1,8 +1,11 @@
 -- The first closed node has no goals left, and its log is the answer.
+use Rattle.std.proofs.Common.{◌∙◌, ap, subst, sym}
+use Rattle.rx_log.specs.Acceptance.{IsAccepted}
+use Rattle.rx_log.specs.declared.log.Log.{Log}
 use Rattle.rx_search.specs.Nodes.{IsNode}
 use Rattle.rx_search.specs.Search.{start}
 use Rattle.rx_search.proofs.Closing.{closed_goals, closed_node, closed_steps}
-use Rattle.rx_search.proofs.search.Search.visit.Goals as goal
+use Rattle.rx_search.proofs.search.visit.Goals as goal
 
 pub log_of-requires-clause-node : goal.log_of-requires-clause-node
 log_of-requires-clause-node g c = (
@@ -16,14 +19,16 @@ log_of-requires-clause-closed g c =
     closed_goals c.args.rules.now c.args.depth c.args.budget (start c.args.goal.now)
     c.in_ok-outcome.outcome c.in-Closed.node c.in_ok-outcome.ensures.outcome c.in-Closed.is
 
-pub returns-in_ok-log-in-Closed-clause-steps : goal.returns-in_ok-log-in-Closed-clause-steps
-returns-in_ok-log-in-Closed-clause-steps g c =
+pub returns-in-Ok-clause-steps : goal.returns-in-Ok-clause-steps
+returns-in-Ok-clause-steps g c =
     closed_steps c.args.rules.now c.args.depth c.args.budget (start c.args.goal.now)
-    c.in_ok-outcome.outcome c.in-Closed.node c.in_ok-log-in-Closed.log.steps
-    c.in_ok-outcome.ensures.outcome c.in-Closed.is c.in_ok-log-in-Closed.ensures.steps
+    c.in_ok-outcome.outcome c.in-Closed.node c.dropped.result.steps
+    c.in_ok-outcome.ensures.outcome c.in-Closed.is
+    (ap (λ (log : Log). log.steps) c.dropped.ensures ∙ c.in-Ok.ensures.steps)
 
-pub returns-in_ok-log-in-Closed-clause-accepted : goal.returns-in_ok-log-in-Closed-clause-accepted
-returns-in_ok-log-in-Closed-clause-accepted g c =
-    c.in_ok-log-in-Closed.ensures.accepted c.args.goal.now
+pub returns-in-Ok-clause-accepted : goal.returns-in-Ok-clause-accepted
+returns-in-Ok-clause-accepted g c =
+    subst (IsAccepted c.args.rules.now c.args.goal.now) (sym c.dropped.ensures)
+    (c.in-Ok.ensures.accepted c.args.goal.now
     (closed_node (IsNode c.args.rules.now c.args.goal.now) c.in_ok-outcome.outcome c.in-Closed.node
-    c.in-Closed.is c.in_ok-outcome.ensures.node)
+    c.in-Closed.is c.in_ok-outcome.ensures.node))
