@@ -1,12 +1,12 @@
 //! Definite assignment.
 ghost use Rattle.std.specs.Prelude.{◌<◌, ◌^◌, length};
 
-use crate::printing::put_debug;
 use crate::texts::{first_of, parse_text};
 use c_assigned::fault_of;
 use c_ast::Function;
 use c_names::names_of;
 use std::alloc::Global;
+use tables::put_debug;
 
 // What is wrong with the variables of a function, whose tokens have these names.
 fn shown_fault(alloc: Global, names: &[u32], function: &Function) -> Option<String>

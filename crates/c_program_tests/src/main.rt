@@ -8,13 +8,13 @@
 #![tactic(auto)]
 
 mod assigning;
-mod printing;
 mod scoping;
 mod texts;
 mod trees;
 
 use std::alloc::Global;
 use std::io;
+use tables::{BAR, run};
 
 // What the call answers to what it is given; none where the line is no case.
 fn answer(alloc: Global, call: &str, given: &str) -> Option<String> {
@@ -28,27 +28,6 @@ fn answer(alloc: Global, call: &str, given: &str) -> Option<String> {
     }
 }
 
-// Whether the line's call answers what is wanted; none where the line is no case.
-fn holds(alloc: Global, line: &str) -> Option<bool> {
-    let (call, rest) = line.split_once(" | ")?;
-    let (given, wanted) = rest.rsplit_once(" | ")?;
-    let found = answer(alloc, call, given)?;
-    let wanted = texts::bytes_of(alloc, wanted)?;
-    Some(found.as_bytes() == wanted.as_slice())
-}
-
 fn main(rt: HostRuntime) -> io::Result<()> {
-    let mut count = 0u64;
-    for line in rt.lines(rt.alloc()) {
-        let line = line?;
-        if line.as_str().starts_with("#") {
-            continue;
-        }
-        match holds(rt.alloc(), line.as_str()) {
-            Some(true) => count = count.saturating_add(1),
-            Some(false) => println!(rt; "differs: {line}")?,
-            None => println!(rt; "unread: {line}")?,
-        }
-    }
-    println!(rt; "{count} lines hold")
+    run(&rt, BAR, answer)
 }

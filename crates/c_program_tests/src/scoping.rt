@@ -1,11 +1,12 @@
 //! Programs and preconditions with their names resolved.
-use crate::printing::{put_debug, put_expr, put_functions};
-use crate::texts::{Lexed, Parsed, first_of, lex_text, parse_text};
+use crate::texts::{Parsed, first_of, parse_text};
 use c_ast::Expr;
 use c_lookup::{find_function, resolve_pre};
 use c_parse::parse_pre;
 use c_scope::resolve;
+use c_trees::{Lexed, lex_text, put_expr, put_functions};
 use std::alloc::Global;
+use tables::put_debug;
 
 // The resolved program, or its refusal.
 fn resolved(alloc: Global, read: &Parsed) -> String {

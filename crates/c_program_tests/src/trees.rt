@@ -2,12 +2,13 @@
 ghost use Rattle.std.specs.Prelude.{◌≡◌, IfSome};
 ghost use Rattle.c_ast.specs.Height.{expr_height, stmt_height};
 
-use crate::printing::{put, put_expr, put_functions, put_number};
 use crate::texts::{Parsed, first_of, parse_text};
 use c_ast::{BinOp, Expr, Function, Stmt, UnOp, expr_height, stmt_height, straight};
 use c_scope::resolve;
+use c_trees::{put_expr, put_functions};
 use rx_plain::{Boxed, Items};
 use std::alloc::Global;
+use tables::{put, put_number};
 
 // The copy of a resolved program, where it equals the program.
 fn copy_resolved(alloc: Global, read: &Parsed) -> Option<String> {

@@ -1,10 +1,16 @@
 //! Copies of trees, and trees that are equal.
-use crate::printing::{put_debug, put_expr, put_program, put_stmt};
-use crate::texts::{bytes_of, parse_text, tokens_of};
 use c_ast::{Expr, Program, Stmt};
-use c_parse::parse_pre;
+use c_parse::{parse, parse_pre};
+use c_trees::{lex_text, put_expr, put_program, put_stmt};
 use rx_plain::Boxed;
 use std::alloc::Global;
+use tables::put_debug;
+
+// The program of a text.
+fn parse_text(alloc: Global, text: &str) -> Option<Program> {
+    let text = lex_text(alloc, text)?;
+    parse(alloc, &text.tokens).ok()
+}
 
 // The copy of a program, where it equals the program.
 fn copy(alloc: Global, program: &Program) -> Option<String> {
@@ -28,9 +34,8 @@ fn copy_expr(alloc: Global, e: &Expr) -> Option<String> {
 
 // The precondition of a text.
 fn precondition(alloc: Global, text: &str) -> Option<Expr> {
-    let source = bytes_of(alloc, text)?;
-    let tokens = tokens_of(alloc, &source)?;
-    parse_pre(alloc, &tokens).ok()
+    let text = lex_text(alloc, text)?;
+    parse_pre(alloc, &text.tokens).ok()
 }
 
 // The copy of a precondition, where it equals the precondition.

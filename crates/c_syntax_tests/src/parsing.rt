@@ -1,11 +1,11 @@
 //! Programs and preconditions as they are read.
 ghost use Rattle.std.specs.Prelude.{◌≤◌, length};
 
-use crate::printing::{put, put_debug, put_expr, put_program, put_space};
-use crate::texts::{source_of, tokens_of};
 use c_lex::Token;
 use c_parse::{ParseEnd, parse, parse_pre};
+use c_trees::{lex, put_expr, put_program};
 use std::alloc::Global;
+use tables::{put, put_debug, put_space, source_of};
 
 // The program of a text, or its refusal.
 fn program(alloc: Global, tokens: &[Token]) -> String
@@ -67,12 +67,11 @@ fn cut(alloc: Global, tokens: &[Token]) -> String
 /// `parse` and `pre` read a text; `accepts`, and `long parse` and `long pre` of a long text, say
 /// whether it is read; `cut` says after how many tokens a program may be cut.
 pub fn answer(alloc: Global, call: &str, given: &str) -> Option<String> {
-    let source = source_of(alloc, call, given)?;
-    let tokens = tokens_of(alloc, &source)?;
+    let text = lex(alloc, source_of(alloc, call, given)?)?;
     Some(match call {
-        "parse" => program(alloc, &tokens),
-        "accepts" | "long parse" => is_program(alloc, &tokens),
-        "cut" => cut(alloc, &tokens),
-        _ => precondition(alloc, &tokens),
+        "parse" => program(alloc, &text.tokens),
+        "accepts" | "long parse" => is_program(alloc, &text.tokens),
+        "cut" => cut(alloc, &text.tokens),
+        _ => precondition(alloc, &text.tokens),
     })
 }

@@ -1,8 +1,27 @@
 //! The tokens of texts.
-use crate::printing::{put_debug, put_tokens};
-use crate::texts::source_of;
-use c_lex::tokens;
+use c_lex::{Token, TokenKind, tokens};
 use std::alloc::Global;
+use tables::{put, put_debug, put_number, put_space, source_of};
+
+// Adds what a token is.
+fn put_kind(out: &mut String, kind: TokenKind) {
+    match kind {
+        TokenKind::Name => put(out, "Name"),
+        TokenKind::Number(value) => put_debug(out, value),
+        TokenKind::Word(keyword) => put_debug(out, keyword),
+        TokenKind::Mark(mark) => put_debug(out, mark),
+    }
+}
+
+// Adds the tokens, each by its kind, offset and length.
+fn put_tokens(out: &mut String, tokens: &[Token]) {
+    for token in tokens {
+        put_space(out);
+        put_kind(out, token.kind);
+        put_number(out, "@", token.at);
+        put_number(out, "+", token.len);
+    }
+}
 
 // The tokens of a text, or its fault.
 fn listed(alloc: Global, source: &[u8]) -> Option<String> {

@@ -1,9 +1,9 @@
 //! Names, spellings and slots.
-use crate::printing::{put, put_debug, put_number, put_space};
-use crate::texts::{Lexed, lex_text, numbers_of};
 use c_names::{find_spelling, name_at, names_of, slot_of, spelling_at};
+use c_trees::{Lexed, lex_text};
 use std::alloc::Global;
 use std::str;
+use tables::{numbers_of, put, put_debug, put_number, put_space};
 
 // The names of all tokens, as numbers.
 fn names(alloc: Global, text: &Lexed) -> Option<String> {
@@ -46,7 +46,7 @@ fn place(alloc: Global, name: &str, numbers: &[u32], text: &Lexed) -> Option<Str
 fn slot(alloc: Global, given: &str) -> Option<String> {
     let (name, scope) = given.split_once(" | ")?;
     let name = name.parse().ok()?;
-    let scope = numbers_of(alloc, scope)?;
+    let scope = numbers_of::<u32>(alloc, scope)?;
     if scope.len() > 100 {
         return None;
     }
@@ -58,7 +58,7 @@ fn slot(alloc: Global, given: &str) -> Option<String> {
 // The place of a name among tokens, whose numbers are given, of a text.
 fn place_in(alloc: Global, name: &str, numbers: &str, text: &str) -> Option<String> {
     let text = lex_text(alloc, text)?;
-    let numbers = numbers_of(alloc, numbers)?;
+    let numbers = numbers_of::<u32>(alloc, numbers)?;
     place(alloc, name, &numbers, &text)
 }
 

@@ -1,9 +1,29 @@
 //! Certificates, rows that are plain or shown, and lists of conditions.
-use crate::answer::{Answer, ended, found, told};
-use crate::reading::values::{cert, certs, row, rows};
 use rx_cert::{Cert, ConditionsAnswer, PolyEnd, check_conditions, is_plain, shows, shows_row};
+use rx_plain::Items;
 use rx_row::{Constraint, Row};
+use rx_tables::{ended, row, rows, whole};
+use rx_words::{read_cert, read_certs};
 use std::alloc::Global;
+use tables::{Answer, told};
+
+// One certificate.
+fn cert(alloc: Global, text: &str) -> Option<Cert> {
+    whole(alloc, text, |alloc, text, at| read_cert(alloc, text, at))
+}
+
+// A list of certificates.
+fn certs(alloc: Global, text: &str) -> Option<Items<Cert>> {
+    whole(alloc, text, |alloc, text, at| read_certs(alloc, text, at))
+}
+
+// Yes or no, or why that isn't known.
+fn found(answer: Result<bool, PolyEnd>) -> Option<Answer> {
+    match answer {
+        Ok(found) => told(found),
+        Err(end) => ended(end),
+    }
+}
 
 fn is_copied(alloc: Global, cert: &Cert) -> Option<Answer> {
     let copy = cert.try_clone(alloc).ok()?;

@@ -1,10 +1,8 @@
 //! The elimination of monomials, and contents.
-use crate::answer::{Answer, integers, nothing, perhaps};
-use crate::reading::lists::polys;
-use crate::reading::values::poly;
-use crate::reading::words::count;
 use rx_fm::{FmEnd, content, farkas};
+use rx_tables::{poly, polys};
 use std::alloc::Global;
+use tables::{Answer, count, integers, nothing, perhaps};
 
 // The content of a polynomial.
 fn content_of(alloc: Global, given: &str) -> Option<Answer> {

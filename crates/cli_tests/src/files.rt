@@ -4,17 +4,7 @@ ghost use Rattle.rx_io.specs.MemoryFiles.{fail_in};
 
 use rx_io::MemoryFiles;
 use std::alloc::Global;
-
-// Adds a file.
-fn hold(
-    alloc: Global,
-    held: &mut Vec<(String, Vec<u8>)>,
-    name: &str,
-    content: Vec<u8>,
-) -> Option<()> {
-    let name = String::from_str(alloc, name).ok()?;
-    held.push((name, content)).ok()
-}
+use tables::add_file;
 
 /// Files in memory, of which one is `a.c` with this content.
 pub fn one_file(
@@ -27,6 +17,6 @@ pub fn one_file(
     ensures { IfSome result (λ files. fail_in files ≡ fail.items) }
 {
     let mut held = Vec::new(alloc);
-    hold(alloc, &mut held, "a.c", content)?;
+    add_file(alloc, &mut held, "a.c", content)?;
     Some(MemoryFiles::new(held, piece, fail))
 }

@@ -10,10 +10,10 @@
 
 mod files;
 mod running;
-mod texts;
 
 use std::alloc::Global;
 use std::io;
+use tables::{BAR, run};
 
 // What the call answers to what it is given; none where the line is no case.
 fn answer(alloc: Global, call: &str, given: &str) -> Option<String> {
@@ -23,42 +23,6 @@ fn answer(alloc: Global, call: &str, given: &str) -> Option<String> {
     }
 }
 
-// Whether the line's call answers what is wanted; none where the line is no case.
-fn holds(alloc: Global, line: &str) -> Option<bool> {
-    let (call, rest) = line.split_once(" | ")?;
-    let (given, wanted) = rest.rsplit_once(" | ")?;
-    let found = answer(alloc, call, given)?;
-    let wanted = texts::bytes_of(alloc, wanted)?;
-    Some(found.as_bytes() == wanted.as_slice())
-}
-
-// How a line fares.
-enum Verdict {
-    Heading,
-    Holds,
-    Fails(&'static str),
-}
-
-fn judged(alloc: Global, line: &str) -> Verdict {
-    if line.starts_with('#') {
-        return Verdict::Heading;
-    }
-    match holds(alloc, line) {
-        Some(true) => Verdict::Holds,
-        Some(false) => Verdict::Fails("differs"),
-        None => Verdict::Fails("unread"),
-    }
-}
-
 fn main(rt: HostRuntime) -> io::Result<()> {
-    let mut count = 0u64;
-    for line in rt.lines(rt.alloc()) {
-        let line = line?;
-        match judged(rt.alloc(), line.as_str()) {
-            Verdict::Heading => {}
-            Verdict::Holds => count = count.saturating_add(1),
-            Verdict::Fails(how) => println!(rt; "{how}: {line}")?,
-        }
-    }
-    println!(rt; "{count} lines hold")
+    run(&rt, BAR, answer)
 }

@@ -4,23 +4,14 @@ ghost use Rattle.rx_io.specs.MemoryFiles as held;
 ghost use Rattle.rx_io.specs.MemorySink as taken;
 
 use crate::files::one_file;
-use crate::texts::{bytes_of, calls_of};
 use rx_cli::{Status, run, run_in_memory};
 use rx_io::{MemoryFiles, MemorySink};
 use std::alloc::Global;
 use std::str;
+use tables::{bytes_of, numbers_of, words_of};
 
 // A text of spaces has no more than this.
 const MOST_SPACES: usize = 2_097_152;
-
-// The words of a command line.
-fn words_of(alloc: Global, line: &str) -> Option<Vec<String>> {
-    let mut words = Vec::new(alloc);
-    for word in line.split_whitespace() {
-        words.push(String::from_str(alloc, word).ok()?).ok()?;
-    }
-    Some(words)
-}
 
 // The exit status, a mark and a text.
 fn told(alloc: Global, status: Status, mark: &str, text: &str) -> Option<String> {
@@ -108,7 +99,7 @@ fn file_in(alloc: Global, text: &str, piece: usize, fail: Vec<u64>) -> Option<Me
 fn files_with(alloc: Global, setup: &str, text: &str) -> Option<MemoryFiles> {
     let (piece, fail) = setup.split_once(';')?;
     let piece = piece.parse().ok()?;
-    let fail = calls_of(alloc, fail)?;
+    let fail = numbers_of(alloc, fail)?;
     file_in(alloc, text, piece, fail)
 }
 
@@ -119,7 +110,7 @@ fn sink_with(alloc: Global, setup: &str) -> Option<MemorySink> {
     if piece < 1 {
         return None;
     }
-    let fail = calls_of(alloc, fail)?;
+    let fail = numbers_of(alloc, fail)?;
     MemorySink::new(alloc, piece, 4096, fail, Vec::new(alloc)).ok()
 }
 

@@ -14,9 +14,10 @@ mod translation_cases;
 
 use std::alloc::Global;
 use std::io;
+use tables::{Answer, SEMICOLON, run, told};
 
 // Whether the case is as it is to be; none where there is no such case, or no memory.
-fn case(alloc: Global, of: &str, name: &str) -> Option<bool> {
+fn is_so(alloc: Global, of: &str, name: &str) -> Option<bool> {
     match of {
         "code" => code_cases::holds(alloc, name),
         "function" => function_cases::holds(alloc, name),
@@ -25,41 +26,15 @@ fn case(alloc: Global, of: &str, name: &str) -> Option<bool> {
     }
 }
 
-// Whether the line's case holds where it is to; none where that isn't known.
-fn holds(alloc: Global, line: &str) -> Option<bool> {
-    let (whole, wanted) = line.split_once("; ")?;
-    let (of, name) = whole.split_once('.')?;
-    let found = case(alloc, of, name)?;
-    Some(wanted == if found { "yes" } else { "no" })
-}
-
-// How a line fares.
-enum Verdict {
-    Heading,
-    Holds,
-    Fails(&'static str),
-}
-
-fn judged(alloc: Global, line: &str) -> Verdict {
-    if line.starts_with('#') {
-        return Verdict::Heading;
+// What is said of the case, to which nothing is given.
+fn answer_to(alloc: Global, case: &str, given: &str) -> Option<Answer> {
+    if !given.is_empty() {
+        return None;
     }
-    match holds(alloc, line) {
-        Some(true) => Verdict::Holds,
-        Some(false) => Verdict::Fails("differs"),
-        None => Verdict::Fails("unread"),
-    }
+    let (of, name) = case.split_once('.')?;
+    told(is_so(alloc, of, name)?)
 }
 
 fn main(rt: HostRuntime) -> io::Result<()> {
-    let mut count: u32 = 0;
-    for line in rt.lines(rt.alloc()) {
-        let line = line?;
-        match judged(rt.alloc(), line.as_str()) {
-            Verdict::Heading => {}
-            Verdict::Holds => count = count.saturating_add(1),
-            Verdict::Fails(how) => println!(rt; "{how}: {line}")?,
-        }
-    }
-    println!(rt; "{count} lines hold")
+    run(&rt, SEMICOLON, answer_to)
 }

@@ -1,5 +1,4 @@
-//! Compares what a search finds over a rule set, covers, ranks, uses of hypotheses and lemmas, with
-//! values of another program.
+//! Compares the covers and ranks that a search finds of a rule set with values of another program.
 //!
 //! Each line of the standard input is a call, what it is given, and what it is to answer, with
 //! ` | ` between them. Equations, rows, polynomials and cover trees have the notation of a log. A
@@ -10,70 +9,31 @@
 
 mod answer;
 mod printing;
-mod reading;
 mod search_calls;
-mod symbols;
 
+use answer::is_wanted;
+use rule_tables::take_set;
 use rx_term::RuleSet;
 use std::alloc::Global;
 use std::io;
-
-// Whether the parts are those of a rule set, which is kept.
-fn take_set(alloc: Global, set: &mut Option<RuleSet>, given: &str) -> Option<bool> {
-    *set = None;
-    *set = RuleSet::from_parts(reading::parts(alloc, given)?);
-    Some(set.is_some())
-}
-
-// Whether that there is a set, or none, is what is wanted.
-fn is_set_wanted(there: bool, wanted: &str) -> Option<bool> {
-    match wanted {
-        "yes" => Some(there),
-        "no" => Some(!there),
-        _ => None,
-    }
-}
+use tables::{BAR, Verdict, case_of, count_lines};
 
 // Whether the line's call answers what is wanted, over the set of the lines before it; none where
 // that isn't known.
 fn holds(alloc: Global, set: &mut Option<RuleSet>, line: &str) -> Option<bool> {
-    let (call, rest) = line.split_once(" | ")?;
-    let (given, wanted) = rest.rsplit_once(" | ").unwrap_or(("", rest));
-    if call == "set" {
-        return is_set_wanted(take_set(alloc, set, given)?, wanted);
+    let case = case_of(line, BAR)?;
+    if case.call == "set" {
+        return take_set(alloc, set, case.given, case.wanted);
     }
-    let found = search_calls::answer_to(alloc, set.as_ref()?, call, given)?;
-    Some(answer::is_wanted(call, &found, wanted))
-}
-
-// How a line fares.
-enum Verdict {
-    Heading,
-    Holds,
-    Fails(&'static str),
-}
-
-fn judged(alloc: Global, set: &mut Option<RuleSet>, line: &str) -> Verdict {
-    if line.starts_with('#') {
-        return Verdict::Heading;
-    }
-    match holds(alloc, set, line) {
-        Some(true) => Verdict::Holds,
-        Some(false) => Verdict::Fails("differs"),
-        None => Verdict::Fails("unread"),
-    }
+    let found = search_calls::answer_to(alloc, set.as_ref()?, case.call, case.given)?;
+    is_wanted(alloc, case.call, &found, case.wanted)
 }
 
 fn main(rt: HostRuntime) -> io::Result<()> {
     let mut set = None;
-    let mut count = 0u64;
-    for line in rt.lines(rt.alloc()) {
-        let line = line?;
-        match judged(rt.alloc(), &mut set, line.as_str()) {
-            Verdict::Heading => {}
-            Verdict::Holds => count = count.saturating_add(1),
-            Verdict::Fails(how) => println!(rt; "{how}: {line}")?,
-        }
-    }
-    println!(rt; "{count} lines hold")
+    count_lines(
+        &rt,
+        "lines",
+        |alloc, line| Verdict::of(holds(alloc, &mut set, line)),
+    )
 }

@@ -1,36 +1,30 @@
-//! The calls of a search on a rule set: covers, ranks, uses of hypotheses, and lemmas.
+//! The calls of a search on a rule set: covers and ranks.
 ghost use Rattle.std.specs.Prelude.{◌↔◌};
 ghost use Rattle.std.specs.Bool.{IsTrue};
 ghost use Rattle.std.specs.List.{All};
 ghost use Rattle.rx_pairs.specs.Pairs.{SidesFit};
 
-use crate::answer::{ended, nothing};
-use crate::printing::{
-    cover_text, lemma_text, lemmas_text, lowering_text, substitution_text, table_text,
-};
-use crate::reading::{equation, place, rule, rules};
+use crate::answer::ended;
+use crate::printing::{push_cover, push_lowering, push_table};
+use rule_tables::rules;
 use rx_coverable::find_cover;
 use rx_fm::FmEnd;
-use rx_generalise::lemmas;
-use rx_match::find_use;
-use rx_naming::named;
-use rx_pairs::{have_roots, loops_of};
+use rx_pairs::have_roots;
 use rx_ranking::{Ranking, find_ranks};
 use rx_row::Constraint;
 use rx_solve::refutes;
-use rx_term::{Equation, Rule, RuleSet};
+use rx_tables::written;
+use rx_term::{Rule, RuleSet};
 use std::alloc::Global;
-
-/// There are no more symbols than this.
-const MOST_SYMBOLS: usize = 1 << 32;
+use tables::{Answer, nothing};
 
 // What is found of covers.
-fn cover(alloc: Global, set: &RuleSet) -> Option<Vec<u8>> {
+fn cover(alloc: Global, set: &RuleSet) -> Option<Answer> {
     let mut solve = |rows: &Constraint| refutes(alloc, rows);
     match find_cover(alloc, set, &mut solve) {
-        Ok(Some(cover)) => cover_text(alloc, cover.as_slice()).ok(),
-        Ok(None) => nothing(alloc),
-        Err(end) => ended(alloc, end),
+        Ok(Some(cover)) => written(alloc, |out| push_cover(&cover, out)),
+        Ok(None) => nothing(),
+        Err(end) => ended(end),
     }
 }
 
@@ -54,92 +48,47 @@ fn have_fitting_sides(set: &RuleSet, rules: &[Rule]) -> bool
 }
 
 // What is found of ranks under these hypotheses; none where they don't fit the set.
-fn ranking(alloc: Global, set: &RuleSet, given: &str) -> Option<Result<Option<Ranking>, FmEnd>> {
-    let hypotheses = rules(alloc, given)?;
-    if !have_roots(hypotheses.as_slice()) || !have_fitting_sides(set, hypotheses.as_slice()) {
+fn ranked(
+    alloc: Global,
+    set: &RuleSet,
+    hypotheses: &[Rule],
+) -> Option<Result<Option<Ranking>, FmEnd>> {
+    if !have_roots(hypotheses) || !have_fitting_sides(set, hypotheses) {
         return None;
     }
     let mut solve = |rows: &Constraint| refutes(alloc, rows);
-    Some(find_ranks(alloc, set, hypotheses.as_slice(), &mut solve))
+    Some(find_ranks(alloc, set, hypotheses, &mut solve))
+}
+
+fn ranking(alloc: Global, set: &RuleSet, given: &str) -> Option<Result<Option<Ranking>, FmEnd>> {
+    let hypotheses = rules(alloc, given)?;
+    ranked(alloc, set, hypotheses.as_slice())
 }
 
 // The ranks that are found under these hypotheses.
-fn ranks(alloc: Global, set: &RuleSet, hypotheses: &str) -> Option<Vec<u8>> {
+fn ranks(alloc: Global, set: &RuleSet, hypotheses: &str) -> Option<Answer> {
     match ranking(alloc, set, hypotheses)? {
-        Ok(Some(found)) => table_text(alloc, &found.table).ok(),
-        Ok(None) => nothing(alloc),
-        Err(end) => ended(alloc, end),
+        Ok(Some(found)) => written(alloc, |out| push_table(&found, out)),
+        Ok(None) => nothing(),
+        Err(end) => ended(end),
     }
 }
 
 // Why the pairs are lower by the ranks that are found.
-fn lowers(alloc: Global, set: &RuleSet, hypotheses: &str) -> Option<Vec<u8>> {
+fn lowers(alloc: Global, set: &RuleSet, hypotheses: &str) -> Option<Answer> {
     match ranking(alloc, set, hypotheses)? {
-        Ok(Some(found)) => lowering_text(alloc, found.certs.as_slice()).ok(),
-        Ok(None) => nothing(alloc),
-        Err(end) => ended(alloc, end),
-    }
-}
-
-// What is found of uses of the hypothesis at a place of the goal.
-fn use_at(alloc: Global, goal: &Equation, hypothesis: &Rule, at: &str) -> Option<Vec<u8>> {
-    let (side, place) = place(at)?;
-    let mut solve = |rows: &Constraint| refutes(alloc, rows);
-    match find_use(alloc, goal, hypothesis, side, place, &mut solve) {
-        Ok(Some(found)) => substitution_text(alloc, found.subst.as_slice()).ok(),
-        Ok(None) => nothing(alloc),
-        Err(end) => ended(alloc, end),
-    }
-}
-
-// What is found of uses in the goal of a hypothesis at a place.
-fn use_in(alloc: Global, goal: &Equation, given: &str) -> Option<Vec<u8>> {
-    let (hypothesis, at) = given.split_once(" | ")?;
-    let hypothesis = rule(alloc, hypothesis)?;
-    use_at(alloc, goal, &hypothesis, at)
-}
-
-// What is found of uses of a hypothesis at a place of a goal.
-fn use_of(alloc: Global, given: &str) -> Option<Vec<u8>> {
-    let (goal, rest) = given.split_once(" | ")?;
-    let goal = equation(alloc, goal)?;
-    use_in(alloc, &goal, rest)
-}
-
-// The goal with its constants named.
-fn naming(alloc: Global, set: &RuleSet, goal: &str) -> Option<Vec<u8>> {
-    let goal = equation(alloc, goal)?;
-    let parts = set.parts();
-    if parts.symbols.len() > MOST_SYMBOLS {
-        return None;
-    }
-    let loops = loops_of(alloc, parts).ok()?;
-    match named(alloc, &goal, set, &loops) {
-        Ok(Some(found)) => lemma_text(alloc, &found).ok(),
-        Ok(None) => nothing(alloc),
-        Err(end) => ended(alloc, FmEnd::from(end)),
-    }
-}
-
-// The lemmas of a goal.
-fn lemmas_of(alloc: Global, set: &RuleSet, goal: &str) -> Option<Vec<u8>> {
-    let goal = equation(alloc, goal)?;
-    let mut solve = |rows: &Constraint| refutes(alloc, rows);
-    match lemmas(alloc, &goal, set, &mut solve) {
-        Ok(found) => lemmas_text(alloc, found.as_slice()).ok(),
-        Err(end) => ended(alloc, end),
+        Ok(Some(found)) => written(alloc, |out| push_lowering(&found, out)),
+        Ok(None) => nothing(),
+        Err(end) => ended(end),
     }
 }
 
 /// What the call on the rule set answers; none where the line can't be read, or there is no memory.
-pub fn answer_to(alloc: Global, set: &RuleSet, call: &str, given: &str) -> Option<Vec<u8>> {
+pub fn answer_to(alloc: Global, set: &RuleSet, call: &str, given: &str) -> Option<Answer> {
     match call {
         "cover" => cover(alloc, set),
         "ranks" => ranks(alloc, set, given),
         "lowers" => lowers(alloc, set, given),
-        "use" => use_of(alloc, given),
-        "named" => naming(alloc, set, given),
-        "lemmas" => lemmas_of(alloc, set, given),
         _ => None,
     }
 }

@@ -10,6 +10,7 @@ use rx_logtext::read_log;
 use rx_logwriting::write_log;
 use std::alloc::Global;
 use std::str;
+use tables::{add_file, words_of};
 
 /// What was given so far of a case.
 #[derive(Drop)]
@@ -23,36 +24,16 @@ pub struct Case {
     outlet: Option<Outlet>,
 }
 
-// The words of a command line.
-fn words_of(alloc: Global, line: &str) -> Option<Vec<String>> {
-    let mut words = Vec::new(alloc);
-    for word in line.split_whitespace() {
-        words.push(String::from_str(alloc, word).ok()?).ok()?;
-    }
-    Some(words)
-}
-
 // Adds a line.
 fn push(alloc: Global, lines: &mut Vec<String>, line: &str) -> Option<()> {
     lines.push(String::from_str(alloc, line).ok()?).ok()
 }
 
-// Adds a file.
-fn hold(
-    alloc: Global,
-    held: &mut Vec<(String, Vec<u8>)>,
-    name: &str,
-    content: Vec<u8>,
-) -> Option<()> {
-    let name = String::from_str(alloc, name).ok()?;
-    held.push((name, content)).ok()
-}
-
 // Two files in memory: the source and the log.
 fn files_of(alloc: Global, source: Vec<u8>, log: Vec<u8>, inlet: Inlet) -> Option<MemoryFiles> {
     let mut held = Vec::new(alloc);
-    hold(alloc, &mut held, "a.c", source)?;
-    hold(alloc, &mut held, "a.log", log)?;
+    add_file(alloc, &mut held, "a.c", source)?;
+    add_file(alloc, &mut held, "a.log", log)?;
     inlet.files(held)
 }
 
@@ -253,7 +234,6 @@ impl Case {
     // Takes a line that is given, by its first word.
     fn given(&mut self, alloc: Global, word: &str, rest: &str) -> Option<()> {
         match word {
-            "#" => Some(()),
             "words" => self.begin(alloc, rest),
             "then" => self.then(alloc, rest),
             "source" => push(alloc, &mut self.source, rest),

@@ -2,15 +2,7 @@
 
 use rx_io::{MemoryFiles, MemorySink};
 use std::alloc::Global;
-
-// The numbers in a text.
-fn numbers_of(alloc: Global, text: &str) -> Option<Vec<u64>> {
-    let mut numbers = Vec::new(alloc);
-    for word in text.split_whitespace() {
-        numbers.push(word.parse().ok()?).ok()?;
-    }
-    Some(numbers)
-}
+use tables::numbers_of;
 
 // The most bytes of a call and the room.
 fn sizes_of(text: &str) -> Option<(usize, usize)> {

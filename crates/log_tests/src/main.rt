@@ -27,33 +27,19 @@ mod devices;
 use crate::cases::Case;
 use std::alloc::Global;
 use std::io;
+use tables::{Verdict, count_lines};
 
-// How a line fares.
-enum Verdict {
-    Given,
-    Holds,
-    Fails(&'static str),
-}
-
+// How a line fares: most lines only say what the case is given.
 fn judged(alloc: Global, case: &mut Case, line: &str) -> Verdict {
     match case.take(alloc, line) {
         Some(None) => Verdict::Given,
         Some(Some(true)) => Verdict::Holds,
-        Some(Some(false)) => Verdict::Fails("differs"),
-        None => Verdict::Fails("unread"),
+        Some(Some(false)) => Verdict::Differs,
+        None => Verdict::Unread,
     }
 }
 
 fn main(rt: HostRuntime) -> io::Result<()> {
     let mut case = Case::new(rt.alloc());
-    let mut count = 0u64;
-    for line in rt.lines(rt.alloc()) {
-        let line = line?;
-        match judged(rt.alloc(), &mut case, line.as_str()) {
-            Verdict::Given => {}
-            Verdict::Holds => count = count.saturating_add(1),
-            Verdict::Fails(how) => println!(rt; "{how}: {line}")?,
-        }
-    }
-    println!(rt; "{count} reports hold")
+    count_lines(&rt, "reports", |alloc, line| judged(alloc, &mut case, line))
 }

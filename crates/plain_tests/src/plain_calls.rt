@@ -1,8 +1,13 @@
 //! The containers, at numbers.
-use crate::answer::{Answer, integers, ordered, perhaps, told};
-use crate::reading::{integer, numbers};
 use rx_plain::{Boxed, Graded, Items, NoMemory};
 use std::alloc::Global;
+use tables::{Answer, integer, integers, numbers_of, ordered, parted, perhaps, told};
+
+// The numbers that stand after the first word, which says how many there are.
+fn numbers(alloc: Global, text: &str) -> Option<Vec<i128>> {
+    let (_, words) = parted(text, " ");
+    numbers_of(alloc, words)
+}
 
 fn append_copy(alloc: Global, items: &mut Items<i128>, more: &Items<i128>) -> Option<()> {
     items

@@ -1,20 +1,9 @@
 //! Files in memory, and calls on them.
 ghost use Rattle.std.specs.Prelude.{◌≤◌};
 
-use crate::texts::{bytes_of, calls_of, put, put_bytes, put_debug, put_space};
 use rx_io::{Files, MemoryFiles, read_all};
 use std::alloc::Global;
-
-// Adds a file.
-fn hold(
-    alloc: Global,
-    held: &mut Vec<(String, Vec<u8>)>,
-    name: &str,
-    content: Vec<u8>,
-) -> Option<()> {
-    let name = String::from_str(alloc, name).ok()?;
-    held.push((name, content)).ok()
-}
+use tables::{add_file, bytes_of, numbers_of, put, put_bytes, put_debug, put_space};
 
 // Adds a file with a text.
 fn hold_text(
@@ -24,7 +13,7 @@ fn hold_text(
     text: &str,
 ) -> Option<()> {
     let content = bytes_of(alloc, text)?;
-    hold(alloc, held, name, content)
+    add_file(alloc, held, name, content)
 }
 
 // Two files, and a third with the name of the first.
@@ -81,7 +70,7 @@ fn files_of(alloc: Global, setup: &str) -> Option<MemoryFiles> {
     if piece < 1 {
         return None;
     }
-    three_files(alloc, piece, calls_of(alloc, fail)?)
+    three_files(alloc, piece, numbers_of(alloc, fail)?)
 }
 
 /// Calls three files in memory: the largest piece and the numbers of the calls that fail are given,

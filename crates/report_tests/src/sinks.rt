@@ -1,9 +1,9 @@
 //! A sink in memory, and calls on it.
 ghost use Rattle.std.specs.Prelude.{◌≤◌};
 
-use crate::texts::{bytes_of, calls_of, put, put_bytes, put_debug, put_space};
 use rx_io::{MemorySink, Sink, put_all};
 use std::alloc::Global;
+use tables::{bytes_of, numbers_of, put, put_bytes, put_debug, put_space};
 
 // One call on a sink, and what was written so far.
 fn call_sink(alloc: Global, sink: &mut MemorySink, call: &str, out: &mut String) -> Option<()> {
@@ -35,8 +35,8 @@ fn sink_with(alloc: Global, piece: usize, room: usize, calls: &str) -> Option<Me
     requires { 1 ≤ piece }
 {
     let (fail, zero) = calls.split_once(';')?;
-    let fail = calls_of(alloc, fail)?;
-    MemorySink::new(alloc, piece, room, fail, calls_of(alloc, zero)?).ok()
+    let fail = numbers_of(alloc, fail)?;
+    MemorySink::new(alloc, piece, room, fail, numbers_of(alloc, zero)?).ok()
 }
 
 /// Calls a sink in memory: the largest piece, the room, the numbers of the calls that fail and of

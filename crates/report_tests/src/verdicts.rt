@@ -2,11 +2,11 @@
 ghost use Rattle.std.specs.Prelude.{IfSome};
 ghost use Rattle.rx_report.specs.Texts.{IsReportableVerdict};
 
-use crate::texts::{put_bytes, put_debug};
 use c_lex::LexEnd;
 use c_scope::ScopeEnd;
 use rx_report::{Status, Verdict, report};
 use std::alloc::Global;
+use tables::{put_bytes, put_debug};
 
 // A fault of the tokens, by its word.
 fn lex_verdict(word: &str, at: u32) -> Option<Verdict>

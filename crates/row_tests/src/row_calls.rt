@@ -1,17 +1,24 @@
 //! Rows, lists of rows and sums of their multiples.
-use crate::answer::{Answer, ended, nothing, ordered, told, written, written_row, written_rows};
-use crate::reading::lists::polys;
-use crate::reading::values::{parts, row, rows, substitution};
-use crate::reading::words::{count, integer};
+use rx_plain::Items;
 use rx_poly::{Poly, PolyEnd};
 use rx_row::{Constraint, Row, combine, combine_rows, rows_at_args, subst_rows};
+use rx_tables::{
+    ended, polys, row, rows, substitution, whole, written_poly, written_row, written_rows,
+};
+use rx_words::read_parts;
 use std::alloc::Global;
+use tables::{Answer, count, integer, nothing, ordered, told};
 
 fn formed(alloc: Global, answer: Result<Row, PolyEnd>) -> Option<Answer> {
     match answer {
         Ok(row) => written_row(alloc, &row),
         Err(end) => ended(end),
     }
+}
+
+// A list of row numbers, each with its multiplier.
+fn parts(alloc: Global, text: &str) -> Option<Items<(u32, i128)>> {
+    whole(alloc, text, |alloc, text, at| read_parts(alloc, text, at))
 }
 
 // The row that says that a variable is a number.
@@ -31,7 +38,7 @@ fn alone(alloc: Global, name: &str, row: &Row) -> Option<Answer> {
         "negate" => formed(alloc, row.negate(alloc)),
         "is_ge" => told(row.is_ge()),
         "bound" => Some(Answer::Number(row.variable_bound() as i128)),
-        "poly" => written(alloc, row.poly()),
+        "poly" => written_poly(alloc, row.poly()),
         "clone" => copied(alloc, row),
         _ => None,
     }
@@ -103,7 +110,7 @@ fn listed(alloc: Global, answer: Result<Vec<Row>, PolyEnd>) -> Option<Answer> {
 
 fn summed(alloc: Global, answer: Result<Option<Poly>, PolyEnd>) -> Option<Answer> {
     match answer {
-        Ok(Some(poly)) => written(alloc, &poly),
+        Ok(Some(poly)) => written_poly(alloc, &poly),
         Ok(None) => nothing(),
         Err(end) => ended(end),
     }

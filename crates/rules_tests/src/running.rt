@@ -1,10 +1,10 @@
 //! Rules run on integers, one step after the other.
-use rx_plain::{Items, NoMemory};
+use rx_plain::Items;
 use rx_poly::Poly;
 use rx_row::Row;
 use rx_term::{Rule, RuleSet, Sym, Term};
-use rx_text::{push_integer, push_word};
 use std::alloc::Global;
+use tables::{Answer, numbers_of, parted};
 
 /// How many steps a run takes at most.
 const MOST_STEPS: u32 = 100_000;
@@ -62,39 +62,38 @@ fn run(alloc: Global, set: &RuleSet, start: Term) -> Option<Term> {
     None
 }
 
-// Adds the integer of a word as a polynomial.
-fn push_number(alloc: Global, word: &str, numbers: &mut Items<Poly>) -> Option<()> {
-    let number = Poly::constant(alloc, word.parse::<i128>().ok()?).ok()?;
-    numbers.push(number).ok()
+fn polynomials(alloc: Global, integers: &[i128]) -> Option<Items<Poly>> {
+    let mut polys = Items::new(alloc);
+    for integer in integers {
+        let poly = Poly::constant(alloc, *integer).ok()?;
+        polys.push(poly).ok()?;
+    }
+    Some(polys)
 }
 
 // The integers of a text as polynomials.
 fn numbers(alloc: Global, text: &str) -> Option<Items<Poly>> {
-    let mut numbers = Items::new(alloc);
-    for word in text.split_whitespace() {
-        push_number(alloc, word, &mut numbers)?;
-    }
-    Some(numbers)
+    let integers = numbers_of(alloc, text)?;
+    polynomials(alloc, &integers)
 }
 
-fn result_text(alloc: Global, term: &Term) -> Result<Vec<u8>, NoMemory> {
-    let mut out = Vec::new(alloc);
+// The integer that the term is, or `div0`.
+fn result_of(term: &Term) -> Answer {
     match term {
         Term::Return(value) => match value.is_constant() {
-            Some(number) => push_integer(&mut out, &number)?,
-            None => push_word(&mut out, b"open")?,
+            Some(number) => Answer::Number(number),
+            None => Answer::Word("open"),
         },
-        Term::Fail(_) => push_word(&mut out, b"div0")?,
-        Term::Call(_, _) | Term::Frame(_, _, _) => push_word(&mut out, b"unfinished")?,
+        Term::Fail(_) => Answer::Word("div0"),
+        Term::Call(_, _) | Term::Frame(_, _, _) => Answer::Word("unfinished"),
     }
-    Ok(out)
 }
 
 /// What the call of a symbol, by its number, comes to with the integers after it: an integer, or
 /// `div0`.
-pub fn ran(alloc: Global, set: &RuleSet, given: &str) -> Option<Vec<u8>> {
-    let (symbol, integers) = given.split_once(' ').unwrap_or((given, ""));
-    let call = Term::Call(Sym(symbol.parse().ok()?), numbers(alloc, integers)?);
-    let end = run(alloc, set, call)?;
-    result_text(alloc, &end).ok()
+pub fn ran(alloc: Global, set: &RuleSet, given: &str) -> Option<Answer> {
+    let (symbol, integers) = parted(given, " ");
+    let symbol = Sym(symbol.parse().ok()?);
+    let end = run(alloc, set, Term::Call(symbol, numbers(alloc, integers)?))?;
+    Some(result_of(&end))
 }

@@ -1,6 +1,6 @@
 //! A proof state with the goal s0(v0) = ret(0), where v0 = 0.
 use crate::example::rules;
-use crate::reading::equation;
+use rule_tables::equation;
 use rx_form::{Delete, Side, Step};
 use rx_plain::Items;
 use rx_steps::{State, apply};

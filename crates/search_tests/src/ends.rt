@@ -5,59 +5,56 @@ use rx_logwriting::write_log;
 use rx_plain::NoMemory;
 use rx_row::Row;
 use rx_search::SearchEnd;
+use rx_tables::{bytes_written, push_list};
 use rx_text::push_word;
 use rx_words::{push_count, push_rows};
 use std::alloc::Global;
 
 /// One word.
 pub fn word(alloc: Global, word: &[u8]) -> Option<Vec<u8>> {
-    let mut out = Vec::new(alloc);
-    push_word(&mut out, word).ok()?;
-    Some(out)
+    bytes_written(alloc, |out| push_word(out, word))
 }
 
 // A word and a number.
-fn numbered(alloc: Global, word: &[u8], number: usize) -> Option<Vec<u8>> {
-    let mut out = Vec::new(alloc);
-    push_word(&mut out, word).ok()?;
-    push_word(&mut out, b" ").ok()?;
-    push_count(&mut out, number).ok()?;
-    Some(out)
+fn push_numbered(word: &[u8], number: usize, out: &mut Vec<u8>) -> Result<(), NoMemory> {
+    push_word(out, word)?;
+    push_count(out, number)
 }
 
-// Numbers, each after a space.
-fn push_path(path: &[u8], out: &mut Vec<u8>) -> Result<(), NoMemory> {
-    for choice in path {
-        push_word(out, b" ")?;
-        push_count(out, *choice as usize)?;
-    }
-    push_word(out, b" ")
+fn push_choice(choice: &u8, out: &mut Vec<u8>) -> Result<(), NoMemory> {
+    push_count(out, *choice as usize)
 }
 
 // The path to the node where the limits are passed, as a list of choices, and the rows there.
-fn large(alloc: Global, path: &[u8], rows: &[Row]) -> Option<Vec<u8>> {
-    let mut out = numbered(alloc, b"large", path.len())?;
-    push_path(path, &mut out).ok()?;
-    push_rows(rows, &mut out).ok()?;
-    Some(out)
+fn push_large(path: &[u8], rows: &[Row], out: &mut Vec<u8>) -> Result<(), NoMemory> {
+    push_word(out, b"large ")?;
+    push_list(path, out, push_choice)?;
+    push_word(out, b" ")?;
+    push_rows(rows, out)
 }
 
 // The number of the steps of a log, and its text below it.
+fn push_closed(steps: usize, log: &[u8], out: &mut Vec<u8>) -> Result<(), NoMemory> {
+    push_numbered(b"closed ", steps, out)?;
+    push_word(out, b"\n")?;
+    push_word(out, log)
+}
+
 fn closed(alloc: Global, log: &Log) -> Option<Vec<u8>> {
-    let mut out = numbered(alloc, b"closed", log.steps.len())?;
-    push_word(&mut out, b"\n").ok()?;
-    push_word(&mut out, &write_log(alloc, log).ok()?).ok()?;
+    let text = write_log(alloc, log).ok()?;
+    let mut out = Vec::new(alloc);
+    push_closed(log.steps.len(), &text, &mut out).ok()?;
     Some(out)
 }
 
 // How a search ended without a log; out of memory is no end that a line could want.
-fn ended(alloc: Global, end: &SearchEnd) -> Option<Vec<u8>> {
+fn push_end(end: &SearchEnd, out: &mut Vec<u8>) -> Result<(), NoMemory> {
     match end {
-        SearchEnd::NoRanks => word(alloc, b"ranks"),
-        SearchEnd::NoPlan { depth } => numbered(alloc, b"depth", *depth as usize),
-        SearchEnd::Spent { visits } => numbered(alloc, b"visits", *visits as usize),
-        SearchEnd::Large { path, rows } => large(alloc, path.as_slice(), rows.as_slice()),
-        SearchEnd::NoMemory => None,
+        SearchEnd::NoRanks => push_word(out, b"ranks"),
+        SearchEnd::NoPlan { depth } => push_numbered(b"depth ", *depth as usize, out),
+        SearchEnd::Spent { visits } => push_numbered(b"visits ", *visits as usize, out),
+        SearchEnd::Large { path, rows } => push_large(path.as_slice(), rows.as_slice(), out),
+        SearchEnd::NoMemory => Err(NoMemory),
     }
 }
 
@@ -65,6 +62,6 @@ fn ended(alloc: Global, end: &SearchEnd) -> Option<Vec<u8>> {
 pub fn text_of(alloc: Global, end: Result<Log, SearchEnd>) -> Option<Vec<u8>> {
     match end {
         Ok(log) => closed(alloc, &log),
-        Err(end) => ended(alloc, &end),
+        Err(end) => bytes_written(alloc, |out| push_end(&end, out)),
     }
 }

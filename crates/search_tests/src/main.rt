@@ -10,21 +10,14 @@
 mod by_solver;
 mod caching;
 mod ends;
-mod reading;
 mod searching;
-mod symbols;
 mod tasks;
 
+use rule_tables::take_set;
 use rx_term::RuleSet;
 use std::alloc::Global;
 use std::io;
-
-// Whether the parts are those of a rule set, which is kept.
-fn take_set(alloc: Global, set: &mut Option<RuleSet>, given: &str) -> Option<bool> {
-    *set = None;
-    *set = RuleSet::from_parts(reading::parts(alloc, given)?);
-    Some(set.is_some())
-}
+use tables::{BAR, Verdict, case_of, count_lines};
 
 // Whether the first line of the text is this one.
 fn begins_with_line(text: &[u8], line: &str) -> bool {
@@ -34,55 +27,22 @@ fn begins_with_line(text: &[u8], line: &str) -> bool {
     }
 }
 
-// Whether that there is a set, or none, is what is wanted.
-fn is_wanted(there: bool, wanted: &str) -> Option<bool> {
-    match wanted {
-        "yes" => Some(there),
-        "no" => Some(!there),
-        _ => None,
-    }
-}
-
 // Whether the line's call answers what is wanted, over the set of the lines before it; none where
 // the line is no case.
 fn holds(alloc: Global, set: &mut Option<RuleSet>, line: &str) -> Option<bool> {
-    let (call, rest) = line.split_once(" | ")?;
-    let (given, wanted) = rest.rsplit_once(" | ")?;
-    if call == "set" {
-        return is_wanted(take_set(alloc, set, given)?, wanted);
+    let case = case_of(line, BAR)?;
+    if case.call == "set" {
+        return take_set(alloc, set, case.given, case.wanted);
     }
-    let found = tasks::answer(alloc, set.as_ref()?, call, given)?;
-    Some(begins_with_line(&found, wanted))
-}
-
-// How a line fares.
-enum Verdict {
-    Heading,
-    Holds,
-    Fails(&'static str),
-}
-
-fn judged(alloc: Global, set: &mut Option<RuleSet>, line: &str) -> Verdict {
-    if line.starts_with('#') {
-        return Verdict::Heading;
-    }
-    match holds(alloc, set, line) {
-        Some(true) => Verdict::Holds,
-        Some(false) => Verdict::Fails("differs"),
-        None => Verdict::Fails("unread"),
-    }
+    let found = tasks::answer(alloc, set.as_ref()?, case.call, case.given)?;
+    Some(begins_with_line(&found, case.wanted))
 }
 
 fn main(rt: HostRuntime) -> io::Result<()> {
     let mut set = None;
-    let mut count = 0u64;
-    for line in rt.lines(rt.alloc()) {
-        let line = line?;
-        match judged(rt.alloc(), &mut set, line.as_str()) {
-            Verdict::Heading => {}
-            Verdict::Holds => count = count.saturating_add(1),
-            Verdict::Fails(how) => println!(rt; "{how}: {line}")?,
-        }
-    }
-    println!(rt; "{count} lines hold")
+    count_lines(
+        &rt,
+        "lines",
+        |alloc, line| Verdict::of(holds(alloc, &mut set, line)),
+    )
 }

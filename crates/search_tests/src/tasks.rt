@@ -1,8 +1,8 @@
 //! The calls of a line, each a search over a rule set.
 use crate::by_solver::Task;
 use crate::ends::word;
-use crate::reading::equation;
 use crate::searching::{cached, calls_of, is_covered, is_fitting, kept, searched};
+use rule_tables::equation;
 use rx_term::RuleSet;
 use std::alloc::Global;
 

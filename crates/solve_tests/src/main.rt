@@ -13,9 +13,10 @@ mod refuting;
 
 use std::alloc::Global;
 use std::io;
+use tables::{Answer, BAR, run};
 
 // What the call answers to what it is given; none where the line is no case, or without memory.
-fn answer(alloc: Global, call: &str, given: &str) -> Option<Vec<u8>> {
+fn answer_to(alloc: Global, call: &str, given: &str) -> Option<Answer> {
     match call {
         "refutes" => refuting::refuted(alloc, given),
         "entails" => refuting::entailed(alloc, given),
@@ -24,26 +25,6 @@ fn answer(alloc: Global, call: &str, given: &str) -> Option<Vec<u8>> {
     }
 }
 
-// Whether the line's call answers what is wanted; none where the line is no case.
-fn holds(alloc: Global, line: &str) -> Option<bool> {
-    let (call, rest) = line.split_once(" | ")?;
-    let (given, wanted) = rest.rsplit_once(" | ")?;
-    let found = answer(alloc, call, given)?;
-    Some(found.as_slice() == wanted.as_bytes())
-}
-
 fn main(rt: HostRuntime) -> io::Result<()> {
-    let mut count = 0u64;
-    for line in rt.lines(rt.alloc()) {
-        let line = line?;
-        if line.as_str().starts_with("#") {
-            continue;
-        }
-        match holds(rt.alloc(), line.as_str()) {
-            Some(true) => count = count.saturating_add(1),
-            Some(false) => println!(rt; "differs: {line}")?,
-            None => println!(rt; "unread: {line}")?,
-        }
-    }
-    println!(rt; "{count} lines hold")
+    run(&rt, BAR, answer_to)
 }

@@ -8,29 +8,9 @@
 
 mod states;
 
-use std::alloc::Global;
 use std::io;
-
-// Whether the line's call answers what is wanted; none where the line is no case.
-fn holds(alloc: Global, line: &str) -> Option<bool> {
-    let (call, rest) = line.split_once(" | ")?;
-    let (given, wanted) = rest.rsplit_once(" | ")?;
-    let found = states::answer(alloc, call, given)?;
-    Some(found.as_slice() == wanted.as_bytes())
-}
+use tables::{BAR, run};
 
 fn main(rt: HostRuntime) -> io::Result<()> {
-    let mut count = 0u64;
-    for line in rt.lines(rt.alloc()) {
-        let line = line?;
-        if line.as_str().starts_with("#") {
-            continue;
-        }
-        match holds(rt.alloc(), line.as_str()) {
-            Some(true) => count = count.saturating_add(1),
-            Some(false) => println!(rt; "differs: {line}")?,
-            None => println!(rt; "unread: {line}")?,
-        }
-    }
-    println!(rt; "{count} lines hold")
+    run(&rt, BAR, states::answer)
 }

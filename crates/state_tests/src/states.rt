@@ -1,15 +1,15 @@
 //! States made of goals and hypotheses, copied, and packed and unpacked after other polynomials
 //! were numbered.
+use rule_tables::{equations, push_goal, push_rule, rules};
 use rx_bank::{Bank, Packed};
 use rx_plain::NoMemory;
 use rx_poly::Poly;
-use rx_row::Row;
 use rx_steps::State;
-use rx_term::{Equation, Rule, Term};
-use rx_term_words::{push_equation, read_equation};
-use rx_text::{push_word, skip_word};
-use rx_words::{push_count, read_number};
+use rx_tables::{push_list, written};
+use rx_text::push_word;
+use rx_words::push_count;
 use std::alloc::Global;
+use tables::{Answer, BAR};
 
 /// A state has fewer goals and fewer hypotheses than this.
 const LIMIT: usize = 1 << 32;
@@ -17,49 +17,11 @@ const LIMIT: usize = 1 << 32;
 // How many other polynomials are numbered.
 const OTHERS: u32 = 1_000;
 
-// The equation at the place, and the place after it.
-fn equation_at(alloc: Global, text: &[u8], at: usize) -> Option<(Equation, usize)> {
-    read_equation(alloc, text, at).ok()?
-}
-
-// As many equations as are counted, from the place on, each after a space, up to the end.
-fn equations_at(alloc: Global, text: &[u8], from: usize, count: u32) -> Option<Vec<Equation>> {
-    let mut made = Vec::new(alloc);
-    let mut at = from;
-    for _ in 0..count {
-        let next = skip_word(text, at, b" ")?;
-        let (equation, end) = equation_at(alloc, text, next)?;
-        made.push(equation).ok()?;
-        at = end;
-    }
-    if at == text.len() { Some(made) } else { None }
-}
-
-// The list of equations that the text is: how many, and then each.
-fn equations(alloc: Global, text: &[u8]) -> Option<Vec<Equation>> {
-    let (count, first) = read_number(text, 0)?;
-    equations_at(alloc, text, first, count)
-}
-
-fn rule_of(equation: Equation) -> Rule {
-    let Equation { left, right, rows } = equation;
-    Rule { left, right, rows }
-}
-
-// The list of rules that the text is.
-fn rules(alloc: Global, text: &[u8]) -> Option<Vec<Rule>> {
-    let mut made = Vec::new(alloc);
-    for equation in equations(alloc, text)? {
-        made.push(rule_of(equation)).ok()?;
-    }
-    Some(made)
-}
-
 // The state of these goals and hypotheses.
 fn state(alloc: Global, given: &str) -> Option<State> {
-    let (goals, hypotheses) = given.split_once(" | ")?;
-    let goals = equations(alloc, goals.as_bytes())?;
-    let hypotheses = rules(alloc, hypotheses.as_bytes())?;
+    let (goals, hypotheses) = given.split_once(BAR)?;
+    let goals = equations(alloc, goals)?.into_vec();
+    let hypotheses = rules(alloc, hypotheses)?.into_vec();
     if goals.len() < LIMIT && hypotheses.len() < LIMIT {
         State::from_parts(alloc, goals, hypotheses).ok()
     } else {
@@ -103,55 +65,40 @@ fn again(alloc: Global, state: &State) -> Option<State> {
     through(alloc, &mut bank, state)
 }
 
-fn push_after_space(
-    left: &Term,
-    right: &Term,
-    rows: &[Row],
-    out: &mut Vec<u8>,
-) -> Result<(), NoMemory> {
-    push_word(out, b" ")?;
-    push_equation(left, right, rows, out)
-}
-
 // The number of the goals, each, and also one behind them, if there were one.
 fn push_goals(state: &State, out: &mut Vec<u8>) -> Result<(), NoMemory> {
     push_count(out, state.goals() as usize)?;
     for at in 0..=state.goals() {
         if let Some(goal) = state.goal(at) {
-            push_after_space(&goal.left, &goal.right, goal.rows.rows(), out)?;
+            push_word(out, b" ")?;
+            push_goal(goal, out)?;
         }
     }
     Ok(())
 }
 
-fn push_hypotheses(state: &State, out: &mut Vec<u8>) -> Result<(), NoMemory> {
-    push_count(out, state.hypotheses().len())?;
-    for rule in state.hypotheses() {
-        push_after_space(&rule.left, &rule.right, rule.rows.rows(), out)?;
-    }
-    Ok(())
+fn push_state(state: &State, out: &mut Vec<u8>) -> Result<(), NoMemory> {
+    push_goals(state, out)?;
+    push_word(out, b" ")?;
+    push_list(state.hypotheses(), out, |rule, out| push_rule(rule, out))
 }
 
-fn state_text(alloc: Global, state: &State) -> Option<Vec<u8>> {
-    let mut out = Vec::new(alloc);
-    push_goals(state, &mut out).ok()?;
-    push_word(&mut out, b" ").ok()?;
-    push_hypotheses(state, &mut out).ok()?;
-    Some(out)
+fn state_text(alloc: Global, state: &State) -> Option<Answer> {
+    written(alloc, |out| push_state(state, out))
 }
 
 // The text of the copy of a state.
-fn copied(alloc: Global, state: &State) -> Option<Vec<u8>> {
+fn copied(alloc: Global, state: &State) -> Option<Answer> {
     state_text(alloc, &state.try_clone(alloc).ok()?)
 }
 
 // The text of a state that was packed and unpacked.
-fn unpacked(alloc: Global, state: &State) -> Option<Vec<u8>> {
+fn unpacked(alloc: Global, state: &State) -> Option<Answer> {
     state_text(alloc, &again(alloc, state)?)
 }
 
 // The text of the state, as it is or as the call makes it.
-fn text_after(alloc: Global, call: &str, state: &State) -> Option<Vec<u8>> {
+fn text_after(alloc: Global, call: &str, state: &State) -> Option<Answer> {
     match call {
         "state" => state_text(alloc, state),
         "copied" => copied(alloc, state),
@@ -162,7 +109,7 @@ fn text_after(alloc: Global, call: &str, state: &State) -> Option<Vec<u8>> {
 
 /// The state of these goals and hypotheses: as it is made of them, its copy, or packed, and
 /// unpacked after 1,000 other polynomials were numbered.
-pub fn answer(alloc: Global, call: &str, given: &str) -> Option<Vec<u8>> {
+pub fn answer(alloc: Global, call: &str, given: &str) -> Option<Answer> {
     let state = state(alloc, given)?;
     text_after(alloc, call, &state)
 }

@@ -1,32 +1,15 @@
 //! What a step makes of a goal, over a rule set or by hypotheses.
-use crate::reading::{equation, rules};
-use crate::rule_sets::set_of;
 use crate::steps::step;
+use rule_tables::{equation, push_goal, push_rule, rules, six_symbols};
 use rx_form::{Asked, FormEnd, FormedStep, Group, form};
 use rx_plain::Items;
 use rx_row::Row;
-use rx_term::{Equation, Rule, RuleSet};
-use rx_term_words::push_equation;
+use rx_tables::{push_each, written};
+use rx_term::{Equation, Rule, RuleParts, RuleSet};
 use rx_text::push_word;
 use rx_words::{NoMemory, push_count, push_rows};
 use std::alloc::Global;
-
-/// What a step answers.
-#[derive(Drop)]
-pub enum Answer {
-    /// A word of its own.
-    Word(&'static str),
-    /// The text of what it makes.
-    Text(Vec<u8>),
-}
-
-/// Whether the text says this answer.
-pub fn is_meant(answer: &Answer, text: &str) -> bool {
-    match answer {
-        Answer::Word(word) => *word == text,
-        Answer::Text(found) => found.as_slice() == text.as_bytes(),
-    }
-}
+use tables::{Answer, SEMICOLON};
 
 // Why the step isn't formed; out of memory is none that a line could want.
 fn ended(end: FormEnd) -> Option<Answer> {
@@ -47,46 +30,32 @@ fn rows_of(groups: &[Group]) -> &[Row] {
     }
 }
 
-fn push_goals(out: &mut Vec<u8>, goals: &[Equation]) -> Result<(), NoMemory> {
-    for goal in goals {
-        push_word(out, b" ")?;
-        push_equation(&goal.left, &goal.right, goal.rows.rows(), out)?;
+// The rows that the step asks, if there are some.
+fn asked_rows(formed: &FormedStep) -> &[Row] {
+    match &formed.asked {
+        Asked::Rows(groups) => rows_of(groups.as_slice()),
+        Asked::Refuted => &[],
     }
-    Ok(())
-}
-
-fn push_rules(out: &mut Vec<u8>, rules: &[Rule]) -> Result<(), NoMemory> {
-    for rule in rules {
-        push_word(out, b" ")?;
-        push_equation(&rule.left, &rule.right, rule.rows.rows(), out)?;
-    }
-    Ok(())
 }
 
 // The goals, and then the hypotheses.
 fn push_made(out: &mut Vec<u8>, goals: &[Equation], kept: &[Rule]) -> Result<(), NoMemory> {
     push_count(out, goals.len().saturating_add(kept.len()))?;
-    push_goals(out, goals)?;
-    push_rules(out, kept)
+    push_each(goals, out, |goal, out| push_goal(goal, out))?;
+    push_each(kept, out, |rule, out| push_rule(rule, out))
 }
 
-fn push_formed(out: &mut Vec<u8>, groups: &[Group], formed: &FormedStep) -> Result<(), NoMemory> {
-    push_rows(rows_of(groups), out)?;
+fn push_formed(out: &mut Vec<u8>, formed: &FormedStep) -> Result<(), NoMemory> {
+    push_rows(asked_rows(formed), out)?;
     push_word(out, b" ")?;
     push_made(out, formed.goals.as_slice(), formed.kept.as_slice())
 }
 
 // The rows that the step asks, and its goals and hypotheses in order.
-fn written(alloc: Global, groups: &[Group], formed: &FormedStep) -> Option<Answer> {
-    let mut out = Vec::new(alloc);
-    push_formed(&mut out, groups, formed).ok()?;
-    Some(Answer::Text(out))
-}
-
 fn answered(alloc: Global, formed: &FormedStep) -> Option<Answer> {
     match &formed.asked {
         Asked::Refuted => Some(Answer::Word("refuted")),
-        Asked::Rows(groups) => written(alloc, groups.as_slice(), formed),
+        Asked::Rows(_) => written(alloc, |out| push_formed(out, formed)),
     }
 }
 
@@ -120,6 +89,16 @@ fn answer_over(
     said(alloc, formed(alloc, set, hypotheses, &goal, words)?)
 }
 
+// The set of these rules. The symbols are s0 to s5, and the greatest failure code is 2.
+fn set_of(alloc: Global, rules: Items<Rule>) -> Option<RuleSet> {
+    let symbols = six_symbols(alloc)?;
+    RuleSet::from_parts(RuleParts {
+        symbols,
+        rules,
+        fails: 2,
+    })
+}
+
 // A step over the set of these rules.
 fn over_set(alloc: Global, given: &str, goal: &str, words: &str) -> Option<Answer> {
     let set = set_of(alloc, rules(alloc, given)?)?;
@@ -138,18 +117,20 @@ fn by_hypotheses(alloc: Global, given: &str, goal: &str, words: &str) -> Option<
     without_rules(alloc, hypotheses.as_slice(), goal, words)
 }
 
-/// What the step answers: `step.use` is that of a hypothesis, and then hypotheses are given, not
-/// rules.
-pub fn answer_to(
-    alloc: Global,
-    call: &str,
-    given: &str,
-    goal: &str,
-    words: &str,
-) -> Option<Answer> {
+// What a step makes of a goal.
+fn answer_of(alloc: Global, call: &str, given: &str, goal: &str, words: &str) -> Option<Answer> {
     match call {
         "step.use" => by_hypotheses(alloc, given, goal, words),
         "step.form" => over_set(alloc, given, goal, words),
         _ => None,
     }
+}
+
+/// What the step answers, which is given last, after the goal: `step.use` is that of a hypothesis,
+/// and then hypotheses are given first, not rules. None where the line can't be read, or there is
+/// no memory.
+pub fn answer_to(alloc: Global, call: &str, given: &str) -> Option<Answer> {
+    let (rules, rest) = given.split_once(SEMICOLON)?;
+    let (goal, words) = rest.split_once(SEMICOLON)?;
+    answer_of(alloc, call, rules, goal, words)
 }

@@ -1,13 +1,34 @@
 //! Steps as in a log, as `simplify l 3`, but without certificates.
-use crate::reading::{count, equation, equation_at, high_term, is_high, row, substitution};
+//!
+//! Variables that no log has are written as others in a row, on the right side of a postulated
+//! goal, and where a substitution replaces them: `v999998` is the variable 2^31.
+use rule_tables::equation;
 use rx_cert::Cert;
 use rx_form::{Delete, Side, Step};
 use rx_plain::Items;
 use rx_poly::Poly;
-use rx_term::Equation;
+use rx_tables::{has_high, high_variables, meant, row, substitution};
+use rx_term::{Equation, Term};
+use rx_term_words::read_equation;
 use rx_text::skip_word;
 use rx_words::read_subst;
 use std::alloc::Global;
+use tables::count;
+
+// The term that is meant by the one that is written.
+fn high_term(alloc: Global, written: &Term) -> Option<Term> {
+    let with = high_variables(alloc)?;
+    written.subst(alloc, with.as_slice()).ok()
+}
+
+// A list of variables, each by its number, with what is in its place.
+fn high_substitution(alloc: Global, text: &str) -> Option<Items<(u32, Poly)>> {
+    let mut made = Items::new(alloc);
+    for (written, poly) in substitution(alloc, text)?.into_vec() {
+        made.push((meant(written), poly)).ok()?;
+    }
+    Some(made)
+}
 
 fn side(word: &str) -> Option<Side> {
     match word {
@@ -34,7 +55,7 @@ fn hypothesis_at(alloc: Global, side: Side, place: u32, words: &str) -> Option<S
         side,
         place,
         hyp,
-        subst: substitution(alloc, subst)?,
+        subst: high_substitution(alloc, subst)?,
         certs: Items::new(alloc),
     })
 }
@@ -61,7 +82,7 @@ fn last_substitution(alloc: Global, text: &[u8], at: usize) -> Option<Items<(u32
 }
 
 fn generalise(alloc: Global, words: &str) -> Option<Step> {
-    let (goal, end) = equation_at(alloc, words.as_bytes(), 0)?;
+    let (goal, end) = read_equation(alloc, words.as_bytes(), 0).ok()??;
     let subst = last_substitution(alloc, words.as_bytes(), end)?;
     let Equation { left, right, rows } = goal;
     Some(Step::Generalise {
@@ -86,7 +107,7 @@ fn postulated(alloc: Global, goal: Equation, high: bool) -> Option<Step> {
 
 fn postulate(alloc: Global, words: &str) -> Option<Step> {
     let goal = equation(alloc, words)?;
-    postulated(alloc, goal, is_high(words))
+    postulated(alloc, goal, has_high(words))
 }
 
 fn split(alloc: Global, words: &str) -> Option<Step> {

@@ -1,36 +1,15 @@
 //! Rules and sets of rules. A set's symbols are s0 to s5: points of two, of no and of one argument,
 //! which are s0, s1 and s4, and frames of one, of no and of two, which are s2, s3 and s5. Its
 //! greatest failure code is 2.
-use crate::answer::{Answer, told};
-use crate::reading::values::{equation, rule_of};
+use rule_tables::{equation, rule_of, six_symbols};
 use rx_plain::Items;
-use rx_term::{Equation, Rule, RuleParts, RuleSet, SymInfo};
+use rx_term::{Equation, Rule, RuleParts, RuleSet};
 use std::alloc::Global;
-
-const fn symbol(arity: u32, frame: bool) -> SymInfo {
-    SymInfo {
-        arity,
-        frame,
-        entry: false,
-        head: false,
-    }
-}
-
-fn symbols(alloc: Global) -> Option<Items<SymInfo>> {
-    let symbols = [
-        symbol(2, false),
-        symbol(0, false),
-        symbol(1, true),
-        symbol(0, true),
-        symbol(1, false),
-        symbol(2, true),
-    ];
-    Items::from_slice(alloc, symbols.as_slice()).ok()
-}
+use tables::{Answer, told};
 
 fn parts(alloc: Global, rules: Items<Rule>) -> Option<RuleParts> {
     Some(RuleParts {
-        symbols: symbols(alloc)?,
+        symbols: six_symbols(alloc)?,
         rules,
         fails: 2,
     })

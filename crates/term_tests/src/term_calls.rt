@@ -1,14 +1,14 @@
 //! Terms: how deep they are, what stands in them, what takes the place of a part, and what is
 //! substituted for variables.
-use crate::answer::{Answer, ended, formed, nothing, perhaps, perhaps_term, told, written, zeros};
-use crate::reading::lists::polys;
-use crate::reading::values::{substitution, term};
-use crate::reading::words::count;
+use crate::reading::{perhaps_term, term, written_term};
 use crate::rule_calls::without_rules;
-use rx_plain::Items;
-use rx_poly::Poly;
+use rx_plain::{Items, NoMemory};
+use rx_poly::{Poly, PolyEnd};
+use rx_tables::{ended, polys, push_list, substitution, written};
 use rx_term::{Term, differences};
+use rx_text::{push_poly, push_word};
 use std::alloc::Global;
+use tables::{Answer, count, nothing, perhaps, told};
 
 /// More frames than a term of a line has.
 const MANY: u32 = 1_000_000;
@@ -20,7 +20,7 @@ fn walked(name: &str, term: &Term) -> Option<Answer> {
     }
     match name {
         "depth" => Some(Answer::Number(term.depth() as i128)),
-        "redex" => perhaps(term.redex_place()),
+        "redex" => place(term.redex_place()),
         _ => None,
     }
 }
@@ -35,7 +35,7 @@ fn root(term: &Term) -> Option<Answer> {
 
 fn copied(alloc: Global, term: &Term) -> Option<Answer> {
     let copy = term.try_clone(alloc).ok()?;
-    written(alloc, &copy)
+    written_term(alloc, &copy)
 }
 
 fn fits(alloc: Global, term: &Term) -> Option<Answer> {
@@ -56,12 +56,34 @@ fn alone(alloc: Global, name: &str, term: &Term) -> Option<Answer> {
     }
 }
 
+fn push_zero(poly: &Poly, out: &mut Vec<u8>) -> Result<(), NoMemory> {
+    push_word(out, b"eq:")?;
+    push_poly(out, poly)
+}
+
+// The rows that say that the polynomials are 0.
+fn zeros(alloc: Global, polys: &[Poly]) -> Option<Answer> {
+    written(alloc, |out| push_list(polys, out, push_zero))
+}
+
 // That the polynomials of the two lists are equal, one by one.
 fn compared(alloc: Global, left: &[Poly], right: &[Poly]) -> Option<Answer> {
     match differences(alloc, left, right) {
         Ok(polys) => zeros(alloc, polys.as_slice()),
         Err(end) => ended(end),
     }
+}
+
+fn formed_term(alloc: Global, answer: Result<Term, PolyEnd>) -> Option<Answer> {
+    match answer {
+        Ok(term) => written_term(alloc, &term),
+        Err(end) => ended(end),
+    }
+}
+
+// A number, if there is one.
+fn place(found: Option<u32>) -> Option<Answer> {
+    perhaps(found.map(|place| place as i128))
 }
 
 fn arguments(alloc: Global, term: &Term) -> Option<Items<Poly>> {
@@ -91,12 +113,12 @@ fn beside(alloc: Global, name: &str, left: &Term, right: &str) -> Option<Answer>
 
 fn at_args(alloc: Global, whole: &Term, args: &str) -> Option<Answer> {
     let args = polys(alloc, args)?;
-    formed(alloc, whole.at_args(alloc, args.as_slice()))
+    formed_term(alloc, whole.at_args(alloc, args.as_slice()))
 }
 
 fn substituted(alloc: Global, whole: &Term, with: &str) -> Option<Answer> {
     let with = substitution(alloc, with)?;
-    formed(alloc, whole.subst(alloc, with.as_slice()))
+    formed_term(alloc, whole.subst(alloc, with.as_slice()))
 }
 
 // What a term answers, and what else is given.
@@ -120,7 +142,7 @@ fn of_term(alloc: Global, name: &str, first: &str, second: &str) -> Option<Answe
 
 fn with_part(alloc: Global, whole: Term, place: u32, inner: &str) -> Option<Answer> {
     let inner = term(alloc, inner)?;
-    written(alloc, &whole.replace(place, inner))
+    written_term(alloc, &whole.replace(place, inner))
 }
 
 // The term with another in place of the part that so many frames are over.
@@ -132,7 +154,7 @@ fn replaced(alloc: Global, first: &str, place: &str, inner: &str) -> Option<Answ
 
 fn with_redex(alloc: Global, whole: Term, inner: &str) -> Option<Answer> {
     let inner = term(alloc, inner)?;
-    written(alloc, &whole.replace_redex(inner))
+    written_term(alloc, &whole.replace_redex(inner))
 }
 
 // The term with another in place of its redex.

@@ -1,0 +1,48 @@
+//! Compares what the calls say that examine the covers and the pairs of a log with values of
+//! another program.
+//!
+//! Each line of the standard input is a call, what it is given, and what it is to answer, with
+//! ` | ` between them. Equations, polynomials and cover trees have the notation of a log. A line
+//! `set` makes a rule set; the lines after it speak of that. A line that begins with `#` is a
+//! heading. The program prints each line whose answer is another with the word `differs`, each that
+//! it can't read with `unread`, and at the end how many lines hold.
+#![tactic(auto)]
+
+mod log_calls;
+mod log_parts;
+
+use log_calls::{covered, lowered};
+use rule_tables::take_set;
+use rx_term::RuleSet;
+use std::alloc::Global;
+use std::io;
+use tables::{Answer, BAR, Meant, Verdict, case_of, count_lines};
+
+// What the call on the rule set answers; none where the line can't be read, or there is no memory.
+fn answer_to(alloc: Global, set: &RuleSet, call: &str, given: &str) -> Option<Answer> {
+    match call {
+        "covers" => covered(alloc, set, given),
+        "decreases" => lowered(alloc, set, given),
+        _ => None,
+    }
+}
+
+// Whether the line's call answers what is wanted, over the set of the lines before it; none where
+// that isn't known.
+fn holds(alloc: Global, set: &mut Option<RuleSet>, line: &str) -> Option<bool> {
+    let case = case_of(line, BAR)?;
+    if case.call == "set" {
+        return take_set(alloc, set, case.given, case.wanted);
+    }
+    let found = answer_to(alloc, set.as_ref()?, case.call, case.given)?;
+    found.is_meant(alloc, case.wanted)
+}
+
+fn main(rt: HostRuntime) -> io::Result<()> {
+    let mut set = None;
+    count_lines(
+        &rt,
+        "lines",
+        |alloc, line| Verdict::of(holds(alloc, &mut set, line)),
+    )
+}

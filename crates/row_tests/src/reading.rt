@@ -1,5 +1,0 @@
-//! Values as they are written in a line. Each function answers None where the text is no such
-//! value, or where there is no memory.
-pub mod lists;
-pub mod values;
-pub mod words;
