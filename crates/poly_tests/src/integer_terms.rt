@@ -1,8 +1,8 @@
 //! Integer terms, each operator before its operands: `+`, `*`, `/`, `%` of two terms, `neg` of one,
 //! and as terms without operator variables and numbers, as in `* + v0 1 neg v1`. They are read from
 //! the end.
-use rx_norm::ITerm;
 use rx_plain::Boxed;
+use rx_poly_laws::ITerm;
 use std::alloc::Global;
 use tables::{count, integer};
 

@@ -1,9 +1,8 @@
 //! Polynomials: normal forms, sums, products, orders, what is read from them, and what is
 //! substituted for variables.
 use crate::integer_terms::integer_term;
-use rx_norm::norm;
 use rx_poly::{Atom, Body, Mono, Poly, PolyEnd, variable_bound};
-use rx_poly_laws::{uses, uses_below, variables_of};
+use rx_poly_laws::{norm, uses, uses_below, variables_of};
 use rx_tables::{ended, poly, polys, substitution, written_poly};
 use std::alloc::{AllocError, Global};
 use tables::{Answer, compared, count, equal, integer, integers, nothing, ordered, perhaps, told};

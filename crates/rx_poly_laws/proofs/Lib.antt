@@ -2,8 +2,11 @@
 pub mod BoundLaws
 pub mod Coefficients
 pub mod InnerLaws
-pub mod Locality
-pub mod TestLaws
 pub mod InstanceVariables
+pub mod Locality
+pub mod Nodes
+pub mod NormLaws
+pub mod NormVariables
 pub mod SameInstance
 pub mod SumCoefficients
+pub mod TestLaws

@@ -1,6 +1,6 @@
 -- Integer terms all of whose variables pass a test.
 use Rattle.std.specs.Prelude.{ℕ, Bool, true, ◌&&◌}
-use Rattle.rx_norm.specs.declared.iterm.ITerm.{ITerm, ITerm-F, fold-ITerm}
+use Rattle.rx_poly_laws.specs.declared.iterm.ITerm.{ITerm, ITerm-F, fold-ITerm}
 
 -- all variables pass the test, by whether those of the parts do
 abbrev pub term_passes_level : (ℕ → Bool) → ITerm-F Bool → Bool

@@ -1,8 +1,8 @@
 -- Two terms that are to be joined have fewer nodes than what they are the parts of, and each has no
 -- more than both.
 use Rattle.std.proofs.Common.{◌+◌, ◌*◌}
-use Rattle.rx_norm.proofs.Nodes.{nodes}
-use Rattle.rx_norm.proofs.normal_form.+norms.Given as goal
+use Rattle.rx_poly_laws.proofs.Nodes.{nodes}
+use Rattle.rx_poly_laws.proofs.normal_form.+norms.Given as goal
 
 abbrev pub decreases-norm : goal.decreases-norm
 decreases-norm l = 2 * nodes l.term.now

@@ -1,10 +1,10 @@
 -- What has as value that of both parts joined has the value of the term.
 use Rattle.std.proofs.Common.{◌∙◌, ap}
 use Rattle.std.proofs.lemmas.Result.{IfOk-weaker}
-use Rattle.rx_norm.proofs.NormLaws.{negated_value, sum_value, product_value, quotient_value, remainder_value}
-use Rattle.rx_norm.specs.Norm.{term_value}
-use Rattle.rx_norm.specs.Operations.{value_by}
-use Rattle.rx_norm.proofs.normal_form.+norms.Goals as goal
+use Rattle.rx_poly_laws.proofs.NormLaws.{negated_value, sum_value, product_value, quotient_value, remainder_value}
+use Rattle.rx_poly_laws.specs.Norm.{term_value}
+use Rattle.rx_poly_laws.specs.Operations.{value_by}
+use Rattle.rx_poly_laws.proofs.normal_form.+norms.Goals as goal
 
 pub norm-returns-in_ok-norm-in-Neg-clause-value : goal.norm-returns-in_ok-norm-in-Neg-clause-value
 norm-returns-in_ok-norm-in-Neg-clause-value t c =

@@ -1,5 +1,5 @@
 -- Each operation has the value of its call.
-use Rattle.rx_norm.proofs.normal_form.joined.Goals as goal
+use Rattle.rx_poly_laws.proofs.normal_form.joined.Goals as goal
 
 pub returns-in-Add-clause-value : goal.returns-in-Add-clause-value
 returns-in-Add-clause-value c = rw (c.in-Add.is) c.add.ensures.value

@@ -2,10 +2,10 @@
 use Rattle.std.proofs.Common.{◌≡◌, ◌∙◌, ap, subst, ℕ, Bool, true, sym, negsuc}
 use Rattle.std.proofs.lemmas.Bool.{and_parts}
 use Rattle.rx_plain.specs.Formed.{Formed}
-use Rattle.rx_norm.specs.Norm.{formed, norm_level, norm_of}
+use Rattle.rx_poly_laws.specs.Norm.{formed, norm_level, norm_of}
 use Rattle.rx_poly.specs.declared.body.Body.{Body}
-use Rattle.rx_norm.specs.declared.iterm.ITerm.{ITerm, ITerm-F, roll-ITerm, map-ITerm, fold-roll-ITerm, ind-ITerm}
-use Rattle.rx_norm.specs.Variables.{term_passes, term_passes_level}
+use Rattle.rx_poly_laws.specs.declared.iterm.ITerm.{ITerm, ITerm-F, roll-ITerm, map-ITerm, fold-roll-ITerm, ind-ITerm}
+use Rattle.rx_poly_laws.specs.Variables.{term_passes, term_passes_level}
 use Rattle.rx_poly_laws.specs.Tests.{passes}
 use Rattle.rx_poly_laws.proofs.TestLaws.{passes-body_sum, passes-body_product, passes-number, passes-quotient_of, passes-remainder_of, passes-scaled_by, passes-variable}
 

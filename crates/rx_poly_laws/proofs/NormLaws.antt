@@ -1,11 +1,11 @@
 -- A term's value, by its parts.
 use Rattle.std.proofs.Common.{◌≡◌, ◌∙◌, ap, refl, sym, ℕ, ℤ, negsuc, ◌+ℤ◌, ◌*ℤ◌, neg_ℤ, arith}
 use Rattle.std.proofs.lemmas.Int.{ints}
-use Rattle.rx_norm.specs.Norm.{term_level, term_value}
+use Rattle.rx_poly_laws.specs.Norm.{term_level, term_value}
 use Rattle.rx_poly.specs.Value.{value, quotient, remainder}
 use Rattle.rx_poly.specs.declared.body.Body.{Body}
-use Rattle.rx_norm.specs.declared.iterm.ITerm.{ITerm, fold_out-ITerm}
-use Rattle.rx_norm.specs.declared.iterm.ITerm.TheVariants.{Add, Mul, Neg, Div, Mod, outs-Add, outs-Mul, outs-Neg, outs-Div, outs-Mod}
+use Rattle.rx_poly_laws.specs.declared.iterm.ITerm.{ITerm, fold_out-ITerm}
+use Rattle.rx_poly_laws.specs.declared.iterm.ITerm.TheVariants.{Add, Mul, Neg, Div, Mod, outs-Add, outs-Mul, outs-Neg, outs-Div, outs-Mod}
 
 pub term_value-Add : (a : ℕ → ℤ) (l r : ITerm) → term_value a (Add l r) ≡
     term_value a l +ℤ term_value a r

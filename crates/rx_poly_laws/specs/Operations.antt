@@ -1,11 +1,11 @@
 -- Two parts of a term that are joined by an operation.
 use Rattle.std.specs.Prelude.{ℤ, pos}
 use Rattle.rx_plain.specs.Formed.{Formed, pure, ◌>>=◌}
-use Rattle.rx_norm.specs.Norm.{formed, norm_level, term_level}
+use Rattle.rx_poly_laws.specs.Norm.{formed, norm_level, term_level}
 use Rattle.rx_poly.specs.declared.body.Body.{Body}
-use Rattle.rx_norm.specs.declared.iterm.ITerm.{ITerm, ITerm-F}
-use Rattle.rx_norm.specs.declared.normal_form.Operation.{Operation}
-use Rattle.rx_norm.specs.declared.normal_form.Operation.TheVariants.{Add, Mul, Div, Mod}
+use Rattle.rx_poly_laws.specs.declared.iterm.ITerm.{ITerm, ITerm-F}
+use Rattle.rx_poly_laws.specs.declared.normal_form.Operation.{Operation}
+use Rattle.rx_poly_laws.specs.declared.normal_form.Operation.TheVariants.{Add, Mul, Div, Mod}
 
 -- the term with these two parts
 abbrev pub node : {A : Type 0} → Operation → A → A → ITerm-F A

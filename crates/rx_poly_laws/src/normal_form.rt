@@ -1,8 +1,8 @@
 //! From an integer term to its normal form.
 ghost use Rattle.std.specs.Prelude.{◌≡◌, ℕ, ℤ, IfOk};
 ghost use Rattle.rx_plain.specs.Formed.{Forms};
-ghost use Rattle.rx_norm.specs.Norm.{formed, term_value};
-ghost use Rattle.rx_norm.specs.Operations.{formed_by, joined_by, value_by};
+ghost use Rattle.rx_poly_laws.specs.Norm.{formed, term_value};
+ghost use Rattle.rx_poly_laws.specs.Operations.{formed_by, joined_by, value_by};
 ghost use Rattle.rx_poly.specs.Value.{value};
 
 use crate::iterm::ITerm;

@@ -1,8 +1,8 @@
 //! Laws of integer terms.
 ghost use Rattle.std.specs.Prelude.{◌≡◌, ℕ, Bool, true};
-ghost use Rattle.rx_norm.specs.Norm.{norm_of};
-ghost use Rattle.rx_norm.specs.Variables.{term_passes};
-ghost use Rattle.rx_norm.specs.declared.iterm.ITerm.{ITerm};
+ghost use Rattle.rx_poly_laws.specs.Norm.{norm_of};
+ghost use Rattle.rx_poly_laws.specs.Variables.{term_passes};
+ghost use Rattle.rx_poly_laws.specs.declared.iterm.ITerm.{ITerm};
 ghost use Rattle.rx_poly_laws.specs.Tests.{passes};
 
 /// The normal form of a term has no variables but the term's: where all variables of the term pass

@@ -8,7 +8,7 @@ use Rattle.rx_poly.specs.Constants.{number, variable}
 use Rattle.rx_poly.specs.Division.{quotient_of, remainder_of}
 use Rattle.rx_poly.specs.Value.{quotient, remainder}
 use Rattle.rx_poly.specs.declared.body.Body.{Body}
-use Rattle.rx_norm.specs.declared.iterm.ITerm.{ITerm, ITerm-F, fold-ITerm}
+use Rattle.rx_poly_laws.specs.declared.iterm.ITerm.{ITerm, ITerm-F, fold-ITerm}
 
 -- the value of a term, by those of its parts
 abbrev pub term_level : (ℕ → ℤ) → ITerm-F ℤ → ℤ

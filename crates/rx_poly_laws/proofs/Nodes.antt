@@ -1,6 +1,6 @@
 -- How many nodes a term has: more than its parts together.
 use Rattle.std.proofs.Common.{ℕ, suc, ◌+◌}
-use Rattle.rx_norm.specs.declared.iterm.ITerm.{ITerm, ITerm-F, fold-ITerm}
+use Rattle.rx_poly_laws.specs.declared.iterm.ITerm.{ITerm, ITerm-F, fold-ITerm}
 
 -- the nodes of a term, by those of its parts
 abbrev pub node_level : ITerm-F ℕ → ℕ
