@@ -5,8 +5,8 @@ use rx_plain::{Items, NoMemory};
 use rx_poly::Poly;
 use rx_ranking::Ranking;
 use rx_tables::{push_each, push_list};
+use rx_term_words::push_tree;
 use rx_text::{push_natural, push_poly, push_word};
-use rx_tree_words::push_tree;
 use rx_words::push_count;
 
 fn push_trees(trees: &Items<CoverTree>, out: &mut Vec<u8>) -> Result<(), NoMemory> {

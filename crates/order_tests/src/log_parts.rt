@@ -4,8 +4,8 @@ use rx_pairs::{PairCert, RankTable};
 use rx_plain::{Items, NoMemory};
 use rx_poly::Poly;
 use rx_tables::{list, list_at, several};
+use rx_term_words::read_tree;
 use rx_text::{read_poly, skip_word};
-use rx_tree_words::read_tree;
 use rx_words::{read_certs, read_number};
 use std::alloc::Global;
 

@@ -4,7 +4,7 @@ use rx_cert::Cert;
 use rx_cover::CoverTree;
 use rx_plain::{Items, NoMemory};
 use rx_tables::{list, list_at, whole};
-use rx_tree_words::read_tree;
+use rx_term_words::read_tree;
 use rx_words::read_certs;
 use std::alloc::Global;
 

@@ -7,7 +7,7 @@ use Rattle.rx_cover.specs.declared.cover_tree.CoverTree.{CoverTree}
 use Rattle.rx_text.specs.Formats.{IsUnambiguous, Reads, StandsAt}
 use Rattle.rx_text.specs.Numbers.{natural_text}
 use Rattle.rx_text.specs.Polynomials.{polynomials}
-use Rattle.rx_tree_words.specs.Trees.{trees}
+use Rattle.rx_term_words.specs.Trees.{trees}
 use Rattle.rx_words.specs.Words.{each_spaced, numbers, words}
 use Rattle.rx_words.proofs.Once.{numbers_once}
 use Rattle.rx_logtext.specs.Lines.{ReadsAll, ReadsEach, is_readable_line, is_width, line_text, lines, pair_parts}

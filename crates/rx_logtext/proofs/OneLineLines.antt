@@ -10,7 +10,7 @@ use Rattle.rx_text.specs.Polynomials.{poly_text}
 use Rattle.rx_words.specs.Certificates.{certificate_lists}
 use Rattle.rx_term_words.specs.Equations.{equations}
 use Rattle.rx_words.specs.Substitutions.{substitutions}
-use Rattle.rx_tree_words.specs.Trees.{tree_text}
+use Rattle.rx_term_words.specs.Trees.{tree_text}
 use Rattle.rx_words.specs.Words.{each_spaced, numbers, pairs}
 use Rattle.rx_logtext.specs.Lines.{lines}
 use Rattle.rx_logtext.specs.Logs.{is_one_line, line_texts}

@@ -15,7 +15,7 @@ use Rattle.rx_words.specs.Certificates.{cert_text, cert_text_level, certificate_
 use Rattle.rx_term_words.specs.Equations.{equations}
 use Rattle.rx_words.specs.Substitutions.{row_lists, substitutions}
 use Rattle.rx_term_words.specs.Terms.{applied_text, polys_text, term_text, term_text_level}
-use Rattle.rx_tree_words.specs.Trees.{tree_text, tree_text_level}
+use Rattle.rx_term_words.specs.Trees.{tree_text, tree_text_level}
 use Rattle.rx_words.specs.Words.{numbers, pairs, variables, word}
 use Rattle.rx_logtext.specs.Logs.{is_one_line}
 use Rattle.rx_logtext.proofs.OneLine.{AreOneLine, integer_one_line, joined, list_one_line, natural_one_line, pair_one_line, spaced_one_line, spread}

@@ -13,7 +13,7 @@ use Rattle.rx_text.specs.Polynomials.{polynomials}
 use Rattle.rx_words.specs.Certificates.{certificate_lists}
 use Rattle.rx_term_words.specs.Equations.{equations}
 use Rattle.rx_words.specs.Substitutions.{substitutions}
-use Rattle.rx_tree_words.specs.Trees.{trees}
+use Rattle.rx_term_words.specs.Trees.{trees}
 use Rattle.rx_words.specs.Words.{each_spaced, numbers, pairs, words}
 use Rattle.rx_words.proofs.Joined.{pairs_once}
 use Rattle.rx_words.proofs.Once.{numbers_once, polynomials_once, rows_once, substitutions_once}
@@ -25,7 +25,7 @@ use Rattle.rx_logtext.proofs.Each.{each_once, over_end}
 use Rattle.rx_logtext.specs.Once.{keeps_once, sides_once}
 use Rattle.rx_words.proofs.CertLaws.{certificate_lists_once, certificates_once}
 use Rattle.rx_term_words.proofs.EquationLaws.{equations_once}
-use Rattle.rx_tree_words.proofs.TreeWords.{trees_once}
+use Rattle.rx_term_words.proofs.TreeWords.{trees_once}
 use Rattle.rx_logtext.proofs.StepKinds.{IsKind, absurd_kind, decompose_kind, equal_kind, expand_kind, generalise_kind, hyp_kind, postulate_kind, results_kind, simplify_kind, split_kind, starts}
 use Rattle.rx_logtext.proofs.Taking.{IsOne}
 

@@ -6,7 +6,7 @@ use Rattle.rx_text.specs.Formats.{Format, is_over}
 use Rattle.rx_text.specs.Numbers.{natural_text}
 use Rattle.rx_text.specs.Polynomials.{polynomials}
 use Rattle.rx_words.specs.Certificates.{certificate_lists}
-use Rattle.rx_tree_words.specs.Trees.{trees}
+use Rattle.rx_term_words.specs.Trees.{trees}
 use Rattle.rx_words.specs.Words.{each_spaced, in_word, numbers, pairs, spaced}
 use Rattle.rx_logtext.specs.Steps.{is_readable_step, step_text}
 use Rattle.rx_log.specs.declared.line.Line.{Line}

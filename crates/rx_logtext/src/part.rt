@@ -12,9 +12,8 @@ use rx_plain::{Items, NoMemory};
 use rx_poly::Poly;
 use rx_row::Row;
 use rx_term::Equation;
-use rx_term_words::read_equation;
+use rx_term_words::{read_equation, read_tree};
 use rx_text::{read_poly, read_row, skip_word};
-use rx_tree_words::read_tree;
 use rx_words::{read_cert, read_certs, read_number, read_subst};
 use std::alloc::Global;
 
@@ -341,8 +340,8 @@ impl Part for Poly {
 }
 
 impl Part for CoverTree {
-    ghost use Rattle.rx_tree_words.specs.Trees as spec;
-    ghost use Rattle.rx_tree_words.proofs.TreeWords.{trees_once};
+    ghost use Rattle.rx_term_words.specs.Trees as spec;
+    ghost use Rattle.rx_term_words.proofs.TreeWords.{trees_once};
 
     ghost text = { spec.trees.text };
 

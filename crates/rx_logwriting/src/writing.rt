@@ -10,7 +10,7 @@ ghost use Rattle.rx_log.specs.declared.line.Line.TheVariants as line;
 ghost use Rattle.rx_logtext.specs.declared.log_end.LogEnd.TheVariants as end;
 ghost use Rattle.rx_poly.specs.declared.body.Body.{Body};
 ghost use Rattle.rx_text.specs.Polynomials.{poly_text};
-ghost use Rattle.rx_tree_words.specs.Trees.{tree_text};
+ghost use Rattle.rx_term_words.specs.Trees.{tree_text};
 ghost use Rattle.rx_words.specs.Words.{each_spaced};
 
 use crate::depth::{are_shallow, are_shallow_trees};
@@ -23,8 +23,8 @@ use rx_logtext::LogEnd;
 use rx_pairs::{PairCert, RankTable};
 use rx_plain::{Items, NoMemory};
 use rx_poly::Poly;
+use rx_term_words::push_tree;
 use rx_text::{push_natural, push_poly, push_word};
-use rx_tree_words::push_tree;
 use rx_words::{push_certs, push_count};
 use std::alloc::Global;
 

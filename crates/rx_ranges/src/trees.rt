@@ -1,8 +1,8 @@
 //! Cover trees.
 ghost use Rattle.std.specs.Prelude.{◌≡◌};
 ghost use Rattle.std.specs.List.{list_all};
-ghost use Rattle.rx_tree_words.specs.Trees as spec;
-ghost use Rattle.rx_tree_words.specs.Trees.{is_readable_tree};
+ghost use Rattle.rx_term_words.specs.Trees as spec;
+ghost use Rattle.rx_term_words.specs.Trees.{is_readable_tree};
 
 use crate::certificates::{cert_has_text, certs_have_text};
 use crate::depth::is_tree_within;

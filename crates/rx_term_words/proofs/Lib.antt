@@ -6,3 +6,5 @@ pub mod FrameLaws
 pub mod LayerLaws
 pub mod TermLaws
 pub mod TermWritten
+pub mod TreeWords
+pub mod TreeWritten

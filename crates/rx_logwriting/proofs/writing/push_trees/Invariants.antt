@@ -1,5 +1,5 @@
 use Rattle.std.proofs.Common.{◌≡◌, ◌++◌, take}
-use Rattle.rx_tree_words.specs.Trees.{tree_text}
+use Rattle.rx_term_words.specs.Trees.{tree_text}
 use Rattle.rx_words.specs.Words.{each_spaced}
 use Rattle.rx_logwriting.proofs.writing.push_trees.Given as goal
 

@@ -1,6 +1,6 @@
 use Rattle.std.proofs.Common.{◌≡◌, true, take}
 use Rattle.std.specs.List.{list_all}
-use Rattle.rx_tree_words.specs.Trees as spec
+use Rattle.rx_term_words.specs.Trees as spec
 use Rattle.rx_ranges.proofs.trees.trees_have_text.Given as goal
 
 abbrev pub invariant-loop-tree : goal.invariant-loop-tree

@@ -1,10 +1,10 @@
 //! Cover trees are written: the word of their kind, and all that comes after it.
 ghost use Rattle.std.specs.Prelude.{◌≡◌, ◌++◌, ◌∷◌, OnOk};
 ghost use Rattle.rx_text.specs.Rows.{row_text};
-ghost use Rattle.rx_tree_words.specs.Branches.{tree_word, uses};
+ghost use Rattle.rx_term_words.specs.Branches.{tree_word, uses};
 ghost use Rattle.rx_words.specs.Certificates.{cert_text};
-ghost use Rattle.rx_tree_words.specs.Trees.{tree_text};
-ghost use Rattle.rx_tree_words.specs.declared.trees.TreeKind.{TreeKind};
+ghost use Rattle.rx_term_words.specs.Trees.{tree_text};
+ghost use Rattle.rx_term_words.specs.declared.trees.TreeKind.{TreeKind};
 
 use rx_cert::Cert;
 use rx_cover::CoverTree;

@@ -14,11 +14,11 @@ use Rattle.rx_cover.specs.declared.cover_tree.CoverTree.TheVariants as made
 use Rattle.rx_row.specs.declared.row.Row.{Row}
 use Rattle.rx_text.specs.Formats.{BeginsWith, Format, IsUnambiguous, Reads}
 use Rattle.rx_text.specs.Rows.{is_readable_row, row_format}
-use Rattle.rx_tree_words.specs.Branches.{ReadsTreeKind, branches_within, splits_within, tree_word, uses}
+use Rattle.rx_term_words.specs.Branches.{ReadsTreeKind, branches_within, splits_within, tree_word, uses}
 use Rattle.rx_words.specs.Certificates.{certificate_lists, certificates}
-use Rattle.rx_tree_words.specs.Trees.{is_readable_level, is_readable_tree, tree_text, tree_text_level, trees_within}
+use Rattle.rx_term_words.specs.Trees.{is_readable_level, is_readable_tree, tree_text, tree_text_level, trees_within}
 use Rattle.rx_words.specs.Words.{numbers, words}
-use Rattle.rx_tree_words.specs.declared.trees.TreeKind.{TreeKind}
+use Rattle.rx_term_words.specs.declared.trees.TreeKind.{TreeKind}
 use Rattle.rx_words.proofs.CertLaws.{certificate_lists_once, certificates_once, one_deep}
 use Rattle.rx_words.proofs.Joined.{pairs_once}
 use Rattle.rx_words.proofs.Once.{numbers_once, rows_once}

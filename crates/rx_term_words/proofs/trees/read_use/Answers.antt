@@ -3,7 +3,7 @@ use Rattle.rx_words.specs.Certificates.{certificate_lists}
 use Rattle.rx_words.specs.Words.{numbers}
 use Rattle.rx_words.proofs.Joined.{no_middle, no_second}
 use Rattle.rx_words.proofs.Once.{numbers_once}
-use Rattle.rx_tree_words.proofs.trees.read_use.Goals as goal
+use Rattle.rx_term_words.proofs.trees.read_use.Goals as goal
 
 pub returns-in_default-skip_word : goal.returns-in_default-skip_word
 returns-in_default-skip_word c =

@@ -9,9 +9,9 @@ use Rattle.rx_row.specs.declared.row.Row.{Row}
 use Rattle.rx_text.specs.Formats.{Format, Skips}
 use Rattle.rx_text.specs.Rows.{row_format}
 use Rattle.rx_words.specs.Certificates.{certificate_lists}
-use Rattle.rx_tree_words.specs.Trees.{trees_within}
+use Rattle.rx_term_words.specs.Trees.{trees_within}
 use Rattle.rx_words.specs.Words.{numbers, pairs, word}
-use Rattle.rx_tree_words.specs.declared.trees.TreeKind.{TreeKind}
+use Rattle.rx_term_words.specs.declared.trees.TreeKind.{TreeKind}
 
 -- the word of a kind, with the space after it
 abbrev pub tree_word : TreeKind → List ℕ

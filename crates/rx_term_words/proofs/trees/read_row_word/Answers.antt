@@ -1,5 +1,5 @@
 use Rattle.rx_words.proofs.Once.{row_reads}
-use Rattle.rx_tree_words.proofs.trees.read_row_word.Goals as goal
+use Rattle.rx_term_words.proofs.trees.read_row_word.Goals as goal
 
 pub returns : goal.returns
 returns c =

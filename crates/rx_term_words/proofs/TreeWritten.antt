@@ -5,11 +5,11 @@ use Rattle.rx_cover.specs.declared.cover_tree.CoverTree.{CoverTree}
 use Rattle.rx_cover.specs.declared.cover_tree.CoverTree.TheVariants as made
 use Rattle.rx_row.specs.declared.row.Row.{Row}
 use Rattle.rx_text.specs.Rows.{row_text}
-use Rattle.rx_tree_words.specs.Branches.{tree_word, uses}
+use Rattle.rx_term_words.specs.Branches.{tree_word, uses}
 use Rattle.rx_words.specs.Certificates.{cert_text}
-use Rattle.rx_tree_words.specs.Trees.{tree_text}
-use Rattle.rx_tree_words.specs.declared.trees.TreeKind.{TreeKind}
-use Rattle.rx_tree_words.proofs.TreeWords.{text_after}
+use Rattle.rx_term_words.specs.Trees.{tree_text}
+use Rattle.rx_term_words.specs.declared.trees.TreeKind.{TreeKind}
+use Rattle.rx_term_words.proofs.TreeWords.{text_after}
 
 module _ (out : List ℕ) where
   pub use_written : (rule : ℕ) (certs : List Cert) →

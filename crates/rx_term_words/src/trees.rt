@@ -2,7 +2,7 @@
 ghost use Rattle.std.specs.Prelude.{◌≡◌, IfOk};
 ghost use Rattle.rx_text.specs.Formats.{Reads};
 ghost use Rattle.rx_text.specs.Rows.{row_format};
-ghost use Rattle.rx_tree_words.specs.Branches.{
+ghost use Rattle.rx_term_words.specs.Branches.{
   ReadsTreeKind,
   as_absurd,
   as_split,
@@ -11,7 +11,7 @@ ghost use Rattle.rx_tree_words.specs.Branches.{
   splits_within,
   uses,
 };
-ghost use Rattle.rx_tree_words.specs.Trees.{trees, trees_within};
+ghost use Rattle.rx_term_words.specs.Trees.{trees, trees_within};
 ghost use Rattle.rx_words.specs.Words.{word};
 
 use rx_cert::Cert;

@@ -1,5 +1,5 @@
 use Rattle.std.proofs.Common.{◌+◌, ◌*◌}
-use Rattle.rx_tree_words.proofs.trees.+trees.Given as goal
+use Rattle.rx_term_words.proofs.trees.+trees.Given as goal
 
 abbrev pub decreases-read_within : goal.decreases-read_within
 decreases-read_within l = 3 * l.most

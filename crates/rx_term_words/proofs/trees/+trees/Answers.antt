@@ -1,14 +1,14 @@
 -- A tree is where the word of its kind is with its contents after it.
 use Rattle.std.proofs.Common.{◌≡◌, subst, arith, ℕ, ◌+◌, ◌-◌, Some, None}
 use Rattle.rx_text.specs.Formats.{Reads}
-use Rattle.rx_tree_words.specs.Branches.{ReadsTreeKind, branches_within}
-use Rattle.rx_tree_words.specs.Trees.{tree_text, trees_within}
-use Rattle.rx_tree_words.specs.declared.trees.TreeKind.{TreeKind}
+use Rattle.rx_term_words.specs.Branches.{ReadsTreeKind, branches_within}
+use Rattle.rx_term_words.specs.Trees.{tree_text, trees_within}
+use Rattle.rx_term_words.specs.declared.trees.TreeKind.{TreeKind}
 use Rattle.rx_words.proofs.Joined.{no_middle, no_second}
 use Rattle.rx_words.proofs.Once.{rows_once}
-use Rattle.rx_tree_words.proofs.TreeWords.{no_kind, reads_tree, trees_once}
+use Rattle.rx_term_words.proofs.TreeWords.{no_kind, reads_tree, trees_once}
 use Rattle.rx_text.specs.Rows.{row_format}
-use Rattle.rx_tree_words.proofs.trees.+trees.Goals as goal
+use Rattle.rx_term_words.proofs.trees.+trees.Goals as goal
 
 pub read_branches-returns-in_default-skip_word : goal.read_branches-returns-in_default-skip_word
 read_branches-returns-in_default-skip_word t c =

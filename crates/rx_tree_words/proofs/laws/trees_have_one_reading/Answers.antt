@@ -1,5 +1,0 @@
-use Rattle.rx_tree_words.proofs.TreeWords.{trees_once}
-use Rattle.rx_tree_words.proofs.laws.trees_have_one_reading.Goals as goal
-
-pub returns : goal.returns
-returns c = trees_once 200

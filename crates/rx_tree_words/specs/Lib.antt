@@ -1,3 +1,0 @@
--- The texts of cover trees.
-pub mod Branches
-pub mod Trees
