@@ -3,9 +3,9 @@ ghost use Rattle.std.specs.Prelude.{◌≡◌};
 ghost use Rattle.rx_log.specs.Depth.{are_shallow, has_shallow_certs, is_shallow, is_shallow_tree};
 ghost use Rattle.std.specs.List.{list_all};
 
+use crate::ranges_depth::{is_tree_within, is_within};
 use rx_cert::Cert;
 use rx_cover::CoverTree;
-use rx_ranges::{is_tree_within, is_within};
 
 /// How deep a certificate or a tree is at most.
 const DEEPEST: u32 = 200;

@@ -12,6 +12,12 @@ ghost use Rattle.rx_words.specs.Certificates.{certificate_lists};
 ghost use Rattle.rx_words.specs.Substitutions.{substitutions};
 ghost use Rattle.rx_words.specs.Words.{pairs};
 
+use crate::certificates::{cert_has_text, certs_have_text};
+use crate::lists::is_count;
+use crate::polynomials::{polys_have_text, row_has_text};
+use crate::substitutions::subst_has_text;
+use crate::terms::equation_has_text;
+use crate::trees::trees_have_text;
 use rx_cert::Cert;
 use rx_cover::CoverTree;
 use rx_form::{Delete, Step};
@@ -20,10 +26,6 @@ use rx_logtext::is_width;
 use rx_pairs::PairCert;
 use rx_plain::Items;
 use rx_poly::Poly;
-use rx_ranges::{
-    cert_has_text, certs_have_text, equation_has_text, is_count, polys_have_text, row_has_text,
-    subst_has_text, trees_have_text,
-};
 
 // ---- lines
 

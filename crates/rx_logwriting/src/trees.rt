@@ -5,8 +5,8 @@ ghost use Rattle.rx_term_words.specs.Trees as spec;
 ghost use Rattle.rx_term_words.specs.Trees.{is_readable_tree};
 
 use crate::certificates::{cert_has_text, certs_have_text};
-use crate::depth::is_tree_within;
 use crate::polynomials::row_has_text;
+use crate::ranges_depth::is_tree_within;
 use rx_cover::CoverTree;
 
 /// How deep a tree is at most.

@@ -3,9 +3,9 @@ ghost use Rattle.std.specs.Prelude.{◌≡◌};
 ghost use Rattle.std.specs.List.{list_all};
 ghost use Rattle.rx_words.specs.Certificates.{certificate_lists, certificates, is_readable_cert};
 
-use crate::depth::is_within;
 use crate::lists::{is_count, parts_have_text};
 use crate::polynomials::{poly_has_text, row_has_text};
+use crate::ranges_depth::is_within;
 use crate::substitutions::is_variable;
 use rx_cert::Cert;
 

@@ -3,7 +3,7 @@ use Rattle.std.proofs.Common.{◌∙◌, ap, sym}
 use Rattle.std.proofs.lemmas.List.Folds.{list_all_at}
 use Rattle.rx_text.specs.Polynomials.{polynomials}
 use Rattle.rx_words.specs.Words.{pairs, variables, word}
-use Rattle.rx_ranges.proofs.substitutions.each_replacement_has_text.Goals as goal
+use Rattle.rx_logwriting.proofs.substitutions.each_replacement_has_text.Goals as goal
 
 pub returns-then-not-replacement_has_text : goal.returns-then-not-replacement_has_text
 returns-then-not-replacement_has_text c =

@@ -2,7 +2,7 @@ use Rattle.std.proofs.Common.{◌≡◌, true, take}
 use Rattle.std.specs.List.{list_all}
 use Rattle.rx_text.specs.Numbers.{integers}
 use Rattle.rx_words.specs.Words.{numbers, pairs, word}
-use Rattle.rx_ranges.proofs.lists.parts_have_text.Given as goal
+use Rattle.rx_logwriting.proofs.lists.parts_have_text.Given as goal
 
 abbrev pub invariant-loop-part : goal.invariant-loop-part
 invariant-loop-part l =
