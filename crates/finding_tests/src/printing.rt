@@ -1,9 +1,9 @@
 //! What calls find, as text: words with a space between them, a list after its number of elements.
 use rx_cover::CoverTree;
+use rx_find_ranks::Ranking;
 use rx_pairs::{PairCert, RankTable};
 use rx_plain::{Items, NoMemory};
 use rx_poly::Poly;
-use rx_ranking::Ranking;
 use rx_tables::{push_each, push_list};
 use rx_term_words::push_tree;
 use rx_text::{push_natural, push_poly, push_word};

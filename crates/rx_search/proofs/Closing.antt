@@ -12,8 +12,8 @@ use Rattle.rx_pairs.specs.Lowering.{descent_from}
 use Rattle.rx_pairs.specs.Pairs.{HasRoot}
 use Rattle.rx_pairs.specs.Ranks.{bad_rank}
 use Rattle.rx_pairs.proofs.PairsLaws.{made_roots, some_all}
-use Rattle.rx_ranking.specs.Found.{LowersAll}
-use Rattle.rx_ranking.specs.declared.ranking.Ranking.{Ranking}
+use Rattle.rx_find_ranks.specs.Found.{LowersAll}
+use Rattle.rx_find_ranks.specs.declared.ranking.Ranking.{Ranking}
 use Rattle.rx_log.specs.Acceptance.{Accepted, Checked, Concludes, IsAccepted, OnPairs, ◌>>=◌, after_steps, kept, kept_by, of_descent, once_covered, once_finished, once_ranked}
 use Rattle.rx_log.specs.Acceptance as acceptance
 use Rattle.rx_log.specs.declared.log.Log.{Log}

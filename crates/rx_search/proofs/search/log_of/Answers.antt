@@ -6,7 +6,7 @@ use Rattle.rx_log.specs.Acceptance.{IsAccepted}
 use Rattle.rx_log.specs.Depth.{is_shallow_log}
 use Rattle.rx_log.specs.declared.log.Log.{Log}
 use Rattle.rx_pairs.specs.Pairs.{HasRoot, SidesFit}
-use Rattle.rx_ranking.specs.Found.{LowersAll}
+use Rattle.rx_find_ranks.specs.Found.{LowersAll}
 use Rattle.rx_rank.specs.Ranking.{ranked}
 use Rattle.rx_term.specs.declared.rule.Rule.{Rule}
 use Rattle.rx_search.proofs.Closing.{accepted}

@@ -1,4 +1,0 @@
--- Lemmas on the definitions of specs/.
-pub mod ClosingLaws
-pub mod Grouping
-pub mod Overlaying

@@ -1,0 +1,20 @@
+-- Lemmas on the definitions of specs/.
+pub mod BeginLaws
+pub mod ClosingLaws
+pub mod ComponentTries
+pub mod FallLaws
+pub mod Finished
+pub mod FitsLaws
+pub mod Grouped
+pub mod Grouping
+pub mod GrowthLaws
+pub mod HeightColumns
+pub mod Joining
+pub mod NumberLaws
+pub mod Overlaying
+pub mod ProgressLaws
+pub mod RankLaws
+pub mod RoundLaws
+pub mod SplitLaws
+pub mod TableLaws
+pub mod WalkLaws

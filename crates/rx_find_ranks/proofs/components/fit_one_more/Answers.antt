@@ -1,0 +1,22 @@
+-- Without an entry the fit stays, and otherwise the first fit choice of the component is joined to
+-- it.
+use Rattle.std.proofs.Common.{◌≡◌, ◌∙◌, sym, length}
+use Rattle.std.proofs.lemmas.Result.{IfOk-weaker}
+use Rattle.rx_find_ranks.proofs.Joining.{more_empty, one_joined, open_count}
+use Rattle.rx_find_ranks.specs.Tables.{pairs_open}
+use Rattle.rx_find_ranks.proofs.components.fit_one_more.Goals as goal
+
+pub returns-then-entries-eq0-clause-more : goal.returns-then-entries-eq0-clause-more
+returns-then-entries-eq0-clause-more g c =
+    more_empty c.args.parts.now c.args.hypotheses.now c.args.names.now c.args.name c.args.before
+    c.args.entries.now c.if-entries-eq0.true
+
+pub returns-clause-more : goal.returns-clause-more
+returns-clause-more g c =
+    let pairs = pairs_open c.args.entries.now in
+    let some : length pairs ≡ 0 → ⊥ = λ none.
+    c.if-entries-eq0.false (sym (open_count c.args.entries.now) ∙ none) in
+    IfOk-weaker c.join_next.result _ _
+    (λ t h. one_joined c.args.parts.now c.args.hypotheses.now c.args.names.now c.args.name pairs
+    c.args.before c.in_ok-tried.tried t some c.in_ok-tried.ensures.tried c.in_ok-tried.ensures.fit
+    h) c.join_next.ensures
