@@ -2,9 +2,7 @@
 use crate::answer::ended;
 use rule_tables::{equation, push_goal};
 use rx_fm::FmEnd;
-use rx_generalise::lemmas;
-use rx_lemma::{Generalised, LemmaKind};
-use rx_naming::named;
+use rx_lemma::{Generalised, LemmaKind, lemmas, named};
 use rx_pairs::loops_of;
 use rx_plain::NoMemory;
 use rx_row::Constraint;

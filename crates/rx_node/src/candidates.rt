@@ -1,7 +1,7 @@
 //! The choices at a goal, before they are tried.
 ghost use Rattle.std.specs.Prelude.{◌≡◌, ◌++◌, IfOk, OnOk, map};
 ghost use Rattle.rx_form.specs.declared.step.Step.TheVariants as steps;
-ghost use Rattle.rx_generalise.specs.Generalising.{generalisations};
+ghost use Rattle.rx_lemma.specs.Generalising.{generalisations};
 ghost use Rattle.rx_lemma.specs.Lemmas.{found_as};
 ghost use Rattle.rx_node.specs.Candidates.{candidates_by, expansions, lemma_candidate, number_of};
 ghost use Rattle.rx_solve.specs.Answers.{IsSolver};
@@ -9,8 +9,7 @@ ghost use Rattle.rx_solve.specs.Answers.{IsSolver};
 use rx_cert::Cert;
 use rx_fm::FmEnd;
 use rx_form::{Side, Step};
-use rx_generalise::lemmas;
-use rx_lemma::{Generalised, LemmaKind};
+use rx_lemma::{Generalised, LemmaKind, lemmas};
 use rx_plain::{Items, NoMemory};
 use rx_row::Constraint;
 use rx_term::{Equation, RuleSet};

@@ -14,7 +14,7 @@ use Rattle.rx_form.specs.Kinds.{formed}
 use Rattle.rx_form.specs.States.{State}
 use Rattle.rx_form.specs.declared.step.Side.TheVariants.{Left, Right}
 use Rattle.rx_form.specs.declared.step.Step.{Step}
-use Rattle.rx_generalise.specs.Generalising.{generalisations}
+use Rattle.rx_lemma.specs.Generalising.{generalisations}
 use Rattle.rx_lemma.specs.Lemmas.{Generalisation}
 use Rattle.rx_rank.specs.Ranking.{ranked}
 use Rattle.rx_steps.specs.Alone.{alone, onto}

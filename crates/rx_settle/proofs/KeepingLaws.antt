@@ -24,7 +24,7 @@ use Rattle.rx_form.specs.declared.form_end.FormEnd.TheVariants as form_end
 use Rattle.rx_form.specs.declared.formed_step.FormedStep.{FormedStep}
 use Rattle.rx_form.specs.declared.step.Side.{Side}
 use Rattle.rx_form.specs.declared.step.Side.TheVariants.{Left, Right}
-use Rattle.rx_naming.specs.Naming.{naming_of}
+use Rattle.rx_lemma.specs.Naming.{naming_of}
 use Rattle.rx_lemma.specs.Lemmas.{Generalisation}
 use Rattle.rx_match.specs.Matching.{use_of}
 use Rattle.rx_unfold.specs.Moves.{Absurd, Equal, Expand, Generalise, Hyp, Move, Results, Simplify, step_of}

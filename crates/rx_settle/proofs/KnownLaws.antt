@@ -27,7 +27,7 @@ use Rattle.rx_form.specs.declared.step.Side.{Side}
 use Rattle.rx_form.specs.declared.step.Side.TheVariants.{Left, Right}
 use Rattle.rx_form.specs.declared.step.Step.{Step}
 use Rattle.rx_form.specs.declared.step.Step.TheVariants as step
-use Rattle.rx_naming.specs.Naming.{naming_of}
+use Rattle.rx_lemma.specs.Naming.{naming_of}
 use Rattle.rx_lemma.specs.Lemmas.{Generalisation}
 use Rattle.rx_steps.specs.Alone.{alone, onto}
 use Rattle.rx_settle.specs.Answers.{IsTrial, Takes}

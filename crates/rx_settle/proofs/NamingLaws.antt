@@ -8,9 +8,9 @@ use Rattle.rx_term.specs.declared.rule.Equation.{Equation}
 use Rattle.rx_term.specs.declared.rule_set.RuleParts.{RuleParts}
 use Rattle.rx_form.specs.States.{State}
 use Rattle.rx_form.specs.declared.step.Step.{Step}
-use Rattle.rx_naming.specs.Answers.{Finds}
+use Rattle.rx_lemma.specs.Answers.{Finds}
 use Rattle.rx_lemma.specs.Lemmas.{found_as}
-use Rattle.rx_naming.specs.Naming.{naming_of}
+use Rattle.rx_lemma.specs.Naming.{naming_of}
 use Rattle.rx_lemma.specs.declared.generalised.Generalised.{Generalised}
 use Rattle.rx_lemma.specs.Lemmas.{Generalisation}
 use Rattle.rx_settle.specs.Answers.{IsTrial}

@@ -14,7 +14,7 @@ use Rattle.rx_form.specs.Pieces.{side_of}
 use Rattle.rx_form.specs.States.{State}
 use Rattle.rx_form.specs.declared.step.Side.{Side}
 use Rattle.rx_form.specs.declared.step.Side.TheVariants.{Left, Right}
-use Rattle.rx_naming.specs.Naming.{naming_of}
+use Rattle.rx_lemma.specs.Naming.{naming_of}
 use Rattle.rx_lemma.specs.Lemmas.{Generalisation}
 use Rattle.rx_match.specs.Matching.{use_of}
 use Rattle.rx_unfold.specs.Moves.{Move, Hyp, Absurd, Equal, Generalise, Results}

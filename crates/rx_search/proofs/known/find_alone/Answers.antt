@@ -1,7 +1,7 @@
 -- All choices; where the lemmas pass the limits that is noted.
 use Rattle.std.proofs.Common.{◌∙◌, ap, subst}
 use Rattle.std.proofs.lemmas.Bool.{not-false, not-true}
-use Rattle.rx_generalise.specs.Generalising.{generalisations}
+use Rattle.rx_lemma.specs.Generalising.{generalisations}
 use Rattle.rx_node.specs.Candidates.{candidates_by}
 use Rattle.rx_steps.specs.Alone.{alone}
 use Rattle.rx_search.specs.Known.{AreOf}

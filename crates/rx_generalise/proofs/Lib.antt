@@ -1,2 +1,0 @@
--- Whether a polynomial is a variable without its constant, term by term.
-pub mod ValueLaws

@@ -1,9 +1,0 @@
--- Those so far, and then those that are left, are all.
-use Rattle.std.proofs.Common.{◌≡◌, ◌++◌, drop}
-use Rattle.rx_generalise.specs.Repeated.{occurrences_from}
-use Rattle.rx_generalise.proofs.repeated.push_places.Given as goal
-
-abbrev pub invariant-loop-place : goal.invariant-loop-place
-invariant-loop-place l =
-    l.occurrences.items ++ occurrences_from l.symbol l.place (drop l.place l.polys) ≡
-    l.fn.occurrences.items ++ occurrences_from l.symbol 0 l.polys

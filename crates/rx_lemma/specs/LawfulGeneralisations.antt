@@ -1,0 +1,13 @@
+-- The two generalisations of a goal are lawful steps.
+use Rattle.std.specs.Prelude.{IfSome, All}
+use Rattle.rx_term.specs.WellMade.{IsWellMade}
+use Rattle.rx_term.specs.declared.rule.Equation.{Equation}
+use Rattle.rx_term.specs.declared.rule_set.RuleParts.{RuleParts}
+use Rattle.rx_lemma.specs.Generalising.{generalisations}
+use Rattle.rx_lemma.specs.Lawful.{IsGoal, IsLawful}
+
+-- each that is found at a goal over well made rules
+abbrev pub GeneralisationsAreLawful : Type 0
+GeneralisationsAreLawful =
+    (parts : RuleParts) (goal : Equation) → IsWellMade parts → IsGoal parts goal →
+    IfSome (generalisations parts goal) (All (IsLawful parts goal))

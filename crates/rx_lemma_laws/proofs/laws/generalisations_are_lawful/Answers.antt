@@ -1,6 +1,0 @@
--- One generalisation after the other.
-use Rattle.rx_lemma_laws.proofs.GeneralisingLaws.{generalisations_lawful}
-use Rattle.rx_lemma_laws.proofs.laws.generalisations_are_lawful.Goals as goal
-
-pub returns : goal.returns
-returns c = generalisations_lawful

@@ -1,6 +1,0 @@
--- Step by step.
-use Rattle.rx_naming.proofs.ShapeLaws.{naming_shapes}
-use Rattle.rx_naming.proofs.laws.naming_keeps_shapes.Goals as goal
-
-pub returns : goal.returns
-returns c = naming_shapes

@@ -1,6 +1,0 @@
--- Step by step.
-use Rattle.rx_naming.proofs.SubstitutionLaws as laws
-use Rattle.rx_naming.proofs.laws.naming_substitutes.Goals as goal
-
-pub returns : goal.returns
-returns c = laws.naming_substitutes
