@@ -15,7 +15,7 @@ use Rattle.rx_io.specs.Outside.{Names}
 use Rattle.rx_log.specs.declared.log.Log.{Log}
 use Rattle.rx_logtext.proofs.OneReading.{never_both, one_bad_line, one_log}
 use Rattle.rx_search.specs.Search.{Searched, NoRanks, Closed, Large, Spent, NoPlan, searched}
-use Rattle.rx_unfold.specs.Moves.{Move}
+use Rattle.rx_moves.specs.Moves.{Move}
 use Rattle.rx_term.specs.WellMade.{IsWellMade}
 use Rattle.rx_report.specs.declared.answer.Answer.{Answer}
 use Rattle.rx_report.specs.declared.answer.Answer.TheVariants.{Line, Proof, Found}

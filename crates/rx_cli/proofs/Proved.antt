@@ -4,7 +4,7 @@ use Rattle.c_front.specs.declared.stages.Next.TheVariants.{Goes}
 use Rattle.rx_command.specs.Commands.{Functions}
 use Rattle.rx_command.specs.declared.command.Effort.{Effort}
 use Rattle.rx_search.specs.Search.{Searched, NoRanks, Closed, Large, Spent, NoPlan, searched}
-use Rattle.rx_unfold.specs.Moves.{Move}
+use Rattle.rx_moves.specs.Moves.{Move}
 use Rattle.rx_report.specs.declared.answer.Answer.{Answer}
 use Rattle.rx_report.specs.declared.answer.Answer.TheVariants.{Line}
 use Rattle.rx_report.specs.declared.ends.Status.TheVariants as Ends

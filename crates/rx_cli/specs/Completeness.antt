@@ -9,7 +9,7 @@ use Rattle.rx_log.specs.Acceptance.{IsAccepted}
 use Rattle.rx_log.specs.declared.log.Log.{Log}
 use Rattle.rx_logtext.specs.Logs.{IsLog}
 use Rattle.rx_search.specs.Search.{Closed, searched}
-use Rattle.rx_unfold.specs.Moves.{Move}
+use Rattle.rx_moves.specs.Moves.{Move}
 use Rattle.rx_report.specs.declared.ends.Status.{Status}
 use Rattle.rx_report.specs.declared.ends.Status.TheVariants as Ends
 use Rattle.rx_cli.specs.declared.problems.Problem.{Problem}

@@ -8,7 +8,7 @@ use Rattle.rx_log.specs.Acceptance.{IsAccepted}
 use Rattle.rx_log.specs.declared.log.Log.{Log}
 use Rattle.rx_logtext.specs.Logs.{IsLog}
 use Rattle.rx_search.specs.Search.{Searched, NoRanks, Closed, Large, Spent, NoPlan, searched}
-use Rattle.rx_unfold.specs.Moves.{Move, move_of}
+use Rattle.rx_moves.specs.Moves.{Move, move_of}
 use Rattle.rx_report.specs.declared.answer.Answer.{Answer}
 use Rattle.rx_report.specs.declared.answer.Answer.TheVariants.{Line, Proof}
 use Rattle.rx_report.specs.declared.ends.Status.{Status}

@@ -4,7 +4,7 @@ use Rattle.std.specs.Prelude.{◌==◌, ◌||◌, if◌then◌else◌, ℕ, Bool
 use Rattle.rx_term.specs.declared.rule.Equation.{Equation}
 use Rattle.rx_form.specs.States.{State}
 use Rattle.rx_form.specs.declared.step.Step.{Step}
-use Rattle.rx_unfold.specs.Moves.{move_of}
+use Rattle.rx_moves.specs.Moves.{move_of}
 use Rattle.rx_node.specs.Nodes as nodes
 use Rattle.rx_node.specs.declared.node.Node.{Node}
 use Rattle.rx_node.specs.declared.choices.Trial.{Trial}

@@ -2,8 +2,8 @@
 use Rattle.std.specs.Prelude.{ℕ, Bool, true, false, List, [], ◌∷◌, ◌++◌}
 use Rattle.rx_term.specs.declared.rule.Equation.{Equation}
 use Rattle.rx_form.specs.States.{State}
-use Rattle.rx_unfold.specs.Moves.{Move}
-use Rattle.rx_unfold.specs.Trying.{Next}
+use Rattle.rx_moves.specs.Moves.{Move}
+use Rattle.rx_moves.specs.Trying.{Next}
 
 -- a node: the moves from the start, the state after them, and how many more moves its settling
 -- might have made

@@ -8,7 +8,7 @@ use Rattle.std.proofs.lemmas.List.Elements.{All-append, All-cons, All-nil, filte
 use Rattle.std.proofs.lemmas.List.Folds.{list_any-append}
 use Rattle.rx_plain.proofs.Booleans.{or_false}
 use Rattle.rx_solve.specs.Attempts.{Tried}
-use Rattle.rx_unfold.specs.Trying.{Next}
+use Rattle.rx_moves.specs.Trying.{Next}
 use Rattle.rx_search.specs.Menu.{Chosen, choice}
 use Rattle.rx_node.specs.Calls.{choice_of, node_of, with_choice}
 use Rattle.rx_search.specs.Nodes.{AreChoices, IsTried}

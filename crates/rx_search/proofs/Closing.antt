@@ -17,7 +17,7 @@ use Rattle.rx_find_ranks.specs.declared.ranking.Ranking.{Ranking}
 use Rattle.rx_log.specs.Acceptance.{Accepted, Checked, Concludes, IsAccepted, OnPairs, ◌>>=◌, after_steps, kept, kept_by, of_descent, once_covered, once_finished, once_ranked}
 use Rattle.rx_log.specs.Acceptance as acceptance
 use Rattle.rx_log.specs.declared.log.Log.{Log}
-use Rattle.rx_unfold.specs.Moves.{move_of}
+use Rattle.rx_moves.specs.Moves.{move_of}
 use Rattle.rx_node.specs.Calls.{node_of}
 use Rattle.rx_search.specs.Nodes.{IsNode}
 use Rattle.rx_node.specs.Nodes as nodes

@@ -21,10 +21,10 @@ use Rattle.rx_memo.specs.Kept.{IsKept, IsThat}
 use Rattle.rx_memo.specs.declared.goal_memo.Kept.{Kept}
 use Rattle.rx_memo.proofs.Buckets.{nothing_kept}
 use Rattle.rx_steps.specs.Alone.{alone}
-use Rattle.rx_unfold.specs.Answers.{IsTaken}
+use Rattle.rx_moves.specs.Answers.{IsTaken}
 use Rattle.rx_settle.specs.Answers.{IsTrial, Takes}
-use Rattle.rx_unfold.specs.Moves.{Move, move_of}
-use Rattle.rx_unfold.specs.Trying.{Next, attempt}
+use Rattle.rx_moves.specs.Moves.{Move, move_of}
+use Rattle.rx_moves.specs.Trying.{Next, attempt}
 use Rattle.rx_settle.specs.declared.trial.Trial.{Trial as Taken}
 use Rattle.rx_search.specs.Known.{AreOf, AreRight, CanBeTried, IsRight, IsRightChoice, seen_known}
 use Rattle.rx_search.specs.Menu.{Attempted, attempted, attempted_all, attempted_by, if_noted}

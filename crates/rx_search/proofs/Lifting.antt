@@ -18,10 +18,10 @@ use Rattle.rx_lemma.specs.Generalising.{generalisations}
 use Rattle.rx_lemma.specs.Lemmas.{Generalisation}
 use Rattle.rx_rank.specs.Ranking.{ranked}
 use Rattle.rx_steps.specs.Alone.{alone, onto}
-use Rattle.rx_unfold.specs.Answers.{IsTaken}
+use Rattle.rx_moves.specs.Answers.{IsTaken}
 use Rattle.rx_settle.specs.Known.{lifted}
-use Rattle.rx_unfold.specs.Moves.{Decompose, Expand, Generalise, Move, move_of, step_of}
-use Rattle.rx_unfold.specs.Trying.{Next, attempt}
+use Rattle.rx_moves.specs.Moves.{Decompose, Expand, Generalise, Move, move_of, step_of}
+use Rattle.rx_moves.specs.Trying.{Next, attempt}
 use Rattle.rx_search.specs.Known.{IsRight, IsRightAt, IsRightChoice, attempted_onto, chosen_by, seen_known, tried_at}
 use Rattle.rx_node.specs.Candidates.{candidates_by, lemma_candidate, number_of}
 use Rattle.rx_search.specs.Menu.{Attempted, attempted, attempted_all, attempted_at, attempted_by, chosen_at, chosen_of, if_noted, if_ranks}

@@ -10,7 +10,7 @@ use Rattle.rx_joins.specs.Runs as runs
 use Rattle.rx_rank.specs.Ranking.{ranked}
 use Rattle.rx_settle.specs.Answers.{AreDeep, IsSettled, after_all}
 use Rattle.rx_search.proofs.Shallow.{IsDeep}
-use Rattle.rx_unfold.specs.Moves.{move_of}
+use Rattle.rx_moves.specs.Moves.{move_of}
 use Rattle.rx_settle.specs.Settling.{most_moves, settle}
 use Rattle.rx_settle.specs.declared.settled.Settled.{Settled as Found}
 use Rattle.rx_node.specs.Calls.{node_of}

@@ -28,9 +28,9 @@ use Rattle.rx_form.specs.declared.step.Step.{Step}
 use Rattle.rx_rank.specs.Ranking.{ranked}
 use Rattle.rx_joins.specs.Runs as runs
 use Rattle.rx_settle.specs.Answers.{Takes}
-use Rattle.rx_unfold.specs.Moves.{Absurd, Decompose, EqDelete, Equal, Expand, Generalise, Hyp, Move, Postulate, Results, Simplify, Split, move_of, step_of}
+use Rattle.rx_moves.specs.Moves.{Absurd, Decompose, EqDelete, Equal, Expand, Generalise, Hyp, Move, Postulate, Results, Simplify, Split, move_of, step_of}
 use Rattle.rx_settle.specs.Settling.{most_moves}
-use Rattle.rx_unfold.specs.Trying.{Next, asked_shown, attempt, next_if_formed, noting, then_by, then_try}
+use Rattle.rx_moves.specs.Trying.{Next, asked_shown, attempt, next_if_formed, noting, then_by, then_try}
 use Rattle.rx_node.specs.Calls.{led, node_of, with_step}
 use Rattle.rx_search.specs.Nodes.{IsNode, IsReached, IsTried, KeepsNone, if_ranked}
 use Rattle.rx_node.specs.Nodes as nodes

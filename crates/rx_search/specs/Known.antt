@@ -10,9 +10,9 @@ use Rattle.rx_form.specs.States.{State}
 use Rattle.rx_memo.specs.Kept.{IsKept}
 use Rattle.rx_memo.specs.declared.goal_memo.Kept.{Kept}
 use Rattle.rx_steps.specs.Alone.{alone}
-use Rattle.rx_unfold.specs.Answers.{IsTaken}
-use Rattle.rx_unfold.specs.Moves.{move_of}
-use Rattle.rx_unfold.specs.Trying.{Next}
+use Rattle.rx_moves.specs.Answers.{IsTaken}
+use Rattle.rx_moves.specs.Moves.{move_of}
+use Rattle.rx_moves.specs.Trying.{Next}
 use Rattle.rx_node.specs.declared.candidates.Candidate.{Candidate}
 use Rattle.rx_node.specs.declared.choices.KnownChoice.{KnownChoice}
 use Rattle.rx_settle.specs.Certified.{asks_rows}

@@ -9,8 +9,8 @@ use Rattle.rx_term.specs.declared.rule_set.RuleParts.{RuleParts}
 use Rattle.rx_form.specs.States.{State}
 use Rattle.rx_lemma.specs.Generalising.{generalisations}
 use Rattle.rx_rank.specs.Ranking.{ranked}
-use Rattle.rx_unfold.specs.Moves.{move_of}
-use Rattle.rx_unfold.specs.Trying.{Next, attempt, then_try}
+use Rattle.rx_moves.specs.Moves.{move_of}
+use Rattle.rx_moves.specs.Trying.{Next, attempt, then_try}
 use Rattle.rx_node.specs.Candidates.{candidates_by}
 use Rattle.rx_node.specs.declared.candidates.Candidate.{Candidate}
 use Rattle.rx_node.specs.declared.candidates.Candidates.{Candidates}

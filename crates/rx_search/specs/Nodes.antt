@@ -12,9 +12,9 @@ use Rattle.rx_joins.specs.Goals.{IsFitting}
 use Rattle.rx_joins.specs.Runs as runs
 use Rattle.rx_rank.specs.Ranking.{ranked}
 use Rattle.rx_settle.specs.Answers.{AreDeep, after_all}
-use Rattle.rx_unfold.specs.Moves.{Decompose, Expand, Generalise, Move}
+use Rattle.rx_moves.specs.Moves.{Decompose, Expand, Generalise, Move}
 use Rattle.rx_settle.specs.Settling.{most_moves}
-use Rattle.rx_unfold.specs.Trying.{Next}
+use Rattle.rx_moves.specs.Trying.{Next}
 use Rattle.rx_search.specs.Menu.{Chosen, is_any_noted}
 use Rattle.rx_node.specs.Calls.{node_of}
 use Rattle.rx_node.specs.Nodes.{node_with}

@@ -8,7 +8,7 @@ use Rattle.rx_cert.specs.Findings.{Said, Yes, No, Beyond}
 use Rattle.rx_term.specs.declared.rule.Equation.{Equation}
 use Rattle.rx_term.specs.declared.rule_set.RuleParts.{RuleParts}
 use Rattle.rx_rank.specs.Ranking.{ranked}
-use Rattle.rx_unfold.specs.Moves.{Move}
+use Rattle.rx_moves.specs.Moves.{Move}
 use Rattle.rx_settle.specs.Settling.{most_moves, rows_if, settle}
 use Rattle.rx_settle.specs.Settling as settling
 use Rattle.rx_node.specs.Nodes.{Node, is_closed, node_with}

@@ -7,7 +7,7 @@ ghost use Rattle.rx_search.specs.Search.{settled};
 ghost use Rattle.rx_settle.specs.Known.{AreKnown};
 ghost use Rattle.rx_solve.specs.Answers.{IsSolver};
 ghost use Rattle.rx_term.specs.declared.rule.Equation.{Equation};
-ghost use Rattle.rx_unfold.specs.LoopPoints.{AreLoopPoints};
+ghost use Rattle.rx_moves.specs.LoopPoints.{AreLoopPoints};
 ghost use Rattle.rx_visits.specs.Views.{seen_settled};
 
 use crate::dropping::dropped;
@@ -16,6 +16,7 @@ use crate::menu::find_menu;
 use rx_cert::Cert;
 use rx_fm::FmEnd;
 use rx_form::Step;
+use rx_moves::LoopPoints;
 use rx_node::{Node, is_closed, shared_steps};
 use rx_pairs::Pair;
 use rx_plain::{Items, NoMemory, Shared};
@@ -23,7 +24,6 @@ use rx_ranked::RankMemo;
 use rx_row::{Constraint, Row};
 use rx_settle::{SettleMemo, settle};
 use rx_term::{Equation, RuleSet};
-use rx_unfold::LoopPoints;
 use rx_visits::{Menu, Settled, Tree};
 use std::alloc::Global;
 
@@ -118,7 +118,7 @@ impl<'a, S: FnMut(&Constraint) -> Result<Option<Cert>, FmEnd>> Tree for Plans<'a
     ghost use Rattle.rx_search.specs.Nodes.{IsNode, Problem};
     ghost use Rattle.rx_search.specs.Search as search;
     ghost use Rattle.rx_settle.specs.Known.{AreKnown};
-    ghost use Rattle.rx_unfold.specs.LoopPoints.{AreLoopPoints};
+    ghost use Rattle.rx_moves.specs.LoopPoints.{AreLoopPoints};
     ghost use Rattle.rx_solve.specs.Answers.{IsSolver};
 
     type Node = Node;

@@ -23,14 +23,14 @@ use Rattle.rx_match.proofs.UseLaws.{at_fails}
 use Rattle.rx_settle.specs.Answers.{IsTrial}
 use Rattle.rx_settle.specs.AtFirst.{at_first, using_number}
 use Rattle.rx_settle.specs.Candidates.{IsCandidate, IsCandidateAt, IsCandidateOf, candidate_tried}
-use Rattle.rx_unfold.specs.Moves.{Hyp}
+use Rattle.rx_moves.specs.Moves.{Hyp}
 use Rattle.rx_settle.specs.Settling.{using_at, using_on}
-use Rattle.rx_unfold.specs.Trying.{Next, attempt, then_try}
+use Rattle.rx_moves.specs.Trying.{Next, attempt, then_try}
 use Rattle.rx_settle.specs.declared.uses.Candidate.{Candidate}
 use Rattle.rx_settle.specs.declared.uses.Candidate.TheVariants as candidate
 use Rattle.rx_settle.specs.declared.trial.Trial.{Trial}
 use Rattle.rx_settle.proofs.FirstLaws.{at_goal, at_none}
-use Rattle.rx_unfold.proofs.TriedLaws.{nothing_noted, one_tried}
+use Rattle.rx_moves.proofs.TriedLaws.{nothing_noted, one_tried}
 use Rattle.rx_settle.proofs.TrialLaws.{answer_of, beyond_trial, failed_trial}
 
 -- ---- one place of many

@@ -19,9 +19,9 @@ use Rattle.rx_form.specs.declared.step.Delete.TheVariants as delete
 use Rattle.rx_form.specs.declared.step.Step.{Step}
 use Rattle.rx_form.specs.declared.step.Step.TheVariants as step
 use Rattle.rx_settle.specs.Certified.{asks_rows, certified}
-use Rattle.rx_unfold.specs.Moves.{move_of, step_of}
-use Rattle.rx_unfold.proofs.AskingNothing.{after, found, kept, none_shows, tested}
-use Rattle.rx_unfold.proofs.MoveForms.{as_move}
+use Rattle.rx_moves.specs.Moves.{move_of, step_of}
+use Rattle.rx_moves.proofs.AskingNothing.{after, found, kept, none_shows, tested}
+use Rattle.rx_moves.proofs.MoveForms.{as_move}
 
 -- other certificates leave the move
 pub certified_move : (s : Step) (certs : List Cert) → move_of (certified s certs) ≡ move_of s

@@ -23,11 +23,11 @@ use Rattle.rx_form.specs.declared.step.Step.{Step}
 use Rattle.rx_form.specs.declared.step.Step.TheVariants as step
 use Rattle.rx_form.proofs.FormingLaws.{shown_taken}
 use Rattle.rx_settle.specs.Answers.{IsTrial}
-use Rattle.rx_unfold.specs.Moves.{Absurd, step_of}
-use Rattle.rx_unfold.specs.Trying.{Next, asked_shown, attempt, next_if_formed}
+use Rattle.rx_moves.specs.Moves.{Absurd, step_of}
+use Rattle.rx_moves.specs.Trying.{Next, asked_shown, attempt, next_if_formed}
 use Rattle.rx_settle.specs.declared.trial.Trial.{Trial}
 use Rattle.rx_settle.proofs.TrialLaws.{beyond_trial, failed_trial}
-use Rattle.rx_unfold.proofs.OutcomeLaws.{first_goal_rows}
+use Rattle.rx_moves.proofs.OutcomeLaws.{first_goal_rows}
 
 module _ (parts : RuleParts) (old : State) where
   abbrev absurd_of : Said → Tried Next

@@ -7,13 +7,13 @@ use Rattle.rx_term.specs.declared.rule_set.RuleParts.{RuleParts}
 use Rattle.rx_form.specs.States.{State, taken}
 use Rattle.rx_settle.specs.Answers.{IsTrial}
 use Rattle.rx_settle.specs.AtFirst.{at_first}
-use Rattle.rx_unfold.specs.Trying.{Next}
+use Rattle.rx_moves.specs.Trying.{Next}
 use Rattle.rx_settle.specs.Untaken.{IsUntaken}
 use Rattle.rx_settle.specs.declared.trial.Trial.{Trial}
 use Rattle.rx_plain.proofs.Booleans.{or_false}
-use Rattle.rx_unfold.specs.Answers.{Gives, IsFound, IsFoundAt}
-use Rattle.rx_unfold.specs.declared.found.Found.{Found}
-use Rattle.rx_unfold.specs.declared.found.Ready.{Ready}
+use Rattle.rx_moves.specs.Answers.{Gives, IsFound, IsFoundAt}
+use Rattle.rx_moves.specs.declared.found.Found.{Found}
+use Rattle.rx_moves.specs.declared.found.Ready.{Ready}
 use Rattle.rx_settle.proofs.TrialLaws.{answer_of, failed_trial, taken_first, trial_of, untaken_second}
 
 module _ (tried : Equation → Tried Next) where

@@ -8,16 +8,16 @@ use Rattle.rx_form.specs.States.{State}
 use Rattle.rx_form.specs.declared.step.Step.{Step}
 use Rattle.rx_settle.specs.Answers.{IsTrial, Takes}
 use Rattle.rx_settle.specs.AtFirst.{at_first, before_uses, deleting, from_leaving, from_unfolding, from_uses}
-use Rattle.rx_unfold.specs.Unfolding.{leaving_sides, unfolding_sides}
-use Rattle.rx_unfold.specs.Moves.{Absurd, Equal, move_of, step_of}
+use Rattle.rx_moves.specs.Unfolding.{leaving_sides, unfolding_sides}
+use Rattle.rx_moves.specs.Moves.{Absurd, Equal, move_of, step_of}
 use Rattle.rx_settle.specs.Settling.{named, settling_first, settling_move}
-use Rattle.rx_unfold.specs.Trying.{Next, attempt, next_if_formed}
+use Rattle.rx_moves.specs.Trying.{Next, attempt, next_if_formed}
 use Rattle.rx_settle.specs.Untaken.{IsUntaken}
 use Rattle.rx_settle.specs.declared.trial.Trial.{Trial}
 use Rattle.rx_form.specs.Kinds.{formed}
 use Rattle.rx_settle.proofs.FirstLaws.{first_of_both, second_of_both}
 use Rattle.rx_settle.proofs.KeepingLaws.{move_keeps}
-use Rattle.rx_unfold.proofs.TriedLaws.{one_tried, tried_after}
+use Rattle.rx_moves.proofs.TriedLaws.{one_tried, tried_after}
 use Rattle.rx_settle.proofs.TrialLaws.{taken_first, trial_of, untaken_second}
 
 module _ (parts : RuleParts) (old : State) where

@@ -32,15 +32,15 @@ use Rattle.rx_lemma.specs.Lemmas.{Generalisation}
 use Rattle.rx_steps.specs.Alone.{alone, onto}
 use Rattle.rx_settle.specs.Answers.{IsTrial, Takes}
 use Rattle.rx_settle.specs.AtFirst.{at_first, before_uses, deleting}
-use Rattle.rx_unfold.specs.Unfolding.{leaving_sides, unfolding_sides}
+use Rattle.rx_moves.specs.Unfolding.{leaving_sides, unfolding_sides}
 use Rattle.rx_settle.specs.Known.{AreKnown, IsKnown, lifted, next_onto, tried_alone}
-use Rattle.rx_unfold.specs.Moves.{Absurd, Equal, Expand, Generalise, Move, Simplify, move_of, step_of}
+use Rattle.rx_moves.specs.Moves.{Absurd, Equal, Expand, Generalise, Move, Simplify, move_of, step_of}
 use Rattle.rx_settle.specs.Settling.{named}
-use Rattle.rx_unfold.specs.Unfolding.{by_rules, is_at_loop_point, is_tried, leaving_at, redex_symbol, simplifying, unfolding_at}
-use Rattle.rx_unfold.specs.Trying.{Next, asked_shown, attempt, next_if_formed, then_by}
+use Rattle.rx_moves.specs.Unfolding.{by_rules, is_at_loop_point, is_tried, leaving_at, redex_symbol, simplifying, unfolding_at}
+use Rattle.rx_moves.specs.Trying.{Next, asked_shown, attempt, next_if_formed, then_by}
 use Rattle.rx_settle.specs.declared.known.Known.{Known}
 use Rattle.rx_settle.specs.declared.trial.Trial.{Trial}
-use Rattle.rx_unfold.proofs.TriedLaws.{none_by, some_by}
+use Rattle.rx_moves.proofs.TriedLaws.{none_by, some_by}
 
 module _ (parts : RuleParts) (goal : Equation) (goals : List Equation) (hypotheses : List Rule) where
   abbrev pub state : State

@@ -14,10 +14,10 @@ use Rattle.rx_form.specs.States.{State, applied}
 use Rattle.rx_form.specs.declared.step.Step.{Step}
 use Rattle.rx_settle.specs.Advances.{Advances, IsThere, Records, recorded, rows_where, with_note}
 use Rattle.rx_settle.specs.Answers.{AreDeep, IsSettled, IsTrial, Takes, after, after_all}
-use Rattle.rx_unfold.specs.Moves.{Move, move_of}
+use Rattle.rx_moves.specs.Moves.{Move, move_of}
 use Rattle.rx_settle.specs.Settling as settling
 use Rattle.rx_settle.specs.Settling.{moved, most_moves, rows_if, settle, settling_move}
-use Rattle.rx_unfold.specs.Trying.{Next}
+use Rattle.rx_moves.specs.Trying.{Next}
 use Rattle.rx_settle.specs.declared.settled.Settled.{Settled}
 use Rattle.rx_settle.specs.declared.trial.Trial.{Trial}
 

@@ -15,12 +15,12 @@ use Rattle.rx_lemma.specs.declared.generalised.Generalised.{Generalised}
 use Rattle.rx_lemma.specs.Lemmas.{Generalisation}
 use Rattle.rx_settle.specs.Answers.{IsTrial}
 use Rattle.rx_settle.specs.AtFirst.{at_first}
-use Rattle.rx_unfold.specs.Moves.{Generalise, move_of}
+use Rattle.rx_moves.specs.Moves.{Generalise, move_of}
 use Rattle.rx_settle.specs.Settling.{named}
-use Rattle.rx_unfold.specs.Trying.{Next, attempt, then_try}
+use Rattle.rx_moves.specs.Trying.{Next, attempt, then_try}
 use Rattle.rx_settle.specs.declared.trial.Trial.{Trial}
 use Rattle.rx_settle.proofs.FirstLaws.{at_goal}
-use Rattle.rx_unfold.proofs.TriedLaws.{nothing_noted}
+use Rattle.rx_moves.proofs.TriedLaws.{nothing_noted}
 use Rattle.rx_settle.proofs.TrialLaws.{answer_of, beyond_trial, failed_trial}
 
 module _ (parts : RuleParts) (old : State) (goal : Equation)

@@ -10,10 +10,10 @@ use Rattle.rx_form.specs.States.{State}
 use Rattle.rx_settle.specs.Answers.{IsTrial}
 use Rattle.rx_settle.specs.AtFirst.{at_first}
 use Rattle.rx_settle.specs.Settling.{by_results, resulting, resulting_at, variables_end}
-use Rattle.rx_suffix.specs.Suffixes.{common_suffix}
-use Rattle.rx_unfold.specs.Trying.{Next, noting}
-use Rattle.rx_suffix.specs.declared.finding.Common.{Common}
-use Rattle.rx_suffix.specs.declared.finding.Suffix.{Suffix}
+use Rattle.rx_moves.specs.Suffixes.{common_suffix}
+use Rattle.rx_moves.specs.Trying.{Next, noting}
+use Rattle.rx_moves.specs.declared.finding.Common.{Common}
+use Rattle.rx_moves.specs.declared.finding.Suffix.{Suffix}
 use Rattle.rx_settle.specs.declared.trial.Trial.{Trial}
 use Rattle.rx_settle.proofs.FirstLaws.{at_goal}
 use Rattle.rx_settle.proofs.TrialLaws.{failed_trial, trial_of}

@@ -16,8 +16,8 @@ use Rattle.rx_form.specs.declared.formed_step.Asked.TheVariants.{Rows}
 use Rattle.rx_form.specs.declared.formed_step.Group.{Group}
 use Rattle.rx_steps.specs.Faults.{is_one_group, is_under_goal}
 use Rattle.rx_steps.proofs.OneGroup.{first_group, under_goal}
-use Rattle.rx_unfold.specs.Parts.{IsAskedShown, ShownBy}
-use Rattle.rx_unfold.specs.Trying.{asked_shown, groups_shown}
+use Rattle.rx_moves.specs.Parts.{IsAskedShown, ShownBy}
+use Rattle.rx_moves.specs.Trying.{asked_shown, groups_shown}
 
 module _ (old new : List Row) where
   one_shown : (g : Group) → is_under_goal g.under ≡ true → groups_shown old new (g ∷ []) ≡

@@ -6,10 +6,10 @@ use Rattle.rx_term.specs.declared.rule_set.RuleParts.{RuleParts}
 use Rattle.rx_form.specs.States.{State}
 use Rattle.rx_form.specs.declared.step.Step.{Step}
 use Rattle.rx_settle.specs.Answers.{IsTrial, Takes}
-use Rattle.rx_unfold.specs.Trying.{Next, noting}
+use Rattle.rx_moves.specs.Trying.{Next, noting}
 use Rattle.rx_settle.specs.Untaken.{IsUntaken}
 use Rattle.rx_settle.specs.declared.trial.Trial.{Trial}
-use Rattle.rx_unfold.proofs.TriedLaws.{none_by, one_tried, some_by}
+use Rattle.rx_moves.proofs.TriedLaws.{none_by, one_tried, some_by}
 
 module _ (parts : RuleParts) (old mid : State) (first : Tried Next) (t : Trial)
     (is : IsTrial parts old mid first t) where

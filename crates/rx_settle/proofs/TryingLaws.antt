@@ -14,19 +14,19 @@ use Rattle.rx_form.specs.declared.step.Step.{Step}
 use Rattle.rx_form.proofs.FormingLaws.{shown_taken}
 use Rattle.rx_settle.specs.Answers.{IsTrial}
 use Rattle.rx_settle.specs.Certified.{asks_rows, certified}
-use Rattle.rx_unfold.specs.Moves.{Move, move_of}
-use Rattle.rx_unfold.specs.Outcomes.{Follows, IsOutcome}
-use Rattle.rx_unfold.specs.Parts.{AreProofs, IsFormation, ShownBy, formed_first}
-use Rattle.rx_unfold.specs.declared.formation.Formation.{Formation}
-use Rattle.rx_unfold.specs.declared.formation.Formation.TheVariants as formation
-use Rattle.rx_unfold.specs.declared.outcome.Outcome.{Outcome}
-use Rattle.rx_unfold.specs.declared.outcome.Outcome.TheVariants as out
+use Rattle.rx_moves.specs.Moves.{Move, move_of}
+use Rattle.rx_moves.specs.Outcomes.{Follows, IsOutcome}
+use Rattle.rx_moves.specs.Parts.{AreProofs, IsFormation, ShownBy, formed_first}
+use Rattle.rx_moves.specs.declared.formation.Formation.{Formation}
+use Rattle.rx_moves.specs.declared.formation.Formation.TheVariants as formation
+use Rattle.rx_moves.specs.declared.outcome.Outcome.{Outcome}
+use Rattle.rx_moves.specs.declared.outcome.Outcome.TheVariants as out
 use Rattle.rx_form.specs.Kinds.{formed}
 use Rattle.rx_steps.specs.Faults.{asks_goal_alone}
 use Rattle.rx_steps.proofs.OneGroup.{formed_alone}
-use Rattle.rx_unfold.specs.Trying.{Next, attempt}
+use Rattle.rx_moves.specs.Trying.{Next, attempt}
 use Rattle.rx_settle.specs.declared.trial.Trial.{Trial}
-use Rattle.rx_unfold.proofs.OutcomeLaws.{by_said, large_outcome, refused_outcome}
+use Rattle.rx_moves.proofs.OutcomeLaws.{by_said, large_outcome, refused_outcome}
 use Rattle.rx_settle.proofs.CertifiedLaws.{certified_deep, certified_formed, certified_move, certified_shown}
 
 -- ---- trials

@@ -12,10 +12,10 @@ use Rattle.rx_form.specs.declared.step.Side.TheVariants.{Left, Right}
 use Rattle.rx_settle.specs.Answers.{IsTrial}
 use Rattle.rx_settle.specs.AtFirst.{at_first, using_all, using_sides}
 use Rattle.rx_settle.specs.Settling.{using_each, using_on}
-use Rattle.rx_unfold.specs.Trying.{Next, noting}
+use Rattle.rx_moves.specs.Trying.{Next, noting}
 use Rattle.rx_settle.specs.Untaken.{IsUntaken}
 use Rattle.rx_settle.specs.declared.trial.Trial.{Trial}
-use Rattle.rx_unfold.proofs.TriedLaws.{none_by, noting_again, nothing_noted, one_tried, some_by, tried_after}
+use Rattle.rx_moves.proofs.TriedLaws.{none_by, noting_again, nothing_noted, one_tried, some_by, tried_after}
 use Rattle.rx_settle.proofs.TrialLaws.{first_takes, none_made, same_state, trial_of}
 
 -- the hypotheses, counted in a list that is borrowed

@@ -7,10 +7,10 @@ use Rattle.rx_term.specs.declared.rule_set.RuleParts.{RuleParts}
 use Rattle.rx_form.specs.Judging.{StepFault, certificates}
 use Rattle.rx_form.specs.States.{State, applied}
 use Rattle.rx_form.specs.declared.step.Step.{Step}
-use Rattle.rx_unfold.specs.Moves.{move_of}
+use Rattle.rx_moves.specs.Moves.{move_of}
 use Rattle.rx_settle.specs.Settling as settling
-use Rattle.rx_unfold.specs.Answers.{IsTaken}
-use Rattle.rx_unfold.specs.Trying.{Next}
+use Rattle.rx_moves.specs.Answers.{IsTaken}
+use Rattle.rx_moves.specs.Trying.{Next}
 use Rattle.rx_settle.specs.declared.settled.Settled.{Settled}
 use Rattle.rx_settle.specs.declared.trial.Trial.{Trial}
 

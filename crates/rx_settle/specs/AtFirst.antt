@@ -8,10 +8,10 @@ use Rattle.rx_term.specs.declared.rule_set.RuleParts.{RuleParts}
 use Rattle.rx_form.specs.States.{State}
 use Rattle.rx_form.specs.declared.step.Side.{Side}
 use Rattle.rx_form.specs.declared.step.Side.TheVariants.{Left, Right}
-use Rattle.rx_unfold.specs.Moves.{Absurd, Equal}
+use Rattle.rx_moves.specs.Moves.{Absurd, Equal}
 use Rattle.rx_settle.specs.Settling.{by_results, named, using_each, using_on}
-use Rattle.rx_unfold.specs.Trying.{Next, attempt}
-use Rattle.rx_unfold.specs.Unfolding.{leaving_sides, unfolding_sides}
+use Rattle.rx_moves.specs.Trying.{Next, attempt}
+use Rattle.rx_moves.specs.Unfolding.{leaving_sides, unfolding_sides}
 
 -- at the first goal; where none is left nothing is tried
 abbrev pub at_first : (Equation → Tried Next) → List Equation → Tried Next

@@ -7,9 +7,9 @@ use Rattle.rx_term.specs.declared.rule_set.RuleParts.{RuleParts}
 use Rattle.rx_form.specs.States.{State}
 use Rattle.rx_form.specs.declared.step.Side.{Side}
 use Rattle.rx_settle.specs.AtFirst.{at_first, using_number}
-use Rattle.rx_unfold.specs.Moves.{Hyp}
+use Rattle.rx_moves.specs.Moves.{Hyp}
 use Rattle.rx_settle.specs.Settling.{using_at, using_on}
-use Rattle.rx_unfold.specs.Trying.{Next, attempt}
+use Rattle.rx_moves.specs.Trying.{Next, attempt}
 use Rattle.rx_settle.specs.declared.uses.Candidate.{Candidate}
 use Rattle.rx_settle.specs.declared.uses.Candidate.TheVariants.{Use, Fails, TooLarge}
 

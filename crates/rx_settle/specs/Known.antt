@@ -10,7 +10,7 @@ use Rattle.rx_form.specs.States.{State}
 use Rattle.rx_steps.specs.Alone.{alone, onto}
 use Rattle.rx_settle.specs.Answers.{IsTrial}
 use Rattle.rx_settle.specs.AtFirst.{before_uses}
-use Rattle.rx_unfold.specs.Trying.{Next}
+use Rattle.rx_moves.specs.Trying.{Next}
 use Rattle.rx_settle.specs.declared.known.Known.{Known}
 
 -- what comes of these items where the goal is alone

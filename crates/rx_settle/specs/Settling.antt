@@ -17,11 +17,11 @@ use Rattle.rx_form.specs.declared.step.Side.TheVariants.{Left, Right}
 use Rattle.rx_lemma.specs.Naming.{naming_of}
 use Rattle.rx_lemma.specs.Lemmas.{Generalisation}
 use Rattle.rx_match.specs.Matching.{use_of}
-use Rattle.rx_unfold.specs.Moves.{Move, Hyp, Absurd, Equal, Generalise, Results}
-use Rattle.rx_suffix.specs.Suffixes.{common_suffix}
-use Rattle.rx_suffix.specs.declared.finding.Common.{Common}
-use Rattle.rx_unfold.specs.Trying.{Next, attempt, noting, then_try}
-use Rattle.rx_unfold.specs.Unfolding.{leaving_at, redex_symbol, unfolding_at}
+use Rattle.rx_moves.specs.Moves.{Move, Hyp, Absurd, Equal, Generalise, Results}
+use Rattle.rx_moves.specs.Suffixes.{common_suffix}
+use Rattle.rx_moves.specs.declared.finding.Common.{Common}
+use Rattle.rx_moves.specs.Trying.{Next, attempt, noting, then_try}
+use Rattle.rx_moves.specs.Unfolding.{leaving_at, redex_symbol, unfolding_at}
 
 -- ---- moves
 

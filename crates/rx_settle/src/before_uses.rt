@@ -3,7 +3,7 @@ ghost use Rattle.std.specs.Prelude.{◌≡◌, IfOk, OnErr};
 ghost use Rattle.rx_settle.specs.Answers.{IsTrial};
 ghost use Rattle.rx_settle.specs.AtFirst.{at_first, before_uses, from_leaving, from_unfolding};
 ghost use Rattle.rx_solve.specs.Answers.{IsSolver};
-ghost use Rattle.rx_unfold.specs.LoopPoints.{AreLoopPoints};
+ghost use Rattle.rx_moves.specs.LoopPoints.{AreLoopPoints};
 
 use crate::deleting::try_deleting;
 use crate::naming::try_naming;
@@ -11,11 +11,11 @@ use crate::sides::{try_leaving_sides, try_unfolding_sides};
 use crate::trial::Trial;
 use rx_cert::Cert;
 use rx_fm::FmEnd;
+use rx_moves::LoopPoints;
 use rx_plain::NoMemory;
 use rx_row::Constraint;
 use rx_steps::State;
 use rx_term::RuleSet;
-use rx_unfold::LoopPoints;
 use std::alloc::Global;
 
 /// Rules that leave the components of loop points, and then naming.

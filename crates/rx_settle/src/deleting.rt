@@ -5,8 +5,8 @@ ghost use Rattle.rx_settle.specs.Answers.{IsTrial};
 ghost use Rattle.rx_solve.specs.Answers.{IsSolver};
 ghost use Rattle.rx_solve.specs.Attempts.{first_applying};
 ghost use Rattle.rx_term.specs.declared.rule_set.RuleParts.{RuleParts};
-ghost use Rattle.rx_unfold.specs.Moves.{Absurd, Equal};
-ghost use Rattle.rx_unfold.specs.Trying.{attempt};
+ghost use Rattle.rx_moves.specs.Moves.{Absurd, Equal};
+ghost use Rattle.rx_moves.specs.Trying.{attempt};
 
 use crate::trial::Trial;
 use crate::trying::{take_shown, try_step};

@@ -5,7 +5,7 @@ ghost use Rattle.rx_settle.specs.AtFirst.{at_first, before_uses, from_uses};
 ghost use Rattle.rx_settle.specs.Known.{AreKnown};
 ghost use Rattle.rx_settle.specs.Settling.{settling_move};
 ghost use Rattle.rx_solve.specs.Answers.{IsSolver};
-ghost use Rattle.rx_unfold.specs.LoopPoints.{AreLoopPoints};
+ghost use Rattle.rx_moves.specs.LoopPoints.{AreLoopPoints};
 
 use crate::results::try_results;
 use crate::settle_memo::{SettleMemo, known_move};
@@ -13,11 +13,11 @@ use crate::trial::Trial;
 use crate::uses::try_uses;
 use rx_cert::Cert;
 use rx_fm::FmEnd;
+use rx_moves::LoopPoints;
 use rx_plain::NoMemory;
 use rx_row::Constraint;
 use rx_steps::State;
 use rx_term::RuleSet;
-use rx_unfold::LoopPoints;
 use std::alloc::Global;
 
 /// Hypotheses, and then results.

@@ -6,17 +6,17 @@ ghost use Rattle.rx_settle.specs.Known.{IsKnown};
 ghost use Rattle.rx_solve.specs.Answers.{IsSolver};
 ghost use Rattle.rx_term.specs.declared.rule.Equation.{Equation};
 ghost use Rattle.rx_term.specs.declared.rule_set.RuleParts.{RuleParts};
-ghost use Rattle.rx_unfold.specs.LoopPoints.{AreLoopPoints};
+ghost use Rattle.rx_moves.specs.LoopPoints.{AreLoopPoints};
 
 use crate::before_uses::try_before_uses;
 use crate::trial::Trial;
 use rx_cert::Cert;
 use rx_fm::FmEnd;
+use rx_moves::LoopPoints;
 use rx_plain::{NoMemory, Shared};
 use rx_row::Constraint;
 use rx_steps::State;
 use rx_term::{Equation, RuleSet};
-use rx_unfold::LoopPoints;
 use std::alloc::Global;
 
 /// What is known of a goal.

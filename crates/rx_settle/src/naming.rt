@@ -5,8 +5,8 @@ ghost use Rattle.rx_settle.specs.AtFirst.{at_first};
 ghost use Rattle.rx_settle.specs.Certified.{asks_rows};
 ghost use Rattle.rx_settle.specs.Settling as settling;
 ghost use Rattle.rx_solve.specs.Answers.{IsSolver};
-ghost use Rattle.rx_unfold.specs.LoopPoints.{AreLoopPoints};
-ghost use Rattle.rx_unfold.specs.Moves.{Generalise, move_of};
+ghost use Rattle.rx_moves.specs.LoopPoints.{AreLoopPoints};
+ghost use Rattle.rx_moves.specs.Moves.{Generalise, move_of};
 
 use crate::trial::Trial;
 use crate::trying::try_step;
@@ -14,12 +14,12 @@ use rx_cert::Cert;
 use rx_fm::FmEnd;
 use rx_form::Step;
 use rx_lemma::{Generalised, named};
+use rx_moves::LoopPoints;
 use rx_plain::{Items, NoMemory};
 use rx_poly::PolyEnd;
 use rx_row::Constraint;
 use rx_steps::State;
 use rx_term::{Equation, RuleSet};
-use rx_unfold::LoopPoints;
 use std::alloc::Global;
 
 /// The step to an equation of which the goal is an instance. Its certificates are open.

@@ -13,10 +13,10 @@ use crate::trying::try_step;
 use rx_cert::Cert;
 use rx_fm::FmEnd;
 use rx_form::Step;
+use rx_moves::{Suffix, find_suffix};
 use rx_plain::{Items, NoMemory};
 use rx_row::Constraint;
 use rx_steps::State;
-use rx_suffix::{Suffix, find_suffix};
 use rx_term::{Equation, RuleSet};
 use std::alloc::Global;
 

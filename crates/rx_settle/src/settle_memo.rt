@@ -3,16 +3,16 @@ ghost use Rattle.std.specs.Prelude.{IfOk};
 ghost use Rattle.rx_settle.specs.Known.{AreKnown, IsKnown};
 ghost use Rattle.rx_solve.specs.Answers.{IsSolver};
 ghost use Rattle.rx_term.specs.declared.rule_set.RuleParts.{RuleParts};
-ghost use Rattle.rx_unfold.specs.LoopPoints.{AreLoopPoints};
+ghost use Rattle.rx_moves.specs.LoopPoints.{AreLoopPoints};
 
 use crate::known::Known;
 use rx_cert::Cert;
 use rx_fm::FmEnd;
 use rx_memo::GoalMemo;
+use rx_moves::LoopPoints;
 use rx_plain::{NoMemory, Shared};
 use rx_row::Constraint;
 use rx_term::{Equation, RuleSet};
-use rx_unfold::LoopPoints;
 use std::alloc::Global;
 use std::marker::Model;
 

@@ -6,7 +6,7 @@ ghost use Rattle.rx_settle.specs.Known.{AreKnown};
 ghost use Rattle.rx_settle.specs.Settling as settling;
 ghost use Rattle.rx_settle.specs.Settling.{most_moves, rows_if};
 ghost use Rattle.rx_solve.specs.Answers.{IsSolver};
-ghost use Rattle.rx_unfold.specs.LoopPoints.{AreLoopPoints};
+ghost use Rattle.rx_moves.specs.LoopPoints.{AreLoopPoints};
 
 use crate::items::settle_once;
 use crate::settle_memo::SettleMemo;
@@ -14,11 +14,11 @@ use crate::settled::Settled;
 use crate::trial::Trial;
 use rx_cert::Cert;
 use rx_fm::FmEnd;
+use rx_moves::LoopPoints;
 use rx_plain::{Items, NoMemory};
 use rx_row::{Constraint, Row};
 use rx_steps::State;
 use rx_term::RuleSet;
-use rx_unfold::LoopPoints;
 use std::alloc::Global;
 
 /// The rows of the first goal, copied, if there is one.

@@ -4,7 +4,7 @@ ghost use Rattle.rx_form.specs.declared.formed_step.Asked.TheVariants.{Refuted, 
 ghost use Rattle.rx_row.specs.declared.row.Row.{Row};
 ghost use Rattle.rx_solve.specs.Answers.{IsSolver};
 ghost use Rattle.rx_steps.specs.Faults.{asks_goal_alone, is_one_group};
-ghost use Rattle.rx_unfold.specs.Parts.{IsAskedShown};
+ghost use Rattle.rx_moves.specs.Parts.{IsAskedShown};
 
 use rx_cert::Cert;
 use rx_fm::FmEnd;
@@ -15,7 +15,7 @@ use rx_solve::{AllShown, ask, show_all};
 use std::alloc::Global;
 
 /// The one certificate that refutes the rows, where the solver has one.
-#[tactic(auto, unfolding(rx_unfold::specs::Trying::asked_shown, rx_unfold::specs::Parts::ShownBy))]
+#[tactic(auto, unfolding(rx_moves::specs::Trying::asked_shown, rx_moves::specs::Parts::ShownBy))]
 fn show_refuted<S: FnMut(&Constraint) -> Result<Option<Cert>, FmEnd>>(
     alloc: Global,
     given: &Constraint,

@@ -5,20 +5,20 @@ ghost use Rattle.rx_settle.specs.AtFirst.{at_first};
 ghost use Rattle.rx_solve.specs.Answers.{IsSolver};
 ghost use Rattle.rx_solve.specs.Attempts.{Tried};
 ghost use Rattle.rx_term.specs.declared.rule_set.RuleParts.{RuleParts};
-ghost use Rattle.rx_unfold.specs.Answers.{IsFound};
-ghost use Rattle.rx_unfold.specs.LoopPoints.{AreLoopPoints};
-ghost use Rattle.rx_unfold.specs.Trying.{Next};
-ghost use Rattle.rx_unfold.specs.Unfolding.{leaving_sides, unfolding_sides};
+ghost use Rattle.rx_moves.specs.Answers.{IsFound};
+ghost use Rattle.rx_moves.specs.LoopPoints.{AreLoopPoints};
+ghost use Rattle.rx_moves.specs.Trying.{Next};
+ghost use Rattle.rx_moves.specs.Unfolding.{leaving_sides, unfolding_sides};
 
 use crate::trial::Trial;
 use crate::trying::take_shown;
 use rx_cert::Cert;
 use rx_fm::FmEnd;
+use rx_moves::{Found, LoopPoints, find_leaving, find_unfolding};
 use rx_plain::NoMemory;
 use rx_row::Constraint;
 use rx_steps::State;
 use rx_term::RuleSet;
-use rx_unfold::{Found, LoopPoints, find_leaving, find_unfolding};
 use std::alloc::Global;
 
 /// Takes the step that was found at the first goal, if there is one.

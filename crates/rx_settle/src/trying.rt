@@ -6,21 +6,21 @@ ghost use Rattle.rx_settle.specs.Answers.{IsTrial};
 ghost use Rattle.rx_settle.specs.Certified.{asks_rows, certified};
 ghost use Rattle.rx_solve.specs.Answers.{IsSolver};
 ghost use Rattle.rx_steps.specs.Faults.{asks_goal_alone};
-ghost use Rattle.rx_unfold.specs.Moves.{move_of};
-ghost use Rattle.rx_unfold.specs.Outcomes.{Follows, IsOutcome};
-ghost use Rattle.rx_unfold.specs.Trying.{attempt};
+ghost use Rattle.rx_moves.specs.Moves.{move_of};
+ghost use Rattle.rx_moves.specs.Outcomes.{Follows, IsOutcome};
+ghost use Rattle.rx_moves.specs.Trying.{attempt};
 
 use crate::showing::show;
 use crate::trial::Trial;
 use rx_cert::Cert;
 use rx_fm::FmEnd;
 use rx_form::{Delete, FormedStep, Step};
+use rx_moves::{Formation, Outcome, form_step};
 use rx_plain::{Items, NoMemory};
 use rx_row::Constraint;
 use rx_solve::AllShown;
 use rx_steps::State;
 use rx_term::RuleSet;
-use rx_unfold::{Formation, Outcome, form_step};
 use std::alloc::Global;
 
 /// The answer, once the value is let go of.

@@ -1,5 +1,5 @@
 -- What came of the step where the goal is alone.
-use Rattle.rx_unfold.specs.Moves.{move_of}
+use Rattle.rx_moves.specs.Moves.{move_of}
 use Rattle.rx_search.proofs.Finding.{right_alone, seen_alone}
 use Rattle.rx_search.proofs.known.try_at.Goals as goal
 

@@ -1,5 +1,5 @@
 -- Loop points, or else naming.
-use Rattle.rx_unfold.specs.Unfolding.{leaving_sides}
+use Rattle.rx_moves.specs.Unfolding.{leaving_sides}
 use Rattle.rx_settle.specs.Settling.{named}
 use Rattle.rx_settle.proofs.FirstLaws.{first_of_both, second_of_both}
 use Rattle.rx_settle.proofs.before_uses.try_from_leaving.Goals as goal

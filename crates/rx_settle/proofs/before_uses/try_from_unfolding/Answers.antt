@@ -1,6 +1,6 @@
 -- Other redexes, or else what comes after them.
 use Rattle.rx_settle.specs.AtFirst.{from_leaving}
-use Rattle.rx_unfold.specs.Unfolding.{unfolding_sides}
+use Rattle.rx_moves.specs.Unfolding.{unfolding_sides}
 use Rattle.rx_settle.proofs.FirstLaws.{first_of_both, second_of_both}
 use Rattle.rx_settle.proofs.before_uses.try_from_unfolding.Goals as goal
 

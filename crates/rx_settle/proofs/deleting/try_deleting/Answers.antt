@@ -1,6 +1,6 @@
 -- The rows are refuted, or else both sides are shown equal.
-use Rattle.rx_unfold.specs.Moves.{Equal}
-use Rattle.rx_unfold.specs.Trying.{attempt}
+use Rattle.rx_moves.specs.Moves.{Equal}
+use Rattle.rx_moves.specs.Trying.{attempt}
 use Rattle.rx_settle.proofs.TrialLaws.{taken_first, untaken_second}
 use Rattle.rx_settle.proofs.deleting.try_deleting.Goals as goal
 

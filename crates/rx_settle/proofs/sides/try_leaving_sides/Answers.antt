@@ -1,7 +1,7 @@
 -- What is found at the first goal is taken.
 use Rattle.std.proofs.Common.{◌∙◌, ap, sym, refl}
 use Rattle.std.specs.Option.{option_copied}
-use Rattle.rx_unfold.specs.Unfolding.{leaving_sides}
+use Rattle.rx_moves.specs.Unfolding.{leaving_sides}
 use Rattle.rx_settle.proofs.FirstLaws.{found_answer, no_goal}
 use Rattle.rx_settle.proofs.sides.try_leaving_sides.Goals as goal
 

@@ -2,8 +2,8 @@
 use Rattle.std.proofs.Common.{◌∙◌, ap, subst, sym}
 use Rattle.std.specs.Option.{option_copied}
 use Rattle.rx_solve.specs.declared.showing.AllShown.TheVariants.{Shown, NotShown, TooLarge}
-use Rattle.rx_unfold.specs.Outcomes.{Follows}
-use Rattle.rx_unfold.proofs.OutcomeLaws.{nothing_follows, shown_follows}
+use Rattle.rx_moves.specs.Outcomes.{Follows}
+use Rattle.rx_moves.proofs.OutcomeLaws.{nothing_follows, shown_follows}
 use Rattle.rx_settle.proofs.trying.show_formed.Goals as goal
 
 pub returns-in-Ok-Shown-clause-outcome : goal.returns-in-Ok-Shown-clause-outcome

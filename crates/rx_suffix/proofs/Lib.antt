@@ -1,2 +1,0 @@
--- Lemmas on the definitions of specs/.
-pub mod SuffixLaws

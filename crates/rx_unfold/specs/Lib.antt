@@ -1,9 +1,0 @@
--- Rewriting a side of a goal: moves, what comes of trying one, and which are tried at a redex.
-pub mod Answers
-pub mod LoopPoints
-pub mod Moves
-pub mod Outcomes
-pub mod Parts
-pub mod RuleSteps
-pub mod Trying
-pub mod Unfolding
