@@ -10,14 +10,14 @@ use Rattle.rx_plain.proofs.Booleans.{or_false}
 use Rattle.rx_solve.specs.Attempts.{Tried}
 use Rattle.rx_moves.specs.Trying.{Next}
 use Rattle.rx_search.specs.Menu.{Chosen, choice}
-use Rattle.rx_node.specs.Calls.{choice_of, node_of, with_choice}
+use Rattle.rx_search.specs.Calls.{choice_of, node_of, with_choice}
 use Rattle.rx_search.specs.Nodes.{AreChoices, IsTried}
-use Rattle.rx_node.specs.Nodes as nodes
-use Rattle.rx_node.specs.Nodes.{node_with}
+use Rattle.rx_search.specs.NodeNodes as nodes
+use Rattle.rx_search.specs.NodeNodes.{node_with}
 use Rattle.rx_search.specs.Search.{child}
-use Rattle.rx_node.specs.declared.choices.Choices.{Choices}
-use Rattle.rx_node.specs.declared.choices.Trial.{Trial}
-use Rattle.rx_node.specs.declared.node.Node.{Node}
+use Rattle.rx_search.specs.declared.node_choices.Choices.{Choices}
+use Rattle.rx_search.specs.declared.node_choices.Trial.{Trial}
+use Rattle.rx_search.specs.declared.node.Node.{Node}
 use Rattle.rx_visits.specs.Views.{seen_choice}
 use Rattle.rx_visits.specs.declared.tree.Choice.{Choice}
 use Rattle.rx_settle.specs.Settling.{most_moves}

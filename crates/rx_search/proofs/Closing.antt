@@ -18,14 +18,14 @@ use Rattle.rx_log.specs.Acceptance.{Accepted, Checked, Concludes, IsAccepted, On
 use Rattle.rx_log.specs.Acceptance as acceptance
 use Rattle.rx_log.specs.declared.log.Log.{Log}
 use Rattle.rx_moves.specs.Moves.{move_of}
-use Rattle.rx_node.specs.Calls.{node_of}
+use Rattle.rx_search.specs.Calls.{node_of}
 use Rattle.rx_search.specs.Nodes.{IsNode}
-use Rattle.rx_node.specs.Nodes as nodes
+use Rattle.rx_search.specs.NodeNodes as nodes
 use Rattle.rx_search.specs.Search as search
-use Rattle.rx_node.specs.Nodes.{is_closed}
+use Rattle.rx_search.specs.NodeNodes.{is_closed}
 use Rattle.rx_search.specs.Search.{menu, of_outcome, settled}
-use Rattle.rx_node.specs.declared.node.Node.{Node}
-use Rattle.rx_node.proofs.Left.{no_goal}
+use Rattle.rx_search.specs.declared.node.Node.{Node}
+use Rattle.rx_search.proofs.Left.{no_goal}
 use Rattle.rx_search.proofs.Rooted.{reached_rooted}
 use Rattle.rx_search.proofs.Running.{logged}
 use Rattle.rx_visits.specs.Outcomes.{closed_or, first_closed, first_note, noted_or, outcome, spent_if}

@@ -14,9 +14,9 @@ use Rattle.rx_form.specs.declared.step.Side.TheVariants.{Left, Right}
 use Rattle.rx_form.specs.declared.step.Step.{Step}
 use Rattle.rx_form.specs.declared.step.Step.TheVariants as steps
 use Rattle.rx_lemma.specs.Lemmas.{Generalisation}
-use Rattle.rx_node.specs.Candidates.{candidates_by, expansions, lemma_candidate}
-use Rattle.rx_node.specs.declared.candidates.Candidate.{Candidate}
-use Rattle.rx_node.specs.declared.candidates.Candidates.{Candidates}
+use Rattle.rx_search.specs.Candidates.{candidates_by, expansions, lemma_candidate}
+use Rattle.rx_search.specs.declared.candidates.Candidate.{Candidate}
+use Rattle.rx_search.specs.declared.candidates.Candidates.{Candidates}
 use Rattle.rx_memo.specs.Kept.{IsKept, IsThat}
 use Rattle.rx_memo.specs.declared.goal_memo.Kept.{Kept}
 use Rattle.rx_memo.proofs.Buckets.{nothing_kept}
@@ -29,7 +29,7 @@ use Rattle.rx_settle.specs.declared.trial.Trial.{Trial as Taken}
 use Rattle.rx_search.specs.Known.{AreOf, AreRight, CanBeTried, IsRight, IsRightChoice, seen_known}
 use Rattle.rx_search.specs.Menu.{Attempted, attempted, attempted_all, attempted_by, if_noted}
 use Rattle.rx_search.specs.Nodes.{KeepsNone}
-use Rattle.rx_node.specs.declared.choices.KnownChoice.{KnownChoice}
+use Rattle.rx_search.specs.declared.node_choices.KnownChoice.{KnownChoice}
 use Rattle.rx_search.proofs.Trying.{attempt_keeps}
 
 -- ---- one step where the goal is alone

@@ -1,11 +1,14 @@
 -- Steps from the start, what they keep, and what choices and visits come to.
-pub mod Running
-pub mod Shallow
-pub mod Rooted
-pub mod Trying
+-- Whether goals are left; what is made of a list.
 pub mod Choosing
-pub mod Finding
-pub mod Lifting
-pub mod Menus
-pub mod Settled
 pub mod Closing
+pub mod Finding
+pub mod Left
+pub mod Lifting
+pub mod Mapped
+pub mod Menus
+pub mod Rooted
+pub mod Running
+pub mod Settled
+pub mod Shallow
+pub mod Trying

@@ -23,13 +23,13 @@ use Rattle.rx_settle.specs.Known.{lifted}
 use Rattle.rx_moves.specs.Moves.{Decompose, Expand, Generalise, Move, move_of, step_of}
 use Rattle.rx_moves.specs.Trying.{Next, attempt}
 use Rattle.rx_search.specs.Known.{IsRight, IsRightAt, IsRightChoice, attempted_onto, chosen_by, seen_known, tried_at}
-use Rattle.rx_node.specs.Candidates.{candidates_by, lemma_candidate, number_of}
+use Rattle.rx_search.specs.Candidates.{candidates_by, lemma_candidate, number_of}
 use Rattle.rx_search.specs.Menu.{Attempted, attempted, attempted_all, attempted_at, attempted_by, chosen_at, chosen_of, if_noted, if_ranks}
-use Rattle.rx_node.specs.Calls.{led}
+use Rattle.rx_search.specs.Calls.{led}
 use Rattle.rx_search.specs.Nodes.{IsNode, IsReached, IsTried, if_ranked}
-use Rattle.rx_node.specs.declared.choices.Trial.{Trial}
-use Rattle.rx_node.specs.declared.choices.KnownChoice.{KnownChoice}
-use Rattle.rx_node.specs.declared.node.Node.{Node}
+use Rattle.rx_search.specs.declared.node_choices.Trial.{Trial}
+use Rattle.rx_search.specs.declared.node_choices.KnownChoice.{KnownChoice}
+use Rattle.rx_search.specs.declared.node.Node.{Node}
 use Rattle.rx_settle.proofs.KnownLaws.{applied_lifted, attempt_lifted}
 use Rattle.rx_search.proofs.Trying.{keeping_none, keeping_ranked_call, led_by, reached_by}
 use Rattle.rx_settle.specs.Settling.{most_moves}

@@ -7,12 +7,12 @@ use Rattle.rx_term.specs.declared.rule.Equation.{Equation}
 use Rattle.rx_term.specs.declared.rule_set.RuleParts.{RuleParts}
 use Rattle.rx_settle.specs.Settling.{rows_if}
 use Rattle.rx_search.specs.Menu.{chosen_at, chosen_first, is_any_noted}
-use Rattle.rx_node.specs.Calls.{node_of, open_goal}
+use Rattle.rx_search.specs.Calls.{node_of, open_goal}
 use Rattle.rx_search.specs.Nodes.{AreChoices}
-use Rattle.rx_node.specs.Nodes as nodes
+use Rattle.rx_search.specs.NodeNodes as nodes
 use Rattle.rx_search.specs.Search.{child, menu}
-use Rattle.rx_node.specs.declared.choices.Choices.{Choices}
-use Rattle.rx_node.specs.declared.node.Node.{Node}
+use Rattle.rx_search.specs.declared.node_choices.Choices.{Choices}
+use Rattle.rx_search.specs.declared.node.Node.{Node}
 use Rattle.rx_visits.specs.Views.{seen_menu}
 use Rattle.rx_visits.specs.declared.tree.Menu.{Menu}
 

@@ -11,9 +11,9 @@ use Rattle.rx_joins.proofs.Runs.{kept_hypotheses_fit}
 use Rattle.rx_cert.specs.Findings.{Yes}
 use Rattle.rx_joins.specs.Goals.{IsFitting}
 use Rattle.rx_rank.specs.Ranking.{ranked}
-use Rattle.rx_node.specs.Calls.{started}
+use Rattle.rx_search.specs.Calls.{started}
 use Rattle.rx_search.specs.Nodes.{IsNode, IsReached}
-use Rattle.rx_node.specs.declared.node.Node.{Node}
+use Rattle.rx_search.specs.declared.node.Node.{Node}
 use Rattle.rx_search.proofs.Running.{runs}
 use Rattle.rx_search.proofs.Shallow.{IsDeep}
 use Rattle.rx_settle.specs.Settling.{most_moves}

@@ -13,11 +13,11 @@ use Rattle.rx_search.proofs.Shallow.{IsDeep}
 use Rattle.rx_moves.specs.Moves.{move_of}
 use Rattle.rx_settle.specs.Settling.{most_moves, settle}
 use Rattle.rx_settle.specs.declared.settled.Settled.{Settled as Found}
-use Rattle.rx_node.specs.Calls.{node_of}
+use Rattle.rx_search.specs.Calls.{node_of}
 use Rattle.rx_search.specs.Nodes.{IsNode}
-use Rattle.rx_node.specs.Nodes.{is_closed}
+use Rattle.rx_search.specs.NodeNodes.{is_closed}
 use Rattle.rx_search.specs.Search.{settled}
-use Rattle.rx_node.specs.declared.node.Node.{Node}
+use Rattle.rx_search.specs.declared.node.Node.{Node}
 use Rattle.rx_search.proofs.Running.{after_append}
 use Rattle.rx_visits.specs.Views.{seen_settled}
 

@@ -31,12 +31,12 @@ use Rattle.rx_settle.specs.Answers.{Takes}
 use Rattle.rx_moves.specs.Moves.{Absurd, Decompose, EqDelete, Equal, Expand, Generalise, Hyp, Move, Postulate, Results, Simplify, Split, move_of, step_of}
 use Rattle.rx_settle.specs.Settling.{most_moves}
 use Rattle.rx_moves.specs.Trying.{Next, asked_shown, attempt, next_if_formed, noting, then_by, then_try}
-use Rattle.rx_node.specs.Calls.{led, node_of, with_step}
+use Rattle.rx_search.specs.Calls.{led, node_of, with_step}
 use Rattle.rx_search.specs.Nodes.{IsNode, IsReached, IsTried, KeepsNone, if_ranked}
-use Rattle.rx_node.specs.Nodes as nodes
-use Rattle.rx_node.specs.Nodes.{node_with}
-use Rattle.rx_node.specs.declared.choices.Trial.{Trial}
-use Rattle.rx_node.specs.declared.node.Node.{Node}
+use Rattle.rx_search.specs.NodeNodes as nodes
+use Rattle.rx_search.specs.NodeNodes.{node_with}
+use Rattle.rx_search.specs.declared.node_choices.Trial.{Trial}
+use Rattle.rx_search.specs.declared.node.Node.{Node}
 use Rattle.rx_search.proofs.Running.{after_one}
 use Rattle.rx_search.proofs.Shallow.{IsDeep}
 

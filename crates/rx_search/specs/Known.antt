@@ -13,8 +13,8 @@ use Rattle.rx_steps.specs.Alone.{alone}
 use Rattle.rx_moves.specs.Answers.{IsTaken}
 use Rattle.rx_moves.specs.Moves.{move_of}
 use Rattle.rx_moves.specs.Trying.{Next}
-use Rattle.rx_node.specs.declared.candidates.Candidate.{Candidate}
-use Rattle.rx_node.specs.declared.choices.KnownChoice.{KnownChoice}
+use Rattle.rx_search.specs.declared.candidates.Candidate.{Candidate}
+use Rattle.rx_search.specs.declared.node_choices.KnownChoice.{KnownChoice}
 use Rattle.rx_settle.specs.Certified.{asks_rows}
 use Rattle.rx_settle.specs.Known.{lifted}
 use Rattle.rx_search.specs.Menu.{Attempted, Chosen, attempted, attempted_at, choice, if_ranks}

@@ -11,9 +11,9 @@ use Rattle.rx_lemma.specs.Generalising.{generalisations}
 use Rattle.rx_rank.specs.Ranking.{ranked}
 use Rattle.rx_moves.specs.Moves.{move_of}
 use Rattle.rx_moves.specs.Trying.{Next, attempt, then_try}
-use Rattle.rx_node.specs.Candidates.{candidates_by}
-use Rattle.rx_node.specs.declared.candidates.Candidate.{Candidate}
-use Rattle.rx_node.specs.declared.candidates.Candidates.{Candidates}
+use Rattle.rx_search.specs.Candidates.{candidates_by}
+use Rattle.rx_search.specs.declared.candidates.Candidate.{Candidate}
+use Rattle.rx_search.specs.declared.candidates.Candidates.{Candidates}
 
 -- ---- choices before ranks are found
 

@@ -16,12 +16,12 @@ use Rattle.rx_moves.specs.Moves.{Decompose, Expand, Generalise, Move}
 use Rattle.rx_settle.specs.Settling.{most_moves}
 use Rattle.rx_moves.specs.Trying.{Next}
 use Rattle.rx_search.specs.Menu.{Chosen, is_any_noted}
-use Rattle.rx_node.specs.Calls.{node_of}
-use Rattle.rx_node.specs.Nodes.{node_with}
+use Rattle.rx_search.specs.Calls.{node_of}
+use Rattle.rx_search.specs.NodeNodes.{node_with}
 use Rattle.rx_search.specs.Search.{child}
-use Rattle.rx_node.specs.declared.node.Node.{Node}
-use Rattle.rx_node.specs.declared.choices.Trial.{Trial}
-use Rattle.rx_node.specs.declared.choices.Choices.{Choices}
+use Rattle.rx_search.specs.declared.node.Node.{Node}
+use Rattle.rx_search.specs.declared.node_choices.Trial.{Trial}
+use Rattle.rx_search.specs.declared.node_choices.Choices.{Choices}
 use Rattle.rx_visits.specs.Views.{seen_choice}
 
 module _ (parts : RuleParts) (goal : Equation) where

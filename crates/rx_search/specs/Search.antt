@@ -11,8 +11,8 @@ use Rattle.rx_rank.specs.Ranking.{ranked}
 use Rattle.rx_moves.specs.Moves.{Move}
 use Rattle.rx_settle.specs.Settling.{most_moves, rows_if, settle}
 use Rattle.rx_settle.specs.Settling as settling
-use Rattle.rx_node.specs.Nodes.{Node, is_closed, node_with}
-use Rattle.rx_node.specs.Nodes as nodes
+use Rattle.rx_search.specs.NodeNodes.{Node, is_closed, node_with}
+use Rattle.rx_search.specs.NodeNodes as nodes
 use Rattle.rx_search.specs.Menu.{Chosen, chosen, is_any_noted}
 use Rattle.rx_visits.specs.Outcomes.{outcome}
 use Rattle.rx_visits.specs.Visits.{all_visits}

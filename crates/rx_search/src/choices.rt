@@ -10,9 +10,10 @@ ghost use Rattle.rx_term.specs.declared.rule.Equation.{Equation};
 
 use crate::dropping::dropped;
 use crate::known::{ChoiceMemo, known_choices};
+use crate::node::Node;
+use crate::node_choices::{Choices, KnownChoice, Trial};
 use rx_cert::Cert;
 use rx_fm::FmEnd;
-use rx_node::{Choices, KnownChoice, Node, Trial};
 use rx_pairs::Pair;
 use rx_plain::{NoMemory, Shared};
 use rx_ranked::{RankMemo, has_ranks_with};

@@ -8,11 +8,12 @@ ghost use Rattle.rx_solve.specs.Attempts.{beyond};
 ghost use Rattle.rx_steps.specs.Alone.{alone};
 ghost use Rattle.rx_term.specs.declared.rule_set.RuleParts.{RuleParts};
 
+use crate::candidates::{Candidate, find_candidates};
 use crate::dropping::dropped;
+use crate::node_choices::KnownChoice;
 use rx_cert::Cert;
 use rx_fm::FmEnd;
 use rx_memo::GoalMemo;
-use rx_node::{Candidate, KnownChoice, find_candidates};
 use rx_plain::{Items, NoMemory, Shared};
 use rx_row::Constraint;
 use rx_settle::try_step;

@@ -1,6 +1,6 @@
 //! The menu at a settled node.
 ghost use Rattle.std.specs.Prelude.{◌≡◌, All, IfOk};
-ghost use Rattle.rx_node.specs.Calls.{node_of};
+ghost use Rattle.rx_search.specs.Calls.{node_of};
 ghost use Rattle.rx_pairs.specs.Pairs.{AreAllPairs};
 ghost use Rattle.rx_search.specs.Known.{AreRight};
 ghost use Rattle.rx_search.specs.Nodes.{IsNode, IsReached};
@@ -12,9 +12,9 @@ ghost use Rattle.rx_visits.specs.Views.{seen_menu};
 
 use crate::choices::find_choices;
 use crate::known::ChoiceMemo;
+use crate::node::{Node, copied_rows};
 use rx_cert::Cert;
 use rx_fm::FmEnd;
-use rx_node::{Node, copied_rows};
 use rx_pairs::Pair;
 use rx_plain::{Items, NoMemory};
 use rx_ranked::RankMemo;

@@ -1,7 +1,7 @@
 //! The tree of plans: its nodes are where steps lead from the goal, and its choices are steps.
 ghost use Rattle.std.specs.Prelude.{◌≡◌, ◌++◌, IfOk, OnOk};
-ghost use Rattle.rx_node.specs.Calls.{node_of};
-ghost use Rattle.rx_node.specs.Nodes.{is_closed};
+ghost use Rattle.rx_search.specs.Calls.{node_of};
+ghost use Rattle.rx_search.specs.NodeNodes.{is_closed};
 ghost use Rattle.rx_search.specs.Nodes.{IsNode};
 ghost use Rattle.rx_search.specs.Search.{settled};
 ghost use Rattle.rx_settle.specs.Known.{AreKnown};
@@ -13,11 +13,11 @@ ghost use Rattle.rx_visits.specs.Views.{seen_settled};
 use crate::dropping::dropped;
 use crate::known::ChoiceMemo;
 use crate::menu::find_menu;
+use crate::node::{Node, is_closed, shared_steps};
 use rx_cert::Cert;
 use rx_fm::FmEnd;
 use rx_form::Step;
 use rx_moves::LoopPoints;
-use rx_node::{Node, is_closed, shared_steps};
 use rx_pairs::Pair;
 use rx_plain::{Items, NoMemory, Shared};
 use rx_ranked::RankMemo;
@@ -110,8 +110,8 @@ pub(crate) struct Plans<'a, S> {
 
 impl<'a, S: FnMut(&Constraint) -> Result<Option<Cert>, FmEnd>> Tree for Plans<'a, S> {
     ghost use Rattle.std.specs.Prelude.{List};
-    ghost use Rattle.rx_node.specs.Calls.{node_of};
-    ghost use Rattle.rx_node.specs.Nodes as nodes;
+    ghost use Rattle.rx_search.specs.Calls.{node_of};
+    ghost use Rattle.rx_search.specs.NodeNodes as nodes;
     ghost use Rattle.rx_pairs.specs.Pairs.{AreAllPairs};
     ghost use Rattle.rx_row.specs.declared.row.Row.{Row};
     ghost use Rattle.rx_search.specs.Known.{AreRight};

@@ -2,7 +2,7 @@
 use Rattle.std.proofs.Common.{◌∙◌, All, ap, map, subst, sym}
 use Rattle.std.specs.Prelude.{IfOk, Result}
 use Rattle.rx_plain.specs.declared.no_memory.NoMemory.{NoMemory}
-use Rattle.rx_node.specs.declared.choices.Choices.{Choices}
+use Rattle.rx_search.specs.declared.node_choices.Choices.{Choices}
 use Rattle.rx_search.specs.Known.{IsRightAt, chosen_by}
 use Rattle.rx_search.specs.Menu.{chosen_at}
 use Rattle.rx_search.specs.Nodes.{AreChoices, IsNode}

@@ -2,7 +2,7 @@
 use Rattle.std.proofs.Common.{◌∙◌, ap, subst}
 use Rattle.std.proofs.lemmas.Bool.{not-false, not-true}
 use Rattle.rx_lemma.specs.Generalising.{generalisations}
-use Rattle.rx_node.specs.Candidates.{candidates_by}
+use Rattle.rx_search.specs.Candidates.{candidates_by}
 use Rattle.rx_steps.specs.Alone.{alone}
 use Rattle.rx_search.specs.Known.{AreOf}
 use Rattle.rx_search.specs.Menu.{attempted_all}

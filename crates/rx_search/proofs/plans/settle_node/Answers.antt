@@ -2,9 +2,9 @@
 use Rattle.std.proofs.Common.{◌≡◌, ◌++◌, List, refl, subst, sym}
 use Rattle.std.proofs.lemmas.Result.{IfOk-weaker}
 use Rattle.rx_row.specs.declared.row.Row.{Row}
-use Rattle.rx_node.specs.Calls.{node_of}
-use Rattle.rx_node.specs.Nodes.{is_closed}
-use Rattle.rx_node.specs.declared.node.Node.{Node}
+use Rattle.rx_search.specs.Calls.{node_of}
+use Rattle.rx_search.specs.NodeNodes.{is_closed}
+use Rattle.rx_search.specs.declared.node.Node.{Node}
 use Rattle.rx_search.specs.Nodes.{IsNode}
 use Rattle.rx_search.specs.Search.{settled}
 use Rattle.rx_search.proofs.Settled.{settled_node, settled_seen}

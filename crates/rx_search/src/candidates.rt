@@ -3,7 +3,7 @@ ghost use Rattle.std.specs.Prelude.{◌≡◌, ◌++◌, IfOk, OnOk, map};
 ghost use Rattle.rx_form.specs.declared.step.Step.TheVariants as steps;
 ghost use Rattle.rx_lemma.specs.Generalising.{generalisations};
 ghost use Rattle.rx_lemma.specs.Lemmas.{found_as};
-ghost use Rattle.rx_node.specs.Candidates.{candidates_by, expansions, lemma_candidate, number_of};
+ghost use Rattle.rx_search.specs.Candidates.{candidates_by, expansions, lemma_candidate, number_of};
 ghost use Rattle.rx_solve.specs.Answers.{IsSolver};
 
 use rx_cert::Cert;

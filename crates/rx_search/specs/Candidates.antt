@@ -5,8 +5,8 @@ use Rattle.rx_form.specs.declared.step.Step.TheVariants as steps
 use Rattle.rx_lemma.specs.Lemmas.{Generalisation}
 use Rattle.rx_lemma.specs.declared.lemma.LemmaKind.{LemmaKind}
 use Rattle.rx_lemma.specs.declared.lemma.LemmaKind.TheVariants.{NameConstants, DropValues, ReplaceRepeated}
-use Rattle.rx_node.specs.declared.candidates.Candidate.{Candidate}
-use Rattle.rx_node.specs.declared.candidates.Candidates.{Candidates}
+use Rattle.rx_search.specs.declared.candidates.Candidate.{Candidate}
+use Rattle.rx_search.specs.declared.candidates.Candidates.{Candidates}
 
 -- Expand of each side that keeps the goal, and then that doesn't; and Decompose
 abbrev pub expansions : List Candidate

@@ -3,7 +3,7 @@ use Rattle.std.proofs.Common.{◌≡◌, ℕ, suc, Bool, true, false, List, [], 
 use Rattle.std.specs.Prelude.{◌==◌}
 use Rattle.std.proofs.lemmas.Bool.{eqb-true}
 use Rattle.rx_term.specs.declared.rule.Equation.{Equation}
-use Rattle.rx_node.specs.Nodes.{is_closed}
+use Rattle.rx_search.specs.NodeNodes.{is_closed}
 
 never : (n : ℕ) (b : Bool) → (suc n == 0) ≡ b → b ≡ false
 never n true e = absurd (let h = eqb-true (suc n) 0 e in omega (arith, h))

@@ -1,8 +1,8 @@
 -- The lemmas so far are added.
 use Rattle.std.proofs.Common.{◌≡◌, ◌++◌, map}
 use Rattle.rx_lemma.specs.Lemmas.{found_as}
-use Rattle.rx_node.specs.Candidates.{lemma_candidate}
-use Rattle.rx_node.proofs.candidates.push_lemmas.Given as goal
+use Rattle.rx_search.specs.Candidates.{lemma_candidate}
+use Rattle.rx_search.proofs.candidates.push_lemmas.Given as goal
 
 abbrev pub invariant-loop-lemma : goal.invariant-loop-lemma
 invariant-loop-lemma l =

@@ -1,7 +1,7 @@
 //! Nodes of the search.
 ghost use Rattle.std.specs.Prelude.{◌≡◌, ◌∷◌, ◌++◌, [], IfOk};
-ghost use Rattle.rx_node.specs.Nodes.{is_closed, start};
-ghost use Rattle.rx_node.specs.Calls.{node_of, open_goal, started, with_step};
+ghost use Rattle.rx_search.specs.NodeNodes.{is_closed, start};
+ghost use Rattle.rx_search.specs.Calls.{node_of, open_goal, started, with_step};
 ghost use Rattle.rx_steps.specs.Alone.{onto};
 
 use rx_form::Step;

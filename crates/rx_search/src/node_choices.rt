@@ -1,6 +1,6 @@
 //! What is known of a choice at a goal, and what comes of it at a node.
 ghost use Rattle.std.specs.Prelude.{◌≡◌, [], IfOk, OnOk, false};
-ghost use Rattle.rx_node.specs.Calls.{led, with_choice};
+ghost use Rattle.rx_search.specs.Calls.{led, with_choice};
 ghost use Rattle.rx_steps.specs.Alone.{onto};
 
 use crate::node::Node;

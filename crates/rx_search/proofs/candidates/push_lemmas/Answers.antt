@@ -1,8 +1,8 @@
 -- One more lemma.
 use Rattle.rx_lemma.specs.Lemmas.{found_as}
-use Rattle.rx_node.specs.Candidates.{lemma_candidate}
-use Rattle.rx_node.proofs.Mapped.{mapped_push}
-use Rattle.rx_node.proofs.candidates.push_lemmas.Goals as goal
+use Rattle.rx_search.specs.Candidates.{lemma_candidate}
+use Rattle.rx_search.proofs.Mapped.{mapped_push}
+use Rattle.rx_search.proofs.candidates.push_lemmas.Goals as goal
 
 pub loop-lemma-preserved : goal.loop-lemma-preserved
 loop-lemma-preserved c =

@@ -5,10 +5,10 @@ use Rattle.rx_term.specs.declared.rule.Equation.{Equation}
 use Rattle.rx_form.specs.States.{State}
 use Rattle.rx_form.specs.declared.step.Step.{Step}
 use Rattle.rx_moves.specs.Moves.{move_of}
-use Rattle.rx_node.specs.Nodes as nodes
-use Rattle.rx_node.specs.declared.node.Node.{Node}
-use Rattle.rx_node.specs.declared.choices.Trial.{Trial}
-use Rattle.rx_node.specs.declared.choices.Choices.{Choices}
+use Rattle.rx_search.specs.NodeNodes as nodes
+use Rattle.rx_search.specs.declared.node.Node.{Node}
+use Rattle.rx_search.specs.declared.node_choices.Trial.{Trial}
+use Rattle.rx_search.specs.declared.node_choices.Choices.{Choices}
 use Rattle.rx_visits.specs.declared.tree.Choice.{Choice}
 
 -- what is seen of a node: the moves of its steps
