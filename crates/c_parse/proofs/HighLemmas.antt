@@ -6,22 +6,22 @@ use Rattle.c_lex.specs.declared.token.TokenKind.TheVariants.{Word, Mark}
 use Rattle.c_lex.specs.declared.token.Keyword.TheVariants.{Int}
 use Rattle.c_lex.specs.declared.token.Mark.TheVariants.{LeftParen, LeftBrace}
 use Rattle.c_ast.specs.declared.stmt.Stmt.{Stmt}
-use Rattle.c_expr.specs.declared.read.Span.{Span}
-use Rattle.c_expr.specs.Grammar.{kind_at}
-use Rattle.c_expr.specs.Readers.{Gives, IsNoHigher}
-use Rattle.c_stmt.specs.declared.tree.External.{External}
-use Rattle.c_stmt.specs.Heights.{list_height}
-use Rattle.c_stmt.specs.Statements.{BlockItem, BlockItems}
-use Rattle.c_stmt.specs.Programs.{IsHeading, Parameters, ExternalDeclaration, Externals, finished, followed}
+use Rattle.c_syntax.specs.declared.read.Span.{Span}
+use Rattle.c_syntax.specs.Grammar.{kind_at}
+use Rattle.c_syntax.specs.Readers.{Gives, IsNoHigher}
+use Rattle.c_syntax.specs.declared.tree.External.{External}
+use Rattle.c_syntax.specs.Heights.{list_height}
+use Rattle.c_syntax.specs.Statements.{BlockItem, BlockItems}
+use Rattle.c_syntax.specs.Programs.{IsHeading, Parameters, ExternalDeclaration, Externals, finished, followed}
 use Rattle.c_place.specs.Places.{IsProgram as SpellsProgram}
 use Rattle.c_parse.specs.Programs.{IsLow}
 use Rattle.c_parse.specs.HighStatements.{LeadingItems, no_items, one_more, IsFirstHigh, IsHigh}
 use Rattle.c_parse.specs.Readers.{IsStuck, GoesHigh, Seeking}
 use Rattle.c_ast.proofs.StmtEquations.{height-append}
-use Rattle.c_expr.proofs.Lookahead.{kind_within}
-use Rattle.c_expr.proofs.UniqueExprs.{Same}
-use Rattle.c_stmt.proofs.Blocks.{itemed_of, Inside, inside_closed, inside_item, inside_of}
-use Rattle.c_stmt.proofs.UniqueStatements.{item_unique}
+use Rattle.c_syntax.proofs.Lookahead.{kind_within}
+use Rattle.c_syntax.proofs.UniqueExprs.{Same}
+use Rattle.c_syntax.proofs.Blocks.{itemed_of, Inside, inside_closed, inside_item, inside_of}
+use Rattle.c_syntax.proofs.UniqueStatements.{item_unique}
 use Rattle.c_parse.proofs.Phrases.{Outer, outer_function, outer_prototype, outer_of, outer_begins, Fellows, fellow_none, fellow_more, fellows_of}
 use Rattle.c_parse.proofs.Unique.{outer_unique}
 

@@ -5,14 +5,14 @@ use Rattle.c_lex.specs.declared.token.TokenKind.TheVariants.{Name, Word, Mark}
 use Rattle.c_lex.specs.declared.token.Keyword.TheVariants.{Int}
 use Rattle.c_lex.specs.declared.token.Mark.TheVariants.{RightParen, Comma}
 use Rattle.c_ast.specs.Height.{of_option}
-use Rattle.c_expr.specs.declared.read.Span.{Span}
-use Rattle.c_expr.specs.Grammar.{kind_at}
-use Rattle.c_stmt.specs.Programs.{IsVoid, Parameter, named, nameless, Listed, last_parameter, next_parameter, Parameters, unsaid, void, listed}
-use Rattle.c_expr.specs.Readers.{Gives}
+use Rattle.c_syntax.specs.declared.read.Span.{Span}
+use Rattle.c_syntax.specs.Grammar.{kind_at}
+use Rattle.c_syntax.specs.Programs.{IsVoid, Parameter, named, nameless, Listed, last_parameter, next_parameter, Parameters, unsaid, void, listed}
+use Rattle.c_syntax.specs.Readers.{Gives}
 use Rattle.c_parse.specs.Readers.{Listing}
-use Rattle.c_expr.proofs.Lookahead.{kind_within}
-use Rattle.c_expr.proofs.Building.{Built}
-use Rattle.c_expr.proofs.UniqueExprs.{Same}
+use Rattle.c_syntax.proofs.Lookahead.{kind_within}
+use Rattle.c_syntax.proofs.Building.{Built}
+use Rattle.c_syntax.proofs.UniqueExprs.{Same}
 
 -- what one parameter can be
 pub data Sort (ts : List Token) (i j : ℕ) (o : Option ℕ) : Type 0 where

@@ -4,13 +4,13 @@ use Rattle.std.specs.List.{All}
 use Rattle.std.specs.Option.{option_map}
 use Rattle.c_lex.specs.declared.token.Token.{Token}
 use Rattle.c_ast.specs.declared.program.Program.{Program}
-use Rattle.c_stmt.specs.declared.tree.External.{External}
-use Rattle.c_stmt.specs.Programs.{Parameter, named, nameless, Listed, last_parameter, next_parameter, Parameters, unsaid, void, listed, all_names, names_of, function, prototype, Externals, finished, followed}
+use Rattle.c_syntax.specs.declared.tree.External.{External}
+use Rattle.c_syntax.specs.Programs.{Parameter, named, nameless, Listed, last_parameter, next_parameter, Parameters, unsaid, void, listed, all_names, names_of, function, prototype, Externals, finished, followed}
 use Rattle.c_parse.specs.Programs.{functions_of, Spells}
-use Rattle.c_expr.specs.Names.{IsName}
+use Rattle.c_syntax.specs.Names.{IsName}
 use Rattle.c_parse.specs.Names.{IsNamed}
-use Rattle.c_expr.proofs.NamedVariables.{all_cons, all_none}
-use Rattle.c_stmt.proofs.NamedVariables.{inner_named}
+use Rattle.c_syntax.proofs.NamedVariables.{all_cons, all_none}
+use Rattle.c_syntax.proofs.StmtNamedVariables.{inner_named}
 
 -- a list of names with one more in front
 more_names : (n : ℕ) (r : Option (List ℕ)) (names : List ℕ) → option_map (λ ns. n ∷ ns) r ≡

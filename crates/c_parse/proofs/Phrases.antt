@@ -12,18 +12,18 @@ use Rattle.c_ast.specs.declared.stmt.Stmt.{Stmt}
 use Rattle.c_ast.specs.declared.program.Function.{Function}
 use Rattle.c_ast.specs.declared.program.Prototype.{Prototype}
 use Rattle.c_ast.specs.declared.program.Program.{Program}
-use Rattle.c_expr.specs.declared.read.Span.{Span}
-use Rattle.c_stmt.specs.declared.tree.External.{External}
-use Rattle.c_stmt.specs.declared.tree.External.TheVariants.{Defined, Declared}
+use Rattle.c_syntax.specs.declared.read.Span.{Span}
+use Rattle.c_syntax.specs.declared.tree.External.{External}
+use Rattle.c_syntax.specs.declared.tree.External.TheVariants.{Defined, Declared}
 use Rattle.c_parse.specs.declared.read.ReadProgram.TheVariants.{Spelled, Stopped}
-use Rattle.c_expr.specs.Grammar.{kind_at}
-use Rattle.c_stmt.specs.Statements.{CompoundStatement}
-use Rattle.c_stmt.specs.Heights.{list_height}
-use Rattle.c_stmt.specs.Programs.{IsHeading, Parameters, names_of, ExternalDeclaration, function, prototype, Externals, finished, followed}
+use Rattle.c_syntax.specs.Grammar.{kind_at}
+use Rattle.c_syntax.specs.Statements.{CompoundStatement}
+use Rattle.c_syntax.specs.Heights.{list_height}
+use Rattle.c_syntax.specs.Programs.{IsHeading, Parameters, names_of, ExternalDeclaration, function, prototype, Externals, finished, followed}
 use Rattle.c_parse.specs.Programs.{functions_of, prototypes_of, program_of, IsLow}
-use Rattle.c_expr.specs.Readers.{IsThat, Gives, IsNoHigher}
+use Rattle.c_syntax.specs.Readers.{IsThat, Gives, IsNoHigher}
 use Rattle.c_parse.specs.Readers.{LowExternal, added, Collecting, ReadsAll}
-use Rattle.c_expr.proofs.Lookahead.{kind_within}
+use Rattle.c_syntax.proofs.Lookahead.{kind_within}
 
 -- a function of this name, these parameters and this body
 abbrev pub the_function : ℕ → List ℕ → List Stmt → External

@@ -3,13 +3,13 @@ use Rattle.std.proofs.Common.{◌≡◌, suc, ◌≤◌, ◌<◌, Some, None, Li
 use Rattle.c_lex.specs.declared.token.Token.{Token}
 use Rattle.c_ast.specs.declared.expr.Expr.{Expr}
 use Rattle.c_ast.specs.Height.{expr_height}
-use Rattle.c_expr.specs.declared.read.Read.{Read}
-use Rattle.c_expr.specs.Grammar.{levels, Expression}
+use Rattle.c_syntax.specs.declared.read.Read.{Read}
+use Rattle.c_syntax.specs.Grammar.{levels, Expression}
 use Rattle.c_parse.specs.Preconditions.{IsExpression, OneExpression}
-use Rattle.c_expr.specs.Readers.{Reads}
-use Rattle.c_expr.proofs.Lookahead.{over_stops}
-use Rattle.c_expr.proofs.Choices.{chosen_of}
-use Rattle.c_expr.proofs.UniqueExprs.{whole_unique}
+use Rattle.c_syntax.specs.Readers.{Reads}
+use Rattle.c_syntax.proofs.Lookahead.{over_stops}
+use Rattle.c_syntax.proofs.Choices.{chosen_of}
+use Rattle.c_syntax.proofs.UniqueExprs.{whole_unique}
 
 module _ (ts : List Token) where
   -- nothing low enough was read

@@ -5,16 +5,16 @@ use Rattle.c_lex.specs.declared.token.Token.{Token}
 use Rattle.c_lex.specs.declared.token.TokenKind.TheVariants.{Word, Mark}
 use Rattle.c_lex.specs.declared.token.Keyword.TheVariants.{Int}
 use Rattle.c_lex.specs.declared.token.Mark.TheVariants.{Semicolon}
-use Rattle.c_stmt.specs.declared.tree.External.{External}
-use Rattle.c_expr.specs.Grammar.{kind_at}
-use Rattle.c_stmt.specs.Statements.{CompoundStatement}
-use Rattle.c_stmt.specs.Programs.{Parameters, names_of, Externals, finished, followed}
+use Rattle.c_syntax.specs.declared.tree.External.{External}
+use Rattle.c_syntax.specs.Grammar.{kind_at}
+use Rattle.c_syntax.specs.Statements.{CompoundStatement}
+use Rattle.c_syntax.specs.Programs.{Parameters, names_of, Externals, finished, followed}
 use Rattle.c_parse.specs.Programs.{program_of, OneProgram}
-use Rattle.c_expr.proofs.Lookahead.{kind_within}
+use Rattle.c_syntax.proofs.Lookahead.{kind_within}
 use Rattle.c_parse.proofs.Lists.{parts_of, parts_unique}
 use Rattle.c_parse.proofs.Phrases.{the_function, the_prototype, Outer, outer_function, outer_prototype, outer_of, outer_begins, Fellows, fellow_none, fellow_more, fellows_of}
-use Rattle.c_expr.proofs.UniqueExprs.{Same}
-use Rattle.c_stmt.proofs.UniqueStatements.{blocks_unique}
+use Rattle.c_syntax.proofs.UniqueExprs.{Same}
+use Rattle.c_syntax.proofs.UniqueStatements.{blocks_unique}
 
 -- what is in the parentheses of a heading is determined by where it begins
 pub parameters_unique : (ts : List Token) (i j k : ℕ) (ps qs : Option (List (Option ℕ))) →

@@ -5,11 +5,11 @@ use Rattle.c_lex.specs.declared.token.Token.{Token}
 use Rattle.c_lex.specs.declared.token.TokenKind.TheVariants.{Mark}
 use Rattle.c_lex.specs.declared.token.Mark.TheVariants.{LeftBrace}
 use Rattle.c_ast.specs.declared.stmt.Stmt.{Stmt}
-use Rattle.c_expr.specs.Grammar.{kind_at}
-use Rattle.c_stmt.specs.declared.tree.External.{External}
-use Rattle.c_stmt.specs.Heights.{list_height}
-use Rattle.c_stmt.specs.Statements.{BlockItem}
-use Rattle.c_stmt.specs.Programs.{IsHeading, Parameters, Externals}
+use Rattle.c_syntax.specs.Grammar.{kind_at}
+use Rattle.c_syntax.specs.declared.tree.External.{External}
+use Rattle.c_syntax.specs.Heights.{list_height}
+use Rattle.c_syntax.specs.Statements.{BlockItem}
+use Rattle.c_syntax.specs.Programs.{IsHeading, Parameters, Externals}
 use Rattle.c_parse.specs.Programs.{IsLow}
 
 -- items of a block one after the other, without the brace after them

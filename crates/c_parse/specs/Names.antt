@@ -4,7 +4,7 @@ use Rattle.std.specs.List.{All}
 use Rattle.c_lex.specs.declared.token.Token.{Token}
 use Rattle.c_ast.specs.declared.program.Function.{Function}
 use Rattle.c_ast.specs.Variables.{stmt_variables}
-use Rattle.c_expr.specs.Names.{IsName}
+use Rattle.c_syntax.specs.Names.{IsName}
 
 -- the name of the function, its parameters and the variables of its body are places of names
 pub record IsNamed (ts : List Token) (f : Function) : Type 0 where

@@ -6,8 +6,8 @@ use Rattle.c_ast.specs.Height.{expr_height}
 use Rattle.c_ast.specs.RowForms.{is_row_form}
 use Rattle.c_parse.specs.declared.error.ParseEnd.{ParseEnd}
 use Rattle.c_parse.specs.declared.error.ParseEnd.TheVariants.{Syntax, TooDeep, TooManyParams, NoMemory, NotARowForm}
-use Rattle.c_expr.specs.Grammar.{Expression}
-use Rattle.c_expr.specs.Depth.{too_deep}
+use Rattle.c_syntax.specs.Grammar.{Expression}
+use Rattle.c_syntax.specs.Depth.{too_deep}
 use Rattle.c_place.specs.Places.{IsLost, IsExpression as SpellsExpression}
 
 -- the whole list of tokens spells the expression, no higher than 200

@@ -5,10 +5,10 @@ use Rattle.c_lex.specs.declared.token.Token.{Token}
 use Rattle.c_ast.specs.declared.program.Function.{Function}
 use Rattle.c_ast.specs.declared.program.Prototype.{Prototype}
 use Rattle.c_ast.specs.declared.program.Program.{Program}
-use Rattle.c_stmt.specs.declared.tree.External.{External}
-use Rattle.c_stmt.specs.declared.tree.External.TheVariants.{Defined, Declared}
-use Rattle.c_stmt.specs.Programs.{Externals}
-use Rattle.c_stmt.specs.Heights.{list_height}
+use Rattle.c_syntax.specs.declared.tree.External.{External}
+use Rattle.c_syntax.specs.declared.tree.External.TheVariants.{Defined, Declared}
+use Rattle.c_syntax.specs.Programs.{Externals}
+use Rattle.c_syntax.specs.Heights.{list_height}
 
 -- the functions among them, in order
 abbrev pub functions_of : List External → List Function

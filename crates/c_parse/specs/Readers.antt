@@ -4,13 +4,13 @@ use Rattle.std.specs.List.{All}
 use Rattle.c_lex.specs.declared.token.Token.{Token}
 use Rattle.c_ast.specs.declared.program.Program.{Program}
 use Rattle.c_ast.specs.declared.stmt.Stmt.{Stmt}
-use Rattle.c_stmt.specs.declared.tree.External.{External}
-use Rattle.c_stmt.specs.declared.tree.External.TheVariants.{Defined, Declared}
+use Rattle.c_syntax.specs.declared.tree.External.{External}
+use Rattle.c_syntax.specs.declared.tree.External.TheVariants.{Defined, Declared}
 use Rattle.c_parse.specs.declared.read.ReadProgram.{ReadProgram}
 use Rattle.c_parse.specs.declared.read.ReadProgram.TheVariants.{Spelled, Stopped}
-use Rattle.c_stmt.specs.Heights.{list_height}
-use Rattle.c_stmt.specs.Statements.{BlockItems}
-use Rattle.c_stmt.specs.Programs.{Listed, ExternalDeclaration, Externals}
+use Rattle.c_syntax.specs.Heights.{list_height}
+use Rattle.c_syntax.specs.Statements.{BlockItems}
+use Rattle.c_syntax.specs.Programs.{Listed, ExternalDeclaration, Externals}
 use Rattle.c_parse.specs.HighStatements.{LeadingItems}
 use Rattle.c_parse.specs.Programs.{program_of, IsLow, Spells}
 

@@ -2,17 +2,16 @@
 ghost use Rattle.std.specs.Prelude.{◌≡◌, ◌+◌, ◌≤◌, ◌<◌, ◌^◌, Some, length, IfOk, MatchBool};
 ghost use Rattle.std.specs.Option.{option_map};
 ghost use Rattle.c_ast.specs.Height.{of_option};
-ghost use Rattle.c_expr.specs.Grammar.{kind_at};
-ghost use Rattle.c_stmt.specs.Statements.{CompoundStatement};
-ghost use Rattle.c_stmt.specs.Programs.{Parameter, Listed, Parameters, IsHeading, IsVoid, all_names, names_of};
-ghost use Rattle.c_stmt.specs.Heights.{list_height};
-ghost use Rattle.c_expr.specs.Readers.{Gives, IsNoHigher};
+ghost use Rattle.c_syntax.specs.Grammar.{kind_at};
+ghost use Rattle.c_syntax.specs.Statements.{CompoundStatement};
+ghost use Rattle.c_syntax.specs.Programs.{Parameter, Listed, Parameters, IsHeading, IsVoid, all_names, names_of};
+ghost use Rattle.c_syntax.specs.Heights.{list_height};
+ghost use Rattle.c_syntax.specs.Readers.{Gives, IsNoHigher};
 ghost use Rattle.c_parse.specs.Readers.{LowExternal};
 
 use c_ast::{Function, Prototype, Stmt};
-use c_expr::{Span, has_keyword, has_mark, has_name};
 use c_lex::{Keyword, Mark, Token, TokenKind};
-use c_stmt::{External, inner};
+use c_syntax::{External, Span, has_keyword, has_mark, has_name, inner};
 use rx_plain::{Items, NoMemory};
 use std::alloc::Global;
 

@@ -5,17 +5,17 @@ ghost use Rattle.std.specs.List.{All};
 ghost use Rattle.c_ast.specs.Forms.{is_sign, is_sum_or_product};
 ghost use Rattle.c_ast.specs.RowForms.{is_comparison, is_row_form, is_straight};
 ghost use Rattle.c_ast.specs.Variables.{variables};
-ghost use Rattle.c_expr.specs.Depth.{too_deep};
-ghost use Rattle.c_expr.specs.Grammar.{Expression, levels};
-ghost use Rattle.c_expr.specs.Names.{IsName};
+ghost use Rattle.c_syntax.specs.Depth.{too_deep};
+ghost use Rattle.c_syntax.specs.Grammar.{Expression, levels};
+ghost use Rattle.c_syntax.specs.Names.{IsName};
 ghost use Rattle.c_parse.specs.Preconditions.{IsExpression, OneExpression, OnePreAnswer, PreAnswers};
-ghost use Rattle.c_expr.specs.Readers.{Reads};
+ghost use Rattle.c_syntax.specs.Readers.{Reads};
 
 use crate::error::ParseEnd;
 use c_ast::{BinOp, Expr, UnOp};
-use c_expr::{Read, too_deep, whole};
 use c_lex::Token;
 use c_place::expression_fault;
+use c_syntax::{Read, too_deep, whole};
 use std::alloc::Global;
 
 // How high an expression may be.

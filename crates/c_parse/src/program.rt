@@ -11,9 +11,8 @@ use crate::external::external;
 use crate::fault::syntax_error;
 use crate::read::ReadProgram;
 use c_ast::{Function, Program, Prototype};
-use c_expr::too_deep;
 use c_lex::Token;
-use c_stmt::External;
+use c_syntax::{External, too_deep};
 use rx_plain::{Items, NoMemory};
 use std::alloc::Global;
 

@@ -11,7 +11,7 @@ use Rattle.c_ast.specs.declared.expr.BinOp.{BinOp}
 use Rattle.c_ast.specs.declared.expr.BinOp.TheVariants as binary
 use Rattle.c_ast.specs.declared.expr.Expr.{Expr}
 use Rattle.c_ast.specs.declared.expr.Expr.TheVariants.{Var, Unary, Binary, Choose, Apply}
-use Rattle.c_expr.specs.Grammar.{kind_at, infixed, binary_of, unary_of, levels, Expression, plain, choice, BinaryAt, signed, chain, Operands, done, more, UnaryExpression, unsigned, prefixed, PrimaryExpression, name, call, Arguments}
+use Rattle.c_syntax.specs.Grammar.{kind_at, infixed, binary_of, unary_of, levels, Expression, plain, choice, BinaryAt, signed, chain, Operands, done, more, UnaryExpression, unsigned, prefixed, PrimaryExpression, name, call, Arguments}
 use Rattle.c_place.proofs.ExpressionSpans.{AfterOperand, ended, operated, asked, AfterName, uncalled, called}
 
 -- some tree of which this holds

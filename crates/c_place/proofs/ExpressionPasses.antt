@@ -1,6 +1,6 @@
 -- The recogniser passes over each expression, from its first token to its end.
 use Rattle.std.proofs.Common.{◌≡◌, ℕ, ◌+◌, Option, Some, None, List, [], ◌∷◌, refl, sym, ◌∙◌, ap}
-use Rattle.c_expr.proofs.Lookahead.{operator_is_token, sign_is_token}
+use Rattle.c_syntax.proofs.Lookahead.{operator_is_token, sign_is_token}
 use Rattle.rx_plain.proofs.Naturals.{two_more}
 use Rattle.c_lex.specs.declared.token.Token.{Token}
 use Rattle.c_lex.specs.declared.token.TokenKind.{TokenKind}
@@ -9,8 +9,8 @@ use Rattle.c_lex.specs.declared.token.Mark.TheVariants as mark
 use Rattle.c_ast.specs.declared.expr.UnOp.{UnOp}
 use Rattle.c_ast.specs.declared.expr.BinOp.{BinOp}
 use Rattle.c_ast.specs.declared.expr.Expr.{Expr}
-use Rattle.c_expr.specs.Grammar.{kind_at, infixed, binary_of, unary_of, levels, Expression, plain, choice, BinaryAt, signed, chain, Operands, done, more, UnaryExpression, unsigned, prefixed, PrimaryExpression, number, name, call, parens, Arguments, no_arguments, arguments, Following, last_argument, next_argument}
-use Rattle.c_expr.proofs.Passing.{whole_opens}
+use Rattle.c_syntax.specs.Grammar.{kind_at, infixed, binary_of, unary_of, levels, Expression, plain, choice, BinaryAt, signed, chain, Operands, done, more, UnaryExpression, unsigned, prefixed, PrimaryExpression, number, name, call, parens, Arguments, no_arguments, arguments, Following, last_argument, next_argument}
+use Rattle.c_syntax.proofs.Passing.{whole_opens}
 use Rattle.c_place.specs.declared.symbol.Symbol.{Symbol}
 use Rattle.c_place.specs.declared.symbol.Symbol.TheVariants as symbol
 use Rattle.c_place.specs.Actions.{takes, skips, before, expression_action, operator_action, going_action, called_action, arguments_action}

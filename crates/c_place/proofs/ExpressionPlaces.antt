@@ -1,9 +1,9 @@
 -- The recogniser accepts the lists that spell an expression, and no others.
 use Rattle.std.proofs.Common.{◌≡◌, ℕ, Option, None, List, [], ◌∷◌, length, refl, ◌∙◌, ap, arith}
 use Rattle.std.proofs.Math.Seq.{drop-length}
-use Rattle.c_expr.proofs.Lookahead.{nothing_over}
+use Rattle.c_syntax.proofs.Lookahead.{nothing_over}
 use Rattle.c_lex.specs.declared.token.Token.{Token}
-use Rattle.c_expr.specs.Grammar.{kind_at, Expression}
+use Rattle.c_syntax.specs.Grammar.{kind_at, Expression}
 use Rattle.c_place.specs.declared.symbol.Symbol.{Symbol}
 use Rattle.c_place.specs.declared.symbol.Symbol.TheVariants as symbol
 use Rattle.c_place.specs.Places.{IsExpression, IsPlace}

@@ -9,7 +9,7 @@ use Rattle.c_lex.specs.declared.token.Mark.TheVariants as mark
 use Rattle.c_ast.specs.declared.expr.Expr.TheVariants.{Lit}
 use Rattle.c_ast.specs.declared.expr.UnOp.{UnOp}
 use Rattle.c_ast.specs.declared.expr.UnOp.TheVariants as sign
-use Rattle.c_expr.specs.Grammar.{kind_at, Operator, infixed, binary_of, unary_of, number, parens, no_arguments, arguments, last_argument, next_argument}
+use Rattle.c_syntax.specs.Grammar.{kind_at, Operator, infixed, binary_of, unary_of, number, parens, no_arguments, arguments, last_argument, next_argument}
 use Rattle.c_place.specs.declared.symbol.Symbol.TheVariants as symbol
 use Rattle.c_place.specs.Actions.{skips, before, name_action, left_paren_action, right_paren_action, colon_action, semicolon_action, while_action, expression_action, operator_action, going_action, called_action, arguments_action, following_action}
 use Rattle.c_place.proofs.ExpressionSpans.{ended, operated, asked, uncalled, called}

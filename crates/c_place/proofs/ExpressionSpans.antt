@@ -5,7 +5,7 @@ use Rattle.c_lex.specs.declared.token.TokenKind.TheVariants.{Mark}
 use Rattle.c_lex.specs.declared.token.Mark.TheVariants as mark
 use Rattle.c_ast.specs.declared.expr.BinOp.{BinOp}
 use Rattle.c_ast.specs.declared.expr.Expr.{Expr}
-use Rattle.c_expr.specs.Grammar.{kind_at, infixed, binary_of, Expression, Arguments}
+use Rattle.c_syntax.specs.Grammar.{kind_at, infixed, binary_of, Expression, Arguments}
 
 -- what comes after an operand, up to the end of the expression
 pub data AfterOperand : List Token → ℕ → ℕ → Type 0 where

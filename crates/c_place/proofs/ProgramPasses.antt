@@ -7,10 +7,10 @@ use Rattle.c_lex.specs.declared.token.TokenKind.TheVariants.{Name, Word, Mark}
 use Rattle.c_lex.specs.declared.token.Keyword.TheVariants as word
 use Rattle.c_lex.specs.declared.token.Mark.TheVariants as mark
 use Rattle.c_ast.specs.declared.stmt.Stmt.{Stmt}
-use Rattle.c_stmt.specs.declared.tree.External.{External}
-use Rattle.c_expr.specs.Grammar.{kind_at}
-use Rattle.c_stmt.specs.Statements.{CompoundStatement}
-use Rattle.c_stmt.specs.Programs.{IsHeading, Parameter, named, nameless, Listed, last_parameter, next_parameter, Parameters, unsaid, void, listed, all_names, names_of, ExternalDeclaration, function, prototype, Externals, finished, followed}
+use Rattle.c_syntax.specs.declared.tree.External.{External}
+use Rattle.c_syntax.specs.Grammar.{kind_at}
+use Rattle.c_syntax.specs.Statements.{CompoundStatement}
+use Rattle.c_syntax.specs.Programs.{IsHeading, Parameter, named, nameless, Listed, last_parameter, next_parameter, Parameters, unsaid, void, listed, all_names, names_of, ExternalDeclaration, function, prototype, Externals, finished, followed}
 use Rattle.c_place.specs.declared.symbol.Symbol.{Symbol}
 use Rattle.c_place.specs.declared.symbol.Symbol.TheVariants as symbol
 use Rattle.c_place.specs.declared.symbol.Naming.{Naming}

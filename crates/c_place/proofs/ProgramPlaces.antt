@@ -1,8 +1,8 @@
 -- The recogniser accepts the lists that spell a program, and no others.
 use Rattle.std.proofs.Common.{◌≡◌, ℕ, Option, None, List, [], ◌∷◌, length, refl, ◌∙◌, arith}
-use Rattle.c_expr.proofs.Lookahead.{nothing_over}
+use Rattle.c_syntax.proofs.Lookahead.{nothing_over}
 use Rattle.c_lex.specs.declared.token.Token.{Token}
-use Rattle.c_stmt.specs.Programs.{Externals}
+use Rattle.c_syntax.specs.Programs.{Externals}
 use Rattle.c_place.specs.declared.symbol.Symbol.TheVariants as symbol
 use Rattle.c_place.specs.Places.{IsProgram, IsPlace}
 use Rattle.c_place.specs.Recogniser.{fault}

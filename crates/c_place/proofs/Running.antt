@@ -2,7 +2,7 @@
 use Rattle.std.proofs.Common.{◌≡◌, ℕ, zero, suc, ◌+◌, Option, Some, None, List, [], ◌∷◌, ◌++◌, drop, refl, sym, ◌∙◌, ap, append_assoc, add-one}
 use Rattle.c_lex.specs.declared.token.Token.{Token}
 use Rattle.c_lex.specs.declared.token.TokenKind.{TokenKind}
-use Rattle.c_expr.specs.Grammar.{kind_at}
+use Rattle.c_syntax.specs.Grammar.{kind_at}
 use Rattle.c_place.specs.declared.symbol.Symbol.{Symbol}
 use Rattle.c_place.specs.Actions.{Action, takes, skips, fails, before, action}
 use Rattle.c_place.specs.Recogniser.{stack_by, fed, ended, fed_on, fault}

@@ -8,10 +8,10 @@ use Rattle.c_lex.specs.declared.token.Keyword.TheVariants as word
 use Rattle.c_lex.specs.declared.token.Mark.TheVariants as mark
 use Rattle.c_ast.specs.declared.expr.Expr.{Expr}
 use Rattle.c_ast.specs.declared.stmt.Stmt.{Stmt}
-use Rattle.c_stmt.specs.declared.tree.External.{External}
-use Rattle.c_expr.specs.Grammar.{kind_at, Expression, Arguments, Following}
-use Rattle.c_stmt.specs.Statements.{InitDeclarators, ForInit, ForTest, ForStep, Statement, BlockItems}
-use Rattle.c_stmt.specs.Programs.{Externals}
+use Rattle.c_syntax.specs.declared.tree.External.{External}
+use Rattle.c_syntax.specs.Grammar.{kind_at, Expression, Arguments, Following}
+use Rattle.c_syntax.specs.Statements.{InitDeclarators, ForInit, ForTest, ForStep, Statement, BlockItems}
+use Rattle.c_syntax.specs.Programs.{Externals}
 use Rattle.c_place.specs.declared.symbol.Symbol.{Symbol}
 use Rattle.c_place.specs.declared.symbol.Symbol.TheVariants as symbol
 use Rattle.c_place.specs.Actions.{Action, takes, skips, fails}

@@ -4,7 +4,7 @@ use Rattle.std.proofs.Math.Seq.{drop-length}
 use Rattle.std.proofs.lemmas.List.{reverse-append, length-reverse}
 use Rattle.c_lex.specs.declared.token.Token.{Token}
 use Rattle.c_lex.specs.declared.token.TokenKind.{TokenKind}
-use Rattle.c_expr.specs.Grammar.{kind_at}
+use Rattle.c_syntax.specs.Grammar.{kind_at}
 use Rattle.c_place.specs.declared.symbol.Symbol.{Symbol}
 use Rattle.c_place.specs.declared.symbol.Step.TheVariants as step
 use Rattle.c_place.specs.Actions.{Action, takes, skips, fails, action}

@@ -11,10 +11,10 @@ use Rattle.c_lex.specs.declared.token.Mark.TheVariants as mark
 use Rattle.c_ast.specs.declared.expr.BinOp.{BinOp}
 use Rattle.c_ast.specs.declared.expr.Expr.{Expr}
 use Rattle.c_ast.specs.declared.stmt.Stmt.{Stmt}
-use Rattle.c_stmt.specs.declared.tree.Head.{Head}
-use Rattle.c_expr.specs.Grammar.{kind_at, Expression, UpTo, ended, Test}
-use Rattle.c_stmt.specs.Statements.{changing_of, update, step, Change, by_value, by_update, by_step_after, by_step_before, IsParted, InitDeclarator, bare, valued, InitDeclarators, last_name, next_name, ForInit, no_start, start_change, start_names, ForTest, no_test, a_test, ForStep, no_change, a_change, ForHead, Statement, nothing, block, changes, if_alone, if_else, while_loop, do_loop, for_loop, breaks, continues, returns, BlockItem, statement, declaration, BlockItems, closed, item}
-use Rattle.c_expr.proofs.Passing.{whole_begins}
+use Rattle.c_syntax.specs.declared.tree.Head.{Head}
+use Rattle.c_syntax.specs.Grammar.{kind_at, Expression, UpTo, ended, Test}
+use Rattle.c_syntax.specs.Statements.{changing_of, update, step, Change, by_value, by_update, by_step_after, by_step_before, IsParted, InitDeclarator, bare, valued, InitDeclarators, last_name, next_name, ForInit, no_start, start_change, start_names, ForTest, no_test, a_test, ForStep, no_change, a_change, ForHead, Statement, nothing, block, changes, if_alone, if_else, while_loop, do_loop, for_loop, breaks, continues, returns, BlockItem, statement, declaration, BlockItems, closed, item}
+use Rattle.c_syntax.proofs.Passing.{whole_begins}
 use Rattle.c_place.specs.declared.symbol.Symbol.{Symbol}
 use Rattle.c_place.specs.declared.symbol.Symbol.TheVariants as symbol
 use Rattle.c_place.specs.Actions.{takes, skips, before, action, expression_action, called_action, statement_action, else_action, changed_action, items_action, for_test_action}

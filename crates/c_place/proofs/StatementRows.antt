@@ -14,11 +14,11 @@ use Rattle.c_ast.specs.declared.expr.BinOp.TheVariants as binary
 use Rattle.c_ast.specs.declared.expr.Expr.{Expr}
 use Rattle.c_ast.specs.declared.stmt.Stmt.{Stmt}
 use Rattle.c_ast.specs.declared.stmt.Stmt.TheVariants.{Empty, Declare, Assign, If, While, DoWhile, For, Break, Continue, Return, Block}
-use Rattle.c_expr.specs.Grammar.{kind_at, Expression, ended, Test}
-use Rattle.c_stmt.specs.Statements.{changing_of, step, unit, updated, Change, by_value, by_update, by_step_after, by_step_before, IsParted, InitDeclarator, bare, valued, InitDeclarators, last_name, next_name, no_start, start_change, start_names, no_test, a_test, no_change, a_change, Statement, nothing, block, changes, if_alone, if_else, while_loop, do_loop, for_loop, breaks, continues, returns, statement, declaration, closed, item}
-use Rattle.c_stmt.specs.declared.tree.External.{External}
-use Rattle.c_stmt.specs.declared.tree.External.TheVariants.{Defined, Declared}
-use Rattle.c_stmt.specs.Programs.{IsHeading, Parameter, named, nameless, Listed, last_parameter, next_parameter, Parameters, unsaid, void, listed, all_names, names_of, ExternalDeclaration, function, prototype, finished, followed}
+use Rattle.c_syntax.specs.Grammar.{kind_at, Expression, ended, Test}
+use Rattle.c_syntax.specs.Statements.{changing_of, step, unit, updated, Change, by_value, by_update, by_step_after, by_step_before, IsParted, InitDeclarator, bare, valued, InitDeclarators, last_name, next_name, no_start, start_change, start_names, no_test, a_test, no_change, a_change, Statement, nothing, block, changes, if_alone, if_else, while_loop, do_loop, for_loop, breaks, continues, returns, statement, declaration, closed, item}
+use Rattle.c_syntax.specs.declared.tree.External.{External}
+use Rattle.c_syntax.specs.declared.tree.External.TheVariants.{Defined, Declared}
+use Rattle.c_syntax.specs.Programs.{IsHeading, Parameter, named, nameless, Listed, last_parameter, next_parameter, Parameters, unsaid, void, listed, all_names, names_of, ExternalDeclaration, function, prototype, finished, followed}
 use Rattle.c_place.specs.declared.symbol.Symbol.TheVariants as symbol
 use Rattle.c_place.specs.declared.symbol.Naming.{Naming}
 use Rattle.c_place.specs.declared.symbol.Naming.TheVariants.{Full, Partial}

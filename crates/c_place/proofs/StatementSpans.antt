@@ -7,9 +7,9 @@ use Rattle.c_lex.specs.declared.token.Mark.TheVariants as mark
 use Rattle.c_ast.specs.declared.expr.BinOp.{BinOp}
 use Rattle.c_ast.specs.declared.expr.Expr.{Expr}
 use Rattle.c_ast.specs.declared.stmt.Stmt.{Stmt}
-use Rattle.c_expr.specs.Grammar.{kind_at, Expression}
-use Rattle.c_stmt.specs.Statements.{changing_of, update, step, InitDeclarators, Statement, CompoundStatement}
-use Rattle.c_stmt.specs.Programs.{Parameters, names_of}
+use Rattle.c_syntax.specs.Grammar.{kind_at, Expression}
+use Rattle.c_syntax.specs.Statements.{changing_of, update, step, InitDeclarators, Statement, CompoundStatement}
+use Rattle.c_syntax.specs.Programs.{Parameters, names_of}
 use Rattle.c_place.specs.declared.symbol.Naming.{Naming}
 use Rattle.c_place.specs.declared.symbol.Naming.TheVariants.{Full, Partial}
 

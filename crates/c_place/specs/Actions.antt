@@ -6,7 +6,7 @@ use Rattle.c_lex.specs.declared.token.TokenKind.{TokenKind}
 use Rattle.c_lex.specs.declared.token.TokenKind.TheVariants.{Name, Number, Word, Mark}
 use Rattle.c_lex.specs.declared.token.Keyword.TheVariants as word
 use Rattle.c_lex.specs.declared.token.Mark.TheVariants as mark
-use Rattle.c_expr.specs.Grammar.{Operator, binary_of}
+use Rattle.c_syntax.specs.Grammar.{Operator, binary_of}
 use Rattle.c_place.specs.declared.symbol.Symbol.{Symbol}
 use Rattle.c_place.specs.declared.symbol.Symbol.TheVariants as symbol
 use Rattle.c_place.specs.declared.symbol.Naming.{Naming}

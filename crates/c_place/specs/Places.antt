@@ -2,9 +2,9 @@
 use Rattle.std.specs.Prelude.{◌≡◌, ℕ, ◌+◌, ◌≤◌, ◌<◌, Option, Some, None, List, length, take}
 use Rattle.c_lex.specs.declared.token.Token.{Token}
 use Rattle.c_ast.specs.declared.expr.Expr.{Expr}
-use Rattle.c_stmt.specs.declared.tree.External.{External}
-use Rattle.c_expr.specs.Grammar.{Expression}
-use Rattle.c_stmt.specs.Programs.{Externals}
+use Rattle.c_syntax.specs.declared.tree.External.{External}
+use Rattle.c_syntax.specs.Grammar.{Expression}
+use Rattle.c_syntax.specs.Programs.{Externals}
 
 -- the whole list spells an expression, of any height
 abbrev pub IsExpression : List Token → Type 0

@@ -1,6 +1,6 @@
 //! What a token does to the symbols of an expression. What comes last is pushed on the stack first.
 ghost use Rattle.std.specs.Prelude.{◌≡◌, ◌↔◌, IsTrue, IsSome, Some};
-ghost use Rattle.c_expr.specs.Grammar.{binary_of};
+ghost use Rattle.c_syntax.specs.Grammar.{binary_of};
 ghost use Rattle.c_place.specs.Actions.{expression_action, going_action, called_action};
 ghost use Rattle.c_place.specs.Actions.{arguments_action, following_action};
 ghost use Rattle.c_place.specs.Recogniser.{Acts};

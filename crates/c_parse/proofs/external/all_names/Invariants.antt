@@ -1,6 +1,6 @@
 use Rattle.std.proofs.Common.{◌≡◌, ◌++◌, drop}
 use Rattle.std.specs.Option.{option_map}
-use Rattle.c_stmt.specs.Programs.{all_names}
+use Rattle.c_syntax.specs.Programs.{all_names}
 use Rattle.c_parse.proofs.external.all_names.Given as goal
 
 abbrev pub invariant-loop-parameter : goal.invariant-loop-parameter

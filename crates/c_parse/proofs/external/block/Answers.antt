@@ -1,7 +1,7 @@
 use Rattle.std.proofs.Common.{◌<◌, length, arith}
 use Rattle.c_lex.specs.declared.token.TokenKind.TheVariants.{Mark}
 use Rattle.c_lex.specs.declared.token.Mark.TheVariants.{LeftBrace}
-use Rattle.c_expr.proofs.Lookahead.{kind_within}
+use Rattle.c_syntax.proofs.Lookahead.{kind_within}
 use Rattle.c_parse.proofs.external.block.Goals as goal
 
 pub inner-requires-clause-inside : goal.inner-requires-clause-inside

@@ -1,7 +1,7 @@
 use Rattle.std.proofs.Common.{◌+◌, ◌<◌, length, arith}
 use Rattle.c_lex.specs.declared.token.TokenKind.TheVariants.{Mark}
 use Rattle.c_lex.specs.declared.token.Mark.TheVariants.{LeftParen}
-use Rattle.c_expr.proofs.Lookahead.{kind_within}
+use Rattle.c_syntax.proofs.Lookahead.{kind_within}
 use Rattle.c_parse.proofs.external.external.Goals as goal
 
 pub parameters-requires-clause-inside : goal.parameters-requires-clause-inside

@@ -1,8 +1,8 @@
 use Rattle.std.proofs.Common.{◌≡◌, length, Some, None, refl, sym}
-use Rattle.c_stmt.specs.Statements.{CompoundStatement}
-use Rattle.c_stmt.specs.Heights.{list_height}
-use Rattle.c_stmt.specs.Programs.{names_of}
-use Rattle.c_expr.specs.Readers.{Gives, IsNoHigher}
+use Rattle.c_syntax.specs.Statements.{CompoundStatement}
+use Rattle.c_syntax.specs.Heights.{list_height}
+use Rattle.c_syntax.specs.Programs.{names_of}
+use Rattle.c_syntax.specs.Readers.{Gives, IsNoHigher}
 use Rattle.c_parse.proofs.Phrases.{gives_nameless, gives_bodiless, gives_function}
 use Rattle.c_parse.proofs.external.function.Goals as goal
 

@@ -1,6 +1,6 @@
 use Rattle.std.proofs.Common.{◌+◌, ◌<◌, length, refl, arith}
 use Rattle.c_lex.specs.declared.token.TokenKind.TheVariants.{Name}
-use Rattle.c_expr.proofs.Lookahead.{kind_within}
+use Rattle.c_syntax.proofs.Lookahead.{kind_within}
 use Rattle.c_parse.proofs.Lists.{reads_named, reads_nameless}
 use Rattle.c_parse.proofs.external.parameter.Goals as goal
 

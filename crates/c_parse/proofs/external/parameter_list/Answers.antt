@@ -1,6 +1,6 @@
 use Rattle.std.proofs.Common.{length, Some, None, refl}
-use Rattle.c_stmt.specs.Programs.{Parameter}
-use Rattle.c_expr.specs.Readers.{Gives}
+use Rattle.c_syntax.specs.Programs.{Parameter}
+use Rattle.c_syntax.specs.Readers.{Gives}
 use Rattle.c_parse.proofs.Lists.{listing_begins, listing_stops, listing_ends, listing_goes, listing_breaks}
 use Rattle.c_parse.proofs.external.parameter_list.Goals as goal
 

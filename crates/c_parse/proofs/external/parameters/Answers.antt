@@ -1,7 +1,7 @@
 use Rattle.std.proofs.Common.{List, Option, ℕ, length, Some, refl, ap, arith}
-use Rattle.c_stmt.specs.Programs.{Listed, Parameters}
-use Rattle.c_expr.specs.Readers.{Gives}
-use Rattle.c_expr.proofs.Building.{built_some}
+use Rattle.c_syntax.specs.Programs.{Listed, Parameters}
+use Rattle.c_syntax.specs.Readers.{Gives}
+use Rattle.c_syntax.proofs.Building.{built_some}
 use Rattle.c_parse.proofs.Lists.{reads_unsaid, reads_void, builds_listed}
 use Rattle.c_parse.proofs.external.parameters.Goals as goal
 

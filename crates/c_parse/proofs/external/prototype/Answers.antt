@@ -2,7 +2,7 @@ use Rattle.std.proofs.Common.{◌+◌, ◌≤◌, ◌<◌, List, Option, ℕ, le
 use Rattle.c_lex.specs.declared.token.TokenKind.TheVariants.{Mark}
 use Rattle.c_lex.specs.declared.token.Mark.TheVariants.{Semicolon}
 use Rattle.c_ast.specs.Height.{of_option}
-use Rattle.c_expr.proofs.Lookahead.{kind_within}
+use Rattle.c_syntax.proofs.Lookahead.{kind_within}
 use Rattle.c_parse.proofs.Lists.{parameters_short}
 use Rattle.c_parse.proofs.Phrases.{the_prototype, gives_prototype}
 use Rattle.c_parse.proofs.external.prototype.Goals as goal

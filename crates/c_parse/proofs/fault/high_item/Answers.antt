@@ -1,7 +1,7 @@
 use Rattle.std.proofs.Common.{Some, None, length}
-use Rattle.c_expr.specs.Readers.{Gives, IsNoHigher}
-use Rattle.c_stmt.specs.Heights.{list_height}
-use Rattle.c_stmt.specs.Statements.{BlockItem}
+use Rattle.c_syntax.specs.Readers.{Gives, IsNoHigher}
+use Rattle.c_syntax.specs.Heights.{list_height}
+use Rattle.c_syntax.specs.Statements.{BlockItem}
 use Rattle.c_parse.proofs.HighLemmas.{seeking_begins, seeking_goes, seeking_stops}
 use Rattle.c_parse.proofs.fault.high_item.Goals as goal
 

@@ -1,7 +1,7 @@
 use Rattle.std.proofs.Common.{◌+◌, Some, None, length}
 use Rattle.std.proofs.lemmas.Result.{IfOk-weaker}
-use Rattle.c_expr.specs.Readers.{Gives}
-use Rattle.c_stmt.specs.Programs.{Parameters}
+use Rattle.c_syntax.specs.Readers.{Gives}
+use Rattle.c_syntax.specs.Programs.{Parameters}
 use Rattle.c_parse.specs.HighStatements.{IsFirstHigh, IsHigh}
 use Rattle.c_parse.proofs.HighLemmas.{stuck_high, high_heading, high_parameters, high_inside, high_body, high_found}
 use Rattle.c_parse.proofs.fault.high_statement.Goals as goal

@@ -1,4 +1,4 @@
-use Rattle.c_expr.proofs.NamedVariables.{whole_named}
+use Rattle.c_syntax.proofs.NamedVariables.{whole_named}
 use Rattle.c_parse.proofs.PreLemmas.{no_whole}
 use Rattle.c_parse.proofs.precondition.checked_form.Goals as goal
 

@@ -1,6 +1,6 @@
 use Rattle.std.proofs.Common.{suc, None}
-use Rattle.c_expr.specs.Grammar.{Expression, levels}
-use Rattle.c_expr.specs.Readers.{Reads}
+use Rattle.c_syntax.specs.Grammar.{Expression, levels}
+use Rattle.c_syntax.specs.Readers.{Reads}
 use Rattle.c_parse.proofs.PreLemmas.{no_expression}
 use Rattle.c_parse.proofs.precondition.parse_pre.Goals as goal
 

@@ -1,6 +1,6 @@
 use Rattle.std.proofs.Common.{◌≡◌, Some, None}
 use Rattle.c_parse.specs.declared.read.ReadProgram.TheVariants.{Spelled}
-use Rattle.c_expr.specs.Depth.{too_deep}
+use Rattle.c_syntax.specs.Depth.{too_deep}
 use Rattle.c_parse.specs.Answers.{too_many}
 use Rattle.c_parse.specs.Readers.{ReadsAll}
 use Rattle.c_parse.proofs.Names.{program_named}

@@ -1,5 +1,5 @@
 use Rattle.std.proofs.Common.{length, Some, None}
-use Rattle.c_expr.specs.Readers.{Gives}
+use Rattle.c_syntax.specs.Readers.{Gives}
 use Rattle.c_parse.specs.Readers.{LowExternal}
 use Rattle.c_parse.proofs.Phrases.{collecting_begins, collecting_goes, collecting_stops, collecting_ends}
 use Rattle.c_parse.proofs.program.program.Goals as goal

@@ -1,9 +1,0 @@
-pub mod Lookahead
-pub mod Building
-pub mod Chains
-pub mod Choices
-pub mod Operands
-pub mod Passing
-pub mod DelimitedLemmas
-pub mod UniqueExprs
-pub mod NamedVariables

@@ -1,0 +1,16 @@
+pub mod Blocks
+pub mod Building
+pub mod Chains
+pub mod ChangeLemmas
+pub mod Choices
+pub mod Declaring
+pub mod DelimitedLemmas
+pub mod Forms
+pub mod HeadLemmas
+pub mod Lookahead
+pub mod NamedVariables
+pub mod Operands
+pub mod Passing
+pub mod StmtNamedVariables
+pub mod UniqueExprs
+pub mod UniqueStatements

@@ -1,0 +1,32 @@
+//! Reading expressions: the tokens at a place, and the tree of the expression that begins there.
+//!
+//! Each reader answers the one phrase that the tokens spell from its place on within its room, or
+//! nothing. It stops where no operator goes on, so that what it read is all that can be read there.
+//!
+//! Reading statements, and the grammar of statements, functions, prototypes and programs.
+//!
+//! Each reader answers the one phrase that the tokens spell from its place on, none of its
+//! statements higher than its room, or nothing. A block is read item by item, so that `item` can be
+//! called for each of them alone.
+#![tactic(auto)]
+
+mod changes;
+mod declare;
+mod delimited;
+mod depth;
+mod expr;
+mod head;
+mod read;
+mod statement;
+mod token;
+mod tree;
+mod update;
+
+pub use delimited::{test, up_to};
+pub use depth::too_deep;
+pub use expr::whole;
+pub use read::{Read, Span};
+pub use rx_plain::NoMemory;
+pub use statement::{inner, item};
+pub use token::{has_keyword, has_mark, has_name, kind_at};
+pub use tree::External;
