@@ -13,7 +13,7 @@ use Rattle.c_syntax.specs.declared.tree.External.{External}
 use Rattle.c_syntax.specs.Heights.{list_height}
 use Rattle.c_syntax.specs.Statements.{BlockItem, BlockItems}
 use Rattle.c_syntax.specs.Programs.{IsHeading, Parameters, ExternalDeclaration, Externals, finished, followed}
-use Rattle.c_place.specs.Places.{IsProgram as SpellsProgram}
+use Rattle.c_parse.specs.Places.{IsProgram as SpellsProgram}
 use Rattle.c_parse.specs.Programs.{IsLow}
 use Rattle.c_parse.specs.HighStatements.{LeadingItems, no_items, one_more, IsFirstHigh, IsHigh}
 use Rattle.c_parse.specs.Readers.{IsStuck, GoesHigh, Seeking}

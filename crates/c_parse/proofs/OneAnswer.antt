@@ -4,8 +4,8 @@ use Rattle.c_lex.specs.declared.token.Token.{Token}
 use Rattle.c_ast.specs.declared.expr.Expr.{Expr}
 use Rattle.c_ast.specs.RowForms.{is_row_form}
 use Rattle.c_ast.specs.declared.program.Program.{Program}
-use Rattle.c_place.proofs.OnePlace.{one_place}
-use Rattle.c_place.specs.Places.{IsProgram as SpellsProgram, IsExpression as SpellsExpression}
+use Rattle.c_parse.proofs.OnePlace.{one_place}
+use Rattle.c_parse.specs.Places.{IsProgram as SpellsProgram, IsExpression as SpellsExpression}
 use Rattle.c_parse.specs.declared.error.ParseEnd.{ParseEnd}
 use Rattle.c_parse.specs.declared.error.ParseEnd.TheVariants.{Syntax, TooDeep, TooManyParams, NoMemory, NotARowForm}
 use Rattle.c_parse.specs.Answers.{Answers, IsSyntaxError, OneAnswer, too_many}

@@ -8,7 +8,7 @@ use Rattle.c_ast.specs.declared.program.Program.{Program}
 use Rattle.c_parse.specs.declared.error.ParseEnd.{ParseEnd}
 use Rattle.c_parse.specs.declared.error.ParseEnd.TheVariants.{Syntax, TooDeep, TooManyParams, NoMemory, NotARowForm}
 use Rattle.c_syntax.specs.Depth.{too_deep}
-use Rattle.c_place.specs.Places.{IsLost, IsProgram as SpellsProgram}
+use Rattle.c_parse.specs.Places.{IsLost, IsProgram as SpellsProgram}
 use Rattle.c_parse.specs.Programs.{Spells}
 use Rattle.c_parse.specs.HighStatements.{IsHigh}
 

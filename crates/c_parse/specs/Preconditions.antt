@@ -8,7 +8,7 @@ use Rattle.c_parse.specs.declared.error.ParseEnd.{ParseEnd}
 use Rattle.c_parse.specs.declared.error.ParseEnd.TheVariants.{Syntax, TooDeep, TooManyParams, NoMemory, NotARowForm}
 use Rattle.c_syntax.specs.Grammar.{Expression}
 use Rattle.c_syntax.specs.Depth.{too_deep}
-use Rattle.c_place.specs.Places.{IsLost, IsExpression as SpellsExpression}
+use Rattle.c_parse.specs.Places.{IsLost, IsExpression as SpellsExpression}
 
 -- the whole list of tokens spells the expression, no higher than 200
 abbrev pub IsExpression : List Token → Expr → Type 0

@@ -1,15 +1,15 @@
 //! The place of a syntax error.
 ghost use Rattle.std.specs.Prelude.{◌≡◌, ◌≤◌, ◌<◌, ◌^◌, None, Err, length, IfOk};
 ghost use Rattle.c_syntax.specs.Depth.{too_deep};
-ghost use Rattle.c_place.specs.Places.{IsProgram as SpellsProgram};
+ghost use Rattle.c_parse.specs.Places.{IsProgram as SpellsProgram};
 ghost use Rattle.c_parse.specs.Answers.{Answers, IsSyntaxError};
 ghost use Rattle.c_parse.specs.HighStatements.{IsFirstHigh, IsHigh};
 ghost use Rattle.c_parse.specs.Readers.{GoesHigh, IsStuck};
 
 use crate::error::ParseEnd;
 use crate::external::{MAX_HEIGHT, parameters};
+use crate::recogniser::program_fault;
 use c_lex::Token;
-use c_place::program_fault;
 use c_syntax::item;
 use rx_plain::NoMemory;
 use std::alloc::Global;

@@ -12,9 +12,9 @@ ghost use Rattle.c_parse.specs.Preconditions.{IsExpression, OneExpression, OnePr
 ghost use Rattle.c_syntax.specs.Readers.{Reads};
 
 use crate::error::ParseEnd;
+use crate::recogniser::expression_fault;
 use c_ast::{BinOp, Expr, UnOp};
 use c_lex::Token;
-use c_place::expression_fault;
 use c_syntax::{Read, too_deep, whole};
 use std::alloc::Global;
 
