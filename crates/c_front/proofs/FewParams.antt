@@ -8,7 +8,7 @@ use Rattle.c_ast.specs.declared.program.Program.{Program}
 use Rattle.c_parse.specs.Answers.{long_function, long_prototype, earlier, too_many}
 use Rattle.c_ast.specs.declared.program.Resolved.{Resolved}
 use Rattle.c_lex.specs.declared.token.Token.{Token}
-use Rattle.c_lookup.specs.Expressions.{count_at}
+use Rattle.c_names.specs.Expressions.{count_at}
 use Rattle.c_scope.specs.Programs.{scope_of}
 use Rattle.c_front.specs.Steps.{HaveFewParams}
 use Rattle.c_front.proofs.FrontEndLaws.{counts_at}

@@ -7,7 +7,7 @@ use Rattle.c_ast.specs.declared.program.Function.{Function}
 use Rattle.c_ast.specs.declared.program.Program.{Program}
 use Rattle.c_ast.specs.declared.program.Resolved.{Resolved}
 use Rattle.c_names.specs.Spellings.{spellings, spelling_at}
-use Rattle.c_lookup.specs.Expressions.{count_at}
+use Rattle.c_names.specs.Expressions.{count_at}
 use Rattle.c_scope.specs.Programs.{scope_of}
 use Rattle.c_front.specs.declared.pairs.TwoFunctions.{TwoFunctions}
 use Rattle.c_front.specs.declared.refusals.Refusal.TheVariants.{NoFunction, Arity}

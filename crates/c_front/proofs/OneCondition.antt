@@ -6,9 +6,9 @@ use Rattle.c_ast.specs.declared.expr.Expr.{Expr}
 use Rattle.c_parse.proofs.OneAnswer.{one_pre_refusal, spelled_unrefused_pre}
 use Rattle.c_parse.proofs.PreLemmas.{expression_unique}
 use Rattle.c_parse.proofs.Unique.{program_unique}
-use Rattle.c_lookup.specs.Preconditions.{resolved_pre}
-use Rattle.c_lookup.specs.Steps.{Checked}
-use Rattle.c_lookup.specs.declared.error.ScopeEnd.TheVariants as Wrong
+use Rattle.c_names.specs.Preconditions.{resolved_pre}
+use Rattle.c_names.specs.Steps.{Checked}
+use Rattle.c_names.specs.declared.error.ScopeEnd.TheVariants as Wrong
 use Rattle.c_front.specs.declared.pairs.Compared.{Compared}
 use Rattle.c_front.specs.declared.refusals.Refusal.{Refusal}
 use Rattle.c_front.specs.declared.refusals.Refusal.TheVariants.{PreLex, PreName, PreParse}

@@ -9,9 +9,9 @@ use Rattle.c_ast.specs.declared.program.Function.{Function}
 use Rattle.c_parse.specs.declared.error.ParseEnd.{ParseEnd}
 use Rattle.c_parse.specs.declared.error.ParseEnd.TheVariants as Flaw
 use Rattle.c_parse.specs.Preconditions.{PreAnswers}
-use Rattle.c_lookup.specs.declared.error.ScopeEnd.TheVariants as Wrong
-use Rattle.c_lookup.specs.Preconditions.{resolved_pre}
-use Rattle.c_lookup.specs.Steps.{Checked}
+use Rattle.c_names.specs.declared.error.ScopeEnd.TheVariants as Wrong
+use Rattle.c_names.specs.Preconditions.{resolved_pre}
+use Rattle.c_names.specs.Steps.{Checked}
 use Rattle.c_front.specs.declared.pairs.Compared.{Compared}
 use Rattle.c_front.specs.declared.pairs.TwoFunctions.{TwoFunctions}
 use Rattle.c_front.specs.declared.refusals.Refusal.{Refusal}

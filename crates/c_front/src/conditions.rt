@@ -6,12 +6,12 @@ ghost use Rattle.c_front.specs.Conditions.{IsResolved, condition_stage};
 ghost use Rattle.c_front.specs.FrontEnd.{IsProgram, IsSayableNext};
 ghost use Rattle.c_front.specs.Stages.{IfGoes};
 ghost use Rattle.c_front.specs.Steps.{HaveFewParams, bytes_of};
-ghost use Rattle.c_lookup.specs.Preconditions.{resolved_pre};
+ghost use Rattle.c_names.specs.Preconditions.{resolved_pre};
 
 use crate::{Compared, NamedText, Next, PreText, ProgramText, Refusal};
 use c_ast::{Expr, Function};
 use c_lex::{LexEnd, Token, tokens};
-use c_lookup::resolve_pre;
+use c_names::resolve_pre;
 use c_parse::{ParseEnd, parse_pre};
 use c_scope::ScopeEnd;
 use rx_plain::{Items, NoMemory};

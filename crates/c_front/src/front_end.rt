@@ -6,7 +6,7 @@
 //! tokens, grammar, scope, the two names, their numbers of parameters.
 ghost use Rattle.std.specs.Prelude.{◌≡◌, ◌<◌, ◌≤◌, ◌^◌, ⊤, Ok, length, slice_get, IfOk, MatchOption};
 ghost use Rattle.c_names.specs.Spellings.{IsWithin};
-ghost use Rattle.c_lookup.specs.Expressions.{count_at};
+ghost use Rattle.c_names.specs.Expressions.{count_at};
 ghost use Rattle.c_scope.specs.Programs.{scope_of};
 ghost use Rattle.c_front.specs.Front as spec;
 ghost use Rattle.c_front.specs.Front.{front};
@@ -19,7 +19,7 @@ use crate::conditions::condition;
 use crate::{Compared, NamedText, Next, ProgramText, Refusal, ResolvedText, TwoFunctions};
 use c_ast::Function;
 use c_lex::{LexEnd, Token, tokens};
-use c_lookup::find_function;
+use c_names::find_function;
 use c_parse::{ParseEnd, parse};
 use c_scope::{ScopeEnd, resolve};
 use rx_plain::{Items, NoMemory};

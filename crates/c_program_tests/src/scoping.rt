@@ -1,7 +1,7 @@
 //! Programs and preconditions with their names resolved.
 use crate::texts::{Parsed, first_of, parse_text};
 use c_ast::Expr;
-use c_lookup::{find_function, resolve_pre};
+use c_names::{find_function, resolve_pre};
 use c_parse::parse_pre;
 use c_scope::resolve;
 use c_trees::{Lexed, lex_text, put_expr, put_functions};

@@ -10,10 +10,10 @@ use Rattle.c_names.specs.Names.{names_of}
 use Rattle.c_scope.specs.Definitions.{definition_fault}
 use Rattle.c_scope.specs.Functions.{slots_from, with_params, resolved_function, resolved_functions}
 use Rattle.c_scope.specs.Programs.{assigned_fault, after_definitions, after_names, scope_of}
-use Rattle.c_lookup.specs.Slots.{Scope, empty_scope}
+use Rattle.c_names.specs.LookupSlots.{Scope, empty_scope}
 use Rattle.c_scope.specs.Statements.{Scoped, in_order, resolved_stmt}
-use Rattle.c_lookup.specs.Steps.{Checked, and_then, sequence}
-use Rattle.c_lookup.specs.declared.error.ScopeEnd.{ScopeEnd}
+use Rattle.c_names.specs.Steps.{Checked, and_then, sequence}
+use Rattle.c_names.specs.declared.error.ScopeEnd.{ScopeEnd}
 
 -- how many parameters a function has, where there is one
 abbrev pub counted : Option Function → Option ℕ

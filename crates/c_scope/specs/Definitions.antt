@@ -4,9 +4,9 @@ use Rattle.std.specs.Prelude.{ℕ, ◌+◌, Bool, false, not, nat_eq, nat_lt, Li
 use Rattle.c_ast.specs.declared.program.Function.{Function}
 use Rattle.c_ast.specs.declared.program.Prototype.{Prototype}
 use Rattle.c_names.specs.Names.{name_at}
-use Rattle.c_lookup.specs.Expressions.{definition_of, count_at}
-use Rattle.c_lookup.specs.declared.error.ScopeEnd.{ScopeEnd}
-use Rattle.c_lookup.specs.declared.error.ScopeEnd.TheVariants.{TwiceDeclared, WrongCount}
+use Rattle.c_names.specs.Expressions.{definition_of, count_at}
+use Rattle.c_names.specs.declared.error.ScopeEnd.{ScopeEnd}
+use Rattle.c_names.specs.declared.error.ScopeEnd.TheVariants.{TwiceDeclared, WrongCount}
 
 -- whether another definition of a name is in front of the one at this place
 abbrev pub is_second : ℕ → Option ℕ → Bool

@@ -2,9 +2,9 @@
 use Rattle.std.specs.Prelude.{ℕ, ◌+◌, ◌≤◌, false, List, [], ◌∷◌, length, map, Ok}
 use Rattle.c_ast.specs.declared.program.Function.{Function}
 use Rattle.c_names.specs.Names.{name_at}
-use Rattle.c_lookup.specs.Slots.{Scope, empty_scope, declare}
+use Rattle.c_names.specs.LookupSlots.{Scope, empty_scope, declare}
 use Rattle.c_scope.specs.Statements.{in_order, resolved_stmt}
-use Rattle.c_lookup.specs.Steps.{Checked, and_then, sequence}
+use Rattle.c_names.specs.Steps.{Checked, and_then, sequence}
 
 -- as few parameters as there may be slots
 abbrev pub HasFewParams : Function → Type 0

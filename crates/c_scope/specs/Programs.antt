@@ -12,9 +12,9 @@ use Rattle.c_assigned.specs.declared.fault.Fault.TheVariants as Flaw
 use Rattle.c_names.specs.Names.{names_of}
 use Rattle.c_scope.specs.Definitions.{definition_fault}
 use Rattle.c_scope.specs.Functions.{resolved_functions}
-use Rattle.c_lookup.specs.Steps.{Checked, and_then}
-use Rattle.c_lookup.specs.declared.error.ScopeEnd.{ScopeEnd}
-use Rattle.c_lookup.specs.declared.error.ScopeEnd.TheVariants.{MayBeUnset, MayNotReturn}
+use Rattle.c_names.specs.Steps.{Checked, and_then}
+use Rattle.c_names.specs.declared.error.ScopeEnd.{ScopeEnd}
+use Rattle.c_names.specs.declared.error.ScopeEnd.TheVariants.{MayBeUnset, MayNotReturn}
 
 -- what a fault of assignment is called here
 abbrev pub scope_end_of : Fault → ScopeEnd

@@ -7,11 +7,11 @@ use Rattle.c_ast.specs.declared.stmt.Stmt.TheOpen.{Stmt-F}
 use Rattle.c_ast.specs.declared.stmt.Stmt.TheFolds.{fold-Stmt}
 use Rattle.c_ast.specs.declared.program.Function.{Function}
 use Rattle.c_names.specs.Names.{name_at}
-use Rattle.c_lookup.specs.Steps.{Checked, and_then, optional}
-use Rattle.c_lookup.specs.Slots.{Scope, inner_scope, declare}
-use Rattle.c_lookup.specs.Expressions.{slot_at, resolved_expr}
-use Rattle.c_lookup.specs.declared.error.ScopeEnd.{ScopeEnd}
-use Rattle.c_lookup.specs.declared.error.ScopeEnd.TheVariants.{StrayBreak, NoMemory}
+use Rattle.c_names.specs.Steps.{Checked, and_then, optional}
+use Rattle.c_names.specs.LookupSlots.{Scope, inner_scope, declare}
+use Rattle.c_names.specs.Expressions.{slot_at, resolved_expr}
+use Rattle.c_names.specs.declared.error.ScopeEnd.{ScopeEnd}
+use Rattle.c_names.specs.declared.error.ScopeEnd.TheVariants.{StrayBreak, NoMemory}
 
 -- what was resolved, and the scope after it
 pub record Scoped (A : Type 0) : Type 0 where

@@ -5,7 +5,7 @@ ghost use Rattle.c_scope.specs.Programs as spec;
 
 use c_assigned::{Fault, fault_of};
 use c_ast::Function;
-use c_lookup::ScopeEnd;
+use c_names::ScopeEnd;
 use rx_plain::NoMemory;
 use std::alloc::Global;
 

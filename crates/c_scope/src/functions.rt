@@ -2,13 +2,13 @@
 ghost use Rattle.std.specs.Prelude.{◌≡◌, ◌≤◌, length, All, IfOk, OnOk};
 ghost use Rattle.c_scope.specs.Functions as spec;
 ghost use Rattle.c_scope.specs.Functions.{HasFewParams, slots_from, with_params};
-ghost use Rattle.c_lookup.specs.Slots.{GivesScope};
-ghost use Rattle.c_lookup.specs.Steps.{Gives};
-ghost use Rattle.c_lookup.specs.Views.{model_of};
+ghost use Rattle.c_names.specs.LookupSlots.{GivesScope};
+ghost use Rattle.c_names.specs.Steps.{Gives};
+ghost use Rattle.c_names.specs.Views.{model_of};
 
 use crate::statements::in_order;
 use c_ast::Function;
-use c_lookup::{Definitions, Scope, ScopeEnd};
+use c_names::{Definitions, Scope, ScopeEnd};
 use rx_plain::Items;
 use std::alloc::Global;
 

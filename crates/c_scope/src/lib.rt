@@ -14,6 +14,6 @@ mod program;
 mod prototypes;
 mod statements;
 
-pub use c_lookup::ScopeEnd;
+pub use c_names::ScopeEnd;
 pub use program::resolve;
 pub use rx_plain::NoMemory;

@@ -6,15 +6,14 @@ ghost use Rattle.c_scope.specs.Functions.{HasFewParams};
 ghost use Rattle.c_scope.specs.Programs as spec;
 ghost use Rattle.c_scope.specs.Programs.{scope_of};
 ghost use Rattle.c_scope.specs.Definitions as definition_spec;
-ghost use Rattle.c_lookup.specs.Steps.{Gives};
+ghost use Rattle.c_names.specs.Steps.{Gives};
 
 use crate::assigned::assigned_fault;
 use crate::functions::resolve_functions;
 use crate::prototypes::definition_fault;
 use c_ast::{Function, Program, Resolved};
 use c_lex::Token;
-use c_lookup::{Definitions, ScopeEnd, places_of};
-use c_names::names_of;
+use c_names::{Definitions, ScopeEnd, names_of, places_of};
 use rx_plain::Items;
 use std::alloc::Global;
 

@@ -3,11 +3,10 @@
 ghost use Rattle.std.specs.Prelude.{◌≡◌, ◌<◌, ◌^◌, length};
 ghost use Rattle.c_names.specs.Names as name_spec;
 ghost use Rattle.c_scope.specs.Definitions as spec;
-ghost use Rattle.c_lookup.specs.Expressions.{definition_of};
+ghost use Rattle.c_names.specs.Expressions.{definition_of};
 
 use c_ast::Prototype;
-use c_lookup::{Definitions, ScopeEnd, count_at, find_definition};
-use c_names::name_at;
+use c_names::{Definitions, ScopeEnd, count_at, find_definition, name_at};
 
 // Whether another definition of the name of this token is in front of this place.
 fn is_second(definitions: &Definitions, token: u32, place: u32) -> bool

@@ -4,13 +4,13 @@ ghost use Rattle.std.specs.Prelude.{Err, Ok};
 ghost use Rattle.c_ast.specs.declared.stmt.Stmt.TheVariants.{If, While, DoWhile, For};
 ghost use Rattle.c_scope.specs.Statements as spec;
 ghost use Rattle.c_scope.specs.Statements.{GivesScoped, resolved_stmt};
-ghost use Rattle.c_lookup.specs.Slots.{inner_scope};
-ghost use Rattle.c_lookup.specs.Steps.{Gives, and_then};
-ghost use Rattle.c_lookup.specs.Views.{model_of};
-ghost use Rattle.c_lookup.specs.declared.error.ScopeEnd.TheVariants.{StrayBreak};
+ghost use Rattle.c_names.specs.LookupSlots.{inner_scope};
+ghost use Rattle.c_names.specs.Steps.{Gives, and_then};
+ghost use Rattle.c_names.specs.Views.{model_of};
+ghost use Rattle.c_names.specs.declared.error.ScopeEnd.TheVariants.{StrayBreak};
 
 use c_ast::{Expr, Stmt};
-use c_lookup::{Definitions, Scope, ScopeEnd, resolve_expr, slot_at};
+use c_names::{Definitions, Scope, ScopeEnd, resolve_expr, slot_at};
 use rx_plain::{Boxed, Items, both};
 use std::alloc::Global;
 

@@ -21,9 +21,9 @@ use Rattle.c_assigned.specs.Sets.{Assigned, is_readable, first_unset}
 use Rattle.c_assigned.proofs.Reading.{unset-append}
 use Rattle.c_names.specs.Names.{name_at}
 use Rattle.c_names.specs.Slots.{slot_of}
-use Rattle.c_lookup.specs.Expressions.{ok_or_unknown, count_at, callee_of, slot_at, expr_level, resolved_expr}
-use Rattle.c_lookup.specs.Steps.{Checked, and_then, sequence}
-use Rattle.c_lookup.specs.declared.error.ScopeEnd.TheVariants.{WrongCount}
+use Rattle.c_names.specs.Expressions.{ok_or_unknown, count_at, callee_of, slot_at, expr_level, resolved_expr}
+use Rattle.c_names.specs.Steps.{Checked, and_then, sequence}
+use Rattle.c_names.specs.declared.error.ScopeEnd.TheVariants.{WrongCount}
 use Rattle.c_scope.proofs.ResolvedPrograms.{counted}
 use Rattle.c_scoped.proofs.Steps.{same_Ok, no_fault, found, none_first, none_second}
 use Rattle.c_scoped.proofs.Places.{definition_within}

@@ -9,8 +9,8 @@ use Rattle.c_lex.specs.declared.token.Token.{Token}
 use Rattle.c_ast.specs.declared.program.Function.{Function}
 use Rattle.c_names.specs.Slots.{slot_from, slot_of}
 use Rattle.c_names.specs.Spellings.{spellings, spelling_at, place_of}
-use Rattle.c_lookup.specs.Expressions.{definition_of}
-use Rattle.c_lookup.specs.Places.{place_of_function}
+use Rattle.c_names.specs.Expressions.{definition_of}
+use Rattle.c_names.specs.Places.{place_of_function}
 
 -- the last slot of a name, where the rest of the list has it below a bound
 last_slot : (i k m : ℕ) (rest : Option ℕ) (here : Bool) →

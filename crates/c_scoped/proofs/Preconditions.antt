@@ -16,10 +16,10 @@ use Rattle.c_ast.specs.declared.expr.Expr.TheVariants.{Lit, Var, Unary, Binary, 
 use Rattle.c_ast.specs.declared.expr.Expr.TheOpen.{Expr-F}
 use Rattle.c_ast.specs.declared.expr.Expr.TheFolds.{fold-Expr, map-Expr, fold-roll-Expr, ind-Expr}
 use Rattle.c_ast.specs.declared.expr.Expr.TheViews.{roll-Expr}
-use Rattle.c_lookup.specs.Expressions.{ok_or_unknown}
-use Rattle.c_lookup.specs.Preconditions.{pre_level, param_of, resolved_pre}
-use Rattle.c_lookup.specs.Steps.{Checked, and_then}
-use Rattle.c_lookup.specs.declared.error.ScopeEnd.TheVariants.{UnknownName}
+use Rattle.c_names.specs.Expressions.{ok_or_unknown}
+use Rattle.c_names.specs.Preconditions.{pre_level, param_of, resolved_pre}
+use Rattle.c_names.specs.Steps.{Checked, and_then}
+use Rattle.c_names.specs.declared.error.ScopeEnd.TheVariants.{UnknownName}
 use Rattle.c_scoped.proofs.Steps.{same_Ok, no_fault, found}
 use Rattle.c_scoped.proofs.Places.{parameter_within}
 use Rattle.c_scoped.proofs.Expressions.{known_is}

@@ -21,11 +21,11 @@ use Rattle.c_names.specs.Names.{name_at, names_of}
 use Rattle.c_scope.specs.Definitions.{definition_fault}
 use Rattle.c_scope.specs.Functions.{slots_from, with_params, resolved_function, resolved_functions}
 use Rattle.c_scope.specs.Programs.{fault_or, assigned_fault, after_definitions, after_names, scope_of}
-use Rattle.c_lookup.specs.Slots.{Scope, empty_scope}
+use Rattle.c_names.specs.LookupSlots.{Scope, empty_scope}
 use Rattle.c_scope.specs.Statements as Scoping
 use Rattle.c_scope.specs.Statements.{Scoped, resolved_stmt}
-use Rattle.c_lookup.specs.Steps.{sequence}
-use Rattle.c_lookup.specs.declared.error.ScopeEnd.{ScopeEnd}
+use Rattle.c_names.specs.Steps.{sequence}
+use Rattle.c_names.specs.declared.error.ScopeEnd.{ScopeEnd}
 use Rattle.c_scope.proofs.ResolvedPrograms.{counted, counts_kept, numbered_length}
 use Rattle.c_scoped.proofs.Steps.{same_Ok, no_fault, found}
 use Rattle.c_scoped.proofs.Statements.{declared_names, list_kept}

@@ -18,14 +18,14 @@ use Rattle.c_assigned.specs.Flows as Assigning
 use Rattle.c_assigned.specs.Flows.{After, Transfer, fall_through, stmt_flow, unset_in}
 use Rattle.c_assigned.specs.Sets.{Assigned}
 use Rattle.c_names.specs.Names.{name_at, names_of}
-use Rattle.c_lookup.specs.Expressions.{slot_at, expr_level, resolved_expr}
+use Rattle.c_names.specs.Expressions.{slot_at, expr_level, resolved_expr}
 use Rattle.c_scope.specs.Functions.{resolved_functions}
 use Rattle.c_scope.specs.Programs.{scope_of}
-use Rattle.c_lookup.specs.Slots.{Scope}
+use Rattle.c_names.specs.LookupSlots.{Scope}
 use Rattle.c_scope.specs.Statements as Scoping
 use Rattle.c_scope.specs.Statements.{Scoped, Resolver, pure, resolved_stmt}
-use Rattle.c_lookup.specs.Steps.{Checked, and_then}
-use Rattle.c_lookup.specs.declared.error.ScopeEnd.TheVariants.{MayBeUnset}
+use Rattle.c_names.specs.Steps.{Checked, and_then}
+use Rattle.c_names.specs.declared.error.ScopeEnd.TheVariants.{MayBeUnset}
 use Rattle.c_scoped.proofs.Programs.{resolved_is_scoped}
 
 module _ (names : List ℕ) (functions : List Function) where

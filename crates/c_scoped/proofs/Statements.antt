@@ -19,12 +19,12 @@ use Rattle.c_assigned.specs.Flows as Assigning
 use Rattle.c_assigned.specs.Flows.{Transfer, stmt_flow, unset_in, unset_in_test}
 use Rattle.c_names.specs.Names.{name_at}
 use Rattle.c_names.specs.Slots.{slot_of}
-use Rattle.c_lookup.specs.Expressions.{resolved_expr}
-use Rattle.c_lookup.specs.Slots.{Scope, inner_scope, is_declared, declare}
+use Rattle.c_names.specs.Expressions.{resolved_expr}
+use Rattle.c_names.specs.LookupSlots.{Scope, inner_scope, is_declared, declare}
 use Rattle.c_scope.specs.Statements as Scoping
 use Rattle.c_scope.specs.Statements.{Scoped, Resolver, pure, only_in_loops, resolved_optional, resolved_stmt}
-use Rattle.c_lookup.specs.Steps.{Checked, and_then, optional}
-use Rattle.c_lookup.specs.declared.error.ScopeEnd.{ScopeEnd}
+use Rattle.c_names.specs.Steps.{Checked, and_then, optional}
+use Rattle.c_names.specs.declared.error.ScopeEnd.{ScopeEnd}
 use Rattle.c_scope.proofs.ResolvedPrograms.{counted}
 use Rattle.c_scoped.proofs.Steps.{same_Ok, no_fault, found, none_first, none_second}
 use Rattle.c_scoped.proofs.Places.{slot_in_scope}

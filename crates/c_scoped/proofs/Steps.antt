@@ -1,8 +1,8 @@
 -- Steps of which each found something, and tests of which each passed.
 use Rattle.std.proofs.Common.{◌≡◌, ℕ, Option, Some, None, Ok, Err, refl}
 use Rattle.std.specs.Option.{option_or}
-use Rattle.c_lookup.specs.Steps.{Checked, and_then}
-use Rattle.c_lookup.specs.declared.error.ScopeEnd.{ScopeEnd}
+use Rattle.c_names.specs.Steps.{Checked, and_then}
+use Rattle.c_names.specs.declared.error.ScopeEnd.{ScopeEnd}
 
 -- what was found is one thing
 pub same_Ok : {A : Type 0} (x y : A) → ◌≡◌ {A = Checked A} (Ok x) (Ok y) → x ≡ y

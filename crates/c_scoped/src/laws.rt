@@ -11,9 +11,9 @@ ghost use Rattle.c_ast.specs.declared.expr.Expr.{Expr};
 ghost use Rattle.c_ast.specs.declared.program.Function.{Function};
 ghost use Rattle.c_ast.specs.declared.program.Program.{Program};
 ghost use Rattle.c_ast.specs.declared.program.Resolved.{Resolved};
-ghost use Rattle.c_lookup.specs.Expressions.{definition_of};
-ghost use Rattle.c_lookup.specs.Places.{place_of_function};
-ghost use Rattle.c_lookup.specs.Preconditions.{resolved_pre};
+ghost use Rattle.c_names.specs.Expressions.{definition_of};
+ghost use Rattle.c_names.specs.Places.{place_of_function};
+ghost use Rattle.c_names.specs.Preconditions.{resolved_pre};
 ghost use Rattle.c_scope.specs.Programs.{scope_of};
 
 /// The slots and the calls of a program are in order once its names are resolved: each variable

@@ -15,7 +15,7 @@ use Rattle.c_counted.specs.declared.outcomes.Outcome.{Outcome}
 use Rattle.c_refute.specs.Laws as found
 use Rattle.c_refute.specs.Laws.{meant}
 use Rattle.c_refute.specs.Points.{IsFirstDifference, arity_at, finding_at}
-use Rattle.c_lookup.specs.Expressions.{count_at}
+use Rattle.c_names.specs.Expressions.{count_at}
 use Rattle.rx_agreement.proofs.Preconditions.{means_its_rows}
 use Rattle.rx_command.specs.Commands.{Functions}
 use Rattle.rx_cli.specs.Agreement.{Agrees, AreAlike, Meets}

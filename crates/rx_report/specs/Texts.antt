@@ -4,8 +4,8 @@ use Rattle.c_lex.specs.declared.error.LexEnd.{LexEnd}
 use Rattle.c_lex.specs.declared.error.LexEnd.TheVariants as Fault
 use Rattle.c_parse.specs.declared.error.ParseEnd.{ParseEnd}
 use Rattle.c_parse.specs.declared.error.ParseEnd.TheVariants as Flaw
-use Rattle.c_lookup.specs.declared.error.ScopeEnd.{ScopeEnd}
-use Rattle.c_lookup.specs.declared.error.ScopeEnd.TheVariants as Wrong
+use Rattle.c_names.specs.declared.error.ScopeEnd.{ScopeEnd}
+use Rattle.c_names.specs.declared.error.ScopeEnd.TheVariants as Wrong
 use Rattle.c_front.specs.declared.refusals.Refusal.TheVariants as Why
 use Rattle.c_front.specs.FrontEnd.{IsSayable}
 use Rattle.rx_check.specs.declared.check_end.CheckEnd.{CheckEnd}

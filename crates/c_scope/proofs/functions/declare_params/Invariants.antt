@@ -1,6 +1,6 @@
 use Rattle.std.proofs.Common.{◌≡◌, ◌+◌, ◌++◌, drop, length}
 use Rattle.c_scope.specs.Functions.{slots_from, with_params}
-use Rattle.c_lookup.specs.Views.{model_of}
+use Rattle.c_names.specs.Views.{model_of}
 use Rattle.c_scope.proofs.functions.declare_params.Given as goal
 
 -- the parameters that are left lead to the scope of all, and to their slots

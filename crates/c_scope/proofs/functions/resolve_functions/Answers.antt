@@ -1,8 +1,8 @@
 -- One function more: it is resolved, and has few parameters.
 use Rattle.std.proofs.Common.{◌∙◌, ap, ◌+◌, map, drop}
 use Rattle.c_scope.specs.Functions.{HasFewParams, resolved_function, resolved_functions}
-use Rattle.c_lookup.specs.Steps.{sequence}
-use Rattle.c_lookup.proofs.Lists.{onto, found-turn, hold-more}
+use Rattle.c_names.specs.Steps.{sequence}
+use Rattle.c_names.proofs.Lists.{onto, found-turn, hold-more}
 use Rattle.c_scope.proofs.functions.resolve_functions.Goals as goal
 
 pub loop-function-preserved : goal.loop-function-preserved

@@ -1,8 +1,8 @@
 use Rattle.std.proofs.Common.{◌≡◌, ℕ, ◌<◌, map, drop, get_or}
 use Rattle.c_ast.specs.declared.program.Function.{Function}
 use Rattle.c_scope.specs.Functions.{HasFewParams, resolved_function}
-use Rattle.c_lookup.specs.Steps.{sequence}
-use Rattle.c_lookup.proofs.Lists.{onto}
+use Rattle.c_names.specs.Steps.{sequence}
+use Rattle.c_names.proofs.Lists.{onto}
 use Rattle.c_scope.proofs.functions.resolve_functions.Given as goal
 
 -- what was resolved, and the functions that are left, give what all functions give; and those that

@@ -2,7 +2,7 @@ use Rattle.std.proofs.Common.{◌≡◌, ◌+◌, ◌*◌, map, drop}
 use Rattle.c_ast.proofs.stmt.Stmt.TheLaws.{the_size}
 use Rattle.c_ast.specs.declared.stmt.Stmt.TheVariants.{If, While, DoWhile, For}
 use Rattle.c_scope.specs.Statements.{in_order, resolved_stmt}
-use Rattle.c_lookup.specs.Views.{model_of}
+use Rattle.c_names.specs.Views.{model_of}
 use Rattle.c_scope.proofs.Sequences.{behind}
 use Rattle.c_scope.proofs.statements.+statements.Given as goal
 

@@ -1,8 +1,8 @@
 use Rattle.std.proofs.Common.{◌≡◌, map, drop}
-use Rattle.c_lookup.specs.Expressions.{resolved_expr}
-use Rattle.c_lookup.specs.Steps.{sequence}
-use Rattle.c_lookup.proofs.Lists.{onto}
-use Rattle.c_lookup.proofs.expressions.+expressions.Given as goal
+use Rattle.c_names.specs.Expressions.{resolved_expr}
+use Rattle.c_names.specs.Steps.{sequence}
+use Rattle.c_names.proofs.Lists.{onto}
+use Rattle.c_names.proofs.expressions.+expressions.Given as goal
 
 -- what was resolved, and the arguments that are left, give what all arguments give
 abbrev pub invariant-resolve_arguments-loop-argument :

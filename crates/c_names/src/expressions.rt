@@ -2,15 +2,16 @@
 ghost use Rattle.std.specs.Prelude.{◌≡◌, length, map, slice_get};
 ghost use Rattle.c_names.specs.Names as name_spec;
 ghost use Rattle.c_names.specs.Slots as slot_spec;
-ghost use Rattle.c_lookup.specs.Expressions as spec;
-ghost use Rattle.c_lookup.specs.Expressions.{resolved_expr};
-ghost use Rattle.c_lookup.specs.Steps.{Gives, sequence};
+ghost use Rattle.c_names.specs.Expressions as spec;
+ghost use Rattle.c_names.specs.Expressions.{resolved_expr};
+ghost use Rattle.c_names.specs.Steps.{Gives, sequence};
 
 use crate::definitions::{Definitions, find_definition};
 use crate::error::ScopeEnd;
-use crate::slots::Scope;
+use crate::lookup_slots::Scope;
+use crate::names::name_at;
+use crate::slots::slot_of;
 use c_ast::{Expr, Function};
-use c_names::{name_at, slot_of};
 use rx_plain::{Boxed, Items, both};
 use std::alloc::Global;
 

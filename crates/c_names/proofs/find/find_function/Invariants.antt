@@ -1,6 +1,6 @@
 use Rattle.std.proofs.Common.{◌≡◌, drop}
-use Rattle.c_lookup.specs.Places.{place_of_function}
-use Rattle.c_lookup.proofs.find.find_function.Given as goal
+use Rattle.c_names.specs.Places.{place_of_function}
+use Rattle.c_names.proofs.find.find_function.Given as goal
 use Rattle.std.specs.List.{position_from}
 use Rattle.std.specs.Str.{bytes_eq}
 use Rattle.std.proofs.Common.{map}

@@ -1,14 +1,14 @@
 //! Names of a precondition, which are those of parameters.
 ghost use Rattle.std.specs.Prelude.{◌<◌, ◌^◌, length, IfErr};
 ghost use Rattle.c_names.specs.Spellings.{IsWithin};
-ghost use Rattle.c_lookup.specs.Preconditions.{param_of, resolved_pre, IsUnknownOrMemory};
-ghost use Rattle.c_lookup.specs.Expressions.{ok_or_unknown};
-ghost use Rattle.c_lookup.specs.Steps.{Gives};
+ghost use Rattle.c_names.specs.Preconditions.{param_of, resolved_pre, IsUnknownOrMemory};
+ghost use Rattle.c_names.specs.Expressions.{ok_or_unknown};
+ghost use Rattle.c_names.specs.Steps.{Gives};
 
 use crate::error::ScopeEnd;
+use crate::spelling::{find_spelling, spelling_at};
 use c_ast::{Expr, Function};
 use c_lex::Token;
-use c_names::{find_spelling, spelling_at};
 use rx_plain::{Boxed, both};
 use std::alloc::Global;
 

@@ -4,7 +4,7 @@ use Rattle.std.specs.List.{position_from}
 use Rattle.std.specs.Map.{lookup}
 use Rattle.c_ast.specs.declared.program.Function.{Function}
 use Rattle.c_names.specs.Names.{name_at}
-use Rattle.c_lookup.proofs.definitions.places_of.Given as goal
+use Rattle.c_names.proofs.definitions.places_of.Given as goal
 
 -- the table has the first definition of each name among the functions from the place on
 abbrev pub invariant-loop-place : goal.invariant-loop-place

@@ -56,7 +56,7 @@ pub enum ScopeEnd {
 
 impl From<NoMemory> for ScopeEnd {
     ghost use Rattle.std.specs.Prelude.{◌≡◌};
-    ghost use Rattle.c_lookup.specs.declared.error.ScopeEnd.TheVariants.{NoMemory};
+    ghost use Rattle.c_names.specs.declared.error.ScopeEnd.TheVariants.{NoMemory};
 
     ghost from_gives = { λ _ e. e ≡ NoMemory };
 
@@ -67,7 +67,7 @@ impl From<NoMemory> for ScopeEnd {
 
 impl From<AllocError> for ScopeEnd {
     ghost use Rattle.std.specs.Prelude.{◌≡◌};
-    ghost use Rattle.c_lookup.specs.declared.error.ScopeEnd.TheVariants.{NoMemory};
+    ghost use Rattle.c_names.specs.declared.error.ScopeEnd.TheVariants.{NoMemory};
 
     ghost from_gives = { λ _ e. e ≡ NoMemory };
 

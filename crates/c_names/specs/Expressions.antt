@@ -10,8 +10,8 @@ use Rattle.c_ast.specs.declared.expr.Expr.TheFolds.{fold-Expr}
 use Rattle.c_ast.specs.declared.program.Function.{Function}
 use Rattle.c_names.specs.Names.{name_at}
 use Rattle.c_names.specs.Slots.{slot_of}
-use Rattle.c_lookup.specs.Steps.{Checked, and_then, sequence}
-use Rattle.c_lookup.specs.declared.error.ScopeEnd.TheVariants.{UnknownName, WrongCount}
+use Rattle.c_names.specs.Steps.{Checked, and_then, sequence}
+use Rattle.c_names.specs.declared.error.ScopeEnd.TheVariants.{UnknownName, WrongCount}
 
 -- the slot, or that the name isn't known
 abbrev pub ok_or_unknown : ℕ → Option ℕ → Checked ℕ

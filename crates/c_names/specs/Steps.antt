@@ -1,7 +1,7 @@
 -- Steps of which each may find a fault: the first fault is the answer.
 use Rattle.std.specs.Prelude.{◌≡◌, ◌≢◌, Result, Ok, Err, Option, Some, None, List, [], ◌∷◌}
-use Rattle.c_lookup.specs.declared.error.ScopeEnd.{ScopeEnd}
-use Rattle.c_lookup.specs.declared.error.ScopeEnd.TheVariants.{NoMemory}
+use Rattle.c_names.specs.declared.error.ScopeEnd.{ScopeEnd}
+use Rattle.c_names.specs.declared.error.ScopeEnd.TheVariants.{NoMemory}
 
 -- what was found, or a fault
 abbrev pub Checked : Type 0 → Type 0

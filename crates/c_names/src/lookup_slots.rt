@@ -2,7 +2,7 @@
 ghost use Rattle.std.specs.Prelude.{◌≤◌, length};
 
 use crate::error::ScopeEnd;
-use c_names::name_at;
+use crate::names::name_at;
 use rx_plain::{Items, NoMemory};
 use std::alloc::Global;
 
@@ -23,9 +23,9 @@ pub struct Scope {
 impl Scope {
     ghost use Rattle.std.specs.Prelude.{◌≡◌, ◌+◌, IfOk, OnOk};
     ghost use Rattle.c_names.specs.Names as name_spec;
-    ghost use Rattle.c_lookup.specs.Slots as spec;
-    ghost use Rattle.c_lookup.specs.Slots.{GivesScope};
-    ghost use Rattle.c_lookup.specs.Views.{model_of};
+    ghost use Rattle.c_names.specs.LookupSlots as spec;
+    ghost use Rattle.c_names.specs.LookupSlots.{GivesScope};
+    ghost use Rattle.c_names.specs.Views.{model_of};
 
     /// No variable is in scope.
     pub fn new(alloc: Global) -> Scope

@@ -2,9 +2,9 @@
 -- begins.
 use Rattle.std.specs.Prelude.{◌≡◌, ◌≢◌, ℕ, Bool, nat_eq, nat_lt, List, [], ◌∷◌, ◌++◌, length, drop, Result, Ok, Err, if◌then◌else◌}
 use Rattle.std.specs.List.{list_any}
-use Rattle.c_lookup.specs.Steps.{Checked}
-use Rattle.c_lookup.specs.declared.error.ScopeEnd.{ScopeEnd}
-use Rattle.c_lookup.specs.declared.error.ScopeEnd.TheVariants.{TwiceDeclared, TooManySlots, NoMemory}
+use Rattle.c_names.specs.Steps.{Checked}
+use Rattle.c_names.specs.declared.error.ScopeEnd.{ScopeEnd}
+use Rattle.c_names.specs.declared.error.ScopeEnd.TheVariants.{TwiceDeclared, TooManySlots, NoMemory}
 
 pub record Scope : Type 0 where
   -- the names of the variables in scope, in the order of declaration: each has its place as its

@@ -1,8 +1,8 @@
 -- A list of steps, of which some are done.
 use Rattle.std.proofs.Common.{◌≡◌, ◌∙◌, ap, sym, refl, ℕ, suc, ◌+◌, ◌<◌, List, [], ◌∷◌, ◌++◌, map, drop, length, get_or, Ok, Err, append_assoc, add-one, drop-cons, subst, below_more}
 use Rattle.std.proofs.lemmas.List.{get_or_default}
-use Rattle.c_lookup.specs.Steps.{Checked, and_then, sequence}
-use Rattle.c_lookup.specs.declared.error.ScopeEnd.{ScopeEnd}
+use Rattle.c_names.specs.Steps.{Checked, and_then, sequence}
+use Rattle.c_names.specs.declared.error.ScopeEnd.{ScopeEnd}
 
 -- what was found, and what the rest gives
 abbrev pub onto : {A : Type 0} → List A → Checked (List A) → Checked (List A)

@@ -1,11 +1,11 @@
 //! The place of a function in a program.
 ghost use Rattle.std.specs.Prelude.{◌≡◌, ◌<◌, ◌^◌, length};
 ghost use Rattle.c_names.specs.Spellings.{IsWithin};
-ghost use Rattle.c_lookup.specs.Places.{place_of_function};
+ghost use Rattle.c_names.specs.Places.{place_of_function};
 
+use crate::spelling::spelling_at;
 use c_ast::Program;
 use c_lex::Token;
-use c_names::spelling_at;
 
 /// The place of the first definition of a function with this name, none where there is none. Takes
 /// no memory.

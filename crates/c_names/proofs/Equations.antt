@@ -7,8 +7,8 @@ use Rattle.c_ast.specs.declared.expr.Expr.TheFolds.{fold_out-Expr}
 use Rattle.c_ast.specs.declared.program.Function.{Function}
 use Rattle.c_names.specs.Names.{name_at}
 use Rattle.c_names.specs.Slots.{slot_of}
-use Rattle.c_lookup.specs.Expressions.{callee_of, resolved_expr, expr_level}
-use Rattle.c_lookup.specs.Steps.{Checked, and_then, sequence}
+use Rattle.c_names.specs.Expressions.{callee_of, resolved_expr, expr_level}
+use Rattle.c_names.specs.Steps.{Checked, and_then, sequence}
 
 -- a call is resolved by its name, and then by its arguments
 pub resolved_call : (names : List ℕ) (functions : List Function) (scope : List ℕ) (token : ℕ)

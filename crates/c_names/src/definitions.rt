@@ -1,9 +1,9 @@
 //! The definitions of a program: which function a name denotes.
 ghost use Rattle.std.specs.Prelude.{◌≡◌, ◌<◌, ◌^◌, length, IfOk};
-ghost use Rattle.c_lookup.specs.Expressions.{definition_of, IsIndexOf};
+ghost use Rattle.c_names.specs.Expressions.{definition_of, IsIndexOf};
 
+use crate::names::name_at;
 use c_ast::Function;
-use c_names::name_at;
 use indexmap::IndexMap;
 use rx_plain::NoMemory;
 use std::alloc::Global;

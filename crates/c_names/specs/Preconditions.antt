@@ -6,10 +6,10 @@ use Rattle.c_ast.specs.declared.expr.Expr.TheVariants.{Lit, Var, Unary, Binary, 
 use Rattle.c_ast.specs.declared.expr.Expr.TheOpen.{Expr-F}
 use Rattle.c_ast.specs.declared.expr.Expr.TheFolds.{fold-Expr}
 use Rattle.c_names.specs.Spellings.{spelling_at, spellings, place_of}
-use Rattle.c_lookup.specs.Expressions.{ok_or_unknown}
-use Rattle.c_lookup.specs.Steps.{Checked, and_then}
-use Rattle.c_lookup.specs.declared.error.ScopeEnd.{ScopeEnd}
-use Rattle.c_lookup.specs.declared.error.ScopeEnd.TheVariants.{UnknownName, NoMemory}
+use Rattle.c_names.specs.Expressions.{ok_or_unknown}
+use Rattle.c_names.specs.Steps.{Checked, and_then}
+use Rattle.c_names.specs.declared.error.ScopeEnd.{ScopeEnd}
+use Rattle.c_names.specs.declared.error.ScopeEnd.TheVariants.{UnknownName, NoMemory}
 
 -- an expression over the names of parameters, where `slot` says which slot a token's name has; a
 -- precondition calls no function

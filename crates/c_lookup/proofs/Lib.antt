@@ -1,3 +1,0 @@
--- Lemmas on the definitions of specs/.
-pub mod Equations
-pub mod Lists
