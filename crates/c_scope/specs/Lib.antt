@@ -1,5 +1,5 @@
 -- When a program is well formed, and what it is with its names resolved; else its first fault.
-pub mod Statements
 pub mod Definitions
 pub mod Functions
 pub mod Programs
+pub mod Statements

@@ -6,14 +6,31 @@
 //! prototypes, over names, counts and scopes, and over what is definitely assigned; the first that
 //! finds a fault decides, and within it the order of the text (ISO/IEC 9899:1999, 6.2.1, 6.7p3,
 //! 6.8, 6.9p3). What names stand for in an expression is in c_lookup.
+//!
+//! What a resolved program is like: laws of the definitions of c_scope and c_lookup, for the crates
+//! that go on from a program whose names are resolved. Nothing here runs.
+//!
+//! What a reader may rely on: each public function has an empty body, and its contract is a law.
+//! The slots and the calls of a resolved program are in order, by the test `is_scoped` of c_ast; a
+//! resolved precondition keeps its form and has no variables but parameters; places that were found
+//! are those of functions.
+//!
+//! The lemmas of `proofs/` are for the crates above. `Statements` joins the two walks over a
+//! function, that of names and scopes (c_scope) and that of definite assignment (c_assigned): after
+//! each statement both have the same names in scope.
 #![tactic(auto)]
 
 mod assigned;
 mod functions;
+pub mod laws;
 mod program;
 mod prototypes;
 mod statements;
 
 pub use c_names::ScopeEnd;
+pub use laws::{
+    places_are_those_of_functions, resolved_preconditions_keep_the_row_form,
+    resolved_preconditions_use_parameters_alone, resolved_programs_are_scoped,
+};
 pub use program::resolve;
 pub use rx_plain::NoMemory;

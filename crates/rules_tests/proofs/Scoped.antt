@@ -5,7 +5,7 @@ use Rattle.c_front.proofs.Readings.{reading_of}
 use Rattle.c_front.specs.Conditions.{whole_front}
 use Rattle.c_front.specs.declared.pairs.Compared.{Compared}
 use Rattle.c_front.specs.declared.stages.Next.TheVariants.{Goes}
-use Rattle.c_scoped.proofs.Programs.{resolved_is_scoped}
+use Rattle.c_scope.proofs.Programs.{resolved_is_scoped}
 
 module _ (source first second : List ℕ) (compared : Compared) where
   pub compared_scoped : whole_front source first second None (Goes compared) →

@@ -7,8 +7,8 @@ use Rattle.c_ast.specs.declared.expr.Expr.{Expr}
 use Rattle.c_ast.specs.declared.program.Function.{Function}
 use Rattle.c_ast.specs.Scoped.{parameter_counts}
 use Rattle.c_names.specs.Expressions.{count_at}
-use Rattle.c_scoped.proofs.Preconditions.{row_form_kept}
-use Rattle.c_scoped.proofs.Programs.{resolved_is_scoped}
+use Rattle.c_scope.proofs.Preconditions.{row_form_kept}
+use Rattle.c_scope.proofs.Programs.{resolved_is_scoped}
 use Rattle.c_front.specs.declared.pairs.Compared.{Compared}
 use Rattle.c_front.specs.declared.pairs.TwoFunctions.{TwoFunctions}
 use Rattle.c_front.specs.declared.stages.Next.TheVariants.{Goes}

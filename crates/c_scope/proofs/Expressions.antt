@@ -25,8 +25,8 @@ use Rattle.c_names.specs.Expressions.{ok_or_unknown, count_at, callee_of, slot_a
 use Rattle.c_names.specs.Steps.{Checked, and_then, sequence}
 use Rattle.c_names.specs.declared.error.ScopeEnd.TheVariants.{WrongCount}
 use Rattle.c_scope.proofs.ResolvedPrograms.{counted}
-use Rattle.c_scoped.proofs.Steps.{same_Ok, no_fault, found, none_first, none_second}
-use Rattle.c_scoped.proofs.Places.{definition_within}
+use Rattle.c_scope.proofs.Steps.{same_Ok, no_fault, found, none_first, none_second}
+use Rattle.c_scope.proofs.Places.{definition_within}
 
 -- a name that is known is found
 pub known_is : (token place : ℕ) (o : Option ℕ) → ok_or_unknown token o ≡ Ok place → o ≡ Some place

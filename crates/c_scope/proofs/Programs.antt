@@ -27,8 +27,8 @@ use Rattle.c_scope.specs.Statements.{Scoped, resolved_stmt}
 use Rattle.c_names.specs.Steps.{sequence}
 use Rattle.c_names.specs.declared.error.ScopeEnd.{ScopeEnd}
 use Rattle.c_scope.proofs.ResolvedPrograms.{counted, counts_kept, numbered_length}
-use Rattle.c_scoped.proofs.Steps.{same_Ok, no_fault, found}
-use Rattle.c_scoped.proofs.Statements.{declared_names, list_kept}
+use Rattle.c_scope.proofs.Steps.{same_Ok, no_fault, found}
+use Rattle.c_scope.proofs.ScopedStatements.{declared_names, list_kept}
 
 -- the names of parameters are in their order, after those that were in scope
 params_in_scope : (names tokens : List ℕ) (s after : Scope) → with_params names tokens s ≡

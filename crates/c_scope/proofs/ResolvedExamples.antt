@@ -26,7 +26,7 @@ use Rattle.c_scope.specs.Statements as Scoping
 use Rattle.c_scope.specs.Statements.{Scoped, Resolver, pure, resolved_stmt}
 use Rattle.c_names.specs.Steps.{Checked, and_then}
 use Rattle.c_names.specs.declared.error.ScopeEnd.TheVariants.{MayBeUnset}
-use Rattle.c_scoped.proofs.Programs.{resolved_is_scoped}
+use Rattle.c_scope.proofs.Programs.{resolved_is_scoped}
 
 module _ (names : List ℕ) (functions : List Function) where
   expr-Var : (scope : List ℕ) (token : ℕ) → resolved_expr names functions scope (Var token) ≡

@@ -26,9 +26,9 @@ use Rattle.c_scope.specs.Statements.{Scoped, Resolver, pure, only_in_loops, reso
 use Rattle.c_names.specs.Steps.{Checked, and_then, optional}
 use Rattle.c_names.specs.declared.error.ScopeEnd.{ScopeEnd}
 use Rattle.c_scope.proofs.ResolvedPrograms.{counted}
-use Rattle.c_scoped.proofs.Steps.{same_Ok, no_fault, found, none_first, none_second}
-use Rattle.c_scoped.proofs.Places.{slot_in_scope}
-use Rattle.c_scoped.proofs.Expressions.{known_is, expr_fine}
+use Rattle.c_scope.proofs.Steps.{same_Ok, no_fault, found, none_first, none_second}
+use Rattle.c_scope.proofs.Places.{slot_in_scope}
+use Rattle.c_scope.proofs.Expressions.{known_is, expr_fine}
 
 -- what passes leaves its slots
 passed : (fine : Bool) (n : ℕ) → fine ≡ true → only_if fine n ≡ Some n

@@ -20,9 +20,9 @@ use Rattle.c_names.specs.Expressions.{ok_or_unknown}
 use Rattle.c_names.specs.Preconditions.{pre_level, param_of, resolved_pre}
 use Rattle.c_names.specs.Steps.{Checked, and_then}
 use Rattle.c_names.specs.declared.error.ScopeEnd.TheVariants.{UnknownName}
-use Rattle.c_scoped.proofs.Steps.{same_Ok, no_fault, found}
-use Rattle.c_scoped.proofs.Places.{parameter_within}
-use Rattle.c_scoped.proofs.Expressions.{known_is}
+use Rattle.c_scope.proofs.Steps.{same_Ok, no_fault, found}
+use Rattle.c_scope.proofs.Places.{parameter_within}
+use Rattle.c_scope.proofs.Expressions.{known_is}
 
 module _ (slot : ℕ → Option ℕ) where
   abbrev resolved : Expr → Checked Expr

@@ -1,5 +1,5 @@
-use Rattle.c_scoped.proofs.Programs.{resolved_is_scoped, resolved_counts}
-use Rattle.c_scoped.proofs.laws.resolved_programs_are_scoped.Goals as goal
+use Rattle.c_scope.proofs.Programs.{resolved_is_scoped, resolved_counts}
+use Rattle.c_scope.proofs.laws.resolved_programs_are_scoped.Goals as goal
 
 pub returns-clause-scoped : goal.returns-clause-scoped
 returns-clause-scoped c = resolved_is_scoped
