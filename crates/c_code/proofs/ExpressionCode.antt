@@ -13,8 +13,8 @@ use Rattle.c_ast.specs.declared.expr.Expr.TheFolds.{map-Expr, fold_out-Expr}
 use Rattle.c_ast.specs.declared.expr.Expr.TheVariants.{Lit, Var, Unary, Binary, Choose, Apply}
 use Rattle.c_meaning.specs.Outcomes.{State}
 use Rattle.c_meaning.specs.Expressions.{is_zero}
-use Rattle.c_counted.specs.Runs.{Run, Value, DivisionError, More, Over, on_value}
-use Rattle.c_counted.specs.Expressions.{Calls, Evaluation, unary, apply, short_circuit, unless_known, with_left, values, expr_level, expr}
+use Rattle.c_meaning.specs.Runs.{Run, Value, DivisionError, More, Over, on_value}
+use Rattle.c_meaning.specs.CountedExpressions.{Calls, Evaluation, unary, apply, short_circuit, unless_known, with_left, values, expr_level, expr}
 use Rattle.c_code.specs.Stores.{Kept, with_values, pushed}
 use Rattle.c_code.specs.Flat.{Back, at, read, after, before, operand_level, operand_of, op_to, rests, code_run, sink_to}
 use Rattle.c_code.specs.Flat.{Leads, TopLeads, SinkWithin, expr_run, operand_run, right_run, binary_run, arguments_run}
@@ -25,8 +25,8 @@ use Rattle.c_code.specs.declared.code.Sink.{Sink}
 use Rattle.c_code.specs.declared.code.Sink.TheVariants as sink
 use Rattle.c_code.specs.declared.code.Op.{Op}
 use Rattle.c_code.specs.declared.code.Op.TheVariants as op
-use Rattle.c_counted.proofs.Equations.{expr-Lit, expr-Var, expr-Unary, expr-Binary, expr-Choose, expr-Apply}
-use Rattle.c_counted.proofs.Runs.{on_value-on_value, on_value-same, on_value-then}
+use Rattle.c_meaning.proofs.CountedEquations.{expr-Lit, expr-Var, expr-Unary, expr-Binary, expr-Choose, expr-Apply}
+use Rattle.c_meaning.proofs.Runs.{on_value-on_value, on_value-same, on_value-then}
 use Rattle.c_code.proofs.Leading.{stays, sink-stays, leads-on, leads-as, leads-after, no-turns}
 
 module _ (calls : Calls) (k : Kept) (left : ℕ) where

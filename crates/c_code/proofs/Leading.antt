@@ -8,7 +8,7 @@ use Rattle.c_ast.specs.declared.stmt.Stmt.{Stmt}
 use Rattle.c_meaning.specs.Outcomes.{Flow, Next, Break, Continue, Return}
 use Rattle.c_meaning.specs.Expressions.{is_zero}
 use Rattle.c_meaning.specs.Statements.{Turn, Again, Ends}
-use Rattle.c_counted.specs.Expressions.{Calls}
+use Rattle.c_meaning.specs.CountedExpressions.{Calls}
 use Rattle.c_code.specs.Stores.{Kept}
 use Rattle.c_code.specs.Flat.{Rest, Back, at, op_to, rests, code_run, sink_to, flow_to, turn_to, turn_of}
 use Rattle.c_code.specs.Flat.{IsPlain, SinkWithin, ExitsWithin, TurnIsRight, TurnsFrom, Leads}
@@ -18,7 +18,7 @@ use Rattle.c_code.specs.declared.code.Exits.{Exits}
 use Rattle.c_code.specs.declared.code.Op.{Op}
 use Rattle.c_code.specs.declared.code.Op.TheVariants as op
 use Rattle.c_code.proofs.Positions.{le_or_less, at-stays, at-added}
-use Rattle.c_counted.proofs.Runs.{on_value-same}
+use Rattle.c_meaning.proofs.Runs.{on_value-same}
 
 -- a position that is there stays
 pub stays : (old more new : List Op) → new ≡ old ++ more → (p : ℕ) → p < length old

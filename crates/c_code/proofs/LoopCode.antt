@@ -9,9 +9,9 @@ use Rattle.c_ast.specs.declared.stmt.Stmt.{Stmt}
 use Rattle.c_meaning.specs.Outcomes.{State, Flow, Next, Break, Continue, Return}
 use Rattle.c_meaning.specs.Expressions.{is_zero}
 use Rattle.c_meaning.specs.Statements.{Turn, Again, Ends}
-use Rattle.c_counted.specs.Runs.{Run, Value, on_value}
-use Rattle.c_counted.specs.Expressions.{Calls, expr}
-use Rattle.c_counted.specs.Statements.{optional, loop, after_body, after_change, condition, while_turn, do_turn, stmt}
+use Rattle.c_meaning.specs.Runs.{Run, Value, on_value}
+use Rattle.c_meaning.specs.CountedExpressions.{Calls, expr}
+use Rattle.c_meaning.specs.CountedStatements.{optional, loop, after_body, after_change, condition, while_turn, do_turn, stmt}
 use Rattle.c_code.specs.Stores.{Kept, with_state}
 use Rattle.c_code.specs.Flat.{Rest, Back, at, rests, code_run, flow_to, turn_to, turn_of}
 use Rattle.c_code.specs.Flat.{ExitsWithin, TurnIsRight, TurnsFrom, Leads, expr_run, flow_run, stmt_run, condition_run}
@@ -20,7 +20,7 @@ use Rattle.c_code.specs.declared.code.Exits.{Exits}
 use Rattle.c_code.specs.declared.code.Op.{Op}
 use Rattle.c_code.specs.declared.code.Op.TheVariants as op
 use Rattle.c_code.proofs.Positions.{le_or_less, at-split, rests-changed}
-use Rattle.c_counted.proofs.Runs.{on_value-on_value, on_value-same, on_value-then}
+use Rattle.c_meaning.proofs.Runs.{on_value-on_value, on_value-same, on_value-then}
 use Rattle.c_code.proofs.StatementCode.{with_next, inside}
 use Rattle.c_code.proofs.Leading.{stays, turn-stays, exits-below, longer-length, leads-on, leads-here}
 

@@ -5,7 +5,7 @@ use Rattle.std.proofs.Math.ListN.{length-append, get_or-append}
 use Rattle.std.proofs.Math.Seq.{get_or-append_seam}
 use Rattle.std.proofs.lemmas.List.{append_assoc}
 use Rattle.std.proofs.lemmas.List.Sums.{fold-append}
-use Rattle.c_counted.specs.Expressions.{Calls}
+use Rattle.c_meaning.specs.CountedExpressions.{Calls}
 use Rattle.c_code.specs.Flat.{Rest, Back, lost, at, op_to, with_op, rests}
 use Rattle.c_code.specs.declared.code.Op.{Op}
 

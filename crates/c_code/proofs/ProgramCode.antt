@@ -7,10 +7,10 @@ use Rattle.std.proofs.lemmas.Option.{slice_get_within}
 use Rattle.c_ast.specs.declared.expr.Expr.{Expr}
 use Rattle.c_ast.specs.declared.program.Function.{Function}
 use Rattle.c_meaning.specs.Outcomes.{Flow, Next, Break, Continue, Return}
-use Rattle.c_counted.specs.Counted.{returned}
-use Rattle.c_counted.specs.Runs.{on_value}
-use Rattle.c_counted.specs.Expressions.{Calls}
-use Rattle.c_counted.specs.Statements.{in_order, stmt}
+use Rattle.c_meaning.specs.Counted.{returned}
+use Rattle.c_meaning.specs.Runs.{on_value}
+use Rattle.c_meaning.specs.CountedExpressions.{Calls}
+use Rattle.c_meaning.specs.CountedStatements.{in_order, stmt}
 use Rattle.c_code.specs.Stores.{Kept, with_state, ended}
 use Rattle.c_code.specs.Flat.{Back, op_to, rests, flow_to, expr_run, sequence_run, function_run}
 use Rattle.c_code.specs.Flat.{Leads, FunctionIsRight, FunctionsAreRight, FunctionsLead, WholeLeads, IsCode}
@@ -22,7 +22,7 @@ use Rattle.c_code.specs.declared.code.Code.{Code}
 use Rattle.std.specs.Option.{option_copied}
 use Rattle.c_code.specs.declared.code.Op.{Op}
 use Rattle.c_code.specs.declared.code.Op.TheVariants as op
-use Rattle.c_counted.proofs.Runs.{on_value-then}
+use Rattle.c_meaning.proofs.Runs.{on_value-then}
 use Rattle.c_code.proofs.Leading.{stays, leads-on, longer-length, turns-joined, no-turns}
 
 -- exits that all lead to one position, with no scope begun

@@ -10,9 +10,9 @@ use Rattle.c_ast.specs.declared.stmt.Stmt.TheVariants as syntax
 use Rattle.c_meaning.specs.Outcomes.{State, Flow, Next, Break, Continue, Return}
 use Rattle.c_meaning.specs.Expressions.{is_zero}
 use Rattle.c_meaning.specs.Statements.{Turn}
-use Rattle.c_counted.specs.Runs.{Run, Value, on_value}
-use Rattle.c_counted.specs.Expressions.{Calls, expr}
-use Rattle.c_counted.specs.Statements.{Execution, optional, on_next, in_order, leave, loop, while_turn, do_turn, stmt}
+use Rattle.c_meaning.specs.Runs.{Run, Value, on_value}
+use Rattle.c_meaning.specs.CountedExpressions.{Calls, expr}
+use Rattle.c_meaning.specs.CountedStatements.{Execution, optional, on_next, in_order, leave, loop, while_turn, do_turn, stmt}
 use Rattle.c_code.specs.Stores.{Kept, with_state, entered}
 use Rattle.c_code.specs.Flat.{Rest, Back, at, op_to, rests, code_run, flow_to, turn_of, for_loop}
 use Rattle.c_code.specs.Flat.{ExitsWithin, Leads, ScopeLeads, expr_run, flow_run, stmt_run, sequence_run, condition_run}
@@ -22,8 +22,8 @@ use Rattle.c_code.specs.declared.code.Sink.TheVariants as sink
 use Rattle.c_code.specs.declared.code.Exits.{Exits}
 use Rattle.c_code.specs.declared.code.Op.{Op}
 use Rattle.c_code.specs.declared.code.Op.TheVariants as op
-use Rattle.c_counted.proofs.Equations.{stmt-Empty, stmt-Declare-None, stmt-Declare-Some, stmt-Assign, stmt-If-None, stmt-If-Some, stmt-While, stmt-DoWhile, stmt-For-None, stmt-For-Some, stmt-Break, stmt-Continue, stmt-Return, stmt-Block}
-use Rattle.c_counted.proofs.Runs.{on_value-on_value, on_value-same, on_value-then}
+use Rattle.c_meaning.proofs.CountedEquations.{stmt-Empty, stmt-Declare-None, stmt-Declare-Some, stmt-Assign, stmt-If-None, stmt-If-Some, stmt-While, stmt-DoWhile, stmt-For-None, stmt-For-Some, stmt-Break, stmt-Continue, stmt-Return, stmt-Block}
+use Rattle.c_meaning.proofs.Runs.{on_value-on_value, on_value-same, on_value-then}
 use Rattle.c_code.proofs.Leading.{stays, flow-stays, leads-on, leads-as, leads-here, leads-after, longer-length}
 
 -- a turn of each kind of loop

@@ -10,14 +10,14 @@ use Rattle.c_ast.specs.declared.stmt.Stmt.TheVariants as syntax
 use Rattle.c_meaning.specs.Outcomes.{State, Flow, Next, Break, Continue, Return}
 use Rattle.c_meaning.specs.Expressions.{is_zero}
 use Rattle.c_meaning.specs.Statements.{Turn, Again, Ends}
-use Rattle.c_counted.specs.Runs.{Run, Value, DivisionError, More, Over, on_value}
-use Rattle.c_counted.specs.Expressions.{Calls, expr}
-use Rattle.c_counted.specs.Statements.{Execution, optional, on_next, in_order, leave, on_again, turns, loop, after_body, after_change, condition, while_turn, do_turn, stmt}
+use Rattle.c_meaning.specs.Runs.{Run, Value, DivisionError, More, Over, on_value}
+use Rattle.c_meaning.specs.CountedExpressions.{Calls, expr}
+use Rattle.c_meaning.specs.CountedStatements.{Execution, optional, on_next, in_order, leave, on_again, turns, loop, after_body, after_change, condition, while_turn, do_turn, stmt}
 use Rattle.c_code.specs.Scopes.{FlowWithin, RunWithin, StaysWithin, AddsNoSlot, AddNoSlots}
 use Rattle.c_code.specs.Flat.{Leads, flow_to, rests, sequence_run, stmt_run}
 use Rattle.c_code.specs.declared.code.Exits.{Exits}
 use Rattle.c_code.specs.declared.code.Op.{Op}
-use Rattle.c_counted.proofs.Equations.{stmt-Empty, stmt-Assign, stmt-If-None, stmt-If-Some, stmt-While, stmt-DoWhile, stmt-For-None, stmt-For-Some, stmt-Break, stmt-Continue, stmt-Return, stmt-Block}
+use Rattle.c_meaning.proofs.CountedEquations.{stmt-Empty, stmt-Assign, stmt-If-None, stmt-If-Some, stmt-While, stmt-DoWhile, stmt-For-None, stmt-For-Some, stmt-Break, stmt-Continue, stmt-Return, stmt-Block}
 use Rattle.c_code.proofs.Leading.{leads-as}
 use Rattle.c_code.proofs.Slots.{length-most}
 

@@ -7,8 +7,8 @@ use Rattle.c_ast.specs.declared.expr.BinOp.{BinOp}
 use Rattle.c_ast.specs.declared.expr.BinOp.TheVariants.{Lt, Le, Gt, Ge}
 use Rattle.c_ast.specs.declared.expr.Expr.{Expr}
 use Rattle.c_ast.specs.declared.expr.Expr.TheVariants.{Binary}
-use Rattle.c_counted.specs.Runs.{Run, Value, on_value}
-use Rattle.c_counted.specs.Expressions.{Calls, apply, short_circuit, unless_known, with_left, expr}
+use Rattle.c_meaning.specs.Runs.{Run, Value, on_value}
+use Rattle.c_meaning.specs.CountedExpressions.{Calls, apply, short_circuit, unless_known, with_left, expr}
 use Rattle.c_code.specs.Stores.{Kept}
 use Rattle.c_code.specs.Flat.{Rest, Back, at, read, after, leaf_value, inner_run, made, do_to, less_to, op_to, rests, sink_to}
 use Rattle.c_code.specs.Flat.{IsInner, IsLeaf, IsOp, Leads, Makes, expr_run, right_run}
@@ -21,9 +21,9 @@ use Rattle.c_code.specs.declared.code.Sink.{Sink}
 use Rattle.c_code.specs.declared.code.Sink.TheVariants as sink
 use Rattle.c_code.specs.declared.code.Op.{Op}
 use Rattle.c_code.specs.declared.code.Op.TheVariants as op
-use Rattle.c_counted.proofs.Equations.{expr-Binary}
+use Rattle.c_meaning.proofs.CountedEquations.{expr-Binary}
 use Rattle.c_code.proofs.Leading.{leads-as}
-use Rattle.c_counted.proofs.Runs.{on_value-on_value, on_value-same}
+use Rattle.c_meaning.proofs.Runs.{on_value-on_value, on_value-same}
 
 -- after the left operand of an operator that needs both
 strict-after : (f : BinOp) (x : ℤ) → short_circuit f x ≡ None → (right : ℕ → Run ℤ) (m : ℕ) →

@@ -16,9 +16,9 @@ use Rattle.c_ast.specs.declared.program.Function.{Function}
 use Rattle.c_meaning.specs.Outcomes.{State, Flow, Next, Break, Continue, Return}
 use Rattle.c_meaning.specs.Expressions.{is_zero, slot}
 use Rattle.c_meaning.specs.Statements.{Turn, Again, Ends}
-use Rattle.c_counted.specs.Runs.{Run, Value, More, on_value}
-use Rattle.c_counted.specs.Expressions.{Calls, unary, apply, with_left, values, expr}
-use Rattle.c_counted.specs.Statements.{Execution, optional, on_next, in_order, leave, loop, condition, while_turn, do_turn, stmt}
+use Rattle.c_meaning.specs.Runs.{Run, Value, More, on_value}
+use Rattle.c_meaning.specs.CountedExpressions.{Calls, unary, apply, with_left, values, expr}
+use Rattle.c_meaning.specs.CountedStatements.{Execution, optional, on_next, in_order, leave, loop, condition, while_turn, do_turn, stmt}
 use Rattle.c_code.specs.Stores.{Kept, with_state, with_values, top, below_top, with_scopes, pushed, entered, left_scope, ended}
 use Rattle.c_code.specs.declared.code.Operand.{Operand}
 use Rattle.c_code.specs.declared.code.Operand.TheVariants.{Constant, Slot, Popped}
@@ -33,7 +33,7 @@ use Rattle.c_code.specs.declared.code.Exits.{Exits}
 use Rattle.c_code.specs.declared.code.Op.{Op}
 use Rattle.c_code.specs.declared.code.Op.TheVariants as op
 use Rattle.c_code.specs.declared.code.Code.{Code}
-use Rattle.c_counted.specs.Counted.{returned}
+use Rattle.c_meaning.specs.Counted.{returned}
 
 -- what a run comes to from what is kept and the rounds that are left
 abbrev pub Rest : Type 0

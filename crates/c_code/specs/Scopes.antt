@@ -3,9 +3,9 @@
 use Rattle.std.specs.Prelude.{ℕ, ◌≤◌, length, List, map}
 use Rattle.c_ast.specs.declared.stmt.Stmt.{Stmt}
 use Rattle.c_meaning.specs.Outcomes.{State, Flow, Next, Break, Continue, Return}
-use Rattle.c_counted.specs.Runs.{Run, Value, DivisionError, More, Over}
-use Rattle.c_counted.specs.Expressions.{Calls}
-use Rattle.c_counted.specs.Statements.{Execution, in_order, stmt}
+use Rattle.c_meaning.specs.Runs.{Run, Value, DivisionError, More, Over}
+use Rattle.c_meaning.specs.CountedExpressions.{Calls}
+use Rattle.c_meaning.specs.CountedStatements.{Execution, in_order, stmt}
 
 -- no more than n slots are left; after a return none is read any more
 abbrev pub FlowWithin : ℕ → Flow → Type 0

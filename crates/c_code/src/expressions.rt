@@ -3,7 +3,7 @@
 ghost use Rattle.std.specs.Prelude.{◌≡◌, ◌<◌, ◌++◌, ◌∷◌, ℤ, None, [], IfOk, IfSome, OnOk, length};
 ghost use Rattle.std.specs.Bool.{OnTrue};
 ghost use Rattle.c_code.specs.Flat as spec;
-ghost use Rattle.c_counted.specs.Expressions.{short_circuit};
+ghost use Rattle.c_meaning.specs.CountedExpressions.{short_circuit};
 ghost use Rattle.c_ast.specs.declared.expr.BinOp.TheVariants as binary;
 ghost use Rattle.c_code.specs.declared.code.Leaf.TheVariants as leaf;
 ghost use Rattle.c_code.specs.declared.code.Operand.TheVariants as operand;

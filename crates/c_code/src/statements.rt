@@ -2,8 +2,8 @@
 ghost use Rattle.std.specs.Prelude.{◌≡◌, ◌<◌, ◌+◌, IfOk, Some, None, length, slice_set};
 ghost use Rattle.std.specs.Option.{option_map};
 ghost use Rattle.c_ast.specs.declared.stmt.Stmt.TheVariants as syntax;
-ghost use Rattle.c_counted.specs.Expressions.{Calls};
-ghost use Rattle.c_counted.specs.Statements.{do_turn, loop, optional, stmt, while_turn};
+ghost use Rattle.c_meaning.specs.CountedExpressions.{Calls};
+ghost use Rattle.c_meaning.specs.CountedStatements.{do_turn, loop, optional, stmt, while_turn};
 ghost use Rattle.c_code.specs.Flat.{ExitsWithin, Leads, ScopeLeads, condition_run, flow_run, sequence_run, stmt_run, turn_of};
 ghost use Rattle.c_code.specs.declared.code.Op.TheVariants as op;
 

@@ -6,20 +6,20 @@ use Rattle.c_ast.specs.declared.expr.Expr.{Expr}
 use Rattle.c_ast.specs.declared.program.Function.{Function}
 use Rattle.c_ast.specs.declared.program.Resolved.{Resolved}
 use Rattle.c_meaning.specs.Outcomes.{State}
-use Rattle.c_counted.specs.Counted.{body_run, counted, outcome_of}
+use Rattle.c_meaning.specs.Counted.{body_run, counted, outcome_of}
 use Rattle.c_machine.specs.Ends.{Ends, EndsBy}
-use Rattle.c_counted.specs.Runs.{Run, Value, DivisionError, More, Over, on_value}
-use Rattle.c_counted.specs.Expressions.{expr}
+use Rattle.c_meaning.specs.Runs.{Run, Value, DivisionError, More, Over, on_value}
+use Rattle.c_meaning.specs.CountedExpressions.{expr}
 use Rattle.c_code.specs.Stores.{Kept}
 use Rattle.c_code.specs.Flat.{FunctionsAreRight, WholeIsRight}
 use Rattle.c_machine.specs.Machines.{back_to, machine_run}
 use Rattle.c_machine.specs.Preconditions.{precondition_at}
 use Rattle.c_code.specs.declared.code.Op.{Op}
 use Rattle.c_machine.specs.declared.machine.Caller.{Caller}
-use Rattle.c_counted.specs.declared.outcomes.Outcome.TheVariants as outcome
+use Rattle.c_meaning.specs.declared.outcomes.Outcome.TheVariants as outcome
 use Rattle.c_machine.specs.declared.stop.Stop.{Stop}
 use Rattle.c_machine.specs.declared.stop.Stop.TheVariants as stop
-use Rattle.c_counted.proofs.Bounds.{counted_call}
+use Rattle.c_meaning.proofs.Bounds.{counted_call}
 use Rattle.c_machine.proofs.RunningCode.{function-found}
 
 -- what is the same ends in the same way

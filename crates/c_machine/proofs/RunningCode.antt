@@ -14,11 +14,11 @@ use Rattle.c_ast.specs.declared.program.Function.{Function}
 use Rattle.c_ast.specs.declared.program.Resolved.{Resolved}
 use Rattle.c_meaning.specs.Outcomes.{Flow, Next, Break, Continue, Return}
 use Rattle.c_meaning.specs.Statements.{Turn, Again, Ends}
-use Rattle.c_counted.specs.Counted.{returned, body_run, counted}
+use Rattle.c_meaning.specs.Counted.{returned, body_run, counted}
 use Rattle.c_machine.specs.Ends.{EndsBy, GivesNumber}
-use Rattle.c_counted.specs.Runs.{Run, Value, More, on_value}
-use Rattle.c_counted.specs.Expressions.{Calls}
-use Rattle.c_counted.specs.Statements.{optional, in_order, on_again, loop, stmt}
+use Rattle.c_meaning.specs.Runs.{Run, Value, More, on_value}
+use Rattle.c_meaning.specs.CountedExpressions.{Calls}
+use Rattle.c_meaning.specs.CountedStatements.{optional, in_order, on_again, loop, stmt}
 use Rattle.c_code.specs.Stores.{Kept, with_state, with_values, pushed, ended, called}
 use Rattle.c_code.specs.Flat.{Rest, Back, lost, at, op_to, rests, code_run, flow_to, turn_to, turn_level, turn_of, sink_to}
 use Rattle.c_code.specs.Flat.{TurnIsRight, FunctionIsRight}
@@ -32,10 +32,10 @@ use Rattle.c_machine.specs.declared.machine.Reached.{Reached}
 use Rattle.c_machine.specs.declared.machine.Reached.TheVariants as reached
 use Rattle.c_machine.specs.declared.stop.Stop.{Stop}
 use Rattle.c_machine.specs.declared.stop.Stop.TheVariants as stop
-use Rattle.c_counted.proofs.Bounds.{FromEach, Leaves, Waits, counted_agree, counted_call, loop_turn, stmt_agrees, while_turn_agrees, do_turn_agrees}
+use Rattle.c_meaning.proofs.Bounds.{FromEach, Leaves, Waits, counted_agree, counted_call, loop_turn, stmt_agrees, while_turn_agrees, do_turn_agrees}
 use Rattle.c_code.proofs.Positions.{le_or_less, at-stays, at-split, length-rests}
 use Rattle.c_code.proofs.StatementCode.{flow-state}
-use Rattle.c_counted.proofs.Runs.{on_value-same, on_value-then}
+use Rattle.c_meaning.proofs.Runs.{on_value-same, on_value-then}
 
 -- one caller more, one less
 pub back-pushed : (calls : Calls) (ops : List Op) (old new : List Caller) (c : Caller) → new ≡

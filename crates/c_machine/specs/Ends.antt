@@ -1,8 +1,8 @@
 -- How parts of a run and whole runs end.
 use Rattle.std.specs.Prelude.{◌≡◌, ℕ, Result, Ok, Err, ℤ}
-use Rattle.c_counted.specs.Counted.{outcome_of}
-use Rattle.c_counted.specs.Runs.{Run, Value, DivisionError, More, Over}
-use Rattle.c_counted.specs.declared.outcomes.Outcome.TheVariants as outcome
+use Rattle.c_meaning.specs.Counted.{outcome_of}
+use Rattle.c_meaning.specs.Runs.{Run, Value, DivisionError, More, Over}
+use Rattle.c_meaning.specs.declared.outcomes.Outcome.TheVariants as outcome
 use Rattle.c_machine.specs.declared.stop.Stop.{Stop}
 use Rattle.c_machine.specs.declared.stop.Stop.TheVariants as stop
 

@@ -1,11 +1,11 @@
 -- What a run of code comes to, and how its steps and the run itself end.
 use Rattle.std.specs.Prelude.{◌≡◌, ℕ, ◌+◌, ◌-◌, ◌<◌, ◌≤◌, Result, Ok, Err, List, fold, take, ℤ}
 use Rattle.c_ast.specs.declared.program.Resolved.{Resolved}
-use Rattle.c_counted.specs.Counted.{counted}
+use Rattle.c_meaning.specs.Counted.{counted}
 use Rattle.c_machine.specs.Ends.{EndsBy}
-use Rattle.c_counted.specs.Expressions.{Calls}
+use Rattle.c_meaning.specs.CountedExpressions.{Calls}
 use Rattle.c_code.specs.Flat.{Back, Rest, at, code_run, rests}
-use Rattle.c_counted.specs.Runs.{Run, Value}
+use Rattle.c_meaning.specs.Runs.{Run, Value}
 use Rattle.c_code.specs.Stores.{Kept, given_back, pushed}
 use Rattle.c_code.specs.declared.code.Op.{Op}
 use Rattle.c_machine.specs.declared.machine.Caller.{Caller}

@@ -2,9 +2,9 @@
 use Rattle.std.specs.Prelude.{ℕ, Option, None, Some, List, ℤ, pos}
 use Rattle.c_ast.specs.declared.expr.Expr.{Expr}
 use Rattle.c_ast.specs.declared.program.Resolved.{Resolved}
-use Rattle.c_counted.specs.Counted.{counted_expr, outcome_of}
-use Rattle.c_counted.specs.declared.outcomes.Outcome.{Outcome}
-use Rattle.c_counted.specs.declared.outcomes.Outcome.TheVariants.{Value}
+use Rattle.c_meaning.specs.Counted.{counted_expr, outcome_of}
+use Rattle.c_meaning.specs.declared.outcomes.Outcome.{Outcome}
+use Rattle.c_meaning.specs.declared.outcomes.Outcome.TheVariants.{Value}
 
 -- the outcome of the precondition at a point; a missing one is a constant other than 0
 abbrev pub precondition_at : Resolved → Option Expr → ℕ → List ℤ → Outcome

@@ -3,8 +3,8 @@ ghost use Rattle.std.specs.Prelude.{◌≡◌, true, false, IfSome, SomeIff, Som
 ghost use Rattle.std.specs.Bool.{OnTrue};
 ghost use Rattle.c_ast.specs.declared.expr.BinOp.TheVariants.{Div, Rem};
 ghost use Rattle.c_meaning.specs.Expressions.{is_zero, truth};
-ghost use Rattle.c_counted.specs.Expressions.{apply, unary};
-ghost use Rattle.c_counted.specs.Runs.{exact, fits_i128};
+ghost use Rattle.c_meaning.specs.CountedExpressions.{apply, unary};
+ghost use Rattle.c_meaning.specs.Runs.{exact, fits_i128};
 ghost use Rattle.c_machine.specs.Ends.{GivesNumber};
 
 use crate::stop::Stop;

@@ -11,6 +11,6 @@ mod machine;
 mod stop;
 mod store;
 
-pub use c_counted::Outcome;
+pub use c_meaning::Outcome;
 pub use machine::{Machine, call_outcome, expr_outcome};
 pub use rx_plain::NoMemory;

@@ -2,13 +2,13 @@
 ghost use Rattle.std.specs.Prelude.{◌≡◌, ◌<◌, ◌≤◌, ℕ, ℤ, List, Some, IfOk, IfErr, OnOk, OnErr, length, slice_get, take};
 ghost use Rattle.std.specs.Option.{option_copied};
 ghost use Rattle.c_ast.specs.declared.program.Resolved.{Resolved};
-ghost use Rattle.c_counted.specs.Counted.{counted, counted_expr, outcome_of};
+ghost use Rattle.c_meaning.specs.Counted.{counted, counted_expr, outcome_of};
 ghost use Rattle.c_machine.specs.Ends.{Ends, GivesNumber};
 ghost use Rattle.c_ast.specs.declared.expr.BinOp.TheVariants as binary;
 ghost use Rattle.c_code.specs.Flat.{Back, IsCode, Rest, between, inner_run, kept_after, made, op_to, rests, sink_to, three, times};
 ghost use Rattle.c_machine.specs.Machines.{Falls, Sinks, Steps, back_to, machine_run};
 ghost use Rattle.c_machine.specs.Preconditions.{precondition_at};
-ghost use Rattle.c_counted.specs.Runs.{Run, on_value};
+ghost use Rattle.c_meaning.specs.Runs.{Run, on_value};
 ghost use Rattle.c_code.specs.declared.code.Op.{Op};
 ghost use Rattle.c_code.specs.declared.code.Op.TheVariants as op;
 ghost use Rattle.c_code.specs.declared.code.Leaf.TheVariants as leaf;
@@ -23,7 +23,7 @@ use crate::stop::Stop;
 use crate::store::Store;
 use c_ast::{BinOp, Expr, Resolved};
 use c_code::{Code, Inner, Leaf, Op, Operand, Sink, Work, compile};
-use c_counted::Outcome;
+use c_meaning::Outcome;
 use rx_plain::NoMemory;
 use std::alloc::Global;
 

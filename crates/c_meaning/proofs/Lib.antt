@@ -1,6 +1,11 @@
-pub mod Equations
-pub mod Rounds
-pub mod StraightValues
+pub mod Bounds
+pub mod CountedEquations
 pub mod Division
+pub mod Equations
+pub mod Examples
 mod ExpressionExamples
+pub mod Meaning
+pub mod Rounds
+pub mod Runs
 mod StatementExamples
+pub mod StraightValues

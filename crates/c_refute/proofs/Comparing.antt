@@ -3,7 +3,7 @@ use Rattle.std.proofs.Common.{◌≡◌, ℕ, suc, ◌≤◌, ◌<◌, ◌+◌, 
 use Rattle.std.specs.Result.{IsErrAnd}
 use Rattle.std.proofs.Math.Seq.{drop-cons, drop-length, take-length}
 use Rattle.std.proofs.lemmas.List.{append-nil, length-drop}
-use Rattle.c_counted.specs.declared.outcomes.Outcome.{Outcome}
+use Rattle.c_meaning.specs.declared.outcomes.Outcome.{Outcome}
 use Rattle.c_refute.specs.declared.findings.Finding.{Finding}
 use Rattle.c_refute.specs.declared.findings.Finding.TheVariants as finding
 use Rattle.c_refute.specs.declared.findings.Compared.{Compared}

@@ -7,16 +7,16 @@ use Rattle.c_ast.specs.declared.program.Resolved.{Resolved}
 use Rattle.c_meaning.specs.Outcomes as meaning
 use Rattle.c_meaning.specs.Expressions.{is_zero}
 use Rattle.c_meaning.specs.Programs.{expr_outcome, Returns}
-use Rattle.c_counted.specs.declared.outcomes.Outcome.{Outcome}
-use Rattle.c_counted.specs.declared.outcomes.Outcome.TheVariants.{Value, DivError, More, Over}
+use Rattle.c_meaning.specs.declared.outcomes.Outcome.{Outcome}
+use Rattle.c_meaning.specs.declared.outcomes.Outcome.TheVariants.{Value, DivError, More, Over}
 use Rattle.c_refute.specs.declared.findings.Finding.{Finding}
 use Rattle.c_refute.specs.declared.findings.Finding.TheVariants as finding
-use Rattle.c_counted.specs.Runs.{Run}
-use Rattle.c_counted.specs.Counted.{counted, counted_expr, outcome_of}
+use Rattle.c_meaning.specs.Runs.{Run}
+use Rattle.c_meaning.specs.Counted.{counted, counted_expr, outcome_of}
 use Rattle.c_machine.specs.Preconditions.{precondition_at}
 use Rattle.c_refute.specs.Points.{is_decided, finding_of, finding_under, finding_at}
 use Rattle.c_refute.specs.Laws.{meant, Meets, ReturnDifferent}
-use Rattle.c_counted.proofs.Meaning.{Means, Leaves, Divides, Waits, Passes, call_means, expression_means}
+use Rattle.c_meaning.proofs.Meaning.{Means, Leaves, Divides, Waits, Passes, call_means, expression_means}
 
 -- the outcome that a decided run has
 decided_meant : {n : ℕ} {run : Run ℤ} {o : meaning.Outcome ℤ} → Means ℤ n run o →

@@ -3,9 +3,9 @@
 use Rattle.std.proofs.Common.{◌≡◌, pos, negsuc, None, Some, [], ◌∷◌, refl}
 use Rattle.c_ast.specs.declared.expr.BinOp.TheVariants as bin_op
 use Rattle.c_ast.specs.declared.expr.Expr.TheVariants.{Lit, Var, Binary}
-use Rattle.c_counted.proofs.Equations.{equations}
-use Rattle.c_counted.proofs.Examples.{sums}
-use Rattle.c_counted.specs.declared.outcomes.Outcome.TheVariants as outcome
+use Rattle.c_meaning.proofs.CountedEquations.{equations}
+use Rattle.c_meaning.proofs.Examples.{sums}
+use Rattle.c_meaning.specs.declared.outcomes.Outcome.TheVariants as outcome
 use Rattle.c_refute.specs.declared.findings.Finding.TheVariants as finding
 use Rattle.c_refute.specs.Points.{points, finding_at}
 

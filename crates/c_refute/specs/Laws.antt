@@ -4,8 +4,8 @@ use Rattle.c_ast.specs.declared.expr.Expr.{Expr}
 use Rattle.c_ast.specs.declared.program.Resolved.{Resolved}
 use Rattle.c_meaning.specs.Outcomes as meaning
 use Rattle.c_meaning.specs.Programs.{expr_outcome, Returns}
-use Rattle.c_counted.specs.declared.outcomes.Outcome.{Outcome}
-use Rattle.c_counted.specs.declared.outcomes.Outcome.TheVariants.{Value, DivError, More, Over}
+use Rattle.c_meaning.specs.declared.outcomes.Outcome.{Outcome}
+use Rattle.c_meaning.specs.declared.outcomes.Outcome.TheVariants.{Value, DivError, More, Over}
 
 -- the outcome in the meaning that a decided outcome represents
 abbrev pub meant : Outcome → meaning.Outcome ℤ

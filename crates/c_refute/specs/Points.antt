@@ -7,13 +7,13 @@ use Rattle.c_ast.specs.declared.expr.Expr.{Expr}
 use Rattle.c_ast.specs.declared.program.Function.{Function}
 use Rattle.c_ast.specs.declared.program.Resolved.{Resolved}
 use Rattle.c_meaning.specs.Expressions.{is_zero}
-use Rattle.c_counted.specs.declared.outcomes.Outcome.{Outcome}
-use Rattle.c_counted.specs.declared.outcomes.Outcome.TheVariants.{Value, DivError, More, Over}
+use Rattle.c_meaning.specs.declared.outcomes.Outcome.{Outcome}
+use Rattle.c_meaning.specs.declared.outcomes.Outcome.TheVariants.{Value, DivError, More, Over}
 use Rattle.c_refute.specs.declared.findings.Finding.{Finding}
 use Rattle.c_refute.specs.declared.findings.Finding.TheVariants as finding
 use Rattle.c_refute.specs.declared.findings.Compared.{Compared}
 use Rattle.c_refute.specs.declared.findings.Compared.TheVariants as compared
-use Rattle.c_counted.specs.Counted.{counted, outcome_of}
+use Rattle.c_meaning.specs.Counted.{counted, outcome_of}
 use Rattle.c_machine.specs.Preconditions.{precondition_at}
 
 -- `count` integers, from the first on

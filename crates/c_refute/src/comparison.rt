@@ -1,7 +1,7 @@
 //! The comparison of two functions on all points.
 ghost use Rattle.std.specs.Prelude.{◌≡◌, ◌<◌, ◌+◌, ◌^◌, ℕ, length, option_copied};
 ghost use Rattle.std.specs.Prelude.{if◌then◌else◌, IfOk, ◌↔◌};
-ghost use Rattle.c_counted.specs.Counted.{counted, outcome_of};
+ghost use Rattle.c_meaning.specs.Counted.{counted, outcome_of};
 ghost use Rattle.c_code.specs.Flat.{IsCode};
 ghost use Rattle.c_refute.specs.Points.{arity, finding_at, finding_of};
 ghost use Rattle.c_refute.specs.Points.{is_alike, is_undecided, points, IsComparison};
@@ -10,8 +10,8 @@ use crate::findings::{Compared, Finding, RefuteEnd};
 use crate::points::{MAX_POINTS, advance, first_point, number_of_points};
 use c_ast::{Expr, Resolved};
 use c_code::{Code, compile};
-use c_counted::Outcome;
 use c_machine::Machine;
+use c_meaning::Outcome;
 use rx_plain::{Items, NoMemory};
 use std::alloc::Global;
 

@@ -1,6 +1,6 @@
 //! What is found at a point, and what two functions compare to over all points.
 
-use c_counted::Outcome;
+use c_meaning::Outcome;
 use rx_plain::{Items, NoMemory};
 use thiserror::Error;
 

@@ -3,7 +3,7 @@
 ghost use Rattle.std.specs.Prelude.{◌≡◌, ℕ, Option, List, length, ℤ};
 ghost use Rattle.c_ast.specs.declared.expr.Expr.{Expr};
 ghost use Rattle.c_ast.specs.declared.program.Resolved.{Resolved};
-ghost use Rattle.c_counted.specs.declared.outcomes.Outcome.{Outcome};
+ghost use Rattle.c_meaning.specs.declared.outcomes.Outcome.{Outcome};
 ghost use Rattle.c_refute.specs.Laws.{Meets, ReturnDifferent};
 ghost use Rattle.c_refute.specs.Points.{finding_at, points, IsComparison, IsFirstDifference};
 ghost use Rattle.c_refute.specs.declared.findings.Compared.{Compared};

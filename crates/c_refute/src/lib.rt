@@ -13,7 +13,7 @@ mod findings;
 pub mod laws;
 mod points;
 
-pub use c_counted::Outcome;
+pub use c_meaning::Outcome;
 pub use comparison::compare;
 pub use findings::{Compared, Finding, RefuteEnd};
 pub use laws::{comparisons_have_one_answer, differences_are_meant};

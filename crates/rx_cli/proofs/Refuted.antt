@@ -11,7 +11,7 @@ use Rattle.c_meaning.proofs.Rounds.{one_outcome}
 use Rattle.c_meaning.specs.Outcomes.{Value}
 use Rattle.c_refute.proofs.Differences.{difference_meets, difference_returns}
 use Rattle.c_refute.proofs.PointLists.{point_long}
-use Rattle.c_counted.specs.declared.outcomes.Outcome.{Outcome}
+use Rattle.c_meaning.specs.declared.outcomes.Outcome.{Outcome}
 use Rattle.c_refute.specs.Laws as found
 use Rattle.c_refute.specs.Laws.{meant}
 use Rattle.c_refute.specs.Points.{IsFirstDifference, arity_at, finding_at}

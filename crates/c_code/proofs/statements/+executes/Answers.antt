@@ -4,7 +4,7 @@ use Rattle.std.specs.Option.{option_map}
 use Rattle.std.specs.Prelude.{IfOk}
 use Rattle.c_ast.specs.declared.stmt.Stmt.{Stmt}
 use Rattle.c_ast.specs.declared.stmt.Stmt.TheVariants as syntax
-use Rattle.c_counted.specs.Statements.{loop, optional, stmt}
+use Rattle.c_meaning.specs.CountedStatements.{loop, optional, stmt}
 use Rattle.c_code.specs.Scopes.{AddNoSlots}
 use Rattle.c_code.specs.Flat.{Leads, expr_run, flow_run, for_loop, sequence_run, stmt_run, turn_of}
 use Rattle.c_code.specs.declared.code.Sink.TheVariants as sink

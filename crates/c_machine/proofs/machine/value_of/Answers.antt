@@ -2,7 +2,7 @@ use Rattle.std.proofs.Common.{◌≡◌, arith, rules}
 use Rattle.std.proofs.lemmas.Grind.{common_steps}
 use mir.Syntax.{w128}
 use mir.Val.{of_z, to_z}
-use Rattle.c_counted.specs.Expressions.{apply}
+use Rattle.c_meaning.specs.CountedExpressions.{apply}
 use Rattle.c_code.specs.Flat.{inner_run, read}
 use Rattle.c_machine.proofs.RunningCode.{gives-then}
 use Rattle.c_machine.proofs.machine.value_of.Goals as goal

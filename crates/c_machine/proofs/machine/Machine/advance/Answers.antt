@@ -2,7 +2,7 @@ use Rattle.std.proofs.Common.{◌≡◌, ◌∙◌, ℕ, ℤ, Some, length, take
 use Rattle.std.proofs.lemmas.Grind.{common_steps}
 use mir.Syntax.{w64}
 use mir.Val.{of_z, to_z}
-use Rattle.c_counted.specs.Counted.{counted}
+use Rattle.c_meaning.specs.Counted.{counted}
 use Rattle.c_code.specs.Flat.{Back, Rest, at, between, kept_after, made, rests, three, times}
 use Rattle.c_machine.specs.Ends.{GivesNumber}
 use Rattle.c_machine.specs.Machines.{back_to}

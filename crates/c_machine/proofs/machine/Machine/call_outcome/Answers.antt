@@ -1,7 +1,7 @@
 use Rattle.std.proofs.Common.{◌≡◌, ℤ, ◌<◌, ◌∙◌, sym, subst, arith}
 use Rattle.std.specs.Prelude.{IfOk}
-use Rattle.c_counted.specs.Counted.{outcome_of}
-use Rattle.c_counted.specs.Runs.{Run}
+use Rattle.c_meaning.specs.Counted.{outcome_of}
+use Rattle.c_meaning.specs.Runs.{Run}
 use Rattle.c_machine.proofs.Endings.{whole-call}
 use Rattle.c_machine.proofs.machine.Machine.call_outcome.Goals as goal
 

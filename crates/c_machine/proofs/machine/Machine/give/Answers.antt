@@ -2,7 +2,7 @@ use Rattle.std.proofs.Common.{◌≡◌, ℤ, List, ◌∙◌, ap, sym, take, ar
 use Rattle.std.proofs.lemmas.Grind.{common_steps}
 use mir.Syntax.{w128}
 use mir.Val.{of_z, to_z}
-use Rattle.c_counted.specs.Counted.{counted}
+use Rattle.c_meaning.specs.Counted.{counted}
 use Rattle.c_code.specs.Flat.{Back, Rest, rests}
 use Rattle.c_machine.specs.Machines.{back_to}
 use Rattle.c_machine.proofs.RunningCode.{steps-same}

@@ -2,7 +2,7 @@ use Rattle.std.proofs.Common.{◌≡◌, length, ◌-◌, ◌∙◌, ℕ, suc, S
 use Rattle.std.specs.Prelude.{slice_get}
 use Rattle.std.proofs.Math.ListN.{length-append}
 use Rattle.std.proofs.lemmas.Option.{slice_get_within}
-use Rattle.c_counted.specs.Counted.{counted}
+use Rattle.c_meaning.specs.Counted.{counted}
 use Rattle.c_code.specs.Flat.{Back, Rest, op_to, rests, code_run}
 use Rattle.c_machine.specs.Machines.{back_to, machine_run}
 use Rattle.c_code.specs.Stores.{Kept, called}

@@ -1,6 +1,6 @@
 use Rattle.std.proofs.Common.{◌≤◌, ◌∙◌, length, refl, ap, sym, arith}
 use Rattle.std.proofs.lemmas.Option.{slice_get_read}
-use Rattle.c_counted.specs.Counted.{counted, outcome_of}
+use Rattle.c_meaning.specs.Counted.{counted, outcome_of}
 use Rattle.c_code.specs.Flat.{Back, Rest}
 use Rattle.c_machine.specs.Machines.{back_to}
 use Rattle.c_machine.proofs.RunningCode.{falls-round, lost-above, lost-past, lower-kept}

@@ -1,7 +1,7 @@
 use Rattle.std.proofs.Common.{◌≡◌, subst}
 use Rattle.std.specs.Prelude.{IfOk}
 use Rattle.std.specs.Option.{option_copied}
-use Rattle.c_counted.specs.declared.outcomes.Outcome.{Outcome}
+use Rattle.c_meaning.specs.declared.outcomes.Outcome.{Outcome}
 use Rattle.c_machine.proofs.Endings.{whole-expr}
 use Rattle.c_machine.proofs.machine.Machine.whole_outcome.Goals as goal
 

@@ -13,7 +13,7 @@ use Rattle.c_ast.specs.declared.expr.Expr.TheOpen.{Expr-F}
 use Rattle.c_ast.specs.declared.expr.Expr.TheFolds.{fold-Expr}
 use Rattle.c_meaning.specs.Outcomes.{State}
 use Rattle.c_meaning.specs.Expressions.{slot, is_zero, truth}
-use Rattle.c_counted.specs.Runs.{Run, Value, DivisionError, on_value, exact}
+use Rattle.c_meaning.specs.Runs.{Run, Value, DivisionError, on_value, exact}
 
 -- what a call leads to, for the rounds that are left before it, the called function's place in the
 -- list and the arguments

@@ -11,9 +11,9 @@ use Rattle.c_ast.specs.declared.stmt.Stmt.TheVariants as syntax
 use Rattle.c_ast.specs.declared.stmt.Stmt.TheFolds.{fold_out-Stmt}
 use Rattle.c_meaning.specs.Outcomes.{State, Next, Break, Continue, Return}
 use Rattle.c_meaning.specs.Expressions.{slot, is_zero}
-use Rattle.c_counted.specs.Runs.{Value, on_value}
-use Rattle.c_counted.specs.Expressions.{Calls, Evaluation, unary, with_left, values, expr_level, expr}
-use Rattle.c_counted.specs.Statements.{Execution, optional, on_next, in_order, leave, loop, while_turn, do_turn, stmt_level, stmt}
+use Rattle.c_meaning.specs.Runs.{Value, on_value}
+use Rattle.c_meaning.specs.CountedExpressions.{Calls, Evaluation, unary, with_left, values, expr_level, expr}
+use Rattle.c_meaning.specs.CountedStatements.{Execution, optional, on_next, in_order, leave, loop, while_turn, do_turn, stmt_level, stmt}
 
 -- what both sides of an equation between evaluations lead to
 evaluated : {m n : Evaluation} → m ≡ n → (left : ℕ) (s : State) → m left s ≡ n left s

@@ -6,11 +6,11 @@ use Rattle.c_ast.specs.declared.expr.Expr.{Expr}
 use Rattle.c_ast.specs.declared.program.Function.{Function}
 use Rattle.c_ast.specs.declared.program.Resolved.{Resolved}
 use Rattle.c_meaning.specs.Outcomes.{State, Flow, Next, Break, Continue, Return}
-use Rattle.c_counted.specs.declared.outcomes.Outcome.{Outcome}
-use Rattle.c_counted.specs.declared.outcomes.Outcome.TheVariants as outcome
-use Rattle.c_counted.specs.Runs.{Run, Value, DivisionError, More, Over, on_value}
-use Rattle.c_counted.specs.Expressions.{Calls, expr}
-use Rattle.c_counted.specs.Statements.{in_order, stmt}
+use Rattle.c_meaning.specs.declared.outcomes.Outcome.{Outcome}
+use Rattle.c_meaning.specs.declared.outcomes.Outcome.TheVariants as outcome
+use Rattle.c_meaning.specs.Runs.{Run, Value, DivisionError, More, Over, on_value}
+use Rattle.c_meaning.specs.CountedExpressions.{Calls, expr}
+use Rattle.c_meaning.specs.CountedStatements.{in_order, stmt}
 
 -- what the end of a body gives its caller (6.5.2.2p5, 6.8.6.4p3, 6.9.1p12): a return its integer,
 -- and reaching the body's end 0

@@ -3,8 +3,8 @@
 ghost use Rattle.std.specs.Prelude.{◌≡◌, ◌≤◌, ℕ, List, ℤ};
 ghost use Rattle.c_ast.specs.declared.expr.Expr.{Expr};
 ghost use Rattle.c_ast.specs.declared.program.Resolved.{Resolved};
-ghost use Rattle.c_counted.specs.Counted.{counted, counted_expr};
-ghost use Rattle.c_counted.specs.Runs.{Value, DivisionError};
+ghost use Rattle.c_meaning.specs.Counted.{counted, counted_expr};
+ghost use Rattle.c_meaning.specs.Runs.{Value, DivisionError};
 ghost use Rattle.c_meaning.specs.Outcomes as meaning;
 ghost use Rattle.c_meaning.specs.Outcomes.{State};
 ghost use Rattle.c_meaning.specs.Programs.{call_outcome, expr_outcome, Returns};

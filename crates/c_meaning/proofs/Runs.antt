@@ -1,6 +1,6 @@
 -- Runs that go on after one another.
 use Rattle.std.proofs.Common.{◌≡◌, ℕ, refl}
-use Rattle.c_counted.specs.Runs.{Run, Value, DivisionError, More, Over, on_value}
+use Rattle.c_meaning.specs.Runs.{Run, Value, DivisionError, More, Over, on_value}
 
 -- it doesn't matter which two of three parts are taken together
 pub on_value-on_value : {A B C : Type 0} (r : Run A) (f : A → ℕ → Run B) (g : B → ℕ → Run C)

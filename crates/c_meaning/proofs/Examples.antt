@@ -7,9 +7,9 @@ use Rattle.c_ast.specs.declared.stmt.Stmt.{Stmt}
 use Rattle.c_ast.specs.declared.stmt.Stmt.TheVariants.{Declare, Assign, If, While, Return, Block}
 use Rattle.c_ast.specs.declared.program.Function.{Function}
 use Rattle.c_ast.specs.declared.program.Resolved.{Resolved}
-use Rattle.c_counted.specs.Runs.{Value, DivisionError, More, Over}
-use Rattle.c_counted.specs.Counted.{counted}
-use Rattle.c_counted.proofs.Equations.{equations}
+use Rattle.c_meaning.specs.Runs.{Value, DivisionError, More, Over}
+use Rattle.c_meaning.specs.Counted.{counted}
+use Rattle.c_meaning.proofs.CountedEquations.{equations}
 
 -- a function, by its name's token, its parameters and its body
 abbrev function : ℕ → List ℕ → List Stmt → Function

@@ -1,7 +1,7 @@
 use Rattle.std.proofs.Common.{arith}
-use Rattle.c_counted.specs.Counted.{counted, counted_expr}
-use Rattle.c_counted.proofs.Bounds.{left_below, counted_agree, expr_agrees}
-use Rattle.c_counted.proofs.laws.what_is_left_was_there.Goals as goal
+use Rattle.c_meaning.specs.Counted.{counted, counted_expr}
+use Rattle.c_meaning.proofs.Bounds.{left_below, counted_agree, expr_agrees}
+use Rattle.c_meaning.proofs.counted_laws.what_is_left_was_there.Goals as goal
 
 pub returns-clause-calls : goal.returns-clause-calls
 returns-clause-calls c = λ program n f arguments x left is.

@@ -8,8 +8,8 @@ use Rattle.c_ast.specs.declared.stmt.Stmt.TheFolds.{fold-Stmt}
 use Rattle.c_meaning.specs.Outcomes.{State, Flow, Next, Break, Continue, Return}
 use Rattle.c_meaning.specs.Expressions.{is_zero}
 use Rattle.c_meaning.specs.Statements.{Turn, Again, Ends}
-use Rattle.c_counted.specs.Runs.{Run, Value, More, on_value}
-use Rattle.c_counted.specs.Expressions.{Calls, expr}
+use Rattle.c_meaning.specs.Runs.{Run, Value, More, on_value}
+use Rattle.c_meaning.specs.CountedExpressions.{Calls, expr}
 
 -- what a statement leads to, from the rounds that are left before it and a state
 abbrev pub Execution : Type 0

@@ -1,7 +1,7 @@
 use Rattle.c_meaning.specs.Programs.{call_outcome}
-use Rattle.c_counted.specs.Counted.{counted}
-use Rattle.c_counted.proofs.Meaning.{value_meant, division_meant, call_means}
-use Rattle.c_counted.proofs.laws.counted_calls_are_meant.Goals as goal
+use Rattle.c_meaning.specs.Counted.{counted}
+use Rattle.c_meaning.proofs.Meaning.{value_meant, division_meant, call_means}
+use Rattle.c_meaning.proofs.counted_laws.counted_calls_are_meant.Goals as goal
 
 pub returns-clause-value : goal.returns-clause-value
 returns-clause-value c = λ program n f arguments x left is.

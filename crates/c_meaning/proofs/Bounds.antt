@@ -19,10 +19,10 @@ use Rattle.c_ast.specs.declared.program.Resolved.{Resolved}
 use Rattle.c_meaning.specs.Outcomes.{State, Flow, Next, Break, Continue, Return}
 use Rattle.c_meaning.specs.Expressions.{is_zero}
 use Rattle.c_meaning.specs.Statements.{Turn, Again, Ends}
-use Rattle.c_counted.specs.Runs.{Run, Value, DivisionError, More, Over, on_value, fits_i128, exact}
-use Rattle.c_counted.specs.Expressions.{Calls, Evaluation, unary, short_circuit, apply, unless_known, values, expr_level, expr}
-use Rattle.c_counted.specs.Statements.{Execution, optional, on_next, in_order, leave, on_again, turns, loop, after_body, after_change, condition, while_turn, do_turn, stmt_level, stmt}
-use Rattle.c_counted.specs.Counted.{returned, body_run, nested_calls, counted}
+use Rattle.c_meaning.specs.Runs.{Run, Value, DivisionError, More, Over, on_value, fits_i128, exact}
+use Rattle.c_meaning.specs.CountedExpressions.{Calls, Evaluation, unary, short_circuit, apply, unless_known, values, expr_level, expr}
+use Rattle.c_meaning.specs.CountedStatements.{Execution, optional, on_next, in_order, leave, on_again, turns, loop, after_body, after_change, condition, while_turn, do_turn, stmt_level, stmt}
+use Rattle.c_meaning.specs.Counted.{returned, body_run, nested_calls, counted}
 
 -- both runs lead to the same, and leave at most n rounds
 pub data Agrees (A : Type 0) (n : ℕ) : Run A → Run A → Type 0 where

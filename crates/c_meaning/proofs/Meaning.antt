@@ -24,10 +24,10 @@ use Rattle.c_meaning.specs.Statements.{Rounds, Turn, Again, Ends, calls_with}
 use Rattle.c_meaning.specs.Statements as statements
 use Rattle.c_meaning.specs.Programs.{rounds, call_outcome, body_outcome}
 use Rattle.c_meaning.specs.Programs as programs
-use Rattle.c_counted.specs.Runs.{Run, Value, DivisionError, More, Over, on_value, fits_i128, exact}
-use Rattle.c_counted.specs.Expressions.{Calls, Evaluation, unary, unless_known, with_left, values, expr_level, expr}
-use Rattle.c_counted.specs.Statements.{Execution, optional, on_next, in_order, leave, on_again, turns, loop, after_body, after_change, condition, while_turn, do_turn, stmt_level, stmt}
-use Rattle.c_counted.specs.Counted.{returned, body_run, nested_calls, counted}
+use Rattle.c_meaning.specs.Runs.{Run, Value, DivisionError, More, Over, on_value, fits_i128, exact}
+use Rattle.c_meaning.specs.CountedExpressions.{Calls, Evaluation, unary, unless_known, with_left, values, expr_level, expr}
+use Rattle.c_meaning.specs.CountedStatements.{Execution, optional, on_next, in_order, leave, on_again, turns, loop, after_body, after_change, condition, while_turn, do_turn, stmt_level, stmt}
+use Rattle.c_meaning.specs.Counted.{returned, body_run, nested_calls, counted}
 
 -- a run that leads to a value or to the division error has this outcome; it leaves at most n rounds
 pub data Means (A : Type 0) (n : ℕ) : Run A → Outcome A → Type 0 where
