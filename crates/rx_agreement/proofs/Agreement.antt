@@ -15,11 +15,11 @@ use Rattle.rx_term.proofs.RuleLaws.{results_rest}
 use Rattle.c_ast.specs.declared.program.Function.{Function}
 use Rattle.c_ast.specs.declared.program.Resolved.{Resolved}
 use Rattle.rx_code.specs.Programs.{entry_of}
-use Rattle.rx_code_laws.specs.Carried.{CarriesProgram, TakesCall, acts_in}
+use Rattle.rx_code.specs.Carried.{CarriesProgram, TakesCall, acts_in}
 use Rattle.rx_code.specs.Codes.{HasCode}
-use Rattle.rx_code_laws.specs.Doing.{DoAll}
+use Rattle.rx_code.specs.Doing.{DoAll}
 use Rattle.rx_code.specs.declared.code.Code.{Code}
-use Rattle.rx_code_laws.proofs.ProgramCode.{mapped_at}
+use Rattle.rx_code.proofs.ProgramCode.{mapped_at}
 use Rattle.rx_agreement.specs.Agreement.{AgreeOn, result_of}
 use Rattle.rx_agreement.proofs.Loops.{loops, total}
 use Rattle.rx_agreement.proofs.Programs.{IsCompiled, agree}

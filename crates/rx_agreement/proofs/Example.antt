@@ -43,7 +43,7 @@ use Rattle.rx_code.specs.Statements.{Compiled}
 use Rattle.rx_code.specs.Translation.{IsTranslation}
 use Rattle.rx_code.specs.declared.code.Code.{Code}
 use Rattle.rx_code.proofs.Computing.{StmtsAre, apply, argument, binary, breaks, lit, no_argument, no_statement, returns, statement, var, while_loop}
-use Rattle.rx_code_laws.proofs.Elements.{no_element}
+use Rattle.rx_code.proofs.Elements.{no_element}
 use Rattle.rx_agreement.specs.Agreement.{AgreeOn}
 use Rattle.rx_agreement.specs.Example.{example, example_code, example_parts, inverse, last}
 use Rattle.rx_agreement.proofs.Translated.{first_agrees}

@@ -33,9 +33,9 @@ use Rattle.rx_code.specs.Codes.{IsComparison}
 use Rattle.rx_code.specs.Expressions as table
 use Rattle.rx_code.specs.Preconditions.{Read, pre_rows, read_expr}
 use Rattle.rx_code.proofs.ReadEquations.{read-Lit, read-Var, read-Unary, read-Binary}
-use Rattle.rx_code_laws.proofs.Elements.{all_left, all_right}
-use Rattle.rx_code_laws.proofs.Trees as tree
-use Rattle.rx_code_laws.proofs.Trees.{ExprTree, expr_tree}
+use Rattle.rx_code.proofs.Elements.{all_left, all_right}
+use Rattle.rx_code.proofs.Trees as tree
+use Rattle.rx_code.proofs.Trees.{ExprTree, expr_tree}
 use Rattle.rx_agreement.specs.Agreement.{MeansItsRows}
 use Rattle.rx_agreement.proofs.Values.{value-difference}
 use Rattle.rx_agreement.proofs.Comparisons.{comparison_tests, comparison_value, test_of}

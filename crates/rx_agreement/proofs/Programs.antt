@@ -16,7 +16,7 @@ use Rattle.c_meaning.specs.Statements.{Rounds, in_order, stmt}
 use Rattle.c_meaning.specs.Programs.{returned, body_outcome, rounds, call_outcome, Returns}
 use Rattle.rx_term.specs.Assigned.{assigned}
 use Rattle.rx_code.specs.Points.{Actions}
-use Rattle.rx_code_laws.specs.Doing.{DoAll, at_point}
+use Rattle.rx_code.specs.Doing.{DoAll, at_point}
 use Rattle.rx_code.specs.declared.action.Action.TheVariants as does_at
 use Rattle.rx_code.specs.declared.point.Point.{Point}
 use Rattle.rx_code.specs.Codes.{HasCode}

@@ -7,7 +7,7 @@ use Rattle.rx_rewriting.specs.Terms.{Ground, Relation}
 use Rattle.rx_rewriting.specs.Steps.{ReachesIn}
 use Rattle.c_meaning.specs.Expressions.{is_zero, slot}
 use Rattle.rx_term.specs.Assigned.{assigned}
-use Rattle.rx_code_laws.specs.Doing.{at_point}
+use Rattle.rx_code.specs.Doing.{at_point}
 use Rattle.rx_code.specs.declared.point.Point.{Point}
 
 -- the first or the second, by a test

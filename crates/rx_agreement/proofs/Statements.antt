@@ -19,7 +19,7 @@ use Rattle.c_meaning.specs.Statements.{Rounds, calls_with, optional, on_next, in
 use Rattle.c_meaning.proofs.Equations as means
 use Rattle.rx_term.specs.Assigned.{assigned}
 use Rattle.rx_code.specs.Points.{Actions, with_element}
-use Rattle.rx_code_laws.specs.Doing.{DoAll, at_point}
+use Rattle.rx_code.specs.Doing.{DoAll, at_point}
 use Rattle.rx_code.specs.declared.action.Action.TheVariants.{Go, Set}
 use Rattle.rx_code.specs.declared.action.Action.TheVariants as does_at
 use Rattle.rx_code.specs.declared.point.Point.{Point}
@@ -28,7 +28,7 @@ use Rattle.rx_code.specs.Codes.{IsValue, IsCondition, IsStatement, IsList, IsBeg
 use Rattle.rx_agreement.proofs.Loops.{loops, of_part, total}
 use Rattle.std.specs.Prelude.{option_map}
 use Rattle.rx_agreement.proofs.Runs.{Runs, RunsOn, Long, Comes, Forked, Branch, Over}
-use Rattle.rx_code_laws.proofs.Lists.{take-take, assigned-take, take-with_element, with_element-end-is, take-with_element-set}
+use Rattle.rx_code.proofs.Lists.{take-take, assigned-take, take-with_element, with_element-end-is, take-with_element-set}
 use Rattle.rx_agreement.proofs.Leads.{Leads, run-none, run-step, run-trans, run-on, on-run, on-then, leads-after, times_sum}
 use Rattle.rx_agreement.proofs.LoopCounts as count
 use Rattle.rx_agreement.proofs.Values.{value_runs, condition_runs}

@@ -25,7 +25,7 @@ use Rattle.rx_code.specs.Programs.{entry_of, program_code}
 use Rattle.rx_code.specs.Reached.{IsFirst, IsSecond, Reached}
 use Rattle.rx_code.specs.Translation.{IsTranslation, goal_at}
 use Rattle.rx_code.specs.declared.code.Code.{Code}
-use Rattle.rx_code_laws.proofs.Translations.{entry_declared, one_failure, reached_entry, translation_carries, translation_does, translation_made, translation_paired}
+use Rattle.rx_code.proofs.CodeLawsTranslations.{entry_declared, one_failure, reached_entry, translation_carries, translation_does, translation_made, translation_paired}
 use Rattle.rx_agreement.specs.Agreement.{AgreeOn, ReachConvertible, ReturnAlike, result_of}
 use Rattle.rx_agreement.proofs.Agreement.{carried_code_agrees}
 

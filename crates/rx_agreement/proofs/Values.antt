@@ -28,7 +28,7 @@ use Rattle.c_meaning.specs.Expressions.{Calls, slot, is_zero, truth, unary, bina
 use Rattle.c_meaning.proofs.Equations.{expr-Lit, expr-Var, expr-Unary, expr-Binary, expr-Choose, expr-Apply}
 use Rattle.rx_term.specs.Assigned.{assigned}
 use Rattle.rx_code.specs.Points.{Actions, division_result, with_element}
-use Rattle.rx_code_laws.specs.Doing.{DoAll, at_point}
+use Rattle.rx_code.specs.Doing.{DoAll, at_point}
 use Rattle.rx_code.specs.declared.action.Action.TheVariants.{Set, Test, Divide, Call, Resume}
 use Rattle.rx_code.specs.declared.action.Division.{Division}
 use Rattle.rx_code.specs.declared.point.Point.{Point}
@@ -36,7 +36,7 @@ use Rattle.rx_code.specs.Codes as code
 use Rattle.rx_code.specs.Codes.{IsValue, AreValues, IsCondition, IsComparison, IsArithmetic, IsDivision, IsLogical, Forks}
 use Rattle.rx_agreement.proofs.Runs.{Runs, RunsOn, Long, Stands, Comes, AllCome, Forked, Branch, Over}
 use Rattle.rx_agreement.proofs.Comparisons.{Tests, test_fails, test_of, comparison_tests, comparison_value, comparison_outcome}
-use Rattle.rx_code_laws.proofs.Lists.{assigned-append, assigned-next, with_element-end}
+use Rattle.rx_code.proofs.Lists.{assigned-append, assigned-next, with_element-end}
 use Rattle.rx_agreement.proofs.Leads.{Leads, run-none, run-step, run-trans, run-on, on-run, on-then, long-after, leads-on, leads-after, times_sum}
 
 pub value-difference : (α : ℕ → ℤ) (p q : Body) → value α (body_sum p (scaled_by (negsuc 0) q)) ≡

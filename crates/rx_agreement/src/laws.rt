@@ -21,8 +21,8 @@ ghost use Rattle.rx_code.specs.Reached.{Reached};
 ghost use Rattle.rx_code.specs.Rules.{symbol};
 ghost use Rattle.rx_code.specs.Translation.{IsTranslation, goal_at};
 ghost use Rattle.rx_code.specs.declared.code.Code.{Code};
-ghost use Rattle.rx_code_laws.specs.Carried.{CarriesProgram, acts_in};
-ghost use Rattle.rx_code_laws.specs.Doing.{DoAll};
+ghost use Rattle.rx_code.specs.Carried.{CarriesProgram, acts_in};
+ghost use Rattle.rx_code.specs.Doing.{DoAll};
 ghost use Rattle.rx_agreement.specs.Agreement.{AgreeOn, MeansItsRows, ReachConvertible, ReturnAlike};
 ghost use Rattle.rx_agreement.specs.Example.{example, example_parts};
 

@@ -8,7 +8,7 @@ use Rattle.c_front.proofs.StageLaws.{IsOne, one_before}
 use Rattle.c_front.specs.Front.{count_in}
 use Rattle.rx_check.proofs.Pairs.{one_verdict}
 use Rattle.rx_code.specs.Translation.{goal_at}
-use Rattle.rx_code_laws.proofs.Translations.{not_beyond, one_translation, translation_made}
+use Rattle.rx_code.proofs.CodeLawsTranslations.{not_beyond, one_translation, translation_made}
 use Rattle.rx_command.specs.Commands.{Check, Command, Compare, Comparison, Demo, Functions, Prove, Refute, command_of}
 use Rattle.rx_command.specs.declared.command.Effort.{Effort}
 use Rattle.rx_io.specs.Outside.{Names}

@@ -14,7 +14,7 @@ use Rattle.rx_term.specs.declared.rule.Equation.{Equation}
 use Rattle.rx_term.specs.declared.rule_set.RuleParts.{RuleParts}
 use Rattle.rx_rewriting.specs.Terms.{Ground}
 use Rattle.rx_code.specs.Translation.{goal_at}
-use Rattle.rx_code_laws.proofs.Translations.{left_fits, right_fits, translation_made}
+use Rattle.rx_code.proofs.CodeLawsTranslations.{left_fits, right_fits, translation_made}
 use Rattle.rx_agreement.specs.Agreement.{ReachConvertible}
 use Rattle.rx_agreement.proofs.Preconditions.{means_its_rows}
 use Rattle.rx_agreement.proofs.Translated.{goal_alike}

@@ -1,14 +1,17 @@
 -- What C programs are compiled to, as a table: pieces of code, expressions, statements, functions
 -- and programs, the rules of code, the rule set of two functions; and what it guarantees of points,
 -- as a relation without numbers.
-pub mod Points
+-- What rules do at points, and code that carries a program.
+pub mod Carried
 pub mod Codes
-pub mod Pieces
-pub mod Expressions
-pub mod Statements
-pub mod Programs
-pub mod Rules
-pub mod Reached
-pub mod Translation
-pub mod Preconditions
+pub mod Doing
 pub mod Example
+pub mod Expressions
+pub mod Pieces
+pub mod Points
+pub mod Preconditions
+pub mod Programs
+pub mod Reached
+pub mod Rules
+pub mod Statements
+pub mod Translation

@@ -7,7 +7,7 @@ use Rattle.std.proofs.lemmas.List.{get_or-replicate, get_or-set_other, get_or-se
 use Rattle.rx_plain.proofs.Booleans.{or_assoc, or_false, or_true}
 use Rattle.rx_plain.proofs.Kept.{first_one, first_or_other, other_one}
 use Rattle.rx_code.specs.Reached.{IsRising, no_number, next_number}
-use Rattle.rx_code_laws.proofs.Elements.{all_from, no_element}
+use Rattle.rx_code.proofs.Elements.{all_from, no_element}
 use Rattle.rx_translate.specs.Marks.{IsMarked, marked_also, marked_from, marks_of}
 
 -- ---- marks that are given

@@ -15,8 +15,8 @@ use Rattle.rx_code.specs.Reached.{AreReached}
 use Rattle.rx_code.specs.Rules.{deed_within, parts_of, symbol}
 use Rattle.rx_code.specs.Translation.{IsBeyond, IsTranslation}
 use Rattle.rx_code.specs.declared.code.Code.{Code}
-use Rattle.rx_code_laws.proofs.ProgramCode.{mapped_at}
-use Rattle.rx_code_laws.proofs.Translations.{translation_made}
+use Rattle.rx_code.proofs.ProgramCode.{mapped_at}
+use Rattle.rx_code.proofs.CodeLawsTranslations.{translation_made}
 use Rattle.rx_translate.specs.Arity.{AritiesDiffer, HasParameters}
 use Rattle.rx_translate.specs.Parts.{parts_formed}
 use Rattle.rx_translate.proofs.Walks.{function_read}

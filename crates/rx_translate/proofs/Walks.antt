@@ -12,7 +12,7 @@ use Rattle.c_ast.proofs.CallEquations.{calls_of_list}
 use Rattle.c_ast.proofs.ScopedLaws.{body_calls_there}
 use Rattle.rx_plain.proofs.Kept.{first_one, first_or_other, other_one}
 use Rattle.rx_code.specs.Reached.{AreReached, ByCall, IsFirst, IsSecond, Reached, calls_of}
-use Rattle.rx_code_laws.proofs.Elements.{no_element}
+use Rattle.rx_code.proofs.Elements.{no_element}
 use Rattle.rx_translate.specs.Marks.{IsMarked, MarksReached, marked_from}
 use Rattle.rx_translate.proofs.MarkLemmas.{is_marked, is_there, marked_rising}
 

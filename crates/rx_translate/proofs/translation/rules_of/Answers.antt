@@ -3,7 +3,7 @@ use Rattle.std.proofs.lemmas.Result.{IfOk-weaker}
 use Rattle.c_ast.specs.declared.program.Function.{Function}
 use Rattle.rx_term.specs.Paired.{IsPaired}
 use Rattle.rx_code.specs.Translation.{IsTranslation}
-use Rattle.rx_code_laws.proofs.Translations.{translation_paired}
+use Rattle.rx_code.proofs.CodeLawsTranslations.{translation_paired}
 use Rattle.rx_translate.specs.declared.translation.Translation.{Translation}
 use Rattle.rx_translate.proofs.Translated.{no_difference}
 use Rattle.rx_translate.proofs.translation.rules_of.Goals as goal

@@ -32,11 +32,11 @@ use Rattle.rx_code.specs.declared.code.Code.{Code}
 use Rattle.rx_code.specs.declared.point.Opening.{Opening}
 use Rattle.rx_code.specs.declared.point.Point.{Point}
 use Rattle.rx_code.proofs.ExprEquations.{code-Lit, code-Var, code-Unary, code-Binary, code-Choose, code-Apply}
-use Rattle.rx_code_laws.proofs.Elements.{no_element}
-use Rattle.rx_code_laws.proofs.ExprCodes.{count_values}
-use Rattle.rx_code_laws.proofs.Scoped as scope
-use Rattle.rx_code_laws.proofs.Scoped.{AreExprs, IsExpr}
-use Rattle.rx_code_laws.proofs.Whole.{FitsCode, IsOpened, IsTarget, Suits, is_resume}
+use Rattle.rx_code.proofs.Elements.{no_element}
+use Rattle.rx_code.proofs.ExprCodes.{count_values}
+use Rattle.rx_code.proofs.Scoped as scope
+use Rattle.rx_code.proofs.Scoped.{AreExprs, IsExpr}
+use Rattle.rx_code.proofs.Whole.{FitsCode, IsOpened, IsTarget, Suits, is_resume}
 
 -- ---- variables of polynomials
 

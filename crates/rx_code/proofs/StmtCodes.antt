@@ -16,9 +16,9 @@ use Rattle.rx_code.specs.declared.action.Action.TheVariants.{Go, Set, Return}
 use Rattle.rx_code.specs.declared.point.Point.{Point}
 use Rattle.rx_code.proofs.ExprEquations.{code-Lit}
 use Rattle.rx_code.proofs.StmtEquations.{code-Empty, code-Declare, code-Assign, code-If, code-While, code-DoWhile, code-For, code-Break, code-Continue, code-Return, code-Block}
-use Rattle.rx_code_laws.proofs.ExprCodes.{CodesExpr, Written, expr_coded, written_deed, written_left, written_right}
-use Rattle.rx_code_laws.proofs.Scoped as scope
-use Rattle.rx_code_laws.proofs.Scoped.{AreStmts, IsExpr, IsStmt, all_slots_stay, no_more, slots_stay}
+use Rattle.rx_code.proofs.ExprCodes.{CodesExpr, Written, expr_coded, written_deed, written_left, written_right}
+use Rattle.rx_code.proofs.Scoped as scope
+use Rattle.rx_code.proofs.Scoped.{AreStmts, IsExpr, IsStmt, all_slots_stay, no_more, slots_stay}
 
 module _ (acts : Actions) (callable : ℕ → ℕ → Type 0) where
   -- the compiled statement leaves n slots, and is the statement's code at all places

@@ -18,9 +18,9 @@ use Rattle.c_ast.proofs.CallEquations as called
 use Rattle.c_ast.proofs.ScopedEquations as scoped
 use Rattle.c_ast.proofs.ScopedLaws.{fine_is, only_if_is, then_is}
 use Rattle.rx_code.specs.Codes.{test_or_one}
-use Rattle.rx_code_laws.proofs.Elements.{all_left, all_right}
-use Rattle.rx_code_laws.proofs.Trees as tree
-use Rattle.rx_code_laws.proofs.Trees.{ExprTree, ExprTrees, StmtTree, StmtTrees, expr_tree, stmt_tree, stmt_trees}
+use Rattle.rx_code.proofs.Elements.{all_left, all_right}
+use Rattle.rx_code.proofs.Trees as tree
+use Rattle.rx_code.proofs.Trees.{ExprTree, ExprTrees, StmtTree, StmtTrees, expr_tree, stmt_tree, stmt_trees}
 
 -- `callable` says of a function, by its place, whether it takes n arguments
 module _ (callable : ℕ → ℕ → Type 0) where

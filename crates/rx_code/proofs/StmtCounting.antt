@@ -13,9 +13,9 @@ use Rattle.rx_code.specs.declared.action.Action.TheVariants.{Go, Set, Return}
 use Rattle.rx_code.specs.declared.code.Code.{Code}
 use Rattle.rx_code.specs.declared.point.Point.{Point}
 use Rattle.rx_code.proofs.StmtEquations.{code-Empty, code-Declare, code-Assign, code-If, code-While, code-DoWhile, code-For, code-Break, code-Continue, code-Return, code-Block}
-use Rattle.rx_code_laws.proofs.Counting.{Closed, CountsExpr, does_closed, expr_counted, joined, no_entries, one_opened, open_closed, two_from}
-use Rattle.rx_code_laws.proofs.Trees as tree
-use Rattle.rx_code_laws.proofs.Trees.{StmtTree, StmtTrees}
+use Rattle.rx_code.proofs.Counting.{Closed, CountsExpr, does_closed, expr_counted, joined, no_entries, one_opened, open_closed, two_from}
+use Rattle.rx_code.proofs.Trees as tree
+use Rattle.rx_code.proofs.Trees.{StmtTree, StmtTrees}
 
 module _ (x : ℕ) where
   pub record CountsStmt (y : Compiled) : Type 0 where

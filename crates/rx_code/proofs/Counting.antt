@@ -19,8 +19,8 @@ use Rattle.rx_code.specs.declared.action.Division.TheVariants.{Quotient, Remaind
 use Rattle.rx_code.specs.declared.code.Code.{Code}
 use Rattle.rx_code.specs.declared.point.Point.{Point}
 use Rattle.rx_code.proofs.ExprEquations.{code-Lit, code-Var, code-Unary, code-Binary, code-Choose, code-Apply}
-use Rattle.rx_code_laws.proofs.Trees as tree
-use Rattle.rx_code_laws.proofs.Trees.{ExprTree, ExprTrees}
+use Rattle.rx_code.proofs.Trees as tree
+use Rattle.rx_code.proofs.Trees.{ExprTree, ExprTrees}
 
 -- 1 for true
 abbrev pub one_if : Bool → ℕ

@@ -26,15 +26,15 @@ use Rattle.rx_code.specs.declared.action.Deed.{Deed}
 use Rattle.rx_code.specs.declared.code.Code.{Code}
 use Rattle.rx_code.specs.declared.point.Opening.{Opening}
 use Rattle.rx_code.specs.declared.point.Point.{Point}
-use Rattle.rx_code_laws.specs.Carried.{CarriesProgram, TakesCall, acts_in}
-use Rattle.rx_code_laws.proofs.Counting.{among_from, at_symbol, deeds_at, joined, one_if}
-use Rattle.rx_code_laws.proofs.Elements.{all_from, no_element}
-use Rattle.rx_code_laws.proofs.Fitting.{Fits, StandsIn, after_deed, deed_fits, first_point, fits_append, later_point, number_below, stands_left, stands_right}
-use Rattle.rx_code_laws.proofs.Scoped.{AreStmts, MayCall, scoped_list}
-use Rattle.rx_code_laws.proofs.StmtCodes.{list_coded}
-use Rattle.rx_code_laws.proofs.StmtCounting.{list_is_counted}
-use Rattle.rx_code_laws.proofs.StmtFitting.{list_fits}
-use Rattle.rx_code_laws.proofs.Whole.{IsOpened, IsWhole, is_at}
+use Rattle.rx_code.specs.Carried.{CarriesProgram, TakesCall, acts_in}
+use Rattle.rx_code.proofs.Counting.{among_from, at_symbol, deeds_at, joined, one_if}
+use Rattle.rx_code.proofs.Elements.{all_from, no_element}
+use Rattle.rx_code.proofs.Fitting.{Fits, StandsIn, after_deed, deed_fits, first_point, fits_append, later_point, number_below, stands_left, stands_right}
+use Rattle.rx_code.proofs.Scoped.{AreStmts, MayCall, scoped_list}
+use Rattle.rx_code.proofs.StmtCodes.{list_coded}
+use Rattle.rx_code.proofs.StmtCounting.{list_is_counted}
+use Rattle.rx_code.proofs.StmtFitting.{list_fits}
+use Rattle.rx_code.proofs.Whole.{IsOpened, IsWhole, is_at}
 
 -- ---- lists
 

@@ -1,6 +1,6 @@
 use Rattle.c_ast.proofs.ScopedEquations.{scoped_equations}
 use Rattle.rx_code.proofs.Translations.{calls_translated}
-use Rattle.rx_code_laws.proofs.laws.the_premises_can_be_met.Goals as goal
+use Rattle.rx_code.proofs.code_laws.the_premises_can_be_met.Goals as goal
 
 pub returns-clause-scoped : goal.returns-clause-scoped
 returns-clause-scoped c = simp scoped_equations

@@ -26,8 +26,8 @@ use Rattle.rx_code.specs.declared.action.Division.TheVariants.{Quotient, Remaind
 use Rattle.rx_code.specs.declared.code.Code.{Code}
 use Rattle.rx_code.specs.declared.point.Point.{Point}
 use Rattle.rx_code.proofs.ExprEquations.{code-Lit, code-Var, code-Unary, code-Binary, code-Choose, code-Apply}
-use Rattle.rx_code_laws.proofs.Scoped as scope
-use Rattle.rx_code_laws.proofs.Scoped.{IsExpr, AreExprs}
+use Rattle.rx_code.proofs.Scoped as scope
+use Rattle.rx_code.proofs.Scoped.{IsExpr, AreExprs}
 
 -- each argument has a value
 pub count_values : (xs : List Asked) (a : Point) (next : ℕ) → length (arguments xs a next).values ≡

@@ -14,8 +14,8 @@ ghost use Rattle.rx_code.specs.Programs.{entry_of, program_code};
 ghost use Rattle.rx_code.specs.Reached.{Reached};
 ghost use Rattle.rx_code.specs.Rules.{symbol};
 ghost use Rattle.rx_code.specs.Translation.{IsBeyond, IsTranslation, goal_at};
-ghost use Rattle.rx_code_laws.specs.Carried.{CarriesProgram, acts_in};
-ghost use Rattle.rx_code_laws.specs.Doing.{DoAll};
+ghost use Rattle.rx_code.specs.Carried.{CarriesProgram, acts_in};
+ghost use Rattle.rx_code.specs.Doing.{DoAll};
 
 /// The code of a translation carries the program: from the entry of each function on, points carry
 /// the code of its body (`carried`). Each function that is reached and is in the program has an

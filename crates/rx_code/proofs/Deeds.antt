@@ -30,8 +30,8 @@ use Rattle.rx_code.specs.declared.action.Action.TheVariants.{Go, Set, Test, Divi
 use Rattle.rx_code.specs.declared.action.Division.{Division}
 use Rattle.rx_code.specs.declared.action.Division.TheVariants.{Quotient, Remainder}
 use Rattle.rx_code.specs.declared.point.Point.{Point}
-use Rattle.rx_code_laws.specs.Doing.{Does, at_point}
-use Rattle.rx_code_laws.proofs.Lists.{assigned-append, assigned-next}
+use Rattle.rx_code.specs.Doing.{Does, at_point}
+use Rattle.rx_code.proofs.Lists.{assigned-append, assigned-next}
 
 -- ---- values at a list of integers
 

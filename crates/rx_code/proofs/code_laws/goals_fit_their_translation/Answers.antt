@@ -1,5 +1,5 @@
-use Rattle.rx_code_laws.proofs.Translations.{left_fits, right_fits}
-use Rattle.rx_code_laws.proofs.laws.goals_fit_their_translation.Goals as goal
+use Rattle.rx_code.proofs.CodeLawsTranslations.{left_fits, right_fits}
+use Rattle.rx_code.proofs.code_laws.goals_fit_their_translation.Goals as goal
 
 pub returns-clause-left : goal.returns-clause-left
 returns-clause-left c =

@@ -1,5 +1,5 @@
-use Rattle.rx_code_laws.proofs.Translations.{translation_made, translation_paired}
-use Rattle.rx_code_laws.proofs.laws.translations_are_well_made_and_paired.Goals as goal
+use Rattle.rx_code.proofs.CodeLawsTranslations.{translation_made, translation_paired}
+use Rattle.rx_code.proofs.code_laws.translations_are_well_made_and_paired.Goals as goal
 
 pub returns-clause-made : goal.returns-clause-made
 returns-clause-made c =

@@ -11,11 +11,11 @@ use Rattle.rx_code.specs.Rules.{parts_of, rules_at, rules_of_deed}
 use Rattle.rx_code.specs.declared.action.Deed.{Deed}
 use Rattle.rx_code.specs.declared.code.Code.{Code}
 use Rattle.rx_code.specs.declared.point.Opening.{Opening}
-use Rattle.rx_code_laws.specs.Carried.{acts_in}
-use Rattle.rx_code_laws.specs.Doing.{DoAll}
-use Rattle.rx_code_laws.proofs.Deeds.{Among, rules_do}
-use Rattle.rx_code_laws.proofs.Elements.{in_flat_map, in_numbered}
-use Rattle.rx_code_laws.proofs.Whole.{IsWhole, is_at, is_resume}
+use Rattle.rx_code.specs.Carried.{acts_in}
+use Rattle.rx_code.specs.Doing.{DoAll}
+use Rattle.rx_code.proofs.Deeds.{Among, rules_do}
+use Rattle.rx_code.proofs.Elements.{in_flat_map, in_numbered}
+use Rattle.rx_code.proofs.Whole.{IsWhole, is_at, is_resume}
 
 module _ (c : Code) (whole : IsWhole c) where
   rules_stand : (d : Deed) → Contains c.deeds d →

@@ -1,5 +1,5 @@
-use Rattle.rx_code_laws.proofs.Translations.{not_beyond, one_translation}
-use Rattle.rx_code_laws.proofs.laws.there_is_one_translation.Goals as goal
+use Rattle.rx_code.proofs.CodeLawsTranslations.{not_beyond, one_translation}
+use Rattle.rx_code.proofs.code_laws.there_is_one_translation.Goals as goal
 
 pub returns-clause-parts : goal.returns-clause-parts
 returns-clause-parts c =

@@ -1,5 +1,5 @@
-use Rattle.rx_code_laws.proofs.Translations.{reached_entry, translation_carries}
-use Rattle.rx_code_laws.proofs.laws.translations_carry_code.Goals as goal
+use Rattle.rx_code.proofs.CodeLawsTranslations.{reached_entry, translation_carries}
+use Rattle.rx_code.proofs.code_laws.translations_carry_code.Goals as goal
 
 pub returns-clause-carried : goal.returns-clause-carried
 returns-clause-carried c =

@@ -39,8 +39,8 @@ use Rattle.rx_code.specs.declared.action.Division.TheVariants.{Quotient, Remaind
 use Rattle.rx_code.specs.declared.code.Code.{Code}
 use Rattle.rx_code.specs.declared.point.Opening.{Opening}
 use Rattle.rx_code.specs.declared.point.Point.{Point}
-use Rattle.rx_code_laws.proofs.Elements.{all_from, from_flat_map}
-use Rattle.rx_code_laws.proofs.Whole.{FitsCode, IsOpened, IsTarget, IsWhole, Suits, is_at, is_resume}
+use Rattle.rx_code.proofs.Elements.{all_from, from_flat_map}
+use Rattle.rx_code.proofs.Whole.{FitsCode, IsOpened, IsTarget, IsWhole, Suits, is_at, is_resume}
 use Rattle.std.proofs.lemmas.List.Elements.{All-cons, All-nil, All-contains}
 
 -- ---- lists of polynomials over the first variables

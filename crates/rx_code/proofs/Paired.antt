@@ -27,8 +27,8 @@ use Rattle.rx_code.specs.declared.action.Deed.{Deed}
 use Rattle.rx_code.specs.declared.code.Code.{Code}
 use Rattle.rx_code.specs.declared.point.Opening.{Opening}
 use Rattle.rx_code.specs.declared.point.Point.{Point}
-use Rattle.rx_code_laws.proofs.Made.{symbol_at}
-use Rattle.rx_code_laws.proofs.Whole.{IsWhole, is_at, is_resume}
+use Rattle.rx_code.proofs.Made.{symbol_at}
+use Rattle.rx_code.proofs.Whole.{IsWhole, is_at, is_resume}
 
 -- ---- what a test keeps
 

@@ -21,11 +21,11 @@ use Rattle.rx_code.specs.declared.action.Deed.{Deed}
 use Rattle.rx_code.specs.declared.code.Code.{Code}
 use Rattle.rx_code.specs.declared.point.Point.{Point}
 use Rattle.rx_code.proofs.StmtEquations.{code-Empty, code-Declare, code-Assign, code-If, code-While, code-DoWhile, code-For, code-Break, code-Continue, code-Return, code-Block}
-use Rattle.rx_code_laws.proofs.Fitting.{Fits, FitsExpr, PointIn, StandsIn, deed_fits, expr_fits, first_point, fits_append, later_point, set_enough, stands_left, stands_right, target}
-use Rattle.rx_code_laws.proofs.Scoped as scope
-use Rattle.rx_code_laws.proofs.Scoped.{AreStmts, IsExpr, IsStmt, all_slots_stay, no_more, slots_stay}
-use Rattle.rx_code_laws.proofs.StmtCodes.{list_slots, stmt_coded}
-use Rattle.rx_code_laws.proofs.Whole.{IsOpened, Suits, is_resume}
+use Rattle.rx_code.proofs.Fitting.{Fits, FitsExpr, PointIn, StandsIn, deed_fits, expr_fits, first_point, fits_append, later_point, set_enough, stands_left, stands_right, target}
+use Rattle.rx_code.proofs.Scoped as scope
+use Rattle.rx_code.proofs.Scoped.{AreStmts, IsExpr, IsStmt, all_slots_stay, no_more, slots_stay}
+use Rattle.rx_code.proofs.StmtCodes.{list_slots, stmt_coded}
+use Rattle.rx_code.proofs.Whole.{IsOpened, Suits, is_resume}
 
 -- anything may be done
 any_action : Actions

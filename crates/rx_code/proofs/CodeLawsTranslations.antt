@@ -27,14 +27,14 @@ use Rattle.rx_code.specs.Rules.{deed_within, info_at, parts_of, symbol}
 use Rattle.rx_code.specs.Translation.{IsBeyond, IsTranslation, goal_at, rules_of}
 use Rattle.rx_code.specs.declared.code.Code.{Code}
 use Rattle.rx_code.specs.declared.point.Opening.{Opening}
-use Rattle.rx_code_laws.specs.Carried.{CarriesProgram, acts_in}
-use Rattle.rx_code_laws.specs.Doing.{DoAll}
-use Rattle.rx_code_laws.proofs.Elements.{no_element}
-use Rattle.rx_code_laws.proofs.Made.{declared, symbol_at, whole_made}
-use Rattle.rx_code_laws.proofs.Paired.{whole_paired}
-use Rattle.rx_code_laws.proofs.ProgramCode.{entries_opened, entry_first, has_entry, program_carried, program_whole, was_at}
-use Rattle.rx_code_laws.proofs.Standing.{rules_do_all}
-use Rattle.rx_code_laws.proofs.Whole.{IsWhole}
+use Rattle.rx_code.specs.Carried.{CarriesProgram, acts_in}
+use Rattle.rx_code.specs.Doing.{DoAll}
+use Rattle.rx_code.proofs.Elements.{no_element}
+use Rattle.rx_code.proofs.Made.{declared, symbol_at, whole_made}
+use Rattle.rx_code.proofs.Paired.{whole_paired}
+use Rattle.rx_code.proofs.ProgramCode.{entries_opened, entry_first, has_entry, program_carried, program_whole, was_at}
+use Rattle.rx_code.proofs.Standing.{rules_do_all}
+use Rattle.rx_code.proofs.Whole.{IsWhole}
 
 module _ (program : Resolved) (scoped : is_scoped program ≡ true) (f g : ℕ) (parts : RuleParts)
     (first second : Sym) (t : IsTranslation program f g parts first second) where
