@@ -34,7 +34,7 @@ pub fn proofs_show_equal_functions()
 /// The premises can be met: by two functions that return 0 (`scoped`), their rule set
 /// (`translated`), and a proof of three steps that their entries are equal, under no rows
 /// (`proof`). So both return alike (`alike`).
-pub fn the_premises_can_be_met()
+pub fn premises_of_equal_functions_can_be_met()
     ensures scoped { is_scoped example ≡ true }
     ensures translated { IsTranslation example 0 1 parts first second }
     ensures proof { IsProof parts (goal_at first second 0 []) [] table }

@@ -3,4 +3,4 @@
 
 mod laws;
 
-pub use laws::{proofs_show_equal_functions, the_premises_can_be_met};
+pub use laws::{proofs_show_equal_functions, premises_of_equal_functions_can_be_met};

@@ -5,7 +5,7 @@ use Rattle.rx_term.specs.Assigned.{assigned}
 use Rattle.rx_soundness.specs.Example.{example, first, parts, second, table}
 use Rattle.rx_soundness.proofs.Functions.{proof_returns_alike}
 use Rattle.rx_soundness.proofs.Example.{example_proof, example_scoped, example_translated}
-use Rattle.rx_soundness.proofs.laws.the_premises_can_be_met.Goals as goal
+use Rattle.rx_soundness.proofs.laws.premises_of_equal_functions_can_be_met.Goals as goal
 
 pub returns-clause-scoped : goal.returns-clause-scoped
 returns-clause-scoped c = example_scoped
