@@ -1,5 +1,5 @@
-use Rattle.rx_soundness.proofs.Functions.{proof_returns_alike}
-use Rattle.rx_soundness.proofs.laws.proofs_show_equal_functions.Goals as goal
+use Rattle.rx_agreement.proofs.Functions.{proof_returns_alike}
+use Rattle.rx_agreement.proofs.soundness_laws.proofs_show_equal_functions.Goals as goal
 
 pub returns : goal.returns
 returns c =

@@ -2,10 +2,10 @@ use Rattle.std.proofs.Common.{refl, []}
 use Rattle.std.proofs.lemmas.List.Elements.{All-nil}
 use Rattle.rx_row.specs.Holds.{RowHolds}
 use Rattle.rx_term.specs.Assigned.{assigned}
-use Rattle.rx_soundness.specs.Example.{example, first, parts, second, table}
-use Rattle.rx_soundness.proofs.Functions.{proof_returns_alike}
-use Rattle.rx_soundness.proofs.Example.{example_proof, example_scoped, example_translated}
-use Rattle.rx_soundness.proofs.laws.premises_of_equal_functions_can_be_met.Goals as goal
+use Rattle.rx_agreement.specs.SoundnessExample.{example, first, parts, second, table}
+use Rattle.rx_agreement.proofs.Functions.{proof_returns_alike}
+use Rattle.rx_agreement.proofs.SoundnessExample.{example_proof, example_scoped, example_translated}
+use Rattle.rx_agreement.proofs.soundness_laws.premises_of_equal_functions_can_be_met.Goals as goal
 
 pub returns-clause-scoped : goal.returns-clause-scoped
 returns-clause-scoped c = example_scoped

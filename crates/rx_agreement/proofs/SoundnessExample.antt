@@ -58,7 +58,7 @@ use Rattle.rx_form.specs.declared.step.Side.TheVariants.{Left, Right}
 use Rattle.rx_form.specs.declared.step.Step.TheVariants.{Simplify, Delete}
 use Rattle.rx_form.proofs.FormingLaws.{shown_taken}
 use Rattle.rx_joins.specs.Runs.{IsProof, Run, NoStep, OneMore, start, finished}
-use Rattle.rx_soundness.specs.Example.{a, b, example, first, second, parts, returns, table}
+use Rattle.rx_agreement.specs.SoundnessExample.{a, b, example, first, second, parts, returns, table}
 
 -- ---- the translation
 

@@ -9,7 +9,7 @@ ghost use Rattle.rx_joins.specs.Runs.{IsProof};
 ghost use Rattle.rx_pairs.specs.declared.table.RankTable.{RankTable};
 ghost use Rattle.rx_row.specs.Holds.{AllHold};
 ghost use Rattle.rx_row.specs.declared.row.Row.{Row};
-ghost use Rattle.rx_soundness.specs.Example.{example, first, parts, second, table};
+ghost use Rattle.rx_agreement.specs.SoundnessExample.{example, first, parts, second, table};
 ghost use Rattle.rx_term.specs.Assigned.{assigned};
 ghost use Rattle.rx_term.specs.declared.rule.Rule.{Rule};
 ghost use Rattle.rx_term.specs.declared.rule_set.RuleParts.{RuleParts};
