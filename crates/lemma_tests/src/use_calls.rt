@@ -1,7 +1,7 @@
 //! Uses of a hypothesis at a place of a goal.
 use crate::answer::ended;
 use rule_tables::{equation, rule};
-use rx_form::Side;
+use rx_inference::Side;
 use rx_match::find_use;
 use rx_row::Constraint;
 use rx_solve::refutes;

@@ -1,7 +1,7 @@
 //! Logs whose certificates are deep.
 
 use rx_cert::Cert;
-use rx_form::{Delete, Step};
+use rx_inference::{Delete, Step};
 use rx_log::Log;
 use rx_logtext::{LogEnd, read_log};
 use rx_logwriting::write_log;

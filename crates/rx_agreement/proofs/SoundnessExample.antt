@@ -49,14 +49,14 @@ use Rattle.rx_cover.proofs.Equations.{finding_use}
 use Rattle.rx_pairs.specs.Pairs as pairs
 use Rattle.rx_pairs.specs.Pairs.{AreAllPairs, ArePairs, AtReturn, OfCall, PairsOf, part}
 use Rattle.rx_pairs.specs.Ranks.{bad_rank}
-use Rattle.rx_form.specs.Judging.{Shown, judged}
-use Rattle.rx_form.specs.Kinds.{formed_on}
-use Rattle.rx_form.specs.Pieces.{asking}
-use Rattle.rx_form.specs.States.{State}
-use Rattle.rx_form.specs.declared.step.Delete.TheVariants.{Equal}
-use Rattle.rx_form.specs.declared.step.Side.TheVariants.{Left, Right}
-use Rattle.rx_form.specs.declared.step.Step.TheVariants.{Simplify, Delete}
-use Rattle.rx_form.proofs.FormingLaws.{shown_taken}
+use Rattle.rx_inference.specs.Judging.{Shown, judged}
+use Rattle.rx_inference.specs.Kinds.{formed_on}
+use Rattle.rx_inference.specs.Pieces.{asking}
+use Rattle.rx_inference.specs.States.{State}
+use Rattle.rx_inference.specs.declared.step.Delete.TheVariants.{Equal}
+use Rattle.rx_inference.specs.declared.step.Side.TheVariants.{Left, Right}
+use Rattle.rx_inference.specs.declared.step.Step.TheVariants.{Simplify, Delete}
+use Rattle.rx_inference.proofs.FormingLaws.{shown_taken}
 use Rattle.rx_joins.specs.Runs.{IsProof, Run, NoStep, OneMore, start, finished}
 use Rattle.rx_agreement.specs.SoundnessExample.{a, b, example, first, second, parts, returns, table}
 

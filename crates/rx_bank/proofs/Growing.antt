@@ -8,7 +8,7 @@ use Rattle.rx_row.specs.declared.row.Row.{Row}
 use Rattle.rx_term.specs.declared.term.Sym.{Sym}
 use Rattle.rx_term.specs.declared.term.Term.{Term}
 use Rattle.rx_term.specs.declared.term.Term.TheVariants as term
-use Rattle.rx_form.specs.States.{State}
+use Rattle.rx_inference.specs.States.{State}
 use Rattle.rx_bank.specs.Numbers.{KeepsNumbers}
 use Rattle.rx_bank.specs.Packing.{StandsAs, StandsFor, base_at, base_within, call_within, equation_at, equation_within, equations_at, equations_within, frames_at, frames_within, numbers_within, polys_at, rows_at, rows_within, rule_at, rules_at, term_at, term_within}
 use Rattle.rx_bank.specs.declared.packed.Packed.{Packed}

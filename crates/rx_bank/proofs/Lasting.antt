@@ -11,7 +11,7 @@ use Rattle.rx_row.specs.declared.row.Row.TheVariants as row
 use Rattle.rx_term.specs.declared.term.Term.{Term}
 use Rattle.rx_term.specs.declared.term.Term.TheVariants as term
 use Rattle.rx_bank.specs.Numbers.{KeepsNumbers}
-use Rattle.rx_form.specs.States.{State}
+use Rattle.rx_inference.specs.States.{State}
 use Rattle.rx_bank.specs.Packing.{StandsAs, StandsFor, base_at, base_within, call_within, equation_at, equation_within, equations_at, equations_within, frames_at, frames_within, is_within, number_within, numbers_within, poly_at, polys_at, row_at, row_within, rows_at, rows_within, rule_at, rules_at, term_at, term_within, unpacked}
 use Rattle.rx_bank.specs.declared.packed.Packed.{Packed}
 use Rattle.rx_bank.specs.declared.parts.PackedBase.TheVariants as base

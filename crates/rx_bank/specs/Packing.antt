@@ -9,7 +9,7 @@ use Rattle.rx_term.specs.declared.rule.Equation.{Equation}
 use Rattle.rx_term.specs.declared.rule.Rule.{Rule}
 use Rattle.rx_term.specs.declared.term.Term.{Term}
 use Rattle.rx_term.specs.declared.term.Term.TheVariants as term
-use Rattle.rx_form.specs.States.{State}
+use Rattle.rx_inference.specs.States.{State}
 use Rattle.rx_bank.specs.declared.packed.Packed.{Packed}
 use Rattle.rx_bank.specs.declared.parts.PackedBase.{PackedBase}
 use Rattle.rx_bank.specs.declared.parts.PackedBase.TheVariants as base

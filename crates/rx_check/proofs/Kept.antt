@@ -2,9 +2,9 @@
 -- side.
 use Rattle.std.proofs.Common.{◌≡◌, ℕ, ◌+◌, Result, Ok, Err, List, [], ◌∷◌, refl, sym, subst, All}
 use Rattle.rx_term.specs.declared.rule_set.RuleParts.{RuleParts}
-use Rattle.rx_form.specs.Judging.{StepFault}
-use Rattle.rx_form.specs.States.{State, applied}
-use Rattle.rx_form.specs.declared.step.Step.{Step}
+use Rattle.rx_inference.specs.Judging.{StepFault}
+use Rattle.rx_inference.specs.States.{State, applied}
+use Rattle.rx_inference.specs.declared.step.Step.{Step}
 use Rattle.rx_pairs.specs.Pairs.{HasRoot}
 use Rattle.rx_joins.specs.Runs.{NoStep, OneMore, Run}
 use Rattle.rx_joins.proofs.Bridge.{applied_makes}

@@ -3,7 +3,7 @@
 use Rattle.std.proofs.Common.{◌≡◌, ◌∙◌, ap, sym, subst, refl, ℕ, Option, Some, None, Result, Ok, Err, List, [], ◌∷◌, length, ◌<◌, arith}
 use Rattle.rx_term.specs.declared.rule.Equation.{Equation}
 use Rattle.rx_term.specs.declared.rule_set.RuleParts.{RuleParts}
-use Rattle.rx_form.specs.States.{State}
+use Rattle.rx_inference.specs.States.{State}
 use Rattle.rx_cover.specs.Covering.{Covering, Covers, Fails, PassesLimits, covering}
 use Rattle.rx_pairs.specs.Lowering.{Descends, Descent}
 use Rattle.rx_pairs.specs.Lowering as lowering

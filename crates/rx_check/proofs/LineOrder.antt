@@ -5,7 +5,7 @@ use Rattle.std.proofs.lemmas.List.{append-nil}
 use Rattle.std.proofs.lemmas.Option.{same_Some}
 use Rattle.rx_poly.specs.declared.body.Body.{Body}
 use Rattle.rx_cover.specs.declared.cover_tree.CoverTree.{CoverTree}
-use Rattle.rx_form.specs.declared.step.Step.{Step}
+use Rattle.rx_inference.specs.declared.step.Step.{Step}
 use Rattle.rx_pairs.specs.declared.pair_cert.PairCert.{PairCert}
 use Rattle.rx_log.specs.Lines.{before_end, before_ranks, behind_steps, by_symbol, log_lines, plain}
 use Rattle.rx_log.specs.Places.{after}

@@ -8,8 +8,8 @@ use Rattle.rx_poly.specs.declared.body.Body.{Body}
 use Rattle.rx_term.specs.declared.rule.Equation.{Equation}
 use Rattle.rx_term.specs.declared.rule_set.RuleParts.{RuleParts}
 use Rattle.rx_term.specs.declared.rule_set.SymInfo.{SymInfo}
-use Rattle.rx_form.specs.States.{State, applied}
-use Rattle.rx_form.specs.declared.step.Step.{Step}
+use Rattle.rx_inference.specs.States.{State, applied}
+use Rattle.rx_inference.specs.declared.step.Step.{Step}
 use Rattle.rx_cert.specs.Findings.{Beyond, No, Said, Yes}
 use Rattle.rx_cover.specs.Covering.{Covering, Covers, covering, covering_from, goes_on, one_covered, symbol_finding}
 use Rattle.rx_cover.specs.declared.cover_tree.CoverTree.{CoverTree}

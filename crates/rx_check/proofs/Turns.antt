@@ -2,8 +2,8 @@
 use Rattle.std.proofs.Common.{◌≡◌, ℕ, ◌+◌, Option, Some, None, Ok, Err, List, drop, slice_get, sym, ap, subst, ◌∙◌}
 use Rattle.rx_term.proofs.Places.{from_place}
 use Rattle.rx_term.specs.declared.rule_set.RuleParts.{RuleParts}
-use Rattle.rx_form.specs.States.{State, applied}
-use Rattle.rx_form.specs.declared.step.Step.{Step}
+use Rattle.rx_inference.specs.States.{State, applied}
+use Rattle.rx_inference.specs.declared.step.Step.{Step}
 use Rattle.rx_cover.specs.Answers.{Tells}
 use Rattle.rx_cover.specs.Covering.{Covering}
 use Rattle.rx_cover.specs.declared.cover_end.CoverEnd.{CoverEnd}

@@ -3,7 +3,7 @@ use Rattle.std.specs.Prelude.{◌≡◌, ℕ, Option, Some, None, Result, Ok, Er
 use Rattle.std.specs.Prelude.{All, List, [], ◌∷◌, ◌++◌, drop}
 use Rattle.rx_cover.specs.Covering.{Covers, covering, covering_from}
 use Rattle.rx_cover.specs.declared.cover_tree.CoverTree.{CoverTree}
-use Rattle.rx_form.specs.declared.step.Step.{Step}
+use Rattle.rx_inference.specs.declared.step.Step.{Step}
 use Rattle.rx_cert.specs.Findings.{Said, No}
 use Rattle.rx_pairs.specs.Lowering.{Descent, Descends, descent_from, lower_finding}
 use Rattle.rx_pairs.specs.Lowering as lowering

@@ -5,7 +5,7 @@ ghost use Rattle.rx_check.specs.Answers.{Finds};
 ghost use Rattle.rx_check.specs.LineByLine.{Ends, IsFailureOf, IsOutcome, once_lower, one_lower};
 ghost use Rattle.rx_check.specs.LineByLine.{passed};
 ghost use Rattle.rx_cover.specs.Covering.{Covers, covering_from, goes_on, one_covered};
-ghost use Rattle.rx_form.specs.States.{applied};
+ghost use Rattle.rx_inference.specs.States.{applied};
 ghost use Rattle.rx_log.specs.Acceptance.{after_step, once_covered, once_ranked};
 ghost use Rattle.rx_pairs.specs.Lowering.{Descends};
 ghost use Rattle.rx_pairs.specs.Lowering as lowering;

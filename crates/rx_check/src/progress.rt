@@ -1,7 +1,7 @@
 //! What a replay keeps of the checks between two lines of a log, and what each line makes of it.
 ghost use Rattle.std.specs.Prelude.{◌≡◌, ◌+◌, All, IfOk, OnErr, OnOk};
 ghost use Rattle.rx_check.specs.LineByLine.{Ends, Judged, Judges};
-ghost use Rattle.rx_form.specs.States.{applied};
+ghost use Rattle.rx_inference.specs.States.{applied};
 ghost use Rattle.rx_log.specs.Acceptance.{after_step};
 ghost use Rattle.rx_pairs.specs.Pairs.{HasRoot};
 ghost use Rattle.rx_term.specs.declared.rule_set.RuleParts.{RuleParts};

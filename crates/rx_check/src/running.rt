@@ -1,7 +1,7 @@
 //! The checks of a log before that of its pairs.
 ghost use Rattle.std.specs.Prelude.{◌≡◌, OnErr};
 ghost use Rattle.rx_check.specs.Answers.{Finds, of_step_end};
-ghost use Rattle.rx_form.specs.States.{applied};
+ghost use Rattle.rx_inference.specs.States.{applied};
 ghost use Rattle.rx_log.specs.Acceptance.{after_step, after_steps, kept, kept_by, start};
 
 use crate::check_end::{CheckEnd, Place};

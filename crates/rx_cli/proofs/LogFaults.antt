@@ -8,10 +8,10 @@ use Rattle.rx_check.specs.declared.check_end.CheckEnd.TheVariants as End
 use Rattle.rx_check.specs.declared.check_end.Place.TheVariants as At
 use Rattle.rx_cover.specs.Covering as cover
 use Rattle.rx_cover.specs.Covering.{Covering, Covers, covering}
-use Rattle.rx_form.specs.Judging as judging
-use Rattle.rx_form.specs.Judging.{StepFault}
-use Rattle.rx_form.specs.States.{State, applied}
-use Rattle.rx_form.specs.declared.step.Step.{Step}
+use Rattle.rx_inference.specs.Judging as judging
+use Rattle.rx_inference.specs.Judging.{StepFault}
+use Rattle.rx_inference.specs.States.{State, applied}
+use Rattle.rx_inference.specs.declared.step.Step.{Step}
 use Rattle.rx_log.specs.Acceptance as acceptance
 use Rattle.rx_log.specs.Acceptance.{Checked, Concludes, HasVerdict, LogFault, OnPairs, after_step, after_steps, kept, kept_by, of_descent, once_covered, once_finished, once_ranked, start, ◌>>=◌}
 use Rattle.rx_log.specs.declared.log.Log.{Log}

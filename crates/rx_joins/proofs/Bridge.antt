@@ -23,23 +23,23 @@ use Rattle.rx_term.specs.declared.term.Term.TheVariants.{Frame, outs-Return, out
 use Rattle.rx_term.proofs.Equations.{ACall, AFail, AFrame, AReturn, Form, form, symbols_are}
 use Rattle.rx_term.proofs.Places.{at_place}
 use Rattle.rx_term.proofs.RuleLaws.{known_shape}
-use Rattle.rx_form.specs.Forming.{Forming, found_or, limited, provided, ◌>>=◌}
-use Rattle.rx_form.specs.Judging.{Judgement, Shown, Fault, certificates, first_rows, given_to, judged}
-use Rattle.rx_form.specs.Kinds.{are_common, formed_on}
-use Rattle.rx_form.specs.Making.{decomposed_by, different_by, equal_by, expanded_by_all, generalised_by, hypothesis_with, postulated_by, resulting_by, simplified_by, split_by, used_by}
-use Rattle.rx_form.specs.Pieces.{TopFrame, asking, have_one_shape, is_equation, is_substitution, side_of, top_frame, top_frame_level, variable_limit}
-use Rattle.rx_form.specs.States.{State, applied, carried_out, taken, taken_if}
-use Rattle.rx_form.specs.declared.form_end.FormEnd.{FormEnd}
-use Rattle.rx_form.specs.declared.form_end.FormEnd.TheVariants.{WrongShape, NoSuchRule, Large}
-use Rattle.rx_form.specs.declared.formed_step.Asked.TheVariants as asked
-use Rattle.rx_form.specs.declared.formed_step.FormedStep.{FormedStep}
-use Rattle.rx_form.specs.declared.formed_step.Group.{Group}
-use Rattle.rx_form.specs.declared.formed_step.Under.TheVariants as under
-use Rattle.rx_form.specs.declared.step.Delete.TheVariants as delete
-use Rattle.rx_form.specs.declared.step.Side.{Side}
-use Rattle.rx_form.specs.declared.step.Step.{Step}
-use Rattle.rx_form.specs.declared.step.Step.TheVariants as step
-use Rattle.rx_form.proofs.JudgingLaws.{shown_follow, shown_refuted}
+use Rattle.rx_inference.specs.Forming.{Forming, found_or, limited, provided, ◌>>=◌}
+use Rattle.rx_inference.specs.Judging.{Judgement, Shown, Fault, certificates, first_rows, given_to, judged}
+use Rattle.rx_inference.specs.Kinds.{are_common, formed_on}
+use Rattle.rx_inference.specs.Making.{decomposed_by, different_by, equal_by, expanded_by_all, generalised_by, hypothesis_with, postulated_by, resulting_by, simplified_by, split_by, used_by}
+use Rattle.rx_inference.specs.Pieces.{TopFrame, asking, have_one_shape, is_equation, is_substitution, side_of, top_frame, top_frame_level, variable_limit}
+use Rattle.rx_inference.specs.States.{State, applied, carried_out, taken, taken_if}
+use Rattle.rx_inference.specs.declared.form_end.FormEnd.{FormEnd}
+use Rattle.rx_inference.specs.declared.form_end.FormEnd.TheVariants.{WrongShape, NoSuchRule, Large}
+use Rattle.rx_inference.specs.declared.formed_step.Asked.TheVariants as asked
+use Rattle.rx_inference.specs.declared.formed_step.FormedStep.{FormedStep}
+use Rattle.rx_inference.specs.declared.formed_step.Group.{Group}
+use Rattle.rx_inference.specs.declared.formed_step.Under.TheVariants as under
+use Rattle.rx_inference.specs.declared.step.Delete.TheVariants as delete
+use Rattle.rx_inference.specs.declared.step.Side.{Side}
+use Rattle.rx_inference.specs.declared.step.Step.{Step}
+use Rattle.rx_inference.specs.declared.step.Step.TheVariants as step
+use Rattle.rx_inference.proofs.JudgingLaws.{shown_follow, shown_refuted}
 use Rattle.rx_joins.specs.Goals.{IsFitting}
 use Rattle.rx_joins.proofs.Making.{Follow, Makes, Simplified, Used, Expanded, Contradictory, Equal, Apart, Generalised, Postulated, SplitBy, Decomposed, WithResults}
 

@@ -46,13 +46,13 @@ use Rattle.rx_pairs.specs.Pairs as pairs
 use Rattle.rx_pairs.specs.Pairs.{AreAllPairs, ArePairs, AtCall, AtFail, IsUnder, OfCall, PairsOf, pair_of, part}
 use Rattle.rx_pairs.specs.Ranks.{bad_rank}
 use Rattle.rx_pairs.specs.declared.pair.Pair.{Pair}
-use Rattle.rx_form.specs.Kinds.{formed_on}
-use Rattle.rx_form.specs.Pieces.{asking, asking_nothing}
-use Rattle.rx_form.specs.States.{applied}
-use Rattle.rx_form.specs.declared.step.Delete.TheVariants.{Equal}
-use Rattle.rx_form.specs.declared.step.Side.TheVariants.{Left, Right}
-use Rattle.rx_form.specs.declared.step.Step.TheVariants.{Simplify, Expand, Delete, Postulate}
-use Rattle.rx_form.proofs.FormingLaws.{shown_taken}
+use Rattle.rx_inference.specs.Kinds.{formed_on}
+use Rattle.rx_inference.specs.Pieces.{asking, asking_nothing}
+use Rattle.rx_inference.specs.States.{applied}
+use Rattle.rx_inference.specs.declared.step.Delete.TheVariants.{Equal}
+use Rattle.rx_inference.specs.declared.step.Side.TheVariants.{Left, Right}
+use Rattle.rx_inference.specs.declared.step.Step.TheVariants.{Simplify, Expand, Delete, Postulate}
+use Rattle.rx_inference.proofs.FormingLaws.{shown_taken}
 use Rattle.rx_joins.specs.Example.{f, g, fails, example, equal, alike, hypothesis, by_hypothesis, knowing, table}
 use Rattle.rx_joins.specs.Runs.{IsProof, Run, NoStep, OneMore, start, finished}
 

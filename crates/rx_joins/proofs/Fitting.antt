@@ -28,10 +28,10 @@ use Rattle.rx_term.proofs.Equations.{fits-Frame, fits-Return, fits-Fail}
 use Rattle.rx_term.proofs.KeepingLaws.{fits_in_term, fits_replaced}
 use Rattle.rx_plain.proofs.Kept.{first_or_other, was_there}
 use Rattle.rx_term.proofs.RuleLaws.{rule_made}
-use Rattle.rx_form.specs.Making.{differing, expanded_by, failures, from_side, kept_if, results_of, with_result}
-use Rattle.rx_form.specs.Pieces.{side_of, with_rows, with_side}
-use Rattle.rx_form.specs.declared.step.Side.{Side}
-use Rattle.rx_form.specs.declared.step.Side.TheVariants.{Left, Right}
+use Rattle.rx_inference.specs.Making.{differing, expanded_by, failures, from_side, kept_if, results_of, with_result}
+use Rattle.rx_inference.specs.Pieces.{side_of, with_rows, with_side}
+use Rattle.rx_inference.specs.declared.step.Side.{Side}
+use Rattle.rx_inference.specs.declared.step.Side.TheVariants.{Left, Right}
 use Rattle.rx_pairs.specs.Pairs.{SidesFit}
 use Rattle.rx_joins.specs.Goals.{IsFitting}
 use Rattle.rx_joins.proofs.Lists.{All-formed, All-mapped}

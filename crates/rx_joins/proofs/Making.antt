@@ -19,9 +19,9 @@ use Rattle.rx_term.specs.declared.rule_set.RuleParts.{RuleParts}
 use Rattle.rx_term.specs.declared.term.Sym.{Sym}
 use Rattle.rx_term.specs.declared.term.Term.{Term}
 use Rattle.rx_term.specs.declared.term.Term.TheVariants.{Frame}
-use Rattle.rx_form.specs.Making.{differing, expanded_by, instance_rows, kept_if, results_of, with_result, with_sides}
-use Rattle.rx_form.specs.Pieces.{equal_arguments, equal_lists, side_of, with_rows, with_side}
-use Rattle.rx_form.specs.declared.step.Side.{Side}
+use Rattle.rx_inference.specs.Making.{differing, expanded_by, instance_rows, kept_if, results_of, with_result, with_sides}
+use Rattle.rx_inference.specs.Pieces.{equal_arguments, equal_lists, side_of, with_rows, with_side}
+use Rattle.rx_inference.specs.declared.step.Side.{Side}
 use Rattle.rx_joins.specs.Goals.{IsFitting}
 
 -- rows that hold wherever others do

@@ -10,10 +10,10 @@ use Rattle.rx_term.specs.declared.rule_set.RuleParts.{RuleParts}
 use Rattle.rx_term.specs.declared.term.Term.{Term}
 use Rattle.rx_term.specs.declared.term.Term.TheVariants.{outs-Call, outs-Frame}
 use Rattle.rx_term.proofs.Equations.{ACall, AFail, AFrame, AReturn, Form, form, redex-Fail, redex-Return}
-use Rattle.rx_form.specs.Making.{from_side, kept_if}
-use Rattle.rx_form.specs.Pieces.{side_of}
-use Rattle.rx_form.specs.States.{State}
-use Rattle.rx_form.specs.declared.step.Side.{Side}
+use Rattle.rx_inference.specs.Making.{from_side, kept_if}
+use Rattle.rx_inference.specs.Pieces.{side_of}
+use Rattle.rx_inference.specs.States.{State}
+use Rattle.rx_inference.specs.declared.step.Side.{Side}
 use Rattle.rx_pairs.specs.Pairs.{HasRoot}
 use Rattle.rx_joins.specs.Runs.{NoStep, OneMore, Run}
 use Rattle.rx_joins.proofs.Bridge.{Made, applied_makes}

@@ -12,7 +12,7 @@ use Rattle.rx_row.specs.declared.row.Row.{Row}
 use Rattle.rx_row.specs.declared.row.Row.TheVariants.{Eq}
 use Rattle.rx_row.proofs.Membership.{all_hold_pushed}
 use Rattle.rx_term.specs.Meaning.{values}
-use Rattle.rx_form.specs.Pieces.{all_pushed, equal_lists}
+use Rattle.rx_inference.specs.Pieces.{all_pushed, equal_lists}
 
 -- rows with more of them added hold where both do
 pub all_pushed-hold : (a : ℕ → ℤ) (rows more : List Row) → AllHold a rows → AllHold a more →

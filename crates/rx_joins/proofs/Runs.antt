@@ -28,10 +28,10 @@ use Rattle.rx_term.proofs.CoveredLaws.{covered_moves_everywhere}
 use Rattle.rx_term.proofs.FittingLaws.{ground_fits}
 use Rattle.rx_term.proofs.RuleLaws.{steps_fit}
 use Rattle.rx_term.proofs.TogetherLaws.{right_sides_fit_too}
-use Rattle.rx_form.specs.Making.{differing, expanded_by, from_side, kept_if, results_of, with_result}
-use Rattle.rx_form.specs.Pieces.{with_rows}
-use Rattle.rx_form.specs.States.{State}
-use Rattle.rx_form.specs.declared.step.Side.{Side}
+use Rattle.rx_inference.specs.Making.{differing, expanded_by, from_side, kept_if, results_of, with_result}
+use Rattle.rx_inference.specs.Pieces.{with_rows}
+use Rattle.rx_inference.specs.States.{State}
+use Rattle.rx_inference.specs.declared.step.Side.{Side}
 use Rattle.rx_cover.specs.Covering.{Covers, covering}
 use Rattle.rx_cover.specs.declared.cover_tree.CoverTree.{CoverTree}
 use Rattle.rx_cover.proofs.CoveringLaws.{covers_all}

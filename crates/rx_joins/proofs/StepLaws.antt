@@ -50,10 +50,10 @@ use Rattle.rx_term.proofs.MeaningLaws.{ground_in_term}
 use Rattle.rx_term.proofs.RedexLaws.{ground_after, ground_replaced, redex_is}
 use Rattle.rx_term.proofs.RuleLaws.{instance_steps_inside, rule_steps_inside, redex_shape, known_shape}
 use Rattle.rx_term.proofs.ShapeLaws.{aligned, declared_once, same_count, one_ground_term}
-use Rattle.rx_form.specs.Making.{differing, expanded_by, failures, from_side, instance_rows, results_of, with_result, with_sides}
-use Rattle.rx_form.specs.Pieces.{all_zero, equal_arguments, equal_lists, other_side, side_of, with_rows, with_side}
-use Rattle.rx_form.specs.declared.step.Side.{Side}
-use Rattle.rx_form.specs.declared.step.Side.TheVariants.{Left, Right}
+use Rattle.rx_inference.specs.Making.{differing, expanded_by, failures, from_side, instance_rows, results_of, with_result, with_sides}
+use Rattle.rx_inference.specs.Pieces.{all_zero, equal_arguments, equal_lists, other_side, side_of, with_rows, with_side}
+use Rattle.rx_inference.specs.declared.step.Side.{Side}
+use Rattle.rx_inference.specs.declared.step.Side.TheVariants.{Left, Right}
 use Rattle.rx_joins.specs.Goals.{Inside, Both, IsGood, IsBacked, IsFitting}
 use Rattle.rx_joins.proofs.Lists.{All-parts, passes}
 use Rattle.rx_joins.proofs.Making.{Follow}

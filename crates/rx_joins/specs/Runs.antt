@@ -8,8 +8,8 @@ use Rattle.rx_term.specs.WellMade.{IsWellMade}
 use Rattle.rx_term.specs.declared.rule.Equation.{Equation}
 use Rattle.rx_term.specs.declared.rule.Rule.{Rule}
 use Rattle.rx_term.specs.declared.rule_set.RuleParts.{RuleParts}
-use Rattle.rx_form.specs.States.{State, applied}
-use Rattle.rx_form.specs.declared.step.Step.{Step}
+use Rattle.rx_inference.specs.States.{State, applied}
+use Rattle.rx_inference.specs.declared.step.Step.{Step}
 use Rattle.rx_cover.specs.Covering.{Covers, covering}
 use Rattle.rx_cover.specs.declared.cover_tree.CoverTree.{CoverTree}
 use Rattle.rx_pairs.specs.Lowering.{Descends, descent_from}

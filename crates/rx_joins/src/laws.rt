@@ -2,7 +2,7 @@
 ghost use Rattle.std.specs.Prelude.{◌≡◌, ◌∷◌, [], ℕ, ℤ, All, Contains, List, None, Ok};
 ghost use Rattle.rx_cover.specs.Covering.{Covers, covering};
 ghost use Rattle.rx_cover.specs.declared.cover_tree.CoverTree.{CoverTree};
-ghost use Rattle.rx_form.specs.States.{State, applied};
+ghost use Rattle.rx_inference.specs.States.{State, applied};
 ghost use Rattle.rx_joins.specs.Example.{alike, by_hypothesis, equal, example, g, hypothesis};
 ghost use Rattle.rx_joins.specs.Example.{knowing, table};
 ghost use Rattle.rx_joins.specs.Goals.{Inside, IsBacked, IsFitting, IsGood};

@@ -31,10 +31,10 @@ use Rattle.rx_cert.specs.Findings.{Said, Yes, and_also}
 use Rattle.rx_cert.specs.Showing.{all_shown, negation_said, shown}
 use Rattle.rx_cert.proofs.FindingLaws.{both_parts}
 use Rattle.rx_solve.specs.Refuter.{refuted}
-use Rattle.rx_form.specs.Forming.{limited, provided}
-use Rattle.rx_form.specs.Making.{generalised_by, instance_equals, instance_rows, side_rows}
-use Rattle.rx_form.specs.Pieces.{equal_lists, have_one_shape, is_equation, is_substitution}
-use Rattle.rx_form.specs.declared.form_end.FormEnd.TheVariants.{Large}
+use Rattle.rx_inference.specs.Forming.{limited, provided}
+use Rattle.rx_inference.specs.Making.{generalised_by, instance_equals, instance_rows, side_rows}
+use Rattle.rx_inference.specs.Pieces.{equal_lists, have_one_shape, is_equation, is_substitution}
+use Rattle.rx_inference.specs.declared.form_end.FormEnd.TheVariants.{Large}
 use Rattle.rx_lemma.specs.Lemmas.{Generalisation}
 use Rattle.rx_lemma.specs.Lawful.{IsLawful}
 use Rattle.rx_lemma.proofs.Polynomials.{none_left, replaces_from, stays_itself}

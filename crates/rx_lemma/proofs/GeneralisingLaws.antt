@@ -21,7 +21,7 @@ use Rattle.rx_term.specs.WellMade.{IsWellMade}
 use Rattle.rx_term.specs.declared.rule.Equation.{Equation}
 use Rattle.rx_term.specs.declared.rule_set.RuleParts.{RuleParts}
 use Rattle.rx_term.specs.declared.term.Term.{Term}
-use Rattle.rx_form.specs.Pieces.{have_one_shape, is_equation, is_substitution, variable_limit}
+use Rattle.rx_inference.specs.Pieces.{have_one_shape, is_equation, is_substitution, variable_limit}
 use Rattle.rx_lemma.specs.Lemmas.{Generalisation, variables_end}
 use Rattle.rx_lemma.specs.declared.lemma.LemmaKind.{LemmaKind}
 use Rattle.rx_lemma.specs.declared.lemma.LemmaKind.TheVariants.{DropValues, ReplaceRepeated}

@@ -18,7 +18,7 @@ use Rattle.rx_poly_laws.proofs.BoundLaws.{below_the_bound}
 use Rattle.rx_poly_laws.proofs.TestLaws.{passes-variable}
 use Rattle.rx_row.specs.declared.row.Row.{Row}
 use Rattle.rx_term.specs.Variables.{polys_use_below}
-use Rattle.rx_form.specs.Pieces.{is_replacement, is_substitution, rises, variable_limit}
+use Rattle.rx_inference.specs.Pieces.{is_replacement, is_substitution, rises, variable_limit}
 use Rattle.rx_lemma.specs.Repeated.{is_same_poly, new_variables, replaced_by}
 use Rattle.rx_lemma.proofs.Polynomials.{are_polys, replaces_from, stays_itself}
 use Rattle.rx_lemma.proofs.Common.{AreInstances, IsInstance, Nothing, OneMore, is_instance}

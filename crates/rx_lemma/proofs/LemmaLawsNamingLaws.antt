@@ -30,9 +30,9 @@ use Rattle.rx_term.specs.declared.term.Term.{Term}
 use Rattle.rx_term.specs.declared.term.Term.TheVariants.{Call}
 use Rattle.rx_term.proofs.BoundLaws.{equation_below}
 use Rattle.rx_term.proofs.RuleLaws.{shape_itself}
-use Rattle.rx_form.specs.Pieces.{is_equation, is_substitution, other_side, side_of, variable_limit, with_side}
-use Rattle.rx_form.specs.declared.step.Side.{Side}
-use Rattle.rx_form.specs.declared.step.Side.TheVariants.{Left, Right}
+use Rattle.rx_inference.specs.Pieces.{is_equation, is_substitution, other_side, side_of, variable_limit, with_side}
+use Rattle.rx_inference.specs.declared.step.Side.{Side}
+use Rattle.rx_inference.specs.declared.step.Side.TheVariants.{Left, Right}
 use Rattle.rx_lemma.specs.Calls.{Applied, call_of, constant}
 use Rattle.rx_lemma.specs.Lemmas.{Generalisation, variables_end}
 use Rattle.rx_lemma.specs.NamingCalls.{constant_at, constant_in, variable_at, with_variable, with_variable_in}

@@ -8,7 +8,7 @@ use Rattle.rx_row.specs.Membership.{pushed}
 use Rattle.rx_row.specs.declared.row.Row.{Row}
 use Rattle.rx_term.specs.declared.rule.Equation.{Equation}
 use Rattle.rx_solve.specs.Attempts.{Tried, applies, beyond, fails}
-use Rattle.rx_form.specs.declared.step.Side.{Side}
+use Rattle.rx_inference.specs.declared.step.Side.{Side}
 use Rattle.rx_lemma.specs.Naming.{Answers, and_then, goal_with, named_new, naming_at, naming_from, where_formed}
 use Rattle.rx_lemma.specs.declared.constants.Naming.{Naming}
 

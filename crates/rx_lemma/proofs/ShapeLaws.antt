@@ -17,9 +17,9 @@ use Rattle.rx_term.specs.declared.term.Sym.{Sym}
 use Rattle.rx_term.specs.declared.term.Term.{Term}
 use Rattle.rx_term.specs.declared.term.Term.TheVariants.{Call, Frame}
 use Rattle.rx_term.proofs.Equations.{induct, redex-Call, redex-Frame, replace_at-Frame, shape-Call, shape-Frame}
-use Rattle.rx_form.specs.Pieces.{side_of, other_side}
-use Rattle.rx_form.specs.declared.step.Side.{Side}
-use Rattle.rx_form.specs.declared.step.Side.TheVariants.{Left, Right}
+use Rattle.rx_inference.specs.Pieces.{side_of, other_side}
+use Rattle.rx_inference.specs.declared.step.Side.{Side}
+use Rattle.rx_inference.specs.declared.step.Side.TheVariants.{Left, Right}
 use Rattle.rx_lemma.proofs.CallLaws.{call-Return, call-Fail, call-Call, call-Frame}
 use Rattle.rx_lemma.specs.Calls.{Applied, call_of}
 use Rattle.rx_lemma.specs.NamingCalls.{constant_at, variable_at, with_variable, with_variable_in}

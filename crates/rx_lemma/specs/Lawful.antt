@@ -11,8 +11,8 @@ use Rattle.rx_solve.specs.Refuter.{refuted}
 use Rattle.rx_term.specs.Variables.{arguments_of}
 use Rattle.rx_term.specs.declared.rule.Equation.{Equation}
 use Rattle.rx_term.specs.declared.rule_set.RuleParts.{RuleParts}
-use Rattle.rx_form.specs.Kinds.{generalised}
-use Rattle.rx_form.specs.Pieces.{asking, is_equation}
+use Rattle.rx_inference.specs.Kinds.{generalised}
+use Rattle.rx_inference.specs.Pieces.{asking, is_equation}
 use Rattle.rx_lemma.specs.Lemmas.{Generalisation}
 
 -- the step on to the lemma is formed, and the refuter shows the rows that it asks

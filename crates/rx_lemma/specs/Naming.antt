@@ -16,9 +16,9 @@ use Rattle.rx_solve.specs.Attempts.{Tried, applies, beyond, fails}
 use Rattle.rx_term.specs.Bounds.{equation_bound}
 use Rattle.rx_term.specs.declared.rule.Equation.{Equation}
 use Rattle.rx_term.specs.declared.rule_set.RuleParts.{RuleParts}
-use Rattle.rx_form.specs.Pieces.{other_side, side_of, with_side}
-use Rattle.rx_form.specs.declared.step.Side.{Side}
-use Rattle.rx_form.specs.declared.step.Side.TheVariants.{Left, Right}
+use Rattle.rx_inference.specs.Pieces.{other_side, side_of, with_side}
+use Rattle.rx_inference.specs.declared.step.Side.{Side}
+use Rattle.rx_inference.specs.declared.step.Side.TheVariants.{Left, Right}
 use Rattle.rx_lemma.specs.Calls.{Applied, call_of, constant}
 use Rattle.rx_lemma.specs.NamingCalls.{constant_at, is_loop_head, variable_at, with_variable}
 use Rattle.rx_lemma.specs.declared.constants.Naming.{Naming}

@@ -3,7 +3,7 @@ use Rattle.std.specs.Prelude.{◌≡◌, true, IfSome}
 use Rattle.rx_term.specs.Shapes.{shape_of}
 use Rattle.rx_term.specs.declared.rule.Equation.{Equation}
 use Rattle.rx_term.specs.declared.rule_set.RuleParts.{RuleParts}
-use Rattle.rx_form.specs.Pieces.{is_substitution}
+use Rattle.rx_inference.specs.Pieces.{is_substitution}
 use Rattle.rx_lemma.specs.Naming.{naming_of}
 use Rattle.rx_lemma.specs.Lemmas.{Generalisation}
 

@@ -5,7 +5,7 @@ ghost use Rattle.rx_poly.specs.Constants.{number};
 ghost use Rattle.rx_row.specs.Membership.{stands_among};
 ghost use Rattle.rx_row.specs.Naming.{named};
 ghost use Rattle.rx_lemma.specs.NamingCalls as calls;
-ghost use Rattle.rx_form.specs.Pieces.{side_of, other_side};
+ghost use Rattle.rx_inference.specs.Pieces.{side_of, other_side};
 ghost use Rattle.rx_lemma.specs.Naming.{Answers, gives, goal_with, named_as, named_new};
 ghost use Rattle.rx_lemma.specs.Naming.{naming_at, naming_by, naming_constant};
 ghost use Rattle.rx_lemma.specs.Naming.{naming_from, naming_new};
@@ -13,7 +13,7 @@ ghost use Rattle.rx_lemma.specs.Lemmas.{variables_end};
 
 use crate::lemma::VARIABLES_END;
 use crate::naming_calls::{constant_at, variable_at, with_variable};
-use rx_form::{Side, side_of};
+use rx_inference::{Side, side_of};
 use rx_plain::Items;
 use rx_poly::{Poly, PolyEnd};
 use rx_row::{Constraint, Row};

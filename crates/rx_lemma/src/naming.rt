@@ -13,7 +13,7 @@ use crate::calls::call_of;
 use crate::constants::{Naming, name_places};
 use crate::generalised::Generalised;
 use crate::lemma::LemmaKind;
-use rx_form::Side;
+use rx_inference::Side;
 use rx_pairs::Loops;
 use rx_plain::Items;
 use rx_poly::{Poly, PolyEnd};

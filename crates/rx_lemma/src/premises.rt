@@ -2,7 +2,7 @@
 //! each polynomial.
 ghost use Rattle.std.specs.Prelude.{◌≡◌, true};
 ghost use Rattle.std.specs.List.{list_all};
-ghost use Rattle.rx_form.specs.Pieces.{is_equation};
+ghost use Rattle.rx_inference.specs.Pieces.{is_equation};
 ghost use Rattle.rx_lemma.specs.Lawful.{IsGoal};
 ghost use Rattle.rx_poly.specs.Normal.{is_poly};
 ghost use Rattle.rx_row.specs.Parts.{poly_of};

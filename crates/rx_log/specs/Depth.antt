@@ -7,7 +7,7 @@ use Rattle.rx_cover.specs.Depth.{tree_depth}
 use Rattle.rx_cover.specs.declared.cover_tree.CoverTree.{CoverTree}
 use Rattle.rx_cover.specs.declared.cover_tree.CoverTree.TheOpen.{CoverTree-F}
 use Rattle.rx_cover.specs.declared.cover_tree.CoverTree.TheFolds.{fold-CoverTree}
-use Rattle.rx_form.specs.Judging.{certificates}
+use Rattle.rx_inference.specs.Judging.{certificates}
 use Rattle.rx_log.specs.declared.log.Log.{Log}
 
 -- how deep a certificate or a tree is at most

@@ -1,7 +1,7 @@
 //! The lines of a log.
 
 use rx_cover::CoverTree;
-use rx_form::Step;
+use rx_inference::Step;
 use rx_pairs::PairCert;
 use rx_plain::Items;
 use rx_poly::Poly;

@@ -1,7 +1,7 @@
 //! Proofs as data that anybody can check.
 
 use rx_cover::CoverTree;
-use rx_form::Step;
+use rx_inference::Step;
 use rx_pairs::{PairCert, RankTable};
 use rx_plain::Items;
 

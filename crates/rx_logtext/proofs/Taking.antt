@@ -9,7 +9,7 @@ use Rattle.rx_plain.proofs.Lists.{all_pushed}
 use Rattle.rx_plain.proofs.Booleans.{and_first, and_second}
 use Rattle.rx_poly.specs.declared.body.Body.{Body}
 use Rattle.rx_cover.specs.declared.cover_tree.CoverTree.{CoverTree}
-use Rattle.rx_form.specs.declared.step.Step.{Step}
+use Rattle.rx_inference.specs.declared.step.Step.{Step}
 use Rattle.rx_pairs.specs.declared.pair_cert.PairCert.{PairCert}
 use Rattle.rx_pairs.specs.declared.table.RankTable.{RankTable}
 use Rattle.rx_log.specs.declared.log.Log.{Log}

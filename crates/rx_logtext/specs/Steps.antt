@@ -3,11 +3,11 @@ use Rattle.std.specs.Prelude.{ℕ, ◌==◌, Bool, true, false, not, List, [], �
 use Rattle.rx_poly.specs.declared.body.Body.{Body}
 use Rattle.rx_cert.specs.declared.cert.Cert.{Cert}
 use Rattle.rx_term.specs.declared.rule.Equation.{Equation}
-use Rattle.rx_form.specs.declared.step.Delete.TheVariants.{Absurd, Equal}
-use Rattle.rx_form.specs.declared.step.Side.{Side}
-use Rattle.rx_form.specs.declared.step.Side.TheVariants.{Left, Right}
-use Rattle.rx_form.specs.declared.step.Step.{Step}
-use Rattle.rx_form.specs.declared.step.Step.TheVariants as step
+use Rattle.rx_inference.specs.declared.step.Delete.TheVariants.{Absurd, Equal}
+use Rattle.rx_inference.specs.declared.step.Side.{Side}
+use Rattle.rx_inference.specs.declared.step.Side.TheVariants.{Left, Right}
+use Rattle.rx_inference.specs.declared.step.Step.{Step}
+use Rattle.rx_inference.specs.declared.step.Step.TheVariants as step
 use Rattle.rx_text.specs.Formats.{Format}
 use Rattle.rx_text.specs.Rows.{row_format}
 use Rattle.rx_words.specs.Certificates.{certificate_lists, certificates}

@@ -7,7 +7,7 @@ ghost use Rattle.rx_logtext.specs.Lines.{ReadsAll, SkipsWhole};
 
 use rx_cert::Cert;
 use rx_cover::CoverTree;
-use rx_form::Side;
+use rx_inference::Side;
 use rx_plain::{Items, NoMemory};
 use rx_poly::Poly;
 use rx_row::Row;

@@ -5,7 +5,7 @@ ghost use Rattle.rx_logtext.specs.Steps.{steps};
 
 use crate::part::{is_word, read_rest, skip_beginning};
 use rx_cert::Cert;
-use rx_form::{Delete, Side, Step};
+use rx_inference::{Delete, Side, Step};
 use rx_plain::{Items, NoMemory};
 use rx_poly::Poly;
 use rx_row::Row;

@@ -20,7 +20,7 @@ use crate::terms::equation_has_text;
 use crate::trees::trees_have_text;
 use rx_cert::Cert;
 use rx_cover::CoverTree;
-use rx_form::{Delete, Step};
+use rx_inference::{Delete, Step};
 use rx_log::Log;
 use rx_logtext::is_width;
 use rx_pairs::PairCert;

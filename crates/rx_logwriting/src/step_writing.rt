@@ -1,6 +1,6 @@
 //! Steps are written, each as a line without what ends it.
 ghost use Rattle.std.specs.Prelude.{◌≡◌, ◌++◌, ◌∷◌, [], OnOk};
-ghost use Rattle.rx_form.specs.declared.step.Step.TheVariants as step;
+ghost use Rattle.rx_inference.specs.declared.step.Step.TheVariants as step;
 ghost use Rattle.rx_logtext.specs.Steps.{keep_text, side_text, step_text};
 ghost use Rattle.rx_text.specs.Numbers.{natural_text};
 ghost use Rattle.rx_words.specs.Certificates.{certificate_lists};
@@ -8,7 +8,7 @@ ghost use Rattle.rx_words.specs.Substitutions.{substitutions};
 ghost use Rattle.rx_words.specs.Words.{spaced};
 
 use rx_cert::Cert;
-use rx_form::{Delete, Side, Step};
+use rx_inference::{Delete, Side, Step};
 use rx_plain::{Items, NoMemory};
 use rx_poly::Poly;
 use rx_row::{Constraint, Row};

@@ -1,7 +1,7 @@
 //! Logs are written, line by line.
 ghost use Rattle.std.specs.Prelude.{◌≡◌, ◌≢◌, ◌+◌, ◌++◌, ◌∷◌, [], ℕ, true, false, codes, IfErr, IfOk, OnOk};
 ghost use Rattle.std.specs.List.{list_all};
-ghost use Rattle.rx_form.specs.Judging.{certificates};
+ghost use Rattle.rx_inference.specs.Judging.{certificates};
 ghost use Rattle.rx_log.specs.Depth.{are_shallow, is_shallow_log, is_shallow_tree};
 ghost use Rattle.rx_logtext.specs.Lines.{lines, line_text, symbol_text};
 ghost use Rattle.rx_log.specs.Lines.{before_ranks, behind_steps, by_symbol, plain};
@@ -17,7 +17,7 @@ use crate::depth::{are_shallow, are_shallow_trees};
 use crate::ranges::is_in_range;
 use crate::step_writing::push_step;
 use rx_cover::CoverTree;
-use rx_form::Step;
+use rx_inference::Step;
 use rx_log::Log;
 use rx_logtext::LogEnd;
 use rx_pairs::{PairCert, RankTable};

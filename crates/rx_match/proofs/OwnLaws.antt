@@ -38,9 +38,9 @@ use Rattle.rx_term.specs.declared.rule.Equation.{Equation}
 use Rattle.rx_term.specs.declared.rule.Rule.{Rule}
 use Rattle.rx_term.specs.declared.term.Term.{Term, Term-F}
 use Rattle.rx_term.specs.declared.term.Term.TheVariants.{outs-Return, outs-Fail, outs-Call}
-use Rattle.rx_form.specs.Pieces.{all_zero, side_of}
-use Rattle.rx_form.specs.declared.step.Side.{Side}
-use Rattle.rx_form.specs.declared.step.Side.TheVariants.{Left, Right}
+use Rattle.rx_inference.specs.Pieces.{all_zero, side_of}
+use Rattle.rx_inference.specs.declared.step.Side.{Side}
+use Rattle.rx_inference.specs.declared.step.Side.TheVariants.{Left, Right}
 use Rattle.rx_match.specs.Arguments.{set_by_pairs, set_lone}
 use Rattle.rx_match.specs.Equations.{only_one, pass, pass_times, set_by_equation, set_by_row, set_to_value, unset_in}
 use Rattle.rx_match.specs.Matching.{asked_rows, matching}

@@ -10,8 +10,8 @@ use Rattle.rx_term.specs.Stacks.{suffix_at, depth_of}
 use Rattle.rx_term.specs.declared.rule.Equation.{Equation}
 use Rattle.rx_term.specs.declared.rule.Rule.{Rule}
 use Rattle.rx_term.specs.declared.term.Term.{Term}
-use Rattle.rx_form.specs.Pieces.{have_one_shape, side_of}
-use Rattle.rx_form.specs.declared.step.Side.{Side}
+use Rattle.rx_inference.specs.Pieces.{have_one_shape, side_of}
+use Rattle.rx_inference.specs.declared.step.Side.{Side}
 use Rattle.rx_match.specs.Matching.{is_place}
 
 -- how many frames a shape has

@@ -13,13 +13,13 @@ use Rattle.rx_term.specs.declared.rule.Rule.{Rule}
 use Rattle.rx_term.specs.declared.term.Term.{Term}
 use Rattle.rx_solve.specs.Attempts.{Tried, beyond, fails, where_shown}
 use Rattle.rx_solve.specs.Refuter.{refuted}
-use Rattle.rx_form.specs.Forming.{Forming, found_or, limited, provided, ◌>>=◌}
-use Rattle.rx_form.specs.Kinds.{used}
-use Rattle.rx_form.specs.Making.{hypothesis_with, used_by}
-use Rattle.rx_form.specs.Pieces.{have_one_shape, is_substitution, side_of, with_side}
-use Rattle.rx_form.specs.declared.form_end.FormEnd.TheVariants.{Large, NoSuchRule, WrongShape}
-use Rattle.rx_form.specs.declared.formed_step.FormedStep.{FormedStep}
-use Rattle.rx_form.specs.declared.step.Side.{Side}
+use Rattle.rx_inference.specs.Forming.{Forming, found_or, limited, provided, ◌>>=◌}
+use Rattle.rx_inference.specs.Kinds.{used}
+use Rattle.rx_inference.specs.Making.{hypothesis_with, used_by}
+use Rattle.rx_inference.specs.Pieces.{have_one_shape, is_substitution, side_of, with_side}
+use Rattle.rx_inference.specs.declared.form_end.FormEnd.TheVariants.{Large, NoSuchRule, WrongShape}
+use Rattle.rx_inference.specs.declared.formed_step.FormedStep.{FormedStep}
+use Rattle.rx_inference.specs.declared.step.Side.{Side}
 use Rattle.rx_term.specs.Stacks.{replace_at}
 use Rattle.rx_match.specs.Matching.{asked_rows, is_matched, matching, use_at, use_with, where_within}
 use Rattle.rx_match.specs.Settings.{is_set}

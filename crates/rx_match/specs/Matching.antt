@@ -13,10 +13,10 @@ use Rattle.rx_term.specs.declared.rule.Rule.{Rule}
 use Rattle.rx_term.specs.declared.term.Term.{Term}
 use Rattle.rx_solve.specs.Attempts.{Tried, beyond, fails, where_shown}
 use Rattle.rx_solve.specs.Refuter.{refuted}
-use Rattle.rx_form.specs.Making.{hypothesis_with}
-use Rattle.rx_form.specs.Pieces.{have_one_shape, is_substitution, side_of}
-use Rattle.rx_form.specs.declared.pieces.RuleInstance.{RuleInstance}
-use Rattle.rx_form.specs.declared.step.Side.{Side}
+use Rattle.rx_inference.specs.Making.{hypothesis_with}
+use Rattle.rx_inference.specs.Pieces.{have_one_shape, is_substitution, side_of}
+use Rattle.rx_inference.specs.declared.pieces.RuleInstance.{RuleInstance}
+use Rattle.rx_inference.specs.declared.step.Side.{Side}
 use Rattle.rx_match.specs.Arguments.{set_by_arguments}
 use Rattle.rx_match.specs.Equations.{pass_times}
 use Rattle.rx_match.specs.Settings.{is_set}

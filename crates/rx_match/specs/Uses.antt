@@ -14,9 +14,9 @@ use Rattle.rx_solve.specs.Answers.{AreCertificates}
 use Rattle.rx_solve.specs.Attempts.{Tried, applies, beyond, fails}
 use Rattle.rx_solve.specs.Bounds.{most_deep}
 use Rattle.rx_solve.specs.Refuter.{refuted}
-use Rattle.rx_form.specs.Kinds.{used}
-use Rattle.rx_form.specs.Pieces.{asking}
-use Rattle.rx_form.specs.declared.step.Side.{Side}
+use Rattle.rx_inference.specs.Kinds.{used}
+use Rattle.rx_inference.specs.Pieces.{asking}
+use Rattle.rx_inference.specs.declared.step.Side.{Side}
 use Rattle.rx_match.specs.Matching.{asked_rows, is_matched}
 use Rattle.rx_match.specs.Variables.{equation_passes, rule_passes, substitution_passes}
 use Rattle.rx_match.specs.declared.finding.Use.{Use}

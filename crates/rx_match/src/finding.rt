@@ -1,7 +1,7 @@
 //! The use of a hypothesis, found by a solver.
 ghost use Rattle.std.specs.Prelude.{◌≡◌, true, IfOk, IfSome};
 ghost use Rattle.rx_cert.specs.Showing.{all_shown};
-ghost use Rattle.rx_form.specs.Pieces.{have_one_shape};
+ghost use Rattle.rx_inference.specs.Pieces.{have_one_shape};
 ghost use Rattle.rx_match.specs.Matching.{asked_rows, is_matched, matching, use_at, use_of, use_with};
 ghost use Rattle.rx_plain.specs.Formed.{Forms};
 ghost use Rattle.rx_match.specs.Uses.{HasOwnVariables, IsLawful, IsShown, IsShownAt, UseAnswers};
@@ -14,7 +14,7 @@ use crate::place::has_left_shape;
 use crate::unset::is_rule_set;
 use rx_cert::Cert;
 use rx_fm::FmEnd;
-use rx_form::{Side, hypothesis_at, is_substitution, side_of};
+use rx_inference::{Side, hypothesis_at, is_substitution, side_of};
 use rx_plain::{Items, NoMemory};
 use rx_poly::Poly;
 use rx_row::{Constraint, Row};

@@ -1,7 +1,7 @@
 //! Laws of matching, each a function with an empty body.
 ghost use Rattle.std.specs.Prelude.{◌≡◌, ◌∷◌, [], ℕ, true, false, length, List, Some, slice_get};
-ghost use Rattle.rx_form.specs.Kinds.{used};
-ghost use Rattle.rx_form.specs.declared.step.Side.{Side};
+ghost use Rattle.rx_inference.specs.Kinds.{used};
+ghost use Rattle.rx_inference.specs.declared.step.Side.{Side};
 ghost use Rattle.rx_match.specs.Equations.{pass, pass_times};
 ghost use Rattle.rx_match.specs.Matching.{is_place, use_of};
 ghost use Rattle.rx_plain.specs.Formed.{pure};

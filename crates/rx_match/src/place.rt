@@ -1,10 +1,10 @@
 //! Where a hypothesis may be used.
 ghost use Rattle.std.specs.Prelude.{◌≡◌, ◌↔◌, ◌<◌, ◌^◌, ℕ, true, Some};
-ghost use Rattle.rx_form.specs.Pieces.{have_one_shape, side_of};
+ghost use Rattle.rx_inference.specs.Pieces.{have_one_shape, side_of};
 ghost use Rattle.rx_match.specs.Matching.{is_place};
 ghost use Rattle.rx_term.specs.Stacks.{depth_of};
 
-use rx_form::{Side, side_of};
+use rx_inference::{Side, side_of};
 use rx_term::{Equation, Rule, Term};
 
 /// Whether the part has the shape of the hypothesis's left side.

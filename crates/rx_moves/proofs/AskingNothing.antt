@@ -3,13 +3,13 @@ use Rattle.std.proofs.Common.{◌≡◌, ap, subst, Bool, true, false, Ok, Err, 
 use Rattle.std.specs.Prelude.{if◌then◌else◌}
 use Rattle.rx_plain.specs.Formed.{Formed}
 use Rattle.rx_row.specs.declared.row.Row.{Row}
-use Rattle.rx_form.specs.Forming.{Forming, limited, provided, ◌>>=◌}
-use Rattle.rx_form.specs.Judging.{Shown, judged}
-use Rattle.rx_form.specs.declared.form_end.FormEnd.{FormEnd}
-use Rattle.rx_form.specs.declared.form_end.FormEnd.TheVariants.{WrongShape, Large}
-use Rattle.rx_form.specs.declared.formed_step.Asked.{Asked}
-use Rattle.rx_form.specs.declared.formed_step.Asked.TheVariants.{Rows}
-use Rattle.rx_form.specs.declared.formed_step.FormedStep.{FormedStep}
+use Rattle.rx_inference.specs.Forming.{Forming, limited, provided, ◌>>=◌}
+use Rattle.rx_inference.specs.Judging.{Shown, judged}
+use Rattle.rx_inference.specs.declared.form_end.FormEnd.{FormEnd}
+use Rattle.rx_inference.specs.declared.form_end.FormEnd.TheVariants.{WrongShape, Large}
+use Rattle.rx_inference.specs.declared.formed_step.Asked.{Asked}
+use Rattle.rx_inference.specs.declared.formed_step.Asked.TheVariants.{Rows}
+use Rattle.rx_inference.specs.declared.formed_step.FormedStep.{FormedStep}
 
 -- what is formed asks nothing
 abbrev pub AsksNothing : Forming FormedStep → Type 0

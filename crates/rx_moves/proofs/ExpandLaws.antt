@@ -9,19 +9,19 @@ use Rattle.rx_solve.specs.Attempts.{Tried, applies}
 use Rattle.rx_term.specs.Meaning.{redex_of}
 use Rattle.rx_term.specs.declared.rule.Equation.{Equation}
 use Rattle.rx_term.specs.declared.rule_set.RuleParts.{RuleParts}
-use Rattle.rx_form.specs.Forming.{Forming, found_or}
-use Rattle.rx_form.specs.Judging.{first_rows}
-use Rattle.rx_form.specs.Kinds.{formed}
-use Rattle.rx_form.specs.Pieces.{side_of}
-use Rattle.rx_form.specs.States.{State, taken}
-use Rattle.rx_form.specs.declared.form_end.FormEnd.TheVariants.{Large, WrongShape}
-use Rattle.rx_form.specs.declared.formed_step.Asked.{Asked}
-use Rattle.rx_form.specs.declared.formed_step.Asked.TheVariants.{Rows}
-use Rattle.rx_form.specs.declared.formed_step.FormedStep.{FormedStep}
-use Rattle.rx_form.specs.declared.step.Side.{Side}
-use Rattle.rx_form.specs.declared.step.Step.{Step}
-use Rattle.rx_form.specs.declared.step.Step.TheVariants as step
-use Rattle.rx_form.proofs.FormingLaws.{shown_taken}
+use Rattle.rx_inference.specs.Forming.{Forming, found_or}
+use Rattle.rx_inference.specs.Judging.{first_rows}
+use Rattle.rx_inference.specs.Kinds.{formed}
+use Rattle.rx_inference.specs.Pieces.{side_of}
+use Rattle.rx_inference.specs.States.{State, taken}
+use Rattle.rx_inference.specs.declared.form_end.FormEnd.TheVariants.{Large, WrongShape}
+use Rattle.rx_inference.specs.declared.formed_step.Asked.{Asked}
+use Rattle.rx_inference.specs.declared.formed_step.Asked.TheVariants.{Rows}
+use Rattle.rx_inference.specs.declared.formed_step.FormedStep.{FormedStep}
+use Rattle.rx_inference.specs.declared.step.Side.{Side}
+use Rattle.rx_inference.specs.declared.step.Step.{Step}
+use Rattle.rx_inference.specs.declared.step.Step.TheVariants as step
+use Rattle.rx_inference.proofs.FormingLaws.{shown_taken}
 use Rattle.rx_moves.specs.Answers.{IsFound}
 use Rattle.rx_moves.specs.Moves.{Expand}
 use Rattle.rx_moves.specs.Parts.{IsFormation, formed_first}

@@ -4,7 +4,7 @@ use Rattle.std.proofs.Common.{◌≡◌, ◌∙◌, ap, subst, sym, Bool, true, 
 use Rattle.std.specs.Prelude.{Ok, Err, is_some}
 use Rattle.rx_solve.specs.Attempts.{Tried, beyond, fails, first_applying, made_or}
 use Rattle.rx_term.specs.declared.rule_set.RuleParts.{RuleParts}
-use Rattle.rx_form.specs.States.{State}
+use Rattle.rx_inference.specs.States.{State}
 use Rattle.rx_moves.specs.Answers.{Gives, IsFound, IsUnready}
 use Rattle.rx_moves.specs.Trying.{Next, noting}
 use Rattle.rx_moves.specs.declared.found.Found.{Found}

@@ -3,10 +3,10 @@ use Rattle.std.proofs.Common.{◌≡◌, refl, Option, Some, None, List}
 use Rattle.rx_term.specs.declared.rule.Equation.{Equation}
 use Rattle.rx_term.specs.declared.rule.Rule.{Rule}
 use Rattle.rx_term.specs.declared.rule_set.RuleParts.{RuleParts}
-use Rattle.rx_form.specs.Kinds.{formed, formed_on}
-use Rattle.rx_form.specs.declared.step.Delete.TheVariants as delete
-use Rattle.rx_form.specs.declared.step.Step.{Step}
-use Rattle.rx_form.specs.declared.step.Step.TheVariants as step
+use Rattle.rx_inference.specs.Kinds.{formed, formed_on}
+use Rattle.rx_inference.specs.declared.step.Delete.TheVariants as delete
+use Rattle.rx_inference.specs.declared.step.Step.{Step}
+use Rattle.rx_inference.specs.declared.step.Step.TheVariants as step
 use Rattle.rx_moves.specs.Moves.{move_of, step_of}
 
 module _ (parts : RuleParts) (hypotheses : List Rule) where

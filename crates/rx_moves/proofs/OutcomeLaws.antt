@@ -8,13 +8,13 @@ use Rattle.rx_solve.specs.declared.showing.AllShown.{AllShown}
 use Rattle.rx_solve.specs.declared.showing.AllShown.TheVariants as all
 use Rattle.rx_term.specs.declared.rule.Equation.{Equation}
 use Rattle.rx_term.specs.declared.rule_set.RuleParts.{RuleParts}
-use Rattle.rx_form.specs.Forming.{Forming}
-use Rattle.rx_form.specs.Judging.{first_rows}
-use Rattle.rx_form.specs.Kinds.{formed}
-use Rattle.rx_form.specs.States.{State, taken}
-use Rattle.rx_form.specs.declared.form_end.FormEnd.TheVariants.{Large, NoGoal}
-use Rattle.rx_form.specs.declared.formed_step.FormedStep.{FormedStep}
-use Rattle.rx_form.specs.declared.step.Step.{Step}
+use Rattle.rx_inference.specs.Forming.{Forming}
+use Rattle.rx_inference.specs.Judging.{first_rows}
+use Rattle.rx_inference.specs.Kinds.{formed}
+use Rattle.rx_inference.specs.States.{State, taken}
+use Rattle.rx_inference.specs.declared.form_end.FormEnd.TheVariants.{Large, NoGoal}
+use Rattle.rx_inference.specs.declared.formed_step.FormedStep.{FormedStep}
+use Rattle.rx_inference.specs.declared.step.Step.{Step}
 use Rattle.rx_moves.specs.Moves.{Move, move_of}
 use Rattle.rx_moves.specs.Outcomes.{Follows, IsOutcome}
 use Rattle.rx_moves.specs.Parts.{IsAskedShown, formed_first}

@@ -5,8 +5,8 @@ use Rattle.rx_solve.specs.Attempts.{fails, first_applying}
 use Rattle.rx_term.specs.declared.rule.Equation.{Equation}
 use Rattle.rx_term.specs.declared.rule_set.RuleParts.{RuleParts}
 use Rattle.rx_term.specs.declared.term.Sym.{Sym}
-use Rattle.rx_form.specs.States.{State}
-use Rattle.rx_form.specs.declared.step.Side.{Side}
+use Rattle.rx_inference.specs.States.{State}
+use Rattle.rx_inference.specs.declared.step.Side.{Side}
 use Rattle.rx_moves.specs.Answers.{IsFound, IsFoundAt}
 use Rattle.rx_moves.specs.Moves.{Expand}
 use Rattle.rx_moves.specs.Trying.{attempt}

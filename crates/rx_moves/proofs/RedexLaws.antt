@@ -8,14 +8,14 @@ use Rattle.rx_term.specs.declared.rule.Equation.{Equation}
 use Rattle.rx_term.specs.declared.rule.Rule.{Rule}
 use Rattle.rx_term.specs.declared.rule_set.RuleParts.{RuleParts}
 use Rattle.rx_term.specs.declared.term.Term.{Term}
-use Rattle.rx_form.specs.Forming.{Forming, found_or, limited, provided, ◌>>=◌}
-use Rattle.rx_form.specs.Kinds.{formed}
-use Rattle.rx_form.specs.Making.{simplified_by}
-use Rattle.rx_form.specs.Pieces.{have_one_shape, side_of}
-use Rattle.rx_form.specs.States.{State}
-use Rattle.rx_form.specs.declared.form_end.FormEnd.TheVariants.{NoSuchRule, WrongShape}
-use Rattle.rx_form.specs.declared.formed_step.FormedStep.{FormedStep}
-use Rattle.rx_form.specs.declared.step.Side.{Side}
+use Rattle.rx_inference.specs.Forming.{Forming, found_or, limited, provided, ◌>>=◌}
+use Rattle.rx_inference.specs.Kinds.{formed}
+use Rattle.rx_inference.specs.Making.{simplified_by}
+use Rattle.rx_inference.specs.Pieces.{have_one_shape, side_of}
+use Rattle.rx_inference.specs.States.{State}
+use Rattle.rx_inference.specs.declared.form_end.FormEnd.TheVariants.{NoSuchRule, WrongShape}
+use Rattle.rx_inference.specs.declared.formed_step.FormedStep.{FormedStep}
+use Rattle.rx_inference.specs.declared.step.Side.{Side}
 use Rattle.rx_moves.specs.Moves.{Simplify, step_of}
 use Rattle.rx_moves.specs.Trying.{Next, attempt, next_if_formed}
 

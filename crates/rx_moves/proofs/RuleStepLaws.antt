@@ -15,22 +15,22 @@ use Rattle.rx_term.specs.declared.rule.Equation.{Equation}
 use Rattle.rx_term.specs.declared.rule.Rule.{Rule}
 use Rattle.rx_term.specs.declared.rule_set.RuleParts.{RuleParts}
 use Rattle.rx_term.specs.declared.term.Term.{Term}
-use Rattle.rx_form.proofs.FormingLaws.{shown_taken}
-use Rattle.rx_form.proofs.JudgingLaws.{one_group}
-use Rattle.rx_form.specs.Forming.{Forming, limited, provided}
-use Rattle.rx_form.specs.Judging.{first_rows, of_conditions}
-use Rattle.rx_form.specs.Kinds.{formed}
-use Rattle.rx_form.specs.Making.{simplified_by}
-use Rattle.rx_form.specs.Pieces.{have_one_shape, rule_with, side_of}
-use Rattle.rx_form.specs.States.{State, applied, taken}
-use Rattle.rx_form.specs.declared.form_end.FormEnd.TheVariants.{Large}
-use Rattle.rx_form.specs.declared.formed_step.Asked.TheVariants.{Rows}
-use Rattle.rx_form.specs.declared.formed_step.FormedStep.{FormedStep}
-use Rattle.rx_form.specs.declared.formed_step.Under.TheVariants.{Goal}
-use Rattle.rx_form.specs.declared.pieces.RuleInstance.{RuleInstance}
-use Rattle.rx_form.specs.declared.step.Side.{Side}
-use Rattle.rx_form.specs.declared.step.Step.{Step}
-use Rattle.rx_form.specs.declared.step.Step.TheVariants as step
+use Rattle.rx_inference.proofs.FormingLaws.{shown_taken}
+use Rattle.rx_inference.proofs.JudgingLaws.{one_group}
+use Rattle.rx_inference.specs.Forming.{Forming, limited, provided}
+use Rattle.rx_inference.specs.Judging.{first_rows, of_conditions}
+use Rattle.rx_inference.specs.Kinds.{formed}
+use Rattle.rx_inference.specs.Making.{simplified_by}
+use Rattle.rx_inference.specs.Pieces.{have_one_shape, rule_with, side_of}
+use Rattle.rx_inference.specs.States.{State, applied, taken}
+use Rattle.rx_inference.specs.declared.form_end.FormEnd.TheVariants.{Large}
+use Rattle.rx_inference.specs.declared.formed_step.Asked.TheVariants.{Rows}
+use Rattle.rx_inference.specs.declared.formed_step.FormedStep.{FormedStep}
+use Rattle.rx_inference.specs.declared.formed_step.Under.TheVariants.{Goal}
+use Rattle.rx_inference.specs.declared.pieces.RuleInstance.{RuleInstance}
+use Rattle.rx_inference.specs.declared.step.Side.{Side}
+use Rattle.rx_inference.specs.declared.step.Step.{Step}
+use Rattle.rx_inference.specs.declared.step.Step.TheVariants as step
 use Rattle.rx_solve.specs.Attempts.{Tried, applies}
 use Rattle.rx_solve.specs.Refuter.{refuted}
 use Rattle.rx_solve.specs.Shown.{IsAllShown}

@@ -9,8 +9,8 @@ use Rattle.rx_term.specs.declared.rule.Equation.{Equation}
 use Rattle.rx_term.specs.declared.rule.Rule.{Rule}
 use Rattle.rx_term.specs.declared.rule_set.RuleParts.{RuleParts}
 use Rattle.rx_term.specs.declared.term.Sym.{Sym}
-use Rattle.rx_form.specs.States.{State}
-use Rattle.rx_form.specs.declared.step.Side.{Side}
+use Rattle.rx_inference.specs.States.{State}
+use Rattle.rx_inference.specs.declared.step.Side.{Side}
 use Rattle.rx_moves.specs.Answers.{IsFound, IsFoundAt, IsUnready}
 use Rattle.rx_moves.specs.Moves.{Simplify}
 use Rattle.rx_moves.specs.Trying.{Next, attempt, noting}

@@ -5,9 +5,9 @@ use Rattle.rx_solve.specs.Attempts.{Tried}
 use Rattle.rx_solve.specs.Bounds.{most_deep}
 use Rattle.rx_term.specs.declared.rule.Equation.{Equation}
 use Rattle.rx_term.specs.declared.rule_set.RuleParts.{RuleParts}
-use Rattle.rx_form.specs.Judging.{certificates}
-use Rattle.rx_form.specs.States.{State, applied, taken}
-use Rattle.rx_form.specs.declared.step.Step.{Step}
+use Rattle.rx_inference.specs.Judging.{certificates}
+use Rattle.rx_inference.specs.States.{State, applied, taken}
+use Rattle.rx_inference.specs.declared.step.Step.{Step}
 use Rattle.rx_moves.specs.Moves.{move_of}
 use Rattle.rx_moves.specs.Trying.{Next}
 use Rattle.rx_moves.specs.declared.found.Found.{Found}

@@ -4,10 +4,10 @@ use Rattle.rx_cert.specs.declared.cert.Cert.TheVariants.{Sum}
 use Rattle.rx_poly.specs.declared.body.Body.{Body}
 use Rattle.rx_row.specs.declared.row.Row.{Row}
 use Rattle.rx_term.specs.declared.rule.Equation.{Equation}
-use Rattle.rx_form.specs.declared.step.Delete.TheVariants as delete
-use Rattle.rx_form.specs.declared.step.Side.{Side}
-use Rattle.rx_form.specs.declared.step.Step.{Step}
-use Rattle.rx_form.specs.declared.step.Step.TheVariants as step
+use Rattle.rx_inference.specs.declared.step.Delete.TheVariants as delete
+use Rattle.rx_inference.specs.declared.step.Side.{Side}
+use Rattle.rx_inference.specs.declared.step.Step.{Step}
+use Rattle.rx_inference.specs.declared.step.Step.TheVariants as step
 
 -- what a step does, whatever shows its conditions
 pub data Move : Type 0 where

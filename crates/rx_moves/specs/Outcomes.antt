@@ -2,10 +2,10 @@
 use Rattle.std.specs.Prelude.{◌≡◌, Ok}
 use Rattle.rx_solve.specs.Attempts.{beyond, fails}
 use Rattle.rx_term.specs.declared.rule_set.RuleParts.{RuleParts}
-use Rattle.rx_form.specs.Judging.{first_rows}
-use Rattle.rx_form.specs.States.{State}
-use Rattle.rx_form.specs.declared.formed_step.FormedStep.{FormedStep}
-use Rattle.rx_form.specs.declared.step.Step.{Step}
+use Rattle.rx_inference.specs.Judging.{first_rows}
+use Rattle.rx_inference.specs.States.{State}
+use Rattle.rx_inference.specs.declared.formed_step.FormedStep.{FormedStep}
+use Rattle.rx_inference.specs.declared.step.Step.{Step}
 use Rattle.rx_moves.specs.Moves.{move_of}
 use Rattle.rx_moves.specs.Parts.{ShownBy, formed_first}
 use Rattle.rx_moves.specs.Trying.{attempt}

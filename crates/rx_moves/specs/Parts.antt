@@ -8,14 +8,14 @@ use Rattle.rx_solve.specs.Attempts.{fails}
 use Rattle.rx_solve.specs.Bounds.{most_deep}
 use Rattle.rx_solve.specs.declared.showing.AllShown.{AllShown}
 use Rattle.rx_solve.specs.declared.showing.AllShown.TheVariants as all
-use Rattle.rx_form.specs.Forming.{Forming}
-use Rattle.rx_form.specs.Judging.{Shown, judged}
-use Rattle.rx_form.specs.Kinds.{formed}
-use Rattle.rx_form.specs.States.{State}
-use Rattle.rx_form.specs.declared.form_end.FormEnd.TheVariants.{Large}
-use Rattle.rx_form.specs.declared.formed_step.Asked.{Asked}
-use Rattle.rx_form.specs.declared.formed_step.FormedStep.{FormedStep}
-use Rattle.rx_form.specs.declared.step.Step.{Step}
+use Rattle.rx_inference.specs.Forming.{Forming}
+use Rattle.rx_inference.specs.Judging.{Shown, judged}
+use Rattle.rx_inference.specs.Kinds.{formed}
+use Rattle.rx_inference.specs.States.{State}
+use Rattle.rx_inference.specs.declared.form_end.FormEnd.TheVariants.{Large}
+use Rattle.rx_inference.specs.declared.formed_step.Asked.{Asked}
+use Rattle.rx_inference.specs.declared.formed_step.FormedStep.{FormedStep}
+use Rattle.rx_inference.specs.declared.step.Step.{Step}
 use Rattle.rx_term.specs.declared.rule_set.RuleParts.{RuleParts}
 use Rattle.rx_moves.specs.Moves.{Move}
 use Rattle.rx_moves.specs.Trying.{asked_shown, next_if_formed}

@@ -5,15 +5,15 @@ use Rattle.rx_term.specs.declared.rule.Equation.{Equation}
 use Rattle.rx_term.specs.declared.rule.Rule.{Rule}
 use Rattle.rx_term.specs.declared.rule_set.RuleParts.{RuleParts}
 use Rattle.rx_term.specs.declared.term.Term.{Term}
-use Rattle.rx_form.specs.Forming.{limited}
-use Rattle.rx_form.specs.Making.{simplified_by}
-use Rattle.rx_form.specs.Pieces.{asking, side_of, with_side}
-use Rattle.rx_form.specs.States.{State}
-use Rattle.rx_form.specs.declared.formed_step.FormedStep.{FormedStep}
-use Rattle.rx_form.specs.declared.pieces.RuleInstance.{RuleInstance}
-use Rattle.rx_form.specs.declared.step.Side.{Side}
-use Rattle.rx_form.specs.declared.step.Step.{Step}
-use Rattle.rx_form.specs.declared.step.Step.TheVariants as step
+use Rattle.rx_inference.specs.Forming.{limited}
+use Rattle.rx_inference.specs.Making.{simplified_by}
+use Rattle.rx_inference.specs.Pieces.{asking, side_of, with_side}
+use Rattle.rx_inference.specs.States.{State}
+use Rattle.rx_inference.specs.declared.formed_step.FormedStep.{FormedStep}
+use Rattle.rx_inference.specs.declared.pieces.RuleInstance.{RuleInstance}
+use Rattle.rx_inference.specs.declared.step.Side.{Side}
+use Rattle.rx_inference.specs.declared.step.Step.{Step}
+use Rattle.rx_inference.specs.declared.step.Step.TheVariants as step
 use Rattle.rx_moves.specs.Outcomes.{IsOutcome}
 use Rattle.rx_moves.specs.Parts.{formed_first}
 use Rattle.rx_moves.specs.declared.outcome.Outcome.{Outcome}

@@ -7,15 +7,15 @@ use Rattle.rx_row.specs.declared.row.Row.{Row}
 use Rattle.rx_solve.specs.Attempts.{Tried, beyond, fails, where_shown}
 use Rattle.rx_solve.specs.Refuter.{refuted}
 use Rattle.rx_term.specs.declared.rule_set.RuleParts.{RuleParts}
-use Rattle.rx_form.specs.Forming.{Forming}
-use Rattle.rx_form.specs.Judging.{first_rows, given_to}
-use Rattle.rx_form.specs.Kinds.{formed}
-use Rattle.rx_form.specs.States.{State, taken}
-use Rattle.rx_form.specs.declared.form_end.FormEnd.TheVariants as form_end
-use Rattle.rx_form.specs.declared.formed_step.Asked.{Asked}
-use Rattle.rx_form.specs.declared.formed_step.Asked.TheVariants.{Refuted, Rows}
-use Rattle.rx_form.specs.declared.formed_step.FormedStep.{FormedStep}
-use Rattle.rx_form.specs.declared.formed_step.Group.{Group}
+use Rattle.rx_inference.specs.Forming.{Forming}
+use Rattle.rx_inference.specs.Judging.{first_rows, given_to}
+use Rattle.rx_inference.specs.Kinds.{formed}
+use Rattle.rx_inference.specs.States.{State, taken}
+use Rattle.rx_inference.specs.declared.form_end.FormEnd.TheVariants as form_end
+use Rattle.rx_inference.specs.declared.formed_step.Asked.{Asked}
+use Rattle.rx_inference.specs.declared.formed_step.Asked.TheVariants.{Refuted, Rows}
+use Rattle.rx_inference.specs.declared.formed_step.FormedStep.{FormedStep}
+use Rattle.rx_inference.specs.declared.formed_step.Group.{Group}
 use Rattle.rx_moves.specs.Moves.{Move, step_of}
 
 -- a move, and the state after it

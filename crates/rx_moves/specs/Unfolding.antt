@@ -9,10 +9,10 @@ use Rattle.rx_term.specs.declared.rule.Rule.{Rule}
 use Rattle.rx_term.specs.declared.rule_set.RuleParts.{RuleParts}
 use Rattle.rx_term.specs.declared.term.Sym.{Sym}
 use Rattle.rx_pairs.specs.Loops.{in_one_component, is_loop_point}
-use Rattle.rx_form.specs.Pieces.{side_of}
-use Rattle.rx_form.specs.States.{State}
-use Rattle.rx_form.specs.declared.step.Side.{Side}
-use Rattle.rx_form.specs.declared.step.Side.TheVariants.{Left, Right}
+use Rattle.rx_inference.specs.Pieces.{side_of}
+use Rattle.rx_inference.specs.States.{State}
+use Rattle.rx_inference.specs.declared.step.Side.{Side}
+use Rattle.rx_inference.specs.declared.step.Side.TheVariants.{Left, Right}
 use Rattle.rx_moves.specs.Moves.{Simplify, Expand}
 use Rattle.rx_moves.specs.Trying.{Next, attempt}
 

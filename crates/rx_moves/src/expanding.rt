@@ -1,7 +1,7 @@
 //! The expansion of a side.
 ghost use Rattle.std.specs.Prelude.{false, Some, [], IfOk};
-ghost use Rattle.rx_form.specs.Kinds.{formed};
-ghost use Rattle.rx_form.specs.declared.step.Step.TheVariants as step;
+ghost use Rattle.rx_inference.specs.Kinds.{formed};
+ghost use Rattle.rx_inference.specs.declared.step.Step.TheVariants as step;
 ghost use Rattle.rx_moves.specs.Answers.{IsFoundAt};
 ghost use Rattle.rx_moves.specs.Moves.{Expand};
 ghost use Rattle.rx_moves.specs.Parts.{IsFormation};
@@ -9,7 +9,7 @@ ghost use Rattle.rx_moves.specs.Trying.{attempt};
 
 use crate::formation::{Formation, form_step};
 use crate::found::Found;
-use rx_form::{Side, Step};
+use rx_inference::{Side, Step};
 use rx_plain::NoMemory;
 use rx_term::{Equation, RuleSet};
 use std::alloc::Global;

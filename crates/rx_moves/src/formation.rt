@@ -1,10 +1,10 @@
 //! Forming a step that is tried.
 ghost use Rattle.std.specs.Option.{option_copied};
 ghost use Rattle.std.specs.Prelude.{IfOk};
-ghost use Rattle.rx_form.specs.Kinds.{formed};
+ghost use Rattle.rx_inference.specs.Kinds.{formed};
 ghost use Rattle.rx_moves.specs.Parts.{IsFormation};
 
-use rx_form::{FormEnd, FormedStep, Step, form};
+use rx_inference::{FormEnd, FormedStep, Step, form};
 use rx_plain::NoMemory;
 use rx_term::{Equation, Rule, RuleSet};
 use std::alloc::Global;

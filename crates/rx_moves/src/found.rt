@@ -2,7 +2,7 @@
 ghost use Rattle.std.specs.Prelude.{◌≡◌, ◌||◌, true, false, Some, None};
 ghost use Rattle.rx_moves.specs.Answers.{IsUnready};
 
-use rx_form::{FormedStep, Step};
+use rx_inference::{FormedStep, Step};
 
 /// A step that is formed and shown, and not yet taken.
 #[derive(Drop)]

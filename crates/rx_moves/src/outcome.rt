@@ -1,6 +1,6 @@
 //! What comes of a step before it is taken.
 use rx_cert::Cert;
-use rx_form::FormedStep;
+use rx_inference::FormedStep;
 use rx_plain::Items;
 
 /// What comes of a step before it is taken.

@@ -1,6 +1,6 @@
 //! A rule at the redex of a side, as far as the step before it is taken.
 ghost use Rattle.std.specs.Prelude.{◌≡◌, Some, IfOk, slice_get};
-ghost use Rattle.rx_form.specs.States as states;
+ghost use Rattle.rx_inference.specs.States as states;
 ghost use Rattle.rx_solve.specs.Answers.{IsSolver};
 ghost use Rattle.rx_moves.specs.Outcomes.{Follows};
 ghost use Rattle.rx_moves.specs.RuleSteps.{FollowsNumber, FollowsRule, rule_made};
@@ -8,7 +8,7 @@ ghost use Rattle.rx_moves.specs.RuleSteps.{FollowsNumber, FollowsRule, rule_made
 use crate::outcome::Outcome;
 use rx_cert::Cert;
 use rx_fm::FmEnd;
-use rx_form::{RuleInstance, Side, asking_for, have_one_shape, rewritten, rule_at, side_of};
+use rx_inference::{RuleInstance, Side, asking_for, have_one_shape, rewritten, rule_at, side_of};
 use rx_plain::NoMemory;
 use rx_poly::PolyEnd;
 use rx_row::Constraint;

@@ -14,7 +14,7 @@ use crate::outcome::Outcome;
 use crate::rule_steps::show_on;
 use rx_cert::Cert;
 use rx_fm::FmEnd;
-use rx_form::{Side, Step};
+use rx_inference::{Side, Step};
 use rx_plain::NoMemory;
 use rx_row::Constraint;
 use rx_term::{Equation, Rule, RuleSet, Sym};

@@ -1,6 +1,6 @@
 //! The redexes of both sides of a goal.
 ghost use Rattle.std.specs.Prelude.{◌≡◌, IfOk};
-ghost use Rattle.rx_form.specs.declared.step.Side.{Side};
+ghost use Rattle.rx_inference.specs.declared.step.Side.{Side};
 ghost use Rattle.rx_solve.specs.Answers.{IsSolver};
 ghost use Rattle.rx_moves.specs.Answers.{IsFoundAt};
 ghost use Rattle.rx_moves.specs.LoopPoints.{AreLoopPoints};
@@ -13,7 +13,7 @@ use crate::loop_points::LoopPoints;
 use crate::rules::find_rules;
 use rx_cert::Cert;
 use rx_fm::FmEnd;
-use rx_form::{Side, side_of};
+use rx_inference::{Side, side_of};
 use rx_plain::NoMemory;
 use rx_row::Constraint;
 use rx_term::{Equation, RuleSet, Sym};

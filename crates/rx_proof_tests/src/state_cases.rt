@@ -1,7 +1,7 @@
 //! A proof state with the goal s0(v0) = ret(0), where v0 = 0.
 use crate::example::rules;
 use rule_tables::equation;
-use rx_form::{Delete, Side, Step};
+use rx_inference::{Delete, Side, Step};
 use rx_plain::Items;
 use rx_steps::{State, apply};
 use rx_term::RuleSet;

@@ -5,8 +5,8 @@ use Rattle.rx_check.specs.declared.check_end.CheckEnd.{CheckEnd}
 use Rattle.rx_check.specs.declared.check_end.CheckEnd.TheVariants as End
 use Rattle.rx_check.specs.declared.check_end.Place as end_place
 use Rattle.rx_check.specs.declared.check_end.Place.TheVariants as At
-use Rattle.rx_form.specs.Judging.{StepFault}
-use Rattle.rx_form.specs.Judging as judging
+use Rattle.rx_inference.specs.Judging.{StepFault}
+use Rattle.rx_inference.specs.Judging as judging
 use Rattle.rx_log.specs.Acceptance as acceptance
 use Rattle.rx_log.specs.Acceptance.{LogFault}
 use Rattle.rx_steps.specs.declared.step_end.StepEnd.{StepEnd}

@@ -8,11 +8,11 @@ use Rattle.rx_plain.specs.declared.no_memory.NoMemory.{NoMemory}
 use Rattle.rx_solve.specs.Attempts.{Tried, beyond}
 use Rattle.rx_term.specs.declared.rule.Equation.{Equation}
 use Rattle.rx_term.specs.declared.rule_set.RuleParts.{RuleParts}
-use Rattle.rx_form.specs.States.{State}
-use Rattle.rx_form.specs.declared.step.Side.{Side}
-use Rattle.rx_form.specs.declared.step.Side.TheVariants.{Left, Right}
-use Rattle.rx_form.specs.declared.step.Step.{Step}
-use Rattle.rx_form.specs.declared.step.Step.TheVariants as steps
+use Rattle.rx_inference.specs.States.{State}
+use Rattle.rx_inference.specs.declared.step.Side.{Side}
+use Rattle.rx_inference.specs.declared.step.Side.TheVariants.{Left, Right}
+use Rattle.rx_inference.specs.declared.step.Step.{Step}
+use Rattle.rx_inference.specs.declared.step.Step.TheVariants as steps
 use Rattle.rx_lemma.specs.Lemmas.{Generalisation}
 use Rattle.rx_search.specs.Candidates.{candidates_by, expansions, lemma_candidate}
 use Rattle.rx_search.specs.declared.candidates.Candidate.{Candidate}

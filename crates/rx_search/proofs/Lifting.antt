@@ -10,10 +10,10 @@ use Rattle.rx_solve.specs.Attempts.{Tried}
 use Rattle.rx_term.specs.declared.rule.Equation.{Equation}
 use Rattle.rx_term.specs.declared.rule.Rule.{Rule}
 use Rattle.rx_term.specs.declared.rule_set.RuleParts.{RuleParts}
-use Rattle.rx_form.specs.Kinds.{formed}
-use Rattle.rx_form.specs.States.{State}
-use Rattle.rx_form.specs.declared.step.Side.TheVariants.{Left, Right}
-use Rattle.rx_form.specs.declared.step.Step.{Step}
+use Rattle.rx_inference.specs.Kinds.{formed}
+use Rattle.rx_inference.specs.States.{State}
+use Rattle.rx_inference.specs.declared.step.Side.TheVariants.{Left, Right}
+use Rattle.rx_inference.specs.declared.step.Step.{Step}
 use Rattle.rx_lemma.specs.Generalising.{generalisations}
 use Rattle.rx_lemma.specs.Lemmas.{Generalisation}
 use Rattle.rx_rank.specs.Ranking.{ranked}

@@ -1,9 +1,9 @@
 -- Steps one after the other: appended, as a run, and as those of a log.
 use Rattle.std.proofs.Common.{◌≡◌, ℕ, ◌+◌, Result, Ok, Err, List, [], ◌∷◌, ◌++◌, refl, sym, ap, subst}
 use Rattle.rx_term.specs.declared.rule_set.RuleParts.{RuleParts}
-use Rattle.rx_form.specs.Judging.{StepFault}
-use Rattle.rx_form.specs.States.{State, applied}
-use Rattle.rx_form.specs.declared.step.Step.{Step}
+use Rattle.rx_inference.specs.Judging.{StepFault}
+use Rattle.rx_inference.specs.States.{State, applied}
+use Rattle.rx_inference.specs.declared.step.Step.{Step}
 use Rattle.rx_joins.specs.Runs.{NoStep, OneMore, Run}
 use Rattle.rx_log.specs.Acceptance.{after_step, after_steps, ◌>>=◌}
 use Rattle.rx_settle.specs.Answers.{after, after_all}

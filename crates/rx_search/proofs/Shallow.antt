@@ -8,8 +8,8 @@ use Rattle.rx_cert.specs.Depth.{cert_depth}
 use Rattle.rx_cert.specs.declared.cert.Cert.{Cert}
 use Rattle.rx_solve.specs.Bounds.{most_deep}
 use Rattle.rx_term.specs.declared.rule_set.RuleParts.{RuleParts}
-use Rattle.rx_form.specs.Judging.{certificates}
-use Rattle.rx_form.specs.declared.step.Step.{Step}
+use Rattle.rx_inference.specs.Judging.{certificates}
+use Rattle.rx_inference.specs.declared.step.Step.{Step}
 use Rattle.rx_cover.specs.Depth.{tree_depth}
 use Rattle.rx_cover.specs.declared.cover_tree.CoverTree.{CoverTree, CoverTree-F, fold-roll-CoverTree, ind-CoverTree, map-CoverTree, roll-CoverTree}
 use Rattle.rx_coverable.specs.Answers.{AreSmall}

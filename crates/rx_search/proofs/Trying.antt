@@ -13,18 +13,18 @@ use Rattle.rx_term.specs.declared.rule.Equation.{Equation}
 use Rattle.rx_term.specs.declared.rule.Rule.{Rule}
 use Rattle.rx_term.specs.declared.rule_set.RuleParts.{RuleParts}
 use Rattle.rx_term.specs.declared.term.Term.{Term}
-use Rattle.rx_form.specs.Forming.{Forming, found_or, limited, provided, ◌>>=◌}
-use Rattle.rx_form.specs.Judging.{first_rows}
-use Rattle.rx_form.specs.Kinds.{formed, formed_on}
-use Rattle.rx_form.specs.Making.{decomposed_by, expanded_by_all, generalised_by}
-use Rattle.rx_form.specs.Pieces.{TopFrame, have_one_shape, is_equation, is_substitution, side_of, top_frame}
-use Rattle.rx_form.specs.States.{State, taken}
-use Rattle.rx_form.specs.declared.form_end.FormEnd.TheVariants.{Large, NoGoal, NoSuchRule, WrongShape}
-use Rattle.rx_form.specs.declared.form_end.FormEnd.TheVariants as form_end
+use Rattle.rx_inference.specs.Forming.{Forming, found_or, limited, provided, ◌>>=◌}
+use Rattle.rx_inference.specs.Judging.{first_rows}
+use Rattle.rx_inference.specs.Kinds.{formed, formed_on}
+use Rattle.rx_inference.specs.Making.{decomposed_by, expanded_by_all, generalised_by}
+use Rattle.rx_inference.specs.Pieces.{TopFrame, have_one_shape, is_equation, is_substitution, side_of, top_frame}
+use Rattle.rx_inference.specs.States.{State, taken}
+use Rattle.rx_inference.specs.declared.form_end.FormEnd.TheVariants.{Large, NoGoal, NoSuchRule, WrongShape}
+use Rattle.rx_inference.specs.declared.form_end.FormEnd.TheVariants as form_end
 use Rattle.rx_plain.specs.declared.no_memory.NoMemory.{NoMemory}
-use Rattle.rx_form.specs.declared.formed_step.FormedStep.{FormedStep}
-use Rattle.rx_form.specs.declared.step.Side.{Side}
-use Rattle.rx_form.specs.declared.step.Step.{Step}
+use Rattle.rx_inference.specs.declared.formed_step.FormedStep.{FormedStep}
+use Rattle.rx_inference.specs.declared.step.Side.{Side}
+use Rattle.rx_inference.specs.declared.step.Step.{Step}
 use Rattle.rx_rank.specs.Ranking.{ranked}
 use Rattle.rx_joins.specs.Runs as runs
 use Rattle.rx_settle.specs.Answers.{Takes}

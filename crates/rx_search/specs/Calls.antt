@@ -2,8 +2,8 @@
 -- or a choice leads.
 use Rattle.std.specs.Prelude.{◌==◌, ◌||◌, if◌then◌else◌, ℕ, Bool, Option, Some, None, List, [], ◌∷◌, ◌++◌, map, slice_get}
 use Rattle.rx_term.specs.declared.rule.Equation.{Equation}
-use Rattle.rx_form.specs.States.{State}
-use Rattle.rx_form.specs.declared.step.Step.{Step}
+use Rattle.rx_inference.specs.States.{State}
+use Rattle.rx_inference.specs.declared.step.Step.{Step}
 use Rattle.rx_moves.specs.Moves.{move_of}
 use Rattle.rx_search.specs.NodeNodes as nodes
 use Rattle.rx_search.specs.declared.node.Node.{Node}

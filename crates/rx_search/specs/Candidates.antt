@@ -1,7 +1,7 @@
 -- The choices at a goal, before they are tried: the four expansions, Decompose, and lemmas.
 use Rattle.std.specs.Prelude.{ℕ, true, false, Option, Some, None, List, [], ◌∷◌, ◌++◌, map}
-use Rattle.rx_form.specs.declared.step.Side.TheVariants.{Left, Right}
-use Rattle.rx_form.specs.declared.step.Step.TheVariants as steps
+use Rattle.rx_inference.specs.declared.step.Side.TheVariants.{Left, Right}
+use Rattle.rx_inference.specs.declared.step.Step.TheVariants as steps
 use Rattle.rx_lemma.specs.Lemmas.{Generalisation}
 use Rattle.rx_lemma.specs.declared.lemma.LemmaKind.{LemmaKind}
 use Rattle.rx_lemma.specs.declared.lemma.LemmaKind.TheVariants.{NameConstants, DropValues, ReplaceRepeated}

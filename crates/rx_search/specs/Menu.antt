@@ -6,7 +6,7 @@ use Rattle.std.specs.List.{list_any}
 use Rattle.rx_solve.specs.Attempts.{Tried, beyond, where_shown}
 use Rattle.rx_term.specs.declared.rule.Equation.{Equation}
 use Rattle.rx_term.specs.declared.rule_set.RuleParts.{RuleParts}
-use Rattle.rx_form.specs.States.{State}
+use Rattle.rx_inference.specs.States.{State}
 use Rattle.rx_lemma.specs.Generalising.{generalisations}
 use Rattle.rx_rank.specs.Ranking.{ranked}
 use Rattle.rx_moves.specs.Moves.{move_of}

@@ -1,7 +1,7 @@
 -- Nodes of a search: what is seen of them.
 use Rattle.std.specs.Prelude.{ℕ, Bool, true, false, List, [], ◌∷◌, ◌++◌}
 use Rattle.rx_term.specs.declared.rule.Equation.{Equation}
-use Rattle.rx_form.specs.States.{State}
+use Rattle.rx_inference.specs.States.{State}
 use Rattle.rx_moves.specs.Moves.{Move}
 use Rattle.rx_moves.specs.Trying.{Next}
 

@@ -1,6 +1,6 @@
 //! The choices at a goal, before they are tried.
 ghost use Rattle.std.specs.Prelude.{◌≡◌, ◌++◌, IfOk, OnOk, map};
-ghost use Rattle.rx_form.specs.declared.step.Step.TheVariants as steps;
+ghost use Rattle.rx_inference.specs.declared.step.Step.TheVariants as steps;
 ghost use Rattle.rx_lemma.specs.Generalising.{generalisations};
 ghost use Rattle.rx_lemma.specs.Lemmas.{found_as};
 ghost use Rattle.rx_search.specs.Candidates.{candidates_by, expansions, lemma_candidate, number_of};
@@ -8,7 +8,7 @@ ghost use Rattle.rx_solve.specs.Answers.{IsSolver};
 
 use rx_cert::Cert;
 use rx_fm::FmEnd;
-use rx_form::{Side, Step};
+use rx_inference::{Side, Step};
 use rx_lemma::{Generalised, LemmaKind, lemmas};
 use rx_plain::{Items, NoMemory};
 use rx_row::Constraint;

@@ -4,7 +4,7 @@ ghost use Rattle.rx_search.specs.NodeNodes.{is_closed, start};
 ghost use Rattle.rx_search.specs.Calls.{node_of, open_goal, started, with_step};
 ghost use Rattle.rx_steps.specs.Alone.{onto};
 
-use rx_form::Step;
+use rx_inference::Step;
 use rx_plain::{Items, NoMemory, Shared};
 use rx_row::Row;
 use rx_steps::State;

@@ -4,7 +4,7 @@ ghost use Rattle.rx_search.specs.Calls.{led, with_choice};
 ghost use Rattle.rx_steps.specs.Alone.{onto};
 
 use crate::node::Node;
-use rx_form::Step;
+use rx_inference::Step;
 use rx_plain::{Items, NoMemory, Shared};
 use rx_steps::State;
 use rx_visits::Choice;

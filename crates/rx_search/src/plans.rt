@@ -16,7 +16,7 @@ use crate::menu::find_menu;
 use crate::node::{Node, is_closed, shared_steps};
 use rx_cert::Cert;
 use rx_fm::FmEnd;
-use rx_form::Step;
+use rx_inference::Step;
 use rx_moves::LoopPoints;
 use rx_pairs::Pair;
 use rx_plain::{Items, NoMemory, Shared};

@@ -12,9 +12,9 @@ use Rattle.rx_term.specs.declared.rule.Equation.{Equation}
 use Rattle.rx_term.specs.declared.rule.Rule.{Rule}
 use Rattle.rx_term.specs.declared.rule_set.RuleParts.{RuleParts}
 use Rattle.rx_term.specs.declared.term.Term.{Term}
-use Rattle.rx_form.specs.Pieces.{have_one_shape, side_of}
-use Rattle.rx_form.specs.States.{State}
-use Rattle.rx_form.specs.declared.step.Side.{Side}
+use Rattle.rx_inference.specs.Pieces.{have_one_shape, side_of}
+use Rattle.rx_inference.specs.States.{State}
+use Rattle.rx_inference.specs.declared.step.Side.{Side}
 use Rattle.rx_match.specs.Matching.{is_place, use_at, use_of}
 use Rattle.rx_match.specs.Uses.{UseAnswers}
 use Rattle.rx_match.specs.declared.finding.Use.{Use}

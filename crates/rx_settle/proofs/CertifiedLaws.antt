@@ -9,15 +9,15 @@ use Rattle.rx_term.specs.Meaning.{redex_of}
 use Rattle.rx_term.specs.declared.rule.Equation.{Equation}
 use Rattle.rx_term.specs.declared.rule.Rule.{Rule}
 use Rattle.rx_term.specs.declared.rule_set.RuleParts.{RuleParts}
-use Rattle.rx_form.specs.Forming.{found_or}
-use Rattle.rx_form.specs.Judging.{Shown, certificates, judged}
-use Rattle.rx_form.specs.Kinds.{formed, formed_on}
-use Rattle.rx_form.specs.Pieces.{side_of}
-use Rattle.rx_form.specs.declared.form_end.FormEnd.TheVariants.{WrongShape}
-use Rattle.rx_form.specs.declared.formed_step.FormedStep.{FormedStep}
-use Rattle.rx_form.specs.declared.step.Delete.TheVariants as delete
-use Rattle.rx_form.specs.declared.step.Step.{Step}
-use Rattle.rx_form.specs.declared.step.Step.TheVariants as step
+use Rattle.rx_inference.specs.Forming.{found_or}
+use Rattle.rx_inference.specs.Judging.{Shown, certificates, judged}
+use Rattle.rx_inference.specs.Kinds.{formed, formed_on}
+use Rattle.rx_inference.specs.Pieces.{side_of}
+use Rattle.rx_inference.specs.declared.form_end.FormEnd.TheVariants.{WrongShape}
+use Rattle.rx_inference.specs.declared.formed_step.FormedStep.{FormedStep}
+use Rattle.rx_inference.specs.declared.step.Delete.TheVariants as delete
+use Rattle.rx_inference.specs.declared.step.Step.{Step}
+use Rattle.rx_inference.specs.declared.step.Step.TheVariants as step
 use Rattle.rx_settle.specs.Certified.{asks_rows, certified}
 use Rattle.rx_moves.specs.Moves.{move_of, step_of}
 use Rattle.rx_moves.proofs.AskingNothing.{after, found, kept, none_shows, tested}

@@ -13,15 +13,15 @@ use Rattle.rx_solve.specs.Attempts.{Tried, applies, fails, where_shown}
 use Rattle.rx_solve.specs.Refuter.{refuted}
 use Rattle.rx_term.specs.declared.rule.Equation.{Equation}
 use Rattle.rx_term.specs.declared.rule_set.RuleParts.{RuleParts}
-use Rattle.rx_form.specs.Judging.{first_rows, of_said}
-use Rattle.rx_form.specs.Kinds.{formed}
-use Rattle.rx_form.specs.States.{State, applied, taken}
-use Rattle.rx_form.specs.declared.formed_step.Asked.TheVariants.{Refuted}
-use Rattle.rx_form.specs.declared.formed_step.FormedStep.{FormedStep}
-use Rattle.rx_form.specs.declared.step.Delete.TheVariants as delete
-use Rattle.rx_form.specs.declared.step.Step.{Step}
-use Rattle.rx_form.specs.declared.step.Step.TheVariants as step
-use Rattle.rx_form.proofs.FormingLaws.{shown_taken}
+use Rattle.rx_inference.specs.Judging.{first_rows, of_said}
+use Rattle.rx_inference.specs.Kinds.{formed}
+use Rattle.rx_inference.specs.States.{State, applied, taken}
+use Rattle.rx_inference.specs.declared.formed_step.Asked.TheVariants.{Refuted}
+use Rattle.rx_inference.specs.declared.formed_step.FormedStep.{FormedStep}
+use Rattle.rx_inference.specs.declared.step.Delete.TheVariants as delete
+use Rattle.rx_inference.specs.declared.step.Step.{Step}
+use Rattle.rx_inference.specs.declared.step.Step.TheVariants as step
+use Rattle.rx_inference.proofs.FormingLaws.{shown_taken}
 use Rattle.rx_settle.specs.Answers.{IsTrial}
 use Rattle.rx_moves.specs.Moves.{Absurd, step_of}
 use Rattle.rx_moves.specs.Trying.{Next, asked_shown, attempt, next_if_formed}

@@ -4,7 +4,7 @@ use Rattle.std.specs.Prelude.{IfOk, Result, slice_get}
 use Rattle.rx_solve.specs.Attempts.{Tried, fails, first_applying}
 use Rattle.rx_term.specs.declared.rule.Equation.{Equation}
 use Rattle.rx_term.specs.declared.rule_set.RuleParts.{RuleParts}
-use Rattle.rx_form.specs.States.{State, taken}
+use Rattle.rx_inference.specs.States.{State, taken}
 use Rattle.rx_settle.specs.Answers.{IsTrial}
 use Rattle.rx_settle.specs.AtFirst.{at_first}
 use Rattle.rx_moves.specs.Trying.{Next}

@@ -4,8 +4,8 @@ use Rattle.std.specs.Prelude.{slice_get}
 use Rattle.rx_solve.specs.Attempts.{Tried, fails, first_applying, made_or}
 use Rattle.rx_term.specs.declared.rule.Equation.{Equation}
 use Rattle.rx_term.specs.declared.rule_set.RuleParts.{RuleParts}
-use Rattle.rx_form.specs.States.{State}
-use Rattle.rx_form.specs.declared.step.Step.{Step}
+use Rattle.rx_inference.specs.States.{State}
+use Rattle.rx_inference.specs.declared.step.Step.{Step}
 use Rattle.rx_settle.specs.Answers.{IsTrial, Takes}
 use Rattle.rx_settle.specs.AtFirst.{at_first, before_uses, deleting, from_leaving, from_unfolding, from_uses}
 use Rattle.rx_moves.specs.Unfolding.{leaving_sides, unfolding_sides}
@@ -14,7 +14,7 @@ use Rattle.rx_settle.specs.Settling.{named, settling_first, settling_move}
 use Rattle.rx_moves.specs.Trying.{Next, attempt, next_if_formed}
 use Rattle.rx_settle.specs.Untaken.{IsUntaken}
 use Rattle.rx_settle.specs.declared.trial.Trial.{Trial}
-use Rattle.rx_form.specs.Kinds.{formed}
+use Rattle.rx_inference.specs.Kinds.{formed}
 use Rattle.rx_settle.proofs.FirstLaws.{first_of_both, second_of_both}
 use Rattle.rx_settle.proofs.KeepingLaws.{move_keeps}
 use Rattle.rx_moves.proofs.TriedLaws.{one_tried, tried_after}

@@ -14,16 +14,16 @@ use Rattle.rx_term.specs.declared.rule.Equation.{Equation}
 use Rattle.rx_term.specs.declared.rule.Rule.{Rule}
 use Rattle.rx_term.specs.declared.rule_set.RuleParts.{RuleParts}
 use Rattle.rx_term.specs.declared.term.Sym.{Sym}
-use Rattle.rx_form.specs.Forming.{Forming, found_or, limited, provided, ◌>>=◌}
-use Rattle.rx_form.specs.Judging.{first_rows}
-use Rattle.rx_form.specs.Kinds.{formed}
-use Rattle.rx_form.specs.Pieces.{is_substitution, side_of}
-use Rattle.rx_form.specs.States.{State, taken}
-use Rattle.rx_form.specs.declared.form_end.FormEnd.{FormEnd}
-use Rattle.rx_form.specs.declared.form_end.FormEnd.TheVariants as form_end
-use Rattle.rx_form.specs.declared.formed_step.FormedStep.{FormedStep}
-use Rattle.rx_form.specs.declared.step.Side.{Side}
-use Rattle.rx_form.specs.declared.step.Side.TheVariants.{Left, Right}
+use Rattle.rx_inference.specs.Forming.{Forming, found_or, limited, provided, ◌>>=◌}
+use Rattle.rx_inference.specs.Judging.{first_rows}
+use Rattle.rx_inference.specs.Kinds.{formed}
+use Rattle.rx_inference.specs.Pieces.{is_substitution, side_of}
+use Rattle.rx_inference.specs.States.{State, taken}
+use Rattle.rx_inference.specs.declared.form_end.FormEnd.{FormEnd}
+use Rattle.rx_inference.specs.declared.form_end.FormEnd.TheVariants as form_end
+use Rattle.rx_inference.specs.declared.formed_step.FormedStep.{FormedStep}
+use Rattle.rx_inference.specs.declared.step.Side.{Side}
+use Rattle.rx_inference.specs.declared.step.Side.TheVariants.{Left, Right}
 use Rattle.rx_lemma.specs.Naming.{naming_of}
 use Rattle.rx_lemma.specs.Lemmas.{Generalisation}
 use Rattle.rx_match.specs.Matching.{use_of}

@@ -14,19 +14,19 @@ use Rattle.rx_term.specs.Stacks.{suffix_at}
 use Rattle.rx_memo.specs.Kept.{IsKept, IsThat}
 use Rattle.rx_memo.specs.declared.goal_memo.Kept.{Kept}
 use Rattle.rx_memo.proofs.Buckets.{nothing_kept}
-use Rattle.rx_form.specs.Forming.{Forming, found_or, limited, provided, ◌>>=◌}
-use Rattle.rx_form.specs.Judging.{StepFault, Judgement, certificates, first_rows, judged}
-use Rattle.rx_form.specs.Judging as judging
-use Rattle.rx_form.specs.Kinds.{formed}
-use Rattle.rx_form.specs.Making.{hypothesis_with, used_by}
-use Rattle.rx_form.specs.Pieces.{have_one_shape, is_substitution, side_of}
-use Rattle.rx_form.specs.States.{State, applied, carried_out, taken, taken_if}
-use Rattle.rx_form.specs.declared.form_end.FormEnd.TheVariants as form_end
-use Rattle.rx_form.specs.declared.formed_step.FormedStep.{FormedStep}
-use Rattle.rx_form.specs.declared.step.Side.{Side}
-use Rattle.rx_form.specs.declared.step.Side.TheVariants.{Left, Right}
-use Rattle.rx_form.specs.declared.step.Step.{Step}
-use Rattle.rx_form.specs.declared.step.Step.TheVariants as step
+use Rattle.rx_inference.specs.Forming.{Forming, found_or, limited, provided, ◌>>=◌}
+use Rattle.rx_inference.specs.Judging.{StepFault, Judgement, certificates, first_rows, judged}
+use Rattle.rx_inference.specs.Judging as judging
+use Rattle.rx_inference.specs.Kinds.{formed}
+use Rattle.rx_inference.specs.Making.{hypothesis_with, used_by}
+use Rattle.rx_inference.specs.Pieces.{have_one_shape, is_substitution, side_of}
+use Rattle.rx_inference.specs.States.{State, applied, carried_out, taken, taken_if}
+use Rattle.rx_inference.specs.declared.form_end.FormEnd.TheVariants as form_end
+use Rattle.rx_inference.specs.declared.formed_step.FormedStep.{FormedStep}
+use Rattle.rx_inference.specs.declared.step.Side.{Side}
+use Rattle.rx_inference.specs.declared.step.Side.TheVariants.{Left, Right}
+use Rattle.rx_inference.specs.declared.step.Step.{Step}
+use Rattle.rx_inference.specs.declared.step.Step.TheVariants as step
 use Rattle.rx_lemma.specs.Naming.{naming_of}
 use Rattle.rx_lemma.specs.Lemmas.{Generalisation}
 use Rattle.rx_steps.specs.Alone.{alone, onto}

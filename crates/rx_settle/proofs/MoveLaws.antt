@@ -9,9 +9,9 @@ use Rattle.rx_cert.specs.Depth.{cert_depth}
 use Rattle.rx_row.specs.declared.row.Row.{Row}
 use Rattle.rx_term.specs.declared.rule.Equation.{Equation}
 use Rattle.rx_term.specs.declared.rule_set.RuleParts.{RuleParts}
-use Rattle.rx_form.specs.Judging.{StepFault, certificates}
-use Rattle.rx_form.specs.States.{State, applied}
-use Rattle.rx_form.specs.declared.step.Step.{Step}
+use Rattle.rx_inference.specs.Judging.{StepFault, certificates}
+use Rattle.rx_inference.specs.States.{State, applied}
+use Rattle.rx_inference.specs.declared.step.Step.{Step}
 use Rattle.rx_settle.specs.Advances.{Advances, IsThere, Records, recorded, rows_where, with_note}
 use Rattle.rx_settle.specs.Answers.{AreDeep, IsSettled, IsTrial, Takes, after, after_all}
 use Rattle.rx_moves.specs.Moves.{Move, move_of}

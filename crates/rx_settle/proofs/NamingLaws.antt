@@ -6,8 +6,8 @@ use Rattle.rx_poly.specs.declared.poly_end.PolyEnd.TheVariants as poly_end
 use Rattle.rx_solve.specs.Attempts.{Tried, applies, beyond, fails}
 use Rattle.rx_term.specs.declared.rule.Equation.{Equation}
 use Rattle.rx_term.specs.declared.rule_set.RuleParts.{RuleParts}
-use Rattle.rx_form.specs.States.{State}
-use Rattle.rx_form.specs.declared.step.Step.{Step}
+use Rattle.rx_inference.specs.States.{State}
+use Rattle.rx_inference.specs.declared.step.Step.{Step}
 use Rattle.rx_lemma.specs.Answers.{Finds}
 use Rattle.rx_lemma.specs.Lemmas.{found_as}
 use Rattle.rx_lemma.specs.Naming.{naming_of}

@@ -6,7 +6,7 @@ use Rattle.rx_term.specs.Bounds.{equation_bound}
 use Rattle.rx_term.specs.Stacks.{depth_of}
 use Rattle.rx_term.specs.declared.rule.Equation.{Equation}
 use Rattle.rx_term.specs.declared.rule_set.RuleParts.{RuleParts}
-use Rattle.rx_form.specs.States.{State}
+use Rattle.rx_inference.specs.States.{State}
 use Rattle.rx_settle.specs.Answers.{IsTrial}
 use Rattle.rx_settle.specs.AtFirst.{at_first}
 use Rattle.rx_settle.specs.Settling.{by_results, resulting, resulting_at, variables_end}

@@ -11,9 +11,9 @@ use Rattle.rx_solve.specs.Refuter.{refuted}
 use Rattle.rx_solve.specs.Shown.{IsAllShown}
 use Rattle.rx_solve.specs.declared.showing.AllShown.{AllShown}
 use Rattle.rx_solve.specs.declared.showing.AllShown.TheVariants as all
-use Rattle.rx_form.specs.Judging.{given_to, of_conditions}
-use Rattle.rx_form.specs.declared.formed_step.Asked.TheVariants.{Rows}
-use Rattle.rx_form.specs.declared.formed_step.Group.{Group}
+use Rattle.rx_inference.specs.Judging.{given_to, of_conditions}
+use Rattle.rx_inference.specs.declared.formed_step.Asked.TheVariants.{Rows}
+use Rattle.rx_inference.specs.declared.formed_step.Group.{Group}
 use Rattle.rx_steps.specs.Faults.{is_one_group, is_under_goal}
 use Rattle.rx_steps.proofs.OneGroup.{first_group, under_goal}
 use Rattle.rx_moves.specs.Parts.{IsAskedShown, ShownBy}

@@ -3,8 +3,8 @@ use Rattle.std.specs.Prelude.{IfOk, Result, Ok, Err, is_some}
 use Rattle.std.proofs.Common.{◌≡◌, ◌∙◌, ap, subst, sym, refl, Bool, true, false, ◌||◌, Option, Some, None, [], ◌∷◌}
 use Rattle.rx_solve.specs.Attempts.{Tried, beyond, fails, first_applying, made_or}
 use Rattle.rx_term.specs.declared.rule_set.RuleParts.{RuleParts}
-use Rattle.rx_form.specs.States.{State}
-use Rattle.rx_form.specs.declared.step.Step.{Step}
+use Rattle.rx_inference.specs.States.{State}
+use Rattle.rx_inference.specs.declared.step.Step.{Step}
 use Rattle.rx_settle.specs.Answers.{IsTrial, Takes}
 use Rattle.rx_moves.specs.Trying.{Next, noting}
 use Rattle.rx_settle.specs.Untaken.{IsUntaken}

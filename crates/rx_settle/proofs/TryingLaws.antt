@@ -7,11 +7,11 @@ use Rattle.rx_solve.specs.Attempts.{Tried, applies}
 use Rattle.rx_term.specs.declared.rule.Equation.{Equation}
 use Rattle.rx_term.specs.declared.rule.Rule.{Rule}
 use Rattle.rx_term.specs.declared.rule_set.RuleParts.{RuleParts}
-use Rattle.rx_form.specs.Judging.{first_rows}
-use Rattle.rx_form.specs.States.{State, applied, taken}
-use Rattle.rx_form.specs.declared.formed_step.FormedStep.{FormedStep}
-use Rattle.rx_form.specs.declared.step.Step.{Step}
-use Rattle.rx_form.proofs.FormingLaws.{shown_taken}
+use Rattle.rx_inference.specs.Judging.{first_rows}
+use Rattle.rx_inference.specs.States.{State, applied, taken}
+use Rattle.rx_inference.specs.declared.formed_step.FormedStep.{FormedStep}
+use Rattle.rx_inference.specs.declared.step.Step.{Step}
+use Rattle.rx_inference.proofs.FormingLaws.{shown_taken}
 use Rattle.rx_settle.specs.Answers.{IsTrial}
 use Rattle.rx_settle.specs.Certified.{asks_rows, certified}
 use Rattle.rx_moves.specs.Moves.{Move, move_of}
@@ -21,7 +21,7 @@ use Rattle.rx_moves.specs.declared.formation.Formation.{Formation}
 use Rattle.rx_moves.specs.declared.formation.Formation.TheVariants as formation
 use Rattle.rx_moves.specs.declared.outcome.Outcome.{Outcome}
 use Rattle.rx_moves.specs.declared.outcome.Outcome.TheVariants as out
-use Rattle.rx_form.specs.Kinds.{formed}
+use Rattle.rx_inference.specs.Kinds.{formed}
 use Rattle.rx_steps.specs.Faults.{asks_goal_alone}
 use Rattle.rx_steps.proofs.OneGroup.{formed_alone}
 use Rattle.rx_moves.specs.Trying.{Next, attempt}

@@ -4,9 +4,9 @@ use Rattle.rx_cert.specs.Depth.{cert_depth}
 use Rattle.rx_solve.specs.Attempts.{Tried}
 use Rattle.rx_solve.specs.Bounds.{most_deep}
 use Rattle.rx_term.specs.declared.rule_set.RuleParts.{RuleParts}
-use Rattle.rx_form.specs.Judging.{StepFault, certificates}
-use Rattle.rx_form.specs.States.{State, applied}
-use Rattle.rx_form.specs.declared.step.Step.{Step}
+use Rattle.rx_inference.specs.Judging.{StepFault, certificates}
+use Rattle.rx_inference.specs.States.{State, applied}
+use Rattle.rx_inference.specs.declared.step.Step.{Step}
 use Rattle.rx_moves.specs.Moves.{move_of}
 use Rattle.rx_settle.specs.Settling as settling
 use Rattle.rx_moves.specs.Answers.{IsTaken}

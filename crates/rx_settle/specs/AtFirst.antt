@@ -5,9 +5,9 @@ use Rattle.rx_solve.specs.Attempts.{Tried, fails, first_applying}
 use Rattle.rx_term.specs.declared.rule.Equation.{Equation}
 use Rattle.rx_term.specs.declared.rule.Rule.{Rule}
 use Rattle.rx_term.specs.declared.rule_set.RuleParts.{RuleParts}
-use Rattle.rx_form.specs.States.{State}
-use Rattle.rx_form.specs.declared.step.Side.{Side}
-use Rattle.rx_form.specs.declared.step.Side.TheVariants.{Left, Right}
+use Rattle.rx_inference.specs.States.{State}
+use Rattle.rx_inference.specs.declared.step.Side.{Side}
+use Rattle.rx_inference.specs.declared.step.Side.TheVariants.{Left, Right}
 use Rattle.rx_moves.specs.Moves.{Absurd, Equal}
 use Rattle.rx_settle.specs.Settling.{by_results, named, using_each, using_on}
 use Rattle.rx_moves.specs.Trying.{Next, attempt}

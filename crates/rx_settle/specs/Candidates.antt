@@ -4,8 +4,8 @@ use Rattle.rx_solve.specs.Attempts.{Tried, beyond, fails}
 use Rattle.rx_term.specs.declared.rule.Equation.{Equation}
 use Rattle.rx_term.specs.declared.rule.Rule.{Rule}
 use Rattle.rx_term.specs.declared.rule_set.RuleParts.{RuleParts}
-use Rattle.rx_form.specs.States.{State}
-use Rattle.rx_form.specs.declared.step.Side.{Side}
+use Rattle.rx_inference.specs.States.{State}
+use Rattle.rx_inference.specs.declared.step.Side.{Side}
 use Rattle.rx_settle.specs.AtFirst.{at_first, using_number}
 use Rattle.rx_moves.specs.Moves.{Hyp}
 use Rattle.rx_settle.specs.Settling.{using_at, using_on}

@@ -1,9 +1,9 @@
 -- Steps with the certificates that were found for them.
 use Rattle.std.specs.Prelude.{Bool, true, false, List}
 use Rattle.rx_cert.specs.declared.cert.Cert.{Cert}
-use Rattle.rx_form.specs.declared.step.Delete.TheVariants as delete
-use Rattle.rx_form.specs.declared.step.Step.{Step}
-use Rattle.rx_form.specs.declared.step.Step.TheVariants as step
+use Rattle.rx_inference.specs.declared.step.Delete.TheVariants as delete
+use Rattle.rx_inference.specs.declared.step.Step.{Step}
+use Rattle.rx_inference.specs.declared.step.Step.TheVariants as step
 
 -- the step asks rows, and not that rows are refuted
 abbrev pub asks_rows : Step → Bool

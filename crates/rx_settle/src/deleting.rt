@@ -1,6 +1,6 @@
 //! Goals that need not be shown.
 ghost use Rattle.std.specs.Prelude.{◌≡◌, ◌∷◌, [], IfOk, OnErr};
-ghost use Rattle.rx_form.specs.declared.formed_step.Asked.TheVariants.{Refuted};
+ghost use Rattle.rx_inference.specs.declared.formed_step.Asked.TheVariants.{Refuted};
 ghost use Rattle.rx_settle.specs.Answers.{IsTrial};
 ghost use Rattle.rx_solve.specs.Answers.{IsSolver};
 ghost use Rattle.rx_solve.specs.Attempts.{first_applying};
@@ -12,7 +12,7 @@ use crate::trial::Trial;
 use crate::trying::{take_shown, try_step};
 use rx_cert::Cert;
 use rx_fm::FmEnd;
-use rx_form::{Asked, Delete, FormedStep, Step};
+use rx_inference::{Asked, Delete, FormedStep, Step};
 use rx_plain::{Items, NoMemory};
 use rx_row::Constraint;
 use rx_solve::ask;

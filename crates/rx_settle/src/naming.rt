@@ -12,7 +12,7 @@ use crate::trial::Trial;
 use crate::trying::try_step;
 use rx_cert::Cert;
 use rx_fm::FmEnd;
-use rx_form::Step;
+use rx_inference::Step;
 use rx_lemma::{Generalised, named};
 use rx_moves::LoopPoints;
 use rx_plain::{Items, NoMemory};

@@ -3,7 +3,7 @@ ghost use Rattle.std.specs.Prelude.{◌≡◌, ◌<◌, [], None, OnOk};
 ghost use Rattle.rx_settle.specs.Advances.{rows_where, with_note, with_step};
 ghost use Rattle.rx_settle.specs.Settling.{most_moves};
 
-use rx_form::Step;
+use rx_inference::Step;
 use rx_plain::{Items, NoMemory};
 use rx_row::Row;
 use std::alloc::Global;

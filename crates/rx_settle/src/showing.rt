@@ -1,6 +1,6 @@
 //! Showing what a step asks, by a solver.
 ghost use Rattle.std.specs.Prelude.{◌≡◌, List, true, IfOk};
-ghost use Rattle.rx_form.specs.declared.formed_step.Asked.TheVariants.{Refuted, Rows};
+ghost use Rattle.rx_inference.specs.declared.formed_step.Asked.TheVariants.{Refuted, Rows};
 ghost use Rattle.rx_row.specs.declared.row.Row.{Row};
 ghost use Rattle.rx_solve.specs.Answers.{IsSolver};
 ghost use Rattle.rx_steps.specs.Faults.{asks_goal_alone, is_one_group};
@@ -8,7 +8,7 @@ ghost use Rattle.rx_moves.specs.Parts.{IsAskedShown};
 
 use rx_cert::Cert;
 use rx_fm::FmEnd;
-use rx_form::{Asked, Group};
+use rx_inference::{Asked, Group};
 use rx_plain::{Items, NoMemory};
 use rx_row::Constraint;
 use rx_solve::{AllShown, ask, show_all};

@@ -2,7 +2,7 @@
 ghost use Rattle.std.specs.Prelude.{◌≡◌, ◌||◌, true, false, Some, None, IfOk};
 ghost use Rattle.rx_settle.specs.Untaken.{IsUntaken};
 
-use rx_form::Step;
+use rx_inference::Step;
 use rx_plain::NoMemory;
 use std::alloc::Global;
 

@@ -1,7 +1,7 @@
 //! Trying a step: it is formed, a solver shows what it asks, and it is taken.
 ghost use Rattle.std.specs.Prelude.{◌≡◌, true, false, Some, IfOk, OnOk, OnErr};
 ghost use Rattle.std.specs.Result.{result_map_both};
-ghost use Rattle.rx_form.specs.States.{taken};
+ghost use Rattle.rx_inference.specs.States.{taken};
 ghost use Rattle.rx_settle.specs.Answers.{IsTrial};
 ghost use Rattle.rx_settle.specs.Certified.{asks_rows, certified};
 ghost use Rattle.rx_solve.specs.Answers.{IsSolver};
@@ -14,7 +14,7 @@ use crate::showing::show;
 use crate::trial::Trial;
 use rx_cert::Cert;
 use rx_fm::FmEnd;
-use rx_form::{Delete, FormedStep, Step};
+use rx_inference::{Delete, FormedStep, Step};
 use rx_moves::{Formation, Outcome, form_step};
 use rx_plain::{Items, NoMemory};
 use rx_row::Constraint;

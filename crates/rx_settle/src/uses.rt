@@ -1,6 +1,6 @@
 //! Uses of hypotheses at the first goal.
 ghost use Rattle.std.specs.Prelude.{◌≡◌, ◌↔◌, ◌<◌, ◌^◌, ℕ, true, false, Some, IfOk, OnErr};
-ghost use Rattle.rx_form.specs.declared.step.Side.{Side};
+ghost use Rattle.rx_inference.specs.declared.step.Side.{Side};
 ghost use Rattle.rx_match.specs.Matching.{is_place};
 ghost use Rattle.rx_settle.specs.Answers.{IsTrial};
 ghost use Rattle.rx_settle.specs.AtFirst.{at_first, using_all, using_number, using_sides};
@@ -13,7 +13,7 @@ use crate::trial::Trial;
 use crate::trying::try_step;
 use rx_cert::Cert;
 use rx_fm::FmEnd;
-use rx_form::{Side, Step, side_of};
+use rx_inference::{Side, Step, side_of};
 use rx_match::{Use, find_use, place_of};
 use rx_plain::{Items, NoMemory};
 use rx_poly::Poly;

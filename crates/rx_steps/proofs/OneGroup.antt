@@ -10,21 +10,21 @@ use Rattle.rx_term.specs.Stacks.{suffix_at}
 use Rattle.rx_term.specs.declared.rule.Equation.{Equation}
 use Rattle.rx_term.specs.declared.rule.Rule.{Rule}
 use Rattle.rx_term.specs.declared.rule_set.RuleParts.{RuleParts}
-use Rattle.rx_form.specs.Forming.{Forming, found_or, limited, provided, ◌>>=◌}
-use Rattle.rx_form.specs.Judging.{judged, of_conditions}
-use Rattle.rx_form.specs.Kinds.{formed, formed_on}
-use Rattle.rx_form.specs.Pieces.{is_substitution, side_of, top_frame}
-use Rattle.rx_form.specs.declared.form_end.FormEnd.{FormEnd}
-use Rattle.rx_form.specs.declared.form_end.FormEnd.TheVariants.{WrongShape, NoSuchRule, Large}
-use Rattle.rx_form.specs.declared.formed_step.Asked.TheVariants.{Rows}
-use Rattle.rx_form.specs.declared.formed_step.FormedStep.{FormedStep}
-use Rattle.rx_form.specs.declared.formed_step.Group.{Group}
-use Rattle.rx_form.specs.declared.formed_step.Under.{Under}
-use Rattle.rx_form.specs.declared.formed_step.Under.TheVariants.{Goal, New}
-use Rattle.rx_form.specs.declared.step.Delete.TheVariants as delete
-use Rattle.rx_form.specs.declared.step.Step.{Step}
-use Rattle.rx_form.specs.declared.step.Step.TheVariants as step
-use Rattle.rx_form.proofs.JudgingLaws.{one_group}
+use Rattle.rx_inference.specs.Forming.{Forming, found_or, limited, provided, ◌>>=◌}
+use Rattle.rx_inference.specs.Judging.{judged, of_conditions}
+use Rattle.rx_inference.specs.Kinds.{formed, formed_on}
+use Rattle.rx_inference.specs.Pieces.{is_substitution, side_of, top_frame}
+use Rattle.rx_inference.specs.declared.form_end.FormEnd.{FormEnd}
+use Rattle.rx_inference.specs.declared.form_end.FormEnd.TheVariants.{WrongShape, NoSuchRule, Large}
+use Rattle.rx_inference.specs.declared.formed_step.Asked.TheVariants.{Rows}
+use Rattle.rx_inference.specs.declared.formed_step.FormedStep.{FormedStep}
+use Rattle.rx_inference.specs.declared.formed_step.Group.{Group}
+use Rattle.rx_inference.specs.declared.formed_step.Under.{Under}
+use Rattle.rx_inference.specs.declared.formed_step.Under.TheVariants.{Goal, New}
+use Rattle.rx_inference.specs.declared.step.Delete.TheVariants as delete
+use Rattle.rx_inference.specs.declared.step.Step.{Step}
+use Rattle.rx_inference.specs.declared.step.Step.TheVariants as step
+use Rattle.rx_inference.proofs.JudgingLaws.{one_group}
 use Rattle.rx_steps.specs.Faults.{asks_goal_alone, is_one_group, is_under_goal}
 
 -- ---- what is formed asks under the goal alone

@@ -5,13 +5,13 @@ use Rattle.std.proofs.lemmas.List.{append-nil}
 use Rattle.rx_term.specs.declared.rule.Equation.{Equation}
 use Rattle.rx_term.specs.declared.rule.Rule.{Rule}
 use Rattle.rx_term.specs.declared.rule_set.RuleParts.{RuleParts}
-use Rattle.rx_form.specs.Forming.{provided}
-use Rattle.rx_form.specs.Judging.{StepFault, NoGoal, WrongShape}
-use Rattle.rx_form.specs.Kinds.{formed}
-use Rattle.rx_form.specs.Making.{postulated_by}
-use Rattle.rx_form.specs.Pieces.{is_equation}
-use Rattle.rx_form.specs.States.{State, applied, carried_out}
-use Rattle.rx_form.specs.declared.step.Step.TheVariants.{Postulate}
+use Rattle.rx_inference.specs.Forming.{provided}
+use Rattle.rx_inference.specs.Judging.{StepFault, NoGoal, WrongShape}
+use Rattle.rx_inference.specs.Kinds.{formed}
+use Rattle.rx_inference.specs.Making.{postulated_by}
+use Rattle.rx_inference.specs.Pieces.{is_equation}
+use Rattle.rx_inference.specs.States.{State, applied, carried_out}
+use Rattle.rx_inference.specs.declared.step.Step.TheVariants.{Postulate}
 
 module _ (parts : RuleParts) (hypotheses : List Rule) where
   abbrev of_goals : List Equation → State

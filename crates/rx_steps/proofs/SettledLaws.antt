@@ -21,17 +21,17 @@ use Rattle.rx_term.specs.declared.rule.Equation.{Equation}
 use Rattle.rx_term.specs.declared.rule.Rule.{Rule}
 use Rattle.rx_term.specs.declared.rule_set.RuleParts.{RuleParts}
 use Rattle.rx_term.proofs.Equations.{arguments-Return, shape-Return}
-use Rattle.rx_form.specs.Forming.{Forming, limited, provided}
-use Rattle.rx_form.specs.Judging.{Shown, StepFault, judged, of_conditions}
-use Rattle.rx_form.specs.Kinds.{equated}
-use Rattle.rx_form.specs.Making.{equal_by}
-use Rattle.rx_form.specs.Pieces.{all_zero, asking, have_one_shape}
-use Rattle.rx_form.specs.States.{State, applied, carried_out, taken_if}
-use Rattle.rx_form.specs.declared.form_end.FormEnd.TheVariants.{Large}
-use Rattle.rx_form.specs.declared.formed_step.FormedStep.{FormedStep}
-use Rattle.rx_form.specs.declared.step.Delete.TheVariants.{Equal}
-use Rattle.rx_form.specs.declared.step.Step.TheVariants.{Delete}
-use Rattle.rx_form.proofs.JudgingLaws.{one_group}
+use Rattle.rx_inference.specs.Forming.{Forming, limited, provided}
+use Rattle.rx_inference.specs.Judging.{Shown, StepFault, judged, of_conditions}
+use Rattle.rx_inference.specs.Kinds.{equated}
+use Rattle.rx_inference.specs.Making.{equal_by}
+use Rattle.rx_inference.specs.Pieces.{all_zero, asking, have_one_shape}
+use Rattle.rx_inference.specs.States.{State, applied, carried_out, taken_if}
+use Rattle.rx_inference.specs.declared.form_end.FormEnd.TheVariants.{Large}
+use Rattle.rx_inference.specs.declared.formed_step.FormedStep.{FormedStep}
+use Rattle.rx_inference.specs.declared.step.Delete.TheVariants.{Equal}
+use Rattle.rx_inference.specs.declared.step.Step.TheVariants.{Delete}
+use Rattle.rx_inference.proofs.JudgingLaws.{one_group}
 use Rattle.rx_steps.specs.Settled.{IsSettled, ReturnsAlike}
 
 -- ---- a goal whose sides return one polynomial

@@ -1,7 +1,7 @@
 -- A goal alone, and what came of it put back among the others.
 use Rattle.std.specs.Prelude.{[], ◌∷◌, ◌++◌, drop}
 use Rattle.rx_term.specs.declared.rule.Equation.{Equation}
-use Rattle.rx_form.specs.States.{State}
+use Rattle.rx_inference.specs.States.{State}
 
 -- the state of that goal alone, without hypotheses
 abbrev pub alone : Equation → State

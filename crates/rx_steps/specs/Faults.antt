@@ -2,16 +2,16 @@
 use Rattle.std.specs.Prelude.{◌≡◌, ◌≢◌, Bool, true, false, Result, Ok, Err, List, [], ◌∷◌}
 use Rattle.rx_poly.specs.declared.poly_end.PolyEnd.{PolyEnd}
 use Rattle.rx_poly.specs.declared.poly_end.PolyEnd.TheVariants as poly_end
-use Rattle.rx_form.specs.Judging.{Judgement, Shown, Fault, StepFault}
-use Rattle.rx_form.specs.Judging as judging
-use Rattle.rx_form.specs.States.{State}
-use Rattle.rx_form.specs.declared.form_end.FormEnd.{FormEnd}
-use Rattle.rx_form.specs.declared.form_end.FormEnd.TheVariants as form_end
-use Rattle.rx_form.specs.declared.formed_step.Asked.{Asked}
-use Rattle.rx_form.specs.declared.formed_step.Asked.TheVariants.{Refuted, Rows}
-use Rattle.rx_form.specs.declared.formed_step.Group.{Group}
-use Rattle.rx_form.specs.declared.formed_step.Under.{Under}
-use Rattle.rx_form.specs.declared.formed_step.Under.TheVariants.{Goal, New}
+use Rattle.rx_inference.specs.Judging.{Judgement, Shown, Fault, StepFault}
+use Rattle.rx_inference.specs.Judging as judging
+use Rattle.rx_inference.specs.States.{State}
+use Rattle.rx_inference.specs.declared.form_end.FormEnd.{FormEnd}
+use Rattle.rx_inference.specs.declared.form_end.FormEnd.TheVariants as form_end
+use Rattle.rx_inference.specs.declared.formed_step.Asked.{Asked}
+use Rattle.rx_inference.specs.declared.formed_step.Asked.TheVariants.{Refuted, Rows}
+use Rattle.rx_inference.specs.declared.formed_step.Group.{Group}
+use Rattle.rx_inference.specs.declared.formed_step.Under.{Under}
+use Rattle.rx_inference.specs.declared.formed_step.Under.TheVariants.{Goal, New}
 use Rattle.rx_steps.specs.declared.step_end.StepEnd.{StepEnd}
 use Rattle.rx_steps.specs.declared.step_end.StepEnd.TheVariants.{NoGoal, WrongShape, NoSuchRule, NotShown, Large, NoMemory}
 

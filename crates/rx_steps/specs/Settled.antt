@@ -2,10 +2,10 @@
 use Rattle.std.specs.Prelude.{◌≡◌, true, Some, [], slice_get}
 use Rattle.rx_poly.specs.Normal.{is_poly}
 use Rattle.rx_poly.specs.declared.body.Body.{Body}
-use Rattle.rx_form.specs.States.{State}
-use Rattle.rx_form.specs.declared.step.Delete.TheVariants.{Equal}
-use Rattle.rx_form.specs.declared.step.Step.{Step}
-use Rattle.rx_form.specs.declared.step.Step.TheVariants.{Delete}
+use Rattle.rx_inference.specs.States.{State}
+use Rattle.rx_inference.specs.declared.step.Delete.TheVariants.{Equal}
+use Rattle.rx_inference.specs.declared.step.Step.{Step}
+use Rattle.rx_inference.specs.declared.step.Step.TheVariants.{Delete}
 use Rattle.rx_term.specs.declared.rule.Equation.{Equation}
 use Rattle.rx_term.specs.declared.term.Term.TheVariants.{Return}
 

@@ -1,10 +1,10 @@
 -- What a call that forms and judges a step answers.
 use Rattle.std.specs.Prelude.{◌≡◌, ◌≢◌, Result, Ok, Err, slice_get}
-use Rattle.rx_form.specs.Judging.{Shown, certificates, first_rows, judged}
-use Rattle.rx_form.specs.Kinds.{formed}
-use Rattle.rx_form.specs.States.{State, applied}
-use Rattle.rx_form.specs.declared.formed_step.FormedStep.{FormedStep}
-use Rattle.rx_form.specs.declared.step.Step.{Step}
+use Rattle.rx_inference.specs.Judging.{Shown, certificates, first_rows, judged}
+use Rattle.rx_inference.specs.Kinds.{formed}
+use Rattle.rx_inference.specs.States.{State, applied}
+use Rattle.rx_inference.specs.declared.formed_step.FormedStep.{FormedStep}
+use Rattle.rx_inference.specs.declared.step.Step.{Step}
 use Rattle.rx_term.specs.declared.rule_set.RuleParts.{RuleParts}
 use Rattle.rx_steps.specs.Faults.{fault}
 use Rattle.rx_steps.specs.declared.step_end.StepEnd.{StepEnd}

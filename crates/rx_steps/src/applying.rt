@@ -1,7 +1,7 @@
 //! A step on a state: it is formed, judged, and taken.
 ghost use Rattle.std.specs.Prelude.{◌≡◌, IsTrue, OnErr};
-ghost use Rattle.rx_form.specs.States.{applied};
-ghost use Rattle.rx_form.specs.declared.step.Step.TheVariants.{Postulate};
+ghost use Rattle.rx_inference.specs.States.{applied};
+ghost use Rattle.rx_inference.specs.declared.step.Step.TheVariants.{Postulate};
 ghost use Rattle.rx_steps.specs.Faults.{Applies};
 ghost use Rattle.rx_steps.specs.Settled.{IsSettled, ReturnsOne, bare_equal};
 ghost use Rattle.rx_steps.specs.Shown.{Shows};
@@ -9,7 +9,7 @@ ghost use Rattle.rx_steps.specs.Shown.{Shows};
 use crate::judging::judge;
 use crate::state::State;
 use crate::step_end::StepEnd;
-use rx_form::{Delete, FormedStep, Step, form, is_equation};
+use rx_inference::{Delete, FormedStep, Step, form, is_equation};
 use rx_term::{Equation, RuleSet, Term};
 use std::alloc::Global;
 

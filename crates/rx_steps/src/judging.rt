@@ -1,14 +1,14 @@
 //! Whether the certificates of a step show what it asks.
 ghost use Rattle.std.specs.Prelude.{◌≡◌, [], ◌∷◌, true, List, Some};
 ghost use Rattle.rx_cert.specs.Conditions.{conditions};
-ghost use Rattle.rx_form.specs.Judging.{judged, of_conditions, refutation};
-ghost use Rattle.rx_form.specs.declared.formed_step.Asked.TheVariants.{Rows};
+ghost use Rattle.rx_inference.specs.Judging.{judged, of_conditions, refutation};
+ghost use Rattle.rx_inference.specs.declared.formed_step.Asked.TheVariants.{Rows};
 ghost use Rattle.rx_row.specs.declared.row.Row.{Row};
 ghost use Rattle.rx_steps.specs.Faults.{Judges, asks_goal_alone, is_one_group};
 
 use crate::step_end::StepEnd;
 use rx_cert::{Cert, ConditionsAnswer, check_conditions, shows};
-use rx_form::{Asked, Group};
+use rx_inference::{Asked, Group};
 use rx_row::{Constraint, Row};
 use std::alloc::Global;
 

@@ -7,7 +7,7 @@ mod state;
 mod step_end;
 
 pub use applying::{apply, apply_owned};
-pub use rx_form::{Delete, FormedStep, Side, Step};
+pub use rx_inference::{Delete, FormedStep, Side, Step};
 pub use rx_plain::NoMemory;
 pub use state::State;
 pub use step_end::StepEnd;

@@ -1,10 +1,10 @@
 //! The goals that are to be shown, and the hypotheses that may be used for them.
 ghost use Rattle.std.specs.Prelude.{◌≡◌, ◌+◌, ◌≤◌, ◌<◌, ◌^◌, nat_lt, ◌∷◌, [], ◌++◌, drop, length, reverse, slice_get, vec_capacity, vec_len, IfOk, OnOk, OnErr};
 ghost use Rattle.std.specs.Option.{option_copied};
-ghost use Rattle.rx_form.specs.States.{taken};
+ghost use Rattle.rx_inference.specs.States.{taken};
 ghost use Rattle.rx_steps.specs.Alone.{alone, onto};
 
-use rx_form::FormedStep;
+use rx_inference::FormedStep;
 use rx_plain::{NoMemory, Shared};
 use rx_term::{Equation, Rule};
 use std::alloc::Global;
@@ -23,7 +23,7 @@ impl Model for State {
     ghost use Rattle.std.specs.Coded.{codes, coded_list};
     ghost use Rattle.rx_term.specs.contracts.rule.Equation as equation_row;
     ghost use Rattle.rx_term.specs.contracts.rule.Rule as rule_row;
-    ghost use Rattle.rx_form.specs.States as states;
+    ghost use Rattle.rx_inference.specs.States as states;
 
     ghost Value = { states.State };
 

@@ -1,6 +1,6 @@
 //! Why a step doesn't apply.
 
-use rx_form::FormEnd;
+use rx_inference::FormEnd;
 use rx_plain::NoMemory;
 use rx_poly::PolyEnd;
 use thiserror::Error;

@@ -1,7 +1,7 @@
 //! What a step makes of a goal, over a rule set or by hypotheses.
 use crate::steps::step;
 use rule_tables::{equation, push_goal, push_rule, rules, six_symbols};
-use rx_form::{Asked, FormEnd, FormedStep, Group, form};
+use rx_inference::{Asked, FormEnd, FormedStep, Group, form};
 use rx_plain::Items;
 use rx_row::Row;
 use rx_tables::{push_each, written};

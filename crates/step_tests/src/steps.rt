@@ -4,7 +4,7 @@
 //! goal, and where a substitution replaces them: `v999998` is the variable 2^31.
 use rule_tables::equation;
 use rx_cert::Cert;
-use rx_form::{Delete, Side, Step};
+use rx_inference::{Delete, Side, Step};
 use rx_plain::Items;
 use rx_poly::Poly;
 use rx_tables::{has_high, high_variables, meant, row, substitution};

@@ -2,7 +2,7 @@
 -- hypothesis.
 use Rattle.std.proofs.Common.{rules, ◌≡◌, true, Some}
 use Rattle.rx_term.specs.Stacks.{suffix_at}
-use Rattle.rx_form.specs.Pieces.{have_one_shape, side_of}
+use Rattle.rx_inference.specs.Pieces.{have_one_shape, side_of}
 use Rattle.rx_match.specs.Matching.{matching}
 use Rattle.rx_match.specs.Uses.{HasOwnVariables, IsLawful, IsShownAt}
 use Rattle.rx_match.proofs.OwnLaws.{own_use}

@@ -1,6 +1,6 @@
 -- The test of terms is that of their shapes.
 use Rattle.rx_term.specs.Shapes.{shape_of}
-use Rattle.rx_form.proofs.PieceLaws.{same_test}
+use Rattle.rx_inference.proofs.PieceLaws.{same_test}
 use Rattle.rx_match.proofs.place.has_left_shape.Goals as goal
 
 pub returns : goal.returns

@@ -1,7 +1,7 @@
 -- At a place the depths of the side and of the left side differ by the frames over the part.
 use Rattle.std.proofs.Common.{◌≡◌, ◌∙◌, ap, sym, subst, rules, ℕ, ◌-◌, ◌<◌, true, false, Some, arith}
 use Rattle.rx_term.specs.Stacks.{suffix_at, depth_of}
-use Rattle.rx_form.specs.Pieces.{have_one_shape, side_of}
+use Rattle.rx_inference.specs.Pieces.{have_one_shape, side_of}
 use Rattle.rx_match.specs.Matching.{is_place}
 use Rattle.rx_match.proofs.PlaceLaws.{place_by, place_is}
 use Rattle.rx_match.proofs.place.place_of.Goals as goal

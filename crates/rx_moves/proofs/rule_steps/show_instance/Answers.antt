@@ -1,6 +1,6 @@
 -- What is shown of the rows decides.
 use Rattle.std.proofs.Common.{◌∙◌, ap, [], ◌∷◌}
-use Rattle.rx_form.specs.Pieces.{asking}
+use Rattle.rx_inference.specs.Pieces.{asking}
 use Rattle.rx_solve.specs.declared.showing.AllShown.TheVariants.{NotShown, TooLarge}
 use Rattle.rx_moves.proofs.RuleStepLaws.{rows_follow, shown_made}
 use Rattle.rx_moves.proofs.rule_steps.show_instance.Goals as goal

@@ -1,5 +1,5 @@
 -- The left side, or else the right one.
-use Rattle.rx_form.specs.declared.step.Side.TheVariants.{Left, Right}
+use Rattle.rx_inference.specs.declared.step.Side.TheVariants.{Left, Right}
 use Rattle.rx_moves.specs.Unfolding.{unfolding_side}
 use Rattle.rx_moves.proofs.FoundLaws.{two_first, two_second}
 use Rattle.rx_moves.proofs.sides.find_unfolding.Goals as goal

@@ -1,5 +1,5 @@
 -- The left side, or else the right one.
-use Rattle.rx_form.specs.declared.step.Side.TheVariants.{Left, Right}
+use Rattle.rx_inference.specs.declared.step.Side.TheVariants.{Left, Right}
 use Rattle.rx_settle.specs.AtFirst.{using_number}
 use Rattle.rx_settle.proofs.FirstLaws.{first_of_both, second_of_both}
 use Rattle.rx_settle.proofs.uses.try_use_sides.Goals as goal

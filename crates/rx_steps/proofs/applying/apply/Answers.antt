@@ -1,5 +1,5 @@
 use Rattle.std.proofs.Common.{◌≡◌, ◌∙◌, ap, sym, Ok, drop}
-use Rattle.rx_form.specs.States.{applied}
+use Rattle.rx_inference.specs.States.{applied}
 use Rattle.rx_steps.proofs.SettledLaws.{left_out}
 use Rattle.rx_steps.proofs.applying.apply.Goals as goal
 

@@ -1,6 +1,6 @@
 use Rattle.std.proofs.Common.{◌≡◌, ◌∙◌, ap, sym, true, false, Some, Ok}
 use Rattle.std.specs.Prelude.{slice_get}
-use Rattle.rx_form.specs.Pieces.{is_equation}
+use Rattle.rx_inference.specs.Pieces.{is_equation}
 use Rattle.rx_steps.proofs.PostulateLaws.{no_equation, put_before}
 use Rattle.rx_steps.proofs.applying.postulate.Goals as goal
 

@@ -1,6 +1,0 @@
-use Rattle.std.proofs.Common.{◌≡◌, map}
-use Rattle.rx_form.specs.Making.{differing}
-use Rattle.rx_form.proofs.deleting.differing_goals.Given as goal
-
-abbrev pub invariant-loop-poly : goal.invariant-loop-poly
-invariant-loop-poly l = l.goals ≡ map (differing l.goal) l.yielded

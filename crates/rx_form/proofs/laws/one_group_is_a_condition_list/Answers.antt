@@ -1,5 +1,0 @@
-use Rattle.rx_form.proofs.JudgingLaws.{one_group}
-use Rattle.rx_form.proofs.laws.one_group_is_a_condition_list.Goals as goal
-
-pub returns : goal.returns
-returns c = one_group

@@ -1,5 +1,0 @@
-use Rattle.rx_form.proofs.FormingLaws.{shown_taken}
-use Rattle.rx_form.proofs.laws.shown_steps_are_taken.Goals as goal
-
-pub returns : goal.returns
-returns c = shown_taken

@@ -1,6 +1,0 @@
-use Rattle.std.proofs.Common.{◌≡◌}
-use Rattle.rx_form.specs.Pieces.{all_pushed}
-use Rattle.rx_form.proofs.pieces.push_rows.Given as goal
-
-abbrev pub invariant-loop-row : goal.invariant-loop-row
-invariant-loop-row l = l.rows ≡ all_pushed l.fn.rows l.yielded

@@ -1,0 +1,161 @@
+//! Steps that go over to other goals.
+ghost use Rattle.std.specs.Prelude.{◌≡◌, ◌∷◌, [], IfOk};
+ghost use Rattle.rx_plain.specs.Formed.{Forms};
+ghost use Rattle.rx_inference.specs.Forming.{Gives};
+ghost use Rattle.rx_inference.specs.Kinds.{generalised, postulated, split};
+ghost use Rattle.rx_inference.specs.Making.{generalised_by, instance_equals, instance_rows, side_rows, split_by};
+ghost use Rattle.rx_inference.specs.Pieces.{with_rows};
+
+use crate::form_end::FormEnd;
+use crate::formed_step::FormedStep;
+use crate::pieces::{
+    VARIABLE_LIMIT, asking_for, asking_nothing, equal_arguments, have_one_shape, is_equation,
+    is_substitution, limited, with_row,
+};
+use rx_plain::Items;
+use rx_poly::{Poly, PolyEnd};
+use rx_row::{Row, subst_rows};
+use rx_term::{Equation, RuleParts, Term};
+use std::alloc::{AllocError, Global};
+
+/// That the polynomials of a term, with those in place of its variables, equal those of the other.
+fn instance_equals(
+    alloc: Global,
+    term: &Term,
+    with: &[(u32, Poly)],
+    other: &Term,
+) -> Result<Items<Row>, PolyEnd>
+    ensures forms { Forms PolyEnd.Large result (instance_equals with.now term.now other.now) }
+{
+    let instance = term.subst(alloc, with)?;
+    equal_arguments(alloc, &instance, other)
+}
+
+/// That both sides of the goal are instances of those of the new one.
+fn side_rows(
+    alloc: Global,
+    new: &Equation,
+    with: &[(u32, Poly)],
+    goal: &Equation,
+) -> Result<Items<Row>, PolyEnd>
+    ensures forms { Forms PolyEnd.Large result (side_rows with.now new.now goal.now) }
+{
+    let mut rows = instance_equals(alloc, &new.left, with, &goal.left)?;
+    let more = instance_equals(alloc, &new.right, with, &goal.right)?;
+    rows.append(more)?;
+    Ok(rows)
+}
+
+/// That the goal is an instance of the new one, and the new rows hold.
+fn instance_rows(
+    alloc: Global,
+    new: &Equation,
+    with: &[(u32, Poly)],
+    goal: &Equation,
+) -> Result<Items<Row>, PolyEnd>
+    ensures forms { Forms PolyEnd.Large result (instance_rows with.now new.now goal.now) }
+{
+    let mut rows = side_rows(alloc, new, with, goal)?;
+    let more = subst_rows(alloc, new.rows.rows(), with)?;
+    rows.append(Items::from_vec(more))?;
+    Ok(rows)
+}
+
+/// The new goal in place of the old one.
+fn generalise_by(
+    alloc: Global,
+    goal: &Equation,
+    new: Equation,
+    with: &[(u32, Poly)],
+) -> Result<FormedStep, PolyEnd>
+    ensures forms { Forms PolyEnd.Large result (generalised_by goal.now new with.now) }
+{
+    let rows = instance_rows(alloc, &new, with, goal)?;
+    Ok(asking_for(alloc, rows, new)?)
+}
+
+/// The goal is an instance of a new one.
+pub(crate) fn generalise(
+    alloc: Global,
+    rules: &RuleParts,
+    goal: &Equation,
+    new: Equation,
+    with: &[(u32, Poly)],
+) -> Result<FormedStep, FormEnd>
+    ensures { Gives result (generalised rules.now goal.now new with.now) }
+{
+    let is_formed = is_equation(rules, &new)
+        && is_substitution(with)
+        && have_one_shape(&new.left, &goal.left)
+        && have_one_shape(&new.right, &goal.right);
+    if !is_formed {
+        return Err(FormEnd::WrongShape);
+    }
+    limited(generalise_by(alloc, goal, new, with))
+}
+
+/// The two goals in order.
+fn both_goals(
+    alloc: Global,
+    first: Equation,
+    second: Equation,
+) -> Result<Items<Equation>, AllocError>
+    ensures { IfOk result (λ goals. goals ≡ first ∷ second ∷ []) }
+{
+    let mut goals = Items::new(alloc);
+    goals.push(first)?;
+    goals.push(second)?;
+    Ok(goals)
+}
+
+/// A new goal comes before the old one.
+pub(crate) fn postulate(
+    alloc: Global,
+    rules: &RuleParts,
+    goal: &Equation,
+    new: Equation,
+) -> Result<FormedStep, FormEnd>
+    ensures { Gives result (postulated rules.now goal.now new) }
+{
+    if !is_equation(rules, &new) {
+        return Err(FormEnd::WrongShape);
+    }
+    let copy = goal.try_clone(alloc)?;
+    let goals = both_goals(alloc, new, copy)?;
+    Ok(asking_nothing(alloc, goals, Items::new(alloc)))
+}
+
+/// The goal with each of the two rows.
+fn with_either(
+    alloc: Global,
+    goal: &Equation,
+    row: Row,
+    other: Row,
+) -> Result<Items<Equation>, AllocError>
+    ensures { IfOk result (λ goals. goals ≡ with_rows goal.now (row ∷ []) ∷
+        with_rows goal.now (other ∷ []) ∷ []) }
+{
+    let first = with_row(alloc, goal, row)?;
+    let second = with_row(alloc, goal, other)?;
+    both_goals(alloc, first, second)
+}
+
+/// A goal with the row, and one with its negation.
+fn split_by(alloc: Global, goal: &Equation, row: &Row) -> Result<FormedStep, PolyEnd>
+    ensures forms { Forms PolyEnd.Large result (split_by goal.now row.now) }
+{
+    let negation = row.negate(alloc)?;
+    let copy = row.try_clone(alloc)?;
+    let goals = with_either(alloc, goal, copy, negation)?;
+    Ok(asking_nothing(alloc, goals, Items::new(alloc)))
+}
+
+/// A row holds, or its negation does.
+pub(crate) fn split(alloc: Global, goal: &Equation, row: &Row) -> Result<FormedStep, FormEnd>
+    ensures { Gives result (split goal.now row.now) }
+{
+    if row.variable_bound() > VARIABLE_LIMIT {
+        return Err(FormEnd::WrongShape);
+    }
+    limited(split_by(alloc, goal, row))
+}
