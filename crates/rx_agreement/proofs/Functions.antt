@@ -22,9 +22,9 @@ use Rattle.rx_code.specs.Translation.{IsTranslation, goal_at}
 use Rattle.rx_agreement.specs.Agreement.{ReachConvertible, ReturnAlike}
 use Rattle.rx_agreement.proofs.Translated.{return_alike}
 use Rattle.rx_pairs.specs.declared.table.RankTable.{RankTable}
-use Rattle.rx_joins.specs.Goals.{Inside}
-use Rattle.rx_joins.specs.Runs.{IsProof}
-use Rattle.rx_joins.proofs.Runs.{proof_ends_alike}
+use Rattle.rx_proofs.specs.Goals.{Inside}
+use Rattle.rx_proofs.specs.Runs.{IsProof}
+use Rattle.rx_proofs.proofs.Runs.{proof_ends_alike}
 
 -- a call of a symbol on the first variables is, at integers, its call on these
 entry_at : (f : Sym) (xs : List ℤ) → ground_at (assigned xs) (Call f (variables_from 0 (length xs)))

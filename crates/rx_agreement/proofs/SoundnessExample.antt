@@ -4,7 +4,7 @@ use Rattle.std.specs.Prelude.{Contains, nat_lt, slice_get}
 use Rattle.std.specs.List.{list_all}
 use Rattle.std.proofs.lemmas.Bool.{and_from}
 use Rattle.std.proofs.lemmas.List.Elements.{All-cons, All-nil}
-use Rattle.rx_joins.proofs.Example.{in_zero, no_width}
+use Rattle.rx_proofs.proofs.Example.{in_zero, no_width}
 use Rattle.rx_agreement.proofs.Example.{both_code}
 use Rattle.rx_plain.specs.Formed.{Formed}
 use Rattle.rx_poly.specs.Constants.{number}
@@ -57,7 +57,7 @@ use Rattle.rx_inference.specs.declared.step.Delete.TheVariants.{Equal}
 use Rattle.rx_inference.specs.declared.step.Side.TheVariants.{Left, Right}
 use Rattle.rx_inference.specs.declared.step.Step.TheVariants.{Simplify, Delete}
 use Rattle.rx_inference.proofs.FormingLaws.{shown_taken}
-use Rattle.rx_joins.specs.Runs.{IsProof, Run, NoStep, OneMore, start, finished}
+use Rattle.rx_proofs.specs.Runs.{IsProof, Run, NoStep, OneMore, start, finished}
 use Rattle.rx_agreement.specs.SoundnessExample.{a, b, example, first, second, parts, returns, table}
 
 -- ---- the translation

@@ -5,7 +5,7 @@ ghost use Rattle.c_ast.specs.Scoped.{is_scoped, parameter_counts};
 ghost use Rattle.c_ast.specs.declared.program.Resolved.{Resolved};
 ghost use Rattle.rx_agreement.specs.Agreement.{ReturnAlike};
 ghost use Rattle.rx_code.specs.Translation.{IsTranslation, goal_at};
-ghost use Rattle.rx_joins.specs.Runs.{IsProof};
+ghost use Rattle.rx_proofs.specs.Runs.{IsProof};
 ghost use Rattle.rx_pairs.specs.declared.table.RankTable.{RankTable};
 ghost use Rattle.rx_row.specs.Holds.{AllHold};
 ghost use Rattle.rx_row.specs.declared.row.Row.{Row};

@@ -6,9 +6,9 @@ use Rattle.rx_term.specs.declared.rule_set.RuleParts.{RuleParts}
 use Rattle.rx_inference.specs.States.{State}
 use Rattle.rx_inference.specs.declared.step.Step.{Step}
 use Rattle.rx_pairs.specs.declared.table.RankTable.{RankTable}
-use Rattle.rx_joins.specs.Example.{alike, example, hypothesis, table}
-use Rattle.rx_joins.specs.Runs.{IsProof, NoStep, OneMore, Run, finished, start}
-use Rattle.rx_joins.proofs.Example.{example_proof}
+use Rattle.rx_proofs.specs.Example.{alike, example, hypothesis, table}
+use Rattle.rx_proofs.specs.Runs.{IsProof, NoStep, OneMore, Run, finished, start}
+use Rattle.rx_proofs.proofs.Example.{example_proof}
 use Rattle.rx_log.specs.Acceptance.{Checked, Concludes, Accepted, IsAccepted, OnPairs, ◌>>=◌, after_step, after_steps, kept, kept_by, of_descent, once_covered, once_ranked}
 use Rattle.rx_log.specs.declared.log.Log.{Log}
 

@@ -16,14 +16,14 @@ use Rattle.rx_pairs.specs.Lowering.{Descends, Descent, NotLower, descent_from}
 use Rattle.rx_pairs.specs.Lowering as lowering
 use Rattle.rx_pairs.specs.Pairs.{HasRoot}
 use Rattle.rx_pairs.specs.Ranks.{bad_rank}
-use Rattle.rx_joins.specs.Goals.{Inside, IsFitting}
-use Rattle.rx_joins.specs.Runs.{IsProof, Run, finished, start}
-use Rattle.rx_joins.proofs.Runs.{proof_ends_alike}
+use Rattle.rx_proofs.specs.Goals.{Inside, IsFitting}
+use Rattle.rx_proofs.specs.Runs.{IsProof, Run, finished, start}
+use Rattle.rx_proofs.proofs.Runs.{proof_ends_alike}
 use Rattle.rx_log.specs.Acceptance.{Accepted, Checked, IsAccepted, OnPairs, ◌>>=◌, after_steps, kept, of_descent, once_covered, once_finished, once_ranked}
 use Rattle.rx_log.specs.Acceptance as acceptance
 use Rattle.rx_log.specs.declared.log.Log.{Log}
 use Rattle.rx_check.specs.Results.{EndEqual}
-use Rattle.rx_joins.proofs.Rooted.{run_rooted}
+use Rattle.rx_proofs.proofs.Rooted.{run_rooted}
 use Rattle.rx_check.proofs.Kept.{steps_run}
 
 -- ---- back from the checks

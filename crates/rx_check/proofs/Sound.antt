@@ -11,7 +11,7 @@ use Rattle.rx_pairs.specs.Lowering.{descent_from}
 use Rattle.rx_pairs.specs.Pairs.{AreAllPairs}
 use Rattle.rx_pairs.specs.declared.pair.Pair.{Pair}
 use Rattle.rx_pairs.specs.declared.pair_cert.PairCert.{PairCert}
-use Rattle.rx_joins.specs.Goals.{Inside, IsFitting}
+use Rattle.rx_proofs.specs.Goals.{Inside, IsFitting}
 use Rattle.rx_log.specs.Acceptance.{Concludes, Fails, HasVerdict, LogFault, Verdict, kept, of_descent}
 use Rattle.rx_log.specs.declared.log.Log.{Log}
 use Rattle.rx_check.specs.Answers.{Answers, Decides, Told, named}

@@ -4,7 +4,7 @@ ghost use Rattle.std.specs.Prelude.{OnOk, OnErr, IfOk};
 ghost use Rattle.rx_check.specs.Answers.{Answers};
 ghost use Rattle.rx_check.specs.LineByLine.{HasRoots, MayCome, Stands, StandsFor, log_of};
 ghost use Rattle.rx_check.specs.LineByLine.{place_after};
-ghost use Rattle.rx_joins.specs.Goals.{Inside, IsFitting};
+ghost use Rattle.rx_proofs.specs.Goals.{Inside, IsFitting};
 ghost use Rattle.rx_log.specs.Places.{after};
 ghost use Rattle.rx_log.specs.Reading.{pushed};
 ghost use Rattle.rx_log.specs.declared.log.Log.{Log};

@@ -1,7 +1,7 @@
 //! Whether a log is accepted.
 ghost use Rattle.std.specs.Prelude.{◌≡◌, ◌++◌, ℕ, ℤ, true, All, List, OnOk};
 ghost use Rattle.rx_check.specs.Answers.{Answers, Decides};
-ghost use Rattle.rx_joins.specs.Goals.{Inside};
+ghost use Rattle.rx_proofs.specs.Goals.{Inside};
 ghost use Rattle.rx_log.specs.Acceptance.{of_descent};
 ghost use Rattle.rx_pairs.specs.Lowering.{descent_from};
 ghost use Rattle.rx_pairs.specs.Pairs.{AreAllPairs, HasRoot};

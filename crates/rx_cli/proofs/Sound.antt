@@ -18,7 +18,7 @@ use Rattle.rx_code.proofs.CodeLawsTranslations.{left_fits, right_fits, translati
 use Rattle.rx_agreement.specs.Agreement.{ReachConvertible}
 use Rattle.rx_agreement.proofs.Preconditions.{means_its_rows}
 use Rattle.rx_agreement.proofs.Translated.{goal_alike}
-use Rattle.rx_joins.specs.Goals.{Inside, IsFitting}
+use Rattle.rx_proofs.specs.Goals.{Inside, IsFitting}
 use Rattle.rx_log.specs.declared.log.Log.{Log}
 use Rattle.rx_log.specs.Acceptance.{IsAccepted}
 use Rattle.rx_check.proofs.Proofs.{accepted_ends_alike}

@@ -5,11 +5,11 @@ use Rattle.rx_term.specs.WellMade.{IsWellMade}
 use Rattle.rx_term.specs.declared.rule.Equation.{Equation}
 use Rattle.rx_term.specs.declared.rule_set.RuleParts.{RuleParts}
 use Rattle.rx_pairs.specs.Pairs.{HasRoot, SidesFit}
-use Rattle.rx_joins.specs.Runs as joins
-use Rattle.rx_joins.proofs.Rooted.{run_rooted}
-use Rattle.rx_joins.proofs.Runs.{kept_hypotheses_fit}
+use Rattle.rx_proofs.specs.Runs as joins
+use Rattle.rx_proofs.proofs.Rooted.{run_rooted}
+use Rattle.rx_proofs.proofs.Runs.{kept_hypotheses_fit}
 use Rattle.rx_cert.specs.Findings.{Yes}
-use Rattle.rx_joins.specs.Goals.{IsFitting}
+use Rattle.rx_proofs.specs.Goals.{IsFitting}
 use Rattle.rx_rank.specs.Ranking.{ranked}
 use Rattle.rx_search.specs.Calls.{started}
 use Rattle.rx_search.specs.Nodes.{IsNode, IsReached}

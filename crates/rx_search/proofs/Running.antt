@@ -4,7 +4,7 @@ use Rattle.rx_term.specs.declared.rule_set.RuleParts.{RuleParts}
 use Rattle.rx_inference.specs.Judging.{StepFault}
 use Rattle.rx_inference.specs.States.{State, applied}
 use Rattle.rx_inference.specs.declared.step.Step.{Step}
-use Rattle.rx_joins.specs.Runs.{NoStep, OneMore, Run}
+use Rattle.rx_proofs.specs.Runs.{NoStep, OneMore, Run}
 use Rattle.rx_log.specs.Acceptance.{after_step, after_steps, ◌>>=◌}
 use Rattle.rx_settle.specs.Answers.{after, after_all}
 

@@ -6,7 +6,7 @@ use Rattle.rx_term.specs.declared.rule.Equation.{Equation}
 use Rattle.rx_term.specs.declared.rule_set.RuleParts.{RuleParts}
 use Rattle.rx_inference.specs.States.{State}
 use Rattle.rx_inference.specs.declared.step.Step.{Step}
-use Rattle.rx_joins.specs.Runs as runs
+use Rattle.rx_proofs.specs.Runs as runs
 use Rattle.rx_rank.specs.Ranking.{ranked}
 use Rattle.rx_settle.specs.Answers.{AreDeep, IsSettled, after_all}
 use Rattle.rx_search.proofs.Shallow.{IsDeep}

@@ -26,7 +26,7 @@ use Rattle.rx_inference.specs.declared.formed_step.FormedStep.{FormedStep}
 use Rattle.rx_inference.specs.declared.step.Side.{Side}
 use Rattle.rx_inference.specs.declared.step.Step.{Step}
 use Rattle.rx_rank.specs.Ranking.{ranked}
-use Rattle.rx_joins.specs.Runs as runs
+use Rattle.rx_proofs.specs.Runs as runs
 use Rattle.rx_settle.specs.Answers.{Takes}
 use Rattle.rx_moves.specs.Moves.{Absurd, Decompose, EqDelete, Equal, Expand, Generalise, Hyp, Move, Postulate, Results, Simplify, Split, move_of, step_of}
 use Rattle.rx_settle.specs.Settling.{most_moves}

@@ -8,8 +8,8 @@ use Rattle.rx_solve.specs.Attempts.{Tried}
 use Rattle.rx_term.specs.WellMade.{IsWellMade}
 use Rattle.rx_term.specs.declared.rule.Equation.{Equation}
 use Rattle.rx_term.specs.declared.rule_set.RuleParts.{RuleParts}
-use Rattle.rx_joins.specs.Goals.{IsFitting}
-use Rattle.rx_joins.specs.Runs as runs
+use Rattle.rx_proofs.specs.Goals.{IsFitting}
+use Rattle.rx_proofs.specs.Runs as runs
 use Rattle.rx_rank.specs.Ranking.{ranked}
 use Rattle.rx_settle.specs.Answers.{AreDeep, after_all}
 use Rattle.rx_moves.specs.Moves.{Decompose, Expand, Generalise, Move}

@@ -4,7 +4,7 @@ ghost use Rattle.rx_cert.specs.Findings.{Yes};
 ghost use Rattle.rx_cover.specs.Covering.{Covers, covering};
 ghost use Rattle.rx_coverable.specs.Answers.{AreSmall};
 ghost use Rattle.rx_coverable.specs.Coverable.{is_coverable};
-ghost use Rattle.rx_joins.specs.Goals.{IsFitting};
+ghost use Rattle.rx_proofs.specs.Goals.{IsFitting};
 ghost use Rattle.rx_log.specs.Acceptance.{IsAccepted};
 ghost use Rattle.rx_log.specs.Depth.{is_shallow_log};
 ghost use Rattle.rx_search.specs.Calls.{node_of};

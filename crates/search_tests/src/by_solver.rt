@@ -1,7 +1,7 @@
 //! The search for a proof of a goal over a rule set, by any solver.
 ghost use Rattle.std.specs.Prelude.{◌≡◌, ◌≤◌, true};
 ghost use Rattle.rx_coverable.specs.Coverable.{is_coverable};
-ghost use Rattle.rx_joins.specs.Goals.{IsFitting};
+ghost use Rattle.rx_proofs.specs.Goals.{IsFitting};
 ghost use Rattle.rx_solve.specs.Answers.{IsSolver};
 
 use crate::ends::text_of;

@@ -2,7 +2,7 @@
 ghost use Rattle.std.specs.Prelude.{◌≡◌, ◌≤◌, true};
 ghost use Rattle.rx_cache.specs.CachedSolver.{IsCachedSolver};
 ghost use Rattle.rx_coverable.specs.Coverable.{is_coverable};
-ghost use Rattle.rx_joins.specs.Goals.{IsFitting};
+ghost use Rattle.rx_proofs.specs.Goals.{IsFitting};
 ghost use Rattle.rx_solve.specs.Answers.{Answers};
 
 use crate::by_solver::{MOST_KEPT, Task, searched_by};

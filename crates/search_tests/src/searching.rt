@@ -3,7 +3,7 @@
 ghost use Rattle.std.specs.Prelude.{◌≡◌, ◌≤◌, true};
 ghost use Rattle.std.specs.Bool.{IsTrue};
 ghost use Rattle.rx_coverable.specs.Coverable.{is_coverable};
-ghost use Rattle.rx_joins.specs.Goals.{IsFitting};
+ghost use Rattle.rx_proofs.specs.Goals.{IsFitting};
 
 use crate::by_solver::{MOST_KEPT, Task, searched_by};
 use crate::caching::search_after;

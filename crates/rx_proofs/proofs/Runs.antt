@@ -42,16 +42,16 @@ use Rattle.rx_pairs.specs.declared.pair.Pair.{Pair}
 use Rattle.rx_pairs.specs.declared.pair_cert.PairCert.{PairCert}
 use Rattle.rx_pairs.specs.declared.table.RankTable.{RankTable}
 use Rattle.rx_pairs.proofs.Lowered.{steps_descend}
-use Rattle.rx_joins.specs.Goals.{Inside, Both, IsGood, IsBacked, IsFitting}
-use Rattle.rx_joins.specs.Runs.{Run, Accepted, IsProof, start, finished}
-use Rattle.rx_joins.specs.Runs as runs
-use Rattle.rx_joins.proofs.Bridge.{Made, applied_makes}
-use Rattle.rx_joins.proofs.Fitting.{made_fit}
-use Rattle.rx_joins.proofs.Lists.{All-formed_back, All-map_back, All-parts}
-use Rattle.rx_joins.proofs.Making.{Makes}
-use Rattle.rx_joins.proofs.Making as making
-use Rattle.rx_joins.proofs.StepLaws as laws
-use Rattle.rx_joins.proofs.StepLaws.{Setting}
+use Rattle.rx_proofs.specs.Goals.{Inside, Both, IsGood, IsBacked, IsFitting}
+use Rattle.rx_proofs.specs.Runs.{Run, Accepted, IsProof, start, finished}
+use Rattle.rx_proofs.specs.Runs as runs
+use Rattle.rx_proofs.proofs.Bridge.{Made, applied_makes}
+use Rattle.rx_proofs.proofs.Fitting.{made_fit}
+use Rattle.rx_proofs.proofs.Lists.{All-formed_back, All-map_back, All-parts}
+use Rattle.rx_proofs.proofs.Making.{Makes}
+use Rattle.rx_proofs.proofs.Making as making
+use Rattle.rx_proofs.proofs.StepLaws as laws
+use Rattle.rx_proofs.proofs.StepLaws.{Setting}
 
 -- ---- forward: fitting
 

@@ -3,10 +3,10 @@ ghost use Rattle.std.specs.Prelude.{◌≡◌, ◌∷◌, [], ℕ, ℤ, All, Con
 ghost use Rattle.rx_cover.specs.Covering.{Covers, covering};
 ghost use Rattle.rx_cover.specs.declared.cover_tree.CoverTree.{CoverTree};
 ghost use Rattle.rx_inference.specs.States.{State, applied};
-ghost use Rattle.rx_joins.specs.Example.{alike, by_hypothesis, equal, example, g, hypothesis};
-ghost use Rattle.rx_joins.specs.Example.{knowing, table};
-ghost use Rattle.rx_joins.specs.Goals.{Inside, IsBacked, IsFitting, IsGood};
-ghost use Rattle.rx_joins.specs.Runs.{Accepted, IsProof, Run, finished, start};
+ghost use Rattle.rx_proofs.specs.Example.{alike, by_hypothesis, equal, example, g, hypothesis};
+ghost use Rattle.rx_proofs.specs.Example.{knowing, table};
+ghost use Rattle.rx_proofs.specs.Goals.{Inside, IsBacked, IsFitting, IsGood};
+ghost use Rattle.rx_proofs.specs.Runs.{Accepted, IsProof, Run, finished, start};
 ghost use Rattle.rx_pairs.specs.Lowering.{Descends, descent_from};
 ghost use Rattle.rx_pairs.specs.Pairs.{AreAllPairs, SidesFit};
 ghost use Rattle.rx_pairs.specs.Ranks.{bad_rank, rank_of};

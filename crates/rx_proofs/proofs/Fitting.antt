@@ -33,11 +33,11 @@ use Rattle.rx_inference.specs.Pieces.{side_of, with_rows, with_side}
 use Rattle.rx_inference.specs.declared.step.Side.{Side}
 use Rattle.rx_inference.specs.declared.step.Side.TheVariants.{Left, Right}
 use Rattle.rx_pairs.specs.Pairs.{SidesFit}
-use Rattle.rx_joins.specs.Goals.{IsFitting}
-use Rattle.rx_joins.proofs.Lists.{All-formed, All-mapped}
-use Rattle.rx_joins.proofs.Making.{Makes}
-use Rattle.rx_joins.proofs.Making as making
-use Rattle.rx_joins.proofs.StepLaws.{placed}
+use Rattle.rx_proofs.specs.Goals.{IsFitting}
+use Rattle.rx_proofs.proofs.Lists.{All-formed, All-mapped}
+use Rattle.rx_proofs.proofs.Making.{Makes}
+use Rattle.rx_proofs.proofs.Making as making
+use Rattle.rx_proofs.proofs.StepLaws.{placed}
 
 module _ (parts : RuleParts) (made : IsWellMade parts) where
   one : {goal : Equation} → IsFitting parts goal → All (IsFitting parts) (goal ∷ [])

@@ -53,8 +53,8 @@ use Rattle.rx_inference.specs.declared.step.Delete.TheVariants.{Equal}
 use Rattle.rx_inference.specs.declared.step.Side.TheVariants.{Left, Right}
 use Rattle.rx_inference.specs.declared.step.Step.TheVariants.{Simplify, Expand, Delete, Postulate}
 use Rattle.rx_inference.proofs.FormingLaws.{shown_taken}
-use Rattle.rx_joins.specs.Example.{f, g, fails, example, equal, alike, hypothesis, by_hypothesis, knowing, table}
-use Rattle.rx_joins.specs.Runs.{IsProof, Run, NoStep, OneMore, start, finished}
+use Rattle.rx_proofs.specs.Example.{f, g, fails, example, equal, alike, hypothesis, by_hypothesis, knowing, table}
+use Rattle.rx_proofs.specs.Runs.{IsProof, Run, NoStep, OneMore, start, finished}
 
 -- ---- the rules
 

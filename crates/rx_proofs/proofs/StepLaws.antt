@@ -54,10 +54,10 @@ use Rattle.rx_inference.specs.Making.{differing, expanded_by, failures, from_sid
 use Rattle.rx_inference.specs.Pieces.{all_zero, equal_arguments, equal_lists, other_side, side_of, with_rows, with_side}
 use Rattle.rx_inference.specs.declared.step.Side.{Side}
 use Rattle.rx_inference.specs.declared.step.Side.TheVariants.{Left, Right}
-use Rattle.rx_joins.specs.Goals.{Inside, Both, IsGood, IsBacked, IsFitting}
-use Rattle.rx_joins.proofs.Lists.{All-parts, passes}
-use Rattle.rx_joins.proofs.Making.{Follow}
-use Rattle.rx_joins.proofs.RowLaws.{all_pushed-hold, equal_values}
+use Rattle.rx_proofs.specs.Goals.{Inside, Both, IsGood, IsBacked, IsFitting}
+use Rattle.rx_proofs.proofs.Lists.{All-parts, passes}
+use Rattle.rx_proofs.proofs.Making.{Follow}
+use Rattle.rx_proofs.proofs.RowLaws.{all_pushed-hold, equal_values}
 
 -- what is known of the rules
 pub record Setting (parts : RuleParts) : Type 0 where

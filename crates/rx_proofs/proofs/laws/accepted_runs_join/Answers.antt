@@ -1,5 +1,5 @@
-use Rattle.rx_joins.proofs.Runs.{backed, made_join, start_joins}
-use Rattle.rx_joins.proofs.laws.accepted_runs_join.Goals as goal
+use Rattle.rx_proofs.proofs.Runs.{backed, made_join, start_joins}
+use Rattle.rx_proofs.proofs.laws.accepted_runs_join.Goals as goal
 
 pub returns-clause-goal : goal.returns-clause-goal
 returns-clause-goal c = start_joins

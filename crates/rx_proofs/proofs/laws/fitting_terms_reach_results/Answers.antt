@@ -1,5 +1,5 @@
-use Rattle.rx_joins.proofs.Runs.{fitting_ends, shown_ends}
-use Rattle.rx_joins.proofs.laws.fitting_terms_reach_results.Goals as goal
+use Rattle.rx_proofs.proofs.Runs.{fitting_ends, shown_ends}
+use Rattle.rx_proofs.proofs.laws.fitting_terms_reach_results.Goals as goal
 
 pub returns-clause-reach : goal.returns-clause-reach
 returns-clause-reach c = fitting_ends

@@ -22,7 +22,7 @@ use Rattle.rx_term.specs.declared.term.Term.TheVariants.{Frame}
 use Rattle.rx_inference.specs.Making.{differing, expanded_by, instance_rows, kept_if, results_of, with_result, with_sides}
 use Rattle.rx_inference.specs.Pieces.{equal_arguments, equal_lists, side_of, with_rows, with_side}
 use Rattle.rx_inference.specs.declared.step.Side.{Side}
-use Rattle.rx_joins.specs.Goals.{IsFitting}
+use Rattle.rx_proofs.specs.Goals.{IsFitting}
 
 -- rows that hold wherever others do
 abbrev pub Follow : List Row → List Row → Type 0

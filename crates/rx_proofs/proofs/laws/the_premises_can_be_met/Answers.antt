@@ -1,5 +1,5 @@
-use Rattle.rx_joins.proofs.Example.{example_proof, hypothesis_used}
-use Rattle.rx_joins.proofs.laws.the_premises_can_be_met.Goals as goal
+use Rattle.rx_proofs.proofs.Example.{example_proof, hypothesis_used}
+use Rattle.rx_proofs.proofs.laws.the_premises_can_be_met.Goals as goal
 
 pub returns-clause-proof : goal.returns-clause-proof
 returns-clause-proof c = example_proof

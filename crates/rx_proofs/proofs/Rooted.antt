@@ -15,10 +15,10 @@ use Rattle.rx_inference.specs.Pieces.{side_of}
 use Rattle.rx_inference.specs.States.{State}
 use Rattle.rx_inference.specs.declared.step.Side.{Side}
 use Rattle.rx_pairs.specs.Pairs.{HasRoot}
-use Rattle.rx_joins.specs.Runs.{NoStep, OneMore, Run}
-use Rattle.rx_joins.proofs.Bridge.{Made, applied_makes}
-use Rattle.rx_joins.proofs.Making.{Makes}
-use Rattle.rx_joins.proofs.Making as making
+use Rattle.rx_proofs.specs.Runs.{NoStep, OneMore, Run}
+use Rattle.rx_proofs.proofs.Bridge.{Made, applied_makes}
+use Rattle.rx_proofs.proofs.Making.{Makes}
+use Rattle.rx_proofs.proofs.Making as making
 
 -- what has a redex is no result
 no_result_by : (t redex : Term) → Form t → redex_of t ≡ Some redex → is_result t ≡ false

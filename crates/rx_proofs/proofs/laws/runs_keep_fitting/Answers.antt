@@ -1,5 +1,5 @@
-use Rattle.rx_joins.proofs.Runs.{goals_left_fit, kept_hypotheses_fit}
-use Rattle.rx_joins.proofs.laws.runs_keep_fitting.Goals as goal
+use Rattle.rx_proofs.proofs.Runs.{goals_left_fit, kept_hypotheses_fit}
+use Rattle.rx_proofs.proofs.laws.runs_keep_fitting.Goals as goal
 
 pub returns-clause-goals : goal.returns-clause-goals
 returns-clause-goals c = goals_left_fit

@@ -18,7 +18,7 @@ use Rattle.rx_pairs.specs.Ranks.{bad_rank}
 use Rattle.rx_pairs.specs.declared.pair.Pair.{Pair}
 use Rattle.rx_pairs.specs.declared.pair_cert.PairCert.{PairCert}
 use Rattle.rx_pairs.specs.declared.table.RankTable.{RankTable}
-use Rattle.rx_joins.specs.Goals.{Inside, Both, IsFitting}
+use Rattle.rx_proofs.specs.Goals.{Inside, Both, IsFitting}
 
 -- steps one after the other, each of which applies, from a state to the end
 pub data Run (parts : RuleParts) (end : State) : State → Type 0 where

@@ -40,8 +40,8 @@ use Rattle.rx_inference.specs.declared.step.Side.{Side}
 use Rattle.rx_inference.specs.declared.step.Step.{Step}
 use Rattle.rx_inference.specs.declared.step.Step.TheVariants as step
 use Rattle.rx_inference.proofs.JudgingLaws.{shown_follow, shown_refuted}
-use Rattle.rx_joins.specs.Goals.{IsFitting}
-use Rattle.rx_joins.proofs.Making.{Follow, Makes, Simplified, Used, Expanded, Contradictory, Equal, Apart, Generalised, Postulated, SplitBy, Decomposed, WithResults}
+use Rattle.rx_proofs.specs.Goals.{IsFitting}
+use Rattle.rx_proofs.proofs.Making.{Follow, Makes, Simplified, Used, Expanded, Contradictory, Equal, Apart, Generalised, Postulated, SplitBy, Decomposed, WithResults}
 
 -- ---- back from what is formed
 

@@ -1,5 +1,0 @@
-use Rattle.rx_joins.proofs.Runs.{end_alike}
-use Rattle.rx_joins.proofs.laws.accepted_runs_end_alike.Goals as goal
-
-pub returns : goal.returns
-returns c = end_alike
