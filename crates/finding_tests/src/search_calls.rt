@@ -7,7 +7,7 @@ ghost use Rattle.rx_pairs.specs.Pairs.{SidesFit};
 use crate::answer::ended;
 use crate::printing::{push_cover, push_lowering, push_table};
 use rule_tables::rules;
-use rx_coverable::find_cover;
+use rx_find_cover::find_cover;
 use rx_find_ranks::{Ranking, find_ranks};
 use rx_fm::FmEnd;
 use rx_pairs::have_roots;

@@ -4,7 +4,7 @@ ghost use Rattle.c_front.specs.Front.{count_in};
 ghost use Rattle.c_front.specs.Stages.{IfGoes};
 ghost use Rattle.rx_command.specs.Commands as words;
 ghost use Rattle.rx_command.specs.Commands.{functions_view, is_short};
-ghost use Rattle.rx_coverable.specs.Coverable.{is_coverable};
+ghost use Rattle.rx_find_cover.specs.Coverable.{is_coverable};
 ghost use Rattle.rx_proofs.specs.Goals.{IsFitting};
 ghost use Rattle.rx_term.specs.Paired.{IsPaired};
 ghost use Rattle.rx_cli.specs.Problems as spec;

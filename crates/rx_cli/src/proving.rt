@@ -2,7 +2,7 @@
 ghost use Rattle.std.specs.Prelude.{◌≡◌, ◌≤◌, true, length, IfOk};
 ghost use Rattle.rx_command.specs.Commands.{functions_view, is_short};
 ghost use Rattle.rx_cache.specs.CachedSolver.{IsCachedSolver};
-ghost use Rattle.rx_coverable.specs.Coverable.{is_coverable};
+ghost use Rattle.rx_find_cover.specs.Coverable.{is_coverable};
 ghost use Rattle.rx_proofs.specs.Goals.{IsFitting};
 ghost use Rattle.rx_log.specs.Depth.{is_shallow_log};
 ghost use Rattle.rx_logtext.specs.Logs.{IsLog};

@@ -12,8 +12,8 @@ use Rattle.rx_inference.specs.Judging.{certificates}
 use Rattle.rx_inference.specs.declared.step.Step.{Step}
 use Rattle.rx_cover.specs.Depth.{tree_depth}
 use Rattle.rx_cover.specs.declared.cover_tree.CoverTree.{CoverTree, CoverTree-F, fold-roll-CoverTree, ind-CoverTree, map-CoverTree, roll-CoverTree}
-use Rattle.rx_coverable.specs.Answers.{AreSmall}
-use Rattle.rx_coverable.specs.Trees.{IsSmall, is_cert_deep, passes_level, tree_passes}
+use Rattle.rx_find_cover.specs.Answers.{AreSmall}
+use Rattle.rx_find_cover.specs.Trees.{IsSmall, is_cert_deep, passes_level, tree_passes}
 use Rattle.rx_pairs.specs.declared.pair_cert.PairCert.{PairCert}
 use Rattle.rx_log.specs.Depth.{are_shallow, certs_level, deepest, has_shallow_certs, is_shallow, is_shallow_log, is_shallow_tree}
 use Rattle.rx_log.specs.declared.log.Log.{Log}

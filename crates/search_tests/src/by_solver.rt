@@ -1,6 +1,6 @@
 //! The search for a proof of a goal over a rule set, by any solver.
 ghost use Rattle.std.specs.Prelude.{◌≡◌, ◌≤◌, true};
-ghost use Rattle.rx_coverable.specs.Coverable.{is_coverable};
+ghost use Rattle.rx_find_cover.specs.Coverable.{is_coverable};
 ghost use Rattle.rx_proofs.specs.Goals.{IsFitting};
 ghost use Rattle.rx_solve.specs.Answers.{IsSolver};
 

@@ -1,7 +1,7 @@
 //! The search by a cached solver.
 ghost use Rattle.std.specs.Prelude.{◌≡◌, ◌≤◌, true};
 ghost use Rattle.rx_cache.specs.CachedSolver.{IsCachedSolver};
-ghost use Rattle.rx_coverable.specs.Coverable.{is_coverable};
+ghost use Rattle.rx_find_cover.specs.Coverable.{is_coverable};
 ghost use Rattle.rx_proofs.specs.Goals.{IsFitting};
 ghost use Rattle.rx_solve.specs.Answers.{Answers};
 

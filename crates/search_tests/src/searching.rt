@@ -2,13 +2,13 @@
 //! bytes whatever a cache holds and however many nodes are kept.
 ghost use Rattle.std.specs.Prelude.{◌≡◌, ◌≤◌, true};
 ghost use Rattle.std.specs.Bool.{IsTrue};
-ghost use Rattle.rx_coverable.specs.Coverable.{is_coverable};
+ghost use Rattle.rx_find_cover.specs.Coverable.{is_coverable};
 ghost use Rattle.rx_proofs.specs.Goals.{IsFitting};
 
 use crate::by_solver::{MOST_KEPT, Task, searched_by};
 use crate::caching::search_after;
 use crate::ends::word;
-use rx_coverable::find_cover;
+use rx_find_cover::find_cover;
 use rx_row::Constraint;
 use rx_solve::refutes;
 use rx_term::{Equation, RuleSet};

@@ -1,5 +1,5 @@
 use Rattle.std.proofs.Common.{Some}
-use Rattle.rx_coverable.proofs.Paired.{paired_coverable}
+use Rattle.rx_find_cover.proofs.Paired.{paired_coverable}
 use Rattle.rx_term.specs.Paired.{IsPaired}
 use Rattle.rx_cli.specs.Steps.{Translates}
 use Rattle.rx_cli.proofs.Sound.{fits_goal}

@@ -1,0 +1,119 @@
+//! The trees of one symbol, one for each shape of a redex with it.
+ghost use Rattle.std.specs.Prelude.{◌≡◌, [], true, map, IfOk, IfSome};
+ghost use Rattle.rx_cover.specs.Covering.{redex_shapes, symbol};
+ghost use Rattle.rx_find_cover.specs.Answers.{AreTrees, outcome};
+ghost use Rattle.rx_find_cover.specs.Coverable.{covering_at, most_splits, shapes_coverage};
+ghost use Rattle.rx_find_cover.specs.Redexes.{shape_at};
+ghost use Rattle.rx_find_cover.specs.Trees.{IsTree};
+ghost use Rattle.rx_solve.specs.Answers.{IsSolver};
+ghost use Rattle.rx_term.specs.Paired.{rules_of_shape};
+ghost use Rattle.rx_term.specs.declared.term.Sym.{Sym};
+
+use crate::building::build;
+use crate::built::Built;
+use crate::redex::Redex;
+use rx_cert::Cert;
+use rx_cover::CoverTree;
+use rx_fm::FmEnd;
+use rx_plain::{Items, NoMemory};
+use rx_row::Constraint;
+use rx_term::Rule;
+use std::alloc::{AllocError, Global};
+
+/// How many splits a way through a tree has at most.
+const MOST_SPLITS: u32 = 32;
+
+/// What a frame can be over: a returned value, and then the failures with the codes 1, 2, and
+/// so on.
+fn frame_redexes(alloc: Global, fails: u8) -> Result<Items<Redex>, AllocError>
+    ensures { IfOk result (λ rs. (f : Sym) → map (shape_at f) rs ≡ redex_shapes f true fails) }
+{
+    let mut redexes = Items::new(alloc);
+    redexes.push(Redex::OverReturn)?;
+    for before in 0..fails {
+        redexes.push(Redex::OverFail(before + 1))?;
+    }
+    Ok(redexes)
+}
+
+/// The redexes with one symbol, a frame or a point.
+fn redexes_of(alloc: Global, frame: bool, fails: u8) -> Result<Items<Redex>, AllocError>
+    ensures { IfOk result (λ rs. (f : Sym) → map (shape_at f) rs ≡ redex_shapes f frame fails) }
+{
+    if frame {
+        return frame_redexes(alloc, fails);
+    }
+    let mut redexes = Items::new(alloc);
+    redexes.push(Redex::Call)?;
+    Ok(redexes)
+}
+
+/// The tree for the shape where no rows are known.
+fn build_alone<S: FnMut(&Constraint) -> Result<Option<Cert>, FmEnd>>(
+    alloc: Global,
+    rules: &[Rule],
+    sym: usize,
+    redex: Redex,
+    solve: &mut S,
+) -> Result<Built<CoverTree>, NoMemory>
+    requires solver { IsSolver S.FnMut solve.old }
+    ensures solver { IsSolver S.FnMut solve.new }
+    ensures coverage { IfOk result (λ b. outcome b ≡
+        covering_at (rules_of_shape (shape_at (symbol sym) redex) rules.now) most_splits []) }
+    ensures tree { IfOk result (λ b. IfSome b.made
+        (IsTree rules.now (shape_at (symbol sym) redex) 33 [])) }
+{
+    let mut path = Constraint::from_rows(Vec::new(alloc));
+    build(alloc, rules, sym, redex, &mut path, MOST_SPLITS, solve)
+}
+
+/// The trees for the shapes in order, up to the first that has none.
+fn build_shapes<S: FnMut(&Constraint) -> Result<Option<Cert>, FmEnd>>(
+    alloc: Global,
+    rules: &[Rule],
+    sym: usize,
+    redexes: &[Redex],
+    solve: &mut S,
+) -> Result<Built<Items<CoverTree>>, NoMemory>
+    requires solver { IsSolver S.FnMut solve.old }
+    ensures solver { IsSolver S.FnMut solve.new }
+    ensures coverage { IfOk result (λ b. outcome b ≡
+        shapes_coverage rules.now (map (shape_at (symbol sym)) redexes.now)) }
+    ensures trees { IfOk result (λ b. IfSome b.made
+        (AreTrees rules.now (map (shape_at (symbol sym)) redexes.now))) }
+{
+    let mut trees = Items::new(alloc);
+    let mut noted = false;
+    for redex in redexes {
+        let tried = build_alone(alloc, rules, sym, *redex, solve)?;
+        noted = noted || tried.noted;
+        let Some(tree) = tried.made else {
+            return Ok(Built { made: None, noted });
+        };
+        trees.push(tree)?;
+    }
+    Ok(Built {
+        made: Some(trees),
+        noted,
+    })
+}
+
+/// The trees for the shapes of the symbol, a frame or a point, up to the first that has none.
+pub(crate) fn build_symbol<S: FnMut(&Constraint) -> Result<Option<Cert>, FmEnd>>(
+    alloc: Global,
+    rules: &[Rule],
+    sym: usize,
+    frame: bool,
+    fails: u8,
+    solve: &mut S,
+) -> Result<Built<Items<CoverTree>>, NoMemory>
+    requires solver { IsSolver S.FnMut solve.old }
+    ensures solver { IsSolver S.FnMut solve.new }
+    ensures coverage { IfOk result (λ b. outcome b ≡
+        shapes_coverage rules.now (redex_shapes (symbol sym) frame fails)) }
+    ensures trees { IfOk result (λ b. IfSome b.made
+        (AreTrees rules.now (redex_shapes (symbol sym) frame fails))) }
+{
+    let redexes = redexes_of(alloc, frame, fails)?;
+    build_shapes(alloc, rules, sym, redexes.as_slice(), solve)
+}
