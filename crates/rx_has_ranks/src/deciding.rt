@@ -1,0 +1,130 @@
+//! Whether there are ranks, without a table of them.
+ghost use Rattle.std.specs.Prelude.{◌≡◌, ◌≤◌, ◌^◌, ◌++◌, All, IfOk, OnOk, length};
+ghost use Rattle.rx_graph.specs.Graph.{IsOver};
+ghost use Rattle.rx_pairs.specs.Graph.{edges_of};
+ghost use Rattle.rx_pairs.specs.Pairs.{AreAllPairs, HasRoot, SidesFit};
+ghost use Rattle.rx_rank.specs.Answers.{pairs_at, tried_only};
+ghost use Rattle.rx_rank.specs.Ranking.{ranked, ranking, ranking_from};
+ghost use Rattle.rx_has_ranks.specs.HasRanks.{HasRanksAnswer};
+ghost use Rattle.rx_solve.specs.Answers.{IsSolver};
+
+use crate::rank_memo::RankMemo;
+use crate::staying::{left_after, open_pairs};
+use rx_cert::Cert;
+use rx_fm::FmEnd;
+use rx_pairs::{Pair, all_pairs};
+use rx_plain::NoMemory;
+use rx_rank::{Attempt, noted_before};
+use rx_row::Constraint;
+use rx_term::{Rule, RuleParts, RuleSet};
+use std::alloc::Global;
+
+/// Adds the pairs, borrowed.
+fn push_borrowed<'a>(refs: &mut Vec<&'a Pair>, pairs: &'a [Pair]) -> Result<(), NoMemory>
+    ensures { OnOk result (pairs_at refs.new.items ≡ pairs_at refs.old.items ++ pairs.now) }
+{
+    for pair in pairs {
+        refs.push(pair)?;
+    }
+    Ok(())
+}
+
+/// Whether there are ranks for the open pairs, with n rounds left.
+fn decide_from<S: FnMut(&Constraint) -> Result<Option<Cert>, FmEnd>>(
+    alloc: Global,
+    parts: &RuleParts,
+    hypotheses: &[Rule],
+    left: u32,
+    pairs: &[&Pair],
+    memo: &mut RankMemo,
+    solve: &mut S,
+) -> Result<Attempt<()>, NoMemory>
+    requires solver { IsSolver S.FnMut solve.old }
+    requires over { IsOver (length parts.now.symbols) (edges_of (pairs_at pairs.now)) }
+    requires few { length parts.now.symbols ≤ 2 ^ 32 }
+    ensures solver { IsSolver S.FnMut solve.new }
+    ensures tried { IfOk result (λ t. tried_only t ≡
+        ranking_from parts.now hypotheses.now left (pairs_at pairs.now)) }
+{
+    let opened = open_pairs(alloc, parts, pairs, &mut memo.names)?;
+    if opened.pairs.len() == 0 {
+        return Ok(Attempt {
+            made: Some(()),
+            noted: false,
+        });
+    }
+    if left == 0 {
+        return Ok(Attempt {
+            made: None,
+            noted: false,
+        });
+    }
+    let tried = left_after(alloc, parts, hypotheses, &opened, &mut memo.pairs, solve)?;
+    let noted = tried.noted;
+    match tried.made {
+        Some(next) => {
+            let next = next.as_slice();
+            let rest = decide_from(alloc, parts, hypotheses, left - 1, next, memo, solve)?;
+            Ok(noted_before(noted, rest))
+        }
+        None => Ok(Attempt { made: None, noted }),
+    }
+}
+
+/// What comes of the ranking of the pairs of the rules and of the hypotheses.
+fn decide_all<S: FnMut(&Constraint) -> Result<Option<Cert>, FmEnd>>(
+    alloc: Global,
+    rules: &RuleSet,
+    pairs: &[Pair],
+    hypotheses: &[Rule],
+    memo: &mut RankMemo,
+    solve: &mut S,
+) -> Result<Attempt<()>, NoMemory>
+    requires solver { IsSolver S.FnMut solve.old }
+    requires pairs { AreAllPairs rules.now.rules pairs.now }
+    requires roots { All HasRoot hypotheses.now }
+    requires fits { All (SidesFit rules.now) hypotheses.now }
+    ensures solver { IsSolver S.FnMut solve.new }
+    ensures tried { IfOk result (λ t. tried_only t ≡ ranking rules.now hypotheses.now) }
+{
+    let parts = rules.parts();
+    if parts.symbols.len() > u32::MAX as usize {
+        return Err(NoMemory);
+    }
+    let more = all_pairs(alloc, &[], hypotheses)?;
+    let mut refs = Vec::with_capacity(alloc, pairs.len())?;
+    push_borrowed(&mut refs, pairs)?;
+    push_borrowed(&mut refs, more.as_slice())?;
+    decide_from(alloc, parts, hypotheses, 7, refs.as_slice(), memo, solve)
+}
+
+/// Whether there are ranks by which all pairs of the rules and of the hypotheses are lower, as the
+/// solver shows it; Large where there are none and something on the way passed the limits. The
+/// pairs of the rules are given. Tests of pairs and components of graphs are kept in the memo.
+pub fn has_ranks_with<S: FnMut(&Constraint) -> Result<Option<Cert>, FmEnd>>(
+    alloc: Global,
+    rules: &RuleSet,
+    pairs: &[Pair],
+    hypotheses: &[Rule],
+    memo: &mut RankMemo,
+    solve: &mut S,
+) -> Result<bool, FmEnd>
+    requires solver { IsSolver S.FnMut solve.old }
+    requires pairs { AreAllPairs rules.now.rules pairs.now }
+    requires roots { All HasRoot hypotheses.now }
+    requires fits { All (SidesFit rules.now) hypotheses.now }
+    ensures solver { IsSolver S.FnMut solve.new }
+    ensures answer { HasRanksAnswer (ranked rules.now hypotheses.now) result }
+{
+    match decide_all(alloc, rules, pairs, hypotheses, memo, solve) {
+        Ok(tried) => {
+            let noted = tried.noted;
+            match tried.made {
+                Some(()) => Ok(true),
+                None if noted => Err(FmEnd::Large),
+                None => Ok(false),
+            }
+        }
+        Err(NoMemory) => Err(FmEnd::NoMemory),
+    }
+}
