@@ -18,8 +18,8 @@ use Rattle.rx_search.specs.Search.{child}
 use Rattle.rx_search.specs.declared.node_choices.Choices.{Choices}
 use Rattle.rx_search.specs.declared.node_choices.Trial.{Trial}
 use Rattle.rx_search.specs.declared.node.Node.{Node}
-use Rattle.rx_visits.specs.Views.{seen_choice}
-use Rattle.rx_visits.specs.declared.tree.Choice.{Choice}
+use Rattle.rx_deepening.specs.Views.{seen_choice}
+use Rattle.rx_deepening.specs.declared.tree.Choice.{Choice}
 use Rattle.rx_settle.specs.Settling.{most_moves}
 
 module _ (from : Node) where

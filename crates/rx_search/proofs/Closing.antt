@@ -28,13 +28,13 @@ use Rattle.rx_search.specs.declared.node.Node.{Node}
 use Rattle.rx_search.proofs.Left.{no_goal}
 use Rattle.rx_search.proofs.Rooted.{reached_rooted}
 use Rattle.rx_search.proofs.Running.{logged}
-use Rattle.rx_visits.specs.Outcomes.{closed_or, first_closed, first_note, noted_or, outcome, spent_if}
-use Rattle.rx_visits.specs.Views.{IfClosed, seen_outcome}
-use Rattle.rx_visits.specs.Visits.{Visit, all_visits, alone, choosing, lists, visits}
-use Rattle.rx_visits.specs.declared.outcome.Note.{Note}
-use Rattle.rx_visits.specs.declared.outcome.Outcome.{Outcome}
-use Rattle.rx_visits.specs.declared.outcome.Outcome.TheVariants as outcomes
-use Rattle.rx_visits.specs.declared.tree.Choice.{Choice}
+use Rattle.rx_deepening.specs.Outcomes.{closed_or, first_closed, first_note, noted_or, outcome, spent_if}
+use Rattle.rx_deepening.specs.Views.{IfClosed, seen_outcome}
+use Rattle.rx_deepening.specs.Visits.{Visit, all_visits, alone, choosing, lists, visits}
+use Rattle.rx_deepening.specs.declared.outcome.Note.{Note}
+use Rattle.rx_deepening.specs.declared.outcome.Outcome.{Outcome}
+use Rattle.rx_deepening.specs.declared.outcome.Outcome.TheVariants as outcomes
+use Rattle.rx_deepening.specs.declared.tree.Choice.{Choice}
 
 -- ---- visits of closed nodes
 

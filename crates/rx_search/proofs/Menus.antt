@@ -13,8 +13,8 @@ use Rattle.rx_search.specs.NodeNodes as nodes
 use Rattle.rx_search.specs.Search.{child, menu}
 use Rattle.rx_search.specs.declared.node_choices.Choices.{Choices}
 use Rattle.rx_search.specs.declared.node.Node.{Node}
-use Rattle.rx_visits.specs.Views.{seen_menu}
-use Rattle.rx_visits.specs.declared.tree.Menu.{Menu}
+use Rattle.rx_deepening.specs.Views.{seen_menu}
+use Rattle.rx_deepening.specs.declared.tree.Menu.{Menu}
 
 abbrev Seen : Type 0
 Seen = Menu nodes.Node (List Row)

@@ -19,7 +19,7 @@ use Rattle.rx_search.specs.NodeNodes.{is_closed}
 use Rattle.rx_search.specs.Search.{settled}
 use Rattle.rx_search.specs.declared.node.Node.{Node}
 use Rattle.rx_search.proofs.Running.{after_append}
-use Rattle.rx_visits.specs.Views.{seen_settled}
+use Rattle.rx_deepening.specs.Views.{seen_settled}
 
 module _ (parts : RuleParts) (node : Node) (new : State) (found : Found)
     (is : IsSettled parts node.state new (settle parts most_moves node.state) found) where

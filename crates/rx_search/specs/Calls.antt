@@ -9,7 +9,7 @@ use Rattle.rx_search.specs.NodeNodes as nodes
 use Rattle.rx_search.specs.declared.node.Node.{Node}
 use Rattle.rx_search.specs.declared.node_choices.Trial.{Trial}
 use Rattle.rx_search.specs.declared.node_choices.Choices.{Choices}
-use Rattle.rx_visits.specs.declared.tree.Choice.{Choice}
+use Rattle.rx_deepening.specs.declared.tree.Choice.{Choice}
 
 -- what is seen of a node: the moves of its steps
 abbrev pub node_of : Node → nodes.Node

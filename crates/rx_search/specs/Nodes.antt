@@ -22,7 +22,7 @@ use Rattle.rx_search.specs.Search.{child}
 use Rattle.rx_search.specs.declared.node.Node.{Node}
 use Rattle.rx_search.specs.declared.node_choices.Trial.{Trial}
 use Rattle.rx_search.specs.declared.node_choices.Choices.{Choices}
-use Rattle.rx_visits.specs.Views.{seen_choice}
+use Rattle.rx_deepening.specs.Views.{seen_choice}
 
 module _ (parts : RuleParts) (goal : Equation) where
   -- the rules are well made and the goal fits them; the steps lead from it to the state, and no

@@ -14,13 +14,13 @@ use Rattle.rx_settle.specs.Settling as settling
 use Rattle.rx_search.specs.NodeNodes.{Node, is_closed, node_with}
 use Rattle.rx_search.specs.NodeNodes as nodes
 use Rattle.rx_search.specs.Menu.{Chosen, chosen, is_any_noted}
-use Rattle.rx_visits.specs.Outcomes.{outcome}
-use Rattle.rx_visits.specs.Visits.{all_visits}
-use Rattle.rx_visits.specs.declared.outcome.Outcome.{Outcome}
-use Rattle.rx_visits.specs.declared.outcome.Outcome.TheVariants as outcomes
-use Rattle.rx_visits.specs.declared.tree.Choice.{Choice}
-use Rattle.rx_visits.specs.declared.tree.Menu.{Menu}
-use Rattle.rx_visits.specs.declared.tree.Settled.{Settled}
+use Rattle.rx_deepening.specs.Outcomes.{outcome}
+use Rattle.rx_deepening.specs.Visits.{all_visits}
+use Rattle.rx_deepening.specs.declared.outcome.Outcome.{Outcome}
+use Rattle.rx_deepening.specs.declared.outcome.Outcome.TheVariants as outcomes
+use Rattle.rx_deepening.specs.declared.tree.Choice.{Choice}
+use Rattle.rx_deepening.specs.declared.tree.Menu.{Menu}
+use Rattle.rx_deepening.specs.declared.tree.Settled.{Settled}
 
 -- ---- nodes
 

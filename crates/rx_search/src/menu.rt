@@ -8,12 +8,13 @@ ghost use Rattle.rx_search.specs.Search.{menu};
 ghost use Rattle.rx_settle.specs.Settling.{rows_if};
 ghost use Rattle.rx_solve.specs.Answers.{IsSolver};
 ghost use Rattle.rx_term.specs.declared.rule.Equation.{Equation};
-ghost use Rattle.rx_visits.specs.Views.{seen_menu};
+ghost use Rattle.rx_deepening.specs.Views.{seen_menu};
 
 use crate::choices::find_choices;
 use crate::known::ChoiceMemo;
 use crate::node::{Node, copied_rows};
 use rx_cert::Cert;
+use rx_deepening::Menu;
 use rx_fm::FmEnd;
 use rx_has_ranks::RankMemo;
 use rx_pairs::Pair;
@@ -21,7 +22,6 @@ use rx_plain::{Items, NoMemory};
 use rx_row::{Constraint, Row};
 use rx_steps::State;
 use rx_term::RuleSet;
-use rx_visits::Menu;
 use std::alloc::Global;
 
 /// The rows of the first goal, where something was noted.

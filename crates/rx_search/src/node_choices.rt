@@ -4,10 +4,10 @@ ghost use Rattle.rx_search.specs.Calls.{led, with_choice};
 ghost use Rattle.rx_steps.specs.Alone.{onto};
 
 use crate::node::Node;
+use rx_deepening::Choice;
 use rx_inference::Step;
 use rx_plain::{Items, NoMemory, Shared};
 use rx_steps::State;
-use rx_visits::Choice;
 use std::alloc::Global;
 
 /// What is known of a choice at a goal: what comes of its step where the goal is alone.

@@ -8,13 +8,14 @@ ghost use Rattle.rx_settle.specs.Known.{AreKnown};
 ghost use Rattle.rx_solve.specs.Answers.{IsSolver};
 ghost use Rattle.rx_term.specs.declared.rule.Equation.{Equation};
 ghost use Rattle.rx_moves.specs.LoopPoints.{AreLoopPoints};
-ghost use Rattle.rx_visits.specs.Views.{seen_settled};
+ghost use Rattle.rx_deepening.specs.Views.{seen_settled};
 
 use crate::dropping::dropped;
 use crate::known::ChoiceMemo;
 use crate::menu::find_menu;
 use crate::node::{Node, is_closed, shared_steps};
 use rx_cert::Cert;
+use rx_deepening::{Menu, Settled, Tree};
 use rx_fm::FmEnd;
 use rx_has_ranks::RankMemo;
 use rx_inference::Step;
@@ -24,7 +25,6 @@ use rx_plain::{Items, NoMemory, Shared};
 use rx_row::{Constraint, Row};
 use rx_settle::{SettleMemo, settle};
 use rx_term::{Equation, RuleSet};
-use rx_visits::{Menu, Settled, Tree};
 use std::alloc::Global;
 
 /// Adds steps, which may be shared from then on.

@@ -18,9 +18,9 @@ ghost use Rattle.rx_search.specs.Search.{Closed, Large, of_outcome, searched, se
 ghost use Rattle.rx_solve.specs.Answers.{IsSolver};
 ghost use Rattle.rx_term.specs.declared.rule.Equation.{Equation};
 ghost use Rattle.rx_moves.specs.Moves.{move_of};
-ghost use Rattle.rx_visits.specs.Outcomes.{outcome};
-ghost use Rattle.rx_visits.specs.Views.{IfClosed, seen_outcome};
-ghost use Rattle.rx_visits.specs.Visits.{all_visits};
+ghost use Rattle.rx_deepening.specs.Outcomes.{outcome};
+ghost use Rattle.rx_deepening.specs.Views.{IfClosed, seen_outcome};
+ghost use Rattle.rx_deepening.specs.Visits.{all_visits};
 
 use crate::choices::MOST_STEPS;
 use crate::dropping::dropped;
@@ -29,6 +29,7 @@ use crate::plans::Plans;
 use crate::search_end::SearchEnd;
 use rx_cert::Cert;
 use rx_cover::CoverTree;
+use rx_deepening::{Note, Outcome};
 use rx_find_cover::find_cover;
 use rx_find_ranks::{Ranking, find_ranks_with};
 use rx_fm::FmEnd;
@@ -42,7 +43,6 @@ use rx_rank::PairMemo;
 use rx_row::{Constraint, Row};
 use rx_settle::SettleMemo;
 use rx_term::{Equation, Rule, RuleSet};
-use rx_visits::{Note, Outcome};
 use std::alloc::Global;
 use std::marker::Model;
 
@@ -94,7 +94,7 @@ fn visit_plans<S: FnMut(&Constraint) -> Result<Option<Cert>, FmEnd>>(
         rank_memo,
         solve,
     };
-    rx_visits::search(alloc, &mut plans, start, depth, budget, most_kept)
+    rx_deepening::search(alloc, &mut plans, start, depth, budget, most_kept)
 }
 
 /// Trees that cover the rules; as the rules are coverable, only running out of memory prevents it.

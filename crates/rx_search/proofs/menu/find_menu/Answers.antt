@@ -1,6 +1,6 @@
 -- The menu is what was found, or none.
 use Rattle.std.proofs.Common.{◌∙◌, None, map, sym}
-use Rattle.rx_visits.specs.Views.{seen_choice}
+use Rattle.rx_deepening.specs.Views.{seen_choice}
 use Rattle.rx_search.specs.Calls.{node_of}
 use Rattle.rx_search.proofs.Menus.{first_open, menu_found, menu_over}
 use Rattle.rx_search.proofs.menu.find_menu.Goals as goal

@@ -9,8 +9,8 @@ use Rattle.rx_search.specs.Nodes.{IsNode}
 use Rattle.rx_search.specs.Search.{settled}
 use Rattle.rx_search.proofs.Settled.{settled_node, settled_seen}
 use Rattle.rx_search.proofs.plans.settle_node.Goals as goal
-use Rattle.rx_visits.specs.Views.{seen_settled}
-use Rattle.rx_visits.specs.declared.tree.Settled.{Settled}
+use Rattle.rx_deepening.specs.Views.{seen_settled}
+use Rattle.rx_deepening.specs.declared.tree.Settled.{Settled}
 
 pub returns-in-Ok-clause-settled : goal.returns-in-Ok-clause-settled
 returns-in-Ok-clause-settled g c =
