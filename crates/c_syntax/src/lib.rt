@@ -1,13 +1,11 @@
-//! Reading expressions: the tokens at a place, and the tree of the expression that begins there.
+//! The grammar of expressions, statements, functions, prototypes and programs, and the readers of
+//! expressions and statements: from the tokens at a place to the tree of the phrase that begins
+//! there.
 //!
-//! Each reader answers the one phrase that the tokens spell from its place on within its room, or
-//! nothing. It stops where no operator goes on, so that what it read is all that can be read there.
-//!
-//! Reading statements, and the grammar of statements, functions, prototypes and programs.
-//!
-//! Each reader answers the one phrase that the tokens spell from its place on, none of its
-//! statements higher than its room, or nothing. A block is read item by item, so that `item` can be
-//! called for each of them alone.
+//! Each reader answers the one phrase that the tokens spell from its place on, nothing in it higher
+//! than its room, or nothing. An expression stops where no operator goes on, so that what was read
+//! is all that can be read there. A block is read item by item, so that `item` can be called for
+//! each of them alone.
 #![tactic(auto)]
 
 mod changes;
