@@ -11,7 +11,7 @@ ghost use Rattle.c_parse.specs.Readers.{LowExternal};
 
 use c_ast::{Function, Prototype, Stmt};
 use c_lex::{Keyword, Mark, Token, TokenKind};
-use c_syntax::{External, Span, has_keyword, has_mark, has_name, inner};
+use c_syntax::{External, Span, block_items, has_keyword, has_mark, has_name};
 use rx_plain::{Items, NoMemory};
 use std::alloc::Global;
 
@@ -239,5 +239,5 @@ fn block(alloc: Global, tokens: &[Token], at: usize) -> Result<Option<Span<Items
     if !has_mark(tokens, at, Mark::LeftBrace) {
         return Ok(None);
     }
-    inner(alloc, tokens, at + 1, MAX_HEIGHT)
+    block_items(alloc, tokens, at + 1, MAX_HEIGHT)
 }

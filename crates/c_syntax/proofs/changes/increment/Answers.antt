@@ -1,6 +1,6 @@
 use Rattle.std.proofs.Common.{refl, arith}
 use Rattle.c_syntax.proofs.ChangeLemmas.{step_reads}
-use Rattle.c_syntax.proofs.changes.stepped.Goals as goal
+use Rattle.c_syntax.proofs.changes.increment.Goals as goal
 
 pub returns : goal.returns
 returns c =

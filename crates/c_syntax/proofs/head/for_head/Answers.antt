@@ -7,7 +7,7 @@ use Rattle.c_syntax.specs.Heights.{list_height}
 use Rattle.c_syntax.specs.Readers.{Gives, IsNoHigher}
 use Rattle.c_syntax.proofs.Lookahead.{kind_within}
 use Rattle.c_syntax.proofs.HeadLemmas.{head_startless, head_testless, head_changeless, head_reads}
-use Rattle.c_syntax.proofs.head.head.Goals as goal
+use Rattle.c_syntax.proofs.head.for_head.Goals as goal
 
 pub for_init-requires-clause-inside : goal.for_init-requires-clause-inside
 for_init-requires-clause-inside c =

@@ -2,7 +2,7 @@ use Rattle.std.proofs.Common.{suc, Some, refl}
 use Rattle.c_syntax.specs.Grammar.{Expression, levels}
 use Rattle.c_syntax.specs.Readers.{Reads}
 use Rattle.c_syntax.proofs.DelimitedLemmas.{up_to_ends, up_to_misses}
-use Rattle.c_syntax.proofs.delimited.up_to.Goals as goal
+use Rattle.c_syntax.proofs.delimited.expression_until.Goals as goal
 
 pub returns-then-has_mark : goal.returns-then-has_mark
 returns-then-has_mark c =

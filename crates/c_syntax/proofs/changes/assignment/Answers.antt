@@ -9,7 +9,7 @@ use Rattle.c_syntax.specs.Readers.{Gives, IsNoHigher}
 use Rattle.c_syntax.proofs.Lookahead.{kind_within}
 use Rattle.c_syntax.proofs.Building.{built_none, built_some}
 use Rattle.c_syntax.proofs.ChangeLemmas.{changing_within, builds_value, builds_update}
-use Rattle.c_syntax.proofs.changes.assigned.Goals as goal
+use Rattle.c_syntax.proofs.changes.assignment.Goals as goal
 
 pub overflow_add-at : goal.overflow_add-at
 overflow_add-at c =
@@ -21,8 +21,8 @@ overflow_add-at-then-has_mark c =
     let within : c.args.at < length c.args.tokens.now =
     kind_within c.args.tokens.now c.args.at Name c.requires.named in omega arith
 
-pub up_to-requires-clause-inside : goal.up_to-requires-clause-inside
-up_to-requires-clause-inside c =
+pub expression_until-requires-clause-inside : goal.expression_until-requires-clause-inside
+expression_until-requires-clause-inside c =
     let within : c.args.at + 1 < length c.args.tokens.now =
     kind_within c.args.tokens.now (c.args.at + 1) (Mark AssignMark) c.if-has_mark.ensures in
     omega arith
@@ -37,8 +37,8 @@ overflow_add-at-3 c =
     let within : c.args.at < length c.args.tokens.now =
     kind_within c.args.tokens.now c.args.at Name c.requires.named in omega arith
 
-pub up_to-requires-2-clause-inside : goal.up_to-requires-2-clause-inside
-up_to-requires-2-clause-inside c =
+pub expression_until-requires-2-clause-inside : goal.expression_until-requires-2-clause-inside
+expression_until-requires-2-clause-inside c =
     let within : c.args.at + 1 < length c.args.tokens.now =
     changing_within c.args.tokens.now (c.args.at + 1) (update c.in-Some-update_at.op)
     c.in-Some-update_at.ensures in omega arith
