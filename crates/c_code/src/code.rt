@@ -51,7 +51,7 @@ pub enum Work {
 
 /// What is done with a value, and where it goes on.
 #[derive(Clone, Copy)]
-pub enum Sink {
+pub enum Destination {
     /// The value is pushed on top of the values.
     Push(usize),
     /// It goes on at the first position where the value is 0, and else at the second.
@@ -82,7 +82,7 @@ pub struct Exits {
 #[derive(Clone, Copy)]
 pub enum Op<'a> {
     /// A value is made, and something is done with it.
-    Do(Work, Sink),
+    Do(Work, Destination),
     /// An operator between two leaves is made: it goes on at the first position where the value is
     /// 0, and else at the second.
     Test(Inner, usize, usize),
