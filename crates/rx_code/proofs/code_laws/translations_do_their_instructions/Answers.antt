@@ -1,5 +1,5 @@
 use Rattle.rx_code.proofs.CodeLawsTranslations.{translation_does}
-use Rattle.rx_code.proofs.code_laws.translations_do_their_deeds.Goals as goal
+use Rattle.rx_code.proofs.code_laws.translations_do_their_instructions.Goals as goal
 
 pub returns : goal.returns
 returns c =
