@@ -1,4 +1,4 @@
-//! Places in the order of the lines of a log.
+//! Which line of a log may come next.
 ghost use Rattle.std.specs.Prelude.{◌≡◌};
 ghost use Rattle.rx_log.specs.Places as spec;
 
@@ -6,7 +6,7 @@ use crate::line::Line;
 
 /// Where a reader of a log is: which lines may come next.
 #[derive(Clone, Copy, Debug, PartialEq, Eq)]
-pub enum Place {
+pub enum LineState {
     /// Before the first line.
     AtHeader,
     /// Among the covers; that of the symbol with this number is next, if any.
@@ -27,29 +27,29 @@ pub enum Place {
 }
 
 /// The place after a line that comes first.
-fn after_header(line: &Line) -> Option<Place>
+fn after_header(line: &Line) -> Option<LineState>
     ensures { result ≡ spec.after_header line.now }
 {
     match line {
-        Line::Header => Some(Place::InCovers(0)),
+        Line::Header => Some(LineState::InCovers(0)),
         _ => None,
     }
 }
 
 /// The place after a line that comes where the cover of the symbol with the number `next` may come.
-fn after_covers(next: u64, line: &Line, symbol: u32) -> Option<Place>
+fn after_covers(next: u64, line: &Line, symbol: u32) -> Option<LineState>
     ensures { result ≡ spec.after_covers next line.now symbol }
 {
     match line {
         Line::Cover(_) => {
             if symbol as u64 == next {
-                Some(Place::InCovers(symbol as u64 + 1))
+                Some(LineState::InCovers(symbol as u64 + 1))
             } else {
                 None
             }
         }
-        Line::Step(_) => Some(Place::InSteps),
-        Line::Ranks(columns) => Some(Place::InRanks {
+        Line::Step(_) => Some(LineState::InSteps),
+        Line::Ranks(columns) => Some(LineState::InRanks {
             columns: *columns,
             next: 0,
         }),
@@ -58,12 +58,12 @@ fn after_covers(next: u64, line: &Line, symbol: u32) -> Option<Place>
 }
 
 /// The place after a line that comes after a step.
-fn after_steps(line: &Line) -> Option<Place>
+fn after_steps(line: &Line) -> Option<LineState>
     ensures { result ≡ spec.after_steps line.now }
 {
     match line {
-        Line::Step(_) => Some(Place::InSteps),
-        Line::Ranks(columns) => Some(Place::InRanks {
+        Line::Step(_) => Some(LineState::InSteps),
+        Line::Ranks(columns) => Some(LineState::InRanks {
             columns: *columns,
             next: 0,
         }),
@@ -72,25 +72,25 @@ fn after_steps(line: &Line) -> Option<Place>
 }
 
 /// The place after a line that comes after the certificates of a pair.
-fn after_pairs(line: &Line) -> Option<Place>
+fn after_pairs(line: &Line) -> Option<LineState>
     ensures { result ≡ spec.after_pairs line.now }
 {
     match line {
-        Line::Pair(_) => Some(Place::InPairs),
-        Line::End => Some(Place::Finished),
+        Line::Pair(_) => Some(LineState::InPairs),
+        Line::End => Some(LineState::Finished),
         _ => None,
     }
 }
 
 /// The place after a line that comes where the rank of the symbol with the number `next` may come,
 /// in n columns.
-fn after_ranks(columns: u32, next: u64, line: &Line, symbol: u32) -> Option<Place>
+fn after_ranks(columns: u32, next: u64, line: &Line, symbol: u32) -> Option<LineState>
     ensures { result ≡ spec.after_ranks columns next line.now symbol }
 {
     match line {
         Line::Rank(rank) => {
             if symbol as u64 == next && rank.len() == columns as usize {
-                Some(Place::InRanks {
+                Some(LineState::InRanks {
                     columns,
                     next: symbol as u64 + 1,
                 })
@@ -102,19 +102,19 @@ fn after_ranks(columns: u32, next: u64, line: &Line, symbol: u32) -> Option<Plac
     }
 }
 
-impl Place {
+impl LineState {
     /// The place after a line that comes here, with the number of the symbol in it; None where no
     /// such line may come.
-    pub fn after(self, line: &Line, symbol: u32) -> Option<Place>
+    pub fn after(self, line: &Line, symbol: u32) -> Option<LineState>
         ensures { result ≡ spec.after self (line.now, symbol) }
     {
         match self {
-            Place::AtHeader => after_header(line),
-            Place::InCovers(next) => after_covers(next, line, symbol),
-            Place::InSteps => after_steps(line),
-            Place::InRanks { columns, next } => after_ranks(columns, next, line, symbol),
-            Place::InPairs => after_pairs(line),
-            Place::Finished => None,
+            LineState::AtHeader => after_header(line),
+            LineState::InCovers(next) => after_covers(next, line, symbol),
+            LineState::InSteps => after_steps(line),
+            LineState::InRanks { columns, next } => after_ranks(columns, next, line, symbol),
+            LineState::InPairs => after_pairs(line),
+            LineState::Finished => None,
         }
     }
 }
