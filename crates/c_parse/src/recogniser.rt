@@ -76,9 +76,9 @@ fn feed(stack: &mut Vec<Symbol>, kind: Option<TokenKind>) -> Result<bool, NoMemo
 {
     while let Some(symbol) = stack.pop() {
         match act(stack, symbol, kind)? {
-            Step::Taken => return Ok(true),
-            Step::Skipped => {}
-            Step::Lost => return Ok(false),
+            Step::Shifted => return Ok(true),
+            Step::Popped => {}
+            Step::Rejected => return Ok(false),
         }
     }
     match kind {

@@ -110,7 +110,8 @@ impl Replayer {
     fn judge(&mut self, alloc: Global, rules: &RuleSet, line: Line) -> Result<(), NoMemory>
         requires roots { HasRoots self.old }
         ensures stands { OnOk result ((goal : Equation) (log : Log) (symbol : ℕ)
-            (behind : LineState) → Stands rules.now goal self.old.place log self.old.progress self.old.failure →
+            (behind : LineState) →
+            Stands rules.now goal self.old.place log self.old.progress self.old.failure →
             after self.old.place (line, symbol) ≡ Some behind →
             Stands rules.now goal behind (pushed line log) self.new.progress self.new.failure) }
         ensures place { self.new.place ≡ self.old.place }

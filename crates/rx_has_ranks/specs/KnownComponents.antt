@@ -1,14 +1,14 @@
--- What is kept of graphs of pairs: the names of their components, which are right.
+-- What is kept of graphs of pairs: the representatives of their components, which are right.
 use Rattle.std.specs.Prelude.{◌≡◌, ◌==◌, ◌&&◌, ℕ, Bool, true, false, List, [], ◌∷◌, map}
 use Rattle.rx_pairs.specs.declared.pair.Pair.{Pair}
 use Rattle.rx_anchors.specs.Members.{symbols_of}
 use Rattle.rx_rank.specs.Components.{component_of}
-use Rattle.rx_has_ranks.specs.declared.names_memo.KnownNames.{KnownNames}
+use Rattle.rx_has_ranks.specs.declared.components_memo.KnownComponents.{KnownComponents}
 
--- the names that are kept are those of the components
-abbrev pub AreNames : KnownNames → Type 0
-AreNames known =
-    known.names.items ≡ map (component_of known.symbols known.edges.items)
+-- the representatives that are kept are those of the components
+abbrev pub AreRepresentatives : KnownComponents → Type 0
+AreRepresentatives known =
+    known.representatives.items ≡ map (component_of known.symbols known.edges.items)
     (symbols_of known.symbols)
 
 -- the edges are those of the pairs, in order

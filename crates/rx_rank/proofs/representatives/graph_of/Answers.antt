@@ -8,7 +8,7 @@ use Rattle.rx_pairs.specs.Graph.{edges_of}
 use Rattle.rx_pairs.specs.declared.pair.Pair.{Pair}
 use Rattle.rx_rank.specs.Answers.{pairs_at}
 use Rattle.rx_rank.proofs.LentPairs.{lent_count, lent_pair}
-use Rattle.rx_rank.proofs.names.graph_of.Goals as goal
+use Rattle.rx_rank.proofs.representatives.graph_of.Goals as goal
 
 pub add-requires : goal.add-requires
 add-requires c =

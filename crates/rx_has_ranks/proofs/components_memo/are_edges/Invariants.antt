@@ -1,8 +1,8 @@
 -- What is left decides.
 use Rattle.std.proofs.Common.{◌≡◌, drop, length}
 use Rattle.rx_rank.specs.Answers.{pairs_at}
-use Rattle.rx_has_ranks.specs.KnownNames.{same_edges}
-use Rattle.rx_has_ranks.proofs.names_memo.are_edges.Given as goal
+use Rattle.rx_has_ranks.specs.KnownComponents.{same_edges}
+use Rattle.rx_has_ranks.proofs.components_memo.are_edges.Given as goal
 
 abbrev pub invariant-loop-at : goal.invariant-loop-at
 invariant-loop-at l = record {

@@ -2,8 +2,8 @@
 use Rattle.std.proofs.Common.{arith}
 use Rattle.rx_rank.specs.Answers.{pairs_at}
 use Rattle.rx_rank.proofs.LentPairs.{lent_count}
-use Rattle.rx_has_ranks.proofs.KeptNames.{lengths_tell}
-use Rattle.rx_has_ranks.proofs.names_memo.are_edges.Goals as goal
+use Rattle.rx_has_ranks.proofs.KeptComponents.{lengths_tell}
+use Rattle.rx_has_ranks.proofs.components_memo.are_edges.Goals as goal
 
 pub returns-then-edges-pairs : goal.returns-then-edges-pairs
 returns-then-edges-pairs c =

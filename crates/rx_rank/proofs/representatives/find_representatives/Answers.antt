@@ -2,7 +2,7 @@
 use Rattle.std.proofs.Common.{arith}
 use Rattle.rx_rank.specs.Answers.{pairs_at}
 use Rattle.rx_rank.proofs.NameLaws.{names_at, rows_by}
-use Rattle.rx_rank.proofs.names.find_names.Goals as goal
+use Rattle.rx_rank.proofs.representatives.find_representatives.Goals as goal
 
 pub components-requires : goal.components-requires
 components-requires c =

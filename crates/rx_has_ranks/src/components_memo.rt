@@ -1,43 +1,43 @@
-//! The names of components, from one ranking to the next: the graphs of open pairs have the same
-//! edges often, as the hypotheses' pairs fall by heights.
+//! The representatives of components, from one ranking to the next: the graphs of open pairs have
+//! the same edges often, as the hypotheses' pairs fall by heights.
 ghost use Rattle.std.specs.Prelude.{◌≡◌, ◌+◌, ◌≤◌, ◌^◌, All, IfOk, IfSome, option_copied};
 ghost use Rattle.rx_graph.specs.Graph.{IsOver};
 ghost use Rattle.rx_pairs.specs.Graph.{edges_of};
 ghost use Rattle.rx_rank.specs.Answers.{pairs_at};
-ghost use Rattle.rx_rank.specs.Components.{names_of};
-ghost use Rattle.rx_has_ranks.specs.KnownNames.{AreNames, same_edges};
+ghost use Rattle.rx_rank.specs.Components.{representatives_of};
+ghost use Rattle.rx_has_ranks.specs.KnownComponents.{AreRepresentatives, same_edges};
 
 use rx_pairs::Pair;
 use rx_plain::NoMemory;
-use rx_rank::find_names;
+use rx_rank::find_representatives;
 use std::alloc::Global;
 use std::marker::Model;
 
-/// Of how many graphs names are kept at most.
+/// Of how many graphs the components are kept at most.
 const MOST_GRAPHS: usize = 256;
 
-/// A graph that was met, with the names of its components.
+/// A graph that was met, with the representatives of its components.
 #[derive(Drop)]
-pub(crate) struct KnownNames {
+pub(crate) struct KnownComponents {
     /// How many symbols there are.
     pub(crate) symbols: usize,
     /// Its edges, one for each pair.
     pub(crate) edges: Vec<(u32, u32)>,
-    /// By symbol the least symbol of its component.
-    pub(crate) names: Vec<u32>,
+    /// By symbol the representative of its component, which is its least symbol.
+    pub(crate) representatives: Vec<u32>,
 }
 
-/// The names of components that were found, of at most 256 graphs. They may be used with any rules;
+/// The components that were found, of at most 256 graphs. They may be used with any rules;
 /// contracts see the number of the graphs.
 #[derive(Drop)]
-pub(crate) struct NamesMemo {
-    known: Vec<KnownNames>,
+pub(crate) struct ComponentsMemo {
+    known: Vec<KnownComponents>,
 }
 
-impl Model for NamesMemo {
+impl Model for ComponentsMemo {
     ghost use Rattle.std.specs.Prelude.{All, ℕ, length};
     ghost use Rattle.std.specs.Coded.{coded_ℕ};
-    ghost use Rattle.rx_has_ranks.specs.KnownNames.{AreNames};
+    ghost use Rattle.rx_has_ranks.specs.KnownComponents.{AreRepresentatives};
 
     ghost Value = { ℕ };
 
@@ -45,7 +45,7 @@ impl Model for NamesMemo {
 
     ghost view = { λ m. length m.known.items };
 
-    ghost invariant = { λ m. All AreNames m.known.items };
+    ghost invariant = { λ m. All AreRepresentatives m.known.items };
 }
 
 /// Whether these are the edges of the pairs, in order.
@@ -75,14 +75,14 @@ fn edges_of(alloc: Global, pairs: &[&Pair]) -> Result<Vec<(u32, u32)>, NoMemory>
     Ok(edges)
 }
 
-/// The names that are kept of the graph of the pairs, if it was met.
+/// The components that are kept of the graph of the pairs, if it was met.
 fn find_known<'a>(
-    known: &'a [KnownNames],
+    known: &'a [KnownComponents],
     symbols: usize,
     pairs: &[&Pair],
-) -> Option<&'a KnownNames>
-    ensures { All AreNames known.now → IfSome (option_copied result) (λ one.
-        one.names.items ≡ names_of symbols (pairs_at pairs.now)) }
+) -> Option<&'a KnownComponents>
+    ensures { All AreRepresentatives known.now → IfSome (option_copied result) (λ one.
+        one.representatives.items ≡ representatives_of symbols (pairs_at pairs.now)) }
 {
     for one in known {
         if one.symbols == symbols && are_edges(one.edges.as_slice(), pairs) {
@@ -92,42 +92,43 @@ fn find_known<'a>(
     None
 }
 
-/// Keeps the names of the components of the graph of the pairs, where there is room for them.
-fn keep_names(
-    memo: &mut NamesMemo,
+/// Keeps the representatives of the components of the graph of the pairs, where there is room for
+/// them.
+fn keep_representatives(
+    memo: &mut ComponentsMemo,
     alloc: Global,
     symbols: usize,
     pairs: &[&Pair],
     names: &[u32],
 ) -> Result<(), NoMemory>
-    requires { names.now ≡ names_of symbols (pairs_at pairs.now) }
+    requires { names.now ≡ representatives_of symbols (pairs_at pairs.now) }
     ensures { memo.new ≤ memo.old + 1 }
 {
     if memo.known.len() >= MOST_GRAPHS {
         return Ok(());
     }
     let edges = edges_of(alloc, pairs)?;
-    let names = Vec::from_slice(alloc, names)?;
-    memo.known.push(KnownNames {
+    let representatives = Vec::from_slice(alloc, names)?;
+    memo.known.push(KnownComponents {
         symbols,
         edges,
-        names,
+        representatives,
     })?;
     Ok(())
 }
 
-impl NamesMemo {
+impl ComponentsMemo {
     /// Nothing is found out yet. Takes no memory.
-    pub(crate) fn new(alloc: Global) -> NamesMemo
+    pub(crate) fn new(alloc: Global) -> ComponentsMemo
         ensures { result ≡ 0 }
     {
-        NamesMemo {
+        ComponentsMemo {
             known: Vec::new(alloc),
         }
     }
 
-    /// By symbol the least symbol of its component; they are kept where they are new.
-    pub(crate) fn names(
+    /// By symbol the representative of its component; they are kept where they are new.
+    pub(crate) fn representatives(
         &mut self,
         alloc: Global,
         symbols: usize,
@@ -135,13 +136,13 @@ impl NamesMemo {
     ) -> Result<Vec<u32>, NoMemory>
         requires over { IsOver symbols (edges_of (pairs_at pairs.now)) }
         requires few { symbols ≤ 2 ^ 32 }
-        ensures names { IfOk result (λ names. names.items ≡ names_of symbols (pairs_at pairs.now)) }
+        ensures names { IfOk result (λ names. names.items ≡ representatives_of symbols (pairs_at pairs.now)) }
     {
         if let Some(one) = find_known(self.known.as_slice(), symbols, pairs) {
-            return Ok(Vec::from_slice(alloc, one.names.as_slice())?);
+            return Ok(Vec::from_slice(alloc, one.representatives.as_slice())?);
         }
-        let names = find_names(alloc, symbols, pairs)?;
-        keep_names(self, alloc, symbols, pairs, names.as_slice())?;
+        let names = find_representatives(alloc, symbols, pairs)?;
+        keep_representatives(self, alloc, symbols, pairs, names.as_slice())?;
         Ok(names)
     }
 }

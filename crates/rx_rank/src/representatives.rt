@@ -1,9 +1,9 @@
-//! The components of the graph of borrowed pairs, each named by its least symbol.
+//! The components of the graph of borrowed pairs, each with its least symbol as representative.
 ghost use Rattle.std.specs.Prelude.{◌≡◌, ◌≤◌, ◌^◌, IfOk};
 ghost use Rattle.rx_graph.specs.Graph.{IsClosed, IsGraphOf, IsOver, rows_of};
 ghost use Rattle.rx_pairs.specs.Graph.{edges_of};
 ghost use Rattle.rx_rank.specs.Answers.{pairs_at};
-ghost use Rattle.rx_rank.specs.Components.{is_inside, names_of};
+ghost use Rattle.rx_rank.specs.Components.{is_inside, representatives_of};
 
 use rx_anchors::is_member;
 use rx_graph::Graph;
@@ -25,12 +25,16 @@ pub fn graph_of(alloc: Global, symbols: usize, pairs: &[&Pair]) -> Result<Graph,
     Ok(graph)
 }
 
-/// By symbol the least symbol of its component in the graph of the pairs; fails only where there is
-/// no memory.
-pub fn find_names(alloc: Global, symbols: usize, pairs: &[&Pair]) -> Result<Vec<u32>, NoMemory>
+/// By symbol the representative of its component in the graph of the pairs, which is the least
+/// symbol of the component; fails only where there is no memory.
+pub fn find_representatives(
+    alloc: Global,
+    symbols: usize,
+    pairs: &[&Pair],
+) -> Result<Vec<u32>, NoMemory>
     requires over { IsOver symbols (edges_of (pairs_at pairs.now)) }
     requires few { symbols ≤ 2 ^ 32 }
-    ensures { IfOk result (λ names. names.items ≡ names_of symbols (pairs_at pairs.now)) }
+    ensures { IfOk result (λ names. names.items ≡ representatives_of symbols (pairs_at pairs.now)) }
 {
     let graph = graph_of(alloc, symbols, pairs)?;
     let names = graph.components(alloc)?;

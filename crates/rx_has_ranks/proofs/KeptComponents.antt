@@ -4,9 +4,9 @@ use Rattle.std.proofs.lemmas.Bool.{and_parts, eqb-true}
 use Rattle.rx_pairs.specs.Graph.{edges_of}
 use Rattle.rx_pairs.specs.declared.pair.Pair.{Pair}
 use Rattle.rx_anchors.specs.Members.{symbols_of}
-use Rattle.rx_rank.specs.Components.{component_of, names_of}
-use Rattle.rx_has_ranks.specs.KnownNames.{AreNames, same_edges}
-use Rattle.rx_has_ranks.specs.declared.names_memo.KnownNames.{KnownNames}
+use Rattle.rx_rank.specs.Components.{component_of, representatives_of}
+use Rattle.rx_has_ranks.specs.KnownComponents.{AreRepresentatives, same_edges}
+use Rattle.rx_has_ranks.specs.declared.components_memo.KnownComponents.{KnownComponents}
 
 -- lists of two lengths aren't the same
 pub lengths_tell : (edges : List (ℕ × ℕ)) (pairs : List Pair) → (length edges ≡ length pairs → ⊥) →
@@ -35,8 +35,9 @@ edges_tell (e ∷ es) (pair ∷ pairs) same =
     edges_tell es pairs both.1 i
 
 -- what is kept of the graph of the pairs is right
-pub names_known : (known : KnownNames) (pairs : List Pair) → AreNames known →
-    same_edges known.edges.items pairs ≡ true → known.names.items ≡ names_of known.symbols pairs
+pub names_known : (known : KnownComponents) (pairs : List Pair) → AreRepresentatives known →
+    same_edges known.edges.items pairs ≡ true → known.representatives.items ≡ representatives_of
+    known.symbols pairs
 names_known known pairs right same =
     right ∙ ap (λ es. map (component_of known.symbols es) (symbols_of known.symbols))
     (edges_tell known.edges.items pairs same)
