@@ -1,9 +1,9 @@
 //! How far visits have come.
 ghost use Rattle.std.specs.Prelude.{◌≡◌, ◌↔◌, ◌<◌, ◌-◌, IsTrue};
 ghost use Rattle.std.specs.Option.{option_map};
-ghost use Rattle.rx_deepening.specs.Tallies.{GoesOn, begin, outcome_by, stopped};
-ghost use Rattle.rx_deepening.specs.Tallies.{visited, visited_open};
-ghost use Rattle.rx_deepening.specs.declared.tally.Ended.TheVariants.{Going};
+ghost use Rattle.rx_deepening.specs.Counters.{GoesOn, begin, outcome_by, stopped};
+ghost use Rattle.rx_deepening.specs.Counters.{visited, visited_open};
+ghost use Rattle.rx_deepening.specs.declared.counter.Ended.TheVariants.{Going};
 
 use crate::outcome::{Note, Outcome};
 use rx_plain::Items;
@@ -21,7 +21,7 @@ pub(crate) enum Ended<N> {
 
 /// The visits so far.
 #[derive(Drop)]
-pub(crate) struct Tally<N, R> {
+pub(crate) struct Counter<N, R> {
     /// How many more the budget has.
     pub left: u32,
     /// The first note.
@@ -42,10 +42,10 @@ pub(crate) fn is_going<N>(ended: &Ended<N>) -> bool
 }
 
 /// No visit is made yet.
-pub(crate) fn begin<N, R>(budget: u32) -> Tally<N, R>
+pub(crate) fn begin<N, R>(budget: u32) -> Counter<N, R>
     ensures { result ≡ begin budget }
 {
-    Tally {
+    Counter {
         left: budget,
         note: None,
         ended: Ended::Going,
@@ -53,24 +53,24 @@ pub(crate) fn begin<N, R>(budget: u32) -> Tally<N, R>
 }
 
 /// Whether another visit is made: the visits go on, and the budget has one more.
-pub(crate) fn may_visit<N, R>(tally: &Tally<N, R>) -> bool
-    ensures { IsTrue result ↔ GoesOn tally.now }
+pub(crate) fn may_visit<N, R>(counter: &Counter<N, R>) -> bool
+    ensures { IsTrue result ↔ GoesOn counter.now }
 {
-    is_going(&tally.ended) && tally.left > 0
+    is_going(&counter.ended) && counter.left > 0
 }
 
 /// The visits where another one isn't made: there are more than the budget, unless they had ended.
-pub(crate) fn stop<N, R>(tally: Tally<N, R>) -> Tally<N, R>
-    ensures { result ≡ stopped tally.ended tally }
+pub(crate) fn stop<N, R>(counter: Counter<N, R>) -> Counter<N, R>
+    ensures { result ≡ stopped counter.ended counter }
 {
-    let Tally { left, note, ended } = tally;
+    let Counter { left, note, ended } = counter;
     match ended {
-        Ended::Going => Tally {
+        Ended::Going => Counter {
             left: 0,
             note,
             ended: Ended::Over,
         },
-        ended => Tally { left, note, ended },
+        ended => Counter { left, note, ended },
     }
 }
 
@@ -86,30 +86,30 @@ fn with_path<R>(path: Items<u8>, note: Option<R>) -> Option<Note<R>>
 
 /// One more visit within the budget, of a node that isn't closed.
 pub(crate) fn count_open<N: Drop, R: Drop>(
-    tally: Tally<N, R>,
+    counter: Counter<N, R>,
     path: Items<u8>,
     note: Option<R>,
-) -> Tally<N, R>
-    requires { 0 < tally.left }
-    ensures { result ≡ visited_open (tally.left - 1) tally path note }
+) -> Counter<N, R>
+    requires { 0 < counter.left }
+    ensures { result ≡ visited_open (counter.left - 1) counter path note }
 {
-    Tally {
-        left: tally.left - 1,
-        note: tally.note.or(with_path(path, note)),
+    Counter {
+        left: counter.left - 1,
+        note: counter.note.or(with_path(path, note)),
         ended: Ended::Going,
     }
 }
 
 /// One more visit, within the budget.
 pub(crate) fn count<N: Drop, R: Drop>(
-    tally: Tally<N, R>,
+    counter: Counter<N, R>,
     path: Items<u8>,
     node: N,
     closed: bool,
     note: Option<R>,
-) -> Tally<N, R>
-    requires { 0 < tally.left }
-    ensures { result ≡ visited (tally.left - 1) tally
+) -> Counter<N, R>
+    requires { 0 < counter.left }
+    ensures { result ≡ visited (counter.left - 1) counter
         (record { path = path; node = node; closed = closed; note = note }) }
 {
     let ended = if closed {
@@ -117,15 +117,15 @@ pub(crate) fn count<N: Drop, R: Drop>(
     } else {
         Ended::Going
     };
-    let Tally { left, note, .. } = count_open(tally, path, note);
-    Tally { left, note, ended }
+    let Counter { left, note, .. } = count_open(counter, path, note);
+    Counter { left, note, ended }
 }
 
 /// What the visits come to.
-pub(crate) fn outcome_of<N: Drop, R: Drop>(tally: Tally<N, R>) -> Outcome<N, R>
-    ensures { result ≡ outcome_by tally.ended tally.note }
+pub(crate) fn outcome_of<N: Drop, R: Drop>(counter: Counter<N, R>) -> Outcome<N, R>
+    ensures { result ≡ outcome_by counter.ended counter.note }
 {
-    match (tally.ended, tally.note) {
+    match (counter.ended, counter.note) {
         (Ended::Found(node), _) => Outcome::Closed(node),
         (_, Some(note)) => Outcome::Noted(note),
         (Ended::Going, None) => Outcome::Through,
