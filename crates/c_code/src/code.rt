@@ -91,9 +91,11 @@ pub enum Op<'a> {
     /// It goes on at the first position where the first slot's value is less than the second's, and
     /// else at the second.
     LessSlot(u32, u32, usize, usize),
-    /// The same for a slot's value and an integer.
+    /// It goes on at the first position where the slot's value is less than the integer, and else
+    /// at the second.
     LessLiteral(u32, i64, usize, usize),
-    /// The same for an integer and a slot's value.
+    /// It goes on at the first position where the integer is less than the slot's value, and else
+    /// at the second.
     LiteralLess(i64, u32, usize, usize),
     /// An integer is added to the value of a slot.
     Raise(u32, i64, usize),

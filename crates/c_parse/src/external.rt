@@ -114,7 +114,7 @@ fn names_of(alloc: Global, params: &ParameterList) -> Result<Option<Items<u32>>,
     }
 }
 
-// The same of a list of parameters.
+// The names of a list of parameters, where each has one.
 fn all_names(alloc: Global, listed: &[Option<u32>]) -> Result<Option<Items<u32>>, NoMemory>
     ensures { IfOk result (λ names. names ≡ all_names listed.now) }
 {

@@ -53,9 +53,9 @@ pub enum Symbol {
     Parameters,
     /// A parameter and what comes after it, to the end of the function or prototype.
     Parameter(Naming),
-    /// The same from after the parameter's `int` on.
+    /// What comes after the `int` of a parameter, to the end of the function or prototype.
     ParameterName(Naming),
-    /// The same from after the parameter on.
+    /// What comes after a parameter, to the end of the function or prototype.
     MoreParameters(Naming),
     /// The block of a function, or the semicolon of a prototype.
     Body,
