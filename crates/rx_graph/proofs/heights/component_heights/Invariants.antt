@@ -1,6 +1,6 @@
 -- The heights of the first n labels.
 use Rattle.std.proofs.Common.{◌≡◌, ◌<◌, ℕ, get_or, length}
-use Rattle.rx_graph.proofs.heights.named_heights.Given as goal
+use Rattle.rx_graph.proofs.heights.component_heights.Given as goal
 
 abbrev pub invariant-loop-label : goal.invariant-loop-label
 invariant-loop-label l = record {
