@@ -35,5 +35,5 @@ returns-in-Ok-clause-accepted g c =
     c.in-Closed.is c.in_ok-outcome.ensures.node))
 
 pub returns-in-Ok-clause-columns : goal.returns-in-Ok-clause-columns
-returns-in-Ok-clause-columns g c = 
+returns-in-Ok-clause-columns g c =
     subst (λ (log : Log). HasColumns log.table) (sym c.dropped.ensures) c.in-Ok.ensures.columns
