@@ -33,10 +33,11 @@ pub fn covered(alloc: Global, set: &RuleSet, given: &str) -> Option<Answer> {
     }
 }
 
-// What is said of pairs.
+// What is said of ranks and pairs.
 fn said(alloc: Global, answer: Result<(), PairEnd>) -> Option<Answer> {
     match answer {
         Ok(()) => Some(Answer::Word("lower")),
+        Err(PairEnd::BadRanks(symbol)) => numbered(alloc, b"ranks s", symbol),
         Err(PairEnd::NotLower(pair)) => numbered(alloc, b"pair ", pair),
         Err(PairEnd::Large(pair)) => numbered(alloc, b"large pair ", pair),
         Err(PairEnd::NoMemory) => None,
@@ -55,8 +56,8 @@ fn lowered_with(alloc: Global, set: &RuleSet, hypotheses: &[Rule], text: &str) -
     )
 }
 
-/// What is said of ranks and certificates under hypotheses: `lower`, or the first pair that isn't
-/// or passes the limits.
+/// What is said of ranks and certificates under hypotheses: `lower`, the first symbol whose rank
+/// isn't lawful, or the first pair that isn't lower or passes the limits.
 pub fn lowered(alloc: Global, set: &RuleSet, given: &str) -> Option<Answer> {
     let (hypotheses, rest) = given.split_once(" | ")?;
     let hypotheses = rules(alloc, hypotheses)?;

@@ -83,10 +83,12 @@ fn plain(alloc: Global, count: u32) -> Option<Items<PairCert>> {
     Some(made)
 }
 
-// Whether all pairs are lower, or the first that isn't; out of memory is no answer.
+// Whether the ranks are lawful and all pairs lower, or the first that isn't; out of memory is no
+// answer.
 fn said(answer: Result<(), PairEnd>) -> Option<Answer> {
     match answer {
         Ok(()) => Some(Answer::Word("lower")),
+        Err(PairEnd::BadRanks(_)) => Some(Answer::Word("ranks")),
         Err(PairEnd::NotLower(pair)) => Some(Answer::Number(pair as i128)),
         Err(PairEnd::Large(_)) => Some(Answer::Word("large")),
         Err(PairEnd::NoMemory) => None,
