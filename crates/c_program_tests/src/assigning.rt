@@ -6,7 +6,7 @@ use c_assigned::fault_of;
 use c_ast::Function;
 use c_names::names_of;
 use std::alloc::Global;
-use tables::put_debug;
+use test_lines::put_debug;
 
 // What is wrong with the variables of a function, whose tokens have these names.
 fn shown_fault(alloc: Global, names: &[u32], function: &Function) -> Option<String>

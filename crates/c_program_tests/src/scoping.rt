@@ -6,7 +6,7 @@ use c_parse::parse_pre;
 use c_scope::resolve;
 use c_trees::{Lexed, lex_text, put_expr, put_functions};
 use std::alloc::Global;
-use tables::put_debug;
+use test_lines::put_debug;
 
 // The resolved program, or its refusal.
 fn resolved(alloc: Global, read: &Parsed) -> String {

@@ -8,7 +8,7 @@ use c_scope::resolve;
 use c_trees::{put_expr, put_functions};
 use rx_plain::{Boxed, Items};
 use std::alloc::Global;
-use tables::{put, put_number};
+use test_lines::{put, put_number};
 
 // The copy of a resolved program, where it equals the program.
 fn copy_resolved(alloc: Global, read: &Parsed) -> Option<String> {

@@ -4,7 +4,7 @@ use c_parse::{parse, parse_pre};
 use c_trees::{lex_text, put_expr, put_program, put_stmt};
 use rx_plain::Boxed;
 use std::alloc::Global;
-use tables::put_debug;
+use test_lines::put_debug;
 
 // The program of a text.
 fn parse_text(alloc: Global, text: &str) -> Option<Program> {

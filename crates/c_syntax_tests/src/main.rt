@@ -12,7 +12,7 @@ mod parsing;
 
 use std::alloc::Global;
 use std::io;
-use tables::{BAR, run};
+use test_lines::{BAR, run};
 
 // What the call answers to what it is given; none where the line is no case.
 fn answer(alloc: Global, call: &str, given: &str) -> Option<String> {

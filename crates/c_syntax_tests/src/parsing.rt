@@ -5,7 +5,7 @@ use c_lex::Token;
 use c_parse::{ParseEnd, parse, parse_pre};
 use c_trees::{lex, put_expr, put_program};
 use std::alloc::Global;
-use tables::{put, put_debug, put_space, source_of};
+use test_lines::{put, put_debug, put_space, source_of};
 
 // The program of a text, or its refusal.
 fn program(alloc: Global, tokens: &[Token]) -> String

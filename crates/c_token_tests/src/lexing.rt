@@ -1,7 +1,7 @@
 //! The tokens of texts.
 use c_lex::{Token, TokenKind, tokens};
 use std::alloc::Global;
-use tables::{put, put_debug, put_number, put_space, source_of};
+use test_lines::{put, put_debug, put_number, put_space, source_of};
 
 // Adds what a token is.
 fn put_kind(out: &mut String, kind: TokenKind) {

@@ -3,7 +3,7 @@ use c_names::{find_spelling, name_at, names_of, slot_of, spelling_at};
 use c_trees::{Lexed, lex_text};
 use std::alloc::Global;
 use std::str;
-use tables::{numbers_of, put, put_debug, put_number, put_space};
+use test_lines::{numbers_of, put, put_debug, put_number, put_space};
 
 // The names of all tokens, as numbers.
 fn names(alloc: Global, text: &Lexed) -> Option<String> {

@@ -4,7 +4,7 @@
 //! function `f1( 4)` by its name and its parameters; `_` is a part that is left out.
 use c_ast::{Expr, Function, Program, Prototype, Stmt};
 use rx_plain::Boxed;
-use tables::{put, put_debug, put_number};
+use test_lines::{put, put_debug, put_number};
 
 /// Adds an expression, operator first.
 #[cycle(expressions)]

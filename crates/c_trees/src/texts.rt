@@ -4,7 +4,7 @@ ghost use Rattle.c_names.specs.Spellings.{IsWithin};
 
 use c_lex::{Token, tokens};
 use std::alloc::Global;
-use tables::bytes_of;
+use test_lines::bytes_of;
 
 /// A text with its tokens.
 #[derive(Drop)]

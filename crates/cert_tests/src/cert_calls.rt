@@ -2,10 +2,9 @@
 use rx_cert::{Cert, ConditionsAnswer, PolyEnd, check_conditions, is_plain, shows, shows_row};
 use rx_plain::Items;
 use rx_row::{Constraint, Row};
-use rx_tables::{ended, row, rows, whole};
 use rx_words::{read_cert, read_certs};
 use std::alloc::Global;
-use tables::{Answer, told};
+use test_lines::{Answer, ended, row, rows, told, whole};
 
 // One certificate.
 fn cert(alloc: Global, text: &str) -> Option<Cert> {

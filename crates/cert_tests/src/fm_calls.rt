@@ -1,8 +1,7 @@
 //! The elimination of monomials, and contents.
 use rx_fm::{FmEnd, content, farkas};
-use rx_tables::{poly, polys};
 use std::alloc::Global;
-use tables::{Answer, count, integers, nothing, perhaps};
+use test_lines::{Answer, count, integers, nothing, perhaps, poly, polys};
 
 // The content of a polynomial.
 fn content_of(alloc: Global, given: &str) -> Option<Answer> {

@@ -10,7 +10,7 @@ mod fm_calls;
 
 use std::alloc::Global;
 use std::io;
-use tables::{Answer, SEMICOLON, parted, run};
+use test_lines::{Answer, SEMICOLON, parted, run};
 
 // What the call answers; none where the line can't be read, or there is no memory.
 fn answer_to(alloc: Global, call: &str, given: &str) -> Option<Answer> {

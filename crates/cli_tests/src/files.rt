@@ -4,7 +4,7 @@ ghost use Rattle.rx_io.specs.MemoryFiles.{fail_in};
 
 use rx_io::MemoryFiles;
 use std::alloc::Global;
-use tables::add_file;
+use test_lines::add_file;
 
 /// Files in memory, of which one is `a.c` with this content.
 pub fn one_file(

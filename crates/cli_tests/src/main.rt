@@ -13,7 +13,7 @@ mod running;
 
 use std::alloc::Global;
 use std::io;
-use tables::{BAR, run};
+use test_lines::{BAR, run};
 
 // What the call answers to what it is given; none where the line is no case.
 fn answer(alloc: Global, call: &str, given: &str) -> Option<String> {

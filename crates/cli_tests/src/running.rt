@@ -8,7 +8,7 @@ use rx_cli::{Status, run, run_in_memory};
 use rx_io::{MemoryFiles, MemorySink};
 use std::alloc::Global;
 use std::str;
-use tables::{bytes_of, numbers_of, words_of};
+use test_lines::{bytes_of, numbers_of, words_of};
 
 // A text of spaces has no more than this.
 const MOST_SPACES: usize = 2_097_152;

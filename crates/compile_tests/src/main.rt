@@ -14,7 +14,7 @@ mod translation_cases;
 
 use std::alloc::Global;
 use std::io;
-use tables::{Answer, SEMICOLON, run, told};
+use test_lines::{Answer, SEMICOLON, run, told};
 
 // Whether the case is as it is to be; none where there is no such case, or no memory.
 fn is_so(alloc: Global, of: &str, name: &str) -> Option<bool> {

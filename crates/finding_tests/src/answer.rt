@@ -1,7 +1,7 @@
 //! What is found, as an answer, and whether that is what a line wants.
 use rx_fm::FmEnd;
 use std::alloc::Global;
-use tables::{Answer, Meant};
+use test_lines::{Answer, Meant};
 
 /// Why there is no answer; out of memory is none that a line could want.
 pub fn ended(end: FmEnd) -> Option<Answer> {

@@ -12,11 +12,10 @@ mod printing;
 mod search_calls;
 
 use answer::is_wanted;
-use rule_tables::take_set;
 use rx_term::RuleSet;
 use std::alloc::Global;
 use std::io;
-use tables::{BAR, Verdict, case_of, count_lines};
+use test_lines::{BAR, Verdict, case_of, count_lines, take_set};
 
 // Whether the line's call answers what is wanted, over the set of the lines before it; none where
 // that isn't known.

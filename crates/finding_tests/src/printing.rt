@@ -4,10 +4,10 @@ use rx_find_ranks::Ranking;
 use rx_pairs::{PairCert, RankTable};
 use rx_plain::{Items, NoMemory};
 use rx_poly::Poly;
-use rx_tables::{push_each, push_list};
 use rx_term_words::push_tree;
 use rx_text::{push_natural, push_poly, push_word};
 use rx_words::push_count;
+use test_lines::{push_each, push_list};
 
 fn push_trees(trees: &Items<CoverTree>, out: &mut Vec<u8>) -> Result<(), NoMemory> {
     push_list(trees.as_slice(), out, |tree, out| push_tree(tree, out))

@@ -6,17 +6,15 @@ ghost use Rattle.rx_pairs.specs.Pairs.{SidesFit};
 
 use crate::answer::ended;
 use crate::printing::{push_cover, push_lowering, push_table};
-use rule_tables::rules;
 use rx_find_cover::find_cover;
 use rx_find_ranks::{Ranking, find_ranks};
 use rx_fm::FmEnd;
 use rx_pairs::have_roots;
 use rx_row::Constraint;
 use rx_solve::refutes;
-use rx_tables::written;
 use rx_term::{Rule, RuleSet};
 use std::alloc::Global;
-use tables::{Answer, nothing};
+use test_lines::{Answer, nothing, rules, written};
 
 // What is found of covers.
 fn cover(alloc: Global, set: &RuleSet) -> Option<Answer> {

@@ -1,18 +1,16 @@
 //! Lemmas of a goal: the goal with its constants named, and those that drop or replace values.
 use crate::answer::ended;
-use rule_tables::{equation, push_goal};
 use rx_fm::FmEnd;
 use rx_lemma::{Generalised, LemmaKind, lemmas, named};
 use rx_pairs::loops_of;
 use rx_plain::NoMemory;
 use rx_row::Constraint;
 use rx_solve::refutes;
-use rx_tables::{push_list, written};
 use rx_term::{Equation, RuleSet};
 use rx_text::{push_natural, push_word};
 use rx_words::push_subst;
 use std::alloc::Global;
-use tables::{Answer, nothing};
+use test_lines::{Answer, equation, nothing, push_goal, push_list, written};
 
 /// There are no more symbols than this.
 const MOST_SYMBOLS: usize = 1 << 32;

@@ -12,11 +12,10 @@ mod answer;
 mod lemma_calls;
 mod use_calls;
 
-use rule_tables::take_set;
 use rx_term::RuleSet;
 use std::alloc::Global;
 use std::io;
-use tables::{Answer, BAR, Meant, Verdict, case_of, count_lines};
+use test_lines::{Answer, BAR, Meant, Verdict, case_of, count_lines, take_set};
 
 // What the call answers over the rule set; none where the line can't be read, or there is no
 // memory.

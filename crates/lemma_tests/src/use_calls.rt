@@ -1,15 +1,13 @@
 //! Uses of a hypothesis at a place of a goal.
 use crate::answer::ended;
-use rule_tables::{equation, rule};
 use rx_inference::Side;
 use rx_match::find_use;
 use rx_row::Constraint;
 use rx_solve::refutes;
-use rx_tables::written;
 use rx_term::{Equation, Rule};
 use rx_words::push_subst;
 use std::alloc::Global;
-use tables::{Answer, nothing};
+use test_lines::{Answer, equation, nothing, rule, written};
 
 // A side of the goal, `l` or `r`.
 fn side_of(word: &str) -> Option<Side> {

@@ -10,7 +10,7 @@ use rx_logtext::read_log;
 use rx_logwriting::write_log;
 use std::alloc::Global;
 use std::str;
-use tables::{add_file, words_of};
+use test_lines::{add_file, words_of};
 
 /// What was given so far of a case.
 #[derive(Drop)]

@@ -2,7 +2,7 @@
 
 use rx_io::{MemoryFiles, MemorySink};
 use std::alloc::Global;
-use tables::numbers_of;
+use test_lines::numbers_of;
 
 // The most bytes of a call and the room.
 fn sizes_of(text: &str) -> Option<(usize, usize)> {

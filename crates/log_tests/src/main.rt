@@ -27,7 +27,7 @@ mod devices;
 use crate::cases::Case;
 use std::alloc::Global;
 use std::io;
-use tables::{Verdict, count_lines};
+use test_lines::{Verdict, count_lines};
 
 // How a line fares: most lines only say what the case is given.
 fn judged(alloc: Global, case: &mut Case, line: &str) -> Verdict {

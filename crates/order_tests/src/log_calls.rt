@@ -1,6 +1,5 @@
 //! The calls that examine the covers and the pairs of a log on a rule set.
 use crate::log_parts::{lists, ranking_of};
-use rule_tables::rules;
 use rx_cover::{CoverEnd, covers};
 use rx_pairs::{PairEnd, decreases, have_roots};
 use rx_plain::NoMemory;
@@ -8,7 +7,7 @@ use rx_term::{Rule, RuleSet};
 use rx_text::push_word;
 use rx_words::push_count;
 use std::alloc::Global;
-use tables::Answer;
+use test_lines::{Answer, rules};
 
 fn push_numbered(word: &[u8], number: usize, out: &mut Vec<u8>) -> Result<(), NoMemory> {
     push_word(out, word)?;

@@ -3,11 +3,11 @@ use rx_cover::CoverTree;
 use rx_pairs::{PairCert, RankTable};
 use rx_plain::{Items, NoMemory};
 use rx_poly::Poly;
-use rx_tables::{list, list_at, several};
 use rx_term_words::read_tree;
 use rx_text::{read_poly, skip_word};
 use rx_words::{read_certs, read_number};
 use std::alloc::Global;
+use test_lines::{list, list_at, several};
 
 fn tree_at(alloc: Global, text: &[u8], at: usize) -> Result<Option<(CoverTree, usize)>, NoMemory> {
     read_tree(alloc, text, at)

@@ -12,11 +12,10 @@ mod log_calls;
 mod log_parts;
 
 use log_calls::{covered, lowered};
-use rule_tables::take_set;
 use rx_term::RuleSet;
 use std::alloc::Global;
 use std::io;
-use tables::{Answer, BAR, Meant, Verdict, case_of, count_lines};
+use test_lines::{Answer, BAR, Meant, Verdict, case_of, count_lines, take_set};
 
 // What the call on the rule set answers; none where the line can't be read, or there is no memory.
 fn answer_to(alloc: Global, set: &RuleSet, call: &str, given: &str) -> Option<Answer> {

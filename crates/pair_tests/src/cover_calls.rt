@@ -5,7 +5,7 @@ use rx_cover::{CoverEnd, CoverTree, cover_one, covers};
 use rx_plain::Items;
 use rx_term::RuleSet;
 use std::alloc::Global;
-use tables::Answer;
+use test_lines::Answer;
 
 // Whether all is covered, or the number of the symbol that isn't; out of memory is no answer.
 fn said(answer: Result<(), CoverEnd>) -> Option<Answer> {

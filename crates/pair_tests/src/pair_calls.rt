@@ -3,11 +3,10 @@ use crate::example::rules;
 use rx_pairs::{Pair, all_pairs, have_roots, pairs_of};
 use rx_plain::NoMemory;
 use rx_poly::Poly;
-use rx_tables::{push_each, push_list, written};
 use rx_term::{Rule, RuleSet};
 use rx_text::{push_natural, push_poly, push_word};
 use std::alloc::Global;
-use tables::Answer;
+use test_lines::{Answer, push_each, push_list, written};
 
 fn push_arg(arg: &Poly, out: &mut Vec<u8>) -> Result<(), NoMemory> {
     push_poly(out, arg)
@@ -49,7 +48,7 @@ fn counted(alloc: Global, hypotheses: &[Rule]) -> Option<Answer> {
 
 /// What the call answers, given hypotheses: `made` is that of the first.
 pub fn answer_to(alloc: Global, name: &str, given: &str) -> Option<Answer> {
-    let hypotheses = rule_tables::rules(alloc, given)?;
+    let hypotheses = test_lines::rules(alloc, given)?;
     match name {
         "made" => made(alloc, hypotheses.as_slice().first()?),
         "all_made" => counted(alloc, hypotheses.as_slice()),

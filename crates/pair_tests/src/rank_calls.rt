@@ -6,10 +6,9 @@ use rx_cert::Cert;
 use rx_pairs::{Pair, PairCert, PairEnd, RankTable, bad_ranks, decreases, have_roots, is_lower};
 use rx_plain::Items;
 use rx_poly::Poly;
-use rx_tables::{poly, rows};
 use rx_term::{Rule, RuleSet, Sym};
 use std::alloc::Global;
-use tables::{Answer, told};
+use test_lines::{Answer, poly, rows, told};
 
 fn read_alone(alloc: Global, text: &str) -> Option<Items<Poly>> {
     alone(alloc, poly(alloc, text)?)
@@ -115,7 +114,7 @@ fn with_plain(alloc: Global, set: &RuleSet, hypotheses: &[Rule], count: u32) -> 
 // Whether the first rule, and a hypothesis, make only lower pairs.
 fn descends(alloc: Global, hypothesis: &str) -> Option<Answer> {
     let set = first_rule(alloc)?;
-    let hypotheses = rule_tables::rules(alloc, hypothesis)?;
+    let hypotheses = test_lines::rules(alloc, hypothesis)?;
     with_plain(alloc, &set, hypotheses.as_slice(), 1)
 }
 

@@ -3,10 +3,10 @@
 use rx_cert::Cert;
 use rx_cover::CoverTree;
 use rx_plain::{Items, NoMemory};
-use rx_tables::{list, list_at, whole};
 use rx_term_words::read_tree;
 use rx_words::read_certs;
 use std::alloc::Global;
+use test_lines::{list, list_at, whole};
 
 /// A list of certificates.
 pub fn certs(alloc: Global, text: &str) -> Option<Items<Cert>> {

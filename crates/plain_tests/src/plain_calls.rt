@@ -1,7 +1,7 @@
 //! The containers, at numbers.
 use rx_plain::{Boxed, Graded, Items, NoMemory};
 use std::alloc::Global;
-use tables::{Answer, integer, integers, numbers_of, ordered, parted, perhaps, told};
+use test_lines::{Answer, integer, integers, numbers_of, ordered, parted, perhaps, told};
 
 // The numbers that stand after the first word, which says how many there are.
 fn numbers(alloc: Global, text: &str) -> Option<Vec<i128>> {

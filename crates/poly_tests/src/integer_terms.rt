@@ -4,7 +4,7 @@
 use rx_plain::Boxed;
 use rx_poly_laws::ITerm;
 use std::alloc::Global;
-use tables::{count, integer};
+use test_lines::{count, integer};
 
 fn operand(alloc: Global, made: &mut Vec<ITerm>) -> Option<Boxed<ITerm>> {
     Boxed::new(alloc, made.pop()?).ok()

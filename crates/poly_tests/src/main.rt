@@ -11,7 +11,7 @@ mod poly_calls;
 
 use std::alloc::Global;
 use std::io;
-use tables::{Answer, SEMICOLON, parted, run, written_out};
+use test_lines::{Answer, SEMICOLON, parted, run, written_out};
 
 // What the call answers; none where the line can't be read, or there is no memory.
 fn answer_to(alloc: Global, call: &str, given: &str) -> Option<Answer> {

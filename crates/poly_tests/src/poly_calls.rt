@@ -3,9 +3,11 @@
 use crate::integer_terms::integer_term;
 use rx_poly::{Atom, Body, Mono, Poly, PolyEnd, variable_bound};
 use rx_poly_laws::{norm, uses, uses_below, variables_of};
-use rx_tables::{ended, poly, polys, substitution, written_poly};
 use std::alloc::{AllocError, Global};
-use tables::{Answer, compared, count, equal, integer, integers, nothing, ordered, perhaps, told};
+use test_lines::{
+    Answer, compared, count, ended, equal, integer, integers, nothing, ordered, perhaps, poly,
+    polys, substitution, told, written_poly,
+};
 
 // The polynomial, or why there is none.
 fn formed(alloc: Global, answer: Result<Poly, PolyEnd>) -> Option<Answer> {

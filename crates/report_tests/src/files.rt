@@ -3,7 +3,7 @@ ghost use Rattle.std.specs.Prelude.{◌≤◌};
 
 use rx_io::{Files, MemoryFiles, read_all};
 use std::alloc::Global;
-use tables::{add_file, bytes_of, numbers_of, put, put_bytes, put_debug, put_space};
+use test_lines::{add_file, bytes_of, numbers_of, put, put_bytes, put_debug, put_space};
 
 // Adds a file with a text.
 fn hold_text(

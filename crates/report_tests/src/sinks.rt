@@ -3,7 +3,7 @@ ghost use Rattle.std.specs.Prelude.{◌≤◌};
 
 use rx_io::{MemorySink, Sink, put_all};
 use std::alloc::Global;
-use tables::{bytes_of, numbers_of, put, put_bytes, put_debug, put_space};
+use test_lines::{bytes_of, numbers_of, put, put_bytes, put_debug, put_space};
 
 // One call on a sink, and what was written so far.
 fn call_sink(alloc: Global, sink: &mut MemorySink, call: &str, out: &mut String) -> Option<()> {

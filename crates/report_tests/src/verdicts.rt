@@ -6,7 +6,7 @@ use c_lex::LexEnd;
 use c_scope::ScopeEnd;
 use rx_report::{Status, Verdict, report};
 use std::alloc::Global;
-use tables::{put_bytes, put_debug};
+use test_lines::{put_bytes, put_debug};
 
 // A fault of the tokens, by its word.
 fn lex_verdict(word: &str, at: u32) -> Option<Verdict>

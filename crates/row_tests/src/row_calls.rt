@@ -2,12 +2,12 @@
 use rx_plain::Items;
 use rx_poly::{Poly, PolyEnd};
 use rx_row::{Constraint, Row, combine, combine_rows, rows_at_args, subst_rows};
-use rx_tables::{
-    ended, polys, row, rows, substitution, whole, written_poly, written_row, written_rows,
-};
 use rx_words::read_parts;
 use std::alloc::Global;
-use tables::{Answer, count, integer, nothing, ordered, told};
+use test_lines::{
+    Answer, count, ended, integer, nothing, ordered, polys, row, rows, substitution, told, whole,
+    written_poly, written_row, written_rows,
+};
 
 fn formed(alloc: Global, answer: Result<Row, PolyEnd>) -> Option<Answer> {
     match answer {

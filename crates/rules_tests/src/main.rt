@@ -17,7 +17,7 @@ use rx_term::RuleSet;
 use set_calls::take_rules;
 use std::alloc::Global;
 use std::io;
-use tables::{Answer, BAR, run};
+use test_lines::{Answer, BAR, run};
 
 // What the call answers, over the set of the lines before it; none where the line can't be read, or
 // there is no memory.

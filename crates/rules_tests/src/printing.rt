@@ -1,10 +1,9 @@
 //! A rule set as text: words with a space between them, a list after its number of elements.
-use rule_tables::push_rule;
 use rx_plain::NoMemory;
-use rx_tables::push_list;
 use rx_term::SymInfo;
 use rx_text::{push_natural, push_word};
 use rx_translate::Translation;
+use test_lines::{push_list, push_rule};
 
 // A letter, where the symbol is what the letter says.
 fn push_letter(is: bool, letter: &[u8], out: &mut Vec<u8>) -> Result<(), NoMemory> {

@@ -4,7 +4,7 @@ use rx_poly::Poly;
 use rx_row::Row;
 use rx_term::{Rule, RuleSet, Sym, Term};
 use std::alloc::Global;
-use tables::{Answer, numbers_of, parted};
+use test_lines::{Answer, numbers_of, parted};
 
 /// How many steps a run takes at most.
 const MOST_STEPS: u32 = 100_000;

@@ -4,11 +4,10 @@ ghost use Rattle.c_ast.specs.Scoped.{is_scoped};
 
 use crate::printing::push_translation;
 use c_front::{Compared, Next, TwoFunctions, compared_functions};
-use rx_tables::written;
 use rx_term::RuleSet;
 use rx_translate::{TranslateEnd, Translation, rules_of};
 use std::alloc::Global;
-use tables::Answer;
+use test_lines::{Answer, written};
 
 /// The longest text of a program.
 const LONGEST: usize = 1_048_576;

@@ -1,7 +1,7 @@
 //! A rule set with a point s0 and a frame s1, both of one argument, and one failure code.
-use rule_tables::parts;
 use rx_term::RuleSet;
 use std::alloc::Global;
+use test_lines::parts;
 
 /// The greatest failure code, the symbols and the rules.
 const PARTS: &str = "1 | 2 1e 1f | 4 s0(1*v0) ret(0) 1 eq:1*v0 \

@@ -13,7 +13,7 @@ mod state_cases;
 
 use std::alloc::Global;
 use std::io;
-use tables::{Answer, SEMICOLON, parted, run, told};
+use test_lines::{Answer, SEMICOLON, parted, run, told};
 
 // What the call answers; none where the line can't be read, or there is no memory.
 fn answer_to(alloc: Global, call: &str, given: &str) -> Option<Answer> {

@@ -1,9 +1,8 @@
 //! Whether rows are refuted, and whether a row is shown under rows.
 use rx_row::{Constraint, Row};
 use rx_solve::{entails, refutes};
-use rx_tables::{row, rows};
 use std::alloc::Global;
-use tables::{Answer, told};
+use test_lines::{Answer, row, rows, told};
 
 fn refuted(alloc: Global, rows: &Constraint) -> Option<Answer> {
     told(refutes(alloc, rows).ok()?.is_some())

@@ -1,11 +1,11 @@
 //! A proof state with the goal s0(v0) = ret(0), where v0 = 0.
 use crate::example::rules;
-use rule_tables::equation;
 use rx_inference::{Delete, Side, Step};
 use rx_plain::Items;
 use rx_steps::{State, apply};
 use rx_term::RuleSet;
 use std::alloc::Global;
+use test_lines::equation;
 
 fn started(alloc: Global) -> Option<State> {
     let goal = equation(alloc, "s0(1*v0) ret(0) 1 eq:1*v0")?;

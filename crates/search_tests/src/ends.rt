@@ -5,10 +5,10 @@ use rx_logwriting::write_log;
 use rx_plain::NoMemory;
 use rx_row::Row;
 use rx_search::SearchEnd;
-use rx_tables::{bytes_written, push_list};
 use rx_text::push_word;
 use rx_words::{push_count, push_rows};
 use std::alloc::Global;
+use test_lines::{bytes_written, push_list};
 
 /// One word.
 pub fn word(alloc: Global, word: &[u8]) -> Option<Vec<u8>> {

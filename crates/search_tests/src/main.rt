@@ -13,11 +13,10 @@ mod ends;
 mod searching;
 mod tasks;
 
-use rule_tables::take_set;
 use rx_term::RuleSet;
 use std::alloc::Global;
 use std::io;
-use tables::{BAR, Verdict, case_of, count_lines};
+use test_lines::{BAR, Verdict, case_of, count_lines, take_set};
 
 // Whether the first line of the text is this one.
 fn begins_with_line(text: &[u8], line: &str) -> bool {

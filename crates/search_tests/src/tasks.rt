@@ -2,9 +2,9 @@
 use crate::by_solver::Task;
 use crate::ends::word;
 use crate::searching::{cached, calls_of, is_covered, is_fitting, kept, searched};
-use rule_tables::equation;
 use rx_term::RuleSet;
 use std::alloc::Global;
+use test_lines::equation;
 
 /// A depth is at most this.
 const MOST_DEEP: u32 = 12;

@@ -1,8 +1,7 @@
 //! The questions that a cached solver is asked.
 use crate::caching::calls_after;
-use rx_tables::{list, read_constraint};
 use std::alloc::Global;
-use tables::{Answer, BAR, count};
+use test_lines::{Answer, BAR, count, list, read_constraint};
 
 /// How often the refuter is asked behind a cache of the capacity given, where the lists of rows
 /// after the first ` | ` are asked for in turn.

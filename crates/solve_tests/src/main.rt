@@ -13,7 +13,7 @@ mod refuting;
 
 use std::alloc::Global;
 use std::io;
-use tables::{Answer, BAR, run};
+use test_lines::{Answer, BAR, run};
 
 // What the call answers to what it is given; none where the line is no case, or without memory.
 fn answer_to(alloc: Global, call: &str, given: &str) -> Option<Answer> {

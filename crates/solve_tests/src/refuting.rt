@@ -3,10 +3,9 @@ use rx_cert::Cert;
 use rx_fm::FmEnd;
 use rx_row::Constraint;
 use rx_solve::{entails, refutes};
-use rx_tables::{row, rows, written};
 use rx_words::push_cert;
 use std::alloc::Global;
-use tables::{Answer, BAR, nothing};
+use test_lines::{Answer, BAR, nothing, row, rows, written};
 
 // The words of a certificate.
 fn written_cert(alloc: Global, cert: &Cert) -> Option<Answer> {

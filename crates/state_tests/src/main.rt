@@ -9,7 +9,7 @@
 mod states;
 
 use std::io;
-use tables::{BAR, run};
+use test_lines::{BAR, run};
 
 fn main(rt: HostRuntime) -> io::Result<()> {
     run(&rt, BAR, states::answer)

@@ -1,15 +1,13 @@
 //! States made of goals and hypotheses, copied, and packed and unpacked after other polynomials
 //! were numbered.
-use rule_tables::{equations, push_goal, push_rule, rules};
 use rx_bank::{Bank, Packed};
 use rx_plain::NoMemory;
 use rx_poly::Poly;
 use rx_steps::State;
-use rx_tables::{push_list, written};
 use rx_text::push_word;
 use rx_words::push_count;
 use std::alloc::Global;
-use tables::{Answer, BAR};
+use test_lines::{Answer, BAR, equations, push_goal, push_list, push_rule, rules, written};
 
 /// A state has fewer goals and fewer hypotheses than this.
 const LIMIT: usize = 1 << 32;

@@ -10,7 +10,7 @@ mod steps;
 
 use std::io;
 use step_calls::answer_to;
-use tables::{SEMICOLON, run};
+use test_lines::{SEMICOLON, run};
 
 fn main(rt: HostRuntime) -> io::Result<()> {
     run(&rt, SEMICOLON, answer_to)

@@ -1,15 +1,15 @@
 //! What a step makes of a goal, over a rule set or by hypotheses.
 use crate::steps::step;
-use rule_tables::{equation, push_goal, push_rule, rules, six_symbols};
 use rx_inference::{Asked, FormEnd, FormedStep, Group, form};
 use rx_plain::Items;
 use rx_row::Row;
-use rx_tables::{push_each, written};
 use rx_term::{Equation, Rule, RuleParts, RuleSet};
 use rx_text::push_word;
 use rx_words::{NoMemory, push_count, push_rows};
 use std::alloc::Global;
-use tables::{Answer, SEMICOLON};
+use test_lines::{
+    Answer, SEMICOLON, equation, push_each, push_goal, push_rule, rules, six_symbols, written,
+};
 
 // Why the step isn't formed; out of memory is none that a line could want.
 fn ended(end: FormEnd) -> Option<Answer> {

@@ -2,18 +2,16 @@
 //!
 //! Variables that no log has are written as others in a row, on the right side of a postulated
 //! goal, and where a substitution replaces them: `v999998` is the variable 2^31.
-use rule_tables::equation;
 use rx_cert::Cert;
 use rx_inference::{Delete, Side, Step};
 use rx_plain::Items;
 use rx_poly::Poly;
-use rx_tables::{has_high, high_variables, meant, row, substitution};
 use rx_term::{Equation, Term};
 use rx_term_words::read_equation;
 use rx_text::skip_word;
 use rx_words::read_subst;
 use std::alloc::Global;
-use tables::count;
+use test_lines::{count, equation, has_high, high_variables, meant, row, substitution};
 
 // The term that is meant by the one that is written.
 fn high_term(alloc: Global, written: &Term) -> Option<Term> {

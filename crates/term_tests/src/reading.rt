@@ -1,10 +1,9 @@
 //! Terms, read and written. In a term that is read, `v999999` is the variable 2^32-1, which no log
 //! has.
-use rx_tables::{has_high, high_variables, whole, written};
 use rx_term::Term;
 use rx_term_words::{push_term, read_term};
 use std::alloc::Global;
-use tables::{Answer, nothing};
+use test_lines::{Answer, has_high, high_variables, nothing, whole, written};
 
 fn high_term(alloc: Global, written: &Term) -> Option<Term> {
     let with = high_variables(alloc)?;

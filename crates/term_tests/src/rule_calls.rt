@@ -1,11 +1,10 @@
 //! Rules and sets of rules. A set's symbols are s0 to s5: points of two, of no and of one argument,
 //! which are s0, s1 and s4, and frames of one, of no and of two, which are s2, s3 and s5. Its
 //! greatest failure code is 2.
-use rule_tables::{equation, rule_of, six_symbols};
 use rx_plain::Items;
 use rx_term::{Equation, Rule, RuleParts, RuleSet};
 use std::alloc::Global;
-use tables::{Answer, told};
+use test_lines::{Answer, equation, rule_of, six_symbols, told};
 
 fn parts(alloc: Global, rules: Items<Rule>) -> Option<RuleParts> {
     Some(RuleParts {

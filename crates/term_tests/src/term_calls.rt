@@ -4,11 +4,12 @@ use crate::reading::{perhaps_term, term, written_term};
 use crate::rule_calls::without_rules;
 use rx_plain::{Items, NoMemory};
 use rx_poly::{Poly, PolyEnd};
-use rx_tables::{ended, polys, push_list, substitution, written};
 use rx_term::{Term, differences};
 use rx_text::{push_poly, push_word};
 use std::alloc::Global;
-use tables::{Answer, count, nothing, perhaps, told};
+use test_lines::{
+    Answer, count, ended, nothing, perhaps, polys, push_list, substitution, told, written,
+};
 
 /// More frames than a term of a line has.
 const MANY: u32 = 1_000_000;

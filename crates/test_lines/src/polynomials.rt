@@ -1,4 +1,5 @@
 //! Polynomials, and what is substituted for variables.
+use crate::answers::Answer;
 use crate::high::{has_high, high_variables};
 use crate::lists::{list, whole, written};
 use rx_plain::Items;
@@ -6,7 +7,6 @@ use rx_poly::Poly;
 use rx_text::{push_poly, read_poly};
 use rx_words::read_subst;
 use std::alloc::Global;
-use tables::Answer;
 
 fn high_poly(alloc: Global, written: &Poly) -> Option<Poly> {
     let with = high_variables(alloc)?;

@@ -1,10 +1,10 @@
 //! Values by themselves and in lists, read and written by calls that are handed in. A list is its
 //! number of values, and then each after a space.
+use crate::answers::Answer;
 use rx_plain::{Items, NoMemory};
 use rx_text::{push_word, skip_word};
 use rx_words::{push_count, read_number};
 use std::alloc::Global;
-use tables::Answer;
 
 /// The value that the whole text is.
 pub fn whole<T: Drop, F: FnOnce(Global, &[u8], usize) -> Result<Option<(T, usize)>, NoMemory>>(

@@ -1,4 +1,5 @@
 //! Rows, and lists of them.
+use crate::answers::Answer;
 use crate::high::{has_high, high_variables};
 use crate::lists::{whole, written};
 use rx_plain::NoMemory;
@@ -6,7 +7,6 @@ use rx_row::{Constraint, Row};
 use rx_text::{push_row, read_row};
 use rx_words::{push_rows, read_rows};
 use std::alloc::Global;
-use tables::Answer;
 
 fn high_row(alloc: Global, written: &Row) -> Option<Row> {
     let with = high_variables(alloc)?;

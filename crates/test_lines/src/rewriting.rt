@@ -1,6 +1,6 @@
 //! Equations and rules, alone and in lists. A rule is written as an equation.
+use crate::lists::{list, whole};
 use rx_plain::{Items, NoMemory};
-use rx_tables::{list, whole};
 use rx_term::{Equation, Rule};
 use rx_term_words::{push_equation, read_equation};
 use std::alloc::Global;

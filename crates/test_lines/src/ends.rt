@@ -1,6 +1,6 @@
 //! Answers of calls that may pass the limits.
+use crate::answers::Answer;
 use rx_poly::PolyEnd;
-use tables::Answer;
 
 /// Why there is no answer; out of memory is none that a line could want.
 pub fn ended(end: PolyEnd) -> Option<Answer> {

@@ -1,7 +1,7 @@
 //! The symbols of a rule set. A symbol is its number of arguments, then `f` for a frame, `e` for
 //! the entry of a function, `h` for the head of a loop.
+use crate::lists::list;
 use rx_plain::{Items, NoMemory};
-use rx_tables::list;
 use rx_term::SymInfo;
 use rx_text::read_natural;
 use std::alloc::Global;
