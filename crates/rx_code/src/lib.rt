@@ -1,6 +1,5 @@
-//! What a C program is compiled to: symbols, and what is done at each of them.
-//!
-//! Laws of compiled code: what each translation of a program in order is like. Nothing here runs.
+//! What a C program is compiled to: symbols, and what is done at each of them; and laws that say
+//! what each translation of a program in order is like.
 #![tactic(auto)]
 
 mod action;
