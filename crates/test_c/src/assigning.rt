@@ -1,7 +1,7 @@
 //! Definite assignment.
 ghost use Rattle.std.specs.Prelude.{◌<◌, ◌^◌, length};
 
-use crate::texts::{first_of, parse_text};
+use crate::parsed::{first_of, parse_text};
 use c_assigned::fault_of;
 use c_ast::Function;
 use c_names::names_of;

@@ -1,7 +1,8 @@
 //! Copies of trees, and trees that are equal.
+use crate::printing::{put_expr, put_program, put_stmt};
+use crate::texts::lex_text;
 use c_ast::{Expr, Program, Stmt};
 use c_parse::{parse, parse_pre};
-use c_trees::{lex_text, put_expr, put_program, put_stmt};
 use rx_plain::Boxed;
 use std::alloc::Global;
 use test_lines::put_debug;

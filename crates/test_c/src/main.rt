@@ -1,27 +1,14 @@
-//! Calls on the tokens of C texts, with the answers that are wanted. Each line of the standard
-//! input is a case: the word of a call, what it is given, and the answer, with ` | ` between them.
-//! A line that begins with `#` is a heading.
+//! Compares what the crates on C texts answer with values from outside: tokens and names, programs and
+//! preconditions as they are read, trees, definite assignment, and names resolved.
+//!
+//! Each line of the standard input is a call, what it is given, and what it is to answer, with ` | `
+//! or a semicolon and a space between them. A line that begins with `#` is a heading. The program
+//! prints each line whose answer is another with the word `differs`, each that it can't read with
+//! `unread`, and at the end how many lines hold.
 //!
 //! In a text and in an answer `\n`, `\r` and `\t` are a line end, a carriage return and a tab, `\x`
-//! with two hexadecimal digits is any byte, and `\e` is no byte, for a text that is empty. The
-//! program prints each line whose answer is another with the word `differs`, each that it can't
-//! read with `unread`, and at the end how many lines hold.
-//!
-//! Calls that read programs and preconditions in C, with the answers that are wanted. Each line of
-//! the standard input is a case: the word of a call, what it is given, and the answer, with ` | `
-//! between them. A line that begins with `#` is a heading.
-//!
-//! In a text and in an answer `\x` with two hexadecimal digits is any byte, and `\e` is no byte,
-//! for a text that is empty. The program prints each line whose answer is another with the word
-//! `differs`, each that it can't read with `unread`, and at the end how many lines hold.
-//!
-//! Calls on programs that were read, with the answers that are wanted: trees, definite assignment,
-//! and names resolved. Each line of the standard input is a case: the word of a call, what it is
-//! given, and the answer, with ` | ` between them. A line that begins with `#` is a heading.
-//!
-//! In a text and in an answer `\n` is a line end, and `\e` is no byte, for a text that is empty.
-//! The program prints each line whose answer is another with the word `differs`, each that it can't
-//! read with `unread`, and at the end how many lines hold.
+//! with two hexadecimal digits is any byte, and `\e` is no byte, for a text that is empty. A tree is
+//! written as `src/printing.rt` says.
 #![tactic(auto)]
 
 mod assigning;
@@ -31,14 +18,16 @@ mod c_token_answers;
 mod copying;
 mod lexing;
 mod naming;
+mod parsed;
 mod parsing;
+mod printing;
 mod scoping;
 mod texts;
 mod trees;
 
 use std::alloc::Global;
 use std::io;
-use test_lines::{BAR, run};
+use test_lines::run;
 
 // What the call answers: no two of the tables have a call in common.
 fn answer(alloc: Global, call: &str, given: &str) -> Option<String> {
@@ -52,5 +41,5 @@ fn answer(alloc: Global, call: &str, given: &str) -> Option<String> {
 }
 
 fn main(rt: HostRuntime) -> io::Result<()> {
-    run(&rt, BAR, answer)
+    run(&rt, answer)
 }

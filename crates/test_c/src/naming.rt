@@ -1,6 +1,6 @@
 //! Names, spellings and slots.
+use crate::texts::{Lexed, lex_text};
 use c_names::{find_spelling, name_at, names_of, slot_of, spelling_at};
-use c_trees::{Lexed, lex_text};
 use std::alloc::Global;
 use std::str;
 use test_lines::{numbers_of, put, put_debug, put_number, put_space};

@@ -1,9 +1,10 @@
 //! Programs and preconditions as they are read.
 ghost use Rattle.std.specs.Prelude.{◌≤◌, length};
 
+use crate::printing::{put_expr, put_program};
+use crate::texts::lex;
 use c_lex::Token;
 use c_parse::{ParseEnd, parse, parse_pre};
-use c_trees::{lex, put_expr, put_program};
 use std::alloc::Global;
 use test_lines::{put, put_debug, put_space, source_of};
 

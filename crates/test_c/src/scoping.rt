@@ -1,10 +1,11 @@
 //! Programs and preconditions with their names resolved.
-use crate::texts::{Parsed, first_of, parse_text};
+use crate::parsed::{Parsed, first_of, parse_text};
+use crate::printing::{put_expr, put_functions};
+use crate::texts::{Lexed, lex_text};
 use c_ast::Expr;
 use c_names::{find_function, resolve_pre};
 use c_parse::parse_pre;
 use c_scope::resolve;
-use c_trees::{Lexed, lex_text, put_expr, put_functions};
 use std::alloc::Global;
 use test_lines::put_debug;
 

@@ -1,47 +1,44 @@
-//! Programs as they are read.
-ghost use Rattle.std.specs.Prelude.{◌≤◌, ◌<◌, ◌^◌, length, IfSome};
+//! A text with its tokens.
+ghost use Rattle.std.specs.Prelude.{◌≤◌, length, IfSome};
+ghost use Rattle.c_names.specs.Spellings.{IsWithin};
 
-use c_ast::{Function, Program};
-use c_lex::Token;
-use c_parse::parse;
-use c_trees::{Lexed, lex_text};
+use c_lex::{Token, tokens};
 use std::alloc::Global;
+use test_lines::bytes_of;
 
-/// The program of a text.
+/// A text with its tokens.
 #[derive(Drop)]
-pub struct Parsed {
-    /// The text.
-    pub text: Lexed,
-    /// Its program.
-    pub program: Program,
-    ghost few: { length program.functions < 2 ^ 32 },
+pub struct Lexed {
+    /// The bytes of the text.
+    pub source: Vec<u8>,
+    /// Its tokens.
+    pub tokens: Vec<Token>,
+    ghost within: { IsWithin source.items tokens.items },
+    ghost few: { length tokens.items ≤ 1048576 },
 }
 
-// The program that tokens spell.
-fn program_of(alloc: Global, tokens: &[Token]) -> Option<Program>
-    requires { length tokens.now ≤ 1048576 }
-    ensures { IfSome result (λ program. length program.functions < 2 ^ 32) }
+// The tokens of these bytes; none where they are too many, or no list of tokens.
+fn tokens_of(alloc: Global, source: &[u8]) -> Option<Vec<Token>>
+    ensures within { IfSome result (λ tokens. IsWithin source.now tokens.items) }
+    ensures few { IfSome result (λ tokens. length tokens.items ≤ 1048576) }
 {
-    match parse(alloc, tokens) {
-        Ok(program) => Some(program),
+    if source.len() > 1_048_576 {
+        return None;
+    }
+    match tokens(alloc, source) {
+        Ok(tokens) => Some(tokens),
         Err(_) => None,
     }
 }
 
-/// The program of a text.
-pub fn parse_text(alloc: Global, text: &str) -> Option<Parsed> {
-    let text = lex_text(alloc, text)?;
-    let program = program_of(alloc, &text.tokens)?;
-    Some(Parsed { text, program })
+/// A text with its tokens; none where it has more than 1,048,576 bytes, where it is no list of
+/// tokens, or where there is no memory.
+pub fn lex(alloc: Global, source: Vec<u8>) -> Option<Lexed> {
+    let tokens = tokens_of(alloc, &source)?;
+    Some(Lexed { source, tokens })
 }
 
-/// The first function of a list, where it has at most 16 parameters.
-pub fn first_of(functions: &[Function]) -> Option<&Function>
-    ensures { IfSome result (λ function. length function.now.params ≤ 16) }
-{
-    let function = functions.first()?;
-    if function.params.len() > 16 {
-        return None;
-    }
-    Some(function)
+/// As `lex`, of the bytes that a text with escapes means.
+pub fn lex_text(alloc: Global, text: &str) -> Option<Lexed> {
+    lex(alloc, bytes_of(alloc, text)?)
 }

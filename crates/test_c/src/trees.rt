@@ -2,10 +2,10 @@
 ghost use Rattle.std.specs.Prelude.{◌≡◌, IfSome};
 ghost use Rattle.c_ast.specs.Height.{expr_height, stmt_height};
 
-use crate::texts::{Parsed, first_of, parse_text};
+use crate::parsed::{Parsed, first_of, parse_text};
+use crate::printing::{put_expr, put_functions};
 use c_ast::{BinOp, Expr, Function, Stmt, UnOp, expr_height, stmt_height, straight};
 use c_scope::resolve;
-use c_trees::{put_expr, put_functions};
 use rx_plain::{Boxed, Items};
 use std::alloc::Global;
 use test_lines::{put, put_number};

@@ -1,10 +1,19 @@
 //! The parts of a line.
 
-/// What parts a line of short values.
+/// What parts a line of short values, which has no bars.
 pub const SEMICOLON: &str = "; ";
 
 /// What parts a line of texts that may have semicolons.
 pub const BAR: &str = " | ";
+
+/// What parts the line: bars where it has one, else semicolons.
+pub fn separator_of(line: &str) -> &'static str {
+    if line.split_once(BAR).is_some() {
+        BAR
+    } else {
+        SEMICOLON
+    }
+}
 
 /// A call, what it is given, which may have parts too, and what it is to answer.
 #[derive(Drop)]

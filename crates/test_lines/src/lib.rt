@@ -1,22 +1,12 @@
 //! What the programs of tests share: the lines of a table, read from the standard input and counted
-//! where they hold, the parts of a line, the answers of calls, texts and numbers as lines have them.
+//! where they hold, the parts of a line, the answers of calls, texts and numbers as lines have them;
+//! and values in the notation of a log, lists of them, equations, rules and rule sets, read from the
+//! texts of a line and written as the text of an answer.
 //!
 //! What a reader may rely on: each call is safe and ends, and answers that there is nothing, or that
 //! a line is unread, where a text is not of its form, or where there is no memory. That each line
-//! is judged once, in order, is not proved; the programs show it.
-//!
-//! Values in the notation of a log, and lists of them, for programs of tests: read from the texts
-//! of a line, and written as the text of an answer.
-//!
-//! What a reader may rely on: each call is safe and ends, and answers that there is nothing where a
-//! text is not of its form, or where there is no memory. That a value and its text belong together
-//! is proved of the readers and writers that are handed in.
-//!
-//! Equations, rules and rule sets for programs of tests: read from the texts of a line, and written
-//! as the text of an answer. Equations and rules have the notation of a log.
-//!
-//! What a reader may rely on: each call is safe and ends, and answers that there is nothing where a
-//! text is not of its form, or where there is no memory.
+//! is judged once, in order, is not proved; the programs show it. That a value and its text belong
+//! together is proved of the readers and writers that are handed in.
 #![tactic(auto)]
 
 mod answers;
@@ -36,7 +26,7 @@ mod texts;
 mod writing;
 
 pub use answers::{Answer, Meant, compared, equal, integers, nothing, ordered, perhaps, told};
-pub use cases::{BAR, Case, SEMICOLON, case_of, parted};
+pub use cases::{BAR, Case, SEMICOLON, case_of, parted, separator_of};
 pub use constraints::{read_constraint, row, rows, written_row, written_rows};
 pub use ends::ended;
 pub use high::{has_high, high_variables, meant};

@@ -1,6 +1,6 @@
 //! The lines of a table, from the first to the last.
 use crate::answers::Meant;
-use crate::cases::case_of;
+use crate::cases::{case_of, separator_of};
 use std::alloc::Global;
 use std::io;
 
@@ -71,20 +71,19 @@ pub fn count_lines<R: Input + Print + AllocGlobal, F: FnMut(Global, &str) -> Ver
 fn is_answered<A: Meant + Drop, F: FnMut(Global, &str, &str) -> Option<A>>(
     alloc: Global,
     line: &str,
-    separator: &str,
     answer: &mut F,
 ) -> Option<bool>
     requires { (state : F) (alloc : _) (call : _) (given : _) → F.pre state alloc call given }
 {
-    let case = case_of(line, separator)?;
+    let case = case_of(line, separator_of(line))?;
     let answer = answer(alloc, case.call, case.given)?;
     answer.is_meant(alloc, case.wanted)
 }
 
-/// As `count_lines`, of lines whose parts have the separator between them: a call, what it is
-/// given, and what it is to answer. The calls answer None where the line can't be read, or there is
-/// no memory.
-pub fn run<R, A, F>(rt: &R, separator: &str, mut answer: F) -> io::Result<()>
+/// As `count_lines`, of lines whose parts are a call, what it is given, and what it is to answer,
+/// each line with bars between them or with semicolons. The calls answer None where the line can't
+/// be read, or there is no memory.
+pub fn run<R, A, F>(rt: &R, mut answer: F) -> io::Result<()>
 where
     R: Input + Print + AllocGlobal,
     A: Meant + Drop,
@@ -97,7 +96,7 @@ where
         if is_heading(line.as_str()) {
             continue;
         }
-        let holds = is_answered(rt.alloc(), line.as_str(), separator, &mut answer);
+        let holds = is_answered(rt.alloc(), line.as_str(), &mut answer);
         count = count.saturating_add(report(rt, line.as_str(), Verdict::of(holds))?);
     }
     println!(rt; "{count} lines hold")

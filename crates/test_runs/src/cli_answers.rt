@@ -1,7 +1,6 @@
 //! Whole runs over memory, with the statuses and reports that are wanted.
 use crate::running;
 use std::alloc::Global;
-use test_lines::run;
 
 /// What the call answers to what it is given; none where the line is no case.
 pub fn answer(alloc: Global, call: &str, given: &str) -> Option<String> {

@@ -3,7 +3,7 @@ ghost use Rattle.std.specs.Prelude.{◌≡◌, [], IfSome};
 ghost use Rattle.rx_io.specs.MemoryFiles as held;
 ghost use Rattle.rx_io.specs.MemorySink as taken;
 
-use crate::cli_tests_files::one_file;
+use crate::run_files::one_file;
 use rx_cli::{Status, run, run_in_memory};
 use rx_io::{MemoryFiles, MemorySink};
 use std::alloc::Global;
