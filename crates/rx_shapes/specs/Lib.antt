@@ -2,6 +2,7 @@
 -- and rows that may hold at all of them.
 pub mod Bounds
 pub mod Building
+pub mod Candidates
 pub mod General
 pub mod GoalBounds
 pub mod Places

@@ -1,19 +1,22 @@
 //! Rows that may hold at all goals of a shape, since the rules of its calls test them.
-ghost use Rattle.std.specs.Prelude.{◌≡◌, IfOk};
+ghost use Rattle.std.specs.Prelude.{◌≡◌, ◌<◌, ◌^◌, length, IfOk};
 ghost use Rattle.rx_plain.specs.Formed.{Forms, FormsAs, fold_formed};
 ghost use Rattle.rx_lemma.specs.Calls.{applied, call_of};
 ghost use Rattle.rx_pairs.specs.Loops.{AreLoopsOf};
 ghost use Rattle.rx_row.specs.Parts.{poly_of};
 ghost use Rattle.rx_term.specs.declared.rule_set.RuleParts.{RuleParts};
 ghost use Rattle.rx_shapes.specs.Bounds as spec;
+ghost use Rattle.rx_shapes.specs.Candidates as candidates;
+ghost use Rattle.rx_shapes.specs.Places as places;
 
-use crate::general::GeneralSides;
+use crate::general::{GeneralSides, general_sides};
+use crate::held::goal_bounds;
 use rx_lemma::{Call, call_of};
 use rx_pairs::Loops;
 use rx_plain::{Items, NoMemory};
 use rx_poly::{Poly, PolyEnd};
 use rx_row::{Constraint, Row};
-use rx_term::{Rule, RuleSet, Sym, Term};
+use rx_term::{Equation, Rule, RuleSet, Sym, Term};
 use std::alloc::Global;
 
 /// The rows `p >= 0` and `p + 1 >= 0`. Large exactly where `p + 1` passes the limits.
@@ -182,7 +185,7 @@ fn is_number(row: &Row) -> bool
 
 /// The rows in order, each where it first stands; those that speak of a number alone are left out.
 /// Fails only where there is no memory.
-pub fn distinct(alloc: Global, rows: Items<Row>) -> Result<Constraint, NoMemory>
+fn distinct(alloc: Global, rows: Items<Row>) -> Result<Constraint, NoMemory>
     ensures { IfOk result (λ c. c ≡ spec.distinct rows) }
 {
     let mut kept = Constraint::from_rows(Vec::new(alloc));
@@ -192,4 +195,23 @@ pub fn distinct(alloc: Global, rows: Items<Row>) -> Result<Constraint, NoMemory>
         }
     }
     Ok(kept)
+}
+
+/// The rows that may hold at all goals of the shape of this one, each where it first stands: those
+/// that the rules of its calls test, then those of the goal; rows of a number alone are left out.
+/// Large exactly where a polynomial of them passes the limits.
+pub fn candidate_rows(
+    alloc: Global,
+    rules: &RuleSet,
+    loops: &Loops,
+    goal: &Equation,
+) -> Result<Constraint, PolyEnd>
+    requires loops { AreLoopsOf rules.now loops.now }
+    requires few { length (places.places_of goal.now) < 2 ^ 32 }
+    ensures { Forms PolyEnd.Large result (candidates.candidate_rows rules.now goal.now) }
+{
+    let sides = general_sides(alloc, goal)?;
+    let mut rows = rule_bounds(alloc, rules, loops, &sides)?;
+    rows.append(goal_bounds(alloc, goal)?)?;
+    distinct(alloc, rows).map_err(|_| PolyEnd::NoMemory)
 }

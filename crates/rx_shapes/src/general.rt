@@ -5,10 +5,10 @@ ghost use Rattle.rx_shapes.specs.Building.{over_frames};
 ghost use Rattle.rx_shapes.specs.General as spec;
 ghost use Rattle.rx_shapes.specs.Places as places;
 
-use rx_plain::{Boxed, Items, NoMemory};
+use rx_plain::{Boxed, Items};
 use rx_poly::Poly;
 use rx_term::{Equation, Sym, Term};
-use std::alloc::Global;
+use std::alloc::{AllocError, Global};
 
 /// The general sides of a shape: v0, v1, and so on at its places, the left side's first.
 #[derive(Drop)]
@@ -29,7 +29,7 @@ pub(crate) struct OpenFrame {
 }
 
 /// A variable for each of the polynomials, numbered on from `first`.
-fn variables_from(alloc: Global, first: u32, polys: &[Poly]) -> Result<Items<Poly>, NoMemory>
+fn variables_from(alloc: Global, first: u32, polys: &[Poly]) -> Result<Items<Poly>, AllocError>
     requires few { first + length polys.now < 2 ^ 32 }
     ensures { IfOk result (λ ps. ps ≡ spec.variables_from first polys.now) }
 {
@@ -43,7 +43,7 @@ fn variables_from(alloc: Global, first: u32, polys: &[Poly]) -> Result<Items<Pol
 }
 
 /// The frame over the term.
-fn over_frame(alloc: Global, frame: OpenFrame, inner: Term) -> Result<Term, NoMemory>
+fn over_frame(alloc: Global, frame: OpenFrame, inner: Term) -> Result<Term, AllocError>
     ensures { IfOk result (λ t. t ≡ Term.Frame frame.symbol frame.arguments inner) }
 {
     let OpenFrame { symbol, arguments } = frame;
@@ -52,7 +52,7 @@ fn over_frame(alloc: Global, frame: OpenFrame, inner: Term) -> Result<Term, NoMe
 
 /// The frames, the first of them outside, over the term.
 #[tactic(auto, using(crate::proofs::Frames::over_last))]
-fn over_frames(alloc: Global, frames: Vec<OpenFrame>, inner: Term) -> Result<Term, NoMemory>
+fn over_frames(alloc: Global, frames: Vec<OpenFrame>, inner: Term) -> Result<Term, AllocError>
     ensures { IfOk result (λ t. t ≡ over_frames frames.items inner) }
 {
     let mut left = frames;
@@ -70,7 +70,7 @@ fn push_frame(
     symbol: Sym,
     first: u32,
     polys: &[Poly],
-) -> Result<(), NoMemory>
+) -> Result<(), AllocError>
     requires few { first + length polys.now < 2 ^ 32 }
     ensures { OnOk result (frames.new.items ≡
         frames.old.items ++ spec.open_frame symbol first polys.now ∷ []) }
@@ -82,7 +82,7 @@ fn push_frame(
 
 /// The term with variables, numbered on from `first`, in place of its polynomials.
 #[tactic(auto, using(crate::proofs::Frames::over_last))]
-fn general_from(alloc: Global, first: u32, term: &Term) -> Result<Term, NoMemory>
+fn general_from(alloc: Global, first: u32, term: &Term) -> Result<Term, AllocError>
     requires few { first + length (arguments_of term.now) < 2 ^ 32 }
     ensures { IfOk result (λ t. t ≡ spec.general_from first term.now) }
 {
@@ -109,7 +109,7 @@ fn general_from(alloc: Global, first: u32, term: &Term) -> Result<Term, NoMemory
 }
 
 /// The general sides of the equation's shape. Fails only where there is no memory.
-pub fn general_sides(alloc: Global, equation: &Equation) -> Result<GeneralSides, NoMemory>
+pub fn general_sides(alloc: Global, equation: &Equation) -> Result<GeneralSides, AllocError>
     requires few { length (places.places_of equation.now) < 2 ^ 32 }
     ensures { IfOk result (λ sides. sides ≡ spec.general_of equation.now) }
 {

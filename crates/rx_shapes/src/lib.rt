@@ -11,9 +11,8 @@ mod general;
 mod held;
 mod places;
 
-pub use bounds::{distinct, rule_bounds};
+pub use bounds::{candidate_rows, rule_bounds};
 pub use general::{GeneralSides, general_sides};
 pub use held::goal_bounds;
 pub use places::{have_one_shape, places_of};
-pub use rx_plain::NoMemory;
 pub use rx_poly::PolyEnd;
