@@ -2,9 +2,4 @@
 -- these goals.
 pub mod Applying
 pub mod Cancelling
-pub mod Common
 pub mod Content
-pub mod Linear
-pub mod Products
-pub mod Relations
-pub mod Values

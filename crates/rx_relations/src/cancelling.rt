@@ -61,14 +61,14 @@ fn cancelled(
 /// other; Large exactly where a polynomial on the way passes the limits.
 pub(crate) fn reduced(
     alloc: Global,
-    combination: Combination,
+    combination: &Combination,
     pivots: &[Combination],
 ) -> Result<Combination, PolyEnd>
-    ensures { Forms PolyEnd.Large result (reduced pivots.now combination) }
+    ensures { Forms PolyEnd.Large result (reduced pivots.now combination.now) }
 {
-    let mut combination = combination;
+    let mut rest = combination.try_clone(alloc)?;
     for pivot in pivots {
-        combination = cancelled(alloc, combination, pivot)?;
+        rest = cancelled(alloc, rest, pivot)?;
     }
-    Ok(combination)
+    Ok(rest)
 }

@@ -14,6 +14,16 @@ pub(crate) struct Combination {
 }
 
 impl Combination {
+    /// The same combination once more, which takes no memory; fails only where no more copies can be
+    /// counted.
+    pub(crate) fn try_clone(&self, alloc: Global) -> Result<Combination, AllocError>
+        ensures { IfOk result (λ c. c ≡ self.now) }
+    {
+        let value = self.value.try_clone(alloc)?;
+        let relation = self.relation.try_clone(alloc)?;
+        Ok(Combination { value, relation })
+    }
+
     /// The greatest common divisor of all coefficients of both parts.
     fn common_content(&self) -> u128
         ensures { result ≡ common_content self.now }

@@ -36,8 +36,8 @@ impl Reduction {
 
     /// Takes the combination, reduced by the pivots; Large exactly where a polynomial on the way
     /// passes the limits.
-    fn take(&mut self, alloc: Global, combination: Combination) -> Result<(), PolyEnd>
-        ensures { FormsAs (λ _. self.new) PolyEnd.Large result (taken self.old combination) }
+    fn take(&mut self, alloc: Global, combination: &Combination) -> Result<(), PolyEnd>
+        ensures { FormsAs (λ _. self.new) PolyEnd.Large result (taken self.old combination.now) }
     {
         let rest = reduced(alloc, combination, self.pivots.as_slice())?;
         Ok(self.place(rest)?)
@@ -48,15 +48,15 @@ impl Reduction {
 /// the way passes the limits.
 pub(crate) fn vanishing_combinations(
     alloc: Global,
-    combinations: Items<Combination>,
+    combinations: &[Combination],
 ) -> Result<Items<Poly>, PolyEnd>
-    ensures { Forms PolyEnd.Large result (vanishing combinations) }
+    ensures { Forms PolyEnd.Large result (vanishing combinations.now) }
 {
     let mut done = Reduction {
         pivots: Items::new(alloc),
         vanishing: Items::new(alloc),
     };
-    for combination in combinations.into_vec() {
+    for combination in combinations {
         done.take(alloc, combination)?;
     }
     Ok(done.vanishing)

@@ -1,0 +1,3 @@
+-- Lemmas on the definitions of specs/.
+pub mod Applied
+pub mod Dividing
