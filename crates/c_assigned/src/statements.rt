@@ -51,7 +51,7 @@ fn unset_in_test(
     }
 }
 
-// Of a declaration, whose name is in scope already, in the last slot.
+// The flow of a declaration, whose name is in scope already, in the last slot.
 fn declared(
     alloc: Global,
     names: &[u32],
@@ -74,7 +74,7 @@ fn declared(
     }
 }
 
-// Of an assignment.
+// The flow of an assignment.
 fn assigned(
     names: &[u32],
     scope: &[u32],
@@ -192,7 +192,7 @@ pub fn stmt_flow(
     }
 }
 
-// Of a part of a statement: what it declares is gone after it.
+// The flow of a part of a statement: what the part declares is gone after it.
 #[cycle(flows)]
 fn inside(
     alloc: Global,
@@ -212,7 +212,7 @@ fn inside(
     Ok(leave(outside, flow))
 }
 
-// Of such a part that may be left out.
+// The flow of a part of a statement that may be left out.
 #[cycle(flows)]
 fn inside_optional(
     alloc: Global,
@@ -232,7 +232,7 @@ fn inside_optional(
     }
 }
 
-// Of a list of statements, in its order.
+// The flow of a list of statements, in its order.
 #[cycle(flows)]
 pub fn in_order(
     alloc: Global,
@@ -258,7 +258,7 @@ pub fn in_order(
     Ok(flow)
 }
 
-// Of a `while`.
+// The flow of a `while`.
 #[cycle(flows)]
 fn while_flow(
     alloc: Global,
@@ -286,7 +286,7 @@ fn while_flow(
     }
 }
 
-// Of a `do`.
+// The flow of a `do`.
 #[cycle(flows)]
 fn do_flow(
     alloc: Global,
@@ -314,7 +314,7 @@ fn do_flow(
     }
 }
 
-// Of a block.
+// The flow of a block.
 #[cycle(flows)]
 fn block_flow(
     alloc: Global,

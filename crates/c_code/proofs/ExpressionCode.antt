@@ -16,18 +16,18 @@ use Rattle.c_meaning.specs.Expressions.{is_zero}
 use Rattle.c_meaning.specs.Runs.{Run, Value, DivisionError, More, Over, on_value}
 use Rattle.c_meaning.specs.CountedExpressions.{Calls, Evaluation, unary, apply, short_circuit, unless_known, with_left, values, expr_level, expr}
 use Rattle.c_code.specs.Stores.{Kept, with_values, pushed}
-use Rattle.c_code.specs.Flat.{Back, at, read, after, before, operand_level, operand_of, op_to, rests, code_run, sink_to}
-use Rattle.c_code.specs.Flat.{Leads, TopLeads, SinkWithin, expr_run, operand_run, right_run, binary_run, arguments_run}
+use Rattle.c_code.specs.Flat.{Back, at, read, after, before, operand_level, operand_of, op_to, rests, code_run, destination_to}
+use Rattle.c_code.specs.Flat.{Leads, TopLeads, DestinationWithin, expr_run, operand_run, right_run, binary_run, arguments_run}
 use Rattle.c_code.specs.declared.code.Operand.{Operand}
 use Rattle.c_code.specs.declared.code.Operand.TheVariants.{Constant, Slot, Popped}
 use Rattle.c_code.specs.declared.code.Work.TheVariants.{Read, Before, Between}
-use Rattle.c_code.specs.declared.code.Sink.{Sink}
-use Rattle.c_code.specs.declared.code.Sink.TheVariants as sink
+use Rattle.c_code.specs.declared.code.Destination.{Destination}
+use Rattle.c_code.specs.declared.code.Destination.TheVariants as destination
 use Rattle.c_code.specs.declared.code.Op.{Op}
 use Rattle.c_code.specs.declared.code.Op.TheVariants as op
 use Rattle.c_meaning.proofs.CountedEquations.{expr-Lit, expr-Var, expr-Unary, expr-Binary, expr-Choose, expr-Apply}
 use Rattle.c_meaning.proofs.Runs.{on_value-on_value, on_value-same, on_value-then}
-use Rattle.c_code.proofs.Leading.{stays, sink-stays, leads-on, leads-as, leads-after, no-turns}
+use Rattle.c_code.proofs.Leading.{stays, destination-stays, leads-on, leads-as, leads-after, no-turns}
 
 module _ (calls : Calls) (k : Kept) (left : ℕ) where
   -- the value of an expression, read where it is, is its value
@@ -77,15 +77,16 @@ module _ (calls : Calls) (k : Kept) (left : ℕ) where
 
 -- an operand that waits on top
 pub operand-popped : (old new : List Op) (p next : ℕ) (e : Expr) → operand_of e ≡ Popped
-    → Leads old new p (expr_run old (sink.Push next) e) → Leads old new p (operand_run old next e)
+    → Leads old new p (expr_run old (destination.Push next) e) → Leads old new p
+    (operand_run old next e)
 operand-popped old new p next e is leads =
-    leads-as old new p (expr_run old (sink.Push next) e) (operand_run old next e) leads
+    leads-as old new p (expr_run old (destination.Push next) e) (operand_run old next e) leads
     (λ calls back k left. ap (λ (o : Operand).
     on_value (expr calls e left k.state) (λ x. code_run calls back old next (before o k x)))
     (sym is))
 
 -- the right operand of an operator, before the operator itself
-pub right-leads : (old m1 new : List Op) (s : Sink) (f : BinOp) (a : Operand) (b : Expr)
+pub right-leads : (old m1 new : List Op) (s : Destination) (f : BinOp) (a : Operand) (b : Expr)
     (both p : ℕ)
     → Leads old m1 both (λ calls back. op_to calls back (rests calls back old)
     (op.Do (Between f a (operand_of b)) s))
@@ -95,24 +96,24 @@ right-leads old m1 new s f a b both p one two =
     (λ calls back k left. on_value-same (expr calls b left k.state) _ _
     (λ y n. one.comes calls back (before (operand_of b) k y) n)
     ∙ read-operand calls k left b (λ y j n. on_value (apply f (read a j) y n)
-    (sink_to (rests calls back old) back s (after a j))))
+    (destination_to (rests calls back old) back s (after a j))))
 
 -- an operator that always needs both operands
-module _ (old m1 new : List Op) (s : Sink) (f : BinOp) (a b : Expr) (right p : ℕ)
+module _ (old m1 new : List Op) (s : Destination) (f : BinOp) (a b : Expr) (right p : ℕ)
     (one : Leads old m1 right (right_run old s f (operand_of a) b))
     (two : Leads m1 new p (operand_run m1 right a))
     (none : (x : ℤ) → short_circuit f x ≡ None) where
   strict-left : (calls : Calls) (back : Back) (k : Kept) (x : ℤ) (m : ℕ)
       → on_value (with_left f x (λ n. expr calls b n k.state) m)
-      (sink_to (rests calls back old) back s k)
+      (destination_to (rests calls back old) back s k)
       ≡ on_value (expr calls b m k.state) (λ y n.
-      on_value (apply f x y n) (sink_to (rests calls back old) back s k))
+      on_value (apply f x y n) (destination_to (rests calls back old) back s k))
   strict-left calls back k x m =
       ap (λ (o : Option ℤ). on_value (unless_known o
       (λ n. on_value (expr calls b n k.state) (apply f x)) m)
-      (sink_to (rests calls back old) back s k)) (none x)
+      (destination_to (rests calls back old) back s k)) (none x)
       ∙ on_value-on_value (expr calls b m k.state) (apply f x)
-      (sink_to (rests calls back old) back s k)
+      (destination_to (rests calls back old) back s k)
 
   strict-run : (calls : Calls) (back : Back) (k : Kept) (left : ℕ) →
       operand_run m1 right a calls back k left ≡ binary_run old s f a b calls back k left
@@ -121,10 +122,10 @@ module _ (old m1 new : List Op) (s : Sink) (f : BinOp) (a b : Expr) (right p : �
       (λ x m. one.comes calls back (before (operand_of a) k x) m)
       ∙ (read-operand calls k left a (λ x j m.
       on_value (expr calls b m k.state) (λ y n.
-      on_value (apply f x y n) (sink_to (rests calls back old) back s j)))
+      on_value (apply f x y n) (destination_to (rests calls back old) back s j)))
       ∙ sym (on_value-then (expr calls a left k.state)
       (λ x. with_left f x (λ m. expr calls b m k.state))
-      (sink_to (rests calls back old) back s k) _
+      (destination_to (rests calls back old) back s k) _
       (strict-left calls back k)))
 
   pub strict-leads : Leads old new p (binary_run old s f a b)
@@ -133,13 +134,14 @@ module _ (old m1 new : List Op) (s : Sink) (f : BinOp) (a b : Expr) (right p : �
       strict-run
 
 -- the truth of the right operand of `&&` and `||`
-module _ (old m1 m2 : List Op) (s : Sink) (within : SinkWithin (length old) s) (f : BinOp)
+module _ (old m1 m2 : List Op) (s : Destination) (within : DestinationWithin (length old) s)
+    (f : BinOp)
     (b : Expr) (known right : ℕ) (c d : ℤ)
     (value : Leads old m1 known (λ calls back.
     op_to calls back (rests calls back old) (op.Do (Read (Constant c)) s)))
     (truth_of : Leads m1 m2 right (right_run m1 s f (Constant d) b)) where
   known-there : (calls : Calls) (back : Back) (k : Kept) (m : ℕ) →
-      code_run calls back m2 known k m ≡ sink_to (rests calls back old) back s k c m
+      code_run calls back m2 known k m ≡ destination_to (rests calls back old) back s k c m
   known-there calls back k m =
       stays m1 truth_of.more m2 truth_of.longer known value.within calls back k m ∙
       value.comes calls back k m
@@ -147,35 +149,35 @@ module _ (old m1 m2 : List Op) (s : Sink) (within : SinkWithin (length old) s) (
   go-on : (calls : Calls) (back : Back) (k : Kept) (x : ℤ) (m : ℕ) →
       ((y : ℤ) (n : ℕ) → apply f d y n ≡ apply f x y n)
       → code_run calls back m2 right k m ≡ on_value (on_value (expr calls b m k.state) (apply f x))
-      (sink_to (rests calls back old) back s k)
+      (destination_to (rests calls back old) back s k)
   go-on calls back k x m same =
       truth_of.comes calls back k m
       ∙ (on_value-same (expr calls b m k.state) _ _ (λ y n. on_value-same (apply f d y n) _ _
-      (λ z q. sink-stays old value.more m1 value.longer s within calls back k z q))
+      (λ z q. destination-stays old value.more m1 value.longer s within calls back k z q))
       ∙ sym (on_value-then (expr calls b m k.state) (apply f x)
-      (sink_to (rests calls back old) back s k) _
-      (λ y n. ap (λ (r : Run ℤ). on_value r (sink_to (rests calls back old) back s k))
+      (destination_to (rests calls back old) back s k) _
+      (λ y n. ap (λ (r : Run ℤ). on_value r (destination_to (rests calls back old) back s k))
       (sym (same y n)))))
 
 -- `&&`
-pub both-leads : (old m1 m2 new : List Op) (s : Sink) → SinkWithin (length old) s →
+pub both-leads : (old m1 m2 new : List Op) (s : Destination) → DestinationWithin (length old) s →
     (a b : Expr) (known right p : ℕ)
     → Leads old m1 known (λ calls back. op_to calls back (rests calls back old)
     (op.Do (Read (Constant (pos 0))) s))
     → Leads m1 m2 right (right_run m1 s AndAlso (Constant (pos 1)) b)
-    → Leads m2 new p (expr_run m2 (sink.Branch known right) a)
+    → Leads m2 new p (expr_run m2 (destination.Branch known right) a)
     → Leads old new p (binary_run old s AndAlso a b)
 both-leads old m1 m2 new s within a b known right p value truth_of last =
     leads-on old m2 new right p (right_run m1 s AndAlso (Constant (pos 1)) b)
-    (expr_run m2 (sink.Branch known right) a) (binary_run old s AndAlso a b)
+    (expr_run m2 (destination.Branch known right) a) (binary_run old s AndAlso a b)
     (leads-on old m1 m2 known right _ _ (right_run m1 s AndAlso (Constant (pos 1)) b) value truth_of
     (λ calls back k left. refl)) last
     (λ calls back k left. sym (on_value-then (expr calls a left k.state)
     (λ x. with_left AndAlso x (λ m. expr calls b m k.state))
-    (sink_to (rests calls back old) back s k) _ (λ x m.
+    (destination_to (rests calls back old) back s k) _ (λ x m.
     elim (is_zero x) as (λ z. on_value (unless_known (if z then Some (pos 0) else None)
     (λ n. on_value (expr calls b n k.state) (apply AndAlso x)) m)
-    (sink_to (rests calls back old) back s k)
+    (destination_to (rests calls back old) back s k)
     ≡ (if z then at (rests calls back m2) known k m else at (rests calls back m2) right k m)) [
       | true ↦ sym (known-there old m1 m2 s within AndAlso b known right (pos 0) (pos 1) value
           truth_of calls back k m)
@@ -184,24 +186,24 @@ both-leads old m1 m2 new s within a b known right p value truth_of last =
     ])))
 
 -- `||`
-pub either-leads : (old m1 m2 new : List Op) (s : Sink) → SinkWithin (length old) s →
+pub either-leads : (old m1 m2 new : List Op) (s : Destination) → DestinationWithin (length old) s →
     (a b : Expr) (known right p : ℕ)
     → Leads old m1 known (λ calls back. op_to calls back (rests calls back old)
     (op.Do (Read (Constant (pos 1))) s))
     → Leads m1 m2 right (right_run m1 s OrElse (Constant (pos 0)) b)
-    → Leads m2 new p (expr_run m2 (sink.Branch right known) a)
+    → Leads m2 new p (expr_run m2 (destination.Branch right known) a)
     → Leads old new p (binary_run old s OrElse a b)
 either-leads old m1 m2 new s within a b known right p value truth_of last =
     leads-on old m2 new right p (right_run m1 s OrElse (Constant (pos 0)) b)
-    (expr_run m2 (sink.Branch right known) a) (binary_run old s OrElse a b)
+    (expr_run m2 (destination.Branch right known) a) (binary_run old s OrElse a b)
     (leads-on old m1 m2 known right _ _ (right_run m1 s OrElse (Constant (pos 0)) b) value truth_of
     (λ calls back k left. refl)) last
     (λ calls back k left. sym (on_value-then (expr calls a left k.state)
     (λ x. with_left OrElse x (λ m. expr calls b m k.state))
-    (sink_to (rests calls back old) back s k) _ (λ x m.
+    (destination_to (rests calls back old) back s k) _ (λ x m.
     elim (is_zero x) as (λ z. on_value (unless_known (if z then None else Some (pos 1))
     (λ n. on_value (expr calls b n k.state) (apply OrElse x)) m)
-    (sink_to (rests calls back old) back s k)
+    (destination_to (rests calls back old) back s k)
     ≡ (if z then at (rests calls back m2) right k m else at (rests calls back m2) known k m)) [
       | true ↦ sym (go-on old m1 m2 s within OrElse b known right (pos 1) (pos 0) value truth_of
           calls back k x m (λ y n. refl))
@@ -210,7 +212,7 @@ either-leads old m1 m2 new s within a b known right p value truth_of last =
     ])))
 
 -- an operator before its operand
-pub unary-leads : (old m1 new : List Op) (s : Sink) (f : UnOp) (a : Expr) (next p : ℕ)
+pub unary-leads : (old m1 new : List Op) (s : Destination) (f : UnOp) (a : Expr) (next p : ℕ)
     → Leads old m1 next (λ calls back. op_to calls back (rests calls back old)
     (op.Do (Before f (operand_of a)) s))
     → Leads m1 new p (operand_run m1 next a) → Leads old new p (expr_run old s (Unary f a))
@@ -219,58 +221,58 @@ unary-leads old m1 new s f a next p one two =
     (λ calls back k left. on_value-same (expr calls a left k.state) _ _
     (λ x m. one.comes calls back (before (operand_of a) k x) m)
     ∙ (read-operand calls k left a (λ x j m. on_value (unary f x m)
-    (sink_to (rests calls back old) back s j))
-    ∙ sym (ap (λ (r : Run ℤ). on_value r (sink_to (rests calls back old) back s k))
+    (destination_to (rests calls back old) back s j))
+    ∙ sym (ap (λ (r : Run ℤ). on_value r (destination_to (rests calls back old) back s k))
     (expr-Unary calls f a left k.state)
     ∙ on_value-on_value (expr calls a left k.state) (unary f)
-    (sink_to (rests calls back old) back s k))))
+    (destination_to (rests calls back old) back s k))))
 
-pub binary-leads : (old new : List Op) (s : Sink) (f : BinOp) (a b : Expr) (p : ℕ)
+pub binary-leads : (old new : List Op) (s : Destination) (f : BinOp) (a b : Expr) (p : ℕ)
     → Leads old new p (binary_run old s f a b) → Leads old new p (expr_run old s (Binary f a b))
 binary-leads old new s f a b p leads =
     leads-as old new p (binary_run old s f a b) (expr_run old s (Binary f a b)) leads
     (λ calls back k left. sym (ap (λ (r : Run ℤ).
-    on_value r (sink_to (rests calls back old) back s k))
+    on_value r (destination_to (rests calls back old) back s k))
     (expr-Binary calls f a b left k.state)))
 
 -- a literal and a variable
-pub lit-leads : (old new : List Op) (s : Sink) (c : ℤ) (p : ℕ)
+pub lit-leads : (old new : List Op) (s : Destination) (c : ℤ) (p : ℕ)
     → Leads old new p (λ calls back. op_to calls back (rests calls back old)
     (op.Do (Read (Constant c)) s)) → Leads old new p (expr_run old s (Lit c))
 lit-leads old new s c p leads = leads-as old new p _ (expr_run old s (Lit c)) leads
     (λ calls back k left. sym (ap (λ (r : Run ℤ).
-    on_value r (sink_to (rests calls back old) back s k)) (expr-Lit calls c left k.state)))
+    on_value r (destination_to (rests calls back old) back s k)) (expr-Lit calls c left k.state)))
 
-pub var-leads : (old new : List Op) (s : Sink) (v : ℕ) (p : ℕ)
+pub var-leads : (old new : List Op) (s : Destination) (v : ℕ) (p : ℕ)
     → Leads old new p (λ calls back. op_to calls back (rests calls back old)
     (op.Do (Read (Slot v)) s)) → Leads old new p (expr_run old s (Var v))
 var-leads old new s v p leads = leads-as old new p _ (expr_run old s (Var v)) leads
     (λ calls back k left. sym (ap (λ (r : Run ℤ).
-    on_value r (sink_to (rests calls back old) back s k)) (expr-Var calls v left k.state)))
+    on_value r (destination_to (rests calls back old) back s k)) (expr-Var calls v left k.state)))
 
 -- a choice
-pub choose-leads : (old m1 m2 new : List Op) (s : Sink) → SinkWithin (length old) s →
+pub choose-leads : (old m1 m2 new : List Op) (s : Destination) → DestinationWithin (length old) s →
     (c a b : Expr) (other taken p : ℕ)
     → Leads old m1 other (expr_run old s b) → Leads m1 m2 taken (expr_run m1 s a) →
-    Leads m2 new p (expr_run m2 (sink.Branch other taken) c)
+    Leads m2 new p (expr_run m2 (destination.Branch other taken) c)
     → Leads old new p (expr_run old s (Choose c a b))
 choose-leads old m1 m2 new s within c a b other taken p one two three =
-    leads-on old m2 new taken p (expr_run m1 s a) (expr_run m2 (sink.Branch other taken) c)
+    leads-on old m2 new taken p (expr_run m1 s a) (expr_run m2 (destination.Branch other taken) c)
     (expr_run old s (Choose c a b))
     (leads-on old m1 m2 other taken _ _ (expr_run m1 s a) one two (λ calls back k left. refl)) three
     (λ calls back k left.
-    sym (ap (λ (r : Run ℤ). on_value r (sink_to (rests calls back old) back s k))
+    sym (ap (λ (r : Run ℤ). on_value r (destination_to (rests calls back old) back s k))
     (expr-Choose calls c a b left k.state)
     ∙ on_value-then (expr calls c left k.state)
     (λ x m. if is_zero x then expr calls b m k.state else expr calls a m k.state)
-    (sink_to (rests calls back old) back s k) _ (λ x m.
+    (destination_to (rests calls back old) back s k) _ (λ x m.
     elim (is_zero x) as (λ z. on_value (if z then expr calls b m k.state else
-    expr calls a m k.state) (sink_to (rests calls back old) back s k)
+    expr calls a m k.state) (destination_to (rests calls back old) back s k)
     ≡ (if z then at (rests calls back m2) other k m else at (rests calls back m2) taken k m)) [
       | true ↦ sym (stays m1 two.more m2 two.longer other one.within calls back k m ∙
           one.comes calls back k m)
       | false ↦ sym (two.comes calls back k m ∙ on_value-same (expr calls a m k.state) _ _
-          (λ y n. sink-stays old one.more m1 one.longer s within calls back k y n))
+          (λ y n. destination-stays old one.more m1 one.longer s within calls back k y n))
     ])))
 
 -- as many values as arguments
@@ -311,7 +313,7 @@ length-map A B f [] = refl
 length-map A B f (x ∷ xs) = ap suc (length-map A B f xs)
 
 -- a call
-module _ (old m1 m2 new : List Op) (s : Sink) (f : ℕ) (es : List Expr) (after_it call p : ℕ)
+module _ (old m1 m2 new : List Op) (s : Destination) (f : ℕ) (es : List Expr) (after_it call p : ℕ)
     (one : TopLeads old m1 after_it s)
     (two : Leads m1 m2 call (λ calls back. op_to calls back (rests calls back m1)
     (op.Call f (length es) after_it)))
@@ -319,7 +321,7 @@ module _ (old m1 m2 new : List Op) (s : Sink) (f : ℕ) (es : List Expr) (after_
   called-with : (calls : Calls) (back : Back) (k : Kept) (xs : List ℤ) (m : ℕ) → length xs ≡
       length es
       → code_run calls back m2 call (with_values k (reverse xs ++ k.values)) m
-      ≡ on_value (calls m f xs) (sink_to (rests calls back old) back s k)
+      ≡ on_value (calls m f xs) (destination_to (rests calls back old) back s k)
   called-with calls back k xs m many =
       let count : length es ≡ length (reverse xs) = sym (length-reverse xs ∙ many) in
       two.comes calls back (with_values k (reverse xs ++ k.values)) m
@@ -343,18 +345,18 @@ module _ (old m1 m2 new : List Op) (s : Sink) (f : ℕ) (es : List Expr) (after_
       (λ xs m is. called-with calls back k xs m
       (length-values (map (expr calls) es) left k.state xs m is ∙
       length-map Expr Evaluation (expr calls) es))
-      ∙ sym (ap (λ (r : Run ℤ). on_value r (sink_to (rests calls back old) back s k))
+      ∙ sym (ap (λ (r : Run ℤ). on_value r (destination_to (rests calls back old) back s k))
       (expr-Apply calls f es left k.state)
       ∙ on_value-on_value (values (map (expr calls) es) left k.state) (λ xs m. calls m f xs)
-      (sink_to (rests calls back old) back s k)))
+      (destination_to (rests calls back old) back s k)))
 
 -- one argument before others
 pub argument-leads : (old mid new : List Op) (e : Expr) (es : List Expr) (next q p : ℕ) →
     Leads old mid q (arguments_run old next es)
-    → Leads mid new p (expr_run mid (sink.Push q) e) →
+    → Leads mid new p (expr_run mid (destination.Push q) e) →
     Leads old new p (arguments_run old next (e ∷ es))
 argument-leads old mid new e es next q p one two =
-    leads-on old mid new q p (arguments_run old next es) (expr_run mid (sink.Push q) e)
+    leads-on old mid new q p (arguments_run old next es) (expr_run mid (destination.Push q) e)
     (arguments_run old next (e ∷ es)) one two
     (λ calls back k left. sym (on_value-then (expr calls e left k.state)
     (λ x m. on_value (values (map (expr calls) es) m k.state) (λ xs n. Value (x ∷ xs) n))
@@ -366,7 +368,7 @@ argument-leads old mid new e es next q p one two =
     ∙ sym (one.comes calls back (pushed k x) m))))
 
 -- an expression of another form
-pub in-form : (old new : List Op) (s : Sink) (p : ℕ) (e f : Expr) → e ≡ f →
+pub in-form : (old new : List Op) (s : Destination) (p : ℕ) (e f : Expr) → e ≡ f →
     Leads old new p (expr_run old s f) → Leads old new p (expr_run old s e)
 in-form old new s p e f is leads =
     subst (λ (g : Expr). Leads old new p (expr_run old s g)) (sym is) leads
@@ -388,7 +390,7 @@ strict-op OrElse x one two = absurd (two refl)
 strict-op _ x one two = refl
 
 -- the value on top after a call
-pub top-here : (old : List Op) (n : ℕ) → n < length old → TopLeads old old n (sink.Push n)
+pub top-here : (old : List Op) (n : ℕ) → n < length old → TopLeads old old n (destination.Push n)
 top-here old n there =
     record {
       more = [];
@@ -399,7 +401,7 @@ top-here old n there =
       comes = λ calls back k x left. refl;
     }
 
-pub top-added : (old new : List Op) (p : ℕ) (s : Sink) →
+pub top-added : (old new : List Op) (p : ℕ) (s : Destination) →
     Leads old new p (λ calls back. op_to calls back (rests calls back old) (op.Do (Read Popped) s))
     → TopLeads old new p s
 top-added old new p s leads = record {

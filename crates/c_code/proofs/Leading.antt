@@ -10,10 +10,10 @@ use Rattle.c_meaning.specs.Expressions.{is_zero}
 use Rattle.c_meaning.specs.Statements.{Turn, Again, Ends}
 use Rattle.c_meaning.specs.CountedExpressions.{Calls}
 use Rattle.c_code.specs.Stores.{Kept}
-use Rattle.c_code.specs.Flat.{Rest, Back, at, op_to, rests, code_run, sink_to, flow_to, turn_to, turn_of}
-use Rattle.c_code.specs.Flat.{IsPlain, SinkWithin, ExitsWithin, TurnIsRight, TurnsFrom, Leads}
-use Rattle.c_code.specs.declared.code.Sink.{Sink}
-use Rattle.c_code.specs.declared.code.Sink.TheVariants as sink
+use Rattle.c_code.specs.Flat.{Rest, Back, at, op_to, rests, code_run, destination_to, flow_to, turn_to, turn_of}
+use Rattle.c_code.specs.Flat.{IsPlain, DestinationWithin, ExitsWithin, TurnIsRight, TurnsFrom, Leads}
+use Rattle.c_code.specs.declared.code.Destination.{Destination}
+use Rattle.c_code.specs.declared.code.Destination.TheVariants as destination
 use Rattle.c_code.specs.declared.code.Exits.{Exits}
 use Rattle.c_code.specs.declared.code.Op.{Op}
 use Rattle.c_code.specs.declared.code.Op.TheVariants as op
@@ -27,15 +27,15 @@ pub stays : (old more new : List Op) → new ≡ old ++ more → (p : ℕ) → p
 stays old more new longer p below calls back k left =
     ap (λ (r : Rest). r k left) (at-stays calls back old more new p longer below)
 
--- and so does where a sink leads
-pub sink-stays : (old more new : List Op) → new ≡ old ++ more → (s : Sink) →
-    SinkWithin (length old) s
+-- and so does where a destination leads
+pub destination-stays : (old more new : List Op) → new ≡ old ++ more → (s : Destination) →
+    DestinationWithin (length old) s
     → (calls : Calls) (back : Back) (k : Kept) (x : ℤ) (left : ℕ) →
-    sink_to (rests calls back new) back s k x left ≡
-    sink_to (rests calls back old) back s k x left
-sink-stays old more new longer (sink.Push p) below calls back k x left =
+    destination_to (rests calls back new) back s k x left ≡
+    destination_to (rests calls back old) back s k x left
+destination-stays old more new longer (destination.Push p) below calls back k x left =
     stays old more new longer p below calls back _ left
-sink-stays old more new longer (sink.Branch if_zero other) below calls back k x left =
+destination-stays old more new longer (destination.Branch if_zero other) below calls back k x left =
     elim (is_zero x) as (λ b. (if b then at (rests calls back new) if_zero k left else
     at (rests calls back new) other k left)
     ≡ (if b then at (rests calls back old) if_zero k left else
@@ -43,11 +43,11 @@ sink-stays old more new longer (sink.Branch if_zero other) below calls back k x 
       | true ↦ stays old more new longer if_zero below.0 calls back k left
       | false ↦ stays old more new longer other below.1 calls back k left
     ]
-sink-stays old more new longer (sink.Declare v p) below calls back k x left =
+destination-stays old more new longer (destination.Declare v p) below calls back k x left =
     stays old more new longer p below calls back _ left
-sink-stays old more new longer (sink.Assign v p) below calls back k x left =
+destination-stays old more new longer (destination.Assign v p) below calls back k x left =
     stays old more new longer p below calls back _ left
-sink-stays old more new longer (sink.Return scopes) below calls back k x left = refl
+destination-stays old more new longer (destination.Return scopes) below calls back k x left = refl
 
 -- and where a statement leads
 pub flow-stays : (old more new : List Op) → new ≡ old ++ more → (exits : Exits) →
@@ -88,12 +88,13 @@ exits-below m n le exits below =
           omega arith;
     }
 
-pub sink-below : (m n : ℕ) → m ≤ n → (s : Sink) → SinkWithin m s → SinkWithin n s
-sink-below m n le (sink.Push p) below = omega arith
-sink-below m n le (sink.Branch if_zero other) below = (omega arith, omega arith)
-sink-below m n le (sink.Declare v p) below = omega arith
-sink-below m n le (sink.Assign v p) below = omega arith
-sink-below m n le (sink.Return scopes) below = tt
+pub destination-below : (m n : ℕ) → m ≤ n → (s : Destination) → DestinationWithin m s →
+    DestinationWithin n s
+destination-below m n le (destination.Push p) below = omega arith
+destination-below m n le (destination.Branch if_zero other) below = (omega arith, omega arith)
+destination-below m n le (destination.Declare v p) below = omega arith
+destination-below m n le (destination.Assign v p) below = omega arith
+destination-below m n le (destination.Return scopes) below = tt
 
 pub longer-length : (old more new : List Op) → new ≡ old ++ more → length old ≤ length new
 longer-length old more new longer =

@@ -15,7 +15,7 @@ use Rattle.c_meaning.specs.CountedStatements.{optional, loop, after_body, after_
 use Rattle.c_code.specs.Stores.{Kept, with_state}
 use Rattle.c_code.specs.Flat.{Rest, Back, at, rests, code_run, flow_to, turn_to, turn_of}
 use Rattle.c_code.specs.Flat.{ExitsWithin, TurnIsRight, TurnsFrom, Leads, expr_run, flow_run, stmt_run, condition_run}
-use Rattle.c_code.specs.declared.code.Sink.TheVariants as sink
+use Rattle.c_code.specs.declared.code.Destination.TheVariants as destination
 use Rattle.c_code.specs.declared.code.Exits.{Exits}
 use Rattle.c_code.specs.declared.code.Op.{Op}
 use Rattle.c_code.specs.declared.code.Op.TheVariants as op
@@ -257,7 +257,7 @@ module _ (m1 m2 m3 : List Op) (turn : ℕ) (there : turn < length m1) (exits : E
     (within : ExitsWithin (length m1) exits) (test : Expr) (body whole : Stmt)
     (parts : (calls : Calls) → turn_of calls whole ≡ do_turn calls test (stmt calls body))
     (tested begin : ℕ)
-    (one : Leads m1 m2 tested (expr_run m1 (sink.Branch exits.next turn) test))
+    (one : Leads m1 m2 tested (expr_run m1 (destination.Branch exits.next turn) test))
     (two : Leads m2 m3 begin (stmt_run m2 (inside exits tested) body)) where
   is-tested : (calls : Calls) (back : Back) (k : Kept) (s : State) (m : ℕ)
       → code_run calls back m2 tested (with_state k s) m
@@ -288,7 +288,7 @@ module _ (m1 m2 m3 : List Op) (turn : ℕ) (there : turn < length m1) (exits : E
 
   pub do-turn-leads : Leads m1 m3 begin (turn_run m1 turn exits whole)
   do-turn-leads =
-      leads-on m1 m2 m3 tested begin (expr_run m1 (sink.Branch exits.next turn) test)
+      leads-on m1 m2 m3 tested begin (expr_run m1 (destination.Branch exits.next turn) test)
       (stmt_run m2 (inside exits tested) body) (turn_run m1 turn exits whole) one two
       (λ calls back k left. on_value-same (stmt calls body left k.state) _ _
       (through-do-body calls back k)

@@ -16,7 +16,7 @@ use Rattle.c_code.specs.Flat.{Back, op_to, rests, flow_to, expr_run, sequence_ru
 use Rattle.c_code.specs.Flat.{Leads, FunctionIsRight, FunctionsAreRight, FunctionsLead, WholeLeads, IsCode}
 use Rattle.c_code.specs.declared.code.Operand.TheVariants.{Constant}
 use Rattle.c_code.specs.declared.code.Work.TheVariants.{Read}
-use Rattle.c_code.specs.declared.code.Sink.TheVariants as sink
+use Rattle.c_code.specs.declared.code.Destination.TheVariants as destination
 use Rattle.c_code.specs.declared.code.Exits.{Exits}
 use Rattle.c_code.specs.declared.code.Code.{Code}
 use Rattle.std.specs.Option.{option_copied}
@@ -32,7 +32,7 @@ all_to p = record { next = p; broken = p; continued = p; scopes = 0 }
 -- a function
 module _ (old m1 new : List Op) (function : Function) (end p : ℕ)
     (one : Leads old m1 end (λ calls back. op_to calls back (rests calls back old)
-    (op.Do (Read (Constant (pos 0))) (sink.Return 0))))
+    (op.Do (Read (Constant (pos 0))) (destination.Return 0))))
     (two : Leads m1 new p (sequence_run m1 (all_to end) function.body)) where
   through-end : (calls : Calls) (back : Back) (k : Kept) (flow : Flow) (m : ℕ)
       → on_value (returned flow m) (λ x. back x (ended k 0)) ≡
@@ -138,7 +138,7 @@ one-function old mid new entries all functions both function p rest one more-ent
 
 -- an expression whose value ends the run
 pub whole-leads : (old new : List Op) (e : Expr) (p : ℕ) →
-    Leads old new p (expr_run old (sink.Return 0) e) → WholeLeads old new (Some e) (Some p)
+    Leads old new p (expr_run old (destination.Return 0) e) → WholeLeads old new (Some e) (Some p)
 whole-leads old new e p leads =
     record { more = leads.more; longer = leads.longer; turns = leads.turns; right = leads.comes }
 

@@ -18,7 +18,7 @@ use Rattle.c_code.specs.Flat.{Rest, Back, at, op_to, rests, code_run, flow_to, t
 use Rattle.c_code.specs.Flat.{ExitsWithin, Leads, ScopeLeads, expr_run, flow_run, stmt_run, sequence_run, condition_run}
 use Rattle.c_code.specs.declared.code.Operand.TheVariants.{Constant}
 use Rattle.c_code.specs.declared.code.Work.TheVariants.{Read}
-use Rattle.c_code.specs.declared.code.Sink.TheVariants as sink
+use Rattle.c_code.specs.declared.code.Destination.TheVariants as destination
 use Rattle.c_code.specs.declared.code.Exits.{Exits}
 use Rattle.c_code.specs.declared.code.Op.{Op}
 use Rattle.c_code.specs.declared.code.Op.TheVariants as op
@@ -256,10 +256,10 @@ continue-leads old new exits token within none =
     (stmt-Continue calls token left k.state)))
 
 pub assign-leads : (old new : List Op) (exits : Exits) (v p : ℕ) (e : Expr) →
-    Leads old new p (expr_run old (sink.Assign v exits.next) e)
+    Leads old new p (expr_run old (destination.Assign v exits.next) e)
     → Leads old new p (stmt_run old exits (syntax.Assign v e))
 assign-leads old new exits v p e leads =
-    leads-as old new p (expr_run old (sink.Assign v exits.next) e)
+    leads-as old new p (expr_run old (destination.Assign v exits.next) e)
     (stmt_run old exits (syntax.Assign v e)) leads
     (λ calls back k left. sym (ap (λ (r : Run Flow).
     on_value r (flow_to (rests calls back old) back exits k))
@@ -268,10 +268,10 @@ assign-leads old new exits v p e leads =
     (flow_to (rests calls back old) back exits k)))
 
 pub return-leads : (old new : List Op) (exits : Exits) (p : ℕ) (e : Expr) →
-    Leads old new p (expr_run old (sink.Return exits.scopes) e)
+    Leads old new p (expr_run old (destination.Return exits.scopes) e)
     → Leads old new p (stmt_run old exits (syntax.Return e))
 return-leads old new exits p e leads =
-    leads-as old new p (expr_run old (sink.Return exits.scopes) e)
+    leads-as old new p (expr_run old (destination.Return exits.scopes) e)
     (stmt_run old exits (syntax.Return e)) leads
     (λ calls back k left. sym (ap (λ (r : Run Flow).
     on_value r (flow_to (rests calls back old) back exits k)) (stmt-Return calls e left k.state)
@@ -279,10 +279,10 @@ return-leads old new exits p e leads =
     (flow_to (rests calls back old) back exits k)))
 
 pub declare-leads : (old new : List Op) (exits : Exits) (v p : ℕ) (e : Expr) →
-    Leads old new p (expr_run old (sink.Declare v exits.next) e)
+    Leads old new p (expr_run old (destination.Declare v exits.next) e)
     → Leads old new p (stmt_run old exits (syntax.Declare v (Some e)))
 declare-leads old new exits v p e leads =
-    leads-as old new p (expr_run old (sink.Declare v exits.next) e)
+    leads-as old new p (expr_run old (destination.Declare v exits.next) e)
     (stmt_run old exits (syntax.Declare v (Some e))) leads
     (λ calls back k left. sym (ap (λ (r : Run Flow).
     on_value r (flow_to (rests calls back old) back exits k))
@@ -293,7 +293,7 @@ declare-leads old new exits v p e leads =
 
 pub declare-none-leads : (old new : List Op) (exits : Exits) (v p : ℕ)
     → Leads old new p (λ calls back. op_to calls back (rests calls back old)
-    (op.Do (Read (Constant (pos 0))) (sink.Declare v exits.next)))
+    (op.Do (Read (Constant (pos 0))) (destination.Declare v exits.next)))
     → Leads old new p (stmt_run old exits (syntax.Declare v None))
 declare-none-leads old new exits v p leads =
     leads-as old new p _ (stmt_run old exits (syntax.Declare v None)) leads
@@ -313,10 +313,10 @@ pub if-leads : (old m1 m2 new : List Op) (exits : Exits) → ExitsWithin (length
     (e : Expr) (inner : Stmt) (other : Option Stmt) (po pt p : ℕ)
     → Leads old m1 po (flow_run old exits (λ calls. optional (option_map (stmt calls) other))) →
     Leads m1 m2 pt (stmt_run m1 exits inner)
-    → Leads m2 new p (expr_run m2 (sink.Branch po pt) e) →
+    → Leads m2 new p (expr_run m2 (destination.Branch po pt) e) →
     Leads old new p (stmt_run old exits (syntax.If e inner other))
 if-leads old m1 m2 new exits within e inner other po pt p one two three =
-    leads-on old m2 new pt p (stmt_run m1 exits inner) (expr_run m2 (sink.Branch po pt) e)
+    leads-on old m2 new pt p (stmt_run m1 exits inner) (expr_run m2 (destination.Branch po pt) e)
     (stmt_run old exits (syntax.If e inner other))
     (leads-on old m1 m2 po pt _ _ (stmt_run m1 exits inner) one two (λ calls back k left. refl))
     three

@@ -10,15 +10,15 @@ use Rattle.c_ast.specs.declared.expr.Expr.TheVariants.{Binary}
 use Rattle.c_meaning.specs.Runs.{Run, Value, on_value}
 use Rattle.c_meaning.specs.CountedExpressions.{Calls, apply, short_circuit, unless_known, with_left, expr}
 use Rattle.c_code.specs.Stores.{Kept}
-use Rattle.c_code.specs.Flat.{Rest, Back, at, read, after, leaf_value, inner_run, made, do_to, less_to, op_to, rests, sink_to}
+use Rattle.c_code.specs.Flat.{Rest, Back, at, read, after, leaf_value, inner_run, made, do_to, less_to, op_to, rests, destination_to}
 use Rattle.c_code.specs.Flat.{IsInner, IsLeaf, IsOp, Leads, Makes, expr_run, right_run}
 use Rattle.c_code.specs.declared.code.Leaf.{Leaf}
 use Rattle.c_code.specs.declared.code.Inner.{Inner}
 use Rattle.c_code.specs.declared.code.Operand.{Operand}
 use Rattle.c_code.specs.declared.code.Work.{Work}
 use Rattle.c_code.specs.declared.code.Work.TheVariants.{Alone, Left, Right}
-use Rattle.c_code.specs.declared.code.Sink.{Sink}
-use Rattle.c_code.specs.declared.code.Sink.TheVariants as sink
+use Rattle.c_code.specs.declared.code.Destination.{Destination}
+use Rattle.c_code.specs.declared.code.Destination.TheVariants as destination
 use Rattle.c_code.specs.declared.code.Op.{Op}
 use Rattle.c_code.specs.declared.code.Op.TheVariants as op
 use Rattle.c_meaning.proofs.CountedEquations.{expr-Binary}
@@ -59,18 +59,19 @@ module _ (e a b : Expr) (f : BinOp) (is : e ≡ Binary f a b)
       (with-leaf calls k m (inner_run inner k m) (left calls k m), refl)
 
 -- the op that makes the value of an expression
-pub work-leads : (old new : List Op) (s : Sink) (work : Work) (e : Expr) (p : ℕ) → Makes e work
+pub work-leads : (old new : List Op) (s : Destination) (work : Work) (e : Expr) (p : ℕ) → Makes e
+    work
     → Leads old new p (λ calls back. op_to calls back (rests calls back old) (op.Do work s))
     → Leads old new p (expr_run old s e)
 work-leads old new s work e p makes leads =
     leads-as old new p _ (expr_run old s e) leads (λ calls back k left.
-    ap (λ (j : Kept). on_value (made work k left) (sink_to (rests calls back old) back s j))
+    ap (λ (j : Kept). on_value (made work k left) (destination_to (rests calls back old) back s j))
     (makes calls k left).1
-    ∙ ap (λ (r : Run ℤ). on_value r (sink_to (rests calls back old) back s k))
+    ∙ ap (λ (r : Run ℤ). on_value r (destination_to (rests calls back old) back s k))
     (sym (makes calls k left).0))
 
 -- the op of an operator whose right operand is an inner one
-pub right-inner-leads : (old new : List Op) (s : Sink) (f : BinOp) (a : Operand) (b : Expr)
+pub right-inner-leads : (old new : List Op) (s : Destination) (f : BinOp) (a : Operand) (b : Expr)
     (inner : Inner) (p : ℕ)
     → IsInner b inner
     → Leads old new p (λ calls back. op_to calls back (rests calls back old)
@@ -78,9 +79,9 @@ pub right-inner-leads : (old new : List Op) (s : Sink) (f : BinOp) (a : Operand)
 right-inner-leads old new s f a b inner p is leads =
     leads-as old new p _ (right_run old s f a b) leads (λ calls back k left.
     on_value-on_value (inner_run inner k left) (apply f (read a k))
-    (sink_to (rests calls back old) back s (after a k))
+    (destination_to (rests calls back old) back s (after a k))
     ∙ ap (λ (r : Run ℤ). on_value r (λ y n. on_value (apply f (read a k) y n)
-    (sink_to (rests calls back old) back s (after a k)))) (sym (is calls k left)))
+    (destination_to (rests calls back old) back s (after a k)))) (sym (is calls k left)))
 
 -- where a run goes on after the test of a truth value
 test-holds : (b : Bool) (rs : List Rest) (fails holds : ℕ) (k : Kept) (left : ℕ) →
@@ -115,23 +116,23 @@ test-op : (r : Option Op) (inner : Inner) (f : BinOp) (x y : Leaf) (less more fa
     inner.op ≡ f
     → ((rs : List Rest) (back : Back) (k : Kept) (left : ℕ) → less_to rs x y less more k left ≡
     on_value (apply f (leaf_value inner.left k) (leaf_value inner.right k) left)
-    (sink_to rs back (sink.Branch fails holds) k))
+    (destination_to rs back (destination.Branch fails holds) k))
     → IfSome r (λ o. IsOp o (λ calls back rs. less_to rs x y less more))
     → IfSome r (λ o. IsOp o (λ calls back rs.
-    do_to rs back (Alone inner) (sink.Branch fails holds)))
+    do_to rs back (Alone inner) (destination.Branch fails holds)))
 test-op None inner f x y less more fails holds is same found = tt
 test-op (Some o) inner f x y less more fails holds is same found = record {
   plain = found.plain;
   comes = λ calls back rs k left. found.comes calls back rs k left ∙ (same rs back k left ∙
       ap (λ (g : BinOp).
       on_value (apply g (leaf_value inner.left k) (leaf_value inner.right k) left)
-      (sink_to rs back (sink.Branch fails holds) k)) (sym is));
+      (destination_to rs back (destination.Branch fails holds) k)) (sym is));
 }
 
 pub less-op : (r : Option Op) (inner : Inner) (fails holds : ℕ) → inner.op ≡ Lt →
     IfSome r (λ o. IsOp o (λ calls back rs. less_to rs inner.left inner.right holds fails))
     → IfSome r (λ o. IsOp o (λ calls back rs.
-    do_to rs back (Alone inner) (sink.Branch fails holds)))
+    do_to rs back (Alone inner) (destination.Branch fails holds)))
 less-op r inner fails holds is found =
     test-op r inner Lt inner.left inner.right holds fails fails holds is
     (λ rs back k left. test-holds (int_lt (leaf_value inner.left k) (leaf_value inner.right k)) rs
@@ -140,7 +141,7 @@ less-op r inner fails holds is found =
 pub greater-op : (r : Option Op) (inner : Inner) (fails holds : ℕ) → inner.op ≡ Gt →
     IfSome r (λ o. IsOp o (λ calls back rs. less_to rs inner.right inner.left holds fails))
     → IfSome r (λ o. IsOp o (λ calls back rs.
-    do_to rs back (Alone inner) (sink.Branch fails holds)))
+    do_to rs back (Alone inner) (destination.Branch fails holds)))
 greater-op r inner fails holds is found =
     test-op r inner Gt inner.right inner.left holds fails fails holds is
     (λ rs back k left. test-holds (int_lt (leaf_value inner.right k) (leaf_value inner.left k)) rs
@@ -149,7 +150,7 @@ greater-op r inner fails holds is found =
 pub at_least-op : (r : Option Op) (inner : Inner) (fails holds : ℕ) → inner.op ≡ Ge →
     IfSome r (λ o. IsOp o (λ calls back rs. less_to rs inner.left inner.right fails holds))
     → IfSome r (λ o. IsOp o (λ calls back rs.
-    do_to rs back (Alone inner) (sink.Branch fails holds)))
+    do_to rs back (Alone inner) (destination.Branch fails holds)))
 at_least-op r inner fails holds is found =
     test-op r inner Ge inner.left inner.right fails holds fails holds is
     (λ rs back k left. test-fails (leaf_value inner.left k) (leaf_value inner.right k) rs
@@ -158,7 +159,7 @@ at_least-op r inner fails holds is found =
 pub at_most-op : (r : Option Op) (inner : Inner) (fails holds : ℕ) → inner.op ≡ Le →
     IfSome r (λ o. IsOp o (λ calls back rs. less_to rs inner.right inner.left fails holds))
     → IfSome r (λ o. IsOp o (λ calls back rs.
-    do_to rs back (Alone inner) (sink.Branch fails holds)))
+    do_to rs back (Alone inner) (destination.Branch fails holds)))
 at_most-op r inner fails holds is found =
     test-op r inner Le inner.right inner.left fails holds fails holds is
     (λ rs back k left. test-fails (leaf_value inner.right k) (leaf_value inner.left k) rs

@@ -27,8 +27,8 @@ use Rattle.c_code.specs.declared.code.Leaf.{Leaf}
 use Rattle.c_code.specs.declared.code.Leaf.TheVariants as leaf
 use Rattle.c_code.specs.declared.code.Inner.{Inner}
 use Rattle.c_code.specs.declared.code.Work.TheVariants.{Read, Before, Between, Alone, Left, Right}
-use Rattle.c_code.specs.declared.code.Sink.{Sink}
-use Rattle.c_code.specs.declared.code.Sink.TheVariants as sink
+use Rattle.c_code.specs.declared.code.Destination.{Destination}
+use Rattle.c_code.specs.declared.code.Destination.TheVariants as destination
 use Rattle.c_code.specs.declared.code.Exits.{Exits}
 use Rattle.c_code.specs.declared.code.Op.{Op}
 use Rattle.c_code.specs.declared.code.Op.TheVariants as op
@@ -140,16 +140,16 @@ turn_level calls _ = λ left s. More
 abbrev pub turn_of : Calls → Stmt → ℕ → State → Run Turn
 turn_of calls t = turn_level calls (out-Stmt t)
 
--- the value of an expression goes to a sink
-abbrev pub sink_to : List Rest → Back → Sink → Kept → ℤ → ℕ → Run ℤ
-sink_to rests back (sink.Push p) k x left = at rests p (pushed k x) left
-sink_to rests back (sink.Branch if_zero other) k x left =
+-- the value of an expression goes to a destination
+abbrev pub destination_to : List Rest → Back → Destination → Kept → ℤ → ℕ → Run ℤ
+destination_to rests back (destination.Push p) k x left = at rests p (pushed k x) left
+destination_to rests back (destination.Branch if_zero other) k x left =
     if is_zero x then at rests if_zero k left else at rests other k left
-sink_to rests back (sink.Declare v p) k x left =
+destination_to rests back (destination.Declare v p) k x left =
     at rests p (with_state k (take v k.state ++ x ∷ [])) left
-sink_to rests back (sink.Assign v p) k x left =
+destination_to rests back (destination.Assign v p) k x left =
     at rests p (with_state k (slice_set k.state v x)) left
-sink_to rests back (sink.Return scopes) k x left = back x (ended k scopes) left
+destination_to rests back (destination.Return scopes) k x left = back x (ended k scopes) left
 
 -- where a statement led goes to its exits
 abbrev pub flow_to : List Rest → Back → Exits → Kept → Flow → ℕ → Run ℤ
@@ -163,10 +163,10 @@ abbrev pub turn_to : List Rest → Back → ℕ → Exits → Kept → Turn → 
 turn_to rests back turn exits k (Again s) left = at rests turn (with_state k s) left
 turn_to rests back turn exits k (Ends flow) left = flow_to rests back exits k flow left
 
--- a work, whose value goes to a sink
-abbrev pub do_to : List Rest → Back → Work → Sink → Rest
-do_to rests back work sink k left =
-    on_value (made work k left) (sink_to rests back sink (kept_after work k))
+-- a work, whose value goes to a destination
+abbrev pub do_to : List Rest → Back → Work → Destination → Rest
+do_to rests back work destination k left =
+    on_value (made work k left) (destination_to rests back destination (kept_after work k))
 
 -- where it goes on after two leaves are compared
 abbrev pub less_to : List Rest → Leaf → Leaf → ℕ → ℕ → Rest
@@ -188,10 +188,10 @@ times a x b =
 
 -- an op, from what the lower positions come to
 abbrev pub op_to : Calls → Back → List Rest → Op → Rest
-op_to calls back rests (op.Do work sink) = do_to rests back work sink
+op_to calls back rests (op.Do work destination) = do_to rests back work destination
 op_to calls back rests (op.Test inner if_zero other) =
-    do_to rests back (Alone inner) (sink.Branch if_zero other)
-op_to calls back rests (op.Set inner v p) = do_to rests back (Alone inner) (sink.Assign v p)
+    do_to rests back (Alone inner) (destination.Branch if_zero other)
+op_to calls back rests (op.Set inner v p) = do_to rests back (Alone inner) (destination.Assign v p)
 op_to calls back rests (op.LessSlot v w less other) =
     less_to rests (leaf.Slot v) (leaf.Slot w) less other
 op_to calls back rests (op.LessLiteral v x less other) =
@@ -199,18 +199,20 @@ op_to calls back rests (op.LessLiteral v x less other) =
 op_to calls back rests (op.LiteralLess x v less other) =
     less_to rests (leaf.Constant x) (leaf.Slot v) less other
 op_to calls back rests (op.Raise v x p) =
-    do_to rests back (between Add (leaf.Slot v) (leaf.Constant x)) (sink.Assign v p)
+    do_to rests back (between Add (leaf.Slot v) (leaf.Constant x)) (destination.Assign v p)
 op_to calls back rests (op.Add v w u p) =
-    do_to rests back (between Add (leaf.Slot v) (leaf.Slot w)) (sink.Assign u p)
-op_to calls back rests (op.AddThree a b c v p) = do_to rests back (three a b c) (sink.Assign v p)
-op_to calls back rests (op.AddTimes a x b v p) = do_to rests back (times a x b) (sink.Assign v p)
+    do_to rests back (between Add (leaf.Slot v) (leaf.Slot w)) (destination.Assign u p)
+op_to calls back rests (op.AddThree a b c v p) = do_to rests back (three a b c)
+    (destination.Assign v p)
+op_to calls back rests (op.AddTimes a x b v p) = do_to rests back (times a x b)
+    (destination.Assign v p)
 op_to calls back rests (op.SetLeft f inner b v p) =
-    do_to rests back (Left f inner b) (sink.Assign v p)
+    do_to rests back (Left f inner b) (destination.Assign v p)
 op_to calls back rests (op.SetRight f v inner u p) =
-    do_to rests back (Right f (Slot v) inner) (sink.Assign u p)
-op_to calls back rests (op.PushInner inner p) = do_to rests back (Alone inner) (sink.Push p)
+    do_to rests back (Right f (Slot v) inner) (destination.Assign u p)
+op_to calls back rests (op.PushInner inner p) = do_to rests back (Alone inner) (destination.Push p)
 op_to calls back rests (op.Give f a b scopes) =
-    do_to rests back (Between f a b) (sink.Return scopes)
+    do_to rests back (Between f a b) (destination.Return scopes)
 op_to calls back rests (op.Call f count p) = λ k left.
     on_value (calls left f (reverse (take count k.values)))
     (λ x. at rests p (pushed (with_values k (drop count k.values)) x))
@@ -248,23 +250,24 @@ operand_run ops p e calls back k left =
     on_value (expr calls e left k.state) (λ x.
     code_run calls back ops p (before (operand_of e) k x))
 
--- an expression, whose value goes to a sink
-abbrev pub expr_run : List Op → Sink → Expr → Calls → Back → Rest
-expr_run ops sink e calls back k left =
-    on_value (expr calls e left k.state) (sink_to (rests calls back ops) back sink k)
+-- an expression, whose value goes to a destination
+abbrev pub expr_run : List Op → Destination → Expr → Calls → Back → Rest
+expr_run ops destination e calls back k left =
+    on_value (expr calls e left k.state) (destination_to (rests calls back ops) back destination k)
 
--- the right operand of an operator, whose value goes to a sink
-abbrev pub right_run : List Op → Sink → BinOp → Operand → Expr → Calls → Back → Rest
-right_run ops sink op a b calls back k left =
+-- the right operand of an operator, whose value goes to a destination
+abbrev pub right_run : List Op → Destination → BinOp → Operand → Expr → Calls → Back → Rest
+right_run ops destination op a b calls back k left =
     on_value (expr calls b left k.state) (λ y n.
-    on_value (apply op (read a k) y n) (sink_to (rests calls back ops) back sink (after a k)))
+    on_value (apply op (read a k) y n) (destination_to (rests calls back ops) back destination
+    (after a k)))
 
--- an operator between two operands, whose value goes to a sink
-abbrev pub binary_run : List Op → Sink → BinOp → Expr → Expr → Calls → Back → Rest
-binary_run ops sink op a b calls back k left =
+-- an operator between two operands, whose value goes to a destination
+abbrev pub binary_run : List Op → Destination → BinOp → Expr → Expr → Calls → Back → Rest
+binary_run ops destination op a b calls back k left =
     on_value (on_value (expr calls a left k.state)
     (λ x. with_left op x (λ m. expr calls b m k.state)))
-    (sink_to (rests calls back ops) back sink k)
+    (destination_to (rests calls back ops) back destination k)
 
 -- arguments, of which the last is on top
 abbrev pub arguments_run : List Op → ℕ → List Expr → Calls → Back → Rest
@@ -288,7 +291,7 @@ sequence_run ops exits ts = flow_run ops exits (λ calls. in_order (map (stmt ca
 abbrev pub condition_run : List Op → ℕ → ℕ → Option Expr → Calls → Back → Rest
 condition_run ops ended holds test calls back k left =
     on_value (condition calls test left k.state)
-    (sink_to (rests calls back ops) back (sink.Branch ended holds) k)
+    (destination_to (rests calls back ops) back (destination.Branch ended holds) k)
 
 -- a `for`: its first part, and then its turns, in a scope
 abbrev pub for_loop : Calls → List Stmt → (ℕ → State → Run Turn) → Execution
@@ -296,13 +299,13 @@ for_loop calls first turn left s =
     on_value (on_value (in_order (map (stmt calls) first) left s) (on_next (loop turn)))
     (leave (length s))
 
--- the positions at which a sink goes on are there
-abbrev pub SinkWithin : ℕ → Sink → Type 0
-SinkWithin n (sink.Push p) = p < n
-SinkWithin n (sink.Branch if_zero other) = (if_zero < n) × (other < n)
-SinkWithin n (sink.Declare v p) = p < n
-SinkWithin n (sink.Assign v p) = p < n
-SinkWithin n (sink.Return scopes) = Unit {0}
+-- the positions at which a destination goes on are there
+abbrev pub DestinationWithin : ℕ → Destination → Type 0
+DestinationWithin n (destination.Push p) = p < n
+DestinationWithin n (destination.Branch if_zero other) = (if_zero < n) × (other < n)
+DestinationWithin n (destination.Declare v p) = p < n
+DestinationWithin n (destination.Assign v p) = p < n
+DestinationWithin n (destination.Return scopes) = Unit {0}
 
 -- the positions of exits are there
 pub record ExitsWithin (n : ℕ) (exits : Exits) : Type 0 where
@@ -336,15 +339,15 @@ pub record Leads (old new : List Op) (p : ℕ) (run : Calls → Back → Rest) :
   pub comes : (calls : Calls) (back : Back) (k : Kept) (left : ℕ) →
       code_run calls back new p k left ≡ run calls back k left
 
--- code was added from which the value on top goes to a sink
-pub record TopLeads (old new : List Op) (p : ℕ) (sink : Sink) : Type 0 where
+-- code was added from which the value on top goes to a destination
+pub record TopLeads (old new : List Op) (p : ℕ) (destination : Destination) : Type 0 where
   pub more : List Op
   pub longer : new ≡ old ++ more
   pub within : p < length new
   pub turns : TurnsFrom (length old) new
   pub comes : (calls : Calls) (back : Back) (k : Kept) (x : ℤ) (left : ℕ)
       → code_run calls back new p (pushed k x) left ≡
-      sink_to (rests calls back old) back sink k x left
+      destination_to (rests calls back old) back destination k x left
 
 -- code was added that ends a scope at each exit
 pub record ScopeLeads (old new : List Op) (exits inner : Exits) : Type 0 where

@@ -51,7 +51,7 @@ pub enum Work {
 
 /// What is done with a value, and where it goes on.
 #[derive(Clone, Copy)]
-pub enum Sink {
+pub enum Destination {
     /// The value is pushed on top of the values.
     Push(usize),
     /// It goes on at the first position where the value is 0, and else at the second.
@@ -82,7 +82,7 @@ pub struct Exits {
 #[derive(Clone, Copy)]
 pub enum Op<'a> {
     /// A value is made, and something is done with it.
-    Do(Work, Sink),
+    Do(Work, Destination),
     /// An operator between two leaves is made: it goes on at the first position where the value is
     /// 0, and else at the second.
     Test(Inner, usize, usize),
@@ -91,9 +91,11 @@ pub enum Op<'a> {
     /// It goes on at the first position where the first slot's value is less than the second's, and
     /// else at the second.
     LessSlot(u32, u32, usize, usize),
-    /// The same for a slot's value and an integer.
+    /// It goes on at the first position where the slot's value is less than the integer, and else
+    /// at the second.
     LessLiteral(u32, i64, usize, usize),
-    /// The same for an integer and a slot's value.
+    /// It goes on at the first position where the integer is less than the slot's value, and else
+    /// at the second.
     LiteralLess(i64, u32, usize, usize),
     /// An integer is added to the value of a slot.
     Raise(u32, i64, usize),

@@ -3,7 +3,7 @@ ghost use Rattle.std.specs.Prelude.{◌≡◌, IfOk};
 ghost use Rattle.std.specs.Option.{option_copied};
 ghost use Rattle.c_code.specs.Flat.{FunctionsLead, IsCode, Leads, WholeLeads, function_run};
 
-use crate::code::{Code, Exits, Op, Operand, Sink, Work};
+use crate::code::{Code, Destination, Exits, Op, Operand, Work};
 use crate::expressions::{compile_expr, emit};
 use crate::statements::compile_sequence;
 use c_ast::{Expr, Function, Resolved};
@@ -16,7 +16,7 @@ fn compile_function<'a>(ops: &mut Vec<Op<'a>>, function: &'a Function) -> Result
 {
     let ended = emit(
         ops,
-        Op::Do(Work::Read(Operand::Constant(0)), Sink::Return(0)),
+        Op::Do(Work::Read(Operand::Constant(0)), Destination::Return(0)),
     )?;
     let exits = Exits {
         next: ended,
@@ -51,7 +51,7 @@ fn compile_whole(ops: &mut Vec<Op<'_>>, whole: Option<&Expr>) -> Result<Option<u
 {
     match whole {
         None => Ok(None),
-        Some(e) => Ok(Some(compile_expr(ops, e, Sink::Return(0))?)),
+        Some(e) => Ok(Some(compile_expr(ops, e, Destination::Return(0))?)),
     }
 }
 

@@ -7,11 +7,11 @@ ghost use Rattle.c_meaning.specs.CountedExpressions.{short_circuit};
 ghost use Rattle.c_ast.specs.declared.expr.BinOp.TheVariants as binary;
 ghost use Rattle.c_code.specs.declared.code.Leaf.TheVariants as leaf;
 ghost use Rattle.c_code.specs.declared.code.Operand.TheVariants as operand;
-ghost use Rattle.c_code.specs.declared.code.Sink.TheVariants as sink;
+ghost use Rattle.c_code.specs.declared.code.Destination.TheVariants as destination;
 ghost use Rattle.c_code.specs.declared.code.Work.TheVariants as work;
-ghost use Rattle.c_code.specs.Flat.{do_to, less_to, rests, IsInner, IsLeaf, IsOp, Leads, Makes, SinkWithin, TopLeads, arguments_run, expr_run, operand_run, right_run};
+ghost use Rattle.c_code.specs.Flat.{do_to, less_to, rests, IsInner, IsLeaf, IsOp, Leads, Makes, DestinationWithin, TopLeads, arguments_run, expr_run, operand_run, right_run};
 
-use crate::code::{Inner, Leaf, Op, Operand, Sink, Work};
+use crate::code::{Destination, Inner, Leaf, Op, Operand, Work};
 use c_ast::{BinOp, Expr};
 use rx_plain::NoMemory;
 
@@ -117,7 +117,7 @@ fn less_op<'a>(x: Leaf, y: Leaf, less: usize, other: usize) -> Option<Op<'a>>
 /// The op of a test by `<`, `<=`, `>` or `>=`, if it has its own.
 fn order_op<'a>(inner: Inner, zero: usize, other: usize) -> Option<Op<'a>>
     ensures { IfSome result (λ o. IsOp o (λ calls back rests.
-        do_to rests back (work.Alone inner) (sink.Branch zero other))) }
+        do_to rests back (work.Alone inner) (destination.Branch zero other))) }
 {
     match inner.op {
         BinOp::Lt => less_op(inner.left, inner.right, other, zero),
@@ -131,7 +131,7 @@ fn order_op<'a>(inner: Inner, zero: usize, other: usize) -> Option<Op<'a>>
 /// The op of a test.
 fn test_op<'a>(inner: Inner, zero: usize, other: usize) -> Op<'a>
     ensures { IsOp result (λ calls back rests.
-        do_to rests back (work.Alone inner) (sink.Branch zero other)) }
+        do_to rests back (work.Alone inner) (destination.Branch zero other)) }
 {
     match order_op(inner, zero, other) {
         Some(op) => op,
@@ -144,7 +144,7 @@ fn test_op<'a>(inner: Inner, zero: usize, other: usize) -> Op<'a>
 fn add_op<'a>(a: u32, y: Leaf, at: u32, next: usize) -> Option<Op<'a>>
     ensures { IfSome result (λ o. IsOp o (λ calls back rests. do_to rests back
         (work.Alone (record { op = binary.Add; left = leaf.Slot a; right = y }))
-        (sink.Assign at next))) }
+        (destination.Assign at next))) }
 {
     match y {
         Leaf::Slot(b) => Some(Op::Add(a, b, at, next)),
@@ -162,7 +162,7 @@ fn add_op<'a>(a: u32, y: Leaf, at: u32, next: usize) -> Option<Op<'a>>
 fn sub_op<'a>(a: u32, y: Leaf, at: u32, next: usize) -> Option<Op<'a>>
     ensures { IfSome result (λ o. IsOp o (λ calls back rests. do_to rests back
         (work.Alone (record { op = binary.Sub; left = leaf.Slot a; right = y }))
-        (sink.Assign at next))) }
+        (destination.Assign at next))) }
 {
     match y {
         Leaf::Slot(_) => None,
@@ -178,7 +178,7 @@ fn sub_op<'a>(a: u32, y: Leaf, at: u32, next: usize) -> Option<Op<'a>>
 /// The op of a sum or a difference that is the new value of a slot, if it has its own.
 fn sum_op<'a>(inner: Inner, at: u32, next: usize) -> Option<Op<'a>>
     ensures { IfSome result (λ o. IsOp o (λ calls back rests.
-        do_to rests back (work.Alone inner) (sink.Assign at next))) }
+        do_to rests back (work.Alone inner) (destination.Assign at next))) }
 {
     let Inner { op, left, right } = inner;
     let Leaf::Slot(a) = left else {
@@ -194,7 +194,7 @@ fn sum_op<'a>(inner: Inner, at: u32, next: usize) -> Option<Op<'a>>
 /// The op of an operator between two leaves that is the new value of a slot.
 fn set_op<'a>(inner: Inner, at: u32, next: usize) -> Op<'a>
     ensures { IsOp result (λ calls back rests.
-        do_to rests back (work.Alone inner) (sink.Assign at next)) }
+        do_to rests back (work.Alone inner) (destination.Assign at next)) }
 {
     match sum_op(inner, at, next) {
         Some(op) => op,
@@ -205,7 +205,7 @@ fn set_op<'a>(inner: Inner, at: u32, next: usize) -> Op<'a>
 /// The op of the sum of three slots' values, which is the new value of a slot, if it is one.
 fn three_op<'a>(op: BinOp, inner: Inner, b: Leaf, at: u32, next: usize) -> Option<Op<'a>>
     ensures { IfSome result (λ o. IsOp o (λ calls back rests.
-        do_to rests back (work.Left op inner b) (sink.Assign at next))) }
+        do_to rests back (work.Left op inner b) (destination.Assign at next))) }
 {
     let Inner {
         op: first,
@@ -231,7 +231,7 @@ fn three_op<'a>(op: BinOp, inner: Inner, b: Leaf, at: u32, next: usize) -> Optio
 /// slot, if it is one.
 fn times_op<'a>(op: BinOp, a: u32, inner: Inner, at: u32, next: usize) -> Option<Op<'a>>
     ensures { IfSome result (λ o. IsOp o (λ calls back rests.
-        do_to rests back (work.Right op (operand.Slot a) inner) (sink.Assign at next))) }
+        do_to rests back (work.Right op (operand.Slot a) inner) (destination.Assign at next))) }
 {
     let Inner {
         op: first,
@@ -253,7 +253,7 @@ fn times_op<'a>(op: BinOp, a: u32, inner: Inner, at: u32, next: usize) -> Option
 /// The op of an operator on an inner one, which is the new value of a slot.
 fn left_op<'a>(op: BinOp, inner: Inner, b: Leaf, at: u32, next: usize) -> Op<'a>
     ensures { IsOp result (λ calls back rests.
-        do_to rests back (work.Left op inner b) (sink.Assign at next)) }
+        do_to rests back (work.Left op inner b) (destination.Assign at next)) }
 {
     match three_op(op, inner, b, at, next) {
         Some(three) => three,
@@ -264,7 +264,7 @@ fn left_op<'a>(op: BinOp, inner: Inner, b: Leaf, at: u32, next: usize) -> Op<'a>
 /// The op of an operator on a slot's value and an inner one, which is the new value of a slot.
 fn right_op<'a>(op: BinOp, a: u32, inner: Inner, at: u32, next: usize) -> Op<'a>
     ensures { IsOp result (λ calls back rests.
-        do_to rests back (work.Right op (operand.Slot a) inner) (sink.Assign at next)) }
+        do_to rests back (work.Right op (operand.Slot a) inner) (destination.Assign at next)) }
 {
     match times_op(op, a, inner, at, next) {
         Some(times) => times,
@@ -274,44 +274,44 @@ fn right_op<'a>(op: BinOp, a: u32, inner: Inner, at: u32, next: usize) -> Op<'a>
 
 /// The op of a work whose value is the new one of a slot.
 fn assign_op<'a>(work: Work, at: u32, next: usize) -> Op<'a>
-    ensures { IsOp result (λ calls back rests. do_to rests back work (sink.Assign at next)) }
+    ensures { IsOp result (λ calls back rests. do_to rests back work (destination.Assign at next)) }
 {
     match work {
         Work::Alone(inner) => set_op(inner, at, next),
         Work::Left(op, inner, b) => left_op(op, inner, b, at, next),
         Work::Right(op, Operand::Slot(a), inner) => right_op(op, a, inner, at, next),
-        _ => Op::Do(work, Sink::Assign(at, next)),
+        _ => Op::Do(work, Destination::Assign(at, next)),
     }
 }
 
-/// The op of a work and a sink: the most frequent ones have their own.
-fn op_of<'a>(work: Work, sink: Sink) -> Op<'a>
-    ensures { IsOp result (λ calls back rests. do_to rests back work sink) }
+/// The op of a work and a destination: the most frequent ones have their own.
+fn op_of<'a>(work: Work, destination: Destination) -> Op<'a>
+    ensures { IsOp result (λ calls back rests. do_to rests back work destination) }
 {
-    match sink {
-        Sink::Branch(zero, other) => match work {
+    match destination {
+        Destination::Branch(zero, other) => match work {
             Work::Alone(inner) => test_op(inner, zero, other),
-            _ => Op::Do(work, sink),
+            _ => Op::Do(work, destination),
         },
-        Sink::Assign(at, next) => assign_op(work, at, next),
-        Sink::Push(next) => match work {
+        Destination::Assign(at, next) => assign_op(work, at, next),
+        Destination::Push(next) => match work {
             Work::Alone(inner) => Op::PushInner(inner, next),
-            _ => Op::Do(work, sink),
+            _ => Op::Do(work, destination),
         },
-        Sink::Return(scopes) => match work {
+        Destination::Return(scopes) => match work {
             Work::Between(op, a, b) => Op::Give(op, a, b, scopes),
-            _ => Op::Do(work, sink),
+            _ => Op::Do(work, destination),
         },
-        Sink::Declare(_, _) => Op::Do(work, sink),
+        Destination::Declare(_, _) => Op::Do(work, destination),
     }
 }
 
-/// Adds the op of a work and a sink.
-fn emit_work(ops: &mut Vec<Op<'_>>, work: Work, sink: Sink) -> Result<usize, NoMemory>
+/// Adds the op of a work and a destination.
+fn emit_work(ops: &mut Vec<Op<'_>>, work: Work, destination: Destination) -> Result<usize, NoMemory>
     ensures { IfOk result (λ p. Leads ops.old.items ops.new.items p (λ calls back.
-        do_to (rests calls back ops.old.items) back work sink)) }
+        do_to (rests calls back ops.old.items) back work destination)) }
 {
-    emit(ops, op_of(work, sink))
+    emit(ops, op_of(work, destination))
 }
 
 /// The work of an expression that is an operator between such an inner one and a leaf.
@@ -349,7 +349,7 @@ fn compile_operand(ops: &mut Vec<Op<'_>>, e: &Expr, next: usize) -> Result<usize
         (operand_run ops.old.items next e.now)) }
 {
     match operand_of(e) {
-        Operand::Popped => compile_expr(ops, e, Sink::Push(next)),
+        Operand::Popped => compile_expr(ops, e, Destination::Push(next)),
         Operand::Constant(_) => Ok(next),
         Operand::Slot(_) => Ok(next),
     }
@@ -362,16 +362,16 @@ fn compile_right(
     op: BinOp,
     left: Operand,
     b: &Expr,
-    sink: Sink,
+    destination: Destination,
 ) -> Result<usize, NoMemory>
     ensures { IfOk result (λ p. Leads ops.old.items ops.new.items p
-        (right_run ops.old.items sink op left b.now)) }
+        (right_run ops.old.items destination op left b.now)) }
 {
     if let Some(inner) = inner_of(b) {
-        return emit_work(ops, Work::Right(op, left, inner), sink);
+        return emit_work(ops, Work::Right(op, left, inner), destination);
     }
     let work = Work::Between(op, left, operand_of(b));
-    let both = emit_work(ops, work, sink)?;
+    let both = emit_work(ops, work, destination)?;
     compile_operand(ops, b, both)
 }
 
@@ -388,73 +388,87 @@ fn compile_arguments(
 {
     let mut at = next;
     for i in (0..arguments.len()).rev() {
-        at = compile_expr(ops, &arguments[i], Sink::Push(at))?;
+        at = compile_expr(ops, &arguments[i], Destination::Push(at))?;
     }
     Ok(at)
 }
 
-/// Where the value on top is that of the sink.
-fn after_call(ops: &mut Vec<Op<'_>>, sink: Sink) -> Result<usize, NoMemory>
-    requires { SinkWithin (length ops.old.items) sink }
-    ensures { IfOk result (λ p. TopLeads ops.old.items ops.new.items p sink) }
+/// Where the value on top is that of the destination.
+fn after_call(ops: &mut Vec<Op<'_>>, destination: Destination) -> Result<usize, NoMemory>
+    requires { DestinationWithin (length ops.old.items) destination }
+    ensures { IfOk result (λ p. TopLeads ops.old.items ops.new.items p destination) }
 {
-    match sink {
-        Sink::Push(next) => Ok(next),
-        _ => emit(ops, Op::Do(Work::Read(Operand::Popped), sink)),
+    match destination {
+        Destination::Push(next) => Ok(next),
+        _ => emit(ops, Op::Do(Work::Read(Operand::Popped), destination)),
     }
 }
 
-/// The code of an expression, whose value goes to the sink; returns the position at which it
+/// The code of an expression, whose value goes to the destination; returns the position at which it
 /// begins.
 #[cycle(compiles)]
-pub(crate) fn compile_expr(ops: &mut Vec<Op<'_>>, e: &Expr, sink: Sink) -> Result<usize, NoMemory>
-    requires { SinkWithin (length ops.old.items) sink }
+pub(crate) fn compile_expr(
+    ops: &mut Vec<Op<'_>>,
+    e: &Expr,
+    destination: Destination,
+) -> Result<usize, NoMemory>
+    requires { DestinationWithin (length ops.old.items) destination }
     ensures { IfOk result (λ p. Leads ops.old.items ops.new.items p
-        (expr_run ops.old.items sink e.now)) }
+        (expr_run ops.old.items destination e.now)) }
 {
     match work_of(e) {
-        Some(work) => emit_work(ops, work, sink),
-        None => compile_parts(ops, e, sink),
+        Some(work) => emit_work(ops, work, destination),
+        None => compile_parts(ops, e, destination),
     }
 }
 
 /// The code of an expression, from that of its parts.
 #[cycle(compiles)]
-fn compile_parts(ops: &mut Vec<Op<'_>>, e: &Expr, sink: Sink) -> Result<usize, NoMemory>
-    requires { SinkWithin (length ops.old.items) sink }
+fn compile_parts(
+    ops: &mut Vec<Op<'_>>,
+    e: &Expr,
+    destination: Destination,
+) -> Result<usize, NoMemory>
+    requires { DestinationWithin (length ops.old.items) destination }
     ensures { IfOk result (λ p. Leads ops.old.items ops.new.items p
-        (expr_run ops.old.items sink e.now)) }
+        (expr_run ops.old.items destination e.now)) }
 {
     match e {
-        Expr::Lit(value) => emit(ops, Op::Do(Work::Read(Operand::Constant(*value)), sink)),
-        Expr::Var(slot) => emit(ops, Op::Do(Work::Read(Operand::Slot(*slot)), sink)),
+        Expr::Lit(value) => emit(
+            ops,
+            Op::Do(Work::Read(Operand::Constant(*value)), destination),
+        ),
+        Expr::Var(slot) => emit(ops, Op::Do(Work::Read(Operand::Slot(*slot)), destination)),
         Expr::Unary(op, a) => {
-            let next = emit(ops, Op::Do(Work::Before(*op, operand_of(a.get())), sink))?;
+            let next = emit(
+                ops,
+                Op::Do(Work::Before(*op, operand_of(a.get())), destination),
+            )?;
             compile_operand(ops, a.get(), next)
         }
         Expr::Binary(op, a, b) => match *op {
             BinOp::AndAlso => {
-                let known = emit(ops, Op::Do(Work::Read(Operand::Constant(0)), sink))?;
-                let right = compile_right(ops, *op, Operand::Constant(1), b.get(), sink)?;
-                compile_expr(ops, a.get(), Sink::Branch(known, right))
+                let known = emit(ops, Op::Do(Work::Read(Operand::Constant(0)), destination))?;
+                let right = compile_right(ops, *op, Operand::Constant(1), b.get(), destination)?;
+                compile_expr(ops, a.get(), Destination::Branch(known, right))
             }
             BinOp::OrElse => {
-                let known = emit(ops, Op::Do(Work::Read(Operand::Constant(1)), sink))?;
-                let right = compile_right(ops, *op, Operand::Constant(0), b.get(), sink)?;
-                compile_expr(ops, a.get(), Sink::Branch(right, known))
+                let known = emit(ops, Op::Do(Work::Read(Operand::Constant(1)), destination))?;
+                let right = compile_right(ops, *op, Operand::Constant(0), b.get(), destination)?;
+                compile_expr(ops, a.get(), Destination::Branch(right, known))
             }
             _ => {
-                let right = compile_right(ops, *op, operand_of(a.get()), b.get(), sink)?;
+                let right = compile_right(ops, *op, operand_of(a.get()), b.get(), destination)?;
                 compile_operand(ops, a.get(), right)
             }
         },
         Expr::Choose(c, a, b) => {
-            let other = compile_expr(ops, b.get(), sink)?;
-            let first = compile_expr(ops, a.get(), sink)?;
-            compile_expr(ops, c.get(), Sink::Branch(other, first))
+            let other = compile_expr(ops, b.get(), destination)?;
+            let first = compile_expr(ops, a.get(), destination)?;
+            compile_expr(ops, c.get(), Destination::Branch(other, first))
         }
         Expr::Apply(place, arguments) => {
-            let after = after_call(ops, sink)?;
+            let after = after_call(ops, destination)?;
             let call = emit(ops, Op::Call(*place, arguments.len(), after))?;
             compile_arguments(ops, arguments.as_slice(), call)
         }

@@ -13,6 +13,6 @@ mod expressions;
 mod scopes;
 mod statements;
 
-pub use code::{Code, Exits, Inner, Leaf, Op, Operand, Sink, Work};
+pub use code::{Code, Destination, Exits, Inner, Leaf, Op, Operand, Work};
 pub use compiling::compile;
 pub use rx_plain::NoMemory;

@@ -7,7 +7,7 @@ ghost use Rattle.c_meaning.specs.CountedStatements.{do_turn, loop, optional, stm
 ghost use Rattle.c_code.specs.Flat.{ExitsWithin, Leads, ScopeLeads, condition_run, flow_run, sequence_run, stmt_run, turn_of};
 ghost use Rattle.c_code.specs.declared.code.Op.TheVariants as op;
 
-use crate::code::{Exits, Op, Operand, Sink, Work};
+use crate::code::{Destination, Exits, Op, Operand, Work};
 use crate::expressions::{compile_expr, emit};
 use crate::scopes::add_no_slots;
 use c_ast::{Expr, Stmt};
@@ -40,10 +40,10 @@ fn compile_declaration(
     ensures { IfOk result (λ p. Leads ops.old.items ops.new.items p
         (stmt_run ops.old.items exits (syntax.Declare at value.now))) }
 {
-    let sink = Sink::Declare(at, exits.next);
+    let destination = Destination::Declare(at, exits.next);
     match value {
-        None => emit(ops, Op::Do(Work::Read(Operand::Constant(0)), sink)),
-        Some(value) => compile_expr(ops, value, sink),
+        None => emit(ops, Op::Do(Work::Read(Operand::Constant(0)), destination)),
+        Some(value) => compile_expr(ops, value, destination),
     }
 }
 
@@ -96,7 +96,7 @@ fn compile_condition(
 {
     match test {
         None => Ok(holds),
-        Some(test) => compile_expr(ops, test, Sink::Branch(ended, holds)),
+        Some(test) => compile_expr(ops, test, Destination::Branch(ended, holds)),
     }
 }
 
@@ -142,7 +142,7 @@ fn compile_while<'a>(
 {
     let turn = emit(ops, Op::Turn(whole, exits, 0))?;
     let holds = compile_stmt(ops, body, inside(exits, turn))?;
-    let begin = compile_expr(ops, test, Sink::Branch(exits.next, holds))?;
+    let begin = compile_expr(ops, test, Destination::Branch(exits.next, holds))?;
     close(ops, turn, whole, exits, begin);
     Ok(turn)
 }
@@ -163,7 +163,7 @@ fn compile_do<'a>(
         (flow_run ops.old.items exits (λ calls. loop (turn_of calls whole.now)))) }
 {
     let turn = emit(ops, Op::Turn(whole, exits, 0))?;
-    let tested = compile_expr(ops, test, Sink::Branch(exits.next, turn))?;
+    let tested = compile_expr(ops, test, Destination::Branch(exits.next, turn))?;
     let begin = compile_stmt(ops, body, inside(exits, tested))?;
     close(ops, turn, whole, exits, begin);
     Ok(turn)
@@ -232,11 +232,11 @@ pub(crate) fn compile_stmt<'a>(
     match statement {
         Stmt::Empty => Ok(exits.next),
         Stmt::Declare(at, value) => compile_declaration(ops, *at, value, exits),
-        Stmt::Assign(at, value) => compile_expr(ops, value, Sink::Assign(*at, exits.next)),
+        Stmt::Assign(at, value) => compile_expr(ops, value, Destination::Assign(*at, exits.next)),
         Stmt::If(test, then, other) => {
             let other = compile_other(ops, other, exits)?;
             let taken = compile_stmt(ops, then.get(), exits)?;
-            compile_expr(ops, test, Sink::Branch(other, taken))
+            compile_expr(ops, test, Destination::Branch(other, taken))
         }
         Stmt::While(test, body) => compile_while(ops, body.get(), test, statement, exits),
         Stmt::DoWhile(body, test) => compile_do(ops, body.get(), test, statement, exits),
@@ -245,7 +245,7 @@ pub(crate) fn compile_stmt<'a>(
         }
         Stmt::Break(_) => Ok(exits.broken),
         Stmt::Continue(_) => Ok(exits.continued),
-        Stmt::Return(value) => compile_expr(ops, value, Sink::Return(exits.scopes)),
+        Stmt::Return(value) => compile_expr(ops, value, Destination::Return(exits.scopes)),
         Stmt::Block(inner) => compile_block(ops, inner, exits),
     }
 }

@@ -110,7 +110,7 @@ fn pre_name_stage(
     }
 }
 
-// What is said of the bytes of a precondition.
+// The precondition that the bytes spell, or why they spell none.
 fn read_pre(
     alloc: Global,
     source: &[u8],
@@ -134,7 +134,7 @@ fn read_pre(
     }
 }
 
-/// What is said of the precondition, if there is one, of two functions.
+/// The two functions with their precondition, if one is given, or why it is refused.
 pub(crate) fn condition(
     alloc: Global,
     source: &[u8],

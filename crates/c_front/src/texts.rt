@@ -13,7 +13,7 @@ pub struct ProgramText {
     pub program: Program,
 }
 
-/// The same, and the program with all its names resolved.
+/// The tokens of a text, the program as it is read, and the program with all its names resolved.
 #[derive(Debug, Drop)]
 pub struct ResolvedText {
     /// The tokens and the program.

@@ -20,14 +20,14 @@ use Rattle.c_meaning.specs.Runs.{Run, Value, More, on_value}
 use Rattle.c_meaning.specs.CountedExpressions.{Calls}
 use Rattle.c_meaning.specs.CountedStatements.{optional, in_order, on_again, loop, stmt}
 use Rattle.c_code.specs.Stores.{Kept, with_state, with_values, pushed, ended, called}
-use Rattle.c_code.specs.Flat.{Rest, Back, lost, at, op_to, rests, code_run, flow_to, turn_to, turn_level, turn_of, sink_to}
+use Rattle.c_code.specs.Flat.{Rest, Back, lost, at, op_to, rests, code_run, flow_to, turn_to, turn_level, turn_of, destination_to}
 use Rattle.c_code.specs.Flat.{TurnIsRight, FunctionIsRight}
 use Rattle.c_machine.specs.Machines.{done, resumed, back_to, machine_run, Steps}
 use Rattle.c_code.specs.declared.code.Exits.{Exits}
 use Rattle.c_code.specs.declared.code.Op.{Op}
 use Rattle.c_code.specs.declared.code.Op.TheVariants as op
 use Rattle.c_machine.specs.declared.machine.Caller.{Caller}
-use Rattle.c_code.specs.declared.code.Sink.{Sink}
+use Rattle.c_code.specs.declared.code.Destination.{Destination}
 use Rattle.c_machine.specs.declared.machine.Reached.{Reached}
 use Rattle.c_machine.specs.declared.machine.Reached.TheVariants as reached
 use Rattle.c_machine.specs.declared.stop.Stop.{Stop}
@@ -276,22 +276,24 @@ ends-with stop.Over run f all left given same =
     same ∙ ap (λ (r : Run ℤ). on_value r f) (given left)
 ends-with stop.NoMemory run f all left given same = tt
 
--- a value that is made goes to its sink
-pub made-to : (rs : List Rest) (back : Back) (s : Sink) (run : ℕ → Run ℤ) (x y : ℤ)
+-- a value that is made goes to its destination
+pub made-to : (rs : List Rest) (back : Back) (s : Destination) (run : ℕ → Run ℤ) (x y : ℤ)
     (kept new : Kept) (left : ℕ)
     → GivesNumber run (Ok x) → y ≡ x → new ≡ kept →
-    on_value (run left) (sink_to rs back s kept) ≡ sink_to rs back s new y left
+    on_value (run left) (destination_to rs back s kept) ≡ destination_to rs back s new y left
 made-to rs back s run x y kept new left given plain same =
-    ap (λ (r : Run ℤ). on_value r (sink_to rs back s kept)) (given left)
+    ap (λ (r : Run ℤ). on_value r (destination_to rs back s kept)) (given left)
     ∙ rw (plain, same) refl
 
--- what is kept after a value is made is what its sink finds
-pub kept-same : (x : Result ℤ Stop) (run : ℕ → Run ℤ) (rs : List Rest) (back : Back) (s : Sink)
+-- what is kept after a value is made is what its destination finds
+pub kept-same : (x : Result ℤ Stop) (run : ℕ → Run ℤ) (rs : List Rest) (back : Back)
+    (s : Destination)
     (kept new : Kept) (left : ℕ)
     → GivesNumber run x → OnOk x (new ≡ kept) →
-    on_value (run left) (sink_to rs back s kept) ≡ on_value (run left) (sink_to rs back s new)
+    on_value (run left) (destination_to rs back s kept) ≡ on_value (run left)
+    (destination_to rs back s new)
 kept-same (Ok x) run rs back s kept new left given same =
-    ap (λ (k : Kept). on_value (run left) (sink_to rs back s k)) (sym same)
+    ap (λ (k : Kept). on_value (run left) (destination_to rs back s k)) (sym same)
 kept-same (Err stop.DivisionError) run rs back s kept new left given same = rw (given left) refl
 kept-same (Err stop.More) run rs back s kept new left given same = rw (given left) refl
 kept-same (Err stop.Over) run rs back s kept new left given same = rw (given left) refl

@@ -9,8 +9,8 @@ use Rattle.c_meaning.specs.Runs.{Run, Value}
 use Rattle.c_code.specs.Stores.{Kept, given_back, pushed}
 use Rattle.c_code.specs.declared.code.Op.{Op}
 use Rattle.c_machine.specs.declared.machine.Caller.{Caller}
-use Rattle.c_machine.specs.declared.machine.Sunk.{Sunk}
-use Rattle.c_machine.specs.declared.machine.Sunk.TheVariants as sunk
+use Rattle.c_machine.specs.declared.machine.Delivered.{Delivered}
+use Rattle.c_machine.specs.declared.machine.Delivered.TheVariants as delivered
 use Rattle.c_machine.specs.declared.machine.Reached.{Reached}
 use Rattle.c_machine.specs.declared.machine.Reached.TheVariants as reached
 use Rattle.c_machine.specs.declared.stop.Stop.{Stop}
@@ -33,11 +33,11 @@ abbrev pub machine_run : Resolved → List Op → List Caller → ℕ → Kept �
 machine_run program ops callers =
     code_run (counted program) (back_to (counted program) ops callers) ops
 
--- where a value led that went to a sink
-abbrev pub Sinks : List Rest → Back → (ℕ → Run ℤ) → Result Sunk Stop → Kept → ℕ → Type 0
-Sinks rests back run (Ok (sunk.On p)) k left = run left ≡ at rests p k left
-Sinks rests back run (Ok (sunk.Back x)) k left = run left ≡ back x k left
-Sinks rests back run (Err e) k left = EndsBy e (run left)
+-- where a value led that went to a destination
+abbrev pub Delivers : List Rest → Back → (ℕ → Run ℤ) → Result Delivered Stop → Kept → ℕ → Type 0
+Delivers rests back run (Ok (delivered.On p)) k left = run left ≡ at rests p k left
+Delivers rests back run (Ok (delivered.Back x)) k left = run left ≡ back x k left
+Delivers rests back run (Err e) k left = EndsBy e (run left)
 
 -- where a step from the position `here` led: what follows is what the run comes to; what is not lower
 -- is lost

@@ -5,8 +5,8 @@ ghost use Rattle.c_ast.specs.declared.program.Resolved.{Resolved};
 ghost use Rattle.c_meaning.specs.Counted.{counted, counted_expr, outcome_of};
 ghost use Rattle.c_machine.specs.Ends.{Ends, GivesNumber};
 ghost use Rattle.c_ast.specs.declared.expr.BinOp.TheVariants as binary;
-ghost use Rattle.c_code.specs.Flat.{Back, IsCode, Rest, between, inner_run, kept_after, made, op_to, rests, sink_to, three, times};
-ghost use Rattle.c_machine.specs.Machines.{Falls, Sinks, Steps, back_to, machine_run};
+ghost use Rattle.c_code.specs.Flat.{Back, IsCode, Rest, between, inner_run, kept_after, made, op_to, rests, destination_to, three, times};
+ghost use Rattle.c_machine.specs.Machines.{Falls, Delivers, Steps, back_to, machine_run};
 ghost use Rattle.c_machine.specs.Preconditions.{precondition_at};
 ghost use Rattle.c_meaning.specs.Runs.{Run, on_value};
 ghost use Rattle.c_code.specs.declared.code.Op.{Op};
@@ -22,7 +22,7 @@ use crate::arithmetic::{apply_binary, apply_unary, is_zero};
 use crate::stop::Stop;
 use crate::store::Store;
 use c_ast::{BinOp, Expr, Resolved};
-use c_code::{Code, Inner, Leaf, Op, Operand, Sink, Work, compile};
+use c_code::{Code, Destination, Inner, Leaf, Op, Operand, Work, compile};
 use c_meaning::Outcome;
 use rx_plain::NoMemory;
 use std::alloc::Global;
@@ -44,7 +44,7 @@ pub struct Machine {
 }
 
 /// Where a value leads.
-pub(crate) enum Sunk {
+pub(crate) enum Delivered {
     /// To a position.
     On(usize),
     /// To the caller.
@@ -176,35 +176,36 @@ fn value_of(store: &mut Store, work: &Work) -> Result<i128, Stop>
     }
 }
 
-/// Does something with a value.
+/// Takes a value to its destination.
 #[inline(always)]
-fn sink_value(store: &mut Store, sink: &Sink, x: i128) -> Result<Sunk, Stop>
+fn deliver(store: &mut Store, destination: &Destination, x: i128) -> Result<Delivered, Stop>
     ensures { (rests : List Rest) (back : Back) (left : ℕ) →
-        Sinks rests back (sink_to rests back sink.now store.old x) result store.new left }
+        Delivers rests back (destination_to rests back destination.now store.old x) result store.new
+        left }
 {
-    match sink {
-        Sink::Push(next) => {
+    match destination {
+        Destination::Push(next) => {
             store.push(x)?;
-            Ok(Sunk::On(*next))
+            Ok(Delivered::On(*next))
         }
-        Sink::Branch(zero, other) => {
+        Destination::Branch(zero, other) => {
             if is_zero(&x) {
-                Ok(Sunk::On(*zero))
+                Ok(Delivered::On(*zero))
             } else {
-                Ok(Sunk::On(*other))
+                Ok(Delivered::On(*other))
             }
         }
-        Sink::Declare(at, next) => {
+        Destination::Declare(at, next) => {
             store.declare(*at, x)?;
-            Ok(Sunk::On(*next))
+            Ok(Delivered::On(*next))
         }
-        Sink::Assign(at, next) => {
+        Destination::Assign(at, next) => {
             store.assign(*at, x);
-            Ok(Sunk::On(*next))
+            Ok(Delivered::On(*next))
         }
-        Sink::Return(scopes) => {
+        Destination::Return(scopes) => {
             store.end(*scopes);
-            Ok(Sunk::Back(x))
+            Ok(Delivered::Back(x))
         }
     }
 }
@@ -237,35 +238,40 @@ impl Machine {
 
     /// Does something with a value.
     #[inline(always)]
-    fn give(&mut self, x: i128, sink: &Sink) -> Result<Reached, Stop>
+    fn give(&mut self, x: i128, destination: &Destination) -> Result<Reached, Stop>
         ensures steps { (program : Resolved) (ops : List Op) (at left : ℕ) → Steps at program ops
-            (sink_to (rests (counted program)
+            (destination_to (rests (counted program)
             (back_to (counted program) ops self.old.callers.items) (take at ops))
-            (back_to (counted program) ops self.old.callers.items) sink.now self.old.store x left)
+            (back_to (counted program) ops self.old.callers.items) destination.now self.old.store x
+            left)
             result self.new.callers.items self.new.store left }
         ensures falls { (size left : ℕ) → Falls size result (length self.old.callers.items)
             (length self.new.callers.items) left }
     {
-        match sink_value(&mut self.store, sink, x)? {
-            Sunk::On(next) => Ok(Reached::On(next)),
-            Sunk::Back(x) => self.go_back(x),
+        match deliver(&mut self.store, destination, x)? {
+            Delivered::On(next) => Ok(Reached::On(next)),
+            Delivered::Back(x) => self.go_back(x),
         }
     }
 
     /// Does something with a value, if it could be made.
     #[inline(always)]
-    fn give_made(&mut self, made: Result<i128, Stop>, sink: &Sink) -> Result<Reached, Stop>
+    fn give_made(
+        &mut self,
+        made: Result<i128, Stop>,
+        destination: &Destination,
+    ) -> Result<Reached, Stop>
         ensures steps { (program : Resolved) (ops : List Op) (at left : ℕ) (run : ℕ → Run ℤ) →
             GivesNumber run made → Steps at program ops (on_value (run left)
-            (sink_to (rests (counted program)
+            (destination_to (rests (counted program)
             (back_to (counted program) ops self.old.callers.items) (take at ops))
-            (back_to (counted program) ops self.old.callers.items) sink.now self.old.store))
+            (back_to (counted program) ops self.old.callers.items) destination.now self.old.store))
             result self.new.callers.items self.new.store left }
         ensures falls { (size left : ℕ) → Falls size result (length self.old.callers.items)
             (length self.new.callers.items) left }
     {
         let x = made?;
-        self.give(x, sink)
+        self.give(x, destination)
     }
 
     /// Begins a function.
@@ -319,17 +325,17 @@ impl Machine {
             (length self.new.callers.items) left }
     {
         match op {
-            Op::Do(work, sink) => {
+            Op::Do(work, destination) => {
                 let x = value_of(&mut self.store, work);
-                self.give_made(x, sink)
+                self.give_made(x, destination)
             }
             Op::Test(inner, zero, other) => {
                 let x = inner_value(&self.store, inner);
-                self.give_made(x, &Sink::Branch(*zero, *other))
+                self.give_made(x, &Destination::Branch(*zero, *other))
             }
             Op::Set(inner, slot, next) => {
                 let x = inner_value(&self.store, inner);
-                self.give_made(x, &Sink::Assign(*slot, *next))
+                self.give_made(x, &Destination::Assign(*slot, *next))
             }
             Op::LessSlot(a, b, less, other) => {
                 let x = Leaf::Slot(*a);
@@ -351,35 +357,35 @@ impl Machine {
             }
             Op::Raise(slot, c, next) => {
                 let x = sum_value(&self.store, *slot, &Leaf::Constant(*c));
-                self.give_made(x, &Sink::Assign(*slot, *next))
+                self.give_made(x, &Destination::Assign(*slot, *next))
             }
             Op::Add(a, b, slot, next) => {
                 let x = sum_value(&self.store, *a, &Leaf::Slot(*b));
-                self.give_made(x, &Sink::Assign(*slot, *next))
+                self.give_made(x, &Destination::Assign(*slot, *next))
             }
             Op::AddThree(a, b, c, slot, next) => {
                 let x = three_value(&self.store, *a, *b, *c);
-                self.give_made(x, &Sink::Assign(*slot, *next))
+                self.give_made(x, &Destination::Assign(*slot, *next))
             }
             Op::AddTimes(a, c, b, slot, next) => {
                 let x = times_value(&self.store, *a, *c, *b);
-                self.give_made(x, &Sink::Assign(*slot, *next))
+                self.give_made(x, &Destination::Assign(*slot, *next))
             }
             Op::SetLeft(op, inner, leaf, slot, next) => {
                 let x = left_value(&self.store, op, inner, leaf);
-                self.give_made(x, &Sink::Assign(*slot, *next))
+                self.give_made(x, &Destination::Assign(*slot, *next))
             }
             Op::SetRight(op, a, inner, slot, next) => {
                 let x = right_value(&self.store, op, *a, inner);
-                self.give_made(x, &Sink::Assign(*slot, *next))
+                self.give_made(x, &Destination::Assign(*slot, *next))
             }
             Op::PushInner(inner, next) => {
                 let x = inner_value(&self.store, inner);
-                self.give_made(x, &Sink::Push(*next))
+                self.give_made(x, &Destination::Push(*next))
             }
             Op::Give(op, a, b, scopes) => {
                 let x = between_value(&mut self.store, op, a, b);
-                self.give_made(x, &Sink::Return(*scopes))
+                self.give_made(x, &Destination::Return(*scopes))
             }
             Op::Call(f, count, next) => self.invoke(code, *f, *count, *next, at, left),
             Op::Turn(_, _, begin) => begin_turn(*begin, left),

@@ -4,14 +4,12 @@
 //! exactly where the same bytes spell them. So what is done with names after it looks at no byte.
 //! `slot_of` finds a variable among those in scope, the innermost first (ISO/IEC 9899:1999, 6.2.1).
 //!
-//! Scopes, and names looked up in them and outside: the names of an expression, those of a
-//! precondition, and the name of a function.
-//!
-//! What a reader may rely on: `resolve_expr` answers an expression with each variable as its slot
-//! and each call as a place in the list of functions, or its first fault (`specs/Expressions`, over
-//! the scopes of `specs/Slots`; ISO/IEC 9899:1999, 6.2.1, 6.7p3). `resolve_pre` does the same for a
-//! precondition over the parameters of one function, and refuses nothing but an unknown name
-//! (`specs/Preconditions`). `find_function` finds the first definition of a name (`specs/Places`).
+//! Names are looked up in scopes and outside: `resolve_expr` answers an expression with each
+//! variable as its slot and each call as a place in the list of functions, or its first fault
+//! (`specs/Expressions`, over the scopes of `specs/LookupSlots`; ISO/IEC 9899:1999, 6.2.1, 6.7p3).
+//! `resolve_pre` does the same for a precondition over the parameters of one function, and refuses
+//! nothing but an unknown name (`specs/Preconditions`). `find_function` finds the first definition
+//! of a name (`specs/Places`).
 #![tactic(auto)]
 
 mod definitions;

@@ -20,20 +20,20 @@ reverse_pushed (s ∷ ss) there =
     reverse_last (pushed ss there) s ∙ ap (λ xs. s ∷ xs) (reverse_pushed ss there)
 
 taken_by : (a : Action) (old new : List Symbol) (skipped : Option (List Symbol)) →
-    Acts (Ok step.Taken) old new a → stack_by a (reverse old) skipped ≡ Some (reverse new)
+    Acts (Ok step.Shifted) old new a → stack_by a (reverse old) skipped ≡ Some (reverse new)
 taken_by (takes expected) old new skipped h =
     ap Some (sym (reverse_pushed expected old) ∙ ap reverse (sym h))
 taken_by skips old new skipped h = absurd h
 taken_by fails old new skipped h = absurd h
 
 skipped_by : (a : Action) (old new : List Symbol) (skipped : Option (List Symbol)) →
-    Acts (Ok step.Skipped) old new a → (stack_by a (reverse old) skipped ≡ skipped) × (new ≡ old)
+    Acts (Ok step.Popped) old new a → (stack_by a (reverse old) skipped ≡ skipped) × (new ≡ old)
 skipped_by (takes expected) old new skipped h = absurd h
 skipped_by skips old new skipped h = (refl, h)
 skipped_by fails old new skipped h = absurd h
 
 lost_by : (a : Action) (old new : List Symbol) (skipped : Option (List Symbol)) →
-    Acts (Ok step.Lost) old new a → stack_by a (reverse old) skipped ≡ None
+    Acts (Ok step.Rejected) old new a → stack_by a (reverse old) skipped ≡ None
 lost_by (takes expected) old new skipped h = absurd h
 lost_by skips old new skipped h = absurd h
 lost_by fails old new skipped h = refl
@@ -46,21 +46,21 @@ unfolding fed
 fed_top old below s kind h = ap (λ xs. fed xs kind) (ap reverse h ∙ reverse_last below s)
 
 pub fed_taken : (old below new : List Symbol) (s : Symbol) (kind : Option TokenKind) → old ≡
-    below ++ (s ∷ []) → Acts (Ok step.Taken) below new (action s kind)
+    below ++ (s ∷ []) → Acts (Ok step.Shifted) below new (action s kind)
     → IsFed true new (fed (reverse old) kind)
 fed_taken old below new s kind h a =
     rw (fed_top old below s kind h ∙ taken_by (action s kind) below new (fed (reverse below) kind)
     a) refl
 
 pub fed_skipped : (old below new : List Symbol) (s : Symbol) (kind : Option TokenKind) → old ≡
-    below ++ (s ∷ []) → Acts (Ok step.Skipped) below new (action s kind)
+    below ++ (s ∷ []) → Acts (Ok step.Popped) below new (action s kind)
     → (fed (reverse new) kind ≡ fed (reverse old) kind) × (new ≡ below)
 fed_skipped old below new s kind h a =
     let by = skipped_by (action s kind) below new (fed (reverse below) kind) a in
     (ap (λ xs. fed (reverse xs) kind) by.1 ∙ (sym by.0 ∙ sym (fed_top old below s kind h)), by.1)
 
 pub fed_lost : (old below new : List Symbol) (s : Symbol) (kind : Option TokenKind) → old ≡ below ++
-    (s ∷ []) → Acts (Ok step.Lost) below new (action s kind)
+    (s ∷ []) → Acts (Ok step.Rejected) below new (action s kind)
     → IsFed false new (fed (reverse old) kind)
 fed_lost old below new s kind h a =
     rw (fed_top old below s kind h ∙ lost_by (action s kind) below new (fed (reverse below) kind) a)

@@ -46,9 +46,9 @@ pushed (s ∷ ss) there = pushed ss there ++ (s ∷ [])
 -- What a step did to the stack, whose top is its last, by the table's action; running out of memory
 -- is free.
 abbrev pub Acts : Result Step NoMemory → List Symbol → List Symbol → Action → Type 0
-Acts (Ok step.Taken) old new (takes expected) = new ≡ pushed expected old
-Acts (Ok step.Skipped) old new skips = new ≡ old
-Acts (Ok step.Lost) old new fails = Unit {0}
+Acts (Ok step.Shifted) old new (takes expected) = new ≡ pushed expected old
+Acts (Ok step.Popped) old new skips = new ≡ old
+Acts (Ok step.Rejected) old new fails = Unit {0}
 Acts (Ok s) old new a = ⊥
 Acts (Err e) old new a = Unit {0}
 

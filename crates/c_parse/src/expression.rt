@@ -16,23 +16,23 @@ pub fn expression(stack: &mut Vec<Symbol>, kind: Option<TokenKind>) -> Result<St
     match kind {
         Some(TokenKind::Name) => {
             stack.push(Symbol::Called)?;
-            Ok(Step::Taken)
+            Ok(Step::Shifted)
         }
         Some(TokenKind::Number(_)) => {
             stack.push(Symbol::Going)?;
-            Ok(Step::Taken)
+            Ok(Step::Shifted)
         }
         Some(TokenKind::Mark(Mark::LeftParen)) => {
             stack.push(Symbol::Going)?;
             stack.push(Symbol::RightParen)?;
             stack.push(Symbol::Expression)?;
-            Ok(Step::Taken)
+            Ok(Step::Shifted)
         }
         Some(TokenKind::Mark(Mark::Plus | Mark::Minus | Mark::Not)) => {
             stack.push(Symbol::Expression)?;
-            Ok(Step::Taken)
+            Ok(Step::Shifted)
         }
-        _ => Ok(Step::Lost),
+        _ => Ok(Step::Rejected),
     }
 }
 
@@ -45,13 +45,13 @@ pub fn going(stack: &mut Vec<Symbol>, kind: Option<TokenKind>) -> Result<Step, N
             stack.push(Symbol::Expression)?;
             stack.push(Symbol::Colon)?;
             stack.push(Symbol::Expression)?;
-            Ok(Step::Taken)
+            Ok(Step::Shifted)
         }
         Some(TokenKind::Mark(mark)) if is_infix(mark) => {
             stack.push(Symbol::Expression)?;
-            Ok(Step::Taken)
+            Ok(Step::Shifted)
         }
-        _ => Ok(Step::Skipped),
+        _ => Ok(Step::Popped),
     }
 }
 
@@ -85,7 +85,7 @@ pub fn called(stack: &mut Vec<Symbol>, kind: Option<TokenKind>) -> Result<Step, 
         Some(TokenKind::Mark(Mark::LeftParen)) => {
             stack.push(Symbol::Going)?;
             stack.push(Symbol::Arguments)?;
-            Ok(Step::Taken)
+            Ok(Step::Shifted)
         }
         _ => going(stack, kind),
     }
@@ -96,7 +96,7 @@ pub fn arguments(stack: &mut Vec<Symbol>, kind: Option<TokenKind>) -> Result<Ste
     ensures { Acts result stack.old.items stack.new.items (arguments_action kind) }
 {
     match kind {
-        Some(TokenKind::Mark(Mark::RightParen)) => Ok(Step::Taken),
+        Some(TokenKind::Mark(Mark::RightParen)) => Ok(Step::Shifted),
         _ => {
             stack.push(Symbol::Following)?;
             expression(stack, kind)
@@ -109,12 +109,12 @@ pub fn following(stack: &mut Vec<Symbol>, kind: Option<TokenKind>) -> Result<Ste
     ensures { Acts result stack.old.items stack.new.items (following_action kind) }
 {
     match kind {
-        Some(TokenKind::Mark(Mark::RightParen)) => Ok(Step::Taken),
+        Some(TokenKind::Mark(Mark::RightParen)) => Ok(Step::Shifted),
         Some(TokenKind::Mark(Mark::Comma)) => {
             stack.push(Symbol::Following)?;
             stack.push(Symbol::Expression)?;
-            Ok(Step::Taken)
+            Ok(Step::Shifted)
         }
-        _ => Ok(Step::Lost),
+        _ => Ok(Step::Rejected),
     }
 }

@@ -11,7 +11,7 @@ ghost use Rattle.c_parse.specs.Readers.{LowExternal};
 
 use c_ast::{Function, Prototype, Stmt};
 use c_lex::{Keyword, Mark, Token, TokenKind};
-use c_syntax::{External, Span, has_keyword, has_mark, has_name, inner};
+use c_syntax::{External, Span, block_items, has_keyword, has_mark, has_name};
 use rx_plain::{Items, NoMemory};
 use std::alloc::Global;
 
@@ -114,7 +114,7 @@ fn names_of(alloc: Global, params: &ParameterList) -> Result<Option<Items<u32>>,
     }
 }
 
-// The same of a list of parameters.
+// The names of a list of parameters, where each has one.
 fn all_names(alloc: Global, listed: &[Option<u32>]) -> Result<Option<Items<u32>>, NoMemory>
     ensures { IfOk result (λ names. names ≡ all_names listed.now) }
 {
@@ -239,5 +239,5 @@ fn block(alloc: Global, tokens: &[Token], at: usize) -> Result<Option<Span<Items
     if !has_mark(tokens, at, Mark::LeftBrace) {
         return Ok(None);
     }
-    inner(alloc, tokens, at + 1, MAX_HEIGHT)
+    block_items(alloc, tokens, at + 1, MAX_HEIGHT)
 }

@@ -10,7 +10,7 @@ use crate::error::ParseEnd;
 use crate::external::{MAX_HEIGHT, parameters};
 use crate::recogniser::program_fault;
 use c_lex::Token;
-use c_syntax::item;
+use c_syntax::block_item;
 use rx_plain::NoMemory;
 use std::alloc::Global;
 
@@ -61,7 +61,7 @@ fn high_item(alloc: Global, tokens: &[Token], at: usize) -> Result<u32, NoMemory
 {
     let mut end = at;
     'items: loop {
-        let Some(read) = item(alloc, tokens, end, MAX_HEIGHT)? else {
+        let Some(read) = block_item(alloc, tokens, end, MAX_HEIGHT)? else {
             return Ok(end as u32);
         };
         end = read.end;

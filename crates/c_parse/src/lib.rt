@@ -3,10 +3,9 @@
 //! `parse` answers a program exactly where the tokens spell that program within the limits, and
 //! each refusal exactly where it has its cause. `parse_pre` does the same for a precondition.
 //!
-//! The place where a list of tokens stops being the beginning of a program, or of an expression.
-//!
-//! A recogniser goes over the tokens with a stack of what is still expected. It builds no tree, so
-//! that no text is too high for it.
+//! Where tokens spell none, the place is found where they stop being the beginning of a program, or
+//! of an expression: a recogniser goes over the tokens with a stack of what is still expected. It
+//! builds no tree, so that no text is too high for it.
 #![tactic(auto)]
 
 mod error;

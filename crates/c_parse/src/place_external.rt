@@ -19,10 +19,10 @@ pub fn program(stack: &mut Vec<Symbol>, kind: Option<TokenKind>) -> Result<Step,
             stack.push(Symbol::Parameters)?;
             stack.push(Symbol::LeftParen)?;
             stack.push(Symbol::Name)?;
-            Ok(Step::Taken)
+            Ok(Step::Shifted)
         }
-        None => Ok(Step::Skipped),
-        _ => Ok(Step::Lost),
+        None => Ok(Step::Popped),
+        _ => Ok(Step::Rejected),
     }
 }
 
@@ -33,18 +33,18 @@ pub fn parameters(stack: &mut Vec<Symbol>, kind: Option<TokenKind>) -> Result<St
     match kind {
         Some(TokenKind::Mark(Mark::RightParen)) => {
             stack.push(Symbol::Body)?;
-            Ok(Step::Taken)
+            Ok(Step::Shifted)
         }
         Some(TokenKind::Word(Keyword::Void)) => {
             stack.push(Symbol::Body)?;
             stack.push(Symbol::RightParen)?;
-            Ok(Step::Taken)
+            Ok(Step::Shifted)
         }
         Some(TokenKind::Word(Keyword::Int)) => {
             stack.push(Symbol::ParameterName(Naming::Full))?;
-            Ok(Step::Taken)
+            Ok(Step::Shifted)
         }
-        _ => Ok(Step::Lost),
+        _ => Ok(Step::Rejected),
     }
 }
 
@@ -59,9 +59,9 @@ pub fn parameter(
     match kind {
         Some(TokenKind::Word(Keyword::Int)) => {
             stack.push(Symbol::ParameterName(naming))?;
-            Ok(Step::Taken)
+            Ok(Step::Shifted)
         }
-        _ => Ok(Step::Lost),
+        _ => Ok(Step::Rejected),
     }
 }
 
@@ -76,7 +76,7 @@ pub fn parameter_name(
     match kind {
         Some(TokenKind::Name) => {
             stack.push(Symbol::MoreParameters(naming))?;
-            Ok(Step::Taken)
+            Ok(Step::Shifted)
         }
         _ => more_parameters(stack, Naming::Partial, kind),
     }
@@ -93,13 +93,13 @@ pub fn more_parameters(
     match kind {
         Some(TokenKind::Mark(Mark::Comma)) => {
             stack.push(Symbol::Parameter(naming))?;
-            Ok(Step::Taken)
+            Ok(Step::Shifted)
         }
         Some(TokenKind::Mark(Mark::RightParen)) => {
             stack.push(after_heading(naming))?;
-            Ok(Step::Taken)
+            Ok(Step::Shifted)
         }
-        _ => Ok(Step::Lost),
+        _ => Ok(Step::Rejected),
     }
 }
 
@@ -120,9 +120,9 @@ pub fn body(stack: &mut Vec<Symbol>, kind: Option<TokenKind>) -> Result<Step, No
     match kind {
         Some(TokenKind::Mark(Mark::LeftBrace)) => {
             stack.push(Symbol::Items)?;
-            Ok(Step::Taken)
+            Ok(Step::Shifted)
         }
-        Some(TokenKind::Mark(Mark::Semicolon)) => Ok(Step::Taken),
-        _ => Ok(Step::Lost),
+        Some(TokenKind::Mark(Mark::Semicolon)) => Ok(Step::Shifted),
+        _ => Ok(Step::Rejected),
     }
 }

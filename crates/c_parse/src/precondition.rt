@@ -15,7 +15,7 @@ use crate::error::ParseEnd;
 use crate::recogniser::expression_fault;
 use c_ast::{BinOp, Expr, UnOp};
 use c_lex::Token;
-use c_syntax::{Read, too_deep, whole};
+use c_syntax::{Read, expression, too_deep};
 use std::alloc::Global;
 
 // How high an expression may be.
@@ -37,7 +37,7 @@ pub fn parse_pre(alloc: Global, tokens: &[Token]) -> Result<Expr, ParseEnd>
     if let Some(token) = too_deep(tokens) {
         return Err(ParseEnd::TooDeep { token });
     }
-    match whole(alloc, tokens, 0, MAX_HEIGHT) {
+    match expression(alloc, tokens, 0, MAX_HEIGHT) {
         Err(_) => Err(ParseEnd::NoMemory),
         Ok(None) => Err(pre_syntax_error(alloc, tokens)),
         Ok(Some(read)) => checked_form(alloc, tokens, read),

@@ -1,7 +1,10 @@
-//! The recogniser: a stack of what is expected, its top next, over one token after the other.
+//! The recogniser: a predictive parser with one token of lookahead that makes no tree. Its stack
+//! holds the symbols that are expected, the next on top.
 //!
-//! Each token is taken by one symbol, which pushes at most seven others on the stack, and a symbol
-//! that is skipped leaves it: the time is linear in the number of tokens.
+//! Each token is shifted by one symbol, which pushes at most seven others on the stack, and a
+//! symbol that is popped leaves it: the time is linear in the number of tokens. It has the
+//! valid-prefix property: it rejects at the first token such that nothing that is expected begins
+//! with the tokens up to it.
 ghost use Rattle.std.specs.Prelude.{◌≡◌, ◌<◌, ◌^◌, ◌∷◌, [], None, length, reverse, IfOk};
 ghost use Rattle.c_parse.specs.Actions.{action};
 ghost use Rattle.c_parse.specs.Places.{IsExpression, IsProgram, IsPlace};
@@ -70,15 +73,16 @@ fn at_end(stack: &mut Vec<Symbol>, count: u32) -> Result<Option<u32>, NoMemory>
     }
 }
 
-// Whether a symbol takes the token, or all spell nothing at the end; those above it are skipped.
+// Whether the token is shifted by a symbol of the stack, after those above it were popped; at the
+// end of the text: whether all symbols are popped.
 fn feed(stack: &mut Vec<Symbol>, kind: Option<TokenKind>) -> Result<bool, NoMemory>
     ensures { IfOk result (λ b. IsFed b stack.new.items (fed (reverse stack.old.items) kind)) }
 {
     while let Some(symbol) = stack.pop() {
         match act(stack, symbol, kind)? {
-            Step::Taken => return Ok(true),
-            Step::Skipped => {}
-            Step::Lost => return Ok(false),
+            Step::Shifted => return Ok(true),
+            Step::Popped => {}
+            Step::Rejected => return Ok(false),
         }
     }
     match kind {

@@ -17,23 +17,23 @@ pub fn statement(stack: &mut Vec<Symbol>, kind: Option<TokenKind>) -> Result<Ste
     ensures { Acts result stack.old.items stack.new.items (statement_action kind) }
 {
     match kind {
-        Some(TokenKind::Mark(Mark::Semicolon)) => Ok(Step::Taken),
+        Some(TokenKind::Mark(Mark::Semicolon)) => Ok(Step::Shifted),
         Some(TokenKind::Mark(Mark::LeftBrace)) => {
             stack.push(Symbol::Items)?;
-            Ok(Step::Taken)
+            Ok(Step::Shifted)
         }
         Some(TokenKind::Name) => {
             stack.push(Symbol::Semicolon)?;
             stack.push(Symbol::Changed)?;
-            Ok(Step::Taken)
+            Ok(Step::Shifted)
         }
         Some(TokenKind::Mark(Mark::PlusPlus | Mark::MinusMinus)) => {
             stack.push(Symbol::Semicolon)?;
             stack.push(Symbol::Name)?;
-            Ok(Step::Taken)
+            Ok(Step::Shifted)
         }
         Some(TokenKind::Word(word)) => worded(stack, word),
-        _ => Ok(Step::Lost),
+        _ => Ok(Step::Rejected),
     }
 }
 
@@ -67,9 +67,9 @@ fn worded(stack: &mut Vec<Symbol>, word: Keyword) -> Result<Step, NoMemory>
             stack.push(Symbol::Semicolon)?;
             stack.push(Symbol::Expression)?;
         }
-        _ => return Ok(Step::Lost),
+        _ => return Ok(Step::Rejected),
     }
-    Ok(Step::Taken)
+    Ok(Step::Shifted)
 }
 
 // Pushes an expression in parentheses on the stack.
@@ -104,9 +104,9 @@ pub fn alternative(stack: &mut Vec<Symbol>, kind: Option<TokenKind>) -> Result<S
     match kind {
         Some(TokenKind::Word(Keyword::Else)) => {
             stack.push(Symbol::Statement)?;
-            Ok(Step::Taken)
+            Ok(Step::Shifted)
         }
-        _ => Ok(Step::Skipped),
+        _ => Ok(Step::Popped),
     }
 }
 
@@ -126,10 +126,10 @@ pub fn changed(stack: &mut Vec<Symbol>, kind: Option<TokenKind>) -> Result<Step,
             ),
         ) => {
             stack.push(Symbol::Expression)?;
-            Ok(Step::Taken)
+            Ok(Step::Shifted)
         }
-        Some(TokenKind::Mark(Mark::PlusPlus | Mark::MinusMinus)) => Ok(Step::Taken),
-        _ => Ok(Step::Lost),
+        Some(TokenKind::Mark(Mark::PlusPlus | Mark::MinusMinus)) => Ok(Step::Shifted),
+        _ => Ok(Step::Rejected),
     }
 }
 
@@ -138,11 +138,11 @@ pub fn items(stack: &mut Vec<Symbol>, kind: Option<TokenKind>) -> Result<Step, N
     ensures { Acts result stack.old.items stack.new.items (items_action kind) }
 {
     match kind {
-        Some(TokenKind::Mark(Mark::RightBrace)) => Ok(Step::Taken),
+        Some(TokenKind::Mark(Mark::RightBrace)) => Ok(Step::Shifted),
         Some(TokenKind::Word(Keyword::Int)) => {
             stack.push(Symbol::Items)?;
             stack.push(Symbol::Declarators)?;
-            Ok(Step::Taken)
+            Ok(Step::Shifted)
         }
         _ => {
             stack.push(Symbol::Items)?;
@@ -158,9 +158,9 @@ pub fn declarators(stack: &mut Vec<Symbol>, kind: Option<TokenKind>) -> Result<S
     match kind {
         Some(TokenKind::Name) => {
             stack.push(Symbol::Declared)?;
-            Ok(Step::Taken)
+            Ok(Step::Shifted)
         }
-        _ => Ok(Step::Lost),
+        _ => Ok(Step::Rejected),
     }
 }
 
@@ -172,7 +172,7 @@ pub fn declared(stack: &mut Vec<Symbol>, kind: Option<TokenKind>) -> Result<Step
         Some(TokenKind::Mark(Mark::Assign)) => {
             stack.push(Symbol::MoreDeclarators)?;
             stack.push(Symbol::Expression)?;
-            Ok(Step::Taken)
+            Ok(Step::Shifted)
         }
         _ => more_declarators(stack, kind),
     }
@@ -185,10 +185,10 @@ pub fn more_declarators(stack: &mut Vec<Symbol>, kind: Option<TokenKind>) -> Res
     match kind {
         Some(TokenKind::Mark(Mark::Comma)) => {
             stack.push(Symbol::Declarators)?;
-            Ok(Step::Taken)
+            Ok(Step::Shifted)
         }
-        Some(TokenKind::Mark(Mark::Semicolon)) => Ok(Step::Taken),
-        _ => Ok(Step::Lost),
+        Some(TokenKind::Mark(Mark::Semicolon)) => Ok(Step::Shifted),
+        _ => Ok(Step::Rejected),
     }
 }
 
@@ -197,22 +197,22 @@ pub fn for_start(stack: &mut Vec<Symbol>, kind: Option<TokenKind>) -> Result<Ste
     ensures { Acts result stack.old.items stack.new.items (for_start_action kind) }
 {
     match kind {
-        Some(TokenKind::Mark(Mark::Semicolon)) => Ok(Step::Taken),
+        Some(TokenKind::Mark(Mark::Semicolon)) => Ok(Step::Shifted),
         Some(TokenKind::Word(Keyword::Int)) => {
             stack.push(Symbol::Declarators)?;
-            Ok(Step::Taken)
+            Ok(Step::Shifted)
         }
         Some(TokenKind::Name) => {
             stack.push(Symbol::Semicolon)?;
             stack.push(Symbol::Changed)?;
-            Ok(Step::Taken)
+            Ok(Step::Shifted)
         }
         Some(TokenKind::Mark(Mark::PlusPlus | Mark::MinusMinus)) => {
             stack.push(Symbol::Semicolon)?;
             stack.push(Symbol::Name)?;
-            Ok(Step::Taken)
+            Ok(Step::Shifted)
         }
-        _ => Ok(Step::Lost),
+        _ => Ok(Step::Rejected),
     }
 }
 
@@ -221,7 +221,7 @@ pub fn for_test(stack: &mut Vec<Symbol>, kind: Option<TokenKind>) -> Result<Step
     ensures { Acts result stack.old.items stack.new.items (for_test_action kind) }
 {
     match kind {
-        Some(TokenKind::Mark(Mark::Semicolon)) => Ok(Step::Taken),
+        Some(TokenKind::Mark(Mark::Semicolon)) => Ok(Step::Shifted),
         _ => {
             stack.push(Symbol::Semicolon)?;
             expression(stack, kind)
@@ -234,17 +234,17 @@ pub fn for_change(stack: &mut Vec<Symbol>, kind: Option<TokenKind>) -> Result<St
     ensures { Acts result stack.old.items stack.new.items (for_change_action kind) }
 {
     match kind {
-        Some(TokenKind::Mark(Mark::RightParen)) => Ok(Step::Taken),
+        Some(TokenKind::Mark(Mark::RightParen)) => Ok(Step::Shifted),
         Some(TokenKind::Name) => {
             stack.push(Symbol::RightParen)?;
             stack.push(Symbol::Changed)?;
-            Ok(Step::Taken)
+            Ok(Step::Shifted)
         }
         Some(TokenKind::Mark(Mark::PlusPlus | Mark::MinusMinus)) => {
             stack.push(Symbol::RightParen)?;
             stack.push(Symbol::Name)?;
-            Ok(Step::Taken)
+            Ok(Step::Shifted)
         }
-        _ => Ok(Step::Lost),
+        _ => Ok(Step::Rejected),
     }
 }

@@ -53,9 +53,9 @@ pub enum Symbol {
     Parameters,
     /// A parameter and what comes after it, to the end of the function or prototype.
     Parameter(Naming),
-    /// The same from after the parameter's `int` on.
+    /// What comes after the `int` of a parameter, to the end of the function or prototype.
     ParameterName(Naming),
-    /// The same from after the parameter on.
+    /// What comes after a parameter, to the end of the function or prototype.
     MoreParameters(Naming),
     /// The block of a function, or the semicolon of a prototype.
     Body,
@@ -70,13 +70,14 @@ pub enum Naming {
     Partial,
 }
 
-/// What a token does to a symbol.
+/// What the recogniser does at a token with the symbol on top of its stack, which it takes off.
 #[derive(Clone, Copy)]
 pub enum Step {
-    /// It is the first of what the symbol spells, and what comes after it is expected now.
-    Taken,
-    /// The symbol spells nothing here, and the token is left.
-    Skipped,
-    /// What the symbol spells doesn't begin with it.
-    Lost,
+    /// The token is the first of what the symbol spells: it is shifted, and the symbols of what may
+    /// come after it are on the stack.
+    Shifted,
+    /// The symbol spells nothing here: it is popped, and the token is left to the symbol below.
+    Popped,
+    /// Nothing that the symbol spells begins with the token: it is rejected.
+    Rejected,
 }

@@ -13,8 +13,8 @@ pub fn name(kind: Option<TokenKind>) -> Step
     ensures { (below : List Symbol) → Acts (Ok result) below below (name_action kind) }
 {
     match kind {
-        Some(TokenKind::Name) => Step::Taken,
-        _ => Step::Lost,
+        Some(TokenKind::Name) => Step::Shifted,
+        _ => Step::Rejected,
     }
 }
 
@@ -23,8 +23,8 @@ pub fn left_paren(kind: Option<TokenKind>) -> Step
     ensures { (below : List Symbol) → Acts (Ok result) below below (left_paren_action kind) }
 {
     match kind {
-        Some(TokenKind::Mark(Mark::LeftParen)) => Step::Taken,
-        _ => Step::Lost,
+        Some(TokenKind::Mark(Mark::LeftParen)) => Step::Shifted,
+        _ => Step::Rejected,
     }
 }
 
@@ -33,8 +33,8 @@ pub fn right_paren(kind: Option<TokenKind>) -> Step
     ensures { (below : List Symbol) → Acts (Ok result) below below (right_paren_action kind) }
 {
     match kind {
-        Some(TokenKind::Mark(Mark::RightParen)) => Step::Taken,
-        _ => Step::Lost,
+        Some(TokenKind::Mark(Mark::RightParen)) => Step::Shifted,
+        _ => Step::Rejected,
     }
 }
 
@@ -43,8 +43,8 @@ pub fn colon(kind: Option<TokenKind>) -> Step
     ensures { (below : List Symbol) → Acts (Ok result) below below (colon_action kind) }
 {
     match kind {
-        Some(TokenKind::Mark(Mark::Colon)) => Step::Taken,
-        _ => Step::Lost,
+        Some(TokenKind::Mark(Mark::Colon)) => Step::Shifted,
+        _ => Step::Rejected,
     }
 }
 
@@ -53,8 +53,8 @@ pub fn semicolon(kind: Option<TokenKind>) -> Step
     ensures { (below : List Symbol) → Acts (Ok result) below below (semicolon_action kind) }
 {
     match kind {
-        Some(TokenKind::Mark(Mark::Semicolon)) => Step::Taken,
-        _ => Step::Lost,
+        Some(TokenKind::Mark(Mark::Semicolon)) => Step::Shifted,
+        _ => Step::Rejected,
     }
 }
 
@@ -63,7 +63,7 @@ pub fn while_word(kind: Option<TokenKind>) -> Step
     ensures { (below : List Symbol) → Acts (Ok result) below below (while_action kind) }
 {
     match kind {
-        Some(TokenKind::Word(Keyword::While)) => Step::Taken,
-        _ => Step::Lost,
+        Some(TokenKind::Word(Keyword::While)) => Step::Shifted,
+        _ => Step::Rejected,
     }
 }

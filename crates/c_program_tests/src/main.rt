@@ -1,6 +1,6 @@
-//! Calls on programs that were read, with the answers that are wanted: trees, sure assignment, and
-//! names resolved. Each line of the standard input is a case: the word of a call, what it is given,
-//! and the answer, with ` | ` between them. A line that begins with `#` is a heading.
+//! Calls on programs that were read, with the answers that are wanted: trees, definite assignment,
+//! and names resolved. Each line of the standard input is a case: the word of a call, what it is
+//! given, and the answer, with ` | ` between them. A line that begins with `#` is a heading.
 //!
 //! In a text and in an answer `\n` is a line end, and `\e` is no byte, for a text that is empty.
 //! The program prints each line whose answer is another with the word `differs`, each that it can't

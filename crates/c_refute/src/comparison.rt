@@ -25,7 +25,7 @@ fn arity_of(program: &Resolved, f: u32) -> usize
     }
 }
 
-// What two outcomes at a point that counts are.
+// What the outcomes of both functions at a point that counts show: alike, different or undecided.
 fn compared_outcomes(first: Outcome, second: Outcome) -> Finding
     ensures { result ≡ finding_of first second }
 {

@@ -5,15 +5,15 @@
 //! and in the fault, except when out of memory. There are three passes, over definitions and
 //! prototypes, over names, counts and scopes, and over what is definitely assigned; the first that
 //! finds a fault decides, and within it the order of the text (ISO/IEC 9899:1999, 6.2.1, 6.7p3,
-//! 6.8, 6.9p3). What names stand for in an expression is in c_lookup.
+//! 6.8, 6.9p3). What names stand for in an expression is in c_names.
 //!
-//! What a resolved program is like: laws of the definitions of c_scope and c_lookup, for the crates
-//! that go on from a program whose names are resolved. Nothing here runs.
+//! What a resolved program is like is said by laws of these definitions and those of c_names, for
+//! the crates that go on from a program whose names are resolved.
 //!
-//! What a reader may rely on: each public function has an empty body, and its contract is a law.
-//! The slots and the calls of a resolved program are in order, by the test `is_scoped` of c_ast; a
-//! resolved precondition keeps its form and has no variables but parameters; places that were found
-//! are those of functions.
+//! What a reader may rely on of these: each such function has an empty body, and its contract is a
+//! law. The slots and the calls of a resolved program are in order, by the test `is_scoped` of
+//! c_ast; a resolved precondition keeps its form and has no variables but parameters; places that
+//! were found are those of functions.
 //!
 //! The lemmas of `proofs/` are for the crates above. `Statements` joins the two walks over a
 //! function, that of names and scopes (c_scope) and that of definite assignment (c_assigned): after

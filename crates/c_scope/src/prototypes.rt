@@ -53,7 +53,7 @@ fn differs(definitions: &Definitions, prototype: &Prototype) -> bool
     }
 }
 
-// The name of the first prototype that does.
+// The name of the first prototype whose parameters differ in number from its definition's.
 fn wrong_prototype(definitions: &Definitions, prototypes: &[Prototype]) -> Option<u32>
     ensures { result ≡ spec.wrong_prototype definitions.now.names.now definitions.now.functions.now
         prototypes.now }

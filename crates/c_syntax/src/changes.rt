@@ -7,7 +7,7 @@ ghost use Rattle.c_ast.specs.declared.expr.BinOp.{BinOp};
 ghost use Rattle.c_syntax.specs.Readers.{Gives, IsNoHigher};
 ghost use Rattle.c_syntax.specs.StmtReaders.{IsStep};
 
-use crate::delimited::up_to;
+use crate::delimited::expression_until;
 use crate::read::Span;
 use crate::token::{has_mark, has_name};
 use crate::update::{step_at, update_at};
@@ -28,8 +28,9 @@ fn updating(alloc: Global, name: u32, op: BinOp, value: Expr) -> Result<Stmt, No
     Ok(Stmt::Assign(name, Expr::Binary(op, first, second)))
 }
 
-// The step of the name by the operator, where the mark is at `at`.
-fn stepped(
+// The change of the name by `++` or `--`, whose operator is given, where the mark after it is at
+// `at`.
+fn increment(
     alloc: Global,
     tokens: &[Token],
     name: u32,
@@ -56,7 +57,7 @@ fn stepped(
 }
 
 // The change of the name at `at` by an expression after a mark, up to and with the mark after it.
-fn assigned(
+fn assignment(
     alloc: Global,
     tokens: &[Token],
     at: usize,
@@ -74,7 +75,8 @@ fn assigned(
         (length tokens.now)) }
 {
     if has_mark(tokens, at + 1, Mark::Assign) {
-        let Some(value) = up_to(alloc, tokens, at + 2, room.saturating_sub(1), mark)? else {
+        let Some(value) = expression_until(alloc, tokens, at + 2, room.saturating_sub(1), mark)?
+        else {
             return Ok(None);
         };
         return Ok(Some(Span {
@@ -85,7 +87,7 @@ fn assigned(
     let Some(op) = update_at(tokens, at + 1) else {
         return Ok(None);
     };
-    let Some(value) = up_to(alloc, tokens, at + 2, room.saturating_sub(2), mark)? else {
+    let Some(value) = expression_until(alloc, tokens, at + 2, room.saturating_sub(2), mark)? else {
         return Ok(None);
     };
     Ok(Some(Span {
@@ -114,13 +116,13 @@ pub fn change(
         if !has_name(tokens, at + 1) {
             return Ok(None);
         }
-        return stepped(alloc, tokens, (at + 1) as u32, op, at + 2, room, mark);
+        return increment(alloc, tokens, (at + 1) as u32, op, at + 2, room, mark);
     }
     if !has_name(tokens, at) {
         return Ok(None);
     }
     if let Some(op) = step_at(tokens, at + 1) {
-        return stepped(alloc, tokens, at as u32, op, at + 2, room, mark);
+        return increment(alloc, tokens, at as u32, op, at + 2, room, mark);
     }
-    assigned(alloc, tokens, at, room, mark)
+    assignment(alloc, tokens, at, room, mark)
 }

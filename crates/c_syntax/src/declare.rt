@@ -6,7 +6,7 @@ ghost use Rattle.c_syntax.specs.Statements.{InitDeclarator, InitDeclarators, Dec
 ghost use Rattle.c_syntax.specs.Heights.{list_height};
 ghost use Rattle.c_syntax.specs.Readers.{Gives, IsNoHigher};
 
-use crate::expr::whole;
+use crate::expr::expression;
 use crate::read::Span;
 use crate::token::{has_keyword, has_mark, has_name};
 use c_ast::Stmt;
@@ -67,7 +67,7 @@ fn initialized(
     if room < 2 {
         return Ok(None);
     }
-    let Some(value) = whole(alloc, tokens, at + 2, room - 1)? else {
+    let Some(value) = expression(alloc, tokens, at + 2, room - 1)? else {
         return Ok(None);
     };
     if !is_parted(tokens, value.end) {

@@ -4,7 +4,7 @@ ghost use Rattle.c_ast.specs.Height.{expr_height};
 ghost use Rattle.c_syntax.specs.Grammar.{binary_of, UpTo, Test};
 ghost use Rattle.c_syntax.specs.Readers.{Gives, IsNoHigher};
 
-use crate::expr::whole;
+use crate::expr::expression;
 use crate::read::Span;
 use crate::token::has_mark;
 use c_ast::Expr;
@@ -13,7 +13,7 @@ use rx_plain::NoMemory;
 use std::alloc::Global;
 
 // The expression at `at` that is no higher than `room`, up to and with the mark after it.
-pub fn up_to(
+pub fn expression_until(
     alloc: Global,
     tokens: &[Token],
     at: usize,
@@ -31,7 +31,7 @@ pub fn up_to(
     if room == 0 {
         return Ok(None);
     }
-    let Some(read) = whole(alloc, tokens, at, room)? else {
+    let Some(read) = expression(alloc, tokens, at, room)? else {
         return Ok(None);
     };
     if has_mark(tokens, read.end, mark) {
@@ -45,7 +45,7 @@ pub fn up_to(
 }
 
 // The expression in parentheses at `at` that is no higher than `room`.
-pub fn test(
+pub fn parenthesized(
     alloc: Global,
     tokens: &[Token],
     at: usize,
@@ -59,5 +59,5 @@ pub fn test(
     if !has_mark(tokens, at, Mark::LeftParen) {
         return Ok(None);
     }
-    up_to(alloc, tokens, at + 1, room, Mark::RightParen)
+    expression_until(alloc, tokens, at + 1, room, Mark::RightParen)
 }

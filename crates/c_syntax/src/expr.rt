@@ -20,7 +20,7 @@ const LEVELS: u32 = 6;
 
 // The expression at `at` that is no higher than `room`.
 #[cycle(expr)]
-pub fn whole(
+pub fn expression(
     alloc: Global,
     tokens: &[Token],
     at: usize,
@@ -31,7 +31,7 @@ pub fn whole(
     requires some { 0 < room }
     ensures { IfOk result (Reads (Expression tokens.now) tokens.now (suc levels) at room) }
 {
-    let Some(test) = level(alloc, tokens, LEVELS, at, room)? else {
+    let Some(test) = binary_level(alloc, tokens, LEVELS, at, room)? else {
         return Ok(None);
     };
     if !has_mark(tokens, test.end, Mark::Question) {
@@ -40,20 +40,20 @@ pub fn whole(
     if test.height >= room {
         return Ok(None);
     }
-    let Some(first) = whole(alloc, tokens, test.end + 1, room - 1)? else {
+    let Some(first) = expression(alloc, tokens, test.end + 1, room - 1)? else {
         return Ok(None);
     };
     if !has_mark(tokens, first.end, Mark::Colon) {
         return Ok(None);
     }
-    let Some(other) = whole(alloc, tokens, first.end + 1, room - 1)? else {
+    let Some(other) = expression(alloc, tokens, first.end + 1, room - 1)? else {
         return Ok(None);
     };
-    Ok(Some(chosen(alloc, test, first, other)?))
+    Ok(Some(conditional(alloc, test, first, other)?))
 }
 
-// The test and both values as one tree.
-fn chosen(alloc: Global, test: Read, first: Read, other: Read) -> Result<Read, NoMemory>
+// The conditional expression of the test and both values.
+fn conditional(alloc: Global, test: Read, first: Read, other: Read) -> Result<Read, NoMemory>
     requires test { test.height < 2 ^ 32 - 1 }
     requires first { first.height < 2 ^ 32 - 1 }
     requires other { other.height < 2 ^ 32 - 1 }
@@ -73,9 +73,10 @@ fn chosen(alloc: Global, test: Read, first: Read, other: Read) -> Result<Read, N
     })
 }
 
-// The same by the operators of the lowest `n` levels alone.
+// The expression at `at` that is no higher than `room`, with the operators of the lowest `n` levels
+// alone outside its parentheses.
 #[cycle(expr)]
-fn level(
+fn binary_level(
     alloc: Global,
     tokens: &[Token],
     n: u32,
@@ -108,14 +109,14 @@ fn chain(
     requires some { 0 < room }
     ensures { IfOk result (Reads (BinaryAt tokens.now (suc n)) tokens.now (suc n) at room) }
 {
-    let Some(mut left) = level(alloc, tokens, n, at, room)? else {
+    let Some(mut left) = binary_level(alloc, tokens, n, at, room)? else {
         return Ok(None);
     };
     'more: while let Some(op) = operator_at(tokens, left.end, n) {
         if left.height >= room {
             return Ok(None);
         }
-        let Some(right) = level(alloc, tokens, n, left.end + 1, room - 1)? else {
+        let Some(right) = binary_level(alloc, tokens, n, left.end + 1, room - 1)? else {
             return Ok(None);
         };
         left = joined(alloc, op, left, right)?;
@@ -212,7 +213,7 @@ fn primary(alloc: Global, tokens: &[Token], at: usize, room: u32) -> Result<Opti
             Ok(Some(leaf(Expr::Var(at as u32), at)))
         }
         Some(TokenKind::Mark(Mark::LeftParen)) => {
-            let Some(inner) = whole(alloc, tokens, at + 1, room)? else {
+            let Some(inner) = expression(alloc, tokens, at + 1, room)? else {
                 return Ok(None);
             };
             if has_mark(tokens, inner.end, Mark::RightParen) {
@@ -253,14 +254,14 @@ fn arguments(
     if room == 0 {
         return Ok(None);
     }
-    let Some(first) = whole(alloc, tokens, at, room)? else {
+    let Some(first) = expression(alloc, tokens, at, room)? else {
         return Ok(None);
     };
     let mut end = first.end;
     let mut height = first.height;
     found.push(first.tree)?;
     'next: while has_mark(tokens, end, Mark::Comma) {
-        let Some(read) = whole(alloc, tokens, end + 1, room)? else {
+        let Some(read) = expression(alloc, tokens, end + 1, room)? else {
             return Ok(None);
         };
         end = read.end;

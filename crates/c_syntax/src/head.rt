@@ -7,7 +7,7 @@ ghost use Rattle.c_syntax.specs.Readers.{Gives, IsNoHigher};
 
 use crate::changes::change;
 use crate::declare::declaration;
-use crate::delimited::up_to;
+use crate::delimited::expression_until;
 use crate::read::Span;
 use crate::token::{has_keyword, has_mark};
 use crate::tree::Head;
@@ -67,7 +67,7 @@ fn for_test(
             end: at + 1,
         }));
     }
-    let Some(read) = up_to(alloc, tokens, at, room, Mark::Semicolon)? else {
+    let Some(read) = expression_until(alloc, tokens, at, room, Mark::Semicolon)? else {
         return Ok(None);
     };
     Ok(Some(Span {
@@ -105,7 +105,7 @@ fn for_step(
 }
 
 // The head at `at`, no part of it higher than `room`.
-pub fn head(
+pub fn for_head(
     alloc: Global,
     tokens: &[Token],
     at: usize,

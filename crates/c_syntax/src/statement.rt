@@ -12,8 +12,8 @@ ghost use Rattle.c_syntax.specs.StmtReaders.{IsSimple, Jumps};
 
 use crate::changes::change;
 use crate::declare::declaration;
-use crate::delimited::{test, up_to};
-use crate::head::head;
+use crate::delimited::{expression_until, parenthesized};
+use crate::head::for_head;
 use crate::read::Span;
 use crate::token::{has_keyword, has_mark};
 use c_ast::Stmt;
@@ -55,9 +55,9 @@ fn statement(
     simple(alloc, tokens, at, room)
 }
 
-// The same, in a box.
+// The statement at `at` that is no higher than `room`, in a box.
 #[cycle(statements)]
-fn part(
+fn boxed_statement(
     alloc: Global,
     tokens: &[Token],
     at: usize,
@@ -91,7 +91,7 @@ fn block(
     ensures { IfOk result (Gives (IsNoHigher stmt_height room (Statement tokens.now at)) at
         (length tokens.now)) }
 {
-    let Some(inside) = inner(alloc, tokens, at + 1, room - 1)? else {
+    let Some(inside) = block_items(alloc, tokens, at + 1, room - 1)? else {
         return Ok(None);
     };
     Ok(Some(Span {
@@ -114,10 +114,10 @@ fn branch(
     ensures { IfOk result (Gives (IsNoHigher stmt_height room (Statement tokens.now at)) at
         (length tokens.now)) }
 {
-    let Some(test) = test(alloc, tokens, at + 1, room - 1)? else {
+    let Some(test) = parenthesized(alloc, tokens, at + 1, room - 1)? else {
         return Ok(None);
     };
-    let Some(then) = part(alloc, tokens, test.end, room - 1)? else {
+    let Some(then) = boxed_statement(alloc, tokens, test.end, room - 1)? else {
         return Ok(None);
     };
     if !has_keyword(tokens, then.end, Keyword::Else) {
@@ -126,7 +126,7 @@ fn branch(
             end: then.end,
         }));
     }
-    let Some(other) = part(alloc, tokens, then.end + 1, room - 1)? else {
+    let Some(other) = boxed_statement(alloc, tokens, then.end + 1, room - 1)? else {
         return Ok(None);
     };
     Ok(Some(Span {
@@ -149,10 +149,10 @@ fn while_loop(
     ensures { IfOk result (Gives (IsNoHigher stmt_height room (Statement tokens.now at)) at
         (length tokens.now)) }
 {
-    let Some(test) = test(alloc, tokens, at + 1, room - 1)? else {
+    let Some(test) = parenthesized(alloc, tokens, at + 1, room - 1)? else {
         return Ok(None);
     };
-    let Some(body) = part(alloc, tokens, test.end, room - 1)? else {
+    let Some(body) = boxed_statement(alloc, tokens, test.end, room - 1)? else {
         return Ok(None);
     };
     Ok(Some(Span {
@@ -175,13 +175,13 @@ fn do_loop(
     ensures { IfOk result (Gives (IsNoHigher stmt_height room (Statement tokens.now at)) at
         (length tokens.now)) }
 {
-    let Some(body) = part(alloc, tokens, at + 1, room - 1)? else {
+    let Some(body) = boxed_statement(alloc, tokens, at + 1, room - 1)? else {
         return Ok(None);
     };
     if !has_keyword(tokens, body.end, Keyword::While) {
         return Ok(None);
     }
-    let Some(test) = test(alloc, tokens, body.end + 1, room - 1)? else {
+    let Some(test) = parenthesized(alloc, tokens, body.end + 1, room - 1)? else {
         return Ok(None);
     };
     if !has_mark(tokens, test.end, Mark::Semicolon) {
@@ -207,10 +207,10 @@ fn for_loop(
     ensures { IfOk result (Gives (IsNoHigher stmt_height room (Statement tokens.now at)) at
         (length tokens.now)) }
 {
-    let Some(head) = head(alloc, tokens, at + 1, room - 1)? else {
+    let Some(head) = for_head(alloc, tokens, at + 1, room - 1)? else {
         return Ok(None);
     };
-    let Some(body) = part(alloc, tokens, head.end, room - 1)? else {
+    let Some(body) = boxed_statement(alloc, tokens, head.end, room - 1)? else {
         return Ok(None);
     };
     Ok(Some(Span {
@@ -227,7 +227,7 @@ fn for_loop(
 // The items of a block, none higher than `room`, from after its opening brace up to and with the
 // closing one.
 #[cycle(statements)]
-pub fn inner(
+pub fn block_items(
     alloc: Global,
     tokens: &[Token],
     at: usize,
@@ -241,7 +241,7 @@ pub fn inner(
     let mut found = Items::new(alloc);
     let mut end = at;
     'items: while !has_mark(tokens, end, Mark::RightBrace) {
-        let Some(read) = item(alloc, tokens, end, room)? else {
+        let Some(read) = block_item(alloc, tokens, end, room)? else {
             return Ok(None);
         };
         found.append(read.value)?;
@@ -255,7 +255,7 @@ pub fn inner(
 
 // The statement or declaration at `at`.
 #[cycle(statements)]
-pub fn item(
+pub fn block_item(
     alloc: Global,
     tokens: &[Token],
     at: usize,
@@ -319,7 +319,7 @@ fn simple(
         return Ok(jump_statement(tokens, at, Stmt::Continue(at as u32)));
     }
     if has_keyword(tokens, at, Keyword::Return) {
-        let Some(value) = up_to(alloc, tokens, at + 1, room - 1, Mark::Semicolon)? else {
+        let Some(value) = expression_until(alloc, tokens, at + 1, room - 1, Mark::Semicolon)? else {
             return Ok(None);
         };
         return Ok(Some(Span {

@@ -24,21 +24,21 @@ fn quotient(alloc: Global, code: &mut Code, point: Point) -> Option<bool> {
     is_wider(alloc, code, &half, point)
 }
 
-// The test is one deed.
-fn is_one_deed(alloc: Global, code: &mut Code, less: &Expr, point: Point) -> Option<bool> {
+// The test is one instruction.
+fn is_one_instruction(alloc: Global, code: &mut Code, less: &Expr, point: Point) -> Option<bool> {
     condition(alloc, code, less, point, point, point).ok()?;
-    Some(code.opened.len() == 1 && code.deeds.len() == 1)
+    Some(code.opened.len() == 1 && code.instructions.len() == 1)
 }
 
 // The test v0 < 2.
 fn comparison(alloc: Global, code: &mut Code, point: Point) -> Option<bool> {
     let less = joined(alloc, BinOp::Lt, 2)?;
-    is_one_deed(alloc, code, &less, point)
+    is_one_instruction(alloc, code, &less, point)
 }
 
 fn acted(code: &mut Code, point: Point) -> Option<bool> {
-    code.act(point, Action::Go(point)).ok()?;
-    Some(code.deeds.len() == 1)
+    code.emit(point, Action::Go(point)).ok()?;
+    Some(code.instructions.len() == 1)
 }
 
 fn marked(code: &mut Code) -> Option<bool> {

@@ -36,7 +36,7 @@ fn opened(alloc: Global) -> Option<bool> {
     let code = compiled(alloc)?;
     Some(
         code.opened.len() == 2
-            && code.deeds.len() == 2
+            && code.instructions.len() == 2
             && entry_of(code.entries.as_slice(), 0) == 0,
     )
 }

@@ -11,7 +11,7 @@ s0(1*v0) s1(1*v0;s0(1*v0+-1)) 1 ne:1*v0 \
 s1(1*v0;ret(1*v1)) ret(1*v0+1*v1) 0 \
 s1(1*v0;fail(1)) fail(1) 0";
 
-/// The same, with the first rule alone.
+/// The greatest failure code, the symbols and the first of those rules.
 const FIRST: &str = "1 | 2 1e 1f | 1 s0(1*v0) ret(0) 1 eq:1*v0";
 
 /// The rule set.

@@ -1,5 +1,5 @@
--- Compiled code whose deeds are done by paired rules agrees with the meaning of the program that it
--- carries.
+-- Compiled code whose instructions are done by paired rules agrees with the meaning of the program
+-- that it carries.
 use Rattle.std.proofs.Common.{◌≡◌, ℕ, zero, suc, ◌+◌, ◌<◌, ◌↔◌, Some, List, [], ◌∷◌, length, map, sym, ap, subst, ◌∙◌, arith}
 use Rattle.std.specs.Prelude.{Contains, slice_get}
 use Rattle.std.proofs.lemmas.Option.{same_Some}

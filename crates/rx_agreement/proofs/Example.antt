@@ -38,7 +38,7 @@ use Rattle.rx_code.specs.Pieces.{append_code, after, no_code}
 use Rattle.rx_code.specs.Programs.{body_code, entry_of, places_code, program_code}
 use Rattle.rx_code.specs.Reached.{AreReached, ByCall, IsFirst, IsSecond, Reached, calls_of, next_number, no_number}
 use Rattle.rx_code.specs.Rules as rule_set
-use Rattle.rx_code.specs.Rules.{deed_within, symbol}
+use Rattle.rx_code.specs.Rules.{instruction_within, symbol}
 use Rattle.rx_code.specs.Statements.{Compiled}
 use Rattle.rx_code.specs.Translation.{IsTranslation}
 use Rattle.rx_code.specs.declared.code.Code.{Code}
@@ -206,8 +206,8 @@ quotient_within =
       depth = omega (arith, flat, low, atom_low, depth);
     }) refl
 
-deeds_within : list_all deed_within example_code.deeds ≡ true
-deeds_within = ap (λ b. b && true) quotient_within
+instructions_within : list_all instruction_within example_code.instructions ≡ true
+instructions_within = ap (λ b. b && true) quotient_within
 
 -- ---- the translation
 
@@ -218,8 +218,9 @@ example_translated = record {
   functions = both;
   reached = are_reached;
   within =
-      ap (λ (c : Formed Code). c.within && list_all deed_within c.form.deeds) compiled ∙
-      deeds_within;
+      ap (λ (c : Formed Code). c.within && list_all instruction_within c.form.instructions) compiled
+      ∙
+      instructions_within;
   parts_are = sym (ap (λ (c : Formed Code). rule_set.parts_of c.form) compiled);
   first_is = sym (ap (λ (c : Formed Code). symbol (entry_of c.form.entries 1)) compiled);
   second_is = sym (ap (λ (c : Formed Code). symbol (entry_of c.form.entries 0)) compiled);

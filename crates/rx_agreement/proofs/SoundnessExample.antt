@@ -35,7 +35,7 @@ use Rattle.c_ast.proofs.CallEquations.{calls-Lit, calls_in-Return}
 use Rattle.rx_code.specs.Pieces.{append_code, after, no_code}
 use Rattle.rx_code.specs.Programs.{body_code, entry_of}
 use Rattle.rx_code.specs.Reached.{AreReached, ByCall, IsFirst, IsSecond, Reached, calls_of, next_number, no_number}
-use Rattle.rx_code.specs.Rules.{deed_within, parts_of, symbol}
+use Rattle.rx_code.specs.Rules.{instruction_within, parts_of, symbol}
 use Rattle.rx_code.specs.Statements.{Compiled}
 use Rattle.rx_code.specs.Translation.{IsTranslation, goal_at, rules_of}
 use Rattle.rx_code.specs.declared.code.Code.{Code}
@@ -135,7 +135,8 @@ pair n ts m us =
 -- what code is translated to
 abbrev of_code : Formed Code → Formed RuleParts
 of_code c =
-    record { form = parts_of c.form; within = c.within && list_all deed_within c.form.deeds }
+    record { form = parts_of c.form; within = c.within && list_all instruction_within
+        c.form.instructions }
 
 translated : rules_of example both ≡ record { form = parts; within = true }
 translated =

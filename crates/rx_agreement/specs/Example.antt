@@ -41,7 +41,7 @@ example_code = record {
   opened =
       a_point 1 ∷ a_point 0 ∷ a_point 2 ∷ a_point 1 ∷ a_point 0 ∷ a_point 1 ∷ a_point 1 ∷
       a_frame 1 ∷ a_point 2 ∷ [];
-  deeds = record { at = point 1 0; action = Return (number (pos 0)) }
+  instructions = record { at = point 1 0; action = Return (number (pos 0)) }
       ∷ record {
         at = point 0 1;
         action = Divide Quotient (number (pos 1)) (variable 0) (point 2 2);

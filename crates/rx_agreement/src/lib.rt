@@ -1,6 +1,5 @@
-//! The rules of compiled code agree with the meaning of C. Nothing here runs.
-//!
-//! Proofs by steps show that two C functions compute the same. Nothing here runs.
+//! The rules of compiled code agree with the meaning of C, and so proofs by steps show that two C
+//! functions compute the same. Nothing here runs.
 #![tactic(auto)]
 
 mod laws;

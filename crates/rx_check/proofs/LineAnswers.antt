@@ -17,8 +17,8 @@ use Rattle.rx_log.specs.Reading.{blank, pushed}
 use Rattle.rx_log.specs.declared.line.Line.{Line}
 use Rattle.rx_log.specs.declared.line.Line.TheVariants as line
 use Rattle.rx_log.specs.declared.log.Log.{Log}
-use Rattle.rx_log.specs.declared.place.Place.{Place}
-use Rattle.rx_log.specs.declared.place.Place.TheVariants.{AtHeader, Finished, InCovers}
+use Rattle.rx_log.specs.declared.line_state.LineState.{LineState}
+use Rattle.rx_log.specs.declared.line_state.LineState.TheVariants.{AtHeader, Finished, InCovers}
 use Rattle.rx_check.specs.Answers.{Finds}
 use Rattle.rx_check.specs.LineByLine.{IsFailureOf, Holds, IsOutcome, Judged, Judges, Stands, StandsFor, log_of, once_lower, one_lower, passed}
 use Rattle.rx_check.specs.declared.check_end.CheckEnd.{CheckEnd}
@@ -31,7 +31,7 @@ use Rattle.rx_check.proofs.LineOrder.{pushed_all-append}
 use Rattle.rx_check.proofs.LineTurns.{AsksRanks, cover_judged, failed_stands, pair_judged}
 
 -- the trees of a symbol, examined
-pub cover_answers : {E : Type 0} (parts : RuleParts) (place : Place) (next : ℕ)
+pub cover_answers : {E : Type 0} (parts : RuleParts) (place : LineState) (next : ℕ)
     (trees : List CoverTree) (progress : Progress)
     (outcome : Result (Unit {0}) CheckEnd) (r : Result (Option CheckEnd) E) → place ≡ InCovers next
     → Finds (λ (done : Unit {0}). done) outcome
@@ -58,7 +58,7 @@ taken_rooted parts k old new step (Err end) found kept rooted =
     subst (λ (s : State). All HasRoot s.hypotheses) (sym kept) rooted
 
 -- the next pair, examined
-pub pair_answers : (parts : RuleParts) (place : Place) (cert : PairCert) (old : Progress)
+pub pair_answers : (parts : RuleParts) (place : LineState) (cert : PairCert) (old : Progress)
     (lower : ℕ) (failure : Option CheckEnd)
     → AsksRanks parts place old.table None → lower ≡ old.lower + 1
     → (lent : List Pair) → lent ≡ old.pairs → (outcome : Result (Unit {0}) CheckEnd) →
@@ -79,9 +79,9 @@ pair_answers parts place cert old lower failure asks next lent same outcome is f
 -- ---- what is kept
 
 -- after a failure nothing changes
-pub still_stands : (parts : RuleParts) (goal : Equation) (place : Place) (log : Log)
+pub still_stands : (parts : RuleParts) (goal : Equation) (place : LineState) (log : Log)
     (progress : Progress) (failure : Option CheckEnd)
-    (next : Line) (symbol : ℕ) (behind : Place) → is_some failure ≡ true →
+    (next : Line) (symbol : ℕ) (behind : LineState) → is_some failure ≡ true →
     Stands parts goal place log progress failure
     → after place (next, symbol) ≡ Some behind →
     Stands parts goal behind (pushed next log) progress failure
@@ -91,7 +91,7 @@ still_stands parts goal place log progress (Some end) next symbol behind some st
 
 -- one line more
 pub line_stands : (parts : RuleParts) (goal : Equation) (its : List (Line × ℕ)) (next : Line)
-    (symbol : ℕ) (behind : Place) (old new : Replayer)
+    (symbol : ℕ) (behind : LineState) (old new : Replayer)
     → StandsFor old parts goal its → after old.place (next, symbol) ≡ Some behind → new.place ≡
     behind
     → Stands parts goal behind (pushed next (log_of its)) new.progress new.failure →

@@ -12,7 +12,7 @@ use Rattle.rx_pairs.specs.declared.table.RankTable.{RankTable}
 use Rattle.rx_log.specs.Acceptance.{AtCover, AtPair, Accepted, Checked, Concludes, HasVerdict, LogFault, Verdict, ◌>>=◌, after_steps, kept, kept_by, of_descent, once_covered, once_finished, once_ranked, start}
 use Rattle.rx_log.specs.Acceptance as log_fault
 use Rattle.rx_log.specs.declared.log.Log.{Log}
-use Rattle.rx_log.specs.declared.place.Place.{Place}
+use Rattle.rx_log.specs.declared.line_state.LineState.{LineState}
 use Rattle.rx_check.specs.Answers.{Finds, Told, named, place_of}
 use Rattle.rx_steps.specs.Faults.{fault}
 use Rattle.rx_check.specs.LineByLine.{Ends, FailsWith, GoesOn, IsFailureOf, once_lower, passed}
@@ -140,7 +140,8 @@ kept_same parts goal log whole c s t =
 
 -- ---- what failed stays so
 
-pub failed_at : (parts : RuleParts) (goal : Equation) (place : Place) (log : Log) (end : CheckEnd)
+pub failed_at : (parts : RuleParts) (goal : Equation) (place : LineState) (log : Log)
+    (end : CheckEnd)
     (fault : LogFault) → named end ≡ Some fault
     → ((whole : Log) → GoesOn place log whole → kept parts goal whole ≡ Err fault) →
     FailsWith parts goal place log end

@@ -13,8 +13,8 @@ use Rattle.rx_log.specs.Reading.{blank, no_ranks, pushed}
 use Rattle.rx_log.specs.declared.line.Line.{Line}
 use Rattle.rx_log.specs.declared.line.Line.TheVariants as line
 use Rattle.rx_log.specs.declared.log.Log.{Log}
-use Rattle.rx_log.specs.declared.place.Place.{Place}
-use Rattle.rx_log.specs.declared.place.Place.TheVariants.{AtHeader, InCovers, InSteps, InRanks, InPairs, Finished}
+use Rattle.rx_log.specs.declared.line_state.LineState.{LineState}
+use Rattle.rx_log.specs.declared.line_state.LineState.TheVariants.{AtHeader, InCovers, InSteps, InRanks, InPairs, Finished}
 use Rattle.rx_check.specs.LineByLine.{Extends, GoesOn, log_of, pushed_all}
 
 -- ---- lines one after the other
@@ -85,24 +85,24 @@ module _ (log : Log) where
 
 -- ---- where trees and ranks come
 
-cover_test : (next : ℕ) (behind : Place) (b : Bool) →
+cover_test : (next : ℕ) (behind : LineState) (b : Bool) →
     (if b then Some (InCovers (next + 1)) else None) ≡ Some behind → InCovers (next + 1) ≡ behind
 cover_test next behind true e = same_Some (InCovers (next + 1)) behind e
 cover_test next behind false e = absurd cc
 
-pub after_cover : (next : ℕ) (trees : List CoverTree) (symbol : ℕ) (behind : Place) →
+pub after_cover : (next : ℕ) (trees : List CoverTree) (symbol : ℕ) (behind : LineState) →
     after (InCovers next) (line.Cover trees, symbol) ≡ Some behind
     → InCovers (next + 1) ≡ behind
 after_cover next trees symbol behind e = cover_test next behind (symbol == next) e
 
-rank_test : (columns next : ℕ) (behind : Place) (b c : Bool)
+rank_test : (columns next : ℕ) (behind : LineState) (b c : Bool)
     → (if b then (if c then Some (InRanks columns (next + 1)) else None) else None) ≡ Some behind →
     InRanks columns (next + 1) ≡ behind
 rank_test columns next behind true true e = same_Some (InRanks columns (next + 1)) behind e
 rank_test columns next behind true false e = absurd cc
 rank_test columns next behind false c e = absurd cc
 
-pub after_rank : (columns next : ℕ) (rank : List Body) (symbol : ℕ) (behind : Place) →
+pub after_rank : (columns next : ℕ) (rank : List Body) (symbol : ℕ) (behind : LineState) →
     after (InRanks columns next) (line.Rank rank, symbol) ≡ Some behind
     → InRanks columns (next + 1) ≡ behind
 after_rank columns next rank symbol behind e =
@@ -117,9 +117,10 @@ less xs x ys on = (x ∷ on.0, on.1 ∙ append_assoc xs (x ∷ []) on.0)
 same : {A : Type 0} (xs ys : List A) → ys ≡ xs → Extends xs ys
 same xs ys e = ([], e ∙ sym (append-nil xs))
 
-module _ (log whole : Log) (symbol : ℕ) (behind : Place) where
+module _ (log whole : Log) (symbol : ℕ) (behind : LineState) where
   -- a log that goes on after a line goes on before it
-  pub goes_on_before : (place : Place) (next : Line) → after place (next, symbol) ≡ Some behind →
+  pub goes_on_before : (place : LineState) (next : Line) → after place (next, symbol) ≡ Some behind
+      →
       GoesOn behind (pushed next log) whole → GoesOn place log whole
   goes_on_before AtHeader line.Header e there =
       let on : GoesOn (InCovers 0) (pushed line.Header log) whole =

@@ -27,8 +27,8 @@ use Rattle.rx_log.specs.Reading.{pushed}
 use Rattle.rx_log.specs.declared.line.Line.{Line}
 use Rattle.rx_log.specs.declared.line.Line.TheVariants as line
 use Rattle.rx_log.specs.declared.log.Log.{Log}
-use Rattle.rx_log.specs.declared.place.Place.{Place}
-use Rattle.rx_log.specs.declared.place.Place.TheVariants.{AtHeader, InCovers, InSteps, InRanks, InPairs, Finished}
+use Rattle.rx_log.specs.declared.line_state.LineState.{LineState}
+use Rattle.rx_log.specs.declared.line_state.LineState.TheVariants.{AtHeader, InCovers, InSteps, InRanks, InPairs, Finished}
 use Rattle.rx_check.specs.Answers.{named}
 use Rattle.rx_check.specs.LineByLine.{Ends, IsOutcome, Judges, passed, FailsWith, Holds, IsKnown, Stands, once_lower, one_lower}
 use Rattle.rx_check.specs.declared.check_end.CheckEnd.{CheckEnd}
@@ -40,8 +40,8 @@ use Rattle.rx_check.proofs.Sound.{concluded}
 
 -- ---- the header
 
-pub header_stands : (parts : RuleParts) (place : Place) (progress : Progress) (goal : Equation)
-    (log : Log) (symbol : ℕ) (behind : Place)
+pub header_stands : (parts : RuleParts) (place : LineState) (progress : Progress) (goal : Equation)
+    (log : Log) (symbol : ℕ) (behind : LineState)
     → Holds parts goal place log progress → after place (line.Header, symbol) ≡ Some behind →
     Stands parts goal behind log progress None
 header_stands parts AtHeader progress goal log symbol behind holds e =
@@ -120,11 +120,11 @@ module _ (parts : RuleParts) (next : ℕ) (trees : List CoverTree) where
         ∙ examined_bad e.0 e.2 (covering_from parts (next + 1) (drop (next + 1) parts.symbols)
         on.0)))
 
-pub cover_judged : (parts : RuleParts) (place : Place) (trees : List CoverTree)
+pub cover_judged : (parts : RuleParts) (place : LineState) (trees : List CoverTree)
     (progress : Progress) (failure : Option CheckEnd)
     → ((next : ℕ) → place ≡ InCovers next → IsOutcome failure
     (once_covered (goes_on next (one_covered parts next trees) Covers) passed))
-    → (goal : Equation) (log : Log) (symbol : ℕ) (behind : Place) →
+    → (goal : Equation) (log : Log) (symbol : ℕ) (behind : LineState) →
     Holds parts goal place log progress
     → after place (line.Cover trees, symbol) ≡ Some behind →
     Stands parts goal behind (pushed (line.Cover trees) log) progress failure
@@ -142,7 +142,7 @@ cover_judged parts Finished trees progress failure ends goal log symbol behind h
 -- ---- after the covers
 
 -- at this place steps and ranks may come
-abbrev pub IsOpen : Place → Type 0
+abbrev pub IsOpen : LineState → Type 0
 IsOpen AtHeader = ⊥
 IsOpen (InCovers next) = Unit {0}
 IsOpen InSteps = Unit {0}
@@ -150,7 +150,7 @@ IsOpen (InRanks columns next) = ⊥
 IsOpen InPairs = ⊥
 IsOpen Finished = ⊥
 
-step_comes : (place : Place) (step : Step) (symbol : ℕ) (behind : Place) →
+step_comes : (place : LineState) (step : Step) (symbol : ℕ) (behind : LineState) →
     after place (line.Step step, symbol) ≡ Some behind
     → IsOpen place × (InSteps ≡ behind)
 step_comes AtHeader step symbol behind e = absurd cc
@@ -160,7 +160,7 @@ step_comes (InRanks c n) step symbol behind e = absurd cc
 step_comes InPairs step symbol behind e = absurd cc
 step_comes Finished step symbol behind e = absurd cc
 
-ranks_come : (place : Place) (columns symbol : ℕ) (behind : Place) →
+ranks_come : (place : LineState) (columns symbol : ℕ) (behind : LineState) →
     after place (line.Ranks columns, symbol) ≡ Some behind
     → IsOpen place × (InRanks columns 0 ≡ behind)
 ranks_come AtHeader columns symbol behind e = absurd cc
@@ -171,14 +171,15 @@ ranks_come InPairs columns symbol behind e = absurd cc
 ranks_come Finished columns symbol behind e = absurd cc
 
 -- what is asked of the covers there
-pub record Asks (parts : RuleParts) (place : Place) (failure : Option CheckEnd) : Type 0 where
+pub record Asks (parts : RuleParts) (place : LineState) (failure : Option CheckEnd) : Type 0 where
   pub covers : (next : ℕ) → place ≡ InCovers next
       → IsOutcome failure (once_covered (covering_from parts next (drop next parts.symbols) [])
       passed)
   pub steps : place ≡ InSteps → failure ≡ None
 
 -- it is the answer for all covers
-covers_end : (parts : RuleParts) (goal : Equation) (place : Place) (log : Log) (progress : Progress)
+covers_end : (parts : RuleParts) (goal : Equation) (place : LineState) (log : Log)
+    (progress : Progress)
     (failure : Option CheckEnd) → IsOpen place
     → Asks parts place failure → Holds parts goal place log progress
     → IsOutcome failure (once_covered (covering parts log.covers) passed) × (log.pairs ≡ [])
@@ -201,16 +202,18 @@ covers_end parts goal InPairs log progress failure there asks holds = absurd the
 covers_end parts goal Finished log progress failure there asks holds = absurd there
 
 -- the state so far is the one after the steps of the log so far
-state_now : (parts : RuleParts) (goal : Equation) (place : Place) (log : Log) (progress : Progress)
+state_now : (parts : RuleParts) (goal : Equation) (place : LineState) (log : Log)
+    (progress : Progress)
     → Holds parts goal place log progress
     → after_steps parts 0 (start goal) log.steps ≡ Ok progress.state
 state_now parts goal place log progress holds =
     ap (after_steps parts 0 (start goal)) (sym (append-nil log.steps)) ∙ holds.steps []
 
 -- where the covers fail, a step has that failure
-pub step_uncovered : (parts : RuleParts) (place : Place) (step : Step) (old new : Progress)
+pub step_uncovered : (parts : RuleParts) (place : LineState) (step : Step) (old new : Progress)
     (end : CheckEnd) → Asks parts place (Some end)
-    → (goal : Equation) (log : Log) (symbol : ℕ) (behind : Place) → Holds parts goal place log old
+    → (goal : Equation) (log : Log) (symbol : ℕ) (behind : LineState) → Holds parts goal place log
+    old
     → after place (line.Step step, symbol) ≡ Some behind →
     Stands parts goal behind (pushed (line.Step step) log) new (Some end)
 step_uncovered parts place step old new end asks goal log symbol behind holds e =
@@ -222,9 +225,10 @@ step_uncovered parts place step old new end asks goal log symbol behind holds e 
     (ap (λ covers. once_covered (covering parts covers) passed) on.0 ∙ ends.2)))
 
 -- and so has the line that begins the ranks
-pub ranks_uncovered : (parts : RuleParts) (place : Place) (columns : ℕ) (old new : Progress)
+pub ranks_uncovered : (parts : RuleParts) (place : LineState) (columns : ℕ) (old new : Progress)
     (end : CheckEnd) → Asks parts place (Some end)
-    → (goal : Equation) (log : Log) (symbol : ℕ) (behind : Place) → Holds parts goal place log old
+    → (goal : Equation) (log : Log) (symbol : ℕ) (behind : LineState) → Holds parts goal place log
+    old
     → after place (line.Ranks columns, symbol) ≡ Some behind →
     Stands parts goal behind (pushed (line.Ranks columns) log) new (Some end)
 ranks_uncovered parts place columns old new end asks goal log symbol behind holds e =
@@ -237,7 +241,7 @@ ranks_uncovered parts place columns old new end asks goal log symbol behind hold
 
 -- ---- steps
 
-module _ (parts : RuleParts) (step : Step) (goal : Equation) (place : Place) (log : Log)
+module _ (parts : RuleParts) (step : Step) (goal : Equation) (place : LineState) (log : Log)
     (old new : Progress) (holds : Holds parts goal place log old)
     (covers : covering parts log.covers ≡ Covers) (none : log.pairs ≡ [])
     (counts : new.steps ≡ old.steps + 1) (table : new.table ≡ old.table) where
@@ -268,11 +272,12 @@ module _ (parts : RuleParts) (step : Step) (goal : Equation) (place : Place) (lo
       ∙ ap (λ (check : Checked State). check >>= λ next.
       after_steps parts (old.steps + 1) next on.1.0) e.2))
 
-pub step_judged : (parts : RuleParts) (place : Place) (step : Step) (old new : Progress)
+pub step_judged : (parts : RuleParts) (place : LineState) (step : Step) (old new : Progress)
     (failure : Option CheckEnd) → Asks parts place None
     → new.steps ≡ old.steps + 1 → new.table ≡ old.table →
     Ends failure new.state (after_step old.steps (applied parts old.state step))
-    → (goal : Equation) (log : Log) (symbol : ℕ) (behind : Place) → Holds parts goal place log old
+    → (goal : Equation) (log : Log) (symbol : ℕ) (behind : LineState) → Holds parts goal place log
+    old
     → after place (line.Step step, symbol) ≡ Some behind →
     Stands parts goal behind (pushed (line.Step step) log) new failure
 step_judged parts place step old new failure asks counts table ends goal log symbol behind holds e =
@@ -283,7 +288,7 @@ step_judged parts place step old new failure asks counts table ends goal log sym
     (covers_hold (covering parts log.covers) before.0) before.1 counts table failure ends)
 
 -- the same of a call, by what each of its answers says
-pub step_judges : {E : Type 0} (parts : RuleParts) (place : Place) (step : Step)
+pub step_judges : {E : Type 0} (parts : RuleParts) (place : LineState) (step : Step)
     (old new : Progress) (result : Result (Option CheckEnd) E) → Asks parts place None
     → OnOk result (new.steps ≡ old.steps + 1) → new.table ≡ old.table
     → IfOk result (λ failure. Ends failure new.state
@@ -295,10 +300,11 @@ step_judges parts place step old new (Err none) asks counts table ends kept = ke
 
 -- ---- the beginning of the ranks
 
-pub ranks_unfinished : (parts : RuleParts) (place : Place) (columns : ℕ) (old new : Progress)
+pub ranks_unfinished : (parts : RuleParts) (place : LineState) (columns : ℕ) (old new : Progress)
     (goals : ℕ) → Asks parts place None
     → goals ≡ length old.state.goals → 0 < goals
-    → (goal : Equation) (log : Log) (symbol : ℕ) (behind : Place) → Holds parts goal place log old
+    → (goal : Equation) (log : Log) (symbol : ℕ) (behind : LineState) → Holds parts goal place log
+    old
     → after place (line.Ranks columns, symbol) ≡ Some behind
     → Stands parts goal behind (pushed (line.Ranks columns) log) new (Some (end.Unfinished goals))
 ranks_unfinished parts place columns old new goals asks is some goal log symbol behind holds e =
@@ -315,12 +321,13 @@ ranks_unfinished parts place columns old new goals asks is some goal log symbol 
     ∙ unfinished parts whole.table old.state (subst (λ n. 0 < n) is some)
     ∙ ap (λ n. Err (log_fault.Unfinished n)) (sym is)))
 
-pub ranks_begin : (parts : RuleParts) (place : Place) (columns : ℕ) (old new : Progress) →
+pub ranks_begin : (parts : RuleParts) (place : LineState) (columns : ℕ) (old new : Progress) →
     Asks parts place None
     → length old.state.goals ≡ 0 → new.state ≡ old.state → new.steps ≡ old.steps → new.lower ≡ 0
     → new.table ≡ record old.table { columns = columns } →
     AreAllPairs (parts.rules ++ old.state.hypotheses) new.pairs
-    → (goal : Equation) (log : Log) (symbol : ℕ) (behind : Place) → Holds parts goal place log old
+    → (goal : Equation) (log : Log) (symbol : ℕ) (behind : LineState) → Holds parts goal place log
+    old
     → after place (line.Ranks columns, symbol) ≡ Some behind →
     Stands parts goal behind (pushed (line.Ranks columns) log) new None
 ranks_begin parts place columns old new asks no_goals state steps lower table all goal log symbol
@@ -349,9 +356,10 @@ ranks_begin parts place columns old new asks no_goals state steps lower table al
 
 -- ---- ranks
 
-pub rank_stands : (parts : RuleParts) (place : Place) (rank : List Body) (old new : Progress)
+pub rank_stands : (parts : RuleParts) (place : LineState) (rank : List Body) (old new : Progress)
     → new ≡ record old { table = record old.table { ranks = old.table.ranks ++ rank ∷ [] } }
-    → (goal : Equation) (log : Log) (symbol : ℕ) (behind : Place) → Holds parts goal place log old
+    → (goal : Equation) (log : Log) (symbol : ℕ) (behind : LineState) → Holds parts goal place log
+    old
     → after place (line.Rank rank, symbol) ≡ Some behind →
     Stands parts goal behind (pushed (line.Rank rank) log) new None
 rank_stands parts AtHeader rank old new is goal log symbol behind holds e = absurd cc
@@ -380,7 +388,7 @@ rank_stands parts Finished rank old new is goal log symbol behind holds e = absu
 -- ---- after the ranks
 
 -- at this place pairs and the end may come
-abbrev pub IsRanked : Place → Type 0
+abbrev pub IsRanked : LineState → Type 0
 IsRanked AtHeader = ⊥
 IsRanked (InCovers next) = ⊥
 IsRanked InSteps = ⊥
@@ -388,7 +396,7 @@ IsRanked (InRanks columns next) = Unit {0}
 IsRanked InPairs = Unit {0}
 IsRanked Finished = ⊥
 
-pair_comes : (place : Place) (cert : PairCert) (symbol : ℕ) (behind : Place) →
+pair_comes : (place : LineState) (cert : PairCert) (symbol : ℕ) (behind : LineState) →
     after place (line.Pair cert, symbol) ≡ Some behind
     → IsRanked place × (InPairs ≡ behind)
 pair_comes AtHeader cert symbol behind e = absurd cc
@@ -398,7 +406,7 @@ pair_comes (InRanks c n) cert symbol behind e = (tt, same_Some InPairs behind e)
 pair_comes InPairs cert symbol behind e = (tt, same_Some InPairs behind e)
 pair_comes Finished cert symbol behind e = absurd cc
 
-end_comes : (place : Place) (symbol : ℕ) (behind : Place) → after place (line.End, symbol) ≡
+end_comes : (place : LineState) (symbol : ℕ) (behind : LineState) → after place (line.End, symbol) ≡
     Some behind
     → IsRanked place × (Finished ≡ behind)
 end_comes AtHeader symbol behind e = absurd cc
@@ -409,7 +417,7 @@ end_comes InPairs symbol behind e = (tt, same_Some Finished behind e)
 end_comes Finished symbol behind e = absurd cc
 
 -- what is asked of the ranks there
-pub record AsksRanks (parts : RuleParts) (place : Place) (table : RankTable)
+pub record AsksRanks (parts : RuleParts) (place : LineState) (table : RankTable)
     (failure : Option CheckEnd) : Type 0 where
   pub ranks : (columns next : ℕ) → place ≡ InRanks columns next →
       IsOutcome failure (once_ranked (bad_rank parts table) passed)
@@ -448,7 +456,8 @@ module _ (parts : RuleParts) (goal : Equation) (c n : ℕ) (log : Log) (progress
       (ap (λ table. once_ranked (bad_rank parts table) passed) (sym holds.table) ∙ e)
 
 -- where they are lawful, the pairs decide
-ranked : (parts : RuleParts) (goal : Equation) (place : Place) (log : Log) (progress : Progress) →
+ranked : (parts : RuleParts) (goal : Equation) (place : LineState) (log : Log) (progress : Progress)
+    →
     IsRanked place
     → AsksRanks parts place progress.table None → Holds parts goal place log progress →
     IsKnown parts goal InPairs log progress
@@ -461,7 +470,8 @@ ranked parts goal InPairs log progress is asks holds = holds.known
 ranked parts goal Finished log progress is asks holds = absurd is
 
 -- where they aren't, that is the fault
-unranked : (parts : RuleParts) (goal : Equation) (place : Place) (log : Log) (progress : Progress)
+unranked : (parts : RuleParts) (goal : Equation) (place : LineState) (log : Log)
+    (progress : Progress)
     (end : CheckEnd) → IsRanked place
     → AsksRanks parts place progress.table (Some end) → Holds parts goal place log progress
     → (fault : LogFault) × (named end ≡ Some fault) × (kept parts goal log ≡ Err fault)
@@ -477,10 +487,11 @@ unranked parts goal (InRanks c n) log progress end is asks holds =
 unranked parts goal InPairs log progress end is asks holds = let no = asks.pairs refl in absurd cc
 unranked parts goal Finished log progress end is asks holds = absurd is
 
-pub pair_unranked : (parts : RuleParts) (place : Place) (cert : PairCert) (old new : Progress)
+pub pair_unranked : (parts : RuleParts) (place : LineState) (cert : PairCert) (old new : Progress)
     (end : CheckEnd)
     → AsksRanks parts place old.table (Some end)
-    → (goal : Equation) (log : Log) (symbol : ℕ) (behind : Place) → Holds parts goal place log old
+    → (goal : Equation) (log : Log) (symbol : ℕ) (behind : LineState) → Holds parts goal place log
+    old
     → after place (line.Pair cert, symbol) ≡ Some behind →
     Stands parts goal behind (pushed (line.Pair cert) log) new (Some end)
 pair_unranked parts place cert old new end asks goal log symbol behind holds e =
@@ -490,9 +501,10 @@ pair_unranked parts place cert old new end asks goal log symbol behind holds e =
     (failed_at parts goal InPairs (pushed (line.Pair cert) log) end ends.0 ends.1
     (λ whole on. kept_same parts goal log whole on.0 on.1.0 on.1.1.0 ∙ ends.2))
 
-pub end_unranked : (parts : RuleParts) (place : Place) (old new : Progress) (end : CheckEnd) →
+pub end_unranked : (parts : RuleParts) (place : LineState) (old new : Progress) (end : CheckEnd) →
     AsksRanks parts place old.table (Some end)
-    → (goal : Equation) (log : Log) (symbol : ℕ) (behind : Place) → Holds parts goal place log old
+    → (goal : Equation) (log : Log) (symbol : ℕ) (behind : LineState) → Holds parts goal place log
+    old
     → after place (line.End, symbol) ≡ Some behind →
     Stands parts goal behind (pushed line.End log) new (Some end)
 end_unranked parts place old new end asks goal log symbol behind holds e =
@@ -540,7 +552,7 @@ module _ (table : RankTable) (number : ℕ) (pairs : List Pair) (cert : PairCert
     by_found Yes e = absurd cc
     by_found No e = e
 
-module _ (parts : RuleParts) (goal : Equation) (place : Place) (log : Log) (old : Progress)
+module _ (parts : RuleParts) (goal : Equation) (place : LineState) (log : Log) (old : Progress)
     (holds : Holds parts goal place log old) (known : IsKnown parts goal InPairs log old) where
   module _ (cert : PairCert) where
     push_pair : (more : List PairCert) → descent_from log.table 0 old.pairs
@@ -619,11 +631,13 @@ module _ (parts : RuleParts) (goal : Equation) (place : Place) (log : Log) (old 
         (drop_of_length-le old.pairs none)));
   }
 
-pub pair_judged : (parts : RuleParts) (place : Place) (cert : PairCert) (old : Progress) (lower : ℕ)
+pub pair_judged : (parts : RuleParts) (place : LineState) (cert : PairCert) (old : Progress)
+    (lower : ℕ)
     (failure : Option CheckEnd)
     → AsksRanks parts place old.table None → lower ≡ old.lower + 1
     → IsOutcome failure (once_lower (lowered old.table old.lower old.pairs cert Descends) passed)
-    → (goal : Equation) (log : Log) (symbol : ℕ) (behind : Place) → Holds parts goal place log old
+    → (goal : Equation) (log : Log) (symbol : ℕ) (behind : LineState) → Holds parts goal place log
+    old
     → after place (line.Pair cert, symbol) ≡ Some behind
     → Stands parts goal behind (pushed (line.Pair cert) log) (record old { lower = lower }) failure
 pair_judged parts place cert old lower failure asks is ends goal log symbol behind holds e =
@@ -637,9 +651,10 @@ pair_judged parts place cert old lower failure asks is ends goal log symbol behi
     (subst (λ table. IsOutcome failure (once_lower (lowered table old.lower old.pairs cert Descends)
     passed)) holds.table ends)))
 
-pub end_left : (parts : RuleParts) (place : Place) (old new : Progress) →
+pub end_left : (parts : RuleParts) (place : LineState) (old new : Progress) →
     AsksRanks parts place old.table None → old.lower < length old.pairs
-    → (goal : Equation) (log : Log) (symbol : ℕ) (behind : Place) → Holds parts goal place log old
+    → (goal : Equation) (log : Log) (symbol : ℕ) (behind : LineState) → Holds parts goal place log
+    old
     → after place (line.End, symbol) ≡ Some behind →
     Stands parts goal behind (pushed line.End log) new (Some (end.NotLower old.lower))
 end_left parts place old new asks left goal log symbol behind holds e =
@@ -648,9 +663,10 @@ end_left parts place old new asks left goal log symbol behind holds e =
     subst (λ b. Stands parts goal b log new (Some (end.NotLower old.lower))) comes.1
     (left_stands parts goal place log old holds known new left)
 
-pub end_judged : (parts : RuleParts) (place : Place) (old : Progress) →
+pub end_judged : (parts : RuleParts) (place : LineState) (old : Progress) →
     AsksRanks parts place old.table None → length old.pairs ≤ old.lower
-    → (goal : Equation) (log : Log) (symbol : ℕ) (behind : Place) → Holds parts goal place log old
+    → (goal : Equation) (log : Log) (symbol : ℕ) (behind : LineState) → Holds parts goal place log
+    old
     → after place (line.End, symbol) ≡ Some behind →
     Stands parts goal behind (pushed line.End log) old None
 end_judged parts place old asks none goal log symbol behind holds e =
@@ -661,8 +677,9 @@ end_judged parts place old asks none goal log symbol behind holds e =
 
 -- ---- after a failure
 
-pub failed_stands : (parts : RuleParts) (goal : Equation) (place : Place) (log : Log) (next : Line)
-    (symbol : ℕ) (behind : Place) (end : CheckEnd)
+pub failed_stands : (parts : RuleParts) (goal : Equation) (place : LineState) (log : Log)
+    (next : Line)
+    (symbol : ℕ) (behind : LineState) (end : CheckEnd)
     → FailsWith parts goal place log end → after place (next, symbol) ≡ Some behind →
     FailsWith parts goal behind (pushed next log) end
 failed_stands parts goal place log next symbol behind end failed e = record {

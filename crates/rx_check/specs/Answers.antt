@@ -15,8 +15,8 @@ use Rattle.rx_log.specs.Acceptance as log_fault
 use Rattle.rx_log.specs.declared.log.Log.{Log}
 use Rattle.rx_check.specs.declared.check_end.CheckEnd.{CheckEnd}
 use Rattle.rx_check.specs.declared.check_end.CheckEnd.TheVariants.{BadRanks, Large, NoMemory, NotCovered, NotLower, Step, Unfinished}
-use Rattle.rx_check.specs.declared.check_end.Place.{Place}
-use Rattle.rx_check.specs.declared.check_end.Place.TheVariants as place
+use Rattle.rx_check.specs.declared.check_end.LimitAt.{LimitAt}
+use Rattle.rx_check.specs.declared.check_end.LimitAt.TheVariants as place
 
 -- the end of a check by that of covers
 abbrev pub of_cover_end : CoverEnd → CheckEnd
@@ -40,7 +40,7 @@ of_step_end k step_end.Large = Large (place.Step k)
 of_step_end k step_end.NoMemory = NoMemory
 
 -- the place that a place is
-abbrev pub place_of : Place → log_fault.Place
+abbrev pub place_of : LimitAt → log_fault.LimitAt
 place_of (place.Cover f) = AtCover f
 place_of (place.Step k) = AtStep k
 place_of (place.Pair i) = AtPair i

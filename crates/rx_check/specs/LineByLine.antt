@@ -19,8 +19,8 @@ use Rattle.rx_log.specs.Places.{after, after_all}
 use Rattle.rx_log.specs.Reading.{blank, pushed}
 use Rattle.rx_log.specs.declared.line.Line.{Line}
 use Rattle.rx_log.specs.declared.log.Log.{Log}
-use Rattle.rx_log.specs.declared.place.Place.{Place}
-use Rattle.rx_log.specs.declared.place.Place.TheVariants.{AtHeader, InCovers, InSteps, InRanks, InPairs, Finished}
+use Rattle.rx_log.specs.declared.line_state.LineState.{LineState}
+use Rattle.rx_log.specs.declared.line_state.LineState.TheVariants.{AtHeader, InCovers, InSteps, InRanks, InPairs, Finished}
 use Rattle.rx_check.specs.Answers.{named}
 use Rattle.rx_check.specs.declared.check_end.CheckEnd.{CheckEnd}
 use Rattle.rx_check.specs.declared.progress.Progress.{Progress}
@@ -38,15 +38,16 @@ abbrev pub log_of : List (Line × ℕ) → Log
 log_of its = pushed_all blank its
 
 -- such a line may come next at the place
-abbrev pub MayCome : Place → Line → Type 0
-MayCome place line = (symbol : ℕ) × (behind : Place) × (after place (line, symbol) ≡ Some behind)
+abbrev pub MayCome : LineState → Line → Type 0
+MayCome place line = (symbol : ℕ) × (behind : LineState) × (after place (line, symbol) ≡ Some
+    behind)
 
 -- the second list begins with the first
 abbrev pub Extends : {A : Type 0} → List A → List A → Type 0
 Extends {A} xs ys = (more : List A) × (ys ≡ xs ++ more)
 
 -- the log so far, up to the place, is how the whole one begins
-abbrev pub GoesOn : Place → Log → Log → Type 0
+abbrev pub GoesOn : LineState → Log → Log → Type 0
 GoesOn AtHeader log whole = Extends log.covers whole.covers
 GoesOn (InCovers next) log whole = Extends log.covers whole.covers
 GoesOn InSteps log whole = (whole.covers ≡ log.covers) × Extends log.steps whole.steps
@@ -62,13 +63,13 @@ GoesOn Finished log whole = whole ≡ log
 -- ---- failures
 
 -- whichever lines come next, the log has this fault
-abbrev pub HasFailed : RuleParts → Equation → Place → Log → LogFault → Type 0
+abbrev pub HasFailed : RuleParts → Equation → LineState → Log → LogFault → Type 0
 HasFailed parts goal place log fault =
     (whole : Log) → GoesOn place log whole → HasVerdict parts goal whole (Fails fault)
 
 -- the end names a fault that the log has, whichever lines come next
 pub record FailsWith
-    (parts : RuleParts) (goal : Equation) (place : Place) (log : Log) (end : CheckEnd)
+    (parts : RuleParts) (goal : Equation) (place : LineState) (log : Log) (end : CheckEnd)
     : Type 0 where
   pub fault : LogFault
   pub names : named end ≡ Some fault
@@ -103,7 +104,7 @@ pub record IsShown (parts : RuleParts) (log : Log) (progress : Progress) : Type 
   pub pairs : AreAllPairs (parts.rules ++ progress.state.hypotheses) progress.pairs
 
 -- what is known at each place
-abbrev pub IsKnown : RuleParts → Equation → Place → Log → Progress → Type 0
+abbrev pub IsKnown : RuleParts → Equation → LineState → Log → Progress → Type 0
 IsKnown parts goal AtHeader log progress = CoversSoFar parts log 0 × (log.pairs ≡ [])
 IsKnown parts goal (InCovers next) log progress = CoversSoFar parts log next × (log.pairs ≡ [])
 IsKnown parts goal InSteps log progress =
@@ -118,21 +119,21 @@ IsKnown parts goal Finished log progress = IsAccepted parts goal log
 
 -- what is kept is what the log so far gives, and nothing of it fails
 pub record Holds
-    (parts : RuleParts) (goal : Equation) (place : Place) (log : Log) (progress : Progress)
+    (parts : RuleParts) (goal : Equation) (place : LineState) (log : Log) (progress : Progress)
     : Type 0 where
   pub steps : StepsSoFar parts goal log progress
   pub table : progress.table ≡ log.table
   pub known : IsKnown parts goal place log progress
 
 -- the same, or the failure that is kept is that of the log
-abbrev pub Stands : RuleParts → Equation → Place → Log → Progress → Option CheckEnd → Type 0
+abbrev pub Stands : RuleParts → Equation → LineState → Log → Progress → Option CheckEnd → Type 0
 Stands parts goal place log progress None = Holds parts goal place log progress
 Stands parts goal place log progress (Some end) = FailsWith parts goal place log end
 
 -- ---- what is kept
 
 -- the place after the lines so far
-abbrev pub place_after : Replayer → Place
+abbrev pub place_after : Replayer → LineState
 place_after replayer = replayer.place
 
 -- no hypothesis that is kept has a result as its left side
@@ -159,15 +160,15 @@ one_lower table None cert = No
 one_lower table (Some pair) cert = lower_finding pair table cert
 
 -- with this failure, if any, the line makes this of what was kept at the place
-abbrev pub Judged : RuleParts → Place → Line → Progress → Progress → Option CheckEnd → Type 0
+abbrev pub Judged : RuleParts → LineState → Line → Progress → Progress → Option CheckEnd → Type 0
 Judged parts place line old new failure =
-    (goal : Equation) (log : Log) (symbol : ℕ) (behind : Place) → Holds parts goal place log old
+    (goal : Equation) (log : Log) (symbol : ℕ) (behind : LineState) → Holds parts goal place log old
     → after place (line, symbol) ≡ Some behind
     → Stands parts goal behind (pushed line log) new failure
 
 -- the same of a call; where there is no memory, what was kept stays
 abbrev pub Judges
-    : {E : Type 0} → RuleParts → Place → Line → Progress → Progress → Result (Option CheckEnd) E
+    : {E : Type 0} → RuleParts → LineState → Line → Progress → Progress → Result (Option CheckEnd) E
     → Type 0
 Judges parts place line old new (Ok failure) = Judged parts place line old new failure
 Judges parts place line old new (Err none) = new ≡ old

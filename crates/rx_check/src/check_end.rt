@@ -8,7 +8,7 @@ use thiserror::Error;
 
 /// A place of a log at which a polynomial passes the limits.
 #[derive(Clone, Copy, Debug, PartialEq, Eq)]
-pub enum Place {
+pub enum LimitAt {
     /// The trees of the symbol with this number.
     Cover(usize),
     /// The step with this number, counted from 0.
@@ -60,7 +60,7 @@ pub enum CheckEnd {
     #[error("a polynomial is too large")]
     Large {
         /// The place.
-        place: Place,
+        place: LimitAt,
     },
     /// There was no memory.
     #[error("out of memory")]
@@ -88,7 +88,7 @@ impl From<CoverEnd> for CheckEnd {
         match e {
             CoverEnd::NotCovered(sym) => CheckEnd::NotCovered { sym },
             CoverEnd::Large(sym) => CheckEnd::Large {
-                place: Place::Cover(sym),
+                place: LimitAt::Cover(sym),
             },
             CoverEnd::NoMemory => CheckEnd::NoMemory,
         }
@@ -105,7 +105,7 @@ impl From<PairEnd> for CheckEnd {
         match e {
             PairEnd::NotLower(pair) => CheckEnd::NotLower { pair },
             PairEnd::Large(pair) => CheckEnd::Large {
-                place: Place::Pair(pair),
+                place: LimitAt::Pair(pair),
             },
             PairEnd::NoMemory => CheckEnd::NoMemory,
         }

@@ -9,7 +9,7 @@ mod replayer;
 mod replaying;
 mod running;
 
-pub use check_end::{CheckEnd, Place};
+pub use check_end::{CheckEnd, LimitAt};
 pub use laws::{
     accepted_logs_are_proofs, answers_agree, each_log_has_one_verdict, kept_hypotheses_have_roots,
     lines_give_their_log, proofs_have_logs, the_premises_can_be_met,

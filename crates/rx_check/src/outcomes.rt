@@ -12,10 +12,10 @@ ghost use Rattle.rx_pairs.specs.Lowering as lowering;
 ghost use Rattle.rx_pairs.specs.Pairs.{AreAllPairs, HasRoot};
 ghost use Rattle.rx_pairs.specs.Ranks.{bad_rank};
 
-use crate::check_end::{CheckEnd, Place as At};
+use crate::check_end::{CheckEnd, LimitAt};
 use crate::running::take_owned;
 use rx_cover::{CoverTree, cover_one};
-use rx_log::Place;
+use rx_log::LineState;
 use rx_pairs::{Pair, PairCert, RankTable, all_pairs, bad_ranks, is_lower};
 use rx_plain::{Items, NoMemory};
 use rx_poly::PolyEnd;
@@ -63,13 +63,13 @@ pub(crate) fn check_cover(
 }
 
 /// The first symbol without a list of trees, as a failure, where the place is after some covers.
-pub(crate) fn missing_cover(rules: &RuleSet, place: Place) -> Option<CheckEnd>
-    ensures covers { (next : ℕ) → place ≡ Place.InCovers next → IsOutcome result
+pub(crate) fn missing_cover(rules: &RuleSet, place: LineState) -> Option<CheckEnd>
+    ensures covers { (next : ℕ) → place ≡ LineState.InCovers next → IsOutcome result
         (once_covered (covering_from rules.now next (drop next rules.now.symbols) []) passed) }
-    ensures steps { place ≡ Place.InSteps → result ≡ None }
+    ensures steps { place ≡ LineState.InSteps → result ≡ None }
 {
     match place {
-        Place::InCovers(next) => {
+        LineState::InCovers(next) => {
             if (next as usize) < rules.symbols().len() {
                 Some(CheckEnd::NotCovered { sym: next as usize })
             } else {
@@ -113,13 +113,13 @@ pub(crate) fn made_pairs(
 }
 
 /// The first symbol without a lawful rank, as a failure, where the place is after some ranks.
-pub(crate) fn bad_rank_at(rules: &RuleSet, place: Place, table: &RankTable) -> Option<CheckEnd>
-    ensures ranks { (columns next : ℕ) → place ≡ Place.InRanks columns next →
+pub(crate) fn bad_rank_at(rules: &RuleSet, place: LineState, table: &RankTable) -> Option<CheckEnd>
+    ensures ranks { (columns next : ℕ) → place ≡ LineState.InRanks columns next →
         IsOutcome result (once_ranked (bad_rank rules.now table.now) passed) }
-    ensures pairs { place ≡ Place.InPairs → result ≡ None }
+    ensures pairs { place ≡ LineState.InPairs → result ≡ None }
 {
     match place {
-        Place::InRanks { .. } => match bad_ranks(rules, table) {
+        LineState::InRanks { .. } => match bad_ranks(rules, table) {
             Some(sym) => Some(CheckEnd::BadRanks { sym }),
             None => None,
         },
@@ -145,7 +145,7 @@ pub(crate) fn check_pair(
         Ok(true) => Ok(()),
         Ok(false) => Err(CheckEnd::NotLower { pair: number }),
         Err(PolyEnd::Large) => Err(CheckEnd::Large {
-            place: At::Pair(number),
+            place: LimitAt::Pair(number),
         }),
         Err(PolyEnd::NoMemory) => Err(CheckEnd::NoMemory),
     }

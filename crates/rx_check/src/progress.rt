@@ -12,7 +12,7 @@ use crate::outcomes::{
     step_failure,
 };
 use rx_cover::CoverTree;
-use rx_log::{Line, Place};
+use rx_log::{Line, LineState};
 use rx_pairs::{Pair, PairCert, RankTable};
 use rx_plain::{Items, NoMemory};
 use rx_poly::Poly;
@@ -39,14 +39,14 @@ pub struct Progress {
 fn judge_cover(
     alloc: Global,
     rules: &RuleSet,
-    place: Place,
+    place: LineState,
     trees: &[CoverTree],
 ) -> Result<Option<CheckEnd>, NoMemory>
     ensures { (progress : Progress) →
         Judges rules.now place (Line.Cover trees.now) progress progress result }
 {
     match place {
-        Place::InCovers(next) => failure_of(check_cover(alloc, rules, next as usize, trees)),
+        LineState::InCovers(next) => failure_of(check_cover(alloc, rules, next as usize, trees)),
         _ => Ok(None),
     }
 }
@@ -78,7 +78,7 @@ impl Progress {
         &mut self,
         alloc: Global,
         rules: &RuleSet,
-        place: Place,
+        place: LineState,
         step: Step,
     ) -> Result<Option<CheckEnd>, NoMemory>
         requires roots { All HasRoot self.old.state.hypotheses }
@@ -97,7 +97,7 @@ impl Progress {
         &mut self,
         alloc: Global,
         rules: &RuleSet,
-        place: Place,
+        place: LineState,
         columns: u32,
     ) -> Result<Option<CheckEnd>, NoMemory>
         requires roots { All HasRoot self.old.state.hypotheses }
@@ -119,7 +119,7 @@ impl Progress {
 
     /// Keeps the rank of the next symbol.
     fn push_rank(&mut self, rank: Items<Poly>) -> Result<Option<CheckEnd>, NoMemory>
-        ensures judges { (parts : RuleParts) (place : Place) →
+        ensures judges { (parts : RuleParts) (place : LineState) →
             Judges parts place (Line.Rank rank) self.old self.new result }
         ensures state { self.new.state ≡ self.old.state }
     {
@@ -132,7 +132,7 @@ impl Progress {
         &mut self,
         alloc: Global,
         rules: &RuleSet,
-        place: Place,
+        place: LineState,
         cert: &PairCert,
     ) -> Result<Option<CheckEnd>, NoMemory>
         ensures judges { Judges rules.now place (Line.Pair cert.now) self.old self.new result }
@@ -149,7 +149,7 @@ impl Progress {
     }
 
     /// Asks whether pairs are left, and before the first pair whether the ranks are lawful.
-    fn judge_end(&self, rules: &RuleSet, place: Place) -> Option<CheckEnd>
+    fn judge_end(&self, rules: &RuleSet, place: LineState) -> Option<CheckEnd>
         ensures { Judged rules.now place Line.End self.now self.now result }
     {
         if let Some(end) = bad_rank_at(rules, place, &self.table) {
@@ -167,7 +167,7 @@ impl Progress {
         &mut self,
         alloc: Global,
         rules: &RuleSet,
-        place: Place,
+        place: LineState,
         line: Line,
     ) -> Result<Option<CheckEnd>, NoMemory>
         requires roots { All HasRoot self.old.state.hypotheses }

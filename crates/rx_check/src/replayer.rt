@@ -16,7 +16,7 @@ ghost use Rattle.rx_term.specs.declared.rule_set.RuleParts.{RuleParts};
 
 use crate::check_end::CheckEnd;
 use crate::progress::Progress;
-use rx_log::{Line, Place};
+use rx_log::{Line, LineState};
 use rx_pairs::RankTable;
 use rx_plain::{Items, NoMemory};
 use rx_steps::State;
@@ -28,7 +28,7 @@ use std::alloc::Global;
 #[derive(Drop)]
 pub struct Replayer {
     // Which lines may come next.
-    place: Place,
+    place: LineState,
     // What is kept of the checks; of no use after a failure.
     progress: Progress,
     // The first failure.
@@ -46,15 +46,15 @@ fn symbol_after(symbol: u64) -> Result<u64, NoMemory>
 }
 
 /// The place after the trees or the rank of the symbol that is next.
-fn after_symbol(place: Place) -> Result<Place, NoMemory>
-    ensures covers { (next : ℕ) → place ≡ Place.InCovers next →
-        IfOk result (λ behind. behind ≡ Place.InCovers (next + 1)) }
-    ensures ranks { (columns next : ℕ) → place ≡ Place.InRanks columns next →
-        IfOk result (λ behind. behind ≡ Place.InRanks columns (next + 1)) }
+fn after_symbol(place: LineState) -> Result<LineState, NoMemory>
+    ensures covers { (next : ℕ) → place ≡ LineState.InCovers next →
+        IfOk result (λ behind. behind ≡ LineState.InCovers (next + 1)) }
+    ensures ranks { (columns next : ℕ) → place ≡ LineState.InRanks columns next →
+        IfOk result (λ behind. behind ≡ LineState.InRanks columns (next + 1)) }
 {
     match place {
-        Place::InCovers(next) => Ok(Place::InCovers(symbol_after(next)?)),
-        Place::InRanks { columns, next } => Ok(Place::InRanks {
+        LineState::InCovers(next) => Ok(LineState::InCovers(symbol_after(next)?)),
+        LineState::InRanks { columns, next } => Ok(LineState::InRanks {
             columns,
             next: symbol_after(next)?,
         }),
@@ -63,20 +63,20 @@ fn after_symbol(place: Place) -> Result<Place, NoMemory>
 }
 
 /// The place after a line that may come at the place.
-fn after_line(place: Place, line: &Line) -> Result<Place, NoMemory>
-    ensures { (symbol : ℕ) (behind : Place) → after place (line.now, symbol) ≡ Some behind →
+fn after_line(place: LineState, line: &Line) -> Result<LineState, NoMemory>
+    ensures { (symbol : ℕ) (behind : LineState) → after place (line.now, symbol) ≡ Some behind →
         IfOk result (λ next. next ≡ behind) }
 {
     match line {
-        Line::Header => Ok(Place::InCovers(0)),
+        Line::Header => Ok(LineState::InCovers(0)),
         Line::Cover(_) | Line::Rank(_) => after_symbol(place),
-        Line::Step(_) => Ok(Place::InSteps),
-        Line::Ranks(columns) => Ok(Place::InRanks {
+        Line::Step(_) => Ok(LineState::InSteps),
+        Line::Ranks(columns) => Ok(LineState::InRanks {
             columns: *columns,
             next: 0,
         }),
-        Line::Pair(_) => Ok(Place::InPairs),
-        Line::End => Ok(Place::Finished),
+        Line::Pair(_) => Ok(LineState::InPairs),
+        Line::End => Ok(LineState::Finished),
     }
 }
 
@@ -100,7 +100,7 @@ impl Replayer {
             lower: 0,
         };
         Ok(Replayer {
-            place: Place::AtHeader,
+            place: LineState::AtHeader,
             progress,
             failure: None,
         })
@@ -109,7 +109,8 @@ impl Replayer {
     /// Judges the next line, unless one before it failed.
     fn judge(&mut self, alloc: Global, rules: &RuleSet, line: Line) -> Result<(), NoMemory>
         requires roots { HasRoots self.old }
-        ensures stands { OnOk result ((goal : Equation) (log : Log) (symbol : ℕ) (behind : Place) →
+        ensures stands { OnOk result ((goal : Equation) (log : Log) (symbol : ℕ)
+            (behind : LineState) →
             Stands rules.now goal self.old.place log self.old.progress self.old.failure →
             after self.old.place (line, symbol) ≡ Some behind →
             Stands rules.now goal behind (pushed line log) self.new.progress self.new.failure) }
@@ -134,10 +135,10 @@ impl Replayer {
         requires comes { MayCome (place_after self.old) line }
         requires roots { HasRoots self.old }
         ensures stands { OnOk result ((goal : Equation) (its : List (Line × ℕ)) →
-            (symbol : ℕ) (behind : Place) → StandsFor self.old rules.now goal its →
+            (symbol : ℕ) (behind : LineState) → StandsFor self.old rules.now goal its →
             after (place_after self.old) (line, symbol) ≡ Some behind →
             StandsFor self.new rules.now goal (its ++ (line, symbol) ∷ [])) }
-        ensures place { OnOk result ((symbol : ℕ) (behind : Place) →
+        ensures place { OnOk result ((symbol : ℕ) (behind : LineState) →
             after (place_after self.old) (line, symbol) ≡ Some behind →
             place_after self.new ≡ behind) }
         ensures kept { OnErr result (self.new ≡ self.old) }
@@ -154,7 +155,7 @@ impl Replayer {
     ///
     /// The last line of a log must have come.
     pub fn finish(self, rules: &RuleSet) -> Result<(), CheckEnd>
-        requires { place_after self ≡ Place.Finished }
+        requires { place_after self ≡ LineState.Finished }
         ensures exact { (goal : Equation) (its : List (Line × ℕ)) →
             StandsFor self rules.now goal its → Answers result rules.now goal (log_of its) }
         ensures decided { (goal : Equation) (its : List (Line × ℕ)) →

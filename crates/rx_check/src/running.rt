@@ -4,7 +4,7 @@ ghost use Rattle.rx_check.specs.Answers.{Finds, of_step_end};
 ghost use Rattle.rx_inference.specs.States.{applied};
 ghost use Rattle.rx_log.specs.Acceptance.{after_step, after_steps, kept, kept_by, start};
 
-use crate::check_end::{CheckEnd, Place};
+use crate::check_end::{CheckEnd, LimitAt};
 use rx_cover::covers;
 use rx_log::Log;
 use rx_pairs::{RankTable, bad_ranks};
@@ -18,7 +18,7 @@ fn step_end(step: usize, end: StepEnd) -> CheckEnd
 {
     match end {
         StepEnd::Large => CheckEnd::Large {
-            place: Place::Step(step),
+            place: LimitAt::Step(step),
         },
         StepEnd::NoMemory => CheckEnd::NoMemory,
         other => CheckEnd::Step { step, end: other },

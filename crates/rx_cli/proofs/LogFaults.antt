@@ -5,7 +5,7 @@ use Rattle.std.specs.Prelude.{◌+◌}
 use Rattle.rx_check.specs.Answers.{Answers}
 use Rattle.rx_check.specs.declared.check_end.CheckEnd.{CheckEnd}
 use Rattle.rx_check.specs.declared.check_end.CheckEnd.TheVariants as End
-use Rattle.rx_check.specs.declared.check_end.Place.TheVariants as At
+use Rattle.rx_check.specs.declared.check_end.LimitAt.TheVariants as At
 use Rattle.rx_cover.specs.Covering as cover
 use Rattle.rx_cover.specs.Covering.{Covering, Covers, covering}
 use Rattle.rx_inference.specs.Judging as judging

@@ -23,7 +23,7 @@ use Rattle.c_ast.specs.declared.program.Function.{Function}
 use Rattle.c_ast.specs.declared.program.Resolved.{Resolved}
 use Rattle.rx_code.specs.Programs.{entry_of, program_code}
 use Rattle.rx_code.specs.Reached.{AreReached, IsFirst, IsSecond, IsRising, Reached, next_number}
-use Rattle.rx_code.specs.Rules.{deed_within, info_at, parts_of, symbol}
+use Rattle.rx_code.specs.Rules.{instruction_within, info_at, parts_of, symbol}
 use Rattle.rx_code.specs.Translation.{IsBeyond, IsTranslation, goal_at, rules_of}
 use Rattle.rx_code.specs.declared.code.Code.{Code}
 use Rattle.rx_code.specs.declared.point.Opening.{Opening}
@@ -43,9 +43,10 @@ module _ (program : Resolved) (scoped : is_scoped program ≡ true) (f g : ℕ) 
   code = (program_code program t.functions).form
 
   both_within : ((program_code program t.functions).within ≡ true) ×
-      (list_all deed_within code.deeds ≡ true)
+      (list_all instruction_within code.instructions ≡ true)
   both_within =
-      and_parts (program_code program t.functions).within (list_all deed_within code.deeds) t.within
+      and_parts (program_code program t.functions).within
+      (list_all instruction_within code.instructions) t.within
 
   pub translation_whole : IsWhole code
   translation_whole =

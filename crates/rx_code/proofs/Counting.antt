@@ -1,5 +1,5 @@
--- Each symbol that is opened has one deed: what a piece of code does at a symbol, counted. A piece
--- also has no entries but those of functions.
+-- Each symbol that is opened has one instruction: what a piece of code does at a symbol, counted. A
+-- piece also has no entries but those of functions.
 use Rattle.std.proofs.Common.{◌≡◌, ◌∙◌, ap, sym, subst, refl, Bool, if◌then◌else◌, ℕ, zero, suc, ◌+◌, List, [], ◌∷◌, ◌++◌, length, map, pos, arith, length-append}
 use Rattle.std.specs.Prelude.{nat_eq}
 use Rattle.rx_poly.specs.Constants.{number}
@@ -13,7 +13,7 @@ use Rattle.rx_code.specs.Expressions.{Asked, Condition, Value, arguments, arithm
 use Rattle.rx_code.specs.Pieces.{a_frame, a_point, append_code, after, does, opens, point}
 use Rattle.rx_code.specs.declared.action.Action.{Action}
 use Rattle.rx_code.specs.declared.action.Action.TheVariants.{Set, Test, Divide, Call, Resume}
-use Rattle.rx_code.specs.declared.action.Deed.{Deed}
+use Rattle.rx_code.specs.declared.action.Instruction.{Instruction}
 use Rattle.rx_code.specs.declared.action.Division.{Division}
 use Rattle.rx_code.specs.declared.action.Division.TheVariants.{Quotient, Remainder}
 use Rattle.rx_code.specs.declared.code.Code.{Code}
@@ -30,19 +30,20 @@ one_if b = if b then 1 else 0
 abbrev pub at_symbol : ℕ → ℕ → ℕ
 at_symbol x y = one_if (nat_eq y x)
 
--- the deeds at x
-abbrev pub deeds_at : ℕ → List Deed → ℕ
-deeds_at x [] = 0
-deeds_at x (d ∷ ds) = at_symbol x d.at.symbol + deeds_at x ds
+-- the instructions at x
+abbrev pub instructions_at : ℕ → List Instruction → ℕ
+instructions_at x [] = 0
+instructions_at x (d ∷ ds) = at_symbol x d.at.symbol + instructions_at x ds
 
 -- how often x is among n symbols from that number on
 abbrev pub among_from : ℕ → ℕ → ℕ → ℕ
 among_from next zero x = 0
 among_from next (suc k) x = at_symbol x next + among_from (next + 1) k x
 
-deeds-append : (x : ℕ) (ds es : List Deed) → deeds_at x (ds ++ es) ≡ deeds_at x ds + deeds_at x es
-deeds-append x [] es = omega arith
-deeds-append x (d ∷ ds) es = let h = deeds-append x ds es in omega (arith, h)
+instructions-append : (x : ℕ) (ds es : List Instruction) → instructions_at x (ds ++ es) ≡
+    instructions_at x ds + instructions_at x es
+instructions-append x [] es = omega arith
+instructions-append x (d ∷ ds) es = let h = instructions-append x ds es in omega (arith, h)
 
 among-append : (next j k x : ℕ) → among_from next (j + k) x ≡ among_from next j x +
     among_from (next + j) k x
@@ -68,27 +69,29 @@ three_from next x =
 
 -- a piece and then another
 pub record Joined (x next : ℕ) (c d : Code) : Type 0 where
-  pub deeds : deeds_at x (append_code c d).deeds ≡ deeds_at x c.deeds + deeds_at x d.deeds
+  pub instructions : instructions_at x (append_code c d).instructions ≡ instructions_at x
+      c.instructions + instructions_at x d.instructions
   pub symbols : among_from next (length (append_code c d).opened) x ≡
       among_from next (length c.opened) x + among_from (after next c) (length d.opened) x
 
 pub joined : (x next : ℕ) (c d : Code) → Joined x next c d
 joined x next c d = record {
-  deeds = deeds-append x c.deeds d.deeds;
+  instructions = instructions-append x c.instructions d.instructions;
   symbols =
       ap (λ i. among_from next i x) (length-append c.opened d.opened) ∙
       among-append next (length c.opened) (length d.opened) x;
 }
 
--- what a piece takes over from a point, which has no deed before, and what it does to the symbols
--- that it opens
+-- what a piece takes over from a point, which has no instruction before, and what it does to the
+-- symbols that it opens
 pub record Closed (x next : ℕ) (a : Point) (c : Code) : Type 0 where
-  pub counts : deeds_at x c.deeds ≡ at_symbol x a.symbol + among_from next (length c.opened) x
+  pub counts : instructions_at x c.instructions ≡ at_symbol x a.symbol + among_from next
+      (length c.opened) x
   pub entries : c.entries ≡ []
 
--- the same of a piece that leads on to a point without a deed
+-- the same of a piece that leads on to a point without an instruction
 pub record Open (x next : ℕ) (a b : Point) (c : Code) : Type 0 where
-  pub counts : deeds_at x c.deeds + at_symbol x b.symbol ≡ at_symbol x a.symbol +
+  pub counts : instructions_at x c.instructions + at_symbol x b.symbol ≡ at_symbol x a.symbol +
       among_from next (length c.opened) x
   pub entries : c.entries ≡ []
 
@@ -102,7 +105,8 @@ open_open x next a b z c d first second =
     let j = joined x next c d in
     record {
       counts =
-          let h = first.counts in let k = second.counts in let l = j.deeds in let m = j.symbols in
+          let h = first.counts in let k = second.counts in let l = j.instructions in let m =
+          j.symbols in
           omega (arith, h, k, l, m);
       entries = no_entries c d first.entries second.entries;
     }
@@ -113,7 +117,8 @@ open_closed x next a b c d first second =
     let j = joined x next c d in
     record {
       counts =
-          let h = first.counts in let k = second.counts in let l = j.deeds in let m = j.symbols in
+          let h = first.counts in let k = second.counts in let l = j.instructions in let m =
+          j.symbols in
           omega (arith, h, k, l, m);
       entries = no_entries c d first.entries second.entries;
     }
@@ -155,8 +160,9 @@ module _ (x : ℕ) where
         let s = three_from next x in
         record {
           counts =
-              let c0 = h.counts in let d1 = one.deeds in let s1 = one.symbols in let d2 =
-              two.deeds in let s2 = two.symbols in let d3 = three.deeds in let s3 = three.symbols in
+              let c0 = h.counts in let d1 = one.instructions in let s1 = one.symbols in let d2 =
+              two.instructions in let s2 = two.symbols in let d3 = three.instructions in let s3 =
+                  three.symbols in
               omega (arith, c0, d1, s1, d2, s2, d3, s3, s);
           entries = no_entries c (append_code yes no) h.entries refl;
         };
@@ -170,7 +176,7 @@ module _ (x : ℕ) where
       open_open x next a p.at q.at p.code q.code (left.value a next)
       (right.value p.at (after next p.code))
 
-  -- a new point after a deed
+  -- a new point after an instruction
   opened_after : (next : ℕ) (a b : Point) (c : Code) (width : ℕ) (y : Action) → Open x next a b c
       → Open x next a (point (after next c) width)
       (append_code c (append_code (opens (a_point width ∷ [])) (does b y)))
@@ -180,8 +186,8 @@ module _ (x : ℕ) where
       let two = joined x (after next c) (opens os) (does b y) in
       record {
         counts =
-            let c0 = is.counts in let d1 = one.deeds in let s1 = one.symbols in let d2 =
-            two.deeds in let s2 = two.symbols in omega (arith, c0, d1, s1, d2, s2);
+            let c0 = is.counts in let d1 = one.instructions in let s1 = one.symbols in let d2 =
+            two.instructions in let s2 = two.symbols in omega (arith, c0, d1, s1, d2, s2);
         entries = no_entries c (append_code (opens os) (does b y)) is.entries refl;
       }
 
@@ -215,8 +221,8 @@ module _ (x : ℕ) where
       let two = joined x (next + 1) c d in
       record {
         counts =
-            let c0 = first.counts in let c1 = second.counts in let d1 = one.deeds in let s1 =
-            one.symbols in let d2 = two.deeds in let s2 = two.symbols in
+            let c0 = first.counts in let c1 = second.counts in let d1 = one.instructions in let s1 =
+            one.symbols in let d2 = two.instructions in let s2 = two.symbols in
             omega (arith, c0, c1, d1, s1, d2, s2);
         entries = no_entries c d first.entries second.entries;
       }
@@ -263,8 +269,9 @@ module _ (x : ℕ) where
       record {
         counts =
             let h = tested.counts in let i = first.counts in let j = second.counts in
-            let d1 = one.deeds in let d2 = two.deeds in let d3 = three.deeds in let d4 =
-            four.deeds in let d5 = five.deeds in
+            let d1 = one.instructions in let d2 = two.instructions in let d3 = three.instructions in
+            let d4 =
+            four.instructions in let d5 = five.instructions in
             let s1 = one.symbols in let s2 = two.symbols in let s3 = three.symbols in let s4 =
             four.symbols in let s5 = five.symbols in
             omega (arith, h, i, j, d1, d2, d3, d4, d5, s1, s2, s3, s4, s5, s);
@@ -312,7 +319,8 @@ module _ (x : ℕ) where
       let is = each a next in
       record {
         counts =
-            let h = is.counts in let d1 = one.deeds in let d2 = two.deeds in let d3 = three.deeds in
+            let h = is.counts in let d1 = one.instructions in let d2 = two.instructions in let d3 =
+            three.instructions in
             let s1 = one.symbols in let s2 = two.symbols in let s3 = three.symbols in
             omega (arith, h, d1, d2, d3, s1, s2, s3, s);
         entries = no_entries xs.code (append_code (opens os) ends) is.entries refl;

@@ -20,7 +20,7 @@ use Rattle.rx_code.specs.Pieces.{append_code, after, does, point}
 use Rattle.rx_code.specs.Points.{Actions}
 use Rattle.rx_code.specs.declared.action.Action.{Action}
 use Rattle.rx_code.specs.declared.action.Action.TheVariants.{Set, Test, Divide, Call, Resume}
-use Rattle.rx_code.specs.declared.action.Deed.{Deed}
+use Rattle.rx_code.specs.declared.action.Instruction.{Instruction}
 use Rattle.rx_code.specs.declared.action.Division.{Division}
 use Rattle.rx_code.specs.declared.action.Division.TheVariants.{Quotient, Remainder}
 use Rattle.rx_code.specs.declared.code.Code.{Code}
@@ -39,17 +39,19 @@ count_values (x ∷ xs) a next =
 module _ (acts : Actions) where
   -- all that is written down is done
   abbrev pub Written : Code → Type 0
-  Written c = (d : Deed) → Contains c.deeds d → acts d.at d.action
+  Written c = (d : Instruction) → Contains c.instructions d → acts d.at d.action
 
   pub written_left : (c d : Code) → Written (append_code c d) → Written c
-  written_left c d written x there = written x (Contains-append_left c.deeds d.deeds x there)
+  written_left c d written x there = written x (Contains-append_left c.instructions d.instructions x
+      there)
 
   pub written_right : (c d : Code) → Written (append_code c d) → Written d
-  written_right c d written x there = written x (Contains-append_right c.deeds d.deeds x there)
+  written_right c d written x there = written x (Contains-append_right c.instructions d.instructions
+      x there)
 
-  pub written_deed : (a : Point) (x : Action) → Written (does a x) → acts a x
-  written_deed a x written =
-      let d : Deed = record { at = a; action = x } in written d (first_one d [])
+  pub written_instruction : (a : Point) (x : Action) → Written (does a x) → acts a x
+  written_instruction a x written =
+      let d : Instruction = record { at = a; action = x } in written d (first_one d [])
 
   module _ (callable : ℕ → ℕ → Type 0) (n : ℕ) where
     -- the compiled expression is its code, as a value and as a condition
@@ -68,7 +70,8 @@ module _ (acts : Actions) where
           let v = value a next in
           let test = does v.at (Test (Ne v.value) y w) in
           code.tested e a v.at y w v.value (is a next (written_left v.code test written))
-          (written_deed v.at (Test (Ne v.value) y w) (written_right v.code test written)) fits_y
+          (written_instruction v.at (Test (Ne v.value) y w) (written_right v.code test written))
+          fits_y
           fits_w;
     }
 
@@ -88,8 +91,8 @@ module _ (acts : Actions) where
           code.truth e a y w b logical (record { first = refl; second = refl; both = omega arith })
           (is a y w (next + 3) (omega arith) (omega arith)
           (written_left c (append_code (does y yes) (does w no)) written))
-          (written_deed y yes (written_left (does y yes) (does w no) ends))
-          (written_deed w no (written_right (does y yes) (does w no) ends));
+          (written_instruction y yes (written_left (does y yes) (does w no) ends))
+          (written_instruction w no (written_right (does y yes) (does w no) ends));
       condition = is;
     }
 
@@ -108,12 +111,13 @@ module _ (acts : Actions) where
         let x = l.value a next in let y = r.value x.at (after next x.code) in
         let both = append_code x.code y.code in
         let b = point (after next both) (y.at.width + 1) in
-        let deed = does y.at (Divide d x.value y.value b) in
-        let operands_written = written_left both deed written in
+        let instruction = does y.at (Divide d x.value y.value b) in
+        let operands_written = written_left both instruction written in
         code.division op d e f a x.at y.at b x.value y.value is
         (left.value a next (written_left x.code y.code operands_written))
         (right.value x.at (after next x.code) (written_right x.code y.code operands_written))
-        (written_deed y.at (Divide d x.value y.value b) (written_right both deed written))
+        (written_instruction y.at (Divide d x.value y.value b) (written_right both instruction
+        written))
         (omega arith))
 
     comparison_coded : (op : BinOp) (e f : Expr) (l r : Asked) →
@@ -130,7 +134,8 @@ module _ (acts : Actions) where
         code.compared op e f a p.at q.at y w p.value q.value _ (is p.value q.value)
         (left.value a next (written_left p.code q.code operands_written))
         (right.value p.at (after next p.code) (written_right p.code q.code operands_written))
-        (written_deed q.at action (written_right both (does q.at action) written)) fits_y fits_w)
+        (written_instruction q.at action (written_right both (does q.at action) written)) fits_y
+        fits_w)
 
     conjunction_coded : (e f : Expr) (l r : Asked) → CodesExpr e l → CodesExpr f r →
         CodesExpr (expr.Binary bin.AndAlso e f) (conjunction l r)
@@ -178,9 +183,9 @@ module _ (acts : Actions) where
         (test.condition a y w (next + 3) (omega arith) (omega arith)
         (written_left t from_first written))
         (left.value y (after (next + 3) t) (written_left p.code from_middle values))
-        (written_deed p.at (Set a.width p.value b) (written_left middle second rest))
+        (written_instruction p.at (Set a.width p.value b) (written_left middle second rest))
         (right.value w (after (after (next + 3) t) p.code) (written_left q.code last other))
-        (written_deed q.at (Set a.width q.value b) (written_right q.code last other)))
+        (written_instruction q.at (Set a.width q.value b) (written_right q.code last other)))
 
     unary_coded : (op : UnOp) (e : Expr) (x : Asked) → CodesExpr e x →
         CodesExpr (expr.Unary op e) (unary_code op x)
@@ -228,13 +233,14 @@ module _ (acts : Actions) where
         let enter = does xs.at (Call f xs.values r) in
         let resume = does r (Resume b) in
         let ends = append_code enter resume in
-        let deeds = written_right xs.code ends written in
+        let instructions = written_right xs.code ends written in
         let counted : length es ≡ length xs.values =
         sym (count_values (map expr_code es) a next ∙ length-map es expr_code) in
         code.call f es a xs.at r b xs.values (subst (callable f) counted may)
         (each a next (written_left xs.code ends written))
-        (written_deed xs.at (Call f xs.values r) (written_left enter resume deeds)) refl
-        (written_deed r (Resume b) (written_right enter resume deeds)) (omega arith))
+        (written_instruction xs.at (Call f xs.values r) (written_left enter resume instructions))
+        refl
+        (written_instruction r (Resume b) (written_right enter resume instructions)) (omega arith))
 
     mutual
       -- what the table says of an expression in order is its code

@@ -1,4 +1,4 @@
--- The deeds of a piece fit the whole code in which it is.
+-- The instructions of a piece fit the whole code in which it is.
 use Rattle.std.proofs.Common.{◌≡◌, ◌∙◌, ap, sym, subst, refl, Bool, true, false, ◌&&◌, ◌⊎◌, inl, inr, ℕ, zero, suc, ◌+◌, ◌≤◌, ◌<◌, Some, List, [], ◌∷◌, ◌++◌, length, map, ℤ, pos, negsuc, arith}
 use Rattle.std.specs.Prelude.{Contains, nat_le, nat_lt, slice_get}
 use Rattle.std.proofs.lemmas.Bool.{and_from, and_parts, leb-true, lt-ltb, ltb-false, ltb-true}
@@ -22,10 +22,10 @@ use Rattle.c_ast.specs.declared.expr.Expr.{Expr}
 use Rattle.rx_code.specs.Expressions.{Asked, Condition, Value, Valued, arguments, arithmetic, arithmetic_of, binary_code, call, choice, comparison, conjunction, disjunction, division, expr_code, kind_of, of_condition, of_value, operands, test_of, unary_code}
 use Rattle.rx_code.specs.Pieces.{a_frame, a_point, append_code, after, does, is_room, opens, point}
 use Rattle.rx_code.specs.Programs.{entry_of}
-use Rattle.rx_code.specs.Rules.{deed_within}
+use Rattle.rx_code.specs.Rules.{instruction_within}
 use Rattle.rx_code.specs.declared.action.Action.{Action}
 use Rattle.rx_code.specs.declared.action.Action.TheVariants.{Set, Test, Divide, Call, Resume}
-use Rattle.rx_code.specs.declared.action.Deed.{Deed}
+use Rattle.rx_code.specs.declared.action.Instruction.{Instruction}
 use Rattle.rx_code.specs.declared.action.Division.{Division}
 use Rattle.rx_code.specs.declared.action.Division.TheVariants.{Quotient, Remainder}
 use Rattle.rx_code.specs.declared.code.Code.{Code}
@@ -140,12 +140,13 @@ module _ (c : Code) where
   pub record StandsIn (next : ℕ) (p : Code) : Type 0 where
     pub opened : (i : ℕ) (o : Opening) → slice_get p.opened i ≡ Some o →
         slice_get c.opened (next + i) ≡ Some o
-    pub deeds : (d : Deed) → Contains p.deeds d → Contains c.deeds d
+    pub instructions : (d : Instruction) → Contains p.instructions d → Contains c.instructions d
 
   pub stands_left : (next : ℕ) (p q : Code) → StandsIn next (append_code p q) → StandsIn next p
   stands_left next p q stands = record {
     opened = λ i o is. stands.opened i o (left_place p.opened q.opened i o is);
-    deeds = λ d there. stands.deeds d (Contains-append_left p.deeds q.deeds d there);
+    instructions = λ d there. stands.instructions d (Contains-append_left p.instructions
+        q.instructions d there);
   }
 
   pub stands_right : (next : ℕ) (p q : Code) → StandsIn next (append_code p q) →
@@ -155,22 +156,24 @@ module _ (c : Code) where
         let e : next + (length p.opened + i) ≡ (next + length p.opened) + i = omega arith in
         sym (ap (slice_get c.opened) e) ∙ stands.opened (length p.opened + i) o
         (right_place p.opened q.opened i ∙ is);
-    deeds = λ d there. stands.deeds d (Contains-append_right p.deeds q.deeds d there);
+    instructions = λ d there. stands.instructions d (Contains-append_right p.instructions
+        q.instructions d there);
   }
 
-  -- a deed opens nothing
-  pub after_deed : (next : ℕ) (a : Point) (x : Action) (p : Code) →
+  -- an instruction opens nothing
+  pub after_instruction : (next : ℕ) (a : Point) (x : Action) (p : Code) →
       StandsIn next (append_code (does a x) p) → StandsIn next p
-  after_deed next a x p stands =
-      record { opened = stands.opened; deeds = (stands_right next (does a x) p stands).deeds }
+  after_instruction next a x p stands =
+      record { opened = stands.opened; instructions = (stands_right next (does a x) p
+          stands).instructions }
 
-  -- all deeds of the piece fit
+  -- all instructions of the piece fit
   abbrev pub Fits : Code → Type 0
-  Fits p = (d : Deed) → Contains p.deeds d → FitsCode c d
+  Fits p = (d : Instruction) → Contains p.instructions d → FitsCode c d
 
   pub fits_append : (p q : Code) → Fits p → Fits q → Fits (append_code p q)
   fits_append p q first second d there =
-      elim (Contains-append_cases p.deeds q.deeds d there)
+      elim (Contains-append_cases p.instructions q.instructions d there)
       [ inl h ↦ first d h | inr h ↦ second d h ]
 
   pub room_narrow : (next width : ℕ) → is_room next width ≡ true → width ≤ 128
@@ -200,18 +203,19 @@ module _ (c : Code) where
   target n z there fits = record { opened = there.opened; enough = fits }
 
   -- what is written down keeps the limits
-  module _ (kept : (d : Deed) → Contains c.deeds d → deed_within d ≡ true) where
-    pub deed_fits : (next : ℕ) (a : Point) (x : Action) → PointIn a → is_resume x ≡ false →
+  module _ (kept : (d : Instruction) → Contains c.instructions d → instruction_within d ≡ true)
+      where
+    pub instruction_fits : (next : ℕ) (a : Point) (x : Action) → PointIn a → is_resume x ≡ false →
         StandsIn next (does a x) → Suits c a.width x → Fits (does a x)
-    deed_fits next a x there is stands suits d at =
-        let deed : Deed = record { at = a; action = x } in
-        let fits : FitsCode c deed = record {
+    instruction_fits next a x there is stands suits d at =
+        let instruction : Instruction = record { at = a; action = x } in
+        let fits : FitsCode c instruction = record {
           opened = subst (IsOpened c a.symbol a.width) (sym is) there.opened;
           narrow = there.narrow;
           suits = suits;
-          within = kept deed (stands.deeds deed (first_one deed []));
+          within = kept instruction (stands.instructions instruction (first_one instruction []));
         } in
-        elim (first_or_other deed [] d at) [
+        elim (first_or_other instruction [] d at) [
           | inl same ↦ subst (FitsCode c) same fits
           | inr none ↦ absurd (no_element d none)
         ]
@@ -220,14 +224,14 @@ module _ (c : Code) where
     pub frame_fits : (next : ℕ) (r b : Point) → IsOpened c r.symbol r.width true → r.width ≤ 128 →
         StandsIn next (does r (Resume b)) → IsTarget c (suc r.width) b → Fits (does r (Resume b))
     frame_fits next r b opened narrow stands suits d at =
-        let deed : Deed = record { at = r; action = Resume b } in
-        let fits : FitsCode c deed = record {
+        let instruction : Instruction = record { at = r; action = Resume b } in
+        let fits : FitsCode c instruction = record {
           opened = opened;
           narrow = narrow;
           suits = suits;
-          within = kept deed (stands.deeds deed (first_one deed []));
+          within = kept instruction (stands.instructions instruction (first_one instruction []));
         } in
-        elim (first_or_other deed [] d at) [
+        elim (first_or_other instruction [] d at) [
           | inl same ↦ subst (FitsCode c) same fits
           | inr none ↦ absurd (no_element d none)
         ]
@@ -267,7 +271,7 @@ module _ (c : Code) where
             in
             let more = f.wider in
             fits_append v.code (does v.at test) f.fits
-            (deed_fits (after next v.code) v.at test f.there refl
+            (instruction_fits (after next v.code) v.at test f.there refl
             (stands_right next v.code (does v.at test) stands) (
               target v.at.width y at_y (omega (arith, fits_y, more)),
               (
@@ -318,10 +322,10 @@ module _ (c : Code) where
                   fits_append p ends (is a y w (next + 3) enough at_a at_y at_w (omega arith)
                   (omega arith) three.1 (stands_left (next + 3) p ends inner))
                   (fits_append (does y yes) (does w no)
-                  (deed_fits (after (next + 3) p) y yes at_y refl
+                  (instruction_fits (after (next + 3) p) y yes at_y refl
                   (stands_left (after (next + 3) p) (does y yes) (does w no) stands_ends)
                   (set (pos 1)))
-                  (deed_fits (after (after (next + 3) p) (does y yes)) w no at_w refl
+                  (instruction_fits (after (after (next + 3) p) (does y yes)) w no at_w refl
                   (stands_right (after (next + 3) p) (does y yes) (does w no) stands_ends)
                   (set (pos 0))));
               there = at_b;
@@ -381,18 +385,18 @@ module _ (c : Code) where
           let m = after next t.code in
           let b = point m (t.at.width + 1) in
           let os = a_point (t.at.width + 1) ∷ [] in
-          let deed = does t.at (Divide d t.left t.right b) in
+          let instruction = does t.at (Divide d t.left t.right b) in
           let both = and_parts t.within (is_room m (t.at.width + 1)) within in
           let f = operands_fit l r left right a next enough at_a both.0
-          (stands_left next t.code (append_code (opens os) deed) stands) in
-          let rest = stands_right next t.code (append_code (opens os) deed) stands in
-          let at_b = first_point m (t.at.width + 1) [] deed rest both.1 in
+          (stands_left next t.code (append_code (opens os) instruction) stands) in
+          let rest = stands_right next t.code (append_code (opens os) instruction) stands in
+          let at_b = first_point m (t.at.width + 1) [] instruction rest both.1 in
           let more = f.wider in
           record {
             fits =
-                fits_append t.code deed f.fits
-                (deed_fits (after m (opens os)) t.at (Divide d t.left t.right b) f.there refl
-                (stands_right m (opens os) deed rest)
+                fits_append t.code instruction f.fits
+                (instruction_fits (after m (opens os)) t.at (Divide d t.left t.right b) f.there refl
+                (stands_right m (opens os) instruction rest)
                 (target (suc t.at.width) b at_b (omega arith), (f.left_below, f.right_below)));
             there = at_b;
             wider = omega (arith, more);
@@ -405,12 +409,14 @@ module _ (c : Code) where
           by_condition _ (λ a y w next enough at_a at_y at_w fits_y fits_w within stands.
           let t = operands l r a next in
           let tested = test_of op t.left t.right in
-          let deed = does t.at (Test tested.form y w) in
+          let instruction = does t.at (Test tested.form y w) in
           let f = operands_fit l r left right a next enough at_a
-          (and_parts t.within tested.within within).0 (stands_left next t.code deed stands) in
+          (and_parts t.within tested.within within).0 (stands_left next t.code instruction stands)
+          in
           let more = f.wider in
-          fits_append t.code deed f.fits (deed_fits (after next t.code) t.at (Test tested.form y w)
-          f.there refl (stands_right next t.code deed stands) (
+          fits_append t.code instruction f.fits (instruction_fits (after next t.code) t.at
+          (Test tested.form y w)
+          f.there refl (stands_right next t.code instruction stands) (
             target t.at.width y at_y (omega (arith, fits_y, more)),
             (
               target t.at.width w at_w (omega (arith, fits_w, more)),
@@ -484,7 +490,7 @@ module _ (c : Code) where
           let in_rest = stands_right next (opens os) rest stands in
           let in_values = stands_right from_t t.form values in_rest in
           let in_middle = stands_right from_p p.code middle in_values in
-          let in_last = after_deed from_q p.at set_p last in_middle in
+          let in_last = after_instruction from_q p.at set_p last in_middle in
           let first = left.value y from_p enough at_y five.0
           (stands_left from_p p.code middle in_values) in
           let second = right.value w from_q enough at_w five.1
@@ -497,7 +503,7 @@ module _ (c : Code) where
                 (omega arith) (omega arith) four.0 (stands_left from_t t.form values in_rest))
                 (fits_append p.code middle first.fits
                 (fits_append (does p.at set_p) last
-                (deed_fits from_q p.at set_p first.there refl
+                (instruction_fits from_q p.at set_p first.there refl
                 (stands_left from_q (does p.at set_p) last in_middle) (
                   omega (arith, wide_p),
                   (
@@ -506,7 +512,7 @@ module _ (c : Code) where
                   ),
                 ))
                 (fits_append q.code (does q.at set_q) second.fits
-                (deed_fits (after from_q q.code) q.at set_q second.there refl
+                (instruction_fits (after from_q q.code) q.at set_q second.there refl
                 (stands_right from_q q.code (does q.at set_q) in_last) (
                   omega (arith, wide_q),
                   (
@@ -601,14 +607,14 @@ module _ (c : Code) where
           let b = point (m + 1) (w + 1) in
           let os = a_frame w ∷ a_point (w + 1) ∷ [] in
           let enter = Call f xs.values r in
-          let deeds = append_code (does xs.at enter) (does r (Resume b)) in
+          let instructions = append_code (does xs.at enter) (does r (Resume b)) in
           let one = and_parts xs.within (is_room m w && is_room (m + 1) (w + 1)) within in
           let two = and_parts (is_room m w) (is_room (m + 1) (w + 1)) one.1 in
           let g = each a next enough at_a one.0
-          (stands_left next xs.code (append_code (opens os) deeds) stands) in
-          let rest = stands_right next xs.code (append_code (opens os) deeds) stands in
-          let in_deeds = stands_right m (opens os) deeds rest in
-          let at_b = later_point m 1 (w + 1) os deeds rest refl two.1 in
+          (stands_left next xs.code (append_code (opens os) instructions) stands) in
+          let rest = stands_right next xs.code (append_code (opens os) instructions) stands in
+          let in_instructions = stands_right m (opens os) instructions rest in
+          let at_b = later_point m 1 (w + 1) os instructions rest refl two.1 in
           let e : m + 0 ≡ m = omega arith in
           let frame : IsOpened c m w true = sym (ap (slice_get c.opened) e) ∙
           rest.opened 0 (a_frame w) refl in
@@ -619,13 +625,15 @@ module _ (c : Code) where
           let wide = g.wider in
           record {
             fits =
-                fits_append xs.code deeds g.fits (fits_append (does xs.at enter) (does r (Resume b))
-                (deed_fits (after m (opens os)) xs.at enter g.there refl
+                fits_append xs.code instructions g.fits (fits_append (does xs.at enter)
+                (does r (Resume b))
+                (instruction_fits (after m (opens os)) xs.at enter g.there refl
                 (stands_left (after m (opens os)) (does xs.at enter) (does r (Resume b))
-                in_deeds)
+                in_instructions)
                 (frame, (omega arith, (entry, g.below))))
                 (frame_fits (after m (opens os)) r b frame narrow
-                (after_deed (after m (opens os)) xs.at enter (does r (Resume b)) in_deeds)
+                (after_instruction (after m (opens os)) xs.at enter (does r (Resume b))
+                in_instructions)
                 (target (suc w) b at_b (omega arith))));
             there = at_b;
             wider = omega (arith, wide);

@@ -3,7 +3,7 @@
 pub mod CodeLawsTranslations
 pub mod Computing
 pub mod Counting
-pub mod Deeds
+pub mod Instructions
 pub mod Elements
 pub mod Example
 pub mod ExprCodes

@@ -30,10 +30,10 @@ use Rattle.rx_term.proofs.ShapeLaws.{declared_so}
 use Rattle.rx_term.proofs.VariableTests.{length-variables_from}
 use Rattle.rx_code.specs.Points.{with_element}
 use Rattle.rx_code.specs.Programs.{entry_of}
-use Rattle.rx_code.specs.Rules.{call_of, divided, info_at, jump, parts_of, rules_at, rules_of_action, rules_of_deed, symbol, variables_of}
+use Rattle.rx_code.specs.Rules.{call_of, divided, info_at, jump, parts_of, rules_at, rules_of_action, rules_of_instruction, symbol, variables_of}
 use Rattle.rx_code.specs.declared.action.Action.{Action}
 use Rattle.rx_code.specs.declared.action.Action.TheVariants.{Go, Set, Test, Divide, Call, Resume, Return}
-use Rattle.rx_code.specs.declared.action.Deed.{Deed}
+use Rattle.rx_code.specs.declared.action.Instruction.{Instruction}
 use Rattle.rx_code.specs.declared.action.Division.{Division}
 use Rattle.rx_code.specs.declared.action.Division.TheVariants.{Quotient, Remainder}
 use Rattle.rx_code.specs.declared.code.Code.{Code}
@@ -226,8 +226,9 @@ module _ (c : Code) where
       (ap (is_declared set.symbols (symbol a.symbol) true) (length-variables a) ∙
       declared a.symbol a.width true opened) fits
 
-  deed_made : (d : Deed) → FitsCode c d → All (IsMade set) (rules_of_deed (entry_of c.entries) d)
-  deed_made d fits = go d.at d.action fits.opened fits.narrow fits.suits
+  instruction_made : (d : Instruction) → FitsCode c d → All (IsMade set)
+      (rules_of_instruction (entry_of c.entries) d)
+  instruction_made d fits = go d.at d.action fits.opened fits.narrow fits.suits
     where
       go : (a : Point) (x : Action) → IsOpened c a.symbol a.width (is_resume x) → a.width ≤ 128 →
           Suits c a.width x
@@ -323,9 +324,10 @@ module _ (c : Code) where
   whole_made whole = all_from (IsMade set) set.rules (λ r there.
       let of_symbol = from_flat_map (λ (o : ℕ × Opening). rules_at c o.0)
       (enumerate_from 0 c.opened) r there in
-      let of_deed = from_flat_map (rules_of_deed (entry_of c.entries))
-      (filter (is_at of_symbol.from.0) c.deeds) r of_symbol.inside in
-      let among : Contains c.deeds of_deed.from =
-      was_there (is_at of_symbol.from.0) c.deeds of_deed.from of_deed.among in
-      All-contains (IsMade set) (rules_of_deed (entry_of c.entries) of_deed.from) r
-      (deed_made of_deed.from (whole.fits of_deed.from among)) of_deed.inside)
+      let of_instruction = from_flat_map (rules_of_instruction (entry_of c.entries))
+      (filter (is_at of_symbol.from.0) c.instructions) r of_symbol.inside in
+      let among : Contains c.instructions of_instruction.from =
+      was_there (is_at of_symbol.from.0) c.instructions of_instruction.from of_instruction.among in
+      All-contains (IsMade set) (rules_of_instruction (entry_of c.entries) of_instruction.from) r
+      (instruction_made of_instruction.from (whole.fits of_instruction.from among))
+      of_instruction.inside)

@@ -20,10 +20,10 @@ use Rattle.rx_term.proofs.Equations.{shape-Call, shape-Fail, shape-Frame, shape-
 use Rattle.rx_plain.proofs.Kept.{first_one, was_there}
 use Rattle.rx_term.proofs.ShapeLaws.{alike, declared_so}
 use Rattle.rx_code.specs.Programs.{entry_of}
-use Rattle.rx_code.specs.Rules.{action_within, always, call_of, info_at, jump, parts_of, rules_at, rules_of_action, rules_of_deed, symbol, variables_of}
+use Rattle.rx_code.specs.Rules.{action_within, always, call_of, info_at, jump, parts_of, rules_at, rules_of_action, rules_of_instruction, symbol, variables_of}
 use Rattle.rx_code.specs.declared.action.Action.{Action}
 use Rattle.rx_code.specs.declared.action.Action.TheVariants.{Go, Set, Test, Divide, Call, Resume, Return}
-use Rattle.rx_code.specs.declared.action.Deed.{Deed}
+use Rattle.rx_code.specs.declared.action.Instruction.{Instruction}
 use Rattle.rx_code.specs.declared.code.Code.{Code}
 use Rattle.rx_code.specs.declared.point.Opening.{Opening}
 use Rattle.rx_code.specs.declared.point.Point.{Point}
@@ -155,8 +155,8 @@ module _ (entry : ℕ → ℕ) where
       ap (λ b. b && same_shape inner s) (ne_eqb j f.0 other)
 
   -- the rules at another symbol have other shapes
-  pub rules_elsewhere : (shape : Shape) (d : Deed) → d.at.symbol ≢ root shape →
-      rules_of_shape shape (rules_of_deed entry d) ≡ []
+  pub rules_elsewhere : (shape : Shape) (d : Instruction) → d.at.symbol ≢ root shape →
+      rules_of_shape shape (rules_of_instruction entry d) ≡ []
   rules_elsewhere shape d other = go d.at d.action other
     where
       at_point : (a : Point) (x : Action) → is_resume x ≡ false → a.symbol ≢ root shape →
@@ -189,9 +189,9 @@ module _ (entry : ℕ → ℕ) where
   pair_at a (Return p) h within = One _ refl
 
   -- the rules of a point's shape
-  pub point_pair : (f : Sym) (d : Deed) → d.at.symbol ≡ f.0 → is_resume d.action ≡ false →
+  pub point_pair : (f : Sym) (d : Instruction) → d.at.symbol ≡ f.0 → is_resume d.action ≡ false →
       action_within d.action ≡ true → IsPair (rules_of_shape (shapes.Call f)
-      (rules_of_deed entry d))
+      (rules_of_instruction entry d))
   point_pair f d at h within =
       subst IsPair (sym (point_rules (shapes.Call f) d.at d.action h ∙
       ap (λ b. cond b (rules_of_action entry d.at d.action) []) (eq-eqb d.at.symbol f.0 at)))
@@ -207,8 +207,8 @@ module _ (entry : ℕ → ℕ) where
   frame_of (Resume z) h = (z, refl)
   frame_of (Return p) h = absurd (true≢false (sym h))
 
-  pub value_pair : (f : Sym) (d : Deed) → d.at.symbol ≡ f.0 → is_resume d.action ≡ true →
-      IsPair (rules_of_shape (shapes.Frame f shapes.Return) (rules_of_deed entry d))
+  pub value_pair : (f : Sym) (d : Instruction) → d.at.symbol ≡ f.0 → is_resume d.action ≡ true →
+      IsPair (rules_of_shape (shapes.Frame f shapes.Return) (rules_of_instruction entry d))
   value_pair f d at h =
       let (z, is) = frame_of d.action h in
       let same : nat_eq d.at.symbol f.0 ≡ true = eq-eqb d.at.symbol f.0 at in
@@ -218,8 +218,9 @@ module _ (entry : ℕ → ℕ) where
       (ap (λ b. b && true) same)
       (ap (λ b. b && false) same))) (One (over_value d.at z) refl))
 
-  pub failure_pair : (f : Sym) (c : ℕ) (d : Deed) → c ≡ 1 → d.at.symbol ≡ f.0 → is_resume d.action ≡
-      true → IsPair (rules_of_shape (shapes.Frame f (shapes.Fail c)) (rules_of_deed entry d))
+  pub failure_pair : (f : Sym) (c : ℕ) (d : Instruction) → c ≡ 1 → d.at.symbol ≡ f.0 → is_resume
+      d.action ≡
+      true → IsPair (rules_of_shape (shapes.Frame f (shapes.Fail c)) (rules_of_instruction entry d))
   failure_pair f c d one at h =
       let (z, is) = frame_of d.action h in
       let same : nat_eq d.at.symbol f.0 ≡ true = eq-eqb d.at.symbol f.0 at in
@@ -245,14 +246,14 @@ passes_there p xs x is =
     (subst (λ ys. Contains ys x) (sym is) (first_one x []))
 
 module _ (c : Code) (whole : IsWhole c) where
-  -- the one deed at a declared symbol
+  -- the one instruction at a declared symbol
   record Found (f : Sym) (frame : Bool) : Type 0 where
     below : f.0 < length c.opened
-    deed : Deed
-    alone : filter (is_at f.0) c.deeds ≡ deed ∷ []
-    at : deed.at.symbol ≡ f.0
-    kind : is_resume deed.action ≡ frame
-    within : action_within deed.action ≡ true
+    instruction : Instruction
+    alone : filter (is_at f.0) c.instructions ≡ instruction ∷ []
+    at : instruction.at.symbol ≡ f.0
+    kind : is_resume instruction.action ≡ frame
+    within : action_within instruction.action ≡ true
 
   found : (f : Sym) (frame : Bool) (n : ℕ) → is_declared (parts_of c).symbols f frame n ≡ true →
       Found f frame
@@ -269,17 +270,19 @@ module _ (c : Code) (whole : IsWhole c) where
       go (Some o) is h =
           let below = slice_get_within c.opened f.0 o is in
           let one = whole.one f.0 below in
-          let at : one.deed.at.symbol ≡ f.0 =
-          eqb-true one.deed.at.symbol f.0 (passes_there (is_at f.0) c.deeds one.deed one.alone)
+          let at : one.instruction.at.symbol ≡ f.0 =
+          eqb-true one.instruction.at.symbol f.0 (passes_there (is_at f.0) c.instructions
+          one.instruction one.alone)
           in
-          let there : Contains c.deeds one.deed =
-          was_there (is_at f.0) c.deeds one.deed
-          (subst (λ ds. Contains ds one.deed) (sym one.alone) (first_one one.deed [])) in
-          let fits = whole.fits one.deed there in
+          let there : Contains c.instructions one.instruction =
+          was_there (is_at f.0) c.instructions one.instruction
+          (subst (λ ds. Contains ds one.instruction) (sym one.alone) (first_one one.instruction []))
+          in
+          let fits = whole.fits one.instruction there in
           let opened : Some (record {
-            width = one.deed.at.width;
+            width = one.instruction.at.width;
             frame =
-                is_resume one.deed.action;
+                is_resume one.instruction.action;
           }) ≡ Some o = sym fits.opened ∙ ap (slice_get c.opened) at ∙
           is in
           let declared : declared_so (Some (info_at c (f.0, o))) frame n ≡ true =
@@ -287,7 +290,7 @@ module _ (c : Code) (whole : IsWhole c) where
           n) is) ∙ h in
           record {
             below = below;
-            deed = one.deed;
+            instruction = one.instruction;
             alone = one.alone;
             at = at;
             kind = ap frame_in opened ∙ alike o.frame frame (and_parts _ _ declared).0;
@@ -298,17 +301,18 @@ module _ (c : Code) (whole : IsWhole c) where
           frame_in None = false
           frame_in (Some o) = o.frame
 
-  rules_at_one : (k : ℕ) (d : Deed) → filter (is_at k) c.deeds ≡ d ∷ [] → rules_at c k ≡
-      rules_of_deed (entry_of c.entries) d
+  rules_at_one : (k : ℕ) (d : Instruction) → filter (is_at k) c.instructions ≡ d ∷ [] → rules_at c k
+      ≡
+      rules_of_instruction (entry_of c.entries) d
   rules_at_one k d alone =
-      ap (flat_map (rules_of_deed (entry_of c.entries))) alone ∙
-      append-nil (rules_of_deed (entry_of c.entries) d)
+      ap (flat_map (rules_of_instruction (entry_of c.entries))) alone ∙
+      append-nil (rules_of_instruction (entry_of c.entries) d)
 
-  -- the rules of a shape are those of the deed at its symbol
-  picked : (shape : Shape) (d : Deed) → root (entry_of c.entries) shape < length c.opened →
-      filter (is_at (root (entry_of c.entries) shape)) c.deeds ≡ d ∷ []
+  -- the rules of a shape are those of the instruction at its symbol
+  picked : (shape : Shape) (d : Instruction) → root (entry_of c.entries) shape < length c.opened →
+      filter (is_at (root (entry_of c.entries) shape)) c.instructions ≡ d ∷ []
       → rules_of_shape shape (parts_of c).rules ≡
-      rules_of_shape shape (rules_of_deed (entry_of c.entries) d)
+      rules_of_shape shape (rules_of_instruction (entry_of c.entries) d)
   picked shape d below alone =
       let k = root (entry_of c.entries) shape in
       let test : Rule → Bool = λ (r : Rule). same_shape (shape_of r.left) shape in
@@ -321,23 +325,25 @@ module _ (c : Code) (whole : IsWhole c) where
           rules_of_shape shape (rules_at c j) ≡ []
       others j below other =
           let one = whole.one j (omega (arith, below)) in
-          let at : one.deed.at.symbol ≡ j = eqb-true one.deed.at.symbol j
-          (passes_there (is_at j) c.deeds one.deed one.alone) in
-          ap (rules_of_shape shape) (rules_at_one j one.deed one.alone)
-          ∙ rules_elsewhere (entry_of c.entries) shape one.deed (λ e. other (omega (arith, e, at)))
+          let at : one.instruction.at.symbol ≡ j = eqb-true one.instruction.at.symbol j
+          (passes_there (is_at j) c.instructions one.instruction one.alone) in
+          ap (rules_of_shape shape) (rules_at_one j one.instruction one.alone)
+          ∙ rules_elsewhere (entry_of c.entries) shape one.instruction
+          (λ e. other (omega (arith, e, at)))
 
   pub whole_paired : IsPaired (parts_of c)
   whole_paired _ (PointShape f n h) =
       let there = found f false n h in
-      subst IsPair (sym (picked (shapes.Call f) there.deed there.below there.alone))
-      (point_pair (entry_of c.entries) f there.deed there.at there.kind there.within)
+      subst IsPair (sym (picked (shapes.Call f) there.instruction there.below there.alone))
+      (point_pair (entry_of c.entries) f there.instruction there.at there.kind there.within)
   whole_paired _ (ReturnShape f n h) =
       let there = found f true n h in
-      subst IsPair (sym (picked (shapes.Frame f shapes.Return) there.deed there.below there.alone))
-      (value_pair (entry_of c.entries) f there.deed there.at there.kind)
+      subst IsPair (sym (picked (shapes.Frame f shapes.Return) there.instruction there.below
+      there.alone))
+      (value_pair (entry_of c.entries) f there.instruction there.at there.kind)
   whole_paired _ (FailShape f n code h k) =
       let there = found f true n h in
-      subst IsPair (sym (picked (shapes.Frame f (shapes.Fail code)) there.deed there.below
+      subst IsPair (sym (picked (shapes.Frame f (shapes.Fail code)) there.instruction there.below
       there.alone))
-      (failure_pair (entry_of c.entries) f code there.deed (one_code code k) there.at
+      (failure_pair (entry_of c.entries) f code there.instruction (one_code code k) there.at
       there.kind)

@@ -19,17 +19,17 @@ use Rattle.rx_code.specs.Codes.{HasCode}
 use Rattle.rx_code.specs.Pieces.{a_point, append_code, after, does, is_room, marks_entry, no_code, opens, point}
 use Rattle.rx_code.specs.Programs.{entry_of, function_code, place_code, places_code, program_code}
 use Rattle.rx_code.specs.Reached.{AreReached, ByCall, IsRising, calls_of, next_number}
-use Rattle.rx_code.specs.Rules.{deed_within}
+use Rattle.rx_code.specs.Rules.{instruction_within}
 use Rattle.rx_code.specs.Statements.{Places, list_code, stmt_code}
 use Rattle.rx_code.specs.declared.action.Action.TheVariants.{Return}
-use Rattle.rx_code.specs.declared.action.Deed.{Deed}
+use Rattle.rx_code.specs.declared.action.Instruction.{Instruction}
 use Rattle.rx_code.specs.declared.code.Code.{Code}
 use Rattle.rx_code.specs.declared.point.Opening.{Opening}
 use Rattle.rx_code.specs.declared.point.Point.{Point}
 use Rattle.rx_code.specs.Carried.{CarriesProgram, TakesCall, acts_in}
-use Rattle.rx_code.proofs.Counting.{among_from, at_symbol, deeds_at, joined, one_if}
+use Rattle.rx_code.proofs.Counting.{among_from, at_symbol, instructions_at, joined, one_if}
 use Rattle.rx_code.proofs.Elements.{all_from, no_element}
-use Rattle.rx_code.proofs.Fitting.{Fits, StandsIn, after_deed, deed_fits, first_point, fits_append, later_point, number_below, stands_left, stands_right}
+use Rattle.rx_code.proofs.Fitting.{Fits, StandsIn, after_instruction, instruction_fits, first_point, fits_append, later_point, number_below, stands_left, stands_right}
 use Rattle.rx_code.proofs.Scoped.{AreStmts, MayCall, scoped_list}
 use Rattle.rx_code.proofs.StmtCodes.{list_coded}
 use Rattle.rx_code.proofs.StmtCounting.{list_is_counted}
@@ -78,7 +78,7 @@ function_entries place f next =
     (list_is_counted 0 f.body (places_in (length f.params) next) (next + 2)).entries
 
 function_counts : (x place : ℕ) (f : Function) (next : ℕ) →
-    deeds_at x (function_code place f next).form.deeds ≡
+    instructions_at x (function_code place f next).form.instructions ≡
     among_from next (length (function_code place f next).form.opened) x
 function_counts x place f next =
     let h = (list_is_counted x f.body (places_in (length f.params) next) (next + 2)).counts in
@@ -95,7 +95,7 @@ module _ (functions : List Function) where
   abbrev at_place : ℕ → ℕ → Formed Code
   at_place f next = place_code f (slice_get functions f) next
 
-  total : (x : ℕ) (fs : List ℕ) (next : ℕ) → deeds_at x (code_of fs next).form.deeds ≡
+  total : (x : ℕ) (fs : List ℕ) (next : ℕ) → instructions_at x (code_of fs next).form.instructions ≡
       among_from next (length (code_of fs next).form.opened) x
   total x [] next = refl
   total x (f ∷ fs) next =
@@ -104,9 +104,9 @@ module _ (functions : List Function) where
       let j = joined x next c d in
       let h = one (slice_get functions f) in
       let g = total x fs (after next c) in
-      let k = j.deeds in let l = j.symbols in omega (arith, h, g, k, l)
+      let k = j.instructions in let l = j.symbols in omega (arith, h, g, k, l)
     where
-      one : (o : Option Function) → deeds_at x (place_code f o next).form.deeds ≡
+      one : (o : Option Function) → instructions_at x (place_code f o next).form.instructions ≡
           among_from next (length (place_code f o next).form.opened) x
       one None = refl
       one (Some g) = function_counts x f g next
@@ -249,7 +249,7 @@ module _ (functions : List Function) where
         let rest = append_code (end_of s) (body_of g s).form in
         let marked = stands_right c s (opens (opening_of g s)) (append_code (marks_entry h s) rest)
         stands in
-        record { opened = marked.opened; deeds = marked.deeds }
+        record { opened = marked.opened; instructions = marked.instructions }
 
     entry_opened : (h s : ℕ) (g : Function) → StandsIn c s (function_code h g s).form →
         IsOpened c s (length g.params) false
@@ -265,22 +265,24 @@ module _ (functions : List Function) where
       function_carried h s k g scoped stands =
           let rest = after_entry h s g stands in
           let end : Point = point (s + 1) 0 in
-          let final : Deed = record { at = end; action = Return (number (pos 0)) } in
+          let final : Instruction = record { at = end; action = Return (number (pos 0)) } in
           let body = (body_of g s).form in
           record {
             slots = k;
             end = end;
             no_variables = refl;
             returns_zero =
-                (stands_left c (s + 2) (end_of s) body rest).deeds final (first_one final []);
+                (stands_left c (s + 2) (end_of s) body rest).instructions final
+                (first_one final []);
             body =
                 list_coded (acts_in c) callable (length g.params) g.body k scoped
                 (places_in (length g.params) s) (s + 2) refl (omega arith)
-                (λ d there. rest.deeds d (Contains-append_right (end_of s).deeds body.deeds d
+                (λ d there. rest.instructions d (Contains-append_right (end_of s).instructions
+                body.instructions d
                 there));
           }
 
-      module _ (kept : (d : Deed) → Contains c.deeds d → deed_within d ≡ true)
+      module _ (kept : (d : Instruction) → Contains c.instructions d → instruction_within d ≡ true)
           (entries : (f k : ℕ) → callable f k → IsOpened c (entry_of c.entries f) k false) where
         function_fits : (h s k : ℕ) (g : Function) → AreStmts callable (length g.params) g.body k →
             StandsIn c s (function_code h g s).form → (function_code h g s).within ≡ true →
@@ -294,10 +296,11 @@ module _ (functions : List Function) where
             let at_entry = first_point c s n (a_point 0 ∷ []) rest stands one.0 in
             let at_end = later_point c s 1 0 (opening_of g s) rest stands refl two.0 in
             let inside = after_entry h s g stands in
-            let in_body = after_deed c (s + 2) (point (s + 1) 0) (Return (number (pos 0))) body.form
+            let in_body = after_instruction c (s + 2) (point (s + 1) 0) (Return (number (pos 0)))
+            body.form
             inside in
             fits_append c (end_of s) body.form
-            (deed_fits c kept (s + 2) (point (s + 1) 0) (Return (number (pos 0))) at_end refl
+            (instruction_fits c kept (s + 2) (point (s + 1) 0) (Return (number (pos 0))) at_end refl
             (stands_left c (s + 2) (end_of s) body.form inside) (number_below 0 (pos 0)))
             (list_fits c kept callable entries n g.body k scoped (places_in n s) (s + 2)
             (record {
@@ -343,11 +346,12 @@ module _ (functions : List Function) where
 
 -- ---- the code of a program
 
-kept_all : (ds : List Deed) → list_all deed_within ds ≡ true → All (λ d. deed_within d ≡ true) ds
-kept_all [] all = All-nil (λ d. deed_within d ≡ true)
+kept_all : (ds : List Instruction) → list_all instruction_within ds ≡ true → All
+    (λ d. instruction_within d ≡ true) ds
+kept_all [] all = All-nil (λ d. instruction_within d ≡ true)
 kept_all (d ∷ ds) all =
-    let both = and_parts (deed_within d) (list_all deed_within ds) all in
-    All-cons (λ d. deed_within d ≡ true) d ds both.0 (kept_all ds both.1)
+    let both = and_parts (instruction_within d) (list_all instruction_within ds) all in
+    All-cons (λ d. instruction_within d ≡ true) d ds both.0 (kept_all ds both.1)
 
 -- a symbol is once among n from a number on, or not at all
 at_itself : (x y : ℕ) → y ≡ x → at_symbol x y ≡ 1
@@ -373,8 +377,8 @@ once_among next (suc k) x above below =
           omega (arith, here, rest))
     ]
 
--- where one deed is at a symbol, it is all that a test for the symbol keeps
-nothing_at : (k : ℕ) (ds : List Deed) → deeds_at k ds ≡ 0 → filter (is_at k) ds ≡ []
+-- where one instruction is at a symbol, it is all that a test for the symbol keeps
+nothing_at : (k : ℕ) (ds : List Instruction) → instructions_at k ds ≡ 0 → filter (is_at k) ds ≡ []
 nothing_at k [] none = refl
 nothing_at k (d ∷ ds) none = go (nat_eq d.at.symbol k) refl (nothing_at k ds (omega (arith, none)))
   where
@@ -383,14 +387,15 @@ nothing_at k (d ∷ ds) none = go (nat_eq d.at.symbol k) refl (nothing_at k ds (
     go true is rest = let here = ap one_if is in absurd (omega (arith, here, none))
     go false is rest = ap (λ b. cond b (d ∷ filter (is_at k) ds) (filter (is_at k) ds)) is ∙ rest
 
-one_at : (k : ℕ) (ds : List Deed) → deeds_at k ds ≡ 1 → (d : Deed) × (filter (is_at k) ds ≡ d ∷ [])
+one_at : (k : ℕ) (ds : List Instruction) → instructions_at k ds ≡ 1 → (d : Instruction) ×
+    (filter (is_at k) ds ≡ d ∷ [])
 one_at k [] one = absurd (omega (arith, one))
 one_at k (d ∷ ds) one = go (nat_eq d.at.symbol k) refl (one_at k ds) (nothing_at k ds)
   where
     go : (b : Bool) → nat_eq d.at.symbol k ≡ b →
-        (deeds_at k ds ≡ 1 → (d : Deed) × (filter (is_at k) ds ≡ d ∷ [])) →
-        (deeds_at k ds ≡ 0 → filter (is_at k) ds ≡ [])
-        → (e : Deed) × (filter (is_at k) (d ∷ ds) ≡ e ∷ [])
+        (instructions_at k ds ≡ 1 → (d : Instruction) × (filter (is_at k) ds ≡ d ∷ [])) →
+        (instructions_at k ds ≡ 0 → filter (is_at k) ds ≡ [])
+        → (e : Instruction) × (filter (is_at k) (d ∷ ds) ≡ e ∷ [])
     go true is rest none =
         let here = ap one_if is in (
           d,
@@ -404,7 +409,7 @@ one_at k (d ∷ ds) one = go (nat_eq d.at.symbol k) refl (one_at k ds) (nothing_
 
 module _ (program : Resolved) (scoped : is_scoped program ≡ true) (f g : ℕ) (fs : List ℕ)
     (reached : AreReached program f g fs) (within : (program_code program fs).within ≡ true)
-    (kept : list_all deed_within (program_code program fs).form.deeds ≡ true) where
+    (kept : list_all instruction_within (program_code program fs).form.instructions ≡ true) where
   abbrev whole : Code
   whole = (program_code program fs).form
 
@@ -418,7 +423,7 @@ module _ (program : Resolved) (scoped : is_scoped program ≡ true) (f g : ℕ) 
   stands_whole =
       record {
         opened = λ i o is. ap (slice_get whole.opened) (omega arith) ∙ is;
-        deeds = λ d there.
+        instructions = λ d there.
             there;
       }
 
@@ -485,10 +490,11 @@ module _ (program : Resolved) (scoped : is_scoped program ≡ true) (f g : ℕ) 
     one = λ k below.
         let counted = total program.functions k fs 0 in
         let once = once_among 0 (length whole.opened) k (omega arith) (omega (arith, below)) in
-        let found = one_at k whole.deeds (counted ∙ once) in
-        record { deed = found.0; alone = found.1 };
+        let found = one_at k whole.instructions (counted ∙ once) in
+        record { instruction = found.0; alone = found.1 };
     fits =
         places_fit program.functions whole may
-        (λ d there. All-contains (λ d. deed_within d ≡ true) whole.deeds d
-        (kept_all whole.deeds kept) there) entries_opened fs 0 body_scoped stands_whole within;
+        (λ d there. All-contains (λ d. instruction_within d ≡ true) whole.instructions d
+        (kept_all whole.instructions kept) there) entries_opened fs 0 body_scoped stands_whole
+        within;
   }

@@ -16,7 +16,7 @@ use Rattle.rx_code.specs.declared.action.Action.TheVariants.{Go, Set, Return}
 use Rattle.rx_code.specs.declared.point.Point.{Point}
 use Rattle.rx_code.proofs.ExprEquations.{code-Lit}
 use Rattle.rx_code.proofs.StmtEquations.{code-Empty, code-Declare, code-Assign, code-If, code-While, code-DoWhile, code-For, code-Break, code-Continue, code-Return, code-Block}
-use Rattle.rx_code.proofs.ExprCodes.{CodesExpr, Written, expr_coded, written_deed, written_left, written_right}
+use Rattle.rx_code.proofs.ExprCodes.{CodesExpr, Written, expr_coded, written_instruction, written_left, written_right}
 use Rattle.rx_code.proofs.Scoped as scope
 use Rattle.rx_code.proofs.Scoped.{AreStmts, IsExpr, IsStmt, all_slots_stay, no_more, slots_stay}
 
@@ -36,7 +36,7 @@ module _ (acts : Actions) (callable : ℕ → ℕ → Type 0) where
   value_coded n e x action a next is written =
       let v = x.value a next in (
         is.value a next (written_left acts v.code (does v.at (action v.value)) written),
-        written_deed acts v.at (action v.value)
+        written_instruction acts v.at (action v.value)
             (written_right acts v.code (does v.at (action v.value)) written),
       )
 
@@ -59,7 +59,7 @@ module _ (acts : Actions) (callable : ℕ → ℕ → Type 0) where
       let P : Asked → Type 0 = λ x. Written acts (with_value x (λ p. Set n p at.to) at.at next).form
       in
       code.unset n at.at at.to at.break_to at.continue_to
-      (written_deed acts at.at (Set n (number (pos 0)) at.to)
+      (written_instruction acts at.at (Set n (number (pos 0)) at.to)
       (subst P (code-Lit (pos 0)) written)) fits
 
   assigned_coded : (n v : ℕ) (e : Expr) → v < n → IsExpr callable n e → (at : Places) (next : ℕ) →
@@ -270,7 +270,7 @@ module _ (acts : Actions) (callable : ℕ → ℕ → Type 0) where
       slots = refl;
       code =
           λ at next same fits written. code.empty n at.at at.to at.break_to at.continue_to
-          (written_deed acts at.at (Go at.to) written) fits;
+          (written_instruction acts at.at (Go at.to) written) fits;
     })
     stmt_coded n t k (scope.unset _) = subst (CodesStmt n t k) (sym (code-Declare n None)) (record {
       slots = omega arith;
@@ -344,14 +344,14 @@ module _ (acts : Actions) (callable : ℕ → ℕ → Type 0) where
           code =
               λ at next same fits written. code.break_out n token at.at at.to at.break_to
               at.continue_to
-              (written_deed acts at.at (Go at.break_to) written);
+              (written_instruction acts at.at (Go at.break_to) written);
         })
     stmt_coded n t k (scope.go_on _ token) =
         subst (CodesStmt n t k) (sym (code-Continue token)) (record {
           slots = refl;
           code =
               λ at next same fits written. code.go_on n token at.at at.to at.break_to at.continue_to
-              (written_deed acts at.at (Go at.continue_to) written);
+              (written_instruction acts at.at (Go at.continue_to) written);
         })
     stmt_coded n t k (scope.returned _ e is) =
         subst (CodesStmt n t k) (sym (code-Return e)) (record {
@@ -370,7 +370,7 @@ module _ (acts : Actions) (callable : ℕ → ℕ → Type 0) where
     pub list_coded : (n : ℕ) (ts : List Stmt) (k : ℕ) → AreStmts callable n ts k → CodesList n ts k
     list_coded n [] k (scope.no_stmt _) at next same fits written =
         code.nothing n at.at at.to at.break_to at.continue_to
-        (written_deed acts at.at (Go at.to) written) fits
+        (written_instruction acts at.at (Go at.to) written) fits
     list_coded n (t ∷ []) k (scope.more_stmts _ l _ _ _ first rest) at next same fits written =
         let end = no_more callable l k rest in
         subst (λ j. IsList acts callable n (t ∷ []) j at.at at.to at.break_to at.continue_to) end

@@ -1,4 +1,4 @@
--- Each symbol that is opened for statements has one deed.
+-- Each symbol that is opened for statements has one instruction.
 use Rattle.std.proofs.Common.{◌≡◌, ap, sym, subst, refl, true, ℕ, ◌+◌, Option, Some, None, List, [], ◌∷◌, map, pos, arith}
 use Rattle.rx_poly.specs.declared.body.Body.{Body}
 use Rattle.c_ast.specs.declared.expr.Expr.{Expr}
@@ -49,8 +49,9 @@ module _ (x : ℕ) where
       record {
         counts =
             let c0 = first.counts in let c1 = second.counts in let c2 = third.counts in let d1 =
-            one.deeds in let s1 = one.symbols in let d2 = two.deeds in let s2 = two.symbols in
-            let d3 = three.deeds in let s3 = three.symbols in
+            one.instructions in let s1 = one.symbols in let d2 = two.instructions in let s2 =
+                two.symbols in
+            let d3 = three.instructions in let s3 = three.symbols in
             omega (arith, c0, c1, c2, d1, s1, d2, s2, d3, s3, s);
         entries =
             no_entries c (append_code d f) first.entries
@@ -59,7 +60,8 @@ module _ (x : ℕ) where
 
   -- a head that is marked
   marked : (next : ℕ) (a : Point) (heads : List ℕ) (c : Code) → Closed x next a c →
-      Closed x next a (append_code (record { opened = []; deeds = []; heads = heads; entries = [] })
+      Closed x next a (append_code (record { opened = []; instructions = []; heads = heads; entries
+      = [] })
       c)
   marked next a heads c is = record { counts = is.counts; entries = is.entries }
 

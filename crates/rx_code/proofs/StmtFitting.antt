@@ -1,4 +1,4 @@
--- The deeds of the code of statements fit the whole code in which it is.
+-- The instructions of the code of statements fit the whole code in which it is.
 use Rattle.std.proofs.Common.{◌≡◌, ◌∙◌, ap, sym, subst, refl, true, false, ◌&&◌, inl, ℕ, suc, ◌+◌, ◌≤◌, ◌<◌, Option, Some, None, List, [], ◌∷◌, map, pos, arith}
 use Rattle.std.specs.Prelude.{Contains}
 use Rattle.std.proofs.lemmas.Bool.{and_parts}
@@ -13,15 +13,15 @@ use Rattle.rx_code.specs.Expressions.{Asked, expr_code}
 use Rattle.rx_code.specs.Pieces.{a_point, append_code, after, does, is_room, opens, point}
 use Rattle.rx_code.specs.Points.{Actions}
 use Rattle.rx_code.specs.Programs.{entry_of}
-use Rattle.rx_code.specs.Rules.{deed_within}
+use Rattle.rx_code.specs.Rules.{instruction_within}
 use Rattle.rx_code.specs.Statements.{Compiled, Places, do_code, for_code, if_code, if_else_code, list_code, loop_code, slots_after_all, stmt_code, while_code, with_value}
 use Rattle.rx_code.specs.declared.action.Action.{Action}
 use Rattle.rx_code.specs.declared.action.Action.TheVariants.{Go, Set, Return}
-use Rattle.rx_code.specs.declared.action.Deed.{Deed}
+use Rattle.rx_code.specs.declared.action.Instruction.{Instruction}
 use Rattle.rx_code.specs.declared.code.Code.{Code}
 use Rattle.rx_code.specs.declared.point.Point.{Point}
 use Rattle.rx_code.proofs.StmtEquations.{code-Empty, code-Declare, code-Assign, code-If, code-While, code-DoWhile, code-For, code-Break, code-Continue, code-Return, code-Block}
-use Rattle.rx_code.proofs.Fitting.{Fits, FitsExpr, PointIn, StandsIn, deed_fits, expr_fits, first_point, fits_append, later_point, set_enough, stands_left, stands_right, target}
+use Rattle.rx_code.proofs.Fitting.{Fits, FitsExpr, PointIn, StandsIn, instruction_fits, expr_fits, first_point, fits_append, later_point, set_enough, stands_left, stands_right, target}
 use Rattle.rx_code.proofs.Scoped as scope
 use Rattle.rx_code.proofs.Scoped.{AreStmts, IsExpr, IsStmt, all_slots_stay, no_more, slots_stay}
 use Rattle.rx_code.proofs.StmtCodes.{list_slots, stmt_coded}
@@ -31,7 +31,8 @@ use Rattle.rx_code.proofs.Whole.{IsOpened, Suits, is_resume}
 any_action : Actions
 any_action a x = Unit {0}
 
-module _ (c : Code) (kept : (d : Deed) → Contains c.deeds d → deed_within d ≡ true)
+module _ (c : Code) (kept : (d : Instruction) → Contains c.instructions d → instruction_within d ≡
+    true)
     (callable : ℕ → ℕ → Type 0) (entries : (f k : ℕ) → callable f k →
     IsOpened c (entry_of c.entries f) k false) where
   slots_are : (n : ℕ) (t : Stmt) (k : ℕ) → IsStmt callable n t k → (stmt_code t).slots_after n ≡ k
@@ -75,7 +76,7 @@ module _ (c : Code) (kept : (d : Deed) → Contains c.deeds d → deed_within d 
       let f = is.value a next enough at_a within
       (stands_left c next v.code (does v.at (action v.value)) stands) in
       fits_append c v.code (does v.at (action v.value)) f.fits
-      (deed_fits c kept (after next v.code) v.at (action v.value) f.there (no_frame v.value)
+      (instruction_fits c kept (after next v.code) v.at (action v.value) f.there (no_frame v.value)
       (stands_right c next v.code (does v.at (action v.value)) stands)
       (suits v.at.width v.value f.wider f.below))
 
@@ -124,16 +125,18 @@ module _ (c : Code) (kept : (d : Deed) → Contains c.deeds d → deed_within d 
   goes_fit n z there fits at next places within stands =
       let same = places.same in
       let enough = fits at places in
-      deed_fits c kept next at.at (Go (z at)) places.here refl stands
+      instruction_fits c kept next at.at (Go (z at)) places.here refl stands
       (target c at.at.width (z at) (there at places) (omega (arith, same, enough)))
 
   -- ---- branches and loops
 
   -- a mark at a head opens nothing and does nothing
   without_head : (next : ℕ) (heads : List ℕ) (p : Code) →
-      StandsIn c next (append_code (record { opened = []; deeds = []; heads = heads; entries = [] })
+      StandsIn c next (append_code (record { opened = []; instructions = []; heads = heads; entries
+      = [] })
       p) → StandsIn c next p
-  without_head next heads p stands = record { opened = stands.opened; deeds = stands.deeds }
+  without_head next heads p stands = record { opened = stands.opened; instructions =
+      stands.instructions }
 
   if_fits : (n k : ℕ) (e : Asked) (x : Compiled) → n ≤ k → FitsExpr c kept callable entries n e →
       FitsStmt n k x → FitsFrom n n (if_code e x)

@@ -12,7 +12,7 @@ use Rattle.rx_term.specs.declared.rule_set.RuleParts.{RuleParts}
 use Rattle.rx_code.specs.Example.{calls, calls_parts, caller, called, unused, crowded}
 use Rattle.rx_code.specs.Programs.{entry_of}
 use Rattle.rx_code.specs.Reached.{AreReached, ByCall, IsFirst, IsSecond, no_number, next_number, Reached, calls_of}
-use Rattle.rx_code.specs.Rules.{deed_within, parts_of, symbol}
+use Rattle.rx_code.specs.Rules.{instruction_within, parts_of, symbol}
 use Rattle.rx_code.specs.Translation.{IsBeyond, IsTranslation, rules_of}
 use Rattle.rx_code.specs.declared.code.Code.{Code}
 use Rattle.rx_code.proofs.Computing.{apply, argument, if_else, lit, no_argument, no_part, no_statement, returns, statement, var}
@@ -90,7 +90,8 @@ are_reached = record {
 -- what code is translated to
 abbrev of_code : Formed Code → Formed RuleParts
 of_code c =
-    record { form = parts_of c.form; within = c.within && list_all deed_within c.form.deeds }
+    record { form = parts_of c.form; within = c.within && list_all instruction_within
+        c.form.instructions }
 
 translated : rules_of calls both ≡ record { form = calls_parts; within = true }
 translated = ap of_code (

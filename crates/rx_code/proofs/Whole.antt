@@ -1,14 +1,14 @@
--- Whole code: each symbol has one deed, which fits the symbols and keeps the limits.
+-- Whole code: each symbol has one instruction, which fits the symbols and keeps the limits.
 use Rattle.std.proofs.Common.{◌≡◌, Bool, true, false, ℕ, suc, ◌<◌, ◌≤◌, ◌⊎◌, Some, [], ◌∷◌, length}
 use Rattle.std.specs.Prelude.{◌==◌, Contains, filter, slice_get}
 use Rattle.rx_poly.specs.Variables.{uses_below}
 use Rattle.rx_row.specs.Variables.{rows_use_below}
 use Rattle.rx_term.specs.Variables.{polys_use_below}
 use Rattle.rx_code.specs.Programs.{entry_of}
-use Rattle.rx_code.specs.Rules.{deed_within}
+use Rattle.rx_code.specs.Rules.{instruction_within}
 use Rattle.rx_code.specs.declared.action.Action.{Action}
 use Rattle.rx_code.specs.declared.action.Action.TheVariants.{Go, Set, Test, Divide, Call, Resume, Return}
-use Rattle.rx_code.specs.declared.action.Deed.{Deed}
+use Rattle.rx_code.specs.declared.action.Instruction.{Instruction}
 use Rattle.rx_code.specs.declared.code.Code.{Code}
 use Rattle.rx_code.specs.declared.point.Point.{Point}
 
@@ -22,8 +22,8 @@ is_resume (Call f ps r) = false
 is_resume (Resume z) = true
 is_resume (Return p) = false
 
--- the deeds at the symbol of that number
-abbrev pub is_at : ℕ → Deed → Bool
+-- the instructions at the symbol of that number
+abbrev pub is_at : ℕ → Instruction → Bool
 is_at k d = d.at.symbol == k
 
 module _ (c : Code) where
@@ -51,17 +51,17 @@ module _ (c : Code) where
   Suits n (Resume z) = IsTarget (suc n) z
   Suits n (Return p) = uses_below n p ≡ true
 
-  pub record FitsCode (d : Deed) : Type 0 where
+  pub record FitsCode (d : Instruction) : Type 0 where
     pub opened : IsOpened d.at.symbol d.at.width (is_resume d.action)
     pub narrow : d.at.width ≤ 128
     pub suits : Suits d.at.width d.action
-    pub within : deed_within d ≡ true
+    pub within : instruction_within d ≡ true
 
-  -- the one deed at a symbol
-  pub record OneDeed (k : ℕ) : Type 0 where
-    pub deed : Deed
-    pub alone : filter (is_at k) c.deeds ≡ deed ∷ []
+  -- the one instruction at a symbol
+  pub record OneInstruction (k : ℕ) : Type 0 where
+    pub instruction : Instruction
+    pub alone : filter (is_at k) c.instructions ≡ instruction ∷ []
 
   pub record IsWhole : Type 0 where
-    pub one : (k : ℕ) → k < length c.opened → OneDeed k
-    pub fits : (d : Deed) → Contains c.deeds d → FitsCode d
+    pub one : (k : ℕ) → k < length c.opened → OneInstruction k
+    pub fits : (d : Instruction) → Contains c.instructions d → FitsCode d

@@ -9,9 +9,9 @@ use Rattle.rx_code.specs.Points.{Actions}
 use Rattle.rx_code.specs.Programs.{entry_of}
 use Rattle.rx_code.specs.declared.code.Code.{Code}
 
--- what is done at points: each deed that is written down
+-- what is done at points: each instruction that is written down
 abbrev pub acts_in : Code → Actions
-acts_in code a x = Contains code.deeds (record { at = a; action = x })
+acts_in code a x = Contains code.instructions (record { at = a; action = x })
 
 -- the function at the place has an entry, and takes n arguments
 pub record TakesCall (program : Resolved) (code : Code) (f count : ℕ) : Type 0 where

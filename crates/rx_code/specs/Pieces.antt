@@ -8,13 +8,13 @@ use Rattle.rx_code.specs.declared.point.Point.{Point}
 
 -- nothing written down
 abbrev pub no_code : Code
-no_code = record { opened = []; deeds = []; heads = []; entries = [] }
+no_code = record { opened = []; instructions = []; heads = []; entries = [] }
 
 -- one piece, and then another
 abbrev pub append_code : Code → Code → Code
 append_code c d = record {
   opened = c.opened ++ d.opened;
-  deeds = c.deeds ++ d.deeds;
+  instructions = c.instructions ++ d.instructions;
   heads = c.heads ++ d.heads;
   entries = c.entries ++ d.entries;
 }
@@ -36,14 +36,14 @@ a_frame width = record { width = width; frame = true }
 
 -- the code that opens these symbols
 abbrev pub opens : List Opening → Code
-opens os = record { opened = os; deeds = []; heads = []; entries = [] }
+opens os = record { opened = os; instructions = []; heads = []; entries = [] }
 
 -- the code that does this at the point
 abbrev pub does : Point → Action → Code
 does a action =
     record {
       opened = [];
-      deeds = record { at = a; action = action } ∷ [];
+      instructions = record { at = a; action = action } ∷ [];
       heads = [];
       entries =
           [];
@@ -51,12 +51,12 @@ does a action =
 
 -- the code that marks a symbol as the head of a loop
 abbrev pub marks_head : ℕ → Code
-marks_head symbol = record { opened = []; deeds = []; heads = symbol ∷ []; entries = [] }
+marks_head symbol = record { opened = []; instructions = []; heads = symbol ∷ []; entries = [] }
 
 -- the code that marks a symbol as the entry of the function at that place
 abbrev pub marks_entry : ℕ → ℕ → Code
 marks_entry place symbol =
-    record { opened = []; deeds = []; heads = []; entries = (place, symbol) ∷ [] }
+    record { opened = []; instructions = []; heads = []; entries = (place, symbol) ∷ [] }
 
 -- how many symbols there may be, and how many variables each may have
 abbrev pub most_symbols : ℕ

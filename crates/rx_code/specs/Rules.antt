@@ -20,7 +20,7 @@ use Rattle.rx_code.specs.Points.{with_element}
 use Rattle.rx_code.specs.Programs.{entry_of}
 use Rattle.rx_code.specs.declared.action.Action.{Action}
 use Rattle.rx_code.specs.declared.action.Action.TheVariants.{Go, Set, Test, Divide, Call, Resume, Return}
-use Rattle.rx_code.specs.declared.action.Deed.{Deed}
+use Rattle.rx_code.specs.declared.action.Instruction.{Instruction}
 use Rattle.rx_code.specs.declared.action.Division.{Division}
 use Rattle.rx_code.specs.declared.action.Division.TheVariants.{Quotient, Remainder}
 use Rattle.rx_code.specs.declared.code.Code.{Code}
@@ -77,8 +77,8 @@ rules_of_action entry a (Resume b) =
     ∷ always (term.Frame (symbol a.symbol) (variables_of a) (term.Fail 1)) (term.Fail 1) ∷ []
 rules_of_action entry a (Return p) = always (call_of a) (term.Return p) ∷ []
 
-abbrev pub rules_of_deed : (ℕ → ℕ) → Deed → List Rule
-rules_of_deed entry d = rules_of_action entry d.at d.action
+abbrev pub rules_of_instruction : (ℕ → ℕ) → Instruction → List Rule
+rules_of_instruction entry d = rules_of_action entry d.at d.action
 
 -- whether what is formed for the rules of an action keeps the limits: the negation of a row, and
 -- the result of a division
@@ -87,13 +87,14 @@ action_within (Test row y w) = negation_within row
 action_within (Divide d p q b) = is_within (divided d p q)
 action_within _ = true
 
-abbrev pub deed_within : Deed → Bool
-deed_within d = action_within d.action
+abbrev pub instruction_within : Instruction → Bool
+instruction_within d = action_within d.action
 
 -- the rules of what is done at the symbol of that number
 abbrev pub rules_at : Code → ℕ → List Rule
 rules_at c k =
-    flat_map (rules_of_deed (entry_of c.entries)) (filter (λ (d : Deed). d.at.symbol == k) c.deeds)
+    flat_map (rules_of_instruction (entry_of c.entries))
+    (filter (λ (d : Instruction). d.at.symbol == k) c.instructions)
 
 -- what the symbol of that number is
 abbrev pub info_at : Code → ℕ × Opening → SymInfo

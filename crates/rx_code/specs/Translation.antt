@@ -11,14 +11,15 @@ use Rattle.rx_term.specs.declared.term.Sym.{Sym}
 use Rattle.rx_term.specs.declared.term.Term.TheVariants.{Call}
 use Rattle.rx_code.specs.Programs.{entry_of, program_code}
 use Rattle.rx_code.specs.Reached.{AreReached}
-use Rattle.rx_code.specs.Rules.{deed_within, parts_of, symbol}
+use Rattle.rx_code.specs.Rules.{instruction_within, parts_of, symbol}
 
 -- the rule set of these functions of a program, and whether all that is formed and opened for it
 -- keeps the limits
 abbrev pub rules_of : Resolved → List ℕ → Formed RuleParts
 rules_of program fs =
     let c = program_code program fs in
-    record { form = parts_of c.form; within = c.within && list_all deed_within c.form.deeds }
+    record { form = parts_of c.form; within = c.within && list_all instruction_within
+        c.form.instructions }
 
 -- f and g are functions of the program, the parts are the rule set of all functions that they
 -- reach, within the limits, and the two symbols are their entries

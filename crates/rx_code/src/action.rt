@@ -36,7 +36,7 @@ pub enum Action {
 
 /// An action, with where it is done.
 #[derive(Debug, Drop, PartialEq, Eq)]
-pub struct Deed {
+pub struct Instruction {
     /// The point, or the frame.
     pub at: Point,
     /// What is done there.

@@ -2,7 +2,7 @@
 ghost use Rattle.std.specs.Prelude.{◌≡◌, ◌+◌, [], ◌∷◌, length, true, false, IfOk, IfErr, OnOk, OnErr};
 ghost use Rattle.rx_code.specs.Pieces.{a_point, append_code, does, is_room, marks_entry, marks_head, no_code, opens, point};
 
-use crate::action::{Action, Deed};
+use crate::action::{Action, Instruction};
 use crate::point::{Opening, Point};
 use rx_plain::Items;
 use rx_poly::PolyEnd;
@@ -20,8 +20,8 @@ const MOST_VARIABLES: u32 = 128;
 pub struct Code {
     /// The symbols by their numbers.
     pub opened: Items<Opening>,
-    /// What is done at them; in compiled code each symbol has one deed.
-    pub deeds: Items<Deed>,
+    /// What is done at them; in compiled code each symbol has one instruction.
+    pub instructions: Items<Instruction>,
     /// The numbers of the symbols at which loops begin.
     pub heads: Items<u32>,
     /// The functions that are compiled, by their places in the program, each with its first symbol.
@@ -35,7 +35,7 @@ impl Code {
     {
         Code {
             opened: Items::new(alloc),
-            deeds: Items::new(alloc),
+            instructions: Items::new(alloc),
             heads: Items::new(alloc),
             entries: Items::new(alloc),
         }
@@ -81,11 +81,11 @@ impl Code {
     }
 
     /// Writes down what is done at a point or a frame; where there is no memory nothing is written.
-    pub fn act(&mut self, at: Point, action: Action) -> Result<(), AllocError>
+    pub fn emit(&mut self, at: Point, action: Action) -> Result<(), AllocError>
         ensures code { OnOk result (self.new ≡ append_code self.old (does at action)) }
         ensures kept { OnErr result (self.new ≡ self.old) }
     {
-        self.deeds.push(Deed { at, action })
+        self.instructions.push(Instruction { at, action })
     }
 
     /// Marks the symbol of that number as the head of a loop; where there is no memory it isn't.

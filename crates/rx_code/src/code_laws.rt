@@ -35,7 +35,7 @@ pub fn translations_carry_code()
 {}
 
 /// The rules of a translation do what is done at each point of its code.
-pub fn translations_do_their_deeds()
+pub fn translations_do_their_instructions()
     ensures { (program : Resolved) → is_scoped program ≡ true →
         (f g : ℕ) (parts : RuleParts) (first second : Sym) →
         (t : IsTranslation program f g parts first second) →

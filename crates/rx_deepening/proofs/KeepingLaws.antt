@@ -1,4 +1,4 @@
--- What is kept represents lists of visits: one node more, a later first note, lists that are as
+-- What is kept represents rounds of visits: one node more, a later first note, rounds that are as
 -- long.
 use Rattle.std.proofs.Common.{All, arith, ◌≤◌, ◌≡◌, ◌∙◌, ap, refl, sym, subst, ℕ, Option, Some, None, List, [], ◌∷◌, ◌++◌, append_assoc, append-nil}
 use Rattle.std.proofs.lemmas.List.Elements.{All-pop, All-push}
@@ -59,7 +59,7 @@ module _ {N V R : Type 0} (view : N → V) (settled : V → Settled V R) (menu :
     is,
   )
 
-  -- so where the lists are the same
+  -- so where the rounds are the same
   pub lists_same : (first : Option (Note R)) (ks : List (Kept N))
       (lists others : ℕ → List (Visit V R)) → ((n : ℕ) → lists n ≡ others n)
       → StandsForLists view settled menu first ks lists →

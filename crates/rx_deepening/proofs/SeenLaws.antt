@@ -1,13 +1,13 @@
--- What is seen of a tally that counts visits of nodes is the tally that counts what is seen of
+-- What is seen of a counter that counts visits of nodes is the counter that counts what is seen of
 -- them.
 use Rattle.std.proofs.Common.{◌≡◌, refl, ap, cond, ℕ, Bool, true, false, Option, Some, None}
-use Rattle.rx_deepening.specs.Tallies.{outcome_by, visited}
-use Rattle.rx_deepening.specs.Views.{IfClosed, IfFound, seen_ended, seen_outcome, seen_tally, seen_visit}
+use Rattle.rx_deepening.specs.Counters.{outcome_by, visited}
+use Rattle.rx_deepening.specs.Views.{IfClosed, IfFound, seen_ended, seen_outcome, seen_counter, seen_visit}
 use Rattle.rx_deepening.specs.Visits.{Visit}
 use Rattle.rx_deepening.specs.declared.outcome.Note.{Note}
-use Rattle.rx_deepening.specs.declared.tally.Ended.{Ended}
-use Rattle.rx_deepening.specs.declared.tally.Ended.TheVariants.{Going, Found, Over}
-use Rattle.rx_deepening.specs.declared.tally.Tally.{Tally}
+use Rattle.rx_deepening.specs.declared.counter.Ended.{Ended}
+use Rattle.rx_deepening.specs.declared.counter.Ended.TheVariants.{Going, Found, Over}
+use Rattle.rx_deepening.specs.declared.counter.Counter.{Counter}
 
 module _ {N V : Type 0} (view : N → V) where
   end_seen : (b : Bool) (node : N) → seen_ended view (cond b (Found node) Going) ≡
@@ -25,8 +25,8 @@ module _ {N V : Type 0} (view : N → V) where
   ended_seen Over h k = cc
 
 module _ {N V R : Type 0} (view : N → V) where
-  pub visited_seen : (left : ℕ) (t : Tally N R) (v : Visit N R) →
-      seen_tally view (visited left t v) ≡ visited left (seen_tally view t) (seen_visit view v)
+  pub visited_seen : (left : ℕ) (t : Counter N R) (v : Visit N R) →
+      seen_counter view (visited left t v) ≡ visited left (seen_counter view t) (seen_visit view v)
   visited_seen left t v =
       λ i. record {
         left = left;
@@ -44,7 +44,7 @@ module _ {N V R : Type 0} (view : N → V) where
   note_seen None Over = refl
   note_seen (Some note) Over = refl
 
-  pub outcome_seen : (t : Tally N R) → seen_outcome view (outcome_by t.ended t.note) ≡
+  pub outcome_seen : (t : Counter N R) → seen_outcome view (outcome_by t.ended t.note) ≡
       outcome_by (seen_ended view t.ended) t.note
   outcome_seen t = note_seen t.note t.ended
 

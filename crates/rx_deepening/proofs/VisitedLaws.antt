@@ -3,15 +3,15 @@ use Rattle.std.proofs.Common.{◌≡◌, ◌∙◌, ap, refl, sym, subst, cond, 
 use Rattle.std.specs.Option.{option_map, option_or}
 use Rattle.rx_deepening.specs.Keeping.{IsAfterNote, IsVisited, Keeps, StandsForLists, StandsForVisits}
 use Rattle.rx_deepening.specs.Outcomes.{note_of}
-use Rattle.rx_deepening.specs.Tallies.{counted, counted_as, counted_one, visited, visited_open, visited_within}
-use Rattle.rx_deepening.specs.Views.{seen_tally}
+use Rattle.rx_deepening.specs.Counters.{counted, counted_as, counted_one, visited, visited_open, visited_within}
+use Rattle.rx_deepening.specs.Views.{seen_counter}
 use Rattle.rx_deepening.specs.Visits.{Visit, alone, choosing}
 use Rattle.rx_deepening.specs.declared.kept.Kept.{Kept}
 use Rattle.rx_deepening.specs.declared.kept.Progress.{Progress}
 use Rattle.rx_deepening.specs.declared.outcome.Note.{Note}
-use Rattle.rx_deepening.specs.declared.tally.Ended.{Ended}
-use Rattle.rx_deepening.specs.declared.tally.Ended.TheVariants.{Going, Found, Over}
-use Rattle.rx_deepening.specs.declared.tally.Tally.{Tally}
+use Rattle.rx_deepening.specs.declared.counter.Ended.{Ended}
+use Rattle.rx_deepening.specs.declared.counter.Ended.TheVariants.{Going, Found, Over}
+use Rattle.rx_deepening.specs.declared.counter.Counter.{Counter}
 use Rattle.rx_deepening.specs.declared.tree.Menu.{Menu}
 use Rattle.rx_deepening.specs.declared.tree.Settled.{Settled}
 use Rattle.rx_deepening.proofs.CountLaws.{counted-append}
@@ -50,18 +50,18 @@ module _ {R : Type 0} where
   mapped_or path (Some r) p = refl
 
 module _ {N R : Type 0} where
-  later_within : (n : ℕ) (t : Tally N R) (v : Visit N R) →
+  later_within : (n : ℕ) (t : Counter N R) (v : Visit N R) →
       option_or t.note (visited_within n t v).note ≡ (visited_within n t v).note
   later_within zero t v = or_same t.note
   later_within (suc n) t v = or_later t.note (note_of v)
 
-  later_as : (e : Ended N) (t : Tally N R) (v : Visit N R) →
+  later_as : (e : Ended N) (t : Counter N R) (v : Visit N R) →
       option_or t.note (counted_as e t v).note ≡ (counted_as e t v).note
   later_as Going t v = later_within t.left t v
   later_as (Found node) t v = or_same t.note
   later_as Over t v = or_same t.note
 
-  pub counted_later : (t : Tally N R) (vs : List (Visit N R)) →
+  pub counted_later : (t : Counter N R) (vs : List (Visit N R)) →
       option_or t.note (counted t vs).note ≡ (counted t vs).note
   counted_later t [] = or_same t.note
   counted_later t (v ∷ vs) =
@@ -74,7 +74,7 @@ open_end b node e = ap (λ (b : Bool). cond b (Found node) Going) e
 
 module _ {V R : Type 0} where
   -- the visit of a node that isn't closed
-  pub open_visit : (left : ℕ) (t : Tally V R) (path : List ℕ) (note : Option R) (v : Visit V R) →
+  pub open_visit : (left : ℕ) (t : Counter V R) (path : List ℕ) (note : Option R) (v : Visit V R) →
       v.closed ≡ false
       → option_or t.note (option_map (noted_at path) note) ≡ option_or t.note (note_of v)
       → visited_open left t path note ≡ visited left t v
@@ -91,7 +91,8 @@ module _ {V R : Type 0} where
       ∙ ap (option_or first) (mapped_or path s.note m.note)
 
   -- so of one whose choices are found, and what was noted before that isn't the first note
-  pub choosing_visit : (left : ℕ) (t : Tally V R) (path : List ℕ) (s : Settled V R) (m : Menu V R) →
+  pub choosing_visit : (left : ℕ) (t : Counter V R) (path : List ℕ) (s : Settled V R) (m : Menu V R)
+      →
       s.closed ≡ false → IsAfterNote t.note (alone path s)
       → visited_open left t path m.note ≡ visited left t (choosing path s m)
   choosing_visit left t path s m e noted =
@@ -103,19 +104,19 @@ module _ {N V R : Type 0} (view : N → V) (settled : V → Settled V R) (menu :
   pub keeps_same : (a b : Progress N R) (f g : ℕ → List (Visit V R)) → ((n : ℕ) → f n ≡ g n) →
       Keeps view settled menu a b f → Keeps view settled menu a b g
   keeps_same a b f g e keeps = λ lists stands going.
-      lists_same view settled menu b.tally.note b.kept (λ n. lists n ++ f n) (λ n. lists n ++ g n)
+      lists_same view settled menu b.counter.note b.kept (λ n. lists n ++ f n) (λ n. lists n ++ g n)
       (λ n. ap (λ (vs : List (Visit V R)). lists n ++ vs) (e n)) (keeps lists stands going)
 
   keeps_all : (a : Progress N R) → Keeps view settled menu a a (λ n. [])
   keeps_all a = λ lists stands going.
-      lists_same view settled menu a.tally.note a.kept lists (λ n. lists n ++ [])
+      lists_same view settled menu a.counter.note a.kept lists (λ n. lists n ++ [])
       (λ n. sym (append-nil (lists n))) (stands going)
 
   keeps_then : (a b c : Progress N R) (f g : ℕ → List (Visit V R)) → Keeps view settled menu a b f →
       Keeps view settled menu b c g
       → Keeps view settled menu a c (λ n. f n ++ g n)
   keeps_then a b c f g first then = λ lists stands going.
-      lists_same view settled menu c.tally.note c.kept (λ n. (lists n ++ f n) ++ g n)
+      lists_same view settled menu c.counter.note c.kept (λ n. (lists n ++ f n) ++ g n)
       (λ n. lists n ++ (f n ++ g n)) (λ n. append_assoc (lists n) (f n) (g n))
       (then (λ n. lists n ++ f n) (first lists stands) going)
 
@@ -131,8 +132,8 @@ module _ {N V R : Type 0} (view : N → V) (settled : V → Settled V R) (menu :
       → IsVisited view settled menu a (λ n. f n ++ g n) c
   visited_then a b c f g first then = record {
     counted =
-        then.counted ∙ ap (λ (t : Tally V R). counted t (g 0)) first.counted ∙
-        sym (counted-append (seen_tally view a.tally) (f 0) (g 0));
+        then.counted ∙ ap (λ (t : Counter V R). counted t (g 0)) first.counted ∙
+        sym (counted-append (seen_counter view a.counter) (f 0) (g 0));
     keeps = keeps_then a b c (λ n. f (n + 1)) (λ n. g (n + 1)) first.keeps then.keeps;
   }
 
@@ -144,33 +145,34 @@ module _ {N V R : Type 0} (view : N → V) (settled : V → Settled V R) (menu :
 
   -- visits end
   pub visited_ending : (a b : Progress N R) (lists : ℕ → List (Visit V R)) →
-      seen_tally view b.tally ≡ counted (seen_tally view a.tally) (lists 0)
-      → (b.tally.ended ≡ Going → ⊥) → IsVisited view settled menu a lists b
+      seen_counter view b.counter ≡ counted (seen_counter view a.counter) (lists 0)
+      → (b.counter.ended ≡ Going → ⊥) → IsVisited view settled menu a lists b
   visited_ending a b lists counts stopped =
       record { counted = counts; keeps = λ ls stands going. absurd (stopped going) }
 
   -- the first note stays the first
-  pub note_later : (a b : Progress N R) (vs : List (Visit V R)) → seen_tally view b.tally ≡
-      counted (seen_tally view a.tally) vs
-      → option_or a.tally.note b.tally.note ≡ b.tally.note
+  pub note_later : (a b : Progress N R) (vs : List (Visit V R)) → seen_counter view b.counter ≡
+      counted (seen_counter view a.counter) vs
+      → option_or a.counter.note b.counter.note ≡ b.counter.note
   note_later a b vs counts =
-      subst (λ (t : Tally V R). option_or a.tally.note t.note ≡ t.note) (sym counts)
-      (counted_later (seen_tally view a.tally) vs)
+      subst (λ (t : Counter V R). option_or a.counter.note t.note ≡ t.note) (sym counts)
+      (counted_later (seen_counter view a.counter) vs)
 
   -- one node more is kept
   pub visited_push : (a b : Progress N R) (k : Kept N) (lists : ℕ → List (Visit V R)) →
-      a.tally.ended ≡ Going
-      → seen_tally view b.tally ≡ counted (seen_tally view a.tally) (lists 0) → b.kept ≡ a.kept ++
+      a.counter.ended ≡ Going
+      → seen_counter view b.counter ≡ counted (seen_counter view a.counter) (lists 0) → b.kept ≡
+      a.kept ++
       k ∷ []
-      → StandsForVisits view settled menu b.tally.note k (λ n. lists (n + 1)) →
+      → StandsForVisits view settled menu b.counter.note k (λ n. lists (n + 1)) →
       IsVisited view settled menu a lists b
   visited_push a b k lists going counts kept stands =
       record {
         counted = counts;
         keeps =
             λ ls stand _. subst (λ (ks : List (Kept N)). StandsForLists view settled menu
-            b.tally.note ks (λ n. ls n ++ lists (n + 1))) (sym kept)
-            (lists_push view settled menu b.tally.note a.kept k ls (λ n. lists (n + 1))
-            (lists_later view settled menu a.tally.note b.tally.note a.kept ls
+            b.counter.note ks (λ n. ls n ++ lists (n + 1))) (sym kept)
+            (lists_push view settled menu b.counter.note a.kept k ls (λ n. lists (n + 1))
+            (lists_later view settled menu a.counter.note b.counter.note a.kept ls
             (note_later a b (lists 0) counts) (stand going)) stands);
       }

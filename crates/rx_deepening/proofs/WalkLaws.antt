@@ -1,9 +1,9 @@
 -- The visits from a node on, and how a walk counts them.
 use Rattle.std.proofs.Common.{◌≡◌, ◌∙◌, ap, refl, sym, subst, cond, arith, inl, inr, ◌⊎◌, ℕ, zero, suc, ◌+◌, ◌-◌, ◌<◌, Bool, true, false, List, [], ◌∷◌}
-use Rattle.rx_deepening.specs.Tallies.{counted, visited}
+use Rattle.rx_deepening.specs.Counters.{counted, visited}
 use Rattle.rx_deepening.specs.Visits.{Visit, alone, choosing, lists, visits, visits_of}
-use Rattle.rx_deepening.specs.declared.tally.Ended.TheVariants.{Going}
-use Rattle.rx_deepening.specs.declared.tally.Tally.{Tally}
+use Rattle.rx_deepening.specs.declared.counter.Ended.TheVariants.{Going}
+use Rattle.rx_deepening.specs.declared.counter.Counter.{Counter}
 use Rattle.rx_deepening.specs.declared.tree.Menu.{Menu}
 use Rattle.rx_deepening.specs.declared.tree.Settled.{Settled}
 use Rattle.rx_deepening.proofs.CountLaws.{counted-append, visit-counts}
@@ -55,14 +55,14 @@ module _ {N R : Type 0} (settled : N → Settled N R) (menu : N → Menu N R) wh
       first_by (settled node).closed (suc more) path node (omega arith) refl
 
   -- the only visit of a node is counted
-  pub last-counts : (t : Tally N R) (more : ℕ) (path : List ℕ) (node : N) → t.ended ≡ Going → 0 <
+  pub last-counts : (t : Counter N R) (more : ℕ) (path : List ℕ) (node : N) → t.ended ≡ Going → 0 <
       t.left → (more ≡ 0) ⊎ ((settled node).closed ≡ true)
       → counted t (visits settled menu more path node) ≡ visited (t.left - 1) t (here path node)
   last-counts t more path node g h e =
       ap (counted t) (visits-last more path node e) ∙ visit-counts t (here path node) [] g h
 
   -- a node, and then those that its choices lead to
-  pub node-counts : (t : Tally N R) (more : ℕ) (path : List ℕ) (node : N) → t.ended ≡ Going → 0 <
+  pub node-counts : (t : Counter N R) (more : ℕ) (path : List ℕ) (node : N) → t.ended ≡ Going → 0 <
       t.left → 0 < more → (settled node).closed ≡ false
       → counted (visited (t.left - 1) t (trying path node))
       (visits_of settled menu (more - 1) path (menu (settled node).node).choices)
@@ -73,7 +73,8 @@ module _ {N R : Type 0} (settled : N → Settled N R) (menu : N → Menu N R) wh
       ∙ ap (counted t) (sym (visits-more more path node k e))
 
   -- so by the node as it is settled
-  pub settled-counts : (t : Tally N R) (more : ℕ) (path : List ℕ) (node : N) (s : Settled N R) → s ≡
+  pub settled-counts : (t : Counter N R) (more : ℕ) (path : List ℕ) (node : N) (s : Settled N R) → s
+      ≡
       settled node → t.ended ≡ Going → 0 < t.left → 0 < more → s.closed ≡ false
       → counted (visited (t.left - 1) t (choosing path s (menu s.node)))
       (visits_of settled menu (more - 1) path (menu s.node).choices)
@@ -84,8 +85,8 @@ module _ {N R : Type 0} (settled : N → Settled N R) (menu : N → Menu N R) wh
       ≡ counted t (visits settled menu more path node)) (sym is)
       (node-counts t more path node g h k (sym (ap (λ (r : Settled N R). r.closed) is) ∙ e))
 
-  -- one list more
-  pub list-counts : (t u : Tally N R) (n more : ℕ) (start : N) → 0 < n → u ≡
+  -- one round more
+  pub list-counts : (t u : Counter N R) (n more : ℕ) (start : N) → 0 < n → u ≡
       counted t (visits settled menu more [] start)
       → counted u (lists settled menu (n - 1) (more + 1) start) ≡
       counted t (lists settled menu n more start)
@@ -94,7 +95,7 @@ module _ {N R : Type 0} (settled : N → Settled N R) (menu : N → Menu N R) wh
   list-counts t u (suc n) more start h e =
       let less : suc n - 1 ≡ n = omega arith in
       let next : more + 1 ≡ suc more = omega arith in
-      ap (λ (x : Tally N R). counted x (lists settled menu (suc n - 1) (more + 1) start)) e
+      ap (λ (x : Counter N R). counted x (lists settled menu (suc n - 1) (more + 1) start)) e
       ∙ ap (λ k. counted (counted t (visits settled menu more [] start))
       (lists settled menu k (more + 1) start)) less
       ∙ ap (λ k. counted (counted t (visits settled menu more [] start))
@@ -102,8 +103,8 @@ module _ {N R : Type 0} (settled : N → Settled N R) (menu : N → Menu N R) wh
       ∙ sym (counted-append t (visits settled menu more [] start)
       (lists settled menu n (suc more) start))
 
-  -- where no list is left
-  pub no-list : (t : Tally N R) (n more : ℕ) (start : N) → n ≡ 0 →
+  -- where no round is left
+  pub no-list : (t : Counter N R) (n more : ℕ) (start : N) → n ≡ 0 →
       counted t (lists settled menu n more start) ≡ t
   unfolding lists
   no-list t zero more start h = refl

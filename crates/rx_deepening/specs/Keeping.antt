@@ -1,18 +1,18 @@
--- What is kept of a tree from one list of visits to the next: the visited nodes in preorder, where
--- an expanded node is a bare mark and a leaf has its node. It represents the lists to come: the
+-- What is kept of a tree from one round of visits to the next: the visited nodes in preorder, where
+-- an expanded node is a bare mark and a leaf has its node. It represents the rounds to come: the
 -- visits of each are, node by node, the one visit of an expanded node, and those from a leaf on.
 use Rattle.std.specs.Prelude.{◌≡◌, ℕ, ◌+◌, ◌<◌, false, Option, List, [], ◌∷◌, ◌++◌}
 use Rattle.std.specs.Option.{option_or}
 use Rattle.rx_deepening.specs.Outcomes.{note_of}
-use Rattle.rx_deepening.specs.Tallies.{counted}
-use Rattle.rx_deepening.specs.Views.{seen_tally}
+use Rattle.rx_deepening.specs.Counters.{counted}
+use Rattle.rx_deepening.specs.Views.{seen_counter}
 use Rattle.rx_deepening.specs.Visits.{Visit, alone, choosing, visits_of}
 use Rattle.rx_deepening.specs.declared.kept.Kept.{Kept}
 use Rattle.rx_deepening.specs.declared.kept.Kept.TheVariants.{Expanded, Frontier}
 use Rattle.rx_deepening.specs.declared.kept.Leaf.{Leaf}
 use Rattle.rx_deepening.specs.declared.kept.Progress.{Progress}
 use Rattle.rx_deepening.specs.declared.outcome.Note.{Note}
-use Rattle.rx_deepening.specs.declared.tally.Ended.TheVariants.{Going}
+use Rattle.rx_deepening.specs.declared.counter.Ended.TheVariants.{Going}
 use Rattle.rx_deepening.specs.declared.tree.Menu.{Menu}
 use Rattle.rx_deepening.specs.declared.tree.Settled.{Settled}
 
@@ -35,8 +35,8 @@ module _ {N V R : Type 0} (view : N → V) where
     pub noted : IsAfterNote first (alone leaf.path s)
 
 module _ {N V R : Type 0} (view : N → V) (settled : V → Settled V R) (menu : V → Menu V R) where
-  -- a kept node represents visits in each list to come: for one, always the same, or for those from
-  -- a leaf on
+  -- a kept node represents visits in each round to come: for one, always the same, or for those
+  -- from a leaf on
   abbrev pub StandsForVisits : Option (Note R) → Kept N → (ℕ → List (Visit V R)) → Type 0
   StandsForVisits first Expanded lists =
       (v : Visit V R) × (v.closed ≡ false) × IsAfterNote first v × ((n : ℕ) → lists n ≡ v ∷ [])
@@ -55,14 +55,15 @@ module _ {N V R : Type 0} (view : N → V) (settled : V → Settled V R) (menu :
   -- what is kept goes on by nodes that represent more visits, while visits go on
   abbrev pub Keeps : Progress N R → Progress N R → (ℕ → List (Visit V R)) → Type 0
   Keeps old new more =
-      (lists : ℕ → List (Visit V R)) → (old.tally.ended ≡ Going →
-      StandsForLists old.tally.note old.kept lists)
-      → new.tally.ended ≡ Going → StandsForLists new.tally.note new.kept (λ n. lists n ++ more n)
+      (lists : ℕ → List (Visit V R)) → (old.counter.ended ≡ Going →
+      StandsForLists old.counter.note old.kept lists)
+      → new.counter.ended ≡ Going → StandsForLists new.counter.note new.kept
+      (λ n. lists n ++ more n)
 
-  -- the first of the lists is visited, and what is kept goes on by nodes that represent the others
+  -- the first of the rounds is visited, and what is kept goes on by nodes that represent the others
   pub record IsVisited (old : Progress N R) (lists : ℕ → List (Visit V R)) (new : Progress N R) :
       Type 0 where
-    pub counted : seen_tally view new.tally ≡ counted (seen_tally view old.tally) (lists 0)
+    pub counted : seen_counter view new.counter ≡ counted (seen_counter view old.counter) (lists 0)
     pub keeps : Keeps old new (λ n. lists (n + 1))
 
 -- what holds of a leaf: its node, and that the nodes below it were visited with fewer choices

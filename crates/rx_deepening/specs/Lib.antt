@@ -1,6 +1,6 @@
 -- Visits of a tree of nodes, and what the first of them come to.
 pub mod Keeping
 pub mod Outcomes
-pub mod Tallies
+pub mod Counters
 pub mod Views
 pub mod Visits

@@ -4,9 +4,9 @@ use Rattle.std.specs.Prelude.{map}
 use Rattle.rx_deepening.specs.Visits.{Visit}
 use Rattle.rx_deepening.specs.declared.outcome.Outcome.{Outcome}
 use Rattle.rx_deepening.specs.declared.outcome.Outcome.TheVariants.{Closed, Noted, Spent, Through}
-use Rattle.rx_deepening.specs.declared.tally.Ended.{Ended}
-use Rattle.rx_deepening.specs.declared.tally.Ended.TheVariants.{Going, Found, Over}
-use Rattle.rx_deepening.specs.declared.tally.Tally.{Tally}
+use Rattle.rx_deepening.specs.declared.counter.Ended.{Ended}
+use Rattle.rx_deepening.specs.declared.counter.Ended.TheVariants.{Going, Found, Over}
+use Rattle.rx_deepening.specs.declared.counter.Counter.{Counter}
 use Rattle.rx_deepening.specs.declared.tree.Choice.{Choice}
 use Rattle.rx_deepening.specs.declared.tree.Menu.{Menu}
 use Rattle.rx_deepening.specs.declared.tree.Settled.{Settled}
@@ -34,14 +34,14 @@ module _ {N V : Type 0} (view : N → V) where
   seen_outcome Spent = Spent
   seen_outcome Through = Through
 
-  -- of a tally
+  -- of a counter
   abbrev pub seen_ended : Ended N → Ended V
   seen_ended Going = Going
   seen_ended (Found node) = Found (view node)
   seen_ended Over = Over
 
-  abbrev pub seen_tally : {R : Type 0} → Tally N R → Tally V R
-  seen_tally t = record { left = t.left; note = t.note; ended = seen_ended t.ended }
+  abbrev pub seen_counter : {R : Type 0} → Counter N R → Counter V R
+  seen_counter t = record { left = t.left; note = t.note; ended = seen_ended t.ended }
 
 module _ {N : Type 0} (P : N → Type 0) where
   -- a node that was found is so

@@ -40,7 +40,7 @@ module _ {N R : Type 0} (settled : N → Settled N R) (menu : N → Menu N R) wh
   visits_of more path choices =
       flat_map (λ (c : Choice N). visits more (path ++ c.number ∷ []) c.node) choices
 
-  -- n lists one after the other, the first with at most the given number of choices on a path
+  -- n rounds one after the other, the first with at most the given number of choices on a path
   unfoldable pub lists : ℕ → ℕ → N → List (Visit N R)
   lists zero more start = []
   lists (suc n) more start = visits more [] start ++ lists n (suc more) start

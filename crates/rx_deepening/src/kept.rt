@@ -1,10 +1,10 @@
-//! What is kept of the tree from one list of visits to the next.
+//! What is kept of the tree from one round of visits to the next: its frontier.
 ghost use Rattle.std.specs.Prelude.{◌≡◌, ◌++◌, ◌∷◌, [], ◌<◌, ◌+◌, ◌-◌, true, false, Ok, IfOk};
-ghost use Rattle.rx_deepening.specs.Tallies.{begin, stopped, visited, visited_open};
+ghost use Rattle.rx_deepening.specs.Counters.{begin, stopped, visited, visited_open};
 ghost use Rattle.rx_deepening.specs.Visits.{alone};
 ghost use Rattle.rx_deepening.specs.declared.kept.Kept.TheVariants.{Expanded, Frontier};
 
-use crate::tally::{Tally, begin, count, count_open, stop};
+use crate::counter::{Counter, begin, count, count_open, stop};
 use crate::tree::Settled;
 use rx_plain::{Items, NoMemory};
 use std::alloc::Global;
@@ -29,11 +29,11 @@ pub(crate) enum Kept<N> {
     Frontier(Leaf<N>),
 }
 
-/// The visits so far, and what is kept of the nodes of this list.
+/// The visits so far, and what is kept of the nodes of this round.
 #[derive(Drop)]
 pub(crate) struct Progress<N, R> {
     /// The visits so far.
-    pub tally: Tally<N, R>,
+    pub counter: Counter<N, R>,
     /// What is kept, in preorder.
     pub kept: Items<Kept<N>>,
     /// How many more nodes may be kept.
@@ -42,10 +42,10 @@ pub(crate) struct Progress<N, R> {
 
 /// No visit is made yet, and nothing is kept.
 pub(crate) fn start_keeping<N, R>(alloc: Global, budget: u32, most_kept: usize) -> Progress<N, R>
-    ensures { result ≡ record { tally = begin budget; kept = []; room = most_kept } }
+    ensures { result ≡ record { counter = begin budget; kept = []; room = most_kept } }
 {
     Progress {
-        tally: begin(budget),
+        counter: begin(budget),
         kept: Items::new(alloc),
         room: most_kept,
     }
@@ -53,11 +53,11 @@ pub(crate) fn start_keeping<N, R>(alloc: Global, budget: u32, most_kept: usize) 
 
 /// The visits where another one isn't made. What is kept stays.
 pub(crate) fn stop_visits<N, R>(progress: Progress<N, R>) -> Progress<N, R>
-    ensures tally { result.tally ≡ stopped progress.tally.ended progress.tally }
+    ensures counter { result.counter ≡ stopped progress.counter.ended progress.counter }
     ensures kept { result.kept ≡ progress.kept }
 {
     Progress {
-        tally: stop(progress.tally),
+        counter: stop(progress.counter),
         kept: progress.kept,
         room: progress.room,
     }
@@ -68,7 +68,7 @@ pub(crate) fn push_kept<N: Drop, R: Drop>(
     progress: Progress<N, R>,
     node: Kept<N>,
 ) -> Result<Progress<N, R>, NoMemory>
-    ensures tally { IfOk result (λ p. p.tally ≡ progress.tally) }
+    ensures counter { IfOk result (λ p. p.counter ≡ progress.counter) }
     ensures kept { IfOk result (λ p. p.kept ≡ progress.kept ++ node ∷ []) }
 {
     let mut longer = progress;
@@ -83,12 +83,12 @@ fn count_kept<N: Drop, R: Drop>(
     taken: usize,
     progress: Progress<N, R>,
 ) -> Progress<N, R>
-    requires { 0 < progress.tally.left }
-    ensures tally { result.tally ≡ visited_open (progress.tally.left - 1) progress.tally path note }
+    requires { 0 < progress.counter.left }
+    ensures counter { result.counter ≡ visited_open (progress.counter.left - 1) progress.counter path note }
     ensures kept { result.kept ≡ progress.kept }
 {
     Progress {
-        tally: count_open(progress.tally, path, note),
+        counter: count_open(progress.counter, path, note),
         kept: progress.kept,
         room: progress.room.saturating_sub(taken),
     }
@@ -102,9 +102,9 @@ pub(crate) fn keep_expanded<N: Drop, R: Drop>(
     taken: usize,
     progress: Progress<N, R>,
 ) -> Result<Progress<N, R>, NoMemory>
-    requires { 0 < progress.tally.left }
-    ensures tally { IfOk result (λ p. p.tally ≡
-        visited_open (progress.tally.left - 1) progress.tally path note) }
+    requires { 0 < progress.counter.left }
+    ensures counter { IfOk result (λ p. p.counter ≡
+        visited_open (progress.counter.left - 1) progress.counter path note) }
     ensures kept { IfOk result (λ p. p.kept ≡ progress.kept ++ Expanded ∷ []) }
 {
     push_kept(count_kept(path, note, taken, progress), Kept::Expanded)
@@ -118,9 +118,9 @@ pub(crate) fn keep_expanded_leaf<N: Drop, R: Drop>(
     taken: usize,
     progress: Progress<N, R>,
 ) -> Result<Progress<N, R>, NoMemory>
-    requires { 0 < progress.tally.left }
-    ensures tally { IfOk result (λ p. p.tally ≡
-        visited_open (progress.tally.left - 1) progress.tally path.now note) }
+    requires { 0 < progress.counter.left }
+    ensures counter { IfOk result (λ p. p.counter ≡
+        visited_open (progress.counter.left - 1) progress.counter path.now note) }
     ensures kept { IfOk result (λ p. p.kept ≡ progress.kept ++ Expanded ∷ []) }
 {
     let at = Items::from_slice(alloc, path)?;
@@ -135,9 +135,9 @@ fn keep_leaf<N: Drop, R: Drop>(
     note: Option<R>,
     progress: Progress<N, R>,
 ) -> Result<Progress<N, R>, NoMemory>
-    requires { 0 < progress.tally.left }
-    ensures tally { IfOk result (λ p. p.tally ≡
-        visited_open (progress.tally.left - 1) progress.tally path note) }
+    requires { 0 < progress.counter.left }
+    ensures counter { IfOk result (λ p. p.counter ≡
+        visited_open (progress.counter.left - 1) progress.counter path note) }
     ensures kept { IfOk result (λ p. p.kept ≡ progress.kept ++
         Frontier (record { path = path; node = node; below = 0 }) ∷ []) }
 {
@@ -150,16 +150,16 @@ fn keep_leaf<N: Drop, R: Drop>(
     push_kept(count_kept(at, note, 0, progress), Kept::Frontier(leaf))
 }
 
-/// The only visit of a settled node in its first list. It is kept as a leaf unless it is closed.
+/// The only visit of a settled node in its first round. It is kept as a leaf unless it is closed.
 pub(crate) fn keep_settled<N: Drop, R: Drop>(
     alloc: Global,
     path: Items<u8>,
     settled: Settled<N, R>,
     progress: Progress<N, R>,
 ) -> Result<Progress<N, R>, NoMemory>
-    requires { 0 < progress.tally.left }
-    ensures tally { IfOk result (λ p. p.tally ≡
-        visited (progress.tally.left - 1) progress.tally (alone path settled)) }
+    requires { 0 < progress.counter.left }
+    ensures counter { IfOk result (λ p. p.counter ≡
+        visited (progress.counter.left - 1) progress.counter (alone path settled)) }
     ensures closed { settled.closed ≡ true → IfOk result (λ p. p.kept ≡ progress.kept) }
     ensures unclosed { settled.closed ≡ false → IfOk result (λ p. p.kept ≡ progress.kept ++
         Frontier (record { path = path; node = settled.node; below = 0 }) ∷ []) }
@@ -167,7 +167,7 @@ pub(crate) fn keep_settled<N: Drop, R: Drop>(
     let Settled { node, closed, note } = settled;
     if closed {
         Ok(Progress {
-            tally: count(progress.tally, path, node, true, note),
+            counter: count(progress.counter, path, node, true, note),
             kept: progress.kept,
             room: progress.room,
         })
@@ -181,22 +181,29 @@ pub(crate) fn keep_walked<N: Drop, R: Drop>(
     leaf: Leaf<N>,
     kept: Items<Kept<N>>,
     room: usize,
-    walked: Result<Tally<N, R>, NoMemory>,
+    walked: Result<Counter<N, R>, NoMemory>,
 ) -> Result<Progress<N, R>, NoMemory>
     requires { leaf.below < u32.MAX }
-    ensures tally { IfOk result (λ p. walked ≡ Ok p.tally) }
+    ensures counter { IfOk result (λ p. walked ≡ Ok p.counter) }
     ensures kept { IfOk result (λ p. p.kept ≡ kept ++ Frontier (record {
       path = leaf.path;
       node = leaf.node;
       below = leaf.below + 1;
     }) ∷ []) }
 {
-    let tally = walked?;
+    let counter = walked?;
     let Leaf { path, node, below } = leaf;
     let leaf = Leaf {
         path,
         node,
         below: below + 1,
     };
-    push_kept(Progress { tally, kept, room }, Kept::Frontier(leaf))
+    push_kept(
+        Progress {
+            counter,
+            kept,
+            room,
+        },
+        Kept::Frontier(leaf),
+    )
 }

@@ -1,15 +1,15 @@
-//! Visits of a tree of choices: its nodes are settled one after the other, list by list, up to a
-//! budget, and each list goes on from the nodes that the list before it kept.
+//! Iterative deepening over a tree of choices: its nodes are settled one after the other, round by
+//! round, up to a budget, and each round goes on from the frontier that the round before it kept.
 //!
 //! What a reader may rely on: `search` comes to exactly what the definition in `specs/Outcomes`
-//! says of the list of visits in `specs/Visits`.
+//! says of the rounds of visits in `specs/Visits`.
 #![tactic(auto)]
 
+mod counter;
 mod kept;
 mod lists;
 mod outcome;
 mod resume;
-mod tally;
 mod tree;
 mod walk;
 

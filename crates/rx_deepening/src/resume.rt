@@ -2,22 +2,22 @@
 //! there is room to keep the nodes that they lead to.
 ghost use Rattle.std.specs.Prelude.{◌≡◌, ◌+◌, ◌-◌, ◌<◌, ◌++◌, ◌∷◌, [], All, ℕ, false, IfOk, List, map};
 ghost use Rattle.rx_deepening.specs.Keeping.{IsAfterNote, IsLeaf, IsVisited, OfLeaf, StandsForVisits, visits_from};
-ghost use Rattle.rx_deepening.specs.Tallies.{GoesOn, visited_open};
+ghost use Rattle.rx_deepening.specs.Counters.{GoesOn, visited_open};
 ghost use Rattle.rx_deepening.specs.Views.{IfFound, seen_choice, seen_menu};
 ghost use Rattle.rx_deepening.specs.Visits.{Visit, alone, visits, visits_of};
 ghost use Rattle.rx_deepening.specs.declared.kept.Kept.TheVariants.{Expanded};
 ghost use Rattle.rx_deepening.specs.declared.tree.Settled.{Settled};
 
+use crate::counter::may_visit;
 use crate::kept::{
     Kept, Leaf, Progress, keep_expanded, keep_expanded_leaf, keep_settled, keep_walked, stop_visits,
 };
-use crate::tally::may_visit;
 use crate::tree::{Choice, Menu, Tree};
 use crate::walk::{longer, walk_leaf};
 use rx_plain::{Items, NoMemory};
 use std::alloc::Global;
 
-/// The only visit of a node in its first list: it is settled, and kept unless it is closed.
+/// The only visit of a node in its first round: it is settled, and kept unless it is closed.
 pub(crate) fn visit_new<T: Tree>(
     alloc: Global,
     tree: &mut T,
@@ -32,19 +32,19 @@ pub(crate) fn visit_new<T: Tree>(
     ensures visited { IfOk result (IsVisited T.view (T.settled (T.world tree.old))
         (T.menu (T.world tree.old)) progress (λ n.
         visits (T.settled (T.world tree.old)) (T.menu (T.world tree.old)) n path (T.view node))) }
-    ensures valid { IfFound (T.valid (T.world tree.old)) progress.tally.ended →
-        IfOk result (λ p. IfFound (T.valid (T.world tree.old)) p.tally.ended) }
+    ensures valid { IfFound (T.valid (T.world tree.old)) progress.counter.ended →
+        IfOk result (λ p. IfFound (T.valid (T.world tree.old)) p.counter.ended) }
     ensures leaves { (most : ℕ) → 0 < most → All (OfLeaf (T.valid (T.world tree.old)) most)
         progress.kept → IfOk result (λ p. All (OfLeaf (T.valid (T.world tree.old)) most) p.kept) }
 {
-    if !may_visit(&progress.tally) {
+    if !may_visit(&progress.counter) {
         return Ok(stop_visits(progress));
     }
     let settled = tree.settle(node)?;
     keep_settled(alloc, path, settled, progress)
 }
 
-/// The visits of the nodes that the choices lead to, in order, in their first list.
+/// The visits of the nodes that the choices lead to, in order, in their first round.
 fn visit_each<T: Tree>(
     alloc: Global,
     tree: &mut T,
@@ -60,8 +60,8 @@ fn visit_each<T: Tree>(
         (T.menu (T.world tree.old)) progress (λ n.
         visits_of (T.settled (T.world tree.old)) (T.menu (T.world tree.old)) n path.now
         (map (seen_choice T.view) choices))) }
-    ensures valid { IfFound (T.valid (T.world tree.old)) progress.tally.ended →
-        IfOk result (λ p. IfFound (T.valid (T.world tree.old)) p.tally.ended) }
+    ensures valid { IfFound (T.valid (T.world tree.old)) progress.counter.ended →
+        IfOk result (λ p. IfFound (T.valid (T.world tree.old)) p.counter.ended) }
     ensures leaves { (most : ℕ) → 0 < most → All (OfLeaf (T.valid (T.world tree.old)) most)
         progress.kept → IfOk result (λ p. All (OfLeaf (T.valid (T.world tree.old)) most) p.kept) }
 {
@@ -84,15 +84,15 @@ fn expand<T: Tree>(
 ) -> Result<Progress<T::Node, T::Note>, NoMemory>
     requires ready { T.ready tree.old }
     requires valid { All (λ c. T.valid (T.world tree.old) c.node) menu.choices }
-    requires goes { GoesOn progress.tally }
+    requires goes { GoesOn progress.counter }
     ensures ready { T.ready tree.new }
     ensures world { T.world tree.new ≡ T.world tree.old }
     ensures visited { (s : Settled T.View T.Note) → s.closed ≡ false →
-        IsAfterNote progress.tally.note (alone path.now s) → seen_menu T.view menu ≡
+        IsAfterNote progress.counter.note (alone path.now s) → seen_menu T.view menu ≡
         T.menu (T.world tree.old) s.node → IfOk result
         (IsVisited T.view (T.settled (T.world tree.old)) (T.menu (T.world tree.old)) progress
         (λ n. visits_from (T.settled (T.world tree.old)) (T.menu (T.world tree.old)) n path.now s)) }
-    ensures valid { IfOk result (λ p. IfFound (T.valid (T.world tree.old)) p.tally.ended) }
+    ensures valid { IfOk result (λ p. IfFound (T.valid (T.world tree.old)) p.counter.ended) }
     ensures leaves { (most : ℕ) → 0 < most → All (OfLeaf (T.valid (T.world tree.old)) most)
         progress.kept → IfOk result (λ p. All (OfLeaf (T.valid (T.world tree.old)) most) p.kept) }
 {
@@ -113,21 +113,25 @@ fn walk_below<T: Tree>(
     requires leaf { T.valid (T.world tree.old) leaf.node }
     requires below { leaf.below < u32.MAX }
     requires valid { All (λ c. T.valid (T.world tree.old) c.node) menu.choices }
-    requires goes { GoesOn progress.tally }
+    requires goes { GoesOn progress.counter }
     ensures ready { T.ready tree.new }
     ensures world { T.world tree.new ≡ T.world tree.old }
-    ensures visited { (s : Settled T.View T.Note) → IsLeaf T.view progress.tally.note leaf s →
+    ensures visited { (s : Settled T.View T.Note) → IsLeaf T.view progress.counter.note leaf s →
         seen_menu T.view menu ≡ T.menu (T.world tree.old) s.node →
         IfOk result (IsVisited T.view (T.settled (T.world tree.old)) (T.menu (T.world tree.old))
         progress (λ n. visits_from (T.settled (T.world tree.old)) (T.menu (T.world tree.old))
         (n + leaf.below) leaf.path s)) }
-    ensures valid { IfOk result (λ p. IfFound (T.valid (T.world tree.old)) p.tally.ended) }
+    ensures valid { IfOk result (λ p. IfFound (T.valid (T.world tree.old)) p.counter.ended) }
     ensures leaves { (most : ℕ) → leaf.below < most →
         All (OfLeaf (T.valid (T.world tree.old)) (most + 1)) progress.kept →
         IfOk result (λ p. All (OfLeaf (T.valid (T.world tree.old)) (most + 1)) p.kept) }
 {
-    let Progress { tally, kept, room } = progress;
-    let walked = walk_leaf(alloc, tree, leaf.below, leaf.path.as_slice(), menu, tally);
+    let Progress {
+        counter,
+        kept,
+        room,
+    } = progress;
+    let walked = walk_leaf(alloc, tree, leaf.below, leaf.path.as_slice(), menu, counter);
     keep_walked(leaf, kept, room, walked)
 }
 
@@ -142,14 +146,14 @@ fn visit_leaf<T: Tree>(
     requires ready { T.ready tree.old }
     requires leaf { T.valid (T.world tree.old) leaf.node }
     requires below { leaf.below < u32.MAX }
-    requires goes { GoesOn progress.tally }
+    requires goes { GoesOn progress.counter }
     ensures ready { T.ready tree.new }
     ensures world { T.world tree.new ≡ T.world tree.old }
-    ensures visited { (s : Settled T.View T.Note) → IsLeaf T.view progress.tally.note leaf s →
+    ensures visited { (s : Settled T.View T.Note) → IsLeaf T.view progress.counter.note leaf s →
         IfOk result (IsVisited T.view (T.settled (T.world tree.old)) (T.menu (T.world tree.old))
         progress (λ n. visits_from (T.settled (T.world tree.old)) (T.menu (T.world tree.old))
         (n + leaf.below) leaf.path s)) }
-    ensures valid { IfOk result (λ p. IfFound (T.valid (T.world tree.old)) p.tally.ended) }
+    ensures valid { IfOk result (λ p. IfFound (T.valid (T.world tree.old)) p.counter.ended) }
     ensures leaves { (most : ℕ) → leaf.below < most →
         All (OfLeaf (T.valid (T.world tree.old)) (most + 1)) progress.kept →
         IfOk result (λ p. All (OfLeaf (T.valid (T.world tree.old)) (most + 1)) p.kept) }
@@ -167,9 +171,9 @@ fn visit_expanded<N: Drop, R: Drop>(
     alloc: Global,
     progress: Progress<N, R>,
 ) -> Result<Progress<N, R>, NoMemory>
-    requires { 0 < progress.tally.left }
-    ensures tally { IfOk result (λ p. p.tally ≡
-        visited_open (progress.tally.left - 1) progress.tally [] None) }
+    requires { 0 < progress.counter.left }
+    ensures counter { IfOk result (λ p. p.counter ≡
+        visited_open (progress.counter.left - 1) progress.counter [] None) }
     ensures kept { IfOk result (λ p. p.kept ≡ progress.kept ++ Expanded ∷ []) }
 {
     keep_expanded(Items::new(alloc), None, 0, progress)
@@ -188,15 +192,15 @@ pub(crate) fn visit_kept<T: Tree>(
     ensures world { T.world tree.new ≡ T.world tree.old }
     ensures visited { (lists : ℕ → List (Visit T.View T.Note)) →
         StandsForVisits T.view (T.settled (T.world tree.old)) (T.menu (T.world tree.old))
-        progress.tally.note node lists → IfOk result
+        progress.counter.note node lists → IfOk result
         (IsVisited T.view (T.settled (T.world tree.old)) (T.menu (T.world tree.old)) progress lists) }
-    ensures valid { IfFound (T.valid (T.world tree.old)) progress.tally.ended →
-        IfOk result (λ p. IfFound (T.valid (T.world tree.old)) p.tally.ended) }
+    ensures valid { IfFound (T.valid (T.world tree.old)) progress.counter.ended →
+        IfOk result (λ p. IfFound (T.valid (T.world tree.old)) p.counter.ended) }
     ensures leaves { (most : ℕ) → OfLeaf (T.valid (T.world tree.old)) most node →
         All (OfLeaf (T.valid (T.world tree.old)) (most + 1)) progress.kept →
         IfOk result (λ p. All (OfLeaf (T.valid (T.world tree.old)) (most + 1)) p.kept) }
 {
-    if !may_visit(&progress.tally) {
+    if !may_visit(&progress.counter) {
         return Ok(stop_visits(progress));
     }
     match node {

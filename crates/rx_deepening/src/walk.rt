@@ -2,11 +2,11 @@
 //! go.
 ghost use Rattle.std.specs.Prelude.{◌≡◌, ◌++◌, ◌∷◌, ◌<◌, ◌-◌, [], All, IfOk, map};
 ghost use Rattle.std.specs.Option.{option_or};
-ghost use Rattle.rx_deepening.specs.Tallies.{counted, visited, visited_open};
-ghost use Rattle.rx_deepening.specs.Views.{IfFound, seen_choice, seen_settled, seen_tally};
+ghost use Rattle.rx_deepening.specs.Counters.{counted, visited, visited_open};
+ghost use Rattle.rx_deepening.specs.Views.{IfFound, seen_choice, seen_settled, seen_counter};
 ghost use Rattle.rx_deepening.specs.Visits.{choosing, visits, visits_of};
 
-use crate::tally::{Tally, count, count_open, may_visit, stop};
+use crate::counter::{Counter, count, count_open, may_visit, stop};
 use crate::tree::{Choice, Menu, Settled, Tree};
 use rx_plain::{Items, NoMemory};
 use std::alloc::Global;
@@ -17,7 +17,7 @@ struct Chosen<N, R> {
     /// The choices, in order.
     choices: Items<Choice<N>>,
     /// The visits so far.
-    tally: Tally<N, R>,
+    counter: Counter<N, R>,
 }
 
 /// The path with one more choice.
@@ -37,25 +37,25 @@ pub(crate) fn walk_all<T: Tree>(
     more: u32,
     path: &[u8],
     choices: Items<Choice<T::Node>>,
-    tally: Tally<T::Node, T::Note>,
-) -> Result<Tally<T::Node, T::Note>, NoMemory>
+    counter: Counter<T::Node, T::Note>,
+) -> Result<Counter<T::Node, T::Note>, NoMemory>
     requires ready { T.ready tree.old }
     requires valid { All (λ c. T.valid (T.world tree.old) c.node) choices }
     ensures ready { T.ready tree.new }
     ensures world { T.world tree.new ≡ T.world tree.old }
-    ensures counted { IfOk result (λ t. seen_tally T.view t ≡
-        counted (seen_tally T.view tally) (visits_of (T.settled (T.world tree.old))
+    ensures counted { IfOk result (λ t. seen_counter T.view t ≡
+        counted (seen_counter T.view counter) (visits_of (T.settled (T.world tree.old))
         (T.menu (T.world tree.old)) more path.now (map (seen_choice T.view) choices))) }
-    ensures valid { IfFound (T.valid (T.world tree.old)) tally.ended →
+    ensures valid { IfFound (T.valid (T.world tree.old)) counter.ended →
         IfOk result (λ t. IfFound (T.valid (T.world tree.old)) t.ended) }
 {
-    let mut tally = tally;
+    let mut counter = counter;
     for choice in choices.into_vec() {
         let Choice { number, node } = choice;
         let at = longer(alloc, path, number)?;
-        tally = walk(alloc, tree, more, at.as_slice(), node, tally)?;
+        counter = walk(alloc, tree, more, at.as_slice(), node, counter)?;
     }
-    Ok(tally)
+    Ok(counter)
 }
 
 /// The visit of a settled node, with what was noted there or else at its choices.
@@ -64,10 +64,10 @@ fn count_settled<N: Drop, R: Drop>(
     path: &[u8],
     settled: Settled<N, R>,
     note: Option<R>,
-    tally: Tally<N, R>,
-) -> Result<Tally<N, R>, NoMemory>
-    requires { 0 < tally.left }
-    ensures { IfOk result (λ t. t ≡ visited (tally.left - 1) tally
+    counter: Counter<N, R>,
+) -> Result<Counter<N, R>, NoMemory>
+    requires { 0 < counter.left }
+    ensures { IfOk result (λ t. t ≡ visited (counter.left - 1) counter
         (record {
           path = path.now;
           node = settled.node;
@@ -81,7 +81,7 @@ fn count_settled<N: Drop, R: Drop>(
         closed,
         note: first,
     } = settled;
-    Ok(count(tally, at, node, closed, first.or(note)))
+    Ok(count(counter, at, node, closed, first.or(note)))
 }
 
 /// The visit of a settled node that isn't closed, whose choices are found.
@@ -90,26 +90,26 @@ fn choose<T: Tree>(
     tree: &mut T,
     path: &[u8],
     settled: Settled<T::Node, T::Note>,
-    tally: Tally<T::Node, T::Note>,
+    counter: Counter<T::Node, T::Note>,
 ) -> Result<Chosen<T::Node, T::Note>, NoMemory>
     requires ready { T.ready tree.old }
     requires valid { T.valid (T.world tree.old) settled.node }
-    requires left { 0 < tally.left }
+    requires left { 0 < counter.left }
     ensures ready { T.ready tree.new }
     ensures world { T.world tree.new ≡ T.world tree.old }
-    ensures counted { IfOk result (λ c. seen_tally T.view c.tally ≡
-        visited (tally.left - 1) (seen_tally T.view tally)
+    ensures counted { IfOk result (λ c. seen_counter T.view c.counter ≡
+        visited (counter.left - 1) (seen_counter T.view counter)
         (choosing path.now (seen_settled T.view settled)
         (T.menu (T.world tree.old) (T.view settled.node)))) }
     ensures choices { IfOk result (λ c. map (seen_choice T.view) c.choices ≡
         (T.menu (T.world tree.old) (T.view settled.node)).choices) }
     ensures valid { IfOk result (λ c. All (λ c. T.valid (T.world tree.old) c.node) c.choices) }
-    ensures found { IfOk result (λ c. IfFound (T.valid (T.world tree.old)) c.tally.ended) }
+    ensures found { IfOk result (λ c. IfFound (T.valid (T.world tree.old)) c.counter.ended) }
 {
     let menu = tree.choices(&settled.node)?;
     let Menu { choices, note } = menu;
-    let tally = count_settled(alloc, path, settled, note, tally)?;
-    Ok(Chosen { choices, tally })
+    let counter = count_settled(alloc, path, settled, note, counter)?;
+    Ok(Chosen { choices, counter })
 }
 
 /// The visits from a node on, with at most n choices to come.
@@ -120,27 +120,27 @@ fn walk<T: Tree>(
     more: u32,
     path: &[u8],
     node: T::Node,
-    tally: Tally<T::Node, T::Note>,
-) -> Result<Tally<T::Node, T::Note>, NoMemory>
+    counter: Counter<T::Node, T::Note>,
+) -> Result<Counter<T::Node, T::Note>, NoMemory>
     requires ready { T.ready tree.old }
     requires valid { T.valid (T.world tree.old) node }
     ensures ready { T.ready tree.new }
     ensures world { T.world tree.new ≡ T.world tree.old }
-    ensures counted { IfOk result (λ t. seen_tally T.view t ≡
-        counted (seen_tally T.view tally) (visits (T.settled (T.world tree.old))
+    ensures counted { IfOk result (λ t. seen_counter T.view t ≡
+        counted (seen_counter T.view counter) (visits (T.settled (T.world tree.old))
         (T.menu (T.world tree.old)) more path.now (T.view node))) }
-    ensures valid { IfFound (T.valid (T.world tree.old)) tally.ended →
+    ensures valid { IfFound (T.valid (T.world tree.old)) counter.ended →
         IfOk result (λ t. IfFound (T.valid (T.world tree.old)) t.ended) }
 {
-    if !may_visit(&tally) {
-        return Ok(stop(tally));
+    if !may_visit(&counter) {
+        return Ok(stop(counter));
     }
     let settled = tree.settle(node)?;
     if more == 0 || settled.closed {
-        return count_settled(alloc, path, settled, None, tally);
+        return count_settled(alloc, path, settled, None, counter);
     }
-    let chosen = choose(alloc, tree, path, settled, tally)?;
-    walk_all(alloc, tree, more - 1, path, chosen.choices, chosen.tally)
+    let chosen = choose(alloc, tree, path, settled, counter)?;
+    walk_all(alloc, tree, more - 1, path, chosen.choices, chosen.counter)
 }
 
 /// The visits of a leaf and of the nodes below it, where whatever was noted at the leaf isn't the
@@ -151,15 +151,15 @@ pub(crate) fn walk_leaf<T: Tree>(
     more: u32,
     path: &[u8],
     menu: Menu<T::Node, T::Note>,
-    tally: Tally<T::Node, T::Note>,
-) -> Result<Tally<T::Node, T::Note>, NoMemory>
+    counter: Counter<T::Node, T::Note>,
+) -> Result<Counter<T::Node, T::Note>, NoMemory>
     requires ready { T.ready tree.old }
     requires valid { All (λ c. T.valid (T.world tree.old) c.node) menu.choices }
-    requires left { 0 < tally.left }
+    requires left { 0 < counter.left }
     ensures ready { T.ready tree.new }
     ensures world { T.world tree.new ≡ T.world tree.old }
-    ensures counted { IfOk result (λ t. seen_tally T.view t ≡ counted
-        (visited_open (tally.left - 1) (seen_tally T.view tally) path.now menu.note)
+    ensures counted { IfOk result (λ t. seen_counter T.view t ≡ counted
+        (visited_open (counter.left - 1) (seen_counter T.view counter) path.now menu.note)
         (visits_of (T.settled (T.world tree.old)) (T.menu (T.world tree.old)) more path.now
         (map (seen_choice T.view) menu.choices))) }
     ensures valid { IfOk result (λ t. IfFound (T.valid (T.world tree.old)) t.ended) }
@@ -172,6 +172,6 @@ pub(crate) fn walk_leaf<T: Tree>(
         more,
         path,
         choices,
-        count_open(tally, at, note),
+        count_open(counter, at, note),
     )
 }

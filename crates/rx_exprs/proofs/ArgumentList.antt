@@ -30,7 +30,7 @@ pub append-no_code : (c : Code) → append_code c no_code ≡ c
 append-no_code c i =
     record {
       opened = append-nil c.opened i;
-      deeds = append-nil c.deeds i;
+      instructions = append-nil c.instructions i;
       heads =
           append-nil c.heads i;
       entries = append-nil c.entries i;

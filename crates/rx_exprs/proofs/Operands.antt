@@ -23,7 +23,7 @@ pub append_code_assoc : (b c d : Code) → append_code (append_code b c) d ≡
     append_code b (append_code c d)
 append_code_assoc b c d i = record {
   opened = append_assoc b.opened c.opened d.opened i;
-  deeds = append_assoc b.deeds c.deeds d.deeds i;
+  instructions = append_assoc b.instructions c.instructions d.instructions i;
   heads = append_assoc b.heads c.heads d.heads i;
   entries = append_assoc b.entries c.entries d.entries i;
 }

@@ -46,7 +46,7 @@ fn divided(
         (division_at op left right at (length code.old.opened)) }
 {
     let b = code.open_wider(at.width)?;
-    code.act(at, Action::Divide(division_of(op), left, right, b))?;
+    code.emit(at, Action::Divide(division_of(op), left, right, b))?;
     Ok((b, Poly::variable(alloc, at.width)?))
 }
 
@@ -64,8 +64,8 @@ fn called(
 {
     let r = code.open(at.width, true)?;
     let b = code.open_wider(at.width)?;
-    code.act(at, Action::Call(f, values, r))?;
-    code.act(r, Action::Resume(b))?;
+    code.emit(at, Action::Call(f, values, r))?;
+    code.emit(r, Action::Resume(b))?;
     Ok((b, Poly::variable(alloc, at.width)?))
 }
 
@@ -91,8 +91,8 @@ fn truth(alloc: Global, code: &mut Code, e: &Expr, a: Point) -> Result<(Point, P
     let w = code.open(a.width, false)?;
     let b = code.open_wider(a.width)?;
     condition(alloc, code, e, a, y, w)?;
-    code.act(y, Action::Set(a.width, Poly::constant(alloc, 1)?, b))?;
-    code.act(w, Action::Set(a.width, Poly::constant(alloc, 0)?, b))?;
+    code.emit(y, Action::Set(a.width, Poly::constant(alloc, 1)?, b))?;
+    code.emit(w, Action::Set(a.width, Poly::constant(alloc, 0)?, b))?;
     Ok((b, Poly::variable(alloc, a.width)?))
 }
 
@@ -149,7 +149,7 @@ pub fn set_value(
     ensures condition { CompilesCode code.old code.new result (set_at e.now slot b a code.old) }
 {
     let (at, set) = value(alloc, code, e, a)?;
-    code.act(at, Action::Set(slot, set, b))?;
+    code.emit(at, Action::Set(slot, set, b))?;
     Ok(())
 }
 
@@ -203,7 +203,7 @@ pub fn condition(
                 let (middle, left) = value(alloc, code, l.get(), a)?;
                 let (at, right) = value(alloc, code, r.get(), middle)?;
                 let row = comparison(alloc, *op, &left, &right)?;
-                code.act(at, Action::Test(row, y, w))?;
+                code.emit(at, Action::Test(row, y, w))?;
                 Ok(())
             }
             _ => tested(alloc, code, e, a, y, w),
@@ -227,6 +227,6 @@ fn tested(
     ensures condition { CompilesCode code.old code.new result (condition_at e.now a y w code.old) }
 {
     let (at, tested_value) = computed(alloc, code, e, a)?;
-    code.act(at, Action::Test(Row::Ne(tested_value), y, w))?;
+    code.emit(at, Action::Test(Row::Ne(tested_value), y, w))?;
     Ok(())
 }

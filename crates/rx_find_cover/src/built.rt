@@ -12,7 +12,7 @@ pub(crate) struct Built<T> {
     pub(crate) noted: bool,
 }
 
-/// The same, with what was noted before.
+/// What was built, where before it something passed the limits if `noted` says so.
 pub(crate) fn noted_before<T: Drop>(noted: bool, later: Built<T>) -> Built<T>
     ensures made { result.made ≡ later.made }
     ensures outcome { outcome result ≡ noting noted (outcome later) }

@@ -47,7 +47,7 @@ fn build_lists<S: FnMut(&Constraint) -> Result<Option<Cert>, FmEnd>>(
     })
 }
 
-/// The same of a rule set.
+/// Cover trees for each symbol of the rule set, if they are found.
 fn build_cover<S: FnMut(&Constraint) -> Result<Option<Cert>, FmEnd>>(
     alloc: Global,
     parts: &RuleParts,

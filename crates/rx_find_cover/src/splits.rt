@@ -69,7 +69,8 @@ fn find_open_row<'a>(
     None
 }
 
-/// The same, with what its variables are.
+/// The row that `find_open_row` finds, of which the contract says also that its variables are the
+/// arguments.
 pub(crate) fn find_split_row<'a>(
     rules: &'a [Rule],
     sym: usize,

@@ -8,7 +8,7 @@ use Rattle.rx_term.proofs.Places.{at_some, from_place}
 use Rattle.rx_term.specs.declared.rule.Rule.{Rule}
 use Rattle.rx_term.specs.declared.rule_set.RuleParts.{RuleParts}
 use Rattle.rx_anchors.specs.Members.{is_member, symbols_of}
-use Rattle.rx_rank.specs.Components.{names_of, pairs_in}
+use Rattle.rx_rank.specs.Components.{representatives_of, pairs_in}
 use Rattle.rx_rank.specs.Ranking.{polynomials, tried_in, unless_empty}
 use Rattle.rx_rank.specs.Tries.{all_made}
 use Rattle.rx_find_ranks.specs.Groups.{by_component, entries_in, groups_in, ungrouped}
@@ -59,7 +59,8 @@ module _ (parts : RuleParts) (hypotheses : List Rule) (names : List ℕ) (entrie
     tries_same a (suc n) =
         λ i. unless_empty parts hypotheses names a (pairs_same a entries i) ∷ tries_same (a + 1) n i
 
-    pub all_tries : names ≡ names_of (length parts.symbols) (pairs_open entries) → length names ≡
+    pub all_tries : names ≡ representatives_of (length parts.symbols) (pairs_open entries) → length
+        names ≡
         length parts.symbols
         → all_made (tries_from parts hypotheses names 0 (by_component names entries)) ≡
         polynomials parts hypotheses (pairs_open entries)

@@ -11,7 +11,7 @@ use Rattle.rx_pairs.specs.Graph.{edges_of}
 use Rattle.rx_pairs.specs.declared.pair.Pair.{Pair}
 use Rattle.rx_anchors.specs.Values.{polynomial_of}
 use Rattle.rx_rank.specs.Answers.{IsDecided, IsHeld, still_open, tried_as}
-use Rattle.rx_rank.specs.Components.{component_of, names_of}
+use Rattle.rx_rank.specs.Components.{component_of, representatives_of}
 use Rattle.rx_rank.specs.Ranking.{polynomials}
 use Rattle.rx_rank.specs.Tries.{all_made}
 use Rattle.rx_rank.specs.declared.attempt.Attempt.{Attempt}
@@ -29,7 +29,7 @@ use Rattle.rx_find_ranks.specs.declared.open_pair.OpenPair.{OpenPair}
 -- the groups are those of the components of the open pairs, and are borrowed
 module _ (parts : RuleParts) (hypotheses : List Rule) (entries : List OpenPair) (names : List ℕ)
     (groups lent : List (Vec OpenPair Global))
-    (found : names ≡ names_of (length parts.symbols) (pairs_open entries))
+    (found : names ≡ representatives_of (length parts.symbols) (pairs_open entries))
     (grouped : groups_in groups ≡ by_component names entries) (same : lent ≡ groups) where
   abbrev n : ℕ
   n = length parts.symbols

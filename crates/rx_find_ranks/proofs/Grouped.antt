@@ -10,7 +10,7 @@ use Rattle.rx_graph.specs.Graph.{IsOver}
 use Rattle.rx_plain.proofs.Kept.{first_one, kept, other_one}
 use Rattle.rx_pairs.specs.Graph.{edges_of}
 use Rattle.rx_anchors.specs.Members.{is_member}
-use Rattle.rx_rank.specs.Components.{component_of, names_of}
+use Rattle.rx_rank.specs.Components.{component_of, representatives_of}
 use Rattle.rx_rank.proofs.NameLaws.{component_below, name_at}
 use Rattle.rx_find_ranks.specs.Groups.{by_component, entries_in, ungrouped}
 use Rattle.rx_find_ranks.specs.Tables.{has_number, pairs_open}
@@ -77,7 +77,8 @@ module _ (n : ℕ) (entries : List OpenPair) (over : IsOver n (edges_of (pairs_o
       (edges_of (pairs_open os)) within))
 
   -- each number of an entry is that of an entry in a group
-  pub numbers_grouped : (names : List ℕ) → names ≡ names_of n (pairs_open entries) → (k : ℕ) →
+  pub numbers_grouped : (names : List ℕ) → names ≡ representatives_of n (pairs_open entries) →
+      (k : ℕ) →
       has_number k entries ≡ true
       → has_number k (ungrouped (by_component names entries)) ≡ true
   numbers_grouped names found k some =

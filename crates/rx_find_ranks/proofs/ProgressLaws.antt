@@ -20,7 +20,7 @@ use Rattle.rx_find_ranks.proofs.HeightColumns.{heights_split}
 use Rattle.rx_anchors.specs.Members.{arity_of}
 use Rattle.rx_find_ranks.specs.Closing.{close_all}
 use Rattle.rx_find_ranks.specs.Between.{is_leaving, is_staying}
-use Rattle.rx_rank.specs.Components.{component_of, inside, is_inside, names_of}
+use Rattle.rx_rank.specs.Components.{component_of, inside, is_inside, representatives_of}
 use Rattle.rx_find_ranks.specs.Rounds.{IsGrown, IsSplitBy}
 use Rattle.rx_find_ranks.specs.Columns.{Column, column_of, columns_in, height_column}
 use Rattle.rx_find_ranks.specs.Tables.{IsLawful, IsSplit, pairs_open}
@@ -45,13 +45,13 @@ pairs_stay names [] = refl
 pairs_stay names (o ∷ os) = pairs_one names o os (is_staying names o) (pairs_stay names os)
 
 pub heights_pairs : (n : ℕ) (entries lent left : List OpenPair) (names lent_names : List ℕ) → lent ≡
-    entries → lent_names ≡ names → names ≡ names_of n (pairs_open lent)
+    entries → lent_names ≡ names → names ≡ representatives_of n (pairs_open lent)
     → left ≡ filter (is_staying lent_names) entries → pairs_open left ≡
     inside n (pairs_open entries)
 heights_pairs n entries lent left names lent_names same same_names found is =
     ap pairs_open is ∙ pairs_stay lent_names entries
     ∙ ap (λ ns. filter (is_inside ns) (pairs_open entries))
-    (same_names ∙ found ∙ ap (λ es. names_of n (pairs_open es)) same)
+    (same_names ∙ found ∙ ap (λ es. representatives_of n (pairs_open es)) same)
 
 abbrev EdgeWithin : ℕ → ℕ × ℕ → Type 0
 EdgeWithin n e = (e.0 < n) × (e.1 < n)
@@ -94,7 +94,7 @@ height_lawful infos heights f p e =
 -- ---- one column more
 
 pub record IsLeveled (n : ℕ) (entries : List OpenPair) (names heights : List ℕ) : Type 0 where
-  pub found : names ≡ names_of n (pairs_open entries)
+  pub found : names ≡ representatives_of n (pairs_open entries)
   pub components : AreComponents n (edges_of (pairs_open entries)) names
   pub high : AreHeights n (edges_of (pairs_open entries)) heights
   pub count : length heights ≡ n

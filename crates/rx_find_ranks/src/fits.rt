@@ -3,7 +3,7 @@ ghost use Rattle.std.specs.Prelude.{◌≡◌, ◌≤◌, ◌^◌, IfOk, IfSome,
 ghost use Rattle.rx_graph.specs.Graph.{IsOver};
 ghost use Rattle.rx_pairs.specs.Graph.{edges_of};
 ghost use Rattle.rx_rank.specs.Answers.{still_open, tried_as};
-ghost use Rattle.rx_rank.specs.Components.{names_of};
+ghost use Rattle.rx_rank.specs.Components.{representatives_of};
 ghost use Rattle.rx_rank.specs.Ranking.{polynomials};
 ghost use Rattle.rx_find_ranks.specs.Fits.{AreFits, AreTried};
 ghost use Rattle.rx_find_ranks.specs.Groups.{groups_in, ungrouped};
@@ -18,7 +18,7 @@ use rx_cert::Cert;
 use rx_fm::FmEnd;
 use rx_plain::{Items, NoMemory};
 use rx_poly::Poly;
-use rx_rank::{Attempt, Fit, PairMemo, find_names};
+use rx_rank::{Attempt, Fit, PairMemo, find_representatives};
 use rx_row::Constraint;
 use rx_term::{Rule, RuleParts};
 use std::alloc::Global;
@@ -37,13 +37,17 @@ pub(crate) struct Fits {
 }
 
 /// By symbol the least symbol of its component in the graph of the open pairs.
-fn names_open(alloc: Global, symbols: usize, entries: &[OpenPair]) -> Result<Vec<u32>, NoMemory>
+fn open_representatives(
+    alloc: Global,
+    symbols: usize,
+    entries: &[OpenPair],
+) -> Result<Vec<u32>, NoMemory>
     requires over { IsOver symbols (edges_of (pairs_open entries.now)) }
     requires few { symbols ≤ 2 ^ 32 }
-    ensures { IfOk result (λ names. names.items ≡ names_of symbols (pairs_open entries.now)) }
+    ensures { IfOk result (λ names. names.items ≡ representatives_of symbols (pairs_open entries.now)) }
 {
     let pairs = pairs_of(alloc, entries)?;
-    find_names(alloc, symbols, pairs.as_slice())
+    find_representatives(alloc, symbols, pairs.as_slice())
 }
 
 /// The fit of the entries in groups, if there is one, with these entries.
@@ -94,7 +98,7 @@ pub(crate) fn fit_all<S: FnMut(&Constraint) -> Result<Option<Cert>, FmEnd>>(
         polynomials parts.now hypotheses.now (pairs_open entries.items)) }
     ensures fits { IfOk result (λ t. IfSome t.made (AreFits parts.now.symbols entries.items)) }
 {
-    let components = names_open(alloc, parts.symbols.len(), entries.as_slice())?;
+    let components = open_representatives(alloc, parts.symbols.len(), entries.as_slice())?;
     let names = components.as_slice();
     let groups = group_entries(alloc, names, entries)?;
     let lent = groups.as_slice();

@@ -4,7 +4,7 @@ ghost use Rattle.rx_graph.specs.Components.{AreComponents};
 ghost use Rattle.rx_graph.specs.Graph.{IsOver};
 ghost use Rattle.rx_graph.specs.Heights.{AreHeights};
 ghost use Rattle.rx_pairs.specs.Graph.{edges_of};
-ghost use Rattle.rx_rank.specs.Components.{names_of};
+ghost use Rattle.rx_rank.specs.Components.{representatives_of};
 ghost use Rattle.rx_find_ranks.specs.Tables.{pairs_open};
 
 use crate::lending::pairs_of;
@@ -31,7 +31,7 @@ pub(crate) fn find_levels(
     requires over { IsOver symbols (edges_of (pairs_open entries.now)) }
     requires few { symbols ≤ 2 ^ 32 }
     ensures names { IfOk result (λ found. found.names.items ≡
-        names_of symbols (pairs_open entries.now)) }
+        representatives_of symbols (pairs_open entries.now)) }
     ensures heights { IfOk result (λ found. AreHeights symbols (edges_of (pairs_open entries.now))
         found.heights.items) }
     ensures components { IfOk result (λ found.

@@ -1,7 +1,7 @@
 //! Finding rank tables: in rounds, pairs are closed that fall by a column of heights, and then
 //! those that fall by a column of polynomials.
 //!
-//! Columns of a rank table as they are found: ranks by them, open pairs, how pairs are closed that
+//! Here are the columns as they are found: ranks by them, open pairs, how pairs are closed that
 //! fall by a column, and the groups of open pairs by component.
 //!
 //! What a reader may rely on: what each call answers is exactly what its definition in `specs/`

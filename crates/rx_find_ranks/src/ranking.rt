@@ -99,7 +99,7 @@ pub fn find_ranks_with<S: FnMut(&Constraint) -> Result<Option<Cert>, FmEnd>>(
     }
 }
 
-/// The same, with a memo of its own.
+/// A rank table as `find_ranks_with` finds it, with a memo of its own.
 pub fn find_ranks<S: FnMut(&Constraint) -> Result<Option<Cert>, FmEnd>>(
     alloc: Global,
     rules: &RuleSet,

@@ -35,8 +35,8 @@ fn raise(targets: &[u32], labels: &[u32], own: u32, heights: &mut [u32])
     }
 }
 
-/// The heights of the labels, for each vertex.
-fn named_heights(alloc: Global, labels: &[u32], heights: &[u32]) -> Result<Vec<u32>, NoMemory>
+/// For each vertex the height of its component, which is that of its label.
+fn component_heights(alloc: Global, labels: &[u32], heights: &[u32]) -> Result<Vec<u32>, NoMemory>
     requires { (a : ℕ) → a < length labels.now → slice_index labels.now a < length heights.now }
     ensures count { IfOk result (λ named. length named.items ≡ length labels.now) }
     ensures named { IfOk result (λ named. (a : ℕ) → a < length labels.now →
@@ -66,7 +66,7 @@ impl Graph {
         Ok(count_marked(marks.as_slice()))
     }
 
-    /// The same for each vertex.
+    /// For each vertex: how many vertices a path from it leads to, and the vertex itself.
     fn reach_counts(&self, alloc: Global) -> Result<Vec<usize>, NoMemory>
         requires closed { IsClosed (rows_of self.now.rows.items) }
         requires few { length self.now.rows.items ≤ 2 ^ 32 }
@@ -147,6 +147,6 @@ impl Graph {
         let counts = self.reach_counts(alloc)?;
         let mut raised = vec![in alloc; 0; self.rows.len()]?;
         self.raise_all(labels, counts.as_slice(), raised.as_mut_slice());
-        named_heights(alloc, labels, raised.as_slice())
+        component_heights(alloc, labels, raised.as_slice())
     }
 }

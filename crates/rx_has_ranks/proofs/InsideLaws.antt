@@ -11,7 +11,7 @@ use Rattle.rx_graph.specs.Graph.{IsOver, More, One, Path, below, is_edge, leads,
 use Rattle.rx_pairs.specs.Graph.{edges_of}
 use Rattle.rx_pairs.specs.declared.pair.Pair.{Pair}
 use Rattle.rx_anchors.specs.Members.{is_member, symbols_of}
-use Rattle.rx_rank.specs.Components.{inside, is_inside, names_of}
+use Rattle.rx_rank.specs.Components.{inside, is_inside, representatives_of}
 use Rattle.rx_rank.proofs.NameLaws.{name_at}
 
 -- two tests of which each passes where the other does
@@ -144,7 +144,7 @@ module _ (n : ℕ) (pairs : List Pair) (over : IsOver n (edges_of pairs)) where
   edges = edges_of pairs
 
   abbrev names : List ℕ
-  names = names_of n pairs
+  names = representatives_of n pairs
 
   within : (a b : ℕ) → leads edges a b ≡ true → (a < n) × (b < n)
   within = lead_below n edges over
@@ -169,7 +169,7 @@ module _ (n : ℕ) (pairs : List Pair) (over : IsOver n (edges_of pairs)) where
       ∙ sym (component_joined n edges within a b (inr (One a b is, back)) ends.1)
       ∙ sym (ap component left))
 
-  pub names_inside : names_of n (inside n pairs) ≡ names
+  pub names_inside : representatives_of n (inside n pairs) ≡ names
   names_inside = λ i. map (λ a. component_same n edges (edges_of (inside n pairs)) within
       (λ a b is. fewer_lead (is_inside names) a b pairs is)
       (λ a b is back. passing_lead (is_inside names) a b (comes_back a b is back) pairs is) a i)

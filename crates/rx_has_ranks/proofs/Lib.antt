@@ -2,5 +2,5 @@
 pub mod DecidingLaws
 pub mod FilteredPairs
 pub mod InsideLaws
-pub mod KeptNames
+pub mod KeptComponents
 pub mod StayingLaws

@@ -13,7 +13,7 @@ use Rattle.rx_graph.specs.Graph.{IsOver}
 use Rattle.rx_pairs.specs.Graph.{edges_of}
 use Rattle.rx_pairs.specs.declared.pair.Pair.{Pair}
 use Rattle.rx_rank.specs.Answers.{pairs_at, still_open}
-use Rattle.rx_rank.specs.Components.{names_of, pairs_in}
+use Rattle.rx_rank.specs.Components.{representatives_of, pairs_in}
 use Rattle.rx_rank.specs.Ranking.{component, polynomials, tried_in, unless_empty}
 use Rattle.rx_rank.specs.Tries.{after, all_made, noting}
 use Rattle.rx_rank.proofs.AllMade.{component_failed, component_made, no_component}
@@ -171,7 +171,7 @@ module _ (parts : RuleParts) (hypotheses : List Rule) (pairs : List Pair) where
   n = length parts.symbols
 
   abbrev tries : List ℕ → List (Tried (List Pair))
-  tries fs = map (tried_in parts hypotheses (names_of n pairs) pairs) fs
+  tries fs = map (tried_in parts hypotheses (representatives_of n pairs) pairs) fs
 
   -- what is left of the components so far, and the components after them decide
   pub record IsLeft (c : ℕ) (noted : Bool) (left : List Pair) : Type 0 where
@@ -197,9 +197,9 @@ module _ (parts : RuleParts) (hypotheses : List Rule) (pairs : List Pair) where
   module _ (c : ℕ) (noted : Bool) (left : List Pair) (is : IsLeft c noted left) where
     module _ (less : c < n) (made : Option (List Pair)) (more : Bool)
         (tried : record { made = made; noted = more } ≡
-        tried_in parts hypotheses (names_of n pairs) pairs c) where
+        tried_in parts hypotheses (representatives_of n pairs) pairs c) where
       opened : noting noted (after left (all_made
-          (tried_in parts hypotheses (names_of n pairs) pairs c ∷
+          (tried_in parts hypotheses (representatives_of n pairs) pairs c ∷
           tries (range_with_len (c + 1) (n - (c + 1)))))) ≡ polynomials parts hypotheses pairs
       opened =
           sym (ap (λ fs. noting noted (after left (all_made (tries fs)))) (next_symbol c n less)) ∙
@@ -213,7 +213,7 @@ module _ (parts : RuleParts) (hypotheses : List Rule) (pairs : List Pair) where
             (λ i. noting (noted || more) (after (longer i) (all_made
             (tries (range_with_len (c + 1) (n - (c + 1)))))))
             ∙ component_made noted left (polynomials parts hypotheses pairs)
-            (tried_in parts hypotheses (names_of n pairs) pairs c)
+            (tried_in parts hypotheses (representatives_of n pairs) pairs c)
             (tries (range_with_len (c + 1) (n - (c + 1)))) opened (left ++ mine) more
             ((λ i. record { made = option_map (λ ys. left ++ ys) (sym some i); noted = more }) ∙
             ap (after left) tried);
@@ -227,7 +227,7 @@ module _ (parts : RuleParts) (hypotheses : List Rule) (pairs : List Pair) where
           polynomials parts hypotheses pairs
       left_failed none =
           component_failed noted left (polynomials parts hypotheses pairs)
-          (tried_in parts hypotheses (names_of n pairs) pairs c)
+          (tried_in parts hypotheses (representatives_of n pairs) pairs c)
           (tries (range_with_len (c + 1) (n - (c + 1)))) opened more
           ((λ i. record { made = option_map (λ ys. left ++ ys) (sym none i); noted = more }) ∙
           ap (after left) tried)

@@ -46,7 +46,7 @@ fn decide_from<S: FnMut(&Constraint) -> Result<Option<Cert>, FmEnd>>(
     ensures tried { IfOk result (λ t. tried_only t ≡
         ranking_from parts.now hypotheses.now left (pairs_at pairs.now)) }
 {
-    let opened = open_pairs(alloc, parts, pairs, &mut memo.names)?;
+    let opened = open_pairs(alloc, parts, pairs, &mut memo.components)?;
     if opened.pairs.len() == 0 {
         return Ok(Attempt {
             made: Some(()),

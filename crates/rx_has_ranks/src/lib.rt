@@ -6,8 +6,8 @@
 //! the limits (`specs/HasRanks`). The solver stays one.
 #![tactic(auto)]
 
+mod components_memo;
 mod deciding;
-mod names_memo;
 mod rank_memo;
 mod staying;
 

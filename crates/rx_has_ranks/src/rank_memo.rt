@@ -1,7 +1,7 @@
 //! What rankings found out, from one to the next.
 ghost use Rattle.std.specs.Prelude.{◌≡◌};
 
-use crate::names_memo::NamesMemo;
+use crate::components_memo::ComponentsMemo;
 use rx_rank::PairMemo;
 use std::alloc::Global;
 
@@ -9,7 +9,7 @@ use std::alloc::Global;
 #[derive(Drop)]
 pub struct RankMemo {
     /// The components of graphs of pairs.
-    pub(crate) names: NamesMemo,
+    pub(crate) components: ComponentsMemo,
     /// The tests of pairs.
     pub pairs: PairMemo,
 }
@@ -20,7 +20,7 @@ impl RankMemo {
         ensures pairs { result.pairs ≡ 0 }
     {
         RankMemo {
-            names: NamesMemo::new(alloc),
+            components: ComponentsMemo::new(alloc),
             pairs: PairMemo::new(alloc),
         }
     }

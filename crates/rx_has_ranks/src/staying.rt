@@ -6,11 +6,11 @@ ghost use Rattle.std.specs.Option.{option_map_or};
 ghost use Rattle.rx_graph.specs.Graph.{IsOver};
 ghost use Rattle.rx_pairs.specs.Graph.{edges_of};
 ghost use Rattle.rx_rank.specs.Answers.{pairs_at, still_open, tried_as};
-ghost use Rattle.rx_rank.specs.Components.{inside, is_inside, names_of, pairs_in};
+ghost use Rattle.rx_rank.specs.Components.{inside, is_inside, representatives_of, pairs_in};
 ghost use Rattle.rx_rank.specs.Ranking.{polynomials, tried_in};
 ghost use Rattle.rx_solve.specs.Answers.{IsSolver};
 
-use crate::names_memo::NamesMemo;
+use crate::components_memo::ComponentsMemo;
 use rx_anchors::is_member;
 use rx_cert::Cert;
 use rx_fm::FmEnd;
@@ -54,18 +54,18 @@ pub(crate) fn open_pairs<'a>(
     alloc: Global,
     parts: &RuleParts,
     pairs: &[&'a Pair],
-    memo: &mut NamesMemo,
+    memo: &mut ComponentsMemo,
 ) -> Result<OpenPairs<'a>, NoMemory>
     requires over { IsOver (length parts.now.symbols) (edges_of (pairs_at pairs.now)) }
     requires few { length parts.now.symbols ≤ 2 ^ 32 }
     ensures pairs { IfOk result (λ o. pairs_at o.pairs.items ≡
         inside (length parts.now.symbols) (pairs_at pairs.now)) }
     ensures names { IfOk result (λ o. o.names.items ≡
-        names_of (length parts.now.symbols) (pairs_at o.pairs.items)) }
+        representatives_of (length parts.now.symbols) (pairs_at o.pairs.items)) }
     ensures over { IfOk result (λ o.
         IsOver (length parts.now.symbols) (edges_of (pairs_at o.pairs.items))) }
 {
-    let names = memo.names(alloc, parts.symbols.len(), pairs)?;
+    let names = memo.representatives(alloc, parts.symbols.len(), pairs)?;
     let left = inside_of(alloc, names.as_slice(), pairs)?;
     Ok(OpenPairs { names, pairs: left })
 }
@@ -183,7 +183,7 @@ pub(crate) fn left_after<'a, S: FnMut(&Constraint) -> Result<Option<Cert>, FmEnd
     requires solver { IsSolver S.FnMut solve.old }
     requires over { IsOver (length parts.now.symbols) (edges_of (pairs_at opened.now.pairs.items)) }
     requires names { opened.now.names.items ≡
-        names_of (length parts.now.symbols) (pairs_at opened.now.pairs.items) }
+        representatives_of (length parts.now.symbols) (pairs_at opened.now.pairs.items) }
     requires few { length parts.now.symbols ≤ 2 ^ 32 }
     ensures solver { IsSolver S.FnMut solve.new }
     ensures tried { IfOk result (λ t. tried_as (λ left. pairs_at left.items) t ≡

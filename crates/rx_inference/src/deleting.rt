@@ -17,7 +17,7 @@ use rx_row::Row;
 use rx_term::Equation;
 use std::alloc::{AllocError, Global};
 
-/// Both sides are equal, polynomial by polynomial.
+/// What deleting makes of a goal whose sides are to be equal, polynomial by polynomial.
 fn equal_by(alloc: Global, goal: &Equation) -> Result<FormedStep, PolyEnd>
     ensures forms { Forms PolyEnd.Large result (equal_by goal.now) }
 {

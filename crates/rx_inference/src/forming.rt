@@ -33,7 +33,7 @@ fn equation(
     })
 }
 
-/// The goal is an instance of a new one, of these parts.
+/// What generalising makes of the goal, which is to be an instance of a new one of these parts.
 fn generalise_to(
     alloc: Global,
     rules: &RuleParts,

@@ -61,7 +61,7 @@ fn instance_rows(
     Ok(rows)
 }
 
-/// The new goal in place of the old one.
+/// What generalising makes of the goal: the new goal, of which the old one is an instance.
 fn generalise_by(
     alloc: Global,
     goal: &Equation,
@@ -74,7 +74,7 @@ fn generalise_by(
     Ok(asking_for(alloc, rows, new)?)
 }
 
-/// The goal is an instance of a new one.
+/// What generalising makes of the goal, which is to be an instance of the new one.
 pub(crate) fn generalise(
     alloc: Global,
     rules: &RuleParts,

@@ -34,7 +34,8 @@ fn inner_goal(
     })
 }
 
-/// What the frames are over is to be equal.
+/// What decomposing makes of a goal whose sides are frames of one symbol over these terms, with
+/// these polynomials: that the terms are equal.
 fn decompose_by(
     alloc: Global,
     goal: &Equation,
@@ -51,7 +52,7 @@ fn decompose_by(
     Ok(asking_for(alloc, rows, made)?)
 }
 
-/// Both sides are frames of one symbol.
+/// What decomposing makes of the goal, whose sides are to be frames of one symbol.
 pub(crate) fn decompose(alloc: Global, goal: &Equation) -> Result<FormedStep, FormEnd>
     ensures { Gives result (decomposed goal.now) }
 {

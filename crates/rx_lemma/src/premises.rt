@@ -22,7 +22,7 @@ fn see_polys(polys: &[Poly])
     }
 }
 
-/// So are those of rows.
+/// The polynomials of rows are normal forms within the limits.
 fn see_rows(rows: &[Row])
     ensures { list_all (λ row. is_poly (poly_of row)) rows.now ≡ true }
 {
@@ -31,7 +31,7 @@ fn see_rows(rows: &[Row])
     }
 }
 
-/// So are those of a term.
+/// The polynomials of a term are normal forms within the limits.
 #[tactic(auto, using(crate::proofs::NormalForms::in_return, crate::proofs::NormalForms::in_fail, crate::proofs::NormalForms::in_call, crate::proofs::NormalForms::after_frame))]
 fn see_term(term: &Term)
     ensures { list_all is_poly (arguments_of term.now) ≡ true }

@@ -101,7 +101,8 @@ fn count_same(all: &[Occurrence], one: &Occurrence) -> usize
     count
 }
 
-/// Whether it is no variable alone, and occurs twice or more at its place of its symbol.
+/// Whether the occurring polynomial is no variable alone, and occurs twice or more at its place of
+/// its symbol.
 #[tactic(auto, unfolding(crate::specs::Repeated::is_repeated))]
 fn is_repeated(all: &[Occurrence], one: &Occurrence) -> bool
     ensures { result ≡ spec.is_repeated all.now one.now }
@@ -109,7 +110,7 @@ fn is_repeated(all: &[Occurrence], one: &Occurrence) -> bool
     one.poly.as_variable().is_none() && count_same(all, one) >= 2
 }
 
-/// Whether it is that polynomial, and occurs so.
+/// Whether the occurrence is of that polynomial, and is repeated.
 #[tactic(auto, unfolding(crate::specs::Repeated::is_taken_by))]
 fn is_taken_by(all: &[Occurrence], poly: &Poly, one: &Occurrence) -> bool
     ensures { result ≡ spec.is_taken_by all.now poly.now one.now }
@@ -117,7 +118,7 @@ fn is_taken_by(all: &[Occurrence], poly: &Poly, one: &Occurrence) -> bool
     is_same_poly(&one.poly, poly) && is_repeated(all, one)
 }
 
-/// Whether the polynomial is so somewhere.
+/// Whether an occurrence of the polynomial is repeated.
 fn is_taken(all: &[Occurrence], poly: &Poly) -> bool
     ensures { result ≡ spec.is_taken all.now poly.now }
 {

@@ -41,7 +41,7 @@ fn replaced_by(alloc: Global, with: &[(u32, Poly)], poly: &Poly) -> Result<Poly,
     poly.try_clone(alloc)
 }
 
-/// So for each of the polynomials.
+/// The polynomials, each with its variable in its place, if it has one.
 fn replaced_polys(
     alloc: Global,
     with: &[(u32, Poly)],

@@ -21,10 +21,10 @@ use Rattle.rx_log.specs.declared.log.Log.{Log}
 -- ---- faults
 
 -- a place at which the limits can be passed, by its number: the trees of a symbol, a step, a pair
-pub data Place : Type 0 where
-  AtCover : ℕ → Place
-  AtStep : ℕ → Place
-  AtPair : ℕ → Place
+pub data LimitAt : Type 0 where
+  AtCover : ℕ → LimitAt
+  AtStep : ℕ → LimitAt
+  AtPair : ℕ → LimitAt
 
 -- the first thing that is wrong: a symbol that isn't covered, a step and why it doesn't apply, how
 -- many goals are left, a symbol without a lawful rank, a pair that isn't lower, or a place that
@@ -35,7 +35,7 @@ pub data LogFault : Type 0 where
   Unfinished : ℕ → LogFault
   BadRanks : ℕ → LogFault
   NotLower : ℕ → LogFault
-  PassesLimits : Place → LogFault
+  PassesLimits : LimitAt → LogFault
 
 -- what a check comes to, or the fault
 abbrev pub Checked : Type 0 → Type 0

@@ -5,8 +5,8 @@ use Rattle.rx_log.specs.Lines.{before_end, before_ranks, log_lines}
 use Rattle.rx_log.specs.declared.line.Line.{Line}
 use Rattle.rx_log.specs.declared.line.Line.TheVariants as line
 use Rattle.rx_log.specs.declared.log.Log.{Log}
-use Rattle.rx_log.specs.declared.place.Place.{Place}
-use Rattle.rx_log.specs.declared.place.Place.TheVariants.{AtHeader, InCovers, InSteps, InRanks, InPairs, Finished}
+use Rattle.rx_log.specs.declared.line_state.LineState.{LineState}
+use Rattle.rx_log.specs.declared.line_state.LineState.TheVariants.{AtHeader, InCovers, InSteps, InRanks, InPairs, Finished}
 
 -- the ranks of no symbols, in one column
 abbrev pub no_ranks : RankTable
@@ -28,7 +28,7 @@ pushed (line.Pair pair) log = record log { pairs = log.pairs ++ pair ∷ [] }
 pushed line.End log = log
 
 -- the lines of a log up to a place
-abbrev pub lines_to : Place → Log → List (Line × ℕ)
+abbrev pub lines_to : LineState → Log → List (Line × ℕ)
 lines_to AtHeader log = []
 lines_to (InCovers next) log = before_ranks log
 lines_to InSteps log = before_ranks log
@@ -41,7 +41,7 @@ abbrev pub IsBeforeRanks : Log → Type 0
 IsBeforeRanks log = (log.table ≡ no_ranks) × (log.pairs ≡ [])
 
 -- the place is the one up to which the log was read
-abbrev pub IsAt : Place → Log → Type 0
+abbrev pub IsAt : LineState → Log → Type 0
 IsAt AtHeader log = log ≡ blank
 IsAt (InCovers next) log =
     (next ≡ length log.covers) × ((log.steps ≡ []) × IsBeforeRanks log)

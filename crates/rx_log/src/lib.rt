@@ -2,9 +2,9 @@
 #![tactic(auto)]
 
 mod line;
+mod line_state;
 mod log;
-mod place;
 
 pub use line::Line;
+pub use line_state::LineState;
 pub use log::Log;
-pub use place::Place;

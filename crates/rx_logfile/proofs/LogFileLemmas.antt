@@ -14,8 +14,8 @@ use Rattle.rx_log.specs.Places.{after}
 use Rattle.rx_log.specs.Reading.{blank, lines_to, pushed}
 use Rattle.rx_log.specs.declared.line.Line.{Line}
 use Rattle.rx_log.specs.declared.log.Log.{Log}
-use Rattle.rx_log.specs.declared.place.Place.{Place}
-use Rattle.rx_log.specs.declared.place.Place.TheVariants.{AtHeader, InCovers, InSteps, InRanks, InPairs, Finished}
+use Rattle.rx_log.specs.declared.line_state.LineState.{LineState}
+use Rattle.rx_log.specs.declared.line_state.LineState.TheVariants.{AtHeader, InCovers, InSteps, InRanks, InPairs, Finished}
 use Rattle.rx_logtext.specs.Logs.{IsFirstBad, IsLog, ended, line_texts, up_to_feed}
 use Rattle.rx_logtext.specs.Readers as text
 use Rattle.rx_logtext.specs.Readers.{MayLead, Takes, has_bad, place_of, taken_of}
@@ -39,7 +39,8 @@ no_lines [] left e = refl
 no_lines ([] ∷ texts) left e = absurd (cc)
 no_lines ((byte ∷ bytes) ∷ texts) left e = absurd (cc)
 
-at_header : (place : Place) (log : Log) → line_texts (lines_to place log) ≡ [] → place ≡ AtHeader
+at_header : (place : LineState) (log : Log) → line_texts (lines_to place log) ≡ [] → place ≡
+    AtHeader
 at_header AtHeader log e = refl
 at_header (InCovers next) log e = absurd (cc)
 at_header InSteps log e = absurd (cc)
@@ -47,7 +48,7 @@ at_header (InRanks columns next) log e = absurd (cc)
 at_header InPairs log e = absurd (cc)
 at_header Finished log e = absurd (cc)
 
-same_place : {x y : Place} → Some x ≡ Some y → x ≡ y
+same_place : {x y : LineState} → Some x ≡ Some y → x ≡ y
 same_place e = cc
 
 pub starts : {check : LogCheck} {log : Log} (parts : RuleParts) (goal : Equation) →
@@ -78,10 +79,10 @@ stands_first {check} parts goal reader replayer =
 
 -- ---- a line
 
-pub may_come : {check : LogCheck} (line : Line) (next : Place) → IsInStep check →
+pub may_come : {check : LogCheck} (line : Line) (next : LineState) → IsInStep check →
     MayLead (place_of check.reader) line next → MayCome (place_after check.replayer) line
 may_come line next step (symbol, leads) =
-    (symbol, next, ap (λ (p : Place). after p (line, symbol)) step.place ∙ leads)
+    (symbol, next, ap (λ (p : LineState). after p (line, symbol)) step.place ∙ leads)
 
 replayed_of : {check : LogCheck} {parts : RuleParts} {goal : Equation} {bytes : List ℕ}
     (h : StandsFor check parts goal bytes) → has_bad check.reader ≡ false →
@@ -102,7 +103,7 @@ pub line_replayed : {old new : LogCheck} {parts : RuleParts} {goal : Equation} {
     (piece : List ℕ) (count : ℕ) (line : Line) (h : StandsFor old parts goal bytes)
     → Takes old.reader h.log h.front piece new.reader (Ok (count, Some line)) → IsInStep old →
     MayLead (place_of old.reader) line (place_of new.reader)
-    → ((its : List (Line × ℕ)) (symbol : ℕ) (behind : Place) →
+    → ((its : List (Line × ℕ)) (symbol : ℕ) (behind : LineState) →
     lines.StandsFor old.replayer parts goal its →
     after (place_after old.replayer) (line, symbol) ≡ Some behind →
     lines.StandsFor new.replayer parts goal (its ++ (line, symbol) ∷ []))
@@ -110,7 +111,7 @@ pub line_replayed : {old new : LogCheck} {parts : RuleParts} {goal : Equation} {
 line_replayed {old} {new} {parts} {goal} {bytes} piece count line h t step (symbol, leads) replays =
     let r = replayed_of h t.0 in
     let comes : after (place_after old.replayer) (line, symbol) ≡ Some (place_of new.reader) =
-    ap (λ (p : Place). after p (line, symbol)) step.place ∙ leads in
+    ap (λ (p : LineState). after p (line, symbol)) step.place ∙ leads in
     let replayed : IsReplayed new parts goal (pushed line h.log) [] = record {
       its = r.its ++ (line, symbol) ∷ [];
       are =

@@ -94,7 +94,7 @@ impl LogCheck {
         Ok(())
     }
 
-    /// What is said of the log, whose whole text was taken.
+    /// Whether the log is accepted, of which the whole text was taken, or why not.
     pub fn finish(self, rules: &RuleSet) -> Result<(), FileEnd>
         requires room { lines_in self + 1 < 2 ^ 64 }
         requires step { IsInStep self }

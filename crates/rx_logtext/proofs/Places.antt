@@ -16,8 +16,8 @@ use Rattle.rx_log.specs.Places.{after}
 use Rattle.rx_log.specs.Reading.{IsAt, IsBeforeRanks, lines_to, pushed}
 use Rattle.rx_log.specs.declared.line.Line.{Line}
 use Rattle.rx_log.specs.declared.line.Line.TheVariants as line
-use Rattle.rx_log.specs.declared.place.Place.{Place}
-use Rattle.rx_log.specs.declared.place.Place.TheVariants.{AtHeader, InCovers, InSteps, InRanks, InPairs, Finished}
+use Rattle.rx_log.specs.declared.line_state.LineState.{LineState}
+use Rattle.rx_log.specs.declared.line_state.LineState.TheVariants.{AtHeader, InCovers, InSteps, InRanks, InPairs, Finished}
 
 -- one thing more is one line more, with the next number
 pub by_symbol-push : {A : Type 0} (make : A → Line) (k : ℕ) (xs : List A) (x : A) (n : ℕ) → n ≡ k +
@@ -49,7 +49,8 @@ alone_after b y c s r e f g = rw (e, f, g) refl
 
 -- what was read up to the place, the line, and the place after it: the log with the line is read up
 -- to there
-pub record Moves (place : Place) (log : Log) (read : Line) (symbol : ℕ) (next : Place) : Type 0
+pub record Moves (place : LineState) (log : Log) (read : Line) (symbol : ℕ) (next : LineState) :
+    Type 0
   where
     pub at : IsAt next (pushed read log)
     pub widths : has_widths (pushed read log) ≡ true
@@ -59,12 +60,12 @@ some-injective : {A : Type 0} {x y : A} → Some x ≡ Some y → x ≡ y
 some-injective e = cc
 
 -- a choice of a place that is made
-chosen : (b : Bool) (x y : Place) → (if b then Some x else None) ≡ Some y → (b ≡ true) × (x ≡ y)
+chosen : (b : Bool) (x y : LineState) → (if b then Some x else None) ≡ Some y → (b ≡ true) × (x ≡ y)
 chosen true x y e = (refl, some-injective e)
 chosen false x y e = absurd (cc)
 
 -- the same move to an equal place, with an equal symbol
-moved : (place : Place) (log : Log) (read : Line) (m n : ℕ) (x y : Place) → m ≡ n → x ≡ y →
+moved : (place : LineState) (log : Log) (read : Line) (m n : ℕ) (x y : LineState) → m ≡ n → x ≡ y →
     Moves place log read n x → Moves place log read m y
 moved place log read m n x y e f h =
     subst (λ k. Moves place log read k y) (sym e) (subst (λ next. Moves place log read n next) f h)
@@ -92,7 +93,7 @@ cover log trees n at w = record {
       (by_symbol-push line.Cover 0 log.covers trees n k) (ap (plain line.Step) at.1.0));
 }
 
-step : (place : Place) (log : Log) (taken : Step) → IsBeforeRanks log → has_widths log ≡ true →
+step : (place : LineState) (log : Log) (taken : Step) → IsBeforeRanks log → has_widths log ≡ true →
     lines_to place log ≡ before_ranks log → Moves place log (line.Step taken) 0 InSteps
 step place log taken at w e = record {
   at = at;
@@ -100,7 +101,7 @@ step place log taken at w e = record {
   lines = rw e (simp (plain-push, append_assoc));
 }
 
-ranks : (place : Place) (log : Log) (columns : ℕ) → IsBeforeRanks log → lines_to place log ≡
+ranks : (place : LineState) (log : Log) (columns : ℕ) → IsBeforeRanks log → lines_to place log ≡
     before_ranks log → Moves place log (line.Ranks columns) 0 (InRanks columns 0)
 ranks place log columns at e = record {
   at = (refl, (rw at.0 refl, at.1));
@@ -135,12 +136,14 @@ rank log columns n new at w e = record {
       (by_symbol-push line.Rank 0 log.table.ranks new n k) (ap (plain line.Pair) at.1.1);
 }
 
-pair : (place : Place) (log : Log) (new : PairCert) → has_widths log ≡ true → lines_to place log ≡
+pair : (place : LineState) (log : Log) (new : PairCert) → has_widths log ≡ true → lines_to place log
+    ≡
     before_end log → Moves place log (line.Pair new) 0 InPairs
 pair place log new w e =
     record { at = tt; widths = w; lines = rw e (simp (plain-push, append_assoc)) }
 
-end : (place : Place) (log : Log) → has_widths log ≡ true → lines_to place log ≡ before_end log →
+end : (place : LineState) (log : Log) → has_widths log ≡ true → lines_to place log ≡ before_end log
+    →
     Moves place log line.End 0 Finished
 end place log w e =
     record {
@@ -155,13 +158,15 @@ end place log w e =
 zero_symbol : (m : ℕ) → eqb m 0 ≡ true → m ≡ 0
 zero_symbol m e = eqb-true m 0 e
 
-place_of : {place : Place} {log : Log} {read : Line} {m : ℕ} {x y : Place} → m ≡ 0 → Some x ≡
+place_of : {place : LineState} {log : Log} {read : Line} {m : ℕ} {x y : LineState} → m ≡ 0 → Some x
+    ≡
     Some y → Moves place log read 0 x → Moves place log read m y
 place_of {place} {log} {read} {m} {x} {y} e f h =
     moved place log read m 0 x y e (some-injective f) h
 
 -- a cover of the symbol that is next
-cover_next : (log : Log) (trees : List CoverTree) (n m : ℕ) (next : Place) → IsAt (InCovers n) log →
+cover_next : (log : Log) (trees : List CoverTree) (n m : ℕ) (next : LineState) → IsAt (InCovers n)
+    log →
     has_widths log ≡ true → after (InCovers n) (line.Cover trees, m) ≡ Some next →
     Moves (InCovers n) log (line.Cover trees) m next
 cover_next log trees n m next at w a =
@@ -169,13 +174,13 @@ cover_next log trees n m next at w a =
     moved (InCovers n) log (line.Cover trees) m n (InCovers (n + 1)) next (eqb-true m n c.0) c.1
     (cover log trees n at w)
 
-both_chosen : (b c : Bool) (x y : Place) → (if b then (if c then Some x else None) else None) ≡
+both_chosen : (b c : Bool) (x y : LineState) → (if b then (if c then Some x else None) else None) ≡
     Some y → (b ≡ true) × ((c ≡ true) × (x ≡ y))
 both_chosen true c x y e = (refl, chosen c x y e)
 both_chosen false c x y e = absurd (cc)
 
 -- a rank of the symbol that is next
-rank_next : (log : Log) (columns n m : ℕ) (new : List Body) (next : Place) →
+rank_next : (log : Log) (columns n m : ℕ) (new : List Body) (next : LineState) →
     IsAt (InRanks columns n) log → has_widths log ≡ true →
     after (InRanks columns n) (line.Rank new, m) ≡ Some next →
     Moves (InRanks columns n) log (line.Rank new) m next
@@ -186,7 +191,8 @@ rank_next log columns n m new next at w a =
     (rank log columns n new at w (eqb-true (length new) columns c.1.0))
 
 -- where a line in range may come, the log with it is read up to the place after it
-pub moves : (place : Place) (log : Log) (read : Line) (m : ℕ) (next : Place) → IsAt place log →
+pub moves : (place : LineState) (log : Log) (read : Line) (m : ℕ) (next : LineState) → IsAt place
+    log →
     has_widths log ≡ true → is_readable_line read m ≡ true → after place (read, m) ≡ Some next →
     Moves place log read m next
 moves AtHeader log line.Header m next at w r a = place_of (zero_symbol m r) a (header log at)

@@ -22,8 +22,8 @@ use Rattle.rx_log.specs.Reading.{IsAt, IsBeforeRanks, lines_to, pushed}
 use Rattle.rx_logtext.specs.Reading.{HasTaken, MayCome}
 use Rattle.rx_log.specs.declared.line.Line.{Line}
 use Rattle.rx_log.specs.declared.line.Line.TheVariants as line
-use Rattle.rx_log.specs.declared.place.Place.{Place}
-use Rattle.rx_log.specs.declared.place.Place.TheVariants.{AtHeader, InCovers, InSteps, InRanks, InPairs, Finished}
+use Rattle.rx_log.specs.declared.line_state.LineState.{LineState}
+use Rattle.rx_log.specs.declared.line_state.LineState.TheVariants.{AtHeader, InCovers, InSteps, InRanks, InPairs, Finished}
 use Rattle.rx_logtext.proofs.Places.{moves}
 
 -- ---- tests of two facts
@@ -37,8 +37,8 @@ line_texts-push : (its : List (Line × ℕ)) (it : Line × ℕ) → line_texts (
     line_texts its ++ lines.text it ∷ []
 line_texts-push its it = map-append lines.text its (it ∷ [])
 
-pub takes : (place : Place) (log : Log) (texts : List (List ℕ)) (bytes : List ℕ) (read : Line)
-    (m : ℕ) (next : Place) → HasTaken place log texts → IsText lines bytes (read, m) →
+pub takes : (place : LineState) (log : Log) (texts : List (List ℕ)) (bytes : List ℕ) (read : Line)
+    (m : ℕ) (next : LineState) → HasTaken place log texts → IsText lines bytes (read, m) →
     after place (read, m) ≡ Some next → HasTaken next (pushed read log) (texts ++ bytes ∷ [])
 takes place log texts bytes read m next h t a =
     let v = moves place log read m next h.at h.widths t.in_range a in
@@ -54,7 +54,7 @@ takes place log texts bytes read m next h t a =
           ap (λ (b : List ℕ). texts ++ b ∷ []) (sym t.text));
       arrives =
           rw v.lines (after_all-append (Some AtHeader) (lines_to place log) ((read, m) ∷ []) ∙
-          ap (λ (p : Option Place). after_all p ((read, m) ∷ [])) h.arrives ∙ a);
+          ap (λ (p : Option LineState). after_all p ((read, m) ∷ [])) h.arrives ∙ a);
     }
 
 -- ---- whole logs come to the end
@@ -67,7 +67,7 @@ covers_run k (x ∷ xs) =
     let f : (k + 1) + length xs ≡ k + length (x ∷ xs) = omega arith in
     let g : after (InCovers k) (line.Cover x, k) ≡ Some (InCovers (k + 1)) =
     ap (λ (b : Bool). if b then Some (InCovers (k + 1)) else None) e in
-    ap (λ (at : Option Place). after_all at (by_symbol line.Cover (k + 1) xs)) g ∙
+    ap (λ (at : Option LineState). after_all at (by_symbol line.Cover (k + 1) xs)) g ∙
     covers_run (k + 1) xs ∙ ap (λ (n : ℕ). Some (InCovers n)) f
 
 ranks_run : (columns k : ℕ) (xs : List (List Body)) →
@@ -83,7 +83,7 @@ ranks_run columns k (x ∷ xs) w =
     ap (λ (b : Bool). if b then (if eqb (length x) columns then Some (InRanks columns (k + 1)) else
     None) else None) e
     ∙ ap (λ (b : Bool). if b then Some (InRanks columns (k + 1)) else None) g in
-    ap (λ (at : Option Place). after_all at (by_symbol line.Rank (k + 1) xs)) h ∙
+    ap (λ (at : Option LineState). after_all at (by_symbol line.Rank (k + 1) xs)) h ∙
     ranks_run columns (k + 1) xs (and_second _ _ w) ∙ ap (λ (n : ℕ). Some (InRanks columns n)) f
 
 later_steps : (xs : List Step) (columns : ℕ) (more : List (Line × ℕ)) →
@@ -130,12 +130,12 @@ log_runs log w =
     ≡ after_all (Some (InCovers (0 + length log.covers)))
     (s ++ (line.Ranks columns, 0) ∷ (k ++ p)) =
     after_all-append (Some (InCovers 0)) c (s ++ (line.Ranks columns, 0) ∷ (k ++ p)) ∙
-    ap (λ (at : Option Place). after_all at (s ++ (line.Ranks columns, 0) ∷ (k ++ p)))
+    ap (λ (at : Option LineState). after_all at (s ++ (line.Ranks columns, 0) ∷ (k ++ p)))
     (covers_run 0 log.covers) in
     let over_ranks : after_all (Some (InRanks columns 0)) (k ++ p) ≡
     after_all (Some (InRanks columns (0 + length log.table.ranks))) p =
     after_all-append (Some (InRanks columns 0)) k p ∙
-    ap (λ (at : Option Place). after_all at p) (ranks_run columns 0 log.table.ranks w) in
+    ap (λ (at : Option LineState). after_all at p) (ranks_run columns 0 log.table.ranks w) in
     whole ∙ over_covers ∙ steps_run (0 + length log.covers) log.steps columns (k ++ p) ∙
     over_ranks ∙ pairs_run columns (0 + length log.table.ranks) log.pairs
 
@@ -148,7 +148,7 @@ of_widths : (log : Log) → has_ranges log ≡ true → has_widths log ≡ true
 of_widths log h = and_second _ _ h
 
 -- the lines of a log up to a place, and those after it
-record Parts (place : Place) (log : Log) : Type 0 where
+record Parts (place : LineState) (log : Log) : Type 0 where
   behind : List (Line × ℕ)
   whole : log_lines log ≡ lines_to place log ++ behind
   in_range : list_all lines.in_range behind ≡ true
@@ -157,7 +157,7 @@ soon : {A : Type 0} (b y k p : List A) (r s e : A) → y ≡ b → k ≡ [] → 
     (b ++ r ∷ (k ++ p)) ++ e ∷ [] ≡ y ++ s ∷ e ∷ []
 soon b y k p r s e f g h i = rw (f, g, h, i) (simp append_assoc)
 
-ended_soon : (log : Log) (place : Place) → IsBeforeRanks log → lines_to place log ≡
+ended_soon : (log : Log) (place : LineState) → IsBeforeRanks log → lines_to place log ≡
     before_ranks log → Parts place log
 ended_soon log place at e = record {
   behind = (line.Ranks 1, 0) ∷ (line.End, 0) ∷ [];
@@ -171,7 +171,7 @@ ended_soon log place at e = record {
   in_range = refl;
 }
 
-parts : (place : Place) (log : Log) → IsAt place log → Parts place log
+parts : (place : LineState) (log : Log) → IsAt place log → Parts place log
 parts AtHeader log at = record { behind = log_lines log; whole = refl; in_range = rw at refl }
 parts (InCovers n) log at = ended_soon log (InCovers n) at.1.1 refl
 parts InSteps log at = ended_soon log InSteps at refl
@@ -181,7 +181,8 @@ parts InPairs log at = record { behind = (line.End, 0) ∷ []; whole = refl; in_
 parts Finished log at =
     record { behind = []; whole = sym (append-nil (log_lines log)); in_range = refl }
 
-pub taken_ranges : {place : Place} {log : Log} {texts : List (List ℕ)} → HasTaken place log texts →
+pub taken_ranges : {place : LineState} {log : Log} {texts : List (List ℕ)} → HasTaken place log
+    texts →
     has_ranges log ≡ true
 taken_ranges {place} {log} {texts} h =
     let p = parts place log h.at in
@@ -190,7 +191,8 @@ taken_ranges {place} {log} {texts} h =
     h.widths
 
 -- some log begins with what was taken: the log so far does
-pub taken_begins : {place : Place} {log : Log} {texts : List (List ℕ)} → HasTaken place log texts →
+pub taken_begins : {place : LineState} {log : Log} {texts : List (List ℕ)} → HasTaken place log
+    texts →
     Begins texts
 taken_begins {place} {log} {texts} h =
     let p = parts place log h.at in
@@ -280,14 +282,14 @@ goes_on (x ∷ xs) (t ∷ ts) bytes more r e =
       is = g.is;
     }
 
-leads_somewhere : (place : Option Place) (its : List (Line × ℕ)) (end : Place) →
-    after_all place its ≡ Some end → (behind : Place) × (place ≡ Some behind)
+leads_somewhere : (place : Option LineState) (its : List (Line × ℕ)) (end : LineState) →
+    after_all place its ≡ Some end → (behind : LineState) × (place ≡ Some behind)
 leads_somewhere None [] end e = absurd (cc)
 leads_somewhere None (it ∷ its) end e = absurd (cc)
 leads_somewhere (Some place) its end e = (place, refl)
 
 -- where a log begins with the lines that were taken and one more, that line may come
-pub may_come : IsOne → {place : Place} {log : Log} {texts : List (List ℕ)} (bytes : List ℕ) →
+pub may_come : IsOne → {place : LineState} {log : Log} {texts : List (List ℕ)} (bytes : List ℕ) →
     HasTaken place log texts → Begins (texts ++ bytes ∷ []) → MayCome place bytes
 may_come one {place} {log} {texts} bytes h b =
     let all : list_all lines.in_range (log_lines b.log) ≡ true = of_ranges b.log b.in_range in
@@ -302,19 +304,20 @@ may_come one {place} {log} {texts} bytes h b =
     ap (after_all (Some AtHeader)) (sym g.whole) ∙
     log_runs b.log (of_widths b.log b.in_range) in
     let on : after_all (Some place) (g.next ∷ g.more) ≡ Some Finished =
-    ap (λ (at : Option Place). after_all at (g.next ∷ g.more)) (sym there) ∙ run in
+    ap (λ (at : Option LineState). after_all at (g.next ∷ g.more)) (sym there) ∙ run in
     let l = leads_somewhere (after place g.next) g.more Finished on in
     record { next = g.next; behind = l.0; is = g.is; leads = l.1 }
 
 -- a line that was read is the one that may come, if any
-pub only_it : IsOne → (place : Place) (bytes : List ℕ) (read : Line × ℕ) → IsText lines bytes read →
+pub only_it : IsOne → (place : LineState) (bytes : List ℕ) (read : Line × ℕ) → IsText lines bytes
+    read →
     after place read ≡ None → MayCome place bytes → ⊥
 only_it one place bytes read is none m =
     let same : read ≡ m.next = one bytes read m.next is m.is in
     let leads : after place read ≡ Some m.behind = ap (after place) same ∙ m.leads in cc
 
 -- before the end no log has just the lines that were taken
-pub not_whole : IsOne → {place : Place} {log : Log} {texts : List (List ℕ)} →
+pub not_whole : IsOne → {place : LineState} {log : Log} {texts : List (List ℕ)} →
     HasTaken place log texts → (place ≡ Finished → ⊥) → (other : Log) → HasLines other texts → ⊥
 not_whole one {place} {log} {texts} h far other w =
     let same : log_lines other ≡ lines_to place log =

@@ -9,8 +9,8 @@ use Rattle.rx_log.specs.Lines.{has_widths, log_lines}
 use Rattle.rx_log.specs.Reading.{lines_to, pushed}
 use Rattle.rx_log.specs.declared.line.Line.{Line}
 use Rattle.rx_log.specs.declared.log.Log.{Log}
-use Rattle.rx_log.specs.declared.place.Place.{Place}
-use Rattle.rx_log.specs.declared.place.Place.TheVariants.{Finished}
+use Rattle.rx_log.specs.declared.line_state.LineState.{LineState}
+use Rattle.rx_log.specs.declared.line_state.LineState.TheVariants.{Finished}
 use Rattle.rx_logtext.specs.Lines.{lines}
 use Rattle.rx_logtext.specs.Logs.{Begins, IsFirstBad, IsLog, ReadsLog, ended, has_ranges, is_one_line, up_to_feed}
 use Rattle.rx_logtext.specs.Reading.{HasTaken, ReadsNext}
@@ -59,7 +59,7 @@ fewer_lines (t ∷ ts) =
     )
 
 -- each line that was taken is one line
-one_by_one : {place : Place} {log : Log} {texts : List (List ℕ)} → HasTaken place log texts →
+one_by_one : {place : LineState} {log : Log} {texts : List (List ℕ)} → HasTaken place log texts →
     list_all is_one_line texts ≡ true
 one_by_one {place} {log} {texts} h =
     subst (λ (ts : List (List ℕ)). list_all is_one_line ts ≡ true) h.are
@@ -100,7 +100,7 @@ part_taken {old} {log} {bytes} piece new h good one at count still line =
     let g = good_left h good in
     record {
       texts = h.texts;
-      taken = subst (λ (p : Place). HasTaken p log h.texts) (sym at) h.taken;
+      taken = subst (λ (p : LineState). HasTaken p log h.texts) (sym at) h.taken;
       counted = count ∙ h.counted;
       left = h.left ++ piece;
       joined = go_on bytes (ended h.texts) h.left piece h.joined;
@@ -111,7 +111,7 @@ part_taken {old} {log} {bytes} piece new h good one at count still line =
 
 -- the next line was taken
 pub line_taken : {old : LogReader} {log : Log} {bytes : List ℕ} (front : List ℕ) (read : Line)
-    (next : Place) (new : LogReader) → StandsFor old log bytes → old.is_bad ≡ false
+    (next : LineState) (new : LogReader) → StandsFor old log bytes → old.is_bad ≡ false
     → ReadsNext old.place (old.line ++ front) (Some (read, next)) → new.place ≡ next → new.taken ≡
     suc old.taken → new.is_bad ≡ false → new.line ≡ []
     → StandsFor new (pushed read log) (bytes ++ (front ++ 10 ∷ []))
@@ -124,7 +124,7 @@ line_taken {old} {log} {bytes} front read next new h good reads at count still l
     record {
       texts = h.texts ++ text ∷ [];
       taken =
-          subst (λ (p : Place). HasTaken p (pushed read log) (h.texts ++ text ∷ [])) (sym at)
+          subst (λ (p : LineState). HasTaken p (pushed read log) (h.texts ++ text ∷ [])) (sym at)
           (one_taken old.place next log h.texts text read reads h.taken);
       counted = omega (arith, count, h.counted, length-append h.texts (text ∷ []));
       left = [];
@@ -145,7 +145,7 @@ line_bad {old} {log} {bytes} front new h good one reads at count bad =
     let g = good_left h good in
     record {
       texts = h.texts;
-      taken = subst (λ (p : Place). HasTaken p log h.texts) (sym at) h.taken;
+      taken = subst (λ (p : LineState). HasTaken p log h.texts) (sym at) h.taken;
       counted = count ∙ h.counted;
       left = h.left ++ (front ++ 10 ∷ []);
       joined = go_on bytes (ended h.texts) h.left (front ++ 10 ∷ []) h.joined;
@@ -225,7 +225,7 @@ pub whole_text : {reader : LogReader} {log : Log} {bytes : List ℕ} → StandsF
 whole_text {reader} {log} {bytes} h (at, (good, line)) =
     let g = good_left h good in
     let taken : HasTaken Finished log h.texts =
-    subst (λ (p : Place). HasTaken p log h.texts) at h.taken in
+    subst (λ (p : LineState). HasTaken p log h.texts) at h.taken in
     record {
       in_range = ranges_of taken;
       is =

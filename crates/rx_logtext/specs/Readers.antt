@@ -4,8 +4,8 @@ use Rattle.rx_log.specs.Places.{after}
 use Rattle.rx_log.specs.Reading.{pushed}
 use Rattle.rx_log.specs.declared.line.Line.{Line}
 use Rattle.rx_log.specs.declared.log.Log.{Log}
-use Rattle.rx_log.specs.declared.place.Place.{Place}
-use Rattle.rx_log.specs.declared.place.Place.TheVariants.{Finished}
+use Rattle.rx_log.specs.declared.line_state.LineState.{LineState}
+use Rattle.rx_log.specs.declared.line_state.LineState.TheVariants.{Finished}
 use Rattle.rx_logtext.specs.Logs.{Begins, IsFirstBad, IsLog, ended, is_one_line, up_to_feed}
 use Rattle.rx_logtext.specs.Reading.{HasTaken}
 use Rattle.rx_logtext.specs.declared.log_end.LogEnd.{LogEnd}
@@ -37,7 +37,7 @@ pub record StandsFor (reader : LogReader) (log : Log) (bytes : List ℕ) : Type 
   pub is_left : IsLeft reader.is_bad reader.line texts left
 
 -- which lines may come next, and how many have come
-abbrev pub place_of : LogReader → Place
+abbrev pub place_of : LogReader → LineState
 place_of reader = reader.place
 
 abbrev pub lines_in : LogReader → ℕ
@@ -55,7 +55,7 @@ pushed_if None log = log
 pushed_if (Some line) log = pushed line log
 
 -- such a line may come at the first place, and leads to the second
-abbrev pub MayLead : Place → Line → Place → Type 0
+abbrev pub MayLead : LineState → Line → LineState → Type 0
 MayLead place line next = (symbol : ℕ) × (after place (line, symbol) ≡ Some next)
 
 -- how many lines came
@@ -64,7 +64,7 @@ count_of None = 0
 count_of (Some line) = 1
 
 -- no line came, or one that may come
-abbrev pub IsNext : Place → Option Line → Place → Type 0
+abbrev pub IsNext : LineState → Option Line → LineState → Type 0
 IsNext place None next = next ≡ place
 IsNext place (Some line) next = MayLead place line next
 

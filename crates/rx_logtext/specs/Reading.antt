@@ -8,11 +8,11 @@ use Rattle.rx_logtext.specs.Logs.{line_texts}
 use Rattle.rx_log.specs.Places.{after, after_all}
 use Rattle.rx_log.specs.Reading.{IsAt, lines_to}
 use Rattle.rx_log.specs.declared.line.Line.{Line}
-use Rattle.rx_log.specs.declared.place.Place.{Place}
-use Rattle.rx_log.specs.declared.place.Place.TheVariants.{AtHeader}
+use Rattle.rx_log.specs.declared.line_state.LineState.{LineState}
+use Rattle.rx_log.specs.declared.line_state.LineState.TheVariants.{AtHeader}
 
 -- a reader at the place, with the log so far, has taken these lines
-pub record HasTaken (place : Place) (log : Log) (texts : List (List ℕ)) : Type 0 where
+pub record HasTaken (place : LineState) (log : Log) (texts : List (List ℕ)) : Type 0 where
   pub at : IsAt place log
   pub widths : has_widths log ≡ true
   pub in_range : list_all lines.in_range (lines_to place log) ≡ true
@@ -20,15 +20,15 @@ pub record HasTaken (place : Place) (log : Log) (texts : List (List ℕ)) : Type
   pub arrives : after_all (Some AtHeader) (lines_to place log) ≡ Some place
 
 -- a line that may come at the place has these bytes
-pub record MayCome (place : Place) (bytes : List ℕ) : Type 0 where
+pub record MayCome (place : LineState) (bytes : List ℕ) : Type 0 where
   pub next : Line × ℕ
-  pub behind : Place
+  pub behind : LineState
   pub is : IsText lines bytes next
   pub leads : after place next ≡ Some behind
 
 -- what a reader of the next line answers: the line and the place after it; None exactly where no
 -- line that may come has these bytes
-abbrev pub ReadsNext : Place → List ℕ → Option (Line × Place) → Type 0
+abbrev pub ReadsNext : LineState → List ℕ → Option (Line × LineState) → Type 0
 ReadsNext place bytes (Some it) =
     (symbol : ℕ) × (IsText lines bytes (it.0, symbol) × (after place (it.0, symbol) ≡ Some it.1))
 ReadsNext place bytes None = ¬ (MayCome place bytes)

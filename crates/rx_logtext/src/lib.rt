@@ -15,4 +15,4 @@ pub use lines::{is_width, read_line};
 pub use log_end::LogEnd;
 pub use read::read_log;
 pub use reader::LogReader;
-pub use rx_log::{Line, Place};
+pub use rx_log::{Line, LineState};

@@ -9,13 +9,17 @@ ghost use Rattle.rx_logtext.specs.Readers.{EndsLine, Finishes, IsNext, IsWhole, 
 use crate::cutting::split_line;
 use crate::lines::read_numbered;
 use crate::log_end::LogEnd;
-use rx_log::{Line, Place};
+use rx_log::{Line, LineState};
 use rx_plain::{Items, NoMemory};
 use std::alloc::Global;
 
 /// The line that the bytes are, where it may come at the place, with the place after it; None
 /// exactly where the bytes are no line that may.
-fn read_next(alloc: Global, place: Place, bytes: &[u8]) -> Result<Option<(Line, Place)>, NoMemory>
+fn read_next(
+    alloc: Global,
+    place: LineState,
+    bytes: &[u8],
+) -> Result<Option<(Line, LineState)>, NoMemory>
     ensures { IfOk result (ReadsNext place bytes.now) }
 {
     let Some((line, symbol)) = read_numbered(alloc, bytes)? else {
@@ -41,10 +45,10 @@ fn extend(line: &mut Items<u8>, alloc: Global, bytes: &[u8]) -> Result<(), NoMem
 /// bytes so far stay as they were.
 fn read_joined(
     alloc: Global,
-    place: Place,
+    place: LineState,
     so_far: &mut Items<u8>,
     bytes: &[u8],
-) -> Result<Option<(Line, Place)>, NoMemory>
+) -> Result<Option<(Line, LineState)>, NoMemory>
     ensures read { IfOk result (ReadsNext place (so_far.old ++ bytes.now)) }
     ensures kept { so_far.new ≡ so_far.old }
 {
@@ -60,7 +64,7 @@ fn read_joined(
 #[derive(Drop)]
 pub struct LogReader {
     // Which lines may come next.
-    place: Place,
+    place: LineState,
     // How many lines were taken.
     taken: usize,
     // The next line so far.
@@ -75,7 +79,7 @@ impl LogReader {
         ensures { StandsFor result blank [] }
     {
         LogReader {
-            place: Place::AtHeader,
+            place: LineState::AtHeader,
             taken: 0,
             line: Items::new(alloc),
             is_bad: false,
@@ -92,7 +96,11 @@ impl LogReader {
 
     /// The next line, which ends with these bytes, as `read_next` has it. It is copied only where a
     /// part of it came before.
-    fn read_whole(&mut self, alloc: Global, bytes: &[u8]) -> Result<Option<(Line, Place)>, NoMemory>
+    fn read_whole(
+        &mut self,
+        alloc: Global,
+        bytes: &[u8],
+    ) -> Result<Option<(Line, LineState)>, NoMemory>
         ensures read { IfOk result (ReadsNext self.old.place (self.old.line ++ bytes.now)) }
         ensures kept { self.new ≡ self.old }
     {
@@ -150,7 +158,7 @@ impl LogReader {
         ensures { IsWhole self.now result }
     {
         match self.place {
-            Place::Finished => !self.is_bad && self.line.is_empty(),
+            LineState::Finished => !self.is_bad && self.line.is_empty(),
             _ => false,
         }
     }
@@ -160,7 +168,7 @@ impl LogReader {
     /// must be below 2^64.
     pub fn finish(&self) -> Result<(), LogEnd>
         requires { lines_in self.now + 1 < 2 ^ 64 }
-        ensures place { OnOk result (place_of self.now ≡ Place.Finished) }
+        ensures place { OnOk result (place_of self.now ≡ LineState.Finished) }
         ensures finishes { (log : Log) (bytes : List ℕ) → StandsFor self.now log bytes →
             Finishes log bytes result }
     {

@@ -1,8 +1,7 @@
 //! Logs as text, written: only what is read again as the same log.
 //!
-//! Which things of a log have a text: those whose lists, variables and depths are in the ranges of
-//! the format. Nothing is written here. All other numbers are in range by their types, and are not
-//! looked at when this runs.
+//! Which things of a log have a text is asked first: those whose lists, variables and depths are in
+//! the ranges of the format. All other numbers are in range by their types, and are not looked at.
 #![tactic(auto)]
 
 mod certificates;

@@ -2,7 +2,7 @@
 //! certificates it replaces that part.
 //!
 //! What a reader may rely on: `find_use` answers exactly what the definition in `specs/Matching`
-//! comes to, and a use that it finds is a step that rx_form forms and whose certificates show what
+//! comes to, and a use that it finds is a step that rx_inference forms and whose certificates show what
 //! it asks.
 #![tactic(auto)]
 

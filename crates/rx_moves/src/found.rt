@@ -55,7 +55,7 @@ impl Found {
         }
     }
 
-    /// The same, with what was noted before.
+    /// What was found, where before it something passed the limits if `noted` says so.
     pub(crate) fn after(self, noted: bool) -> Found
         ensures { result ≡ record { ready = self.ready; noted = noted || self.noted } }
     {

@@ -4,10 +4,9 @@
 //! other function has an empty body, and its contract is a law of all polynomials. The lemmas of
 //! `proofs/` are the same laws for the proofs of the crates above.
 //!
-//! Integer terms, and the normal form of each as a polynomial.
-//!
-//! What a reader may rely on: `norm` answers exactly the polynomial that the definition forms of a
-//! term, with its value; Large exactly where something that is formed on the way passes a limit.
+//! Beside them integer terms, and the normal form of each as a polynomial: `norm` answers exactly
+//! the polynomial that the definition forms of a term, with its value; Large exactly where
+//! something that is formed on the way passes a limit.
 #![tactic(auto)]
 
 mod iterm;

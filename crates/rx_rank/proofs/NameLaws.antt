@@ -13,7 +13,7 @@ use Rattle.rx_graph.specs.Graph.{IsGraphOf, IsOver, below, rows_of, together}
 use Rattle.rx_pairs.specs.Graph.{edges_of}
 use Rattle.rx_pairs.specs.declared.pair.Pair.{Pair}
 use Rattle.rx_anchors.specs.Members.{symbols_of}
-use Rattle.rx_rank.specs.Components.{component_of, names_of}
+use Rattle.rx_rank.specs.Components.{component_of, representatives_of}
 
 -- the graph of pairs
 module _ (symbols : ℕ) (pairs : List Pair) (rows : List (Vec ℕ Global))
@@ -28,7 +28,7 @@ module _ (symbols : ℕ) (pairs : List Pair) (rows : List (Vec ℕ Global))
   pub names_at : IsOver symbols (edges_of pairs) → (labels : List ℕ) → length labels ≡ length rows
       → ((edges : List (ℕ × ℕ)) → IsGraphOf (length rows) edges (rows_of rows) →
       AreComponents (length rows) edges labels)
-      → labels ≡ names_of symbols pairs
+      → labels ≡ representatives_of symbols pairs
   names_at over labels count least =
       let edges = edges_of pairs in
       labels_computed symbols edges (lead_below symbols edges over) labels (count ∙ rows_by)

@@ -1,4 +1,4 @@
--- The components of a graph of pairs, each named by its least symbol.
+-- The components of a graph of pairs, each with its least symbol as representative.
 use Rattle.std.specs.Prelude.{ℕ, Bool, false, List, map, slice_get, unwrap_or}
 use Rattle.std.specs.List.{filter, find}
 use Rattle.std.specs.Option.{option_map_or}
@@ -11,9 +11,9 @@ use Rattle.rx_pairs.specs.declared.pair.Pair.{Pair}
 abbrev pub component_of : ℕ → List (ℕ × ℕ) → ℕ → ℕ
 component_of n edges f = unwrap_or (find (together edges (below n) f) (symbols_of n)) f
 
--- the names of the components, by symbol
-abbrev pub names_of : ℕ → List Pair → List ℕ
-names_of n pairs = map (component_of n (edges_of pairs)) (symbols_of n)
+-- by symbol the representative of its component: the least symbol of the component
+abbrev pub representatives_of : ℕ → List Pair → List ℕ
+representatives_of n pairs = map (component_of n (edges_of pairs)) (symbols_of n)
 
 -- both symbols of the pair are of one component
 abbrev pub is_inside : List ℕ → Pair → Bool
@@ -21,7 +21,7 @@ is_inside names pair =
     option_map_or (λ name. is_member names name pair.right.0) (slice_get names pair.left.0) false
 
 abbrev pub inside : ℕ → List Pair → List Pair
-inside n pairs = filter (is_inside (names_of n pairs)) pairs
+inside n pairs = filter (is_inside (representatives_of n pairs)) pairs
 
 -- the pairs whose left symbols are of a component
 abbrev pub pairs_in : List ℕ → ℕ → List Pair → List Pair

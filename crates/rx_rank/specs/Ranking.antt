@@ -16,7 +16,7 @@ use Rattle.rx_anchors.specs.Choices.{products}
 use Rattle.rx_anchors.specs.Members.{arity_of, is_anchor, members, symbols_of}
 use Rattle.rx_rank.specs.Candidates.{are_noted, candidate_lists}
 use Rattle.rx_rank.specs.Choices.{choosing, order_of}
-use Rattle.rx_rank.specs.Components.{inside, names_of, pairs_in}
+use Rattle.rx_rank.specs.Components.{inside, representatives_of, pairs_in}
 use Rattle.rx_rank.specs.Tries.{all_made, and_then, noting, tried_said}
 
 -- at most n choices are tried in a component
@@ -62,7 +62,7 @@ module _ (parts : RuleParts) (hypotheses : List Rule) where
   -- the components in order, up to the first without a fit choice: the pairs that stay open
   abbrev pub polynomials : List Pair → Tried (List Pair)
   polynomials pairs =
-      all_made (map (tried_in (names_of (length parts.symbols) pairs) pairs)
+      all_made (map (tried_in (representatives_of (length parts.symbols) pairs) pairs)
       (symbols_of (length parts.symbols)))
 
   -- no pair is open, or what comes next

@@ -10,7 +10,7 @@ pub struct Attempt<T> {
     pub noted: bool,
 }
 
-/// The same, with what was noted before.
+/// The attempt, where before it something passed the limits if `noted` says so.
 pub fn noted_before<T: Drop>(noted: bool, later: Attempt<T>) -> Attempt<T>
     ensures made { result.made ≡ later.made }
     ensures noted { result.noted ≡ (noted || later.noted) }

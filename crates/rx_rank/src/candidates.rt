@@ -61,7 +61,7 @@ fn push_opposite(polys: &mut Vec<Poly>, alloc: Global, poly: &Poly) -> Result<bo
     }
 }
 
-/// Adds both.
+/// Adds the candidates by the polynomial and by its opposite; true where one passes the limits.
 fn push_both(polys: &mut Vec<Poly>, alloc: Global, poly: &Poly) -> Result<bool, NoMemory>
     ensures { IfOk result (Gathers (applies poly.now ∷ opposite_tried poly.now ∷ []) polys.old.items
         polys.new.items) }
@@ -81,7 +81,8 @@ fn push_by(polys: &mut Vec<Poly>, alloc: Global, row: &Row) -> Result<bool, NoMe
     }
 }
 
-/// The same, where the row is over that many arguments.
+/// Adds the candidates by the row, where it is over that many arguments; true where one passes the
+/// limits.
 fn push_row(polys: &mut Vec<Poly>, alloc: Global, arity: u32, row: &Row) -> Result<bool, NoMemory>
     ensures { IfOk result (Gathers (row_candidates arity row.now) polys.old.items polys.new.items) }
 {

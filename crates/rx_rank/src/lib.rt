@@ -8,15 +8,15 @@ mod component;
 mod filling;
 mod fitting;
 mod known_pair;
-mod names;
 mod order;
 mod pair_memo;
 mod pair_tests;
+mod representatives;
 
 pub use attempt::{Attempt, noted_before};
 pub use component::fit_component;
 pub use fitting::Fit;
-pub use names::{find_names, graph_of, is_inside};
 pub use pair_memo::PairMemo;
+pub use representatives::{find_representatives, graph_of, is_inside};
 pub use rx_fm::FmEnd;
 pub use rx_plain::NoMemory;

@@ -1,3 +1,11 @@
 -- Lemmas on the definitions of specs/.
 pub mod Applied
+pub mod Closing
+pub mod ContentLaws
 pub mod Dividing
+pub mod GoalLaws
+pub mod Multiplying
+pub mod Replacing
+pub mod SolvedLaws
+pub mod Solving
+pub mod ValuesLaws

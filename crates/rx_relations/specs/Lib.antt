@@ -2,4 +2,10 @@
 -- these goals.
 pub mod Applying
 pub mod Cancelling
+pub mod Common
 pub mod Content
+pub mod Holding
+pub mod Linear
+pub mod Products
+pub mod Relations
+pub mod Values

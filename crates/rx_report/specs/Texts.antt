@@ -10,8 +10,8 @@ use Rattle.c_front.specs.declared.refusals.Refusal.TheVariants as Why
 use Rattle.c_front.specs.FrontEnd.{IsSayable}
 use Rattle.rx_check.specs.declared.check_end.CheckEnd.{CheckEnd}
 use Rattle.rx_check.specs.declared.check_end.CheckEnd.TheVariants as End
-use Rattle.rx_check.specs.declared.check_end.Place.{Place}
-use Rattle.rx_check.specs.declared.check_end.Place.TheVariants as At
+use Rattle.rx_check.specs.declared.check_end.LimitAt.{LimitAt}
+use Rattle.rx_check.specs.declared.check_end.LimitAt.TheVariants as At
 use Rattle.c_refute.specs.declared.findings.Compared.{Compared}
 use Rattle.c_refute.specs.declared.findings.Compared.TheVariants as found
 use Rattle.c_meaning.specs.declared.outcomes.Outcome.{Outcome}
@@ -103,7 +103,7 @@ unmet_line step Unmet.Large = []
 unmet_line step Unmet.NoMemory = []
 
 -- the line of a place that passes the limits
-abbrev pub large_line : Place → List ℕ
+abbrev pub large_line : LimitAt → List ℕ
 large_line (At.Cover symbol) = numbered_line (codes "LARGE cover s") symbol
 large_line (At.Step step) = numbered_line (codes "LARGE step ") step
 large_line (At.Pair pair) = numbered_line (codes "LARGE pair ") pair

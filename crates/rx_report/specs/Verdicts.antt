@@ -3,8 +3,8 @@ use Rattle.c_front.specs.declared.refusals.Refusal.{Refusal}
 use Rattle.c_front.specs.declared.refusals.Refusal.TheVariants as Why
 use Rattle.rx_check.specs.declared.check_end.CheckEnd.{CheckEnd}
 use Rattle.rx_check.specs.declared.check_end.CheckEnd.TheVariants as End
-use Rattle.rx_check.specs.declared.check_end.Place as end_place
-use Rattle.rx_check.specs.declared.check_end.Place.TheVariants as At
+use Rattle.rx_check.specs.declared.check_end.LimitAt as limit
+use Rattle.rx_check.specs.declared.check_end.LimitAt.TheVariants as At
 use Rattle.rx_inference.specs.Judging.{StepFault}
 use Rattle.rx_inference.specs.Judging as judging
 use Rattle.rx_log.specs.Acceptance as acceptance
@@ -34,7 +34,7 @@ step_end_of (judging.NotShown condition) = Unmet.NotShown condition
 step_end_of judging.Large = Unmet.Large
 
 -- where something passes the limits
-abbrev pub place_of : acceptance.Place → end_place.Place
+abbrev pub place_of : acceptance.LimitAt → limit.LimitAt
 place_of (acceptance.AtCover symbol) = At.Cover symbol
 place_of (acceptance.AtStep step) = At.Step step
 place_of (acceptance.AtPair pair) = At.Pair pair

@@ -3,11 +3,9 @@
 //! What a reader may rely on: `Search::search` comes to exactly what the definition in
 //! `specs/Search` says, and each log that it makes is accepted.
 //!
-//! Nodes of the search for a proof, and the choices at them: which there are at a goal, and what
-//! comes of one that was tried.
-//!
-//! What a reader may rely on: `find_candidates` gives exactly the choices of the definition in
-//! `specs/Candidates`, and a node that a choice leads to is exactly what `specs/Calls` says.
+//! Its nodes, and the choices at them, stand apart from what is tried: `find_candidates` gives
+//! exactly the choices of the definition in `specs/Candidates`, and a node that a choice leads to
+//! is exactly what `specs/Calls` says.
 #![tactic(auto)]
 
 mod candidates;

@@ -32,7 +32,7 @@ pub fn function(alloc: Global, code: &mut Code, place: u32, f: &Function) -> Res
     let entry = open_entry(code, f.params.len())?;
     let end = code.open(0, false)?;
     code.mark_entry(place, entry.symbol)?;
-    code.act(end, Action::Return(Poly::constant(alloc, 0)?))?;
+    code.emit(end, Action::Return(Poly::constant(alloc, 0)?))?;
     let body = Places {
         at: entry,
         to: end,

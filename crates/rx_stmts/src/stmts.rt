@@ -22,7 +22,7 @@ pub(crate) const MOST_VARIABLES: u32 = 128;
 fn go(code: &mut Code, at: Point, to: Point) -> Result<(), PolyEnd>
     ensures code { CompilesCode code.old code.new result (pure (does at (Action.Go to))) }
 {
-    code.act(at, Action::Go(to))?;
+    code.emit(at, Action::Go(to))?;
     Ok(())
 }
 
@@ -50,7 +50,7 @@ fn return_value(alloc: Global, code: &mut Code, e: &Expr, at: Point) -> Result<(
         (with_value (expr_code e.now) Action.Return at (length code.old.opened)) }
 {
     let (at, returned) = value(alloc, code, e, at)?;
-    code.act(at, Action::Return(returned))?;
+    code.emit(at, Action::Return(returned))?;
     Ok(())
 }
 

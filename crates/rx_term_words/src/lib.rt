@@ -1,8 +1,6 @@
-//! Terms and equations as words of a line: written, and read back from bytes at a place. They are
-//! walked in loops, so a term may have as many frames as memory holds.
-//!
-//! Cover trees as words of a line: written, and read back from bytes at a place. They are walked by
-//! recursion: what is read is at most 200 deep, and who writes one bounds its depth.
+//! Terms, equations and cover trees as words of a line: written, and read back from bytes at a
+//! place. Terms are walked in loops, so one may have as many frames as memory holds. Trees are
+//! walked by recursion: what is read is at most 200 deep, and who writes one bounds its depth.
 #![tactic(auto)]
 
 mod arguments;

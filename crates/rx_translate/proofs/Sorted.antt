@@ -7,8 +7,8 @@ use Rattle.std.proofs.lemmas.Bool.{and_left, eq-eqb, ne_eqb}
 use Rattle.std.proofs.lemmas.List.{append-nil}
 use Rattle.rx_term.specs.declared.rule.Rule.{Rule}
 use Rattle.rx_code.specs.Programs.{entry_of}
-use Rattle.rx_code.specs.Rules.{deed_within, parts_of, rules_at, rules_of_deed}
-use Rattle.rx_code.specs.declared.action.Deed.{Deed}
+use Rattle.rx_code.specs.Rules.{instruction_within, parts_of, rules_at, rules_of_instruction}
+use Rattle.rx_code.specs.declared.action.Instruction.{Instruction}
 use Rattle.rx_code.specs.declared.code.Code.{Code}
 use Rattle.rx_code.specs.declared.point.Opening.{Opening}
 use Rattle.rx_translate.specs.Parts.{add_at, sorted_after, sorted_rules}
@@ -63,26 +63,29 @@ module _ (v : ℕ → List Rule) (xs : List Rule) where
       λ i. here i ∷ rest i
 
 module _ (entries : List (ℕ × ℕ)) where
-  abbrev rules : Deed → List Rule
-  rules = rules_of_deed (entry_of entries)
+  abbrev rules : Instruction → List Rule
+  rules = rules_of_instruction (entry_of entries)
 
-  abbrev at : ℕ → List Deed → List Rule
-  at n ds = flat_map rules (filter (λ (d : Deed). d.at.symbol == n) ds)
+  abbrev at : ℕ → List Instruction → List Rule
+  at n ds = flat_map rules (filter (λ (d : Instruction). d.at.symbol == n) ds)
 
-  -- the rules of a deed come before those of the others at a symbol
-  one_more : (xs : List Rule) (n : ℕ) (d : Deed) (ds : List Deed) (b : Bool) → (d.at.symbol == n) ≡
+  -- the rules of an instruction come before those of the others at a symbol
+  one_more : (xs : List Rule) (n : ℕ) (d : Instruction) (ds : List Instruction) (b : Bool) →
+      (d.at.symbol == n) ≡
       b
       → (xs ++ cond (d.at.symbol == n) (rules d) []) ++ at n ds ≡ xs ++ at n (d ∷ ds)
   one_more xs n d ds true is =
       ap (λ c. (xs ++ cond c (rules d) []) ++ at n ds) is ∙ append_assoc xs (rules d) (at n ds)
-      ∙ sym (ap (λ c. xs ++ flat_map rules (cond c (d ∷ filter (λ (e : Deed). e.at.symbol == n) ds)
-      (filter (λ (e : Deed). e.at.symbol == n) ds))) is)
+      ∙ sym (ap (λ c. xs ++ flat_map rules (cond c
+      (d ∷ filter (λ (e : Instruction). e.at.symbol == n) ds)
+      (filter (λ (e : Instruction). e.at.symbol == n) ds))) is)
   one_more xs n d ds false is =
       ap (λ c. (xs ++ cond c (rules d) []) ++ at n ds) is ∙ append_assoc xs [] (at n ds)
-      ∙ sym (ap (λ c. xs ++ flat_map rules (cond c (d ∷ filter (λ (e : Deed). e.at.symbol == n) ds)
-      (filter (λ (e : Deed). e.at.symbol == n) ds))) is)
+      ∙ sym (ap (λ c. xs ++ flat_map rules (cond c
+      (d ∷ filter (λ (e : Instruction). e.at.symbol == n) ds)
+      (filter (λ (e : Instruction). e.at.symbol == n) ds))) is)
 
-  sorted_is : (os : List Opening) (v : ℕ → List Rule) (ds : List Deed)
+  sorted_is : (os : List Opening) (v : ℕ → List Rule) (ds : List Instruction)
       → sorted_after entries (numbered v 0 os) ds ≡ numbered (λ n. v n ++ at n ds) 0 os
   sorted_is os v [] =
       ap (λ (w : ℕ → List Rule). map (λ (o : ℕ × Opening). w o.0) (enumerate_from 0 os))
@@ -113,44 +116,50 @@ flat_mapped v (x ∷ xs) = ap (λ rs. v x ++ rs) (flat_mapped v xs)
 pub sorted_joined : (c : Code) → flat_map (λ (rs : List Rule). rs) (sorted_rules c).form ≡
     (parts_of c).rules
 sorted_joined c =
-    ap (flat_map (λ (rs : List Rule). rs)) (ap (λ ls. sorted_after c.entries ls c.deeds)
-    (empties c.opened 0) ∙ sorted_is c.entries c.opened (λ n. []) c.deeds)
+    ap (flat_map (λ (rs : List Rule). rs)) (ap (λ ls. sorted_after c.entries ls c.instructions)
+    (empties c.opened 0) ∙ sorted_is c.entries c.opened (λ n. []) c.instructions)
     ∙ flat_mapped (λ (o : ℕ × Opening). rules_at c o.0) (enumerate_from 0 c.opened)
 
--- ---- deed by deed
+-- ---- instruction by instruction
 
-pub record Sorting (entries : List (ℕ × ℕ)) (old now : List (List Rule)) (rest whole : List Deed) :
+pub record Sorting (entries : List (ℕ × ℕ)) (old now : List (List Rule))
+    (rest whole : List Instruction) :
     Type 0 where
   pub made : sorted_after entries now rest ≡ sorted_after entries old whole
-  pub within : list_all deed_within rest ≡ list_all deed_within whole
+  pub within : list_all instruction_within rest ≡ list_all instruction_within whole
 
-pub begin : (entries : List (ℕ × ℕ)) (old : List (List Rule)) (ds : List Deed) →
+pub begin : (entries : List (ℕ × ℕ)) (old : List (List Rule)) (ds : List Instruction) →
     Sorting entries old old (drop 0 ds) ds
 begin entries old ds = record { made = refl; within = refl }
 
-module _ {entries : List (ℕ × ℕ)} {old now : List (List Rule)} (ds : List Deed) (k : ℕ) {d : Deed}
+module _ {entries : List (ℕ × ℕ)} {old now : List (List Rule)} (ds : List Instruction) (k : ℕ)
+    {d : Instruction}
     (h : k < length ds) (is : d ≡ get_or ds k d) (s : Sorting entries old now (drop k ds) ds) where
   opened : Sorting entries old now (d ∷ drop (suc k) ds) ds
   opened =
       subst (λ rest. Sorting entries old now rest ds)
       (drop-cons ds k d h ∙ ap (λ x. x ∷ drop (suc k) ds) (sym is)) s
 
-  pub none : deed_within d ≡ false → list_all deed_within ds ≡ false
+  pub none : instruction_within d ≡ false → list_all instruction_within ds ≡ false
   none large =
-      sym opened.within ∙ and_left (deed_within d) (list_all deed_within (drop (suc k) ds)) large
+      sym opened.within ∙ and_left (instruction_within d)
+      (list_all instruction_within (drop (suc k) ds)) large
 
   pub next : (new : List (List Rule)) → new ≡
-      add_at now d.at.symbol (rules_of_deed (entry_of entries) d) → deed_within d ≡ true →
+      add_at now d.at.symbol (rules_of_instruction (entry_of entries) d) → instruction_within d ≡
+      true →
       Sorting entries old new (drop (k + 1) ds) ds
   next new is_new kept =
       subst (λ j. Sorting entries old new (drop j ds) ds) (sym (add-one k)) (record {
         made = ap (λ ls. sorted_after entries ls (drop (suc k) ds)) is_new ∙ opened.made;
-        within = sym (ap (λ b. b && list_all deed_within (drop (suc k) ds)) kept) ∙ opened.within;
+        within = sym (ap (λ b. b && list_all instruction_within (drop (suc k) ds)) kept) ∙
+            opened.within;
       })
 
-pub finished : (entries : List (ℕ × ℕ)) (old now : List (List Rule)) (ds : List Deed) (k : ℕ) →
+pub finished : (entries : List (ℕ × ℕ)) (old now : List (List Rule)) (ds : List Instruction) (k : ℕ)
+    →
     length ds ≤ k → Sorting entries old now (drop k ds) ds
-    → (now ≡ sorted_after entries old ds) × (list_all deed_within ds ≡ true)
+    → (now ≡ sorted_after entries old ds) × (list_all instruction_within ds ≡ true)
 finished entries old now ds k h s =
     let all = subst (λ rest. Sorting entries old now rest ds) (drop_of_length-le ds h) s in
     (all.made, sym all.within)

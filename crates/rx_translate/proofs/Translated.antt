@@ -12,7 +12,7 @@ use Rattle.rx_term.specs.WellMade.{IsWellMade}
 use Rattle.rx_term.specs.declared.rule_set.RuleParts.{RuleParts}
 use Rattle.rx_code.specs.Programs.{entry_of, places_code, program_code}
 use Rattle.rx_code.specs.Reached.{AreReached}
-use Rattle.rx_code.specs.Rules.{deed_within, parts_of, symbol}
+use Rattle.rx_code.specs.Rules.{instruction_within, parts_of, symbol}
 use Rattle.rx_code.specs.Translation.{IsBeyond, IsTranslation}
 use Rattle.rx_code.specs.declared.code.Code.{Code}
 use Rattle.rx_code.proofs.ProgramCode.{mapped_at}
@@ -29,7 +29,7 @@ module _ (program : Resolved) (f g : ℕ) (fs : List ℕ) (reached : AreReached 
     reached = reached;
     beyond =
         and_left (program_code program fs).within
-        (list_all deed_within (program_code program fs).form.deeds) large;
+        (list_all instruction_within (program_code program fs).form.instructions) large;
   }
 
   module _ (c : Code) (compiled : (c ≡ (places_code program.functions fs 0).form) ×
@@ -41,8 +41,8 @@ module _ (program : Resolved) (f g : ℕ) (fs : List ℕ) (reached : AreReached 
       reached = reached;
       beyond =
           and_right (program_code program fs).within
-          (list_all deed_within (program_code program fs).form.deeds)
-          (ap (λ (d : Code). list_all deed_within d.deeds) (sym compiled.0) ∙ large);
+          (list_all instruction_within (program_code program fs).form.instructions)
+          (ap (λ (d : Code). list_all instruction_within d.instructions) (sym compiled.0) ∙ large);
     }
 
     module _ (first_there : f < length program.functions)
@@ -56,8 +56,10 @@ module _ (program : Resolved) (f g : ℕ) (fs : List ℕ) (reached : AreReached 
         functions = fs;
         reached = reached;
         within =
-            ap (λ b. b && list_all deed_within (program_code program fs).form.deeds) compiled.1 ∙
-            ap (λ (d : Code). list_all deed_within d.deeds) (sym compiled.0) ∙ formed.1;
+            ap (λ b. b && list_all instruction_within (program_code program fs).form.instructions)
+            compiled.1 ∙
+            ap (λ (d : Code). list_all instruction_within d.instructions) (sym compiled.0) ∙
+            formed.1;
         parts_are = formed.0 ∙ ap parts_of compiled.0;
         first_is = ap symbol (first_is ∙ ap (λ (d : Code). entry_of d.entries f) compiled.0);
         second_is = ap symbol (second_is ∙ ap (λ (d : Code). entry_of d.entries g) compiled.0);

@@ -1,4 +1,5 @@
--- The symbols of code by marks; rules that are made deed by deed, and sorted by symbols.
+-- The symbols of code by marks; rules that are made instruction by instruction, and sorted by
+-- symbols.
 use Rattle.std.specs.Prelude.{Bool, ℕ, zero, suc, List, [], ◌∷◌, ◌++◌, length, replicate}
 use Rattle.std.specs.List.{list_all}
 use Rattle.rx_plain.specs.Formed.{Formed}
@@ -6,8 +7,8 @@ use Rattle.rx_term.specs.declared.rule.Rule.{Rule}
 use Rattle.rx_term.specs.declared.rule_set.RuleParts.{RuleParts}
 use Rattle.rx_term.specs.declared.rule_set.SymInfo.{SymInfo}
 use Rattle.rx_code.specs.Programs.{entry_of}
-use Rattle.rx_code.specs.Rules.{deed_within, parts_of, rules_of_deed}
-use Rattle.rx_code.specs.declared.action.Deed.{Deed}
+use Rattle.rx_code.specs.Rules.{instruction_within, parts_of, rules_of_instruction}
+use Rattle.rx_code.specs.declared.action.Instruction.{Instruction}
 use Rattle.rx_code.specs.declared.code.Code.{Code}
 use Rattle.rx_code.specs.declared.point.Opening.{Opening}
 
@@ -26,19 +27,19 @@ add_at [] k xs = []
 add_at (ys ∷ yss) zero xs = (ys ++ xs) ∷ yss
 add_at (ys ∷ yss) (suc k) xs = ys ∷ add_at yss k xs
 
--- the lists with the rules of each deed added at its symbol
-abbrev pub sorted_after : List (ℕ × ℕ) → List (List Rule) → List Deed → List (List Rule)
+-- the lists with the rules of each instruction added at its symbol
+abbrev pub sorted_after : List (ℕ × ℕ) → List (List Rule) → List Instruction → List (List Rule)
 sorted_after entries lists [] = lists
 sorted_after entries lists (d ∷ ds) =
-    sorted_after entries (add_at lists d.at.symbol (rules_of_deed (entry_of entries) d)) ds
+    sorted_after entries (add_at lists d.at.symbol (rules_of_instruction (entry_of entries) d)) ds
 
 -- the rules of code by their symbols, and whether all that is formed for them keeps the limits
 abbrev pub sorted_rules : Code → Formed (List (List Rule))
 sorted_rules c = record {
-  form = sorted_after c.entries (replicate (length c.opened) []) c.deeds;
-  within = list_all deed_within c.deeds;
+  form = sorted_after c.entries (replicate (length c.opened) []) c.instructions;
+  within = list_all instruction_within c.instructions;
 }
 
 -- the rule set of code, and whether all that is formed for it keeps the limits
 abbrev pub parts_formed : Code → Formed RuleParts
-parts_formed c = record { form = parts_of c; within = list_all deed_within c.deeds }
+parts_formed c = record { form = parts_of c; within = list_all instruction_within c.instructions }

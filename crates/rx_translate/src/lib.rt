@@ -1,5 +1,5 @@
-//! The rules of a deed, the rule set of two functions of a program, the rows of a precondition, and
-//! the goal of two symbols: what the table of rx_code says, written down.
+//! The rules of an instruction, the rule set of two functions of a program, the rows of a
+//! precondition, and the goal of two symbols: what the table of rx_code says, written down.
 #![tactic(auto)]
 
 mod goal;

@@ -8,7 +8,7 @@ ghost use Rattle.rx_translate.specs.Rules.{rules_after};
 
 use crate::marks::{marks_of, marks_of_second};
 use crate::rules::push_rules;
-use rx_code::{Code, Deed, Opening};
+use rx_code::{Code, Instruction, Opening};
 use rx_plain::Items;
 use rx_poly::PolyEnd;
 use rx_term::{Rule, RuleParts, SymInfo};
@@ -66,8 +66,12 @@ fn empty_lists(alloc: Global, count: usize) -> Result<Vec<Items<Rule>>, AllocErr
     Ok(lists)
 }
 
-/// The rules of a deed. Large exactly where `push_rules` is.
-fn rules_of_deed(alloc: Global, entries: &[(u32, u32)], d: &Deed) -> Result<Items<Rule>, PolyEnd>
+/// The rules of an instruction. Large exactly where `push_rules` is.
+fn rules_of_instruction(
+    alloc: Global,
+    entries: &[(u32, u32)],
+    d: &Instruction,
+) -> Result<Items<Rule>, PolyEnd>
     ensures forms { Forms PolyEnd.Large result (rules_after entries.now [] d.now) }
 {
     let mut rules = Items::new(alloc);
@@ -91,8 +95,8 @@ fn sorted_rules(alloc: Global, code: &Code) -> Result<Vec<Items<Rule>>, PolyEnd>
     ensures forms { FormsAs (λ lists. lists.items) PolyEnd.Large result (sorted_rules code.now) }
 {
     let mut lists = empty_lists(alloc, code.opened.len())?;
-    for d in code.deeds.as_slice() {
-        let rules = rules_of_deed(alloc, code.entries.as_slice(), d)?;
+    for d in code.instructions.as_slice() {
+        let rules = rules_of_instruction(alloc, code.entries.as_slice(), d)?;
         add(&mut lists, d.at.symbol, rules)?;
     }
     Ok(lists)

@@ -7,7 +7,7 @@ ghost use Rattle.rx_code.specs.Rules as spec;
 ghost use Rattle.rx_translate.specs.Rules.{action_after, divided_formed, rules_after};
 
 use crate::goal::first_variables;
-use rx_code::{Action, Deed, Division, Point};
+use rx_code::{Action, Division, Instruction, Point};
 use rx_plain::{Boxed, Items};
 use rx_poly::{Poly, PolyEnd};
 use rx_row::{Constraint, Row};
@@ -184,13 +184,13 @@ fn push_resume(alloc: Global, rules: &mut Items<Rule>, a: Point, b: Point) -> Re
     rules.push(always(alloc, over_failure, Term::Fail(1)))
 }
 
-/// Adds the rules of a deed after others, where `entries` has the entry of each function. Large
-/// exactly where the negation of a row, or the result of a division, passes the limits.
+/// Adds the rules of an instruction after others, where `entries` has the entry of each function.
+/// Large exactly where the negation of a row, or the result of a division, passes the limits.
 pub fn push_rules(
     alloc: Global,
     rules: &mut Items<Rule>,
     entries: &[(u32, u32)],
-    d: &Deed,
+    d: &Instruction,
 ) -> Result<(), PolyEnd>
     ensures forms { FormsAs (λ _. rules.new) PolyEnd.Large result
         (rules_after entries.now rules.old d.now) }

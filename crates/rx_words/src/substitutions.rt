@@ -13,7 +13,7 @@ use rx_row::Row;
 use rx_text::{push_natural, push_poly, push_word};
 use std::alloc::Global;
 
-/// The same, with the variable as its number.
+/// What was read, with the variable as its number.
 fn numbered(found: Option<((Variable, Poly), usize)>) -> Option<((u32, Poly), usize)>
     ensures { result ≡ found }
 {

@@ -3,7 +3,7 @@ ghost use Rattle.std.specs.Prelude.{◌≡◌, IfOk, string_bytes};
 ghost use Rattle.rx_report.specs.Texts as spec;
 
 use crate::reports::numbered_line;
-use rx_check::{CheckEnd, Place};
+use rx_check::{CheckEnd, LimitAt};
 use rx_steps::StepEnd;
 use std::alloc::{AllocError, Global};
 
@@ -36,13 +36,13 @@ fn unmet_line(alloc: Global, step: usize, end: StepEnd) -> Result<String, AllocE
 }
 
 /// A place that passes the limits.
-fn large_line(alloc: Global, place: Place) -> Result<String, AllocError>
+fn large_line(alloc: Global, place: LimitAt) -> Result<String, AllocError>
     ensures { IfOk result (λ line. string_bytes line ≡ spec.large_line place) }
 {
     match place {
-        Place::Cover(symbol) => numbered_line(alloc, "LARGE cover s", symbol),
-        Place::Step(step) => numbered_line(alloc, "LARGE step ", step),
-        Place::Pair(pair) => numbered_line(alloc, "LARGE pair ", pair),
+        LimitAt::Cover(symbol) => numbered_line(alloc, "LARGE cover s", symbol),
+        LimitAt::Step(step) => numbered_line(alloc, "LARGE step ", step),
+        LimitAt::Pair(pair) => numbered_line(alloc, "LARGE pair ", pair),
     }
 }
 

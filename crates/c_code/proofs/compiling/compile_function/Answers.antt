@@ -2,7 +2,7 @@ use Rattle.std.proofs.Common.{pos}
 use Rattle.c_code.specs.Flat.{Leads, function_run, sequence_run}
 use Rattle.c_code.specs.declared.code.Operand.TheVariants.{Constant}
 use Rattle.c_code.specs.declared.code.Work.TheVariants.{Read}
-use Rattle.c_code.specs.declared.code.Sink.TheVariants as sink
+use Rattle.c_code.specs.declared.code.Destination.TheVariants as destination
 use Rattle.c_code.specs.declared.code.Op.TheVariants as op
 use Rattle.c_code.proofs.Leading.{emitted, if_ok-mapped}
 use Rattle.c_code.proofs.ProgramCode.{all_to, function-leads}
@@ -21,6 +21,6 @@ returns c =
     Leads m1 new p (sequence_run m1 (all_to end) function.body))
     (λ p. Leads old new p (function_run function))
     (λ p two. function-leads old m1 new function end p
-    (emitted old m1 (op.Do (Read (Constant (pos 0))) (sink.Return 0)) end
+    (emitted old m1 (op.Do (Read (Constant (pos 0))) (destination.Return 0)) end
     c.in_ok-ended.ensures.position c.in_ok-ended.ensures.added tt) two)
     body

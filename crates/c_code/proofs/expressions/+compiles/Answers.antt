@@ -13,7 +13,7 @@ use Rattle.c_code.specs.declared.code.Operand.TheVariants.{Constant, Slot}
 use Rattle.c_code.specs.declared.code.Work.TheVariants.{Read, Before, Right}
 use Rattle.c_code.specs.declared.code.Inner.{Inner}
 use Rattle.c_code.specs.declared.code.Work.{Work}
-use Rattle.c_code.specs.declared.code.Sink.TheVariants as sink
+use Rattle.c_code.specs.declared.code.Destination.TheVariants as destination
 use Rattle.c_code.specs.declared.code.Op.TheVariants as op
 use Rattle.c_code.proofs.Leading.{emitted, emit-then, if_ok-mapped, leads-here}
 use Rattle.c_code.proofs.ExpressionCode.{read-leaf, right-leads, strict-leads, both-leads, either-leads, unary-leads, lit-leads, var-leads, choose-leads, call-leads, argument-leads, binary-leads, strict-op, in-form, drop-one}
@@ -50,9 +50,10 @@ compile_right-returns-in-Some t c =
     c.inner_of.ensures in
     if_ok-mapped c.emit_work.result (λ p. Leads old new p
     (λ calls back. do_to (rests calls back old) back (Right c.args.op c.args.left inner)
-    c.args.sink))
-    (λ p. Leads old new p (right_run old c.args.sink c.args.op c.args.left b))
-    (λ p leads. right-inner-leads old new c.args.sink c.args.op c.args.left b inner p is leads)
+    c.args.destination))
+    (λ p. Leads old new p (right_run old c.args.destination c.args.op c.args.left b))
+    (λ p leads. right-inner-leads old new c.args.destination c.args.op c.args.left b inner p is
+    leads)
     c.emit_work.ensures
 
 pub compile_right-returns : goal.compile_right-returns
@@ -60,7 +61,7 @@ compile_right-returns t c =
     let old = c.args.ops.now.items in
     let m1 = c.emit_work-2.new.ops.items in
     let new = c.compile_operand.new.ops.items in
-    let s = c.args.sink in
+    let s = c.args.destination in
     let b = c.args.b.now in
     let both = c.in_ok-both.both in
     let o = c.operand_of.ensures in
@@ -74,7 +75,7 @@ pub compile_expr-returns-in-Some : goal.compile_expr-returns-in-Some
 compile_expr-returns-in-Some t c =
     let old = c.args.ops.now.items in
     let new = c.emit_work.new.ops.items in
-    let s = c.args.sink in
+    let s = c.args.destination in
     let e = c.args.e.now in
     let work = c.in-Some.work in
     let makes = subst (λ (o : Option Work). IfSome o (λ w. Makes e w)) c.in-Some.is
@@ -111,7 +112,7 @@ pub compile_parts-returns-in-Lit : goal.compile_parts-returns-in-Lit
 compile_parts-returns-in-Lit t c =
     let old = c.args.ops.now.items in
     let new = c.emit.new.ops.items in
-    let s = c.args.sink in
+    let s = c.args.destination in
     let plain : to_z w64 (of_z w64 c.in-Lit.value) ≡ c.in-Lit.value =
     first_of (search rules, grind (arith, common_steps)) in
     let added = rw plain at c.emit.ensures.added in
@@ -125,7 +126,7 @@ pub compile_parts-returns-in-Var : goal.compile_parts-returns-in-Var
 compile_parts-returns-in-Var t c =
     let old = c.args.ops.now.items in
     let new = c.emit-in-Var.new.ops.items in
-    let s = c.args.sink in
+    let s = c.args.destination in
     emit-then c.emit-in-Var.result old new (op.Do (Read (Slot c.in-Var.slot)) s)
     (λ p. Leads old new p (expr_run old s c.args.e.now)) tt
     (λ p leads. in-form old new s p c.args.e.now (syntax.Var c.in-Var.slot) c.in-Var.is
@@ -137,7 +138,7 @@ compile_parts-returns-in_ok-next-in-Unary t c =
     let old = c.args.ops.now.items in
     let m1 = c.emit-in-Unary.new.ops.items in
     let new = c.compile_operand.new.ops.items in
-    let s = c.args.sink in
+    let s = c.args.destination in
     let f = c.in-Unary.op in
     let a = c.get-in-Unary.result.now in
     let next = c.in_ok-next-in-Unary.next in
@@ -158,7 +159,7 @@ compile_parts-returns-in_ok-first-in-Choose t c =
     let m1 = c.compile_expr-in-Choose.new.ops.items in
     let m2 = c.compile_expr-in-Choose-2.new.ops.items in
     let new = c.compile_expr-in-Choose-3.new.ops.items in
-    let s = c.args.sink in
+    let s = c.args.destination in
     let b = c.get-in-Choose.result.now in
     let a = c.get-in-Choose-2.result.now in
     let test = c.get-in-Choose-3.result.now in
@@ -169,7 +170,7 @@ compile_parts-returns-in_ok-first-in-Choose t c =
     ∙ (ap (λ (x : Expr). syntax.Choose test x c.in-Choose.b) (sym c.get-in-Choose-2.ensures)
     ∙ ap (λ (x : Expr). syntax.Choose test a x) (sym c.get-in-Choose.ensures))) in
     if_ok-mapped c.compile_expr-in-Choose-3.result
-    (λ p. Leads m2 new p (expr_run m2 (sink.Branch other taken) test))
+    (λ p. Leads m2 new p (expr_run m2 (destination.Branch other taken) test))
     (λ p. Leads old new p (expr_run old s c.args.e.now))
     (λ p last. in-form old new s p c.args.e.now (syntax.Choose test a b) is
     (choose-leads old m1 m2 new s c.requires test a b other taken p c.in_ok-other-in-Choose.ensures
@@ -182,7 +183,7 @@ compile_parts-returns-in_ok-call-in-Apply t c =
     let m1 = c.after_call.new.ops.items in
     let m2 = c.emit-in-Apply.new.ops.items in
     let new = c.compile_arguments.new.ops.items in
-    let s = c.args.sink in
+    let s = c.args.destination in
     let f = c.in-Apply.place in
     let es = c.as_slice.result.now in
     let after = c.in_ok-after-in-Apply.after in
@@ -204,7 +205,7 @@ compile_parts-returns-in_ok-right-in-AndAlso t c =
     let m1 = c.emit-in-AndAlso.new.ops.items in
     let m2 = c.compile_right.new.ops.items in
     let new = c.compile_expr.new.ops.items in
-    let s = c.args.sink in
+    let s = c.args.destination in
     let b = c.get-in-AndAlso.result.now in
     let a = c.get-in-AndAlso-2.result.now in
     let known = c.in_ok-known-in-AndAlso.known in
@@ -216,7 +217,7 @@ compile_parts-returns-in_ok-right-in-AndAlso t c =
     let truth = subst (λ (f : BinOp). Leads m1 m2 right (right_run m1 s f (Constant (pos 1)) b))
     c.in-AndAlso.is c.in_ok-right-in-AndAlso.ensures in
     if_ok-mapped c.compile_expr.result (λ p. Leads m2 new p
-    (expr_run m2 (sink.Branch known right) a))
+    (expr_run m2 (destination.Branch known right) a))
     (λ p. Leads old new p (expr_run old s c.args.e.now))
     (λ p last. in-form old new s p c.args.e.now (syntax.Binary AndAlso a b) is
     (binary-leads old new s AndAlso a b p (both-leads old m1 m2 new s c.requires a b known right p
@@ -231,7 +232,7 @@ compile_parts-returns-in_ok-right-in-OrElse t c =
     let m1 = c.emit-in-OrElse.new.ops.items in
     let m2 = c.compile_right-in-OrElse.new.ops.items in
     let new = c.compile_expr-in-OrElse.new.ops.items in
-    let s = c.args.sink in
+    let s = c.args.destination in
     let b = c.get-in-OrElse.result.now in
     let a = c.get-in-OrElse-2.result.now in
     let known = c.in_ok-known-in-OrElse.known in
@@ -243,7 +244,7 @@ compile_parts-returns-in_ok-right-in-OrElse t c =
     let truth = subst (λ (f : BinOp). Leads m1 m2 right (right_run m1 s f (Constant (pos 0)) b))
     c.in-OrElse.is c.in_ok-right-in-OrElse.ensures in
     if_ok-mapped c.compile_expr-in-OrElse.result
-    (λ p. Leads m2 new p (expr_run m2 (sink.Branch right known) a))
+    (λ p. Leads m2 new p (expr_run m2 (destination.Branch right known) a))
     (λ p. Leads old new p (expr_run old s c.args.e.now))
     (λ p last. in-form old new s p c.args.e.now (syntax.Binary OrElse a b) is
     (binary-leads old new s OrElse a b p (either-leads old m1 m2 new s c.requires a b known right p
@@ -257,7 +258,7 @@ compile_parts-returns-in_ok-right-in_default t c =
     let old = c.args.ops.now.items in
     let m1 = c.compile_right-in_default.new.ops.items in
     let new = c.compile_operand-in_default.new.ops.items in
-    let s = c.args.sink in
+    let s = c.args.destination in
     let f = c.in-Binary.op in
     let b = c.get-in_default-2.result.now in
     let a = c.get-in_default-3.result.now in

@@ -7,7 +7,7 @@ use Rattle.c_ast.specs.declared.stmt.Stmt.TheVariants as syntax
 use Rattle.c_meaning.specs.CountedStatements.{loop, optional, stmt}
 use Rattle.c_code.specs.Scopes.{AddNoSlots}
 use Rattle.c_code.specs.Flat.{Leads, expr_run, flow_run, for_loop, sequence_run, stmt_run, turn_of}
-use Rattle.c_code.specs.declared.code.Sink.TheVariants as sink
+use Rattle.c_code.specs.declared.code.Destination.TheVariants as destination
 use Rattle.c_code.specs.declared.code.Op.TheVariants as op
 use Rattle.c_code.proofs.Leading.{emit-then, if_ok-mapped, longer-length, exits-below}
 use Rattle.c_code.proofs.LoopCode.{loop-leads, while-turn-leads, no-change, do-turn-leads}
@@ -163,7 +163,7 @@ compile_stmt-returns-in-Assign t c =
     let new = c.compile_expr.new.ops.items in
     let exits = c.args.exits in
     if_ok-mapped c.compile_expr.result (λ p. Leads old new p
-    (expr_run old (sink.Assign c.in-Assign.at exits.next) c.in-Assign.value))
+    (expr_run old (destination.Assign c.in-Assign.at exits.next) c.in-Assign.value))
     (λ p. Leads old new p (stmt_run old exits c.args.statement.now))
     (λ p leads. in-form old new exits p c.args.statement.now
     (syntax.Assign c.in-Assign.at c.in-Assign.value) c.in-Assign.is
@@ -181,7 +181,7 @@ compile_stmt-returns-in_ok-taken-in-If t c =
     let inner = c.get.result.now in
     let is = c.in-If.is ∙ ap (λ (s : Stmt). syntax.If test s c.in-If.other) (sym c.get.ensures) in
     if_ok-mapped c.compile_expr-in-If.result (λ p.
-    Leads m2 new p (expr_run m2 (sink.Branch c.in_ok-other-in-If.other
+    Leads m2 new p (expr_run m2 (destination.Branch c.in_ok-other-in-If.other
     c.in_ok-taken-in-If.taken) test))
     (λ p. Leads old new p (stmt_run old exits c.args.statement.now))
     (λ p last. in-form old new exits p c.args.statement.now (syntax.If test inner c.in-If.other) is

@@ -7,10 +7,10 @@ use Rattle.c_parse.specs.Recogniser.{Acts, IsFed}
 use Rattle.c_parse.proofs.StackLemmas.{fed_taken, fed_skipped, fed_lost, fed_over, fed_without}
 use Rattle.c_parse.proofs.recogniser.feed.Goals as goal
 
-pub returns-in-Taken : goal.returns-in-Taken
-returns-in-Taken c =
-    let a : Acts (Ok step.Taken) c.pop.new.self.items c.act.new.stack.items
-    (action c.in-Some.symbol c.args.kind) = rw c.in-Taken.is at c.in_ok-act.ensures in
+pub returns-in-Shifted : goal.returns-in-Shifted
+returns-in-Shifted c =
+    let a : Acts (Ok step.Shifted) c.pop.new.self.items c.act.new.stack.items
+    (action c.in-Some.symbol c.args.kind) = rw c.in-Shifted.is at c.in_ok-act.ensures in
     let h : c.loop-symbol.stack.items ≡ c.pop.new.self.items ++ (c.in-Some.symbol ∷ []) =
     c.in-Some.ensures.items in
     subst (λ (o : Option (List Symbol)). IsFed true c.act.new.stack.items o) c.loop-symbol.invariant
@@ -19,18 +19,18 @@ returns-in-Taken c =
 
 pub loop-symbol-preserved : goal.loop-symbol-preserved
 loop-symbol-preserved c =
-    let a : Acts (Ok step.Skipped) c.pop.new.self.items c.act.new.stack.items
-    (action c.in-Some.symbol c.args.kind) = rw c.in-Skipped.is at c.in_ok-act.ensures in
+    let a : Acts (Ok step.Popped) c.pop.new.self.items c.act.new.stack.items
+    (action c.in-Some.symbol c.args.kind) = rw c.in-Popped.is at c.in_ok-act.ensures in
     let h : c.loop-symbol.stack.items ≡ c.pop.new.self.items ++ (c.in-Some.symbol ∷ []) =
     c.in-Some.ensures.items in
     let s = fed_skipped c.loop-symbol.stack.items c.pop.new.self.items c.act.new.stack.items
     c.in-Some.symbol c.args.kind h a in
     s.0 ∙ c.loop-symbol.invariant
 
-pub returns-in-Lost : goal.returns-in-Lost
-returns-in-Lost c =
-    let a : Acts (Ok step.Lost) c.pop.new.self.items c.act.new.stack.items
-    (action c.in-Some.symbol c.args.kind) = rw c.in-Lost.is at c.in_ok-act.ensures in
+pub returns-in-Rejected : goal.returns-in-Rejected
+returns-in-Rejected c =
+    let a : Acts (Ok step.Rejected) c.pop.new.self.items c.act.new.stack.items
+    (action c.in-Some.symbol c.args.kind) = rw c.in-Rejected.is at c.in_ok-act.ensures in
     let h : c.loop-symbol.stack.items ≡ c.pop.new.self.items ++ (c.in-Some.symbol ∷ []) =
     c.in-Some.ensures.items in
     subst (λ (o : Option (List Symbol)). IsFed false c.act.new.stack.items o)

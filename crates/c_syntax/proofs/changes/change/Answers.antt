@@ -12,9 +12,9 @@ overflow_cast-at c =
 pub returns-in-Some : goal.returns-in-Some
 returns-in-Some c =
     steps_before c.args.mark c.args.tokens.now c.args.at c.args.room c.in-Some.op _
-    c.in-Some.ensures c.if-not-has_name.ensures c.stepped.ensures
+    c.in-Some.ensures c.if-not-has_name.ensures c.increment.ensures
 
 pub returns-in-Some-step_at : goal.returns-in-Some-step_at
 returns-in-Some-step_at c =
     steps_after c.args.mark c.args.tokens.now c.args.at c.args.room c.in-Some-step_at.op _
-    c.if-not-has_name-2.ensures c.in-Some-step_at.ensures c.stepped-in-Some-step_at.ensures
+    c.if-not-has_name-2.ensures c.in-Some-step_at.ensures c.increment-in-Some-step_at.ensures

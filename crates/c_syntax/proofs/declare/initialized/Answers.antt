@@ -12,8 +12,8 @@ overflow_add-at c =
     let within : c.args.at + 1 < length c.args.tokens.now =
     kind_within c.args.tokens.now (c.args.at + 1) (Mark Assign) c.requires.assigned in omega arith
 
-pub whole-requires-clause-inside : goal.whole-requires-clause-inside
-whole-requires-clause-inside c =
+pub expression-requires-clause-inside : goal.expression-requires-clause-inside
+expression-requires-clause-inside c =
     let within : c.args.at + 1 < length c.args.tokens.now =
     kind_within c.args.tokens.now (c.args.at + 1) (Mark Assign) c.requires.assigned in omega arith
 

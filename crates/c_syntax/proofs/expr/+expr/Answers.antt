@@ -35,8 +35,8 @@ chain-returns-then-left-room t c =
     turning_full c.args.tokens.now c.args.n c.args.at c.args.room c.more.left
     c.in-Some-operator_at.op c.more.invariant c.in-Some-operator_at.ensures c.if-left-room.true
 
-pub chain-level-requires-in-Some-operator_at : goal.chain-level-requires-in-Some-operator_at
-chain-level-requires-in-Some-operator_at t c =
+pub chain-binary_level-requires-in-Some-operator_at : goal.chain-binary_level-requires-in-Some-operator_at
+chain-binary_level-requires-in-Some-operator_at t c =
     let within : c.more.left.end < length c.args.tokens.now =
     operator_within c.args.tokens.now c.more.left.end c.args.n c.in-Some-operator_at.op
     c.in-Some-operator_at.ensures in
@@ -90,8 +90,8 @@ arguments-next-init t c =
     rw c.new-found.ensures at c.in_ok-push.ensures.ok in
     rw pushed (passing_begins ts c.args.at c.args.room c.if-has_mark.ensures c.in-Some.first first)
 
-pub arguments-whole-requires-in-next : goal.arguments-whole-requires-in-next
-arguments-whole-requires-in-next t c =
+pub arguments-expression-requires-in-next : goal.arguments-expression-requires-in-next
+arguments-expression-requires-in-next t c =
     let within : c.next.end < length c.args.tokens.now =
     kind_within c.args.tokens.now c.next.end (Mark Comma) c.next-test.ensures in
     let further : c.args.at < c.next.end = c.next.invariant.further in
@@ -139,8 +139,8 @@ primary-returns-then-has_mark t c =
     reads_call ts c.args.at c.args.room c.in-Some.read _ here c.if-has_mark.ensures c.requires.some
     read refl refl refl
 
-pub primary-whole-requires : goal.primary-whole-requires
-primary-whole-requires t c =
+pub primary-expression-requires : goal.primary-expression-requires
+primary-expression-requires t c =
     let here : kind_at c.args.tokens.now c.args.at ≡ Some (Mark LeftParen) = cc in
     let within : c.args.at < length c.args.tokens.now =
     kind_within c.args.tokens.now c.args.at (Mark LeftParen) here in
@@ -216,30 +216,30 @@ signed-returns t c =
     inner c.in_ok-prefixed.ensures.tree c.in_ok-prefixed.ensures.end
     c.in_ok-prefixed.ensures.height
 
-pub whole-returns-in_default : goal.whole-returns-in_default
-whole-returns-in_default t c =
+pub expression-returns-in_default : goal.expression-returns-in_default
+expression-returns-in_default t c =
     let ts = c.args.tokens.now in
     let test : Reads (BinaryAt ts levels) ts levels c.args.at c.args.room None =
     rw c.in_default.is at c.in_ok-test.ensures in
     whole_none ts c.args.at c.args.room test
 
-pub whole-returns-then-not-has_mark : goal.whole-returns-then-not-has_mark
-whole-returns-then-not-has_mark t c =
+pub expression-returns-then-not-has_mark : goal.expression-returns-then-not-has_mark
+expression-returns-then-not-has_mark t c =
     let ts = c.args.tokens.now in
     let test : Reads (BinaryAt ts levels) ts levels c.args.at c.args.room (Some c.in-Some.test) =
     rw c.in-Some.is at c.in_ok-test.ensures in
     whole_plain ts c.args.at c.args.room c.in-Some.test test c.if-not-has_mark.ensures
 
-pub whole-returns-then-test-room : goal.whole-returns-then-test-room
-whole-returns-then-test-room t c =
+pub expression-returns-then-test-room : goal.expression-returns-then-test-room
+expression-returns-then-test-room t c =
     let ts = c.args.tokens.now in
     let test : Reads (BinaryAt ts levels) ts levels c.args.at c.args.room (Some c.in-Some.test) =
     rw c.in-Some.is at c.in_ok-test.ensures in
     whole_full ts c.args.at c.args.room c.in-Some.test test c.if-not-has_mark.ensures
     c.if-test-room.true
 
-pub whole-whole-requires : goal.whole-whole-requires
-whole-whole-requires t c =
+pub expression-expression-requires : goal.expression-expression-requires
+expression-expression-requires t c =
     let ts = c.args.tokens.now in
     let test : Reads (BinaryAt ts levels) ts levels c.args.at c.args.room (Some c.in-Some.test) =
     rw c.in-Some.is at c.in_ok-test.ensures in
@@ -251,8 +251,8 @@ whole-whole-requires t c =
     kind_within ts c.in-Some.test.end (Mark Question) c.if-not-has_mark.ensures in
     (omega (arith, c.decreases), (omega arith, (omega arith, omega arith)))
 
-pub whole-returns-in_default-2 : goal.whole-returns-in_default-2
-whole-returns-in_default-2 t c =
+pub expression-returns-in_default-2 : goal.expression-returns-in_default-2
+expression-returns-in_default-2 t c =
     let ts = c.args.tokens.now in
     let test : Reads (BinaryAt ts levels) ts levels c.args.at c.args.room (Some c.in-Some.test) =
     rw c.in-Some.is at c.in_ok-test.ensures in
@@ -260,8 +260,8 @@ whole-returns-in_default-2 t c =
     None = rw c.in_default-2.is at c.in_ok-first.ensures in
     whole_valueless ts c.args.at c.args.room c.in-Some.test test c.if-not-has_mark.ensures first
 
-pub whole-returns-then-not-has_mark-2 : goal.whole-returns-then-not-has_mark-2
-whole-returns-then-not-has_mark-2 t c =
+pub expression-returns-then-not-has_mark-2 : goal.expression-returns-then-not-has_mark-2
+expression-returns-then-not-has_mark-2 t c =
     let ts = c.args.tokens.now in
     let test : Reads (BinaryAt ts levels) ts levels c.args.at c.args.room (Some c.in-Some.test) =
     rw c.in-Some.is at c.in_ok-test.ensures in
@@ -270,8 +270,8 @@ whole-returns-then-not-has_mark-2 t c =
     whole_open ts c.args.at c.args.room c.in-Some.test test c.if-not-has_mark.ensures
     c.in-Some-2.first first c.if-not-has_mark-2.ensures
 
-pub whole-whole-requires-2 : goal.whole-whole-requires-2
-whole-whole-requires-2 t c =
+pub expression-expression-requires-2 : goal.expression-expression-requires-2
+expression-expression-requires-2 t c =
     let ts = c.args.tokens.now in
     let test : Reads (BinaryAt ts levels) ts levels c.args.at c.args.room (Some c.in-Some.test) =
     rw c.in-Some.is at c.in_ok-test.ensures in
@@ -286,8 +286,8 @@ whole-whole-requires-2 t c =
     kind_within ts c.in-Some-2.first.end (Mark Colon) c.if-not-has_mark-2.ensures in
     (omega (arith, c.decreases), (omega arith, (omega arith, omega arith)))
 
-pub whole-returns-in_default-3 : goal.whole-returns-in_default-3
-whole-returns-in_default-3 t c =
+pub expression-returns-in_default-3 : goal.expression-returns-in_default-3
+expression-returns-in_default-3 t c =
     let ts = c.args.tokens.now in
     let test : Reads (BinaryAt ts levels) ts levels c.args.at c.args.room (Some c.in-Some.test) =
     rw c.in-Some.is at c.in_ok-test.ensures in
@@ -298,8 +298,8 @@ whole-returns-in_default-3 t c =
     whole_halved ts c.args.at c.args.room c.in-Some.test test c.if-not-has_mark.ensures
     c.in-Some-2.first first other
 
-pub whole-returns : goal.whole-returns
-whole-returns t c =
+pub expression-returns : goal.expression-returns
+expression-returns t c =
     let ts = c.args.tokens.now in
     let test : Reads (BinaryAt ts levels) ts levels c.args.at c.args.room (Some c.in-Some.test) =
     rw c.in-Some.is at c.in_ok-test.ensures in
@@ -310,4 +310,4 @@ whole-returns t c =
     whole_choice ts c.args.at c.args.room c.in-Some.test test c.if-not-has_mark.ensures
     c.in-Some-2.first first c.in-Some-3.other _ c.if-not-has_mark-2.ensures c.if-test-room.false
     other
-    c.in_ok-chosen.ensures.tree c.in_ok-chosen.ensures.end c.in_ok-chosen.ensures.height
+    c.in_ok-conditional.ensures.tree c.in_ok-conditional.ensures.end c.in_ok-conditional.ensures.height

@@ -2,11 +2,11 @@ use Rattle.std.proofs.Common.{◌+◌, ◌-◌, ◌*◌, length}
 use Rattle.c_syntax.specs.Readers.{Turning, Passing}
 use Rattle.c_syntax.proofs.expr.+expr.Given as goal
 
-abbrev pub decreases-whole : goal.decreases-whole
-decreases-whole l = 20 * (length l.tokens.now - l.at) + 17
+abbrev pub decreases-expression : goal.decreases-expression
+decreases-expression l = 20 * (length l.tokens.now - l.at) + 17
 
-abbrev pub decreases-level : goal.decreases-level
-decreases-level l = 20 * (length l.tokens.now - l.at) + (2 * l.n + 2)
+abbrev pub decreases-binary_level : goal.decreases-binary_level
+decreases-binary_level l = 20 * (length l.tokens.now - l.at) + (2 * l.n + 2)
 
 abbrev pub decreases-chain : goal.decreases-chain
 decreases-chain l = 20 * (length l.tokens.now - l.at) + (2 * l.n + 3)

@@ -40,8 +40,8 @@ for_loop-overflow_add-at t c =
     let within : c.args.at < length c.args.tokens.now =
     kind_within c.args.tokens.now c.args.at (Word For) c.requires.here in omega arith
 
-pub block-inner-requires : goal.block-inner-requires
-block-inner-requires t c =
+pub block-block_items-requires : goal.block-block_items-requires
+block-block_items-requires t c =
     let within : c.args.at < length c.args.tokens.now =
     kind_within c.args.tokens.now c.args.at (Mark LeftBrace) c.requires.here in
     (omega (arith, c.decreases), (omega arith, omega arith))
@@ -67,8 +67,8 @@ block-returns t c =
     (builds_block ts c.args.at c.args.room c.requires.some c.requires.here) c.args.at
     (c.args.at + 1) (length ts) (omega arith) c.in-Some.inside _ inside refl refl
 
-pub while_loop-test-requires-clause-inside : goal.while_loop-test-requires-clause-inside
-while_loop-test-requires-clause-inside t c =
+pub while_loop-parenthesized-requires-clause-inside : goal.while_loop-parenthesized-requires-clause-inside
+while_loop-parenthesized-requires-clause-inside t c =
     let within : c.args.at < length c.args.tokens.now =
     kind_within c.args.tokens.now c.args.at (Word While) c.requires.here in omega arith
 
@@ -110,8 +110,8 @@ while_loop-returns t c =
     (builds_while ts c.args.at c.args.room c.requires.some c.requires.here c.in-Some.test test)
     c.args.at c.in-Some.test.end (length ts) (omega arith) c.in-Some-2.body _ body refl refl
 
-pub for_loop-head-requires-clause-inside : goal.for_loop-head-requires-clause-inside
-for_loop-head-requires-clause-inside t c =
+pub for_loop-for_head-requires-clause-inside : goal.for_loop-for_head-requires-clause-inside
+for_loop-for_head-requires-clause-inside t c =
     let within : c.args.at < length c.args.tokens.now =
     kind_within c.args.tokens.now c.args.at (Word For) c.requires.here in omega arith
 
@@ -152,8 +152,8 @@ for_loop-returns t c =
     (builds_for ts c.args.at c.args.room c.requires.some c.requires.here c.in-Some.head head)
     c.args.at c.in-Some.head.end (length ts) (omega arith) c.in-Some-2.body _ body refl refl
 
-pub do_loop-part-requires : goal.do_loop-part-requires
-do_loop-part-requires t c =
+pub do_loop-boxed_statement-requires : goal.do_loop-boxed_statement-requires
+do_loop-boxed_statement-requires t c =
     let within : c.args.at < length c.args.tokens.now =
     kind_within c.args.tokens.now c.args.at (Word Do) c.requires.here in
     (omega (arith, c.decreases), (omega arith, omega arith))
@@ -174,8 +174,8 @@ do_loop-returns-then-not-has_keyword t c =
     do_whileless ts c.args.at c.args.room c.requires.some c.requires.here c.in-Some.body body
     c.if-not-has_keyword.ensures
 
-pub do_loop-test-requires-clause-inside : goal.do_loop-test-requires-clause-inside
-do_loop-test-requires-clause-inside t c =
+pub do_loop-parenthesized-requires-clause-inside : goal.do_loop-parenthesized-requires-clause-inside
+do_loop-parenthesized-requires-clause-inside t c =
     let within : c.in-Some.body.end < length c.args.tokens.now =
     kind_within c.args.tokens.now c.in-Some.body.end (Word While) c.if-not-has_keyword.ensures in
     omega arith
@@ -214,8 +214,8 @@ do_loop-returns t c =
     reads_do ts c.args.at c.args.room c.requires.some c.requires.here c.in-Some.body body
     c.in-Some-2.test test _ c.if-not-has_keyword.ensures c.if-not-has_mark.ensures refl refl
 
-pub branch-test-requires-clause-inside : goal.branch-test-requires-clause-inside
-branch-test-requires-clause-inside t c =
+pub branch-parenthesized-requires-clause-inside : goal.branch-parenthesized-requires-clause-inside
+branch-parenthesized-requires-clause-inside t c =
     let within : c.args.at < length c.args.tokens.now =
     kind_within c.args.tokens.now c.args.at (Word If) c.requires.here in omega arith
 
@@ -249,8 +249,8 @@ branch-returns-then-not-has_keyword t c =
     reads_alone ts c.args.at c.args.room c.requires.some c.requires.here c.in-Some.test test
     c.in-Some-2.then taken _ c.if-not-has_keyword.ensures refl refl
 
-pub branch-part-requires-2 : goal.branch-part-requires-2
-branch-part-requires-2 t c =
+pub branch-boxed_statement-requires-2 : goal.branch-boxed_statement-requires-2
+branch-boxed_statement-requires-2 t c =
     let ts = c.args.tokens.now in
     let test : Gives (IsNoHigher expr_height (c.args.room - 1) (Test ts (c.args.at + 1)))
     (c.args.at + 1)
@@ -306,35 +306,35 @@ branch-returns t c =
     c.in-Some-2.then taken c.if-not-has_keyword.ensures) c.args.at (c.in-Some-2.then.end + 1)
     (length ts) (omega arith) c.in-Some-3.other _ other refl refl
 
-pub inner-returns-in_default : goal.inner-returns-in_default
-inner-returns-in_default t c =
+pub block_items-returns-in_default : goal.block_items-returns-in_default
+block_items-returns-in_default t c =
     let ts = c.args.tokens.now in
     let read : Gives (IsNoHigher list_height c.args.room (BlockItem ts c.items.end)) c.items.end
     (length ts) None = rw c.in_default.is at c.in_ok-read.ensures in
     inner_stops ts c.args.at c.args.room c.items.found c.items.end c.items.invariant
     c.items-test.ensures read
 
-pub inner-items-preserved : goal.inner-items-preserved
-inner-items-preserved t c =
+pub block_items-items-preserved : goal.block_items-items-preserved
+block_items-items-preserved t c =
     let ts = c.args.tokens.now in
     let read : Gives (IsNoHigher list_height c.args.room (BlockItem ts c.items.end)) c.items.end
     (length ts) (Some c.in-Some.read) = rw c.in-Some.is at c.in_ok-read.ensures in
     rw c.in_ok-append.ensures.ok (inner_goes ts c.args.at c.args.room c.items.found c.items.end
     c.items.invariant c.in-Some.read read c.items-test.ensures)
 
-pub inner-returns : goal.inner-returns
-inner-returns t c =
+pub block_items-returns : goal.block_items-returns
+block_items-returns t c =
     let ts = c.args.tokens.now in
     inner_ends ts c.args.at c.args.room c.items.found c.items.end c.items.invariant _
     c.items-test.ensures refl refl
 
-pub item-returns-then-has_keyword : goal.item-returns-then-has_keyword
-item-returns-then-has_keyword t c =
+pub block_item-returns-then-has_keyword : goal.block_item-returns-then-has_keyword
+block_item-returns-then-has_keyword t c =
     let ts = c.args.tokens.now in
     item_names ts c.args.at c.args.room _ c.if-has_keyword.ensures c.declaration.ensures
 
-pub item-returns : goal.item-returns
-item-returns t c =
+pub block_item-returns : goal.block_item-returns
+block_item-returns t c =
     let ts = c.args.tokens.now in
     let read : Gives (IsNoHigher stmt_height c.args.room (Statement ts c.args.at)) c.args.at
     (length ts)

@@ -21,19 +21,19 @@ decreases-for_loop l = 4 * (length l.tokens.now - l.at)
 abbrev pub decreases-statement : goal.decreases-statement
 decreases-statement l = 4 * (length l.tokens.now - l.at) + 1
 
-abbrev pub decreases-part : goal.decreases-part
-decreases-part l = 4 * (length l.tokens.now - l.at) + 2
+abbrev pub decreases-boxed_statement : goal.decreases-boxed_statement
+decreases-boxed_statement l = 4 * (length l.tokens.now - l.at) + 2
 
-abbrev pub decreases-item : goal.decreases-item
-decreases-item l = 4 * (length l.tokens.now - l.at) + 2
+abbrev pub decreases-block_item : goal.decreases-block_item
+decreases-block_item l = 4 * (length l.tokens.now - l.at) + 2
 
-abbrev pub decreases-inner : goal.decreases-inner
-decreases-inner l = 4 * (length l.tokens.now - l.at) + 3
+abbrev pub decreases-block_items : goal.decreases-block_items
+decreases-block_items l = 4 * (length l.tokens.now - l.at) + 3
 
-abbrev pub invariant-inner-items : goal.invariant-inner-items
-invariant-inner-items l =
+abbrev pub invariant-block_items-items : goal.invariant-block_items-items
+invariant-block_items-items l =
     Collected l.room (BlockItems l.tokens l.at) (BlockItems l.tokens) (length l.tokens) l.at l.found
     l.end
 
-abbrev pub decreases-inner-items : goal.decreases-inner-items
-decreases-inner-items l = length l.tokens - l.end
+abbrev pub decreases-block_items-items : goal.decreases-block_items-items
+decreases-block_items-items l = length l.tokens - l.end

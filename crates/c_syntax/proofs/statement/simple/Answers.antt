@@ -27,8 +27,8 @@ returns-then-has_keyword-2 c =
     reads_continue c.args.tokens.now c.args.at c.args.room c.requires.some _ c.if-has_keyword-2.ensures
     c.jump_statement-then-has_keyword-2.ensures
 
-pub up_to-requires-clause-inside : goal.up_to-requires-clause-inside
-up_to-requires-clause-inside c =
+pub expression_until-requires-clause-inside : goal.expression_until-requires-clause-inside
+expression_until-requires-clause-inside c =
     let within : c.args.at < length c.args.tokens.now =
     kind_within c.args.tokens.now c.args.at (Word ReturnWord) c.if-has_keyword-3.ensures in omega arith
 

@@ -1,13 +1,13 @@
--- One list more is counted; at the end all are, and the tally comes to their outcome.
+-- One round more is counted; at the end all are, and the counter comes to their outcome.
 use Rattle.std.proofs.Common.{◌≡◌, ◌∙◌, ap, sym, subst, ◌+◌, ◌-◌, ℕ, ◌≤◌, [], All, arith, add-one, get_or, lit<}
 use Rattle.std.proofs.lemmas.List.Elements.{All-nil}
 use Rattle.rx_deepening.specs.Keeping.{IsVisited, OfLeaf, StandsForLists}
-use Rattle.rx_deepening.specs.Tallies.{begin, counted, outcome_by}
-use Rattle.rx_deepening.specs.Views.{IfClosed, IfFound, seen_outcome, seen_tally}
+use Rattle.rx_deepening.specs.Counters.{begin, counted, outcome_by}
+use Rattle.rx_deepening.specs.Views.{IfClosed, IfFound, seen_outcome, seen_counter}
 use Rattle.rx_deepening.specs.Visits.{all_visits, lists, visits}
 use Rattle.rx_deepening.specs.declared.kept.Progress.{Progress}
-use Rattle.rx_deepening.specs.declared.tally.Ended.TheVariants.{Going}
-use Rattle.rx_deepening.specs.declared.tally.Tally.{Tally}
+use Rattle.rx_deepening.specs.declared.counter.Ended.TheVariants.{Going}
+use Rattle.rx_deepening.specs.declared.counter.Counter.{Counter}
 use Rattle.rx_deepening.proofs.KeepingLaws.{of_leaf_more}
 use Rattle.rx_deepening.proofs.ListLaws.{begun, first_counts, first_stands, next_counts, next_stands}
 use Rattle.rx_deepening.proofs.OutcomeLaws.{counted-outcome}
@@ -40,7 +40,7 @@ loop-list-init g c =
       stands = first_stands view settled menu a.budget room v made visited;
       valid =
           c.in_ok-progress.ensures.valid (subst
-          (λ (p : Progress _ _). IfFound (g.T.Tree.valid w) p.tally.ended) (sym was) tt);
+          (λ (p : Progress _ _). IfFound (g.T.Tree.valid w) p.counter.ended) (sym was) tt);
       leaves =
           c.in_ok-progress.ensures.leaves 1 (lit< tt)
           (subst (λ (p : Progress _ _). All of_leaf p.kept) (sym was) (All-nil of_leaf));
@@ -58,14 +58,14 @@ loop-list-preserved g c =
     let same = at.invariant.world in
     let made = c.in_ok-progress-2.progress in
     let before = λ (n : ℕ). visits settled menu (n + (at._list + 1)) [] v in
-    let stood = λ (u : g.T.Tree.World). at.progress.tally.ended ≡ Going
-    → StandsForLists view (g.T.Tree.settled u) (g.T.Tree.menu u) at.progress.tally.note
+    let stood = λ (u : g.T.Tree.World). at.progress.counter.ended ≡ Going
+    → StandsForLists view (g.T.Tree.settled u) (g.T.Tree.menu u) at.progress.counter.note
     at.progress.kept before in
-    let counts = subst (λ (u : g.T.Tree.World). stood u → seen_tally view made.tally ≡
-    counted (seen_tally view at.progress.tally) (before 0))
+    let counts = subst (λ (u : g.T.Tree.World). stood u → seen_counter view made.counter ≡
+    counted (seen_counter view at.progress.counter) (before 0))
     same (c.in_ok-progress-2.ensures.counted before) at.invariant.stands in
-    let stands = subst (λ (u : g.T.Tree.World). stood u → made.tally.ended ≡ Going
-    → StandsForLists view (g.T.Tree.settled u) (g.T.Tree.menu u) made.tally.note made.kept
+    let stands = subst (λ (u : g.T.Tree.World). stood u → made.counter.ended ≡ Going
+    → StandsForLists view (g.T.Tree.settled u) (g.T.Tree.menu u) made.counter.note made.kept
     (λ n. before (n + 1)))
     same (c.in_ok-progress-2.ensures.stands before) at.invariant.stands in
     record {
@@ -76,8 +76,8 @@ loop-list-preserved g c =
           counts at.invariant.counts;
       stands = next_stands view settled menu made at._list v stands;
       valid =
-          subst (λ (u : g.T.Tree.World). IfFound (g.T.Tree.valid u) at.progress.tally.ended →
-          IfFound (g.T.Tree.valid u) made.tally.ended)
+          subst (λ (u : g.T.Tree.World). IfFound (g.T.Tree.valid u) at.progress.counter.ended →
+          IfFound (g.T.Tree.valid u) made.counter.ended)
           same c.in_ok-progress-2.ensures.valid at.invariant.valid;
       leaves =
           subst (λ (u : g.T.Tree.World). All (OfLeaf (g.T.Tree.valid u) (at._list + 1))
@@ -98,7 +98,7 @@ next_list-requires-clause-leaves g c = λ k d inside.
 pub returns-clause-valid : goal.returns-clause-valid
 returns-clause-valid g c =
     let valid = g.T.Tree.valid (g.T.Tree.world c.args.tree.now) in
-    let made = c.loop-list.progress.tally in
+    let made = c.loop-list.progress.counter in
     subst (IfClosed valid) (sym c.outcome_of.ensures)
     (closed_if valid made.note made.ended c.loop-list.invariant.valid)
 
@@ -110,13 +110,14 @@ returns-clause-outcome g c =
     let menu = g.T.Tree.menu w in
     let a = c.args in
     let v = view a.start in
-    let made = c.loop-list.progress.tally in
+    let made = c.loop-list.progress.counter in
     let none : a.depth - c.loop-list._list ≡ 0 = omega arith in
-    let all : seen_tally view made ≡ counted (begin a.budget) (all_visits settled menu a.depth v) =
-    sym (no-list settled menu (seen_tally view made) (a.depth - c.loop-list._list)
+    let all : seen_counter view made ≡ counted (begin a.budget) (all_visits settled menu a.depth v)
+    =
+    sym (no-list settled menu (seen_counter view made) (a.depth - c.loop-list._list)
     (c.loop-list._list + 1) v none)
     ∙ c.loop-list.invariant.counts
     ∙ ap (λ n. counted (begin a.budget) (lists settled menu n 0 v)) (add-one a.depth) in
     ap (seen_outcome view) c.outcome_of.ensures ∙ outcome_seen view made
-    ∙ ap (λ (t : Tally g.T.Tree.View _). outcome_by t.ended t.note) all
+    ∙ ap (λ (t : Counter g.T.Tree.View _). outcome_by t.ended t.note) all
     ∙ counted-outcome a.budget (all_visits settled menu a.depth v)

@@ -61,7 +61,8 @@ loop-node-preserved g c =
     let made = c.in_ok-progress.progress in
     let next = subst (λ (u : g.T.Tree.World).
     (lists : ℕ → List (Visit g.T.Tree.View g.row.T-Note.Denot))
-    → StandsForVisits view (g.T.Tree.settled u) (g.T.Tree.menu u) at.progress.tally.note node lists
+    → StandsForVisits view (g.T.Tree.settled u) (g.T.Tree.menu u) at.progress.counter.note node
+    lists
     → IsVisited view (g.T.Tree.settled u) (g.T.Tree.menu u) at.progress lists made) same
     c.in_ok-progress.ensures.visited in
     let leaves = subst (λ (u : g.T.Tree.World). (most : ℕ) → OfLeaf (g.T.Tree.valid u) most node →
@@ -73,9 +74,10 @@ loop-node-preserved g c =
       visited =
           next_visited view settled menu start at.progress made at.yielded node at.invariant.visited
           next;
-      valid = λ h. subst (λ (u : g.T.Tree.World). IfFound (g.T.Tree.valid u) made.tally.ended) same
+      valid = λ h. subst (λ (u : g.T.Tree.World). IfFound (g.T.Tree.valid u) made.counter.ended)
+          same
           (c.in_ok-progress.ensures.valid (subst
-          (λ (u : g.T.Tree.World). IfFound (g.T.Tree.valid u) at.progress.tally.ended)
+          (λ (u : g.T.Tree.World). IfFound (g.T.Tree.valid u) at.progress.counter.ended)
           (sym same) (at.invariant.valid h)));
       leaves = λ most all before.
           let (past, one) = all_last (OfLeaf (g.T.Tree.valid w) most) at.yielded node all in
@@ -99,7 +101,7 @@ returns-clause-visited g c = λ lists stands.
     let w = g.T.Tree.world c.args.tree.now in
     c.loop-node.invariant.visited lists
     (subst (λ (ks : List (Kept _)). StandsForLists g.T.Tree.view (g.T.Tree.settled w)
-    (g.T.Tree.menu w) c.args.progress.tally.note ks lists) (sym (ended g c)) stands)
+    (g.T.Tree.menu w) c.args.progress.counter.note ks lists) (sym (ended g c)) stands)
 
 pub returns-clause-leaves : goal.returns-clause-leaves
 returns-clause-leaves g c = λ most all before.

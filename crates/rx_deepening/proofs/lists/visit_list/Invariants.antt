@@ -11,11 +11,11 @@ invariant-loop-node g l = record {
   world : g.T.Tree.world l.tree ≡ g.T.Tree.world l.initial.tree;
   visited : (lists : ℕ → List (Visit g.T.Tree.View g.row.T-Note.Denot))
       → StandsForLists g.T.Tree.view (g.T.Tree.settled (g.T.Tree.world l.initial.tree))
-      (g.T.Tree.menu (g.T.Tree.world l.initial.tree)) l.fn.progress.tally.note l.yielded lists
+      (g.T.Tree.menu (g.T.Tree.world l.initial.tree)) l.fn.progress.counter.note l.yielded lists
       → IsVisited g.T.Tree.view (g.T.Tree.settled (g.T.Tree.world l.initial.tree))
       (g.T.Tree.menu (g.T.Tree.world l.initial.tree)) l.fn.progress lists l.progress;
-  valid : IfFound (g.T.Tree.valid (g.T.Tree.world l.initial.tree)) l.fn.progress.tally.ended →
-      IfFound (g.T.Tree.valid (g.T.Tree.world l.initial.tree)) l.progress.tally.ended;
+  valid : IfFound (g.T.Tree.valid (g.T.Tree.world l.initial.tree)) l.fn.progress.counter.ended →
+      IfFound (g.T.Tree.valid (g.T.Tree.world l.initial.tree)) l.progress.counter.ended;
   leaves : (most : ℕ) → All (OfLeaf (g.T.Tree.valid (g.T.Tree.world l.initial.tree)) most) l.yielded
       → All (OfLeaf (g.T.Tree.valid (g.T.Tree.world l.initial.tree)) (most + 1)) l.fn.progress.kept
       → All (OfLeaf (g.T.Tree.valid (g.T.Tree.world l.initial.tree)) (most + 1)) l.progress.kept;

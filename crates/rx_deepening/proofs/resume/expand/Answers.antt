@@ -5,7 +5,7 @@ use Rattle.rx_deepening.specs.Keeping.{IsVisited, OfLeaf, visits_from}
 use Rattle.rx_deepening.specs.Views.{IfFound, seen_menu}
 use Rattle.rx_deepening.specs.Visits.{visits_of}
 use Rattle.rx_deepening.specs.declared.kept.Kept.TheVariants.{Expanded}
-use Rattle.rx_deepening.specs.declared.tally.Tally.{Tally}
+use Rattle.rx_deepening.specs.declared.counter.Counter.{Counter}
 use Rattle.rx_deepening.proofs.KeepingLaws.{all_push}
 use Rattle.rx_deepening.proofs.ResumeLaws.{leaf_expanded}
 use Rattle.rx_deepening.proofs.resume.expand.Goals as goal
@@ -23,15 +23,15 @@ returns-clause-visited g c = λ s unclosed noted is.
     (IsVisited view settled menu b (λ n. visits_of settled menu n a.path.now m.choices))
     (IsVisited view settled menu a.progress (λ n. visits_from settled menu n a.path.now s))
     (λ e below. leaf_expanded view settled menu a.progress b e a.path.now s m c.requires.goes.going
-    c.requires.goes.left unclosed noted is c.in_ok-progress.ensures.tally
+    c.requires.goes.left unclosed noted is c.in_ok-progress.ensures.counter
     c.in_ok-progress.ensures.kept below)
     c.visit_each.ensures.visited
 
 pub returns-clause-valid : goal.returns-clause-valid
 returns-clause-valid g c =
     let valid = g.T.Tree.valid (g.T.Tree.world c.args.tree.now) in
-    c.visit_each.ensures.valid (subst (λ (t : Tally _ _). IfFound valid t.ended)
-    (sym c.in_ok-progress.ensures.tally) tt)
+    c.visit_each.ensures.valid (subst (λ (t : Counter _ _). IfFound valid t.ended)
+    (sym c.in_ok-progress.ensures.counter) tt)
 
 pub returns-clause-leaves : goal.returns-clause-leaves
 returns-clause-leaves g c = λ most some all.

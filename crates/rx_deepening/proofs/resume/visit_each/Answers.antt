@@ -69,9 +69,10 @@ loop-choice-preserved g c =
           (visited_then view settled menu a.progress at.progress made
           (λ n. visits_of settled menu n a.path.now (map (seen_choice view) at.yielded))
           (λ n. visits settled menu n c.in_ok-at.at (view item.node)) at.invariant.visited here);
-      valid = λ h. subst (λ (u : g.T.Tree.World). IfFound (g.T.Tree.valid u) made.tally.ended) same
+      valid = λ h. subst (λ (u : g.T.Tree.World). IfFound (g.T.Tree.valid u) made.counter.ended)
+          same
           (c.in_ok-progress.ensures.valid (subst
-          (λ (u : g.T.Tree.World). IfFound (g.T.Tree.valid u) at.progress.tally.ended)
+          (λ (u : g.T.Tree.World). IfFound (g.T.Tree.valid u) at.progress.counter.ended)
           (sym same) (at.invariant.valid h)));
       leaves =
           λ most some all. subst (λ (u : g.T.Tree.World).

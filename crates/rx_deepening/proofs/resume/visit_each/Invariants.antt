@@ -17,8 +17,8 @@ invariant-loop-choice g l = record {
       (g.T.Tree.menu (g.T.Tree.world l.initial.tree)) n l.path
       (map (seen_choice g.T.Tree.view) l.yielded))
       l.progress;
-  valid : IfFound (g.T.Tree.valid (g.T.Tree.world l.initial.tree)) l.fn.progress.tally.ended →
-      IfFound (g.T.Tree.valid (g.T.Tree.world l.initial.tree)) l.progress.tally.ended;
+  valid : IfFound (g.T.Tree.valid (g.T.Tree.world l.initial.tree)) l.fn.progress.counter.ended →
+      IfFound (g.T.Tree.valid (g.T.Tree.world l.initial.tree)) l.progress.counter.ended;
   leaves : (most : ℕ) → 0 < most → All (OfLeaf (g.T.Tree.valid (g.T.Tree.world l.initial.tree))
       most) l.fn.progress.kept
       → All (OfLeaf (g.T.Tree.valid (g.T.Tree.world l.initial.tree)) most) l.progress.kept;

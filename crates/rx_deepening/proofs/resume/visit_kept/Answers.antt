@@ -2,11 +2,11 @@
 use Rattle.std.proofs.Common.{rules, ◌≡◌, ◌++◌, ◌∷◌, [], ◌+◌, ◌-◌, All, None, subst, sym}
 use Rattle.std.proofs.lemmas.Result.{IfOk-weaker}
 use Rattle.rx_deepening.specs.Keeping.{OfLeaf, StandsForVisits, visits_from}
-use Rattle.rx_deepening.specs.Tallies.{GoesOn, visited_open}
+use Rattle.rx_deepening.specs.Counters.{GoesOn, visited_open}
 use Rattle.rx_deepening.specs.Views.{IfFound}
 use Rattle.rx_deepening.specs.declared.kept.Kept.{Kept}
 use Rattle.rx_deepening.specs.declared.kept.Kept.TheVariants.{Expanded}
-use Rattle.rx_deepening.specs.declared.tally.Tally.{Tally}
+use Rattle.rx_deepening.specs.declared.counter.Counter.{Counter}
 use Rattle.rx_deepening.proofs.KeepingLaws.{all_push}
 use Rattle.rx_deepening.proofs.ResumeLaws.{expanded_made, visited_made}
 use Rattle.rx_deepening.proofs.StopLaws.{stopped_found, stopped_kept}
@@ -16,14 +16,14 @@ pub returns-then-not-may_visit-clause-visited : goal.returns-then-not-may_visit-
 returns-then-not-may_visit-clause-visited g c = λ lists stands.
     let w = g.T.Tree.world c.args.tree.now in
     let a = c.args in
-    let not : (GoesOn a.progress.tally → ⊥) = search rules in
+    let not : (GoesOn a.progress.counter → ⊥) = search rules in
     stopped_kept g.T.Tree.view (g.T.Tree.settled w) (g.T.Tree.menu w) a.progress
-    c.stop_visits.result a.node lists stands not c.stop_visits.ensures.tally
+    c.stop_visits.result a.node lists stands not c.stop_visits.ensures.counter
 
 pub returns-then-not-may_visit-clause-valid : goal.returns-then-not-may_visit-clause-valid
 returns-then-not-may_visit-clause-valid g c = λ found.
-    stopped_found (g.T.Tree.valid (g.T.Tree.world c.args.tree.now)) c.args.progress.tally
-    c.stop_visits.result.tally c.stop_visits.ensures.tally found
+    stopped_found (g.T.Tree.valid (g.T.Tree.world c.args.tree.now)) c.args.progress.counter
+    c.stop_visits.result.counter c.stop_visits.ensures.counter found
 
 pub returns-then-not-may_visit-clause-leaves : goal.returns-then-not-may_visit-clause-leaves
 returns-then-not-may_visit-clause-leaves g c = λ most one all.
@@ -35,12 +35,12 @@ returns-in-Expanded-clause-visited g c = λ lists stands.
     let w = g.T.Tree.world c.args.tree.now in
     let view = g.T.Tree.view in
     let a = c.args in
-    let goes : GoesOn a.progress.tally = search rules in
+    let goes : GoesOn a.progress.counter = search rules in
     expanded_made view (g.T.Tree.settled w) (g.T.Tree.menu w) a.progress c.visit_expanded.result
     lists goes.going goes.left
     (subst (λ (k : Kept _). StandsForVisits view (g.T.Tree.settled w) (g.T.Tree.menu w)
-    a.progress.tally.note k lists) c.in-Expanded.is stands)
-    c.visit_expanded.ensures.tally c.visit_expanded.ensures.kept
+    a.progress.counter.note k lists) c.in-Expanded.is stands)
+    c.visit_expanded.ensures.counter c.visit_expanded.ensures.kept
 
 pub returns-in-Frontier-clause-visited : goal.returns-in-Frontier-clause-visited
 returns-in-Frontier-clause-visited g c = λ lists stands.
@@ -51,7 +51,7 @@ returns-in-Frontier-clause-visited g c = λ lists stands.
     let a = c.args in
     let leaf = c.in-Frontier.leaf in
     let (s, at, are) = subst (λ (k : Kept _).
-    StandsForVisits view settled menu a.progress.tally.note k lists) c.in-Frontier.is stands in
+    StandsForVisits view settled menu a.progress.counter.note k lists) c.in-Frontier.is stands in
     visited_made view settled menu a.progress c.visit_leaf.result
     (λ n. visits_from settled menu (n + leaf.below) leaf.path s) lists (λ n. sym (are n))
     (c.visit_leaf.ensures.visited s at)
@@ -75,11 +75,11 @@ visit_leaf-requires-clause-below g c =
 pub returns-in-Expanded-clause-valid : goal.returns-in-Expanded-clause-valid
 returns-in-Expanded-clause-valid g c = λ _.
     let valid = g.T.Tree.valid (g.T.Tree.world c.args.tree.now) in
-    let a = c.args.progress.tally in
+    let a = c.args.progress.counter in
     IfOk-weaker c.visit_expanded.result
-    (λ p. p.tally ≡ visited_open (a.left - 1) a [] None) (λ p. IfFound valid p.tally.ended)
-    (λ p is. subst (λ (t : Tally _ _). IfFound valid t.ended) (sym is) tt)
-    c.visit_expanded.ensures.tally
+    (λ p. p.counter ≡ visited_open (a.left - 1) a [] None) (λ p. IfFound valid p.counter.ended)
+    (λ p is. subst (λ (t : Counter _ _). IfFound valid t.ended) (sym is) tt)
+    c.visit_expanded.ensures.counter
 
 pub returns-in-Expanded-clause-leaves : goal.returns-in-Expanded-clause-leaves
 returns-in-Expanded-clause-leaves g c = λ most one all.
@@ -97,4 +97,4 @@ visit_leaf-requires-clause-goes g c = search rules
 
 pub visit_expanded-requires : goal.visit_expanded-requires
 visit_expanded-requires g c =
-    let goes : GoesOn c.args.progress.tally = search rules in goes.left
+    let goes : GoesOn c.args.progress.counter = search rules in goes.left

@@ -25,18 +25,18 @@ returns-then-len-progress-clause-visited g c = λ s at.
     (λ n. visits_from (g.T.Tree.settled u) (g.T.Tree.menu u) n path s)))
     c.in_ok-menu.ensures.world
     (c.expand.ensures.visited s at.unclosed (subst
-    (λ p. IsAfterNote a.progress.tally.note (alone p s)) (sym same) at.noted))
+    (λ p. IsAfterNote a.progress.counter.note (alone p s)) (sym same) at.noted))
     (c.in_ok-menu.ensures.menu ∙ ap (g.T.Tree.menu w) at.seen))
 
 pub returns-then-len-progress-clause-valid : goal.returns-then-len-progress-clause-valid
 returns-then-len-progress-clause-valid g c =
     subst (λ (u : g.T.Tree.World). IfOk c.expand.result (λ p. IfFound (g.T.Tree.valid u)
-    p.tally.ended)) c.in_ok-menu.ensures.world c.expand.ensures.valid
+    p.counter.ended)) c.in_ok-menu.ensures.world c.expand.ensures.valid
 
 pub returns-else-leaf-eq0-clause-valid : goal.returns-else-leaf-eq0-clause-valid
 returns-else-leaf-eq0-clause-valid g c =
     subst (λ (u : g.T.Tree.World). IfOk c.walk_below.result (λ p. IfFound (g.T.Tree.valid u)
-    p.tally.ended)) c.in_ok-menu.ensures.world c.walk_below.ensures.valid
+    p.counter.ended)) c.in_ok-menu.ensures.world c.walk_below.ensures.valid
 
 pub returns-then-len-progress-clause-leaves : goal.returns-then-len-progress-clause-leaves
 returns-then-len-progress-clause-leaves g c = λ most below.

@@ -1,7 +1,7 @@
 -- What comes of the groups is what comes of the open pairs.
 use Rattle.std.proofs.Common.{◌≡◌, ◌∙◌, length}
 use Rattle.std.proofs.lemmas.Result.{IfOk-weaker}
-use Rattle.rx_rank.specs.Components.{names_of}
+use Rattle.rx_rank.specs.Components.{representatives_of}
 use Rattle.rx_find_ranks.proofs.FitsLaws.{few_groups, fits_are, fits_tried}
 use Rattle.rx_find_ranks.specs.Tables.{pairs_open}
 use Rattle.rx_find_ranks.proofs.fits.fit_all.Goals as goal
@@ -11,9 +11,9 @@ fit_groups-requires-clause-few g c =
     let entries = c.args.entries.items in
     let names = c.as_slice-names.result.now in
     let groups = c.in_ok-groups.groups.items in
-    let found : names ≡ names_of (length c.args.parts.now.symbols) (pairs_open entries) =
+    let found : names ≡ representatives_of (length c.args.parts.now.symbols) (pairs_open entries) =
     c.as_slice-names.ensures.value ∙ c.in_ok-components.ensures ∙
-    (λ i. names_of (c.len.ensures i) (pairs_open (c.as_slice.ensures.value i))) in
+    (λ i. representatives_of (c.len.ensures i) (pairs_open (c.as_slice.ensures.value i))) in
     few_groups c.args.parts.now c.args.hypotheses.now entries names groups c.as_slice-lent.result.now
     found c.in_ok-groups.ensures c.as_slice-lent.ensures.value c.requires.few
 
@@ -22,9 +22,9 @@ returns-clause-tried g c =
     let entries = c.args.entries.items in
     let names = c.as_slice-names.result.now in
     let groups = c.in_ok-groups.groups.items in
-    let found : names ≡ names_of (length c.args.parts.now.symbols) (pairs_open entries) =
+    let found : names ≡ representatives_of (length c.args.parts.now.symbols) (pairs_open entries) =
     c.as_slice-names.ensures.value ∙ c.in_ok-components.ensures ∙
-    (λ i. names_of (c.len.ensures i) (pairs_open (c.as_slice.ensures.value i))) in
+    (λ i. representatives_of (c.len.ensures i) (pairs_open (c.as_slice.ensures.value i))) in
     IfOk-weaker c.with_entries.result _ _
     (λ t are. fits_tried c.args.parts.now c.args.hypotheses.now entries names groups
     c.as_slice-lent.result.now found c.in_ok-groups.ensures c.as_slice-lent.ensures.value
@@ -35,9 +35,9 @@ returns-clause-fits g c =
     let entries = c.args.entries.items in
     let names = c.as_slice-names.result.now in
     let groups = c.in_ok-groups.groups.items in
-    let found : names ≡ names_of (length c.args.parts.now.symbols) (pairs_open entries) =
+    let found : names ≡ representatives_of (length c.args.parts.now.symbols) (pairs_open entries) =
     c.as_slice-names.ensures.value ∙ c.in_ok-components.ensures ∙
-    (λ i. names_of (c.len.ensures i) (pairs_open (c.as_slice.ensures.value i))) in
+    (λ i. representatives_of (c.len.ensures i) (pairs_open (c.as_slice.ensures.value i))) in
     IfOk-weaker c.with_entries.result _ _
     (λ t are. fits_are c.args.parts.now c.args.hypotheses.now entries names groups
     c.as_slice-lent.result.now found c.in_ok-groups.ensures c.as_slice-lent.ensures.value

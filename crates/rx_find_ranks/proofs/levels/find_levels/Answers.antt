@@ -6,7 +6,7 @@ use Rattle.rx_graph.specs.Heights.{AreHeights}
 use Rattle.rx_pairs.specs.Graph.{edges_of}
 use Rattle.rx_pairs.specs.declared.pair.Pair.{Pair}
 use Rattle.rx_rank.specs.Answers.{pairs_at}
-use Rattle.rx_rank.specs.Components.{names_of}
+use Rattle.rx_rank.specs.Components.{representatives_of}
 use Rattle.rx_rank.proofs.NameLaws.{graph_at, names_at, rows_by}
 use Rattle.rx_find_ranks.specs.Tables.{pairs_open}
 use Rattle.rx_find_ranks.proofs.levels.find_levels.Goals as goal
@@ -47,7 +47,7 @@ returns-clause-names c =
     names_at c.args.symbols pairs c.in_ok-graph.graph.rows.items c.in_ok-graph.ensures.edges
     (subst (λ (ps : List Pair). IsOver c.args.symbols (edges_of ps)) (sym same) c.requires.over)
     c.in_ok-names.names.items c.in_ok-names.ensures.count c.in_ok-names.ensures.least
-    ∙ ap (names_of c.args.symbols) same
+    ∙ ap (representatives_of c.args.symbols) same
 
 pub returns-clause-heights : goal.returns-clause-heights
 returns-clause-heights c =

@@ -7,7 +7,7 @@ use Rattle.rx_pairs.specs.Graph.{edges_of}
 use Rattle.rx_find_ranks.proofs.ProgressLaws.{heights_grown, heights_pairs}
 use Rattle.rx_find_ranks.specs.Closing.{close_all}
 use Rattle.rx_find_ranks.specs.Between.{is_leaving, is_staying}
-use Rattle.rx_rank.specs.Components.{names_of}
+use Rattle.rx_rank.specs.Components.{representatives_of}
 use Rattle.rx_find_ranks.specs.Tables.{pairs_open}
 use Rattle.rx_find_ranks.specs.declared.column.FoundColumn.TheVariants.{Heights}
 use Rattle.rx_find_ranks.specs.declared.open_pair.OpenPair.{OpenPair}
@@ -36,7 +36,8 @@ returns-clause-grown c = λ infos size.
     names heights (Heights c.in_ok-levels.levels.heights)
     (record {
       found =
-          c.in_ok-levels.ensures.names ∙ ap (λ (es : List OpenPair). names_of n (pairs_open es))
+          c.in_ok-levels.ensures.names ∙ ap (λ (es : List OpenPair). representatives_of n
+          (pairs_open es))
           c.as_slice.ensures.value;
       components =
           subst (λ (es : List OpenPair). AreComponents n (edges_of (pairs_open es)) names)

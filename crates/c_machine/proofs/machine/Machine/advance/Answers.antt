@@ -10,7 +10,7 @@ use Rattle.c_code.specs.Stores.{Kept}
 use Rattle.c_ast.specs.declared.expr.BinOp.TheVariants.{Add}
 use Rattle.c_code.specs.declared.code.Leaf.TheVariants as leaf
 use Rattle.c_code.specs.declared.code.Operand.TheVariants.{Slot}
-use Rattle.c_code.specs.declared.code.Sink.TheVariants as sink
+use Rattle.c_code.specs.declared.code.Destination.TheVariants as destination
 use Rattle.c_code.specs.declared.code.Work.{Work}
 use Rattle.c_code.specs.declared.code.Work.TheVariants.{Alone, Between, Left, Right}
 use Rattle.c_code.specs.declared.code.Op.{Op}
@@ -128,7 +128,8 @@ returns-in-Do-clause-steps c =
     let work = c.in-Do.work in
     let back : Back = back_to (counted program) ops c.args.self.now.callers.items in
     let same = kept-same c.value_of-x.result (made work k)
-    (rests (counted program) back (take c.args.at ops)) back (c.in-Do.sink) (kept_after work k)
+    (rests (counted program) back (take c.args.at ops)) back (c.in-Do.destination)
+    (kept_after work k)
     c.value_of-x.new.store c.args.left c.value_of-x.ensures.number c.value_of-x.ensures.kept in
     op-steps program ops c.args.self.now.callers.items c.args.at c.args.op.now _ k c.args.left _
     c.give_made.result c.give_made.new.self.callers.items c.give_made.new.self.store
@@ -271,7 +272,7 @@ returns-in-Give-clause-steps c =
     let work = Between c.in-Give.op c.in-Give.a c.in-Give.b in
     let back : Back = back_to (counted program) ops c.args.self.now.callers.items in
     let same = kept-same c.between_value-x.result (made work k)
-    (rests (counted program) back (take c.args.at ops)) back (sink.Return c.in-Give.scopes)
+    (rests (counted program) back (take c.args.at ops)) back (destination.Return c.in-Give.scopes)
     (kept_after work k)
     c.between_value-x.new.store c.args.left c.between_value-x.ensures.number
     c.between_value-x.ensures.kept in

@@ -15,8 +15,8 @@ returns-in-On-clause-steps c program ops here left =
     let rs : List Rest = rests (counted program) back (take here ops) in
     let plain : to_z w128 (of_z w128 c.args.x) ≡ c.args.x =
     first_of (search rules, grind (arith, common_steps)) in
-    let sunk = rw c.in-On.is at (c.in_ok-next.ensures rs back left) in
-    rw plain at sunk
+    let delivered = rw c.in-On.is at (c.in_ok-next.ensures rs back left) in
+    rw plain at delivered
 
 pub returns-in-Back-clause-steps : goal.returns-in-Back-clause-steps
 returns-in-Back-clause-steps c program ops here left =
@@ -27,8 +27,8 @@ returns-in-Back-clause-steps c program ops here left =
     first_of (search rules, grind (arith, common_steps)) in
     let back_plain : to_z w128 (of_z w128 c.in-Back.x) ≡ c.in-Back.x =
     first_of (search rules, grind (arith, common_steps)) in
-    let sunk = rw c.in-Back.is at (c.in_ok-next.ensures rs back left) in
-    let shown = rw plain at sunk in
-    let given = ap (λ (z : ℤ). back z c.sink_value.new.store left) (sym back_plain) in
+    let delivered = rw c.in-Back.is at (c.in_ok-next.ensures rs back left) in
+    let shown = rw plain at delivered in
+    let given = ap (λ (z : ℤ). back z c.deliver.new.store left) (sym back_plain) in
     steps-same here program ops _ _ c.go_back.result c.go_back.new.self.callers.items
     c.go_back.new.self.store left (shown ∙ given) (c.go_back.ensures.steps program ops left here)

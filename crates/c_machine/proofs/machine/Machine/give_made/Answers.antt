@@ -17,7 +17,8 @@ returns-clause-steps c program ops here left run given =
     let plain : to_z w128 (of_z w128 x) ≡ x =
     first_of (search rules, grind (arith, common_steps)) in
     let number = rw c.in_ok-x.was at given in
-    let moved = made-to rs back c.args.sink.now run x (to_z w128 (of_z w128 x)) k k left number
+    let moved = made-to rs back c.args.destination.now run x (to_z w128 (of_z w128 x)) k k left
+    number
     plain refl in
     steps-same here program ops _ _ c.give.result c.give.new.self.callers.items
     c.give.new.self.store left moved (c.give.ensures.steps program ops here left)

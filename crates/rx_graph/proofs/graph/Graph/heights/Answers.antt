@@ -31,8 +31,8 @@ raise_all-requires-clause-before c =
     (begin_heights (rows_of rows.items) labels c.as_slice.result.now c.len.result
     (omega (arith, size, held, mapped)) ranks)
 
-pub named_heights-requires : goal.named_heights-requires
-named_heights-requires c = λ a there.
+pub component_heights-requires : goal.component_heights-requires
+component_heights-requires c = λ a there.
     let rows = c.args.self.now.rows in
     let labels = c.args.labels.now in
     let mapped = length-map rows.items (λ row. row.items) in
@@ -66,11 +66,11 @@ returns-clause-below c =
     c.as_slice-2.result.now) c.as_slice.ensures.value
     (subst (HeightsTo (rows_of rows.items) labels c.as_slice.result.now (length rows.items + 1) 0)
     (sym back) c.raise_all.ensures) in
-    IfOk-weaker c.named_heights.result _ _
+    IfOk-weaker c.component_heights.result _ _
     (λ heights named. memory_below rows.items c.requires.closed labels c.requires.labels counts
     ranks c.as_slice-2.result.now heights.items done
     (λ a there. named a (omega (arith, there, count))))
-    c.named_heights.ensures.named
+    c.component_heights.ensures.named
 
 pub returns-clause-heights : goal.returns-clause-heights
 returns-clause-heights c =
@@ -89,8 +89,8 @@ returns-clause-heights c =
     c.as_slice-2.result.now) c.as_slice.ensures.value
     (subst (HeightsTo (rows_of rows.items) labels c.as_slice.result.now (length rows.items + 1) 0)
     (sym back) c.raise_all.ensures) in
-    IfOk-weaker c.named_heights.result _ _
+    IfOk-weaker c.component_heights.result _ _
     (λ heights named. memory_heights rows.items c.requires.closed labels c.requires.labels counts
     ranks c.as_slice-2.result.now heights.items done
     (λ a there. named a (omega (arith, there, count))))
-    c.named_heights.ensures.named
+    c.component_heights.ensures.named

@@ -1,7 +1,7 @@
 use Rattle.std.proofs.Common.{◌≡◌, ◌∙◌, ℕ, suc, Bool, false, true, Option, Some, None, List, [], ◌∷◌, ◌++◌, ap, length, length-append, refl, subst, sym, arith}
 use Rattle.rx_log.specs.Reading.{pushed}
 use Rattle.rx_log.specs.declared.line.Line.{Line}
-use Rattle.rx_log.specs.declared.place.Place.{Place}
+use Rattle.rx_log.specs.declared.line_state.LineState.{LineState}
 use Rattle.rx_logtext.specs.Logs.{up_to_feed}
 use Rattle.rx_logtext.specs.Reading.{ReadsNext}
 use Rattle.rx_logtext.specs.Readers.{StandsFor, taken_of}
@@ -41,7 +41,7 @@ returns-in_default-2-clause-takes c = λ log bytes h.
     up_to_feed-cut c.args.piece.now c.in-Some.bytes.now c.in-Some.field-0-1.now
     c.in-Some.ensures.0 c.in-Some.ensures.1 in
     let none : ReadsNext c.args.self.now.place (c.args.self.now.line ++ c.in-Some.bytes.now) None =
-    subst (λ (found : Option (Line × Place)). ReadsNext c.args.self.now.place
+    subst (λ (found : Option (Line × LineState)). ReadsNext c.args.self.now.place
     (c.args.self.now.line ++ c.in-Some.bytes.now) found) c.in_default-2.is
     c.in_ok-line.ensures.read in
     let new : LogReader = record {
@@ -82,7 +82,7 @@ returns-clause-takes c = λ log bytes h.
     c.in-Some.ensures.0 c.in-Some.ensures.1 in
     let some : ReadsNext c.args.self.now.place (c.args.self.now.line ++ c.in-Some.bytes.now)
     (Some (c.in-Some-2.line, c.in-Some-2.place)) =
-    subst (λ (found : Option (Line × Place)). ReadsNext c.args.self.now.place
+    subst (λ (found : Option (Line × LineState)). ReadsNext c.args.self.now.place
     (c.args.self.now.line ++ c.in-Some.bytes.now) found) c.in-Some-2.is
     c.in_ok-line.ensures.read in
     let new : LogReader = record {

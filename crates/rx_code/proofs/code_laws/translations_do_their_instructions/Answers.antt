@@ -1,0 +1,7 @@
+use Rattle.rx_code.proofs.CodeLawsTranslations.{translation_does}
+use Rattle.rx_code.proofs.code_laws.translations_do_their_instructions.Goals as goal
+
+pub returns : goal.returns
+returns c =
+    λ program scoped f g parts first second t. translation_does program scoped f g parts first
+    second t
