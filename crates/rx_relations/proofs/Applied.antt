@@ -1,5 +1,5 @@
 -- What was formed within limits, as an option.
-use Rattle.std.proofs.Common.{◌≡◌, ◌∙◌, ap, subst, sym, refl, true, false, Result, Ok, Err, Option, Some, None, IfOk, MatchOption}
+use Rattle.std.proofs.Common.{◌≡◌, ◌∙◌, ap, subst, sym, refl, Bool, true, false, Result, Ok, Err, Option, Some, None, IfOk, IfSome, MatchOption}
 use Rattle.rx_plain.specs.Formed.{Formed, Forms}
 use Rattle.rx_plain.specs.declared.no_memory.NoMemory.{NoMemory}
 use Rattle.rx_poly.specs.declared.poly_end.PolyEnd.{PolyEnd}
@@ -17,3 +17,14 @@ applied f r (Ok None) h g =
 applied f r (Ok (Some x)) h g =
     let p = subst (λ s. Forms Large s f) g h in
     ap Some p.0 ∙ sym (ap (λ b. form_where b f.form) p.1)
+
+same_form : {A : Type 0} (b : Bool) (x y : A) (P : A → Type 0) → Some x ≡ form_where b y → P y → P x
+same_form true x y P e h = let same : y ≡ x = cc in subst P same h
+same_form false x y P e h = cc
+
+-- what holds of the form holds of what is answered
+pub holds_within : {A E : Type 0} (f : Formed A) (q : Result (Option A) E) (P : A → Type 0) →
+    P f.form → IfOk q (λ o. o ≡ form_within f) → IfOk q (λ o. IfSome o P)
+holds_within f (Err e) P h g = tt
+holds_within f (Ok None) P h g = tt
+holds_within f (Ok (Some x)) P h g = same_form f.within x f.form P g h

@@ -220,6 +220,6 @@ module _ (a : ℕ → ℤ) where
         values =
             values-polys (drop n last) ∙ sym (drop-map worth n last) ∙ ap (drop n) same.worths
             ∙ ap (drop n) (map-append worth rows (map Ne places))
-            ∙ drop_seam n (map worth rows) (map worth (map Ne places)) (length-map worth rows)
+            ∙ drop_seam n (map worth rows) (map worth (map Ne places)) (length-map rows worth)
             ∙ worths-places places;
       }

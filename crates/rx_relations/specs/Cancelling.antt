@@ -28,7 +28,7 @@ abbrev pub cancelled_by : ℤ → ℤ → Combination → Combination → Formed
 cancelled_by a b pivot c = do
   v ← difference_formed (cofactor a b) c.value (cofactor b a) pivot.value
   (λ r. primitive_parts (record { value = v; relation = r })) <$>
-  difference_formed (cofactor a b) c.relation (cofactor b a) pivot.relation
+      difference_formed (cofactor a b) c.relation (cofactor b a) pivot.relation
 
 -- where the other has not the monomial, it stays
 abbrev pub cancelled_unless : Bool → ℤ → ℤ → Combination → Combination → Formed Combination

@@ -1,8 +1,9 @@
 //! The relations of goals, as rows.
-ghost use Rattle.std.specs.Prelude.{◌≡◌, map, IfOk};
+ghost use Rattle.std.specs.Prelude.{◌≡◌, All, map, IfOk, IfSome};
 ghost use Rattle.rx_plain.specs.Formed.{Forms};
 ghost use Rattle.rx_row.specs.declared.row.Row.TheVariants.{Eq};
 ghost use Rattle.rx_relations.specs.Applying.{form_within};
+ghost use Rattle.rx_relations.specs.Holding.{HoldAt};
 ghost use Rattle.rx_relations.specs.Relations.{relations_formed};
 
 use crate::applying::form_within;
@@ -52,7 +53,8 @@ pub fn relations(
     count: u32,
     goals: &[Instance],
 ) -> Result<Option<Items<Row>>, NoMemory>
-    ensures { IfOk result (λ rows. rows ≡ form_within (relations_formed count goals.now)) }
+    ensures exact { IfOk result (λ rows. rows ≡ form_within (relations_formed count goals.now)) }
+    ensures hold { IfOk result (λ o. IfSome o (λ rows. All (HoldAt rows) goals.now)) }
 {
     form_within(formed_relations(alloc, count, goals))
 }

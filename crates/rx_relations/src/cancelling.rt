@@ -35,7 +35,8 @@ fn cancelled_by(
     let l = cofactor(own, standing);
     let value = difference(alloc, &k, &combination.value, &l, &pivot.value)?;
     let relation = difference(alloc, &k, &combination.relation, &l, &pivot.relation)?;
-    Ok(primitive_parts(alloc, Combination { value, relation })?)
+    let parts = primitive_parts(alloc, Combination { value, relation })?;
+    Ok(parts)
 }
 
 /// The combination in which the first monomial of the pivot's value is cancelled; Large exactly

@@ -1,10 +1,13 @@
 //! The values at the places of a goal, and the equations that are left of its rows.
-ghost use Rattle.std.specs.Prelude.{◌≡◌, ◌++◌, map, take, drop, IfOk};
+ghost use Rattle.std.specs.Prelude.{◌≡◌, ◌++◌, map, ℕ, ℤ, IfOk, IfSome};
 ghost use Rattle.std.specs.List.{filter_map};
 ghost use Rattle.std.specs.Option.{option_copied};
 ghost use Rattle.rx_plain.specs.Formed.{Forms, FormsAs};
+ghost use Rattle.rx_row.specs.Holds.{AllHold};
 ghost use Rattle.rx_row.specs.Parts.{poly_of};
+ghost use Rattle.rx_solve.specs.Pivots.{first_pivot};
 ghost use Rattle.rx_relations.specs.Applying.{form_within};
+ghost use Rattle.rx_relations.specs.Holding.{Describes};
 ghost use Rattle.rx_relations.specs.Values.{equation_of, instance_of, replaced, values_formed, with_pivot, with_places};
 
 use crate::applying::form_within;
@@ -41,6 +44,13 @@ fn with_pivot(alloc: Global, rows: Vec<Row>, pivot: &Pivot) -> Result<Vec<Row>, 
     replaced_rows(alloc, rows.as_slice(), pivot.variable, value)
 }
 
+/// Which of the rows say the value of a variable, and of which.
+fn next_pivot(alloc: Global, rows: &Vec<Row>) -> Result<Option<Pivot>, AllocError>
+    ensures { IfOk result (λ o. o ≡ first_pivot rows.now.items) }
+{
+    first_pivot(alloc, rows.as_slice())
+}
+
 /// The rows once variables that they say the value of are replaced, at most so many; Large exactly
 /// where a polynomial on the way passes the limits.
 fn replaced(alloc: Global, rows: Vec<Row>, most: u32) -> Result<Vec<Row>, PolyEnd>
@@ -49,7 +59,8 @@ fn replaced(alloc: Global, rows: Vec<Row>, most: u32) -> Result<Vec<Row>, PolyEn
     let mut rows = rows;
     let mut left = most;
     while left > 0 {
-        let Some(pivot) = first_pivot(alloc, rows.as_slice())? else {
+        let found = next_pivot(alloc, &rows)?;
+        let Some(pivot) = found else {
             return Ok(rows);
         };
         rows = with_pivot(alloc, rows, &pivot)?;
@@ -131,7 +142,9 @@ fn formed_values(alloc: Global, rows: &[Row], places: &[Poly]) -> Result<Instanc
 /// row says the value of is replaced, at most 100 times, as in the first phase of the refuter. None
 /// exactly where a polynomial on the way passes the limits.
 pub fn values(alloc: Global, rows: &[Row], places: &[Poly]) -> Result<Option<Instance>, NoMemory>
-    ensures { IfOk result (λ i. i ≡ form_within (values_formed rows.now places.now)) }
+    ensures exact { IfOk result (λ i. i ≡ form_within (values_formed rows.now places.now)) }
+    ensures describes { IfOk result (λ i. IfSome i (λ goal. (a : ℕ → ℤ) → AllHold a rows.now →
+        Describes a places.now goal)) }
 {
     form_within(formed_values(alloc, rows, places))
 }

@@ -2,9 +2,7 @@
 ghost use Rattle.std.specs.Prelude.{◌≡◌, ◌∷◌, ◌++◌, [], None, IfOk, OnOk};
 ghost use Rattle.std.specs.List.{filter_map, last_or};
 ghost use Rattle.rx_plain.specs.Formed.{Forms, FormsAs, fold_formed, map_formed};
-ghost use Rattle.rx_poly.specs.Reading.{variable_of_atoms};
-ghost use Rattle.rx_poly.specs.declared.body.Body.{out-Body};
-ghost use Rattle.rx_poly.specs.declared.body.Mono.{out-Mono};
+ghost use Rattle.rx_poly.specs.Constants.{variable};
 ghost use Rattle.rx_relations.specs.Linear.{last_place, last_unit, linear, linear_basis, none_solved, place_of, replaced_in, solved, solved_for, solved_next, solved_with, unit_of, unsolved};
 
 use crate::common::common;
@@ -112,7 +110,8 @@ fn replaced_in_all(
 {
     let mut made = Items::with_capacity(alloc, polys.len())?;
     for poly in polys {
-        made.push(replaced_in(alloc, poly, with)?)?;
+        let next = replaced_in(alloc, poly, with)?;
+        made.push(next)?;
     }
     Ok(made)
 }
@@ -126,6 +125,24 @@ impl Solved {
             self.given.push(place)?;
         }
         self.relations.push(poly)
+    }
+
+    /// Adds a relation that says the value of a place, after the others, in which it is replaced.
+    fn push_with(
+        &mut self,
+        others: Items<Poly>,
+        poly: Poly,
+        with: (u32, Poly),
+    ) -> Result<(), AllocError>
+        ensures { OnOk result (self.new ≡ record {
+            relations = others ++ poly ∷ [];
+            given = self.old.given ++ with.0 ∷ [];
+            values = self.old.values ++ with ∷ [] }) }
+    {
+        self.relations = others;
+        self.relations.push(poly)?;
+        self.given.push(with.0)?;
+        self.values.push(with)
     }
 
     /// Adds a relation that says the value of the place, which is replaced in those before it; Large
@@ -144,11 +161,8 @@ impl Solved {
             return Ok(self.push_unsolved(poly)?);
         };
         let with = (place, value);
-        self.relations = replaced_in_all(alloc, self.relations.as_slice(), &with)?;
-        self.relations.push(poly)?;
-        self.given.push(place)?;
-        self.values.push(with)?;
-        Ok(())
+        let others = replaced_in_all(alloc, self.relations.as_slice(), &with)?;
+        Ok(self.push_with(others, poly, with)?)
     }
 
     /// Adds a relation, by its last place of coefficient 1 or -1; Large exactly where a polynomial
@@ -190,6 +204,17 @@ fn solve_all(alloc: Global, polys: &[Poly]) -> Result<Solved, PolyEnd>
     Ok(done)
 }
 
+/// Adds the place.
+pub(crate) fn push_variable(
+    basis: &mut Items<Poly>,
+    alloc: Global,
+    place: u32,
+) -> Result<(), AllocError>
+    ensures { OnOk result (basis.new ≡ basis.old ++ variable place ∷ []) }
+{
+    basis.push(Poly::variable(alloc, place)?)
+}
+
 /// 1, and then as many places.
 fn linear_basis(alloc: Global, count: u32) -> Result<Items<Poly>, AllocError>
     ensures { IfOk result (λ ps. ps ≡ linear_basis count) }
@@ -197,7 +222,7 @@ fn linear_basis(alloc: Global, count: u32) -> Result<Items<Poly>, AllocError>
     let mut basis = Items::new(alloc);
     basis.push(Poly::constant(alloc, 1)?)?;
     for place in 0..count {
-        basis.push(Poly::variable(alloc, place)?)?;
+        push_variable(&mut basis, alloc, place)?;
     }
     Ok(basis)
 }

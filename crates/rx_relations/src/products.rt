@@ -1,7 +1,7 @@
 //! Relations between places of goals and products of two of them.
-ghost use Rattle.std.specs.Prelude.{◌≡◌, ◌∷◌, ◌++◌, map, filter, IfOk};
+ghost use Rattle.std.specs.Prelude.{◌≡◌, ◌∷◌, ◌++◌, [], not, filter, IfOk, OnOk};
 ghost use Rattle.std.specs.List.{list_any};
-ghost use Rattle.rx_plain.specs.Formed.{Forms, FormsAs};
+ghost use Rattle.rx_plain.specs.Formed.{Forms};
 ghost use Rattle.rx_poly.specs.Constants.{variable};
 ghost use Rattle.rx_poly.specs.Products.{product_formed};
 ghost use Rattle.rx_poly.specs.Variables.{is_one_of};
@@ -13,7 +13,7 @@ ghost use Rattle.rx_relations.specs.Products.{free_places, gives_a_place, is_mul
 
 use crate::common::common;
 use crate::instance::Instance;
-use crate::linear::place_of;
+use crate::linear::{place_of, push_variable};
 use rx_plain::Items;
 use rx_poly::{Atom, Mono, Poly, PolyEnd};
 use std::alloc::{AllocError, Global};
@@ -33,6 +33,17 @@ fn is_one_of(place: u32, places: &[u32]) -> bool
     false
 }
 
+/// Adds the place, unless it is given.
+fn push_free(free: &mut Items<u32>, place: u32, given: &[u32]) -> Result<(), AllocError>
+    ensures { OnOk result (free.new ≡ free.old ++
+        filter (λ i. not (is_one_of i given.now)) (place ∷ [])) }
+{
+    if is_one_of(place, given) {
+        return Ok(());
+    }
+    free.push(place)
+}
+
 /// The places, of so many, that aren't given.
 pub(crate) fn free_places(
     alloc: Global,
@@ -43,9 +54,7 @@ pub(crate) fn free_places(
 {
     let mut free = Items::new(alloc);
     for place in 0..count {
-        if !is_one_of(place, given) {
-            free.push(place)?;
-        }
+        push_free(&mut free, place, given)?;
     }
     Ok(free)
 }
@@ -78,7 +87,8 @@ fn products_of(alloc: Global, places: &[u32]) -> Result<Items<Poly>, PolyEnd>
     let mut made = Items::new(alloc);
     let mut rest = places;
     while let Some((first, after)) = rest.split_first() {
-        made.append(times_each(alloc, *first, rest)?)?;
+        let more = times_each(alloc, *first, rest)?;
+        made.append(more)?;
         rest = after;
     }
     Ok(made)
@@ -94,7 +104,7 @@ fn product_basis(alloc: Global, places: &[u32]) -> Result<Items<Poly>, PolyEnd>
     basis.push(Poly::constant(alloc, 1)?)?;
     basis.append(products)?;
     for place in places {
-        basis.push(Poly::variable(alloc, *place)?)?;
+        push_variable(&mut basis, alloc, *place)?;
     }
     Ok(basis)
 }
