@@ -5,6 +5,7 @@ pub mod ContentLaws
 pub mod Dividing
 pub mod GoalLaws
 pub mod Multiplying
+pub mod Places
 pub mod Ranges
 pub mod Replacing
 pub mod SolvedLaws
