@@ -3,16 +3,18 @@
 use Rattle.std.proofs.Common.{◌≡◌, refl, subst, Bool, true, false, List, [], ◌∷◌, ◌++◌, ℤ}
 use Rattle.std.specs.Prelude.{All}
 use Rattle.std.proofs.lemmas.List.Elements.{All-append, All-cons, All-head, All-nil, All-tail}
-use Rattle.rx_plain.specs.Formed.{fold_formed}
+use Rattle.rx_plain.specs.Formed.{Formed, fold_formed}
 use Rattle.rx_poly.specs.Limits.{body_difference, scaled_by}
 use Rattle.rx_poly.specs.Reading.{coefficient}
 use Rattle.rx_poly.specs.Terms.{is_zero}
 use Rattle.rx_poly.specs.declared.body.Body.{Body, out-Body}
 use Rattle.rx_poly.specs.declared.body.Mono.{Mono}
-use Rattle.rx_relations.specs.Cancelling.{cancelled, cancelled_first, cancelled_unless, none_taken, placed, reduced, taken, vanishing}
+use Rattle.rx_relations.specs.Cancelling.{cancelled, cancelled_first, cancelled_unless, vanishing}
+use Rattle.rx_relations.specs.Reducing.{none_taken, placed, reduced, taken}
 use Rattle.rx_relations.specs.Content.{cofactor, primitive_parts}
 use Rattle.rx_relations.specs.declared.combination.Combination.{Combination}
 use Rattle.rx_relations.specs.declared.reduction.Reduction.{Reduction}
+use Rattle.rx_relations.proofs.Eliminating.{in_order_is}
 
 -- k times the first minus l times the second, in both parts
 abbrev pub difference_of : ℤ → Combination → ℤ → Combination → Combination
@@ -85,4 +87,5 @@ module _ (P : Combination → Type 0) (Z : Body → Type 0) (closed : IsClosed P
   -- the relations that vanish
   pub keeps_vanishing : (cs : List Combination) → All P cs → All Z (vanishing cs).form
   keeps_vanishing cs h =
+      subst (λ (f : Formed (List Body)). All Z f.form) (in_order_is cs)
       (keeps_taken cs none_taken (record { pivots = All-nil P; relations = All-nil Z }) h).relations

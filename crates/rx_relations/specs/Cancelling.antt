@@ -1,9 +1,7 @@
--- Which combinations of polynomials have the value 0. A combination is a polynomial, the relation,
--- with the value that it has at a goal. One after the other is taken: those before it that have
--- another value than 0 are its pivots, and of each of them, in order, as much is taken away that
--- the first monomial of the pivot's value cancels.
-use Rattle.std.specs.Prelude.{Bool, true, false, List, [], ◌∷◌, ◌++◌, ℤ}
-use Rattle.rx_plain.specs.Formed.{Formed, pure, kept, ◌>>=◌, ◌<$>◌, fold_formed}
+-- Which combinations of polynomials have the value 0, by Gauss's elimination without fractions. A
+-- combination is a polynomial, the relation, with the value that it has at a goal.
+use Rattle.std.specs.Prelude.{ℕ, zero, suc, Bool, true, false, List, [], ◌∷◌, length, ℤ}
+use Rattle.rx_plain.specs.Formed.{Formed, pure, kept, ◌>>=◌, ◌<$>◌, map_formed}
 use Rattle.rx_poly.specs.Limits.{body_difference, is_within, scaled_by}
 use Rattle.rx_poly.specs.Reading.{coefficient}
 use Rattle.rx_poly.specs.Terms.{is_zero}
@@ -11,7 +9,6 @@ use Rattle.rx_poly.specs.declared.body.Body.{Body, out-Body}
 use Rattle.rx_poly.specs.declared.body.Mono.{Mono}
 use Rattle.rx_relations.specs.Content.{cofactor, primitive_parts}
 use Rattle.rx_relations.specs.declared.combination.Combination.{Combination}
-use Rattle.rx_relations.specs.declared.reduction.Reduction.{Reduction}
 
 -- ---- one combination by another
 
@@ -46,26 +43,24 @@ cancelled_first (t ∷ ts) pivot c =
 abbrev pub cancelled : Combination → Combination → Formed Combination
 cancelled c pivot = cancelled_first (out-Body pivot.value).terms pivot c
 
--- that of each pivot, in order
-abbrev pub reduced : List Combination → Combination → Formed Combination
-reduced pivots c = fold_formed cancelled c pivots
-
 -- ---- many combinations
 
--- of a combination whose value has these terms the relation is kept, where it has none; otherwise
--- it is a pivot for those after it
-abbrev pub placed : List (Mono × ℤ) → Reduction → Combination → Reduction
-placed [] done c = record done { vanishing = done.vanishing ++ c.relation ∷ [] }
-placed (t ∷ ts) done c = record done { pivots = done.pivots ++ c ∷ [] }
+-- of a combination whose value has these terms: where it has none, its relation is kept, and the
+-- rest is gone on with; otherwise its first monomial is cancelled in each of the rest, and these are
+-- gone on with
+abbrev pub eliminate_by : List (Mono × ℤ) → Combination → (List Combination → Formed (List Body)) →
+    List Combination → Formed (List Body)
+eliminate_by [] c further cs = (λ rs. c.relation ∷ rs) <$> further cs
+eliminate_by (t ∷ ts) c further cs = do
+  next ← map_formed (λ d. cancelled d c) cs
+  further next
 
--- the next combination, reduced by the pivots so far
-abbrev pub taken : Reduction → Combination → Formed Reduction
-taken done c = (λ r. placed (out-Body r.value).terms done r) <$> reduced done.pivots c
-
--- nothing is taken yet
-abbrev pub none_taken : Reduction
-none_taken = record { pivots = []; vanishing = [] }
+-- so from the first of at most n combinations on
+abbrev pub eliminate : ℕ → List Combination → Formed (List Body)
+eliminate zero cs = pure []
+eliminate (suc n) [] = pure []
+eliminate (suc n) (c ∷ cs) = eliminate_by (out-Body c.value).terms c (eliminate n) cs
 
 -- the relations of value 0 among the combinations of these
 abbrev pub vanishing : List Combination → Formed (List Body)
-vanishing cs = (λ (done : Reduction). done.vanishing) <$> fold_formed taken none_taken cs
+vanishing cs = eliminate (length cs) cs

@@ -7,5 +7,6 @@ pub mod Content
 pub mod Holding
 pub mod Linear
 pub mod Products
+pub mod Reducing
 pub mod Relations
 pub mod Values

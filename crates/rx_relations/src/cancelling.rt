@@ -2,7 +2,8 @@
 //! cancels.
 ghost use Rattle.std.specs.Prelude.{◌≡◌};
 ghost use Rattle.rx_plain.specs.Formed.{Forms};
-ghost use Rattle.rx_relations.specs.Cancelling.{cancelled, cancelled_by, difference_formed, reduced};
+ghost use Rattle.rx_relations.specs.Cancelling.{cancelled, cancelled_by, difference_formed};
+ghost use Rattle.rx_relations.specs.Reducing.{reduced};
 
 use crate::combination::{Combination, primitive_parts};
 use crate::content::cofactor;

@@ -2,7 +2,8 @@
 ghost use Rattle.std.specs.Prelude.{◌≡◌, OnOk};
 ghost use Rattle.rx_plain.specs.Formed.{Forms, FormsAs};
 ghost use Rattle.rx_poly.specs.declared.body.Body.{out-Body};
-ghost use Rattle.rx_relations.specs.Cancelling.{placed, taken, vanishing};
+ghost use Rattle.rx_relations.specs.Cancelling.{vanishing};
+ghost use Rattle.rx_relations.specs.Reducing.{placed, taken, vanishing_in_order};
 
 use crate::cancelling::reduced;
 use crate::combination::Combination;
@@ -44,13 +45,10 @@ impl Reduction {
     }
 }
 
-/// The relations of value 0 among the combinations of these; Large exactly where a polynomial on
-/// the way passes the limits.
-pub(crate) fn vanishing_combinations(
-    alloc: Global,
-    combinations: &[Combination],
-) -> Result<Items<Poly>, PolyEnd>
-    ensures { Forms PolyEnd.Large result (vanishing combinations.now) }
+/// The relations of value 0 among the combinations of these, which are taken one after the other;
+/// Large exactly where a polynomial on the way passes the limits.
+fn reduce_all(alloc: Global, combinations: &[Combination]) -> Result<Items<Poly>, PolyEnd>
+    ensures { Forms PolyEnd.Large result (vanishing_in_order combinations.now) }
 {
     let mut done = Reduction {
         pivots: Items::new(alloc),
@@ -60,4 +58,15 @@ pub(crate) fn vanishing_combinations(
         done.take(alloc, combination)?;
     }
     Ok(done.vanishing)
+}
+
+/// The relations of value 0 among the combinations of these; Large exactly where a polynomial on
+/// the way passes the limits.
+pub(crate) fn vanishing_combinations(
+    alloc: Global,
+    combinations: &[Combination],
+) -> Result<Items<Poly>, PolyEnd>
+    ensures { Forms PolyEnd.Large result (vanishing combinations.now) }
+{
+    reduce_all(alloc, combinations)
 }

@@ -2,8 +2,8 @@
 use Rattle.std.proofs.Common.{drop}
 use Rattle.rx_plain.specs.Formed.{fold_formed}
 use Rattle.rx_plain.proofs.FoldedInOrder.{Folding}
-use Rattle.rx_relations.specs.Cancelling.{none_taken, taken}
-use Rattle.rx_relations.proofs.reduction.vanishing_combinations.Given as goal
+use Rattle.rx_relations.specs.Reducing.{none_taken, taken}
+use Rattle.rx_relations.proofs.reduction.reduce_all.Given as goal
 
 abbrev pub invariant-loop-combination : goal.invariant-loop-combination
 invariant-loop-combination l =
