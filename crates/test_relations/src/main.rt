@@ -24,5 +24,5 @@ fn answer_to(alloc: Global, call: &str, given: &str) -> Option<Answer> {
 }
 
 fn main(rt: HostRuntime) -> io::Result<()> {
-    run(&rt, SEMICOLON, answer_to)
+    run(&rt, answer_to)
 }
