@@ -9,7 +9,7 @@ mod relation_calls;
 
 use std::alloc::Global;
 use std::io;
-use test_lines::{Answer, SEMICOLON, parted, run, written_out};
+use test_lines::{Answer, Meant, SEMICOLON, Verdict, case_of, count_lines, parted, written_out};
 
 // What the call answers; none where the line can't be read, or there is no memory.
 fn answer_to(alloc: Global, call: &str, given: &str) -> Option<Answer> {
@@ -23,6 +23,13 @@ fn answer_to(alloc: Global, call: &str, given: &str) -> Option<Answer> {
     }
 }
 
+// Whether the line's call answers what is wanted; none where that isn't known.
+fn holds(alloc: Global, line: &str) -> Option<bool> {
+    let case = case_of(line, SEMICOLON)?;
+    let found = answer_to(alloc, case.call, case.given)?;
+    found.is_meant(alloc, case.wanted)
+}
+
 fn main(rt: HostRuntime) -> io::Result<()> {
-    run(&rt, answer_to)
+    count_lines(&rt, "lines", |alloc, line| Verdict::of(holds(alloc, line)))
 }
