@@ -71,11 +71,7 @@ pub fn vanishing_of(alloc: Global, basis: &str, known: &str) -> Option<Answer> {
 }
 
 // The goal at the place, its rows and then its places, and the place after it.
-fn read_goal(
-    alloc: Global,
-    text: &[u8],
-    at: usize,
-) -> Result<Option<(Instance, usize)>, NoMemory> {
+fn read_goal(alloc: Global, text: &[u8], at: usize) -> Result<Option<(Instance, usize)>, NoMemory> {
     let Some((rows, after)) = read_constraint(alloc, text, at)? else {
         return Ok(None);
     };

@@ -46,11 +46,7 @@ fn valued(alloc: Global, values: &[Poly], poly: &Poly) -> Result<Combination, Po
 
 /// Each polynomial with its value; Large exactly where a polynomial on the way to one of these
 /// passes the limits.
-fn all_valued(
-    alloc: Global,
-    values: &[Poly],
-    basis: &[Poly],
-) -> Result<Items<Combination>, PolyEnd>
+fn all_valued(alloc: Global, values: &[Poly], basis: &[Poly]) -> Result<Items<Combination>, PolyEnd>
     ensures { Forms PolyEnd.Large result (map_formed (valued values.now) basis.now) }
 {
     let mut made = Items::with_capacity(alloc, basis.len())?;

@@ -135,9 +135,10 @@ impl Solved {
         with: (u32, Poly),
     ) -> Result<(), AllocError>
         ensures { OnOk result (self.new ≡ record {
-            relations = others ++ poly ∷ [];
-            given = self.old.given ++ with.0 ∷ [];
-            values = self.old.values ++ with ∷ [] }) }
+          relations = others ++ poly ∷ [];
+          given = self.old.given ++ with.0 ∷ [];
+          values = self.old.values ++ with ∷ [];
+        }) }
     {
         self.relations = others;
         self.relations.push(poly)?;
