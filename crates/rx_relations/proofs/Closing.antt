@@ -1,6 +1,6 @@
 -- What all combinations have, and differences and quotients of them keep, those have that are
 -- reduced; so the relations that vanish have what it says of a value without terms.
-use Rattle.std.proofs.Common.{◌≡◌, refl, subst, Bool, true, false, List, [], ◌∷◌, ◌++◌, ℤ}
+use Rattle.std.proofs.Common.{◌≡◌, refl, subst, Bool, true, false, List, [], ◌∷◌, ℤ}
 use Rattle.std.specs.Prelude.{All}
 use Rattle.std.proofs.lemmas.List.Elements.{All-append, All-cons, All-head, All-nil, All-tail}
 use Rattle.rx_plain.specs.Formed.{Formed, fold_formed}

@@ -1,8 +1,7 @@
 -- Values of polynomials that are divided by a divisor of all their coefficients.
-use Rattle.std.proofs.Common.{◌≡◌, ◌∙◌, ap, true, refl, sym, List, [], ◌∷◌, map, ℕ, zero, suc, ◌+◌, ◌*◌, ◌<◌, ℤ, pos, ◌+ℤ◌, ◌*ℤ◌, arith}
+use Rattle.std.proofs.Common.{◌≡◌, ◌∙◌, ap, true, refl, sym, List, [], ◌∷◌, map, ℕ, zero, suc, ◌+◌, ℤ, pos, ◌+ℤ◌, ◌*ℤ◌, arith}
 use Rattle.std.proofs.Math.Nat.{eq_of_mul-eq-mul_left}
 use Rattle.std.proofs.lemmas.Bool.{and_parts}
-use Rattle.std.proofs.lemmas.Int.{ints}
 use borrow.Author.Differences.{up, down, same_in, product_is}
 use Rattle.rx_plain.proofs.Integers.{mul-add-int, mul-assoc-int, mul-zero-int, zero-mul-int}
 use Rattle.rx_poly.proofs.Levels.{value_is}

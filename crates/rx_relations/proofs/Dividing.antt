@@ -8,7 +8,7 @@ use Rattle.rx_poly.specs.Value.{quotient}
 use Rattle.rx_poly.specs.declared.body.Body.{Body, out-Body, roll-Body, roll-out-Body}
 use Rattle.rx_poly.specs.declared.body.Mono.{Mono}
 use Rattle.rx_fm.specs.Elimination.{coefficients, divided}
-use Rattle.rx_fm.specs.Numbers.{divides_all, gcd_with}
+use Rattle.rx_fm.specs.Numbers.{divides_all}
 use Rattle.rx_fm.proofs.Dividing.{divides, divides_weaker, each, exact, quotient_is, with_divides, with_divides_first}
 use Rattle.rx_relations.specs.Content.{common_content, content, primitive, primitive_parts}
 use Rattle.rx_relations.specs.declared.combination.Combination.{Combination}

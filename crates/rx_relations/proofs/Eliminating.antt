@@ -1,13 +1,13 @@
 -- Taking one combination after the other, each reduced by the pivots before it, is eliminating from
 -- all the rest as soon as a pivot is found.
-use Rattle.std.proofs.Common.{◌≡◌, ◌∙◌, ap, refl, sym, true, false, ◌&&◌, List, [], ◌∷◌, ◌++◌, length, ℤ, append_assoc}
+use Rattle.std.proofs.Common.{◌≡◌, ◌∙◌, ap, refl, sym, true, ◌&&◌, List, [], ◌∷◌, ◌++◌, length, ℤ, append_assoc}
 use Rattle.std.proofs.lemmas.List.{append-nil}
 use Rattle.rx_plain.specs.Formed.{Formed, pure, ◌>>=◌, ◌<$>◌, fold_formed, map_formed}
 use Rattle.rx_plain.proofs.Booleans.{and_assoc, and_exchange, and_grouped, and_true}
 use Rattle.rx_poly.specs.declared.body.Body.{Body, out-Body}
 use Rattle.rx_poly.specs.declared.body.Mono.{Mono}
 use Rattle.rx_relations.specs.Cancelling.{cancelled, eliminate, eliminate_by, vanishing}
-use Rattle.rx_relations.specs.Reducing.{none_taken, placed, reduced, taken, vanishing_in_order}
+use Rattle.rx_relations.specs.Reducing.{placed, reduced, taken, vanishing_in_order}
 use Rattle.rx_relations.specs.declared.combination.Combination.{Combination}
 use Rattle.rx_relations.specs.declared.reduction.Reduction.{Reduction}
 

@@ -3,7 +3,6 @@ use Rattle.std.proofs.Common.{◌≡◌, ◌∙◌, ap, subst, sym, refl, true, 
 use Rattle.std.proofs.lemmas.Bool.{and_left}
 use Rattle.std.proofs.lemmas.List.{append-nil}
 use Rattle.rx_plain.specs.Formed.{Formed, ◌<$>◌}
-use Rattle.rx_plain.proofs.Forming.{then_false}
 use Rattle.rx_poly.specs.declared.body.Body.{Body}
 use Rattle.rx_relations.specs.Products.{products_of, times_each}
 
@@ -39,7 +38,7 @@ next made rest whole after i new more e m s w n =
     subst (λ ys. Multiplying ys after whole) (sym n) (record {
       all = (λ j. record {
         form = (append_assoc made more (products_of after).form
-        ∙ ap (λ ys. made ++ (ys ++ (products_of after).form)) first) j;
+            ∙ ap (λ ys. made ++ (ys ++ (products_of after).form)) first) j;
         within = sym fits j && (products_of after).within;
       }) ∙ p.all;
     })

@@ -1,5 +1,5 @@
 -- A relation that says the value of a place is added to those that are solved.
-use Rattle.std.proofs.Common.{◌≡◌, ◌∙◌, ap, subst, sym, refl, true, false, Option, Some, List, [], ◌∷◌, ◌++◌, ℕ}
+use Rattle.std.proofs.Common.{◌≡◌, ◌∙◌, ap, sym, true, false, Option, Some, List, [], ◌∷◌, ◌++◌, ℕ}
 use Rattle.rx_plain.specs.Formed.{Formed, map_formed}
 use Rattle.rx_poly.specs.declared.body.Body.{Body}
 use Rattle.rx_relations.specs.Linear.{replaced_in, solved_with}

@@ -1,6 +1,6 @@
 -- Variables that rows say the value of, replaced one after the other: the rows so far, and what is
 -- still done to them.
-use Rattle.std.proofs.Common.{◌≡◌, ◌∙◌, ap, subst, sym, refl, ℕ, zero, suc, ◌-◌, ◌<◌, Some, None, true, false, List, arith}
+use Rattle.std.proofs.Common.{◌≡◌, ◌∙◌, ap, sym, refl, ℕ, zero, suc, ◌-◌, ◌<◌, Some, None, true, false, List, arith}
 use Rattle.rx_plain.specs.Formed.{Formed, pure, ◌>>=◌}
 use Rattle.rx_plain.proofs.Forming.{then_false, then_true}
 use Rattle.rx_row.specs.declared.row.Row.{Row}

@@ -1,6 +1,6 @@
 -- Relations that are 0 under an assignment are 0 when they are solved for places; so all relations
 -- are 0 at each goal.
-use Rattle.std.proofs.Common.{◌≡◌, ◌∙◌, refl, subst, sym, Bool, true, false, Option, Some, None, List, [], ◌∷◌, ◌++◌, map, ℕ, nat_le, length, ℤ, pos}
+use Rattle.std.proofs.Common.{◌≡◌, ◌∙◌, refl, Bool, true, false, Option, Some, None, List, [], ◌∷◌, ◌++◌, map, ℕ, nat_le, length, ℤ, pos}
 use Rattle.std.specs.Prelude.{All}
 use Rattle.std.proofs.lemmas.List.Elements.{All-append, All-cons, All-filter, All-head, All-map, All-nil, All-tail}
 use Rattle.rx_plain.specs.Formed.{fold_formed, map_formed}

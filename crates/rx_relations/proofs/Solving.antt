@@ -1,6 +1,6 @@
 -- The value that a polynomial says of a variable, where it is 0, is the variable's; and what has the
 -- variable's own value in its place has its own value.
-use Rattle.std.proofs.Common.{◌≡◌, ◌∙◌, ap, sym, cond, ℕ, ◌==◌, Bool, true, false, eqb-true, Option, Some, None, [], ◌∷◌, ℤ, pos, negsuc, ◌+ℤ◌, ◌-ℤ◌, ◌*ℤ◌, refl, arith}
+use Rattle.std.proofs.Common.{◌≡◌, ◌∙◌, ap, sym, cond, ℕ, ◌==◌, Bool, true, false, eqb-true, Some, None, [], ◌∷◌, ℤ, pos, negsuc, ◌+ℤ◌, ◌-ℤ◌, ◌*ℤ◌, refl, arith}
 use Rattle.std.proofs.lemmas.Int.{ints}
 use Rattle.std.specs.Ordering.{int_eq}
 use Rattle.rx_poly.proofs.Constants.{value-variable}

@@ -46,8 +46,8 @@ cancelled c pivot = cancelled_first (out-Body pivot.value).terms pivot c
 -- ---- many combinations
 
 -- of a combination whose value has these terms: where it has none, its relation is kept, and the
--- rest is gone on with; otherwise its first monomial is cancelled in each of the rest, and these are
--- gone on with
+-- rest is gone on with; otherwise its first monomial is cancelled in each of the rest, and these
+-- are gone on with
 abbrev pub eliminate_by : List (Mono × ℤ) → Combination → (List Combination → Formed (List Body)) →
     List Combination → Formed (List Body)
 eliminate_by [] c further cs = (λ rs. c.relation ∷ rs) <$> further cs

@@ -1,5 +1,5 @@
 -- The combinations of a basis that are 0 at a goal, and those that are 0 at each of several goals.
-use Rattle.std.specs.Prelude.{Bool, not, List, [], ◌∷◌, ◌++◌, filter, map, pos}
+use Rattle.std.specs.Prelude.{Bool, not, List, ◌++◌, filter, map, pos}
 use Rattle.rx_plain.specs.Formed.{Formed, ◌>>=◌, ◌<$>◌, fold_formed, map_formed}
 use Rattle.rx_poly.specs.Constants.{number}
 use Rattle.rx_poly.specs.Normal.{is_empty}

@@ -1,5 +1,5 @@
 -- Linear relations, solved for places. The polynomial at place i of a goal is x_i here.
-use Rattle.std.specs.Prelude.{ℕ, Bool, ◌||◌, Option, Some, None, if◌then◌else◌, List, [], ◌∷◌, ◌++◌, map, ℤ, pos, negsuc}
+use Rattle.std.specs.Prelude.{ℕ, ◌||◌, Option, Some, None, if◌then◌else◌, List, [], ◌∷◌, ◌++◌, map, ℤ, pos, negsuc}
 use Rattle.std.specs.List.{filter_map, last_or, range_with_len}
 use Rattle.std.specs.Ordering.{int_eq}
 use Rattle.rx_plain.specs.Formed.{Formed, pure, ◌>>=◌, ◌<$>◌, fold_formed, map_formed}

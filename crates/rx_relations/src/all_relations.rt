@@ -28,11 +28,7 @@ fn equations(alloc: Global, polys: Items<Poly>) -> Result<Items<Row>, AllocError
 
 /// The relations of goals with as many places; Large exactly where a polynomial on the way passes
 /// the limits.
-fn formed_relations(
-    alloc: Global,
-    count: u32,
-    goals: &[Instance],
-) -> Result<Items<Row>, PolyEnd>
+fn formed_relations(alloc: Global, count: u32, goals: &[Instance]) -> Result<Items<Row>, PolyEnd>
     ensures { Forms PolyEnd.Large result (relations_formed count goals.now) }
 {
     let solved = linear(alloc, count, goals)?;

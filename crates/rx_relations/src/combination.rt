@@ -14,8 +14,8 @@ pub(crate) struct Combination {
 }
 
 impl Combination {
-    /// The same combination once more, which takes no memory; fails only where no more copies can be
-    /// counted.
+    /// The same combination once more, which takes no memory; fails only where no more copies can
+    /// be counted.
     pub(crate) fn try_clone(&self, alloc: Global) -> Result<Combination, AllocError>
         ensures { IfOk result (λ c. c ≡ self.now) }
     {

@@ -46,11 +46,7 @@ fn valued(alloc: Global, values: &[Poly], poly: &Poly) -> Result<Combination, Po
 
 /// Each polynomial with its value; Large exactly where a polynomial on the way to one of these
 /// passes the limits.
-fn all_valued(
-    alloc: Global,
-    values: &[Poly],
-    basis: &[Poly],
-) -> Result<Items<Combination>, PolyEnd>
+fn all_valued(alloc: Global, values: &[Poly], basis: &[Poly]) -> Result<Items<Combination>, PolyEnd>
     ensures { Forms PolyEnd.Large result (map_formed (valued values.now) basis.now) }
 {
     let mut made = Items::with_capacity(alloc, basis.len())?;
@@ -88,8 +84,8 @@ fn nonzero(alloc: Global, polys: Items<Poly>) -> Result<Items<Poly>, AllocError>
     Ok(kept)
 }
 
-/// The combinations of the basis that are 0 at the goal; Large exactly where a polynomial on the way
-/// passes the limits.
+/// The combinations of the basis that are 0 at the goal; Large exactly where a polynomial on the
+/// way passes the limits.
 fn vanishing_at(alloc: Global, basis: &[Poly], goal: &Instance) -> Result<Items<Poly>, PolyEnd>
     ensures { Forms PolyEnd.Large result (vanishing_at basis.now goal.now) }
 {
@@ -98,9 +94,9 @@ fn vanishing_at(alloc: Global, basis: &[Poly], goal: &Instance) -> Result<Items<
     Ok(nonzero(alloc, relations)?)
 }
 
-/// Combinations of the basis that are 0 at the goal: not 0 themselves, and such that every one is a
-/// sum of multiples of them. The value of a polynomial at the goal is that with the goal's values in
-/// place of its variables. None exactly where a polynomial on the way passes the limits.
+/// The combinations of the basis, not 0 themselves, that Gauss's elimination finds to be 0 at the
+/// goal. The value of a polynomial at the goal is that with the goal's values in place of its
+/// variables. None exactly where a polynomial on the way passes the limits.
 pub fn vanishing(
     alloc: Global,
     basis: &[Poly],
@@ -122,8 +118,8 @@ fn all_primitive(alloc: Global, polys: Items<Poly>) -> Result<Items<Poly>, Alloc
     Ok(made)
 }
 
-/// The combinations of the basis that are 0 at each of the goals, none of them with a common divisor
-/// of its coefficients; Large exactly where a polynomial on the way passes the limits.
+/// The combinations of the basis that are 0 at each of the goals, none of them with a common
+/// divisor of its coefficients; Large exactly where a polynomial on the way passes the limits.
 pub(crate) fn common(
     alloc: Global,
     basis: Items<Poly>,

@@ -2,8 +2,8 @@
 //! 0 at each of the goals, found by linear algebra over exact integers.
 //!
 //! What a reader may rely on: each answer is exactly that of its definition in `specs/`, and None
-//! exactly where something that is formed on the way passes the limits of a polynomial. A goal comes
-//! as its rows and the list of the polynomials at its places; nothing here knows of terms.
+//! exactly where something that is formed on the way passes the limits of a polynomial. A goal
+//! comes as its rows and the list of the polynomials at its places; nothing here knows of terms.
 #![tactic(auto)]
 
 mod all_relations;

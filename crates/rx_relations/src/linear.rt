@@ -87,8 +87,8 @@ fn replaced_in(alloc: Global, poly: &Poly, with: &(u32, Poly)) -> Result<Poly, P
     Ok(primitive(alloc, replaced)?)
 }
 
-/// The relation with each of these in place of its place, one after the other; Large exactly where a
-/// polynomial on the way passes the limits.
+/// The relation with each of these in place of its place, one after the other; Large exactly where
+/// a polynomial on the way passes the limits.
 fn all_replaced_in(alloc: Global, poly: &Poly, with: &[(u32, Poly)]) -> Result<Poly, PolyEnd>
     ensures { Forms PolyEnd.Large result (fold_formed replaced_in poly.now with.now) }
 {
@@ -135,9 +135,10 @@ impl Solved {
         with: (u32, Poly),
     ) -> Result<(), AllocError>
         ensures { OnOk result (self.new ≡ record {
-            relations = others ++ poly ∷ [];
-            given = self.old.given ++ with.0 ∷ [];
-            values = self.old.values ++ with ∷ [] }) }
+          relations = others ++ poly ∷ [];
+          given = self.old.given ++ with.0 ∷ [];
+          values = self.old.values ++ with ∷ [];
+        }) }
     {
         self.relations = others;
         self.relations.push(poly)?;
@@ -145,8 +146,8 @@ impl Solved {
         self.values.push(with)
     }
 
-    /// Adds a relation that says the value of the place, which is replaced in those before it; Large
-    /// exactly where a polynomial on the way passes the limits.
+    /// Adds a relation that says the value of the place, which is replaced in those before it;
+    /// Large exactly where a polynomial on the way passes the limits.
     fn push_solved(
         &mut self,
         alloc: Global,
@@ -188,8 +189,8 @@ impl Solved {
     }
 }
 
-/// The relations solved for places, one after the other; Large exactly where a polynomial on the way
-/// passes the limits.
+/// The relations solved for places, one after the other; Large exactly where a polynomial on the
+/// way passes the limits.
 fn solve_all(alloc: Global, polys: &[Poly]) -> Result<Solved, PolyEnd>
     ensures { Forms PolyEnd.Large result (solved polys.now) }
 {

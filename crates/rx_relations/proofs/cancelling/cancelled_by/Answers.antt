@@ -1,5 +1,5 @@
 -- The multiples that are taken are the least ones.
-use Rattle.std.proofs.Common.{rules, ◌≡◌, ◌∙◌, ap, sym, true, false, ◌&&◌, ℤ, FitsSigned}
+use Rattle.std.proofs.Common.{rules, ◌≡◌, ◌∙◌, ap, sym, ◌&&◌, ℤ, FitsSigned}
 use Rattle.std.proofs.lemmas.Bool.{and_from, and_left}
 use Rattle.std.proofs.lemmas.Int.{to_z-of_z}
 use Rattle.std.proofs.lemmas.Result.{err_from_is_err_and}
@@ -36,8 +36,8 @@ returns-in_err-relation c =
     let p = err_from_is_err_and c.from_residual-in_err-relation.result
     c.from_residual-in_err-relation.ensures.1 in
     let first = (difference_formed (cofactor c.args.standing.now c.args.own.now)
-        c.args.combination.now.value (cofactor c.args.own.now c.args.standing.now)
-        c.args.pivot.now.value).within in
+    c.args.combination.now.value (cofactor c.args.own.now c.args.standing.now)
+    c.args.pivot.now.value).within in
     rw (p.1, p.2) (λ h. ap (λ b. first && b) (sym (ap (λ (f : Formed Body). f.within) r) ∙
     c.in_err-relation.ensures h) ∙ and_false first)
 

@@ -1,4 +1,4 @@
-use Rattle.std.proofs.Common.{◌≡◌, ◌≤◌, ◌++◌, ◌-◌, map}
+use Rattle.std.proofs.Common.{◌≡◌, ◌++◌, ◌-◌, map}
 use Rattle.std.specs.List.{range_with_len}
 use Rattle.rx_poly.specs.Constants.{variable}
 use Rattle.rx_relations.specs.Linear.{linear_basis}
