@@ -1,5 +1,6 @@
 //! ctrl shows that two C functions compute the same for all integers.
 #![tactic(auto)]
+
 ghost use Rattle.std.specs.Prelude.{◌≡◌, IfErr, None, map, string_bytes};
 ghost use Rattle.std.specs.Process.{exit_status};
 ghost use Rattle.rx_cli.specs.Answers.{AreEqual, IsRefutedBy};

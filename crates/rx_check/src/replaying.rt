@@ -48,12 +48,7 @@ impl Replayer {
     }
 
     /// Takes the lines of the steps.
-    fn take_steps(
-        &mut self,
-        alloc: Global,
-        rules: &RuleSet,
-        steps: &[Step],
-    ) -> Result<(), NoMemory>
+    fn take_steps(&mut self, alloc: Global, rules: &RuleSet, steps: &[Step]) -> Result<(), NoMemory>
         requires at { IsOpen (place_after self.old) }
         requires roots { HasRoots self.old }
         ensures takes { OnOk result ((goal : Equation) (log : Log) →
