@@ -25,6 +25,18 @@ fn push_choice(choice: &u8, out: &mut Vec<u8>) -> Result<(), NoMemory> {
     push_count(out, *choice as usize)
 }
 
+// Two numbers, with a space between them.
+fn push_counts(first: usize, second: usize, out: &mut Vec<u8>) -> Result<(), NoMemory> {
+    push_count(out, first)?;
+    push_word(out, b" ")?;
+    push_count(out, second)
+}
+
+/// Two counts as text; none where memory ran out.
+pub fn counts(alloc: Global, first: usize, second: usize) -> Option<Vec<u8>> {
+    bytes_written(alloc, |out| push_counts(first, second, out))
+}
+
 // The path to the node where the limits are passed, as a list of choices, and the rows there.
 fn push_large(path: &[u8], rows: &[Row], out: &mut Vec<u8>) -> Result<(), NoMemory> {
     push_word(out, b"large ")?;

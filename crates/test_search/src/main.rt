@@ -14,6 +14,7 @@ mod by_solver;
 mod caching;
 mod code_cases;
 mod compile_answers;
+mod counting;
 mod ends;
 mod finding_answers;
 mod found_answer;

@@ -1,5 +1,6 @@
 //! The calls of a line, each a search over a rule set.
 use crate::by_solver::Task;
+use crate::counting::counted;
 use crate::ends::word;
 use crate::searching::{cached, calls_of, is_covered, is_fitting, kept, searched};
 use rx_term::RuleSet;
@@ -62,8 +63,12 @@ fn asked(alloc: Global, set: &RuleSet, goal: &str, effort: &str) -> Option<Vec<u
 }
 
 /// What the call answers for the equation and the effort that are given: `search`, `cached` and
-/// `kept` to a depth and within a budget, `asks` to two depths and within a budget.
+/// `kept` to a depth and within a budget, `asks` to two depths and within a budget. `counts` is given
+/// a tree that counts its own calls, a depth, a budget and how many nodes are kept.
 pub fn answer(alloc: Global, set: &RuleSet, call: &str, given: &str) -> Option<Vec<u8>> {
+    if call == "counts" {
+        return counted(alloc, given);
+    }
     let (goal, effort) = given.split_once(" | ")?;
     if call == "asks" {
         return asked(alloc, set, goal, effort);
