@@ -5,7 +5,7 @@ use rx_relations::{Instance, relations, values, vanishing};
 use rx_text::{push_poly, push_word, read_poly, skip_word};
 use std::alloc::Global;
 use test_lines::{
-    Answer, BAR, count, list, list_at, nothing, polys, push_list, read_constraint, rows, written,
+    Answer, count, list, list_at, nothing, polys, push_list, read_constraint, rows, whole, written,
     written_rows,
 };
 
@@ -53,19 +53,28 @@ fn read_polys(
     )
 }
 
-// What is known of a goal: its values, and its equations.
-fn instance(alloc: Global, text: &str) -> Option<Instance> {
-    let (values, equations) = text.split_once(BAR)?;
-    Some(Instance {
-        values: polys(alloc, values)?,
-        equations: polys(alloc, equations)?,
-    })
+// What is known of a goal at the place, its values and then its equations, and the place after it.
+fn read_known(
+    alloc: Global,
+    text: &[u8],
+    at: usize,
+) -> Result<Option<(Instance, usize)>, NoMemory> {
+    let Some((values, after)) = read_polys(alloc, text, at)? else {
+        return Ok(None);
+    };
+    let Some(second) = skip_word(text, after, b" ") else {
+        return Ok(None);
+    };
+    let Some((equations, end)) = read_polys(alloc, text, second)? else {
+        return Ok(None);
+    };
+    Ok(Some((Instance { values, equations }, end)))
 }
 
 /// The combinations of a basis that vanish where the values and equations are known.
 pub fn vanishing_of(alloc: Global, basis: &str, known: &str) -> Option<Answer> {
     let basis = polys(alloc, basis)?;
-    let known = instance(alloc, known)?;
+    let known = whole(alloc, known, read_known)?;
     match vanishing(alloc, basis.as_slice(), &known).ok()? {
         Some(found) => written_polys(alloc, found.as_slice()),
         None => nothing(),
