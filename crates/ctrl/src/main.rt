@@ -5,6 +5,11 @@ ghost use Rattle.std.specs.Process.{exit_status};
 ghost use Rattle.rx_cli.specs.Answers.{AreEqual, IsRefutedBy};
 ghost use Rattle.rx_report.specs.Ends.{code_of};
 
+ghost use Rattle.std.specs.Prelude.{◌≡◌, IfErr, None, map, string_bytes};
+ghost use Rattle.std.specs.Process.{exit_status};
+ghost use Rattle.rx_cli.specs.Answers.{AreEqual, IsRefutedBy};
+ghost use Rattle.rx_report.specs.Ends.{code_of};
+
 use rx_cli::{Status, run};
 use rx_system::{SystemFiles, SystemOutput};
 use std::env;

@@ -135,8 +135,11 @@ pair n ts m us =
 -- what code is translated to
 abbrev of_code : Formed Code → Formed RuleParts
 of_code c =
-    record { form = parts_of c.form; within = c.within && list_all instruction_within
-        c.form.instructions }
+    record {
+      form = parts_of c.form;
+      within = c.within && list_all instruction_within
+          c.form.instructions;
+    }
 
 translated : rules_of example both ≡ record { form = parts; within = true }
 translated =

@@ -9,3 +9,5 @@ pub mod LineOrder
 pub mod LineFaults
 pub mod LineTurns
 pub mod LineAnswers
+pub mod Fronts
+pub mod WholeLines

@@ -2,6 +2,7 @@
 use Rattle.std.proofs.Common.{◌≡◌, ◌∙◌, ap, sym, subst, refl, ℕ, Option, Some, None, Result, Ok, Err, IfOk, OnErr, All, true, List, [], ◌∷◌, ◌++◌, ◌+◌, slice_get, is_some}
 use Rattle.rx_term.specs.declared.rule.Equation.{Equation}
 use Rattle.rx_term.specs.declared.rule_set.RuleParts.{RuleParts}
+use Rattle.rx_inference.specs.Judging.{StepFault}
 use Rattle.rx_inference.specs.States.{State, applied}
 use Rattle.rx_inference.specs.declared.step.Step.{Step}
 use Rattle.rx_cover.specs.Covering.{Covers, goes_on, one_covered}
@@ -19,9 +20,13 @@ use Rattle.rx_log.specs.declared.line.Line.TheVariants as line
 use Rattle.rx_log.specs.declared.log.Log.{Log}
 use Rattle.rx_log.specs.declared.line_state.LineState.{LineState}
 use Rattle.rx_log.specs.declared.line_state.LineState.TheVariants.{AtHeader, Finished, InCovers}
-use Rattle.rx_check.specs.Answers.{Finds}
+use Rattle.rx_steps.specs.Faults.{Applies}
+use Rattle.rx_steps.specs.declared.step_end.StepEnd.{StepEnd}
+use Rattle.rx_steps.specs.declared.step_end.StepEnd.TheVariants as step_end
+use Rattle.rx_check.specs.Answers.{Finds, of_step_outcome}
 use Rattle.rx_check.specs.LineByLine.{IsFailureOf, Holds, IsOutcome, Judged, Judges, Stands, StandsFor, log_of, once_lower, one_lower, passed}
 use Rattle.rx_check.specs.declared.check_end.CheckEnd.{CheckEnd}
+use Rattle.rx_check.specs.declared.check_end.CheckEnd.TheVariants as end
 use Rattle.rx_check.specs.declared.progress.Progress.{Progress}
 use Rattle.rx_check.specs.declared.replayer.Replayer.{Replayer}
 use Rattle.rx_check.proofs.Kept.{step_rooted}
@@ -46,15 +51,36 @@ cover_answers parts place next trees progress outcome (Ok failure) at found is =
     failure is found))
 cover_answers parts place next trees progress outcome (Err none) at found is = refl
 
+-- what the outcome of a step says of its check
+pub step_found : (k : ℕ) (new : State) (outcome : Result (Unit {0}) StepEnd)
+    (answer : Result State StepFault) → Applies outcome new answer
+    → Finds (λ (_ : Unit {0}). new) (of_step_outcome k outcome) (after_step k answer)
+step_found k new (Ok done) answer is = ap (after_step k) is
+step_found k new (Err step_end.NoGoal) answer is = ap (after_step k) (is (λ e. cc))
+step_found k new (Err step_end.WrongShape) answer is = ap (after_step k) (is (λ e. cc))
+step_found k new (Err step_end.NoSuchRule) answer is = ap (after_step k) (is (λ e. cc))
+step_found k new (Err (step_end.NotShown i)) answer is = ap (after_step k) (is (λ e. cc))
+step_found k new (Err step_end.Large) answer is = ap (after_step k) (is (λ e. cc))
+step_found k new (Err step_end.NoMemory) answer is = tt
+
+-- a step for which there is no memory leaves the state as it was
+pub unmade_kept : (k : ℕ) (old new : State) (outcome : Result (Unit {0}) StepEnd)
+    → of_step_outcome k outcome ≡ Err end.NoMemory → OnErr outcome (new ≡ old) → new ≡ old
+unmade_kept k old new (Ok done) none kept = absurd cc
+unmade_kept k old new (Err e) none kept = kept
+
+-- what is so is so where a call fails
+pub so_on_error : {A E : Type 0} (r : Result A E) (So : Type 0) → So → OnErr r So
+so_on_error (Ok x) So so = tt
+so_on_error (Err e) So so = so
+
 -- what a step leaves of the hypotheses
-pub taken_rooted : (parts : RuleParts) (k : ℕ) (old new : State) (step : Step)
-    (outcome : Result (Unit {0}) CheckEnd)
-    → Finds (λ (_ : Unit {0}). new) outcome (after_step k (applied parts old step)) →
-    OnErr outcome (new ≡ old)
-    → All HasRoot old.hypotheses → All HasRoot new.hypotheses
-taken_rooted parts k old new step (Ok done) found kept rooted =
-    step_rooted parts k old new step (applied parts old step) refl found rooted
-taken_rooted parts k old new step (Err end) found kept rooted =
+pub step_keeps_roots : (parts : RuleParts) (k : ℕ) (old new : State) (step : Step)
+    (outcome : Result (Unit {0}) StepEnd) → Applies outcome new (applied parts old step)
+    → OnErr outcome (new ≡ old) → All HasRoot old.hypotheses → All HasRoot new.hypotheses
+step_keeps_roots parts k old new step (Ok done) is kept rooted =
+    step_rooted parts k old new step (applied parts old step) refl (ap (after_step k) is) rooted
+step_keeps_roots parts k old new step (Err e) is kept rooted =
     subst (λ (s : State). All HasRoot s.hypotheses) (sym kept) rooted
 
 -- the next pair, examined

@@ -30,7 +30,7 @@ use Rattle.rx_log.specs.declared.log.Log.{Log}
 use Rattle.rx_log.specs.declared.line_state.LineState.{LineState}
 use Rattle.rx_log.specs.declared.line_state.LineState.TheVariants.{AtHeader, InCovers, InSteps, InRanks, InPairs, Finished}
 use Rattle.rx_check.specs.Answers.{named}
-use Rattle.rx_check.specs.LineByLine.{Ends, IsOutcome, Judges, passed, FailsWith, Holds, IsKnown, Stands, once_lower, one_lower}
+use Rattle.rx_check.specs.LineByLine.{Ends, IsOpen, IsRanked, IsOutcome, Judges, passed, FailsWith, Holds, IsKnown, Stands, once_lower, one_lower}
 use Rattle.rx_check.specs.declared.check_end.CheckEnd.{CheckEnd}
 use Rattle.rx_check.specs.declared.check_end.CheckEnd.TheVariants as end
 use Rattle.rx_check.specs.declared.progress.Progress.{Progress}
@@ -141,15 +141,6 @@ cover_judged parts Finished trees progress failure ends goal log symbol behind h
 
 -- ---- after the covers
 
--- at this place steps and ranks may come
-abbrev pub IsOpen : LineState → Type 0
-IsOpen AtHeader = ⊥
-IsOpen (InCovers next) = Unit {0}
-IsOpen InSteps = Unit {0}
-IsOpen (InRanks columns next) = ⊥
-IsOpen InPairs = ⊥
-IsOpen Finished = ⊥
-
 step_comes : (place : LineState) (step : Step) (symbol : ℕ) (behind : LineState) →
     after place (line.Step step, symbol) ≡ Some behind
     → IsOpen place × (InSteps ≡ behind)
@@ -202,7 +193,7 @@ covers_end parts goal InPairs log progress failure there asks holds = absurd the
 covers_end parts goal Finished log progress failure there asks holds = absurd there
 
 -- the state so far is the one after the steps of the log so far
-state_now : (parts : RuleParts) (goal : Equation) (place : LineState) (log : Log)
+pub state_now : (parts : RuleParts) (goal : Equation) (place : LineState) (log : Log)
     (progress : Progress)
     → Holds parts goal place log progress
     → after_steps parts 0 (start goal) log.steps ≡ Ok progress.state
@@ -386,15 +377,6 @@ rank_stands parts InPairs rank old new is goal log symbol behind holds e = absur
 rank_stands parts Finished rank old new is goal log symbol behind holds e = absurd cc
 
 -- ---- after the ranks
-
--- at this place pairs and the end may come
-abbrev pub IsRanked : LineState → Type 0
-IsRanked AtHeader = ⊥
-IsRanked (InCovers next) = ⊥
-IsRanked InSteps = ⊥
-IsRanked (InRanks columns next) = Unit {0}
-IsRanked InPairs = Unit {0}
-IsRanked Finished = ⊥
 
 pair_comes : (place : LineState) (cert : PairCert) (symbol : ℕ) (behind : LineState) →
     after place (line.Pair cert, symbol) ≡ Some behind

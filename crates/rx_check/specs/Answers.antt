@@ -3,8 +3,6 @@ use Rattle.std.specs.Prelude.{◌≡◌, ℕ, Option, Some, None, Result, Ok, Er
 use Rattle.std.specs.Option.{option_map}
 use Rattle.rx_cover.specs.declared.cover_end.CoverEnd.{CoverEnd}
 use Rattle.rx_cover.specs.declared.cover_end.CoverEnd.TheVariants as cover_end
-use Rattle.rx_pairs.specs.declared.pair_end.PairEnd.{PairEnd}
-use Rattle.rx_pairs.specs.declared.pair_end.PairEnd.TheVariants as pair_end
 use Rattle.rx_steps.specs.Faults.{fault}
 use Rattle.rx_steps.specs.declared.step_end.StepEnd.{StepEnd}
 use Rattle.rx_steps.specs.declared.step_end.StepEnd.TheVariants as step_end
@@ -24,12 +22,6 @@ of_cover_end (cover_end.NotCovered f) = NotCovered f
 of_cover_end (cover_end.Large f) = Large (place.Cover f)
 of_cover_end cover_end.NoMemory = NoMemory
 
--- the end of a check by that of pairs
-abbrev pub of_pair_end : PairEnd → CheckEnd
-of_pair_end (pair_end.NotLower i) = NotLower i
-of_pair_end (pair_end.Large i) = Large (place.Pair i)
-of_pair_end pair_end.NoMemory = NoMemory
-
 -- the end of a check by that of a step
 abbrev pub of_step_end : ℕ → StepEnd → CheckEnd
 of_step_end k step_end.NoGoal = Step k step_end.NoGoal
@@ -38,6 +30,11 @@ of_step_end k step_end.NoSuchRule = Step k step_end.NoSuchRule
 of_step_end k (step_end.NotShown i) = Step k (step_end.NotShown i)
 of_step_end k step_end.Large = Large (place.Step k)
 of_step_end k step_end.NoMemory = NoMemory
+
+-- the outcome of the check that the step with that number is
+abbrev pub of_step_outcome : ℕ → Result (Unit {0}) StepEnd → Result (Unit {0}) CheckEnd
+of_step_outcome k (Ok done) = Ok done
+of_step_outcome k (Err end) = Err (of_step_end k end)
 
 -- the place that a place is
 abbrev pub place_of : LimitAt → log_fault.LimitAt
@@ -64,11 +61,6 @@ Told (Some fault) Says = Says fault
 abbrev pub Finds : {A B : Type 0} → (A → B) → Result A CheckEnd → Checked B → Type 0
 Finds shows (Ok x) check = check ≡ Ok (shows x)
 Finds shows (Err end) check = Told (named end) (λ fault. check ≡ Err fault)
-
--- the verdict is that the log is accepted, or not by the fault that the end names
-abbrev pub Decides : Verdict → Result (Unit {0}) CheckEnd → Type 0
-Decides verdict (Ok _) = verdict ≡ Accepted
-Decides verdict (Err end) = Told (named end) (λ fault. verdict ≡ Fails fault)
 
 -- the log is accepted, or its verdict is the fault that the end names
 abbrev pub Answers : Result (Unit {0}) CheckEnd → RuleParts → Equation → Log → Type 0

@@ -3,3 +3,4 @@
 pub mod Answers
 pub mod LineByLine
 pub mod Results
+pub mod Whole

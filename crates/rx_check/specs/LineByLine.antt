@@ -37,10 +37,27 @@ pushed_all log (it ∷ its) = pushed_all (pushed it.0 log) its
 abbrev pub log_of : List (Line × ℕ) → Log
 log_of its = pushed_all blank its
 
--- such a line may come next at the place
-abbrev pub MayCome : LineState → Line → Type 0
-MayCome place line = (symbol : ℕ) × (behind : LineState) × (after place (line, symbol) ≡ Some
-    behind)
+-- such a line may come at the first place, and leads to the second
+abbrev pub MayLead : LineState → Line → LineState → Type 0
+MayLead place line behind = (symbol : ℕ) × (after place (line, symbol) ≡ Some behind)
+
+-- at this place steps and the line that begins the ranks may come
+abbrev pub IsOpen : LineState → Type 0
+IsOpen AtHeader = ⊥
+IsOpen (InCovers next) = Unit {0}
+IsOpen InSteps = Unit {0}
+IsOpen (InRanks columns next) = ⊥
+IsOpen InPairs = ⊥
+IsOpen Finished = ⊥
+
+-- at this place pairs and the end may come
+abbrev pub IsRanked : LineState → Type 0
+IsRanked AtHeader = ⊥
+IsRanked (InCovers next) = ⊥
+IsRanked InSteps = ⊥
+IsRanked (InRanks columns next) = Unit {0}
+IsRanked InPairs = Unit {0}
+IsRanked Finished = ⊥
 
 -- the second list begins with the first
 abbrev pub Extends : {A : Type 0} → List A → List A → Type 0

@@ -1,7 +1,6 @@
 //! Why a log isn't accepted.
 
 use rx_cover::CoverEnd;
-use rx_pairs::PairEnd;
 use rx_plain::NoMemory;
 use rx_steps::StepEnd;
 use thiserror::Error;
@@ -91,23 +90,6 @@ impl From<CoverEnd> for CheckEnd {
                 place: LimitAt::Cover(sym),
             },
             CoverEnd::NoMemory => CheckEnd::NoMemory,
-        }
-    }
-}
-
-impl From<PairEnd> for CheckEnd {
-    ghost use Rattle.std.specs.Prelude.{◌≡◌};
-    ghost use Rattle.rx_check.specs.Answers.{of_pair_end};
-
-    ghost from_gives = { λ p e. e ≡ of_pair_end p };
-
-    fn from(e: PairEnd) -> CheckEnd {
-        match e {
-            PairEnd::NotLower(pair) => CheckEnd::NotLower { pair },
-            PairEnd::Large(pair) => CheckEnd::Large {
-                place: LimitAt::Pair(pair),
-            },
-            PairEnd::NoMemory => CheckEnd::NoMemory,
         }
     }
 }

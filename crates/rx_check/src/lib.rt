@@ -3,11 +3,11 @@
 
 mod check_end;
 mod laws;
+mod lines;
 mod outcomes;
 mod progress;
 mod replayer;
 mod replaying;
-mod running;
 
 pub use check_end::{CheckEnd, LimitAt};
 pub use laws::{

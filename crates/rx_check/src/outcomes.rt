@@ -1,25 +1,23 @@
 //! Single checks, each with the failure that it comes to.
 ghost use Rattle.std.specs.Prelude.{◌≡◌, ◌+◌, ◌++◌, ℕ, None, Err, [], drop, slice_get, All};
 ghost use Rattle.std.specs.Prelude.{IfOk, OnErr};
-ghost use Rattle.rx_check.specs.Answers.{Finds};
-ghost use Rattle.rx_check.specs.LineByLine.{Ends, IsFailureOf, IsOutcome, once_lower, one_lower};
+ghost use Rattle.rx_check.specs.Answers.{Finds, of_step_end, of_step_outcome};
+ghost use Rattle.rx_check.specs.LineByLine.{IsFailureOf, IsOutcome, once_lower, one_lower};
 ghost use Rattle.rx_check.specs.LineByLine.{passed};
 ghost use Rattle.rx_cover.specs.Covering.{Covers, covering_from, goes_on, one_covered};
-ghost use Rattle.rx_inference.specs.States.{applied};
-ghost use Rattle.rx_log.specs.Acceptance.{after_step, once_covered, once_ranked};
+ghost use Rattle.rx_log.specs.Acceptance.{once_covered, once_ranked};
 ghost use Rattle.rx_pairs.specs.Lowering.{Descends};
 ghost use Rattle.rx_pairs.specs.Lowering as lowering;
 ghost use Rattle.rx_pairs.specs.Pairs.{AreAllPairs, HasRoot};
 ghost use Rattle.rx_pairs.specs.Ranks.{bad_rank};
 
 use crate::check_end::{CheckEnd, LimitAt};
-use crate::running::take_owned;
 use rx_cover::{CoverTree, cover_one};
 use rx_log::LineState;
 use rx_pairs::{Pair, PairCert, RankTable, all_pairs, bad_ranks, is_lower};
 use rx_plain::{Items, NoMemory};
 use rx_poly::PolyEnd;
-use rx_steps::{State, Step};
+use rx_steps::StepEnd;
 use rx_term::{Rule, RuleSet};
 use std::alloc::Global;
 
@@ -80,21 +78,27 @@ pub(crate) fn missing_cover(rules: &RuleSet, place: LineState) -> Option<CheckEn
     }
 }
 
-/// Takes the step with that number, if it applies.
-pub(crate) fn step_failure(
-    alloc: Global,
-    state: &mut State,
-    rules: &RuleSet,
-    number: usize,
-    step: Step,
-) -> Result<Option<CheckEnd>, NoMemory>
-    requires roots { All HasRoot state.old.hypotheses }
-    ensures ok { IfOk result (λ failure. Ends failure state.new
-        (after_step number (applied rules.now state.old step))) }
-    ensures err { OnErr result (state.new ≡ state.old) }
-    ensures roots { All HasRoot state.new.hypotheses }
+/// The end of a check by that of the step with that number.
+fn step_end(step: usize, end: StepEnd) -> CheckEnd
+    ensures { result ≡ of_step_end step end }
 {
-    failure_of(take_owned(alloc, state, rules, number, step))
+    match end {
+        StepEnd::Large => CheckEnd::Large {
+            place: LimitAt::Step(step),
+        },
+        StepEnd::NoMemory => CheckEnd::NoMemory,
+        other => CheckEnd::Step { step, end: other },
+    }
+}
+
+/// The outcome of the check that the step with that number is.
+pub(crate) fn step_outcome(number: usize, outcome: Result<(), StepEnd>) -> Result<(), CheckEnd>
+    ensures { result ≡ of_step_outcome number outcome }
+{
+    match outcome {
+        Ok(()) => Ok(()),
+        Err(end) => Err(step_end(number, end)),
+    }
 }
 
 /// The pairs of the rules, and then those of the hypotheses.

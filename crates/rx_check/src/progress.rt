@@ -9,14 +9,14 @@ ghost use Rattle.rx_term.specs.declared.rule_set.RuleParts.{RuleParts};
 use crate::check_end::CheckEnd;
 use crate::outcomes::{
     bad_rank_at, check_cover, check_pair, count_after, failure_of, made_pairs, missing_cover,
-    step_failure,
+    step_outcome,
 };
 use rx_cover::CoverTree;
 use rx_log::{Line, LineState};
 use rx_pairs::{Pair, PairCert, RankTable};
 use rx_plain::{Items, NoMemory};
 use rx_poly::Poly;
-use rx_steps::{State, Step};
+use rx_steps::{State, Step, apply_owned};
 use rx_term::RuleSet;
 use std::alloc::Global;
 
@@ -68,7 +68,8 @@ impl Progress {
         ensures roots { All HasRoot self.new.state.hypotheses }
     {
         let next = count_after(self.steps)?;
-        let failure = step_failure(alloc, &mut self.state, rules, self.steps, step)?;
+        let outcome = apply_owned(alloc, &mut self.state, rules, step);
+        let failure = failure_of(step_outcome(self.steps, outcome))?;
         self.steps = next;
         Ok(failure)
     }

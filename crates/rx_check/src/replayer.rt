@@ -1,9 +1,10 @@
 //! The replay of a log line by line, as it is read: the lines aren't kept.
-ghost use Rattle.std.specs.Prelude.{◌≡◌, ◌≢◌, ◌+◌, [], ◌∷◌, ◌++◌, ℕ, ℤ, Some, Err, All, List};
-ghost use Rattle.std.specs.Prelude.{OnOk, OnErr, IfOk};
+ghost use Rattle.std.specs.Prelude.{◌≡◌, ◌≢◌, [], ◌∷◌, ◌++◌, ℕ, ℤ, Some, Err, All, List};
+ghost use Rattle.std.specs.Prelude.{OnOk, OnErr, IfErr, IfOk};
 ghost use Rattle.rx_check.specs.Answers.{Answers};
-ghost use Rattle.rx_check.specs.LineByLine.{HasRoots, MayCome, Stands, StandsFor, log_of};
+ghost use Rattle.rx_check.specs.LineByLine.{HasRoots, MayLead, Stands, StandsFor, log_of};
 ghost use Rattle.rx_check.specs.LineByLine.{place_after};
+ghost use Rattle.rx_check.specs.Whole.{HasWidths, Replays, front_of};
 ghost use Rattle.rx_proofs.specs.Goals.{Inside, IsFitting};
 ghost use Rattle.rx_log.specs.Places.{after};
 ghost use Rattle.rx_log.specs.Reading.{pushed};
@@ -16,8 +17,8 @@ ghost use Rattle.rx_term.specs.declared.rule_set.RuleParts.{RuleParts};
 
 use crate::check_end::CheckEnd;
 use crate::progress::Progress;
-use rx_log::{Line, LineState};
-use rx_pairs::RankTable;
+use rx_log::{Line, LineState, Log};
+use rx_pairs::{RankTable, bad_ranks};
 use rx_plain::{Items, NoMemory};
 use rx_steps::State;
 use rx_term::{Equation, RuleSet};
@@ -35,56 +36,12 @@ pub struct Replayer {
     failure: Option<CheckEnd>,
 }
 
-/// The number after this one; NoMemory where there is none.
-fn symbol_after(symbol: u64) -> Result<u64, NoMemory>
-    ensures { IfOk result (λ next. next ≡ symbol + 1) }
-{
-    match symbol.checked_add(1) {
-        Some(next) => Ok(next),
-        None => Err(NoMemory),
-    }
-}
-
-/// The place after the trees or the rank of the symbol that is next.
-fn after_symbol(place: LineState) -> Result<LineState, NoMemory>
-    ensures covers { (next : ℕ) → place ≡ LineState.InCovers next →
-        IfOk result (λ behind. behind ≡ LineState.InCovers (next + 1)) }
-    ensures ranks { (columns next : ℕ) → place ≡ LineState.InRanks columns next →
-        IfOk result (λ behind. behind ≡ LineState.InRanks columns (next + 1)) }
-{
-    match place {
-        LineState::InCovers(next) => Ok(LineState::InCovers(symbol_after(next)?)),
-        LineState::InRanks { columns, next } => Ok(LineState::InRanks {
-            columns,
-            next: symbol_after(next)?,
-        }),
-        other => Ok(other),
-    }
-}
-
-/// The place after a line that may come at the place.
-fn after_line(place: LineState, line: &Line) -> Result<LineState, NoMemory>
-    ensures { (symbol : ℕ) (behind : LineState) → after place (line.now, symbol) ≡ Some behind →
-        IfOk result (λ next. next ≡ behind) }
-{
-    match line {
-        Line::Header => Ok(LineState::InCovers(0)),
-        Line::Cover(_) | Line::Rank(_) => after_symbol(place),
-        Line::Step(_) => Ok(LineState::InSteps),
-        Line::Ranks(columns) => Ok(LineState::InRanks {
-            columns: *columns,
-            next: 0,
-        }),
-        Line::Pair(_) => Ok(LineState::InPairs),
-        Line::End => Ok(LineState::Finished),
-    }
-}
-
 impl Replayer {
     /// What is kept before the first line, for the goal and any rules.
     pub fn start(alloc: Global, goal: Equation) -> Result<Replayer, NoMemory>
         ensures stands { IfOk result (λ replayer.
             (parts : RuleParts) → StandsFor replayer parts goal []) }
+        ensures place { IfOk result (λ replayer. place_after replayer ≡ LineState.AtHeader) }
         ensures roots { IfOk result HasRoots }
     {
         let state = State::start(alloc, goal)?;
@@ -125,29 +82,50 @@ impl Replayer {
         Ok(())
     }
 
-    /// Takes the next line. Once a line has failed, the failure is kept, and only the place moves
-    /// on. Fails only where there is no memory, or at more than 2^64 - 1 lines of a kind; all then
-    /// stays as it was.
+    /// Takes the next line, which leads to the place `behind`. Once a line has failed, the failure
+    /// is kept, and only the place moves on. Fails only where there is no memory, or at more than
+    /// 2^64 - 1 steps or pairs; all then stays as it was.
     ///
-    /// The line must be one that may come after those so far. No kept hypothesis may have a result
-    /// as its left side; that is so at the start and after each line.
-    pub fn line(&mut self, alloc: Global, rules: &RuleSet, line: Line) -> Result<(), NoMemory>
-        requires comes { MayCome (place_after self.old) line }
+    /// The line must be one that may come after those so far, and lead there. No kept hypothesis
+    /// may have a result as its left side; that is so at the start and after each line.
+    pub fn line(
+        &mut self,
+        alloc: Global,
+        rules: &RuleSet,
+        line: Line,
+        behind: LineState,
+    ) -> Result<(), NoMemory>
+        requires comes { MayLead (place_after self.old) line behind }
         requires roots { HasRoots self.old }
-        ensures stands { OnOk result ((goal : Equation) (its : List (Line × ℕ)) →
-            (symbol : ℕ) (behind : LineState) → StandsFor self.old rules.now goal its →
+        ensures stands { OnOk result ((goal : Equation) (its : List (Line × ℕ)) (symbol : ℕ) →
+            StandsFor self.old rules.now goal its →
             after (place_after self.old) (line, symbol) ≡ Some behind →
             StandsFor self.new rules.now goal (its ++ (line, symbol) ∷ [])) }
-        ensures place { OnOk result ((symbol : ℕ) (behind : LineState) →
-            after (place_after self.old) (line, symbol) ≡ Some behind →
-            place_after self.new ≡ behind) }
+        ensures place { OnOk result (place_after self.new ≡ behind) }
         ensures kept { OnErr result (self.new ≡ self.old) }
         ensures roots { HasRoots self.new }
     {
-        let behind = after_line(self.place, &line)?;
         self.judge(alloc, rules, line)?;
         self.place = behind;
         Ok(())
+    }
+
+    /// The first failure of a log whose covers and steps have come, with the line that begins its
+    /// ranks, or else the first symbol without a lawful rank. Takes no memory.
+    pub(crate) fn judge_ranks(&self, rules: &RuleSet, log: &Log) -> Result<(), CheckEnd>
+        requires { place_after self.now ≡ LineState.InRanks log.now.table.columns 0 }
+        ensures fails { IfErr result (λ end. (goal : Equation) →
+            Replays self.now rules.now goal (front_of log.now) →
+            Answers (Err end) rules.now goal log.now) }
+        ensures widths { OnOk result (HasWidths log.now.table.columns log.now.table.ranks) }
+    {
+        if let Some(end) = self.failure {
+            return Err(end);
+        }
+        match bad_ranks(rules, &log.table) {
+            Some(sym) => Err(CheckEnd::BadRanks { sym }),
+            None => Ok(()),
+        }
     }
 
     /// Whether the log is accepted: the answer of `replay` on the log that the lines are. Takes no

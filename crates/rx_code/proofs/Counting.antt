@@ -162,7 +162,7 @@ module _ (x : ℕ) where
           counts =
               let c0 = h.counts in let d1 = one.instructions in let s1 = one.symbols in let d2 =
               two.instructions in let s2 = two.symbols in let d3 = three.instructions in let s3 =
-                  three.symbols in
+              three.symbols in
               omega (arith, c0, d1, s1, d2, s2, d3, s3, s);
           entries = no_entries c (append_code yes no) h.entries refl;
         };

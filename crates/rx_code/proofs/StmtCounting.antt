@@ -50,7 +50,7 @@ module _ (x : ℕ) where
         counts =
             let c0 = first.counts in let c1 = second.counts in let c2 = third.counts in let d1 =
             one.instructions in let s1 = one.symbols in let d2 = two.instructions in let s2 =
-                two.symbols in
+            two.symbols in
             let d3 = three.instructions in let s3 = three.symbols in
             omega (arith, c0, c1, c2, d1, s1, d2, s2, d3, s3, s);
         entries =
@@ -60,8 +60,13 @@ module _ (x : ℕ) where
 
   -- a head that is marked
   marked : (next : ℕ) (a : Point) (heads : List ℕ) (c : Code) → Closed x next a c →
-      Closed x next a (append_code (record { opened = []; instructions = []; heads = heads; entries
-      = [] })
+      Closed x next a (append_code (record {
+        opened = [];
+        instructions = [];
+        heads = heads;
+        entries
+            = [];
+      })
       c)
   marked next a heads c is = record { counts = is.counts; entries = is.entries }
 

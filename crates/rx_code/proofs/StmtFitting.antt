@@ -132,11 +132,19 @@ module _ (c : Code) (kept : (d : Instruction) → Contains c.instructions d → 
 
   -- a mark at a head opens nothing and does nothing
   without_head : (next : ℕ) (heads : List ℕ) (p : Code) →
-      StandsIn c next (append_code (record { opened = []; instructions = []; heads = heads; entries
-      = [] })
+      StandsIn c next (append_code (record {
+        opened = [];
+        instructions = [];
+        heads = heads;
+        entries
+            = [];
+      })
       p) → StandsIn c next p
-  without_head next heads p stands = record { opened = stands.opened; instructions =
-      stands.instructions }
+  without_head next heads p stands = record {
+    opened = stands.opened;
+    instructions =
+        stands.instructions;
+  }
 
   if_fits : (n k : ℕ) (e : Asked) (x : Compiled) → n ≤ k → FitsExpr c kept callable entries n e →
       FitsStmt n k x → FitsFrom n n (if_code e x)

@@ -90,8 +90,11 @@ are_reached = record {
 -- what code is translated to
 abbrev of_code : Formed Code → Formed RuleParts
 of_code c =
-    record { form = parts_of c.form; within = c.within && list_all instruction_within
-        c.form.instructions }
+    record {
+      form = parts_of c.form;
+      within = c.within && list_all instruction_within
+          c.form.instructions;
+    }
 
 translated : rules_of calls both ≡ record { form = calls_parts; within = true }
 translated = ap of_code (

@@ -18,8 +18,11 @@ use Rattle.rx_code.specs.Rules.{instruction_within, parts_of, symbol}
 abbrev pub rules_of : Resolved → List ℕ → Formed RuleParts
 rules_of program fs =
     let c = program_code program fs in
-    record { form = parts_of c.form; within = c.within && list_all instruction_within
-        c.form.instructions }
+    record {
+      form = parts_of c.form;
+      within = c.within && list_all instruction_within
+          c.form.instructions;
+    }
 
 -- f and g are functions of the program, the parts are the rule set of all functions that they
 -- reach, within the limits, and the two symbols are their entries

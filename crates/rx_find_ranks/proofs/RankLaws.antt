@@ -1,11 +1,12 @@
 -- The ranking of all pairs: they are those of the definition, and what rounds have come to lowers
 -- them all.
-use Rattle.std.proofs.Common.{◌≡◌, ◌∙◌, ap, sym, subst, ℕ, None, List, [], ◌++◌, length, All}
+use Rattle.std.proofs.Common.{◌≡◌, ◌∙◌, ap, arith, sym, subst, ℕ, None, List, [], ◌++◌, length, All}
 use Rattle.std.proofs.lemmas.List.Elements.{All-append, All-nil, All-weaker}
 use Rattle.rx_graph.specs.Graph.{IsOver}
 use Rattle.rx_term.specs.WellMade.{IsMade, IsWellMade}
 use Rattle.rx_term.specs.declared.rule.Rule.{Rule}
 use Rattle.rx_term.specs.declared.rule_set.RuleParts.{RuleParts}
+use Rattle.rx_term.specs.declared.rule_set.SymInfo.{SymInfo}
 use Rattle.rx_pairs.proofs.ListedLaws.{only_all_listed}
 use Rattle.rx_pairs.proofs.LoopLaws.{all_within}
 use Rattle.rx_pairs.proofs.PairsLaws.{made_roots}
@@ -15,8 +16,9 @@ use Rattle.rx_pairs.specs.Lowering.{Descends, descent_from}
 use Rattle.rx_pairs.specs.Pairs.{AreAllPairs, HasRoot, SidesFit}
 use Rattle.rx_pairs.specs.Ranks.{bad_rank}
 use Rattle.rx_pairs.specs.declared.pair.Pair.{Pair}
-use Rattle.rx_find_ranks.specs.Found.{LowersAll}
-use Rattle.rx_find_ranks.specs.Rounds.{IsBegun, IsRanked}
+use Rattle.rx_pairs.specs.declared.table.RankTable.{RankTable}
+use Rattle.rx_find_ranks.specs.Found.{HasColumns, LowersAll}
+use Rattle.rx_find_ranks.specs.Rounds.{IsBegun, IsLonger, IsRanked}
 use Rattle.rx_find_ranks.specs.Tables.{IsDeepPair, IsLawful, IsSplit, pairs_open}
 use Rattle.rx_find_ranks.specs.Columns.{columns_in}
 use Rattle.rx_find_ranks.specs.declared.column.FoundColumn.{FoundColumn}
@@ -102,3 +104,12 @@ module _ (parts lent : RuleParts) (hypotheses rules : List Rule) (same : lent �
               ∙ lower pairs last_split (subst (λ k. IsOver k (edges_of pairs)) (sym count) over);
           deep = deep pairs last_split;
         }
+
+-- rounds from none on make one to fifteen columns
+pub columns_here : (infos : List SymInfo) (start after : Progress) → IsRanked infos start after →
+    IsLonger 7 start after → (table : RankTable) → table.columns ≡ length after.columns.items →
+    HasColumns table
+columns_here infos start after ranked longer table same =
+    let few = ranked.count in
+    let more = longer.longer (omega arith) in
+    record { some = omega (arith, same, more); few = omega (arith, same, few) }

@@ -1,5 +1,5 @@
 -- Rounds: how a ranking goes on after a column of heights, and what a round adds to the columns.
-use Rattle.std.proofs.Common.{◌≡◌, ◌∙◌, ap, sym, refl, arith, ℕ, zero, suc, ◌≤◌, Bool, Option, Some, None, List, [], ◌∷◌, length}
+use Rattle.std.proofs.Common.{◌≡◌, ◌∙◌, ap, sym, refl, arith, ℕ, zero, suc, ◌+◌, ◌<◌, ◌≤◌, Bool, Option, Some, None, List, [], ◌∷◌, length}
 use Rattle.std.specs.Option.{IfSome, option_map}
 use Rattle.rx_pairs.specs.declared.pair.Pair.{Pair}
 use Rattle.rx_rank.specs.Components.{inside}
@@ -9,7 +9,7 @@ use Rattle.rx_solve.specs.Attempts.{Tried, applies, fails}
 use Rattle.rx_term.specs.declared.rule.Rule.{Rule}
 use Rattle.rx_term.specs.declared.rule_set.RuleParts.{RuleParts}
 use Rattle.rx_term.specs.declared.rule_set.SymInfo.{SymInfo}
-use Rattle.rx_find_ranks.specs.Rounds.{IsGrown, IsGrownOrSame, IsRanked}
+use Rattle.rx_find_ranks.specs.Rounds.{IsGrown, IsGrownOrSame, IsLonger, IsRanked}
 use Rattle.rx_find_ranks.specs.Tables.{pairs_open}
 use Rattle.rx_find_ranks.specs.declared.open_pair.OpenPair.{OpenPair}
 use Rattle.rx_find_ranks.specs.declared.progress.Progress.{Progress}
@@ -137,3 +137,29 @@ module _ (infos : List SymInfo) (before : Progress) where
   ranked_rounds grown next None first second rest = rest
   ranked_rounds grown next (Some after) first second rest =
       ranked_next grown next after first second rest
+
+-- ---- how many columns there are
+
+module _ (before : Progress) where
+  -- they stay where no round is left
+  pub same_length : (left : ℕ) → left ≡ 0 → IsLonger left before before
+  same_length left none = record { kept = omega arith; longer = λ some. omega arith }
+
+  pub one_longer : (left : ℕ) (after : Progress) → length after.columns.items ≡
+      length before.columns.items + 1 → IsLonger left before after
+  one_longer left after more =
+      record { kept = omega (arith, more); longer = λ some. omega (arith, more) }
+
+  -- a round, and the rounds after it
+  pub longer_rounds : (infos : List SymInfo) (left less : ℕ) (grown next : Progress)
+      (made : Option Progress) → IsLonger left before grown → IsGrown infos grown next →
+      IfSome made (IsLonger less next) → IfSome made (IsLonger left before)
+  longer_rounds infos left less grown next None first second rest = rest
+  longer_rounds infos left less grown next (Some after) first second rest =
+      let start = first.kept in
+      let more = second.count in
+      let kept = rest.kept in
+      record {
+        kept = omega (arith, start, more, kept);
+        longer = λ some. omega (arith, start, more, kept);
+      }

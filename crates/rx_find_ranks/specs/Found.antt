@@ -10,6 +10,7 @@ use Rattle.rx_pairs.specs.Pairs.{AreAllPairs}
 use Rattle.rx_pairs.specs.Ranks.{bad_rank}
 use Rattle.rx_pairs.specs.declared.pair.Pair.{Pair}
 use Rattle.rx_pairs.specs.declared.pair_cert.PairCert.{PairCert}
+use Rattle.rx_pairs.specs.declared.table.RankTable.{RankTable}
 use Rattle.rx_find_ranks.specs.declared.ranking.Ranking.{Ranking}
 use Rattle.rx_solve.specs.Bounds.{most_deep}
 use Rattle.rx_term.specs.declared.rule.Rule.{Rule}
@@ -20,6 +21,11 @@ abbrev pub RanksAnswer : Said → Result (Option Ranking) FmEnd → Type 0
 RanksAnswer said (Ok None) = said ≡ No
 RanksAnswer said (Ok (Some found)) = said ≡ Yes
 RanksAnswer said (Err e) = e ≡ Large → said ≡ Beyond
+
+-- the table has one to fifteen columns
+pub record HasColumns (table : RankTable) : Type 0 where
+  pub some : 1 ≤ table.columns
+  pub few : table.columns ≤ 15
 
 -- the ranks are lawful for the symbols, and all pairs of the rules and of the hypotheses are lower
 -- by them, by certificates that are at most 174 deep

@@ -1,5 +1,5 @@
 -- What rounds do with the columns and the pairs.
-use Rattle.std.specs.Prelude.{◌≡◌, ◌≤◌, ◌+◌, ℕ, List, [], All, length}
+use Rattle.std.specs.Prelude.{◌≡◌, ◌<◌, ◌≤◌, ◌+◌, ℕ, List, [], All, length}
 use Rattle.rx_graph.specs.Graph.{IsOver}
 use Rattle.rx_pairs.specs.Graph.{edges_of}
 use Rattle.rx_pairs.specs.declared.pair.Pair.{Pair}
@@ -40,6 +40,11 @@ pub record IsGrownOrSame (infos : List SymInfo) (before after : Progress) : Type
   pub split : (pairs : List Pair) → IsSplitBy pairs before → IsSplitBy pairs after
   pub lawful : AreLawful infos before → AreLawful infos after
   pub over : AreOver (length infos) before → AreOver (length infos) after
+
+-- no column is gone, and where a round was left there is one more
+pub record IsLonger (left : ℕ) (before after : Progress) : Type 0 where
+  pub kept : length before.columns.items ≤ length after.columns.items
+  pub longer : 0 < left → length before.columns.items < length after.columns.items
 
 -- at last no pair is open, and there are at most fifteen columns
 pub record IsRanked (infos : List SymInfo) (before after : Progress) : Type 0 where

@@ -1,5 +1,5 @@
 //! How far a ranking has come: the columns so far, and which pairs they close.
-ghost use Rattle.std.specs.Prelude.{◌≡◌, ◌≤◌, ◌^◌, ◌↔◌, IfOk, IsTrue, List, [], length};
+ghost use Rattle.std.specs.Prelude.{◌≡◌, ◌+◌, ◌≤◌, ◌^◌, ◌↔◌, IfOk, IsTrue, List, [], length};
 ghost use Rattle.rx_graph.specs.Graph.{IsOver};
 ghost use Rattle.rx_pairs.specs.Graph.{edges_of};
 ghost use Rattle.rx_pairs.specs.declared.pair.Pair.{Pair};
@@ -71,6 +71,8 @@ pub(crate) fn add_heights(
         inside symbols (pairs_open progress.entries.items)) }
     ensures grown { IfOk result (λ after. (infos : List SymInfo) → symbols ≡ length infos →
         IsGrown infos progress after) }
+    ensures count { IfOk result (λ after.
+        length after.columns.items ≡ length progress.columns.items + 1) }
 {
     let Progress {
         columns,

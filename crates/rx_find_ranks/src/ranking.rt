@@ -2,7 +2,7 @@
 ghost use Rattle.std.specs.Prelude.{◌≡◌, All, IfOk, IfSome};
 ghost use Rattle.rx_pairs.specs.Pairs.{HasRoot, SidesFit};
 ghost use Rattle.rx_rank.specs.Answers.{tried_only};
-ghost use Rattle.rx_find_ranks.specs.Found.{LowersAll, RanksAnswer};
+ghost use Rattle.rx_find_ranks.specs.Found.{HasColumns, LowersAll, RanksAnswer};
 ghost use Rattle.rx_rank.specs.Ranking.{ranked, ranking};
 ghost use Rattle.rx_solve.specs.Answers.{IsSolver};
 
@@ -41,6 +41,7 @@ fn rank_all<S: FnMut(&Constraint) -> Result<Option<Cert>, FmEnd>>(
     ensures solver { IsSolver S.FnMut solve.new }
     ensures tried { IfOk result (λ t. tried_only t ≡ ranking rules.now hypotheses.now) }
     ensures lowers { IfOk result (λ t. IfSome t.made (LowersAll rules.now hypotheses.now)) }
+    ensures columns { IfOk result (λ t. IfSome t.made (λ found. HasColumns found.table)) }
 {
     let parts = rules.parts();
     let symbols = parts.symbols.len();
@@ -69,7 +70,7 @@ fn rank_all<S: FnMut(&Constraint) -> Result<Option<Cert>, FmEnd>>(
 }
 
 /// Finds ranks by which all pairs of the rules and of the hypotheses are lower, as the solver shows
-/// it. None where there are none of the kind that is tried; Large where there are none and
+/// it, in one to fifteen columns. None where there are none of the kind that is tried; Large where there are none and
 /// something on the way passed the limits. What is found out of pairs is kept in the memo, and what
 /// it has isn't asked again; it may come from other rules, hypotheses and solvers.
 pub fn find_ranks_with<S: FnMut(&Constraint) -> Result<Option<Cert>, FmEnd>>(
@@ -85,6 +86,7 @@ pub fn find_ranks_with<S: FnMut(&Constraint) -> Result<Option<Cert>, FmEnd>>(
     ensures solver { IsSolver S.FnMut solve.new }
     ensures answer { RanksAnswer (ranked rules.now hypotheses.now) result }
     ensures lowers { IfOk result (λ a. IfSome a (LowersAll rules.now hypotheses.now)) }
+    ensures columns { IfOk result (λ a. IfSome a (λ found. HasColumns found.table)) }
 {
     match rank_all(alloc, rules, hypotheses, memo, solve) {
         Ok(tried) => {
@@ -112,6 +114,7 @@ pub fn find_ranks<S: FnMut(&Constraint) -> Result<Option<Cert>, FmEnd>>(
     ensures solver { IsSolver S.FnMut solve.new }
     ensures answer { RanksAnswer (ranked rules.now hypotheses.now) result }
     ensures lowers { IfOk result (λ a. IfSome a (LowersAll rules.now hypotheses.now)) }
+    ensures columns { IfOk result (λ a. IfSome a (λ found. HasColumns found.table)) }
 {
     let mut memo = PairMemo::new(alloc);
     find_ranks_with(alloc, rules, hypotheses, &mut memo, solve)

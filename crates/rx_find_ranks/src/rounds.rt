@@ -6,7 +6,7 @@ ghost use Rattle.rx_pairs.specs.Graph.{edges_of};
 ghost use Rattle.rx_rank.specs.Answers.{tried_only};
 ghost use Rattle.rx_rank.specs.Components.{inside};
 ghost use Rattle.rx_rank.specs.Ranking.{ranking_from};
-ghost use Rattle.rx_find_ranks.specs.Rounds.{IsGrownOrSame, IsRanked};
+ghost use Rattle.rx_find_ranks.specs.Rounds.{IsGrownOrSame, IsLonger, IsRanked};
 ghost use Rattle.rx_find_ranks.specs.Tables.{pairs_open};
 ghost use Rattle.rx_solve.specs.Answers.{IsSolver};
 ghost use Rattle.rx_term.specs.declared.rule_set.SymInfo.{SymInfo};
@@ -35,6 +35,7 @@ fn add_needed_heights(
         inside symbols (pairs_open progress.entries.items)) }
     ensures grown { IfOk result (λ after. (infos : List SymInfo) → symbols ≡ length infos →
         IsGrownOrSame infos progress after) }
+    ensures more { IfOk result (IsLonger left progress) }
 {
     if left == 0 && progress.is_done() {
         return Ok(progress);
@@ -73,6 +74,7 @@ pub(crate) fn rank_from<S: FnMut(&Constraint) -> Result<Option<Cert>, FmEnd>>(
     ensures tried { IfOk result (λ t. tried_only t ≡
         ranking_from parts.now hypotheses.now left (pairs_open progress.entries.items)) }
     ensures made { IfOk result (λ t. IfSome t.made (IsRanked parts.now.symbols progress)) }
+    ensures more { IfOk result (λ t. IfSome t.made (IsLonger left progress)) }
 {
     let grown = add_needed_heights(alloc, parts.symbols.len(), left, progress)?;
     if grown.is_done() {

@@ -32,6 +32,7 @@ pub(crate) fn ranking_of(
         IsOver symbols (edges_of pairs) → descent_from found.table 0 pairs found.certs ≡ Descends) }
     ensures deep { IfOk result (λ found. (pairs : List Pair) →
         IsSplit pairs (columns_in columns.now) [] closed.items → All IsDeepPair found.certs) }
+    ensures columns { IfOk result (λ found. found.table.columns ≡ length columns.now) }
 {
     let ranks = ranks_of(alloc, columns, symbols)?;
     let certs = certs_of(alloc, closed)?;

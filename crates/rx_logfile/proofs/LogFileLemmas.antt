@@ -7,7 +7,7 @@ use Rattle.std.specs.Prelude.{◌^◌}
 use Rattle.rx_check.specs.Answers.{Answers}
 use Rattle.rx_check.specs.LineByLine as lines
 use Rattle.rx_check.specs.declared.check_end.CheckEnd.{CheckEnd}
-use Rattle.rx_check.specs.LineByLine.{MayCome, log_of, place_after}
+use Rattle.rx_check.specs.LineByLine.{log_of, place_after}
 use Rattle.rx_check.proofs.LineOrder.{pushed_all-append}
 use Rattle.rx_io.specs.Outside.{HoldsBytes, IsOpenedAt, Names}
 use Rattle.rx_log.specs.Places.{after}
@@ -79,10 +79,11 @@ stands_first {check} parts goal reader replayer =
 
 -- ---- a line
 
-pub may_come : {check : LogCheck} (line : Line) (next : LineState) → IsInStep check →
-    MayLead (place_of check.reader) line next → MayCome (place_after check.replayer) line
-may_come line next step (symbol, leads) =
-    (symbol, next, ap (λ (p : LineState). after p (line, symbol)) step.place ∙ leads)
+pub may_come : {check : LogCheck} (line : Line) (next place : LineState) → IsInStep check →
+    MayLead (place_of check.reader) line next → place ≡ next →
+    lines.MayLead (place_after check.replayer) line place
+may_come line next place step (symbol, leads) is =
+    (symbol, ap (λ (p : LineState). after p (line, symbol)) step.place ∙ leads ∙ ap Some (sym is))
 
 replayed_of : {check : LogCheck} {parts : RuleParts} {goal : Equation} {bytes : List ℕ}
     (h : StandsFor check parts goal bytes) → has_bad check.reader ≡ false →
@@ -103,9 +104,8 @@ pub line_replayed : {old new : LogCheck} {parts : RuleParts} {goal : Equation} {
     (piece : List ℕ) (count : ℕ) (line : Line) (h : StandsFor old parts goal bytes)
     → Takes old.reader h.log h.front piece new.reader (Ok (count, Some line)) → IsInStep old →
     MayLead (place_of old.reader) line (place_of new.reader)
-    → ((its : List (Line × ℕ)) (symbol : ℕ) (behind : LineState) →
-    lines.StandsFor old.replayer parts goal its →
-    after (place_after old.replayer) (line, symbol) ≡ Some behind →
+    → ((its : List (Line × ℕ)) (symbol : ℕ) → lines.StandsFor old.replayer parts goal its →
+    after (place_after old.replayer) (line, symbol) ≡ Some (place_of new.reader) →
     lines.StandsFor new.replayer parts goal (its ++ (line, symbol) ∷ []))
     → StandsFor new parts goal (bytes ++ up_to_feed piece)
 line_replayed {old} {new} {parts} {goal} {bytes} piece count line h t step (symbol, leads) replays =
@@ -117,7 +117,7 @@ line_replayed {old} {new} {parts} {goal} {bytes} piece count line h t step (symb
       are =
           pushed_all-append blank r.its ((line, symbol) ∷ []) ∙
           ap (λ (l : Log). pushed line l) r.are;
-      stands = replays r.its symbol (place_of new.reader) r.stands comes;
+      stands = replays r.its symbol r.stands comes;
       whole = refl;
     } in
     record {

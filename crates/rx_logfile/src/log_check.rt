@@ -66,7 +66,8 @@ impl LogCheck {
     {
         match self.reader.take(alloc, piece) {
             Ok((count, Some(line))) => {
-                self.replayer.line(alloc, rules, line)?;
+                let place = self.reader.place();
+                self.replayer.line(alloc, rules, line, place)?;
                 Ok(Some(count))
             }
             Ok((count, None)) => Ok(Some(count)),

@@ -86,6 +86,13 @@ impl LogReader {
         }
     }
 
+    /// Which lines may come next.
+    pub fn place(&self) -> LineState
+        ensures { result ≡ place_of self.now }
+    {
+        self.place
+    }
+
     /// The number of the next line, counted from 1.
     fn next_number(&self) -> usize
         requires { self.now.taken + 1 < 2 ^ 64 }

@@ -12,9 +12,9 @@ use Rattle.rx_term.specs.WellMade.{IsWellMade}
 use Rattle.rx_term.specs.declared.rule_set.RuleParts.{RuleParts}
 use Rattle.rx_term.specs.declared.rule.Rule.{Rule}
 use Rattle.rx_term.proofs.Places.{from_end, from_nowhere, from_place}
-use Rattle.rx_pairs.specs.Descents.{Refuses, Tells, lent_from}
+use Rattle.rx_pairs.specs.Descents.{Refuses, Tells, TellsRanked, lent_from}
 use Rattle.rx_pairs.specs.Lent.{all_lent, lent}
-use Rattle.rx_pairs.specs.Lowering.{Descends, NotLower, descent_from, goes_on, lower_finding}
+use Rattle.rx_pairs.specs.Lowering.{Descends, Descent, NotLower, descent_from, goes_on, lower_finding}
 use Rattle.rx_pairs.specs.Pairs.{AreAllPairs, ArePairs, HasRoot, NoRules, OneMore, Part, SidesFit, pair_of}
 use Rattle.rx_pairs.specs.Ranks.{bad_rank, rank_of}
 use Rattle.rx_pairs.specs.declared.descending.Witness.{Witness}
@@ -176,17 +176,23 @@ rules_end w all i start next end before =
 
 -- ---- rules and hypotheses
 
--- where all pairs are lower, each step makes the weight smaller
+-- where the ranks are lawful, what is said of the pairs is said of both
+pub told_ranked : (found : Descent) (bad : Option ℕ) (r : Result (Unit {0}) PairEnd) →
+    bad ≡ None → Tells found r → TellsRanked bad found r
+told_ranked found None r good told = told
+told_ranked found (Some f) r good told = absurd cc
+
+-- where the ranks are lawful and all pairs are lower, each step makes the weight smaller
 pub lowers_all : (parts : RuleParts) (hypotheses : List Rule) (table : RankTable)
     (certs : List PairCert) (r : Result (Unit {0}) PairEnd)
-    → IsWellMade parts → All HasRoot hypotheses
+    → IsWellMade parts → All HasRoot hypotheses → bad_rank parts table ≡ None
     → ((pairs : List Pair) → AreAllPairs (parts.rules ++ hypotheses) pairs →
     Tells (descent_from table 0 pairs certs) r)
-    → OnOk r (bad_rank parts table ≡ None → All (SidesFit parts) hypotheses
+    → OnOk r (All (SidesFit parts) hypotheses
     → Lowers (weight_of (rank_of table)) (Fits (signature parts))
     (Either (Instance parts.rules) (Instance hypotheses)))
-lowers_all parts hypotheses table certs (Err e) made roots told = tt
-lowers_all parts hypotheses table certs (Ok _) made roots told = λ good fit.
+lowers_all parts hypotheses table certs (Err e) made roots good told = tt
+lowers_all parts hypotheses table certs (Ok _) made roots good told = λ fit.
     let (pairs, are) = some_all (parts.rules ++ hypotheses)
     (All-append HasRoot parts.rules hypotheses (made_roots parts parts.rules made) roots) in
     steps_descend parts hypotheses table pairs certs made fit good are (told pairs are)

@@ -1,5 +1,5 @@
--- What the answers to calls say of the descent.
-use Rattle.std.specs.Prelude.{◌≡◌, ℕ, drop, List, Result, Ok, Err}
+-- What the answers to calls say of the ranks and of the descent.
+use Rattle.std.specs.Prelude.{◌≡◌, ℕ, drop, List, Option, Some, None, Result, Ok, Err}
 use Rattle.rx_pairs.specs.Lowering.{Descends, Descent, NotLower, PassesLimits, descent_from}
 use Rattle.rx_pairs.specs.declared.descending.Witness.{Witness}
 use Rattle.rx_pairs.specs.declared.pair.Pair.{Pair}
@@ -8,8 +8,9 @@ use Rattle.rx_pairs.specs.declared.pair_end.PairEnd.{PairEnd}
 use Rattle.rx_pairs.specs.declared.pair_end.PairEnd.TheVariants as ends
 use Rattle.rx_pairs.specs.declared.table.RankTable.{RankTable}
 
--- each refusal names what is so; out of memory says nothing
+-- each refusal names what is so; out of memory says nothing, and no pair has bad ranks
 abbrev pub Refuses : Descent → PairEnd → Type 0
+Refuses d (ends.BadRanks f) = ⊥
 Refuses d (ends.NotLower i) = d ≡ NotLower i
 Refuses d (ends.Large i) = d ≡ PassesLimits i
 Refuses d ends.NoMemory = Unit {0}
@@ -18,6 +19,11 @@ Refuses d ends.NoMemory = Unit {0}
 abbrev pub Tells : Descent → Result (Unit {0}) PairEnd → Type 0
 Tells d (Ok _) = d ≡ Descends
 Tells d (Err e) = Refuses d e
+
+-- the first symbol without a lawful rank, or else what is said of the pairs
+abbrev pub TellsRanked : Option ℕ → Descent → Result (Unit {0}) PairEnd → Type 0
+TellsRanked (Some f) d result = result ≡ Err (ends.BadRanks f)
+TellsRanked None d result = Tells d result
 
 -- the first pairs are lower, so that the others decide, or a refusal
 abbrev pub Leaves : {A : Type 0} → (A → Descent) → Descent → Result A PairEnd → Type 0

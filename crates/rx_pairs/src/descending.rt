@@ -1,7 +1,7 @@
-//! Whether all pairs of rules and hypotheses are lower.
+//! Whether a table is lawful, and all pairs of rules and hypotheses are lower by it.
 ghost use Rattle.std.specs.Prelude.{◌≡◌, ◌≤◌, ◌<◌, ◌+◌, ◌∷◌, ◌++◌};
-ghost use Rattle.std.specs.Prelude.{All, List, None, length, map, IfOk, OnOk};
-ghost use Rattle.rx_pairs.specs.Descents.{Leaves, Tells, lent_from};
+ghost use Rattle.std.specs.Prelude.{All, List, length, map, IfOk, OnOk};
+ghost use Rattle.rx_pairs.specs.Descents.{Leaves, Tells, TellsRanked, lent_from};
 ghost use Rattle.rx_pairs.specs.Lent.{all_lent, lent};
 ghost use Rattle.rx_pairs.specs.Lowering.{descent_from};
 ghost use Rattle.rx_pairs.specs.Pairs.{AreAllPairs, ArePairs, HasRoot, SidesFit, pair_of};
@@ -18,7 +18,7 @@ use crate::pair_cert::PairCert;
 use crate::pair_end::PairEnd;
 use crate::pairs::pair;
 use crate::parts::{Application, parts_of, root_part};
-use crate::table::RankTable;
+use crate::table::{RankTable, bad_ranks};
 use rx_poly::PolyEnd;
 use rx_term::{Rule, RuleSet};
 use std::alloc::Global;
@@ -147,12 +147,13 @@ fn both_lower(
     Ok(())
 }
 
-/// Whether all pairs of the rules, and then of the hypotheses, are lower by the table, each by
-/// its certificate, and there are no more certificates. Then, where each symbol has a lawful rank
-/// and the hypotheses fit, each step by both makes the weight of a term smaller. NotLower exactly
-/// at the first pair that isn't lower or has no certificate, or at the number of pairs where
-/// there are more certificates; Large exactly at the first pair at which the limits are passed,
-/// with none before it that fails. Pairs are made one by one, and let go.
+/// Whether each symbol has a lawful rank, and all pairs of the rules, and then of the hypotheses,
+/// are lower by the table, each by its certificate, and there are no more certificates. Then, where
+/// the hypotheses fit, each step by both makes the weight of a term smaller. BadRanks exactly where
+/// `bad_ranks` names a symbol, before any pair is looked at; NotLower exactly at the first pair that
+/// isn't lower or has no certificate, or at the number of pairs where there are more certificates;
+/// Large exactly at the first pair at which the limits are passed, with none before it that fails.
+/// Pairs are made one by one, and let go.
 ///
 /// The left side of a hypothesis must not be a bare result.
 pub fn decreases(
@@ -164,12 +165,15 @@ pub fn decreases(
 ) -> Result<(), PairEnd>
     requires { All HasRoot hypotheses.now }
     ensures exact { (pairs : List Pair) → AreAllPairs (rules.now.rules ++ hypotheses.now) pairs →
-        Tells (descent_from table.now 0 pairs certs.now) result }
-    ensures lowers { OnOk result (
-        bad_rank rules.now table.now ≡ None → All (SidesFit rules.now) hypotheses.now →
+        TellsRanked (bad_rank rules.now table.now) (descent_from table.now 0 pairs certs.now)
+        result }
+    ensures lowers { OnOk result (All (SidesFit rules.now) hypotheses.now →
         Lowers (weight_of (rank_of table.now)) (Fits (signature rules.now))
         (Either (Instance rules.now.rules) (Instance hypotheses.now))) }
 {
+    if let Some(sym) = bad_ranks(rules, table) {
+        return Err(PairEnd::BadRanks(sym));
+    }
     let parts = rules.parts();
     let witness = Witness { table, certs };
     both_lower(alloc, parts.rules.as_slice(), hypotheses, witness)

@@ -1,11 +1,15 @@
-//! Why pairs are not all lower.
+//! Why ranks don't make all pairs lower.
 use rx_plain::NoMemory;
 use thiserror::Error;
 
-/// Why pairs are not all lower, or why that isn't known. Pairs count from 0 over the rules, and
-/// then over the hypotheses.
+/// Why a table doesn't make all pairs lower, or why that isn't known. Pairs count from 0 over the
+/// rules, and then over the hypotheses.
 #[derive(Clone, Copy, Debug, PartialEq, Eq, Error)]
 pub enum PairEnd {
+    /// The symbol with this number has no rank of the table's width over its own arguments; at the
+    /// number of symbols: there are more ranks.
+    #[error("the rank of symbol {0} is not lawful")]
+    BadRanks(usize),
     /// The pair with this number isn't lower by its certificate, or has none; at the number of
     /// pairs: there are more certificates.
     #[error("pair {0} is not lower")]

@@ -4,6 +4,7 @@ use Rattle.std.specs.Prelude.{◌==◌, ◌||◌, if◌then◌else◌, ℕ, Bool
 use Rattle.rx_term.specs.declared.rule.Equation.{Equation}
 use Rattle.rx_inference.specs.States.{State}
 use Rattle.rx_inference.specs.declared.step.Step.{Step}
+use Rattle.rx_steps.specs.Alone.{alone}
 use Rattle.rx_moves.specs.Moves.{move_of}
 use Rattle.rx_search.specs.NodeNodes as nodes
 use Rattle.rx_search.specs.declared.node.Node.{Node}
@@ -17,8 +18,7 @@ node_of node = record { moves = map move_of node.steps; state = node.state; left
 
 -- the node with no steps, whose settling may take so many
 abbrev pub started : Equation → ℕ → Node
-started goal left =
-    record { steps = []; state = record { goals = goal ∷ []; hypotheses = [] }; left = left }
+started goal left = record { steps = []; state = alone goal; left = left }
 
 -- the node with one more step, which made this state; its settling may take so many
 abbrev pub with_step : ℕ → Node → Step → State → Node

@@ -2,6 +2,7 @@
 use Rattle.std.specs.Prelude.{ℕ, Bool, true, false, List, [], ◌∷◌, ◌++◌}
 use Rattle.rx_term.specs.declared.rule.Equation.{Equation}
 use Rattle.rx_inference.specs.States.{State}
+use Rattle.rx_steps.specs.Alone.{alone}
 use Rattle.rx_moves.specs.Moves.{Move}
 use Rattle.rx_moves.specs.Trying.{Next}
 
@@ -19,8 +20,7 @@ is_closed (goal ∷ goals) = false
 
 -- the goal alone, with no moves made, whose settling may take so many
 abbrev pub start : Equation → ℕ → Node
-start goal left =
-    record { moves = []; state = record { goals = goal ∷ []; hypotheses = [] }; left = left }
+start goal left = record { moves = []; state = alone goal; left = left }
 
 -- one more move, after which nothing is settled yet, and settling may take so many moves
 abbrev pub node_with : ℕ → Node → Next → Node

@@ -10,8 +10,7 @@ ghost use Rattle.rx_log.specs.Depth.{is_shallow_log};
 ghost use Rattle.rx_search.specs.Calls.{node_of};
 ghost use Rattle.rx_pairs.specs.Pairs.{AreAllPairs, HasRoot, SidesFit};
 ghost use Rattle.rx_rank.specs.Ranking.{ranked};
-ghost use Rattle.rx_has_ranks.specs.HasRanks.{HasRanksAnswer};
-ghost use Rattle.rx_find_ranks.specs.Found.{LowersAll};
+ghost use Rattle.rx_find_ranks.specs.Found.{HasColumns, LowersAll};
 ghost use Rattle.rx_search.specs.Ends.{IsEnd};
 ghost use Rattle.rx_search.specs.Nodes.{IsNode};
 ghost use Rattle.rx_search.specs.Search.{Closed, Large, of_outcome, searched, settled, menu, start};
@@ -33,7 +32,7 @@ use rx_deepening::{Note, Outcome};
 use rx_find_cover::find_cover;
 use rx_find_ranks::{Ranking, find_ranks_with};
 use rx_fm::FmEnd;
-use rx_has_ranks::RankMemo;
+use rx_has_ranks::{RankMemo, has_ranks_with};
 use rx_log::Log;
 use rx_memo::GoalMemo;
 use rx_moves::LoopPoints;
@@ -66,9 +65,11 @@ fn visit_plans<S: FnMut(&Constraint) -> Result<Option<Cert>, FmEnd>>(
     depth: u32,
     budget: u32,
     most_kept: usize,
+    pairs: &[Pair],
     rank_memo: &mut RankMemo,
     solve: &mut S,
 ) -> Result<Outcome<Node, Items<Row>>, NoMemory>
+    requires pairs { AreAllPairs rules.now.rules pairs.now }
     requires fits { IsFitting rules.now goal.now }
     requires ranked { ranked rules.now [] ≡ Yes }
     requires solver { IsSolver S.FnMut solve.old }
@@ -78,7 +79,6 @@ fn visit_plans<S: FnMut(&Constraint) -> Result<Option<Cert>, FmEnd>>(
     ensures node { IfOk result (λ o. IfClosed (IsNode rules.now goal.now) o) }
 {
     let _made = rules.parts();
-    let pairs = rule_pairs(alloc, rules)?;
     let points = LoopPoints::new(alloc, rules)?;
     let mut settle_memo = SettleMemo::new(alloc)?;
     let mut choice_memo = GoalMemo::new(alloc)?;
@@ -88,7 +88,7 @@ fn visit_plans<S: FnMut(&Constraint) -> Result<Option<Cert>, FmEnd>>(
         rules,
         goal,
         points: &points,
-        pairs: pairs.as_slice(),
+        pairs,
         settle_memo: &mut settle_memo,
         choice_memo: &mut choice_memo,
         rank_memo,
@@ -129,6 +129,7 @@ fn ranks_of<S: FnMut(&Constraint) -> Result<Option<Cert>, FmEnd>>(
     requires solver { IsSolver S.FnMut solve.old }
     ensures solver { IsSolver S.FnMut solve.new }
     ensures lowers { IfOk result (LowersAll rules.now hypotheses.now) }
+    ensures columns { IfOk result (λ ranking. HasColumns ranking.table) }
 {
     match find_ranks_with(alloc, rules, hypotheses, memo, solve) {
         Ok(Some(ranking)) => Ok(ranking),
@@ -178,6 +179,7 @@ fn log_of<S: FnMut(&Constraint) -> Result<Option<Cert>, FmEnd>>(
     ensures accepted { (goal : Equation) → IsNode rules.now goal node.now →
         IfOk result (IsAccepted rules.now goal) }
     ensures shallow { IfOk result (λ log. is_shallow_log log ≡ true) }
+    ensures columns { IfOk result (λ log. HasColumns log.table) }
 {
     let covers = cover_of(alloc, rules, solve)?;
     match ranks_of(
@@ -200,10 +202,12 @@ fn visit<S: FnMut(&Constraint) -> Result<Option<Cert>, FmEnd>>(
     depth: u32,
     budget: u32,
     most_kept: usize,
+    pairs: &[Pair],
     memo: &mut RankMemo,
     solve: &mut S,
 ) -> Result<Log, SearchEnd>
     requires coverable { is_coverable rules.now ≡ true }
+    requires pairs { AreAllPairs rules.now.rules pairs.now }
     requires fits { IsFitting rules.now goal.now }
     requires ranked { ranked rules.now [] ≡ Yes }
     requires solver { IsSolver S.FnMut solve.old }
@@ -213,11 +217,14 @@ fn visit<S: FnMut(&Constraint) -> Result<Option<Cert>, FmEnd>>(
         (start goal.now))) ≡ Closed (map move_of log.steps)) }
     ensures accepted { IfOk result (λ log. IsAccepted rules.now goal.now log) }
     ensures shallow { IfOk result (λ log. is_shallow_log log ≡ true) }
+    ensures columns { IfOk result (λ log. HasColumns log.table) }
     ensures ends { IfErr result (λ e. IsEnd depth budget
         (of_outcome (outcome budget (all_visits (settled rules.now) (menu rules.now) depth
         (start goal.now)))) e) }
 {
-    let outcome = visit_plans(alloc, rules, goal, depth, budget, most_kept, memo, solve)?;
+    let outcome = visit_plans(
+        alloc, rules, goal, depth, budget, most_kept, pairs, memo, solve,
+    )?;
     match outcome {
         Outcome::Closed(node) => {
             match log_of(alloc, rules, &node, memo, solve) {
@@ -228,24 +235,6 @@ fn visit<S: FnMut(&Constraint) -> Result<Option<Cert>, FmEnd>>(
         Outcome::Noted(Note { path, noted }) => Err(SearchEnd::Large { path, rows: noted }),
         Outcome::Spent => Err(SearchEnd::Spent { visits: budget }),
         Outcome::Through => Err(SearchEnd::NoPlan { depth }),
-    }
-}
-
-/// Whether the rules alone have ranks.
-fn has_ranks<S: FnMut(&Constraint) -> Result<Option<Cert>, FmEnd>>(
-    alloc: Global,
-    rules: &RuleSet,
-    memo: &mut PairMemo,
-    solve: &mut S,
-) -> Result<bool, FmEnd>
-    requires solver { IsSolver S.FnMut solve.old }
-    ensures solver { IsSolver S.FnMut solve.new }
-    ensures answer { HasRanksAnswer (ranked rules.now []) result }
-{
-    match find_ranks_with(alloc, rules, &[], memo, solve) {
-        Ok(Some(ranking)) => Ok(dropped(ranking, true)),
-        Ok(None) => Ok(false),
-        Err(end) => Err(end),
     }
 }
 
@@ -282,11 +271,16 @@ fn search_by<S: FnMut(&Constraint) -> Result<Option<Cert>, FmEnd>>(
         Closed (map move_of log.steps)) }
     ensures accepted { IfOk result (λ log. IsAccepted rules.now goal.now log) }
     ensures shallow { IfOk result (λ log. is_shallow_log log ≡ true) }
+    ensures columns { IfOk result (λ log. HasColumns log.table) }
     ensures ends { IfErr result (λ e. IsEnd depth budget
         (searched rules.now goal.now depth budget) e) }
 {
-    match has_ranks(alloc, rules, &mut memo.pairs, solve) {
-        Ok(true) => visit(alloc, rules, goal, depth, budget, most_kept, memo, solve),
+    let all = rule_pairs(alloc, rules)?;
+    let pairs = all.as_slice();
+    match has_ranks_with(alloc, rules, pairs, &[], memo, solve) {
+        Ok(true) => visit(
+            alloc, rules, goal, depth, budget, most_kept, pairs, memo, solve,
+        ),
         Ok(false) => Err(SearchEnd::NoRanks),
         Err(FmEnd::Large) => Err(large_at(alloc, goal)),
         Err(FmEnd::NoMemory) => Err(SearchEnd::NoMemory),
@@ -338,10 +332,11 @@ impl<S: FnMut(&Constraint) -> Result<Option<Cert>, FmEnd>> Search<S> {
     /// most `budget` nodes are visited. The depth is at most 12.
     ///
     /// The answer is a log that is accepted for the rules and the goal; no certificate and no tree
-    /// in it is deeper than 200. `NoRanks` where the rules alone have no ranks; `NoPlan` where all
-    /// lists are visited and no node is closed; `Spent` where there are more nodes than the budget;
-    /// `Large`, before these two, where a polynomial passed the limits at a node that was visited.
-    /// Each of these says exactly that; `NoMemory` says nothing else.
+    /// in it is deeper than 200, and its rank table has 1 to 15 columns. `NoRanks` where the rules
+    /// alone have no ranks; `NoPlan` where all lists are visited and no node is closed; `Spent`
+    /// where there are more nodes than the budget; `Large`, before these two, where a polynomial
+    /// passed the limits at a node that was visited. Each of these says exactly that; `NoMemory`
+    /// says nothing else.
     pub fn search(
         &mut self,
         alloc: Global,
@@ -359,6 +354,7 @@ impl<S: FnMut(&Constraint) -> Result<Option<Cert>, FmEnd>> Search<S> {
             Closed (map move_of log.steps)) }
         ensures accepted { IfOk result (λ log. IsAccepted rules.now goal.now log) }
         ensures shallow { IfOk result (λ log. is_shallow_log log ≡ true) }
+        ensures columns { IfOk result (λ log. HasColumns log.table) }
         ensures ends { IfErr result (λ e. IsEnd depth budget
             (searched rules.now goal.now depth budget) e) }
     {

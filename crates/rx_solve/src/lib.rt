@@ -15,7 +15,8 @@ mod sums;
 
 pub use asking::ask;
 pub use laws::{refuted_rows_have_a_certificate, shown_rows_hold};
-pub use refuter::{entails, refutes};
+pub use pivots::{Pivot, first_pivot};
+pub use refuter::{entails, refutes, replaced_rows};
 pub use rx_fm::FmEnd;
 pub use rx_plain::NoMemory;
 pub use showing::{AllShown, show_all};

@@ -174,7 +174,7 @@ fn pivot_at(alloc: Global, at: usize, row: &Row, later: &[Row]) -> Result<Option
 }
 
 /// The first row that says the value of a variable.
-pub(crate) fn first_pivot(alloc: Global, rows: &[Row]) -> Result<Option<Pivot>, AllocError>
+pub fn first_pivot(alloc: Global, rows: &[Row]) -> Result<Option<Pivot>, AllocError>
     ensures { IfOk result (λ o. o ≡ first_pivot rows.now) }
 {
     let mut at = 0;

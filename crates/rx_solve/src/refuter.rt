@@ -51,7 +51,12 @@ fn replaced_found(
 }
 
 /// The rows with the value in place of the variable.
-fn replaced_rows(alloc: Global, rows: &[Row], var: u32, value: Poly) -> Result<Vec<Row>, PolyEnd>
+pub fn replaced_rows(
+    alloc: Global,
+    rows: &[Row],
+    var: u32,
+    value: Poly,
+) -> Result<Vec<Row>, PolyEnd>
     ensures { FormsAs (λ v. v.items) PolyEnd.Large result (rows_with ((var, value) ∷ []) rows.now) }
 {
     let with = [(var, value)];

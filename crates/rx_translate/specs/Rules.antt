@@ -18,8 +18,11 @@ divided_formed d p q = kept is_within (divided d p q)
 -- the rules of an instruction after others
 abbrev pub rules_after : List (ℕ × ℕ) → List Rule → Instruction → Formed (List Rule)
 rules_after entries rules d =
-    record { form = rules ++ rules_of_instruction (entry_of entries) d; within = instruction_within
-        d }
+    record {
+      form = rules ++ rules_of_instruction (entry_of entries) d;
+      within = instruction_within
+          d;
+    }
 
 -- the rules of an action after others
 abbrev pub action_after : List Rule → (ℕ → ℕ) → Point → Action → Formed (List Rule)

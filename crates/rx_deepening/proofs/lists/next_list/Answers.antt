@@ -32,7 +32,10 @@ returns-then-is_going-clause-stands g c = λ lists stands.
     let a = c.args.progress in
     let goes : a.counter.ended ≡ Going = search rules in
     IfOk-weaker c.visit_list.result
-    (IsVisited view settled menu (record { counter = a.counter; kept = c.new.result; room = a.room
+    (IsVisited view settled menu (record {
+      counter = a.counter;
+      kept = c.new.result;
+      room = a.room;
     })
     lists)
     (λ p. p.counter.ended ≡ Going → StandsForLists view settled menu p.counter.note p.kept

@@ -1,11 +1,11 @@
 -- All pairs are open at first, and the columns at last lower them all.
-use Rattle.std.proofs.Common.{◌∙◌, ap, subst, sym, Option, []}
+use Rattle.std.proofs.Common.{◌∙◌, ap, length, subst, sym, Option, []}
 use Rattle.std.specs.Option.{IfSome, option_map}
 use Rattle.rx_solve.specs.Attempts.{Tried}
 use Rattle.rx_rank.specs.Ranking.{ranking_from}
 use Rattle.rx_term.specs.declared.rule_set.RuleParts.{RuleParts}
-use Rattle.rx_find_ranks.proofs.RankLaws.{first_over, first_pairs, lowers_here, roots_here}
-use Rattle.rx_find_ranks.specs.Rounds.{IsRanked}
+use Rattle.rx_find_ranks.proofs.RankLaws.{columns_here, first_over, first_pairs, lowers_here, roots_here}
+use Rattle.rx_find_ranks.specs.Rounds.{IsLonger, IsRanked}
 use Rattle.rx_find_ranks.specs.Tables.{IsSplit, pairs_open}
 use Rattle.rx_find_ranks.specs.Columns.{columns_in}
 use Rattle.rx_find_ranks.specs.declared.progress.Progress.{Progress}
@@ -72,3 +72,14 @@ returns-in-None-clause-tried g c =
     ∙ ap (λ (ps : RuleParts). ranking_from ps c.args.hypotheses.now 7
     (pairs_open c.in_ok-start.start.entries.items)) c.parts-parts.ensures.parts
     ∙ ap (ranking_from c.args.rules.now c.args.hypotheses.now 7) first
+
+pub returns-in_ok-found-in-Some-clause-columns : goal.returns-in_ok-found-in-Some-clause-columns
+returns-in_ok-found-in-Some-clause-columns g c =
+    let ranked = subst (λ o. IfSome o (IsRanked c.parts-parts.result.now.symbols
+    c.in_ok-start.start)) c.in-Some.is c.in_ok-tried.ensures.made in
+    let longer = subst (λ o. IfSome o (IsLonger 7 c.in_ok-start.start)) c.in-Some.is
+    c.in_ok-tried.ensures.more in
+    columns_here c.parts-parts.result.now.symbols c.in_ok-start.start c.in-Some.done ranked longer
+    c.in_ok-found-in-Some.found.table
+    (c.in_ok-found-in-Some.ensures.columns ∙ ap length (c.as_slice-in-Some.ensures.value
+    ∙ ap (λ (p : Progress). p.columns.items) c.in-Some.done-is))

@@ -4,8 +4,8 @@ use Rattle.std.proofs.lemmas.Bool.{false≢true}
 use Rattle.std.specs.Option.{IfSome, option_map}
 use Rattle.rx_rank.specs.Components.{inside}
 use Rattle.rx_rank.specs.Ranking.{ranking_from}
-use Rattle.rx_find_ranks.proofs.RoundLaws.{no_round, ranked_grown, ranked_rounds, round_done, round_fails, rounds_end}
-use Rattle.rx_find_ranks.specs.Rounds.{IsGrown, IsRanked}
+use Rattle.rx_find_ranks.proofs.RoundLaws.{longer_rounds, no_round, ranked_grown, ranked_rounds, round_done, round_fails, rounds_end}
+use Rattle.rx_find_ranks.specs.Rounds.{IsGrown, IsLonger, IsRanked}
 use Rattle.rx_find_ranks.specs.Tables.{pairs_open}
 use Rattle.rx_find_ranks.specs.declared.progress.Progress.{Progress}
 use Rattle.rx_find_ranks.proofs.rounds.+rank_from.Goals as goal
@@ -87,3 +87,19 @@ returns-in_default-clause-tried g t c =
     (c.in_ok-grown.ensures.pairs ∙ ap (λ m. inside m pairs) c.len.ensures) c.in_ok-tried.tried.made
     c.in_ok-tried.tried.noted c.in_ok-tried.ensures.tried
     c.in_default.is
+
+pub returns-then-is_done-clause-more : goal.returns-then-is_done-clause-more
+returns-then-is_done-clause-more g t c =
+    subst (λ o. IfSome o (IsLonger c.args.left c.args.progress)) (sym c.found.ensures.made)
+    c.in_ok-grown.ensures.more
+
+pub returns-clause-more : goal.returns-clause-more
+returns-clause-more g t c =
+    let infos = c.args.parts.now.symbols in
+    subst (λ o. IfSome o (IsLonger c.args.left c.args.progress)) (sym c.noted_before.ensures.made)
+    (longer_rounds c.args.progress infos c.args.left (c.args.left - 1) c.in_ok-grown.grown
+    c.in-Some.next c.in_ok-rest.rest.made c.in_ok-grown.ensures.more
+    (subst (λ o. IfSome o (IsGrown infos c.in_ok-grown.grown)) c.in-Some.is
+    c.in_ok-tried.ensures.grown)
+    (subst (λ (p : Progress). IfSome c.in_ok-rest.rest.made (IsLonger (c.args.left - 1) p))
+    c.in-Some.next-is c.in_ok-rest.ensures.more))

@@ -6,7 +6,7 @@ use Rattle.rx_log.specs.Acceptance.{IsAccepted}
 use Rattle.rx_log.specs.Depth.{is_shallow_log}
 use Rattle.rx_log.specs.declared.log.Log.{Log}
 use Rattle.rx_pairs.specs.Pairs.{HasRoot, SidesFit}
-use Rattle.rx_find_ranks.specs.Found.{LowersAll}
+use Rattle.rx_find_ranks.specs.Found.{HasColumns, LowersAll}
 use Rattle.rx_rank.specs.Ranking.{ranked}
 use Rattle.rx_term.specs.declared.rule.Rule.{Rule}
 use Rattle.rx_search.proofs.Closing.{accepted}
@@ -57,3 +57,9 @@ returns-in-Ok-clause-shallow g c =
     (ap (λ (log : Log). log.steps) same) (ap (λ (log : Log). log.pairs) same)
     c.in_ok-covers.ensures.small node.reached.deep c.in-Ok.ensures.lowers.deep)
     c.log_with.ensures
+
+pub returns-in-Ok-clause-columns : goal.returns-in-Ok-clause-columns
+returns-in-Ok-clause-columns g c =
+    IfOk-weaker c.log_with.result _ (λ (log : Log). HasColumns log.table)
+    (λ log same. subst HasColumns (sym (ap (λ (log : Log). log.table) same))
+    c.in-Ok.ensures.columns) c.log_with.ensures

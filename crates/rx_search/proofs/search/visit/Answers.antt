@@ -2,6 +2,7 @@
 use Rattle.std.proofs.Common.{◌∙◌, ap, subst, sym}
 use Rattle.rx_log.specs.Acceptance.{IsAccepted}
 use Rattle.rx_log.specs.declared.log.Log.{Log}
+use Rattle.rx_find_ranks.specs.Found.{HasColumns}
 use Rattle.rx_search.specs.Nodes.{IsNode}
 use Rattle.rx_search.specs.Search.{start}
 use Rattle.rx_search.proofs.Closing.{closed_goals, closed_node, closed_steps}
@@ -32,3 +33,7 @@ returns-in-Ok-clause-accepted g c =
     (c.in-Ok.ensures.accepted c.args.goal.now
     (closed_node (IsNode c.args.rules.now c.args.goal.now) c.in_ok-outcome.outcome c.in-Closed.node
     c.in-Closed.is c.in_ok-outcome.ensures.node))
+
+pub returns-in-Ok-clause-columns : goal.returns-in-Ok-clause-columns
+returns-in-Ok-clause-columns g c =
+    subst (λ (log : Log). HasColumns log.table) (sym c.dropped.ensures) c.in-Ok.ensures.columns

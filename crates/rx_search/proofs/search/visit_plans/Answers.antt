@@ -1,6 +1,4 @@
 -- The visits begin at a node of the search, with memos that have nothing.
-use Rattle.std.proofs.Common.{subst, sym}
-use Rattle.rx_pairs.specs.Pairs.{AreAllPairs}
 use Rattle.rx_search.proofs.Finding.{none_right}
 use Rattle.rx_search.proofs.Rooted.{start_is}
 use Rattle.rx_search.proofs.search.visit_plans.Goals as goal
@@ -9,7 +7,7 @@ pub search-requires-clause-ready : goal.search-requires-clause-ready
 search-requires-clause-ready g c = (
   c.requires.solver,
   c.in_ok-points.ensures,
-  subst (AreAllPairs c.args.rules.now.rules) (sym c.as_slice.ensures.value) c.in_ok-pairs.ensures,
+  c.requires.pairs,
   c.in_ok-settle_memo.ensures c.args.rules.now,
   none_right c.args.rules.now c.in_ok-choice_memo.choice_memo c.in_ok-choice_memo.ensures,
 )

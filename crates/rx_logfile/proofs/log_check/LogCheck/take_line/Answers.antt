@@ -1,4 +1,4 @@
-use Rattle.std.proofs.Common.{Option, Ok, Err, subst}
+use Rattle.std.proofs.Common.{◌∙◌, Option, Ok, Err, Some, ap, subst, sym}
 use Rattle.rx_log.specs.declared.line.Line.{Line}
 use Rattle.rx_logtext.specs.Readers.{IsNext, MayLead, Takes, place_of}
 use Rattle.rx_logtext.specs.declared.log_end.LogEnd.{LogEnd}
@@ -12,7 +12,8 @@ line-requires-clause-comes c =
     subst (λ (o : Option Line). IsNext (place_of c.args.self.now.reader) o
     (place_of c.take.new.self)) c.in-Ok-default-Some.field-0-1-is
     c.in-Ok-default-Some.ensures.next in
-    may_come c.in-Ok-default-Some.line (place_of c.take.new.self) c.requires.step leads
+    may_come c.in-Ok-default-Some.line (place_of c.take.new.self) c.place-place.result
+    c.requires.step leads c.place-place.ensures
 
 pub returns-in_ok-line-in-Ok-default-Some-clause-takes :
     goal.returns-in_ok-line-in-Ok-default-Some-clause-takes
@@ -27,8 +28,8 @@ returns-in_ok-line-in-Ok-default-Some-clause-takes c = λ target bytes h.
     (subst (λ (o : Option Line). Takes c.args.self.now.reader h.log h.front c.args.piece.now
     c.take.new.self (Ok (c.in-Ok-default-Some.count, o))) c.in-Ok-default-Some.field-0-1-is
     (c.in-Ok-default-Some.ensures.takes h.log h.front h.reader)) c.requires.step leads
-    (λ its symbol behind s comes. c.in_ok-line-in-Ok-default-Some.ensures.stands target its symbol
-    behind s comes)
+    (λ its symbol s comes. c.in_ok-line-in-Ok-default-Some.ensures.stands target its symbol s
+    (comes ∙ ap Some (sym c.place-place.ensures)))
 
 pub returns-in-Ok-default-None-clause-takes : goal.returns-in-Ok-default-None-clause-takes
 returns-in-Ok-default-None-clause-takes c = λ target bytes h.

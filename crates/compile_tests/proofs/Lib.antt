@@ -1,2 +1,0 @@
--- What is known of the small program.
-pub mod Samples

@@ -1,2 +1,0 @@
--- What is known of hypotheses that fit.
-pub mod FittingLaws

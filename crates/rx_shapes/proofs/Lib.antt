@@ -1,0 +1,2 @@
+-- How frames are put over a term.
+pub mod Frames

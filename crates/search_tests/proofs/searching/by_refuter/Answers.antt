@@ -1,8 +1,0 @@
--- What the refuter answers is right.
-use Rattle.std.proofs.Common.{rules}
-use Rattle.rx_solve.proofs.Calls.{solver_by}
-use Rattle.search_tests.proofs.searching.by_refuter.Goals as goal
-
-pub searched_by-requires-clause-solver : goal.searched_by-requires-clause-solver
-searched_by-requires-clause-solver c =
-    solver_by _ (λ f a. search rules) (λ f a r f' k. search rules) _

@@ -1,7 +1,0 @@
--- What the refuter answers is right.
-use Rattle.std.proofs.Common.{rules}
-use Rattle.rx_solve.proofs.Calls.{solver_by}
-use Rattle.solve_tests.proofs.caching.calls_after.Goals as goal
-
-pub new-requires-clause-solver : goal.new-requires-clause-solver
-new-requires-clause-solver c = solver_by _ (λ f a. search rules) (λ f a r f' k. search rules) _
