@@ -1,9 +1,5 @@
 //! ctrl shows that two C functions compute the same for all integers.
 #![tactic(auto)]
-ghost use Rattle.std.specs.Prelude.{◌≡◌, IfErr, None, map, string_bytes};
-ghost use Rattle.std.specs.Process.{exit_status};
-ghost use Rattle.rx_cli.specs.Answers.{AreEqual, IsRefutedBy};
-ghost use Rattle.rx_report.specs.Ends.{code_of};
 
 ghost use Rattle.std.specs.Prelude.{◌≡◌, IfErr, None, map, string_bytes};
 ghost use Rattle.std.specs.Process.{exit_status};
