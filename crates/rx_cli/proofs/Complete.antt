@@ -13,7 +13,7 @@ use Rattle.rx_report.specs.declared.ends.Status.{Status}
 use Rattle.rx_report.specs.declared.ends.Status.TheVariants as Said
 use Rattle.rx_cli.specs.declared.problems.Problem.{Problem}
 use Rattle.rx_report.specs.declared.verdicts.Verdict.TheVariants as verdict
-use Rattle.rx_cli.specs.Answers.{AnswersSoundly, IsDone, OnSource, longest_source}
+use Rattle.rx_cli.specs.Answers.{AnswersOrFails, AnswersSoundly, IsDone, OnSource, longest_source}
 use Rattle.rx_cli.specs.Checks.{IsChecked}
 use Rattle.rx_cli.specs.Completeness.{CanShow, Holds, HoldsAccepted, HoldsClosed, SaysYes}
 use Rattle.rx_report.specs.Ends.{status_in, status_of}
@@ -91,6 +91,17 @@ module _ (names : Names) (answer : Answer) where
       search_passes f effort has (subst (λ (o : Option Command).
       AnswersSoundly (Some names) o answer)
       asks is)
+
+-- the status of the answer says so
+pub answered_complete : (names : Names) (read_fault write_fault : Type 0) (words : List (List ℕ))
+    (answer : Answer) (status : Status) → CanShow names words
+    → AnswersOrFails (Some names) read_fault (command_of words) answer → status ≡ status_in answer →
+    SaysYes read_fault write_fault status
+answered_complete names read_fault write_fault words answer status can (inl is) status_is =
+    inl (status_is ∙ answered_yes names answer words can is)
+answered_complete names read_fault write_fault words answer status can (inr (some, fault, line))
+    status_is =
+    inr (inr (inl (status_is ∙ ap status_in line, fault)))
 
 -- a run ends with a yes, or out of memory, or because a call found a fault
 pub run_complete : (names : Names) (read_fault write_fault : Type 0) (words : List (List ℕ))

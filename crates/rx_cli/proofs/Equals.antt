@@ -1,15 +1,23 @@
 -- What the statuses of equivalence and of a difference say of the words.
 use Rattle.std.proofs.Common.{◌≡◌, ◌∙◌, List, ℕ, Bool, true, false, Option, Some, None, inl, inr, refl, sym, ap, subst, length, nat_lt}
-use Rattle.std.specs.Prelude.{MatchBool}
+use Rattle.std.specs.Prelude.{◌==◌, if◌then◌else◌, MatchBool}
+use Rattle.rx_check.specs.declared.check_end.CheckEnd.{CheckEnd}
+use Rattle.rx_check.specs.declared.check_end.CheckEnd.TheVariants as check_end
 use Rattle.rx_io.specs.Outside.{Names}
-use Rattle.rx_command.specs.Commands.{Command, Compare, Demo, Functions, Refute, command_of}
+use Rattle.rx_command.specs.Commands.{Check, Command, Compare, Demo, Functions, Prove, Refute, command_of}
+use Rattle.rx_command.specs.declared.command.Effort.{Effort}
 use Rattle.rx_command.specs.declared.command.Extent.{Extent}
 use Rattle.rx_report.specs.declared.answer.Answer.{Answer}
 use Rattle.rx_report.specs.declared.ends.Status.TheVariants as Ends
-use Rattle.rx_report.specs.declared.answer.Answer.TheVariants.{Line}
+use Rattle.rx_report.specs.declared.answer.Answer.TheVariants.{Line, Proof}
+use Rattle.rx_report.specs.declared.verdicts.Verdict.{Verdict}
 use Rattle.rx_report.specs.declared.verdicts.Verdict.TheVariants as Said
-use Rattle.rx_cli.specs.Answers.{AreEqual, Input, AnswersSoundly, AnswersOrFails, IsInput, IsHeld, IsRefutedBy, Means, OnSource, functions_in, longest_source}
-use Rattle.rx_report.specs.Ends.{status_in}
+use Rattle.rx_cli.specs.Answers.{AreEqual, Input, AnswersSoundly, AnswersOrFails, IsDone, IsInput, IsHeld, IsRefutedBy, Means, OnSource, functions_in, longest_source}
+use Rattle.rx_search.specs.Search.{Searched, NoRanks, Closed, Large, Spent, NoPlan, searched}
+use Rattle.rx_cli.specs.Examples.{IsShown}
+use Rattle.rx_cli.specs.Proofs.{IsProved, OnSearched}
+use Rattle.rx_cli.specs.declared.problems.Problem.{Problem}
+use Rattle.rx_report.specs.Ends.{check_status, status_in, status_of}
 use Rattle.rx_cli.specs.Refutations.{IsRefuted, Refutes}
 use Rattle.rx_cli.proofs.Comparisons.{different_refutes}
 
@@ -39,6 +47,45 @@ module _ (held : Option Names) (words : List (List ℕ)) where
       let no : Ends.ReadFault ≡ Ends.Equivalent = sym (ap status_in is) ∙ says in
       absurd (let none : ⊥ = cc in none)
 
+if_never_differs : (b : Bool) → (if b then Ends.Equivalent else Ends.Unknown) ≡ Ends.Different → ⊥
+if_never_differs true e = cc
+if_never_differs false e = cc
+
+check_never_differs : (end : CheckEnd) → check_status end ≡ Ends.Different → ⊥
+check_never_differs (check_end.Step step end) e = cc
+check_never_differs (check_end.Unfinished goals) e = cc
+check_never_differs (check_end.NotCovered sym) e = cc
+check_never_differs (check_end.BadRanks sym) e = cc
+check_never_differs (check_end.NotLower pair) e = cc
+check_never_differs (check_end.Large place) e = cc
+check_never_differs check_end.NoMemory e = cc
+
+-- no verdict has the status of a difference
+lines_never_differ : (verdict : Verdict) → status_of verdict ≡ Ends.Different → ⊥
+lines_never_differ Said.Equivalent e = cc
+lines_never_differ Said.NoRanks e = cc
+lines_never_differ (Said.Depth depth) e = cc
+lines_never_differ (Said.Visits visits) e = cc
+lines_never_differ (Said.Demo pairs equivalent) e = if_never_differs (pairs == equivalent) e
+lines_never_differ Said.LongSource e = cc
+lines_never_differ Said.LongLog e = cc
+lines_never_differ (Said.Lex fault) e = cc
+lines_never_differ (Said.Parse end) e = cc
+lines_never_differ (Said.Scope end) e = cc
+lines_never_differ (Said.NoFunction name) e = cc
+lines_never_differ (Said.Arity first second) e = cc
+lines_never_differ (Said.PreLex fault) e = cc
+lines_never_differ (Said.PreParse end) e = cc
+lines_never_differ (Said.PreName token) e = cc
+lines_never_differ (Said.Box count) e = cc
+lines_never_differ (Said.Line number) e = cc
+lines_never_differ (Said.Check end) e = check_never_differs end e
+lines_never_differ Said.Usage e = cc
+lines_never_differ Said.ReadFault e = cc
+lines_never_differ Said.LargeTranslate e = cc
+lines_never_differ Said.LargePre e = cc
+lines_never_differ Said.LargeSearch e = cc
+
 module _ (held : Option Names) (words : List (List ℕ)) where
   by_length : (f : Functions) (extent : Extent) (source : List ℕ) (answer : Answer) (long : Bool)
       → MatchBool long (answer ≡ Line Said.LongSource) (IsRefuted f extent source answer) →
@@ -63,14 +110,77 @@ module _ (held : Option Names) (words : List (List ℕ)) where
         says,
   )
 
-  -- where the status is that of a difference, there is a counterexample
+  -- no line has the status of a difference
+  module _ (answer : Answer) (says : status_in answer ≡ Ends.Different) where
+    no_line : (verdict : Verdict) → answer ≡ Line verdict → ⊥
+    no_line verdict is = lines_never_differ verdict (sym (ap status_in is) ∙ says)
+
+    no_proof : (text : List ℕ) → answer ≡ Proof text → ⊥
+    no_proof text is =
+        let no : Ends.Equivalent ≡ Ends.Different = sym (ap status_in is) ∙ says in cc
+
+    not_searched : (problem : Problem) (effort : Effort) (s : Searched) →
+        OnSearched problem effort s answer → ⊥
+    not_searched problem effort NoRanks is = no_line Said.NoRanks is
+    not_searched problem effort (Closed moves) (text, proof, is) = no_proof text is
+    not_searched problem effort (Large path rows) is = no_line Said.LargeSearch is
+    not_searched problem effort Spent is = no_line (Said.Visits effort.budget) is
+    not_searched problem effort NoPlan is = no_line (Said.Depth effort.depth) is
+
+    not_proved : (f : Functions) (effort : Effort) (source : List ℕ) →
+        IsProved f effort source answer → ⊥
+    not_proved f effort source (inl (verdict, asks, is)) = no_line verdict is
+    not_proved f effort source (inr (problem, asks, on)) =
+        not_searched problem effort
+        (searched problem.rules problem.goal effort.depth effort.budget) on
+
+    not_proved_long : (f : Functions) (effort : Effort) (source : List ℕ) (long : Bool) →
+        MatchBool long (answer ≡ Line Said.LongSource) (IsProved f effort source answer) → ⊥
+    not_proved_long f effort source true is = no_line Said.LongSource is
+    not_proved_long f effort source false proved = not_proved f effort source proved
+
+    not_proved_on : (f : Functions) (effort : Effort) (given log : Option (List ℕ)) →
+        OnSource (Prove f effort) given log answer → ⊥
+    not_proved_on f effort None log is = no_line Said.ReadFault is
+    not_proved_on f effort (Some source) log on =
+        not_proved_long f effort source (nat_lt longest_source (length source)) on
+
+    not_checked_long : (f : Functions) (name source : List ℕ) (log : Option (List ℕ))
+        (long : Bool) → MatchBool long (answer ≡ Line Said.LongSource)
+        (IsDone (Check f name) source log answer) → ⊥
+    not_checked_long f name source log true is = no_line Said.LongSource is
+    not_checked_long f name source log false (verdict, checked, is) = no_line verdict is
+
+    not_checked_on : (f : Functions) (name : List ℕ) (given log : Option (List ℕ)) →
+        OnSource (Check f name) given log answer → ⊥
+    not_checked_on f name None log is = no_line Said.ReadFault is
+    not_checked_on f name (Some source) log on =
+        not_checked_long f name source log (nat_lt longest_source (length source)) on
+
+    not_shown : (pairs : ℕ) → (verdict : Verdict) × IsShown pairs verdict ×
+        (answer ≡ Line verdict) → ⊥
+    not_shown pairs (verdict, shown, is) = no_line verdict is
+
+    by_asked : (o : Option Command) → command_of words ≡ o → AnswersSoundly held o answer →
+        IsRefutedBy held words
+    by_asked None is to = absurd (no_line Said.Usage to.is)
+    by_asked (Some (Demo pairs)) is to = absurd (not_shown pairs to.is)
+    by_asked (Some (Compare (Prove f effort))) is to =
+        absurd (not_proved_on f effort to.given.source to.given.log to.is)
+    by_asked (Some (Compare (Check f name))) is to =
+        absurd (not_checked_on f name to.given.source to.given.log to.is)
+    by_asked (Some (Compare (Refute f extent))) is to = (
+      f,
+      extent,
+      is,
+      by_source f extent answer to.given.source to.given.log to.is_given.0 to.is says,
+    )
+
+  -- where the status is that of a difference, a counterexample is asked for, and there is one
   pub answered_different : (fault : Type 0) (answer : Answer) →
       AnswersOrFails held fault (command_of words) answer → status_in answer ≡ Ends.Different →
       IsRefutedBy held words
-  answered_different fault answer (inl to) says f extent asks =
-      let at : AnswersSoundly held (Some (Compare (Refute f extent))) answer =
-      subst (λ o. AnswersSoundly held o answer) asks to in
-      by_source f extent answer at.given.source at.given.log at.is_given.0 at.is says
-  answered_different fault answer (inr (some, failed, is)) says f extent asks =
+  answered_different fault answer (inl to) says = by_asked answer says (command_of words) refl to
+  answered_different fault answer (inr (some, failed, is)) says =
       let no : Ends.ReadFault ≡ Ends.Different = sym (ap status_in is) ∙ says in
       absurd (let none : ⊥ = cc in none)

@@ -425,6 +425,15 @@ module _ (names : Names) (words : List (List ℕ)) (s u : Status) (t v : List �
   one_report (a, inl p, (is_s, is_t)) (b, inr (some, fault, line), (is_u, is_v)) = absurd fault
   one_report (a, inr (some, fault, line), (is_s, is_t)) (b, q, (is_u, is_v)) = absurd fault
 
+-- a report that is no read fault is one without faults
+pub report_without_faults : (names : Names) (fault : Type 0) (words : List (List ℕ)) (s : Status)
+    (t : List ℕ) → (s ≡ Ends.ReadFault → ⊥) → Reports (Some names) fault words s t →
+    Reports (Some names) ⊥ words s t
+report_without_faults names fault words s t other (answer, inl to, report) =
+    (answer, inl to, report)
+report_without_faults names fault words s t other (answer, inr (some, failed, line), (is, text)) =
+    absurd (other (is ∙ ap status_in line))
+
 -- two reports of the words have one status, and one text but for proofs
 pub one_status : (names : Names) (words : List (List ℕ)) (s u : Status) (t v : List ℕ) →
     Reports (Some names) ⊥ words s t → Reports (Some names) ⊥ words u v → s ≡ u

@@ -112,9 +112,9 @@ Holds held (Compare comparison) =
 abbrev pub AreEqual : Option Names → List (List ℕ) → Type 0
 AreEqual held words = (command : Command) × (command_of words ≡ Some command) × Holds held command
 
--- where the words ask for a counterexample, a text that is under the name, where that is known, has
+-- the words ask for a counterexample, and a text that is under the name, where that is known, has
 -- one; where it isn't known, some text
 abbrev pub IsRefutedBy : Option Names → List (List ℕ) → Type 0
 IsRefutedBy held words =
-    (f : Functions) (extent : Extent) → command_of words ≡ Some (Compare (Refute f extent))
-    → (source : List ℕ) × IsHeld held f.file (Some source) × Refutes source f
+    (f : Functions) × (extent : Extent) × (command_of words ≡ Some (Compare (Refute f extent)))
+    × ((source : List ℕ) × IsHeld held f.file (Some source) × Refutes source f)

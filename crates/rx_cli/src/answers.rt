@@ -11,7 +11,7 @@ ghost use Rattle.rx_report.specs.Texts.{IsReportableVerdict};
 
 use crate::NoMemory;
 use crate::check::on_named;
-use crate::examples::show_examples;
+use crate::examples::demo;
 use crate::problems::ask;
 use crate::proving::prove;
 use crate::refuting::refute;
@@ -162,7 +162,7 @@ fn execute_demo(alloc: Global, pairs: u32) -> Result<Answer, NoMemory>
         IfOk result (AnswersSoundly held (Some (Demo pairs))) }
     ensures reportable { IfOk result IsReportable }
 {
-    Ok(Answer::Line(show_examples(alloc, pairs)?))
+    Ok(Answer::Line(demo(alloc, pairs)?))
 }
 
 /// The answer to the words, for which it reads the files that they name.

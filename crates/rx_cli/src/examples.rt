@@ -1,7 +1,8 @@
 //! Examples: pairs of a loop and a recursion, each of which is searched for a proof that both
 //! return the same.
 ghost use Rattle.std.specs.Prelude.{◌≡◌, ◌≤◌, ◌<◌, IfOk, length, get_or};
-ghost use Rattle.rx_report.specs.Ends.{status_in};
+ghost use Rattle.rx_report.specs.Ends.{status_in, status_of};
+ghost use Rattle.rx_cli.specs.Answers.{ExamplesAgree};
 ghost use Rattle.rx_cli.specs.Examples as spec;
 ghost use Rattle.rx_cli.specs.Examples.{HasStatuses, IsShown, IsStatus, IsTally, with_status};
 ghost use Rattle.rx_report.specs.Texts.{IsReportableVerdict};
@@ -116,16 +117,29 @@ fn count_proved(alloc: Global, pairs: u32) -> Result<Tally, NoMemory>
     Ok(tally)
 }
 
-/// What is said of the first examples.
-pub fn show_examples(alloc: Global, pairs: u32) -> Result<Verdict, NoMemory>
+/// What is said of this many examples, by their tally.
+fn verdict_on(pairs: u32, tally: Tally) -> Verdict
+    ensures value { result ≡ spec.verdict_on pairs tally }
+    ensures line { IsReportableVerdict result }
+{
+    if tally.is_large {
+        Verdict::LargeSearch
+    } else {
+        Verdict::Demo(pairs, tally.equivalent)
+    }
+}
+
+/// What is said of the first examples, of which there are at most 100: how many of them are proved
+/// by searches of depth 4 with a budget of 100,000, or that in one of them something passes the
+/// limits. Where all are proved, the functions of each return alike for all integers. Fails only
+/// where there is no memory.
+pub fn demo(alloc: Global, pairs: u32) -> Result<Verdict, NoMemory>
     requires { pairs ≤ 100 }
     ensures shown { IfOk result (IsShown pairs) }
+    ensures sound { IfOk result (λ verdict. status_of verdict ≡ Status.Equivalent →
+        ExamplesAgree pairs) }
     ensures line { IfOk result IsReportableVerdict }
 {
     let tally = count_proved(alloc, pairs)?;
-    if tally.is_large {
-        Ok(Verdict::LargeSearch)
-    } else {
-        Ok(Verdict::Demo(pairs, tally.equivalent))
-    }
+    Ok(verdict_on(pairs, tally))
 }

@@ -1,8 +1,8 @@
 //! Laws of what is reported.
-ghost use Rattle.std.specs.Prelude.{◌≡◌, ◌≤◌, ℕ, List, Some, length};
+ghost use Rattle.std.specs.Prelude.{◌≡◌, ◌≢◌, ◌≤◌, ℕ, List, Some, length};
 ghost use Rattle.rx_command.specs.Commands.{Check, Compare, Functions, Prove, command_of};
 ghost use Rattle.rx_command.specs.declared.command.Effort.{Effort};
-ghost use Rattle.rx_io.specs.Outside.{Names};
+ghost use Rattle.rx_io.specs.Outside.{Names, Rose};
 ghost use Rattle.rx_report.specs.declared.ends.Status.{Status};
 ghost use Rattle.rx_report.specs.declared.ends.Status.TheVariants as ends;
 ghost use Rattle.rx_report.specs.declared.answer.Answer.TheVariants as answer;
@@ -19,8 +19,10 @@ ghost use Rattle.rx_report.specs.Texts.{text_of};
 /// Over files whose contents are known, and of which no call finds a fault, words have one status
 /// (`status`), one verdict at most (`verdict`), and one text to be written, but for proofs: what
 /// shows the steps of a proof is free, so two of them may differ, but both are logs with the same
-/// moves that are accepted for the same problem (`text`). So `run`'s clauses determine its report
-/// there: each answer comes exactly where its cause holds. A law; it does nothing.
+/// moves that are accepted for the same problem (`text`). The same holds of reports of any runs,
+/// whatever faults their calls find, whose status is no read fault (`any_status`, `any_text`). So
+/// `run`'s clauses determine its report there: each answer comes exactly where its cause holds. A
+/// law; it does nothing.
 pub fn words_have_one_report()
     ensures status { (names : Names) (words : List (List ℕ)) (s u : Status) (t v : List ℕ) →
         Reports (Some names) ⊥ words s t → Reports (Some names) ⊥ words u v → s ≡ u }
@@ -30,18 +32,37 @@ pub fn words_have_one_report()
     ensures text { (names : Names) (words : List (List ℕ)) (s u : Status) (t v : List ℕ) →
         Reports (Some names) ⊥ words s t → Reports (Some names) ⊥ words u v →
         AreOne names words s t v }
+    ensures any_status { (names : Names) (words : List (List ℕ)) (s u : Status) (t v : List ℕ)
+        (first_before first_now second_before second_now : ℕ) →
+        s ≢ ends.ReadFault → u ≢ ends.ReadFault →
+        Reports (Some names) (Rose first_before first_now) words s t →
+        Reports (Some names) (Rose second_before second_now) words u v → s ≡ u }
+    ensures any_text { (names : Names) (words : List (List ℕ)) (s u : Status) (t v : List ℕ)
+        (first_before first_now second_before second_now : ℕ) →
+        s ≢ ends.ReadFault → u ≢ ends.ReadFault →
+        Reports (Some names) (Rose first_before first_now) words s t →
+        Reports (Some names) (Rose second_before second_now) words u v →
+        AreOne names words s t v }
 {}
 
 /// What a search proves, a check accepts. Words that ask for a proof are reported with EQUIVALENT
 /// and a text of at most 67,108,864 bytes. Then words that ask for a check of the same functions
 /// are reported with EQUIVALENT, where the same source is held and, under the name of the log, this
-/// text. A law; it does nothing.
+/// text (`accepted`); so too where a call of the search found a fault on the way (`any`). A law; it
+/// does nothing.
 pub fn written_logs_are_accepted()
-    ensures { (before after : Names) (f : Functions) (effort : Effort) (name text : List ℕ)
+    ensures accepted { (before after : Names) (f : Functions) (effort : Effort) (name text : List ℕ)
         (searching checking : List (List ℕ)) →
         command_of searching ≡ Some (Compare (Prove f effort)) →
         command_of checking ≡ Some (Compare (Check f name)) →
         Reports (Some before) ⊥ searching ends.Equivalent text →
+        after f.file ≡ before f.file → after name ≡ Some text → length text ≤ longest_log →
+        Reports (Some after) ⊥ checking ends.Equivalent (text_of said.Equivalent) }
+    ensures any { (before after : Names) (f : Functions) (effort : Effort) (name text : List ℕ)
+        (searching checking : List (List ℕ)) (faults_before faults_now : ℕ) →
+        command_of searching ≡ Some (Compare (Prove f effort)) →
+        command_of checking ≡ Some (Compare (Check f name)) →
+        Reports (Some before) (Rose faults_before faults_now) searching ends.Equivalent text →
         after f.file ≡ before f.file → after name ≡ Some text → length text ≤ longest_log →
         Reports (Some after) ⊥ checking ends.Equivalent (text_of said.Equivalent) }
 {}

@@ -11,6 +11,7 @@ mod proving;
 mod refuting;
 mod top;
 
+pub use examples::demo;
 pub use in_memory::run_in_memory;
 pub use laws::{counterexamples_exclude_proofs, words_have_one_report, written_logs_are_accepted};
 pub use rx_plain::NoMemory;

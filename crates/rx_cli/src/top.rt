@@ -10,37 +10,6 @@ use crate::answers::execute;
 use rx_io::{Files, Sink, put_all};
 use std::alloc::Global;
 
-/// The run, but for what is said of it once more below.
-fn report_answer<F: Files, O: Sink>(
-    alloc: Global,
-    words: &[String],
-    files: &mut F,
-    out: &mut O,
-) -> Status
-    ensures ends { RunEnds (F.held files.old) (Rose (F.faults files.old) (F.faults files.new))
-        (Rose (O.faults out.old) (O.faults out.new))
-        (map string_bytes words.now) (O.contents out.old) (O.contents out.new) result }
-    ensures sound { result ≡ Status.Equivalent →
-        AreEqual (F.held files.old) (map string_bytes words.now) }
-    ensures different { result ≡ Status.Different →
-        IsRefutedBy (F.held files.old) (map string_bytes words.now) }
-    ensures kept { result ≡ Status.NoMemory → out.new ≡ out.old }
-    ensures reach_files { F.reaches files.old files.new }
-    ensures reach_out { O.reaches out.old out.new }
-{
-    let Ok(answer) = execute(alloc, words, files) else {
-        return Status::NoMemory;
-    };
-    let status = answer.status();
-    let Ok(text) = answer.into_text(alloc) else {
-        return Status::NoMemory;
-    };
-    match put_all(out, &text) {
-        Ok(()) => status,
-        Err(_) => Status::WriteFault,
-    }
-}
-
 /// Runs the program: reads the words and the files that they name, and writes the whole report.
 ///
 /// `words` begins with the program's name. Where the status is `NoMemory` nothing was written;
@@ -63,5 +32,15 @@ pub fn run<F: Files, O: Sink>(alloc: Global, words: &[String], files: &mut F, ou
         SaysYes (Rose (F.faults files.old) (F.faults files.new))
         (Rose (O.faults out.old) (O.faults out.new)) result }
 {
-    report_answer(alloc, words, files, out)
+    let Ok(answer) = execute(alloc, words, files) else {
+        return Status::NoMemory;
+    };
+    let status = answer.status();
+    let Ok(text) = answer.into_text(alloc) else {
+        return Status::NoMemory;
+    };
+    match put_all(out, &text) {
+        Ok(()) => status,
+        Err(_) => Status::WriteFault,
+    }
 }

@@ -3,5 +3,5 @@ use Rattle.rx_cli.proofs.answers.execute_demo.Goals as goal
 
 pub returns-clause-answer : goal.returns-clause-answer
 returns-clause-answer c =
-    λ held. answers_shown held c.args.pairs c.in_ok-show_examples.field-0
-    c.in_ok-show_examples.ensures.shown
+    λ held. answers_shown held c.args.pairs c.in_ok-demo.field-0
+    c.in_ok-demo.ensures.shown

@@ -1,21 +1,31 @@
--- What can be shown is answered.
-use Rattle.std.proofs.Common.{map, string_bytes, subst}
+-- Where a write ended the run, a part of the report was written. What can be shown is answered.
+use Rattle.std.proofs.Common.{Some, inl, inr, map, refl, string_bytes, subst}
+use Rattle.rx_command.specs.Commands.{command_of}
 use Rattle.rx_io.specs.Outside.{Rose}
-use Rattle.rx_cli.specs.Run.{RunEnds}
-use Rattle.rx_cli.proofs.Complete.{run_complete}
+use Rattle.rx_cli.specs.Answers.{AnswersOrFails}
+use Rattle.rx_cli.proofs.Complete.{answered_complete}
+use Rattle.rx_cli.proofs.RunLemmas.{ends_cut}
 use Rattle.rx_cli.proofs.top.run.Goals as goal
 
+pub returns-clause-ends : goal.returns-clause-ends
+returns-clause-ends g c =
+    ends_cut (g.F.Files.held c.args.files.now)
+    (Rose (g.F.Files.faults c.args.files.now) (g.F.Files.faults c.execute.new.files))
+    (Rose (g.O.Sink.faults c.args.out.now) (g.O.Sink.faults c.put_all.new.out))
+    (map string_bytes c.args.words.now) (g.O.Sink.contents c.args.out.now)
+    (g.O.Sink.contents c.put_all.new.out) c.in-Ok.answer c.in-Ok-into_text.text.items
+    c.deref.result.now c.in-Ok.ensures.answer c.in-Ok-into_text.ensures.text
+    c.deref.ensures.value c.in-Err.ensures.cause c.in-Err.ensures.err
+
 pub returns-clause-complete : goal.returns-clause-complete
-returns-clause-complete g c = λ names held can.
+returns-clause-complete g c = λ names held can. inr (inr (inr (refl, c.in-Err.ensures.cause)))
+
+pub returns-in-Ok-put_all-clause-complete : goal.returns-in-Ok-put_all-clause-complete
+returns-in-Ok-put_all-clause-complete g c = λ names held can.
     let read_fault : Type 0 = Rose (g.F.Files.faults c.args.files.now)
-    (g.F.Files.faults c.report_answer.new.files) in
-    let write_fault : Type 0 = Rose (g.O.Sink.faults c.args.out.now)
-    (g.O.Sink.faults c.report_answer.new.out) in
-    run_complete names read_fault write_fault (map string_bytes c.args.words.now)
-    (g.O.Sink.contents c.args.out.now) (g.O.Sink.contents c.report_answer.new.out)
-    c.report_answer.result can
-    (subst
-    (λ h. RunEnds h read_fault write_fault (map string_bytes c.args.words.now)
-    (g.O.Sink.contents c.args.out.now) (g.O.Sink.contents c.report_answer.new.out)
-    c.report_answer.result)
-    held c.report_answer.ensures.ends)
+    (g.F.Files.faults c.execute.new.files) in
+    answered_complete names read_fault
+    (Rose (g.O.Sink.faults c.args.out.now) (g.O.Sink.faults c.put_all.new.out))
+    (map string_bytes c.args.words.now) c.in-Ok.answer c.status-status.result can
+    (subst (λ h. AnswersOrFails h read_fault (command_of (map string_bytes c.args.words.now))
+    c.in-Ok.answer) held c.in-Ok.ensures.answer) c.status-status.ensures
