@@ -31,19 +31,19 @@ fn words_of(rt: &HostRuntime) -> Result<Vec<String>, Status>
     }
 }
 
-/// The exit status of the run of these words over the system's files and output.
-fn exit_of_run(rt: &HostRuntime, words: &[String]) -> ExitCode
-    ensures sound { exit_status result ≡ 0 → AreEqual None (map string_bytes words.now) }
-    ensures different { exit_status result ≡ 8 → IsRefutedBy None (map string_bytes words.now) }
+/// How the run of these words over the system's files and output ends.
+fn run_words(rt: &HostRuntime, words: &[String]) -> Status
+    ensures sound { result ≡ Status.Equivalent → AreEqual None (map string_bytes words.now) }
+    ensures different { result ≡ Status.Different → IsRefutedBy None (map string_bytes words.now) }
 {
     let mut files = SystemFiles::new(rt);
     let mut out = SystemOutput::new(rt);
-    exit_of(run(rt.alloc(), words, &mut files, &mut out))
+    run(rt.alloc(), words, &mut files, &mut out)
 }
 
 fn main(rt: HostRuntime) -> ExitCode {
     match words_of(&rt) {
-        Ok(words) => exit_of_run(&rt, &words),
+        Ok(words) => exit_of(run_words(&rt, &words)),
         Err(status) => exit_of(status),
     }
 }
