@@ -1,4 +1,5 @@
 -- Lemmas on the definitions of specs/.
+pub mod ClosedLaws
 pub mod CountLaws
 pub mod KeepingLaws
 pub mod ListLaws

@@ -322,3 +322,11 @@ module _ (state : State) where
     pub move_keeps : (next : Next) → (settling_move parts state).made ≡ Some next →
         next.state.hypotheses ≡ state.hypotheses
     move_keeps = goals_keep state.goals
+
+    -- and so has what an expansion makes that doesn't keep the goal
+    pub expansion_keeps : (side : Side) (next : Next) →
+        (attempt parts state (Expand side false)).made ≡ Some next →
+        next.state.hypotheses ≡ state.hypotheses
+    expansion_keeps side =
+        attempt_keeps (Expand side false) (expand_keeps parts state.hypotheses
+        (slice_get state.goals 0) side)

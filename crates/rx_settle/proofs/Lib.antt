@@ -1,6 +1,7 @@
 pub mod CandidateLaws
 pub mod CertifiedLaws
 pub mod DeletingLaws
+pub mod DescentLaws
 pub mod DoneLaws
 pub mod FirstLaws
 pub mod ItemLaws
@@ -8,8 +9,12 @@ pub mod KeepingLaws
 pub mod KnownLaws
 pub mod MoveLaws
 pub mod NamingLaws
+pub mod ReachedLaws
 pub mod ResultLaws
 pub mod ShowingLaws
+pub mod TaskCounts
+pub mod TaskLaws
+pub mod TaskedSettling
 pub mod TrialLaws
 pub mod TryingLaws
 pub mod UseWalk

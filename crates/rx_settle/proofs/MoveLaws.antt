@@ -70,7 +70,7 @@ module _ (parts : RuleParts) (old new : State) (before after_it : Settled) where
 
 -- ---- steps one after the other
 
-after_more : (parts : RuleParts) (start : State) (steps : List Step) (step : Step) →
+pub after_more : (parts : RuleParts) (start : State) (steps : List Step) (step : Step) →
     after_all parts start (steps ++ step ∷ []) ≡
     after (after_all parts start steps) (λ mid. applied parts mid step)
 after_more parts start [] step = by (applied parts start step)

@@ -5,5 +5,8 @@ pub mod AtFirst
 pub mod Candidates
 pub mod Certified
 pub mod Known
+pub mod Reached
 pub mod Settling
+pub mod TaskAnswers
+pub mod Tasks
 pub mod Untaken

@@ -9,7 +9,7 @@ use rx_row::Row;
 use std::alloc::Global;
 
 /// A state is settled by n moves at most.
-const MOST_MOVES: u32 = 200;
+pub(crate) const MOST_MOVES: u32 = 200;
 
 /// How a state was settled.
 #[derive(Drop)]
