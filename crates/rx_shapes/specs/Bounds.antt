@@ -19,7 +19,6 @@ use Rattle.rx_term.specs.Stacks.{root_of}
 use Rattle.rx_term.specs.declared.rule.Rule.{Rule}
 use Rattle.rx_term.specs.declared.rule_set.RuleParts.{RuleParts}
 use Rattle.rx_term.specs.declared.term.Sym.{Sym}
-use Rattle.rx_term.specs.declared.term.Term.{Term}
 use Rattle.rx_pairs.specs.Loops.{in_one_component}
 use Rattle.rx_lemma.specs.Calls.{Applied, call_of}
 use Rattle.rx_shapes.specs.declared.general.GeneralSides.{GeneralSides}

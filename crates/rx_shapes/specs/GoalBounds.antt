@@ -1,8 +1,8 @@
 -- Rows that may hold at all goals of a shape, since they hold at the first one: its inequalities and
 -- disequalities that speak of nothing but variables that stand alone at places of it.
 use Rattle.std.specs.Prelude.{ℕ, suc, Bool, true, false, ◌&&◌, Option, Some, None, if◌then◌else◌, List, [], ◌∷◌, ◌++◌, map}
-use Rattle.std.specs.List.{fold, list_all}
-use Rattle.rx_plain.specs.Formed.{Formed, pure, ◌<$>◌, fold_formed}
+use Rattle.std.specs.List.{list_all}
+use Rattle.rx_plain.specs.Formed.{Formed, pure, fold_formed}
 use Rattle.rx_poly.specs.Constants.{variable}
 use Rattle.rx_poly.specs.Variables.{is_one_of, variables}
 use Rattle.rx_poly.specs.declared.body.Body.{Body}

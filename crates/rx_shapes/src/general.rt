@@ -28,8 +28,9 @@ pub(crate) struct OpenFrame {
     pub(crate) arguments: Items<Poly>,
 }
 
-/// A variable for each of the polynomials, numbered on from `first`.
-fn variables_from(alloc: Global, first: u32, polys: &[Poly]) -> Result<Items<Poly>, AllocError>
+/// A variable for each of the polynomials, numbered on from `first`. Fails only where there is no
+/// memory.
+pub fn variables_from(alloc: Global, first: u32, polys: &[Poly]) -> Result<Items<Poly>, AllocError>
     requires few { first + length polys.now < 2 ^ 32 }
     ensures { IfOk result (λ ps. ps ≡ spec.variables_from first polys.now) }
 {

@@ -1,4 +1,4 @@
-use Rattle.std.proofs.Common.{◌≡◌, ◌∙◌, ◌+◌, ◌++◌, ◌∷◌, [], ap}
+use Rattle.std.proofs.Common.{◌∙◌, ◌+◌, ◌++◌, ◌∷◌, [], ap}
 use Rattle.rx_shapes.specs.Building.{over_frames}
 use Rattle.rx_shapes.specs.General.{general_from, open_frame}
 use Rattle.rx_shapes.proofs.Frames.{inside_few, one_further}
