@@ -1,9 +1,9 @@
 -- At a node that is closed no goal is left; and its log is accepted.
-use Rattle.std.proofs.Common.{◌≡◌, ℕ, zero, suc, Bool, true, false, cond, if◌then◌else◌, Option, Some, None, Ok, List, [], ◌∷◌, ◌++◌, map, take, refl, sym, ap, subst, ◌∙◌, All}
-use Rattle.std.specs.List.{find, flat_map}
-use Rattle.std.proofs.lemmas.List.Elements.{All-append, All-cons, All-head, All-nil, All-tail, All-take}
+use Rattle.std.proofs.Common.{◌≡◌, ℕ, Ok, List, [], ◌++◌, map, refl, sym, ap, subst, ◌∙◌}
+use Rattle.std.proofs.lemmas.List.Elements.{All-append}
 use Rattle.rx_row.specs.declared.row.Row.{Row}
 use Rattle.rx_term.specs.declared.rule.Equation.{Equation}
+use Rattle.rx_term.specs.declared.rule.Rule.{Rule}
 use Rattle.rx_term.specs.declared.rule_set.RuleParts.{RuleParts}
 use Rattle.rx_inference.specs.States.{State}
 use Rattle.rx_inference.specs.declared.step.Step.{Step}
@@ -19,116 +19,33 @@ use Rattle.rx_log.specs.Acceptance as acceptance
 use Rattle.rx_log.specs.declared.log.Log.{Log}
 use Rattle.rx_moves.specs.Moves.{move_of}
 use Rattle.rx_search.specs.Calls.{node_of}
-use Rattle.rx_search.specs.Nodes.{IsNode}
+use Rattle.rx_search.specs.Nodes.{IsNode, IsProved}
 use Rattle.rx_search.specs.NodeNodes as nodes
 use Rattle.rx_search.specs.Search as search
 use Rattle.rx_search.specs.NodeNodes.{is_closed}
 use Rattle.rx_search.specs.Search.{menu, of_outcome, settled}
 use Rattle.rx_search.specs.declared.node.Node.{Node}
 use Rattle.rx_search.proofs.Left.{no_goal}
-use Rattle.rx_search.proofs.Rooted.{reached_rooted}
+use Rattle.rx_proofs.specs.Runs as joins
+use Rattle.rx_settle.specs.Reached.{IsReachedBy}
+use Rattle.rx_settle.proofs.ReachedLaws.{reached_rooted}
 use Rattle.rx_search.proofs.Running.{logged}
-use Rattle.rx_deepening.specs.Outcomes.{closed_or, first_closed, first_note, noted_or, outcome, spent_if}
+use Rattle.rx_deepening.proofs.ClosedLaws.{closed_told}
+use Rattle.rx_deepening.specs.Outcomes.{outcome}
 use Rattle.rx_deepening.specs.Views.{IfClosed, seen_outcome}
-use Rattle.rx_deepening.specs.Visits.{Visit, all_visits, alone, choosing, lists, visits}
-use Rattle.rx_deepening.specs.declared.outcome.Note.{Note}
+use Rattle.rx_deepening.specs.Visits.{all_visits}
 use Rattle.rx_deepening.specs.declared.outcome.Outcome.{Outcome}
 use Rattle.rx_deepening.specs.declared.outcome.Outcome.TheVariants as outcomes
-use Rattle.rx_deepening.specs.declared.tree.Choice.{Choice}
 
--- ---- visits of closed nodes
-
-abbrev Visited : Type 0
-Visited = Visit nodes.Node (List Row)
-
--- it is said to be closed where no goal is left
-abbrev IsTold : Visited → Type 0
-IsTold v = v.closed ≡ is_closed v.node.state.goals
-
-either_known : (b : Bool) (xs ys : List Visited) → All IsTold xs → All IsTold ys →
-    All IsTold (if b then xs else ys)
-either_known true xs ys all more = all
-either_known false xs ys all more = more
-
-all_known : (f : Choice nodes.Node → List Visited) (cs : List (Choice nodes.Node)) →
-    ((c : Choice nodes.Node) → All IsTold (f c)) → All IsTold (flat_map f cs)
-all_known f [] each = All-nil IsTold
-all_known f (c ∷ cs) each = All-append IsTold (f c) (flat_map f cs) (each c) (all_known f cs each)
-
-module _ (parts : RuleParts) where
-  visits_known : (more : ℕ) (path : List ℕ) (node : nodes.Node) →
-      All IsTold (visits (settled parts) (menu parts) more path node)
-  unfolding visits
-  visits_known zero path node =
-      All-cons IsTold (alone path (settled parts node)) [] refl (All-nil IsTold)
-  visits_known (suc more) path node =
-      let s = settled parts node in
-      let m = menu parts s.node in
-      either_known s.closed _ _
-      (All-cons IsTold (alone path s) [] refl (All-nil IsTold))
-      (All-cons IsTold (choosing path s m) (flat_map
-      (λ (c : Choice nodes.Node). visits (settled parts) (menu parts) more
-      (path ++ c.number ∷ []) c.node) m.choices) refl
-      (all_known (λ (c : Choice nodes.Node). visits (settled parts) (menu parts) more
-      (path ++ c.number ∷ []) c.node) m.choices
-      (λ c. visits_known more (path ++ c.number ∷ []) c.node)))
-
-  lists_known : (n more : ℕ) (node : nodes.Node) →
-      All IsTold (lists (settled parts) (menu parts) n more node)
-  unfolding lists
-  lists_known zero more node = All-nil IsTold
-  lists_known (suc n) more node =
-      All-append IsTold (visits (settled parts) (menu parts) more [] node)
-      (lists (settled parts) (menu parts) n (suc more) node)
-      (visits_known more [] node) (lists_known n (suc more) node)
-
-found_by : (v w : Visited) (vs : List Visited) (b : Bool) → v.closed ≡ b →
-    (find (λ (v : Visited). v.closed) vs ≡ Some w → (w.closed ≡ true) × IsTold w)
-    → IsTold v → cond b (Some v) (find (λ (v : Visited). v.closed) vs) ≡ Some w →
-    (w.closed ≡ true) × IsTold w
-found_by v w vs true closed later told e =
-    let same : v ≡ w = cc in subst (λ (w : Visited). (w.closed ≡ true) × IsTold w) same
-    (closed, told)
-found_by v w vs false closed later told e = later e
-
-found : (vs : List Visited) (w : Visited) → All IsTold vs → find (λ (v : Visited). v.closed) vs ≡
-    Some w → (w.closed ≡ true) × IsTold w
-found [] w all e = absurd cc
-found (v ∷ vs) w all e =
-    found_by v w vs v.closed refl (found vs w (All-tail IsTold v vs all)) (All-head IsTold v vs all)
-    e
-
--- what doesn't decide by a closed node isn't closed
-spent_open : (b : Bool) (node : nodes.Node) →
-    ◌≡◌ {A = Outcome nodes.Node (List Row)} (spent_if b) (outcomes.Closed node) → ⊥
-spent_open true node e = cc
-spent_open false node e = cc
-
-open_by : (note : Option (Note (List Row))) (b : Bool) (node : nodes.Node) →
-    noted_or note (spent_if b) ≡ outcomes.Closed node → ⊥
-open_by None b node e = spent_open b node e
-open_by (Some note) b node e = cc
-
-closed_by : (first : Option Visited) (later : Outcome nodes.Node (List Row)) (node : nodes.Node) →
-    closed_or first later ≡ outcomes.Closed node
-    → (later ≡ outcomes.Closed node → ⊥) → ((v : Visited) → first ≡ Some v → (v.closed ≡ true) ×
-    IsTold v) → node.state.goals ≡ []
-closed_by None later node e none each = absurd (none e)
-closed_by (Some v) later node e none each =
-    let same : v.node ≡ node = cc in
-    let (closed, told) = each v refl in
-    ap (λ (n : nodes.Node). n.state.goals) (sym same) ∙
-    no_goal v.node.state.goals (sym told ∙ closed)
+-- ---- closed nodes
 
 pub no_goal_left : (parts : RuleParts) (depth budget : ℕ) (first node : nodes.Node)
     → outcome budget (all_visits (settled parts) (menu parts) depth first) ≡ outcomes.Closed node →
     node.state.goals ≡ []
 no_goal_left parts depth budget first node e =
-    let vs = take budget (all_visits (settled parts) (menu parts) depth first) in
-    let told = All-take IsTold budget (all_visits (settled parts) (menu parts) depth first)
-    (lists_known parts (suc depth) 0 first) in
-    closed_by (first_closed vs) _ node e (open_by (first_note vs) _ node)
-    (λ v is. found vs v told is)
+    no_goal node.state.goals
+    (closed_told (λ (n : nodes.Node). is_closed n.state.goals) (settled parts) (menu parts)
+    (λ n. refl) depth budget first node e)
 
 -- ---- of calls
 
@@ -155,30 +72,43 @@ closed_steps parts depth budget first o node steps seen is same =
 
 -- ---- logs
 
-module _ (parts : RuleParts) (goal : Equation) (node : Node) (log : Log) (ranking : Ranking)
-    (is : IsNode parts goal node)
-    (covers : covering parts log.covers ≡ Covers) (steps : log.steps ≡ node.steps)
+-- a closed node is a proof
+pub node_proved : (parts : RuleParts) (goal : Equation) (node : Node) (steps : List Step)
+    (hypotheses : List Rule) → IsNode parts goal node → node.state.goals ≡ [] →
+    steps ≡ node.steps → hypotheses ≡ node.state.hypotheses →
+    IsProved parts goal steps hypotheses
+node_proved parts goal node steps hypotheses is closed same kept =
+    subst (λ (hs : List Rule). IsProved parts goal steps hs) (sym kept)
+    (subst (λ (xs : List Step). IsProved parts goal xs node.state.hypotheses) (sym same) (record {
+      reached =
+          subst (λ goals. IsReachedBy parts goal node.steps
+          (record { goals = goals; hypotheses = node.state.hypotheses })) closed is.reached;
+      ranked = is.ranked;
+    }))
+
+module _ (parts : RuleParts) (goal : Equation) (made : List Step) (hypotheses : List Rule)
+    (log : Log) (ranking : Ranking) (is : IsProved parts goal made hypotheses)
+    (covers : covering parts log.covers ≡ Covers) (steps : log.steps ≡ made)
     (table : log.table ≡ ranking.table)
-    (certs : log.pairs ≡ ranking.certs) (lowers : LowersAll parts node.state.hypotheses ranking)
-    (closed : node.state.goals ≡ []) where
-  keeps : kept parts goal log ≡ Ok node.state.hypotheses
+    (certs : log.pairs ≡ ranking.certs) (lowers : LowersAll parts hypotheses ranking) where
+  keeps : kept parts goal log ≡ Ok hypotheses
   keeps =
       ap (λ found. once_covered found (after_steps parts 0 (acceptance.start goal) log.steps >>=
       kept_by parts log.table)) covers
       ∙ ap (λ xs. after_steps parts 0 (acceptance.start goal) xs >>= kept_by parts log.table) steps
       ∙ ap (λ (check : Checked State). check >>= kept_by parts log.table)
-      (logged parts node.state 0 (acceptance.start goal) node.steps is.reached.applies)
-      ∙ ap (λ goals. once_finished goals (once_ranked (bad_rank parts log.table)
-      (Ok node.state.hypotheses))) closed
-      ∙ ap (λ t. once_ranked (bad_rank parts t) (Ok node.state.hypotheses)) table
-      ∙ ap (λ bad. once_ranked bad (Ok node.state.hypotheses)) lowers.lawful
+      (logged parts (joins.finished hypotheses) 0 (acceptance.start goal) made
+      is.reached.applies)
+      ∙ ap (λ t. once_ranked (bad_rank parts t) (Ok hypotheses)) table
+      ∙ ap (λ bad. once_ranked bad (Ok hypotheses)) lowers.lawful
 
-  descends : OnPairs (parts.rules ++ node.state.hypotheses) log.table log.pairs Accepted
+  descends : OnPairs (parts.rules ++ hypotheses) log.table log.pairs Accepted
   descends =
-      let roots = All-append HasRoot parts.rules node.state.hypotheses
-      (made_roots parts parts.rules is.reached.made) (reached_rooted parts goal node is.reached)
+      let roots = All-append HasRoot parts.rules hypotheses
+      (made_roots parts parts.rules is.reached.made)
+      (reached_rooted parts goal made (joins.finished hypotheses) is.reached)
       in
-      let (pairs, are) = some_all (parts.rules ++ node.state.hypotheses) roots in
+      let (pairs, are) = some_all (parts.rules ++ hypotheses) roots in
       record {
         pairs = pairs;
         all_pairs = are;
@@ -187,6 +117,6 @@ module _ (parts : RuleParts) (goal : Equation) (node : Node) (log : Log) (rankin
             ∙ ap of_descent (lowers.lower pairs are);
       }
 
-  -- the node's log is accepted
+  -- the log of a proof is accepted
   pub accepted : IsAccepted parts goal log
   accepted = subst (λ check. Concludes parts log check Accepted) (sym keeps) descends

@@ -9,7 +9,6 @@ use Rattle.rx_inference.specs.declared.step.Step.{Step}
 use Rattle.rx_proofs.specs.Runs as runs
 use Rattle.rx_rank.specs.Ranking.{ranked}
 use Rattle.rx_settle.specs.Answers.{AreDeep, IsSettled, after_all}
-use Rattle.rx_search.proofs.Shallow.{IsDeep}
 use Rattle.rx_moves.specs.Moves.{move_of}
 use Rattle.rx_settle.specs.Settling.{most_moves, settle}
 use Rattle.rx_settle.specs.declared.settled.Settled.{Settled as Found}
@@ -18,7 +17,7 @@ use Rattle.rx_search.specs.Nodes.{IsNode}
 use Rattle.rx_search.specs.NodeNodes.{is_closed}
 use Rattle.rx_search.specs.Search.{settled}
 use Rattle.rx_search.specs.declared.node.Node.{Node}
-use Rattle.rx_search.proofs.Running.{after_append}
+use Rattle.rx_settle.proofs.ReachedLaws.{IsDeep, after_append}
 use Rattle.rx_deepening.specs.Views.{seen_settled}
 
 module _ (parts : RuleParts) (node : Node) (new : State) (found : Found)

@@ -18,10 +18,7 @@ use Rattle.rx_pairs.specs.declared.pair_cert.PairCert.{PairCert}
 use Rattle.rx_log.specs.Depth.{are_shallow, certs_level, deepest, has_shallow_certs, is_shallow, is_shallow_log, is_shallow_tree}
 use Rattle.rx_log.specs.declared.log.Log.{Log}
 use Rattle.rx_settle.specs.Answers.{AreDeep}
-
--- the certificates of a step are at most 174 deep
-abbrev pub IsDeep : Step → Type 0
-IsDeep step = All (λ (cert : Cert). cert_depth cert ≤ most_deep) (certificates step)
+use Rattle.rx_settle.proofs.ReachedLaws.{IsDeep}
 
 -- ---- tests
 

@@ -37,8 +37,7 @@ use Rattle.rx_search.specs.NodeNodes as nodes
 use Rattle.rx_search.specs.NodeNodes.{node_with}
 use Rattle.rx_search.specs.declared.node_choices.Trial.{Trial}
 use Rattle.rx_search.specs.declared.node.Node.{Node}
-use Rattle.rx_search.proofs.Running.{after_one}
-use Rattle.rx_search.proofs.Shallow.{IsDeep}
+use Rattle.rx_settle.proofs.ReachedLaws.{IsDeep, after_one}
 
 -- ---- the node after a step
 

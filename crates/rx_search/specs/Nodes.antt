@@ -1,17 +1,17 @@
 -- Which nodes a search comes to, as calls have them, and what comes of choices at one.
-use Rattle.std.specs.Prelude.{◌≡◌, Bool, true, false, Some, None, Ok, List, map}
+use Rattle.std.specs.Prelude.{◌≡◌, Bool, true, false, Some, None, List, map}
 use Rattle.std.specs.List.{filter_map}
 use Rattle.std.specs.Option.{option_map}
 use Rattle.std.specs.Borrow.{GName}
 use Rattle.rx_cert.specs.Findings.{Said, Yes, No, Beyond}
 use Rattle.rx_solve.specs.Attempts.{Tried}
-use Rattle.rx_term.specs.WellMade.{IsWellMade}
 use Rattle.rx_term.specs.declared.rule.Equation.{Equation}
 use Rattle.rx_term.specs.declared.rule_set.RuleParts.{RuleParts}
-use Rattle.rx_proofs.specs.Goals.{IsFitting}
+use Rattle.rx_term.specs.declared.rule.Rule.{Rule}
+use Rattle.rx_inference.specs.declared.step.Step.{Step}
 use Rattle.rx_proofs.specs.Runs as runs
 use Rattle.rx_rank.specs.Ranking.{ranked}
-use Rattle.rx_settle.specs.Answers.{AreDeep, after_all}
+use Rattle.rx_settle.specs.Reached.{IsReachedBy}
 use Rattle.rx_moves.specs.Moves.{Decompose, Expand, Generalise, Move}
 use Rattle.rx_settle.specs.Settling.{most_moves}
 use Rattle.rx_moves.specs.Trying.{Next}
@@ -25,18 +25,19 @@ use Rattle.rx_search.specs.declared.node_choices.Choices.{Choices}
 use Rattle.rx_deepening.specs.Views.{seen_choice}
 
 module _ (parts : RuleParts) (goal : Equation) where
-  -- the rules are well made and the goal fits them; the steps lead from it to the state, and no
-  -- certificate is deep
-  pub record IsReached (node : Node) : Type 0 where
-    pub made : IsWellMade parts
-    pub fits : IsFitting parts goal
-    pub applies : after_all parts (runs.start goal) node.steps ≡ Ok node.state
-    pub deep : AreDeep node.steps
+  -- the steps lead from the goal to the state
+  abbrev pub IsReached : Node → Type 0
+  IsReached node = IsReachedBy parts goal node.steps node.state
 
   -- and there are ranks with the hypotheses that were kept
   pub record IsNode (node : Node) : Type 0 where
     pub reached : IsReached node
     pub ranked : ranked parts node.state.hypotheses ≡ Yes
+
+  -- steps lead from the goal to no goal, and there are ranks with the hypotheses that were kept
+  pub record IsProved (steps : List Step) (hypotheses : List Rule) : Type 0 where
+    pub reached : IsReachedBy parts goal steps (runs.finished hypotheses)
+    pub ranked : ranked parts hypotheses ≡ Yes
 
 -- ---- choices
 

@@ -59,11 +59,12 @@ module _ (parts : RuleParts) where
 
 -- ---- the search
 
--- what a search comes to: no ranks of the rules; the moves of a proof; the rows of the goal at
--- which the limits were passed first, and the choices on the path to it; more visits than the
--- budget; no plan of the depth
+-- what a search comes to: no ranks of the rules; the rows of the goal, where the limits are passed
+-- on the way to those; the moves of a proof; the rows of the goal at which the limits were passed
+-- first, and the choices on the path to it; more visits than the budget; no plan of the depth
 pub data Searched : Type 0 where
   NoRanks : Searched
+  LargeRanks : List Row → Searched
   Closed : List Move → Searched
   Large : List ℕ → List Row → Searched
   Spent : Searched
@@ -84,7 +85,7 @@ abbrev pub searched_with : Said → RuleParts → Equation → ℕ → ℕ → S
 searched_with Yes parts goal depth budget =
     of_outcome (outcome budget (all_visits (settled parts) (menu parts) depth (start goal)))
 searched_with No parts goal depth budget = NoRanks
-searched_with Beyond parts goal depth budget = Large [] goal.rows
+searched_with Beyond parts goal depth budget = LargeRanks goal.rows
 
 abbrev pub searched : RuleParts → Equation → ℕ → ℕ → Searched
 searched parts goal depth budget = searched_with (ranked parts []) parts goal depth budget

@@ -20,9 +20,9 @@ mod search;
 mod search_end;
 
 pub use candidates::{Candidate, Candidates, find_candidates};
-pub use node::{Node, copied_rows, is_closed, own_steps, shared_steps};
+pub use node::{Node, copied_rows, is_closed};
 pub use node_choices::{Choices, KnownChoice, Trial};
 pub use rx_fm::FmEnd;
 pub use rx_plain::NoMemory;
-pub use search::Search;
+pub use search::{MOST_KEPT, Search, log_of, rule_pairs, search_with};
 pub use search_end::SearchEnd;

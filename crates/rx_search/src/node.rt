@@ -7,6 +7,7 @@ ghost use Rattle.rx_steps.specs.Alone.{onto};
 use rx_inference::Step;
 use rx_plain::{Items, NoMemory, Shared};
 use rx_row::Row;
+use rx_settle::copied_steps;
 use rx_steps::State;
 use rx_term::Equation;
 use std::alloc::Global;
@@ -30,17 +31,6 @@ pub fn is_closed(state: &State) -> bool
     state.goals() == 0
 }
 
-/// The same steps once more, shared with those that are given.
-fn copied_steps(alloc: Global, steps: &[Shared<Step>]) -> Result<Items<Shared<Step>>, NoMemory>
-    ensures { IfOk result (λ made. made ≡ steps.now) }
-{
-    let mut made = Items::with_capacity(alloc, steps.len())?;
-    for step in steps {
-        made.push(step.try_clone()?)?;
-    }
-    Ok(made)
-}
-
 /// The same steps and one more, shared with those that are given.
 fn steps_with(
     alloc: Global,
@@ -60,28 +50,6 @@ fn state_with(alloc: Global, state: &State, after: &State) -> Result<State, NoMe
 {
     let mut made = state.try_clone(alloc)?;
     made.go_on(alloc, after)?;
-    Ok(made)
-}
-
-/// The same steps, which may be shared from then on; fails only where there is no memory.
-pub fn shared_steps(alloc: Global, steps: Items<Step>) -> Result<Items<Shared<Step>>, NoMemory>
-    ensures { IfOk result (λ made. made ≡ steps) }
-{
-    let mut made = Items::with_capacity(alloc, steps.len())?;
-    for step in steps.into_vec() {
-        made.push(Shared::new(alloc, step)?)?;
-    }
-    Ok(made)
-}
-
-/// The same steps once more, which nobody else has; fails only where there is no memory.
-pub fn own_steps(alloc: Global, steps: &[Shared<Step>]) -> Result<Items<Step>, NoMemory>
-    ensures { IfOk result (λ made. made ≡ steps.now) }
-{
-    let mut made = Items::with_capacity(alloc, steps.len())?;
-    for step in steps {
-        made.push(step.get().try_clone(alloc)?)?;
-    }
     Ok(made)
 }
 

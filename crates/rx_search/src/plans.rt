@@ -1,5 +1,5 @@
 //! The tree of plans: its nodes are where steps lead from the goal, and its choices are steps.
-ghost use Rattle.std.specs.Prelude.{◌≡◌, ◌++◌, IfOk, OnOk};
+ghost use Rattle.std.specs.Prelude.{◌≡◌, ◌++◌, IfOk};
 ghost use Rattle.rx_search.specs.Calls.{node_of};
 ghost use Rattle.rx_search.specs.NodeNodes.{is_closed};
 ghost use Rattle.rx_search.specs.Nodes.{IsNode};
@@ -13,31 +13,18 @@ ghost use Rattle.rx_deepening.specs.Views.{seen_settled};
 use crate::dropping::dropped;
 use crate::known::ChoiceMemo;
 use crate::menu::find_menu;
-use crate::node::{Node, is_closed, shared_steps};
+use crate::node::{Node, is_closed};
 use rx_cert::Cert;
 use rx_deepening::{Menu, Settled, Tree};
 use rx_fm::FmEnd;
 use rx_has_ranks::RankMemo;
-use rx_inference::Step;
 use rx_moves::LoopPoints;
 use rx_pairs::Pair;
-use rx_plain::{Items, NoMemory, Shared};
+use rx_plain::{Items, NoMemory};
 use rx_row::{Constraint, Row};
-use rx_settle::{SettleMemo, settle};
+use rx_settle::{SettleMemo, append_steps, settle};
 use rx_term::{Equation, RuleSet};
 use std::alloc::Global;
-
-/// Adds steps, which may be shared from then on.
-fn append_steps(
-    alloc: Global,
-    steps: &mut Items<Shared<Step>>,
-    more: Items<Step>,
-) -> Result<(), NoMemory>
-    ensures { OnOk result (steps.new ≡ steps.old ++ more) }
-{
-    let fresh = shared_steps(alloc, more)?;
-    Ok(steps.append(fresh)?)
-}
 
 /// The node, whose state was settled so, with the steps that did it.
 fn settled_by(

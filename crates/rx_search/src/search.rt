@@ -12,8 +12,8 @@ ghost use Rattle.rx_pairs.specs.Pairs.{AreAllPairs, HasRoot, SidesFit};
 ghost use Rattle.rx_rank.specs.Ranking.{ranked};
 ghost use Rattle.rx_find_ranks.specs.Found.{HasColumns, LowersAll};
 ghost use Rattle.rx_search.specs.Ends.{IsEnd};
-ghost use Rattle.rx_search.specs.Nodes.{IsNode};
-ghost use Rattle.rx_search.specs.Search.{Closed, Large, of_outcome, searched, settled, menu, start};
+ghost use Rattle.rx_search.specs.Nodes.{IsNode, IsProved};
+ghost use Rattle.rx_search.specs.Search.{Closed, LargeRanks, of_outcome, searched, settled, menu, start};
 ghost use Rattle.rx_solve.specs.Answers.{IsSolver};
 ghost use Rattle.rx_term.specs.declared.rule.Equation.{Equation};
 ghost use Rattle.rx_moves.specs.Moves.{move_of};
@@ -23,7 +23,7 @@ ghost use Rattle.rx_deepening.specs.Visits.{all_visits};
 
 use crate::choices::MOST_STEPS;
 use crate::dropping::dropped;
-use crate::node::{Node, copied_rows, own_steps};
+use crate::node::{Node, copied_rows};
 use crate::plans::Plans;
 use crate::search_end::SearchEnd;
 use rx_cert::Cert;
@@ -33,24 +33,25 @@ use rx_find_cover::find_cover;
 use rx_find_ranks::{Ranking, find_ranks_with};
 use rx_fm::FmEnd;
 use rx_has_ranks::{RankMemo, has_ranks_with};
+use rx_inference::Step;
 use rx_log::Log;
 use rx_memo::GoalMemo;
 use rx_moves::LoopPoints;
 use rx_pairs::{Pair, all_pairs};
-use rx_plain::{Items, NoMemory};
+use rx_plain::{Items, NoMemory, Shared};
 use rx_rank::PairMemo;
 use rx_row::{Constraint, Row};
-use rx_settle::SettleMemo;
+use rx_settle::{SettleMemo, own_steps};
 use rx_term::{Equation, Rule, RuleSet};
 use std::alloc::Global;
 use std::marker::Model;
 
 /// How many nodes are kept from one list of visits to the next, at most, unless another number is
 /// given.
-const MOST_KEPT: usize = 32_768;
+pub const MOST_KEPT: usize = 32_768;
 
-/// The pairs of the rules.
-fn rule_pairs(alloc: Global, rules: &RuleSet) -> Result<Vec<Pair>, NoMemory>
+/// The pairs of the rules. Fails only where there is no memory.
+pub fn rule_pairs(alloc: Global, rules: &RuleSet) -> Result<Vec<Pair>, NoMemory>
     ensures { IfOk result (λ pairs. AreAllPairs rules.now.rules pairs.items) }
 {
     let parts = rules.parts();
@@ -137,21 +138,21 @@ fn ranks_of<S: FnMut(&Constraint) -> Result<Option<Cert>, FmEnd>>(
     }
 }
 
-/// The log of a node with these trees and ranks.
+/// The log of these steps with these trees and ranks.
 fn log_with(
     alloc: Global,
-    node: &Node,
+    steps: &[Shared<Step>],
     covers: Items<Items<CoverTree>>,
     ranking: Ranking,
 ) -> Result<Log, NoMemory>
     ensures { IfOk result (λ log. log ≡ record {
       covers = covers;
-      steps = node.now.steps;
+      steps = steps.now;
       table = ranking.table;
       pairs = ranking.certs;
     }) }
 {
-    match own_steps(alloc, node.steps.as_slice()) {
+    match own_steps(alloc, steps) {
         Ok(steps) => Ok(Log {
             covers,
             steps,
@@ -162,34 +163,30 @@ fn log_with(
     }
 }
 
-/// The log of a node at which no goal is left.
-fn log_of<S: FnMut(&Constraint) -> Result<Option<Cert>, FmEnd>>(
+/// The log of steps that lead from a goal to no goal, where there are ranks with the hypotheses
+/// that they kept. It is accepted for the rules and the goal; no certificate and no tree in it is
+/// deeper than 200, and its rank table has 1 to 15 columns. Fails only where there is no memory.
+pub fn log_of<S: FnMut(&Constraint) -> Result<Option<Cert>, FmEnd>>(
     alloc: Global,
     rules: &RuleSet,
-    node: &Node,
+    steps: &[Shared<Step>],
+    hypotheses: &[Rule],
     memo: &mut RankMemo,
     solve: &mut S,
 ) -> Result<Log, NoMemory>
     requires coverable { is_coverable rules.now ≡ true }
-    requires node { (goal : Equation) × IsNode rules.now goal node.now }
-    requires closed { node.now.state.goals ≡ [] }
+    requires proved { (goal : Equation) × IsProved rules.now goal steps.now hypotheses.now }
     requires solver { IsSolver S.FnMut solve.old }
     ensures solver { IsSolver S.FnMut solve.new }
-    ensures steps { IfOk result (λ log. log.steps ≡ node.now.steps) }
-    ensures accepted { (goal : Equation) → IsNode rules.now goal node.now →
+    ensures steps { IfOk result (λ log. log.steps ≡ steps.now) }
+    ensures accepted { (goal : Equation) → IsProved rules.now goal steps.now hypotheses.now →
         IfOk result (IsAccepted rules.now goal) }
     ensures shallow { IfOk result (λ log. is_shallow_log log ≡ true) }
     ensures columns { IfOk result (λ log. HasColumns log.table) }
 {
     let covers = cover_of(alloc, rules, solve)?;
-    match ranks_of(
-        alloc,
-        rules,
-        node.state.hypotheses(),
-        &mut memo.pairs,
-        solve,
-    ) {
-        Ok(ranking) => log_with(alloc, node, covers, ranking),
+    match ranks_of(alloc, rules, hypotheses, &mut memo.pairs, solve) {
+        Ok(ranking) => log_with(alloc, steps, covers, ranking),
         Err(NoMemory) => Err(dropped(covers, NoMemory)),
     }
 }
@@ -227,7 +224,8 @@ fn visit<S: FnMut(&Constraint) -> Result<Option<Cert>, FmEnd>>(
     )?;
     match outcome {
         Outcome::Closed(node) => {
-            match log_of(alloc, rules, &node, memo, solve) {
+            let steps = node.steps.as_slice();
+            match log_of(alloc, rules, steps, node.state.hypotheses(), memo, solve) {
                 Ok(log) => Ok(dropped(node, log)),
                 Err(NoMemory) => Err(dropped(node, SearchEnd::NoMemory)),
             }
@@ -241,21 +239,21 @@ fn visit<S: FnMut(&Constraint) -> Result<Option<Cert>, FmEnd>>(
 /// How a search ends where the limits are passed on the way to the ranks of the rules: with the
 /// rows of the goal.
 fn large_at(alloc: Global, goal: &Equation) -> SearchEnd
-    ensures { (depth budget : ℕ) → IsEnd depth budget (Large [] goal.now.rows) result }
+    ensures { (depth budget : ℕ) → IsEnd depth budget (LargeRanks goal.now.rows) result }
 {
     match copied_rows(alloc, goal.rows.rows()) {
-        Ok(rows) => SearchEnd::Large {
-            path: Items::new(alloc),
-            rows,
-        },
+        Ok(rows) => SearchEnd::LargeRanks { rows },
         Err(NoMemory) => SearchEnd::NoMemory,
     }
 }
 
-/// What a search comes to, as a log or as an end: the ranks of the rules alone come first.
-fn search_by<S: FnMut(&Constraint) -> Result<Option<Cert>, FmEnd>>(
+/// Searches for a proof as `Search::search` does, with the pairs of the rules, and with a memo of
+/// what was found out of pairs, in which more is kept; at most `most_kept` nodes are kept from one
+/// list of visits to the next.
+pub fn search_with<S: FnMut(&Constraint) -> Result<Option<Cert>, FmEnd>>(
     alloc: Global,
     rules: &RuleSet,
+    pairs: &[Pair],
     goal: &Equation,
     depth: u32,
     budget: u32,
@@ -264,6 +262,7 @@ fn search_by<S: FnMut(&Constraint) -> Result<Option<Cert>, FmEnd>>(
     solve: &mut S,
 ) -> Result<Log, SearchEnd>
     requires coverable { is_coverable rules.now ≡ true }
+    requires pairs { AreAllPairs rules.now.rules pairs.now }
     requires fits { IsFitting rules.now goal.now }
     requires solver { IsSolver S.FnMut solve.old }
     ensures solver { IsSolver S.FnMut solve.new }
@@ -275,8 +274,6 @@ fn search_by<S: FnMut(&Constraint) -> Result<Option<Cert>, FmEnd>>(
     ensures ends { IfErr result (λ e. IsEnd depth budget
         (searched rules.now goal.now depth budget) e) }
 {
-    let all = rule_pairs(alloc, rules)?;
-    let pairs = all.as_slice();
     match has_ranks_with(alloc, rules, pairs, &[], memo, solve) {
         Ok(true) => visit(
             alloc, rules, goal, depth, budget, most_kept, pairs, memo, solve,
@@ -333,7 +330,8 @@ impl<S: FnMut(&Constraint) -> Result<Option<Cert>, FmEnd>> Search<S> {
     ///
     /// The answer is a log that is accepted for the rules and the goal; no certificate and no tree
     /// in it is deeper than 200, and its rank table has 1 to 15 columns. `NoRanks` where the rules
-    /// alone have no ranks; `NoPlan` where all lists are visited and no node is closed; `Spent`
+    /// alone have no ranks, `LargeRanks` where a polynomial passed the limits on the way to them;
+    /// `NoPlan` where all lists are visited and no node is closed; `Spent`
     /// where there are more nodes than the budget; `Large`, before these two, where a polynomial
     /// passed the limits at a node that was visited. Each of these says exactly that; `NoMemory`
     /// says nothing else.
@@ -360,9 +358,11 @@ impl<S: FnMut(&Constraint) -> Result<Option<Cert>, FmEnd>> Search<S> {
     {
         let mut memo = RankMemo::new(alloc);
         let most_kept = self.most_kept;
-        search_by(
+        let pairs = rule_pairs(alloc, rules)?;
+        search_with(
             alloc,
             rules,
+            pairs.as_slice(),
             goal,
             depth,
             budget,

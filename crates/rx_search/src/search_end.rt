@@ -11,6 +11,12 @@ pub enum SearchEnd {
     /// The rules have no ranks, so that no log over them is accepted.
     #[error("the rules have no ranks")]
     NoRanks,
+    /// No ranks of the rules are found, and a polynomial passes the limits on the way.
+    #[error("a polynomial of the ranks is too large")]
+    LargeRanks {
+        /// The rows of the goal.
+        rows: Items<Row>,
+    },
     /// No proof with at most that many choices is found.
     #[error("no proof with at most {depth} choices")]
     NoPlan {

@@ -65,6 +65,7 @@ fn push_end(end: &SearchEnd, out: &mut Vec<u8>) -> Result<(), NoMemory> {
         SearchEnd::NoRanks => push_word(out, b"ranks"),
         SearchEnd::NoPlan { depth } => push_numbered(b"depth ", *depth as usize, out),
         SearchEnd::Spent { visits } => push_numbered(b"visits ", *visits as usize, out),
+        SearchEnd::LargeRanks { rows } => push_large(&[], rows.as_slice(), out),
         SearchEnd::Large { path, rows } => push_large(path.as_slice(), rows.as_slice(), out),
         SearchEnd::NoMemory => Err(NoMemory),
     }

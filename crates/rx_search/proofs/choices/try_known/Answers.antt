@@ -2,7 +2,7 @@
 -- is reached.
 use Rattle.rx_search.specs.Nodes.{IsReached}
 use Rattle.rx_search.proofs.Lifting.{kept_none, kept_some, known_reached, unkept_node, unkept_tried}
-use Rattle.rx_search.proofs.Rooted.{reached_fits, reached_rooted}
+use Rattle.rx_settle.proofs.ReachedLaws.{reached_fits, reached_rooted}
 use Rattle.rx_search.proofs.Trying.{led_to, node_ranked_call}
 use Rattle.rx_search.proofs.choices.try_known.Goals as goal
 
@@ -22,7 +22,7 @@ pub where_ranked-requires-clause-roots : goal.where_ranked-requires-clause-roots
 where_ranked-requires-clause-roots g c =
     let a = c.args in
     let (goal, reached) = c.requires.reached in
-    reached_rooted a.rules.now goal c.in-Some.next
+    reached_rooted a.rules.now goal c.in-Some.next.steps c.in-Some.next.state
     (led_to c.in_ok-trial.trial.node c.in-Some.next (IsReached a.rules.now goal) c.in-Some.is
     (known_reached a.rules.now a.node.now a.known.now c.requires.right c.in_ok-trial.trial
     c.in_ok-trial.ensures goal reached))
@@ -31,7 +31,7 @@ pub where_ranked-requires-clause-fits : goal.where_ranked-requires-clause-fits
 where_ranked-requires-clause-fits g c =
     let a = c.args in
     let (goal, reached) = c.requires.reached in
-    reached_fits a.rules.now goal c.in-Some.next
+    reached_fits a.rules.now goal c.in-Some.next.steps c.in-Some.next.state
     (led_to c.in_ok-trial.trial.node c.in-Some.next (IsReached a.rules.now goal) c.in-Some.is
     (known_reached a.rules.now a.node.now a.known.now c.requires.right c.in_ok-trial.trial
     c.in_ok-trial.ensures goal reached))

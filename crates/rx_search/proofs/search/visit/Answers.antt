@@ -5,34 +5,40 @@ use Rattle.rx_log.specs.declared.log.Log.{Log}
 use Rattle.rx_find_ranks.specs.Found.{HasColumns}
 use Rattle.rx_search.specs.Nodes.{IsNode}
 use Rattle.rx_search.specs.Search.{start}
-use Rattle.rx_search.proofs.Closing.{closed_goals, closed_node, closed_steps}
+use Rattle.rx_search.proofs.Closing.{closed_goals, closed_node, closed_steps, node_proved}
 use Rattle.rx_search.proofs.search.visit.Goals as goal
 
-pub log_of-requires-clause-node : goal.log_of-requires-clause-node
-log_of-requires-clause-node g c = (
+pub log_of-requires-clause-proved : goal.log_of-requires-clause-proved
+log_of-requires-clause-proved g c = (
   c.args.goal.now,
-  closed_node (IsNode c.args.rules.now c.args.goal.now) c.in_ok-outcome.outcome
-      c.in-Closed.node c.in-Closed.is c.in_ok-outcome.ensures.node,
+  node_proved c.args.rules.now c.args.goal.now c.in-Closed.node c.as_slice-steps.result.now
+      c.hypotheses.result.now
+      (closed_node (IsNode c.args.rules.now c.args.goal.now) c.in_ok-outcome.outcome
+      c.in-Closed.node c.in-Closed.is c.in_ok-outcome.ensures.node)
+      (closed_goals c.args.rules.now c.args.depth c.args.budget (start c.args.goal.now)
+      c.in_ok-outcome.outcome c.in-Closed.node c.in_ok-outcome.ensures.outcome c.in-Closed.is)
+      c.as_slice-steps.ensures c.hypotheses.ensures,
 )
-
-pub log_of-requires-clause-closed : goal.log_of-requires-clause-closed
-log_of-requires-clause-closed g c =
-    closed_goals c.args.rules.now c.args.depth c.args.budget (start c.args.goal.now)
-    c.in_ok-outcome.outcome c.in-Closed.node c.in_ok-outcome.ensures.outcome c.in-Closed.is
 
 pub returns-in-Ok-clause-steps : goal.returns-in-Ok-clause-steps
 returns-in-Ok-clause-steps g c =
     closed_steps c.args.rules.now c.args.depth c.args.budget (start c.args.goal.now)
     c.in_ok-outcome.outcome c.in-Closed.node c.dropped.result.steps
     c.in_ok-outcome.ensures.outcome c.in-Closed.is
-    (ap (λ (log : Log). log.steps) c.dropped.ensures ∙ c.in-Ok.ensures.steps)
+    (ap (λ (log : Log). log.steps) c.dropped.ensures ∙ c.in-Ok.ensures.steps ∙
+    c.as_slice-steps.ensures)
 
 pub returns-in-Ok-clause-accepted : goal.returns-in-Ok-clause-accepted
 returns-in-Ok-clause-accepted g c =
     subst (IsAccepted c.args.rules.now c.args.goal.now) (sym c.dropped.ensures)
     (c.in-Ok.ensures.accepted c.args.goal.now
-    (closed_node (IsNode c.args.rules.now c.args.goal.now) c.in_ok-outcome.outcome c.in-Closed.node
-    c.in-Closed.is c.in_ok-outcome.ensures.node))
+    (node_proved c.args.rules.now c.args.goal.now c.in-Closed.node c.as_slice-steps.result.now
+    c.hypotheses.result.now
+    (closed_node (IsNode c.args.rules.now c.args.goal.now) c.in_ok-outcome.outcome
+    c.in-Closed.node c.in-Closed.is c.in_ok-outcome.ensures.node)
+    (closed_goals c.args.rules.now c.args.depth c.args.budget (start c.args.goal.now)
+    c.in_ok-outcome.outcome c.in-Closed.node c.in_ok-outcome.ensures.outcome c.in-Closed.is)
+    c.as_slice-steps.ensures c.hypotheses.ensures))
 
 pub returns-in-Ok-clause-columns : goal.returns-in-Ok-clause-columns
 returns-in-Ok-clause-columns g c =

@@ -3,7 +3,7 @@ use Rattle.std.proofs.Common.{ap, subst, sym}
 use Rattle.rx_cert.specs.Findings.{Said}
 use Rattle.rx_search.specs.Ends.{IsEnd}
 use Rattle.rx_search.specs.Search.{Searched, searched_with}
-use Rattle.rx_search.proofs.search.search_by.Goals as goal
+use Rattle.rx_search.proofs.search.search_with.Goals as goal
 
 pub returns-in-Err-Large-clause-ends : goal.returns-in-Err-Large-clause-ends
 returns-in-Err-Large-clause-ends g c =

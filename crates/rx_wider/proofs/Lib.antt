@@ -1,0 +1,10 @@
+pub mod BareLaws
+pub mod Choosing
+pub mod Closing
+pub mod PlanLaws
+pub mod Leading
+pub mod Numbered
+pub mod Openings
+pub mod Settling
+pub mod Tailing
+pub mod Walking

@@ -1,0 +1,148 @@
+//! The choices at a goal: to keep an equation by each of the plans, and to unfold a side.
+ghost use Rattle.std.specs.Prelude.{◌≡◌, ◌++◌, None, Some, IfOk, OnOk};
+ghost use Rattle.rx_pairs.specs.Loops.{AreLoopsOf};
+ghost use Rattle.rx_wider.specs.Menu as spec;
+
+use crate::candidates::{Candidate, Plan, have_redexes, keeping, sides_of, unfolding_only};
+use rx_inference::Side;
+use rx_pairs::Loops;
+use rx_plain::{Items, NoMemory};
+use rx_shapes::{Explores, kept_equation};
+use rx_term::{Equation, RuleSet};
+use std::alloc::Global;
+
+/// The equation that is kept by unfolding these sides, where they have redexes.
+fn find_kept<E: Explores>(
+    alloc: Global,
+    rules: &RuleSet,
+    loops: &Loops,
+    explorer: &mut E,
+    goal: &Equation,
+    sides: &[Side],
+) -> Result<Option<Equation>, NoMemory>
+    requires ready { E.ready explorer.old }
+    requires loops { AreLoopsOf rules.now loops.now }
+    ensures ready { E.ready explorer.new }
+    ensures world { E.world explorer.new ≡ E.world explorer.old }
+    ensures kept { IfOk result (λ o. o ≡ spec.kept_equation rules.now
+        (E.found (E.world explorer.old)) goal.now sides.now) }
+{
+    if !have_redexes(goal, sides) {
+        return Ok(None);
+    }
+    kept_equation(alloc, rules, loops, explorer, sides, goal)
+}
+
+/// The choice by the plan, added where there is one.
+fn add_kept<E: Explores>(
+    alloc: Global,
+    rules: &RuleSet,
+    loops: &Loops,
+    explorer: &mut E,
+    goal: &Equation,
+    plan: Plan,
+    all: &mut Items<Candidate>,
+) -> Result<(), NoMemory>
+    requires ready { E.ready explorer.old }
+    requires loops { AreLoopsOf rules.now loops.now }
+    ensures ready { E.ready explorer.new }
+    ensures world { E.world explorer.new ≡ E.world explorer.old }
+    ensures added { OnOk result (all.new ≡ all.old ++ spec.kept_by rules.now
+        (E.found (E.world explorer.old)) goal.now plan) }
+{
+    let sides = sides_of(alloc, plan)?;
+    match find_kept(alloc, rules, loops, explorer, goal, sides.as_slice())? {
+        Some(equation) => Ok(all.push(keeping(alloc, goal, plan, equation)?)?),
+        None => Ok(()),
+    }
+}
+
+/// The choices to keep an equation that begin with one side: the other is unfolded after it.
+fn add_both<E: Explores>(
+    alloc: Global,
+    rules: &RuleSet,
+    loops: &Loops,
+    explorer: &mut E,
+    goal: &Equation,
+    all: &mut Items<Candidate>,
+) -> Result<(), NoMemory>
+    requires ready { E.ready explorer.old }
+    requires loops { AreLoopsOf rules.now loops.now }
+    ensures ready { E.ready explorer.new }
+    ensures world { E.world explorer.new ≡ E.world explorer.old }
+    ensures added { OnOk result (all.new ≡ all.old
+        ++ spec.kept_by rules.now (E.found (E.world explorer.old)) goal.now
+        (record { number = 1; first = Side.Left; second = Some Side.Right })
+        ++ spec.kept_by rules.now (E.found (E.world explorer.old)) goal.now
+        (record { number = 2; first = Side.Right; second = Some Side.Left })) }
+{
+    let left_first = Plan {
+        number: 1,
+        first: Side::Left,
+        second: Some(Side::Right),
+    };
+    let right_first = Plan {
+        number: 2,
+        first: Side::Right,
+        second: Some(Side::Left),
+    };
+    add_kept(alloc, rules, loops, explorer, goal, left_first, all)?;
+    add_kept(alloc, rules, loops, explorer, goal, right_first, all)
+}
+
+/// The choices to keep an equation by unfolding one side.
+fn add_single<E: Explores>(
+    alloc: Global,
+    rules: &RuleSet,
+    loops: &Loops,
+    explorer: &mut E,
+    goal: &Equation,
+    all: &mut Items<Candidate>,
+) -> Result<(), NoMemory>
+    requires ready { E.ready explorer.old }
+    requires loops { AreLoopsOf rules.now loops.now }
+    ensures ready { E.ready explorer.new }
+    ensures world { E.world explorer.new ≡ E.world explorer.old }
+    ensures added { OnOk result (all.new ≡ all.old
+        ++ spec.kept_by rules.now (E.found (E.world explorer.old)) goal.now
+        (record { number = 3; first = Side.Left; second = None })
+        ++ spec.kept_by rules.now (E.found (E.world explorer.old)) goal.now
+        (record { number = 4; first = Side.Right; second = None })) }
+{
+    let left = Plan {
+        number: 3,
+        first: Side::Left,
+        second: None,
+    };
+    let right = Plan {
+        number: 4,
+        first: Side::Right,
+        second: None,
+    };
+    add_kept(alloc, rules, loops, explorer, goal, left, all)?;
+    add_kept(alloc, rules, loops, explorer, goal, right, all)
+}
+
+/// The choices at the goal by their numbers, before they are tried: to keep an equation by each of
+/// the four plans, and to unfold either side. Fails only where there is no memory.
+pub(crate) fn find_candidates<E: Explores>(
+    alloc: Global,
+    rules: &RuleSet,
+    loops: &Loops,
+    explorer: &mut E,
+    goal: &Equation,
+) -> Result<Items<Candidate>, NoMemory>
+    requires ready { E.ready explorer.old }
+    requires loops { AreLoopsOf rules.now loops.now }
+    ensures ready { E.ready explorer.new }
+    ensures world { E.world explorer.new ≡ E.world explorer.old }
+    ensures found { IfOk result (λ all. all ≡ spec.candidates rules.now
+        (E.found (E.world explorer.old)) goal.now) }
+{
+    let mut all = Items::new(alloc);
+    add_both(alloc, rules, loops, explorer, goal, &mut all)?;
+    add_single(alloc, rules, loops, explorer, goal, &mut all)?;
+    all.push(unfolding_only(alloc, 5, Side::Left)?)?;
+    all.push(unfolding_only(alloc, 6, Side::Right)?)?;
+    Ok(all)
+}

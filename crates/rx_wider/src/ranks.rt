@@ -1,0 +1,62 @@
+//! Ranks with the hypotheses of a state.
+ghost use Rattle.std.specs.Prelude.{◌≡◌, All, IfOk};
+ghost use Rattle.rx_pairs.specs.Pairs.{AreAllPairs, HasRoot, SidesFit};
+ghost use Rattle.rx_solve.specs.Answers.{IsSolver};
+ghost use Rattle.rx_wider.specs.Nodes.{has_ranks, is_fit};
+
+use rx_cert::Cert;
+use rx_fm::FmEnd;
+use rx_has_ranks::{RankMemo, has_ranks_with};
+use rx_pairs::Pair;
+use rx_plain::NoMemory;
+use rx_row::Constraint;
+use rx_steps::State;
+use rx_term::RuleSet;
+use std::alloc::Global;
+
+/// Whether ranks are found with the hypotheses of the state.
+pub(crate) fn is_ranked<S: FnMut(&Constraint) -> Result<Option<Cert>, FmEnd>>(
+    alloc: Global,
+    rules: &RuleSet,
+    pairs: &[Pair],
+    state: &State,
+    memo: &mut RankMemo,
+    solve: &mut S,
+) -> Result<bool, NoMemory>
+    requires pairs { AreAllPairs rules.now.rules pairs.now }
+    requires roots { All HasRoot state.now.hypotheses }
+    requires fits { All (SidesFit rules.now) state.now.hypotheses }
+    requires solver { IsSolver S.FnMut solve.old }
+    ensures solver { IsSolver S.FnMut solve.new }
+    ensures found { IfOk result (λ found. found ≡ has_ranks rules.now state.now.hypotheses) }
+{
+    match has_ranks_with(alloc, rules, pairs, state.hypotheses(), memo, solve) {
+        Ok(found) => Ok(found),
+        Err(FmEnd::Large) => Ok(false),
+        Err(FmEnd::NoMemory) => Err(NoMemory),
+    }
+}
+
+/// Whether the state may be gone on with: where a hypothesis was kept, ranks are to be found with it.
+pub(crate) fn is_fit<S: FnMut(&Constraint) -> Result<Option<Cert>, FmEnd>>(
+    alloc: Global,
+    rules: &RuleSet,
+    pairs: &[Pair],
+    keeps: bool,
+    state: &State,
+    memo: &mut RankMemo,
+    solve: &mut S,
+) -> Result<bool, NoMemory>
+    requires pairs { AreAllPairs rules.now.rules pairs.now }
+    requires roots { All HasRoot state.now.hypotheses }
+    requires fits { All (SidesFit rules.now) state.now.hypotheses }
+    requires solver { IsSolver S.FnMut solve.old }
+    ensures solver { IsSolver S.FnMut solve.new }
+    ensures fit { IfOk result (λ fit. fit ≡ is_fit rules.now keeps state.now.hypotheses) }
+{
+    if keeps {
+        is_ranked(alloc, rules, pairs, state, memo, solve)
+    } else {
+        Ok(true)
+    }
+}

@@ -1,0 +1,218 @@
+//! The tree of the wider search: its nodes have tasks, and its choices keep equations or unfold a
+//! side.
+ghost use Rattle.std.specs.Prelude.{◌≡◌, ◌++◌, All, None, IfOk};
+ghost use Rattle.rx_deepening.specs.Views.{seen_menu, seen_settled};
+ghost use Rattle.rx_moves.specs.LoopPoints.{AreLoopPoints};
+ghost use Rattle.rx_pairs.specs.Pairs.{AreAllPairs};
+ghost use Rattle.rx_settle.specs.Known.{AreKnown};
+ghost use Rattle.rx_settle.specs.Tasks.{descendants};
+ghost use Rattle.rx_solve.specs.Answers.{IsSolver};
+ghost use Rattle.rx_term.specs.declared.rule.Equation.{Equation};
+ghost use Rattle.rx_wider.specs.Calls.{node_of};
+ghost use Rattle.rx_wider.specs.Nodes.{is_closed};
+ghost use Rattle.rx_wider.specs.Reached.{AreChoices, IsNode};
+ghost use Rattle.rx_wider.specs.Wider.{menu, settled};
+
+use crate::choices::find_choices;
+use crate::dropping::dropped;
+use crate::explorer::Explorer;
+use crate::known::{CandidateMemo, known_candidates};
+use crate::node::Node;
+use rx_cert::Cert;
+use rx_deepening::{Menu, Settled, Tree};
+use rx_fm::FmEnd;
+use rx_has_ranks::RankMemo;
+use rx_pairs::Pair;
+use rx_plain::{Items, NoMemory};
+use rx_row::Constraint;
+use rx_settle::{TaskedSteps, append_steps, settle_tasks};
+use rx_term::Equation;
+use std::alloc::Global;
+
+/// The node, whose state was settled so, with the steps that did it.
+fn settled_by(
+    alloc: Global,
+    mut node: Node,
+    found: TaskedSteps,
+) -> Result<Settled<Node, ()>, NoMemory>
+    ensures { IfOk result (λ s. s ≡ record {
+      node = record { steps = node.steps ++ found.steps; at = node.at; left = found.left };
+      closed = is_closed node.at.state.goals;
+      note = None;
+    }) }
+{
+    let TaskedSteps { steps, left } = found;
+    let closed = node.at.state.goals() == 0;
+    node.left = left;
+    match append_steps(alloc, &mut node.steps, steps) {
+        Ok(()) => Ok(Settled {
+            node,
+            closed,
+            note: None,
+        }),
+        Err(NoMemory) => Err(dropped(node, NoMemory)),
+    }
+}
+
+/// The node once it is settled.
+fn settle_node<S: FnMut(&Constraint) -> Result<Option<Cert>, FmEnd>>(
+    explorer: &mut Explorer<'_, S>,
+    mut node: Node,
+) -> Result<Settled<Node, ()>, NoMemory>
+    requires points { AreLoopPoints explorer.old.rules.now explorer.old.points.now }
+    requires known { AreKnown explorer.old.rules.now explorer.old.memo.now }
+    requires solver { IsSolver S.FnMut explorer.old.solve.now }
+    ensures points { AreLoopPoints explorer.new.rules.now explorer.new.points.now }
+    ensures known { AreKnown explorer.new.rules.now explorer.new.memo.now }
+    ensures solver { IsSolver S.FnMut explorer.new.solve.now }
+    ensures rules { explorer.new.rules.now ≡ explorer.old.rules.now }
+    ensures tails { explorer.new.tails.now ≡ explorer.old.tails.now }
+    ensures name { explorer.new.solve.ghost_name ≡ explorer.old.solve.ghost_name }
+    ensures settled { IfOk result (λ s. seen_settled node_of s ≡
+        settled explorer.old.rules.now (node_of node)) }
+    ensures node { (goal : Equation) → IsNode explorer.old.rules.now goal node →
+        IfOk result (λ s. IsNode explorer.old.rules.now goal s.node) }
+{
+    let alloc = explorer.alloc;
+    let found = settle_tasks(
+        alloc,
+        explorer.rules,
+        explorer.points,
+        explorer.memo,
+        &mut node.at,
+        explorer.solve,
+    );
+    match found {
+        Ok(found) => settled_by(alloc, node, found),
+        Err(NoMemory) => Err(dropped(node, NoMemory)),
+    }
+}
+
+/// The choices at a settled node; there are none where settling took all steps, or no goal is left.
+fn find_menu<S: FnMut(&Constraint) -> Result<Option<Cert>, FmEnd>>(
+    alloc: Global,
+    node: &Node,
+    pairs: &[Pair],
+    ranks: &mut RankMemo,
+    known: &mut CandidateMemo,
+    explorer: &mut Explorer<'_, S>,
+) -> Result<Menu<Node, ()>, NoMemory>
+    requires node { (goal : Equation) × IsNode explorer.old.rules.now goal node.now }
+    requires pairs { AreAllPairs explorer.old.rules.now.rules pairs.now }
+    requires known { AreChoices explorer.old.rules.now
+        (descendants explorer.old.rules.now explorer.old.tails.now) known.old }
+    requires solver { IsSolver S.FnMut explorer.old.solve.now }
+    requires points { AreLoopPoints explorer.old.rules.now explorer.old.points.now }
+    requires settling { AreKnown explorer.old.rules.now explorer.old.memo.now }
+    ensures known { AreChoices explorer.old.rules.now
+        (descendants explorer.old.rules.now explorer.old.tails.now) known.new }
+    ensures solver { IsSolver S.FnMut explorer.new.solve.now }
+    ensures points { AreLoopPoints explorer.new.rules.now explorer.new.points.now }
+    ensures settling { AreKnown explorer.new.rules.now explorer.new.memo.now }
+    ensures rules { explorer.new.rules.now ≡ explorer.old.rules.now }
+    ensures tails { explorer.new.tails.now ≡ explorer.old.tails.now }
+    ensures name { explorer.new.solve.ghost_name ≡ explorer.old.solve.ghost_name }
+    ensures menu { IfOk result (λ m. seen_menu node_of m ≡
+        menu explorer.old.rules.now explorer.old.tails.now (node_of node.now)) }
+    ensures nodes { (goal : Equation) → IsNode explorer.old.rules.now goal node.now →
+        IfOk result (λ m. All (λ c. IsNode explorer.old.rules.now goal c.node) m.choices) }
+{
+    let Some(first) = node.open_goal()? else {
+        return Ok(Menu {
+            choices: Items::new(alloc),
+            note: None,
+        });
+    };
+    let rules = explorer.rules;
+    let loops = explorer.points.loops();
+    let all = known_candidates(alloc, rules, loops, known, explorer, first)?;
+    let choices = find_choices(
+        alloc,
+        rules,
+        node,
+        all.get().as_slice(),
+        pairs,
+        ranks,
+        explorer.solve,
+    )?;
+    Ok(Menu {
+        choices,
+        note: None,
+    })
+}
+
+/// The plans for a goal over rules, behind lemmas.
+#[derive(Drop)]
+pub(crate) struct WideTree<'a, 'b, S> {
+    /// The allocator.
+    pub(crate) alloc: Global,
+    /// The goal from which the first steps lead.
+    pub(crate) goal: &'a Equation,
+    /// The pairs of the rules.
+    pub(crate) pairs: &'a [Pair],
+    /// What was found out of pairs.
+    pub(crate) ranks: &'a mut RankMemo,
+    /// What is known of the choices at goals.
+    pub(crate) known: &'a mut CandidateMemo,
+    /// What comes of goals over the rules and behind the lemmas.
+    pub(crate) explorer: Explorer<'b, S>,
+}
+
+impl<'a, 'b, S: FnMut(&Constraint) -> Result<Option<Cert>, FmEnd>> Tree for WideTree<'a, 'b, S> {
+    ghost use Rattle.rx_moves.specs.LoopPoints.{AreLoopPoints};
+    ghost use Rattle.rx_pairs.specs.Pairs.{AreAllPairs};
+    ghost use Rattle.rx_settle.specs.Known.{AreKnown};
+    ghost use Rattle.rx_settle.specs.Tasks.{descendants};
+    ghost use Rattle.rx_solve.specs.Answers.{IsSolver};
+    ghost use Rattle.rx_wider.specs.Calls.{node_of};
+    ghost use Rattle.rx_wider.specs.Nodes as nodes;
+    ghost use Rattle.rx_wider.specs.Reached.{AreChoices, IsNode, Problem};
+    ghost use Rattle.rx_wider.specs.Wider as wider;
+
+    type Node = Node;
+
+    type Note = ();
+
+    ghost World = { Problem };
+
+    ghost world = { λ t. record {
+      goal = t.goal.now;
+      explored = record {
+        parts = t.explorer.rules.now;
+        tails = t.explorer.tails.now;
+        solver = t.explorer.solve.ghost_name;
+      };
+    } };
+
+    ghost ready = { λ t. IsSolver S.FnMut t.explorer.solve.now ×
+        AreLoopPoints t.explorer.rules.now t.explorer.points.now ×
+        AreAllPairs t.explorer.rules.now.rules t.pairs.now ×
+        AreKnown t.explorer.rules.now t.explorer.memo.now ×
+        AreChoices t.explorer.rules.now
+        (descendants t.explorer.rules.now t.explorer.tails.now) t.known.now };
+
+    ghost View = { nodes.Node };
+
+    ghost view = { node_of };
+
+    ghost valid = { λ w n. IsNode w.explored.parts w.goal n };
+
+    ghost settled = { λ w v. wider.settled w.explored.parts v };
+
+    ghost menu = { λ w v. wider.menu w.explored.parts w.explored.tails v };
+
+    fn settle(&mut self, node: Node) -> Result<Settled<Node, ()>, NoMemory> {
+        settle_node(&mut self.explorer, node)
+    }
+
+    fn choices(&mut self, node: &Node) -> Result<Menu<Node, ()>, NoMemory> {
+        find_menu(
+            self.alloc,
+            node,
+            self.pairs,
+            self.ranks,
+            self.known,
+            &mut self.explorer,
+        )
+    }
+}
