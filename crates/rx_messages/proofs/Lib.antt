@@ -1,0 +1,2 @@
+-- Lemmas on messages.
+pub mod MessageLemmas
